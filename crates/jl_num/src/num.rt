@@ -1,0 +1,53 @@
+ghost use Rattle.std.specs.Prelude.{◌≡◌, ◌↔◌, IfOk, IsOk, Some};
+ghost use Rattle.jl_num.specs.Number.{IsNumber};
+
+use std::marker::Model;
+
+/// The largest number: 2^53 - 1.
+pub const LARGEST: i64 = 9_007_199_254_740_991;
+
+/// A number of a script (8.5, in whole numbers): NaN, or a whole number of at most 2^53 - 1 in size. There is one zero.
+/// Contracts see it as an optional whole number, where none is NaN.
+#[derive(Clone, Copy)]
+pub struct Num {
+    whole: Option<i64>,
+}
+
+impl Model for Num {
+    ghost use Rattle.std.specs.Prelude.{Option, ℤ};
+    ghost use Rattle.jl_num.specs.Number.{IsNumber};
+
+    ghost Value = { Option ℤ };
+
+    ghost view = { λ n. n.whole };
+
+    ghost invariant = { λ n. IsNumber n.whole };
+
+    ghost inverse = { λ n. record { whole = n } };
+}
+
+/// The exact result is no number of a script.
+#[derive(Clone, Copy, PartialEq, Eq, Debug)]
+pub struct NumberOutside;
+
+impl Num {
+    /// The whole number n; refused exactly where it is of more than 2^53 - 1 in size.
+    pub fn new(n: i64) -> Result<Num, NumberOutside>
+        ensures made { IfOk result (λ r. r ≡ Some n) }
+        ensures inside { IsOk result ↔ IsNumber (Some n) }
+    {
+        if -LARGEST <= n && n <= LARGEST {
+            Ok(Num { whole: Some(n) })
+        } else {
+            Err(NumberOutside)
+        }
+    }
+
+    /// The whole number, or None for NaN.
+    pub fn value(self) -> Option<i64>
+        ensures same { result ≡ self }
+        ensures inside { IsNumber self }
+    {
+        self.whole
+    }
+}
