@@ -1,5 +1,7 @@
 ghost use Rattle.std.specs.Prelude.{◌≡◌, ◌↔◌, IfOk, IsOk, Some};
+ghost use Rattle.std.specs.Result.{result_ok};
 ghost use Rattle.jl_num.specs.Number.{IsNumber};
+ghost use Rattle.jl_num.specs.Arithmetic.{number_of};
 
 use std::marker::Model;
 
@@ -31,16 +33,28 @@ impl Model for Num {
 pub struct NumberOutside;
 
 impl Num {
+    /// NaN (8.5).
+    pub const NAN: Num = Num { whole: None };
+
     /// The whole number n; refused exactly where it is of more than 2^53 - 1 in size.
     pub fn new(n: i64) -> Result<Num, NumberOutside>
         ensures made { IfOk result (λ r. r ≡ Some n) }
         ensures inside { IsOk result ↔ IsNumber (Some n) }
+        ensures exact { result_ok result ≡ number_of n }
     {
         if -LARGEST <= n && n <= LARGEST {
             Ok(Num { whole: Some(n) })
         } else {
             Err(NumberOutside)
         }
+    }
+
+    /// The whole number n, which is of at most 2^53 - 1 in size.
+    pub(crate) fn within(n: i64) -> Num
+        requires { IsNumber (Some n) }
+        ensures { result ≡ Some n }
+    {
+        Num { whole: Some(n) }
     }
 
     /// The whole number, or None for NaN.
