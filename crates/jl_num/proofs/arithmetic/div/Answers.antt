@@ -1,12 +1,16 @@
-use Rattle.std.proofs.Common.{rules, ◌≡◌, ℕ, ◌+◌, ◌-◌, ◌*◌, ◌<◌, ◌≤◌, length, ◌/◌, ◌%◌, Bool, true, false, nat_eq, nat_lt, List, [], ◌∷◌, ◌++◌, slice_index_or, slice_set, bit_and, bit_or, Fits, w8, w32, w64, Bor, MutBor, ℤ, pos, ◌+ℤ◌, ◌-ℤ◌, ◌*ℤ◌, ◌≤ℤ◌, ◌<ℤ◌, FitsSigned, to_z, of_z}
-use Rattle.std.specs.Result.{result_ok}
-use Rattle.jl_num.specs.Arithmetic.{sum_of, difference_of, product_of, quotient_of, remainder_of}
+use Rattle.std.proofs.Common.{◌≡◌, ◌∙◌, sym, subst}
+use Rattle.jl_num.specs.Number.{IsNumber}
+use Rattle.jl_num.proofs.Quotient.{whole_quotient, fraction}
 use Rattle.jl_num.proofs.arithmetic.div.Goals as goal
 
--- src/arithmetic.rt:42:1
 pub returns-then-x-y-eq0 : goal.returns-then-x-y-eq0
-returns-then-x-y-eq0 c = let h = c.if-x-y-eq0 in let i = c.new.ensures in let j = c.if-y-eq0 in let k = c.in-Some-Some in ?
+returns-then-x-y-eq0 c =
+    rw (← c.in-Some-Some.ensures.same, ← c.in-Some-Some.ensures'.same)
+    (c.new.ensures.exact ∙ whole_quotient c.in-Some-Some.x c.in-Some-Some.y (subst IsNumber (sym c.in-Some-Some.ensures.same) c.in-Some-Some.ensures.inside)
+      (subst IsNumber (sym c.in-Some-Some.ensures'.same) c.in-Some-Some.ensures'.inside) c.if-y-eq0.false c.if-x-y-eq0.true)
 
--- src/arithmetic.rt:42:1
 pub returns-else-x-y-eq0 : goal.returns-else-x-y-eq0
-returns-else-x-y-eq0 c = ?
+returns-else-x-y-eq0 c =
+    rw (← c.in-Some-Some.ensures.same, ← c.in-Some-Some.ensures'.same)
+    (sym (fraction c.in-Some-Some.x c.in-Some-Some.y (subst IsNumber (sym c.in-Some-Some.ensures.same) c.in-Some-Some.ensures.inside)
+      (subst IsNumber (sym c.in-Some-Some.ensures'.same) c.in-Some-Some.ensures'.inside) c.if-y-eq0.false c.if-x-y-eq0.false))
