@@ -1,5 +1,5 @@
 -- The text of a number in a radix (9.8.1, 15.7.4.2), as the codes of its characters.
-use Rattle.std.specs.Prelude.{ℕ, zero, suc, ◌+◌, ◌/◌, ◌%◌, pos, negsuc, List, [], ◌∷◌, ◌++◌, Some, None, true, false, nat_lt, if◌then◌else◌}
+use Rattle.std.specs.Prelude.{ℕ, zero, suc, ◌+◌, ◌/◌, ◌%◌, pos, int_lt, unsigned_abs, List, [], ◌∷◌, ◌++◌, Some, None, true, false, nat_lt, if◌then◌else◌}
 use Rattle.jl_num.specs.Number.{Number}
 
 -- the character of a digit: `0` to `9`, then `a` to `z`
@@ -23,5 +23,4 @@ digits_of radix n = digits_within radix (n + 1) n
 -- `NaN`, or the digits of its size, after a `-` where it is below zero
 abbrev pub number_text : Number → ℕ → List ℕ
 number_text None radix = 78 ∷ 97 ∷ 78 ∷ []
-number_text (Some (pos n)) radix = digits_of radix n
-number_text (Some (negsuc n)) radix = 45 ∷ digits_of radix (n + 1)
+number_text (Some z) radix = (if int_lt z (pos 0) then 45 ∷ [] else []) ++ digits_of radix (unsigned_abs z)

@@ -9,8 +9,9 @@ use std::marker::Model;
 pub const LARGEST: i64 = 9_007_199_254_740_991;
 
 /// A number of a script (8.5, in whole numbers): NaN, or a whole number of at most 2^53 - 1 in size. There is one zero.
-/// Contracts see it as an optional whole number, where none is NaN.
-#[derive(Clone, Copy)]
+/// Contracts see it as an optional whole number, where none is NaN. `==` compares two values of this type, and so NaN
+/// with NaN as equal; it is not the `==` of a script.
+#[derive(Clone, Copy, PartialEq, Eq, Debug)]
 pub struct Num {
     whole: Option<i64>,
 }

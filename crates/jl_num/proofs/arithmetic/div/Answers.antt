@@ -1,4 +1,4 @@
-use Rattle.std.proofs.Common.{◌≡◌, ◌∙◌, sym, subst}
+use Rattle.std.proofs.Common.{◌∙◌, sym, subst}
 use Rattle.jl_num.specs.Number.{IsNumber}
 use Rattle.jl_num.proofs.Quotient.{whole_quotient, fraction}
 use Rattle.jl_num.proofs.arithmetic.div.Goals as goal
