@@ -54,6 +54,14 @@ impl Source for MemSource {
     /// Gives as many bytes as are left and fit. It fails exactly at the numbers listed. The number of
     /// the reads stands still at 2^64 - 1, and so does the count of faults.
     fn read(&mut self, buf: &mut [u8]) -> Result<usize, Failed>
+        ensures fails { IsErr result ↔ Contains self.old.fails (one_more self.old.calls) }
+        ensures count { IfOk result (λ n. n ≡ min (length buf.old) (length self.old.left)) }
+        ensures front { IfOk result (λ n. take n buf.new ≡ take n self.old.left) }
+        ensures rest { IfOk result (λ n. self.new ≡ record self.old { left = drop n self.old.left; calls = one_more self.old.calls }) }
+        ensures failed { OnErr result (self.new ≡ record self.old { calls = one_more self.old.calls; faults = one_more self.old.faults }) }
+        ensures end { IfOk result (λ n. n ≡ 0 → 0 < length buf.new → self.new.left ≡ []) }
+        ensures risen { OnErr result (HasRisen self.old.faults self.new.faults) }
+        ensures never_falls { self.old.faults ≤ self.new.faults }
     {
         self.calls = self.calls.saturating_add(1);
         if self.fails.contains(&self.calls) {
@@ -117,6 +125,7 @@ impl MemSink {
 
 impl Sink for MemSink {
     ghost use Rattle.std.specs.Prelude.{Some};
+    ghost use Rattle.jl_port.specs.Memory.{IsRefused};
 
     ghost written = { λ s. Some s.written };
 
@@ -126,6 +135,13 @@ impl Sink for MemSink {
 
     /// Takes the least of what there is, the most of a write and the room that is left.
     fn write(&mut self, bytes: &[u8]) -> Result<usize, Failed>
+        ensures fails { IsErr result ↔ IsRefused self.old bytes.now }
+        ensures count { IfOk result (λ n. n ≡ min (min (length bytes.now) self.old.most) (self.old.room - length self.old.written)) }
+        ensures grows { IfOk result (λ n. self.new ≡ record self.old { written = self.old.written ++ take n bytes.now; calls = one_more self.old.calls }) }
+        ensures failed { OnErr result (self.new ≡ record self.old { calls = one_more self.old.calls; faults = one_more self.old.faults }) }
+        ensures some { IfOk result (λ n. 0 < length bytes.now → 0 < n) }
+        ensures risen { OnErr result (HasRisen self.old.faults self.new.faults) }
+        ensures never_falls { self.old.faults ≤ self.new.faults }
     {
         self.calls = self.calls.saturating_add(1);
         let free = self.room - self.bytes.len();
