@@ -4,11 +4,15 @@
 //! those that tell, as the ones over memory, and for those that do not, as std's readers and writers.
 #![tactic(auto)]
 
+mod adapters;
 mod memory;
 mod shelf;
+#[cfg(test)]
+mod tests;
 mod traits;
 mod whole;
 
+pub use adapters::{InSource, OutSink};
 pub use memory::{MemSink, MemSource};
 pub use shelf::{Same, Swapped};
 pub use traits::{Failed, Shelf, Sink, Source};
