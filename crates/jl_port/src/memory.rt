@@ -101,7 +101,12 @@ impl Model for MemSink {
 impl MemSink {
     /// A sink that takes at most `most` bytes in a write and `room` in all. It takes the memory for
     /// them now. `fails` lists the writes that fail, by their numbers from 1.
-    pub fn new(alloc: Global, most: usize, room: usize, fails: Vec<u64>) -> Result<MemSink, AllocError>
+    pub fn new(
+        alloc: Global,
+        most: usize,
+        room: usize,
+        fails: Vec<u64>,
+    ) -> Result<MemSink, AllocError>
         requires { 0 < most }
         ensures { IfOk result (λ sink. sink ≡ record { written = []; most = most; room = room; calls = 0; fails = fails.items; faults = 0 }) }
     {

@@ -96,7 +96,12 @@ fn writes_all_or_a_front(rt: HostRuntime) -> Result<(), Fail> {
 fn a_reader_that_fails(rt: HostRuntime) -> Result<(), Fail> {
     let alloc = rt.alloc();
     let mut source = InSource::new(Broken { reads: 0 });
-    assert!(rt; matches!(read_all(alloc, &mut source, 100), Err(ReadRefusal::ReadFault)));
+    assert!(rt;
+        matches!(
+            read_all(alloc, &mut source, 100),
+            Err(ReadRefusal::ReadFault)
+        )
+    );
     match read_all(alloc, &mut source, 100) {
         Ok(bytes) => assert_eq!(rt; bytes.as_slice(), b"de".as_slice()),
         Err(refusal) => panic!(rt; "{refusal:?}"),
@@ -107,8 +112,14 @@ fn a_reader_that_fails(rt: HostRuntime) -> Result<(), Fail> {
 #[test]
 fn a_writer_that_fails(rt: HostRuntime) {
     let mut sink = OutSink::new(Clogged { writes: 0 });
-    assert_eq!(rt; write_all(&mut sink, b"abcde"), Err(WriteFault { written: 3 }));
-    assert_eq!(rt; write_all(&mut sink, b"abcde"), Err(WriteFault { written: 0 }));
+    assert_eq!(rt;
+        write_all(&mut sink, b"abcde"),
+        Err(WriteFault { written: 3 })
+    );
+    assert_eq!(rt;
+        write_all(&mut sink, b"abcde"),
+        Err(WriteFault { written: 0 })
+    );
     assert_eq!(rt; write_all(&mut sink, b""), Ok(()));
 }
 

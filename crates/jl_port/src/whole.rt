@@ -1,4 +1,4 @@
-ghost use Rattle.std.specs.Prelude.{◌≡◌, ◌+◌, ◌^◌, ◌<◌, ◌≤◌, length, take, IfOk, IfErr, OnOk, OnErr, IsErrOf, vec_len};
+ghost use Rattle.std.specs.Prelude.{◌≡◌, ◌+◌, ◌^◌, ◌<◌, ◌≤◌, length, take, IfOk, IfErr, IfSome, OnOk, OnErr, IsErrOf, vec_len};
 ghost use Rattle.jl_port.specs.declared.whole.ReadRefusal.TheVariants.{ReadFault, NoMemory};
 ghost use Rattle.jl_port.specs.Bytes.{Takes, TakesCount, TakesAtMost, Grows, IsAtEnd};
 ghost use Rattle.jl_port.specs.Count.{HasRisen};
@@ -55,11 +55,19 @@ pub struct WriteFault {
 /// It is `TooLong` where `limit` + 1 bytes were read, and `ReadFault` only where a fault of the source
 /// came in this call. A read asks for 4,096 bytes, or for as many as `limit` + 1 still lacks where
 /// these are fewer. Whatever the answer, the source has lost what was read from it.
-pub fn read_all<S: Source>(alloc: Global, source: &mut S, limit: usize) -> Result<Vec<u8>, ReadRefusal>
+pub fn read_all<S: Source>(
+    alloc: Global,
+    source: &mut S,
+    limit: usize,
+) -> Result<Vec<u8>, ReadRefusal>
     requires { limit < 2 ^ 63 }
     ensures all { IfOk result (λ bytes. Takes (S.left source.old) (S.left source.new) bytes.items) }
     ensures end { OnOk result (IsAtEnd (S.left source.new)) }
     ensures within { IfOk result (λ bytes. vec_len bytes ≤ limit) }
+
+    // Where the source tells its bytes, they are what it held, or it held too many.
+    ensures told { IfOk result (λ bytes. IfSome (S.left source.old) (λ held. bytes.items ≡ held)) }
+    ensures told_long { IsErrOf result ReadRefusal.TooLong → IfSome (S.left source.old) (λ held. limit < length held) }
 
     ensures long { IsErrOf result ReadRefusal.TooLong → TakesCount (S.left source.old) (S.left source.new) (limit + 1) }
     ensures fault { IsErrOf result ReadRefusal.ReadFault → HasRisen (S.faults source.old) (S.faults source.new) }

@@ -1,4 +1,4 @@
-use Rattle.std.proofs.Common.{rules, arith, length-take-le, length-drop}
+use Rattle.std.proofs.Common.{rules, arith}
 use Rattle.std.proofs.lemmas.List.{places}
 use Rattle.jl_port.proofs.Told.{Grows-next}
 use Rattle.jl_port.proofs.whole.write_all.Goals as goal
@@ -8,5 +8,5 @@ loop-count-preserved g c = record {
   within = search (rules, places, c.in-Ok.ensures.fits);
   front = Grows-next _ _ _ c.args.bytes.now c.loop-count.count c.in-Ok.n c.loop-count.invariant.front c.in-Ok.ensures.bytes;
   never_falls = omega (arith, c.in-Ok.ensures.never_falls);
-  writes = omega (arith, c.in-Ok.ensures.one_call, c.in-Ok.ensures.some)
+  writes = omega (arith, c.in-Ok.ensures.one_call, c.in-Ok.ensures.some);
 }

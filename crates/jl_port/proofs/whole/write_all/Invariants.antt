@@ -7,7 +7,7 @@ invariant-loop-count g l = record {
   within : l.count ≤ length l.bytes;
   front : Grows (g.K.Sink.written l.initial.sink) (g.K.Sink.written l.sink) (take l.count l.bytes);
   never_falls : g.K.Sink.faults l.initial.sink ≤ g.K.Sink.faults l.sink;
-  writes : g.K.Sink.calls l.sink ≤ g.K.Sink.calls l.initial.sink + l.count
+  writes : g.K.Sink.calls l.sink ≤ g.K.Sink.calls l.initial.sink + l.count;
 }
 
 abbrev pub decreases-loop-count : goal.decreases-loop-count
