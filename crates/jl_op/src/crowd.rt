@@ -15,6 +15,7 @@ pub struct Crowd {
 }
 
 /// No memory was left for one more box, which is handed back.
+#[derive(Drop)]
 pub enum CrowdRefusal {
     NoMemory(Box<dyn Analysis>),
 }
