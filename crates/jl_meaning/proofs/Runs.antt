@@ -3,7 +3,7 @@ use Rattle.std.proofs.Common.{◌≡◌, ℕ, zero, suc, ◌+◌, ◌*◌, ◌-�
 use Rattle.std.proofs.lemmas.Bool.{cases_lt}
 use Rattle.jl_op.specs.Operations.{Operation}
 use Rattle.jl_meaning.specs.Effects.{Part, End, Fail, Step, Print, Does, Tells, World, nothing_done, Finish, Ends, Fails, Outcome, Over, Spent, run, IsOver, world_of, steps_taken}
-use Rattle.jl_meaning.specs.Follows.{IsPrefix, Matches, ends, fails, both, extra, prints, told, spare, SameSeen, Alike, IsWithin, Simulates}
+use Rattle.jl_meaning.specs.Follows.{IsPrefix, plus, Matches, ends, fails, both, extra, prints, told, spare, SameSeen, Alike, IsWithin, Simulates}
 
 prefix_same : {A : Type 0} (a : List A) → IsPrefix a a
 prefix_same a = ([], append-nil a)
@@ -85,7 +85,7 @@ module _ {A : Type 0} (own : List Operation) where
   step_cut v0 q v n m le g f zero h = cut_first v0 v g
   step_cut v0 q v n m le g f (suc b) h = f b (omega arith)
 
-  both_at : (c n : ℕ) (v0 : World) (q : Part A) (r : Outcome A) → FollowsAt (31 + c) n v0 own r (λ b. run b q (told_of v0 own)) → FollowsAt c (suc n) v0 own r (λ b. run b (Step q) (told_of v0 own))
+  both_at : (c n : ℕ) (v0 : World) (q : Part A) (r : Outcome A) → FollowsAt (plus 31 c) n v0 own r (λ b. run b q (told_of v0 own)) → FollowsAt c (suc n) v0 own r (λ b. run b (Step q) (told_of v0 own))
   both_at c n v0 q (Over e left v) f = record {
     steps = suc f.steps;
     takes = let h = f.takes in omega arith;

@@ -1,5 +1,5 @@
 -- A part that tells by hooks what another does: the relation between their effects, and what it means for their runs.
-use Rattle.std.specs.Prelude.{◌≡◌, ℕ, suc, ◌+◌, ◌*◌, ◌≤◌, List, ◌++◌}
+use Rattle.std.specs.Prelude.{◌≡◌, ℕ, zero, suc, ◌+◌, ◌*◌, ◌≤◌, List, ◌++◌}
 use Rattle.jl_op.specs.declared.value.Fault.{Fault}
 use Rattle.jl_op.specs.Operations.{Operation}
 use Rattle.jl_meaning.specs.Effects.{Part, End, Fail, Step, Print, Does, Tells, World, nothing_done, Outcome, Over, Spent, run, IsOver, world_of, steps_taken}
@@ -8,13 +8,18 @@ use Rattle.jl_meaning.specs.Effects.{Part, End, Fail, Step, Print, Does, Tells, 
 abbrev pub IsPrefix : {A : Type 0} → List A → List A → Type 0
 IsPrefix {A} a b = (more : List A) × (a ++ more ≡ b)
 
+-- so many more
+abbrev pub plus : ℕ → ℕ → ℕ
+plus zero n = n
+plus (suc k) n = suc (plus k n)
+
 -- The second part has the effects of the first, but that its hooks tell of the operations that the first does, and that
 -- it may take more steps. Each step that both take is worth 31 more of the second alone; it may take `credit` of these
 -- before any of them, and at the end `rest` are not taken.
 pub data Matches {A : Type 0} : (credit rest : ℕ) → Part A → Part A → Type 0 where
   ends : {c d : ℕ} {a : A} → d ≤ c → Matches c d (End a) (End a)
   fails : {c d : ℕ} {f : Fault} → Matches c d (Fail f) (Fail f)
-  both : {c d : ℕ} {p q : Part A} → Matches (31 + c) d p q → Matches c d (Step p) (Step q)
+  both : {c d : ℕ} {p q : Part A} → Matches (plus 31 c) d p q → Matches c d (Step p) (Step q)
   extra : {c d : ℕ} {p q : Part A} → Matches c d p q → Matches (suc c) d p (Step q)
   prints : {c d : ℕ} {line : List ℕ} {p q : Part A} → Matches c d p q → Matches c d (Print line p) (Print line q)
   told : {c d : ℕ} {o : Operation} {p q : Part A} → Matches c d p q → Matches c d (Does o p) (Tells o q)
