@@ -31,9 +31,9 @@ enough_places radix (suc p) (suc q) n two hp hq =
     ⊎_elim
     (λ h. one_digit radix p n h ∙ sym (one_digit radix q n h))
     (λ h.
-      let less : n / radix < n = quotient_less radix n two h in
-      more_digits radix p n h ∙ ap (λ ds. ds ++ digit_code (n % radix) ∷ []) (enough_places radix p q (n / radix) two (omega arith) (omega arith))
-      ∙ sym (more_digits radix q n h))
+    let less : n / radix < n = quotient_less radix n two h in
+    more_digits radix p n h ∙ ap (λ ds. ds ++ digit_code (n % radix) ∷ []) (enough_places radix p q (n / radix) two (omega arith) (omega arith))
+    ∙ sym (more_digits radix q n h))
     (cases_lt n radix)
 
 digits_of_one : (radix n : ℕ) → n < radix → digits_of radix n ≡ digit_code n ∷ []
@@ -43,7 +43,7 @@ digits_of_more : (radix n : ℕ) → 2 ≤ radix → radix ≤ n → digits_of r
 digits_of_more radix n two h =
     rw add-one (more_digits radix n n h)
     ∙ ap (λ ds. ds ++ digit_code (n % radix) ∷ [])
-      (let less : n / radix < n = quotient_less radix n two h in enough_places radix n (n / radix + 1) (n / radix) two less (omega arith))
+    (let less : n / radix < n = quotient_less radix n two h in enough_places radix n (n / radix + 1) (n / radix) two less (omega arith))
 
 -- the digits written so far, the last first, and those of the rest
 pub one_more : (radix rest : ℕ) (whole written : List ℕ) → 2 ≤ radix → radix ≤ rest → whole ≡ digits_of radix rest ++ reverse written

@@ -8,3 +8,6 @@ mod text;
 pub use arithmetic::{add, div, mul, rem, sub};
 pub use num::{Num, NumberOutside};
 pub use text::digits;
+
+#[cfg(test)]
+mod tests;
