@@ -3,3 +3,4 @@ pub mod Places
 pub mod Meaning
 pub mod Weaving
 pub mod View
+pub mod Running
