@@ -2,8 +2,9 @@
 #![tactic(auto, using(crate::proofs::Views::nodes))]
 
 pub mod laws;
-mod run;
-mod tree;
-mod weave;
+pub mod outcome;
+pub mod run;
+pub mod tree;
+pub mod weave;
 
 pub use tree::{Script, Sum};
