@@ -3,6 +3,7 @@
 
 pub mod laws;
 pub mod outcome;
+pub mod report;
 pub mod run;
 pub mod tree;
 pub mod weave;

@@ -1,0 +1,7 @@
+use Rattle.std.proofs.Common.{◌≡◌}
+use Rattle.std.specs.String.{string_bytes}
+use Rattle.jl_app.specs.Reporting.{lines_text}
+use Rattle.jl_app.proofs.report.text.Given as goal
+
+abbrev pub invariant-loop-at : goal.invariant-loop-at
+invariant-loop-at l = ?
