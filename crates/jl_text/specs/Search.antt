@@ -15,11 +15,15 @@ place_in (u ∷ us) part at = if starts_with nat_eq (u ∷ us) part then Some at
 abbrev pub first_place : List ℕ → List ℕ → ℕ → Option ℕ
 first_place units part from = if nat_le from (length units) then place_in (drop from units) part from else None
 
+-- the greatest place below n at which `part` stands in `units`
+abbrev pub place_below : List ℕ → List ℕ → ℕ → Option ℕ
+place_below units part zero = None
+place_below units part (suc n) =
+    if nat_le n (length units) && starts_with nat_eq (drop n units) part then Some n else place_below units part n
+
 -- the greatest place at or before `from` at which `part` stands in `units`
 abbrev pub last_place : List ℕ → List ℕ → ℕ → Option ℕ
-last_place units part zero = if starts_with nat_eq units part then Some 0 else None
-last_place units part (suc n) =
-    if nat_le (suc n) (length units) && starts_with nat_eq (drop (suc n) units) part then Some (suc n) else last_place units part n
+last_place units part from = place_below units part (suc from)
 
 -- the place, if there is one, is the least from `from` on
 abbrev pub IsFirstPlace : List ℕ → List ℕ → ℕ → Option ℕ → Type 0

@@ -5,6 +5,7 @@ mod encoding;
 mod lines;
 mod list;
 mod quoting;
+mod search;
 mod span;
 mod text;
 

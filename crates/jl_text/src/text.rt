@@ -4,6 +4,7 @@ ghost use Rattle.std.specs.Ordering.{nat_cmp};
 ghost use Rattle.jl_text.specs.declared.text.TextFault.TheVariants.{NoMemory};
 ghost use Rattle.jl_text.specs.Search.{first_place, last_place, IsFirstPlace, IsLastPlace};
 
+use crate::search::{first_place, last_place};
 use std::alloc::{AllocError, AllocFailed, Global};
 use std::cmp::Ordering;
 use std::marker::Model;
@@ -126,17 +127,7 @@ impl Text {
         ensures value { result ≡ first_place self.now part.now from }
         ensures least { IsFirstPlace self.now part.now from result }
     {
-        let units = self.units();
-        let part = part.units();
-        if part.len() > units.len() {
-            return None;
-        }
-        for at in from..units.len() - part.len() + 1 {
-            if units[at..].starts_with(part) {
-                return Some(at);
-            }
-        }
-        None
+        first_place(self.units(), part.units(), from)
     }
 
     /// The greatest place at or before `from` at which `part` stands. It looks at each place once, and there at no
@@ -145,18 +136,7 @@ impl Text {
         ensures value { result ≡ last_place self.now part.now from }
         ensures greatest { IsLastPlace self.now part.now from result }
     {
-        let units = self.units();
-        let part = part.units();
-        if part.len() > units.len() {
-            return None;
-        }
-        let last = from.min(units.len() - part.len());
-        for at in (0..last + 1).rev() {
-            if units[at..].starts_with(part) {
-                return Some(at);
-            }
-        }
-        None
+        last_place(self.units(), part.units(), from)
     }
 
     /// The order of two texts by their units: by the first in which they differ, and where they do not, by length.

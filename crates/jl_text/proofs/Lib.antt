@@ -1,0 +1,3 @@
+pub mod EncodingLemmas
+pub mod PlacesLemmas
+pub mod SearchLemmas

@@ -1,0 +1,2 @@
+-- Lines by their starts.
+use Rattle.std.proofs.Common.{◌≡◌}
