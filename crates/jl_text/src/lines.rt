@@ -1,6 +1,7 @@
 // The lines of a source (7.3).
-ghost use Rattle.std.specs.Prelude.{◌≡◌, ◌<◌, ◌≤◌, ℕ, List, length, IfOk};
-ghost use Rattle.jl_text.specs.Places.{ends_line, line_table, line_col, position_of};
+ghost use Rattle.std.specs.Prelude.{◌≡◌, ◌<◌, ◌≤◌, ◌-◌, ℕ, List, length, slice_index, IfOk};
+ghost use Rattle.std.specs.List.Sorted.{IsNonDecreasing};
+ghost use Rattle.jl_text.specs.Places.{ends_line, line_at, line_table, line_col, position_of};
 
 use crate::quoting::unit_at;
 use std::alloc::{AllocError, Global};
@@ -49,10 +50,20 @@ impl Lines {
         ensures value { result ≡ line_col self.now at }
         ensures source { (units : List ℕ) → self.now ≡ line_table units → result ≡ position_of units at }
     {
-        let line = self.starts.partition_point(|start| *start <= at);
+        let line = lines_begun(&self.starts, at);
         let start = self.starts[line - 1];
         (line as u32, at - start + 1)
     }
+}
+
+/// How many lines start at or before a place.
+fn lines_begun(starts: &[u32], at: u32) -> usize
+    requires { IsNonDecreasing starts.now }
+    ensures bound { result ≤ length starts.now }
+    ensures value { result ≡ line_at starts.now at }
+    ensures last { 0 < result → slice_index starts.now (result - 1) ≤ at }
+{
+    starts.partition_point(|start| *start <= at)
 }
 
 /// Whether a line ends with this unit, before the unit `next`.

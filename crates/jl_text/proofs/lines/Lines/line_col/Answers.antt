@@ -1,8 +1,13 @@
-use Rattle.std.proofs.Common.{◌≡◌, ◌≤◌, ℕ, Bool, nat_le, arith}
-use Rattle.std.specs.List.Sorted.{IsPartitionPoint}
-use Rattle.std.proofs.lemmas.List.Sorted.{IsPartitionPoint-from_clause, IsPartitionedBy-leb}
-use Rattle.jl_text.proofs.PlacesLemmas.{count_by-partition}
+use Rattle.std.proofs.Common.{◌≡◌, ◌≤◌, ℕ, arith, ap, ◌∙◌, length}
+use Rattle.std.proofs.lemmas.Grind.{common_steps}
+use Rattle.jl_text.specs.Places.{line_col, line_table}
+use Rattle.jl_text.proofs.PlacesLemmas.{line_col-line_table}
 use Rattle.jl_text.proofs.lines.Lines.line_col.Goals as goal
 
-pub overflow_sub-line : goal.overflow_sub-line
-overflow_sub-line c = ?
+pub returns-clause-value : goal.returns-clause-value
+returns-clause-value c = grind (arith, common_steps)
+
+pub returns-clause-source : goal.returns-clause-source
+returns-clause-source c = λ units made.
+    let end : c.args.self.now.end ≡ length units = ap (λ t. t.end) made in
+    returns-clause-value c ∙ ap (λ t. line_col t c.args.at) made ∙ line_col-line_table units c.args.at (omega arith)
