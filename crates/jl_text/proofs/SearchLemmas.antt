@@ -82,7 +82,7 @@ module _ (units part : List ℕ) where
 
   pub last_place-past : (from n : ℕ) → n ≤ from + 1 → (n ≤ from → length units < n + length part) → last_place units part from ≡ place_below units part n
   last_place-past from n low past =
-      ap (place_below units part) {x = suc from} {y = n + (from + 1 - n)} (omega arith) ∙ place_below-more n (from + 1 - n) (λ h. past (omega arith))
+      ap (place_below units part) {x = from + 1} {y = n + (from + 1 - n)} (omega arith) ∙ place_below-more n (from + 1 - n) (λ h. past (omega arith))
 
   pub place_below-step : (n : ℕ) → 0 < n → n ≤ length units + 1 →
       place_below units part n ≡ cond (starts_with nat_eq (drop (n - 1) units) part) (Some (n - 1)) (place_below units part (n - 1))

@@ -23,7 +23,7 @@ place_below units part (suc n) =
 
 -- the greatest place at or before `from` at which `part` stands in `units`
 abbrev pub last_place : List ℕ → List ℕ → ℕ → Option ℕ
-last_place units part from = place_below units part (suc from)
+last_place units part from = place_below units part (from + 1)
 
 -- the place, if there is one, is the least from `from` on
 abbrev pub IsFirstPlace : List ℕ → List ℕ → ℕ → Option ℕ → Type 0
