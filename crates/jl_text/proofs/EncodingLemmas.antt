@@ -1,15 +1,15 @@
 -- Characters in UTF-16 and back.
-use Rattle.std.proofs.Common.{◌≡◌, ℕ, ◌+◌, ◌-◌, ◌*◌, ◌/◌, ◌%◌, ◌<◌, ◌≤◌, ◌⊎◌, inl, inr, List, [], ◌∷◌, ◌++◌, Bool, true, false, ◌&&◌, map, refl, sym, ap, ◌∙◌, append_assoc, arith, get_or, Some, None, length}
+use Rattle.std.proofs.Common.{◌≡◌, ℕ, ◌+◌, ◌-◌, ◌/◌, ◌%◌, ◌<◌, ◌≤◌, ◌⊎◌, inl, inr, List, [], ◌∷◌, ◌++◌, true, map, refl, sym, ap, ◌∙◌, append_assoc, arith, Some}
 use Rattle.std.proofs.lemmas.Str.{encodes-chars, scalars-chars, utf16_chars-nil, utf16_chars_lone, utf16_chars_pair}
 use Rattle.std.proofs.str.Utf16.{IsPair, one_unit, two_units, lone_unit_char_low, lone_unit_char_high}
 use Rattle.std.proofs.str.Laws.{both}
 use Rattle.std.proofs.lemmas.Bool.{cases_lt}
 use Rattle.std.specs.Option.{unwrap_or}
-use Rattle.std.specs.Str.{IsUtf8, chars}
+use Rattle.std.specs.Str.{chars}
 use Rattle.std.specs.Char.Escape.{encode_utf16}
-use Rattle.std.specs.Char.Utf16.{utf16_chars, utf16_lossy_chars, lone_unit_char, surrogate_pair_char}
+use Rattle.std.specs.Char.Utf16.{utf16_chars, utf16_lossy_chars, surrogate_pair_char}
 use lib.Utf8.{scalar, scalars, scalar_cases, encodes}
-use Rattle.jl_text.specs.Encoding.{encode_utf16_all, units_of, bytes_of, Utf8ComesBack}
+use Rattle.jl_text.specs.Encoding.{encode_utf16_all, Utf8ComesBack}
 
 pub encode_utf16_all-append : (cs ds : List ℕ) → encode_utf16_all (cs ++ ds) ≡ encode_utf16_all cs ++ encode_utf16_all ds
 encode_utf16_all-append [] ds = refl
@@ -31,14 +31,14 @@ first_pair c us large within =
 first_char : (c : ℕ) (us : List ℕ) → scalar c ≡ true → utf16_chars (encode_utf16 c ++ us) ≡ Some c ∷ utf16_chars us
 first_char c us is =
     elim (cases_lt c 0x1_0000) [
-        inl small ↦ elim (scalar_cases c is) [
-            inl low ↦ first_lone c us small (inl low)
-          | inr high ↦ first_lone c us small (inr high.0)
-        ]
+      | inl small ↦ elim (scalar_cases c is) [
+        | inl low ↦ first_lone c us small (inl low)
+        | inr high ↦ first_lone c us small (inr high.0)
+      ]
       | inr large ↦ elim (scalar_cases c is) [
-            inl low ↦ absurd (omega arith)
-          | inr high ↦ first_pair c us large high.1
-        ]
+        | inl low ↦ absurd (omega arith)
+        | inr high ↦ first_pair c us large high.1
+      ]
     ]
 
 pub utf16_chars-encode_utf16_all : (cs : List ℕ) → scalars cs ≡ true → utf16_lossy_chars (encode_utf16_all cs) ≡ cs

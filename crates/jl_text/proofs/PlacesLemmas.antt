@@ -1,10 +1,10 @@
 -- Lines by their starts.
-use Rattle.std.proofs.Common.{◌≡◌, ℕ, zero, suc, ◌+◌, ◌-◌, ◌<◌, ◌≤◌, Bool, true, false, cond, List, [], ◌∷◌, ◌++◌, refl, sym, ap, ap₂, ◌∙◌, length, get_or, nat_le, arith, add-one}
-use Rattle.std.proofs.lemmas.Bool.{le-leb, lt-leb, leb-true}
+use Rattle.std.proofs.Common.{◌≡◌, ℕ, zero, suc, ◌+◌, ◌-◌, ◌<◌, ◌≤◌, Bool, true, false, cond, List, [], ◌∷◌, refl, sym, ap, ◌∙◌, length, get_or, nat_le, arith}
+use Rattle.std.proofs.lemmas.Bool.{le-leb, lt-leb}
 use Rattle.std.proofs.lemmas.List.Sums.{sum_by-cons}
-use Rattle.std.specs.List.{All, AllWithin, count_by}
+use Rattle.std.specs.List.{All, count_by}
 use Rattle.std.specs.List.Sorted.{IsNonDecreasing, IsPartitionPoint}
-use Rattle.jl_text.specs.Places.{ends_line, starts_after, line_table, line_col, position_from, position_of, line_at, IsLineTable, LineTable}
+use Rattle.jl_text.specs.Places.{ends_line, starts_after, line_table, line_col, position_from, position_of, line_at, IsLineTable}
 
 IsNonDecreasing-cons : (x : ℕ) (xs : List ℕ) → All (λ y. x < y) xs → IsNonDecreasing xs → IsNonDecreasing (x ∷ xs)
 IsNonDecreasing-cons x xs low rising zero zero d order within = omega arith
@@ -83,7 +83,7 @@ module _ (line start from at n : ℕ) (us : List ℕ) (low : start ≤ from) (pl
   after_one true next same =
       let passed = line_at (starts_after (from + 1) us) at in
       next ∙ ap (λ l. (l, at - get_or ((from + 1) ∷ starts_after (from + 1) us) passed 0 + 1)) {x = line + 1 + passed} {y = line + suc passed} (omega arith)
-        ∙ ap (by_starts line start ((from + 1) ∷ starts_after (from + 1) us) at) (sym (line_at-cons at (from + 1) (starts_after (from + 1) us) (omega arith)))
+      ∙ ap (by_starts line start ((from + 1) ∷ starts_after (from + 1) us) at) (sym (line_at-cons at (from + 1) (starts_after (from + 1) us) (omega arith)))
   after_one false next same = same
 
 pub same_position : (l m c d : ℕ) → l ≡ m → c ≡ d → ◌≡◌ {A = ℕ × ℕ} (l, c) (m, d)
@@ -96,11 +96,11 @@ position_from-starts [] line start from n at within low place =
 position_from-starts (u ∷ us) line start from zero at within low place =
     let before = line_at-before at (starts_after from (u ∷ us)) (λ k d h. omega (arith, (starts_after-RiseAbove from (u ∷ us)).above k d h)) in
     same_position line (line + 0) (from - start + 1) (at - start + 1) (omega arith) (omega arith)
-      ∙ ap (by_starts line start (starts_after from (u ∷ us)) at) (sym before)
+    ∙ ap (by_starts line start (starts_after from (u ∷ us)) at) (sym before)
 position_from-starts (u ∷ us) line start from (suc n) at within low place =
     after_one line start from at n us low place (ends_line u (get_or us 0 0))
-      (ap (λ c. position_from (line + 1) c us n) {x = 1} {y = from + 1 - (from + 1) + 1} (omega arith) ∙ position_from-starts us (line + 1) (from + 1) (from + 1) n at (omega arith) (omega arith) (omega arith))
-      (ap (λ c. position_from line c us n) {x = from - start + 1 + 1} {y = from + 1 - start + 1} (omega arith) ∙ position_from-starts us line start (from + 1) n at (omega arith) (omega arith) (omega arith))
+    (ap (λ c. position_from (line + 1) c us n) {x = 1} {y = from + 1 - (from + 1) + 1} (omega arith) ∙ position_from-starts us (line + 1) (from + 1) (from + 1) n at (omega arith) (omega arith) (omega arith))
+    (ap (λ c. position_from line c us n) {x = from - start + 1 + 1} {y = from + 1 - start + 1} (omega arith) ∙ position_from-starts us line start (from + 1) n at (omega arith) (omega arith) (omega arith))
 
 abbrev place_on : List ℕ → ℕ → ℕ → ℕ × ℕ
 place_on starts line at = (line, at - get_or starts (line - 1) 0 + 1)
@@ -110,9 +110,9 @@ line_col-line_table units at within =
     let passed = line_at (starts_after 0 units) at in
     let counted = line_at-cons at 0 (starts_after 0 units) (omega arith) in
     ap (λ l. place_on (0 ∷ starts_after 0 units) l at) counted
-      ∙ same_position (suc passed) (1 + passed) (at - get_or (0 ∷ starts_after 0 units) (suc passed - 1) 0 + 1) (at - get_or (0 ∷ starts_after 0 units) passed 0 + 1)
-        (omega arith) (ap (λ l. at - get_or (0 ∷ starts_after 0 units) l 0 + 1) {x = suc passed - 1} {y = passed} (omega arith))
-      ∙ sym (position_from-starts units 1 0 0 at at within (omega arith) (omega arith))
+    ∙ same_position (suc passed) (1 + passed) (at - get_or (0 ∷ starts_after 0 units) (suc passed - 1) 0 + 1) (at - get_or (0 ∷ starts_after 0 units) passed 0 + 1)
+    (omega arith) (ap (λ l. at - get_or (0 ∷ starts_after 0 units) l 0 + 1) {x = suc passed - 1} {y = passed} (omega arith))
+    ∙ sym (position_from-starts units 1 0 0 at at within (omega arith) (omega arith))
 
 pub line_at-some : (starts : List ℕ) (at : ℕ) → 0 < length starts → get_or starts 0 0 ≡ 0 → 1 ≤ line_at starts at
 line_at-some [] at some first = absurd (omega arith)

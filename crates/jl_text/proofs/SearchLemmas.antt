@@ -1,5 +1,5 @@
 -- Where one list stands in another.
-use Rattle.std.proofs.Common.{◌≡◌, ℕ, zero, suc, ◌+◌, ◌-◌, ◌<◌, ◌≤◌, ◌⊎◌, inl, inr, List, [], ◌∷◌, ◌++◌, Bool, true, false, ◌&&◌, cond, refl, sym, ap, ◌∙◌, subst, length, take, drop, get_or, Option, Some, None, add-one, add-suc, arith, length-append, length-drop, drop-cons, nat_eq, nat_le}
+use Rattle.std.proofs.Common.{◌≡◌, ℕ, zero, suc, ◌+◌, ◌-◌, ◌<◌, ◌≤◌, inl, inr, List, [], ◌∷◌, ◌++◌, Bool, true, false, ◌&&◌, cond, refl, sym, ap, ◌∙◌, subst, length, take, drop, get_or, Option, Some, None, add-one, add-suc, arith, length-append, length-drop, drop-cons, nat_eq, nat_le}
 use Rattle.std.proofs.lemmas.List.{take-append-drop}
 use Rattle.std.proofs.Math.Seq.{take-append_seam, drop-length}
 use Rattle.std.proofs.lemmas.Slice.Eq.{starts_is}
@@ -31,7 +31,7 @@ module _ (units part : List ℕ) (at : ℕ) where
       let span : at + length part - at ≡ length part = omega arith in
       let front : take (length part) (drop at units) ≡ part = rw span at stands.1 in
       (starts_is Decides-eqb (drop at units) part _ refl).1 (drop (length part) (drop at units))
-        (sym (take-append-drop (length part) (drop at units)) ∙ ap (λ xs. xs ++ drop (length part) (drop at units)) front)
+      (sym (take-append-drop (length part) (drop at units)) ∙ ap (λ xs. xs ++ drop (length part) (drop at units)) front)
 
   pub not-StandsAt : starts_with nat_eq (drop at units) part ≡ false → StandsAt units part at → ⊥
   not-StandsAt test stands = let other = test-StandsAt stands in cc
@@ -61,11 +61,11 @@ module _ (units part : List ℕ) (at : ℕ) where
   first_place-step within =
       let here = le-leb at (length units) within in
       elim (eqb_tells at (length units)) [
-          inl end ↦ rw (here, lt-leb (at + 1) (length units) (omega (arith, end.1)), end.1, drop-length units) refl
+        | inl end ↦ rw (here, lt-leb (at + 1) (length units) (omega (arith, end.1)), end.1, drop-length units) refl
         | inr before ↦ let inside : at < length units = omega (arith, before.1) in
-          let split : drop at units ≡ get_or units at 0 ∷ drop (at + 1) units =
-          drop-cons units at 0 inside ∙ ap (λ n. get_or units at 0 ∷ drop n units) (sym (add-one at)) in
-          rw (here, le-leb (at + 1) (length units) (omega arith)) (place_in-step part at _ _ _ split)
+            let split : drop at units ≡ get_or units at 0 ∷ drop (at + 1) units =
+            drop-cons units at 0 inside ∙ ap (λ n. get_or units at 0 ∷ drop n units) (sym (add-one at)) in
+            rw (here, le-leb (at + 1) (length units) (omega arith)) (place_in-step part at _ _ _ split)
       ]
 
 module _ (units part : List ℕ) where
@@ -75,9 +75,9 @@ module _ (units part : List ℕ) where
       let far : length units < n + length part = past (omega arith) in
       let test : (nat_le (n + j) (length units) && starts_with nat_eq (drop (n + j) units) part) ≡ false =
       false_unless _ (λ is.
-          let parts = both _ _ is in
-          let stands = StandsAt-from_test units part (n + j) (leb-true _ _ parts.0) parts.1 in
-          omega (arith, stands.0)) in
+      let parts = both _ _ is in
+      let stands = StandsAt-from_test units part (n + j) (leb-true _ _ parts.0) parts.1 in
+      omega (arith, stands.0)) in
       rw (add-suc n j, test) (place_below-more n j (λ h. far))
 
   pub last_place-past : (from n : ℕ) → n ≤ from + 1 → (n ≤ from → length units < n + length part) → last_place units part from ≡ place_below units part n
@@ -93,6 +93,6 @@ module _ (units part : List ℕ) where
 pub holds_before : (P : ℕ → Type 0) (n k : ℕ) → n - 1 ≤ k → (n ≤ k → P k) → P (n - 1) → P k
 holds_before P n k above later here =
     elim (eqb_tells k (n - 1)) [
-        inl same ↦ subst P (sym same.1) here
+      | inl same ↦ subst P (sym same.1) here
       | inr other ↦ later (omega (arith, other.1))
     ]

@@ -65,5 +65,4 @@ pub fn to_utf8(alloc: Global, units: &[u16]) -> Result<Vec<u8>, AllocError>
 /// The law that UTF-8 comes back from its units as it was.
 pub fn utf8_comes_back()
     ensures { Utf8ComesBack }
-{
-}
+{}

@@ -6,6 +6,7 @@ ghost use Rattle.jl_text.specs.Quoted.{quoted, quoted_unit, short_escape, is_lon
 use std::alloc::{AllocError, Global};
 
 const QUOTE: u16 = 0x22;
+
 const BACKSLASH: u16 = 0x5C;
 
 /// The unit at a place, and 0 past the end.

@@ -1,5 +1,5 @@
-use Rattle.std.proofs.Common.{◌≡◌, ◌≤◌, ◌+◌, ◌<◌, ℕ, Some, cond, sym, ap, ◌∙◌, length, arith, below_more, Option, List}
-use Rattle.jl_text.specs.Search.{StandsAt, first_place, IsFirstPlace}
+use Rattle.std.proofs.Common.{◌≤◌, ◌+◌, Some, cond, sym, ap, ◌∙◌, arith, below_more}
+use Rattle.jl_text.specs.Search.{StandsAt, first_place}
 use Rattle.jl_text.proofs.SearchLemmas.{first_place-step, first_place-past, StandsAt-from_test, not-StandsAt}
 use Rattle.jl_text.proofs.search.first_place.Goals as goal
 
@@ -19,10 +19,11 @@ returns-then-stands_at-clause-least c =
 pub loop-at-preserved : goal.loop-at-preserved
 loop-at-preserved c =
     let step = first_place-step c.args.units.now c.args.part.now c.loop-at.at (omega arith) in
-    let on = ap (λ t. cond t (Some c.loop-at.at) (first_place c.args.units.now c.args.part.now (c.loop-at.at + 1))) (sym c.if-stands_at.ensures) in
-    (c.loop-at.invariant.0 ∙ step ∙ on,
+    let on = ap (λ t. cond t (Some c.loop-at.at) (first_place c.args.units.now c.args.part.now (c.loop-at.at + 1))) (sym c.if-stands_at.ensures) in (
+      c.loop-at.invariant.0 ∙ step ∙ on,
       λ k from below. below_more (λ j. c.args.from ≤ j → StandsAt c.args.units.now c.args.part.now j → ⊥) c.loop-at.at
-        (λ j h. λ g. c.loop-at.invariant.1 j g h) (λ g. not-StandsAt _ _ _ (sym c.if-stands_at.ensures)) k below from)
+          (λ j h. λ g. c.loop-at.invariant.1 j g h) (λ g. not-StandsAt _ _ _ (sym c.if-stands_at.ensures)) k below from,
+    )
 
 pub returns-clause-value : goal.returns-clause-value
 returns-clause-value c = sym (c.loop-at.invariant.0 ∙ first_place-past c.args.units.now c.args.part.now c.loop-at.at (omega arith))

@@ -1,4 +1,4 @@
-use Rattle.std.proofs.Common.{◌≡◌, ◌≤◌, ◌<◌, ℕ, suc}
+use Rattle.std.proofs.Common.{◌≡◌, ◌≤◌, ℕ}
 use Rattle.jl_text.specs.Search.{StandsAt, place_below, last_place}
 use Rattle.jl_text.proofs.search.last_place.Given as goal
 

@@ -1,6 +1,6 @@
-use Rattle.std.proofs.Common.{◌≡◌, ◌≤◌, ℕ, arith, ap, ◌∙◌, length}
+use Rattle.std.proofs.Common.{◌≡◌, arith, ap, ◌∙◌, length}
 use Rattle.std.proofs.lemmas.Grind.{common_steps}
-use Rattle.jl_text.specs.Places.{line_col, line_table}
+use Rattle.jl_text.specs.Places.{line_col}
 use Rattle.jl_text.proofs.PlacesLemmas.{line_col-line_table}
 use Rattle.jl_text.proofs.lines.Lines.line_col.Goals as goal
 

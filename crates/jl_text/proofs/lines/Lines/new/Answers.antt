@@ -1,4 +1,4 @@
-use Rattle.std.proofs.Common.{◌≡◌, ◌∷◌, ◌++◌, List, [], ℕ, drop, append-nil, sym, ◌∙◌, ap, subst, length, drop_of_length-le}
+use Rattle.std.proofs.Common.{◌≡◌, ◌∷◌, ◌++◌, List, ℕ, append-nil, sym, ◌∙◌, ap, subst, length, drop_of_length-le}
 use Rattle.jl_text.specs.Places.{starts_after, IsLineTable}
 use Rattle.jl_text.proofs.PlacesLemmas.{line_table-IsLineTable}
 use Rattle.jl_text.proofs.lines.Lines.new.Goals as goal
