@@ -40,8 +40,9 @@ fn texts(rt: HostRuntime) -> Result<(), Fail> {
         "abc",
     )?;
     shows(&rt, &front.share(alloc)?, alloc, "ab")?;
-    shows(&rt, &text(alloc, "hello")?.slice(alloc, 1, 3)?, alloc, "el")?;
-    Ok(())
+    let word = text(alloc, "hello")?;
+    assert_eq!(rt; word.units().len(), 5);
+    shows(&rt, &word.slice(alloc, 1, 3)?, alloc, "el")
 }
 
 #[test]
