@@ -7,7 +7,8 @@ use Rattle.jl_text.proofs.lines.lines_begun.Goals as goal
 pub returns : goal.returns
 returns c =
     let parted = IsPartitionedBy-leb (λ start. start) c.args.starts.now c.args.at c.requires in
-    let point = IsPartitionPoint-from_clause (λ start. nat_le start c.args.at) _ _ c.partition_point.ensures.partitioned parted (λ a r q k. search rules) in
+    let point = IsPartitionPoint-from_clause
+    (λ start. nat_le start c.args.at) _ _ c.partition_point.ensures.partitioned parted (λ a r q k. search rules) in
     record {
       bound = c.partition_point.ensures.bound;
       value = sym (count_by-partition _ _ _ c.partition_point.ensures.bound point);
