@@ -4,3 +4,4 @@ pub mod Meaning
 pub mod Weaving
 pub mod View
 pub mod Running
+pub mod Reading

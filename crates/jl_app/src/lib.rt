@@ -2,6 +2,7 @@
 #![tactic(auto, using(crate::proofs::Views::nodes))]
 
 pub mod laws;
+mod read;
 mod run;
 mod tree;
 mod weave;
