@@ -3,9 +3,12 @@
 
 pub mod laws;
 pub mod outcome;
+mod read;
 pub mod report;
 pub mod run;
+pub mod status;
 pub mod tree;
 pub mod weave;
 
+pub use status::Status;
 pub use tree::{Script, Sum};
