@@ -2,3 +2,4 @@ pub mod Views
 pub mod Simulation
 pub mod Comings
 pub mod Reports
+pub mod Answering

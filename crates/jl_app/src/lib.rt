@@ -3,6 +3,7 @@
 
 pub mod laws;
 pub mod outcome;
+mod answer;
 mod read;
 pub mod report;
 pub mod run;
