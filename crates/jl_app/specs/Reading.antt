@@ -99,3 +99,7 @@ pub record IsScript (bytes : List ℕ) (s : Script) : Type 0 where
   pub semicolon : after_spaces after_close ≡ 59 ∷ after_semicolon
   pub ends : Ends (after_spaces after_semicolon)
   pub few : numbers s.argument ≤ 100
+
+-- no bytes are two scripts
+abbrev pub OneReading : Type 0
+OneReading = (bytes : List ℕ) (s t : Script) → IsScript bytes s → IsScript bytes t → s ≡ t

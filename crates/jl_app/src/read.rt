@@ -1,4 +1,4 @@
-ghost use Rattle.std.specs.Prelude.{◌≡◌, ◌+◌, ◌^◌, ◌<◌, ◌≤◌, ◌∷◌, ◌++◌, [], length, codes, pos, ◌↔◌, IfOk, OnErr, IsErrOf, IsTrue, MatchOption, List, ℕ};
+ghost use Rattle.std.specs.Prelude.{◌≡◌, ◌+◌, ◌^◌, ◌<◌, ◌≤◌, ◌∷◌, ◌++◌, [], length, codes, pos, ◌↔◌, IfOk, IfSome, OnErr, IsErrOf, IsTrue, MatchOption, List, ℕ};
 ghost use Rattle.jl_app.specs.Sums.{Script as PlainScript, Sum as PlainSum, binary};
 ghost use Rattle.jl_app.specs.View.{view, view_script};
 ghost use Rattle.jl_app.specs.Reading.{after_spaces, is_digit, begins_with_digit, digits_in, limited, number_in, multiplicative_in, additive_in, place, ReadsNumber, ReadsProduct, ReadsSum, Ends, numbers, IsScript};
@@ -56,16 +56,19 @@ fn expect<'a>(bytes: &'a [u8], word: &[u8]) -> Result<&'a [u8], ReadingRefusal>
     ensures found { IfOk result (λ after. bytes.now ≡ word.now ++ after.now) }
     ensures none { OnErr result ((after : List ℕ) → bytes.now ≡ word.now ++ after → ⊥) }
 {
-    bytes.strip_prefix(word).ok_or(ReadingRefusal::NotYet)
+    let Some(after) = bytes.strip_prefix(word) else {
+        return Err(ReadingRefusal::NotYet);
+    };
+    Ok(after)
 }
 
 /// Whether nothing is left, or one line feed.
 fn is_end(bytes: &[u8]) -> bool
     ensures { IsTrue result ↔ Ends bytes.now }
 {
-    match bytes {
-        [] | [b'\n'] => true,
-        _ => false,
+    match bytes.split_first() {
+        None => true,
+        Some((byte, after)) => *byte == b'\n' && after.is_empty(),
     }
 }
 
@@ -81,7 +84,8 @@ fn place_of(size: usize, from: &[u8]) -> u32
 /// value is too large.
 fn digits(before: u64, bytes: &[u8]) -> Option<(u64, &[u8])>
     requires { before ≤ 9007199254740991 }
-    ensures { MatchOption result (limited (digits_in before bytes.now) ≡ None) (λ read. limited (digits_in before bytes.now) ≡ Some (read.0, read.1.now)) }
+    ensures read { MatchOption result (limited (digits_in before bytes.now) ≡ None) (λ read. limited (digits_in before bytes.now) ≡ Some (read.0, read.1.now)) }
+    ensures inside { IfSome result (λ read. read.0 ≤ 9007199254740991) }
 {
     let mut value = before;
     let mut rest = bytes;
@@ -110,7 +114,8 @@ fn digit_is_next(bytes: &[u8]) -> bool
 
 /// The number in front, and the bytes after it (7.8.3).
 fn number(bytes: &[u8]) -> Option<(u64, &[u8])>
-    ensures { MatchOption result (number_in bytes.now ≡ None) (λ read. number_in bytes.now ≡ Some (read.0, read.1.now)) }
+    ensures read { MatchOption result (number_in bytes.now ≡ None) (λ read. number_in bytes.now ≡ Some (read.0, read.1.now)) }
+    ensures inside { IfSome result (λ read. read.0 ≤ 9007199254740991) }
 {
     let (byte, after) = bytes.split_first()?;
     if *byte == b'0' {
