@@ -4,3 +4,4 @@ pub mod Comings
 pub mod Reading
 pub mod ReadingBytes
 pub mod ReadingScripts
+pub mod ReadingExamples

@@ -1,8 +1,8 @@
 -- What is read in front of the bytes is one thing, and a reader that goes on from each front finds it.
-use Rattle.std.proofs.Common.{◌≡◌, ℕ, ◌+◌, ◌<◌, ◌≤◌, Option, Some, None, List, pos, refl, sym, ap, ◌∙◌, subst, arith}
+use Rattle.std.proofs.Common.{◌≡◌, ℕ, ◌+◌, ◌<◌, ◌≤◌, Option, Some, None, List, pos, refl, sym, ap, subst, arith}
 use Rattle.jl_op.specs.declared.op.Operator.{Operator}
 use Rattle.jl_app.specs.Sums.{Sum, number, binary}
-use Rattle.jl_app.specs.Reading.{after_spaces, number_in, multiplicative_in, additive_in, place, ReadsNumber, a_number, BeginsProduct, one_number, product_with, ReadsProduct, whole_product, BeginsSum, one_product, sum_with, ReadsSum, whole_sum, numbers}
+use Rattle.jl_app.specs.Reading.{after_spaces, multiplicative_in, additive_in, place, ReadsNumber, a_number, BeginsProduct, one_number, product_with, ReadsProduct, whole_product, BeginsSum, one_product, sum_with, ReadsSum, whole_sum, numbers}
 
 pub record Same (a b : Sum) (r s : List ℕ) : Type 0 where
   pub tree : a ≡ b

@@ -1,7 +1,7 @@
 -- The small parts in front of the bytes, as the code finds them.
-use Rattle.std.proofs.Common.{◌≡◌, ℕ, ◌+◌, ◌-◌, ◌*◌, ◌<◌, ◌≤◌, Bool, true, false, cond, nat_eq, ◌==◌, ◌↔◌, Option, Some, None, List, [], ◌∷◌, ◌++◌, length, take, drop, pos, IsTrue, refl, sym, ap, ◌∙◌, subst, arith}
+use Rattle.std.proofs.Common.{◌≡◌, ℕ, ◌+◌, ◌-◌, ◌*◌, ◌<◌, ◌≤◌, Bool, true, false, cond, nat_eq, ◌==◌, ◌↔◌, Some, None, List, [], ◌∷◌, ◌++◌, length, take, drop, pos, IsTrue, refl, sym, ap, ◌∙◌, subst, arith}
 use Rattle.std.specs.Cmp.Lexicographic.{pointwise, same_text, other_text}
-use Rattle.std.proofs.lemmas.List.{take-append-drop, take-append-le}
+use Rattle.std.proofs.lemmas.List.{take-append-drop}
 use Rattle.std.proofs.lemmas.Bool.Decides.{nat_tests}
 use Rattle.jl_app.specs.Sums.{Sum, number}
 use Rattle.jl_app.specs.Reading.{is_digit, digits_in, limited, number_in, place, ReadsNumber, a_number, Ends, at_once, line_feed}

@@ -1,5 +1,5 @@
 -- One script is read from bytes.
-use Rattle.std.proofs.Common.{◌≡◌, ℕ, List, [], ◌∷◌, ◌++◌, length, drop, codes, refl, sym, ap, ◌∙◌, subst}
+use Rattle.std.proofs.Common.{◌≡◌, ℕ, List, ◌∷◌, ◌++◌, length, drop, codes, sym, ap, ◌∙◌, subst}
 use Rattle.jl_app.specs.Sums.{Sum, Script}
 use Rattle.jl_app.specs.Reading.{after_spaces, ReadsSum, Ends, IsScript, OneReading}
 use Rattle.jl_app.proofs.Reading.{Same, sum_same}

@@ -1,6 +1,6 @@
 -- The scripts of the form `print(SUM);`, as they are written: bytes in ASCII. Each part is read from the bytes that are
 -- still to come, and leaves those that come after it.
-use Rattle.std.specs.Prelude.{◌≡◌, ℕ, ◌+◌, ◌-◌, ◌*◌, ◌≤◌, ◌==◌, nat_le, ◌&&◌, Bool, true, false, if◌then◌else◌, Option, Some, None, List, [], ◌∷◌, ◌++◌, length, codes, pos}
+use Rattle.std.specs.Prelude.{◌≡◌, ℕ, ◌+◌, ◌-◌, ◌*◌, ◌≤◌, ◌==◌, nat_le, ◌&&◌, Bool, false, if◌then◌else◌, Option, Some, None, List, [], ◌∷◌, ◌++◌, length, codes, pos}
 use Rattle.jl_op.specs.declared.op.Operator.{Operator}
 use Rattle.jl_op.specs.declared.op.Operator.TheVariants.{Mul, Div, Rem, Add, Sub}
 use Rattle.jl_app.specs.Sums.{Sum, number, binary, Script}

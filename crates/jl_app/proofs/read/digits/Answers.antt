@@ -1,4 +1,4 @@
-use Rattle.std.proofs.Common.{◌+◌, ◌-◌, ◌*◌, rules, arith}
+use Rattle.std.proofs.Common.{rules, arith}
 use Rattle.jl_app.proofs.ReadingBytes.{digits_past}
 use Rattle.jl_app.proofs.read.digits.Goals as goal
 

@@ -1,4 +1,4 @@
-use Rattle.std.proofs.Common.{◌≡◌, ◌<◌, ◌^◌, pos, Some, to_z, w64, ap, ◌∙◌, arith, rules}
+use Rattle.std.proofs.Common.{◌≡◌, pos, Some, to_z, w64, ap, ◌∙◌, arith, rules}
 use Rattle.std.proofs.lemmas.Int.{to_z_pos}
 use Rattle.jl_app.proofs.Views.{view_number}
 use Rattle.jl_app.specs.Sums.{number}

@@ -1,7 +1,7 @@
-use Rattle.std.proofs.Common.{◌≡◌, ℕ, ◌+◌, ◌<◌, List, Some, refl, sym, ap, ◌∙◌, subst, arith, rules}
+use Rattle.std.proofs.Common.{◌≡◌, ℕ, ◌<◌, List, Some, sym, ap, ◌∙◌, subst, arith, rules}
 use Rattle.jl_app.specs.Sums.{Sum, binary}
 use Rattle.jl_app.specs.View.{view}
-use Rattle.jl_app.specs.Reading.{after_spaces, multiplicative_in, place, ReadsNumber, BeginsProduct, one_number, product_with, ReadsProduct, whole_product, numbers}
+use Rattle.jl_app.specs.Reading.{after_spaces, multiplicative_in, place, ReadsNumber, BeginsProduct, one_number, product_with, whole_product, numbers}
 use Rattle.jl_app.proofs.Reading.{Goes, starts_past, goes_past, goes_on, starts_from, product_starts, number_same, numbers_some}
 use Rattle.jl_app.proofs.read.product.Goals as goal
 

@@ -10,7 +10,7 @@ invariant-parts l = record {
   placed : l.at ≡ place l.size l.bytes;
   begun : BeginsProduct l.size l.bytes (view l.sum) l.rest;
   counted : numbers (view l.sum) + l.left ≡ l.room;
-  goes : (w : Sum) (end : List ℕ) → ReadsProduct l.size l.bytes w end → Goes multiplicative_in (ReadsNumber l.size) (place l.size l.bytes) (view l.sum) l.rest w end
+  goes : (w : Sum) (end : List ℕ) → ReadsProduct l.size l.bytes w end → Goes multiplicative_in (ReadsNumber l.size) (place l.size l.bytes) (view l.sum) l.rest w end;
 }
 
 abbrev pub decreases-parts : goal.decreases-parts

@@ -1,6 +1,5 @@
-use Rattle.std.proofs.Common.{◌≡◌, ◌∷◌, ◌++◌, codes, length, sym, ap, ◌∙◌, subst, rules}
+use Rattle.std.proofs.Common.{rules}
 use Rattle.jl_app.specs.View.{view}
-use Rattle.jl_app.specs.Reading.{after_spaces, ReadsSum}
 use Rattle.jl_app.proofs.ReadingScripts.{not_closed, not_ended, not_the_end}
 use Rattle.jl_app.proofs.read.read.Goals as goal
 

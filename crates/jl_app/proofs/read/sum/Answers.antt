@@ -1,7 +1,7 @@
-use Rattle.std.proofs.Common.{◌≡◌, ℕ, ◌+◌, ◌<◌, List, Some, refl, sym, ap, ◌∙◌, subst, arith, rules}
+use Rattle.std.proofs.Common.{◌≡◌, ℕ, ◌<◌, List, Some, sym, ap, ◌∙◌, subst, arith, rules}
 use Rattle.jl_app.specs.Sums.{Sum, binary}
 use Rattle.jl_app.specs.View.{view}
-use Rattle.jl_app.specs.Reading.{after_spaces, additive_in, place, ReadsProduct, BeginsSum, one_product, sum_with, ReadsSum, whole_sum, numbers}
+use Rattle.jl_app.specs.Reading.{after_spaces, additive_in, place, ReadsProduct, BeginsSum, one_product, sum_with, whole_sum, numbers}
 use Rattle.jl_app.proofs.Reading.{Goes, starts_past, goes_past, goes_on, starts_from, sum_starts, product_same, numbers_some}
 use Rattle.jl_app.proofs.read.sum.Goals as goal
 

@@ -10,7 +10,7 @@ invariant-parts l = record {
   placed : l.at ≡ place l.size l.bytes;
   begun : BeginsSum l.size l.bytes (view l.sum) l.rest;
   counted : numbers (view l.sum) + l.left ≡ l.room;
-  goes : (w : Sum) (end : List ℕ) → ReadsSum l.size l.bytes w end → Goes additive_in (ReadsProduct l.size) (place l.size l.bytes) (view l.sum) l.rest w end
+  goes : (w : Sum) (end : List ℕ) → ReadsSum l.size l.bytes w end → Goes additive_in (ReadsProduct l.size) (place l.size l.bytes) (view l.sum) l.rest w end;
 }
 
 abbrev pub decreases-parts : goal.decreases-parts
