@@ -1,7 +1,7 @@
-ghost use Rattle.std.specs.Prelude.{◌≡◌, ◌+◌, ◌^◌, ◌<◌, ◌≤◌, ◌∷◌, ◌++◌, [], length, codes, pos, ◌↔◌, IfOk, IfSome, OnErr, IsErrOf, IsTrue, MatchOption, List, ℕ};
+ghost use Rattle.std.specs.Prelude.{◌≡◌, ◌+◌, ◌^◌, ◌<◌, ◌≤◌, ◌++◌, length, ◌↔◌, IfOk, IfSome, OnErr, IsErrOf, IsTrue, MatchOption, List, ℕ};
 ghost use Rattle.jl_app.specs.Sums.{Script as PlainScript, Sum as PlainSum, binary};
 ghost use Rattle.jl_app.specs.View.{view, view_script};
-ghost use Rattle.jl_app.specs.Reading.{after_spaces, is_digit, begins_with_digit, digits_in, limited, number_in, multiplicative_in, additive_in, place, ReadsNumber, ReadsProduct, ReadsSum, Ends, numbers, IsScript};
+ghost use Rattle.jl_app.specs.Reading.{after_spaces, begins_with_digit, digits_in, limited, number_in, multiplicative_in, additive_in, place, ReadsNumber, ReadsProduct, ReadsSum, Ends, numbers, IsScript};
 ghost use Rattle.jl_app.specs.declared.read.ReadingRefusal.TheVariants.{NoMemory};
 
 use crate::tree::{Script, Sum};
