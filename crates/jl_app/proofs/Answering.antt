@@ -1,5 +1,5 @@
 -- The answer that the code makes of a run is the one that is due.
-use Rattle.std.proofs.Common.{◌≡◌, ℕ, zero, suc, ◌+◌, ◌<◌, ◌≤◌, ◌^◌, ◌++◌, List, [], ◌∷◌, length, map, sum_by, refl, sym, ap, ◌∙◌, subst, arith}
+use Rattle.std.proofs.Common.{◌≡◌, ℕ, zero, suc, ◌+◌, ◌*◌, ◌<◌, ◌≤◌, ◌^◌, ◌++◌, List, [], ◌∷◌, length, map, sum_by, refl, sym, ap, ◌∙◌, subst, arith}
 use Rattle.std.specs.Prelude.{All, IfSome, slice_get}
 use Rattle.std.specs.Ordering.{nat_cmp}
 use Rattle.std.specs.List.Sorted.{IsStrictlySortedBy}
@@ -12,7 +12,8 @@ use Rattle.jl_app.specs.declared.outcome.Outcome.{Outcome as Answered}
 use Rattle.jl_app.specs.declared.status.Status.{Status}
 use Rattle.jl_app.specs.Reporting.{Lines, count_at, if_any, total_at, lines_text}
 use Rattle.jl_app.specs.Places.{places}
-use Rattle.jl_app.specs.Sums.{Script}
+use Rattle.jl_app.specs.Sums.{Sum, number, binary, parts, Script}
+use Rattle.jl_app.specs.Reading.{numbers, IsScript}
 use Rattle.jl_app.specs.Weaving.{Hooked, woven, hooked_script}
 use Rattle.jl_app.specs.declared.outcome.Run.{Run}
 use Rattle.jl_app.proofs.Reports.{hits_few, summary_positive, summary_few, summary_total}
@@ -72,3 +73,11 @@ answer_is {r = r} s found taken lines reports answer text end bytes is few f p c
           ∙ ap (λ x. end_line (end_text (woven_run s)) (steps_taken woven_budget (woven_run s)) x reports) is.hooks
           ∙ ap (λ x. end_line (end_text (woven_run s)) (steps_taken woven_budget (woven_run s)) (length ops) x) n);
     }
+
+-- a sum has fewer than twice as many parts as numbers
+pub parts_within : (s : Sum) → parts s + 1 ≡ 2 * numbers s
+parts_within (number at n) = refl
+parts_within (binary at op a b) = omega (arith, parts_within a, parts_within b)
+
+pub script_small : (bytes : List ℕ) (s : Script) → IsScript bytes s → parts s.argument < 2 ^ 31
+script_small bytes s h = omega (arith, parts_within s.argument, h.few)
