@@ -7,3 +7,4 @@ pub mod ReadingExamples
 pub mod Comings
 pub mod Reports
 pub mod Answering
+pub mod Endings

@@ -126,8 +126,8 @@ pub(crate) fn lint(alloc: Global, bytes: &[u8], crowd: &mut Crowd) -> Result<Ans
     ensures same_rules { ⟦<Crowd as Observer>⟧.rules crowd.new ≡ ⟦<Crowd as Observer>⟧.rules crowd.old }
 {
     match read(alloc, bytes) {
-        Ok(script) => respond(alloc, &script, crowd),
-        Err(ReadingRefusal::NotYet) => line_only(alloc, Status::Refused, "refused NotYet"),
+        Ok(script) => Ok(respond(alloc, &script, crowd)?),
+        Err(ReadingRefusal::NotYet) => Ok(line_only(alloc, Status::Refused, "refused NotYet")?),
         Err(ReadingRefusal::NoMemory) => Err(AllocError),
     }
 }
