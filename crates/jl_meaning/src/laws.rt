@@ -6,5 +6,4 @@ ghost use Rattle.jl_meaning.specs.Follows.{Matches, Simulates};
 #[tactic(auto, using(crate::proofs::Runs::simulates))]
 pub fn matching_parts_simulate()
     ensures { (p q : Part (Unit {0})) → Matches 64 0 p q → Simulates p q }
-{
-}
+{}
