@@ -2,9 +2,9 @@
 use Rattle.std.specs.Prelude.{◌≡◌, ℕ, List, length, Result, Ok, Err}
 use Rattle.jl_op.specs.Operations.{Operation}
 use Rattle.jl_meaning.specs.Effects.{World, Finish, Ends, Fails, Outcome, Over, Spent, world_of, steps_taken}
-use Rattle.jl_app.specs.declared.run.Outcome.{Outcome as End}
-use Rattle.jl_app.specs.declared.run.Outcome.TheVariants as ends
-use Rattle.jl_app.specs.declared.run.Run.{Run}
+use Rattle.jl_app.specs.declared.outcome.Outcome.{Outcome as End}
+use Rattle.jl_app.specs.declared.outcome.Outcome.TheVariants as ends
+use Rattle.jl_app.specs.declared.outcome.Run.{Run}
 use Rattle.jl_app.specs.declared.run.State.{State}
 use Rattle.jl_app.specs.declared.run.Stop.{Stop}
 use Rattle.jl_app.specs.declared.run.Stop.TheVariants as stops
@@ -19,7 +19,7 @@ pub record Stands {O : Type 0} (stands_for : O → List Operation → Type 0) (o
 abbrev pub Comes : {O A : Type 0} → (O → List Operation → Type 0) → Outcome A → Result A Stop → O → State → Type 0
 Comes stands_for r (Ok a) observer state = (w : World) × (r ≡ Over (Ends a) state.left w) × Stands stands_for observer state w
 Comes stands_for r (Err (stops.Fault f)) observer state = (w : World) × (r ≡ Over (Fails f) state.left w) × Stands stands_for observer state w
-Comes stands_for r (Err stops.Spent) observer state = (w : World) × (r ≡ Spent w) × Stands stands_for observer state w
+Comes stands_for r (Err stops.Spent) observer state = (w : World) × (r ≡ Spent w) × (state.left ≡ 0) × Stands stands_for observer state w
 Comes stands_for r (Err stops.NoMemory) observer state = Unit {0}
 
 -- how a run ended

@@ -2,9 +2,14 @@
 #![tactic(auto, using(crate::proofs::Views::nodes))]
 
 pub mod laws;
+pub mod outcome;
+mod answer;
 mod read;
-mod run;
-mod tree;
-mod weave;
+pub mod report;
+pub mod run;
+pub mod status;
+pub mod tree;
+pub mod weave;
 
+pub use status::Status;
 pub use tree::{Script, Sum};

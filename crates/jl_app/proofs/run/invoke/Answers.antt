@@ -13,11 +13,11 @@ returns-clause-comes g c = λ w st.
     let line : World = record pre { output = w.output ++ printed x ++ 10 ∷ [] } in
     let told : Stands g.O.Observer.stands_for c.tell.new.observer c.tell.new.state pre =
         subst (λ a. Stands g.O.Observer.stands_for c.tell.new.observer c.tell.new.state (record w { hooks = w.hooks ++ with_id 2 (InvokePre a) ∷ [] })) c.seen-argument.ensures (c.in_ok-tell.ensures.told w st) in
-    let stands = stands_on g.O.Observer.stands_for _ _ _ pre c.in_ok-spend.ensures.output c.in_ok-spend.ensures.hooks told in
+    let stands = stands_on g.O.Observer.stands_for c.tell.new.observer c.tell.new.state c.spend.new.self pre c.in_ok-spend.ensures.output c.in_ok-spend.ensures.hooks told in
     let done : Stands g.O.Observer.stands_for c.tell.new.observer c.print.new.state line = record {
       output = ap (λ out. out ++ printed x ++ 10 ∷ []) stands.output ∙ sym c.in_ok-print.ensures.ok;
       hooks = stands.hooks;
       count = stands.count ∙ sym c.in_ok-print.ensures.hooks;
     } in
-    comes_steps g.O.Observer.stands_for 2 _ _ (Print (printed x) (End tt)) pre (Ok tt) _ _ (c.in_ok-spend.ensures.taken.1 ∙ c.in_ok-tell.ensures.left)
+    comes_steps g.O.Observer.stands_for 2 _ _ (Print (printed x) (End tt)) pre (Ok tt) c.tell.new.observer c.print.new.state (c.in_ok-spend.ensures.taken.1 ∙ c.in_ok-tell.ensures.left)
     (line, ap (λ n. Over (Ends tt) n line) (sym c.in_ok-print.ensures.left), done)
