@@ -1,3 +1,7 @@
 pub mod Words
 pub mod Signs
 pub mod Operators
+pub mod Tokens
+pub mod Next
+pub mod Brackets
+pub mod Reads
