@@ -1,0 +1,3 @@
+pub mod Progress
+pub mod Opened
+pub mod Balanced
