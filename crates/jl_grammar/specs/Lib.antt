@@ -5,3 +5,4 @@ pub mod Tokens
 pub mod Next
 pub mod Brackets
 pub mod Reads
+pub mod Reader
