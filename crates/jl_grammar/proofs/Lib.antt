@@ -1,3 +1,4 @@
 pub mod Progress
 pub mod Opened
 pub mod Balanced
+pub mod Expressions

@@ -5,4 +5,5 @@ pub mod Tokens
 pub mod Next
 pub mod Brackets
 pub mod Reads
+pub mod Program
 pub mod Reader

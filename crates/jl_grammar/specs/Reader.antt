@@ -1,10 +1,11 @@
 -- A reader as a function, that tells what the grammar reads. It is a step of the proofs: no public clause speaks of it.
 -- Each function reads from a place and gives what it read with the place after it. What begins later than the whole, as a
 -- right operand or what is in brackets, is read one level deeper.
-use Rattle.std.specs.Prelude.{ℕ, zero, suc, pred, Bool, true, false, not, ◌&&◌, ◌||◌, List, [], ◌∷◌, length, Option, Some, None, option_and_then, nat_le, if◌then◌else◌}
+use Rattle.std.specs.Prelude.{ℕ, zero, suc, pred, ◌*◌, nat_eq, Bool, true, false, not, ◌&&◌, ◌||◌, List, [], ◌∷◌, length, Option, Some, None, option_and_then, nat_le, if◌then◌else◌}
 use Rattle.jl_ast.specs.declared.ops.BinOp.{BinOp}
 use Rattle.jl_ast.specs.declared.ops.UnOp.{UnOp}
-use Rattle.jl_ast.specs.Tree.{Ident, Tree, Row, Maybe, Text}
+use Rattle.jl_ast.specs.Height.{program_height}
+use Rattle.jl_ast.specs.Tree.{Ident, Program, Tree, Row, Maybe, Text}
 use Rattle.jl_ast.specs.Tree as tree
 use Rattle.jl_text.specs.declared.span.Span.{Span}
 use Rattle.jl_token.specs.declared.punct.Punct.TheVariants as puncts
@@ -14,6 +15,8 @@ use Rattle.jl_grammar.specs.declared.sign.Sign.TheVariants as signs
 use Rattle.jl_grammar.specs.declared.word.Word.TheVariants as words
 use Rattle.jl_grammar.specs.Next.{is_identifier, is_name, is_key, is_open_paren, is_open_brace, is_semicolon, is_comma, is_colon, is_question, is_equals, is_else, is_finally, ends_statement, ends_list, continues_left, is_directive, target_of}
 use Rattle.jl_grammar.specs.Operators.{Joint, joint, joined, looseness, continues, assign_operator, unary_operator, update_operator}
+use Rattle.jl_grammar.specs.Brackets.{opened}
+use Rattle.jl_grammar.specs.Program.{program_of}
 use Rattle.jl_grammar.specs.Reads.{Expr, Exprs, Stmt, Stmts, Code}
 use Rattle.jl_grammar.specs.Tokens.{sign_at, line_at, text_at, number_at, strict_at, span, ident_at, key_ident_at}
 
@@ -542,3 +545,15 @@ deeper ts (suc f) = record {
   statement = statement_at ts (deeper ts f);
   rest = rest_at ts (deeper ts f);
 }
+
+abbrev pub is_shallow : List Token → ℕ → ℕ → Bool
+is_shallow ts most zero = true
+is_shallow ts most (suc n) = nat_le (opened ts (suc n)) most && is_shallow ts most n
+
+-- the program that the tokens are, if they are one within the limit
+unfoldable pub program_at : List Token → ℕ → Option (Program Span)
+program_at ts limit =
+  if is_shallow ts (2 * limit) (length ts)
+  then (body_from ts (deeper ts (3 * limit)) (length ts) 0 >>= λ x.
+    if nat_eq x.1 (length ts) && nat_le (program_height (program_of ts x.0)) limit then Some (program_of ts x.0) else None)
+  else None
