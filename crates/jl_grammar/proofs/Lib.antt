@@ -2,3 +2,4 @@ pub mod Progress
 pub mod Opened
 pub mod Balanced
 pub mod Expressions
+pub mod Statements
