@@ -3,3 +3,5 @@ pub mod Opened
 pub mod Balanced
 pub mod Expressions
 pub mod Statements
+pub mod Starts
+pub mod Within
