@@ -5,3 +5,5 @@ pub mod Expressions
 pub mod Statements
 pub mod Starts
 pub mod Within
+pub mod Levels
+pub mod Complete
