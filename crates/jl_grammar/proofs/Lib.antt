@@ -7,3 +7,4 @@ pub mod Starts
 pub mod Within
 pub mod Levels
 pub mod Complete
+pub mod Sound
