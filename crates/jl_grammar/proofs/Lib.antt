@@ -8,3 +8,5 @@ pub mod Within
 pub mod Levels
 pub mod Complete
 pub mod Sound
+pub mod Numbered
+pub mod One

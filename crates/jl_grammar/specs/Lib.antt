@@ -7,3 +7,4 @@ pub mod Brackets
 pub mod Reads
 pub mod Program
 pub mod Reader
+pub mod Laws
