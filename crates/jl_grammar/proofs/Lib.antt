@@ -10,3 +10,7 @@ pub mod Complete
 pub mod Sound
 pub mod Numbered
 pub mod One
+pub mod OneAccepted
+pub mod Sample
+pub mod ExamplesOfExpressions
+pub mod ExamplesOfStatements

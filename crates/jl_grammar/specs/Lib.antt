@@ -8,3 +8,4 @@ pub mod Reads
 pub mod Program
 pub mod Reader
 pub mod Laws
+pub mod Accepted
