@@ -1,12 +1,14 @@
 pub mod Progress
 pub mod Opened
 pub mod Balanced
+pub mod Within
+pub mod Starts
 pub mod Expressions
 pub mod Statements
-pub mod Starts
-pub mod Within
 pub mod Levels
 pub mod Complete
+pub mod Holds
+pub mod SoundExpressions
 pub mod Sound
 pub mod Numbered
 pub mod One

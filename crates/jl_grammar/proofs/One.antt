@@ -16,7 +16,9 @@ use Rattle.jl_grammar.specs.Reads.{Code, ReadsBody}
 use Rattle.jl_grammar.specs.Tokens.{sign_at}
 use Rattle.jl_grammar.proofs.Complete.{body_complete}
 use Rattle.jl_grammar.proofs.Numbered.{tree_height}
-use Rattle.jl_grammar.proofs.Sound.{Holds, body_sound, deeper_sound}
+use Rattle.jl_grammar.proofs.Holds.{Holds}
+use Rattle.jl_grammar.proofs.Sound.{deeper_sound}
+use Rattle.jl_grammar.proofs.SoundExpressions.{body_sound}
 
 none_opened : (ts : List Token) → opened ts 0 ≡ 0
 unfolding opened
