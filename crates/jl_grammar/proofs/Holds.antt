@@ -1,25 +1,12 @@
 -- Steps of a proof on what was read, if anything was.
-use Rattle.std.proofs.Common.{◌≡◌, ℕ, zero, suc, pred, ◌+◌, ◌-◌, ◌≤◌, ◌<◌, Bool, true, false, not, ◌&&◌, ◌||◌, refl, ap, ap₂, ◌∙◌, sym, subst, arith, length, [], ◌∷◌}
-use Rattle.std.specs.Prelude.{List, Option, Some, None, IfSome, is_some, option_and_then, nat_le, if◌then◌else◌}
-use Rattle.std.proofs.lemmas.Option.{same_Some}
-use Rattle.std.proofs.lemmas.Bool.Decides.{leb_tells}
-use Rattle.std.proofs.lemmas.Bool.{leb-true, leb-false}
-use Rattle.jl_ast.specs.declared.ops.BinOp.{BinOp}
-use Rattle.jl_ast.specs.declared.ops.UnOp.{UnOp}
+use Rattle.std.proofs.Common.{◌≡◌, Bool, true, false, ◌&&◌, refl}
+use Rattle.std.specs.Prelude.{Option, Some, None, IfSome, option_and_then, if◌then◌else◌}
 use Rattle.jl_token.specs.declared.punct.Punct.TheVariants as puncts
 use Rattle.jl_grammar.specs.declared.sign.Sign.TheVariants as signs
 use Rattle.jl_grammar.specs.declared.word.Word.TheVariants as words
-use Rattle.jl_ast.specs.Tree.{Ident, Tree, Row, Maybe}
-use Rattle.jl_ast.specs.Tree as tree
-use Rattle.jl_text.specs.declared.span.Span.{Span}
-use Rattle.jl_token.specs.declared.token.Token.{Token}
 use Rattle.jl_grammar.specs.declared.sign.Sign.{Sign}
-use Rattle.jl_grammar.specs.Reads.{Expr, Stmt, Exprs, Stmts, Code, JoinsAt, AssignsAt, PrefixAt, UpdateAt, IsTarget, EndsAt, there, inserted, ReadsNames, last_name, more_names, ReadsParameters, no_parameters, parameters, ReadsPrimary, a_this, a_name, a_null, a_true, a_false, a_number, a_string, an_array, an_object, in_parens, a_function, a_named_function, ReadsItems, no_items, a_hole, last_item, more_items, ReadsEntries, no_entries, last_entry, more_entries, ReadsEntry, a_value, a_getter, a_setter, ReadsRest, a_rest, BeginsLeft, primary, a_dot, an_index, a_call, a_new, a_bare_new, ReadsLeft, whole_left, ReadsArguments, no_arguments, arguments, ReadsArgumentList, last_argument, more_arguments, ReadsPostfix, left, a_postfix, ReadsUnary, postfix, a_prefix, an_update, BeginsBinary, operand, tighter, a_joint, ReadsBinary, whole_binary, ReadsConditional, operands, a_conditional, ReadsAssignment, conditional, an_assignment, BeginsExpression, assignment, a_comma, ReadsExpression, whole_expression, ReadsStatement, a_block, a_var, an_empty, an_expression, an_if_else, an_if, a_do_while, a_while, a_for, a_for_in, a_for_var_in, a_continue, a_continue_to, a_break, a_break_to, a_return, a_return_of, a_switch, a_label, a_throw, a_try_catch, a_try_finally, a_try_both, a_debugger, ReadsBlock, in_braces, ReadsStatements, no_statements, more_statements, ReadsSub, several, alone, ReadsHead, a_head, ReadsDeclaration, declared, initialised, ReadsDeclarations, last_declaration, more_declarations, ReadsInit, no_init, an_init, init_vars, ReadsMaybe, no_expression, one_expression, ReadsClauses, no_clauses, a_case, a_default, ReadsCatch, a_catch, ReadsElements, no_elements, a_declaration, a_statement, ReadsFunction, a_declared_function, ReadsBody, a_directive, no_directive}
-use Rattle.jl_grammar.specs.Next.{open_paren, close_paren, open_bracket, close_bracket, open_brace, close_brace, dot_sign, semicolon, comma, colon, question, equals, keyword, is_identifier, is_name, is_key, is_open_paren, is_open_brace, is_semicolon, is_comma, is_colon, is_question, is_equals, is_else, is_finally, ends_statement, ends_list, bars_expression, continues_left, updates_at, is_directive, is_label, target_of}
-use Rattle.jl_grammar.specs.Operators.{Joint, plain, both, either, joint, joined, looseness, looseness_of, continues, assign_operator, assigns, unary_operator, update_operator, updates}
-use Rattle.jl_grammar.specs.Reader.{is_close_paren, is_close_bracket, is_close_brace, is_function, is_new, is_while, is_in, is_var, is_case, is_default, is_catch, name_of, with_directive, ends_at, names_from, parameters_at, label_at, closed, statements_from, block_at, elements_from, body_from, rest_at, function_at, items_from, value_at, getter_by, setter_by, accessor_at, entry_by, entry_at, entries_from, primary_by, primary_at, arguments_from, arguments_at, new_at, start_at, left_by, left_from, left_at, postfix_by, postfix_at, unary_by, unary_at, binary_by, binary_from, binary_at, conditional_from, conditional_at, assignment_by, assignment_at, comma_from, expression_at, head_at, sub_at, declaration_at, declarations_from, var_at, express_at, else_from, if_at, do_at, while_at, maybe_at, for_from, for_in_from, for_var_at, for_expression_at, for_at, continue_at, break_at, return_by, return_at, throw_at, clauses_from, switch_at, catch_at, finally_from, try_at, named_at, statement_by, statement_at, deeper, is_shallow, program_at, Read, Deeper, ◌>>=◌}
-use Rattle.jl_grammar.specs.Tokens.{At, Is, sign_at, line_at, text_at, number_at, strict_at, span, ident_at, key_ident_at}
-use Rattle.jl_grammar.proofs.Expressions.{some_looseness}
+use Rattle.jl_grammar.specs.Next.{is_open_paren, is_open_brace, is_semicolon, is_comma, is_colon, is_question, is_equals, is_else, is_finally}
+use Rattle.jl_grammar.specs.Reader.{is_close_paren, is_close_bracket, is_close_brace, is_function, is_new, is_while, is_in, is_var, is_case, is_default, is_catch}
 
 -- what holds of what was read, if anything was
 pub record Holds {A : Type 0} (o : Option A) (P : A → Type 0) : Type 0 where

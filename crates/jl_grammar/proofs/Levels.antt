@@ -1,7 +1,7 @@
 -- Heights of what is read, and what is read with a level more.
 use Rattle.std.proofs.Common.{◌≡◌, ℕ, zero, suc, ◌+◌, ◌≤◌, ◌<◌, max, Bool, true, false, not, ◌&&◌, ap, ◌∙◌, refl, arith}
-use Rattle.std.specs.Prelude.{List, Option, Some, None}
-use Rattle.jl_ast.specs.Height.{height, row_height, maybe_height}
+use Rattle.std.specs.Prelude.{List, Option, Some}
+use Rattle.jl_ast.specs.Height.{height}
 use Rattle.jl_ast.specs.declared.ops.BinOp.{BinOp}
 use Rattle.jl_ast.specs.Tree.{Ident, Tree}
 use Rattle.jl_ast.specs.Tree as tree
@@ -9,7 +9,7 @@ use Rattle.jl_text.specs.declared.span.Span.{Span}
 use Rattle.jl_token.specs.declared.token.Token.{Token}
 use Rattle.jl_grammar.specs.declared.word.Word.TheVariants as words
 use Rattle.jl_grammar.specs.Next.{keyword, is_question, is_comma, updates_at, target_of}
-use Rattle.jl_grammar.specs.Operators.{Joint, plain, both, either, joined, continues, assigns, updates, assign_operator}
+use Rattle.jl_grammar.specs.Operators.{Joint, plain, both, either, joined, continues, assigns, updates}
 use Rattle.jl_grammar.specs.Reads.{Expr, Stmt, Code, AssignsAt, IsTarget}
 use Rattle.jl_grammar.specs.Reader.{Read, Deeper, deeper, expression_at, assignment_at, unary_at, binary_at, conditional_at, left_at, statement_at, rest_at}
 use Rattle.jl_grammar.specs.Tokens.{At, sign_at, line_at}

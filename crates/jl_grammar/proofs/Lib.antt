@@ -16,3 +16,4 @@ pub mod OneAccepted
 pub mod Sample
 pub mod ExamplesOfExpressions
 pub mod ExamplesOfStatements
+pub mod ExamplesOfPlaces

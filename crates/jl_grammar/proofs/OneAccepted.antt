@@ -1,5 +1,5 @@
 -- At most one program is accepted.
-use Rattle.std.proofs.Common.{◌≡◌, subst}
+use Rattle.std.proofs.Common.{subst}
 use Rattle.jl_grammar.specs.Accepted.{OneAccepted}
 use Rattle.jl_grammar.specs.Program.{Reads}
 use Rattle.jl_grammar.proofs.One.{one_reading}

@@ -1,5 +1,5 @@
 -- How many brackets are open after one token.
-use Rattle.std.proofs.Common.{◌≡◌, ℕ, suc, Bool, true, false, ◌∙◌, ap, refl, List, Option, Some}
+use Rattle.std.proofs.Common.{◌≡◌, ℕ, suc, Bool, true, false, ap, refl, List, Option, Some}
 use Rattle.jl_ast.specs.declared.ops.BinOp.{BinOp}
 use Rattle.jl_ast.specs.declared.ops.UnOp.{UnOp}
 use Rattle.jl_token.specs.declared.punct.Punct.TheVariants as puncts

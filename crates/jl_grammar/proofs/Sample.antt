@@ -1,5 +1,5 @@
 -- Small texts as tokens, and what they read as without places.
-use Rattle.std.proofs.Common.{ℕ, ◌+◌, Bool, true, false, List, [], ◌∷◌, Option, Some, None, codes, pos}
+use Rattle.std.proofs.Common.{ℕ, ◌+◌, Bool, true, false, List, [], ◌∷◌, Option, Some, None, is_some, codes, pos}
 use Rattle.jl_ast.specs.Spans.{bare}
 use Rattle.jl_ast.specs.Tree.{Ident, Program, Text, Tree, code}
 use Rattle.jl_text.specs.declared.span.Span.{Span}
@@ -46,6 +46,23 @@ without_places (Some p) = Some (bare p)
 
 abbrev pub read : List Placeless → Option (Program (Unit {0}))
 read ts = without_places (program_at (placed 0 ts) 10)
+
+-- with places
+abbrev pub placed_read : List Placeless → Option (Program Span)
+placed_read ts = program_at (placed 0 ts) 10
+
+-- whether there is a program within a limit
+abbrev pub read_within : ℕ → List Placeless → Bool
+read_within limit ts = is_some (program_at (placed 0 ts) limit)
+
+abbrev pub from : ℕ → ℕ → Span
+from i j = record { from = i; to = j }
+
+abbrev pub named : Text → ℕ → ℕ → Ident Span
+named t i j = record { text = t; at = from i j }
+
+abbrev pub at_places : ℕ → ℕ → Tree Span code → Program Span
+at_places i j c = record { body = c; at = from i j }
 
 abbrev pub program : Tree (Unit {0}) code → Option (Program (Unit {0}))
 program c = Some (record { body = c; at = tt })

@@ -1,5 +1,5 @@
 -- The tokens that what is read begins with.
-use Rattle.std.proofs.Common.{◌≡◌, ℕ, zero, suc, ◌<◌, ◌≤◌, max, Bool, true, false, not, ◌&&◌, ◌||◌, ap, refl, ◌∙◌, List, [], ◌∷◌, length, Option, Some, None, arith}
+use Rattle.std.proofs.Common.{◌≡◌, ℕ, suc, Bool, true, false, not, ◌&&◌, ◌||◌, ap, refl, List, Option, Some, None}
 use Rattle.jl_ast.specs.declared.ops.BinOp.{BinOp}
 use Rattle.jl_ast.specs.declared.ops.UnOp.{UnOp}
 use Rattle.jl_token.specs.declared.punct.Punct.TheVariants as puncts
@@ -10,11 +10,11 @@ use Rattle.jl_ast.specs.Tree as tree
 use Rattle.jl_text.specs.declared.span.Span.{Span}
 use Rattle.jl_token.specs.declared.token.Token.{Token}
 use Rattle.jl_grammar.specs.declared.sign.Sign.{Sign}
-use Rattle.jl_grammar.specs.Reads.{Expr, Stmt, Exprs, Stmts, Code, JoinsAt, AssignsAt, PrefixAt, UpdateAt, IsTarget, EndsAt, there, inserted, ReadsNames, last_name, more_names, ReadsParameters, no_parameters, parameters, ReadsPrimary, a_this, a_name, a_null, a_true, a_false, a_number, a_string, an_array, an_object, in_parens, a_function, a_named_function, ReadsItems, no_items, a_hole, last_item, more_items, ReadsEntries, no_entries, last_entry, more_entries, ReadsEntry, a_value, a_getter, a_setter, ReadsRest, a_rest, BeginsLeft, primary, a_dot, an_index, a_call, a_new, a_bare_new, ReadsLeft, whole_left, ReadsArguments, no_arguments, arguments, ReadsArgumentList, last_argument, more_arguments, ReadsPostfix, left, a_postfix, ReadsUnary, postfix, a_prefix, an_update, BeginsBinary, operand, tighter, a_joint, ReadsBinary, whole_binary, ReadsConditional, operands, a_conditional, ReadsAssignment, conditional, an_assignment, BeginsExpression, assignment, a_comma, ReadsExpression, whole_expression, ReadsStatement, a_block, a_var, an_empty, an_expression, an_if_else, an_if, a_do_while, a_while, a_for, a_for_in, a_for_var_in, a_continue, a_continue_to, a_break, a_break_to, a_return, a_return_of, a_switch, a_label, a_throw, a_try_catch, a_try_finally, a_try_both, a_debugger, ReadsBlock, in_braces, ReadsStatements, no_statements, more_statements, ReadsSub, several, alone, ReadsHead, a_head, ReadsDeclaration, declared, initialised, ReadsDeclarations, last_declaration, more_declarations, ReadsInit, no_init, an_init, init_vars, ReadsMaybe, no_expression, one_expression, ReadsClauses, no_clauses, a_case, a_default, ReadsCatch, a_catch, ReadsElements, no_elements, a_declaration, a_statement, ReadsFunction, a_declared_function, ReadsBody, a_directive, no_directive}
-use Rattle.jl_grammar.specs.Next.{open_paren, open_brace, semicolon, keyword, is_identifier, is_name, is_key, is_open_paren, is_open_brace, is_semicolon, is_comma, is_colon, is_question, is_label, bars_expression, ends_statement, ends_list, updates_at}
-use Rattle.jl_grammar.specs.Operators.{continues, assign_operator, assigns, unary_operator, update_operator, updates}
+use Rattle.jl_grammar.specs.Reads.{Expr, Stmt, Exprs, Stmts, Code, ReadsNames, last_name, more_names, ReadsPrimary, a_this, a_name, a_null, a_true, a_false, a_number, a_string, an_array, an_object, in_parens, a_function, a_named_function, ReadsEntry, a_value, a_getter, a_setter, ReadsRest, a_rest, BeginsLeft, primary, a_dot, an_index, a_call, a_new, a_bare_new, ReadsLeft, whole_left, ReadsArgumentList, last_argument, more_arguments, ReadsPostfix, left, a_postfix, ReadsUnary, postfix, a_prefix, an_update, BeginsBinary, operand, tighter, a_joint, ReadsBinary, whole_binary, ReadsConditional, operands, a_conditional, ReadsAssignment, conditional, an_assignment, BeginsExpression, assignment, a_comma, ReadsExpression, whole_expression, ReadsStatement, a_block, a_var, an_empty, an_expression, an_if_else, an_if, a_do_while, a_while, a_for, a_for_in, a_for_var_in, a_continue, a_continue_to, a_break, a_break_to, a_return, a_return_of, a_switch, a_label, a_throw, a_try_catch, a_try_finally, a_try_both, a_debugger, ReadsBlock, in_braces, declared, initialised, ReadsDeclarations, last_declaration, more_declarations, ReadsCatch, a_catch}
+use Rattle.jl_grammar.specs.Next.{open_paren, open_brace, semicolon, keyword, is_identifier, is_key, is_semicolon, is_comma, is_colon, is_question, bars_expression, ends_statement, ends_list}
+use Rattle.jl_grammar.specs.Operators.{continues, assign_operator, unary_operator, update_operator, updates}
 use Rattle.jl_grammar.specs.Reader.{is_close_paren, is_close_bracket, is_close_brace, is_function, is_new, is_in, is_var}
-use Rattle.jl_grammar.specs.Tokens.{At, Is, sign_at, line_at}
+use Rattle.jl_grammar.specs.Tokens.{At, sign_at}
 
 -- the tokens that a primary expression begins with
 abbrev pub begins_primary : Sign → Bool

@@ -1,18 +1,17 @@
 -- What the reader does at each production of statements and bodies.
-use Rattle.std.proofs.Common.{◌≡◌, ℕ, zero, suc, Bool, true, false, not, ◌&&◌, ◌||◌, refl, ap, ◌∙◌, arith, length, [], ◌∷◌}
-use Rattle.std.specs.Prelude.{List, Option, Some, None, if◌then◌else◌}
+use Rattle.std.proofs.Common.{◌≡◌, ℕ, zero, suc, Bool, true, false, not, ◌&&◌, ◌||◌, refl, ◌∙◌, length}
+use Rattle.std.specs.Prelude.{List, Option, Some, None}
 use Rattle.jl_ast.specs.Tree.{Ident, Tree, Row, Maybe}
 use Rattle.jl_ast.specs.Tree as tree
 use Rattle.jl_text.specs.declared.span.Span.{Span}
-use Rattle.jl_token.specs.declared.punct.Punct.TheVariants as puncts
 use Rattle.jl_token.specs.declared.token.Token.{Token}
 use Rattle.jl_grammar.specs.declared.sign.Sign.{Sign}
 use Rattle.jl_grammar.specs.declared.sign.Sign.TheVariants as signs
 use Rattle.jl_grammar.specs.declared.word.Word.TheVariants as words
 use Rattle.jl_grammar.specs.Next.{open_paren, close_paren, open_brace, close_brace, semicolon, comma, colon, equals, keyword, is_identifier, is_open_brace, is_semicolon, is_comma, is_colon, is_equals, is_else, is_finally, ends_statement, ends_list, is_directive}
-use Rattle.jl_grammar.specs.Reads.{Expr, Exprs, Stmt, Stmts, Code, EndsAt, there, inserted}
+use Rattle.jl_grammar.specs.Reads.{Expr, Stmt, Stmts, Code, EndsAt, there, inserted}
 use Rattle.jl_grammar.specs.Tokens.{At, Is, sign_at, line_at, strict_at, span, ident_at}
-use Rattle.jl_grammar.specs.Reader.{is_close_paren, is_close_bracket, is_close_brace, is_function, is_new, is_while, is_in, is_var, is_case, is_default, is_catch, name_of, with_directive, ends_at, names_from, parameters_at, label_at, closed, statements_from, block_at, elements_from, body_from, rest_at, function_at, items_from, value_at, getter_by, setter_by, accessor_at, entry_by, entry_at, entries_from, primary_by, primary_at, arguments_from, arguments_at, new_at, start_at, left_by, left_from, left_at, postfix_by, postfix_at, unary_by, unary_at, binary_by, binary_from, binary_at, conditional_from, conditional_at, assignment_by, assignment_at, comma_from, expression_at, head_at, sub_at, declaration_at, declarations_from, var_at, express_at, else_from, if_at, do_at, while_at, maybe_at, for_from, for_in_from, for_var_at, for_expression_at, for_at, continue_at, break_at, return_by, return_at, throw_at, clauses_from, switch_at, catch_at, finally_from, try_at, named_at, statement_by, statement_at, deeper, is_shallow, program_at, Read, Deeper, ◌>>=◌}
+use Rattle.jl_grammar.specs.Reader.{is_close_paren, is_function, is_in, is_var, name_of, ends_at, label_at, closed, statements_from, block_at, elements_from, body_from, head_at, sub_at, declaration_at, declarations_from, var_at, express_at, else_from, if_at, do_at, while_at, maybe_at, for_from, for_in_from, for_var_at, for_expression_at, for_at, continue_at, break_at, return_by, return_at, throw_at, clauses_from, switch_at, catch_at, finally_from, try_at, named_at, statement_by, statement_at, Deeper}
 
 module _ (ts : List Token) where
   pub ends_step : (i j : ℕ) → EndsAt ts i j → ends_at ts i ≡ Some j

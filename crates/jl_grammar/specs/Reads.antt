@@ -1,7 +1,7 @@
 -- The grammar (clauses 11 to 14): what the tokens from one place to another read as, one case for each production. What is
 -- left-recursive in the standard is a front that may go on (Begins..), and a whole one (Reads..) is a front before a token
 -- that does not continue it.
-use Rattle.std.specs.Prelude.{◌≡◌, ℕ, zero, suc, Bool, true, false, not, ◌&&◌, ◌||◌, List, [], ◌∷◌, Option, Some, None}
+use Rattle.std.specs.Prelude.{◌≡◌, ℕ, zero, suc, Bool, true, false, ◌||◌, List, [], ◌∷◌, Option, Some, None}
 use Rattle.jl_ast.specs.declared.ops.BinOp.{BinOp}
 use Rattle.jl_ast.specs.declared.ops.UnOp.{UnOp}
 use Rattle.jl_ast.specs.Tree.{Ident, Tree, Row, Maybe, Text}

@@ -1,5 +1,5 @@
 -- The tokens at the places of a list, counted from 0.
-use Rattle.std.specs.Prelude.{◌≡◌, ℕ, zero, suc, Bool, true, false, ◌&&◌, List, [], ◌∷◌, Option, Some, None, codes}
+use Rattle.std.specs.Prelude.{◌≡◌, ℕ, zero, suc, Bool, true, false, ◌&&◌, List, [], ◌∷◌, None, codes}
 use Rattle.jl_ast.specs.Tree.{Ident, Text}
 use Rattle.jl_num.specs.Digits.{number_text}
 use Rattle.jl_num.specs.Number.{Number}
