@@ -5,8 +5,30 @@ use Rattle.jl_token.specs.declared.punct.Punct.TheVariants as puncts
 use Rattle.jl_grammar.specs.declared.sign.Sign.TheVariants as signs
 use Rattle.jl_grammar.specs.declared.word.Word.TheVariants as words
 use Rattle.jl_grammar.specs.declared.sign.Sign.{Sign}
-use Rattle.jl_grammar.specs.Next.{is_open_paren, is_open_brace, is_semicolon, is_comma, is_colon, is_question, is_equals, is_else, is_finally}
-use Rattle.jl_grammar.specs.Reader.{is_close_paren, is_close_bracket, is_close_brace, is_function, is_new, is_while, is_in, is_var, is_case, is_default, is_catch}
+use Rattle.jl_grammar.specs.Next.{
+  is_open_paren,
+  is_open_brace,
+  is_semicolon,
+  is_comma,
+  is_colon,
+  is_question,
+  is_equals,
+  is_else,
+  is_finally,
+}
+use Rattle.jl_grammar.specs.Reader.{
+  is_close_paren,
+  is_close_bracket,
+  is_close_brace,
+  is_function,
+  is_new,
+  is_while,
+  is_in,
+  is_var,
+  is_case,
+  is_default,
+  is_catch,
+}
 
 -- what holds of what was read, if anything was
 pub record Holds {A : Type 0} (o : Option A) (P : A → Type 0) : Type 0 where
@@ -19,7 +41,8 @@ pub just : {A : Type 0} {x : A} {P : A → Type 0} → P x → Holds (Some x) P
 just h = record { has = h }
 
 -- a step after a step
-pub after : {A B : Type 0} {P : A → Type 0} {Q : B → Type 0} (f : A → Option B) (o : Option A) → Holds o P → ((x : A) → P x → Holds (f x) Q) → Holds (option_and_then f o) Q
+pub after : {A B : Type 0} {P : A → Type 0} {Q : B → Type 0} (f : A → Option B) (o : Option A) → Holds o P
+    → ((x : A) → P x → Holds (f x) Q) → Holds (option_and_then f o) Q
 after f None h g = nothing
 after f (Some x) h g = g x h.has
 
@@ -29,12 +52,14 @@ weaken None h g = nothing
 weaken (Some x) h g = just (g x h.has)
 
 -- a test
-pub test : {B : Type 0} {Q : B → Type 0} (b : Bool) (x y : Option B) → (b ≡ true → Holds x Q) → (b ≡ false → Holds y Q) → Holds (if b then x else y) Q
+pub test : {B : Type 0} {Q : B → Type 0} (b : Bool) (x y : Option B) → (b ≡ true → Holds x Q)
+    → (b ≡ false → Holds y Q) → Holds (if b then x else y) Q
 test true x y f g = f refl
 test false x y f g = g refl
 
 -- a test, or nothing
-pub when_true : {B : Type 0} {Q : B → Type 0} (b : Bool) (x : Option B) → (b ≡ true → Holds x Q) → Holds (if b then x else None) Q
+pub when_true : {B : Type 0} {Q : B → Type 0} (b : Bool) (x : Option B) → (b ≡ true → Holds x Q)
+    → Holds (if b then x else None) Q
 when_true b x f = test b x None f (λ h. nothing)
 
 pub both_true : (a b : Bool) → (a && b) ≡ true → (a ≡ true) × (b ≡ true)

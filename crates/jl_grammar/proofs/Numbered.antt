@@ -1,8 +1,79 @@
 -- Numbering the functions of a tree leaves its height.
 use Rattle.std.proofs.Common.{◌≡◌, ℕ, ◌+◌, refl}
 use Rattle.jl_ast.specs.Height.{height, row_height, maybe_height}
-use Rattle.jl_ast.specs.Numbering.{functions_in, functions_in_row, functions_in_maybe, numbered_tree, numbered_row, numbered_maybe}
-use Rattle.jl_ast.specs.Tree.{Sort, Tree, Row, Maybe, this, name, number, string, boolean, null, array, object, function_expression, dot, index, call, new, unary, update, binary, and, or, conditional, assign, comma, to_name, to_dot, to_index, hole, filled, value, getter, setter, function, body, var, empty, expression, block, when, do_while, while, for, for_in, continue, break, return, labelled, switch, throw, try, debugger, nothing, init_expression, init_var, declarator, case, branch_of, catch, end, more, absent, present}
+use Rattle.jl_ast.specs.Numbering.{
+  functions_in,
+  functions_in_row,
+  functions_in_maybe,
+  numbered_tree,
+  numbered_row,
+  numbered_maybe,
+}
+use Rattle.jl_ast.specs.Tree.{
+  Sort,
+  Tree,
+  Row,
+  Maybe,
+  this,
+  name,
+  number,
+  string,
+  boolean,
+  null,
+  array,
+  object,
+  function_expression,
+  dot,
+  index,
+  call,
+  new,
+  unary,
+  update,
+  binary,
+  and,
+  or,
+  conditional,
+  assign,
+  comma,
+  to_name,
+  to_dot,
+  to_index,
+  hole,
+  filled,
+  value,
+  getter,
+  setter,
+  function,
+  body,
+  var,
+  empty,
+  expression,
+  block,
+  when,
+  do_while,
+  while,
+  for,
+  for_in,
+  continue,
+  break,
+  return,
+  labelled,
+  switch,
+  throw,
+  try,
+  debugger,
+  nothing,
+  init_expression,
+  init_var,
+  declarator,
+  case,
+  branch_of,
+  catch,
+  end,
+  more,
+  absent,
+  present,
+}
 
 mutual
   pub tree_height : {S : Type 0} {x : Sort} (n : ℕ) (t : Tree S x) → height (numbered_tree n t) ≡ height t
@@ -24,7 +95,8 @@ mutual
   tree_height n (binary a b c s) = cc (tree_height n b, tree_height (n + functions_in b) c)
   tree_height n (and a b s) = cc (tree_height n a, tree_height (n + functions_in a) b)
   tree_height n (or a b s) = cc (tree_height n a, tree_height (n + functions_in a) b)
-  tree_height n (conditional a b c s) = cc (tree_height n a, tree_height (n + functions_in a) b, tree_height (n + functions_in a + functions_in b) c)
+  tree_height n (conditional a b c s) = cc
+      (tree_height n a, tree_height (n + functions_in a) b, tree_height (n + functions_in a + functions_in b) c)
   tree_height n (assign a b c s) = cc (tree_height n b, tree_height (n + functions_in b) c)
   tree_height n (comma a b s) = cc (tree_height n a, tree_height (n + functions_in a) b)
   tree_height n (to_name a) = refl
@@ -41,10 +113,19 @@ mutual
   tree_height n (empty s) = refl
   tree_height n (expression a s) = cc (tree_height n a)
   tree_height n (block a s) = cc (row_height_kept n a)
-  tree_height n (when a b c s) = cc (tree_height n a, row_height_kept (n + functions_in a) b, maybe_height_kept (n + functions_in a + functions_in_row b) c)
+  tree_height n (when a b c s) = cc (
+    tree_height n a,
+    row_height_kept (n + functions_in a) b,
+    maybe_height_kept (n + functions_in a + functions_in_row b) c,
+  )
   tree_height n (do_while a b s) = cc (row_height_kept n a, tree_height (n + functions_in_row a) b)
   tree_height n (while a b s) = cc (tree_height n a, row_height_kept (n + functions_in a) b)
-  tree_height n (for a b c d s) = cc (tree_height n a, maybe_height_kept (n + functions_in a) b, maybe_height_kept (n + functions_in a + functions_in_maybe b) c, row_height_kept (n + functions_in a + functions_in_maybe b + functions_in_maybe c) d)
+  tree_height n (for a b c d s) = cc (
+    tree_height n a,
+    maybe_height_kept (n + functions_in a) b,
+    maybe_height_kept (n + functions_in a + functions_in_maybe b) c,
+    row_height_kept (n + functions_in a + functions_in_maybe b + functions_in_maybe c) d,
+  )
   tree_height n (for_in is_var a b c s) = cc (tree_height n b, row_height_kept (n + functions_in b) c)
   tree_height n (continue a s) = refl
   tree_height n (break a s) = refl
@@ -52,7 +133,11 @@ mutual
   tree_height n (labelled a b s) = cc (tree_height n b)
   tree_height n (switch a b s) = cc (tree_height n a, row_height_kept (n + functions_in a) b)
   tree_height n (throw a s) = cc (tree_height n a)
-  tree_height n (try a b c s) = cc (row_height_kept n a, maybe_height_kept (n + functions_in_row a) b, maybe_height_kept (n + functions_in_row a + functions_in_maybe b) c)
+  tree_height n (try a b c s) = cc (
+    row_height_kept n a,
+    maybe_height_kept (n + functions_in_row a) b,
+    maybe_height_kept (n + functions_in_row a + functions_in_maybe b) c,
+  )
   tree_height n (debugger s) = refl
   tree_height n nothing = refl
   tree_height n (init_expression a) = cc (tree_height n a)
@@ -66,6 +151,7 @@ mutual
   row_height_kept n end = refl
   row_height_kept n (more a b) = cc (tree_height n a, row_height_kept (n + functions_in a) b)
 
-  maybe_height_kept : {S : Type 0} {x : Sort} (n : ℕ) (t : Maybe S x) → maybe_height (numbered_maybe n t) ≡ maybe_height t
+  maybe_height_kept : {S : Type 0} {x : Sort} (n : ℕ) (t : Maybe S x)
+      → maybe_height (numbered_maybe n t) ≡ maybe_height t
   maybe_height_kept n absent = refl
   maybe_height_kept n (present a) = tree_height n a

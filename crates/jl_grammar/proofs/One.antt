@@ -1,5 +1,32 @@
 -- There is at most one reading, and the reader tells it.
-use Rattle.std.proofs.Common.{◌≡◌, ℕ, zero, suc, ◌+◌, ◌-◌, ◌*◌, ◌⊎◌, inl, inr, ◌≤◌, ◌<◌, Bool, true, false, ◌&&◌, ◌∙◌, sym, ap, refl, subst, List, [], ◌∷◌, length, arith}
+use Rattle.std.proofs.Common.{
+  ◌≡◌,
+  ℕ,
+  zero,
+  suc,
+  ◌+◌,
+  ◌-◌,
+  ◌*◌,
+  ◌⊎◌,
+  inl,
+  inr,
+  ◌≤◌,
+  ◌<◌,
+  Bool,
+  true,
+  false,
+  ◌&&◌,
+  ◌∙◌,
+  sym,
+  ap,
+  refl,
+  subst,
+  List,
+  [],
+  ◌∷◌,
+  length,
+  arith,
+}
 use Rattle.std.specs.Prelude.{Option, Some, None, nat_eq, nat_le, if◌then◌else◌, option_and_then}
 use Rattle.std.proofs.lemmas.Bool.{le-leb, leb-true, eqb-true, eq-eqb, cases_lt}
 use Rattle.std.proofs.lemmas.Option.{same_Some}
@@ -28,24 +55,28 @@ code_height : (ts : List Token) (c : Code) → program_height (program_of ts c) 
 code_height ts c = tree_height 0 c
 
 -- the reader's answer, with levels enough
-pub answer : (ts : List Token) (limit f : ℕ) (p : Program Span) (r : Reads ts limit p) → 3 * limit ≤ f → body_from ts (deeper ts f) (length ts) 0 ≡ Some (r.code, length ts)
+pub answer : (ts : List Token) (limit f : ℕ) (p : Program Span) (r : Reads ts limit p) → 3 * limit ≤ f
+    → body_from ts (deeper ts f) (length ts) 0 ≡ Some (r.code, length ts)
 answer ts limit f p r l =
     let e = ap program_height r.is in let h = code_height ts r.code in let low = r.low in let n = none_opened ts in
     body_complete ts (2 * limit) r.shallow r.whole f (omega arith) (length ts) (omega arith)
 
 pub limits_agree : LimitsAgree
 limits_agree ts limit other p q r s =
-    let e = sym (answer ts limit (3 * limit + 3 * other) p r (omega arith)) ∙ answer ts other (3 * limit + 3 * other) q s (omega arith) in
+    let e = sym (answer ts limit (3 * limit + 3 * other) p r (omega arith))
+    ∙ answer ts other (3 * limit + 3 * other) q s (omega arith) in
     r.is ∙ ap (λ (x : Code × ℕ). program_of ts x.0) (same_Some _ _ e) ∙ sym s.is
 
 pub one_reading : OneReading
 one_reading ts limit p q r s = limits_agree ts limit limit p q r s
 
 -- what the reader reads
-pub read : (ts : List Token) (f : ℕ) (c : Code) (j : ℕ) → body_from ts (deeper ts f) (length ts) 0 ≡ Some (c, j) → ReadsBody ts 0 c j
+pub read : (ts : List Token) (f : ℕ) (c : Code) (j : ℕ) → body_from ts (deeper ts f) (length ts) 0 ≡ Some (c, j)
+    → ReadsBody ts 0 c j
 read ts f c j e = of_holds _ _ _ (body_sound ts (deeper ts f) (deeper_sound ts f) (length ts) 0) e
   where
-    of_holds : (o : Option (Code × ℕ)) (c : Code) (j : ℕ) → Holds o (λ x. ReadsBody ts 0 x.0 x.1) → o ≡ Some (c, j) → ReadsBody ts 0 c j
+    of_holds : (o : Option (Code × ℕ)) (c : Code) (j : ℕ) → Holds o (λ x. ReadsBody ts 0 x.0 x.1) → o ≡ Some (c, j)
+        → ReadsBody ts 0 c j
     of_holds None c j h e = absurd (cc)
     of_holds (Some x) c j h e = subst (λ (y : Code × ℕ). ReadsBody ts 0 y.0 y.1) (same_Some _ _ e) h.has
 
@@ -76,9 +107,11 @@ unfolding opened
 opened_past ts zero = ap (opened ts) (omega arith)
 opened_past ts (suc n) =
     let e : suc n + length ts ≡ suc (n + length ts) = omega arith in
-    ap (opened ts) e ∙ ap (λ k. bracket k (opened ts (n + length ts))) (end_past ts (n + length ts) (omega arith)) ∙ opened_past ts n
+    ap (opened ts) e ∙ ap (λ k. bracket k (opened ts (n + length ts))) (end_past ts (n + length ts) (omega arith))
+    ∙ opened_past ts n
 
-shallow_everywhere : (ts : List Token) (most : ℕ) → is_shallow ts most (length ts) ≡ true → (i : ℕ) → opened ts i ≤ most
+shallow_everywhere : (ts : List Token) (most : ℕ) → is_shallow ts most (length ts) ≡ true → (i : ℕ)
+    → opened ts i ≤ most
 shallow_everywhere ts most h i = everywhere (cases_lt i (length ts))
   where
     everywhere : (i < length ts) ⊎ (length ts ≤ i) → opened ts i ≤ most
@@ -88,14 +121,16 @@ shallow_everywhere ts most h i = everywhere (cases_lt i (length ts))
         let q = sym (opened_past ts (i - length ts)) ∙ ap (opened ts) e in
         let a = shallow_up_to ts most (length ts) h (length ts) (omega arith) in omega arith
 
-is_shallow_there : (ts : List Token) (most : ℕ) → ((i : ℕ) → opened ts i ≤ most) → (n : ℕ) → is_shallow ts most n ≡ true
+is_shallow_there : (ts : List Token) (most : ℕ) → ((i : ℕ) → opened ts i ≤ most) → (n : ℕ)
+    → is_shallow ts most n ≡ true
 is_shallow_there ts most h zero = refl
 is_shallow_there ts most h (suc n) = rw (le-leb _ _ (h (suc n)), is_shallow_there ts most h n) refl
 
 module _ (ts : List Token) (limit : ℕ) (p : Program Span) where
-  tells_code : (x : Code × ℕ) → body_from ts (deeper ts (3 * limit)) (length ts) 0 ≡ Some x → is_shallow ts (2 * limit) (length ts) ≡ true
-    → (b : Bool) → (nat_eq x.1 (length ts) && nat_le (program_height (program_of ts x.0)) limit) ≡ b
-    → (if b then Some (program_of ts x.0) else None) ≡ Some p → Reads ts limit p
+  tells_code : (x : Code × ℕ) → body_from ts (deeper ts (3 * limit)) (length ts) 0 ≡ Some x
+      → is_shallow ts (2 * limit) (length ts) ≡ true
+      → (b : Bool) → (nat_eq x.1 (length ts) && nat_le (program_height (program_of ts x.0)) limit) ≡ b
+      → (if b then Some (program_of ts x.0) else None) ≡ Some p → Reads ts limit p
   tells_code x f s true e h =
       let b = both_true (nat_eq x.1 (length ts)) (nat_le (program_height (program_of ts x.0)) limit) e in
       let q = same_Some _ _ h in let l = leb-true _ _ b.1 in let w = ap program_height q in
@@ -108,9 +143,11 @@ module _ (ts : List Token) (limit : ℕ) (p : Program Span) where
       }
   tells_code x f s false e h = cc
 
-  tells : (s : Bool) → is_shallow ts (2 * limit) (length ts) ≡ s → (o : Option (Code × ℕ)) → body_from ts (deeper ts (3 * limit)) (length ts) 0 ≡ o
-    → (if s then option_and_then (λ x. if nat_eq x.1 (length ts) && nat_le (program_height (program_of ts x.0)) limit then Some (program_of ts x.0) else None) o else None) ≡ Some p
-    → Reads ts limit p
+  tells : (s : Bool) → is_shallow ts (2 * limit) (length ts) ≡ s → (o : Option (Code × ℕ))
+      → body_from ts (deeper ts (3 * limit)) (length ts) 0 ≡ o
+      → (if s then option_and_then (λ x. if nat_eq x.1 (length ts) && nat_le
+      (program_height (program_of ts x.0)) limit then Some (program_of ts x.0) else None) o else None) ≡ Some p
+      → Reads ts limit p
   tells true e (Some x) f h = tells_code x f e _ refl h
   tells true e None f h = cc
   tells false e o f h = cc
@@ -123,7 +160,13 @@ module _ (ts : List Token) (limit : ℕ) (p : Program Span) where
   unfolding program_at
   told r =
       let a = answer ts limit (3 * limit) p r (omega arith) in let w = ap program_height r.is in let l = r.low in
-      rw (is_shallow_there ts (2 * limit) r.shallow (length ts), a, eq-eqb (length ts) (length ts) refl, le-leb _ _ (of_program l), program_at) (ap Some (sym r.is))
+      rw (
+        is_shallow_there ts (2 * limit) r.shallow (length ts),
+        a,
+        eq-eqb (length ts) (length ts) refl,
+        le-leb _ _ (of_program l),
+        program_at,
+      ) (ap Some (sym r.is))
     where
       of_program : program_height p ≤ limit → program_height (program_of ts r.code) ≤ limit
       of_program l = subst (λ q. program_height q ≤ limit) r.is l

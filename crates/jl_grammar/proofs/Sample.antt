@@ -38,7 +38,8 @@ below t = (t.0, true)
 -- tokens of one unit each, side by side
 abbrev pub placed : ℕ → List Placeless → List Token
 placed n [] = []
-placed n (t ∷ ts) = record { kind = t.0; span = record { from = n; to = n + 1 }; line_before = t.1 } ∷ placed (n + 1) ts
+placed n (t ∷ ts) = record { kind = t.0; span = record { from = n; to = n + 1 }; line_before = t.1 }
+    ∷ placed (n + 1) ts
 
 abbrev without_places : Option (Program Span) → Option (Program (Unit {0}))
 without_places None = None

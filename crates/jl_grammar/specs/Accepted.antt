@@ -1,4 +1,5 @@
--- What is accepted as a script. What the bytes are as UTF-16 units, which tokens a text has, and which programs break no early
+-- What is accepted as a script. What the bytes are as UTF-16 units, which tokens a text has, and which programs break
+-- no early
 -- rule and use no name that is left out, is given.
 use Rattle.std.specs.Prelude.{◌≡◌, ℕ, ◌≤◌, List, length}
 use Rattle.std.specs.Str.{IsUtf8}
@@ -20,5 +21,6 @@ module _ (units_of : List ℕ → List ℕ) (Tokens : List ℕ → List Token �
 -- where a text has one list of tokens at most, bytes are accepted as one program at most
 abbrev pub OneAccepted : Type 1
 OneAccepted = (units_of : List ℕ → List ℕ) (Tokens : List ℕ → List Token → Type 0) (IsLegal : Program Span → Type 0)
-  → ((text : List ℕ) (ts us : List Token) → Tokens text ts → Tokens text us → ts ≡ us)
-  → (bytes : List ℕ) (p q : Program Span) → Accepted units_of Tokens IsLegal bytes p → Accepted units_of Tokens IsLegal bytes q → p ≡ q
+    → ((text : List ℕ) (ts us : List Token) → Tokens text ts → Tokens text us → ts ≡ us)
+    → (bytes : List ℕ) (p q : Program Span) → Accepted units_of Tokens IsLegal bytes p
+    → Accepted units_of Tokens IsLegal bytes q → p ≡ q

@@ -10,7 +10,8 @@ use Rattle.jl_grammar.specs.Words.{same_text, word_of}
 
 abbrev unreserved : Bool → Text → Sign
 unreserved true t = signs.Identifier
-unreserved false t = if same_text (codes "get") t then signs.Get else if same_text (codes "set") t then signs.Set else signs.Identifier
+unreserved false t = if same_text (codes "get") t then signs.Get else if same_text
+    (codes "set") t then signs.Set else signs.Identifier
 
 abbrev reserved : Option Word → Bool → Text → Sign
 reserved (Some w) true t = signs.EscapedWord

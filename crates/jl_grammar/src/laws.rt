@@ -4,17 +4,14 @@ ghost use Rattle.jl_grammar.specs.Laws.{LimitsAgree, OneReading, ReaderTells};
 /// A list of tokens reads as one program at most, within any limit.
 pub fn one_reading()
     ensures { OneReading }
-{
-}
+{}
 
 /// Two limits give the same program, where both give one.
 pub fn limits_agree()
     ensures { LimitsAgree }
-{
-}
+{}
 
 /// The reader of the definitions gives a program exactly where the tokens read as it.
 pub fn reader_tells()
     ensures { ReaderTells }
-{
-}
+{}
