@@ -5,163 +5,32 @@ use Rattle.jl_ast.specs.Tree as tree
 use Rattle.jl_text.specs.declared.span.Span.{Span}
 use Rattle.jl_token.specs.declared.token.Token.{Token}
 use Rattle.jl_grammar.specs.declared.sign.Sign.{Sign}
-use Rattle.jl_grammar.specs.Reads.{
-  Expr,
-  Stmt,
-  Exprs,
-  Stmts,
-  Code,
-  EndsAt,
-  there,
-  inserted,
-  ReadsNames,
-  last_name,
-  more_names,
-  ReadsParameters,
-  no_parameters,
-  parameters,
-  ReadsPrimary,
-  a_this,
-  a_name,
-  a_null,
-  a_true,
-  a_false,
-  a_number,
-  a_string,
-  an_array,
-  an_object,
-  in_parens,
-  a_function,
-  a_named_function,
-  ReadsItems,
-  no_items,
-  a_hole,
-  last_item,
-  more_items,
-  ReadsEntries,
-  no_entries,
-  last_entry,
-  more_entries,
-  ReadsEntry,
-  a_value,
-  a_getter,
-  a_setter,
-  ReadsRest,
-  a_rest,
-  BeginsLeft,
-  primary,
-  a_dot,
-  an_index,
-  a_call,
-  a_new,
-  a_bare_new,
-  ReadsLeft,
-  whole_left,
-  ReadsArguments,
-  no_arguments,
-  arguments,
-  ReadsArgumentList,
-  last_argument,
-  more_arguments,
-  ReadsPostfix,
-  left,
-  a_postfix,
-  ReadsUnary,
-  postfix,
-  a_prefix,
-  an_update,
-  BeginsBinary,
-  operand,
-  tighter,
-  a_joint,
-  ReadsBinary,
-  whole_binary,
-  ReadsConditional,
-  operands,
-  a_conditional,
-  ReadsAssignment,
-  conditional,
-  an_assignment,
-  BeginsExpression,
-  assignment,
-  a_comma,
-  ReadsExpression,
-  whole_expression,
-  ReadsStatement,
-  a_block,
-  a_var,
-  an_empty,
-  an_expression,
-  an_if_else,
-  an_if,
-  a_do_while,
-  a_while,
-  a_for,
-  a_for_in,
-  a_for_var_in,
-  a_continue,
-  a_continue_to,
-  a_break,
-  a_break_to,
-  a_return,
-  a_return_of,
-  a_switch,
-  a_label,
-  a_throw,
-  a_try_catch,
-  a_try_finally,
-  a_try_both,
-  a_debugger,
-  ReadsBlock,
-  in_braces,
-  ReadsStatements,
-  no_statements,
-  more_statements,
-  ReadsSub,
-  several,
-  alone,
-  ReadsHead,
-  a_head,
-  ReadsDeclaration,
-  declared,
-  initialised,
-  ReadsDeclarations,
-  last_declaration,
-  more_declarations,
-  ReadsInit,
-  no_init,
-  an_init,
-  init_vars,
-  ReadsMaybe,
-  no_expression,
-  one_expression,
-  ReadsClauses,
-  no_clauses,
-  a_case,
-  a_default,
-  ReadsCatch,
-  a_catch,
-  ReadsElements,
-  no_elements,
-  a_declaration,
-  a_statement,
-  ReadsFunction,
-  a_declared_function,
-  ReadsBody,
-  a_directive,
-  no_directive,
-}
+use Rattle.jl_grammar.specs.Reads.{Expr, Stmt, Exprs, Stmts, Code, EndsAt, there, inserted, ReadsNames, last_name}
+use Rattle.jl_grammar.specs.Reads.{more_names, ReadsParameters, no_parameters, parameters, ReadsPrimary, a_this}
+use Rattle.jl_grammar.specs.Reads.{a_name, a_null, a_true, a_false, a_number, a_string, an_array, an_object}
+use Rattle.jl_grammar.specs.Reads.{in_parens, a_function, a_named_function, ReadsItems, no_items, a_hole, last_item}
+use Rattle.jl_grammar.specs.Reads.{more_items, ReadsEntries, no_entries, last_entry, more_entries, ReadsEntry}
+use Rattle.jl_grammar.specs.Reads.{a_value, a_getter, a_setter, ReadsRest, a_rest, BeginsLeft, primary, a_dot}
+use Rattle.jl_grammar.specs.Reads.{an_index, a_call, a_new, a_bare_new, ReadsLeft, whole_left, ReadsArguments}
+use Rattle.jl_grammar.specs.Reads.{no_arguments, arguments, ReadsArgumentList, last_argument, more_arguments}
+use Rattle.jl_grammar.specs.Reads.{ReadsPostfix, left, a_postfix, ReadsUnary, postfix, a_prefix, an_update}
+use Rattle.jl_grammar.specs.Reads.{BeginsBinary, operand, tighter, a_joint, ReadsBinary, whole_binary}
+use Rattle.jl_grammar.specs.Reads.{ReadsConditional, operands, a_conditional, ReadsAssignment, conditional}
+use Rattle.jl_grammar.specs.Reads.{an_assignment, BeginsExpression, assignment, a_comma, ReadsExpression}
+use Rattle.jl_grammar.specs.Reads.{whole_expression, ReadsStatement, a_block, a_var, an_empty, an_expression}
+use Rattle.jl_grammar.specs.Reads.{an_if_else, an_if, a_do_while, a_while, a_for, a_for_in, a_for_var_in}
+use Rattle.jl_grammar.specs.Reads.{a_continue, a_continue_to, a_break, a_break_to, a_return, a_return_of, a_switch}
+use Rattle.jl_grammar.specs.Reads.{a_label, a_throw, a_try_catch, a_try_finally, a_try_both, a_debugger, ReadsBlock}
+use Rattle.jl_grammar.specs.Reads.{in_braces, ReadsStatements, no_statements, more_statements, ReadsSub, several}
+use Rattle.jl_grammar.specs.Reads.{alone, ReadsHead, a_head, ReadsDeclaration, declared, initialised}
+use Rattle.jl_grammar.specs.Reads.{ReadsDeclarations, last_declaration, more_declarations, ReadsInit, no_init}
+use Rattle.jl_grammar.specs.Reads.{an_init, init_vars, ReadsMaybe, no_expression, one_expression, ReadsClauses}
+use Rattle.jl_grammar.specs.Reads.{no_clauses, a_case, a_default, ReadsCatch, a_catch, ReadsElements, no_elements}
+use Rattle.jl_grammar.specs.Reads.{a_declaration, a_statement, ReadsFunction, a_declared_function, ReadsBody}
+use Rattle.jl_grammar.specs.Reads.{a_directive, no_directive}
 use Rattle.jl_grammar.specs.Brackets.{opened}
-use Rattle.jl_grammar.proofs.Opened.{
-  after,
-  after_identifier,
-  after_name,
-  after_key,
-  after_joint,
-  after_assign,
-  after_prefix,
-  after_update,
-}
+use Rattle.jl_grammar.proofs.Opened.{after, after_identifier, after_name, after_key, after_joint, after_assign}
+use Rattle.jl_grammar.proofs.Opened.{after_prefix, after_update}
 
 pub ends_at_closes : {ts : List Token} {i j : ℕ} → EndsAt ts i j → opened ts j ≡ opened ts i
 ends_at_closes (there a) = let ra = after a in omega arith

@@ -1,28 +1,6 @@
 -- What is in the grammar is what the reader reads, where it has levels enough.
-use Rattle.std.proofs.Common.{
-  ◌≡◌,
-  ℕ,
-  zero,
-  suc,
-  pred,
-  ◌+◌,
-  ◌≤◌,
-  max,
-  Bool,
-  true,
-  false,
-  not,
-  ◌&&◌,
-  ap,
-  refl,
-  ◌∙◌,
-  sym,
-  List,
-  length,
-  Some,
-  None,
-  arith,
-}
+use Rattle.std.proofs.Common.{◌≡◌, ℕ, zero, suc, pred, ◌+◌, ◌≤◌, max, Bool, true, false, not, ◌&&◌, ap, refl, ◌∙◌}
+use Rattle.std.proofs.Common.{sym, List, length, Some, None, arith}
 use Rattle.jl_ast.specs.Height.{height, row_height, maybe_height}
 use Rattle.jl_token.specs.declared.punct.Punct.TheVariants as puncts
 use Rattle.jl_grammar.specs.declared.sign.Sign.TheVariants as signs
@@ -32,299 +10,65 @@ use Rattle.jl_ast.specs.Tree as tree
 use Rattle.jl_text.specs.declared.span.Span.{Span}
 use Rattle.jl_token.specs.declared.token.Token.{Token}
 use Rattle.jl_grammar.specs.declared.sign.Sign.{Sign}
-use Rattle.jl_grammar.specs.Reads.{
-  Expr,
-  Stmt,
-  Exprs,
-  Stmts,
-  Code,
-  EndsAt,
-  there,
-  inserted,
-  ReadsNames,
-  last_name,
-  more_names,
-  ReadsParameters,
-  no_parameters,
-  parameters,
-  ReadsPrimary,
-  a_this,
-  a_name,
-  a_null,
-  a_true,
-  a_false,
-  a_number,
-  a_string,
-  an_array,
-  an_object,
-  in_parens,
-  a_function,
-  a_named_function,
-  ReadsItems,
-  no_items,
-  a_hole,
-  last_item,
-  more_items,
-  ReadsEntries,
-  no_entries,
-  last_entry,
-  more_entries,
-  ReadsEntry,
-  a_value,
-  a_getter,
-  a_setter,
-  ReadsRest,
-  a_rest,
-  BeginsLeft,
-  primary,
-  a_dot,
-  an_index,
-  a_call,
-  a_new,
-  a_bare_new,
-  ReadsLeft,
-  whole_left,
-  ReadsArguments,
-  no_arguments,
-  arguments,
-  ReadsArgumentList,
-  last_argument,
-  more_arguments,
-  ReadsPostfix,
-  left,
-  a_postfix,
-  ReadsUnary,
-  postfix,
-  a_prefix,
-  an_update,
-  BeginsBinary,
-  operand,
-  tighter,
-  a_joint,
-  ReadsBinary,
-  whole_binary,
-  ReadsConditional,
-  operands,
-  a_conditional,
-  ReadsAssignment,
-  conditional,
-  an_assignment,
-  BeginsExpression,
-  assignment,
-  a_comma,
-  ReadsExpression,
-  whole_expression,
-  ReadsStatement,
-  a_block,
-  a_var,
-  an_empty,
-  an_expression,
-  an_if_else,
-  an_if,
-  a_do_while,
-  a_while,
-  a_for,
-  a_for_in,
-  a_for_var_in,
-  a_continue,
-  a_continue_to,
-  a_break,
-  a_break_to,
-  a_return,
-  a_return_of,
-  a_switch,
-  a_label,
-  a_throw,
-  a_try_catch,
-  a_try_finally,
-  a_try_both,
-  a_debugger,
-  ReadsBlock,
-  in_braces,
-  ReadsStatements,
-  no_statements,
-  more_statements,
-  ReadsSub,
-  several,
-  alone,
-  ReadsHead,
-  a_head,
-  ReadsDeclaration,
-  declared,
-  initialised,
-  ReadsDeclarations,
-  last_declaration,
-  more_declarations,
-  no_init,
-  an_init,
-  init_vars,
-  ReadsMaybe,
-  no_expression,
-  one_expression,
-  ReadsClauses,
-  no_clauses,
-  a_case,
-  a_default,
-  ReadsCatch,
-  a_catch,
-  ReadsElements,
-  no_elements,
-  a_declaration,
-  a_statement,
-  a_declared_function,
-  ReadsBody,
-  a_directive,
-  no_directive,
-}
+use Rattle.jl_grammar.specs.Reads.{Expr, Stmt, Exprs, Stmts, Code, EndsAt, there, inserted, ReadsNames, last_name}
+use Rattle.jl_grammar.specs.Reads.{more_names, ReadsParameters, no_parameters, parameters, ReadsPrimary, a_this}
+use Rattle.jl_grammar.specs.Reads.{a_name, a_null, a_true, a_false, a_number, a_string, an_array, an_object}
+use Rattle.jl_grammar.specs.Reads.{in_parens, a_function, a_named_function, ReadsItems, no_items, a_hole, last_item}
+use Rattle.jl_grammar.specs.Reads.{more_items, ReadsEntries, no_entries, last_entry, more_entries, ReadsEntry}
+use Rattle.jl_grammar.specs.Reads.{a_value, a_getter, a_setter, ReadsRest, a_rest, BeginsLeft, primary, a_dot}
+use Rattle.jl_grammar.specs.Reads.{an_index, a_call, a_new, a_bare_new, ReadsLeft, whole_left, ReadsArguments}
+use Rattle.jl_grammar.specs.Reads.{no_arguments, arguments, ReadsArgumentList, last_argument, more_arguments}
+use Rattle.jl_grammar.specs.Reads.{ReadsPostfix, left, a_postfix, ReadsUnary, postfix, a_prefix, an_update}
+use Rattle.jl_grammar.specs.Reads.{BeginsBinary, operand, tighter, a_joint, ReadsBinary, whole_binary}
+use Rattle.jl_grammar.specs.Reads.{ReadsConditional, operands, a_conditional, ReadsAssignment, conditional}
+use Rattle.jl_grammar.specs.Reads.{an_assignment, BeginsExpression, assignment, a_comma, ReadsExpression}
+use Rattle.jl_grammar.specs.Reads.{whole_expression, ReadsStatement, a_block, a_var, an_empty, an_expression}
+use Rattle.jl_grammar.specs.Reads.{an_if_else, an_if, a_do_while, a_while, a_for, a_for_in, a_for_var_in}
+use Rattle.jl_grammar.specs.Reads.{a_continue, a_continue_to, a_break, a_break_to, a_return, a_return_of, a_switch}
+use Rattle.jl_grammar.specs.Reads.{a_label, a_throw, a_try_catch, a_try_finally, a_try_both, a_debugger, ReadsBlock}
+use Rattle.jl_grammar.specs.Reads.{in_braces, ReadsStatements, no_statements, more_statements, ReadsSub, several}
+use Rattle.jl_grammar.specs.Reads.{alone, ReadsHead, a_head, ReadsDeclaration, declared, initialised}
+use Rattle.jl_grammar.specs.Reads.{ReadsDeclarations, last_declaration, more_declarations, no_init, an_init}
+use Rattle.jl_grammar.specs.Reads.{init_vars, ReadsMaybe, no_expression, one_expression, ReadsClauses, no_clauses}
+use Rattle.jl_grammar.specs.Reads.{a_case, a_default, ReadsCatch, a_catch, ReadsElements, no_elements}
+use Rattle.jl_grammar.specs.Reads.{a_declaration, a_statement, a_declared_function, ReadsBody, a_directive}
+use Rattle.jl_grammar.specs.Reads.{no_directive}
 use Rattle.jl_grammar.specs.Brackets.{opened}
 use Rattle.jl_grammar.specs.Next.{is_identifier, is_open_brace, is_semicolon, is_colon, is_label, bars_expression}
 use Rattle.jl_grammar.specs.Operators.{joined, looseness}
-use Rattle.jl_grammar.specs.Reader.{
-  Read,
-  Deeper,
-  deeper,
-  names_from,
-  parameters_at,
-  statements_from,
-  block_at,
-  elements_from,
-  body_from,
-  rest_at,
-  items_from,
-  entry_at,
-  entries_from,
-  primary_at,
-  arguments_from,
-  arguments_at,
-  left_from,
-  left_at,
-  postfix_at,
-  unary_at,
-  binary_from,
-  binary_at,
-  conditional_at,
-  assignment_at,
-  comma_from,
-  expression_at,
-  head_at,
-  sub_at,
-  declaration_at,
-  declarations_from,
-  express_at,
-  maybe_at,
-  clauses_from,
-  catch_at,
-  statement_by,
-  statement_at,
-  is_close_paren,
-  is_in,
-}
+use Rattle.jl_grammar.specs.Reader.{Read, Deeper, deeper, names_from, parameters_at, statements_from, block_at}
+use Rattle.jl_grammar.specs.Reader.{elements_from, body_from, rest_at, items_from, entry_at, entries_from}
+use Rattle.jl_grammar.specs.Reader.{primary_at, arguments_from, arguments_at, left_from, left_at, postfix_at}
+use Rattle.jl_grammar.specs.Reader.{unary_at, binary_from, binary_at, conditional_at, assignment_at, comma_from}
+use Rattle.jl_grammar.specs.Reader.{expression_at, head_at, sub_at, declaration_at, declarations_from, express_at}
+use Rattle.jl_grammar.specs.Reader.{maybe_at, clauses_from, catch_at, statement_by, statement_at, is_close_paren}
+use Rattle.jl_grammar.specs.Reader.{is_in}
 use Rattle.jl_grammar.specs.Tokens.{sign_at, line_at, text_at, span, ident_at}
-use Rattle.jl_grammar.proofs.Balanced.{
-  parameters_closes,
-  entry_closes,
-  rest_closes,
-  begins_left_closes,
-  left_closes,
-  begins_binary_closes,
-  binary_closes,
-  assignment_closes,
-  begins_expression_closes,
-  expression_closes,
-  statement_closes,
-  block_closes,
-  statements_closes,
-  sub_closes,
-  head_closes,
-  declaration_closes,
-  declarations_closes,
-  maybe_closes,
-  catch_closes,
-}
+use Rattle.jl_grammar.proofs.Balanced.{parameters_closes, entry_closes, rest_closes, begins_left_closes}
+use Rattle.jl_grammar.proofs.Balanced.{left_closes, begins_binary_closes, binary_closes, assignment_closes}
+use Rattle.jl_grammar.proofs.Balanced.{begins_expression_closes, expression_closes, statement_closes, block_closes}
+use Rattle.jl_grammar.proofs.Balanced.{statements_closes, sub_closes, head_closes, declaration_closes}
+use Rattle.jl_grammar.proofs.Balanced.{declarations_closes, maybe_closes, catch_closes}
 use Rattle.jl_grammar.proofs.Expressions as expressions
-use Rattle.jl_grammar.proofs.Levels.{
-  height_pos,
-  statement_pos,
-  joined_height,
-  target_height,
-  left_conditional,
-  left_expression,
-  deeper_expression,
-  deeper_assignment,
-  deeper_unary,
-  deeper_binary,
-  deeper_member,
-  deeper_statement,
-  deeper_rest,
-}
-use Rattle.jl_grammar.proofs.Opened.{
-  after,
-  after_identifier,
-  after_key,
-  after_joint,
-  after_assign,
-  after_prefix,
-  after_update,
-}
-use Rattle.jl_grammar.proofs.Progress.{
-  names_goes,
-  items_goes,
-  entries_goes,
-  entry_goes,
-  rest_goes,
-  argument_list_goes,
-  assignment_goes,
-  expression_goes,
-  statement_goes,
-  statements_goes,
-  declaration_goes,
-  declarations_goes,
-  clauses_goes,
-  elements_goes,
-  function_goes,
-  body_goes,
-}
-use Rattle.jl_grammar.proofs.Starts.{
-  primary_is_not_new,
-  update_is_no_prefix,
-  left_is_no_prefix,
-  left_is_no_update,
-  left_begins_expression,
-  begins_expression,
-  no_semicolon,
-  no_close_paren,
-  no_close_bracket,
-  no_comma,
-  no_var,
-  no_statement_end,
-  key_is_no_colon,
-  no_label,
-  primary_starts,
-  left_starts,
-  postfix_starts,
-  assignment_starts,
-  expression_starts,
-  argument_list_starts,
-  names_start,
-  entry_starts,
-  rest_starts,
-  catch_starts,
-  block_starts,
-  statement_starts,
-  no_in_follows,
-}
+use Rattle.jl_grammar.proofs.Levels.{height_pos, statement_pos, joined_height, target_height, left_conditional}
+use Rattle.jl_grammar.proofs.Levels.{left_expression, deeper_expression, deeper_assignment, deeper_unary}
+use Rattle.jl_grammar.proofs.Levels.{deeper_binary, deeper_member, deeper_statement, deeper_rest}
+use Rattle.jl_grammar.proofs.Opened.{after, after_identifier, after_key, after_joint, after_assign, after_prefix}
+use Rattle.jl_grammar.proofs.Opened.{after_update}
+use Rattle.jl_grammar.proofs.Progress.{names_goes, items_goes, entries_goes, entry_goes, rest_goes}
+use Rattle.jl_grammar.proofs.Progress.{argument_list_goes, assignment_goes, expression_goes, statement_goes}
+use Rattle.jl_grammar.proofs.Progress.{statements_goes, declaration_goes, declarations_goes, clauses_goes}
+use Rattle.jl_grammar.proofs.Progress.{elements_goes, function_goes, body_goes}
+use Rattle.jl_grammar.proofs.Starts.{primary_is_not_new, update_is_no_prefix, left_is_no_prefix, left_is_no_update}
+use Rattle.jl_grammar.proofs.Starts.{left_begins_expression, begins_expression, no_semicolon, no_close_paren}
+use Rattle.jl_grammar.proofs.Starts.{no_close_bracket, no_comma, no_var, no_statement_end, key_is_no_colon}
+use Rattle.jl_grammar.proofs.Starts.{no_label, primary_starts, left_starts, postfix_starts, assignment_starts}
+use Rattle.jl_grammar.proofs.Starts.{expression_starts, argument_list_starts, names_start, entry_starts}
+use Rattle.jl_grammar.proofs.Starts.{rest_starts, catch_starts, block_starts, statement_starts, no_in_follows}
 use Rattle.jl_grammar.proofs.Statements as statements
-use Rattle.jl_grammar.proofs.Within.{
-  names_within,
-  items_within,
-  entries_within,
-  argument_list_within,
-  statements_within,
-  declarations_within,
-  clauses_within,
-  elements_within,
-  body_within,
-}
+use Rattle.jl_grammar.proofs.Within.{names_within, items_within, entries_within, argument_list_within}
+use Rattle.jl_grammar.proofs.Within.{statements_within, declarations_within, clauses_within, elements_within}
+use Rattle.jl_grammar.proofs.Within.{body_within}
 
 -- Reading from i comes to t, with so many parts left, and goes on from there.
 record Comes (f : ℕ) (t : Expr) (result : Read Expr) (from_here : ℕ → Read Expr) : Type 0 where

@@ -6,80 +6,17 @@ use Rattle.jl_ast.specs.Tree as tree
 use Rattle.jl_token.specs.declared.punct.Punct.TheVariants as puncts
 use Rattle.jl_grammar.specs.Brackets.{opened}
 use Rattle.jl_grammar.specs.Tokens.{span}
-use Rattle.jl_grammar.specs.Reader.{
-  ends_at,
-  names_from,
-  parameters_at,
-  label_at,
-  closed,
-  statements_from,
-  block_at,
-  elements_from,
-  body_from,
-  rest_at,
-  function_at,
-  items_from,
-  value_at,
-  getter_by,
-  setter_by,
-  accessor_at,
-  entry_by,
-  entry_at,
-  entries_from,
-  primary_by,
-  primary_at,
-  arguments_from,
-  arguments_at,
-  new_at,
-  start_at,
-  left_by,
-  left_from,
-  left_at,
-  postfix_by,
-  postfix_at,
-  unary_by,
-  unary_at,
-  binary_by,
-  binary_from,
-  binary_at,
-  conditional_from,
-  conditional_at,
-  assignment_by,
-  assignment_at,
-  comma_from,
-  expression_at,
-  head_at,
-  sub_at,
-  declaration_at,
-  declarations_from,
-  var_at,
-  express_at,
-  else_from,
-  if_at,
-  do_at,
-  while_at,
-  maybe_at,
-  for_from,
-  for_in_from,
-  for_var_at,
-  for_expression_at,
-  for_at,
-  continue_at,
-  break_at,
-  return_by,
-  return_at,
-  throw_at,
-  clauses_from,
-  switch_at,
-  catch_at,
-  finally_from,
-  try_at,
-  named_at,
-  statement_by,
-  statement_at,
-  deeper,
-  program_at,
-}
+use Rattle.jl_grammar.specs.Reader.{ends_at, names_from, parameters_at, label_at, closed, statements_from, block_at}
+use Rattle.jl_grammar.specs.Reader.{elements_from, body_from, rest_at, function_at, items_from, value_at, getter_by}
+use Rattle.jl_grammar.specs.Reader.{setter_by, accessor_at, entry_by, entry_at, entries_from, primary_by}
+use Rattle.jl_grammar.specs.Reader.{primary_at, arguments_from, arguments_at, new_at, start_at, left_by, left_from}
+use Rattle.jl_grammar.specs.Reader.{left_at, postfix_by, postfix_at, unary_by, unary_at, binary_by, binary_from}
+use Rattle.jl_grammar.specs.Reader.{binary_at, conditional_from, conditional_at, assignment_by, assignment_at}
+use Rattle.jl_grammar.specs.Reader.{comma_from, expression_at, head_at, sub_at, declaration_at, declarations_from}
+use Rattle.jl_grammar.specs.Reader.{var_at, express_at, else_from, if_at, do_at, while_at, maybe_at, for_from}
+use Rattle.jl_grammar.specs.Reader.{for_in_from, for_var_at, for_expression_at, for_at, continue_at, break_at}
+use Rattle.jl_grammar.specs.Reader.{return_by, return_at, throw_at, clauses_from, switch_at, catch_at, finally_from}
+use Rattle.jl_grammar.specs.Reader.{try_at, named_at, statement_by, statement_at, deeper, program_at}
 use Rattle.jl_grammar.proofs.Sample.{read, program, word, escaped, number, string, sign, ident, a, b, c, d, f, g, x}
 
 -- primary expressions and literals (11.1)

@@ -1,23 +1,6 @@
 -- What the reader does at each production of expressions and functions.
-use Rattle.std.proofs.Common.{
-  ◌≡◌,
-  ℕ,
-  zero,
-  suc,
-  pred,
-  Bool,
-  true,
-  false,
-  not,
-  ◌&&◌,
-  ◌≤◌,
-  refl,
-  ap,
-  ◌∙◌,
-  length,
-  [],
-  ◌∷◌,
-}
+use Rattle.std.proofs.Common.{◌≡◌, ℕ, zero, suc, pred, Bool, true, false, not, ◌&&◌, ◌≤◌, refl, ap, ◌∙◌, length, []}
+use Rattle.std.proofs.Common.{◌∷◌}
 use Rattle.std.proofs.lemmas.Bool.{le-leb}
 use Rattle.std.specs.Prelude.{◌-◌, List, Option, Some, None, nat_le, is_some}
 use Rattle.jl_ast.specs.declared.ops.BinOp.{BinOp}
@@ -31,90 +14,20 @@ use Rattle.jl_token.specs.declared.token.Token.{Token}
 use Rattle.jl_grammar.specs.declared.sign.Sign.{Sign}
 use Rattle.jl_grammar.specs.declared.sign.Sign.TheVariants as signs
 use Rattle.jl_grammar.specs.declared.word.Word.TheVariants as words
-use Rattle.jl_grammar.specs.Next.{
-  open_paren,
-  close_paren,
-  open_bracket,
-  close_bracket,
-  open_brace,
-  close_brace,
-  dot_sign,
-  comma,
-  colon,
-  question,
-  keyword,
-  is_identifier,
-  is_name,
-  is_key,
-  is_open_paren,
-  is_comma,
-  is_colon,
-  is_question,
-  continues_left,
-  updates_at,
-}
-use Rattle.jl_grammar.specs.Operators.{
-  Joint,
-  plain,
-  both,
-  either,
-  level,
-  joint,
-  joined,
-  looseness,
-  looseness_of,
-  continues,
-  assign_operator,
-  assigns,
-  unary_operator,
-  update_operator,
-}
+use Rattle.jl_grammar.specs.Next.{open_paren, close_paren, open_bracket, close_bracket, open_brace, close_brace}
+use Rattle.jl_grammar.specs.Next.{dot_sign, comma, colon, question, keyword, is_identifier, is_name, is_key}
+use Rattle.jl_grammar.specs.Next.{is_open_paren, is_comma, is_colon, is_question, continues_left, updates_at}
+use Rattle.jl_grammar.specs.Operators.{Joint, plain, both, either, level, joint, joined, looseness, looseness_of}
+use Rattle.jl_grammar.specs.Operators.{continues, assign_operator, assigns, unary_operator, update_operator}
 use Rattle.jl_grammar.specs.Reads.{Expr, Exprs, Code, JoinsAt, AssignsAt, PrefixAt, UpdateAt, IsTarget}
 use Rattle.jl_grammar.specs.Tokens.{At, Is, sign_at, line_at, text_at, number_at, span, ident_at, key_ident_at}
-use Rattle.jl_grammar.specs.Reader.{
-  is_close_paren,
-  is_close_bracket,
-  is_close_brace,
-  is_new,
-  names_from,
-  parameters_at,
-  closed,
-  body_from,
-  rest_at,
-  function_at,
-  items_from,
-  value_at,
-  getter_by,
-  setter_by,
-  accessor_at,
-  entry_by,
-  entry_at,
-  entries_from,
-  primary_by,
-  primary_at,
-  arguments_from,
-  arguments_at,
-  new_at,
-  start_at,
-  left_by,
-  left_from,
-  left_at,
-  postfix_by,
-  postfix_at,
-  unary_by,
-  unary_at,
-  binary_by,
-  binary_from,
-  binary_at,
-  conditional_from,
-  conditional_at,
-  assignment_by,
-  assignment_at,
-  comma_from,
-  expression_at,
-  Read,
-  Deeper,
-}
+use Rattle.jl_grammar.specs.Reader.{is_close_paren, is_close_bracket, is_close_brace, is_new, names_from}
+use Rattle.jl_grammar.specs.Reader.{parameters_at, closed, body_from, rest_at, function_at, items_from, value_at}
+use Rattle.jl_grammar.specs.Reader.{getter_by, setter_by, accessor_at, entry_by, entry_at, entries_from, primary_by}
+use Rattle.jl_grammar.specs.Reader.{primary_at, arguments_from, arguments_at, new_at, start_at, left_by, left_from}
+use Rattle.jl_grammar.specs.Reader.{left_at, postfix_by, postfix_at, unary_by, unary_at, binary_by, binary_from}
+use Rattle.jl_grammar.specs.Reader.{binary_at, conditional_from, conditional_at, assignment_by, assignment_at}
+use Rattle.jl_grammar.specs.Reader.{comma_from, expression_at, Read, Deeper}
 
 -- a joint has a looseness, and so at least 1
 pub some_looseness : (o : Option Joint) → nat_le 1 (looseness_of o) ≡ is_some o

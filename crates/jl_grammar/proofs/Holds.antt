@@ -5,30 +5,10 @@ use Rattle.jl_token.specs.declared.punct.Punct.TheVariants as puncts
 use Rattle.jl_grammar.specs.declared.sign.Sign.TheVariants as signs
 use Rattle.jl_grammar.specs.declared.word.Word.TheVariants as words
 use Rattle.jl_grammar.specs.declared.sign.Sign.{Sign}
-use Rattle.jl_grammar.specs.Next.{
-  is_open_paren,
-  is_open_brace,
-  is_semicolon,
-  is_comma,
-  is_colon,
-  is_question,
-  is_equals,
-  is_else,
-  is_finally,
-}
-use Rattle.jl_grammar.specs.Reader.{
-  is_close_paren,
-  is_close_bracket,
-  is_close_brace,
-  is_function,
-  is_new,
-  is_while,
-  is_in,
-  is_var,
-  is_case,
-  is_default,
-  is_catch,
-}
+use Rattle.jl_grammar.specs.Next.{is_open_paren, is_open_brace, is_semicolon, is_comma, is_colon, is_question}
+use Rattle.jl_grammar.specs.Next.{is_equals, is_else, is_finally}
+use Rattle.jl_grammar.specs.Reader.{is_close_paren, is_close_bracket, is_close_brace, is_function, is_new, is_while}
+use Rattle.jl_grammar.specs.Reader.{is_in, is_var, is_case, is_default, is_catch}
 
 -- what holds of what was read, if anything was
 pub record Holds {A : Type 0} (o : Option A) (P : A → Type 0) : Type 0 where

@@ -1,23 +1,6 @@
 -- Heights of what is read, and what is read with a level more.
-use Rattle.std.proofs.Common.{
-  ◌≡◌,
-  ℕ,
-  zero,
-  suc,
-  ◌+◌,
-  ◌≤◌,
-  ◌<◌,
-  max,
-  Bool,
-  true,
-  false,
-  not,
-  ◌&&◌,
-  ap,
-  ◌∙◌,
-  refl,
-  arith,
-}
+use Rattle.std.proofs.Common.{◌≡◌, ℕ, zero, suc, ◌+◌, ◌≤◌, ◌<◌, max, Bool, true, false, not, ◌&&◌, ap, ◌∙◌, refl}
+use Rattle.std.proofs.Common.{arith}
 use Rattle.std.specs.Prelude.{List, Option, Some}
 use Rattle.jl_ast.specs.Height.{height}
 use Rattle.jl_ast.specs.declared.ops.BinOp.{BinOp}
@@ -29,38 +12,13 @@ use Rattle.jl_grammar.specs.declared.word.Word.TheVariants as words
 use Rattle.jl_grammar.specs.Next.{keyword, is_question, is_comma, updates_at, target_of}
 use Rattle.jl_grammar.specs.Operators.{Joint, plain, both, either, joined, continues, assigns, updates}
 use Rattle.jl_grammar.specs.Reads.{Expr, Stmt, Code, AssignsAt, IsTarget}
-use Rattle.jl_grammar.specs.Reader.{
-  Read,
-  Deeper,
-  deeper,
-  expression_at,
-  assignment_at,
-  unary_at,
-  binary_at,
-  conditional_at,
-  left_at,
-  statement_at,
-  rest_at,
-}
+use Rattle.jl_grammar.specs.Reader.{Read, Deeper, deeper, expression_at, assignment_at, unary_at, binary_at}
+use Rattle.jl_grammar.specs.Reader.{conditional_at, left_at, statement_at, rest_at}
 use Rattle.jl_grammar.specs.Tokens.{At, sign_at, line_at}
-use Rattle.jl_grammar.proofs.Expressions.{
-  no_postfix_step,
-  no_prefix_step,
-  binary_step,
-  binary_stop,
-  no_question_step,
-  no_assign_step,
-  expression_step,
-  comma_stop,
-}
-use Rattle.jl_grammar.proofs.Starts.{
-  begins_left,
-  left_is_no_prefix,
-  left_is_no_update,
-  assign_updates_not,
-  assign_is_no_question,
-  assign_joins_not,
-}
+use Rattle.jl_grammar.proofs.Expressions.{no_postfix_step, no_prefix_step, binary_step, binary_stop}
+use Rattle.jl_grammar.proofs.Expressions.{no_question_step, no_assign_step, expression_step, comma_stop}
+use Rattle.jl_grammar.proofs.Starts.{begins_left, left_is_no_prefix, left_is_no_update, assign_updates_not}
+use Rattle.jl_grammar.proofs.Starts.{assign_is_no_question, assign_joins_not}
 
 pub function_pos : (t : Tree Span tree.func) → 1 ≤ height t
 function_pos (tree.function n x ps c s) = omega arith

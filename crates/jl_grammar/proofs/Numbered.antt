@@ -1,79 +1,15 @@
 -- Numbering the functions of a tree leaves its height.
 use Rattle.std.proofs.Common.{◌≡◌, ℕ, ◌+◌, refl}
 use Rattle.jl_ast.specs.Height.{height, row_height, maybe_height}
-use Rattle.jl_ast.specs.Numbering.{
-  functions_in,
-  functions_in_row,
-  functions_in_maybe,
-  numbered_tree,
-  numbered_row,
-  numbered_maybe,
-}
-use Rattle.jl_ast.specs.Tree.{
-  Sort,
-  Tree,
-  Row,
-  Maybe,
-  this,
-  name,
-  number,
-  string,
-  boolean,
-  null,
-  array,
-  object,
-  function_expression,
-  dot,
-  index,
-  call,
-  new,
-  unary,
-  update,
-  binary,
-  and,
-  or,
-  conditional,
-  assign,
-  comma,
-  to_name,
-  to_dot,
-  to_index,
-  hole,
-  filled,
-  value,
-  getter,
-  setter,
-  function,
-  body,
-  var,
-  empty,
-  expression,
-  block,
-  when,
-  do_while,
-  while,
-  for,
-  for_in,
-  continue,
-  break,
-  return,
-  labelled,
-  switch,
-  throw,
-  try,
-  debugger,
-  nothing,
-  init_expression,
-  init_var,
-  declarator,
-  case,
-  branch_of,
-  catch,
-  end,
-  more,
-  absent,
-  present,
-}
+use Rattle.jl_ast.specs.Numbering.{functions_in, functions_in_row, functions_in_maybe, numbered_tree, numbered_row}
+use Rattle.jl_ast.specs.Numbering.{numbered_maybe}
+use Rattle.jl_ast.specs.Tree.{Sort, Tree, Row, Maybe, this, name, number, string, boolean, null, array, object}
+use Rattle.jl_ast.specs.Tree.{function_expression, dot, index, call, new, unary, update, binary, and, or}
+use Rattle.jl_ast.specs.Tree.{conditional, assign, comma, to_name, to_dot, to_index, hole, filled, value, getter}
+use Rattle.jl_ast.specs.Tree.{setter, function, body, var, empty, expression, block, when, do_while, while, for}
+use Rattle.jl_ast.specs.Tree.{for_in, continue, break, return, labelled, switch, throw, try, debugger, nothing}
+use Rattle.jl_ast.specs.Tree.{init_expression, init_var, declarator, case, branch_of, catch, end, more, absent}
+use Rattle.jl_ast.specs.Tree.{present}
 
 mutual
   pub tree_height : {S : Type 0} {x : Sort} (n : ℕ) (t : Tree S x) → height (numbered_tree n t) ≡ height t

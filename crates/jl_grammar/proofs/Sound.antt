@@ -9,168 +9,32 @@ use Rattle.jl_ast.specs.Tree as tree
 use Rattle.jl_text.specs.declared.span.Span.{Span}
 use Rattle.jl_token.specs.declared.token.Token.{Token}
 use Rattle.jl_grammar.specs.declared.sign.Sign.{Sign}
-use Rattle.jl_grammar.specs.Reads.{
-  Expr,
-  Stmts,
-  EndsAt,
-  ReadsLeft,
-  ReadsExpression,
-  ReadsStatement,
-  a_block,
-  a_var,
-  an_empty,
-  an_expression,
-  an_if_else,
-  an_if,
-  a_do_while,
-  a_while,
-  a_for,
-  a_for_in,
-  a_for_var_in,
-  a_continue,
-  a_continue_to,
-  a_break,
-  a_break_to,
-  a_return,
-  a_return_of,
-  a_switch,
-  a_label,
-  a_throw,
-  a_try_catch,
-  a_try_finally,
-  a_try_both,
-  a_debugger,
-  ReadsSub,
-  several,
-  alone,
-  ReadsHead,
-  a_head,
-  ReadsDeclaration,
-  declared,
-  initialised,
-  ReadsDeclarations,
-  last_declaration,
-  more_declarations,
-  ReadsInit,
-  no_init,
-  an_init,
-  init_vars,
-  ReadsMaybe,
-  no_expression,
-  one_expression,
-  ReadsClauses,
-  no_clauses,
-  a_case,
-  a_default,
-  ReadsCatch,
-  a_catch,
-}
-use Rattle.jl_grammar.specs.Next.{
-  open_paren,
-  close_paren,
-  semicolon,
-  keyword,
-  is_identifier,
-  is_open_paren,
-  is_open_brace,
-  is_semicolon,
-  is_comma,
-  is_colon,
-  is_equals,
-  is_else,
-  is_finally,
-  ends_statement,
-  bars_expression,
-  is_label,
-  target_of,
-}
-use Rattle.jl_grammar.specs.Reader.{
-  is_close_paren,
-  is_close_brace,
-  is_while,
-  is_in,
-  is_var,
-  is_case,
-  is_default,
-  is_catch,
-  ends_at,
-  label_at,
-  closed,
-  head_at,
-  sub_at,
-  declaration_at,
-  declarations_from,
-  var_at,
-  express_at,
-  else_from,
-  if_at,
-  do_at,
-  while_at,
-  maybe_at,
-  for_from,
-  for_in_from,
-  for_var_at,
-  for_expression_at,
-  for_at,
-  continue_at,
-  break_at,
-  return_by,
-  return_at,
-  throw_at,
-  clauses_from,
-  switch_at,
-  catch_at,
-  finally_from,
-  try_at,
-  named_at,
-  statement_by,
-  statement_at,
-  deeper,
-  Deeper,
-}
+use Rattle.jl_grammar.specs.Reads.{Expr, Stmts, EndsAt, ReadsLeft, ReadsExpression, ReadsStatement, a_block, a_var}
+use Rattle.jl_grammar.specs.Reads.{an_empty, an_expression, an_if_else, an_if, a_do_while, a_while, a_for, a_for_in}
+use Rattle.jl_grammar.specs.Reads.{a_for_var_in, a_continue, a_continue_to, a_break, a_break_to, a_return}
+use Rattle.jl_grammar.specs.Reads.{a_return_of, a_switch, a_label, a_throw, a_try_catch, a_try_finally, a_try_both}
+use Rattle.jl_grammar.specs.Reads.{a_debugger, ReadsSub, several, alone, ReadsHead, a_head, ReadsDeclaration}
+use Rattle.jl_grammar.specs.Reads.{declared, initialised, ReadsDeclarations, last_declaration, more_declarations}
+use Rattle.jl_grammar.specs.Reads.{ReadsInit, no_init, an_init, init_vars, ReadsMaybe, no_expression}
+use Rattle.jl_grammar.specs.Reads.{one_expression, ReadsClauses, no_clauses, a_case, a_default, ReadsCatch, a_catch}
+use Rattle.jl_grammar.specs.Next.{open_paren, close_paren, semicolon, keyword, is_identifier, is_open_paren}
+use Rattle.jl_grammar.specs.Next.{is_open_brace, is_semicolon, is_comma, is_colon, is_equals, is_else, is_finally}
+use Rattle.jl_grammar.specs.Next.{ends_statement, bars_expression, is_label, target_of}
+use Rattle.jl_grammar.specs.Reader.{is_close_paren, is_close_brace, is_while, is_in, is_var, is_case, is_default}
+use Rattle.jl_grammar.specs.Reader.{is_catch, ends_at, label_at, closed, head_at, sub_at, declaration_at}
+use Rattle.jl_grammar.specs.Reader.{declarations_from, var_at, express_at, else_from, if_at, do_at, while_at}
+use Rattle.jl_grammar.specs.Reader.{maybe_at, for_from, for_in_from, for_var_at, for_expression_at, for_at}
+use Rattle.jl_grammar.specs.Reader.{continue_at, break_at, return_by, return_at, throw_at, clauses_from, switch_at}
+use Rattle.jl_grammar.specs.Reader.{catch_at, finally_from, try_at, named_at, statement_by, statement_at, deeper}
+use Rattle.jl_grammar.specs.Reader.{Deeper}
 use Rattle.jl_grammar.specs.Tokens.{At, sign_at, line_at, span}
-use Rattle.jl_grammar.proofs.Holds.{
-  Holds,
-  nothing,
-  just,
-  after,
-  weaken,
-  test,
-  when_true,
-  both_true,
-  close_paren_sign,
-  close_brace_sign,
-  open_paren_sign,
-  open_brace_sign,
-  semicolon_sign,
-  comma_sign,
-  colon_sign,
-  equals_sign,
-  else_sign,
-  finally_sign,
-  while_sign,
-  in_sign,
-  var_sign,
-  case_sign,
-  default_sign,
-  catch_sign,
-}
-use Rattle.jl_grammar.proofs.SoundExpressions.{
-  left_of_expression,
-  named,
-  Sound,
-  no_line,
-  not_true,
-  ends_sound,
-  statements_sound,
-  block_sound,
-  rest_sound,
-  left_sound,
-  unary_sound,
-  binary_sound,
-  assignment_sound,
-  expression_sound,
-}
+use Rattle.jl_grammar.proofs.Holds.{Holds, nothing, just, after, weaken, test, when_true, both_true}
+use Rattle.jl_grammar.proofs.Holds.{close_paren_sign, close_brace_sign, open_paren_sign, open_brace_sign}
+use Rattle.jl_grammar.proofs.Holds.{semicolon_sign, comma_sign, colon_sign, equals_sign, else_sign, finally_sign}
+use Rattle.jl_grammar.proofs.Holds.{while_sign, in_sign, var_sign, case_sign, default_sign, catch_sign}
+use Rattle.jl_grammar.proofs.SoundExpressions.{left_of_expression, named, Sound, no_line, not_true, ends_sound}
+use Rattle.jl_grammar.proofs.SoundExpressions.{statements_sound, block_sound, rest_sound, left_sound, unary_sound}
+use Rattle.jl_grammar.proofs.SoundExpressions.{binary_sound, assignment_sound, expression_sound}
 
 module _ (ts : List Token) (d : Deeper) (sound : Sound ts d) where
   head_sound : (i : ℕ) → Holds (head_at ts d i) (λ x. ReadsHead ts i x.0 x.1)

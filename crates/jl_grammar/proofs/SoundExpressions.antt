@@ -1,30 +1,6 @@
 -- What the reader reads of expressions and functions is in the grammar.
-use Rattle.std.proofs.Common.{
-  ◌≡◌,
-  ℕ,
-  zero,
-  suc,
-  pred,
-  ◌+◌,
-  ◌-◌,
-  ◌≤◌,
-  ◌<◌,
-  Bool,
-  true,
-  false,
-  not,
-  ◌&&◌,
-  ◌||◌,
-  refl,
-  ap,
-  ap₂,
-  sym,
-  subst,
-  arith,
-  length,
-  [],
-  ◌∷◌,
-}
+use Rattle.std.proofs.Common.{◌≡◌, ℕ, zero, suc, pred, ◌+◌, ◌-◌, ◌≤◌, ◌<◌, Bool, true, false, not, ◌&&◌, ◌||◌, refl}
+use Rattle.std.proofs.Common.{ap, ap₂, sym, subst, arith, length, [], ◌∷◌}
 use Rattle.std.specs.Prelude.{List, Option, Some, None, is_some, nat_le, if◌then◌else◌}
 use Rattle.std.proofs.lemmas.Bool.Decides.{leb_tells}
 use Rattle.std.proofs.lemmas.Bool.{leb-true, leb-false}
@@ -38,207 +14,40 @@ use Rattle.jl_ast.specs.Tree as tree
 use Rattle.jl_text.specs.declared.span.Span.{Span}
 use Rattle.jl_token.specs.declared.token.Token.{Token}
 use Rattle.jl_grammar.specs.declared.sign.Sign.{Sign}
-use Rattle.jl_grammar.specs.Reads.{
-  Expr,
-  Stmt,
-  Code,
-  EndsAt,
-  there,
-  inserted,
-  ReadsNames,
-  last_name,
-  more_names,
-  ReadsParameters,
-  no_parameters,
-  parameters,
-  ReadsPrimary,
-  a_this,
-  a_name,
-  a_null,
-  a_true,
-  a_false,
-  a_number,
-  a_string,
-  an_array,
-  an_object,
-  in_parens,
-  a_function,
-  a_named_function,
-  ReadsItems,
-  no_items,
-  a_hole,
-  last_item,
-  more_items,
-  ReadsEntries,
-  no_entries,
-  last_entry,
-  more_entries,
-  ReadsEntry,
-  a_value,
-  a_getter,
-  a_setter,
-  ReadsRest,
-  a_rest,
-  BeginsLeft,
-  primary,
-  a_dot,
-  an_index,
-  a_call,
-  a_new,
-  a_bare_new,
-  ReadsLeft,
-  whole_left,
-  ReadsArguments,
-  no_arguments,
-  arguments,
-  ReadsArgumentList,
-  last_argument,
-  more_arguments,
-  ReadsPostfix,
-  left,
-  a_postfix,
-  ReadsUnary,
-  postfix,
-  a_prefix,
-  an_update,
-  BeginsBinary,
-  operand,
-  tighter,
-  a_joint,
-  ReadsBinary,
-  whole_binary,
-  ReadsConditional,
-  operands,
-  a_conditional,
-  ReadsAssignment,
-  conditional,
-  an_assignment,
-  BeginsExpression,
-  assignment,
-  a_comma,
-  ReadsExpression,
-  whole_expression,
-  ReadsStatement,
-  ReadsBlock,
-  in_braces,
-  ReadsStatements,
-  no_statements,
-  more_statements,
-  ReadsElements,
-  no_elements,
-  a_declaration,
-  a_statement,
-  a_declared_function,
-  ReadsBody,
-  a_directive,
-  no_directive,
-}
-use Rattle.jl_grammar.specs.Next.{
-  keyword,
-  is_identifier,
-  is_name,
-  is_key,
-  is_open_paren,
-  is_open_brace,
-  is_semicolon,
-  is_comma,
-  is_colon,
-  is_question,
-  ends_statement,
-  ends_list,
-  continues_left,
-  is_directive,
-  target_of,
-}
-use Rattle.jl_grammar.specs.Operators.{
-  Joint,
-  plain,
-  both,
-  either,
-  joint,
-  joined,
-  looseness,
-  looseness_of,
-  continues,
-  assign_operator,
-  unary_operator,
-  update_operator,
-}
-use Rattle.jl_grammar.specs.Reader.{
-  is_close_paren,
-  is_close_bracket,
-  is_close_brace,
-  is_function,
-  is_new,
-  name_of,
-  with_directive,
-  ends_at,
-  names_from,
-  parameters_at,
-  closed,
-  statements_from,
-  block_at,
-  elements_from,
-  body_from,
-  rest_at,
-  function_at,
-  items_from,
-  value_at,
-  getter_by,
-  setter_by,
-  accessor_at,
-  entry_by,
-  entry_at,
-  entries_from,
-  primary_by,
-  primary_at,
-  arguments_from,
-  arguments_at,
-  new_at,
-  start_at,
-  left_by,
-  left_from,
-  left_at,
-  postfix_by,
-  postfix_at,
-  unary_by,
-  unary_at,
-  binary_by,
-  binary_from,
-  binary_at,
-  conditional_from,
-  conditional_at,
-  assignment_by,
-  assignment_at,
-  comma_from,
-  expression_at,
-  Read,
-  Deeper,
-}
+use Rattle.jl_grammar.specs.Reads.{Expr, Stmt, Code, EndsAt, there, inserted, ReadsNames, last_name, more_names}
+use Rattle.jl_grammar.specs.Reads.{ReadsParameters, no_parameters, parameters, ReadsPrimary, a_this, a_name, a_null}
+use Rattle.jl_grammar.specs.Reads.{a_true, a_false, a_number, a_string, an_array, an_object, in_parens, a_function}
+use Rattle.jl_grammar.specs.Reads.{a_named_function, ReadsItems, no_items, a_hole, last_item, more_items}
+use Rattle.jl_grammar.specs.Reads.{ReadsEntries, no_entries, last_entry, more_entries, ReadsEntry, a_value}
+use Rattle.jl_grammar.specs.Reads.{a_getter, a_setter, ReadsRest, a_rest, BeginsLeft, primary, a_dot, an_index}
+use Rattle.jl_grammar.specs.Reads.{a_call, a_new, a_bare_new, ReadsLeft, whole_left, ReadsArguments, no_arguments}
+use Rattle.jl_grammar.specs.Reads.{arguments, ReadsArgumentList, last_argument, more_arguments, ReadsPostfix, left}
+use Rattle.jl_grammar.specs.Reads.{a_postfix, ReadsUnary, postfix, a_prefix, an_update, BeginsBinary, operand}
+use Rattle.jl_grammar.specs.Reads.{tighter, a_joint, ReadsBinary, whole_binary, ReadsConditional, operands}
+use Rattle.jl_grammar.specs.Reads.{a_conditional, ReadsAssignment, conditional, an_assignment, BeginsExpression}
+use Rattle.jl_grammar.specs.Reads.{assignment, a_comma, ReadsExpression, whole_expression, ReadsStatement}
+use Rattle.jl_grammar.specs.Reads.{ReadsBlock, in_braces, ReadsStatements, no_statements, more_statements}
+use Rattle.jl_grammar.specs.Reads.{ReadsElements, no_elements, a_declaration, a_statement, a_declared_function}
+use Rattle.jl_grammar.specs.Reads.{ReadsBody, a_directive, no_directive}
+use Rattle.jl_grammar.specs.Next.{keyword, is_identifier, is_name, is_key, is_open_paren, is_open_brace}
+use Rattle.jl_grammar.specs.Next.{is_semicolon, is_comma, is_colon, is_question, ends_statement, ends_list}
+use Rattle.jl_grammar.specs.Next.{continues_left, is_directive, target_of}
+use Rattle.jl_grammar.specs.Operators.{Joint, plain, both, either, joint, joined, looseness, looseness_of}
+use Rattle.jl_grammar.specs.Operators.{continues, assign_operator, unary_operator, update_operator}
+use Rattle.jl_grammar.specs.Reader.{is_close_paren, is_close_bracket, is_close_brace, is_function, is_new, name_of}
+use Rattle.jl_grammar.specs.Reader.{with_directive, ends_at, names_from, parameters_at, closed, statements_from}
+use Rattle.jl_grammar.specs.Reader.{block_at, elements_from, body_from, rest_at, function_at, items_from, value_at}
+use Rattle.jl_grammar.specs.Reader.{getter_by, setter_by, accessor_at, entry_by, entry_at, entries_from, primary_by}
+use Rattle.jl_grammar.specs.Reader.{primary_at, arguments_from, arguments_at, new_at, start_at, left_by, left_from}
+use Rattle.jl_grammar.specs.Reader.{left_at, postfix_by, postfix_at, unary_by, unary_at, binary_by, binary_from}
+use Rattle.jl_grammar.specs.Reader.{binary_at, conditional_from, conditional_at, assignment_by, assignment_at}
+use Rattle.jl_grammar.specs.Reader.{comma_from, expression_at, Read, Deeper}
 use Rattle.jl_grammar.specs.Tokens.{At, Is, sign_at, line_at, strict_at, span}
 use Rattle.jl_grammar.proofs.Expressions.{some_looseness}
-use Rattle.jl_grammar.proofs.Holds.{
-  Holds,
-  nothing,
-  just,
-  after,
-  weaken,
-  test,
-  when_true,
-  both_true,
-  told,
-  close_paren_sign,
-  close_bracket_sign,
-  close_brace_sign,
-  open_paren_sign,
-  open_brace_sign,
-  semicolon_sign,
-  comma_sign,
-  colon_sign,
-  question_sign,
-  function_sign,
-  new_sign,
-}
+use Rattle.jl_grammar.proofs.Holds.{Holds, nothing, just, after, weaken, test, when_true, both_true, told}
+use Rattle.jl_grammar.proofs.Holds.{close_paren_sign, close_bracket_sign, close_brace_sign, open_paren_sign}
+use Rattle.jl_grammar.proofs.Holds.{open_brace_sign, semicolon_sign, comma_sign, colon_sign, question_sign}
+use Rattle.jl_grammar.proofs.Holds.{function_sign, new_sign}
 
 -- the joints read so far may stop a tighter reading
 tighter_stops : (s x y : ℕ) → x ≤ y → (nat_le 1 s && nat_le s y) ≡ false → (nat_le 1 s && nat_le s x) ≡ false

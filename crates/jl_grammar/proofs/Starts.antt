@@ -10,130 +10,26 @@ use Rattle.jl_ast.specs.Tree as tree
 use Rattle.jl_text.specs.declared.span.Span.{Span}
 use Rattle.jl_token.specs.declared.token.Token.{Token}
 use Rattle.jl_grammar.specs.declared.sign.Sign.{Sign}
-use Rattle.jl_grammar.specs.Reads.{
-  Expr,
-  Stmt,
-  Exprs,
-  Stmts,
-  Code,
-  ReadsNames,
-  last_name,
-  more_names,
-  ReadsPrimary,
-  a_this,
-  a_name,
-  a_null,
-  a_true,
-  a_false,
-  a_number,
-  a_string,
-  an_array,
-  an_object,
-  in_parens,
-  a_function,
-  a_named_function,
-  ReadsEntry,
-  a_value,
-  a_getter,
-  a_setter,
-  ReadsRest,
-  a_rest,
-  BeginsLeft,
-  primary,
-  a_dot,
-  an_index,
-  a_call,
-  a_new,
-  a_bare_new,
-  ReadsLeft,
-  whole_left,
-  ReadsArgumentList,
-  last_argument,
-  more_arguments,
-  ReadsPostfix,
-  left,
-  a_postfix,
-  ReadsUnary,
-  postfix,
-  a_prefix,
-  an_update,
-  BeginsBinary,
-  operand,
-  tighter,
-  a_joint,
-  ReadsBinary,
-  whole_binary,
-  ReadsConditional,
-  operands,
-  a_conditional,
-  ReadsAssignment,
-  conditional,
-  an_assignment,
-  BeginsExpression,
-  assignment,
-  a_comma,
-  ReadsExpression,
-  whole_expression,
-  ReadsStatement,
-  a_block,
-  a_var,
-  an_empty,
-  an_expression,
-  an_if_else,
-  an_if,
-  a_do_while,
-  a_while,
-  a_for,
-  a_for_in,
-  a_for_var_in,
-  a_continue,
-  a_continue_to,
-  a_break,
-  a_break_to,
-  a_return,
-  a_return_of,
-  a_switch,
-  a_label,
-  a_throw,
-  a_try_catch,
-  a_try_finally,
-  a_try_both,
-  a_debugger,
-  ReadsBlock,
-  in_braces,
-  declared,
-  initialised,
-  ReadsDeclarations,
-  last_declaration,
-  more_declarations,
-  ReadsCatch,
-  a_catch,
-}
-use Rattle.jl_grammar.specs.Next.{
-  open_paren,
-  open_brace,
-  semicolon,
-  keyword,
-  is_identifier,
-  is_key,
-  is_semicolon,
-  is_comma,
-  is_colon,
-  is_question,
-  bars_expression,
-  ends_statement,
-  ends_list,
-}
+use Rattle.jl_grammar.specs.Reads.{Expr, Stmt, Exprs, Stmts, Code, ReadsNames, last_name, more_names, ReadsPrimary}
+use Rattle.jl_grammar.specs.Reads.{a_this, a_name, a_null, a_true, a_false, a_number, a_string, an_array, an_object}
+use Rattle.jl_grammar.specs.Reads.{in_parens, a_function, a_named_function, ReadsEntry, a_value, a_getter, a_setter}
+use Rattle.jl_grammar.specs.Reads.{ReadsRest, a_rest, BeginsLeft, primary, a_dot, an_index, a_call, a_new}
+use Rattle.jl_grammar.specs.Reads.{a_bare_new, ReadsLeft, whole_left, ReadsArgumentList, last_argument}
+use Rattle.jl_grammar.specs.Reads.{more_arguments, ReadsPostfix, left, a_postfix, ReadsUnary, postfix, a_prefix}
+use Rattle.jl_grammar.specs.Reads.{an_update, BeginsBinary, operand, tighter, a_joint, ReadsBinary, whole_binary}
+use Rattle.jl_grammar.specs.Reads.{ReadsConditional, operands, a_conditional, ReadsAssignment, conditional}
+use Rattle.jl_grammar.specs.Reads.{an_assignment, BeginsExpression, assignment, a_comma, ReadsExpression}
+use Rattle.jl_grammar.specs.Reads.{whole_expression, ReadsStatement, a_block, a_var, an_empty, an_expression}
+use Rattle.jl_grammar.specs.Reads.{an_if_else, an_if, a_do_while, a_while, a_for, a_for_in, a_for_var_in}
+use Rattle.jl_grammar.specs.Reads.{a_continue, a_continue_to, a_break, a_break_to, a_return, a_return_of, a_switch}
+use Rattle.jl_grammar.specs.Reads.{a_label, a_throw, a_try_catch, a_try_finally, a_try_both, a_debugger, ReadsBlock}
+use Rattle.jl_grammar.specs.Reads.{in_braces, declared, initialised, ReadsDeclarations, last_declaration}
+use Rattle.jl_grammar.specs.Reads.{more_declarations, ReadsCatch, a_catch}
+use Rattle.jl_grammar.specs.Next.{open_paren, open_brace, semicolon, keyword, is_identifier, is_key, is_semicolon}
+use Rattle.jl_grammar.specs.Next.{is_comma, is_colon, is_question, bars_expression, ends_statement, ends_list}
 use Rattle.jl_grammar.specs.Operators.{continues, assign_operator, unary_operator, update_operator, updates}
-use Rattle.jl_grammar.specs.Reader.{
-  is_close_paren,
-  is_close_bracket,
-  is_close_brace,
-  is_function,
-  is_new,
-  is_in,
-  is_var,
-}
+use Rattle.jl_grammar.specs.Reader.{is_close_paren, is_close_bracket, is_close_brace, is_function, is_new, is_in}
+use Rattle.jl_grammar.specs.Reader.{is_var}
 use Rattle.jl_grammar.specs.Tokens.{At, sign_at}
 
 -- the tokens that a primary expression begins with

@@ -8,74 +8,18 @@ use Rattle.jl_token.specs.declared.token.Token.{Token}
 use Rattle.jl_grammar.specs.declared.sign.Sign.{Sign}
 use Rattle.jl_grammar.specs.declared.sign.Sign.TheVariants as signs
 use Rattle.jl_grammar.specs.declared.word.Word.TheVariants as words
-use Rattle.jl_grammar.specs.Next.{
-  open_paren,
-  close_paren,
-  open_brace,
-  close_brace,
-  semicolon,
-  comma,
-  colon,
-  equals,
-  keyword,
-  is_identifier,
-  is_open_brace,
-  is_semicolon,
-  is_comma,
-  is_colon,
-  is_equals,
-  is_else,
-  is_finally,
-  ends_statement,
-  ends_list,
-  is_directive,
-}
+use Rattle.jl_grammar.specs.Next.{open_paren, close_paren, open_brace, close_brace, semicolon, comma, colon, equals}
+use Rattle.jl_grammar.specs.Next.{keyword, is_identifier, is_open_brace, is_semicolon, is_comma, is_colon}
+use Rattle.jl_grammar.specs.Next.{is_equals, is_else, is_finally, ends_statement, ends_list, is_directive}
 use Rattle.jl_grammar.specs.Reads.{Expr, Stmt, Stmts, Code, EndsAt, there, inserted}
 use Rattle.jl_grammar.specs.Tokens.{At, Is, sign_at, line_at, strict_at, span, ident_at}
-use Rattle.jl_grammar.specs.Reader.{
-  is_close_paren,
-  is_function,
-  is_in,
-  is_var,
-  name_of,
-  ends_at,
-  label_at,
-  closed,
-  statements_from,
-  block_at,
-  elements_from,
-  body_from,
-  head_at,
-  sub_at,
-  declaration_at,
-  declarations_from,
-  var_at,
-  express_at,
-  else_from,
-  if_at,
-  do_at,
-  while_at,
-  maybe_at,
-  for_from,
-  for_in_from,
-  for_var_at,
-  for_expression_at,
-  for_at,
-  continue_at,
-  break_at,
-  return_by,
-  return_at,
-  throw_at,
-  clauses_from,
-  switch_at,
-  catch_at,
-  finally_from,
-  try_at,
-  named_at,
-  statement_by,
-  statement_at,
-  Deeper,
-}
+use Rattle.jl_grammar.specs.Reader.{is_close_paren, is_function, is_in, is_var, name_of, ends_at, label_at, closed}
+use Rattle.jl_grammar.specs.Reader.{statements_from, block_at, elements_from, body_from, head_at, sub_at}
+use Rattle.jl_grammar.specs.Reader.{declaration_at, declarations_from, var_at, express_at, else_from, if_at, do_at}
+use Rattle.jl_grammar.specs.Reader.{while_at, maybe_at, for_from, for_in_from, for_var_at, for_expression_at}
+use Rattle.jl_grammar.specs.Reader.{for_at, continue_at, break_at, return_by, return_at, throw_at, clauses_from}
+use Rattle.jl_grammar.specs.Reader.{switch_at, catch_at, finally_from, try_at, named_at, statement_by, statement_at}
+use Rattle.jl_grammar.specs.Reader.{Deeper}
 
 module _ (ts : List Token) where
   pub ends_step : (i j : ℕ) → EndsAt ts i j → ends_at ts i ≡ Some j

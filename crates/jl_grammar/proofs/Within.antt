@@ -1,214 +1,45 @@
 -- What is read stands within the tokens.
-use Rattle.std.proofs.Common.{
-  ◌≡◌,
-  ℕ,
-  zero,
-  suc,
-  ◌<◌,
-  ◌≤◌,
-  max,
-  Bool,
-  true,
-  false,
-  ap,
-  refl,
-  ◌∙◌,
-  List,
-  [],
-  ◌∷◌,
-  length,
-  Some,
-  arith,
-}
+use Rattle.std.proofs.Common.{◌≡◌, ℕ, zero, suc, ◌<◌, ◌≤◌, max, Bool, true, false, ap, refl, ◌∙◌, List, [], ◌∷◌}
+use Rattle.std.proofs.Common.{length, Some, arith}
 use Rattle.jl_grammar.specs.declared.sign.Sign.TheVariants as signs
 use Rattle.jl_ast.specs.Tree.{Ident, Tree, Row, Maybe}
 use Rattle.jl_ast.specs.Tree as tree
 use Rattle.jl_text.specs.declared.span.Span.{Span}
 use Rattle.jl_token.specs.declared.token.Token.{Token}
 use Rattle.jl_grammar.specs.declared.sign.Sign.{Sign}
-use Rattle.jl_grammar.specs.Reads.{
-  Expr,
-  Stmt,
-  Exprs,
-  Stmts,
-  Code,
-  UpdateAt,
-  EndsAt,
-  there,
-  inserted,
-  ReadsNames,
-  last_name,
-  more_names,
-  ReadsParameters,
-  no_parameters,
-  parameters,
-  ReadsPrimary,
-  a_this,
-  a_name,
-  a_null,
-  a_true,
-  a_false,
-  a_number,
-  a_string,
-  an_array,
-  an_object,
-  in_parens,
-  a_function,
-  a_named_function,
-  ReadsItems,
-  no_items,
-  a_hole,
-  last_item,
-  more_items,
-  ReadsEntries,
-  no_entries,
-  last_entry,
-  more_entries,
-  ReadsEntry,
-  a_value,
-  a_getter,
-  a_setter,
-  ReadsRest,
-  a_rest,
-  BeginsLeft,
-  primary,
-  a_dot,
-  an_index,
-  a_call,
-  a_new,
-  a_bare_new,
-  ReadsLeft,
-  whole_left,
-  ReadsArguments,
-  no_arguments,
-  arguments,
-  ReadsArgumentList,
-  last_argument,
-  more_arguments,
-  ReadsPostfix,
-  left,
-  a_postfix,
-  ReadsUnary,
-  postfix,
-  a_prefix,
-  an_update,
-  BeginsBinary,
-  operand,
-  tighter,
-  a_joint,
-  ReadsBinary,
-  whole_binary,
-  ReadsConditional,
-  operands,
-  a_conditional,
-  ReadsAssignment,
-  conditional,
-  an_assignment,
-  BeginsExpression,
-  assignment,
-  a_comma,
-  ReadsExpression,
-  whole_expression,
-  ReadsStatement,
-  a_block,
-  a_var,
-  an_empty,
-  an_expression,
-  an_if_else,
-  an_if,
-  a_do_while,
-  a_while,
-  a_for,
-  a_for_in,
-  a_for_var_in,
-  a_continue,
-  a_continue_to,
-  a_break,
-  a_break_to,
-  a_return,
-  a_return_of,
-  a_switch,
-  a_label,
-  a_throw,
-  a_try_catch,
-  a_try_finally,
-  a_try_both,
-  a_debugger,
-  ReadsBlock,
-  in_braces,
-  ReadsStatements,
-  no_statements,
-  more_statements,
-  ReadsSub,
-  several,
-  alone,
-  ReadsHead,
-  a_head,
-  ReadsDeclaration,
-  declared,
-  initialised,
-  ReadsDeclarations,
-  last_declaration,
-  more_declarations,
-  ReadsInit,
-  no_init,
-  an_init,
-  init_vars,
-  ReadsMaybe,
-  no_expression,
-  one_expression,
-  ReadsClauses,
-  no_clauses,
-  a_case,
-  a_default,
-  ReadsCatch,
-  a_catch,
-  ReadsElements,
-  no_elements,
-  a_declaration,
-  a_statement,
-  ReadsFunction,
-  a_declared_function,
-  ReadsBody,
-  a_directive,
-  no_directive,
-}
+use Rattle.jl_grammar.specs.Reads.{Expr, Stmt, Exprs, Stmts, Code, UpdateAt, EndsAt, there, inserted, ReadsNames}
+use Rattle.jl_grammar.specs.Reads.{last_name, more_names, ReadsParameters, no_parameters, parameters, ReadsPrimary}
+use Rattle.jl_grammar.specs.Reads.{a_this, a_name, a_null, a_true, a_false, a_number, a_string, an_array, an_object}
+use Rattle.jl_grammar.specs.Reads.{in_parens, a_function, a_named_function, ReadsItems, no_items, a_hole, last_item}
+use Rattle.jl_grammar.specs.Reads.{more_items, ReadsEntries, no_entries, last_entry, more_entries, ReadsEntry}
+use Rattle.jl_grammar.specs.Reads.{a_value, a_getter, a_setter, ReadsRest, a_rest, BeginsLeft, primary, a_dot}
+use Rattle.jl_grammar.specs.Reads.{an_index, a_call, a_new, a_bare_new, ReadsLeft, whole_left, ReadsArguments}
+use Rattle.jl_grammar.specs.Reads.{no_arguments, arguments, ReadsArgumentList, last_argument, more_arguments}
+use Rattle.jl_grammar.specs.Reads.{ReadsPostfix, left, a_postfix, ReadsUnary, postfix, a_prefix, an_update}
+use Rattle.jl_grammar.specs.Reads.{BeginsBinary, operand, tighter, a_joint, ReadsBinary, whole_binary}
+use Rattle.jl_grammar.specs.Reads.{ReadsConditional, operands, a_conditional, ReadsAssignment, conditional}
+use Rattle.jl_grammar.specs.Reads.{an_assignment, BeginsExpression, assignment, a_comma, ReadsExpression}
+use Rattle.jl_grammar.specs.Reads.{whole_expression, ReadsStatement, a_block, a_var, an_empty, an_expression}
+use Rattle.jl_grammar.specs.Reads.{an_if_else, an_if, a_do_while, a_while, a_for, a_for_in, a_for_var_in}
+use Rattle.jl_grammar.specs.Reads.{a_continue, a_continue_to, a_break, a_break_to, a_return, a_return_of, a_switch}
+use Rattle.jl_grammar.specs.Reads.{a_label, a_throw, a_try_catch, a_try_finally, a_try_both, a_debugger, ReadsBlock}
+use Rattle.jl_grammar.specs.Reads.{in_braces, ReadsStatements, no_statements, more_statements, ReadsSub, several}
+use Rattle.jl_grammar.specs.Reads.{alone, ReadsHead, a_head, ReadsDeclaration, declared, initialised}
+use Rattle.jl_grammar.specs.Reads.{ReadsDeclarations, last_declaration, more_declarations, ReadsInit, no_init}
+use Rattle.jl_grammar.specs.Reads.{an_init, init_vars, ReadsMaybe, no_expression, one_expression, ReadsClauses}
+use Rattle.jl_grammar.specs.Reads.{no_clauses, a_case, a_default, ReadsCatch, a_catch, ReadsElements, no_elements}
+use Rattle.jl_grammar.specs.Reads.{a_declaration, a_statement, ReadsFunction, a_declared_function, ReadsBody}
+use Rattle.jl_grammar.specs.Reads.{a_directive, no_directive}
 use Rattle.jl_grammar.specs.Next.{is_identifier, is_name, is_key}
 use Rattle.jl_grammar.specs.Operators.{update_operator}
 use Rattle.jl_grammar.specs.Tokens.{At, Is, sign_at}
-use Rattle.jl_grammar.proofs.Progress.{
-  ends_at_goes,
-  names_goes,
-  parameters_goes,
-  items_goes,
-  entries_goes,
-  entry_goes,
-  rest_goes,
-  begins_left_goes,
-  left_goes,
-  arguments_goes,
-  argument_list_goes,
-  unary_goes,
-  begins_binary_goes,
-  binary_goes,
-  assignment_goes,
-  begins_expression_goes,
-  expression_goes,
-  statement_goes,
-  block_goes,
-  statements_goes,
-  sub_goes,
-  head_goes,
-  declaration_goes,
-  declarations_goes,
-  init_goes,
-  maybe_goes,
-  clauses_goes,
-  catch_goes,
-  elements_goes,
-  function_goes,
-  body_goes,
-}
+use Rattle.jl_grammar.proofs.Progress.{ends_at_goes, names_goes, parameters_goes, items_goes, entries_goes}
+use Rattle.jl_grammar.proofs.Progress.{entry_goes, rest_goes, begins_left_goes, left_goes, arguments_goes}
+use Rattle.jl_grammar.proofs.Progress.{argument_list_goes, unary_goes, begins_binary_goes, binary_goes}
+use Rattle.jl_grammar.proofs.Progress.{assignment_goes, begins_expression_goes, expression_goes, statement_goes}
+use Rattle.jl_grammar.proofs.Progress.{block_goes, statements_goes, sub_goes, head_goes, declaration_goes}
+use Rattle.jl_grammar.proofs.Progress.{declarations_goes, init_goes, maybe_goes, clauses_goes, catch_goes}
+use Rattle.jl_grammar.proofs.Progress.{elements_goes, function_goes, body_goes}
 
 abbrev is_token : Sign → Bool
 is_token signs.End = false

@@ -1,6 +1,5 @@
 -- What is accepted as a script. What the bytes are as UTF-16 units, which tokens a text has, and which programs break
--- no early
--- rule and use no name that is left out, is given.
+-- no early rule and use no name that is left out, is given.
 use Rattle.std.specs.Prelude.{◌≡◌, ℕ, ◌≤◌, List, length}
 use Rattle.std.specs.Str.{IsUtf8}
 use Rattle.jl_ast.specs.Tree.{Program}

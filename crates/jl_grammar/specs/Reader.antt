@@ -1,32 +1,8 @@
--- A reader as a function, that tells what the grammar reads. It is a step of the proofs: no public clause speaks of
--- it.
--- Each function reads from a place and gives what it read with the place after it. What begins later than the whole,
--- as a
--- right operand or what is in brackets, is read one level deeper.
-use Rattle.std.specs.Prelude.{
-  ℕ,
-  zero,
-  suc,
-  pred,
-  ◌*◌,
-  nat_eq,
-  Bool,
-  true,
-  false,
-  not,
-  ◌&&◌,
-  ◌||◌,
-  List,
-  [],
-  ◌∷◌,
-  length,
-  Option,
-  Some,
-  None,
-  option_and_then,
-  nat_le,
-  if◌then◌else◌,
-}
+-- A reader as a function, that tells what the grammar reads. It is a step of the proofs: no public clause but a law
+-- speaks of it. Each function reads from a place and gives what it read with the place after it. What begins later than
+-- the whole, as a right operand or what is in brackets, is read one level deeper.
+use Rattle.std.specs.Prelude.{ℕ, zero, suc, pred, ◌*◌, nat_eq, Bool, true, false, not, ◌&&◌, ◌||◌, List, [], ◌∷◌}
+use Rattle.std.specs.Prelude.{length, Option, Some, None, option_and_then, nat_le, if◌then◌else◌}
 use Rattle.jl_ast.specs.declared.ops.BinOp.{BinOp}
 use Rattle.jl_ast.specs.declared.ops.UnOp.{UnOp}
 use Rattle.jl_ast.specs.Height.{program_height}
@@ -38,35 +14,11 @@ use Rattle.jl_token.specs.declared.token.Token.{Token}
 use Rattle.jl_grammar.specs.declared.sign.Sign.{Sign}
 use Rattle.jl_grammar.specs.declared.sign.Sign.TheVariants as signs
 use Rattle.jl_grammar.specs.declared.word.Word.TheVariants as words
-use Rattle.jl_grammar.specs.Next.{
-  is_identifier,
-  is_name,
-  is_key,
-  is_open_paren,
-  is_open_brace,
-  is_semicolon,
-  is_comma,
-  is_colon,
-  is_question,
-  is_equals,
-  is_else,
-  is_finally,
-  ends_statement,
-  ends_list,
-  continues_left,
-  is_directive,
-  target_of,
-}
-use Rattle.jl_grammar.specs.Operators.{
-  Joint,
-  joint,
-  joined,
-  looseness,
-  continues,
-  assign_operator,
-  unary_operator,
-  update_operator,
-}
+use Rattle.jl_grammar.specs.Next.{is_identifier, is_name, is_key, is_open_paren, is_open_brace, is_semicolon}
+use Rattle.jl_grammar.specs.Next.{is_comma, is_colon, is_question, is_equals, is_else, is_finally, ends_statement}
+use Rattle.jl_grammar.specs.Next.{ends_list, continues_left, is_directive, target_of}
+use Rattle.jl_grammar.specs.Operators.{Joint, joint, joined, looseness, continues, assign_operator, unary_operator}
+use Rattle.jl_grammar.specs.Operators.{update_operator}
 use Rattle.jl_grammar.specs.Brackets.{opened}
 use Rattle.jl_grammar.specs.Program.{program_of}
 use Rattle.jl_grammar.specs.Reads.{Expr, Exprs, Stmt, Stmts, Code}

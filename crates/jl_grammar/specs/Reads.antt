@@ -1,8 +1,6 @@
 -- The grammar (clauses 11 to 14): what the tokens from one place to another read as, one case for each production.
--- What is
--- left-recursive in the standard is a front that may go on (Begins..), and a whole one (Reads..) is a front before a
--- token
--- that does not continue it.
+-- What is left-recursive in the standard is a front that may go on (Begins..), and a whole one (Reads..) is a front
+-- before a token that does not continue it.
 use Rattle.std.specs.Prelude.{◌≡◌, ℕ, zero, suc, Bool, true, false, ◌||◌, List, [], ◌∷◌, Option, Some, None}
 use Rattle.jl_ast.specs.declared.ops.BinOp.{BinOp}
 use Rattle.jl_ast.specs.declared.ops.UnOp.{UnOp}
@@ -13,63 +11,15 @@ use Rattle.jl_token.specs.declared.token.Token.{Token}
 use Rattle.jl_grammar.specs.declared.sign.Sign.{Sign}
 use Rattle.jl_grammar.specs.declared.sign.Sign.TheVariants as signs
 use Rattle.jl_grammar.specs.declared.word.Word.TheVariants as words
-use Rattle.jl_grammar.specs.Operators.{
-  Joint,
-  joint,
-  joined,
-  looseness,
-  continues,
-  assign_operator,
-  assigns,
-  unary_operator,
-  update_operator,
-}
-use Rattle.jl_grammar.specs.Tokens.{
-  At,
-  Is,
-  sign_at,
-  line_at,
-  text_at,
-  number_at,
-  strict_at,
-  span,
-  ident_at,
-  key_ident_at,
-}
-use Rattle.jl_grammar.specs.Next.{
-  open_paren,
-  close_paren,
-  open_bracket,
-  close_bracket,
-  open_brace,
-  close_brace,
-  dot_sign,
-  semicolon,
-  comma,
-  colon,
-  question,
-  equals,
-  keyword,
-  is_identifier,
-  is_name,
-  is_key,
-  is_open_paren,
-  is_open_brace,
-  is_semicolon,
-  is_comma,
-  is_question,
-  is_equals,
-  is_else,
-  is_finally,
-  bars_expression,
-  ends_statement,
-  ends_list,
-  continues_left,
-  updates_at,
-  is_directive,
-  is_label,
-  target_of,
-}
+use Rattle.jl_grammar.specs.Operators.{Joint, joint, joined, looseness, continues, assign_operator, assigns}
+use Rattle.jl_grammar.specs.Operators.{unary_operator, update_operator}
+use Rattle.jl_grammar.specs.Tokens.{At, Is, sign_at, line_at, text_at, number_at, strict_at, span, ident_at}
+use Rattle.jl_grammar.specs.Tokens.{key_ident_at}
+use Rattle.jl_grammar.specs.Next.{open_paren, close_paren, open_bracket, close_bracket, open_brace, close_brace}
+use Rattle.jl_grammar.specs.Next.{dot_sign, semicolon, comma, colon, question, equals, keyword, is_identifier}
+use Rattle.jl_grammar.specs.Next.{is_name, is_key, is_open_paren, is_open_brace, is_semicolon, is_comma}
+use Rattle.jl_grammar.specs.Next.{is_question, is_equals, is_else, is_finally, bars_expression, ends_statement}
+use Rattle.jl_grammar.specs.Next.{ends_list, continues_left, updates_at, is_directive, is_label, target_of}
 
 abbrev pub Expr : Type 0
 Expr = Tree Span tree.expr

@@ -1,19 +1,6 @@
 -- The reserved words (7.6.1): keywords, future reserved words, and the literals that are words.
-use Rattle.std.specs.Prelude.{
-  Bool,
-  true,
-  false,
-  ◌&&◌,
-  nat_eq,
-  List,
-  [],
-  ◌∷◌,
-  Option,
-  Some,
-  None,
-  codes,
-  if◌then◌else◌,
-}
+use Rattle.std.specs.Prelude.{Bool, true, false, ◌&&◌, nat_eq, List, [], ◌∷◌, Option, Some, None, codes}
+use Rattle.std.specs.Prelude.{if◌then◌else◌}
 use Rattle.jl_ast.specs.Tree.{Text}
 use Rattle.jl_grammar.specs.declared.word.Word.{Word}
 use Rattle.jl_grammar.specs.declared.word.Word.TheVariants as words
