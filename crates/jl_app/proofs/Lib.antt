@@ -1,2 +1,4 @@
 pub mod Views
 pub mod Simulation
+pub mod Comings
+pub mod Reports
