@@ -409,7 +409,7 @@ module _ (ts : List Token) (cap : ℕ) (wide : (i : ℕ) → opened ts i ≤ cap
         (deeper_assignment ts f no_in (suc j) (Some (v, k)) (omega arith)
         (λ h z. assignment_complete c h (omega arith))))
 
-    expression_complete : {no_in : Bool} {i j : ℕ} {t : Expr} → ReadsExpression ts no_in i t j → (f : ℕ)
+    pub expression_complete : {no_in : Bool} {i j : ℕ} {t : Expr} → ReadsExpression ts no_in i t j → (f : ℕ)
         → height t + cap ≤ suc (f + opened ts i) → expression_at ts (deeper ts f) no_in f i ≡ Some (t, j)
     expression_complete {no_in} {i} {j} {t} (whole_expression a b) f m =
         let c = begins_expression_complete a f m in

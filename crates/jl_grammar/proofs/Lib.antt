@@ -17,3 +17,4 @@ pub mod Sample
 pub mod ExamplesOfExpressions
 pub mod ExamplesOfStatements
 pub mod ExamplesOfPlaces
+pub mod Directives

@@ -76,7 +76,7 @@ end_past (t ∷ ts) zero h = absurd (omega arith)
 end_past (t ∷ ts) (suc i) h = end_past ts i (omega arith)
 
 -- past the last token no bracket opens or closes
-opened_past : (ts : List Token) (n : ℕ) → opened ts (n + length ts) ≡ opened ts (length ts)
+pub opened_past : (ts : List Token) (n : ℕ) → opened ts (n + length ts) ≡ opened ts (length ts)
 unfolding opened
 opened_past ts zero = ap (opened ts) (omega arith)
 opened_past ts (suc n) =

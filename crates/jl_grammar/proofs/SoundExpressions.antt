@@ -50,7 +50,7 @@ use Rattle.jl_grammar.proofs.Holds.{open_brace_sign, semicolon_sign, comma_sign,
 use Rattle.jl_grammar.proofs.Holds.{function_sign, new_sign}
 
 -- the joints read so far may stop a tighter reading
-tighter_stops : (s x y : ℕ) → x ≤ y → (nat_le 1 s && nat_le s y) ≡ false → (nat_le 1 s && nat_le s x) ≡ false
+pub tighter_stops : (s x y : ℕ) → x ≤ y → (nat_le 1 s && nat_le s y) ≡ false → (nat_le 1 s && nat_le s x) ≡ false
 tighter_stops s x y l h = grind (arith, leb_tells)
 
 looser_stops : (s x : ℕ) → x < s → (nat_le 1 s && nat_le s x) ≡ false
@@ -142,7 +142,7 @@ lift ts no_in (suc n) l i t j r h =
     (tighter (whole_binary (lift ts no_in n l i t j r
     (tighter_stops (looseness_of (joint no_in (sign_at ts j))) (pred (n + l)) (n + l) (omega arith) s)) s))
 
-lift_to : (ts : List Token) (no_in : Bool) (l m i : ℕ) (t : Expr) (j : ℕ) → l ≤ m → BeginsBinary ts no_in l i t j
+pub lift_to : (ts : List Token) (no_in : Bool) (l m i : ℕ) (t : Expr) (j : ℕ) → l ≤ m → BeginsBinary ts no_in l i t j
     → continues no_in (pred m) (sign_at ts j) ≡ false → BeginsBinary ts no_in m i t j
 lift_to ts no_in l m i t j h r s =
     let e : (m - l) + l ≡ m = omega arith in
