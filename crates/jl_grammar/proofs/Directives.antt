@@ -170,7 +170,7 @@ string_alone ts i s h =
     let v = neither (continues_left true k) (updates_at ts (suc i)) u.0 in
     let c = tighter_stops (looseness_of (joint false k)) 9 10 (omega arith) u.1 in
     let o : BeginsBinary ts false zero i t (suc i) =
-        operand (postfix (left (whole_left (primary (a_string s)) v.0) v.1)) in
+    operand (postfix (left (whole_left (primary (a_string s)) v.0) v.1)) in
     let l = lift_to ts false 0 10 i t (suc i) (omega arith) o c in
     whole_expression (assignment (conditional (operands (whole_binary l u.1) r.1) q.1)) p.1
 
