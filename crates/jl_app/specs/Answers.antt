@@ -64,6 +64,12 @@ run_answer s lines = record {
   told = (world_of (woven_run s)).hooks;
 }
 
+-- it is the answer to the script, and these are the lines of the report
+pub record IsRunAnswer (s : Script) (lines : Lines) (answer : Status) (bytes : List ℕ) : Type 0 where
+  pub report : IsReport (places s) (world_of (woven_run s)).hooks lines
+  pub status : answer ≡ (run_answer s lines).status
+  pub bytes_are : bytes ≡ (run_answer s lines).bytes
+
 -- the most bytes that a script has
 abbrev pub most_bytes : ℕ
 most_bytes = 1048576

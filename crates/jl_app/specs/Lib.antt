@@ -7,5 +7,6 @@ pub mod View
 pub mod Running
 pub mod Reporting
 pub mod Codes
+pub mod Texts
 pub mod Answers
 pub mod Endings

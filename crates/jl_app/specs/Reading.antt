@@ -1,6 +1,6 @@
 -- The scripts of the form `print(SUM);`, as they are written: bytes in ASCII. Each part is read from the bytes that are
 -- still to come, and leaves those that come after it.
-use Rattle.std.specs.Prelude.{◌≡◌, ℕ, ◌+◌, ◌-◌, ◌*◌, ◌≤◌, ◌==◌, nat_le, ◌&&◌, Bool, true, false, if◌then◌else◌, Option, Some, None, List, [], ◌∷◌, ◌++◌, length, codes, pos}
+use Rattle.std.specs.Prelude.{◌≡◌, ℕ, ◌+◌, ◌-◌, ◌*◌, ◌≤◌, ◌==◌, nat_le, ◌&&◌, Bool, false, if◌then◌else◌, Option, Some, None, List, [], ◌∷◌, ◌++◌, length, codes, pos}
 use Rattle.jl_op.specs.declared.op.Operator.{Operator}
 use Rattle.jl_op.specs.declared.op.Operator.TheVariants.{Mul, Div, Rem, Add, Sub}
 use Rattle.jl_app.specs.Sums.{Sum, number, binary, Script}
@@ -99,3 +99,7 @@ pub record IsScript (bytes : List ℕ) (s : Script) : Type 0 where
   pub semicolon : after_spaces after_close ≡ 59 ∷ after_semicolon
   pub ends : Ends (after_spaces after_semicolon)
   pub few : numbers s.argument ≤ 100
+
+-- no bytes are two scripts
+abbrev pub OneReading : Type 0
+OneReading = (bytes : List ℕ) (s t : Script) → IsScript bytes s → IsScript bytes t → s ≡ t

@@ -3,6 +3,8 @@
 
 pub mod laws;
 pub mod outcome;
+mod answer;
+mod command;
 mod read;
 pub mod report;
 pub mod run;
@@ -10,5 +12,6 @@ pub mod status;
 pub mod tree;
 pub mod weave;
 
+pub use command::jlint;
 pub use status::Status;
 pub use tree::{Script, Sum};

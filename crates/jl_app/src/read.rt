@@ -1,14 +1,13 @@
-ghost use Rattle.std.specs.Prelude.{◌≡◌, ◌+◌, ◌^◌, ◌<◌, ◌≤◌, ◌∷◌, ◌++◌, [], length, codes, pos, ◌↔◌, IfOk, OnErr, IsErrOf, IsTrue, MatchOption, List, ℕ};
+ghost use Rattle.std.specs.Prelude.{◌≡◌, ◌+◌, ◌^◌, ◌<◌, ◌≤◌, ◌++◌, length, ◌↔◌, IfOk, IfSome, OnErr, IsErrOf, IsTrue, MatchOption, List, ℕ};
 ghost use Rattle.jl_app.specs.Sums.{Script as PlainScript, Sum as PlainSum, binary};
 ghost use Rattle.jl_app.specs.View.{view, view_script};
-ghost use Rattle.jl_app.specs.Reading.{after_spaces, is_digit, begins_with_digit, digits_in, limited, number_in, multiplicative_in, additive_in, place, ReadsNumber, ReadsProduct, ReadsSum, Ends, numbers, IsScript};
+ghost use Rattle.jl_app.specs.Reading.{after_spaces, begins_with_digit, digits_in, limited, number_in, multiplicative_in, additive_in, place, ReadsNumber, ReadsProduct, ReadsSum, Ends, numbers, IsScript};
 ghost use Rattle.jl_app.specs.declared.read.ReadingRefusal.TheVariants.{NoMemory};
 
+use crate::tree::{Script, Sum};
 use jl_num::Num;
 use jl_op::Operator;
 use std::alloc::{AllocError, AllocFailed, Global};
-
-use crate::tree::{Script, Sum};
 
 /// The largest number of a script.
 const LARGEST: u64 = 9_007_199_254_740_991;
@@ -56,16 +55,19 @@ fn expect<'a>(bytes: &'a [u8], word: &[u8]) -> Result<&'a [u8], ReadingRefusal>
     ensures found { IfOk result (λ after. bytes.now ≡ word.now ++ after.now) }
     ensures none { OnErr result ((after : List ℕ) → bytes.now ≡ word.now ++ after → ⊥) }
 {
-    bytes.strip_prefix(word).ok_or(ReadingRefusal::NotYet)
+    let Some(after) = bytes.strip_prefix(word) else {
+        return Err(ReadingRefusal::NotYet);
+    };
+    Ok(after)
 }
 
 /// Whether nothing is left, or one line feed.
 fn is_end(bytes: &[u8]) -> bool
     ensures { IsTrue result ↔ Ends bytes.now }
 {
-    match bytes {
-        [] | [b'\n'] => true,
-        _ => false,
+    match bytes.split_first() {
+        None => true,
+        Some((byte, after)) => *byte == b'\n' && after.is_empty(),
     }
 }
 
@@ -81,7 +83,8 @@ fn place_of(size: usize, from: &[u8]) -> u32
 /// value is too large.
 fn digits(before: u64, bytes: &[u8]) -> Option<(u64, &[u8])>
     requires { before ≤ 9007199254740991 }
-    ensures { MatchOption result (limited (digits_in before bytes.now) ≡ None) (λ read. limited (digits_in before bytes.now) ≡ Some (read.0, read.1.now)) }
+    ensures read { MatchOption result (limited (digits_in before bytes.now) ≡ None) (λ read. limited (digits_in before bytes.now) ≡ Some (read.0, read.1.now)) }
+    ensures inside { IfSome result (λ read. read.0 ≤ 9007199254740991) }
 {
     let mut value = before;
     let mut rest = bytes;
@@ -110,11 +113,16 @@ fn digit_is_next(bytes: &[u8]) -> bool
 
 /// The number in front, and the bytes after it (7.8.3).
 fn number(bytes: &[u8]) -> Option<(u64, &[u8])>
-    ensures { MatchOption result (number_in bytes.now ≡ None) (λ read. number_in bytes.now ≡ Some (read.0, read.1.now)) }
+    ensures read { MatchOption result (number_in bytes.now ≡ None) (λ read. number_in bytes.now ≡ Some (read.0, read.1.now)) }
+    ensures inside { IfSome result (λ read. read.0 ≤ 9007199254740991) }
 {
     let (byte, after) = bytes.split_first()?;
     if *byte == b'0' {
-        return if digit_is_next(after) { None } else { Some((0, after)) };
+        return if digit_is_next(after) {
+            None
+        } else {
+            Some((0, after))
+        };
     }
     if !byte.is_ascii_digit() {
         return None;
@@ -242,4 +250,136 @@ pub(crate) fn read(alloc: Global, bytes: &[u8]) -> Result<Script, ReadingRefusal
     }
     let at = place_of(size, begin);
     Ok(Script { at, argument })
+}
+
+#[cfg(test)]
+mod tests {
+    use super::*;
+    use std::test::Fail;
+
+    const SCRIPTS: [&str; 9] = [
+        "print(1);",
+        "print(0);",
+        "print(9007199254740991);",
+        "print(1);\n",
+        "print(1); \n",
+        " print ( 1 + 2 ) ; ",
+        "print(2-3*4/5%6);",
+        "print(10 / 0);",
+        "  print(1)  ;\n",
+    ];
+
+    const OTHERS: [&str; 21] = [
+        "",
+        "\n",
+        "print",
+        "print(1;",
+        "print(1)",
+        "print();",
+        "print(01);",
+        "print(00);",
+        "print(9007199254740992);",
+        "print(18446744073709551617);",
+        "print(1);\n\n",
+        "print(1);\n ",
+        "\nprint(1);",
+        "print(1 2);",
+        "print(+1);",
+        "print(1 +);",
+        "print(1 + * 2);",
+        "pr int(1);",
+        "Print(1);",
+        "print(1);;",
+        "print(1\t);",
+    ];
+
+    /// Whether the source is a script; none where it is too long for these tests, or memory runs out.
+    fn is_script(alloc: Global, source: &[u8]) -> Option<bool> {
+        if source.len() > 1000 {
+            return None;
+        }
+        match read(alloc, source) {
+            Ok(_) => Some(true),
+            Err(ReadingRefusal::NotYet) => Some(false),
+            Err(ReadingRefusal::NoMemory) => None,
+        }
+    }
+
+    /// The sum, with brackets round each operation and the place of each part before it.
+    fn write_sum(alloc: Global, sum: &Sum, text: &mut String) -> Result<(), AllocError> {
+        match sum {
+            Sum::Number { at, value } => {
+                let value = value.value().unwrap_or(-1);
+                text.push_str(&format!(in alloc; "{at}:{value}")?)
+            }
+            Sum::Binary {
+                at,
+                op,
+                left,
+                right,
+            } => {
+                text.push_str(&format!(in alloc; "{at}:(")?)?;
+                write_sum(alloc, left, text)?;
+                let sign = match op {
+                    Operator::Mul => '*',
+                    Operator::Div => '/',
+                    Operator::Rem => '%',
+                    Operator::Add => '+',
+                    Operator::Sub => '-',
+                };
+                text.push(sign)?;
+                write_sum(alloc, right, text)?;
+                text.push(')')
+            }
+        }
+    }
+
+    /// A script that adds so many ones.
+    fn ones(alloc: Global, count: u32) -> Result<Vec<u8>, AllocError> {
+        let mut source = Vec::from_slice(alloc, b"print(1")?;
+        for _ in 1..count {
+            source.extend_from_slice(b"+1")?;
+        }
+        source.extend_from_slice(b");")?;
+        Ok(source)
+    }
+
+    #[test]
+    fn scripts_and_others(rt: HostRuntime) {
+        for source in SCRIPTS {
+            assert_eq!(rt;
+                is_script(rt.alloc(), source.as_bytes()),
+                Some(true),
+                "{source}"
+            );
+        }
+        for source in OTHERS {
+            assert_eq!(rt;
+                is_script(rt.alloc(), source.as_bytes()),
+                Some(false),
+                "{source}"
+            );
+        }
+    }
+
+    #[test]
+    fn a_hundred_numbers(rt: HostRuntime) -> Result<(), Fail> {
+        for (count, expected) in [(1, true), (100, true), (101, false), (400, false)] {
+            let source = ones(rt.alloc(), count)?;
+            assert_eq!(rt; is_script(rt.alloc(), &source), Some(expected), "{count}");
+        }
+        Ok(())
+    }
+
+    #[test]
+    fn binding_and_places(rt: HostRuntime) -> Result<(), Fail> {
+        let Ok(script) = read(rt.alloc(), b" print( 2 - 3 * 4 % 5 - 60);") else {
+            return Err(Fail::from("no script"));
+        };
+        let mut text = String::new(rt.alloc());
+        write_sum(rt.alloc(), &script.argument, &mut text)?;
+        assert_eq!(rt; script.at, 1);
+        assert_eq!(rt; text.as_str(), "8:(8:(8:2-12:(12:(12:3*16:4)%20:5))-24:60)");
+        Ok(())
+    }
 }
