@@ -15,3 +15,6 @@ pub mod weave;
 pub use command::jlint;
 pub use status::Status;
 pub use tree::{Script, Sum};
+
+#[cfg(test)]
+mod tests;
