@@ -9,12 +9,11 @@ ghost use Rattle.jl_app.specs.Sums.{Script};
 ghost use Rattle.jl_meaning.specs.Effects.{IsOver};
 ghost use Rattle.jl_app.specs.declared.command.Unanswered.TheVariants.{NoMemory};
 
+use crate::answer::{Answer, MOST_BYTES, line_only, lint};
+use crate::status::Status;
 use jl_op::{Crowd, Observer};
 use jl_port::{ReadRefusal, Shelf, Sink, Source, read_all, write_all};
 use std::alloc::{AllocError, Global};
-
-use crate::answer::{Answer, MOST_BYTES, line_only, lint};
-use crate::status::Status;
 
 /// Why nothing is answered.
 #[derive(Drop)]
