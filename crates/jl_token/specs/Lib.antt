@@ -1,0 +1,5 @@
+pub mod Characters
+pub mod Punctuators
+pub mod Elements
+pub mod Faults
+pub mod Tokens
