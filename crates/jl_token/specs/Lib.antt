@@ -3,3 +3,4 @@ pub mod Punctuators
 pub mod Elements
 pub mod Faults
 pub mod Tokens
+pub mod Scanner
