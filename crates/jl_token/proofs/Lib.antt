@@ -1,0 +1,4 @@
+pub mod Rows
+pub mod Tests
+pub mod Units
+pub mod Parts

@@ -1,0 +1,38 @@
+-- Tests taken apart.
+use Rattle.std.proofs.Common.{◌≡◌, refl, sym, ap, ◌∙◌, ℕ, ◌<◌, ◌≤◌, ◌⊎◌, inl, inr, Bool, true, false, ◌&&◌, ◌||◌, ◌==◌, nat_le, cond, arith}
+use Rattle.std.proofs.lemmas.Bool.Decides.{nat_tests}
+use Rattle.std.proofs.lemmas.Bool.{eqb-true, eq-eqb, leb-true, le-leb}
+
+pub or_cases : (a b : Bool) → (a || b) ≡ true → (a ≡ true) ⊎ (b ≡ true)
+or_cases true b h = inl refl
+or_cases false b h = inr h
+
+pub or_false : (a b : Bool) → (a || b) ≡ false → (a ≡ false) × (b ≡ false)
+or_false true b h = absurd cc
+or_false false b h = (refl, h)
+
+pub both_false : (a b : Bool) → a ≡ false → b ≡ false → (a || b) ≡ false
+both_false a b h g = rw (h, g) refl
+
+pub and_true : (a b : Bool) → (a && b) ≡ true → (a ≡ true) × (b ≡ true)
+and_true true b h = (refl, h)
+and_true false b h = absurd cc
+
+pub true_or_false : (a : Bool) → (a ≡ true) ⊎ (a ≡ false)
+true_or_false true = inl refl
+true_or_false false = inr refl
+
+-- a test that can't be true is false
+pub not_true : (a : Bool) → (a ≡ true → ⊥) → a ≡ false
+not_true true h = absurd (h refl)
+not_true false h = refl
+
+pub never_both : (a : Bool) → a ≡ true → a ≡ false → ⊥
+never_both a h g = cc
+
+-- a unit that is a given one
+pub is_unit : (u k : ℕ) → (u == k) ≡ true → u ≡ k
+is_unit u k h = eqb-true u k h
+
+pub other_unit : (u k : ℕ) → (u ≡ k → ⊥) → (u == k) ≡ false
+other_unit u k h = not_true (u == k) (λ e. h (eqb-true u k e))
