@@ -3,3 +3,4 @@ pub mod Tests
 pub mod Units
 pub mod Parts
 pub mod Strings
+pub mod Numbers

@@ -9,7 +9,7 @@ pub record Reads {A : Type 0} (One : List ℕ → A → List ℕ → Type 0) (on
   pub shorter : (us : List ℕ) (a : A) (rest : List ℕ) → One us a rest → length rest < length us
 
 -- parts in front of a row
-pub prepend : {A : Type 0} → List A → List A × List ℕ → List A × List ℕ
+unfoldable pub prepend : {A : Type 0} → List A → List A × List ℕ → List A × List ℕ
 prepend [] r = r
 prepend (x ∷ xs) r = with_first x (prepend xs r)
 
