@@ -4,3 +4,6 @@ pub mod Units
 pub mod Parts
 pub mod Strings
 pub mod Numbers
+pub mod Values
+pub mod Table
+pub mod Branches

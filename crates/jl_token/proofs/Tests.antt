@@ -1,5 +1,5 @@
 -- Tests taken apart.
-use Rattle.std.proofs.Common.{◌≡◌, refl, sym, ap, ◌∙◌, ℕ, ◌<◌, ◌≤◌, ◌⊎◌, inl, inr, Bool, true, false, ◌&&◌, ◌||◌, ◌==◌, nat_le, cond, arith}
+use Rattle.std.proofs.Common.{◌≡◌, refl, sym, ap, ◌∙◌, ℕ, ◌<◌, ◌≤◌, ◌⊎◌, inl, inr, Bool, true, false, ◌&&◌, ◌||◌, ◌==◌, nat_le, cond, Option, None, Some, arith}
 use Rattle.std.proofs.lemmas.Bool.Decides.{nat_tests}
 use Rattle.std.proofs.lemmas.Bool.{eqb-true, eq-eqb, leb-true, le-leb}
 
@@ -36,3 +36,16 @@ is_unit u k h = eqb-true u k h
 
 pub other_unit : (u k : ℕ) → (u ≡ k → ⊥) → (u == k) ≡ false
 other_unit u k h = not_true (u == k) (λ e. h (eqb-true u k e))
+
+-- a pair that is found
+first_or : {A B : Type 0} → A → Option (A × B) → A
+first_or d None = d
+first_or d (Some x) = x.0
+
+second_or : {A B : Type 0} → B → Option (A × B) → B
+second_or d None = d
+second_or d (Some x) = x.1
+
+pub some_pair : {A B : Type 0} {a b : A} {x y : B} → ◌≡◌ {A = Option (A × B)} (Some (a, x)) (Some (b, y)) → (a ≡ b) × (x ≡ y)
+unfolding first_or second_or
+some_pair {A} {B} {a} {b} {x} {y} e = (ap (first_or {A = A} {B = B} a) e, ap (second_or {A = A} {B = B} x) e)
