@@ -7,3 +7,4 @@ pub mod Numbers
 pub mod Values
 pub mod Table
 pub mod Branches
+pub mod Found
