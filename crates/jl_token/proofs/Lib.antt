@@ -8,3 +8,6 @@ pub mod Values
 pub mod Table
 pub mod Branches
 pub mod Found
+pub mod Against
+pub mod Blamed
+pub mod Whole

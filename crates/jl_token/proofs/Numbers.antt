@@ -43,7 +43,7 @@ module _ (p : ℕ → Bool) where
   prepend_rest [] x = refl
   prepend_rest (d ∷ ds) x = prepend_rest ds x
 
-  goes_on : (rest : List ℕ) → first_is p rest ≡ true → length (many (one_unit p) rest).1 < length rest
+  pub goes_on : (rest : List ℕ) → first_is p rest ≡ true → length (many (one_unit p) rest).1 < length rest
   goes_on [] h = absurd cc
   goes_on (u ∷ us) h = rw (unit_step u us h) (let i = units_shorter us in omega arith)
 
@@ -210,7 +210,7 @@ unfolding with_exponent
 with_against ds n x r l rest (longer_exponent h) = longer_numeral h
 with_against ds n x r l rest (same_exponent e) = same_numeral (rw e refl)
 
-fraction_rest : (ds : List ℕ) (x : List ℕ × List ℕ) → length (after_fraction ds x).3 ≤ length x.1
+pub fraction_rest : (ds : List ℕ) (x : List ℕ × List ℕ) → length (after_fraction ds x).3 ≤ length x.1
 unfolding after_fraction with_exponent
 fraction_rest ds x = exponent_shorter x.1
 
