@@ -38,7 +38,7 @@ unfolding scan units after_line_feed
 carriage_return us = refl
 
 -- comments
-close_stops : (us : List ℕ) → before_close (42 ∷ 47 ∷ us) ≡ None
+pub close_stops : (us : List ℕ) → before_close (42 ∷ 47 ∷ us) ≡ None
 unfolding before_close
 close_stops us = refl
 
@@ -101,7 +101,7 @@ number_covers {us} {rest} {m} {r} {l} {n} d v = rw (scan_number us (numeral_begi
   | same_numeral e ↦ rw e (number_same m r l n rest v) ])
 
 -- strings
-mark_stops : (mark : ℕ) (us : List ℕ) → character mark (mark ∷ us) ≡ None
+pub mark_stops : (mark : ℕ) (us : List ℕ) → character mark (mark ∷ us) ≡ None
 unfolding character
 mark_stops mark us = rw (same_unit mark) refl where
   same_unit : (n : ℕ) → (n == n) ≡ true

@@ -50,7 +50,7 @@ line_comment_right u (v ∷ us) h = let a = and_true (u == 47) (v == 47) h in
       (subst (λ x. Right (47 ∷ x ∷ us) (found (Comment false) (many (one_unit is_on_line) us).1)) (sym (is_unit v 47 a.1))
         (right_element (line_comment (units_row is_on_line us))))
 
-close_here : (u v : ℕ) (rest : List ℕ) → before_close (u ∷ v ∷ rest) ≡ None → (u ≡ 42) × (v ≡ 47)
+pub close_here : (u v : ℕ) (rest : List ℕ) → before_close (u ∷ v ∷ rest) ≡ None → (u ≡ 42) × (v ≡ 47)
 unfolding before_close
 close_here u v rest e = by (true_or_false (u == 42 && v == 47)) where
   by : ((u == 42 && v == 47) ≡ true) ⊎ ((u == 42 && v == 47) ≡ false) → (u ≡ 42) × (v ≡ 47)

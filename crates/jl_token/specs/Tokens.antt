@@ -1,6 +1,6 @@
 -- The tokens of a text (clause 7): the text is split into input elements, each the longest that can be formed at its place;
 -- the tokens are those that are neither white space, line terminator nor comment.
-use Rattle.std.specs.Prelude.{◌≡◌, ◌≤◌, ℕ, ◌-◌, Bool, true, false, ◌||◌, List, [], ◌∷◌, length}
+use Rattle.std.specs.Prelude.{◌≡◌, ◌<◌, ◌≤◌, ℕ, ◌-◌, Bool, true, false, ◌||◌, ◌⊎◌, List, [], ◌∷◌, length}
 use Rattle.jl_token.specs.Elements.{Element, White, LineEnd, Comment, Word, Front, Many}
 use Rattle.jl_token.specs.Faults.{Fault}
 use Rattle.jl_token.specs.declared.token.Token.{Token}
@@ -44,3 +44,28 @@ pub record BadAt (text : List ℕ) (at : ℕ) (kind : BadKind) : Type 0 where
   pub splits : Many (OnePiece text) text pieces left
   pub there : at ≡ place text left
   pub fault : Fault left kind
+
+-- the tokens stand one after the other between two places, and each has a unit at least
+abbrev pub InOrder : ℕ → ℕ → List Token → Type 0
+InOrder i j [] = i ≤ j
+InOrder i j (t ∷ ts) = (i ≤ t.span.from) × (t.span.from < t.span.to) × InOrder t.span.to j ts
+
+-- a text has one list of tokens at most
+abbrev pub TokensAreUnique : Type 0
+TokensAreUnique = (text : List ℕ) (ts us : List Token) → Tokens text ts → Tokens text us → ts ≡ us
+
+-- a text that has no tokens has one first fault
+abbrev pub BadPlaceIsUnique : Type 0
+BadPlaceIsUnique = (text : List ℕ) (i j : ℕ) (k l : BadKind) → BadAt text i k → BadAt text j l → (i ≡ j) × (k ≡ l)
+
+-- each text has tokens or a fault
+abbrev pub TokensOrBad : Type 0
+TokensOrBad = (text : List ℕ) → ((ts : List Token) × Tokens text ts) ⊎ ((i : ℕ) × (k : BadKind) × BadAt text i k)
+
+-- and never both
+abbrev pub NeverBoth : Type 0
+NeverBoth = (text : List ℕ) (ts : List Token) (i : ℕ) (k : BadKind) → Tokens text ts → BadAt text i k → ⊥
+
+-- spans rise, don't overlap and lie in the text
+abbrev pub SpansAreInOrder : Type 0
+SpansAreInOrder = (text : List ℕ) (ts : List Token) → Tokens text ts → InOrder 0 (length text) ts
