@@ -1,6 +1,10 @@
-//! The numbers of a script: NaN, and the whole numbers of at most 2^53 - 1 in size.
+//! The numbers of a script: NaN, and the whole numbers of at most 2^53 - 1 in size, with their arithmetic and their text.
 #![tactic(auto)]
 
+mod arithmetic;
 mod num;
+mod text;
 
+pub use arithmetic::{add, div, mul, rem, sub};
 pub use num::{Num, NumberOutside};
+pub use text::digits;

@@ -1,0 +1,25 @@
+-- The woven script matches the script.
+use Rattle.std.proofs.Common.{◌≡◌, ℕ, ◌+◌, ◌≤◌, Option, Some, None, arith}
+use Rattle.jl_num.specs.Number.{Number}
+use Rattle.jl_meaning.specs.Follows.{plus, Matches, ends, fails, both, extra, prints, told, spare}
+use Rattle.jl_meaning.proofs.Chains.{matches_then}
+use Rattle.jl_app.specs.Sums.{Sum, number, binary, Script, parts}
+use Rattle.jl_app.specs.Meaning.{or_outside, result_of, value_of, script}
+use Rattle.jl_app.specs.Weaving.{woven, hooked_value, hooked_script}
+
+outside_matches : (c : ℕ) (r : Option Number) → Matches c c (or_outside r) (or_outside r)
+outside_matches c (Some n) = ends (omega arith)
+outside_matches c None = fails
+
+-- A woven sum matches the sum, wherever its ids begin.
+value_matches : (s : Sum) (before c : ℕ) → Matches c c (value_of s before) (hooked_value (woven s before))
+value_matches (number at n) before c = both (extra (extra (told (ends (omega arith)))))
+value_matches (binary at op a b) before c =
+    both (matches_then (value_matches a (before + 1) (plus 31 c)) (λ x.
+    matches_then (value_matches b (before + 1 + parts a) (plus 31 c)) (λ y.
+    extra (matches_then (outside_matches (plus 30 c) (result_of op x y)) (λ z. told (ends (omega arith)))))))
+
+pub script_matches : (s : Script) → Matches 64 0 (script s) (hooked_script (woven s.argument 5))
+script_matches s =
+    extra (extra (extra (told (both (both (extra (extra (both (extra (told (extra (matches_then (value_matches s.argument 5 _) (λ x.
+    told (both (both (prints (told (extra (extra (extra (told (ends (omega arith)))))))))))))))))))))))

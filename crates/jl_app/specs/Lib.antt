@@ -1,0 +1,5 @@
+pub mod Sums
+pub mod Places
+pub mod Meaning
+pub mod Weaving
+pub mod View

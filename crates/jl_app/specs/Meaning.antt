@@ -1,0 +1,64 @@
+-- What a script of the form `print(SUM);` does by itself: its operations, and its steps. A statement, an expression, an
+-- entered builtin and each turn of its loop take a step.
+use Rattle.std.specs.Prelude.{ℕ, ◌+◌, suc, Option, Some, None, List, [], ◌∷◌}
+use Rattle.jl_num.specs.Number.{Number}
+use Rattle.jl_num.specs.Arithmetic.{sum_of, difference_of, product_of, quotient_of, remainder_of}
+use Rattle.jl_num.specs.Digits.{number_text}
+use Rattle.jl_op.specs.declared.op.Operator.{Operator}
+use Rattle.jl_op.specs.declared.op.Operator.TheVariants.{Mul, Div, Rem, Add, Sub}
+use Rattle.jl_op.specs.declared.op.Op.{Op}
+use Rattle.jl_op.specs.declared.op.Op.TheVariants.{ScriptEnter, ScriptExit, Literal, Read, Binary, InvokePre, InvokePost}
+use Rattle.jl_op.specs.declared.value.Fault.TheVariants.{NumberOutside}
+use Rattle.jl_op.specs.declared.value.Seen.{Seen}
+use Rattle.jl_op.specs.declared.value.Value.TheVariants.{Undefined, Num}
+use Rattle.jl_op.specs.Operations.{Operation}
+use Rattle.jl_meaning.specs.Effects.{Part, End, Fail, Step, Print, Does, ◌>>=◌}
+use Rattle.jl_app.specs.Sums.{Sum, number, binary, Script, parts}
+
+-- the operation with the id that comes after so many
+abbrev pub with_id : (before : ℕ) → Op → Operation
+with_id before op = (record { 0 = before + 1 }, op)
+
+-- a number, as an operation saw it
+abbrev pub seen : Number → Seen
+seen n = record { value = Num n }
+
+-- what an operator gives (11.5, 11.6), or none where that is no number of a script
+abbrev pub result_of : Operator → Number → Number → Option Number
+result_of Mul a b = product_of a b
+result_of Div a b = quotient_of a b
+result_of Rem a b = Some (remainder_of a b)
+result_of Add a b = sum_of a b
+result_of Sub a b = difference_of a b
+
+-- the result, or the fault that there is none
+abbrev pub or_outside : Option Number → Part Number
+or_outside (Some n) = End n
+or_outside None = Fail NumberOutside
+
+-- the text that `print` writes for a number (9.8.1)
+abbrev pub printed : Number → List ℕ
+printed n = number_text n 10
+
+-- what a sum does to give its value, where `before` ids are taken before its own: both operands are evaluated, from left
+-- to right, and then the operator is applied (11.5, 11.6)
+abbrev pub value_of : Sum → (before : ℕ) → Part Number
+value_of (number at n) before = Step (Does (with_id before (Literal (seen n))) (End n))
+value_of (binary at op a b) before = Step do
+    x ← value_of a (before + 1)
+    y ← value_of b (before + 1 + parts a)
+    z ← or_outside (result_of op x y)
+    Does (with_id before (Binary op (seen x) (seen y) (seen z))) (End z)
+
+-- what the builtin does, once its argument is evaluated and it is known to be callable: it is entered, and its loop has
+-- a turn for its one argument
+abbrev pub called : Number → Part (Unit {0}) → Part (Unit {0})
+called x rest = Step (Step (Print (printed x) rest))
+
+-- what a script does: its one statement, the call in it, the name `print`, the argument, and the call itself
+abbrev pub script : Script → Part (Unit {0})
+script s =
+    Does (with_id 0 ScriptEnter) (Step (Step (Step (Does (with_id 4 Read) (value_of s.argument 5 >>= λ x.
+    Does (with_id 2 (InvokePre (seen x))) (called x (
+    Does (with_id 3 (InvokePost (record { value = Undefined }))) (
+    Does (with_id 1 ScriptExit) (End tt)))))))))

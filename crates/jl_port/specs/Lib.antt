@@ -1,0 +1,4 @@
+pub mod Count
+pub mod Bytes
+pub mod Memory
+pub mod Shelves
