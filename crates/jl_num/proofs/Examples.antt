@@ -1,7 +1,7 @@
 -- Values of the definitions, which compute.
 use Rattle.std.proofs.Common.{◌≡◌, refl, Some, None, pos, negsuc}
 use Rattle.std.specs.Prelude.{codes}
-use Rattle.jl_num.specs.Arithmetic.{sum_of, quotient_of, remainder_of}
+use Rattle.jl_num.specs.Arithmetic.{sum_of, difference_of, product_of, quotient_of, remainder_of}
 use Rattle.jl_num.specs.Digits.{number_text}
 
 minus_255 : number_text (Some (negsuc 254)) 16 ≡ codes "-ff"
@@ -33,3 +33,18 @@ past_the_largest = refl
 
 up_to_the_largest : sum_of (Some (pos 9007199254740990)) (Some (pos 1)) ≡ Some (Some (pos 9007199254740991))
 up_to_the_largest = refl
+
+zero_text : number_text (Some (pos 0)) 2 ≡ codes "0"
+zero_text = refl
+
+nan_text : number_text None 36 ≡ codes "NaN"
+nan_text = refl
+
+product_of_opposites : product_of (Some (negsuc 9007199254740990)) (Some (negsuc 0)) ≡ Some (Some (pos 9007199254740991))
+product_of_opposites = refl
+
+difference_below_zero : difference_of (Some (pos 5)) (Some (pos 7)) ≡ Some (Some (negsuc 1))
+difference_below_zero = refl
+
+with_nan : sum_of None (Some (pos 1)) ≡ Some None
+with_nan = refl

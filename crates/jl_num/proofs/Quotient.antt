@@ -18,7 +18,7 @@ remainder_bits a b = of_z w64 (int_rem (to_z w64 (of_z w64 a)) (to_z w64 (of_z w
 le_times : (q m a : ℕ) → q * suc m ≡ a → q ≤ a
 le_times q m a e = let h : q * suc m ≡ q * m + q = omega arith in omega arith
 
-false_from : {b : Bool} {P : Type 0} → Decides b P → ¬ P → b ≡ false
+pub false_from : {b : Bool} {P : Type 0} → Decides b P → ¬ P → b ≡ false
 false_from {b = true} d n = absurd (n (d.0 refl))
 false_from {b = false} d n = refl
 
@@ -50,13 +50,14 @@ no_rest a b e = let h = quot-rem a b in omega (arith, ints)
 smaller : (a b q : ℤ) → b ≢ pos 0 → q *ℤ b ≡ a → unsigned_abs q ≤ unsigned_abs a
 smaller a b q n e = at_least_one b n (sym (unsigned_abs-mul q b) ∙ ap unsigned_abs e)
   where
-    at_least_one : (b : ℤ) → b ≢ pos 0 → unsigned_abs q * unsigned_abs b ≡ unsigned_abs a → unsigned_abs q ≤ unsigned_abs a
+    at_least_one : (b : ℤ) → b ≢ pos 0 → unsigned_abs q * unsigned_abs b ≡ unsigned_abs a
+        → unsigned_abs q ≤ unsigned_abs a
     at_least_one (pos zero) n e = absurd (n refl)
     at_least_one (pos (suc m)) n e = le_times (unsigned_abs q) m (unsigned_abs a) e
     at_least_one (negsuc m) n e = le_times (unsigned_abs q) m (unsigned_abs a) e
 
-pub whole_quotient : (a b : ℤ) → IsNumber (Some a) → IsNumber (Some b) → (of_z w64 b ≡ 0 → ⊥) → remainder_bits a b ≡ 0
-    → number_of (to_z w64 (quotient_bits a b)) ≡ quotient_of (Some a) (Some b)
+pub whole_quotient : (a b : ℤ) → IsNumber (Some a) → IsNumber (Some b) → (of_z w64 b ≡ 0 → ⊥)
+    → remainder_bits a b ≡ 0 → number_of (to_z w64 (quotient_bits a b)) ≡ quotient_of (Some a) (Some b)
 whole_quotient a b ha hb n e =
     let fa = in_word a ha in
     let fb = in_word b hb in
@@ -67,10 +68,11 @@ whole_quotient a b ha hb n e =
     let fq : FitsSigned w64 (int_div a b) = fits_signed_from_abs w64 (int_div a b) (omega arith) in
     rw (not_zero b n, (Decides-int_eq (int_div a b *ℤ b) a).1 q) (ap number_of (quot_is w64 a b fa fb fq))
 
-pub fraction : (a b : ℤ) → IsNumber (Some a) → IsNumber (Some b) → (of_z w64 b ≡ 0 → ⊥) → (remainder_bits a b ≡ 0 → ⊥)
-    → quotient_of (Some a) (Some b) ≡ None
+pub fraction : (a b : ℤ) → IsNumber (Some a) → IsNumber (Some b) → (of_z w64 b ≡ 0 → ⊥)
+    → (remainder_bits a b ≡ 0 → ⊥) → quotient_of (Some a) (Some b) ≡ None
 fraction a b ha hb n e =
     let fa = in_word a ha in
     let fb = in_word b hb in
-    let differs : int_div a b *ℤ b ≢ a = λ q. e (rw (to_z-of_z w64 a fa, to_z-of_z w64 b fb) (ap (of_z w64) (no_rest a b q))) in
+    let differs : int_div a b *ℤ b ≢ a =
+    λ q. e (rw (to_z-of_z w64 a fa, to_z-of_z w64 b fb) (ap (of_z w64) (no_rest a b q))) in
     rw (not_zero b n, false_from (Decides-int_eq (int_div a b *ℤ b) a) differs) refl

@@ -12,8 +12,8 @@ abbrev pub digits_within : ℕ → ℕ → ℕ → List ℕ
 digits_within radix zero n = []
 digits_within radix (suc places) n =
     elim (nat_lt n radix) [
-      true ↦ digit_code n ∷ []
-    | false ↦ digits_within radix places (n / radix) ++ digit_code (n % radix) ∷ []
+      | true ↦ digit_code n ∷ []
+      | false ↦ digits_within radix places (n / radix) ++ digit_code (n % radix) ∷ []
     ]
 
 -- the digits of n, the most significant first

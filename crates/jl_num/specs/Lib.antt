@@ -1,3 +1,4 @@
 pub mod Number
 pub mod Arithmetic
 pub mod Digits
+pub mod Laws

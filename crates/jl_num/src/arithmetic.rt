@@ -50,10 +50,13 @@ pub fn div(a: Num, b: Num) -> Result<Num, NumberOutside>
                 } else {
                     Err(NumberOutside)
                 }
-            } else if x % y == 0 {
-                Num::new(x / y)
             } else {
-                Err(NumberOutside)
+                let rest = x % y;
+                if rest == 0 {
+                    Num::new(x / y)
+                } else {
+                    Err(NumberOutside)
+                }
             }
         }
         _ => Ok(Num::NAN),
@@ -65,13 +68,7 @@ pub fn rem(a: Num, b: Num) -> Num
     ensures { result ≡ remainder_of a b }
 {
     match (a.value(), b.value()) {
-        (Some(x), Some(y)) => {
-            if y == 0 {
-                Num::NAN
-            } else {
-                Num::within(x % y)
-            }
-        }
+        (Some(x), Some(y)) => { if y == 0 { Num::NAN } else { Num::within(x % y) } }
         _ => Num::NAN,
     }
 }

@@ -2,9 +2,16 @@
 #![tactic(auto)]
 
 mod arithmetic;
+mod laws;
 mod num;
 mod text;
 
 pub use arithmetic::{add, div, mul, rem, sub};
+pub use laws::{
+    digits_write_numbers, quotients_are_exact, remainders_are_exact, results_are_numbers,
+};
 pub use num::{Num, NumberOutside};
 pub use text::digits;
+
+#[cfg(test)]
+mod tests;
