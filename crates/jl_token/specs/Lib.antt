@@ -4,3 +4,4 @@ pub mod Elements
 pub mod Faults
 pub mod Tokens
 pub mod Scanner
+pub mod Spelling
