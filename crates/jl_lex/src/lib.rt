@@ -1,0 +1,6 @@
+//! The lexer (clause 7): the tokens of a text, or its first input element that can't be formed.
+#![tactic(auto)]
+
+mod characters;
+mod comments;
+mod punctuators;
