@@ -4,10 +4,10 @@ use Rattle.std.proofs.lemmas.Bool.{leb-true, le-leb}
 use Rattle.std.proofs.lemmas.Bool.Decides.{nat_tests}
 use Rattle.std.specs.List.{list_any}
 use Rattle.jl_token.specs.Characters.{is_white_space, is_line_terminator, is_on_line, is_identifier_start, is_identifier_part, is_digit, is_quote, first_is}
-use Rattle.jl_token.specs.Punctuators.{punctuator_units}
+use Rattle.jl_token.specs.Punctuators.{punctuator_units, all_punctuators}
 use Rattle.jl_token.specs.Elements.{Element, White, LineEnd, Comment, Word, Many, no_more, one_more, OneUnit, Letter, itself, escaped, Name, name, BeforeClose, Numeral, HasValue, Character, StringLiteral, string, name_text, string_text, Front, white_space, line_terminator, carriage_return_line_feed, line_comment, block_comment, identifier_name, punctuator, numeric_literal, string_literal}
 use Rattle.jl_token.specs.Faults.{Unclosed, at_end, at_last_backslash, at_line_terminator, LongestNumeral, Fault, unclosed_string, unclosed_comment, string_escape, name_escape, first_escape, digit_follows, name_follows, no_number, long_name, long_string, no_element}
-use Rattle.jl_token.specs.Scanner.{Outcome, found, bad, with_first, many, one_unit, letter, name_from, name_end, before_close, block_end, numeral, number_end, number_of, value_of, is_some_of, after_line_feed, string_end, string_stop, character, all_punctuators, first_punctuator, punctuator_found, after_first, scan}
+use Rattle.jl_token.specs.Scanner.{Outcome, found, bad, with_first, many, one_unit, letter, name_from, name_end, before_close, block_end, numeral, number_end, number_of, value_of, is_some_of, after_line_feed, string_end, string_stop, character, first_punctuator, punctuator_found, after_first, scan}
 use Rattle.jl_token.specs.declared.token.BadKind.{BadKind}
 use Rattle.jl_token.specs.declared.token.BadKind.TheVariants as faults
 use Rattle.jl_token.specs.declared.punct.Punct.{Punct}

@@ -3,8 +3,8 @@ use Rattle.std.proofs.Common.{◌≡◌, refl, sym, ap, ◌∙◌, subst, ℕ, z
 use Rattle.std.proofs.lemmas.Bool.{leb-true}
 use Rattle.std.proofs.Common.{length-append, append-nil}
 use Rattle.jl_token.specs.Characters.{is_white_space, is_line_terminator, is_identifier_start, is_digit, is_quote, first_is}
-use Rattle.jl_token.specs.Punctuators.{punctuator_units}
-use Rattle.jl_token.specs.Scanner.{all_punctuators, strip, or_else, first_punctuator}
+use Rattle.jl_token.specs.Punctuators.{punctuator_units, all_punctuators}
+use Rattle.jl_token.specs.Scanner.{strip, or_else, first_punctuator}
 use Rattle.jl_token.specs.declared.punct.Punct.{Punct}
 use Rattle.jl_token.specs.declared.punct.Punct.TheVariants.{LeftBrace, RightBrace, LeftParen, RightParen, LeftBracket, RightBracket, Dot, Semicolon, Comma, Less, Greater, LessEqual, GreaterEqual, Equal, NotEqual, StrictEqual, StrictNotEqual, Plus, Minus, Star, Percent, PlusPlus, MinusMinus, ShiftLeft, ShiftRight, ShiftRightUnsigned, And, Or, Caret, Bang, Tilde, AndAnd, OrOr, Question, Colon, Assign, PlusAssign, MinusAssign, StarAssign, PercentAssign, ShiftLeftAssign, ShiftRightAssign, ShiftRightUnsignedAssign, AndAssign, OrAssign, CaretAssign, Slash, SlashAssign}
 use Rattle.jl_token.proofs.Tests.{and_true, is_unit, never_both, some_pair}

@@ -1,5 +1,5 @@
 -- The table of punctuators (7.7): the units of each.
-use Rattle.std.specs.Prelude.{ℕ, List, codes}
+use Rattle.std.specs.Prelude.{ℕ, List, [], ◌∷◌, codes}
 use Rattle.jl_token.specs.declared.punct.Punct.{Punct}
 use Rattle.jl_token.specs.declared.punct.Punct.TheVariants.{LeftBrace, RightBrace, LeftParen, RightParen, LeftBracket, RightBracket, Dot, Semicolon, Comma, Less, Greater, LessEqual, GreaterEqual, Equal, NotEqual, StrictEqual, StrictNotEqual, Plus, Minus, Star, Percent, PlusPlus, MinusMinus, ShiftLeft, ShiftRight, ShiftRightUnsigned, And, Or, Caret, Bang, Tilde, AndAnd, OrOr, Question, Colon, Assign, PlusAssign, MinusAssign, StarAssign, PercentAssign, ShiftLeftAssign, ShiftRightAssign, ShiftRightUnsignedAssign, AndAssign, OrAssign, CaretAssign, Slash, SlashAssign}
 
@@ -52,3 +52,12 @@ punctuator_units OrAssign = codes "|="
 punctuator_units CaretAssign = codes "^="
 punctuator_units Slash = codes "/"
 punctuator_units SlashAssign = codes "/="
+
+-- all of them, the longer ones first
+abbrev pub all_punctuators : List Punct
+all_punctuators = ShiftRightUnsignedAssign
+    ∷ StrictEqual ∷ StrictNotEqual ∷ ShiftRightUnsigned ∷ ShiftLeftAssign ∷ ShiftRightAssign
+    ∷ LessEqual ∷ GreaterEqual ∷ Equal ∷ NotEqual ∷ PlusPlus ∷ MinusMinus ∷ ShiftLeft ∷ ShiftRight ∷ AndAnd ∷ OrOr
+    ∷ PlusAssign ∷ MinusAssign ∷ StarAssign ∷ PercentAssign ∷ AndAssign ∷ OrAssign ∷ CaretAssign ∷ SlashAssign
+    ∷ LeftBrace ∷ RightBrace ∷ LeftParen ∷ RightParen ∷ LeftBracket ∷ RightBracket ∷ Dot ∷ Semicolon ∷ Comma
+    ∷ Less ∷ Greater ∷ Plus ∷ Minus ∷ Star ∷ Percent ∷ And ∷ Or ∷ Caret ∷ Bang ∷ Tilde ∷ Question ∷ Colon ∷ Assign ∷ Slash ∷ []

@@ -3,11 +3,10 @@
 use Rattle.std.specs.Prelude.{ℕ, zero, suc, ◌+◌, ◌*◌, ◌/◌, ◌%◌, ◌^◌, Bool, true, false, ◌==◌, ◌&&◌, ◌||◌, nat_le, List, [], ◌∷◌, ◌++◌, length, Option, Some, None, pos, if◌then◌else◌}
 use Rattle.std.specs.List.{list_any}
 use Rattle.jl_token.specs.Characters.{is_white_space, is_line_terminator, is_on_line, is_identifier_start, is_identifier_part, is_digit, is_hex_digit, decimal_from, hex_from, are_hex_digits, hex_number, is_quote, single_escape, first_is}
-use Rattle.jl_token.specs.Punctuators.{punctuator_units}
+use Rattle.jl_token.specs.Punctuators.{punctuator_units, all_punctuators}
 use Rattle.jl_token.specs.Elements.{Element, White, LineEnd, Comment, Word, name_text, is_escaped, string_text, is_plain}
 use Rattle.jl_token.specs.Tokens.{Piece, piece, place, tokens_among}
 use Rattle.jl_token.specs.declared.punct.Punct.{Punct}
-use Rattle.jl_token.specs.declared.punct.Punct.TheVariants.{LeftBrace, RightBrace, LeftParen, RightParen, LeftBracket, RightBracket, Dot, Semicolon, Comma, Less, Greater, LessEqual, GreaterEqual, Equal, NotEqual, StrictEqual, StrictNotEqual, Plus, Minus, Star, Percent, PlusPlus, MinusMinus, ShiftLeft, ShiftRight, ShiftRightUnsigned, And, Or, Caret, Bang, Tilde, AndAnd, OrOr, Question, Colon, Assign, PlusAssign, MinusAssign, StarAssign, PercentAssign, ShiftLeftAssign, ShiftRightAssign, ShiftRightUnsignedAssign, AndAssign, OrAssign, CaretAssign, Slash, SlashAssign}
 use Rattle.jl_token.specs.declared.token.TokenKind.TheVariants as kinds
 use Rattle.jl_token.specs.declared.token.BadKind.{BadKind}
 use Rattle.jl_token.specs.declared.token.BadKind.TheVariants as faults
@@ -178,15 +177,7 @@ unfoldable pub string_end : ℕ → List (List ℕ × Bool) × List ℕ → Outc
 string_end mark (cs, []) = bad faults.UnclosedText
 string_end mark (cs, u ∷ us) = string_stop mark cs u us
 
--- punctuators, the longer ones first
-
-abbrev pub all_punctuators : List Punct
-all_punctuators = ShiftRightUnsignedAssign
-    ∷ StrictEqual ∷ StrictNotEqual ∷ ShiftRightUnsigned ∷ ShiftLeftAssign ∷ ShiftRightAssign
-    ∷ LessEqual ∷ GreaterEqual ∷ Equal ∷ NotEqual ∷ PlusPlus ∷ MinusMinus ∷ ShiftLeft ∷ ShiftRight ∷ AndAnd ∷ OrOr
-    ∷ PlusAssign ∷ MinusAssign ∷ StarAssign ∷ PercentAssign ∷ AndAssign ∷ OrAssign ∷ CaretAssign ∷ SlashAssign
-    ∷ LeftBrace ∷ RightBrace ∷ LeftParen ∷ RightParen ∷ LeftBracket ∷ RightBracket ∷ Dot ∷ Semicolon ∷ Comma
-    ∷ Less ∷ Greater ∷ Plus ∷ Minus ∷ Star ∷ Percent ∷ And ∷ Or ∷ Caret ∷ Bang ∷ Tilde ∷ Question ∷ Colon ∷ Assign ∷ Slash ∷ []
+-- punctuators
 
 -- the units after others, where they begin with those
 unfoldable pub strip : List ℕ → List ℕ → Option (List ℕ)
