@@ -3,4 +3,6 @@
 
 mod characters;
 mod comments;
+mod element;
+mod names;
 mod punctuators;

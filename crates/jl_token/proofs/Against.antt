@@ -5,7 +5,7 @@ use Rattle.std.specs.List.{list_any}
 use Rattle.jl_token.specs.Characters.{is_white_space, is_line_terminator, is_on_line, is_identifier_start, is_identifier_part, is_digit, is_quote, first_is}
 use Rattle.jl_token.specs.Punctuators.{punctuator_units, all_punctuators}
 use Rattle.jl_token.specs.Elements.{Element, White, LineEnd, Comment, Word, Many, no_more, one_more, OneUnit, Letter, itself, escaped, Name, name, BeforeClose, Numeral, HasValue, Character, StringLiteral, string, name_text, is_escaped, string_text, is_plain, Front, white_space, line_terminator, carriage_return_line_feed, line_comment, block_comment, identifier_name, punctuator, numeric_literal, string_literal}
-use Rattle.jl_token.specs.Scanner.{Outcome, found, bad, with_first, many, one_unit, letter, name_from, name_end, before_close, block_end, numeral, number_end, number_of, value_of, is_some_of, after_fraction, after_line_feed, string_end, string_stop, character, first_punctuator, punctuator_found, after_first, scan}
+use Rattle.jl_token.specs.Scanner.{Outcome, found, bad, with_first, many, one_unit, letter, name_from, name_done, name_end, before_close, block_end, numeral, number_end, number_of, value_of, is_some_of, after_fraction, after_line_feed, string_done, string_end, string_stop, character, first_punctuator, punctuator_found, after_first, scan}
 use Rattle.jl_token.specs.declared.token.TokenKind.TheVariants as kinds
 use Rattle.jl_token.specs.declared.token.BadKind.{BadKind}
 use Rattle.jl_token.specs.declared.punct.Punct.{Punct}
@@ -70,17 +70,17 @@ module _ {A : Type 0} (One : List ℕ → A → List ℕ → Type 0) (one : List
 
 -- names
 name_end_covers : (xs : List (ℕ × Bool)) (end : List ℕ) (e : Element) (rest : List ℕ) → length end < length rest → Covers (name_end xs end) e rest
-unfolding name_end
+unfolding name_done
 name_end_covers xs end e rest h = choose (λ o. Covers o e rest) (first_is (λ u. u == 92) end) _ _ (λ g. a_fault) (λ g. choose (λ o. Covers o e rest) (nat_le (length (name_text xs)) 1048576) _ _ (λ f. a_longer h) (λ f. a_fault))
 
 name_end_same : (xs : List (ℕ × Bool)) (rest : List ℕ) → Covers (name_end xs rest) (Word (kinds.Name (name_text xs) (is_escaped xs))) rest
-unfolding name_end
+unfolding name_done
 name_end_same xs rest = choose (λ o. Covers o (Word (kinds.Name (name_text xs) (is_escaped xs))) rest) (first_is (λ u. u == 92) rest) _ _ (λ g. a_fault) (λ g. choose (λ o. Covers o (Word (kinds.Name (name_text xs) (is_escaped xs))) rest) (nat_le (length (name_text xs)) 1048576) _ _ (λ f. the_same) (λ f. a_fault))
 
 name_covers : {us rest : List ℕ} {xs : List (ℕ × Bool)} → Name us xs rest → Covers (scan us) (Word (kinds.Name (name_text xs) (is_escaped xs))) rest
 unfolding name_from
 name_covers {us} (name {mid} {rest} {x} {xs} s m) = rw (scan_letter s, reads_start.complete us x mid s) (elim (row_against (Letter is_identifier_part) (letter is_identifier_part) reads_part m) [
-    longer_row h ↦ name_end_covers _ _ _ rest h
+    longer_row h ↦ name_end_covers (x ∷ (many (letter is_identifier_part) mid).0) (many (letter is_identifier_part) mid).1 _ rest h
   | same_row e ↦ rw e (name_end_same (x ∷ xs) rest) ])
 
 -- numbers
@@ -108,7 +108,7 @@ mark_stops mark us = rw (same_unit mark) refl where
   same_unit n = grind arith
 
 string_covers : {us rest : List ℕ} {cs : List (List ℕ × Bool)} → StringLiteral us cs rest → length (string_text cs) ≤ 1048576 → Covers (scan us) (Word (kinds.Str (string_text cs) (is_plain cs))) rest
-unfolding string_end string_stop
+unfolding string_done string_stop
 string_covers (string {mark} {us} {rest} {cs} q m) h = rw (scan_string mark us q, many_whole (Character mark) (character mark) (reads_character mark q) m (mark_stops mark rest), same_unit mark, le-leb (length (string_text cs)) 1048576 h) the_same where
   same_unit : (n : ℕ) → (n == n) ≡ true
   same_unit n = grind arith

@@ -5,7 +5,7 @@ use Rattle.std.proofs.lemmas.Bool.Decides.{nat_tests}
 use Rattle.jl_token.specs.Characters.{is_white_space, is_line_terminator, is_on_line, is_identifier_start, is_identifier_part, is_digit, is_hex_digit, are_hex_digits, hex_number, hex_digit_value, hex_from, decimal_from, is_quote, first_is}
 use Rattle.jl_token.specs.Elements.{Element, White, LineEnd, Comment, Word, Many, no_more, one_more, OneUnit, unit, Digits, digits as some, WholeDigits, zero_digit, nonzero, no_exponent, whole, with_point, from_point, hex, Letter, itself, escaped, Name, name, BeforeClose, Numeral, HasValue, Character, StringLiteral, string, name_text, is_escaped, string_text, is_plain, Front, white_space, line_terminator, carriage_return_line_feed, line_comment, block_comment, identifier_name, punctuator, numeric_literal, string_literal}
 use Rattle.jl_token.specs.Faults.{Unclosed, at_end, at_last_backslash, at_line_terminator, No, LongestNumeral, Fault, unclosed_string, unclosed_comment, string_escape, name_escape, first_escape, digit_follows, name_follows, no_number, long_name, long_string, no_element}
-use Rattle.jl_token.specs.Scanner.{Outcome, found, bad, with_first, many, one_unit, letter, name_from, name_end, before_close, block_end, numeral, number_end, number_of, value_of, is_some_of, string_end, string_stop, character, escape, scan}
+use Rattle.jl_token.specs.Scanner.{Outcome, found, bad, with_first, many, one_unit, letter, name_from, name_done, name_end, before_close, block_end, numeral, number_end, number_of, value_of, is_some_of, string_done, string_end, string_stop, character, escape, scan}
 use Rattle.jl_token.specs.declared.token.BadKind.{BadKind}
 use Rattle.jl_token.specs.declared.token.BadKind.TheVariants as faults
 use Rattle.jl_token.specs.declared.punct.Punct.TheVariants.{Dot, Slash}
@@ -62,17 +62,17 @@ module _ (mark : ℕ) (q : is_quote mark ≡ true) where
     either false = refl
 
   unclosed_end : (cs : List (List ℕ × Bool)) (rest : List ℕ) → Unclosed rest → string_end mark (cs, rest) ≡ bad faults.UnclosedText
-  unfolding string_end string_stop units
+  unfolding string_done string_stop units
   unclosed_end cs rest at_end = refl
   unclosed_end cs rest at_last_backslash = rw (backslash_mark) refl
   unclosed_end cs rest (at_line_terminator {u} {us} h) = rw (not_true (u == mark) (λ g. never_both (is_quote u) (not_mark u g) (lines u h).quote), h) refl
 
   escape_end : (cs : List (List ℕ × Bool)) (u : ℕ) (rest : List ℕ) → string_end mark (cs, 92 ∷ u ∷ rest) ≡ bad faults.BadEscape
-  unfolding string_end string_stop units
+  unfolding string_done string_stop units
   escape_end cs u rest = rw (backslash_mark, positive (length rest)) refl
 
   long_end : (cs : List (List ℕ × Bool)) (rest : List ℕ) → 1048576 < length (string_text cs) → string_end mark (cs, mark ∷ rest) ≡ bad faults.LongText
-  unfolding string_end string_stop
+  unfolding string_done string_stop
   long_end cs rest h = rw (same_unit mark, too_long (length (string_text cs)) h) refl
 
   string_blamed : (us : List ℕ) (cs : List (List ℕ × Bool)) (rest : List ℕ) (k : BadKind) → Many (Character mark) us cs rest → character mark rest ≡ None → string_end mark (cs, rest) ≡ bad k → scan (mark ∷ us) ≡ bad k
@@ -85,11 +85,11 @@ name_blamed {us} (name {mid} {rest} {x} {xs} s m) n =
     rw (scan_letter s, reads_start.complete us x mid s, many_whole (Letter is_identifier_part) (letter is_identifier_part) reads_part m (none_found (Letter is_identifier_part) (letter is_identifier_part) reads_part rest n)) refl
 
 backslash_end : (xs : List (ℕ × Bool)) (rest : List ℕ) → name_end xs (92 ∷ rest) ≡ bad faults.BadEscape
-unfolding name_end
+unfolding name_done
 backslash_end xs rest = refl
 
 long_name_end : (xs : List (ℕ × Bool)) (rest : List ℕ) → first_is (λ u. u == 92) rest ≡ false → 1048576 < length (name_text xs) → name_end xs rest ≡ bad faults.LongText
-unfolding name_end
+unfolding name_done
 long_name_end xs rest h g = rw (h, too_long (length (name_text xs)) g) refl
 
 no_name : (us : List ℕ) → No (Letter is_identifier_start) (92 ∷ us) → scan (92 ∷ us) ≡ bad faults.BadEscape

@@ -5,9 +5,9 @@ use Rattle.std.proofs.lemmas.Bool.Decides.{nat_tests}
 use Rattle.std.specs.List.{list_any}
 use Rattle.jl_token.specs.Characters.{is_white_space, is_line_terminator, is_on_line, is_identifier_start, is_identifier_part, is_digit, is_quote, first_is}
 use Rattle.jl_token.specs.Punctuators.{punctuator_units, all_punctuators}
-use Rattle.jl_token.specs.Elements.{Element, White, LineEnd, Comment, Word, Many, no_more, one_more, OneUnit, Letter, itself, escaped, Name, name, BeforeClose, Numeral, HasValue, Character, StringLiteral, string, name_text, string_text, Front, white_space, line_terminator, carriage_return_line_feed, line_comment, block_comment, identifier_name, punctuator, numeric_literal, string_literal}
+use Rattle.jl_token.specs.Elements.{Element, White, LineEnd, Comment, Word, Many, no_more, one_more, OneUnit, Letter, itself, escaped, Name, name, BeforeClose, Numeral, HasValue, Character, StringLiteral, string, name_text, is_escaped, string_text, is_plain, Front, white_space, line_terminator, carriage_return_line_feed, line_comment, block_comment, identifier_name, punctuator, numeric_literal, string_literal}
 use Rattle.jl_token.specs.Faults.{Unclosed, at_end, at_last_backslash, at_line_terminator, LongestNumeral, Fault, unclosed_string, unclosed_comment, string_escape, name_escape, first_escape, digit_follows, name_follows, no_number, long_name, long_string, no_element}
-use Rattle.jl_token.specs.Scanner.{Outcome, found, bad, with_first, many, one_unit, letter, name_from, name_end, before_close, block_end, numeral, number_end, number_of, value_of, is_some_of, after_line_feed, string_end, string_stop, character, first_punctuator, punctuator_found, after_first, scan}
+use Rattle.jl_token.specs.Scanner.{Outcome, found, bad, with_first, many, one_unit, letter, name_from, name_done, name_end, before_close, block_end, numeral, number_end, number_of, value_of, is_some_of, after_line_feed, string_done, string_end, string_stop, character, first_punctuator, punctuator_found, after_first, scan}
 use Rattle.jl_token.specs.declared.token.BadKind.{BadKind}
 use Rattle.jl_token.specs.declared.token.BadKind.TheVariants as faults
 use Rattle.jl_token.specs.declared.punct.Punct.{Punct}
@@ -82,7 +82,7 @@ pub positive : (n : ℕ) → nat_le 1 (suc n) ≡ true
 positive n = le-leb 1 (suc n) (omega arith)
 
 module _ (mark : ℕ) (q : is_quote mark ≡ true) where
-  string_close_right : (us : List ℕ) (cs : List (List ℕ × Bool)) (rest : List ℕ) → Many (Character mark) us cs (mark ∷ rest) → Right (mark ∷ us) (string_stop mark cs mark rest)
+  string_close_right : (us : List ℕ) (cs : List (List ℕ × Bool)) (rest : List ℕ) → Many (Character mark) us cs (mark ∷ rest) → Right (mark ∷ us) (string_stop mark (string_text cs) (is_plain cs) mark rest)
   unfolding string_stop
   string_close_right us cs rest m = rw (same mark) (choose (Right (mark ∷ us)) (nat_le (length (string_text cs)) 1048576) _ _
       (λ h. right_element (string_literal (string q m) (leb-true (length (string_text cs)) 1048576 h)))
@@ -103,22 +103,22 @@ module _ (mark : ℕ) (q : is_quote mark ≡ true) where
   string_backslash_right us cs [] m e = right_fault (unclosed_string q m at_last_backslash)
   string_backslash_right us cs (u ∷ rest) m e = rw (positive (length rest)) (right_fault (string_escape q m (none_here (Character mark) (character mark) (reads_character mark q) (92 ∷ u ∷ rest) e)))
 
-  string_stop_right : (us : List ℕ) (cs : List (List ℕ × Bool)) (u : ℕ) (rest : List ℕ) → Many (Character mark) us cs (u ∷ rest) → character mark (u ∷ rest) ≡ None → Right (mark ∷ us) (string_stop mark cs u rest)
+  string_stop_right : (us : List ℕ) (cs : List (List ℕ × Bool)) (u : ℕ) (rest : List ℕ) → Many (Character mark) us cs (u ∷ rest) → character mark (u ∷ rest) ≡ None → Right (mark ∷ us) (string_stop mark (string_text cs) (is_plain cs) u rest)
   string_stop_right us cs u rest m e = by (true_or_false (u == mark)) (true_or_false (is_line_terminator u)) where
-    at_mark : (u == mark) ≡ true → Right (mark ∷ us) (string_stop mark cs u rest)
-    at_mark h = subst (λ w. Right (mark ∷ us) (string_stop mark cs w rest)) (sym (is_unit u mark h)) (string_close_right us cs rest (subst (λ w. Many (Character mark) us cs (w ∷ rest)) (is_unit u mark h) m))
-    at_line : (u == mark) ≡ false → is_line_terminator u ≡ true → Right (mark ∷ us) (string_stop mark cs u rest)
+    at_mark : (u == mark) ≡ true → Right (mark ∷ us) (string_stop mark (string_text cs) (is_plain cs) u rest)
+    at_mark h = subst (λ w. Right (mark ∷ us) (string_stop mark (string_text cs) (is_plain cs) w rest)) (sym (is_unit u mark h)) (string_close_right us cs rest (subst (λ w. Many (Character mark) us cs (w ∷ rest)) (is_unit u mark h) m))
+    at_line : (u == mark) ≡ false → is_line_terminator u ≡ true → Right (mark ∷ us) (string_stop mark (string_text cs) (is_plain cs) u rest)
     at_line h l = unfold string_stop in (rw (h, l) (right_fault (unclosed_string q m (at_line_terminator l))))
-    at_other : (u == mark) ≡ false → is_line_terminator u ≡ false → Right (mark ∷ us) (string_stop mark cs u rest)
+    at_other : (u == mark) ≡ false → is_line_terminator u ≡ false → Right (mark ∷ us) (string_stop mark (string_text cs) (is_plain cs) u rest)
     at_other h l = let b = must_be_backslash u rest h l e in
       unfold string_stop in (rw (h, l) (string_backslash_right us cs rest (subst (λ w. Many (Character mark) us cs (w ∷ rest)) b m) (subst (λ w. character mark (w ∷ rest) ≡ None) b e)))
-    by : ((u == mark) ≡ true) ⊎ ((u == mark) ≡ false) → (is_line_terminator u ≡ true) ⊎ (is_line_terminator u ≡ false) → Right (mark ∷ us) (string_stop mark cs u rest)
+    by : ((u == mark) ≡ true) ⊎ ((u == mark) ≡ false) → (is_line_terminator u ≡ true) ⊎ (is_line_terminator u ≡ false) → Right (mark ∷ us) (string_stop mark (string_text cs) (is_plain cs) u rest)
     by (inl h) l = at_mark h
     by (inr h) (inl l) = at_line h l
     by (inr h) (inr l) = at_other h l
 
   string_end_right : (us : List ℕ) (x : List (List ℕ × Bool) × List ℕ) → Found (Character mark) (character mark) (reads_character mark q) us x → Right (mark ∷ us) (string_end mark x)
-  unfolding string_end
+  unfolding string_done
   string_end_right us (cs, []) f = right_fault (unclosed_string q f.row at_end)
   string_end_right us (cs, (u ∷ rest)) f = string_stop_right us cs u rest f.row f.ends
 
@@ -144,7 +144,7 @@ number_right us (m, r, l, rest) n = choose (Right us) (first_is is_digit rest ||
 
 -- names
 name_end_right : (us : List ℕ) (xs : List (ℕ × Bool)) (rest : List ℕ) → Name us xs rest → letter is_identifier_part rest ≡ None → Right us (name_end xs rest)
-unfolding name_end
+unfolding name_done
 name_end_right us xs rest n e = choose (Right us) (first_is (λ u. u == 92) rest) _ _ (λ h. at_backslash rest n e h)
     (λ h. choose (Right us) (nat_le (length (name_text xs)) 1048576) _ _
       (λ g. right_element (identifier_name n (leb-true (length (name_text xs)) 1048576 g)))

@@ -46,8 +46,11 @@ unfoldable pub letter : (ℕ → Bool) → List ℕ → Option ((ℕ × Bool) ×
 letter allowed [] = None
 letter allowed (u ∷ us) = if allowed u then Some ((u, false), us) else (if u == 92 then name_escape allowed us else None)
 
-unfoldable pub name_end : List (ℕ × Bool) → List ℕ → Outcome
-name_end xs rest = if first_is (λ u. u == 92) rest then bad faults.BadEscape else (if nat_le (length (name_text xs)) 1048576 then found (Word (kinds.Name (name_text xs) (is_escaped xs))) rest else bad faults.LongText)
+unfoldable pub name_done : List ℕ → Bool → List ℕ → Outcome
+name_done text escaped rest = if first_is (λ u. u == 92) rest then bad faults.BadEscape else (if nat_le (length text) 1048576 then found (Word (kinds.Name text escaped)) rest else bad faults.LongText)
+
+abbrev pub name_end : List (ℕ × Bool) → List ℕ → Outcome
+name_end xs rest = name_done (name_text xs) (is_escaped xs) rest
 
 unfoldable pub name_from : Option ((ℕ × Bool) × List ℕ) → Outcome
 name_from None = bad faults.BadEscape
@@ -168,14 +171,17 @@ unfoldable pub character : ℕ → List ℕ → Option ((List ℕ × Bool) × Li
 character mark [] = None
 character mark (u ∷ us) = if u == mark || is_line_terminator u then None else (if u == 92 then escape us else Some ((u ∷ [], true), us))
 
-unfoldable pub string_stop : ℕ → List (List ℕ × Bool) → ℕ → List ℕ → Outcome
-string_stop mark cs u us =
-    if u == mark then (if nat_le (length (string_text cs)) 1048576 then found (Word (kinds.Str (string_text cs) (is_plain cs))) us else bad faults.LongText) else
+unfoldable pub string_stop : ℕ → List ℕ → Bool → ℕ → List ℕ → Outcome
+string_stop mark text plain u us =
+    if u == mark then (if nat_le (length text) 1048576 then found (Word (kinds.Str text plain)) us else bad faults.LongText) else
     (if is_line_terminator u then bad faults.UnclosedText else (if nat_le 1 (length us) then bad faults.BadEscape else bad faults.UnclosedText))
 
-unfoldable pub string_end : ℕ → List (List ℕ × Bool) × List ℕ → Outcome
-string_end mark (cs, []) = bad faults.UnclosedText
-string_end mark (cs, u ∷ us) = string_stop mark cs u us
+unfoldable pub string_done : ℕ → List ℕ → Bool → List ℕ → Outcome
+string_done mark text plain [] = bad faults.UnclosedText
+string_done mark text plain (u ∷ us) = string_stop mark text plain u us
+
+abbrev pub string_end : ℕ → List (List ℕ × Bool) × List ℕ → Outcome
+string_end mark (cs, rest) = string_done mark (string_text cs) (is_plain cs) rest
 
 -- punctuators
 
