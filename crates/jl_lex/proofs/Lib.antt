@@ -1,1 +1,4 @@
 pub mod Loops
+pub mod StringLoops
+pub mod Powers
+pub mod AmountLemmas

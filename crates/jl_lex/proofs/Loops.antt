@@ -162,7 +162,7 @@ hex_cases true true false s a b c d = refl
 hex_cases true true true false a b c d = refl
 hex_cases true true true true a b c d = refl
 
-four_digits : (a b c d : ℕ) (r1 r2 r3 r4 : List ℕ) → four_of (hex_first (a ∷ r1)) (hex_first (b ∷ r2)) (hex_first (c ∷ r3)) (hex_first (d ∷ r4)) ≡ (if are_hex_digits a b c d then Some (hex_number a b c d) else None)
+pub four_digits : (a b c d : ℕ) (r1 r2 r3 r4 : List ℕ) → four_of (hex_first (a ∷ r1)) (hex_first (b ∷ r2)) (hex_first (c ∷ r3)) (hex_first (d ∷ r4)) ≡ (if are_hex_digits a b c d then Some (hex_number a b c d) else None)
 unfolding hex_first are_hex_digits hex_number
 four_digits a b c d r1 r2 r3 r4 = rw (zero-add) (hex_cases (is_hex_digit a) (is_hex_digit b) (is_hex_digit c) (is_hex_digit d) (hex_digit_value a) (hex_digit_value b) (hex_digit_value c) (hex_digit_value d))
 
@@ -191,7 +191,7 @@ unfolding escape_of
 escape_none p false rest = refl
 escape_none p true rest = refl
 
-four_last : (x y z : Option ℕ) → four_of x y z None ≡ None
+pub four_last : (x y z : Option ℕ) → four_of x y z None ≡ None
 unfolding four_of
 four_last None y z = refl
 four_last (Some a) None z = refl
@@ -301,3 +301,8 @@ found_named units i end (Err stops.NoMemory) o all e a b h = tt
 pub name_none : (us : List ℕ) → letter is_identifier_start us ≡ None → name_from (letter is_identifier_start us) ≡ bad faults.BadEscape
 unfolding name_from
 name_none us e = rw e refl
+
+pub found_later : (units : List ℕ) (i j : ℕ) (r : Result (Read × ℕ) Stop) (o all : Outcome) → o ≡ all → i ≤ j → IsFound units j r o → IsFound units i r all
+found_later units i j (Ok x) o all e a h = (sym e ∙ h.0, omega (arith, h.1), h.2)
+found_later units i j (Err (stops.Bad k)) o all e a h = sym e ∙ h
+found_later units i j (Err stops.NoMemory) o all e a h = tt

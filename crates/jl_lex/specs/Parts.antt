@@ -2,6 +2,7 @@
 use Rattle.std.specs.Prelude.{◌≡◌, ◌<◌, ◌≤◌, ℕ, ◌+◌, ◌*◌, Bool, true, false, List, [], ◌∷◌, drop, length, Option, Some, None, if◌then◌else◌}
 use Rattle.jl_token.specs.Characters.{is_identifier_start, is_identifier_part, is_hex_digit, hex_digit_value}
 use Rattle.jl_lex.specs.declared.names.Letter.{Letter}
+use Rattle.jl_lex.specs.declared.strings.Character.{Character}
 
 -- a hexadecimal digit at the front
 unfoldable pub hex_first : List ℕ → Option ℕ
@@ -32,3 +33,13 @@ allowed true = is_identifier_part
 abbrev pub LetterFrom : List ℕ → ℕ → Option Letter → Option ((ℕ × Bool) × List ℕ) → Type 0
 LetterFrom units i None o = o ≡ None
 LetterFrom units i (Some x) o = (o ≡ Some ((x.unit, x.escaped), drop x.end units)) × (i < x.end) × (x.end ≤ length units)
+
+-- the units of a character of a string: one, or none where it is a line continuation
+abbrev pub values : Option ℕ → List ℕ
+values None = []
+values (Some u) = u ∷ []
+
+-- a character of a string, which ends at a place or later
+abbrev pub CharacterFrom : List ℕ → ℕ → Option Character → Option ((List ℕ × Bool) × List ℕ) → Type 0
+CharacterFrom units low None o = o ≡ None
+CharacterFrom units low (Some x) o = (o ≡ Some ((values x.unit, x.plain), drop x.end units)) × (low ≤ x.end) × (x.end ≤ length units)

@@ -6,3 +6,4 @@ mod comments;
 mod element;
 mod names;
 mod punctuators;
+mod strings;

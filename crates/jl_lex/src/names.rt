@@ -2,7 +2,7 @@
 ghost use Rattle.std.specs.Prelude.{◌≡◌, ◌+◌, ◌<◌, ◌≤◌, drop, length, IfSome, true};
 ghost use Rattle.jl_token.specs.Characters.{is_hex_digit, hex_digit_value, is_identifier_start};
 ghost use Rattle.jl_token.specs.Scanner.{letter, name_escape, name_done, name_from};
-ghost use Rattle.jl_lex.specs.Parts.{hex_first, four_at, allowed, LetterFrom};
+ghost use Rattle.jl_lex.specs.Parts.{hex_first, two_at, four_at, allowed, LetterFrom};
 ghost use Rattle.jl_lex.specs.Answers.{IsFound, IsNamed};
 
 use crate::characters::{BACKSLASH, is_at, is_hex_digit, is_identifier_part, is_identifier_start, unit_at};
@@ -42,6 +42,18 @@ pub fn hex_at(units: &[u16], at: usize) -> Option<u16>
 {
     let unit = unit_at(units, at)?;
     if is_hex_digit(unit) { Some(hex_digit_value(unit)) } else { None }
+}
+
+/// The number that the two hexadecimal digits at a place write, if they are there.
+#[tactic(auto, unfolding(crate::specs::Parts::two_at, crate::specs::Parts::two_of))]
+pub fn two_at(units: &[u16], at: usize) -> Option<u16>
+    requires { at ≤ length units.now }
+    ensures value { result ≡ two_at units.now at }
+    ensures within { IfSome result (λ v. at + 2 ≤ length units.now) }
+{
+    let a = hex_at(units, at)?;
+    let b = hex_at(units, at + 1)?;
+    Some(a * 16 + b)
 }
 
 /// The number that the four hexadecimal digits at a place write, if they are there.
