@@ -1,16 +1,17 @@
 -- What digits that were read stand for.
-use Rattle.std.proofs.Common.{◌≡◌, refl, sym, ap, ◌∙◌, subst, ℕ, zero, suc, ◌+◌, ◌-◌, ◌*◌, ◌/◌, ◌%◌, ◌^◌, ◌<◌, ◌≤◌, ◌⊎◌, inl, inr, Bool, true, false, ◌==◌, nat_le, List, [], ◌∷◌, Option, Some, None, if◌then◌else◌, arith, add-zero}
+use Rattle.std.proofs.Common.{◌≡◌, refl, sym, ap, ◌∙◌, subst, ℕ, zero, suc, ◌+◌, ◌-◌, ◌*◌, ◌/◌, ◌%◌, ◌^◌, ◌<◌, ◌≤◌, ◌⊎◌, inl, inr, Bool, true, false, ◌==◌, nat_le, List, [], ◌∷◌, ◌++◌, length, drop, Option, Some, None, if◌then◌else◌, arith, add-zero}
 use Rattle.std.proofs.Math.Nat.{pow-suc}
 use Rattle.std.proofs.lemmas.Nat.{pow-add}
 use Rattle.std.proofs.lemmas.Bool.{leb-true, le-leb, eqb-true}
 use Rattle.std.proofs.lemmas.Bool.Decides.{nat_tests, leb_tells}
-use Rattle.jl_token.specs.Characters.{is_digit, decimal_from}
+use Rattle.jl_token.specs.Characters.{is_digit, is_hex_digit, hex_digit_value, decimal_from, hex_from, first_is}
 use Rattle.jl_token.specs.Elements.{HasValue}
-use Rattle.jl_token.specs.Scanner.{value_of}
+use Rattle.jl_token.specs.Scanner.{many, one_unit, some_digits, raised, exponent, exponent_sign, exponent_by, with_exponent, after_fraction, after_whole, hex_literal, value_of}
+use Rattle.jl_lex.proofs.Loops.{unit_more, unit_stop, unit_end}
 use Rattle.jl_token.proofs.Tests.{true_or_false, other_unit, is_unit}
 use Rattle.jl_token.proofs.Units.{digit_bounds}
 use Rattle.jl_token.proofs.Values.{value_sound, value_complete}
-use Rattle.jl_lex.specs.Amounts.{scaled, add_digit, add_digits, if_number, value_from}
+use Rattle.jl_lex.specs.Amounts.{scaled, add_digit, add_digits, if_number, value_from, capped_from, hex_capped_from, Exponents, the_same, is_high, is_low, Large, Stands, exact, beyond}
 use Rattle.jl_lex.proofs.Powers.{ten_pos, ten_more, cancel, times_ten, last_digit, assoc, at_least, sixteen, far}
 
 past : (n : ℕ) → nat_le n 9007199254740991 ≡ false → 9007199254740991 < n
@@ -37,18 +38,6 @@ scaled_is : (k c : ℕ) → Scaled (scaled c k) (c * 10 ^ k)
 unfolding scaled
 scaled_is zero c = is (omega arith)
 scaled_is (suc k) c = scaled_step k c (scaled_is k (c * 10)) (nat_le c 9007199254740991) refl
-
--- a number that is past those of a script, however its zeros at the end are taken away
-pub record Large (m : ℕ) : Type 0 where
-  pub digits : ℕ
-  pub zeros : ℕ
-  pub is : m ≡ digits * 10 ^ zeros
-  pub last : digits % 10 ≡ 0 → ⊥
-  pub past : 9007199254740991 < digits
-
-pub data Stands (c z m : ℕ) : Type 0 where
-  exact : c ≤ 9007199254740991 → m ≡ c * 10 ^ z → (c % 10 ≡ 0 → c ≡ 0) → Stands c z m
-  beyond : 9007199254740991 < c → Large m → Stands c z m
 
 large_itself : (m d : ℕ) → 0 < d → d < 10 → 9007199254740991 < m * 10 + d → Large (m * 10 + d)
 large_itself m d h g p = record { digits = m * 10 + d; zeros = 0; is = omega arith; last = λ e. let l = last_digit m d g in omega arith; past = p }
@@ -136,12 +125,6 @@ no_value_by m r l (Some n) e f = absurd (f n (value_sound m r l n e))
 from_none : (m r l : ℕ) (o : Option ℕ) → o ≡ None → ((n : ℕ) → HasValue m r l n → ⊥) → o ≡ value_of m r l
 from_none m r l o e f = e ∙ no_value_by m r l (value_of m r l) refl f
 
--- the exponents that were read stand for those of the literal, or are large and on the same side
-pub data Exponents (r' l' r l : ℕ) : Type 0 where
-  the_same : r' ≡ r → l' ≡ l → Exponents r' l' r l
-  high : 1099511627776 ≤ r' → r' ≤ r → l' ≡ 0 → l ≡ 0 → Exponents r' l' r l
-  low : 1099511627776 ≤ l' → l' ≤ l → r' ≡ 0 → r ≡ 0 → Exponents r' l' r l
-
 zero_value : (m r l : ℕ) → m ≡ 0 → HasValue m r l 0
 zero_value m r l e = record { exact = (let a : 0 * 10 ^ l ≡ 0 = omega arith in a) ∙ sym (ap (λ n. n * 10 ^ r) e ∙ (omega arith)); inside = omega arith }
 
@@ -204,11 +187,86 @@ value_stands c z m r' l' r l f (exact h e p) x a b = by (true_or_false (c == 0))
     where
     no : (c : ℕ) → (c == 0) ≡ false → c ≡ 0 → ⊥
     no c y q = grind (arith, nat_tests)
-  by (inr y) (high q s t w) = rw (t, w) (value_high c z m r' r f h e p (no c y) q s b)
+  by (inr y) (is_high q s t w) = rw (t, w) (value_high c z m r' r f h e p (no c y) q s b)
     where
     no : (c : ℕ) → (c == 0) ≡ false → c ≡ 0 → ⊥
     no c y q = grind (arith, nat_tests)
-  by (inr y) (low q s t w) = rw (t, w) (value_low c z m l' l f h e p (no c y) q s a)
+  by (inr y) (is_low q s t w) = rw (t, w) (value_low c z m l' l f h e p (no c y) q s a)
     where
     no : (c : ℕ) → (c == 0) ≡ false → c ≡ 0 → ⊥
     no c y q = grind (arith, nat_tests)
+
+-- the steps of the loops
+pub scaled_more : (value left : ℕ) → 0 < left → value ≤ 9007199254740991 → scaled value left ≡ scaled (value * 10) (left - 1)
+unfolding scaled
+scaled_more value zero h g = absurd (omega arith)
+scaled_more value (suc left) h g = rw (le-leb value 9007199254740991 g) (let e : suc left - 1 ≡ left = omega arith in rw e refl)
+
+pub scaled_stop : (value left : ℕ) → 9007199254740991 < value → scaled value left ≡ value
+unfolding scaled
+scaled_stop value zero h = refl
+scaled_stop value (suc left) h = rw (over value h) refl
+
+pub scaled_end : (value left : ℕ) → left ≤ 0 → scaled value left ≡ value
+unfolding scaled
+scaled_end value zero h = refl
+scaled_end value (suc left) h = absurd (omega arith)
+
+-- digits so far, and how they go on
+pub record DigitsSoFar (c z : ℕ) (us : List ℕ) (first : ℕ × ℕ) (all : List ℕ) : Type 0 where
+  pub amount : add_digits (c, z) (many (one_unit is_digit) us).0 ≡ add_digits first (many (one_unit is_digit) all).0
+  pub rest : (many (one_unit is_digit) us).1 ≡ (many (one_unit is_digit) all).1
+
+pub digits_begin : (c z : ℕ) (us : List ℕ) → DigitsSoFar c z us (c, z) us
+digits_begin c z us = record { amount = refl; rest = refl }
+
+pub digits_more : (c z e y : ℕ) (us mid : List ℕ) (u : ℕ) (first : ℕ × ℕ) (all : List ℕ) → us ≡ u ∷ mid → is_digit u ≡ true → ◌≡◌ {A = ℕ × ℕ} (e, y) (add_digit u (c, z)) → DigitsSoFar c z us first all → DigitsSoFar e y mid first all
+unfolding add_digits
+digits_more c z e y us mid u first all q h a n =
+    let m = unit_more is_digit us mid u q h in
+    record { amount = ap (λ (x : ℕ × ℕ). add_digits x (many (one_unit is_digit) mid).0) a ∙ (sym (ap (λ (x : List ℕ × List ℕ). add_digits (c, z) x.0) m) ∙ n.amount); rest = sym (ap (λ (x : List ℕ × List ℕ). x.1) m) ∙ n.rest }
+
+digits_done : (c z : ℕ) (us : List ℕ) (first : ℕ × ℕ) (all : List ℕ) → many (one_unit is_digit) us ≡ ([], us) → DigitsSoFar c z us first all → ((c, z) ≡ add_digits first (many (one_unit is_digit) all).0) × (us ≡ (many (one_unit is_digit) all).1)
+unfolding add_digits
+digits_done c z us first all m n = (sym (ap (λ (x : List ℕ × List ℕ). add_digits (c, z) x.0) m) ∙ n.amount, sym (ap (λ (x : List ℕ × List ℕ). x.1) m) ∙ n.rest)
+
+pub digits_stop : (c z : ℕ) (us mid : List ℕ) (u : ℕ) (first : ℕ × ℕ) (all : List ℕ) → us ≡ u ∷ mid → is_digit u ≡ false → DigitsSoFar c z us first all → ((c, z) ≡ add_digits first (many (one_unit is_digit) all).0) × (us ≡ (many (one_unit is_digit) all).1)
+digits_stop c z us mid u first all q h n = digits_done c z us first all (unit_stop is_digit us mid u q h) n
+
+pub digits_end : (c z : ℕ) (us : List ℕ) (first : ℕ × ℕ) (all : List ℕ) → us ≡ [] → DigitsSoFar c z us first all → ((c, z) ≡ add_digits first (many (one_unit is_digit) all).0) × (us ≡ (many (one_unit is_digit) all).1)
+digits_end c z us first all q n = digits_done c z us first all (unit_end is_digit us q) n
+
+-- an exponent's digits so far
+pub record CappedSoFar (n : ℕ) (us all : List ℕ) : Type 0 where
+  pub number : capped_from n (many (one_unit is_digit) us).0 ≡ capped_from 0 (many (one_unit is_digit) all).0
+  pub rest : (many (one_unit is_digit) us).1 ≡ (many (one_unit is_digit) all).1
+
+pub capped_begin : (us : List ℕ) → CappedSoFar 0 us us
+capped_begin us = record { number = refl; rest = refl }
+
+pub capped_more : (n k : ℕ) (us mid : List ℕ) (u : ℕ) (all : List ℕ) → us ≡ u ∷ mid → is_digit u ≡ true → k ≡ (if nat_le 1099511627776 n then n else n * 10 + (u - 48)) → CappedSoFar n us all → CappedSoFar k mid all
+unfolding capped_from
+capped_more n k us mid u all q h a s =
+    let m = unit_more is_digit us mid u q h in
+    record { number = ap (λ x. capped_from x (many (one_unit is_digit) mid).0) a ∙ (sym (ap (λ (x : List ℕ × List ℕ). capped_from n x.0) m) ∙ s.number); rest = sym (ap (λ (x : List ℕ × List ℕ). x.1) m) ∙ s.rest }
+
+-- the digits are all there
+pub record CappedDone (n : ℕ) (us all : List ℕ) : Type 0 where
+  pub digits : some_digits is_digit all ≡ Some ((many (one_unit is_digit) all).0, us)
+  pub number : n ≡ capped_from 0 (many (one_unit is_digit) all).0
+
+capped_done : (n : ℕ) (us all : List ℕ) → first_is is_digit all ≡ true → many (one_unit is_digit) us ≡ ([], us) → CappedSoFar n us all → CappedDone n us all
+unfolding capped_from some_digits
+capped_done n us all f m s =
+    let r = sym (ap (λ (x : List ℕ × List ℕ). x.1) m) ∙ s.rest in
+    record { digits = rw f (ap (λ (x : List ℕ). Some ((many (one_unit is_digit) all).0, x)) (sym r)); number = sym (ap (λ (x : List ℕ × List ℕ). capped_from n x.0) m) ∙ s.number }
+
+pub capped_stop : (n : ℕ) (us mid all : List ℕ) (u : ℕ) → first_is is_digit all ≡ true → us ≡ u ∷ mid → is_digit u ≡ false → CappedSoFar n us all → CappedDone n us all
+capped_stop n us mid all u f q h s = capped_done n us all f (unit_stop is_digit us mid u q h) s
+
+pub capped_end : (n : ℕ) (us all : List ℕ) → first_is is_digit all ≡ true → us ≡ [] → CappedSoFar n us all → CappedDone n us all
+capped_end n us all f q s = capped_done n us all f (unit_end is_digit us q) s
+
+pub no_digits : (p : ℕ → Bool) (us : List ℕ) → first_is p us ≡ false → some_digits p us ≡ None
+unfolding some_digits
+no_digits p us h = rw h refl

@@ -2,3 +2,4 @@ pub mod Loops
 pub mod StringLoops
 pub mod Powers
 pub mod AmountLemmas
+pub mod NumberLoops

@@ -5,5 +5,6 @@ mod characters;
 mod comments;
 mod element;
 mod names;
+mod numbers;
 mod punctuators;
 mod strings;
