@@ -17,7 +17,7 @@ use Rattle.jl_lex.proofs.Powers.{ten_pos, ten_more, cancel, times_ten, last_digi
 past : (n : ℕ) → nat_le n 9007199254740991 ≡ false → 9007199254740991 < n
 past n h = grind (arith, nat_tests)
 
-over : (n : ℕ) → 9007199254740991 < n → nat_le n 9007199254740991 ≡ false
+pub over : (n : ℕ) → 9007199254740991 < n → nat_le n 9007199254740991 ≡ false
 over n h = grind (arith, nat_tests)
 
 not_zero : (n : ℕ) → 0 < n → (n == 0) ≡ false
@@ -115,14 +115,14 @@ whole_value a y r l n h e = by (leb_tells l (y + r)) where
       absurd (h (ap (λ k. k % 10) (sym w) ∙ times_ten (n * 10 ^ j)))
 
 -- from what is known of values
-from_value : (m r l n : ℕ) (o : Option ℕ) → o ≡ Some n → HasValue m r l n → o ≡ value_of m r l
+pub from_value : (m r l n : ℕ) (o : Option ℕ) → o ≡ Some n → HasValue m r l n → o ≡ value_of m r l
 from_value m r l n o e v = e ∙ sym (value_complete m r l n v)
 
 no_value_by : (m r l : ℕ) (o : Option ℕ) → value_of m r l ≡ o → ((n : ℕ) → HasValue m r l n → ⊥) → None ≡ o
 no_value_by m r l None e f = refl
 no_value_by m r l (Some n) e f = absurd (f n (value_sound m r l n e))
 
-from_none : (m r l : ℕ) (o : Option ℕ) → o ≡ None → ((n : ℕ) → HasValue m r l n → ⊥) → o ≡ value_of m r l
+pub from_none : (m r l : ℕ) (o : Option ℕ) → o ≡ None → ((n : ℕ) → HasValue m r l n → ⊥) → o ≡ value_of m r l
 from_none m r l o e f = e ∙ no_value_by m r l (value_of m r l) refl f
 
 zero_value : (m r l : ℕ) → m ≡ 0 → HasValue m r l 0

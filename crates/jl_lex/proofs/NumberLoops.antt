@@ -1,17 +1,23 @@
 -- The steps of a literal's functions, over plain lists.
-use Rattle.std.proofs.Common.{◌≡◌, refl, sym, ap, ◌∙◌, subst, ℕ, zero, suc, ◌+◌, ◌-◌, ◌*◌, ◌/◌, ◌%◌, ◌^◌, ◌<◌, ◌≤◌, ◌⊎◌, inl, inr, Bool, true, false, ◌||◌, ◌==◌, nat_le, List, [], ◌∷◌, ◌++◌, drop, length, Option, Some, None, if◌then◌else◌, arith, add-zero, length-drop}
+use Rattle.std.proofs.Common.{◌≡◌, refl, sym, ap, ◌∙◌, subst, ℕ, zero, suc, ◌+◌, ◌-◌, ◌*◌, ◌/◌, ◌%◌, ◌^◌, ◌<◌, ◌≤◌, ◌⊎◌, inl, inr, Bool, true, false, ◌&&◌, ◌||◌, ◌==◌, nat_le, List, [], ◌∷◌, ◌++◌, drop, length, Option, Some, None, if◌then◌else◌, arith, add-zero, length-drop, ℤ, pos}
 use Rattle.std.proofs.lemmas.List.{drop-drop}
 use Rattle.std.proofs.lemmas.Bool.{leb-true, le-leb}
 use Rattle.std.proofs.lemmas.Bool.Decides.{nat_tests, leb_tells}
-use Rattle.jl_token.specs.Characters.{is_digit, is_hex_digit, hex_digit_value, decimal_from, hex_from, first_is}
+use Rattle.jl_token.specs.Characters.{is_digit, is_hex_digit, hex_digit_value, decimal_from, hex_from, is_identifier_start, first_is}
 use Rattle.jl_token.specs.Elements.{Many, no_more, one_more, OneUnit, unit, HasValue}
-use Rattle.jl_token.specs.Scanner.{many, one_unit, some_digits, raised, exponent, exponent_sign, exponent_by, with_exponent, after_fraction, after_whole, after_zero, hex_literal, from_whole, numeral, value_of}
+use Rattle.jl_token.specs.Scanner.{many, one_unit, some_digits, raised, exponent, exponent_sign, exponent_by, with_exponent, after_fraction, after_whole, after_zero, hex_literal, from_whole, numeral, value_of, number_end, number_of, is_some_of, letter, Outcome, found, bad}
+use Rattle.jl_token.specs.Elements.{Word}
+use Rattle.jl_token.specs.declared.token.BadKind.TheVariants as faults
+use Rattle.jl_token.specs.declared.token.TokenKind.TheVariants as kinds
+use Rattle.jl_token.proofs.Values.{value_sound}
 use Rattle.jl_token.proofs.Numbers.{units_row}
-use Rattle.jl_token.proofs.Tests.{other_unit, is_unit, or_cases}
-use Rattle.jl_lex.specs.Amounts.{add_digit, add_digits, value_from, if_number, capped_from, hex_capped_from, Exponents, the_same, is_high, is_low, Stands, NumeralFrom, ExponentFrom}
+use Rattle.jl_token.proofs.Tests.{other_unit, is_unit, or_cases, and_true}
+use Rattle.jl_lex.specs.Amounts.{scaled, add_digit, add_digits, value_from, if_number, capped_from, hex_capped_from, Exponents, the_same, is_high, is_low, Stands, NumeralFrom, ExponentFrom}
 use Rattle.jl_lex.specs.declared.numbers.Numeral.{Numeral}
 use Rattle.jl_lex.specs.declared.numbers.Exponent.{Exponent}
-use Rattle.jl_lex.proofs.AmountLemmas.{add_digit_stands, value_stands}
+use Rattle.jl_lex.proofs.AmountLemmas.{add_digit_stands, value_stands, none_stands, from_value, from_none, over, no_digits}
+use Rattle.jl_lex.proofs.Loops.{unit_more, unit_stop, unit_end}
+use Rattle.jl_lex.specs.Parts.{hex_first}
 
 -- exponents
 letter_at : ℕ → Bool
@@ -139,3 +145,160 @@ pub whole_plain : (ds us : List ℕ) → false ≡ first_is (λ v. v == 46) us �
 unfolding after_whole
 whole_plain ds [] h = refl
 whole_plain ds (u ∷ us) h = rw (sym h) refl
+
+-- hexadecimal digits so far
+pub record HexSoFar (n : ℕ) (us all : List ℕ) : Type 0 where
+  pub number : hex_capped_from n (many (one_unit is_hex_digit) us).0 ≡ hex_capped_from 0 (many (one_unit is_hex_digit) all).0
+  pub rest : (many (one_unit is_hex_digit) us).1 ≡ (many (one_unit is_hex_digit) all).1
+
+pub hex_begins : (us : List ℕ) → HexSoFar 0 us us
+hex_begins us = record { number = refl; rest = refl }
+
+record HexDigit (us : List ℕ) (v : ℕ) : Type 0 where
+  unit : ℕ
+  is : us ≡ unit ∷ drop 1 us
+  test : is_hex_digit unit ≡ true
+  value : hex_digit_value unit ≡ v
+
+hex_digit : (us : List ℕ) (v : ℕ) → hex_first us ≡ Some v → HexDigit us v
+unfolding hex_first
+hex_digit [] v e = absurd cc
+hex_digit (u ∷ us) v e = by (is_hex_digit u) refl e where
+  by : (b : Bool) → is_hex_digit u ≡ b → (if b then Some (hex_digit_value u) else None) ≡ Some v → HexDigit (u ∷ us) v
+  by true h e = record { unit = u; is = refl; test = h; value = cc }
+  by false h e = absurd cc
+
+pub hex_more : (n k v : ℕ) (units : List ℕ) (i : ℕ) (all : List ℕ) → hex_first (drop i units) ≡ Some v → k ≡ (if nat_le n 9007199254740991 then n * 16 + v else n) → HexSoFar n (drop i units) all → HexSoFar k (drop (i + 1) units) all
+unfolding hex_capped_from
+hex_more n k v units i all e a s =
+    let d = hex_digit (drop i units) v e in
+    let f : drop i units ≡ d.unit ∷ drop (i + 1) units = d.is ∙ ap (λ (x : List ℕ). d.unit ∷ x) (drop-drop 1 i units) in
+    let m = unit_more is_hex_digit (drop i units) (drop (i + 1) units) d.unit f d.test in
+    record { number = ap (λ x. hex_capped_from x (many (one_unit is_hex_digit) (drop (i + 1) units)).0) (a ∙ ap (λ w. if nat_le n 9007199254740991 then n * 16 + w else n) (sym d.value)) ∙ (sym (ap (λ (x : List ℕ × List ℕ). hex_capped_from n x.0) m) ∙ s.number); rest = sym (ap (λ (x : List ℕ × List ℕ). x.1) m) ∙ s.rest }
+
+no_hex : (us : List ℕ) → hex_first us ≡ None → first_is is_hex_digit us ≡ false
+unfolding hex_first
+no_hex [] e = refl
+no_hex (u ∷ us) e = by (is_hex_digit u) refl e where
+  by : (b : Bool) → is_hex_digit u ≡ b → (if b then Some (hex_digit_value u) else None) ≡ None → is_hex_digit u ≡ false
+  by true h e = absurd cc
+  by false h e = h
+
+pub hex_absent : (us : List ℕ) → hex_first us ≡ None → some_digits is_hex_digit us ≡ None
+hex_absent us e = no_digits is_hex_digit us (no_hex us e)
+
+hex_stop : (us : List ℕ) → hex_first us ≡ None → many (one_unit is_hex_digit) us ≡ ([], us)
+hex_stop [] e = unit_end is_hex_digit [] refl
+hex_stop (u ∷ us) e = unit_stop is_hex_digit (u ∷ us) us u refl (no_hex (u ∷ us) e)
+
+data HexCapped (n m : ℕ) : Type 0 where
+  hex_whole : n ≡ m → HexCapped n m
+  hex_large : 9007199254740991 < n → n ≤ m → HexCapped n m
+
+hex_capped_is : (us : List ℕ) (n m : ℕ) → HexCapped n m → HexCapped (hex_capped_from n us) (hex_from m us)
+unfolding hex_capped_from
+hex_capped_is [] n m c = c
+hex_capped_is (u ∷ us) n m c = hex_capped_is us (if nat_le n 9007199254740991 then n * 16 + hex_digit_value u else n) (m * 16 + hex_digit_value u) (by c (leb_tells n 9007199254740991)) where
+  by : HexCapped n m → ((nat_le n 9007199254740991 ≡ true) × (n ≤ 9007199254740991)) ⊎ ((nat_le n 9007199254740991 ≡ false) × (9007199254740991 < n)) → HexCapped (if nat_le n 9007199254740991 then n * 16 + hex_digit_value u else n) (m * 16 + hex_digit_value u)
+  by (hex_whole e) (inl h) = rw (h.0) (hex_whole (ap (λ k. k * 16 + hex_digit_value u) e))
+  by (hex_whole e) (inr h) = rw (h.0) (hex_large h.1 (omega arith))
+  by (hex_large a b) (inl h) = absurd (omega (arith, h.1))
+  by (hex_large a b) (inr h) = rw (h.0) (hex_large h.1 (omega arith))
+
+plain_value : (n : ℕ) → if_number n ≡ value_of n 0 0
+unfolding if_number
+plain_value n = by (leb_tells n 9007199254740991) where
+  by : ((nat_le n 9007199254740991 ≡ true) × (n ≤ 9007199254740991)) ⊎ ((nat_le n 9007199254740991 ≡ false) × (9007199254740991 < n)) → (if nat_le n 9007199254740991 then Some n else None) ≡ value_of n 0 0
+  by (inl h) = rw (h.0) (from_value n 0 0 n (Some n) refl (record { exact = refl; inside = h.1 }))
+  by (inr h) = rw (h.0) (from_none n 0 0 None refl (λ k v. let e = v.exact in let i = v.inside in let a : k ≡ n = omega arith in absurd (omega (arith, h.1))))
+
+hex_value : (ds : List ℕ) → if_number (hex_capped_from 0 ds) ≡ value_of (hex_from 0 ds) 0 0
+unfolding if_number
+hex_value ds = by (hex_capped_is ds 0 0 (hex_whole refl)) where
+  by : HexCapped (hex_capped_from 0 ds) (hex_from 0 ds) → if_number (hex_capped_from 0 ds) ≡ value_of (hex_from 0 ds) 0 0
+  by (hex_whole e) = ap if_number e ∙ plain_value (hex_from 0 ds)
+  by (hex_large a b) = rw (over (hex_capped_from 0 ds) a) (rw (← plain_value (hex_from 0 ds)) (rw (over (hex_from 0 ds) (omega arith)) refl))
+
+pub hex_ends : (units : List ℕ) (at end n v : ℕ) (w : Option ℕ) (us : List ℕ) → hex_first (drop at units) ≡ Some v → hex_first (drop end units) ≡ None → w ≡ if_number n → at ≤ end → end ≤ length units → HexSoFar n (drop end units) (drop at units) → NumeralFrom units at (record { value = w; end = end }) (hex_literal us (some_digits is_hex_digit (drop at units)))
+unfolding some_digits hex_literal hex_capped_from
+hex_ends units at end n v w us e f q a b s =
+    let d = hex_digit (drop at units) v e in
+    let m = hex_stop (drop end units) f in
+    let g : first_is is_hex_digit (drop at units) ≡ true = ap (first_is is_hex_digit) d.is ∙ d.test in
+    let r = sym (ap (λ (x : List ℕ × List ℕ). x.1) m) ∙ s.rest in
+    let k : n ≡ hex_capped_from 0 (many (one_unit is_hex_digit) (drop at units)).0 = sym (ap (λ (x : List ℕ × List ℕ). hex_capped_from n x.0) m) ∙ s.number in
+    rw g (q ∙ (ap if_number k ∙ hex_value (many (one_unit is_hex_digit) (drop at units)).0), r, a, b)
+
+-- what a literal begins with
+pub zero_plain : (us : List ℕ) → false ≡ first_is (λ x. x == 120 || x == 88) us → after_zero us ≡ after_whole (48 ∷ []) us
+unfolding after_zero
+zero_plain [] h = refl
+zero_plain (x ∷ us) h = rw (sym h) refl
+
+hex_list : (us : List ℕ) → true ≡ first_is (λ x. x == 120 || x == 88) us → after_zero us ≡ hex_literal us (some_digits is_hex_digit (drop 1 us))
+unfolding after_zero
+hex_list [] h = absurd cc
+hex_list (x ∷ us) h = rw (sym h) refl
+
+pub zero_hex : (units : List ℕ) (i : ℕ) → true ≡ first_is (λ x. x == 120 || x == 88) (drop i units) → after_zero (drop i units) ≡ hex_literal (drop i units) (some_digits is_hex_digit (drop (i + 1) units))
+zero_hex units i h = hex_list (drop i units) h ∙ ap (λ (x : List ℕ). hex_literal (drop i units) (some_digits is_hex_digit x)) (drop-drop 1 i units)
+
+pub zero_no_hex : (units : List ℕ) (i : ℕ) → true ≡ first_is (λ x. x == 120 || x == 88) (drop i units) → some_digits is_hex_digit (drop (i + 1) units) ≡ None → after_zero (drop i units) ≡ after_whole (48 ∷ []) (drop i units)
+unfolding hex_literal
+zero_no_hex units i h e = zero_hex units i h ∙ ap (hex_literal (drop i units)) e
+
+pub begin_zero : (u : ℕ) (us : List ℕ) → u ≡ 48 → numeral u us ≡ after_zero us
+unfolding numeral
+begin_zero u us e = rw e refl
+
+pub begin_point : (u : ℕ) (us : List ℕ) → u ≡ 46 → numeral u us ≡ after_fraction [] (many (one_unit is_digit) us)
+unfolding numeral
+begin_point u us e = rw e refl
+
+pub begin_digit : (u : ℕ) (us : List ℕ) → (u ≡ 48 → ⊥) → (u ≡ 46 → ⊥) → is_digit u ≡ true → numeral u us ≡ after_whole (u ∷ (many (one_unit is_digit) us).0) (many (one_unit is_digit) us).1
+unfolding numeral from_whole
+begin_digit u us a b d = rw (other_unit u 48 a, other_unit u 46 b, unit_more is_digit (u ∷ us) us u refl d) refl
+
+pub digit_first : (u : ℕ) (us : List ℕ) → (is_digit u || (u == 46 && first_is is_digit us)) ≡ true → (u ≡ 46 → ⊥) → is_digit u ≡ true
+digit_first u us h n = by (or_cases (is_digit u) (u == 46 && first_is is_digit us) h) where
+  by : (is_digit u ≡ true) ⊎ ((u == 46 && first_is is_digit us) ≡ true) → is_digit u ≡ true
+  by (inl d) = d
+  by (inr a) = absurd (n (is_unit u 46 (and_true (u == 46) (first_is is_digit us) a).0))
+
+pub first_stands : (u c z e y : ℕ) (us : List ℕ) → is_digit u ≡ true → ◌≡◌ {A = ℕ × ℕ} (c, z) (add_digit u (0, 0)) → ◌≡◌ {A = ℕ × ℕ} (e, y) (add_digits (c, z) (many (one_unit is_digit) us).0) → Stands e y (decimal_from 0 (u ∷ (many (one_unit is_digit) us).0))
+first_stands u c z e y us h a b =
+    let s = add_digit_stands u 0 0 0 h none_stands in
+    let t = subst (λ (x : ℕ × ℕ). Stands x.0 x.1 (0 * 10 + (u - 48))) (sym a) s in
+    let d = digits_stand (units_row is_digit us) c z (0 * 10 + (u - 48)) t in
+    subst (λ (x : ℕ × ℕ). Stands x.0 x.1 (decimal_from (0 * 10 + (u - 48)) (many (one_unit is_digit) us).0)) (sym b) d
+
+pub first_zeros : (u c z : ℕ) → (u ≡ 48 → ⊥) → ◌≡◌ {A = ℕ × ℕ} (c, z) (add_digit u (0, 0)) → z ≡ 0
+unfolding add_digit
+first_zeros u c z n e = (let h = other_unit u 48 n in let q : ◌≡◌ {A = ℕ × ℕ} (c, z) (if u == 48 then (0, 0) else (scaled 0 (0 + 1) + (u - 48), 0)) = e in ap (λ (x : ℕ × ℕ). x.1) q ∙ (rw h refl))
+
+-- what a literal comes to
+pub number_digit : (units : List ℕ) (low : ℕ) (n : Numeral) (x : ℕ × ℕ × ℕ × List ℕ) → NumeralFrom units low n x → true ≡ first_is is_digit (drop n.end units) → number_end x ≡ bad faults.BadNumber
+unfolding number_end
+number_digit units low n (m, r, l, rest) f h = rw (subst (λ (w : List ℕ). first_is is_digit w ≡ true) f.1 (sym h)) refl
+
+pub number_letter : (units : List ℕ) (low : ℕ) (n : Numeral) (x : ℕ × ℕ × ℕ × List ℕ) (y : (ℕ × Bool) × List ℕ) → NumeralFrom units low n x → letter is_identifier_start (drop n.end units) ≡ Some y → number_end x ≡ bad faults.BadNumber
+unfolding number_end is_some_of
+number_letter units low n (m, r, l, rest) y f h = rw (subst (λ (w : List ℕ). letter is_identifier_start w ≡ Some y) f.1 h, either (first_is is_digit rest)) refl where
+  either : (b : Bool) → (b || true) ≡ true
+  either true = refl
+  either false = refl
+
+number_goes_on : (units : List ℕ) (low : ℕ) (n : Numeral) (m r l : ℕ) (rest : List ℕ) → NumeralFrom units low n (m, r, l, rest) → false ≡ first_is is_digit (drop n.end units) → letter is_identifier_start (drop n.end units) ≡ None → number_end (m, r, l, rest) ≡ number_of rest (value_of m r l)
+unfolding number_end is_some_of
+number_goes_on units low n m r l rest f h g = rw (subst (λ (w : List ℕ). first_is is_digit w ≡ false) f.1 (sym h), subst (λ (w : List ℕ). letter is_identifier_start w ≡ None) f.1 g) refl
+
+pub number_none : (units : List ℕ) (low : ℕ) (n : Numeral) (x : ℕ × ℕ × ℕ × List ℕ) → NumeralFrom units low n x → false ≡ first_is is_digit (drop n.end units) → letter is_identifier_start (drop n.end units) ≡ None → n.value ≡ None → number_end x ≡ bad faults.BadNumber
+unfolding number_of
+number_none units low n (m, r, l, rest) f h g e = number_goes_on units low n m r l rest f h g ∙ ap (number_of rest) (sym f.0 ∙ e)
+
+pub number_some : (units : List ℕ) (low : ℕ) (n : Numeral) (x : ℕ × ℕ × ℕ × List ℕ) (v : ℕ) (made : Option ℤ) → NumeralFrom units low n x → false ≡ first_is is_digit (drop n.end units) → letter is_identifier_start (drop n.end units) ≡ None → n.value ≡ Some v → made ≡ Some (pos v) → number_end x ≡ found (Word (kinds.Number made)) (drop n.end units)
+unfolding number_of
+number_some units low n (m, r, l, rest) v made f h g e q = number_goes_on units low n m r l rest f h g ∙ (ap (number_of rest) (sym f.0 ∙ e) ∙ (ap (λ (w : Option ℤ). found (Word (kinds.Number w)) rest) (sym q) ∙ ap (λ (w : List ℕ). found (Word (kinds.Number made)) w) (sym f.1)))
+
+pub number_small : (units : List ℕ) (low : ℕ) (n : Numeral) (x : ℕ × ℕ × ℕ × List ℕ) (v : ℕ) → NumeralFrom units low n x → n.value ≡ Some v → v ≤ 9007199254740991
+number_small units low n (m, r, l, rest) v f e = (value_sound m r l v (sym f.0 ∙ e)).inside

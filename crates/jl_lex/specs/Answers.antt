@@ -25,3 +25,9 @@ abbrev pub IsNamed : List ℕ → ℕ → Result (Read × ℕ) Stop → Outcome 
 IsNamed units end (Ok x) o = (o ≡ found (element_of x.0) (drop x.1 units)) × (x.1 ≡ end)
 IsNamed units end (Err (stops.Bad k)) o = o ≡ bad k
 IsNamed units end (Err stops.NoMemory) o = Unit {0}
+
+-- the same, where the element began before the place
+abbrev pub IsFrom : List ℕ → ℕ → Result (Read × ℕ) Stop → Outcome → Type 0
+IsFrom units low (Ok x) o = (o ≡ found (element_of x.0) (drop x.1 units)) × (low ≤ x.1) × (x.1 ≤ length units)
+IsFrom units low (Err (stops.Bad k)) o = o ≡ bad k
+IsFrom units low (Err stops.NoMemory) o = Unit {0}

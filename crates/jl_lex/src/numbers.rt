@@ -1,11 +1,10 @@
 //! Numbers (7.8.3). A literal is valued in one pass over its digits, whatever its length and its exponent: its digits are
 //! kept without the zeros at their end, which are counted, and no more of them than a number of a script can have.
-ghost use Rattle.std.specs.Prelude.{◌≡◌, ◌+◌, ◌-◌, ◌*◌, ◌<◌, ◌≤◌, ◌==◌, ◌||◌, ◌^◌, nat_le, if◌then◌else◌, ℕ, List, Some, None, true, drop, length, IfSome, MatchOption};
+ghost use Rattle.std.specs.Prelude.{◌≡◌, ◌+◌, ◌-◌, ◌*◌, ◌<◌, ◌≤◌, ◌==◌, ◌&&◌, ◌||◌, ◌^◌, nat_le, if◌then◌else◌, ℕ, List, Some, None, true, drop, length, IfSome, MatchOption};
 ghost use Rattle.jl_token.specs.Characters.{is_digit, is_hex_digit, decimal_from, first_is};
-ghost use Rattle.jl_token.specs.Scanner.{many, one_unit, some_digits, exponent, exponent_by, with_exponent, after_fraction, after_whole, hex_literal, number_end};
-ghost use Rattle.jl_token.proofs.Numbers.{begins_at, found_numeral};
+ghost use Rattle.jl_token.specs.Scanner.{many, one_unit, some_digits, exponent, exponent_by, with_exponent, after_fraction, after_whole, after_zero, hex_literal, numeral, number_end};
 ghost use Rattle.jl_lex.specs.Amounts.{scaled, add_digit, add_digits, value_from, if_number, capped_from, hex_capped_from, NumeralFrom, ExponentFrom, Stands};
-ghost use Rattle.jl_lex.specs.Answers.{IsFound};
+ghost use Rattle.jl_lex.specs.Answers.{IsFrom};
 
 use crate::characters::{is_at, is_digit, is_digit_at, unit_at};
 use crate::element::{Element, Stop};
@@ -264,5 +263,107 @@ fn after_whole(units: &[u16], at: usize, amount: Amount) -> Numeral
         after_point(units, at + 1, amount)
     } else {
         finished(units, at, amount, 0)
+    }
+}
+
+// One more hexadecimal digit.
+fn hex_capped(number: u64, digit: u16) -> u64
+    requires digit { digit < 16 }
+    requires small { number ≤ 144115188075855871 }
+    ensures value { result ≡ (if nat_le number 9007199254740991 then number * 16 + digit else number) }
+    ensures small { result ≤ 144115188075855871 }
+{
+    if number > LARGEST { number } else { number * 16 + u64::from(digit) }
+}
+
+// The value of a whole number, where it is one of a script.
+#[tactic(auto, unfolding(crate::specs::Amounts::if_number))]
+fn if_number(number: u64) -> Option<u64>
+    ensures { result ≡ if_number number }
+{
+    if number > LARGEST { None } else { Some(number) }
+}
+
+// The hexadecimal literal whose digits stand at a place, if there is one.
+fn hex(units: &[u16], at: usize) -> Option<Numeral>
+    requires { at ≤ length units.now }
+    ensures { MatchOption result (some_digits is_hex_digit (drop at units.now) ≡ None)
+        (λ n. (us : List ℕ) → NumeralFrom units.now at n (hex_literal us (some_digits is_hex_digit (drop at units.now)))) }
+{
+    let Some(_first) = hex_at(units, at) else {
+        return None;
+    };
+    let mut number = 0;
+    let mut end = at;
+    while let Some(digit) = hex_at(units, end) {
+        number = hex_capped(number, digit);
+        end += 1;
+    }
+    Some(Numeral { value: if_number(number), end })
+}
+
+// Whether the `x` of a hexadecimal literal stands at a place.
+fn is_x_at(units: &[u16], at: usize) -> bool
+    ensures { result ≡ first_is (λ x. x == 120 || x == 88) (drop at units.now) }
+{
+    match unit_at(units, at) {
+        Some(unit) => unit == 120 || unit == 88,
+        None => false,
+    }
+}
+
+// The literal that begins with a `0` before a place.
+fn after_zero(units: &[u16], at: usize) -> Numeral
+    requires within { at ≤ length units.now }
+    requires short { length units.now < 2 ^ 32 }
+    ensures { NumeralFrom units.now at result (after_zero (drop at units.now)) }
+{
+    if !is_x_at(units, at) {
+        return after_whole(units, at, Amount { coefficient: 0, zeros: 0 });
+    }
+    let Some(found) = hex(units, at + 1) else {
+        return after_whole(units, at, Amount { coefficient: 0, zeros: 0 });
+    };
+    found
+}
+
+// The literal whose first unit, a digit or a point before a digit, stands before a place.
+fn numeral_after(units: &[u16], at: usize, unit: u16) -> Numeral
+    requires within { at ≤ length units.now }
+    requires short { length units.now < 2 ^ 32 }
+    requires begins { (is_digit unit || (unit == 46 && first_is is_digit (drop at units.now))) ≡ true }
+    ensures { NumeralFrom units.now at result (numeral unit (drop at units.now)) }
+{
+    if unit == 48 {
+        return after_zero(units, at);
+    }
+    if unit == 46 {
+        return after_point(units, at, Amount { coefficient: 0, zeros: 0 });
+    }
+    let first = add_digit(Amount { coefficient: 0, zeros: 0 }, unit);
+    let (amount, end) = digits(units, at, first);
+    after_whole(units, end, amount)
+}
+
+/// The number whose first unit, a digit or a point before a digit, stands before a place.
+pub fn number(units: &[u16], at: usize, unit: u16) -> Result<(Element, usize), Stop>
+    requires within { at ≤ length units.now }
+    requires short { length units.now < 2 ^ 32 }
+    requires begins { (is_digit unit || (unit == 46 && first_is is_digit (drop at units.now))) ≡ true }
+    ensures { IsFrom units.now at result (number_end (numeral unit (drop at units.now))) }
+{
+    let numeral = numeral_after(units, at, unit);
+    if is_digit_at(units, numeral.end) {
+        return Err(Stop::Bad(BadKind::BadNumber));
+    }
+    if let Some(_letter) = letter_at(units, numeral.end, false) {
+        return Err(Stop::Bad(BadKind::BadNumber));
+    }
+    let Some(value) = numeral.value else {
+        return Err(Stop::Bad(BadKind::BadNumber));
+    };
+    match Num::new(value as i64) {
+        Ok(number) => Ok((Element::Word(TokenKind::Number(number)), numeral.end)),
+        Err(_) => Err(Stop::Bad(BadKind::BadNumber)),
     }
 }
