@@ -3,3 +3,4 @@ pub mod StringLoops
 pub mod Powers
 pub mod AmountLemmas
 pub mod NumberLoops
+pub mod LexLoops

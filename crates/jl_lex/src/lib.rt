@@ -4,7 +4,10 @@
 mod characters;
 mod comments;
 mod element;
+mod lexer;
 mod names;
 mod numbers;
 mod punctuators;
 mod strings;
+
+pub use lexer::{LexRefusal, lex};

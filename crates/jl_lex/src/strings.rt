@@ -1,11 +1,11 @@
 //! Strings (7.8.4).
-ghost use Rattle.std.specs.Prelude.{◌≡◌, ◌+◌, ◌≤◌, ◌++◌, ◌==◌, if◌then◌else◌, Some, true, false, drop, length, OnOk};
+ghost use Rattle.std.specs.Prelude.{◌≡◌, ◌+◌, ◌≤◌, ◌++◌, Some, true, false, drop, length, OnOk};
 ghost use Rattle.jl_token.specs.Characters.{single_escape, is_quote};
-ghost use Rattle.jl_token.specs.Scanner.{after_line_feed, other_escape, escape, character, many, string_done, string_end};
+ghost use Rattle.jl_token.specs.Scanner.{other_escape, escape, character, many, string_done, string_end};
 ghost use Rattle.jl_lex.specs.Parts.{CharacterFrom, values};
 ghost use Rattle.jl_lex.specs.Answers.{IsFound};
 
-use crate::characters::{BACKSLASH, is_at, is_digit, is_digit_at, is_line_terminator, unit_at};
+use crate::characters::{BACKSLASH, is_digit, is_digit_at, is_line_terminator, line_terminator_end, unit_at};
 use crate::element::{Element, Stop};
 use crate::names::{four_at, two_at};
 use jl_text::{Text, TextFault};
@@ -44,19 +44,6 @@ fn escaped(unit: u16, end: usize) -> Option<Character>
     ensures { result ≡ Some (record { unit = Some unit; plain = false; end = end }) }
 {
     Some(Character { unit: Some(unit), plain: false, end })
-}
-
-// The place after a line terminator whose first unit stands before a place: a LF after a CR belongs to it.
-fn line_terminator_end(units: &[u16], at: usize, unit: u16) -> usize
-    requires { at ≤ length units.now }
-    ensures rest { drop result units.now ≡ (if unit == 13 then after_line_feed (drop at units.now) else drop at units.now) }
-    ensures later { at ≤ result }
-    ensures within { result ≤ length units.now }
-{
-    if unit != 13 {
-        return at;
-    }
-    if is_at(units, at, 10) { at + 1 } else { at }
 }
 
 // What another escaped unit, which stands before a place, comes to.

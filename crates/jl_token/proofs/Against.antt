@@ -5,7 +5,7 @@ use Rattle.std.specs.List.{list_any}
 use Rattle.jl_token.specs.Characters.{is_white_space, is_line_terminator, is_on_line, is_identifier_start, is_identifier_part, is_digit, is_quote, first_is}
 use Rattle.jl_token.specs.Punctuators.{punctuator_units, all_punctuators}
 use Rattle.jl_token.specs.Elements.{Element, White, LineEnd, Comment, Word, Many, no_more, one_more, OneUnit, Letter, itself, escaped, Name, name, BeforeClose, Numeral, HasValue, Character, StringLiteral, string, name_text, is_escaped, string_text, is_plain, Front, white_space, line_terminator, carriage_return_line_feed, line_comment, block_comment, identifier_name, punctuator, numeric_literal, string_literal}
-use Rattle.jl_token.specs.Scanner.{Outcome, found, bad, with_first, many, one_unit, letter, name_from, name_done, name_end, before_close, block_end, numeral, number_end, number_of, value_of, is_some_of, after_fraction, after_line_feed, string_done, string_end, string_stop, character, first_punctuator, punctuator_found, after_first, scan}
+use Rattle.jl_token.specs.Scanner.{Outcome, found, bad, with_first, many, one_unit, letter, name_from, name_done, name_end, before_close, block_end, numeral, number_end, number_of, value_of, is_some_of, after_fraction, after_line_feed, string_done, string_end, string_stop, character, first_punctuator, punctuator_found, after_first, scan_word, scan}
 use Rattle.jl_token.specs.declared.token.TokenKind.TheVariants as kinds
 use Rattle.jl_token.specs.declared.token.BadKind.{BadKind}
 use Rattle.jl_token.specs.declared.punct.Punct.{Punct}
@@ -34,7 +34,7 @@ line_covers : (u : ℕ) (us : List ℕ) → is_line_terminator u ≡ true → Co
 line_covers u us h = rw (scan_line u us h) (choose (λ x. Covers (found LineEnd x) LineEnd us) (u == 13) (after_line_feed us) us (λ e. line_feed_covers us) (λ e. the_same))
 
 carriage_return : (us : List ℕ) → scan (13 ∷ 10 ∷ us) ≡ found LineEnd us
-unfolding scan units after_line_feed
+unfolding scan scan_word units after_line_feed
 carriage_return us = refl
 
 -- comments
@@ -186,7 +186,7 @@ module _ (u : ℕ) (ws rest : List ℕ) (p : Punct) (e : punctuator_units p ≡ 
           (rw (numeral_point rest) (number_longer (after_fraction [] (many (one_unit is_digit) rest)) (Word (kinds.Punct p)) rest (omega arith))))
 
   punctuator_covers_by : Covers (scan (u ∷ (ws ++ rest))) (Word (kinds.Punct p)) rest
-  unfolding scan
+  unfolding scan scan_word
   punctuator_covers_by = let o = others in rw (o.0, o.1)
     (choose (λ x. Covers x (Word (kinds.Punct p)) rest) (u == 47 && first_is (λ v. v == 47) (ws ++ rest)) _ _
       (λ h. let a = and_true (u == 47) (first_is (λ v. v == 47) (ws ++ rest)) h in

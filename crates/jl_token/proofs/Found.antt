@@ -7,7 +7,7 @@ use Rattle.jl_token.specs.Characters.{is_white_space, is_line_terminator, is_on_
 use Rattle.jl_token.specs.Punctuators.{punctuator_units, all_punctuators}
 use Rattle.jl_token.specs.Elements.{Element, White, LineEnd, Comment, Word, Many, no_more, one_more, OneUnit, Letter, itself, escaped, Name, name, BeforeClose, Numeral, HasValue, Character, StringLiteral, string, name_text, is_escaped, string_text, is_plain, Front, white_space, line_terminator, carriage_return_line_feed, line_comment, block_comment, identifier_name, punctuator, numeric_literal, string_literal}
 use Rattle.jl_token.specs.Faults.{Unclosed, at_end, at_last_backslash, at_line_terminator, LongestNumeral, Fault, unclosed_string, unclosed_comment, string_escape, name_escape, first_escape, digit_follows, name_follows, no_number, long_name, long_string, no_element}
-use Rattle.jl_token.specs.Scanner.{Outcome, found, bad, with_first, many, one_unit, letter, name_from, name_done, name_end, before_close, block_end, numeral, number_end, number_of, value_of, is_some_of, after_line_feed, string_done, string_end, string_stop, character, first_punctuator, punctuator_found, after_first, scan}
+use Rattle.jl_token.specs.Scanner.{Outcome, found, bad, with_first, many, one_unit, letter, name_from, name_done, name_end, before_close, block_end, numeral, number_end, number_of, value_of, is_some_of, after_line_feed, string_done, string_end, string_stop, character, first_punctuator, punctuator_found, after_first, scan_word, scan}
 use Rattle.jl_token.specs.declared.token.BadKind.{BadKind}
 use Rattle.jl_token.specs.declared.token.BadKind.TheVariants as faults
 use Rattle.jl_token.specs.declared.punct.Punct.{Punct}
@@ -206,7 +206,7 @@ punctuator_right u us f (Some (p, rest)) e = right_element (punctuator p (first_
 
 -- what the scanner finds
 pub scan_right : (u : ℕ) (us : List ℕ) → Right (u ∷ us) (scan (u ∷ us))
-unfolding scan
+unfolding scan scan_word
 scan_right u us = choose (Right (u ∷ us)) (is_white_space u) _ _ (λ h. right_element (white_space h))
   (λ w. choose (Right (u ∷ us)) (is_line_terminator u) _ _ (λ h. line_right u us h)
   (λ l. choose (Right (u ∷ us)) (u == 47 && first_is (λ v. v == 47) us) _ _ (λ h. line_comment_right u us h)

@@ -5,7 +5,7 @@ use Rattle.jl_token.specs.Punctuators.{punctuator_units}
 use Rattle.jl_token.specs.Elements.{Element, White, LineEnd, Comment, Word, Many, no_more, one_more, OneUnit, Letter, Name, name, Digits, digits, WholeDigits, zero_digit, nonzero, Exponent, no_exponent, no_sign, plus, minus, Numeral, whole, with_point, from_point, hex, StringLiteral, string, Front, white_space, line_terminator, carriage_return_line_feed, line_comment, block_comment, identifier_name, punctuator, numeric_literal, string_literal}
 use Rattle.jl_token.specs.Faults.{LongestNumeral, Fault, unclosed_string, unclosed_comment, string_escape, name_escape, first_escape, digit_follows, name_follows, no_number, long_name, long_string, no_element}
 use Rattle.jl_token.specs.Tokens.{Begins, Piece, piece, place, OnePiece, one_piece, tokens_among, Tokens, BadAt, InOrder, TokensAreUnique, BadPlaceIsUnique, TokensOrBad, NeverBoth, SpansAreInOrder}
-use Rattle.jl_token.specs.Scanner.{Outcome, found, bad, many, scan, piece_found, next_piece}
+use Rattle.jl_token.specs.Scanner.{Outcome, found, bad, many, scan_word, scan, piece_found, next_piece}
 use Rattle.jl_token.specs.declared.punct.Punct.{Punct}
 use Rattle.jl_token.specs.declared.token.BadKind.{BadKind}
 use Rattle.jl_token.specs.declared.token.BadKind.TheVariants as faults
@@ -48,7 +48,7 @@ name_shorter (name {us} {mid} {rest} {x} s m) = let i = reads_start.shorter us x
 string_shorter : {us rest : List ℕ} {cs : List (List ℕ × Bool)} → StringLiteral us cs rest → length rest < length us
 string_shorter (string {mark} q m) = let i = row_shorter (reads_character mark q).shorter m in omega arith
 
-nonempty : (p : Punct) (ws : List ℕ) → punctuator_units p ≡ ws → 0 < length ws
+pub nonempty : (p : Punct) (ws : List ℕ) → punctuator_units p ≡ ws → 0 < length ws
 unfolding goes_well
 nonempty p [] e = let h = subst (λ w. goes_well w ≡ true) e (each_goes_well p) in absurd (absurd_by h) where
   absurd_by : false ≡ true → ⊥
@@ -119,7 +119,7 @@ module _ (text : List ℕ) where
       subst (λ x. OnePiece text (u ∷ us) x rest) p.0 (subst (λ x. OnePiece text (u ∷ us) (piece d (place text (u ∷ us)) (place text end)) x) p.1 (one_piece (found_begins u us d end q)))
 
   piece_sound : (us : List ℕ) (a : Piece) (rest : List ℕ) → next_piece text us ≡ Some (a, rest) → OnePiece text us a rest
-  unfolding next_piece piece_found scan
+  unfolding next_piece piece_found scan scan_word
   piece_sound [] a rest e = absurd (apart e) where
     apart : {x : Piece × List ℕ} → None ≡ Some x → ⊥
     apart q = cc

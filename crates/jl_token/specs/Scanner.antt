@@ -208,6 +208,14 @@ abbrev pub after_first : List ℕ → List ℕ
 after_first [] = []
 after_first (u ∷ us) = us
 
+-- what a unit begins that is neither white space, a line terminator nor the first of a comment
+unfoldable pub scan_word : ℕ → List ℕ → Outcome
+scan_word u us =
+    if is_quote u then string_end u (many (character u) us) else
+    (if is_digit u || (u == 46 && first_is is_digit us) then number_end (numeral u us) else
+    (if is_identifier_start u || u == 92 then name_from (letter is_identifier_start (u ∷ us)) else
+    punctuator_found (first_punctuator all_punctuators (u ∷ us))))
+
 unfoldable pub scan : List ℕ → Outcome
 scan [] = bad faults.BadCharacter
 scan (u ∷ us) =
@@ -215,10 +223,7 @@ scan (u ∷ us) =
     (if is_line_terminator u then found LineEnd (if u == 13 then after_line_feed us else us) else
     (if u == 47 && first_is (λ v. v == 47) us then found (Comment false) (many (one_unit is_on_line) (after_first us)).1 else
     (if u == 47 && first_is (λ v. v == 42) us then block_end (many before_close (after_first us)) else
-    (if is_quote u then string_end u (many (character u) us) else
-    (if is_digit u || (u == 46 && first_is is_digit us) then number_end (numeral u us) else
-    (if is_identifier_start u || u == 92 then name_from (letter is_identifier_start (u ∷ us)) else
-    punctuator_found (first_punctuator all_punctuators (u ∷ us))))))))
+    scan_word u us)))
 
 -- the pieces of a text
 
