@@ -1,18 +1,18 @@
 -- What digits that were read stand for.
-use Rattle.std.proofs.Common.{◌≡◌, refl, sym, ap, ◌∙◌, subst, ℕ, zero, suc, ◌+◌, ◌-◌, ◌*◌, ◌/◌, ◌%◌, ◌^◌, ◌<◌, ◌≤◌, ◌⊎◌, inl, inr, Bool, true, false, ◌==◌, nat_le, List, [], ◌∷◌, ◌++◌, length, drop, Option, Some, None, if◌then◌else◌, arith, add-zero}
+use Rattle.std.proofs.Common.{◌≡◌, refl, sym, ap, ◌∙◌, subst, ℕ, zero, suc, ◌+◌, ◌-◌, ◌*◌, ◌%◌, ◌^◌, ◌<◌, ◌≤◌, ◌⊎◌, inl, inr, Bool, true, false, ◌==◌, nat_le, List, [], ◌∷◌, Option, Some, None, if◌then◌else◌, arith}
 use Rattle.std.proofs.Math.Nat.{pow-suc}
 use Rattle.std.proofs.lemmas.Nat.{pow-add}
-use Rattle.std.proofs.lemmas.Bool.{leb-true, le-leb, eqb-true}
+use Rattle.std.proofs.lemmas.Bool.{le-leb, eqb-true}
 use Rattle.std.proofs.lemmas.Bool.Decides.{nat_tests, leb_tells}
-use Rattle.jl_token.specs.Characters.{is_digit, is_hex_digit, hex_digit_value, decimal_from, hex_from, first_is}
+use Rattle.jl_token.specs.Characters.{is_digit, first_is}
 use Rattle.jl_token.specs.Elements.{HasValue}
-use Rattle.jl_token.specs.Scanner.{many, one_unit, some_digits, raised, exponent, exponent_sign, exponent_by, with_exponent, after_fraction, after_whole, hex_literal, value_of}
+use Rattle.jl_token.specs.Scanner.{many, one_unit, some_digits, value_of}
 use Rattle.jl_lex.proofs.Loops.{unit_more, unit_stop, unit_end}
 use Rattle.jl_token.proofs.Tests.{true_or_false, other_unit, is_unit}
 use Rattle.jl_token.proofs.Units.{digit_bounds}
 use Rattle.jl_token.proofs.Values.{value_sound, value_complete}
-use Rattle.jl_lex.specs.Amounts.{scaled, add_digit, add_digits, if_number, value_from, capped_from, hex_capped_from, Exponents, the_same, is_high, is_low, Large, Stands, exact, beyond}
-use Rattle.jl_lex.proofs.Powers.{ten_pos, ten_more, cancel, times_ten, last_digit, assoc, at_least, sixteen, far}
+use Rattle.jl_lex.specs.Amounts.{scaled, add_digit, add_digits, if_number, value_from, capped_from, Exponents, the_same, is_high, is_low, Large, Stands, exact, beyond}
+use Rattle.jl_lex.proofs.Powers.{ten_pos, ten_more, cancel, times_ten, last_digit, assoc, at_least, far}
 
 past : (n : ℕ) → nat_le n 9007199254740991 ≡ false → 9007199254740991 < n
 past n h = grind (arith, nat_tests)
@@ -56,6 +56,7 @@ append_digit : (c z m d : ℕ) → c ≤ 9007199254740991 → m ≡ c * 10 ^ z �
 append_digit c z m d h e p q = by (scaled_is (z + 1) c) (leb_tells (scaled c (z + 1) + d) 9007199254740991) where
   whole : c * 10 ^ (z + 1) ≡ m * 10
   whole = sym (ap (λ n. n * 10) e ∙ (assoc c (10 ^ z) 10 ∙ ap (λ n. c * n) (sym (ten_more z))))
+
   by : Scaled (scaled c (z + 1)) (c * 10 ^ (z + 1)) → ((nat_le (scaled c (z + 1) + d) 9007199254740991 ≡ true) × (scaled c (z + 1) + d ≤ 9007199254740991)) ⊎ ((nat_le (scaled c (z + 1) + d) 9007199254740991 ≡ false) × (9007199254740991 < scaled c (z + 1) + d)) → Stands (scaled c (z + 1) + d) 0 (m * 10 + d)
   by (is s) (inl l) =
       let t : scaled c (z + 1) ≡ m * 10 = s ∙ whole in
@@ -91,16 +92,17 @@ add_digit_stands u c z m d (beyond h g) = by (true_or_false (u == 48)) where
       rw (a, not_zero c (omega arith)) (beyond h (subst Large t (large_more m g)))
   by (inr a) = let v = digit_value u d (λ q. absurd (clash u q a)) in let p = large_past m g in
       rw (a, over c h) (beyond h (large_itself m (u - 48) v.0 v.1 (omega arith))) where
-    clash : (u : ℕ) → u ≡ 48 → (u == 48) ≡ false → ⊥
-    clash u q a = absurd (two (subst (λ w. (w == 48) ≡ false) q a)) where
-      two : (48 == 48) ≡ false → ⊥
-      two e = cc
+        clash : (u : ℕ) → u ≡ 48 → (u == 48) ≡ false → ⊥
+        clash u q a = absurd (two (subst (λ w. (w == 48) ≡ false) q a)) where
+          two : (48 == 48) ≡ false → ⊥
+          two e = cc
 
 -- the value of a literal whose digits end in no 0
 whole_value : (a y r l n : ℕ) → (a % 10 ≡ 0 → ⊥) → n * 10 ^ l ≡ (a * 10 ^ y) * 10 ^ r → (l ≤ y + r) × (n ≡ a * 10 ^ ((y + r) - l))
 whole_value a y r l n h e = by (leb_tells l (y + r)) where
   joined : n * 10 ^ l ≡ a * 10 ^ (y + r)
   joined = e ∙ (assoc a (10 ^ y) (10 ^ r) ∙ ap (λ k. a * k) (sym (pow-add 10 y r)))
+
   by : ((nat_le l (y + r) ≡ true) × (l ≤ y + r)) ⊎ ((nat_le l (y + r) ≡ false) × (y + r < l)) → (l ≤ y + r) × (n ≡ a * 10 ^ ((y + r) - l))
   by (inl g) =
       let q : ((y + r) - l) + l ≡ y + r = omega (arith, g.1) in
@@ -135,6 +137,7 @@ module _ (c z m : ℕ) where
   value_inside r l h e p n = rw (other_unit c 0 n, le-leb c 9007199254740991 h) (by (leb_tells l (z + r)) (scaled_is ((z + r) - l) c) (leb_tells (scaled c ((z + r) - l)) 9007199254740991)) where
     meant : (k : ℕ) → HasValue m r l k → (l ≤ z + r) × (k ≡ c * 10 ^ ((z + r) - l))
     meant k v = whole_value c z r l k (λ g. n (p g)) (v.exact ∙ ap (λ x. x * 10 ^ r) e)
+
     by : ((nat_le l (z + r) ≡ true) × (l ≤ z + r)) ⊎ ((nat_le l (z + r) ≡ false) × (z + r < l)) → Scaled (scaled c ((z + r) - l)) (c * 10 ^ ((z + r) - l)) → ((nat_le (scaled c ((z + r) - l)) 9007199254740991 ≡ true) × (scaled c ((z + r) - l) ≤ 9007199254740991)) ⊎ ((nat_le (scaled c ((z + r) - l)) 9007199254740991 ≡ false) × (9007199254740991 < scaled c ((z + r) - l))) → (if nat_le l (z + r) then (if nat_le (scaled c ((z + r) - l)) 9007199254740991 then Some (scaled c ((z + r) - l)) else None) else None) ≡ value_of m r l
     by (inr a) s t = rw (a.0) (from_none m r l None refl (λ k v. let w = meant k v in let g = w.0 in absurd (omega (arith, a.1))))
     by (inl a) s (inr t) = rw (a.0, t.0) (from_none m r l None refl (λ k v. let w = meant k v in let i = v.inside in let g = w.1 in absurd (larger s t.1 (omega arith)))) where
@@ -163,19 +166,20 @@ module _ (c z m : ℕ) where
   unfolding value_from if_number
   value_high r' r f h e p n a b d = rw (other_unit c 0 n, le-leb c 9007199254740991 h, le-leb (f + 0) (z + r') (omega arith))
       (rw (over (scaled c ((z + r') - (f + 0))) (huge (scaled_is ((z + r') - (f + 0)) c)))
-        (from_none m r (f + 0) None refl (λ k v. let w = whole_value c z r (f + 0) k (λ g. n (p g)) (v.exact ∙ ap (λ x. x * 10 ^ r) e) in let i = v.inside in let q = w.1 in let s = far c ((z + r) - (f + 0)) (positive c n) (omega arith) in absurd (omega arith)))) where
-    positive : (c : ℕ) → (c ≡ 0 → ⊥) → 0 < c
-    positive c n = grind arith
-    huge : Scaled (scaled c ((z + r') - (f + 0))) (c * 10 ^ ((z + r') - (f + 0))) → 9007199254740991 < scaled c ((z + r') - (f + 0))
-    huge (is x) = let s = far c ((z + r') - (f + 0)) (positive c n) (omega arith) in omega arith
-    huge (stopped x y) = x
+      (from_none m r (f + 0) None refl (λ k v. let w = whole_value c z r (f + 0) k (λ g. n (p g)) (v.exact ∙ ap (λ x. x * 10 ^ r) e) in let i = v.inside in let q = w.1 in let s = far c ((z + r) - (f + 0)) (positive c n) (omega arith) in absurd (omega arith)))) where
+        positive : (c : ℕ) → (c ≡ 0 → ⊥) → 0 < c
+        positive c n = grind arith
+
+        huge : Scaled (scaled c ((z + r') - (f + 0))) (c * 10 ^ ((z + r') - (f + 0))) → 9007199254740991 < scaled c ((z + r') - (f + 0))
+        huge (is x) = let s = far c ((z + r') - (f + 0)) (positive c n) (omega arith) in omega arith
+        huge (stopped x y) = x
 
   value_low : (l' l f : ℕ) → c ≤ 9007199254740991 → m ≡ c * 10 ^ z → (c % 10 ≡ 0 → c ≡ 0) → (c ≡ 0 → ⊥) → 1099511627776 ≤ l' → l' ≤ l → z ≤ 4294967296 → value_from c z 0 (f + l') ≡ value_of m 0 (f + l)
   unfolding value_from if_number
   value_low l' l f h e p n a b d = rw (other_unit c 0 n, le-leb c 9007199254740991 h, not_le (f + l') (z + 0) (omega arith))
       (from_none m 0 (f + l) None refl (λ k v. let w = whole_value c z 0 (f + l) k (λ g. n (p g)) (v.exact ∙ ap (λ x. x * 10 ^ 0) e) in let q = w.0 in absurd (omega arith))) where
-    not_le : (a b : ℕ) → b < a → nat_le a b ≡ false
-    not_le a b h = grind (arith, nat_tests)
+        not_le : (a b : ℕ) → b < a → nat_le a b ≡ false
+        not_le a b h = grind (arith, nat_tests)
 
 -- whatever the exponents
 pub value_stands : (c z m r' l' r l f : ℕ) → Stands c z m → Exponents r' l' r l → z ≤ 4294967296 → f ≤ 4294967296 → value_from c z r' (f + l') ≡ value_of m r (f + l)
@@ -185,16 +189,16 @@ value_stands c z m r' l' r l f (exact h e p) x a b = by (true_or_false (c == 0))
   by (inl y) x = value_zero c z m r' (f + l') r (f + l) (eqb-true c 0 y) e
   by (inr y) (the_same q s) = rw (q, s) (value_inside c z m r (f + l) h e p (no c y))
     where
-    no : (c : ℕ) → (c == 0) ≡ false → c ≡ 0 → ⊥
-    no c y q = grind (arith, nat_tests)
+      no : (c : ℕ) → (c == 0) ≡ false → c ≡ 0 → ⊥
+      no c y q = grind (arith, nat_tests)
   by (inr y) (is_high q s t w) = rw (t, w) (value_high c z m r' r f h e p (no c y) q s b)
     where
-    no : (c : ℕ) → (c == 0) ≡ false → c ≡ 0 → ⊥
-    no c y q = grind (arith, nat_tests)
+      no : (c : ℕ) → (c == 0) ≡ false → c ≡ 0 → ⊥
+      no c y q = grind (arith, nat_tests)
   by (inr y) (is_low q s t w) = rw (t, w) (value_low c z m l' l f h e p (no c y) q s a)
     where
-    no : (c : ℕ) → (c == 0) ≡ false → c ≡ 0 → ⊥
-    no c y q = grind (arith, nat_tests)
+      no : (c : ℕ) → (c == 0) ≡ false → c ≡ 0 → ⊥
+      no c y q = grind (arith, nat_tests)
 
 -- the steps of the loops
 pub scaled_more : (value left : ℕ) → 0 < left → value ≤ 9007199254740991 → scaled value left ≡ scaled (value * 10) (left - 1)

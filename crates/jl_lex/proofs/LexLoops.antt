@@ -1,21 +1,21 @@
 -- The steps of the lexer, over plain lists.
-use Rattle.std.proofs.Common.{◌≡◌, refl, sym, ap, ◌∙◌, subst, ℕ, zero, suc, ◌+◌, ◌-◌, ◌<◌, ◌≤◌, ◌⊎◌, inl, inr, Bool, true, false, ◌&&◌, ◌||◌, ◌==◌, List, [], ◌∷◌, ◌++◌, drop, length, Option, Some, None, Result, Ok, Err, MatchResult, IfOk, IfErr, if◌then◌else◌, arith, length-drop}
+use Rattle.std.proofs.Common.{◌≡◌, refl, sym, ap, ◌∙◌, subst, ℕ, ◌+◌, ◌-◌, ◌≤◌, ◌⊎◌, inl, inr, Bool, true, false, ◌&&◌, ◌||◌, ◌==◌, List, [], ◌∷◌, ◌++◌, drop, length, Some, None, Result, Ok, Err, MatchResult, IfOk, IfErr, if◌then◌else◌, arith, length-drop}
 use Rattle.std.proofs.lemmas.List.{append-nil}
 use Rattle.jl_token.specs.Characters.{is_white_space, is_line_terminator, is_on_line, is_identifier_start, is_digit, is_quote, first_is}
 use Rattle.jl_token.specs.Punctuators.{all_punctuators}
 use Rattle.jl_token.specs.Elements.{Element, White, LineEnd, Comment, Word, Many}
 use Rattle.jl_token.specs.Faults.{Fault}
 use Rattle.jl_token.specs.Tokens.{Piece, piece, place, OnePiece, tokens_among, Tokens, BadAt}
-use Rattle.jl_token.specs.Scanner.{Outcome, found, bad, with_first, many, one_unit, letter, name_from, before_close, block_end, numeral, number_end, after_line_feed, string_end, character, first_punctuator, punctuator_found, after_first, scan, scan_word, piece_found, next_piece}
+use Rattle.jl_token.specs.Scanner.{Outcome, found, bad, many, one_unit, letter, name_from, before_close, block_end, numeral, number_end, after_line_feed, string_end, character, first_punctuator, punctuator_found, after_first, scan, scan_word, piece_found, next_piece}
 use Rattle.jl_token.specs.declared.token.BadKind.{BadKind}
 use Rattle.jl_token.specs.declared.token.BadKind.TheVariants as faults
 use Rattle.jl_token.specs.declared.token.TokenKind.TheVariants as kinds
 use Rattle.jl_token.specs.declared.token.Token.{Token}
 use Rattle.jl_token.specs.declared.punct.Punct.{Punct}
-use Rattle.jl_token.proofs.Rows.{many_step, many_stop, many_sound, nothing_at_end, Found}
+use Rattle.jl_token.proofs.Rows.{many_step, many_stop, many_sound, nothing_at_end}
 use Rattle.jl_token.proofs.Found.{Right, right_element, right_fault, scan_right}
 use Rattle.jl_token.proofs.Whole.{reads_piece, ended, stopped, tokens_are_unique, bad_place_is_unique, never_both}
-use Rattle.jl_lex.specs.Answers.{IsFound, IsFrom, element_of}
+use Rattle.jl_lex.specs.Answers.{IsFound, IsFrom}
 use Rattle.jl_lex.specs.Refusals.{IsRefusal, refusal_at}
 use Rattle.jl_lex.specs.declared.element.Element.{Element as Read}
 use Rattle.jl_lex.specs.declared.element.Stop.{Stop}

@@ -1,25 +1,25 @@
 -- The steps of the loops, over plain lists.
-use Rattle.std.proofs.Common.{◌≡◌, refl, sym, ap, ◌∙◌, subst, ℕ, zero, suc, ◌+◌, ◌<◌, ◌≤◌, ◌⊎◌, inl, inr, Bool, true, false, ◌&&◌, ◌||◌, ◌==◌, List, [], ◌∷◌, ◌++◌, drop, length, Option, Some, None, if◌then◌else◌, arith, append_assoc, get_or, ◌-◌, ◌*◌, length-drop, zero-add, nat_le, Result, Ok, Err}
-use Rattle.jl_lex.specs.Answers.{IsFound, IsNamed, element_of}
+use Rattle.std.proofs.Common.{◌≡◌, refl, sym, ap, ◌∙◌, subst, ℕ, ◌+◌, ◌<◌, ◌≤◌, Bool, true, false, ◌&&◌, ◌||◌, ◌==◌, List, [], ◌∷◌, ◌++◌, drop, length, Option, Some, None, if◌then◌else◌, arith, append_assoc, get_or, ◌-◌, ◌*◌, length-drop, zero-add, nat_le, Result, Ok, Err}
+use Rattle.jl_lex.specs.Answers.{IsFound, IsNamed}
 use Rattle.jl_lex.specs.declared.element.Element.{Element as Read}
 use Rattle.jl_lex.specs.declared.element.Stop.{Stop}
 use Rattle.jl_lex.specs.declared.element.Stop.TheVariants as stops
 use Rattle.std.proofs.lemmas.List.{drop-drop, drop_more, drop_all, append-nil}
 use Rattle.std.specs.List.{list_any}
-use Rattle.jl_token.specs.Characters.{is_line_terminator, is_on_line, is_digit, is_identifier_start, is_identifier_part, first_is}
-use Rattle.jl_token.specs.Elements.{Element, Comment, Word, name_text, is_escaped, string_text, is_plain}
+use Rattle.jl_token.specs.Characters.{is_line_terminator, is_on_line, is_identifier_start, is_identifier_part, first_is}
+use Rattle.jl_token.specs.Elements.{Comment, Word, name_text, is_escaped}
 use Rattle.jl_token.specs.Scanner.{Outcome, found, bad, with_first, many, one_unit, before_close, block_end, strip, or_else, first_punctuator, name_escape, letter, name_done, name_from}
 use Rattle.jl_token.specs.Characters.{is_hex_digit, hex_digit_value, are_hex_digits, hex_number}
-use Rattle.jl_lex.specs.Parts.{hex_first, two_of, four_of, two_at, four_at, allowed, LetterFrom}
+use Rattle.jl_lex.specs.Parts.{hex_first, four_of, four_at, LetterFrom}
 use Rattle.jl_lex.specs.declared.names.Letter.{Letter}
 use Rattle.jl_token.specs.Punctuators.{punctuator_units}
 use Rattle.jl_token.specs.declared.punct.Punct.{Punct}
 use Rattle.jl_token.specs.declared.token.BadKind.TheVariants as faults
 use Rattle.jl_token.specs.declared.token.TokenKind.TheVariants as kinds
 use Rattle.std.proofs.lemmas.Bool.Decides.{nat_tests}
-use Rattle.jl_token.proofs.Rows.{Reads, many_step, many_stop}
+use Rattle.jl_token.proofs.Rows.{many_step, many_stop}
 use Rattle.jl_token.proofs.Tests.{other_unit}
-use Rattle.jl_token.proofs.Parts.{reads_unit, reads_before_close, reads_start, reads_part}
+use Rattle.jl_token.proofs.Parts.{reads_unit, reads_before_close, reads_part}
 
 -- rows of units
 pub unit_more : (p : ℕ → Bool) (us mid : List ℕ) (u : ℕ) → us ≡ u ∷ mid → p u ≡ true → many (one_unit p) us ≡ with_first u (many (one_unit p) mid)

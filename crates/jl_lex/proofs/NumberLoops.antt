@@ -1,11 +1,10 @@
 -- The steps of a literal's functions, over plain lists.
-use Rattle.std.proofs.Common.{◌≡◌, refl, sym, ap, ◌∙◌, subst, ℕ, zero, suc, ◌+◌, ◌-◌, ◌*◌, ◌/◌, ◌%◌, ◌^◌, ◌<◌, ◌≤◌, ◌⊎◌, inl, inr, Bool, true, false, ◌&&◌, ◌||◌, ◌==◌, nat_le, List, [], ◌∷◌, ◌++◌, drop, length, Option, Some, None, if◌then◌else◌, arith, add-zero, length-drop, ℤ, pos}
+use Rattle.std.proofs.Common.{◌≡◌, refl, sym, ap, ◌∙◌, subst, ℕ, ◌+◌, ◌-◌, ◌*◌, ◌<◌, ◌≤◌, ◌⊎◌, inl, inr, Bool, true, false, ◌&&◌, ◌||◌, ◌==◌, nat_le, List, [], ◌∷◌, ◌++◌, drop, length, Option, Some, None, if◌then◌else◌, arith, length-drop, ℤ, pos}
 use Rattle.std.proofs.lemmas.List.{drop-drop}
-use Rattle.std.proofs.lemmas.Bool.{leb-true, le-leb}
-use Rattle.std.proofs.lemmas.Bool.Decides.{nat_tests, leb_tells}
+use Rattle.std.proofs.lemmas.Bool.Decides.{leb_tells}
 use Rattle.jl_token.specs.Characters.{is_digit, is_hex_digit, hex_digit_value, decimal_from, hex_from, is_identifier_start, first_is}
-use Rattle.jl_token.specs.Elements.{Many, no_more, one_more, OneUnit, unit, HasValue}
-use Rattle.jl_token.specs.Scanner.{many, one_unit, some_digits, raised, exponent, exponent_sign, exponent_by, with_exponent, after_fraction, after_whole, after_zero, hex_literal, from_whole, numeral, value_of, number_end, number_of, is_some_of, letter, Outcome, found, bad}
+use Rattle.jl_token.specs.Elements.{Many, no_more, one_more, OneUnit, unit}
+use Rattle.jl_token.specs.Scanner.{many, one_unit, some_digits, raised, exponent, exponent_sign, exponent_by, with_exponent, after_fraction, after_whole, after_zero, hex_literal, from_whole, numeral, value_of, number_end, number_of, is_some_of, letter, found, bad}
 use Rattle.jl_token.specs.Elements.{Word}
 use Rattle.jl_token.specs.declared.token.BadKind.TheVariants as faults
 use Rattle.jl_token.specs.declared.token.TokenKind.TheVariants as kinds

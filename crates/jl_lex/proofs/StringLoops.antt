@@ -1,5 +1,5 @@
 -- The steps of a string's functions, over plain lists.
-use Rattle.std.proofs.Common.{◌≡◌, ◌≢◌, refl, sym, ap, ◌∙◌, subst, ℕ, zero, suc, ◌+◌, ◌*◌, ◌-◌, ◌<◌, ◌≤◌, Bool, true, false, ◌&&◌, ◌||◌, ◌==◌, List, [], ◌∷◌, ◌++◌, drop, length, Option, Some, None, Result, Ok, Err, if◌then◌else◌, arith, append_assoc, length-drop, zero-add, nat_le}
+use Rattle.std.proofs.Common.{◌≡◌, refl, sym, ap, ◌∙◌, ℕ, ◌+◌, ◌*◌, ◌<◌, ◌≤◌, Bool, true, false, ◌&&◌, ◌==◌, List, [], ◌∷◌, ◌++◌, drop, length, Option, Some, None, if◌then◌else◌, arith, append_assoc, length-drop, zero-add, nat_le}
 use Rattle.std.proofs.lemmas.List.{drop-drop, append-nil}
 use Rattle.std.proofs.lemmas.Bool.Decides.{nat_tests}
 use Rattle.jl_token.specs.Characters.{is_line_terminator, is_digit, is_hex_digit, hex_digit_value, are_hex_digits, hex_number, single_escape, is_quote, first_is}
@@ -11,7 +11,7 @@ use Rattle.jl_token.proofs.Rows.{many_step, many_stop}
 use Rattle.jl_token.proofs.Strings.{reads_character}
 use Rattle.jl_token.proofs.Tests.{other_unit}
 use Rattle.jl_token.proofs.Units.{units}
-use Rattle.jl_lex.specs.Parts.{hex_first, two_of, four_of, two_at, four_at, values, CharacterFrom}
+use Rattle.jl_lex.specs.Parts.{hex_first, two_of, four_of, two_at, four_at, CharacterFrom}
 use Rattle.jl_lex.specs.declared.strings.Character.{Character}
 use Rattle.jl_lex.proofs.Loops.{four_last, four_digits}
 

@@ -1,6 +1,6 @@
 -- How the lexer values a numeric literal: its digits without the zeros at their end, and how many these are. No public
 -- clause stands on it.
-use Rattle.std.specs.Prelude.{◌≡◌, ◌<◌, ◌≤◌, ℕ, zero, suc, ◌+◌, ◌-◌, ◌*◌, ◌%◌, ◌^◌, drop, length, Bool, true, false, ◌==◌, nat_le, List, [], ◌∷◌, Option, Some, None, if◌then◌else◌}
+use Rattle.std.specs.Prelude.{◌≡◌, ◌<◌, ◌≤◌, ℕ, zero, suc, ◌+◌, ◌-◌, ◌*◌, ◌%◌, ◌^◌, drop, length, ◌==◌, nat_le, List, [], ◌∷◌, Option, Some, None, if◌then◌else◌}
 use Rattle.jl_token.specs.Characters.{hex_digit_value}
 use Rattle.jl_token.specs.Scanner.{value_of}
 use Rattle.jl_lex.specs.declared.numbers.Numeral.{Numeral}
@@ -62,4 +62,3 @@ NumeralFrom units low n x = (n.value ≡ value_of x.0 x.1 x.2) × (drop n.end un
 -- an exponent's power of ten to multiply by, or the one to divide by, and the place after it
 abbrev pub ExponentFrom : List ℕ → ℕ → Exponent → ℕ × ℕ × List ℕ → Type 0
 ExponentFrom units low e x = Exponents e.raise e.lower x.0 x.1 × (drop e.end units ≡ x.2) × (low ≤ e.end) × (e.end ≤ length units)
-

@@ -122,7 +122,11 @@ pub fn unit_at(units: &[u16], at: usize) -> Option<u16>
     ensures { MatchOption result (drop at units.now ≡ [])
         (λ u. (drop at units.now ≡ u ∷ drop (at + 1) units.now) × (at < length units.now)) }
 {
-    if at < units.len() { Some(units[at]) } else { None }
+    if at < units.len() {
+        Some(units[at])
+    } else {
+        None
+    }
 }
 
 /// Whether a given unit stands at a place.

@@ -9,8 +9,8 @@ ghost use Rattle.jl_lex.specs.Refusals.{IsRefusal, refusal_at};
 ghost use Rattle.jl_lex.specs.declared.lexer.LexRefusal.TheVariants.{NoMemory};
 
 use crate::characters::{
-    BACKSLASH, is_at, is_digit, is_digit_at, is_identifier_start, is_line_terminator, is_quote, is_white_space,
-    line_terminator_end, unit_at,
+    BACKSLASH, is_at, is_digit, is_digit_at, is_identifier_start, is_line_terminator, is_quote,
+    is_white_space, line_terminator_end, unit_at,
 };
 use crate::comments::{block, line_end};
 use crate::element::{Element, Stop};
@@ -115,7 +115,13 @@ fn element_at(alloc: Global, units: &[u16], at: usize, unit: u16) -> Result<(Ele
 
 // Adds the token of an element that runs from one place to another, where it is one. Answers whether a line terminator,
 // or a comment that holds one, stands before what follows it.
-fn add(tokens: &mut List<Token>, line: bool, element: Element, from: usize, to: usize) -> Result<bool, AllocError>
+fn add(
+    tokens: &mut List<Token>,
+    line: bool,
+    element: Element,
+    from: usize,
+    to: usize,
+) -> Result<bool, AllocError>
     requires from { from < 2 ^ 32 }
     requires to { to < 2 ^ 32 }
     ensures { IfOk result (λ l. (ps : Items Piece)
@@ -126,8 +132,15 @@ fn add(tokens: &mut List<Token>, line: bool, element: Element, from: usize, to: 
         Element::LineEnd => Ok(true),
         Element::Comment(lines) => Ok(line || lines),
         Element::Word(kind) => {
-            let span = Span { from: from as u32, to: to as u32 };
-            tokens.push(Token { kind, span, line_before: line })?;
+            let span = Span {
+                from: from as u32,
+                to: to as u32,
+            };
+            tokens.push(Token {
+                kind,
+                span,
+                line_before: line,
+            })?;
             Ok(false)
         }
     }
@@ -138,7 +151,10 @@ fn refusal(stop: Stop, at: usize) -> LexRefusal
     ensures { result ≡ refusal_at stop at }
 {
     match stop {
-        Stop::Bad(kind) => LexRefusal::BadInput { at: at as u32, kind },
+        Stop::Bad(kind) => LexRefusal::BadInput {
+            at: at as u32,
+            kind,
+        },
         Stop::NoMemory => LexRefusal::NoMemory,
     }
 }

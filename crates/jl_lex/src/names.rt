@@ -5,7 +5,9 @@ ghost use Rattle.jl_token.specs.Scanner.{letter, name_escape, name_done, name_fr
 ghost use Rattle.jl_lex.specs.Parts.{hex_first, two_at, four_at, allowed, LetterFrom};
 ghost use Rattle.jl_lex.specs.Answers.{IsFound, IsNamed};
 
-use crate::characters::{BACKSLASH, is_at, is_hex_digit, is_identifier_part, is_identifier_start, unit_at};
+use crate::characters::{
+    BACKSLASH, is_at, is_hex_digit, is_identifier_part, is_identifier_start, unit_at,
+};
 use crate::element::{Element, Stop};
 use jl_text::{Text, TextFault};
 use jl_token::{BadKind, TokenKind};
@@ -41,7 +43,11 @@ pub fn hex_at(units: &[u16], at: usize) -> Option<u16>
     ensures small { IfSome result (λ v. (v < 16) × (at < length units.now)) }
 {
     let unit = unit_at(units, at)?;
-    if is_hex_digit(unit) { Some(hex_digit_value(unit)) } else { None }
+    if is_hex_digit(unit) {
+        Some(hex_digit_value(unit))
+    } else {
+        None
+    }
 }
 
 /// The number that the two hexadecimal digits at a place write, if they are there.
@@ -73,7 +79,11 @@ pub fn four_at(units: &[u16], at: usize) -> Option<u16>
 fn is_allowed(part: bool, unit: u16) -> bool
     ensures { result ≡ allowed part unit }
 {
-    if part { is_identifier_part(unit) } else { is_identifier_start(unit) }
+    if part {
+        is_identifier_part(unit)
+    } else {
+        is_identifier_start(unit)
+    }
 }
 
 // The character of a name that an escape writes whose `u` stands at a place.
@@ -88,7 +98,11 @@ fn escaped_at(units: &[u16], at: usize, part: bool) -> Option<Letter>
         return None;
     };
     if is_allowed(part, written) {
-        Some(Letter { unit: written, escaped: true, end: at + 5 })
+        Some(Letter {
+            unit: written,
+            escaped: true,
+            end: at + 5,
+        })
     } else {
         None
     }
@@ -103,7 +117,11 @@ pub fn letter_at(units: &[u16], at: usize, part: bool) -> Option<Letter>
         return None;
     };
     if is_allowed(part, unit) {
-        return Some(Letter { unit, escaped: false, end: at + 1 });
+        return Some(Letter {
+            unit,
+            escaped: false,
+            end: at + 1,
+        });
     }
     if unit != BACKSLASH {
         return None;
@@ -112,7 +130,13 @@ pub fn letter_at(units: &[u16], at: usize, part: bool) -> Option<Letter>
 }
 
 // The name of these characters, which go up to a place.
-fn named(alloc: Global, units: &[u16], text: &[u16], escaped: bool, end: usize) -> Result<(Element, usize), Stop>
+fn named(
+    alloc: Global,
+    units: &[u16],
+    text: &[u16],
+    escaped: bool,
+    end: usize,
+) -> Result<(Element, usize), Stop>
     requires { end ≤ length units.now }
     ensures { IsNamed units.now end result (name_done text.now escaped (drop end units.now)) }
 {

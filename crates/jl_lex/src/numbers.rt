@@ -89,12 +89,18 @@ fn add_digit(amount: Amount, unit: u16) -> Amount
         if amount.coefficient == 0 {
             return amount;
         }
-        return Amount { coefficient: amount.coefficient, zeros: amount.zeros + 1 };
+        return Amount {
+            coefficient: amount.coefficient,
+            zeros: amount.zeros + 1,
+        };
     }
     if amount.coefficient > LARGEST {
         return amount;
     }
-    Amount { coefficient: scaled(amount.coefficient, amount.zeros + 1) + digit_value(unit), zeros: 0 }
+    Amount {
+        coefficient: scaled(amount.coefficient, amount.zeros + 1) + digit_value(unit),
+        zeros: 0,
+    }
 }
 
 // The digits at a place after those that were read, and the place after them.
@@ -150,7 +156,7 @@ fn exponent_digits(units: &[u16], at: usize) -> Option<Power>
     requires { at ≤ length units.now }
     ensures digits { MatchOption result (some_digits is_digit (drop at units.now) ≡ None)
         (λ x. (some_digits is_digit (drop at units.now) ≡ Some ((many (one_unit is_digit) (drop at units.now)).0, drop x.end units.now))
-            × (x.number ≡ capped_from 0 (many (one_unit is_digit) (drop at units.now)).0)) }
+        × (x.number ≡ capped_from 0 (many (one_unit is_digit) (drop at units.now)).0)) }
     ensures small { IfSome result (λ x. (x.number ≤ 10995116277769) × (at ≤ x.end) × (x.end ≤ length units.now)) }
 {
     if !is_digit_at(units, at) {
@@ -174,7 +180,11 @@ fn capped(number: u64, unit: u16) -> u64
     ensures value { result ≡ (if nat_le 1099511627776 number then number else number * 10 + (unit - 48)) }
     ensures small { result ≤ 10995116277769 }
 {
-    if number >= ENOUGH { number } else { number * 10 + digit_value(unit) }
+    if number >= ENOUGH {
+        number
+    } else {
+        number * 10 + digit_value(unit)
+    }
 }
 
 // The exponent whose digits stand at a place, after one that begins at another.
@@ -186,12 +196,24 @@ fn exponent_after(units: &[u16], at: usize, from: usize, lowers: bool) -> Expone
     ensures small_too { result.lower ≤ 10995116277769 }
 {
     let Some(power) = exponent_digits(units, from) else {
-        return Exponent { raise: 0, lower: 0, end: at };
+        return Exponent {
+            raise: 0,
+            lower: 0,
+            end: at,
+        };
     };
     if lowers {
-        return Exponent { raise: 0, lower: power.number, end: power.end };
+        return Exponent {
+            raise: 0,
+            lower: power.number,
+            end: power.end,
+        };
     }
-    Exponent { raise: power.number, lower: 0, end: power.end }
+    Exponent {
+        raise: power.number,
+        lower: 0,
+        end: power.end,
+    }
 }
 
 // Whether the letter of an exponent stands at a place.
@@ -212,7 +234,11 @@ fn exponent_at(units: &[u16], at: usize) -> Exponent
     ensures small_too { result.lower ≤ 10995116277769 }
 {
     if !is_exponent_letter_at(units, at) {
-        return Exponent { raise: 0, lower: 0, end: at };
+        return Exponent {
+            raise: 0,
+            lower: 0,
+            end: at,
+        };
     }
     if is_at(units, at + 1, 43) {
         return exponent_after(units, at, at + 2, false);
@@ -234,7 +260,10 @@ fn finished(units: &[u16], at: usize, amount: Amount, places: usize) -> Numeral
 {
     let exponent = exponent_at(units, at);
     let lower = places as u64 + exponent.lower;
-    Numeral { value: value(amount, exponent.raise, lower), end: exponent.end }
+    Numeral {
+        value: value(amount, exponent.raise, lower),
+        end: exponent.end,
+    }
 }
 
 // The literal whose fraction stands at a place.
@@ -273,7 +302,11 @@ fn hex_capped(number: u64, digit: u16) -> u64
     ensures value { result ≡ (if nat_le number 9007199254740991 then number * 16 + digit else number) }
     ensures small { result ≤ 144115188075855871 }
 {
-    if number > LARGEST { number } else { number * 16 + u64::from(digit) }
+    if number > LARGEST {
+        number
+    } else {
+        number * 16 + u64::from(digit)
+    }
 }
 
 // The value of a whole number, where it is one of a script.
@@ -299,7 +332,10 @@ fn hex(units: &[u16], at: usize) -> Option<Numeral>
         number = hex_capped(number, digit);
         end += 1;
     }
-    Some(Numeral { value: if_number(number), end })
+    Some(Numeral {
+        value: if_number(number),
+        end,
+    })
 }
 
 // Whether the `x` of a hexadecimal literal stands at a place.
@@ -319,10 +355,24 @@ fn after_zero(units: &[u16], at: usize) -> Numeral
     ensures { NumeralFrom units.now at result (after_zero (drop at units.now)) }
 {
     if !is_x_at(units, at) {
-        return after_whole(units, at, Amount { coefficient: 0, zeros: 0 });
+        return after_whole(
+            units,
+            at,
+            Amount {
+                coefficient: 0,
+                zeros: 0,
+            },
+        );
     }
     let Some(found) = hex(units, at + 1) else {
-        return after_whole(units, at, Amount { coefficient: 0, zeros: 0 });
+        return after_whole(
+            units,
+            at,
+            Amount {
+                coefficient: 0,
+                zeros: 0,
+            },
+        );
     };
     found
 }
@@ -338,9 +388,22 @@ fn numeral_after(units: &[u16], at: usize, unit: u16) -> Numeral
         return after_zero(units, at);
     }
     if unit == 46 {
-        return after_point(units, at, Amount { coefficient: 0, zeros: 0 });
+        return after_point(
+            units,
+            at,
+            Amount {
+                coefficient: 0,
+                zeros: 0,
+            },
+        );
     }
-    let first = add_digit(Amount { coefficient: 0, zeros: 0 }, unit);
+    let first = add_digit(
+        Amount {
+            coefficient: 0,
+            zeros: 0,
+        },
+        unit,
+    );
     let (amount, end) = digits(units, at, first);
     after_whole(units, end, amount)
 }

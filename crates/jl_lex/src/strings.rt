@@ -5,7 +5,9 @@ ghost use Rattle.jl_token.specs.Scanner.{other_escape, escape, character, many, 
 ghost use Rattle.jl_lex.specs.Parts.{CharacterFrom, values};
 ghost use Rattle.jl_lex.specs.Answers.{IsFound};
 
-use crate::characters::{BACKSLASH, is_digit, is_digit_at, is_line_terminator, line_terminator_end, unit_at};
+use crate::characters::{
+    BACKSLASH, is_digit, is_digit_at, is_line_terminator, line_terminator_end, unit_at,
+};
 use crate::element::{Element, Stop};
 use crate::names::{four_at, two_at};
 use jl_text::{Text, TextFault};
@@ -43,7 +45,11 @@ fn single_escape(unit: u16) -> Option<u16>
 fn escaped(unit: u16, end: usize) -> Option<Character>
     ensures { result ≡ Some (record { unit = Some unit; plain = false; end = end }) }
 {
-    Some(Character { unit: Some(unit), plain: false, end })
+    Some(Character {
+        unit: Some(unit),
+        plain: false,
+        end,
+    })
 }
 
 // What another escaped unit, which stands before a place, comes to.
@@ -53,7 +59,11 @@ fn other_escape_at(units: &[u16], at: usize, unit: u16) -> Option<Character>
 {
     if is_line_terminator(unit) {
         let end = line_terminator_end(units, at, unit);
-        return Some(Character { unit: None, plain: false, end });
+        return Some(Character {
+            unit: None,
+            plain: false,
+            end,
+        });
     }
     if unit == 120 {
         let Some(written) = two_at(units, at) else {
@@ -110,7 +120,11 @@ fn character_at(units: &[u16], at: usize, mark: u16) -> Option<Character>
     if unit == BACKSLASH {
         return escape_at(units, at + 1);
     }
-    Some(Character { unit: Some(unit), plain: true, end: at + 1 })
+    Some(Character {
+        unit: Some(unit),
+        plain: true,
+        end: at + 1,
+    })
 }
 
 fn put(text: &mut Vec<u16>, unit: Option<u16>) -> Result<(), AllocError>
@@ -123,7 +137,14 @@ fn put(text: &mut Vec<u16>, unit: Option<u16>) -> Result<(), AllocError>
 }
 
 // The string of these characters, which go up to a place.
-fn closed(alloc: Global, units: &[u16], text: &[u16], plain: bool, end: usize, mark: u16) -> Result<(Element, usize), Stop>
+fn closed(
+    alloc: Global,
+    units: &[u16],
+    text: &[u16],
+    plain: bool,
+    end: usize,
+    mark: u16,
+) -> Result<(Element, usize), Stop>
     requires { end ≤ length units.now }
     ensures { IsFound units.now end result (string_done mark text.now plain (drop end units.now)) }
 {

@@ -1,22 +1,22 @@
 -- Against each element that could be formed, the scanner finds a fault, a longer element or that one.
-use Rattle.std.proofs.Common.{◌≡◌, refl, sym, ap, ◌∙◌, subst, ℕ, zero, suc, ◌+◌, ◌<◌, ◌≤◌, ◌⊎◌, inl, inr, Bool, true, false, ◌&&◌, ◌||◌, ◌==◌, nat_le, List, [], ◌∷◌, ◌++◌, length, Option, Some, None, pos, if◌then◌else◌, arith}
-use Rattle.std.proofs.lemmas.Bool.{leb-true, le-leb}
+use Rattle.std.proofs.Common.{◌≡◌, refl, sym, ap, subst, ℕ, suc, ◌<◌, ◌≤◌, Bool, true, false, ◌&&◌, ◌||◌, ◌==◌, nat_le, List, [], ◌∷◌, ◌++◌, length, Option, Some, None, pos, if◌then◌else◌, arith}
+use Rattle.std.proofs.lemmas.Bool.{le-leb}
 use Rattle.std.specs.List.{list_any}
 use Rattle.jl_token.specs.Characters.{is_white_space, is_line_terminator, is_on_line, is_identifier_start, is_identifier_part, is_digit, is_quote, first_is}
 use Rattle.jl_token.specs.Punctuators.{punctuator_units, all_punctuators}
-use Rattle.jl_token.specs.Elements.{Element, White, LineEnd, Comment, Word, Many, no_more, one_more, OneUnit, Letter, itself, escaped, Name, name, BeforeClose, Numeral, HasValue, Character, StringLiteral, string, name_text, is_escaped, string_text, is_plain, Front, white_space, line_terminator, carriage_return_line_feed, line_comment, block_comment, identifier_name, punctuator, numeric_literal, string_literal}
-use Rattle.jl_token.specs.Scanner.{Outcome, found, bad, with_first, many, one_unit, letter, name_from, name_done, name_end, before_close, block_end, numeral, number_end, number_of, value_of, is_some_of, after_fraction, after_line_feed, string_done, string_end, string_stop, character, first_punctuator, punctuator_found, after_first, scan_word, scan}
+use Rattle.jl_token.specs.Elements.{Element, LineEnd, Comment, Word, Many, OneUnit, Letter, Name, name, BeforeClose, Numeral, HasValue, Character, StringLiteral, string, name_text, is_escaped, string_text, is_plain, Front, white_space, line_terminator, carriage_return_line_feed, line_comment, block_comment, identifier_name, punctuator, numeric_literal, string_literal}
+use Rattle.jl_token.specs.Scanner.{Outcome, found, bad, many, one_unit, letter, name_from, name_done, name_end, before_close, block_end, numeral, number_end, number_of, value_of, is_some_of, after_fraction, after_line_feed, string_done, string_stop, character, first_punctuator, punctuator_found, after_first, scan_word, scan}
 use Rattle.jl_token.specs.declared.token.TokenKind.TheVariants as kinds
 use Rattle.jl_token.specs.declared.token.BadKind.{BadKind}
 use Rattle.jl_token.specs.declared.punct.Punct.{Punct}
-use Rattle.jl_token.proofs.Rows.{Reads, prepend, many_step, many_complete, many_sound, many_whole, Found}
-use Rattle.jl_token.proofs.Tests.{or_cases, or_false, both_false, and_true, true_or_false, not_true, never_both, is_unit, other_unit, some_pair}
-use Rattle.jl_token.proofs.Units.{units, starts, lines, quotes, digits}
-use Rattle.jl_token.proofs.Parts.{reads_unit, reads_before_close, reads_start, reads_part}
+use Rattle.jl_token.proofs.Rows.{Reads, prepend, many_step, many_complete, many_sound, many_whole}
+use Rattle.jl_token.proofs.Tests.{or_false, and_true, never_both, is_unit}
+use Rattle.jl_token.proofs.Units.{units}
+use Rattle.jl_token.proofs.Parts.{reads_before_close, reads_start, reads_part}
 use Rattle.jl_token.proofs.Strings.{reads_character}
-use Rattle.jl_token.proofs.Numbers.{choose, row_shorter, Against, longer, same, against, units_shorter, fraction_rest, goes_on, NumeralAgainst, longer_numeral, same_numeral, numeral_against, numeral_begins, begins_at, found_numeral}
+use Rattle.jl_token.proofs.Numbers.{choose, row_shorter, longer, same, against, units_shorter, fraction_rest, goes_on, longer_numeral, same_numeral, numeral_against, numeral_begins, found_numeral}
 use Rattle.jl_token.proofs.Values.{value_complete}
-use Rattle.jl_token.proofs.Table.{Longest, longer as longer_punctuator, same as same_punctuator, longest, is_other, goes_well, each_goes_well}
+use Rattle.jl_token.proofs.Table.{longer as longer_punctuator, same as same_punctuator, longest, is_other, goes_well, each_goes_well}
 use Rattle.jl_token.proofs.Branches.{scan_white, scan_line, scan_line_comment, scan_block_comment, scan_string, scan_number, scan_letter}
 
 pub data Covers : Outcome → Element → List ℕ → Type 0 where
@@ -80,8 +80,9 @@ name_end_same xs rest = choose (λ o. Covers o (Word (kinds.Name (name_text xs) 
 name_covers : {us rest : List ℕ} {xs : List (ℕ × Bool)} → Name us xs rest → Covers (scan us) (Word (kinds.Name (name_text xs) (is_escaped xs))) rest
 unfolding name_from
 name_covers {us} (name {mid} {rest} {x} {xs} s m) = rw (scan_letter s, reads_start.complete us x mid s) (elim (row_against (Letter is_identifier_part) (letter is_identifier_part) reads_part m) [
-    longer_row h ↦ name_end_covers (x ∷ (many (letter is_identifier_part) mid).0) (many (letter is_identifier_part) mid).1 _ rest h
-  | same_row e ↦ rw e (name_end_same (x ∷ xs) rest) ])
+  | longer_row h ↦ name_end_covers (x ∷ (many (letter is_identifier_part) mid).0) (many (letter is_identifier_part) mid).1 _ rest h
+  | same_row e ↦ rw e (name_end_same (x ∷ xs) rest)
+])
 
 -- numbers
 number_longer : (x : ℕ × ℕ × ℕ × List ℕ) (e : Element) (rest : List ℕ) → length x.3 < length rest → Covers (number_end x) e rest
@@ -97,8 +98,9 @@ number_same m r l n rest v = choose (λ o. Covers o (Word (kinds.Number (Some (p
 
 number_covers : {us rest : List ℕ} {m r l n : ℕ} → Numeral us m r l rest → HasValue m r l n → Covers (scan us) (Word (kinds.Number (Some (pos n)))) rest
 number_covers {us} {rest} {m} {r} {l} {n} d v = rw (scan_number us (numeral_begins d)) (elim (numeral_against d) [
-    longer_numeral h ↦ number_longer (found_numeral us) _ rest h
-  | same_numeral e ↦ rw e (number_same m r l n rest v) ])
+  | longer_numeral h ↦ number_longer (found_numeral us) _ rest h
+  | same_numeral e ↦ rw e (number_same m r l n rest v)
+])
 
 -- strings
 pub mark_stops : (mark : ℕ) (us : List ℕ) → character mark (mark ∷ us) ≡ None
@@ -143,8 +145,9 @@ block_longer (cs, (u ∷ v ∷ end)) e rest h = a_longer (omega arith)
 punctuator_found_covers : (us : List ℕ) (p : Punct) (rest : List ℕ) → us ≡ punctuator_units p ++ rest → Covers (punctuator_found (first_punctuator all_punctuators us)) (Word (kinds.Punct p)) rest
 unfolding punctuator_found
 punctuator_found_covers us p rest e = elim (longest us p rest e) [
-    longer_punctuator a h ↦ rw a (a_longer h)
-  | same_punctuator a ↦ rw a the_same ]
+  | longer_punctuator a h ↦ rw a (a_longer h)
+  | same_punctuator a ↦ rw a the_same
+]
 
 no_more_units : (ws : List ℕ) → nat_le 1 (length ws) ≡ false → ws ≡ []
 no_more_units [] h = refl
@@ -182,21 +185,21 @@ module _ (u : ℕ) (ws rest : List ℕ) (p : Punct) (e : punctuator_units p ≡ 
       let f = fraction_rest [] (many (one_unit is_digit) rest) in
       let g = goes_on is_digit rest d in
       subst (λ x. Covers (number_end (numeral x (ws ++ rest))) (Word (kinds.Punct p)) rest) (sym (is_unit u 46 a.0))
-        (subst (λ x. Covers (number_end (numeral 46 (x ++ rest))) (Word (kinds.Punct p)) rest) (sym n)
-          (rw (numeral_point rest) (number_longer (after_fraction [] (many (one_unit is_digit) rest)) (Word (kinds.Punct p)) rest (omega arith))))
+      (subst (λ x. Covers (number_end (numeral 46 (x ++ rest))) (Word (kinds.Punct p)) rest) (sym n)
+      (rw (numeral_point rest) (number_longer (after_fraction [] (many (one_unit is_digit) rest)) (Word (kinds.Punct p)) rest (omega arith))))
 
   punctuator_covers_by : Covers (scan (u ∷ (ws ++ rest))) (Word (kinds.Punct p)) rest
   unfolding scan scan_word
   punctuator_covers_by = let o = others in rw (o.0, o.1)
-    (choose (λ x. Covers x (Word (kinds.Punct p)) rest) (u == 47 && first_is (λ v. v == 47) (ws ++ rest)) _ _
+      (choose (λ x. Covers x (Word (kinds.Punct p)) rest) (u == 47 && first_is (λ v. v == 47) (ws ++ rest)) _ _
       (λ h. let a = and_true (u == 47) (first_is (λ v. v == 47) (ws ++ rest)) h in
-        let l = after_slash 47 ws rest refl (w.slash a.0) a.1 in let s = units_shorter is_on_line (after_first (ws ++ rest)) in a_longer (omega arith))
-    (λ _. choose (λ x. Covers x (Word (kinds.Punct p)) rest) (u == 47 && first_is (λ v. v == 42) (ws ++ rest)) _ _
+      let l = after_slash 47 ws rest refl (w.slash a.0) a.1 in let s = units_shorter is_on_line (after_first (ws ++ rest)) in a_longer (omega arith))
+      (λ _. choose (λ x. Covers x (Word (kinds.Punct p)) rest) (u == 47 && first_is (λ v. v == 42) (ws ++ rest)) _ _
       (λ h. let a = and_true (u == 47) (first_is (λ v. v == 42) (ws ++ rest)) h in
-        let l = after_slash 42 ws rest refl (w.slash a.0) a.1 in let s = close_shorter (after_first (ws ++ rest)) in block_longer _ _ rest (omega arith))
-    (λ _. rw (o.2, o.3)
+      let l = after_slash 42 ws rest refl (w.slash a.0) a.1 in let s = close_shorter (after_first (ws ++ rest)) in block_longer _ _ rest (omega arith))
+      (λ _. rw (o.2, o.3)
       (choose (λ x. Covers x (Word (kinds.Punct p)) rest) (u == 46 && first_is is_digit (ws ++ rest)) _ _
-        (λ h. point_number h)
+      (λ h. point_number h)
       (λ _. rw (o.4, o.5) (punctuator_found_covers (u ∷ (ws ++ rest)) p rest (ap (λ x. x ++ rest) (sym e))))))))
 
 punctuator_by : (p : Punct) (rest ws : List ℕ) → punctuator_units p ≡ ws → Covers (scan (ws ++ rest)) (Word (kinds.Punct p)) rest

@@ -1,24 +1,23 @@
 -- Where a fault stands, the scanner finds it.
-use Rattle.std.proofs.Common.{◌≡◌, refl, sym, ap, ◌∙◌, subst, ℕ, zero, suc, ◌+◌, ◌-◌, ◌*◌, ◌^◌, ◌<◌, ◌≤◌, ◌⊎◌, inl, inr, Bool, true, false, ◌&&◌, ◌||◌, ◌==◌, nat_le, List, [], ◌∷◌, ◌++◌, length, Option, Some, None, if◌then◌else◌, arith}
-use Rattle.std.proofs.lemmas.Bool.{leb-true, le-leb}
+use Rattle.std.proofs.Common.{◌≡◌, refl, sym, ap, ◌∙◌, subst, ℕ, ◌<◌, inl, inr, Bool, true, false, ◌&&◌, ◌||◌, ◌==◌, nat_le, List, [], ◌∷◌, length, Option, Some, None, arith}
 use Rattle.std.proofs.lemmas.Bool.Decides.{nat_tests}
-use Rattle.jl_token.specs.Characters.{is_white_space, is_line_terminator, is_on_line, is_identifier_start, is_identifier_part, is_digit, is_hex_digit, are_hex_digits, hex_number, hex_digit_value, hex_from, decimal_from, is_quote, first_is}
-use Rattle.jl_token.specs.Elements.{Element, White, LineEnd, Comment, Word, Many, no_more, one_more, OneUnit, unit, Digits, digits as some, WholeDigits, zero_digit, nonzero, no_exponent, whole, with_point, from_point, hex, Letter, itself, escaped, Name, name, BeforeClose, Numeral, HasValue, Character, StringLiteral, string, name_text, is_escaped, string_text, is_plain, Front, white_space, line_terminator, carriage_return_line_feed, line_comment, block_comment, identifier_name, punctuator, numeric_literal, string_literal}
+use Rattle.jl_token.specs.Characters.{is_identifier_start, is_identifier_part, is_digit, are_hex_digits, hex_number, hex_digit_value, is_quote, first_is}
+use Rattle.jl_token.specs.Elements.{Element, Many, no_more, unit, digits as some, zero_digit, nonzero, no_exponent, whole, Letter, itself, escaped, Name, name, BeforeClose, HasValue, Character, string, name_text, string_text, Front, identifier_name, punctuator, numeric_literal, string_literal}
 use Rattle.jl_token.specs.Faults.{Unclosed, at_end, at_last_backslash, at_line_terminator, No, LongestNumeral, Fault, unclosed_string, unclosed_comment, string_escape, name_escape, first_escape, digit_follows, name_follows, no_number, long_name, long_string, no_element}
-use Rattle.jl_token.specs.Scanner.{Outcome, found, bad, with_first, many, one_unit, letter, name_from, name_done, name_end, before_close, block_end, numeral, number_end, number_of, value_of, is_some_of, string_done, string_end, string_stop, character, escape, scan}
+use Rattle.jl_token.specs.Scanner.{Outcome, bad, many, letter, name_from, name_done, name_end, before_close, block_end, number_end, number_of, value_of, is_some_of, string_done, string_end, string_stop, character, escape, scan}
 use Rattle.jl_token.specs.declared.token.BadKind.{BadKind}
 use Rattle.jl_token.specs.declared.token.BadKind.TheVariants as faults
 use Rattle.jl_token.specs.declared.punct.Punct.TheVariants.{Dot, Slash}
 use Rattle.jl_token.proofs.Rows.{Reads, nothing_at_end, many_sound, many_whole, Found}
-use Rattle.jl_token.proofs.Tests.{or_cases, or_false, both_false, and_true, true_or_false, not_true, never_both, is_unit, other_unit, some_pair}
-use Rattle.jl_token.proofs.Units.{units, starts, lines, quotes, digits, digit_bounds}
-use Rattle.jl_token.proofs.Parts.{reads_unit, reads_before_close, reads_start, reads_part}
+use Rattle.jl_token.proofs.Tests.{or_cases, and_true, true_or_false, not_true, never_both, is_unit}
+use Rattle.jl_token.proofs.Units.{units, lines, quotes, digit_bounds}
+use Rattle.jl_token.proofs.Parts.{reads_before_close, reads_start, reads_part}
 use Rattle.jl_token.proofs.Strings.{reads_character, at_backslash}
-use Rattle.jl_token.proofs.Numbers.{choose, numeral_sound, numeral_against, NumeralAgainst, longer_numeral, same_numeral, numeral_begins, begins_at, found_numeral}
+use Rattle.jl_token.proofs.Numbers.{choose, numeral_sound, numeral_against, longer_numeral, same_numeral, numeral_begins, begins_at, found_numeral}
 use Rattle.jl_token.proofs.Values.{value_sound}
-use Rattle.jl_token.proofs.Branches.{scan_white, scan_line, scan_line_comment, scan_block_comment, scan_string, scan_number, scan_letter, scan_backslash}
+use Rattle.jl_token.proofs.Branches.{scan_block_comment, scan_string, scan_number, scan_letter, scan_backslash}
 use Rattle.jl_token.proofs.Found.{Right, right_element, right_fault, close_here, positive, scan_right}
-use Rattle.jl_token.proofs.Against.{mark_stops, close_stops}
+use Rattle.jl_token.proofs.Against.{mark_stops}
 
 -- nothing is told of, so nothing is found
 none_by : {A : Type 0} (One : List ℕ → A → List ℕ → Type 0) (one : List ℕ → Option (A × List ℕ)) (r : Reads One one) (us : List ℕ) → No One us → (o : Option (A × List ℕ)) → one us ≡ o → o ≡ None
@@ -102,8 +101,9 @@ number_same {us} n = by us n (numeral_begins n.formed) where
   by : {rest : List ℕ} {m r l : ℕ} (us : List ℕ) → LongestNumeral us m r l rest → begins_at us ≡ true → found_numeral us ≡ (m, r, l, rest)
   by [] n h = absurd cc
   by (u ∷ us) n h = elim (numeral_against n.formed) [
-      longer_numeral g ↦ let i = n.longest _ _ _ _ (numeral_sound u us h) in absurd (omega arith)
-    | same_numeral e ↦ e ]
+    | longer_numeral g ↦ let i = n.longest _ _ _ _ (numeral_sound u us h) in absurd (omega arith)
+    | same_numeral e ↦ e
+  ]
 
 number_blamed : {us rest : List ℕ} {m r l : ℕ} → LongestNumeral us m r l rest → scan us ≡ number_end (m, r, l, rest)
 number_blamed {us} n = scan_number us (numeral_begins n.formed) ∙ ap number_end (number_same n)
@@ -167,13 +167,15 @@ no_zero f = f [] [] _ (numeric_literal {n = 0} (whole zero_digit no_exponent) (r
 
 no_digit : (u : ℕ) → NothingWith u → is_digit u ≡ true → ⊥
 no_digit u f d = elim (true_or_false (u == 48)) [
-    inl e ↦ no_zero (subst NothingWith (is_unit u 48 e) f)
-  | inr z ↦ let b = digit_bounds u d in f [] [] _ (numeric_literal (whole (nonzero z (some (unit d) no_more)) no_exponent) (record { exact = refl; inside = omega arith })) ]
+  | inl e ↦ no_zero (subst NothingWith (is_unit u 48 e) f)
+  | inr z ↦ let b = digit_bounds u d in f [] [] _ (numeric_literal (whole (nonzero z (some (unit d) no_more)) no_exponent) (record { exact = refl; inside = omega arith }))
+]
 
 no_number_here : (u : ℕ) (vs us : List ℕ) → vs ≡ u ∷ us → NothingWith u → begins_at vs ≡ true → ⊥
 no_number_here u vs us e f h = elim (or_cases (is_digit u) (u == 46 && first_is is_digit us) (subst (λ w. begins_at w ≡ true) e h)) [
-    inl d ↦ no_digit u f d
-  | inr p ↦ no_point (subst NothingWith (is_unit u 46 (and_true (u == 46) (first_is is_digit us) p).0) f) ]
+  | inl d ↦ no_digit u f d
+  | inr p ↦ no_point (subst NothingWith (is_unit u 46 (and_true (u == 46) (first_is is_digit us) p).0) f)
+]
 
 only_character : (u : ℕ) (vs us : List ℕ) (k : BadKind) → vs ≡ u ∷ us → NothingWith u → Fault vs k → k ≡ faults.BadCharacter
 only_character u vs us k e f (unclosed_string {mark} q m n) = let a : mark ≡ u = cc in absurd (no_string u f (subst (λ w. is_quote w ≡ true) a q))

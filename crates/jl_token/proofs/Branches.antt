@@ -1,10 +1,9 @@
 -- Which branch of the scanner an element takes.
-use Rattle.std.proofs.Common.{◌≡◌, refl, sym, ap, ◌∙◌, subst, ℕ, zero, suc, ◌+◌, ◌<◌, ◌≤◌, ◌⊎◌, inl, inr, Bool, true, false, ◌&&◌, ◌||◌, ◌==◌, nat_le, List, [], ◌∷◌, ◌++◌, length, Option, Some, None, if◌then◌else◌, arith}
-use Rattle.jl_token.specs.Characters.{is_white_space, is_line_terminator, is_on_line, is_identifier_start, is_identifier_part, is_digit, is_quote, first_is}
-use Rattle.jl_token.specs.Elements.{Element, White, LineEnd, Comment, Word, Letter, itself, escaped, Name, name}
-use Rattle.jl_token.specs.Punctuators.{all_punctuators}
-use Rattle.jl_token.specs.Scanner.{Outcome, found, bad, many, one_unit, letter, name_from, before_close, block_end, numeral, number_end, after_line_feed, string_end, character, first_punctuator, punctuator_found, after_first, scan_word, scan}
-use Rattle.jl_token.proofs.Tests.{or_cases, or_false, both_false, and_true, true_or_false, not_true, never_both, is_unit, other_unit}
+use Rattle.std.proofs.Common.{◌≡◌, refl, sym, subst, ℕ, ◌⊎◌, inl, inr, Bool, true, false, ◌&&◌, ◌==◌, List, [], ◌∷◌, if◌then◌else◌}
+use Rattle.jl_token.specs.Characters.{is_white_space, is_line_terminator, is_on_line, is_identifier_start, is_digit, is_quote, first_is}
+use Rattle.jl_token.specs.Elements.{White, LineEnd, Comment, Letter, itself, escaped}
+use Rattle.jl_token.specs.Scanner.{found, many, one_unit, letter, name_from, before_close, block_end, number_end, after_line_feed, string_end, character, scan_word, scan}
+use Rattle.jl_token.proofs.Tests.{or_cases, and_true, is_unit}
 use Rattle.jl_token.proofs.Units.{units, starts, lines, quotes, digits}
 use Rattle.jl_token.proofs.Numbers.{begins_at, found_numeral}
 

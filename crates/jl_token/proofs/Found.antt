@@ -1,25 +1,24 @@
 -- What the scanner finds stands there.
-use Rattle.std.proofs.Common.{◌≡◌, refl, sym, ap, ◌∙◌, subst, ℕ, zero, suc, ◌+◌, ◌<◌, ◌≤◌, ◌⊎◌, inl, inr, Bool, true, false, ◌&&◌, ◌||◌, ◌==◌, nat_le, List, [], ◌∷◌, ◌++◌, length, Option, Some, None, if◌then◌else◌, arith}
+use Rattle.std.proofs.Common.{◌≡◌, refl, sym, ap, ◌∙◌, subst, ℕ, suc, ◌⊎◌, inl, inr, Bool, true, false, ◌&&◌, ◌||◌, ◌==◌, nat_le, List, [], ◌∷◌, ◌++◌, length, Option, Some, None, if◌then◌else◌, arith}
 use Rattle.std.proofs.lemmas.Bool.{leb-true, le-leb}
 use Rattle.std.proofs.lemmas.Bool.Decides.{nat_tests}
-use Rattle.std.specs.List.{list_any}
 use Rattle.jl_token.specs.Characters.{is_white_space, is_line_terminator, is_on_line, is_identifier_start, is_identifier_part, is_digit, is_quote, first_is}
 use Rattle.jl_token.specs.Punctuators.{punctuator_units, all_punctuators}
-use Rattle.jl_token.specs.Elements.{Element, White, LineEnd, Comment, Word, Many, no_more, one_more, OneUnit, Letter, itself, escaped, Name, name, BeforeClose, Numeral, HasValue, Character, StringLiteral, string, name_text, is_escaped, string_text, is_plain, Front, white_space, line_terminator, carriage_return_line_feed, line_comment, block_comment, identifier_name, punctuator, numeric_literal, string_literal}
-use Rattle.jl_token.specs.Faults.{Unclosed, at_end, at_last_backslash, at_line_terminator, LongestNumeral, Fault, unclosed_string, unclosed_comment, string_escape, name_escape, first_escape, digit_follows, name_follows, no_number, long_name, long_string, no_element}
-use Rattle.jl_token.specs.Scanner.{Outcome, found, bad, with_first, many, one_unit, letter, name_from, name_done, name_end, before_close, block_end, numeral, number_end, number_of, value_of, is_some_of, after_line_feed, string_done, string_end, string_stop, character, first_punctuator, punctuator_found, after_first, scan_word, scan}
+use Rattle.jl_token.specs.Elements.{Element, LineEnd, Comment, Many, Letter, itself, escaped, Name, name, BeforeClose, Character, string, name_text, string_text, is_plain, Front, white_space, line_terminator, carriage_return_line_feed, line_comment, block_comment, identifier_name, punctuator, numeric_literal, string_literal}
+use Rattle.jl_token.specs.Faults.{at_end, at_last_backslash, at_line_terminator, LongestNumeral, Fault, unclosed_string, unclosed_comment, string_escape, name_escape, first_escape, digit_follows, name_follows, no_number, long_name, long_string, no_element}
+use Rattle.jl_token.specs.Scanner.{Outcome, found, bad, many, one_unit, letter, name_from, name_done, name_end, before_close, block_end, numeral, number_end, number_of, value_of, is_some_of, after_line_feed, string_done, string_end, string_stop, character, first_punctuator, punctuator_found, after_first, scan_word, scan}
 use Rattle.jl_token.specs.declared.token.BadKind.{BadKind}
 use Rattle.jl_token.specs.declared.token.BadKind.TheVariants as faults
 use Rattle.jl_token.specs.declared.punct.Punct.{Punct}
 use Rattle.jl_token.specs.declared.punct.Punct.TheVariants.{Dot, Slash}
 use Rattle.jl_token.proofs.Rows.{Reads, many_sound, many_whole, Found}
-use Rattle.jl_token.proofs.Tests.{or_cases, or_false, both_false, and_true, true_or_false, not_true, never_both, is_unit, other_unit, some_pair}
-use Rattle.jl_token.proofs.Units.{units, starts, lines, quotes, digits}
-use Rattle.jl_token.proofs.Parts.{reads_unit, reads_before_close, reads_start, reads_part}
+use Rattle.jl_token.proofs.Tests.{or_cases, or_false, and_true, true_or_false, never_both, is_unit}
+use Rattle.jl_token.proofs.Units.{units}
+use Rattle.jl_token.proofs.Parts.{reads_before_close, reads_start, reads_part}
 use Rattle.jl_token.proofs.Strings.{reads_character}
 use Rattle.jl_token.proofs.Numbers.{choose, units_row, numeral_sound, numeral_longest, numeral_begins, begins_at}
 use Rattle.jl_token.proofs.Values.{value_sound, value_complete}
-use Rattle.jl_token.proofs.Table.{Fits, first_sound, no_head, goes_well, each_goes_well}
+use Rattle.jl_token.proofs.Table.{first_sound, no_head, goes_well, each_goes_well}
 
 pub data Right (us : List ℕ) : Outcome → Type 0 where
   right_element : {e : Element} {rest : List ℕ} → Front us e rest → Right us (found e rest)
@@ -47,8 +46,8 @@ line_comment_right : (u : ℕ) (us : List ℕ) → (u == 47 && first_is (λ v. v
 line_comment_right u [] h = absurd (never_both (first_is (λ v. v == 47) []) (and_true (u == 47) false h).1 refl)
 line_comment_right u (v ∷ us) h = let a = and_true (u == 47) (v == 47) h in
     subst (λ x. Right (x ∷ v ∷ us) (found (Comment false) (many (one_unit is_on_line) us).1)) (sym (is_unit u 47 a.0))
-      (subst (λ x. Right (47 ∷ x ∷ us) (found (Comment false) (many (one_unit is_on_line) us).1)) (sym (is_unit v 47 a.1))
-        (right_element (line_comment (units_row is_on_line us))))
+    (subst (λ x. Right (47 ∷ x ∷ us) (found (Comment false) (many (one_unit is_on_line) us).1)) (sym (is_unit v 47 a.1))
+    (right_element (line_comment (units_row is_on_line us))))
 
 pub close_here : (u v : ℕ) (rest : List ℕ) → before_close (u ∷ v ∷ rest) ≡ None → (u ≡ 42) × (v ≡ 47)
 unfolding before_close
@@ -74,8 +73,8 @@ block_comment_right : (u : ℕ) (us : List ℕ) → (u == 47 && first_is (λ v. 
 block_comment_right u [] h = absurd (never_both (first_is (λ v. v == 42) []) (and_true (u == 47) false h).1 refl)
 block_comment_right u (v ∷ us) h = let a = and_true (u == 47) (v == 42) h in
     subst (λ x. Right (x ∷ v ∷ us) (block_end (many before_close us))) (sym (is_unit u 47 a.0))
-      (subst (λ x. Right (47 ∷ x ∷ us) (block_end (many before_close us))) (sym (is_unit v 42 a.1))
-        (block_right us (many before_close us) refl (many_sound BeforeClose before_close reads_before_close us)))
+    (subst (λ x. Right (47 ∷ x ∷ us) (block_end (many before_close us))) (sym (is_unit v 42 a.1))
+    (block_right us (many before_close us) refl (many_sound BeforeClose before_close reads_before_close us)))
 
 -- strings
 pub positive : (n : ℕ) → nat_le 1 (suc n) ≡ true
@@ -87,8 +86,8 @@ module _ (mark : ℕ) (q : is_quote mark ≡ true) where
   string_close_right us cs rest m = rw (same mark) (choose (Right (mark ∷ us)) (nat_le (length (string_text cs)) 1048576) _ _
       (λ h. right_element (string_literal (string q m) (leb-true (length (string_text cs)) 1048576 h)))
       (λ h. right_fault (long_string (string q m) (grind (arith, nat_tests))))) where
-    same : (n : ℕ) → (n == n) ≡ true
-    same n = grind arith
+        same : (n : ℕ) → (n == n) ≡ true
+        same n = grind arith
 
   must_be_backslash : (u : ℕ) (us : List ℕ) → (u == mark) ≡ false → is_line_terminator u ≡ false → character mark (u ∷ us) ≡ None → u ≡ 92
   unfolding character
@@ -107,11 +106,14 @@ module _ (mark : ℕ) (q : is_quote mark ≡ true) where
   string_stop_right us cs u rest m e = by (true_or_false (u == mark)) (true_or_false (is_line_terminator u)) where
     at_mark : (u == mark) ≡ true → Right (mark ∷ us) (string_stop mark (string_text cs) (is_plain cs) u rest)
     at_mark h = subst (λ w. Right (mark ∷ us) (string_stop mark (string_text cs) (is_plain cs) w rest)) (sym (is_unit u mark h)) (string_close_right us cs rest (subst (λ w. Many (Character mark) us cs (w ∷ rest)) (is_unit u mark h) m))
+
     at_line : (u == mark) ≡ false → is_line_terminator u ≡ true → Right (mark ∷ us) (string_stop mark (string_text cs) (is_plain cs) u rest)
     at_line h l = unfold string_stop in (rw (h, l) (right_fault (unclosed_string q m (at_line_terminator l))))
+
     at_other : (u == mark) ≡ false → is_line_terminator u ≡ false → Right (mark ∷ us) (string_stop mark (string_text cs) (is_plain cs) u rest)
     at_other h l = let b = must_be_backslash u rest h l e in
-      unfold string_stop in (rw (h, l) (string_backslash_right us cs rest (subst (λ w. Many (Character mark) us cs (w ∷ rest)) b m) (subst (λ w. character mark (w ∷ rest) ≡ None) b e)))
+        unfold string_stop in (rw (h, l) (string_backslash_right us cs rest (subst (λ w. Many (Character mark) us cs (w ∷ rest)) b m) (subst (λ w. character mark (w ∷ rest) ≡ None) b e)))
+
     by : ((u == mark) ≡ true) ⊎ ((u == mark) ≡ false) → (is_line_terminator u ≡ true) ⊎ (is_line_terminator u ≡ false) → Right (mark ∷ us) (string_stop mark (string_text cs) (is_plain cs) u rest)
     by (inl h) l = at_mark h
     by (inr h) (inl l) = at_line h l
@@ -138,21 +140,21 @@ unfolding number_end
 number_right us (m, r, l, rest) n = choose (Right us) (first_is is_digit rest || is_some_of (letter is_identifier_start rest)) _ _
     (λ h. by (or_cases (first_is is_digit rest) (is_some_of (letter is_identifier_start rest)) h))
     (λ h. value_right us m r l rest n (value_of m r l) refl) where
-  by : (first_is is_digit rest ≡ true) ⊎ (is_some_of (letter is_identifier_start rest) ≡ true) → Right us (bad faults.BadNumber)
-  by (inl d) = right_fault (digit_follows n d)
-  by (inr s) = let a = some_letter rest (letter is_identifier_start rest) refl s in right_fault (name_follows n a.2)
+      by : (first_is is_digit rest ≡ true) ⊎ (is_some_of (letter is_identifier_start rest) ≡ true) → Right us (bad faults.BadNumber)
+      by (inl d) = right_fault (digit_follows n d)
+      by (inr s) = let a = some_letter rest (letter is_identifier_start rest) refl s in right_fault (name_follows n a.2)
 
 -- names
 name_end_right : (us : List ℕ) (xs : List (ℕ × Bool)) (rest : List ℕ) → Name us xs rest → letter is_identifier_part rest ≡ None → Right us (name_end xs rest)
 unfolding name_done
 name_end_right us xs rest n e = choose (Right us) (first_is (λ u. u == 92) rest) _ _ (λ h. at_backslash rest n e h)
     (λ h. choose (Right us) (nat_le (length (name_text xs)) 1048576) _ _
-      (λ g. right_element (identifier_name n (leb-true (length (name_text xs)) 1048576 g)))
-      (λ g. right_fault (long_name n (none_here (Letter is_identifier_part) (letter is_identifier_part) reads_part rest e) h (grind (arith, nat_tests))))) where
-  at_backslash : (rest : List ℕ) → Name us xs rest → letter is_identifier_part rest ≡ None → first_is (λ u. u == 92) rest ≡ true → Right us (bad faults.BadEscape)
-  at_backslash [] n e h = absurd (never_both (first_is (λ u. u == 92) []) h refl)
-  at_backslash (u ∷ rest) n e h = let b = is_unit u 92 h in
-    right_fault (name_escape (subst (λ w. Name us xs (w ∷ rest)) b n) (none_here (Letter is_identifier_part) (letter is_identifier_part) reads_part (92 ∷ rest) (subst (λ w. letter is_identifier_part (w ∷ rest) ≡ None) b e)))
+    (λ g. right_element (identifier_name n (leb-true (length (name_text xs)) 1048576 g)))
+    (λ g. right_fault (long_name n (none_here (Letter is_identifier_part) (letter is_identifier_part) reads_part rest e) h (grind (arith, nat_tests))))) where
+      at_backslash : (rest : List ℕ) → Name us xs rest → letter is_identifier_part rest ≡ None → first_is (λ u. u == 92) rest ≡ true → Right us (bad faults.BadEscape)
+      at_backslash [] n e h = absurd (never_both (first_is (λ u. u == 92) []) h refl)
+      at_backslash (u ∷ rest) n e h = let b = is_unit u 92 h in
+          right_fault (name_escape (subst (λ w. Name us xs (w ∷ rest)) b n) (none_here (Letter is_identifier_part) (letter is_identifier_part) reads_part (92 ∷ rest) (subst (λ w. letter is_identifier_part (w ∷ rest) ≡ None) b e)))
 
 name_right : (u : ℕ) (us : List ℕ) → (is_identifier_start u || u == 92) ≡ true → (o : Option ((ℕ × Bool) × List ℕ)) → letter is_identifier_start (u ∷ us) ≡ o → Right (u ∷ us) (name_from o)
 unfolding name_from letter
@@ -184,8 +186,9 @@ no_punctuator u us o others rest p f (w ∷ ws) e = let g = f ∙ ap (λ x. x ++
 
 no_number_begins : (u : ℕ) (us : List ℕ) → Others u us → (others : List ℕ) → begins_at (u ∷ others) ≡ true → ⊥
 no_number_begins u us o others h = elim (or_cases (is_digit u) (u == 46 && first_is is_digit others) h) [
-    inl d ↦ never_both (is_digit u) d o.digit
-  | inr p ↦ no_head u us o.none Dot [] (ap (λ w. w ∷ []) (sym (is_unit u 46 (and_true (u == 46) (first_is is_digit others) p).0))) ]
+  | inl d ↦ never_both (is_digit u) d o.digit
+  | inr p ↦ no_head u us o.none Dot [] (ap (λ w. w ∷ []) (sym (is_unit u 46 (and_true (u == 46) (first_is is_digit others) p).0)))
+]
 
 nothing_begins : (u : ℕ) (us : List ℕ) → Others u us → (vs others rest : List ℕ) (e : Element) → vs ≡ u ∷ others → Front vs e rest → ⊥
 nothing_begins u us o vs others rest e q (white_space {u = v} h) = let a : v ≡ u = cc in never_both (is_white_space u) (subst (λ w. is_white_space w ≡ true) a h) o.white
@@ -208,10 +211,10 @@ punctuator_right u us f (Some (p, rest)) e = right_element (punctuator p (first_
 pub scan_right : (u : ℕ) (us : List ℕ) → Right (u ∷ us) (scan (u ∷ us))
 unfolding scan scan_word
 scan_right u us = choose (Right (u ∷ us)) (is_white_space u) _ _ (λ h. right_element (white_space h))
-  (λ w. choose (Right (u ∷ us)) (is_line_terminator u) _ _ (λ h. line_right u us h)
-  (λ l. choose (Right (u ∷ us)) (u == 47 && first_is (λ v. v == 47) us) _ _ (λ h. line_comment_right u us h)
-  (λ c. choose (Right (u ∷ us)) (u == 47 && first_is (λ v. v == 42) us) _ _ (λ h. block_comment_right u us h)
-  (λ b. choose (Right (u ∷ us)) (is_quote u) _ _ (λ h. string_end_right u h us (many (character u) us) (many_sound (Character u) (character u) (reads_character u h) us))
-  (λ q. choose (Right (u ∷ us)) (is_digit u || (u == 46 && first_is is_digit us)) _ _ (λ h. number_right (u ∷ us) (numeral u us) (record { formed = numeral_sound u us h; longest = λ m r l rest n. numeral_longest n }))
-  (λ d. choose (Right (u ∷ us)) (is_identifier_start u || u == 92) _ _ (λ h. name_right u us h (letter is_identifier_start (u ∷ us)) refl)
-  (λ s. punctuator_right u us (λ e. record { white = w; line = l; quote = q; digit = (or_false (is_digit u) (u == 46 && first_is is_digit us) d).0; start = s; none = e }) (first_punctuator all_punctuators (u ∷ us)) refl)))))))
+    (λ w. choose (Right (u ∷ us)) (is_line_terminator u) _ _ (λ h. line_right u us h)
+    (λ l. choose (Right (u ∷ us)) (u == 47 && first_is (λ v. v == 47) us) _ _ (λ h. line_comment_right u us h)
+    (λ c. choose (Right (u ∷ us)) (u == 47 && first_is (λ v. v == 42) us) _ _ (λ h. block_comment_right u us h)
+    (λ b. choose (Right (u ∷ us)) (is_quote u) _ _ (λ h. string_end_right u h us (many (character u) us) (many_sound (Character u) (character u) (reads_character u h) us))
+    (λ q. choose (Right (u ∷ us)) (is_digit u || (u == 46 && first_is is_digit us)) _ _ (λ h. number_right (u ∷ us) (numeral u us) (record { formed = numeral_sound u us h; longest = λ m r l rest n. numeral_longest n }))
+    (λ d. choose (Right (u ∷ us)) (is_identifier_start u || u == 92) _ _ (λ h. name_right u us h (letter is_identifier_start (u ∷ us)) refl)
+    (λ s. punctuator_right u us (λ e. record { white = w; line = l; quote = q; digit = (or_false (is_digit u) (u == 46 && first_is is_digit us) d).0; start = s; none = e }) (first_punctuator all_punctuators (u ∷ us)) refl)))))))

@@ -1,12 +1,12 @@
 -- The reader of a numeric literal finds the longest one.
-use Rattle.std.proofs.Common.{◌≡◌, refl, sym, ap, ◌∙◌, subst, ℕ, zero, suc, ◌+◌, ◌<◌, ◌≤◌, ◌⊎◌, inl, inr, Bool, true, false, ◌&&◌, ◌||◌, ◌==◌, nat_le, List, [], ◌∷◌, ◌++◌, length, Option, Some, None, if◌then◌else◌, arith, zero-add}
-use Rattle.jl_token.specs.Characters.{is_digit, is_hex_digit, decimal_from, hex_from, first_is}
+use Rattle.std.proofs.Common.{◌≡◌, refl, sym, ap, subst, ℕ, ◌+◌, ◌<◌, ◌≤◌, ◌⊎◌, inl, inr, Bool, true, false, ◌&&◌, ◌||◌, ◌==◌, List, [], ◌∷◌, ◌++◌, length, Option, Some, None, if◌then◌else◌, arith, zero-add}
+use Rattle.jl_token.specs.Characters.{is_digit, is_hex_digit, decimal_from, first_is}
 use Rattle.jl_token.specs.Elements.{Many, no_more, one_more, OneUnit, unit, Digits, digits as some, WholeDigits, zero_digit, nonzero, Exponent, no_exponent, no_sign, plus, minus, Numeral, whole, with_point, from_point, hex}
 use Rattle.jl_token.specs.Scanner.{many, with_first, one_unit, some_digits, raised, exponent_by, exponent_sign, exponent, with_exponent, after_fraction, after_whole, hex_literal, after_zero, from_whole, numeral}
-use Rattle.jl_token.proofs.Rows.{Reads, prepend, many_step, many_complete, many_whole, many_sound, Found}
-use Rattle.jl_token.proofs.Tests.{or_cases, or_false, both_false, and_true, true_or_false, not_true, never_both, is_unit, other_unit}
-use Rattle.jl_token.proofs.Units.{units, digits, each_digit}
-use Rattle.jl_token.proofs.Parts.{IfPart, Holds, test, just, nothing, at_some, reads_unit}
+use Rattle.jl_token.proofs.Rows.{prepend, many_step, many_complete, many_whole, many_sound}
+use Rattle.jl_token.proofs.Tests.{or_cases, or_false, and_true, true_or_false, never_both, is_unit}
+use Rattle.jl_token.proofs.Units.{units, digits}
+use Rattle.jl_token.proofs.Parts.{Holds, test, just, nothing, reads_unit}
 
 -- a fact of both choices is one of the choice
 pub choose : {A : Type 0} (P : A → Type 0) (b : Bool) (x y : A) → (b ≡ true → P x) → (b ≡ false → P y) → P (if b then x else y)
@@ -49,9 +49,9 @@ module _ (p : ℕ → Bool) where
 
   pub against : {us ds rest : List ℕ} → Many (OneUnit p) us ds rest → Against us ds rest
   against {us} {ds} {rest} m = elim (true_or_false (first_is p rest)) [
-      inl h ↦ longer h (rw (many_complete (OneUnit p) (one_unit p) (reads_unit p) m, prepend_rest ds (many (one_unit p) rest)) (goes_on rest h))
+    | inl h ↦ longer h (rw (many_complete (OneUnit p) (one_unit p) (reads_unit p) m, prepend_rest ds (many (one_unit p) rest)) (goes_on rest h))
     | inr h ↦ same (many_whole (OneUnit p) (one_unit p) (reads_unit p) m (not_first rest h))
-    ]
+  ]
 
   pub as_row : {us ds rest : List ℕ} → Digits p us ds rest → Many (OneUnit p) us ds rest
   as_row (some o m) = one_more o m
@@ -86,8 +86,8 @@ sign_sound e [] h = no_exponent
 sign_sound e (s ∷ us) h = choose (IsExponent (e ∷ s ∷ us)) (s == 43) _ _
     (λ k. by_sound (e ∷ s ∷ us) us false (some_digits is_digit us) (digits_sound is_digit us) (λ ds rest d. subst (λ w. Exponent (e ∷ w ∷ us) (decimal_from 0 ds) 0 rest) (sym (is_unit s 43 k)) (plus h d)))
     (λ n. choose (IsExponent (e ∷ s ∷ us)) (s == 45) _ _
-      (λ k. by_sound (e ∷ s ∷ us) us true (some_digits is_digit us) (digits_sound is_digit us) (λ ds rest d. subst (λ w. Exponent (e ∷ w ∷ us) 0 (decimal_from 0 ds) rest) (sym (is_unit s 45 k)) (minus h d)))
-      (λ k. by_sound (e ∷ s ∷ us) (s ∷ us) false (some_digits is_digit (s ∷ us)) (digits_sound is_digit (s ∷ us)) (λ ds rest d. no_sign h d)))
+    (λ k. by_sound (e ∷ s ∷ us) us true (some_digits is_digit us) (digits_sound is_digit us) (λ ds rest d. subst (λ w. Exponent (e ∷ w ∷ us) 0 (decimal_from 0 ds) rest) (sym (is_unit s 45 k)) (minus h d)))
+    (λ k. by_sound (e ∷ s ∷ us) (s ∷ us) false (some_digits is_digit (s ∷ us)) (digits_sound is_digit (s ∷ us)) (λ ds rest d. no_sign h d)))
 
 exponent_sound : (us : List ℕ) → IsExponent us (exponent us)
 unfolding exponent
@@ -119,11 +119,13 @@ tuple3 (a, b, c) r l rest e f g = rw (e, f, g) refl
 raised_against : (all us ds rest : List ℕ) (lowers : Bool) → Digits is_digit us ds rest → ExponentAgainst (exponent_by all lowers (some_digits is_digit us)) (raised lowers (ds, rest)).0 (raised lowers (ds, rest)).1 rest
 unfolding exponent_by raised
 raised_against all us ds rest false d = rw (found_digits is_digit d) (elim (against is_digit (as_row is_digit d)) [
-    longer h l ↦ longer_exponent l
-  | same e ↦ same_exponent (rw e refl) ])
+  | longer h l ↦ longer_exponent l
+  | same e ↦ same_exponent (rw e refl)
+])
 raised_against all us ds rest true d = rw (found_digits is_digit d) (elim (against is_digit (as_row is_digit d)) [
-    longer h l ↦ longer_exponent l
-  | same e ↦ same_exponent (rw e refl) ])
+  | longer h l ↦ longer_exponent l
+  | same e ↦ same_exponent (rw e refl)
+])
 
 -- a unit that isn't an exponent's letter begins no exponent
 none_before : (u : ℕ) (us rest : List ℕ) (r l : ℕ) → (u == 101 || u == 69) ≡ false → Exponent (u ∷ us) r l rest → (r ≡ 0) × (l ≡ 0) × (rest ≡ u ∷ us)
@@ -190,15 +192,16 @@ unfolding numeral after_fraction with_exponent from_whole
 numeral_sound u us h = choose (IsNumeral (u ∷ us)) (u == 48) _ _
     (λ e. subst (λ v. IsNumeral (v ∷ us) (after_zero us)) (sym (is_unit u 48 e)) (zero_sound us))
     (λ z. choose (IsNumeral (u ∷ us)) (u == 46) _ _
-      (λ e. point e (or_cases (is_digit u) (u == 46 && first_is is_digit us) h))
-      (λ e. from (or_cases (is_digit u) (u == 46 && first_is is_digit us) h) z e)) where
-  point : (u == 46) ≡ true → (is_digit u ≡ true) ⊎ ((u == 46 && first_is is_digit us) ≡ true) → IsNumeral (u ∷ us) (after_fraction [] (many (one_unit is_digit) us))
-  point e (inl d) = absurd (never_both (u == 46) e (digits u d).point)
-  point e (inr a) = subst (λ v. IsNumeral (v ∷ us) (after_fraction [] (many (one_unit is_digit) us))) (sym (is_unit u 46 e))
-      (from_point (digits_row is_digit us (and_true (u == 46) (first_is is_digit us) a).1) (exponent_sound (many (one_unit is_digit) us).1))
-  from : (is_digit u ≡ true) ⊎ ((u == 46 && first_is is_digit us) ≡ true) → (u == 48) ≡ false → (u == 46) ≡ false → IsNumeral (u ∷ us) (from_whole (many (one_unit is_digit) (u ∷ us)))
-  from (inl d) z e = after_whole_sound (u ∷ us) _ _ (nonzero z (digits_row is_digit (u ∷ us) d))
-  from (inr a) z e = absurd (never_both (u == 46) (and_true (u == 46) (first_is is_digit us) a).0 e)
+    (λ e. point e (or_cases (is_digit u) (u == 46 && first_is is_digit us) h))
+    (λ e. from (or_cases (is_digit u) (u == 46 && first_is is_digit us) h) z e)) where
+      point : (u == 46) ≡ true → (is_digit u ≡ true) ⊎ ((u == 46 && first_is is_digit us) ≡ true) → IsNumeral (u ∷ us) (after_fraction [] (many (one_unit is_digit) us))
+      point e (inl d) = absurd (never_both (u == 46) e (digits u d).point)
+      point e (inr a) = subst (λ v. IsNumeral (v ∷ us) (after_fraction [] (many (one_unit is_digit) us))) (sym (is_unit u 46 e))
+          (from_point (digits_row is_digit us (and_true (u == 46) (first_is is_digit us) a).1) (exponent_sound (many (one_unit is_digit) us).1))
+
+      from : (is_digit u ≡ true) ⊎ ((u == 46 && first_is is_digit us) ≡ true) → (u == 48) ≡ false → (u == 46) ≡ false → IsNumeral (u ∷ us) (from_whole (many (one_unit is_digit) (u ∷ us)))
+      from (inl d) z e = after_whole_sound (u ∷ us) _ _ (nonzero z (digits_row is_digit (u ∷ us) d))
+      from (inr a) z e = absurd (never_both (u == 46) (and_true (u == 46) (first_is is_digit us) a).0 e)
 
 -- what is found against a literal that is told of
 pub data NumeralAgainst (x : ℕ × ℕ × ℕ × List ℕ) (m r l : ℕ) (rest : List ℕ) : Type 0 where
@@ -224,8 +227,9 @@ whole_rest ds (u ∷ us) = choose (λ (x : ℕ × ℕ × ℕ × List ℕ). lengt
 fraction_against : (ds : List ℕ) {mid fs end rest : List ℕ} {r l : ℕ} → Many (OneUnit is_digit) mid fs end → Exponent end r l rest → NumeralAgainst (after_fraction ds (many (one_unit is_digit) mid)) (decimal_from 0 (ds ++ fs)) r (length fs + l) rest
 unfolding after_fraction
 fraction_against ds {mid} {fs} {end} {rest} {r} {l} m e = elim (against is_digit m) [
-    longer h g ↦ longer_numeral (let a = fraction_rest ds (many (one_unit is_digit) mid) in rw (none_at_digit end rest r l h e) (omega arith))
-  | same q ↦ rw q (with_against (ds ++ fs) (length fs) (exponent end) r l rest (exponent_against e)) ]
+  | longer h g ↦ longer_numeral (let a = fraction_rest ds (many (one_unit is_digit) mid) in rw (none_at_digit end rest r l h e) (omega arith))
+  | same q ↦ rw q (with_against (ds ++ fs) (length fs) (exponent end) r l rest (exponent_against e))
+]
 
 -- at the end of the whole part
 whole_against : (ds mid rest : List ℕ) (r l : ℕ) → Exponent mid r l rest → NumeralAgainst (after_whole ds mid) (decimal_from 0 ds) r l rest
@@ -233,7 +237,7 @@ unfolding after_whole
 whole_against ds [] rest r l e = subst (λ n. NumeralAgainst (with_exponent ds 0 (exponent [])) (decimal_from 0 ds) r n rest) (zero-add l) (with_against ds 0 (exponent []) r l rest (exponent_against e))
 whole_against ds (u ∷ mid) rest r l e = choose (λ x. NumeralAgainst x (decimal_from 0 ds) r l rest) (u == 46) _ _
     (λ h. longer_numeral (let a = fraction_rest ds (many (one_unit is_digit) mid) in let b = units_shorter is_digit mid in
-      rw (none_before u mid rest r l (subst (λ v. (v == 101 || v == 69) ≡ false) (sym (is_unit u 46 h)) refl) e).2 (omega arith)))
+    rw (none_before u mid rest r l (subst (λ v. (v == 101 || v == 69) ≡ false) (sym (is_unit u 46 h)) refl) e).2 (omega arith)))
     (λ h. subst (λ n. NumeralAgainst (with_exponent ds 0 (exponent (u ∷ mid))) (decimal_from 0 ds) r n rest) (zero-add l) (with_against ds 0 (exponent (u ∷ mid)) r l rest (exponent_against e)))
 
 hex_rest : (x : ℕ) (us : List ℕ) (o : Option (List ℕ × List ℕ)) → Holds o (Digits is_hex_digit us) → ExponentAgainst (0, 0, x ∷ us) 0 0 (x ∷ us) → (x == 120 || x == 88) ≡ true → (rest : List ℕ) (r l : ℕ) → Exponent (x ∷ us) r l rest → NumeralAgainst (hex_literal (x ∷ us) o) (decimal_from 0 (48 ∷ [])) r l rest
@@ -241,11 +245,12 @@ unfolding hex_literal
 hex_rest x us None d _ h rest r l e = whole_against (48 ∷ []) (x ∷ us) rest r l e
 hex_rest x us (Some (ds, end)) d _ h rest r l e =
     longer_numeral (let i = row_shorter (reads_unit is_hex_digit).shorter (as_row is_hex_digit d.has) in
-      rw (none_before x us rest r l (x_mark x h) e).2 (omega arith)) where
-  x_mark : (x : ℕ) → (x == 120 || x == 88) ≡ true → (x == 101 || x == 69) ≡ false
-  x_mark x h = elim (or_cases (x == 120) (x == 88) h) [
-      inl e ↦ subst (λ v. (v == 101 || v == 69) ≡ false) (sym (is_unit x 120 e)) refl
-    | inr e ↦ subst (λ v. (v == 101 || v == 69) ≡ false) (sym (is_unit x 88 e)) refl ]
+    rw (none_before x us rest r l (x_mark x h) e).2 (omega arith)) where
+      x_mark : (x : ℕ) → (x == 120 || x == 88) ≡ true → (x == 101 || x == 69) ≡ false
+      x_mark x h = elim (or_cases (x == 120) (x == 88) h) [
+        | inl e ↦ subst (λ v. (v == 101 || v == 69) ≡ false) (sym (is_unit x 120 e)) refl
+        | inr e ↦ subst (λ v. (v == 101 || v == 69) ≡ false) (sym (is_unit x 88 e)) refl
+      ]
 
 zero_against : (mid rest : List ℕ) (r l : ℕ) → Exponent mid r l rest → NumeralAgainst (after_zero mid) (decimal_from 0 (48 ∷ [])) r l rest
 unfolding after_zero
@@ -262,8 +267,9 @@ nonzero_numeral u us z d = rw (z, (digits u d).point) refl
 many_digits_against : (us ds mid rest : List ℕ) (r l : ℕ) → Many (OneUnit is_digit) us ds mid → Exponent mid r l rest → NumeralAgainst (from_whole (many (one_unit is_digit) us)) (decimal_from 0 ds) r l rest
 unfolding from_whole
 many_digits_against us ds mid rest r l m e = elim (against is_digit m) [
-    longer h g ↦ longer_numeral (let a = whole_rest (many (one_unit is_digit) us).0 (many (one_unit is_digit) us).1 in rw (none_at_digit mid rest r l h e) (omega arith))
-  | same q ↦ rw q (whole_against ds mid rest r l e) ]
+  | longer h g ↦ longer_numeral (let a = whole_rest (many (one_unit is_digit) us).0 (many (one_unit is_digit) us).1 in rw (none_at_digit mid rest r l h e) (omega arith))
+  | same q ↦ rw q (whole_against ds mid rest r l e)
+]
 
 many_digits_point : (us ds mid : List ℕ) → Many (OneUnit is_digit) us ds (46 ∷ mid) → from_whole (many (one_unit is_digit) us) ≡ after_fraction ds (many (one_unit is_digit) mid)
 unfolding from_whole after_whole units
@@ -297,8 +303,9 @@ numeral_against (with_point {mid} {ds} (nonzero {u} {us} z d) f e) =
     rw (nonzero_numeral u us z (first_of is_digit d), many_digits_point (u ∷ us) ds mid (as_row is_digit d)) (fraction_against ds f e)
 numeral_against (from_point d e) = fraction_against [] (as_row is_digit d) e
 numeral_against (hex {x} {us} {ds} {rest} h d) = rw (h, found_digits is_hex_digit d) (elim (against is_hex_digit (as_row is_hex_digit d)) [
-    longer h l ↦ longer_numeral l
-  | same e ↦ same_numeral (rw e refl) ])
+  | longer h l ↦ longer_numeral l
+  | same e ↦ same_numeral (rw e refl)
+])
 
 -- what is found is the longest literal
 pub numeral_longest : {us rest : List ℕ} {m r l : ℕ} → Numeral us m r l rest → length (found_numeral us).3 ≤ length rest

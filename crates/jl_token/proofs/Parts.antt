@@ -1,11 +1,11 @@
 -- The readers of one part find what the relations of one part tell of.
-use Rattle.std.proofs.Common.{◌≡◌, refl, sym, ap, ◌∙◌, subst, ℕ, zero, suc, ◌+◌, ◌<◌, ◌≤◌, ◌⊎◌, inl, inr, Bool, true, false, ◌&&◌, ◌||◌, ◌==◌, nat_le, List, [], ◌∷◌, length, Option, Some, None, if◌then◌else◌, arith}
-use Rattle.jl_token.specs.Characters.{is_line_terminator, is_identifier_start, is_identifier_part, is_digit, is_hex_digit, hex_from, are_hex_digits, hex_number, is_quote, single_escape, is_escape_character, first_is}
-use Rattle.jl_token.specs.Elements.{Many, OneUnit, unit, Letter, itself, escaped, BeforeClose, before_close as one_before, Character, plain, single, non_escape, null, hex_escape as hex_pair, unicode_escape as hex_four, continuation, long_continuation}
-use Rattle.jl_token.specs.Scanner.{one_unit, letter, name_escape, before_close, after_line_feed, hex_escape, unicode_escape, other_escape, escape_by, escape, character}
+use Rattle.std.proofs.Common.{◌≡◌, refl, sym, subst, ℕ, ◌<◌, Bool, true, false, ◌&&◌, ◌==◌, List, [], ◌∷◌, length, Option, Some, None, if◌then◌else◌, arith}
+use Rattle.jl_token.specs.Characters.{is_identifier_start, is_identifier_part, are_hex_digits, hex_number, first_is}
+use Rattle.jl_token.specs.Elements.{OneUnit, unit, Letter, itself, escaped, BeforeClose, before_close as one_before}
+use Rattle.jl_token.specs.Scanner.{one_unit, letter, name_escape, before_close}
 use Rattle.jl_token.proofs.Rows.{Reads}
-use Rattle.jl_token.proofs.Tests.{or_cases, or_false, both_false, and_true, true_or_false, not_true, never_both, is_unit, other_unit}
-use Rattle.jl_token.proofs.Units.{units, backslash_start, backslash_part, Quotes, quotes, each_line_terminator}
+use Rattle.jl_token.proofs.Tests.{and_true, is_unit}
+use Rattle.jl_token.proofs.Units.{backslash_start, backslash_part}
 
 -- what holds of a part, if there is one
 abbrev pub IfPart : {A : Type 0} → (A → List ℕ → Type 0) → Option (A × List ℕ) → Type 0
@@ -65,7 +65,7 @@ escape_sound : (p : ℕ → Bool) (us : List ℕ) → Holds (name_escape p us) (
 unfolding name_escape
 escape_sound p (v ∷ a ∷ b ∷ c ∷ d ∷ us) = test (v == 117 && are_hex_digits a b c d && p (hex_number a b c d)) _ _
     (λ h. let x = and_true _ _ h in let y = and_true _ _ x.0 in
-      just (subst (λ w. Letter p (92 ∷ w ∷ a ∷ b ∷ c ∷ d ∷ us) (hex_number a b c d, true) us) (sym (is_unit v 117 y.0)) (escaped y.1 x.1)))
+    just (subst (λ w. Letter p (92 ∷ w ∷ a ∷ b ∷ c ∷ d ∷ us) (hex_number a b c d, true) us) (sym (is_unit v 117 y.0)) (escaped y.1 x.1)))
     (λ h. nothing)
 escape_sound p _ = nothing
 

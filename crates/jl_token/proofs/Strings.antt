@@ -1,12 +1,12 @@
 -- The reader of a string's character finds what the relation tells of.
-use Rattle.std.proofs.Common.{◌≡◌, refl, sym, ap, ◌∙◌, subst, ℕ, zero, suc, ◌+◌, ◌<◌, ◌≤◌, ◌⊎◌, inl, inr, Bool, true, false, ◌&&◌, ◌||◌, ◌==◌, nat_le, List, [], ◌∷◌, length, Option, Some, None, if◌then◌else◌, arith}
-use Rattle.jl_token.specs.Characters.{is_line_terminator, is_digit, is_hex_digit, hex_from, are_hex_digits, hex_number, is_quote, single_escape, is_escape_character, first_is}
+use Rattle.std.proofs.Common.{◌≡◌, refl, sym, ap, ◌∙◌, subst, ℕ, ◌<◌, ◌⊎◌, inl, inr, Bool, true, false, ◌&&◌, ◌||◌, ◌==◌, List, [], ◌∷◌, length, Option, Some, None, if◌then◌else◌, arith}
+use Rattle.jl_token.specs.Characters.{is_line_terminator, is_digit, is_hex_digit, are_hex_digits, is_quote, single_escape, is_escape_character, first_is}
 use Rattle.jl_token.specs.Elements.{Character, plain, single, non_escape, null, hex_escape as hex_pair, unicode_escape as hex_four, continuation, long_continuation}
 use Rattle.jl_token.specs.Scanner.{after_line_feed, hex_escape, unicode_escape, other_escape, escape_by, escape, character}
 use Rattle.jl_token.proofs.Rows.{Reads}
-use Rattle.jl_token.proofs.Tests.{or_cases, or_false, both_false, and_true, true_or_false, not_true, never_both, is_unit, other_unit}
+use Rattle.jl_token.proofs.Tests.{or_false, both_false, and_true, true_or_false, never_both, is_unit, other_unit}
 use Rattle.jl_token.proofs.Units.{units, quotes, each_line_terminator}
-use Rattle.jl_token.proofs.Parts.{IfPart, Holds, test, just, nothing, at_some}
+use Rattle.jl_token.proofs.Parts.{Holds, test, just, nothing, at_some}
 
 not_some : {A : Type 0} (b : Bool) (x : A) (y : Option A) → (if b then Some x else y) ≡ None → (b ≡ false) × (y ≡ None)
 not_some true x y h = absurd cc
@@ -73,7 +73,7 @@ module _ (mark : ℕ) where
       (λ e. subst (λ w. Holds (hex_escape us) (Character mark (92 ∷ w ∷ us))) (sym (is_unit u 120 e)) (hex_sound us)) (λ x. test (u == 117) _ _
       (λ e. subst (λ w. Holds (unicode_escape us) (Character mark (92 ∷ w ∷ us))) (sym (is_unit u 117 e)) (unicode_sound us)) (λ y. test (is_digit u) _ _
       (λ d. test (u == 48 && (if first_is is_digit us then false else true)) _ _
-        (λ h. let a = and_true _ _ h in just (subst (λ w. Character mark (92 ∷ w ∷ us) (0 ∷ [], false) us) (sym (is_unit u 48 a.0)) (null (not_first _ a.1)))) (λ h. nothing))
+      (λ h. let a = and_true _ _ h in just (subst (λ w. Character mark (92 ∷ w ∷ us) (0 ∷ [], false) us) (sym (is_unit u 48 a.0)) (null (not_first _ a.1)))) (λ h. nothing))
       (λ d. just (non_escape (both_false _ _ (both_false _ _ (both_false _ _ (both_false _ _ (single_none u s) d) x) y) l))))))
 
   escape_by_sound : (u : ℕ) (us : List ℕ) (o : Option ℕ) → single_escape u ≡ o → Holds (escape_by u us o) (Character mark (92 ∷ u ∷ us))

@@ -1,5 +1,5 @@
 -- The table of punctuators: the first that fits is the longest that fits.
-use Rattle.std.proofs.Common.{◌≡◌, refl, sym, ap, ◌∙◌, subst, ℕ, zero, suc, ◌+◌, ◌<◌, ◌≤◌, ◌⊎◌, inl, inr, Bool, true, false, ◌&&◌, ◌||◌, ◌==◌, nat_le, List, [], ◌∷◌, ◌++◌, length, Option, Some, None, if◌then◌else◌, arith}
+use Rattle.std.proofs.Common.{◌≡◌, refl, sym, ap, ◌∙◌, subst, ℕ, ◌<◌, ◌≤◌, ◌⊎◌, inl, inr, Bool, true, false, ◌&&◌, ◌||◌, ◌==◌, nat_le, List, [], ◌∷◌, ◌++◌, length, Option, Some, None, if◌then◌else◌, arith}
 use Rattle.std.proofs.lemmas.Bool.{leb-true}
 use Rattle.std.proofs.Common.{length-append, append-nil}
 use Rattle.jl_token.specs.Characters.{is_white_space, is_line_terminator, is_identifier_start, is_digit, is_quote, first_is}
@@ -7,7 +7,7 @@ use Rattle.jl_token.specs.Punctuators.{punctuator_units, all_punctuators}
 use Rattle.jl_token.specs.Scanner.{strip, or_else, first_punctuator}
 use Rattle.jl_token.specs.declared.punct.Punct.{Punct}
 use Rattle.jl_token.specs.declared.punct.Punct.TheVariants.{LeftBrace, RightBrace, LeftParen, RightParen, LeftBracket, RightBracket, Dot, Semicolon, Comma, Less, Greater, LessEqual, GreaterEqual, Equal, NotEqual, StrictEqual, StrictNotEqual, Plus, Minus, Star, Percent, PlusPlus, MinusMinus, ShiftLeft, ShiftRight, ShiftRightUnsigned, And, Or, Caret, Bang, Tilde, AndAnd, OrOr, Question, Colon, Assign, PlusAssign, MinusAssign, StarAssign, PercentAssign, ShiftLeftAssign, ShiftRightAssign, ShiftRightUnsignedAssign, AndAssign, OrAssign, CaretAssign, Slash, SlashAssign}
-use Rattle.jl_token.proofs.Tests.{and_true, is_unit, never_both, some_pair}
+use Rattle.jl_token.proofs.Tests.{and_true, is_unit, some_pair}
 use Rattle.jl_token.proofs.Units.{units}
 
 strip_complete : (ws rest : List ℕ) → strip ws (ws ++ rest) ≡ Some rest
@@ -154,14 +154,15 @@ first_fits us p q rest r e f h others =
     let i = ap length e in
     let j = ap length f in
     elim (compared (length r) (length rest) (omega arith)) [
-      inl s ↦ longer refl s
-    | inr s ↦
-        let d = same_front (punctuator_units p) (punctuator_units q) rest r (sym e ∙ f) (omega arith) in
-        let a = same_units p q d.0 in
-        let b = d.1 in
-        same cc ] where
-  compared : (a b : ℕ) → a ≤ b → (a < b) ⊎ (a ≡ b)
-  compared a b h = grind arith
+      | inl s ↦ longer refl s
+      | inr s ↦
+          let d = same_front (punctuator_units p) (punctuator_units q) rest r (sym e ∙ f) (omega arith) in
+          let a = same_units p q d.0 in
+          let b = d.1 in
+          same cc
+    ] where
+      compared : (a b : ℕ) → a ≤ b → (a < b) ⊎ (a ≡ b)
+      compared a b h = grind arith
 
 goes_by : (us : List ℕ) (p q : Punct) (rest : List ℕ) (o : Option (List ℕ)) → strip (punctuator_units q) us ≡ o → us ≡ punctuator_units p ++ rest → length (punctuator_units p) ≤ length (punctuator_units q) → (others : Option (Punct × List ℕ)) → (o ≡ None → Longest others p rest) → Longest (or_else q o others) p rest
 unfolding or_else
@@ -172,13 +173,13 @@ longest_in : {p : Punct} {ps : List Punct} → In p ps → longest_first ps ≡ 
 unfolding first_punctuator longest_first
 longest_in {p} (here {ps}) h us rest e = goes_by us p p rest (strip (punctuator_units p) us) refl e (omega arith) (first_punctuator ps us)
     (λ n. let s = ap (strip (punctuator_units p)) e ∙ strip_complete (punctuator_units p) rest in absurd (clash s n)) where
-  clash : {o : Option (List ℕ)} {r : List ℕ} → o ≡ Some r → o ≡ None → ⊥
-  clash s n = cc
+      clash : {o : Option (List ℕ)} {r : List ℕ} → o ≡ Some r → o ≡ None → ⊥
+      clash s n = cc
 longest_in {p} (there {q} {ps} i) h us rest e =
     let a = and_true (every (λ x. nat_le (length (punctuator_units x)) (length (punctuator_units q))) ps) (longest_first ps) h in
     goes_by us p q rest (strip (punctuator_units q) us) refl e
-      (leb-true (length (punctuator_units p)) (length (punctuator_units q)) (every_in (λ x. nat_le (length (punctuator_units x)) (length (punctuator_units q))) a.0 i))
-      (first_punctuator ps us) (λ n. longest_in i a.1 us rest e)
+    (leb-true (length (punctuator_units p)) (length (punctuator_units q)) (every_in (λ x. nat_le (length (punctuator_units x)) (length (punctuator_units q))) a.0 i))
+    (first_punctuator ps us) (λ n. longest_in i a.1 us rest e)
 
 pub longest : (us : List ℕ) (p : Punct) (rest : List ℕ) → us ≡ punctuator_units p ++ rest → Longest (first_punctuator all_punctuators us) p rest
 longest us p rest e = longest_in (in_table p) table_sorted us rest e

@@ -1,5 +1,5 @@
 -- The kinds of units don't overlap.
-use Rattle.std.proofs.Common.{◌≡◌, refl, sym, ap, ◌∙◌, subst, ℕ, zero, suc, ◌+◌, ◌-◌, ◌<◌, ◌≤◌, ◌⊎◌, inl, inr, Bool, true, false, ◌&&◌, ◌||◌, ◌==◌, nat_le, arith}
+use Rattle.std.proofs.Common.{◌≡◌, refl, sym, subst, ℕ, zero, suc, ◌+◌, ◌-◌, ◌<◌, ◌≤◌, ◌⊎◌, inl, inr, Bool, true, false, ◌&&◌, ◌||◌, ◌==◌, arith}
 use Rattle.std.proofs.Math.Bool.{not}
 use Rattle.std.proofs.lemmas.Bool.{leb-true}
 use Rattle.std.proofs.lemmas.Bool.Decides.{leb_tells}
@@ -7,7 +7,7 @@ use Rattle.unicode.proofs.CategoryComputing.{ucd_category}
 use Rattle.ucd_category.specs.declared.GeneralCategory.{GeneralCategory}
 use Rattle.ucd_category.specs.declared.GeneralCategory.TheVariants.{SpaceSeparator}
 use Rattle.jl_token.specs.Characters.{is_surrogate, category, is_space, is_letter, is_mark, is_white_space, is_line_terminator, is_on_line, is_identifier_start, is_identifier_part, is_digit, is_hex_digit, is_quote}
-use Rattle.jl_token.proofs.Tests.{or_cases, or_false, both_false, and_true, not_true, never_both, is_unit, other_unit}
+use Rattle.jl_token.proofs.Tests.{or_cases, both_false, and_true, not_true, never_both, is_unit, other_unit}
 
 -- a test of each number below a bound, computed
 unfoldable pub all_below : (ℕ → Bool) → ℕ → Bool
@@ -26,9 +26,9 @@ each_below : (p : ℕ → Bool) (n : ℕ) → all_below p n ≡ true → (k : �
 unfolding all_below
 each_below p zero h k g = absurd (omega arith)
 each_below p (suc n) h k g = let a = and_true _ _ h in elim (below_suc k n g) [
-    inl e ↦ subst (λ v. p v ≡ true) (sym e) a.0
+  | inl e ↦ subst (λ v. p v ≡ true) (sym e) a.0
   | inr l ↦ each_below p n a.1 k l
-  ]
+]
 
 -- a test of each unit between two
 pub each_between : (p : ℕ → Bool) (low n : ℕ) → all_below (λ k. p (low + k)) n ≡ true → (u : ℕ) → low ≤ u → u < low + n → p u ≡ true
@@ -68,26 +68,32 @@ at_unit p u k h g = subst (λ v. p v ≡ false) (sym (is_unit u k h)) g
 white_start : (u : ℕ) → is_white_space u ≡ true → is_identifier_start u ≡ false
 unfolding units
 white_start u h = elim (or_cases _ _ h) [
-    inl h1 ↦ elim (or_cases _ _ h1) [
-      inl h2 ↦ elim (or_cases _ _ h2) [
-        inl h3 ↦ elim (or_cases _ _ h3) [
-          inl h4 ↦ elim (or_cases _ _ h4) [
-            inl h5 ↦ elim (or_cases _ _ h5) [ inl e ↦ at_unit is_identifier_start u 9 e refl | inr e ↦ at_unit is_identifier_start u 11 e refl ]
-          | inr e ↦ at_unit is_identifier_start u 12 e refl ]
-        | inr e ↦ at_unit is_identifier_start u 32 e refl ]
-      | inr e ↦ at_unit is_identifier_start u 160 e refl ]
-    | inr e ↦ at_unit is_identifier_start u 65279 e refl ]
-  | inr s ↦ both_false _ _ (both_false _ _ (other_unit u 36 (λ e. never_both _ s (subst (λ v. is_space (category v) ≡ false) (sym e) dollar))) (other_unit u 95 (λ e. never_both _ s (subst (λ v. is_space (category v) ≡ false) (sym e) low_line)))) (no_letter (category u) s)
+  | inl h1 ↦ elim (or_cases _ _ h1) [
+    | inl h2 ↦ elim (or_cases _ _ h2) [
+      | inl h3 ↦ elim (or_cases _ _ h3) [
+        | inl h4 ↦ elim (or_cases _ _ h4) [
+          | inl h5 ↦ elim (or_cases _ _ h5) [ inl e ↦ at_unit is_identifier_start u 9 e refl | inr e ↦ at_unit is_identifier_start u 11 e refl ]
+          | inr e ↦ at_unit is_identifier_start u 12 e refl
+        ]
+        | inr e ↦ at_unit is_identifier_start u 32 e refl
+      ]
+      | inr e ↦ at_unit is_identifier_start u 160 e refl
+    ]
+    | inr e ↦ at_unit is_identifier_start u 65279 e refl
   ]
+  | inr s ↦ both_false _ _ (both_false _ _ (other_unit u 36 (λ e. never_both _ s (subst (λ v. is_space (category v) ≡ false) (sym e) dollar))) (other_unit u 95 (λ e. never_both _ s (subst (λ v. is_space (category v) ≡ false) (sym e) low_line)))) (no_letter (category u) s)
+]
 
 -- line terminators
 pub each_line_terminator : (p : ℕ → Bool) → p 10 ≡ false → p 13 ≡ false → p 8232 ≡ false → p 8233 ≡ false → (u : ℕ) → is_line_terminator u ≡ true → p u ≡ false
 unfolding is_line_terminator
 each_line_terminator p a b c d u h = elim (or_cases _ _ h) [
-    inl h1 ↦ elim (or_cases _ _ h1) [
-      inl h2 ↦ elim (or_cases _ _ h2) [ inl e ↦ at_unit p u 10 e a | inr e ↦ at_unit p u 13 e b ]
-    | inr e ↦ at_unit p u 8232 e c ]
-  | inr e ↦ at_unit p u 8233 e d ]
+  | inl h1 ↦ elim (or_cases _ _ h1) [
+    | inl h2 ↦ elim (or_cases _ _ h2) [ inl e ↦ at_unit p u 10 e a | inr e ↦ at_unit p u 13 e b ]
+    | inr e ↦ at_unit p u 8232 e c
+  ]
+  | inr e ↦ at_unit p u 8233 e d
+]
 
 -- quotation marks
 pub each_quote : (p : ℕ → Bool) → p 34 ≡ false → p 39 ≡ false → (u : ℕ) → is_quote u ≡ true → p u ≡ false
@@ -116,7 +122,8 @@ starts u h = record {
   quote = clash is_quote is_identifier_start (each_quote is_identifier_start refl refl) u h;
   digit = clash is_digit is_identifier_start (each_digit is_identifier_start refl) u h;
   point = clash (λ v. v == 46) is_identifier_start (λ v e. at_unit is_identifier_start v 46 e refl) u h;
-  backslash = clash (λ v. v == 92) is_identifier_start (λ v e. at_unit is_identifier_start v 92 e refl) u h }
+  backslash = clash (λ v. v == 92) is_identifier_start (λ v e. at_unit is_identifier_start v 92 e refl) u h;
+}
 
 pub record Lines (u : ℕ) : Type 0 where
   pub white : is_white_space u ≡ false
@@ -130,7 +137,8 @@ lines u h = record {
   white = each_line_terminator is_white_space refl refl refl refl u h;
   quote = each_line_terminator is_quote refl refl refl refl u h;
   digit = each_line_terminator is_digit refl refl refl refl u h;
-  backslash = each_line_terminator (λ v. v == 92) refl refl refl refl u h }
+  backslash = each_line_terminator (λ v. v == 92) refl refl refl refl u h;
+}
 
 pub record Quotes (u : ℕ) : Type 0 where
   pub white : is_white_space u ≡ false
@@ -146,7 +154,8 @@ quotes u h = record {
   line = each_quote is_line_terminator refl refl u h;
   slash = each_quote (λ v. v == 47) refl refl u h;
   digit = each_quote is_digit refl refl u h;
-  backslash = each_quote (λ v. v == 92) refl refl u h }
+  backslash = each_quote (λ v. v == 92) refl refl u h;
+}
 
 pub record IsDigit (u : ℕ) : Type 0 where
   pub white : is_white_space u ≡ false
@@ -170,7 +179,8 @@ digits u h = record {
   point = each_digit (λ v. v == 46) refl u h;
   mark = each_digit (λ v. v == 101 || v == 69) refl u h;
   sign = each_digit (λ v. v == 43 || v == 45) refl u h;
-  x_mark = each_digit (λ v. v == 120 || v == 88) refl u h }
+  x_mark = each_digit (λ v. v == 120 || v == 88) refl u h;
+}
 
 -- the backslash
 pub backslash_start : is_identifier_start 92 ≡ false

@@ -1,14 +1,13 @@
 -- The scanner's pieces are the pieces of the text, and so the tokens of a text are found, and are the only ones.
-use Rattle.std.proofs.Common.{◌≡◌, refl, sym, ap, ◌∙◌, subst, ℕ, zero, suc, ◌+◌, ◌-◌, ◌<◌, ◌≤◌, ◌⊎◌, inl, inr, Bool, true, false, ◌||◌, ◌++◌, List, [], ◌∷◌, length, Option, Some, None, arith, length-append}
+use Rattle.std.proofs.Common.{◌≡◌, refl, sym, ap, ◌∙◌, subst, ℕ, ◌<◌, ◌≤◌, ◌⊎◌, inl, inr, Bool, true, false, ◌||◌, List, [], ◌∷◌, length, Some, None, arith, length-append}
 use Rattle.jl_token.specs.Characters.{is_digit, is_hex_digit, is_on_line}
 use Rattle.jl_token.specs.Punctuators.{punctuator_units}
-use Rattle.jl_token.specs.Elements.{Element, White, LineEnd, Comment, Word, Many, no_more, one_more, OneUnit, Letter, Name, name, Digits, digits, WholeDigits, zero_digit, nonzero, Exponent, no_exponent, no_sign, plus, minus, Numeral, whole, with_point, from_point, hex, StringLiteral, string, Front, white_space, line_terminator, carriage_return_line_feed, line_comment, block_comment, identifier_name, punctuator, numeric_literal, string_literal}
-use Rattle.jl_token.specs.Faults.{LongestNumeral, Fault, unclosed_string, unclosed_comment, string_escape, name_escape, first_escape, digit_follows, name_follows, no_number, long_name, long_string, no_element}
+use Rattle.jl_token.specs.Elements.{Element, White, LineEnd, Comment, Word, Many, no_more, one_more, OneUnit, Name, name, Digits, digits, WholeDigits, zero_digit, nonzero, Exponent, no_exponent, no_sign, plus, minus, Numeral, whole, with_point, from_point, hex, StringLiteral, string, Front, white_space, line_terminator, carriage_return_line_feed, line_comment, block_comment, identifier_name, punctuator, numeric_literal, string_literal}
+use Rattle.jl_token.specs.Faults.{Fault, unclosed_string, unclosed_comment, string_escape, name_escape, first_escape, digit_follows, name_follows, no_number, long_name, long_string, no_element}
 use Rattle.jl_token.specs.Tokens.{Begins, Piece, piece, place, OnePiece, one_piece, tokens_among, Tokens, BadAt, InOrder, TokensAreUnique, BadPlaceIsUnique, TokensOrBad, NeverBoth, SpansAreInOrder}
 use Rattle.jl_token.specs.Scanner.{Outcome, found, bad, many, scan_word, scan, piece_found, next_piece}
 use Rattle.jl_token.specs.declared.punct.Punct.{Punct}
 use Rattle.jl_token.specs.declared.token.BadKind.{BadKind}
-use Rattle.jl_token.specs.declared.token.BadKind.TheVariants as faults
 use Rattle.jl_token.specs.declared.token.Token.{Token}
 use Rattle.jl_token.proofs.Rows.{Reads, nothing_at_end, many_sound, many_whole, Found}
 use Rattle.jl_token.proofs.Tests.{some_pair}
@@ -100,7 +99,8 @@ found_begins : (u : ℕ) (us : List ℕ) (e : Element) (rest : List ℕ) → sca
 found_begins u us e rest q = record {
   formed = front_of (u ∷ us) (scan (u ∷ us)) e rest (scan_right u us) q;
   longest = λ d end f. covers_shortest (scan_covers f) q;
-  faultless = λ k f. apart (sym (scan_blamed f) ∙ q) } where
+  faultless = λ k f. apart (sym (scan_blamed f) ∙ q);
+} where
   apart : {k : BadKind} → bad k ≡ found e rest → ⊥
   apart q = cc
 
@@ -177,8 +177,8 @@ pub bad_place_is_unique : BadPlaceIsUnique
 bad_place_is_unique text i j k l b c =
     let e = same_second (sym (bad_found b) ∙ bad_found c) in
     (b.there ∙ (ap (place text) e ∙ sym c.there), same_kind (sym (scan_blamed b.fault) ∙ (ap scan e ∙ scan_blamed c.fault))) where
-  same_kind : {k l : BadKind} → bad k ≡ bad l → k ≡ l
-  same_kind e = cc
+      same_kind : {k l : BadKind} → bad k ≡ bad l → k ≡ l
+      same_kind e = cc
 
 pub never_both : NeverBoth
 never_both text ts i k t b = no_fault_at_end (same_second (sym (bad_found b) ∙ tokens_found t)) b.fault

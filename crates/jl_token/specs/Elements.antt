@@ -1,6 +1,6 @@
 -- The input elements of a script (clause 7): with which of them a row of units begins, and which units are left after it.
 -- The relations here speak of any front of the units; that the longest front is taken is said in `Tokens`.
-use Rattle.std.specs.Prelude.{◌≡◌, ◌≤◌, ℕ, ◌+◌, ◌*◌, ◌^◌, Bool, true, false, ◌==◌, ◌&&◌, ◌||◌, List, [], ◌∷◌, ◌++◌, length, map, Option, Some, None, pos}
+use Rattle.std.specs.Prelude.{◌≡◌, ◌≤◌, ℕ, ◌+◌, ◌*◌, ◌^◌, Bool, true, false, ◌==◌, ◌&&◌, ◌||◌, List, [], ◌∷◌, ◌++◌, length, map, Some, pos}
 use Rattle.std.specs.List.{list_any, list_all, flat_map}
 use Rattle.jl_token.specs.Characters.{is_white_space, is_line_terminator, is_on_line, is_identifier_start, is_identifier_part, is_digit, is_hex_digit, decimal_from, hex_from, are_hex_digits, hex_number, is_quote, single_escape, is_escape_character, first_is}
 use Rattle.jl_token.specs.Punctuators.{punctuator_units}

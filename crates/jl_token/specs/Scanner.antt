@@ -5,7 +5,7 @@ use Rattle.std.specs.List.{list_any}
 use Rattle.jl_token.specs.Characters.{is_white_space, is_line_terminator, is_on_line, is_identifier_start, is_identifier_part, is_digit, is_hex_digit, decimal_from, hex_from, are_hex_digits, hex_number, is_quote, single_escape, first_is}
 use Rattle.jl_token.specs.Punctuators.{punctuator_units, all_punctuators}
 use Rattle.jl_token.specs.Elements.{Element, White, LineEnd, Comment, Word, name_text, is_escaped, string_text, is_plain}
-use Rattle.jl_token.specs.Tokens.{Piece, piece, place, tokens_among}
+use Rattle.jl_token.specs.Tokens.{Piece, piece, place}
 use Rattle.jl_token.specs.declared.punct.Punct.{Punct}
 use Rattle.jl_token.specs.declared.token.TokenKind.TheVariants as kinds
 use Rattle.jl_token.specs.declared.token.BadKind.{BadKind}

@@ -1,4 +1,4 @@
-use Rattle.std.proofs.Common.{◌≡◌, drop}
+use Rattle.std.proofs.Common.{drop}
 use Rattle.jl_lex.proofs.StringLoops.{feed_at, no_feed_at, no_return}
 use Rattle.jl_lex.proofs.characters.line_terminator_end.Goals as goal
 

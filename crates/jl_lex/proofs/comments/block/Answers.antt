@@ -1,6 +1,6 @@
-use Rattle.std.proofs.Common.{◌≡◌, drop, ◌+◌, ◌||◌, Bool, sym, ap, ◌∙◌, subst, arith}
+use Rattle.std.proofs.Common.{◌≡◌, drop, ◌+◌, ◌||◌, sym, ap, ◌∙◌, subst, arith}
 use Rattle.jl_token.specs.Characters.{is_line_terminator}
-use Rattle.jl_lex.proofs.Loops.{Inside, inside_begins, inside_more, inside_closed, inside_open}
+use Rattle.jl_lex.proofs.Loops.{Inside, inside_more, inside_closed, inside_open}
 use Rattle.jl_lex.proofs.comments.block.Goals as goal
 use Rattle.jl_lex.proofs.comments.block.Goals.{then-is_line_terminator, else-is_line_terminator}
 

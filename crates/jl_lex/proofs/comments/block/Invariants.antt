@@ -1,4 +1,4 @@
-use Rattle.std.proofs.Common.{◌≡◌, ◌≤◌, ◌-◌, drop, length}
+use Rattle.std.proofs.Common.{◌≤◌, ◌-◌, drop, length}
 use Rattle.jl_lex.proofs.Loops.{Inside}
 use Rattle.jl_lex.proofs.comments.block.Given as goal
 

@@ -1,4 +1,4 @@
-use Rattle.std.proofs.Common.{◌≡◌, drop, ◌+◌, sym, ◌∙◌, arith}
+use Rattle.std.proofs.Common.{drop, ◌+◌, sym, ◌∙◌, arith}
 use Rattle.jl_lex.proofs.Loops.{line_more, line_stop, line_last}
 use Rattle.jl_lex.proofs.comments.line_end.Goals as goal
 

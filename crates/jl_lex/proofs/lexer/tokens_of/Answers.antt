@@ -1,7 +1,6 @@
-use Rattle.std.proofs.Common.{◌≡◌, [], ◌+◌, drop, List, sym, ap, subst, ◌∙◌, false, arith}
-use Rattle.jl_token.specs.declared.token.Token.{Token}
+use Rattle.std.proofs.Common.{◌+◌, drop}
 use Rattle.jl_lex.specs.Answers.{element_of}
-use Rattle.jl_lex.proofs.LexLoops.{LexSoFar, lex_begins, lex_more, lex_ends, lex_refused}
+use Rattle.jl_lex.proofs.LexLoops.{lex_more, lex_ends, lex_refused}
 use Rattle.jl_lex.proofs.lexer.tokens_of.Goals as goal
 
 pub loop-unit-preserved : goal.loop-unit-preserved

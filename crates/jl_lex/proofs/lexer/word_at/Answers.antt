@@ -1,4 +1,4 @@
-use Rattle.std.proofs.Common.{◌≡◌, ◌+◌, drop, sym, ◌∙◌, arith}
+use Rattle.std.proofs.Common.{◌+◌, drop, arith}
 use Rattle.jl_lex.proofs.LexLoops.{word_string, word_number, word_name, word_found, word_none, from_from, from_found}
 use Rattle.jl_lex.proofs.lexer.word_at.Goals as goal
 

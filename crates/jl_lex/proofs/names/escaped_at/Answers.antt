@@ -1,4 +1,4 @@
-use Rattle.std.proofs.Common.{◌≡◌, drop, sym, ◌∙◌, arith}
+use Rattle.std.proofs.Common.{sym, ◌∙◌, arith}
 use Rattle.jl_lex.specs.Parts.{allowed}
 use Rattle.jl_lex.proofs.Loops.{escape_not, escape_no_digits, escape_allowed, escape_refused}
 use Rattle.jl_lex.proofs.names.escaped_at.Goals as goal

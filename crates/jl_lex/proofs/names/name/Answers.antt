@@ -1,5 +1,5 @@
 use Rattle.std.proofs.Common.{◌≡◌, ℕ, List, [], ◌∷◌, ◌++◌, ◌||◌, Bool, true, false, drop, refl, sym, ap, ◌∙◌, subst, arith}
-use Rattle.jl_token.specs.Characters.{is_identifier_start, is_identifier_part}
+use Rattle.jl_token.specs.Characters.{is_identifier_start}
 use Rattle.jl_token.specs.Scanner.{letter, name_from, name_done}
 use Rattle.jl_lex.proofs.Loops.{NameSoFar, name_none, name_begins, name_more, name_ends, found_named}
 use Rattle.jl_lex.proofs.names.name.Goals as goal
@@ -21,9 +21,9 @@ loop-next-preserved-then-next c =
     let mid = drop c.in-Some-letter_at.next.end c.args.units.now in
     let n = name_more c.loop-next.text.items us mid c.loop-next.escaped c.in-Some-letter_at.next.escaped true c.in-Some-letter_at.next.unit (name_from (letter is_identifier_start (drop c.args.at c.args.units.now))) e.0 (or_true c.loop-next.escaped c.in-Some-letter_at.next.escaped c.if-next.true) c.loop-next.invariant.name in
     record { name = subst (λ (x : List ℕ). NameSoFar x true mid (name_from (letter is_identifier_start (drop c.args.at c.args.units.now)))) (sym c.in_ok-push-2.ensures.items) n; later = omega (arith, e.1); within = e.2 } where
-  or_true : (a b : Bool) → b ≡ true → (a || b) ≡ true
-  or_true true b h = refl
-  or_true false b h = h
+      or_true : (a b : Bool) → b ≡ true → (a || b) ≡ true
+      or_true true b h = refl
+      or_true false b h = h
 
 pub loop-next-preserved : goal.loop-next-preserved
 loop-next-preserved c =
@@ -32,9 +32,9 @@ loop-next-preserved c =
     let mid = drop c.in-Some-letter_at.next.end c.args.units.now in
     let n = name_more c.loop-next.text.items us mid c.loop-next.escaped c.in-Some-letter_at.next.escaped c.loop-next.escaped c.in-Some-letter_at.next.unit (name_from (letter is_identifier_start (drop c.args.at c.args.units.now))) e.0 (or_same c.loop-next.escaped c.in-Some-letter_at.next.escaped c.if-next.false) c.loop-next.invariant.name in
     record { name = subst (λ (x : List ℕ). NameSoFar x c.loop-next.escaped mid (name_from (letter is_identifier_start (drop c.args.at c.args.units.now)))) (sym c.in_ok-push-2.ensures.items) n; later = omega (arith, e.1); within = e.2 } where
-  or_same : (a b : Bool) → b ≡ false → (a || b) ≡ a
-  or_same true b h = refl
-  or_same false b h = h
+      or_same : (a b : Bool) → b ≡ false → (a || b) ≡ a
+      or_same true b h = refl
+      or_same false b h = h
 
 pub returns : goal.returns
 returns c =

@@ -1,4 +1,4 @@
-use Rattle.std.proofs.Common.{◌≡◌, ◌+◌, drop, arith}
+use Rattle.std.proofs.Common.{◌+◌, drop, arith}
 use Rattle.jl_lex.proofs.NumberLoops.{numeral_from, whole_point, whole_plain}
 use Rattle.jl_lex.proofs.numbers.after_whole.Goals as goal
 

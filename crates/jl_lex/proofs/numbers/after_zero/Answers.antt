@@ -1,4 +1,4 @@
-use Rattle.std.proofs.Common.{◌≡◌, ◌+◌, ◌∷◌, [], drop, sym, ◌∙◌, arith}
+use Rattle.std.proofs.Common.{◌+◌, ◌∷◌, [], drop, arith}
 use Rattle.jl_lex.proofs.AmountLemmas.{none_stands}
 use Rattle.jl_lex.proofs.NumberLoops.{numeral_from, zero_plain, zero_hex, zero_no_hex}
 use Rattle.jl_lex.proofs.numbers.after_zero.Goals as goal

@@ -1,4 +1,4 @@
-use Rattle.std.proofs.Common.{◌≡◌, ◌≤◌, ◌-◌, drop, length}
+use Rattle.std.proofs.Common.{◌≤◌, ◌-◌, drop, length}
 use Rattle.jl_lex.proofs.AmountLemmas.{DigitsSoFar}
 use Rattle.jl_lex.proofs.numbers.digits.Given as goal
 

@@ -1,4 +1,4 @@
-use Rattle.std.proofs.Common.{◌≡◌, drop, sym, ◌∙◌, arith}
+use Rattle.std.proofs.Common.{drop}
 use Rattle.jl_lex.proofs.NumberLoops.{exponent_none, exponent_plus, exponent_minus, exponent_plain, exponent_from, exponent_absent}
 use Rattle.jl_lex.proofs.numbers.exponent_at.Goals as goal
 

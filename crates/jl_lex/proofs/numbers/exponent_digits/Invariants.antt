@@ -1,4 +1,4 @@
-use Rattle.std.proofs.Common.{◌≡◌, ◌≤◌, ◌-◌, drop, length}
+use Rattle.std.proofs.Common.{◌≤◌, ◌-◌, drop, length}
 use Rattle.jl_lex.proofs.AmountLemmas.{CappedSoFar}
 use Rattle.jl_lex.proofs.numbers.exponent_digits.Given as goal
 

@@ -1,4 +1,4 @@
-use Rattle.std.proofs.Common.{◌≡◌, drop}
+use Rattle.std.proofs.Common.{drop}
 use Rattle.jl_token.specs.Scanner.{exponent}
 use Rattle.jl_lex.proofs.NumberLoops.{finish}
 use Rattle.jl_lex.proofs.numbers.finished.Goals as goal

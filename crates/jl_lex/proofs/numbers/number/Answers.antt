@@ -1,4 +1,4 @@
-use Rattle.std.proofs.Common.{◌≡◌, ◌+◌, ◌≤◌, ℕ, ℤ, pos, negsuc, ◌≤ℤ◌, Some, true, false, drop, ap, sym, ◌∙◌, w64, arith}
+use Rattle.std.proofs.Common.{◌≡◌, ◌≤◌, ℕ, ℤ, pos, negsuc, ◌≤ℤ◌, Some, true, false, ap, ◌∙◌, w64, arith}
 use Rattle.std.proofs.lemmas.Int.{ints, to_z_pos}
 use mir.Val.{SFits, to_z}
 use Rattle.jl_lex.proofs.NumberLoops.{number_digit, number_letter, number_none, number_some, number_small}
@@ -35,5 +35,5 @@ pub returns-in-Err : goal.returns-in-Err
 returns-in-Err c =
     let h = number_small c.args.units.now c.args.at c.numeral_after-numeral.result _ c.in-Some-value.value c.numeral_after-numeral.ensures c.in-Some-value.is in
     absurd (apart (c.in-Err.ensures.inside.1 (is_number c.in-Some-value.value h))) where
-  apart : false ≡ true → ⊥
-  apart e = cc
+      apart : false ≡ true → ⊥
+      apart e = cc

@@ -1,4 +1,4 @@
-use Rattle.std.proofs.Common.{◌≡◌, ◌+◌, ◌∷◌, [], drop, ap, sym, ◌∙◌, List, ℕ, arith}
+use Rattle.std.proofs.Common.{◌∷◌, [], drop, ap, sym, ◌∙◌, List, ℕ, arith}
 use Rattle.jl_token.specs.Characters.{is_digit}
 use Rattle.jl_token.specs.Scanner.{many, one_unit, after_whole}
 use Rattle.jl_lex.proofs.AmountLemmas.{none_stands}
@@ -20,5 +20,5 @@ returns c =
     let d = digit_first c.args.unit us c.requires.begins c.if-unit-eq46.false in
     let r = c.digits-end.ensures in
     numeral_from c.args.units.now c.args.at c.digits-end.result.1 c.after_whole.result _ _
-      (begin_digit c.args.unit us c.if-unit-eq48.false c.if-unit-eq46.false d ∙ ap (λ (x : List ℕ). after_whole (c.args.unit ∷ (many (one_unit is_digit) us).0) x) (sym r.rest)) r.later
-      (c.after_whole.ensures.read (c.args.unit ∷ (many (one_unit is_digit) us).0) (first_stands c.args.unit c.add_digit-first.result.coefficient c.add_digit-first.result.zeros c.digits-end.result.0.coefficient c.digits-end.result.0.zeros us d c.add_digit-first.ensures.amount r.amount))
+    (begin_digit c.args.unit us c.if-unit-eq48.false c.if-unit-eq46.false d ∙ ap (λ (x : List ℕ). after_whole (c.args.unit ∷ (many (one_unit is_digit) us).0) x) (sym r.rest)) r.later
+    (c.after_whole.ensures.read (c.args.unit ∷ (many (one_unit is_digit) us).0) (first_stands c.args.unit c.add_digit-first.result.coefficient c.add_digit-first.result.zeros c.digits-end.result.0.coefficient c.digits-end.result.0.zeros us d c.add_digit-first.ensures.amount r.amount))

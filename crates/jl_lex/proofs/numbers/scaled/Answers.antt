@@ -1,4 +1,4 @@
-use Rattle.std.proofs.Common.{◌≡◌, sym, ◌∙◌, arith}
+use Rattle.std.proofs.Common.{sym, ◌∙◌, arith}
 use Rattle.jl_lex.proofs.AmountLemmas.{scaled_more, scaled_stop, scaled_end}
 use Rattle.jl_lex.proofs.numbers.scaled.Goals as goal
 

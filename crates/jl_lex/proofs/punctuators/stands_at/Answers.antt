@@ -1,5 +1,4 @@
-use Rattle.std.proofs.Common.{◌≡◌, ℕ, drop, length, ◌+◌, sym, ap, ◌∙◌, subst, Some, arith}
-use Rattle.jl_token.specs.Scanner.{strip}
+use Rattle.std.proofs.Common.{◌≡◌, ℕ, drop, length, ◌+◌, sym, ap, ◌∙◌, Some, arith}
 use Rattle.jl_lex.proofs.Loops.{stands_not, stands_more, stands_all, first_within}
 use Rattle.jl_lex.proofs.punctuators.stands_at.Goals as goal
 
@@ -10,7 +9,8 @@ pub loop-character-preserved : goal.loop-character-preserved
 loop-character-preserved c = record {
   rest = stands_more c.args.text.now c.args.units.now c.loop-character.character-index c.loop-character.end c.from.result c.loop-character-test.true c.from.ensures c.if-not-is_at.ensures ∙ c.loop-character.invariant.rest;
   place = omega arith;
-  within = first_within _ c.args.units.now c.loop-character.end c.if-not-is_at.ensures }
+  within = first_within _ c.args.units.now c.loop-character.end c.if-not-is_at.ensures;
+}
 
 pub returns-clause-text : goal.returns-clause-text
 returns-clause-text c =

@@ -1,4 +1,4 @@
-use Rattle.std.proofs.Common.{◌≡◌, ◌+◌, drop, sym, ◌∙◌, arith}
+use Rattle.std.proofs.Common.{◌+◌, drop, arith}
 use Rattle.jl_lex.proofs.StringLoops.{character_end, character_mark, character_line, character_escape, character_plain, character_from}
 use Rattle.jl_lex.proofs.strings.character_at.Goals as goal
 

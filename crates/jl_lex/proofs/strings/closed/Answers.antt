@@ -1,4 +1,4 @@
-use Rattle.std.proofs.Common.{◌≡◌, ◌+◌, drop, refl, ap, sym, ◌∙◌, Ok, Err, arith}
+use Rattle.std.proofs.Common.{◌≡◌, ◌+◌, drop, ap, Ok, Err, arith}
 use Rattle.jl_lex.proofs.StringLoops.{done_end, done_mark, done_long, done_line, done_escape, done_last}
 use Rattle.jl_lex.proofs.strings.closed.Goals as goal
 
@@ -9,8 +9,8 @@ pub returns-in-Ok : goal.returns-in-Ok
 returns-in-Ok c =
     let e = c.in-Some.ensures in
     (done_mark c.args.mark c.args.text.now c.in-Ok.text c.args.plain (drop c.args.end c.args.units.now) (drop (c.args.end + 1) c.args.units.now) c.in-Some.unit e.0 c.if-unit-mark.true c.in-Ok.ensures.made (λ h. apart (c.in-Ok.ensures.long.1 h)), omega arith, omega (arith, e.1)) where
-  apart : {A E : Type 0} {a : A} {e : E} → Ok a ≡ Err e → ⊥
-  apart e = cc
+      apart : {A E : Type 0} {a : A} {e : E} → Ok a ≡ Err e → ⊥
+      apart e = cc
 
 pub returns-in-Err-TooLong : goal.returns-in-Err-TooLong
 returns-in-Err-TooLong c = done_long c.args.mark c.args.text.now c.args.plain (drop c.args.end c.args.units.now) (drop (c.args.end + 1) c.args.units.now) c.in-Some.unit c.in-Some.ensures.0 c.if-unit-mark.true (c.in-Err-TooLong.ensures.long.0 (ap Err c.in-Err-TooLong.field-0-is))

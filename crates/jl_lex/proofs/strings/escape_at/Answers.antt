@@ -1,4 +1,4 @@
-use Rattle.std.proofs.Common.{◌≡◌, ◌+◌, drop, sym, ◌∙◌, arith}
+use Rattle.std.proofs.Common.{◌+◌, drop, sym, arith}
 use Rattle.jl_lex.proofs.StringLoops.{escape_end, escape_single, escape_other, escaped_from, character_from}
 use Rattle.jl_lex.proofs.strings.escape_at.Goals as goal
 

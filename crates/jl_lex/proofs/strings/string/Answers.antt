@@ -1,4 +1,4 @@
-use Rattle.std.proofs.Common.{◌≡◌, ℕ, List, [], ◌∷◌, ◌++◌, ◌&&◌, Bool, true, false, drop, refl, sym, ap, ◌∙◌, subst, arith}
+use Rattle.std.proofs.Common.{◌≡◌, ℕ, List, ◌&&◌, Bool, true, false, drop, refl, sym, ap, ◌∙◌, subst, arith}
 use Rattle.std.proofs.Math.Bool.{not}
 use Rattle.jl_token.specs.Scanner.{character, many, string_end, string_done}
 use Rattle.jl_lex.specs.Parts.{values}
@@ -16,10 +16,10 @@ loop-next-preserved-then-not-next c =
     let mid = drop c.in-Some.next.end c.args.units.now in
     let n = string_more c.args.mark c.requires.quote c.loop-next.text.items (values c.in-Some.next.unit) (drop c.loop-next.end c.args.units.now) mid c.loop-next.plain c.in-Some.next.plain false all e.0 (and_no c.loop-next.plain c.in-Some.next.plain c.if-not-next.true) c.loop-next.invariant.string in
     record { string = subst (λ (x : List ℕ). StringSoFar c.args.mark x false mid all) (sym c.in_ok-put.ensures) n; later = omega (arith, e.1); within = e.2 } where
-  and_no : (a b : Bool) → not b ≡ true → (a && b) ≡ false
-  and_no true false h = refl
-  and_no true true h = absurd cc
-  and_no false b h = refl
+      and_no : (a b : Bool) → not b ≡ true → (a && b) ≡ false
+      and_no true false h = refl
+      and_no true true h = absurd cc
+      and_no false b h = refl
 
 pub loop-next-preserved : goal.loop-next-preserved
 loop-next-preserved c =
@@ -28,10 +28,10 @@ loop-next-preserved c =
     let mid = drop c.in-Some.next.end c.args.units.now in
     let n = string_more c.args.mark c.requires.quote c.loop-next.text.items (values c.in-Some.next.unit) (drop c.loop-next.end c.args.units.now) mid c.loop-next.plain c.in-Some.next.plain c.loop-next.plain all e.0 (and_same c.loop-next.plain c.in-Some.next.plain c.if-not-next.false) c.loop-next.invariant.string in
     record { string = subst (λ (x : List ℕ). StringSoFar c.args.mark x c.loop-next.plain mid all) (sym c.in_ok-put.ensures) n; later = omega (arith, e.1); within = e.2 } where
-  and_same : (a b : Bool) → not b ≡ false → (a && b) ≡ a
-  and_same true true h = refl
-  and_same true false h = absurd cc
-  and_same false b h = refl
+      and_same : (a b : Bool) → not b ≡ false → (a && b) ≡ a
+      and_same true true h = refl
+      and_same true false h = absurd cc
+      and_same false b h = refl
 
 pub returns : goal.returns
 returns c =
