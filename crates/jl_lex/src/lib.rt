@@ -11,3 +11,6 @@ mod punctuators;
 mod strings;
 
 pub use lexer::{LexRefusal, lex};
+
+#[cfg(test)]
+mod tests;
