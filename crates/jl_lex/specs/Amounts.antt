@@ -1,4 +1,5 @@
--- How the lexer values a numeric literal: its digits without the zeros at their end, and how many these are. No public
+-- How the lexer values a numeric literal: its digits without the zeros at their end, and how many these are. No
+-- public
 -- clause stands on it.
 use Rattle.std.specs.Prelude.{◌≡◌, ◌<◌, ◌≤◌, ℕ, zero, suc, ◌+◌, ◌-◌, ◌*◌, ◌%◌, ◌^◌, drop, length, ◌==◌, nat_le, List, [], ◌∷◌, Option, Some, None, if◌then◌else◌}
 use Rattle.jl_token.specs.Characters.{hex_digit_value}
@@ -13,7 +14,8 @@ scaled c (suc k) = if nat_le c 9007199254740991 then scaled (c * 10) k else c
 
 -- one more digit after c · 10 ^ z; where c is past the numbers of a script, only that counts
 unfoldable pub add_digit : ℕ → ℕ × ℕ → ℕ × ℕ
-add_digit u (c, z) = if u == 48 then (if c == 0 then (c, z) else (c, z + 1)) else (if nat_le c 9007199254740991 then (scaled c (z + 1) + (u - 48), 0) else (c, z))
+add_digit u (c, z) = if u == 48 then (if c == 0 then (c, z) else (c, z + 1)) else
+    (if nat_le c 9007199254740991 then (scaled c (z + 1) + (u - 48), 0) else (c, z))
 
 unfoldable pub add_digits : ℕ × ℕ → List ℕ → ℕ × ℕ
 add_digits x [] = x
@@ -24,7 +26,9 @@ if_number n = if nat_le n 9007199254740991 then Some n else None
 
 -- the value of c · 10 ^ z · 10 ^ r / 10 ^ l, if it is a number of a script
 unfoldable pub value_from : ℕ → ℕ → ℕ → ℕ → Option ℕ
-value_from c z r l = if c == 0 then Some 0 else (if nat_le c 9007199254740991 then (if nat_le l (z + r) then if_number (scaled c ((z + r) - l)) else None) else None)
+value_from c z r l = if c == 0 then Some 0 else
+    (if nat_le c 9007199254740991 then (if nat_le l (z + r) then if_number (scaled c ((z + r) - l)) else None) else
+    None)
 
 -- the number that decimal digits write, which stands still once it is large
 unfoldable pub capped_from : ℕ → List ℕ → ℕ
@@ -57,8 +61,10 @@ pub data Stands (c z m : ℕ) : Type 0 where
 
 -- a literal's value and the place after it are those that the scanner finds
 abbrev pub NumeralFrom : List ℕ → ℕ → Numeral → ℕ × ℕ × ℕ × List ℕ → Type 0
-NumeralFrom units low n x = (n.value ≡ value_of x.0 x.1 x.2) × (drop n.end units ≡ x.3) × (low ≤ n.end) × (n.end ≤ length units)
+NumeralFrom units low n x = (n.value ≡ value_of x.0 x.1 x.2) × (drop n.end units ≡ x.3) × (low ≤ n.end) ×
+    (n.end ≤ length units)
 
 -- an exponent's power of ten to multiply by, or the one to divide by, and the place after it
 abbrev pub ExponentFrom : List ℕ → ℕ → Exponent → ℕ × ℕ × List ℕ → Type 0
-ExponentFrom units low e x = Exponents e.raise e.lower x.0 x.1 × (drop e.end units ≡ x.2) × (low ≤ e.end) × (e.end ≤ length units)
+ExponentFrom units low e x = Exponents e.raise e.lower x.0 x.1 × (drop e.end units ≡ x.2) × (low ≤ e.end) ×
+    (e.end ≤ length units)

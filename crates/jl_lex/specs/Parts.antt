@@ -1,4 +1,5 @@
--- What the lexer's functions read of a part of an element, in the words of the plain scanner. No public clause stands on it.
+-- What the lexer's functions read of a part of an element, in the words of the plain scanner. No public clause stands
+-- on it.
 use Rattle.std.specs.Prelude.{◌≡◌, ◌<◌, ◌≤◌, ℕ, ◌+◌, ◌*◌, Bool, true, false, List, [], ◌∷◌, drop, length, Option, Some, None, if◌then◌else◌}
 use Rattle.jl_token.specs.Characters.{is_identifier_start, is_identifier_part, is_hex_digit, hex_digit_value}
 use Rattle.jl_lex.specs.declared.names.Letter.{Letter}
@@ -22,7 +23,9 @@ unfoldable pub two_at : List ℕ → ℕ → Option ℕ
 two_at units i = two_of (hex_first (drop i units)) (hex_first (drop (i + 1) units))
 
 unfoldable pub four_at : List ℕ → ℕ → Option ℕ
-four_at units i = four_of (hex_first (drop i units)) (hex_first (drop (i + 1) units)) (hex_first (drop (i + 2) units)) (hex_first (drop (i + 3) units))
+four_at units i =
+    four_of (hex_first (drop i units)) (hex_first (drop (i + 1) units)) (hex_first (drop (i + 2) units))
+    (hex_first (drop (i + 3) units))
 
 -- the characters that a name may start with, or go on with
 abbrev pub allowed : Bool → ℕ → Bool
@@ -32,7 +35,8 @@ allowed true = is_identifier_part
 -- a letter of a name that was read from a place on
 abbrev pub LetterFrom : List ℕ → ℕ → Option Letter → Option ((ℕ × Bool) × List ℕ) → Type 0
 LetterFrom units i None o = o ≡ None
-LetterFrom units i (Some x) o = (o ≡ Some ((x.unit, x.escaped), drop x.end units)) × (i < x.end) × (x.end ≤ length units)
+LetterFrom units i (Some x) o = (o ≡ Some ((x.unit, x.escaped), drop x.end units)) × (i < x.end) ×
+    (x.end ≤ length units)
 
 -- the units of a character of a string: one, or none where it is a line continuation
 abbrev pub values : Option ℕ → List ℕ
@@ -42,4 +46,5 @@ values (Some u) = u ∷ []
 -- a character of a string, which ends at a place or later
 abbrev pub CharacterFrom : List ℕ → ℕ → Option Character → Option ((List ℕ × Bool) × List ℕ) → Type 0
 CharacterFrom units low None o = o ≡ None
-CharacterFrom units low (Some x) o = (o ≡ Some ((values x.unit, x.plain), drop x.end units)) × (low ≤ x.end) × (x.end ≤ length units)
+CharacterFrom units low (Some x) o = (o ≡ Some ((values x.unit, x.plain), drop x.end units)) × (low ≤ x.end) ×
+    (x.end ≤ length units)

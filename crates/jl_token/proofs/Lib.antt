@@ -11,3 +11,4 @@ pub mod Found
 pub mod Against
 pub mod Blamed
 pub mod Whole
+pub mod Examples

@@ -1,4 +1,5 @@
--- Which units are what. A unit is one of the numbers of UTF-16; it stands for the character with that number (clause 6).
+-- Which units are what. A unit is one of the numbers of UTF-16; it stands for the character with that number (clause
+-- 6).
 use Rattle.std.specs.Prelude.{ℕ, Bool, true, false, ◌==◌, ◌&&◌, ◌||◌, ◌+◌, ◌-◌, ◌*◌, nat_le, List, [], ◌∷◌, Option, Some, None, if◌then◌else◌}
 use Rattle.unicode.specs.GeneralCategory.{general_category}
 use Rattle.ucd_category.specs.declared.GeneralCategory.{GeneralCategory}
@@ -102,7 +103,8 @@ single_escape u =
 
 -- an escape character by 7.8.4: a backslash and one of these is more than the character itself
 unfoldable pub is_escape_character : ℕ → Bool
-is_escape_character u = u == 98 || u == 116 || u == 110 || u == 118 || u == 102 || u == 114 || u == 34 || u == 39 || u == 92 || is_digit u || u == 120 || u == 117
+is_escape_character u = u == 98 || u == 116 || u == 110 || u == 118 || u == 102 || u == 114 || u == 34 || u == 39 ||
+    u == 92 || is_digit u || u == 120 || u == 117
 
 -- whether a test holds of the first of the units; of none where there are none
 abbrev pub first_is : (ℕ → Bool) → List ℕ → Bool

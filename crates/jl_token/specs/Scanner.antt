@@ -1,4 +1,5 @@
--- A scanner as plain functions, which computes with which input element units begin. It is a step of the proof: the lexer's
+-- A scanner as plain functions, which computes with which input element units begin. It is a step of the proof: the
+-- lexer's
 -- code answers what it answers, and lemmas tie it to `Begins` and `Fault`. No public clause stands on it.
 use Rattle.std.specs.Prelude.{ℕ, zero, suc, ◌+◌, ◌*◌, ◌/◌, ◌%◌, ◌^◌, Bool, true, false, ◌==◌, ◌&&◌, ◌||◌, nat_le, List, [], ◌∷◌, ◌++◌, length, Option, Some, None, pos, if◌then◌else◌}
 use Rattle.std.specs.List.{list_any}
@@ -39,15 +40,18 @@ one_unit allowed (u ∷ us) = if allowed u then Some (u, us) else None
 -- names
 
 unfoldable pub name_escape : (ℕ → Bool) → List ℕ → Option ((ℕ × Bool) × List ℕ)
-name_escape allowed (v ∷ a ∷ b ∷ c ∷ d ∷ us) = if v == 117 && are_hex_digits a b c d && allowed (hex_number a b c d) then Some ((hex_number a b c d, true), us) else None
+name_escape allowed (v ∷ a ∷ b ∷ c ∷ d ∷ us) =
+    if v == 117 && are_hex_digits a b c d && allowed (hex_number a b c d) then Some ((hex_number a b c d, true), us) else None
 name_escape allowed _ = None
 
 unfoldable pub letter : (ℕ → Bool) → List ℕ → Option ((ℕ × Bool) × List ℕ)
 letter allowed [] = None
-letter allowed (u ∷ us) = if allowed u then Some ((u, false), us) else (if u == 92 then name_escape allowed us else None)
+letter allowed (u ∷ us) =
+    if allowed u then Some ((u, false), us) else (if u == 92 then name_escape allowed us else None)
 
 unfoldable pub name_done : List ℕ → Bool → List ℕ → Outcome
-name_done text escaped rest = if first_is (λ u. u == 92) rest then bad faults.BadEscape else (if nat_le (length text) 1048576 then found (Word (kinds.Name text escaped)) rest else bad faults.LongText)
+name_done text escaped rest = if first_is (λ u. u == 92) rest then bad faults.BadEscape else
+    (if nat_le (length text) 1048576 then found (Word (kinds.Name text escaped)) rest else bad faults.LongText)
 
 abbrev pub name_end : List (ℕ × Bool) → List ℕ → Outcome
 name_end xs rest = name_done (name_text xs) (is_escaped xs) rest
@@ -101,7 +105,8 @@ after_fraction ds (fs, rest) = with_exponent (ds ++ fs) (length fs) (exponent re
 
 unfoldable pub after_whole : List ℕ → List ℕ → ℕ × ℕ × ℕ × List ℕ
 after_whole ds [] = with_exponent ds 0 (exponent [])
-after_whole ds (u ∷ us) = if u == 46 then after_fraction ds (many (one_unit is_digit) us) else with_exponent ds 0 (exponent (u ∷ us))
+after_whole ds (u ∷ us) = if u == 46 then after_fraction ds (many (one_unit is_digit) us) else
+    with_exponent ds 0 (exponent (u ∷ us))
 
 unfoldable pub hex_literal : List ℕ → Option (List ℕ × List ℕ) → ℕ × ℕ × ℕ × List ℕ
 hex_literal us None = after_whole (48 ∷ []) us
@@ -109,7 +114,8 @@ hex_literal us (Some (ds, rest)) = (hex_from 0 ds, 0, 0, rest)
 
 unfoldable pub after_zero : List ℕ → ℕ × ℕ × ℕ × List ℕ
 after_zero [] = after_whole (48 ∷ []) []
-after_zero (x ∷ us) = if x == 120 || x == 88 then hex_literal (x ∷ us) (some_digits is_hex_digit us) else after_whole (48 ∷ []) (x ∷ us)
+after_zero (x ∷ us) = if x == 120 || x == 88 then hex_literal (x ∷ us) (some_digits is_hex_digit us) else
+    after_whole (48 ∷ []) (x ∷ us)
 
 unfoldable pub from_whole : List ℕ × List ℕ → ℕ × ℕ × ℕ × List ℕ
 from_whole (ds, rest) = after_whole ds rest
@@ -123,7 +129,8 @@ numeral u us =
 
 -- the exact value, where it is a number of a script
 unfoldable pub value_of : ℕ → ℕ → ℕ → Option ℕ
-value_of m r l = if (m * 10 ^ r) % (10 ^ l) == 0 && nat_le ((m * 10 ^ r) / (10 ^ l)) 9007199254740991 then Some ((m * 10 ^ r) / (10 ^ l)) else None
+value_of m r l = if (m * 10 ^ r) % (10 ^ l) == 0 && nat_le ((m * 10 ^ r) / (10 ^ l)) 9007199254740991
+    then Some ((m * 10 ^ r) / (10 ^ l)) else None
 
 unfoldable pub is_some_of : {A : Type 0} → Option A → Bool
 is_some_of None = false
@@ -135,7 +142,8 @@ number_of rest (Some n) = found (Word (kinds.Number (Some (pos n)))) rest
 
 unfoldable pub number_end : ℕ × ℕ × ℕ × List ℕ → Outcome
 number_end (m, r, l, rest) =
-    if first_is is_digit rest || is_some_of (letter is_identifier_start rest) then bad faults.BadNumber else number_of rest (value_of m r l)
+    if first_is is_digit rest || is_some_of (letter is_identifier_start rest) then bad faults.BadNumber else
+    number_of rest (value_of m r l)
 
 -- strings
 
@@ -144,11 +152,13 @@ after_line_feed [] = []
 after_line_feed (u ∷ us) = if u == 10 then us else u ∷ us
 
 unfoldable pub hex_escape : List ℕ → Option ((List ℕ × Bool) × List ℕ)
-hex_escape (a ∷ b ∷ us) = if is_hex_digit a && is_hex_digit b then Some ((hex_from 0 (a ∷ b ∷ []) ∷ [], false), us) else None
+hex_escape (a ∷ b ∷ us) = if is_hex_digit a && is_hex_digit b then Some ((hex_from 0 (a ∷ b ∷ []) ∷ [], false), us) else
+    None
 hex_escape _ = None
 
 unfoldable pub unicode_escape : List ℕ → Option ((List ℕ × Bool) × List ℕ)
-unicode_escape (a ∷ b ∷ c ∷ d ∷ us) = if are_hex_digits a b c d then Some ((hex_number a b c d ∷ [], false), us) else None
+unicode_escape (a ∷ b ∷ c ∷ d ∷ us) = if are_hex_digits a b c d then Some ((hex_number a b c d ∷ [], false), us) else
+    None
 unicode_escape _ = None
 
 unfoldable pub other_escape : ℕ → List ℕ → Option ((List ℕ × Bool) × List ℕ)
@@ -156,7 +166,8 @@ other_escape u us =
     if is_line_terminator u then Some (([], false), (if u == 13 then after_line_feed us else us)) else
     (if u == 120 then hex_escape us else
     (if u == 117 then unicode_escape us else
-    (if is_digit u then (if u == 48 && (if first_is is_digit us then false else true) then Some ((0 ∷ [], false), us) else None) else
+    (if is_digit u then (if u == 48 && (if first_is is_digit us then false else true) then Some ((0 ∷ [], false), us) else
+    None) else
     Some ((u ∷ [], false), us))))
 
 unfoldable pub escape_by : ℕ → List ℕ → Option ℕ → Option ((List ℕ × Bool) × List ℕ)
@@ -169,12 +180,15 @@ escape (u ∷ us) = escape_by u us (single_escape u)
 
 unfoldable pub character : ℕ → List ℕ → Option ((List ℕ × Bool) × List ℕ)
 character mark [] = None
-character mark (u ∷ us) = if u == mark || is_line_terminator u then None else (if u == 92 then escape us else Some ((u ∷ [], true), us))
+character mark (u ∷ us) = if u == mark || is_line_terminator u then None else (if u == 92 then escape us else
+    Some ((u ∷ [], true), us))
 
 unfoldable pub string_stop : ℕ → List ℕ → Bool → ℕ → List ℕ → Outcome
 string_stop mark text plain u us =
-    if u == mark then (if nat_le (length text) 1048576 then found (Word (kinds.Str text plain)) us else bad faults.LongText) else
-    (if is_line_terminator u then bad faults.UnclosedText else (if nat_le 1 (length us) then bad faults.BadEscape else bad faults.UnclosedText))
+    if u == mark then (if nat_le (length text) 1048576 then found (Word (kinds.Str text plain)) us else
+    bad faults.LongText) else
+    (if is_line_terminator u then bad faults.UnclosedText else (if nat_le 1 (length us) then bad faults.BadEscape else
+    bad faults.UnclosedText))
 
 unfoldable pub string_done : ℕ → List ℕ → Bool → List ℕ → Outcome
 string_done mark text plain [] = bad faults.UnclosedText

@@ -1,4 +1,5 @@
--- The tokens of a text (clause 7): the text is split into input elements, each the longest that can be formed at its place;
+-- The tokens of a text (clause 7): the text is split into input elements, each the longest that can be formed at its
+-- place;
 -- the tokens are those that are neither white space, line terminator nor comment.
 use Rattle.std.specs.Prelude.{◌≡◌, ◌<◌, ◌≤◌, ℕ, ◌-◌, Bool, true, false, ◌||◌, ◌⊎◌, List, [], ◌∷◌, length}
 use Rattle.jl_token.specs.Elements.{Element, White, LineEnd, Comment, Word, Front, Many}
@@ -21,7 +22,8 @@ abbrev pub place : List ℕ → List ℕ → ℕ
 place text us = length text - length us
 
 pub data OnePiece (text : List ℕ) : List ℕ → Piece → List ℕ → Type 0 where
-  one_piece : {us rest : List ℕ} {e : Element} → Begins us e rest → OnePiece text us (piece e (place text us) (place text rest)) rest
+  one_piece : {us rest : List ℕ} {e : Element} → Begins us e rest →
+      OnePiece text us (piece e (place text us) (place text rest)) rest
 
 -- the tokens among the pieces; first whether a line terminator, or a comment that holds one, stands before them
 abbrev pub tokens_among : Bool → List Piece → List Token
@@ -29,7 +31,8 @@ tokens_among line [] = []
 tokens_among line (piece White i j ∷ ps) = tokens_among line ps
 tokens_among line (piece LineEnd i j ∷ ps) = tokens_among true ps
 tokens_among line (piece (Comment l) i j ∷ ps) = tokens_among (line || l) ps
-tokens_among line (piece (Word k) i j ∷ ps) = record { kind = k; span = record { from = i; to = j }; line_before = line } ∷ tokens_among false ps
+tokens_among line (piece (Word k) i j ∷ ps) =
+    record { kind = k; span = record { from = i; to = j }; line_before = line } ∷ tokens_among false ps
 
 -- these are the tokens of the text
 pub record Tokens (text : List ℕ) (ts : List Token) : Type 0 where
