@@ -21,7 +21,8 @@ module _ (units part : List ℕ) (at : ℕ) where
   pub StandsAt-from_test : at ≤ length units → starts_with nat_eq (drop at units) part ≡ true → StandsAt units part at
   StandsAt-from_test within test =
       let split = (starts_is Decides-eqb (drop at units) part _ refl).0 test in
-      let count : length (drop at units) ≡ length part + length (drop (length part) (drop at units)) = ap length split ∙ length-append part _ in
+      let count : length (drop at units) ≡ length part + length (drop (length part) (drop at units)) =
+      ap length split ∙ length-append part _ in
       let room : at + length part ≤ length units = omega (arith, count, length-drop at units) in
       let span : at + length part - at ≡ length part = omega arith in
       (room, rw span (ap (take (length part)) split ∙ take-append_seam part _))
@@ -39,12 +40,14 @@ module _ (units part : List ℕ) (at : ℕ) where
 starts_with-short : (units part : List ℕ) → length units < length part → starts_with nat_eq units part ≡ false
 starts_with-short units part short = false_unless _ (λ test.
     let split = (starts_is Decides-eqb units part _ refl).0 test in
-    let count : length units ≡ length part + length (drop (length part) units) = ap length split ∙ length-append part _ in omega arith)
+    let count : length units ≡ length part + length (drop (length part) units) =
+    ap length split ∙ length-append part _ in omega arith)
 
 place_in-short : (units part : List ℕ) (at : ℕ) → length units < length part → place_in units part at ≡ None
 place_in-short [] part at short = ap (λ t. cond t (Some at) None) (starts_with-short [] part short)
 place_in-short (u ∷ us) part at short =
-    ap (λ t. cond t (Some at) (place_in us part (at + 1))) (starts_with-short (u ∷ us) part short) ∙ place_in-short us part (at + 1) (omega arith)
+    ap (λ t. cond t (Some at) (place_in us part (at + 1))) (starts_with-short (u ∷ us) part short)
+    ∙ place_in-short us part (at + 1) (omega arith)
 
 place_in-step : (part : List ℕ) (at u : ℕ) (units us : List ℕ) → units ≡ u ∷ us →
     place_in units part at ≡ cond (starts_with nat_eq units part) (Some at) (place_in us part (at + 1))
@@ -57,7 +60,8 @@ module _ (units part : List ℕ) (at : ℕ) where
       place_in-short (drop at units) part at (omega (arith, length-drop at units)))
 
   pub first_place-step : at ≤ length units →
-      first_place units part at ≡ cond (starts_with nat_eq (drop at units) part) (Some at) (first_place units part (at + 1))
+      first_place units part at ≡ cond (starts_with nat_eq (drop at units) part) (Some at)
+      (first_place units part (at + 1))
   first_place-step within =
       let here = le-leb at (length units) within in
       elim (eqb_tells at (length units)) [
@@ -69,7 +73,8 @@ module _ (units part : List ℕ) (at : ℕ) where
       ]
 
 module _ (units part : List ℕ) where
-  place_below-more : (n j : ℕ) → (0 < j → length units < n + length part) → place_below units part (n + j) ≡ place_below units part n
+  place_below-more : (n j : ℕ) → (0 < j → length units < n + length part)
+      → place_below units part (n + j) ≡ place_below units part n
   place_below-more n zero past = ap (place_below units part) {x = n + 0} {y = n} (omega arith)
   place_below-more n (suc j) past =
       let far : length units < n + length part = past (omega arith) in
@@ -80,14 +85,18 @@ module _ (units part : List ℕ) where
       omega (arith, stands.0)) in
       rw (add-suc n j, test) (place_below-more n j (λ h. far))
 
-  pub last_place-past : (from n : ℕ) → n ≤ from + 1 → (n ≤ from → length units < n + length part) → last_place units part from ≡ place_below units part n
+  pub last_place-past : (from n : ℕ) → n ≤ from + 1 → (n ≤ from → length units < n + length part)
+      → last_place units part from ≡ place_below units part n
   last_place-past from n low past =
-      ap (place_below units part) {x = from + 1} {y = n + (from + 1 - n)} (omega arith) ∙ place_below-more n (from + 1 - n) (λ h. past (omega arith))
+      ap (place_below units part) {x = from + 1} {y = n + (from + 1 - n)} (omega arith)
+      ∙ place_below-more n (from + 1 - n) (λ h. past (omega arith))
 
   pub place_below-step : (n : ℕ) → 0 < n → n ≤ length units + 1 →
-      place_below units part n ≡ cond (starts_with nat_eq (drop (n - 1) units) part) (Some (n - 1)) (place_below units part (n - 1))
+      place_below units part n ≡ cond (starts_with nat_eq (drop (n - 1) units) part) (Some (n - 1))
+      (place_below units part (n - 1))
   place_below-step n some within =
-      ap (place_below units part) {x = n} {y = suc (n - 1)} (omega arith) ∙ (rw (le-leb (n - 1) (length units) (omega arith)) refl)
+      ap (place_below units part) {x = n} {y = suc (n - 1)} (omega arith)
+      ∙ (rw (le-leb (n - 1) (length units) (omega arith)) refl)
 
 -- what holds from n on, and at the place before n, holds from that place on
 pub holds_before : (P : ℕ → Type 0) (n k : ℕ) → n - 1 ≤ k → (n ≤ k → P k) → P (n - 1) → P k

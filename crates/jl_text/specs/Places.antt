@@ -11,7 +11,8 @@ ends_line u next = if u == 0x0D then not (next == 0x0A) else (u == 0x0A || (u ==
 abbrev pub position_from : ℕ → ℕ → List ℕ → ℕ → ℕ × ℕ
 position_from line column [] at = (line, column)
 position_from line column (u ∷ us) zero = (line, column)
-position_from line column (u ∷ us) (suc at) = if ends_line u (slice_index us 0) then position_from (line + 1) 1 us at else position_from line (column + 1) us at
+position_from line column (u ∷ us) (suc at) = if ends_line u (slice_index us 0) then position_from (line + 1) 1 us at
+    else position_from line (column + 1) us at
 
 -- the line and the column of the place `at` in a source
 abbrev pub position_of : List ℕ → ℕ → ℕ × ℕ
@@ -25,7 +26,8 @@ pub record LineTable : Type 0 where
 -- the places behind the units that end a line, if the first of these units is at `at`
 abbrev pub starts_after : ℕ → List ℕ → List ℕ
 starts_after at [] = []
-starts_after at (u ∷ us) = if ends_line u (slice_index us 0) then (at + 1) ∷ starts_after (at + 1) us else starts_after (at + 1) us
+starts_after at (u ∷ us) = if ends_line u (slice_index us 0) then (at + 1) ∷ starts_after (at + 1) us
+    else starts_after (at + 1) us
 
 abbrev pub line_table : List ℕ → LineTable
 line_table units = record { starts = 0 ∷ starts_after 0 units; end = length units }

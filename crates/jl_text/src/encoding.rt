@@ -33,7 +33,8 @@ impl<T: Drop> From<AllocFailed<T>> for Utf8Fault {
     }
 }
 
-/// The UTF-16 units of a text in UTF-8. One pass.
+/// The UTF-16 units of a text in UTF-8, or the place at which the bytes stop being UTF-8. Its steps are in the order of
+/// the number of bytes.
 pub fn from_utf8(alloc: Global, bytes: &[u8]) -> Result<Vec<u16>, Utf8Fault>
     ensures made { IfOk result (λ units. IsUtf8 bytes.now × (units.items ≡ units_of bytes.now)) }
     ensures not_utf8 { (at : ℕ) → IsNotUtf8At result at ↔ (¬ (IsUtf8 bytes.now) × (at ≡ utf8_valid_len bytes.now)) }
@@ -54,7 +55,8 @@ pub fn from_utf8(alloc: Global, bytes: &[u8]) -> Result<Vec<u16>, Utf8Fault>
     Ok(units)
 }
 
-/// The UTF-8 of UTF-16 units, with U+FFFD for each surrogate that has no partner. One pass.
+/// The UTF-8 of UTF-16 units, with U+FFFD (the bytes EF BF BD) for each surrogate that has no partner. Its steps are in
+/// the order of the number of units.
 pub fn to_utf8(alloc: Global, units: &[u16]) -> Result<Vec<u8>, AllocError>
     ensures { IfOk result (λ bytes. bytes.items ≡ bytes_of units.now) }
 {
@@ -62,7 +64,7 @@ pub fn to_utf8(alloc: Global, units: &[u16]) -> Result<Vec<u8>, AllocError>
     Ok(text.into_bytes())
 }
 
-/// The law that UTF-8 comes back from its units as it was.
+/// The law that the units of a text in UTF-8 give its bytes back.
 pub fn utf8_comes_back()
     ensures { Utf8ComesBack }
 {}

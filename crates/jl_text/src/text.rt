@@ -55,7 +55,7 @@ impl<T: Drop> From<AllocFailed<T>> for TextFault {
 }
 
 impl Text {
-    /// The text of these units.
+    /// The text of these units, if they are no more than `MOST_UNITS`.
     pub fn from_units(alloc: Global, units: &[u16]) -> Result<Text, TextFault>
         ensures made { IfOk result (λ t. t ≡ units.now) }
         ensures long { IsErrOf result TextFault.TooLong ↔ (1048577 ≤ length units.now) }
@@ -69,7 +69,7 @@ impl Text {
         })
     }
 
-    /// The units of `a` and then those of `b`.
+    /// The units of `a` and then those of `b`, if they are no more than `MOST_UNITS` together.
     pub fn concat(alloc: Global, a: &Text, b: &Text) -> Result<Text, TextFault>
         ensures made { IfOk result (λ t. t ≡ a.now ++ b.now) }
         ensures long { IsErrOf result TextFault.TooLong ↔ (1048577 ≤ length (a.now ++ b.now)) }
@@ -87,7 +87,7 @@ impl Text {
         })
     }
 
-    /// The units.
+    /// The units, at most `MOST_UNITS`.
     pub fn units(&self) -> &[u16]
         ensures same { result.now ≡ self.now }
         ensures short { length self.now ≤ 1048576 }
@@ -139,7 +139,8 @@ impl Text {
         last_place(self.units(), part.units(), from)
     }
 
-    /// The order of two texts by their units: by the first in which they differ, and where they do not, by length.
+    /// The order of two texts as strings are compared (11.8.5): by the first unit in which they differ, and where one
+    /// is the front of the other, the shorter one first.
     pub fn compare(a: &Text, b: &Text) -> Ordering
         ensures { result ≡ slice_cmp nat_cmp a.now b.now }
     {

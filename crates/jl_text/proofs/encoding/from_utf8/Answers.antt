@@ -16,6 +16,8 @@ loop-c-preserved c =
 pub returns-clause-made : goal.returns-clause-made
 returns-clause-made c =
     let valid = c.in-Ok.ensures.cases in
-    let all = (YieldsList-end (YieldsList-from_chars c.in-Ok.text.now (rw valid.0 valid.1) cc) c.loop-c.yielded _ c.loop-c.yielded_by _ _ c.in-None.is c.next.ensures.steps).0 in
+    let all = (YieldsList-end
+    (YieldsList-from_chars c.in-Ok.text.now
+    (rw valid.0 valid.1) cc) c.loop-c.yielded _ c.loop-c.yielded_by _ _ c.in-None.is c.next.ensures.steps).0 in
     let read = sym (map-id c.loop-c.yielded) ∙ all in
     (valid.1, c.loop-c.invariant ∙ ap encode_utf16_all read ∙ ap units_of valid.0)

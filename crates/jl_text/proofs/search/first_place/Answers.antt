@@ -9,7 +9,8 @@ returns-then-part-units-clause-value c = sym (first_place-past c.args.units.now 
 pub returns-then-stands_at-clause-value : goal.returns-then-stands_at-clause-value
 returns-then-stands_at-clause-value c =
     let step = first_place-step c.args.units.now c.args.part.now c.loop-at.at (omega arith) in
-    let found = ap (λ t. cond t (Some c.loop-at.at) (first_place c.args.units.now c.args.part.now (c.loop-at.at + 1))) (sym c.if-stands_at.ensures) in
+    let found = ap (λ t. cond t (Some c.loop-at.at) (first_place c.args.units.now c.args.part.now (c.loop-at.at + 1)))
+    (sym c.if-stands_at.ensures) in
     sym (c.loop-at.invariant.0 ∙ step ∙ found)
 
 pub returns-then-stands_at-clause-least : goal.returns-then-stands_at-clause-least
@@ -19,11 +20,13 @@ returns-then-stands_at-clause-least c =
 pub loop-at-preserved : goal.loop-at-preserved
 loop-at-preserved c =
     let step = first_place-step c.args.units.now c.args.part.now c.loop-at.at (omega arith) in
-    let on = ap (λ t. cond t (Some c.loop-at.at) (first_place c.args.units.now c.args.part.now (c.loop-at.at + 1))) (sym c.if-stands_at.ensures) in (
+    let on = ap (λ t. cond t (Some c.loop-at.at) (first_place c.args.units.now c.args.part.now (c.loop-at.at + 1)))
+    (sym c.if-stands_at.ensures) in (
       c.loop-at.invariant.0 ∙ step ∙ on,
       λ k from below. below_more (λ j. c.args.from ≤ j → StandsAt c.args.units.now c.args.part.now j → ⊥) c.loop-at.at
           (λ j h. λ g. c.loop-at.invariant.1 j g h) (λ g. not-StandsAt _ _ _ (sym c.if-stands_at.ensures)) k below from,
     )
 
 pub returns-clause-value : goal.returns-clause-value
-returns-clause-value c = sym (c.loop-at.invariant.0 ∙ first_place-past c.args.units.now c.args.part.now c.loop-at.at (omega arith))
+returns-clause-value c =
+    sym (c.loop-at.invariant.0 ∙ first_place-past c.args.units.now c.args.part.now c.loop-at.at (omega arith))
