@@ -1,0 +1,4 @@
+pub mod Tree
+pub mod Spans
+pub mod Height
+pub mod Numbering

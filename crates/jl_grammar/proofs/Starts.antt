@@ -1,0 +1,409 @@
+-- The tokens that what is read begins with.
+use Rattle.std.proofs.Common.{◌≡◌, ℕ, zero, suc, ◌<◌, ◌≤◌, max, Bool, true, false, not, ◌&&◌, ◌||◌, ap, refl, ◌∙◌, List, [], ◌∷◌, length, Option, Some, None, arith}
+use Rattle.jl_ast.specs.declared.ops.BinOp.{BinOp}
+use Rattle.jl_ast.specs.declared.ops.UnOp.{UnOp}
+use Rattle.jl_token.specs.declared.punct.Punct.TheVariants as puncts
+use Rattle.jl_grammar.specs.declared.sign.Sign.TheVariants as signs
+use Rattle.jl_grammar.specs.declared.word.Word.TheVariants as words
+use Rattle.jl_ast.specs.Tree.{Ident, Tree, Row, Maybe}
+use Rattle.jl_ast.specs.Tree as tree
+use Rattle.jl_text.specs.declared.span.Span.{Span}
+use Rattle.jl_token.specs.declared.token.Token.{Token}
+use Rattle.jl_grammar.specs.declared.sign.Sign.{Sign}
+use Rattle.jl_grammar.specs.Reads.{Expr, Stmt, Exprs, Stmts, Code, JoinsAt, AssignsAt, PrefixAt, UpdateAt, IsTarget, EndsAt, there, inserted, ReadsNames, last_name, more_names, ReadsParameters, no_parameters, parameters, ReadsPrimary, a_this, a_name, a_null, a_true, a_false, a_number, a_string, an_array, an_object, in_parens, a_function, a_named_function, ReadsItems, no_items, a_hole, last_item, more_items, ReadsEntries, no_entries, last_entry, more_entries, ReadsEntry, a_value, a_getter, a_setter, ReadsRest, a_rest, BeginsLeft, primary, a_dot, an_index, a_call, a_new, a_bare_new, ReadsLeft, whole_left, ReadsArguments, no_arguments, arguments, ReadsArgumentList, last_argument, more_arguments, ReadsPostfix, left, a_postfix, ReadsUnary, postfix, a_prefix, an_update, BeginsBinary, operand, tighter, a_joint, ReadsBinary, whole_binary, ReadsConditional, operands, a_conditional, ReadsAssignment, conditional, an_assignment, BeginsExpression, assignment, a_comma, ReadsExpression, whole_expression, ReadsStatement, a_block, a_var, an_empty, an_expression, an_if_else, an_if, a_do_while, a_while, a_for, a_for_in, a_for_var_in, a_continue, a_continue_to, a_break, a_break_to, a_return, a_return_of, a_switch, a_label, a_throw, a_try_catch, a_try_finally, a_try_both, a_debugger, ReadsBlock, in_braces, ReadsStatements, no_statements, more_statements, ReadsSub, several, alone, ReadsHead, a_head, ReadsDeclaration, declared, initialised, ReadsDeclarations, last_declaration, more_declarations, ReadsInit, no_init, an_init, init_vars, ReadsMaybe, no_expression, one_expression, ReadsClauses, no_clauses, a_case, a_default, ReadsCatch, a_catch, ReadsElements, no_elements, a_declaration, a_statement, ReadsFunction, a_declared_function, ReadsBody, a_directive, no_directive}
+use Rattle.jl_grammar.specs.Next.{open_paren, open_brace, semicolon, keyword, is_identifier, is_name, is_key, is_open_paren, is_open_brace, is_semicolon, is_comma, is_colon, is_question, is_label, bars_expression, ends_statement, ends_list, updates_at}
+use Rattle.jl_grammar.specs.Operators.{continues, assign_operator, assigns, unary_operator, update_operator, updates}
+use Rattle.jl_grammar.specs.Reader.{is_close_paren, is_close_bracket, is_close_brace, is_function, is_new, is_in, is_var}
+use Rattle.jl_grammar.specs.Tokens.{At, Is, sign_at, line_at}
+
+-- the tokens that a primary expression begins with
+abbrev pub begins_primary : Sign → Bool
+begins_primary (signs.Word words.This) = true
+begins_primary signs.Identifier = true
+begins_primary signs.Get = true
+begins_primary signs.Set = true
+begins_primary (signs.Word words.Null) = true
+begins_primary (signs.Word words.True) = true
+begins_primary (signs.Word words.False) = true
+begins_primary signs.Number = true
+begins_primary signs.Str = true
+begins_primary (signs.Punct puncts.LeftBracket) = true
+begins_primary (signs.Punct puncts.LeftBrace) = true
+begins_primary (signs.Punct puncts.LeftParen) = true
+begins_primary (signs.Word words.Function) = true
+begins_primary _ = false
+
+-- the tokens that a left-hand side begins with
+abbrev pub begins_left : Sign → Bool
+begins_left (signs.Word words.This) = true
+begins_left signs.Identifier = true
+begins_left signs.Get = true
+begins_left signs.Set = true
+begins_left (signs.Word words.Null) = true
+begins_left (signs.Word words.True) = true
+begins_left (signs.Word words.False) = true
+begins_left signs.Number = true
+begins_left signs.Str = true
+begins_left (signs.Punct puncts.LeftBracket) = true
+begins_left (signs.Punct puncts.LeftBrace) = true
+begins_left (signs.Punct puncts.LeftParen) = true
+begins_left (signs.Word words.Function) = true
+begins_left (signs.Word words.New) = true
+begins_left _ = false
+
+-- the tokens that an expression begins with
+abbrev pub begins_expression : Sign → Bool
+begins_expression (signs.Word words.This) = true
+begins_expression signs.Identifier = true
+begins_expression signs.Get = true
+begins_expression signs.Set = true
+begins_expression (signs.Word words.Null) = true
+begins_expression (signs.Word words.True) = true
+begins_expression (signs.Word words.False) = true
+begins_expression signs.Number = true
+begins_expression signs.Str = true
+begins_expression (signs.Punct puncts.LeftBracket) = true
+begins_expression (signs.Punct puncts.LeftBrace) = true
+begins_expression (signs.Punct puncts.LeftParen) = true
+begins_expression (signs.Word words.Function) = true
+begins_expression (signs.Word words.New) = true
+begins_expression (signs.Punct puncts.Minus) = true
+begins_expression (signs.Punct puncts.Plus) = true
+begins_expression (signs.Punct puncts.Bang) = true
+begins_expression (signs.Punct puncts.Tilde) = true
+begins_expression (signs.Word words.Typeof) = true
+begins_expression (signs.Word words.Void) = true
+begins_expression (signs.Word words.Delete) = true
+begins_expression (signs.Punct puncts.PlusPlus) = true
+begins_expression (signs.Punct puncts.MinusMinus) = true
+begins_expression _ = false
+
+pub identifier_begins : (k : Sign) → is_identifier k ≡ true → begins_primary k ≡ true
+identifier_begins signs.Identifier h = refl
+identifier_begins signs.Get h = refl
+identifier_begins signs.Set h = refl
+identifier_begins _ h = cc
+
+pub primary_begins_left : (k : Sign) → begins_primary k ≡ true → begins_left k ≡ true
+primary_begins_left (signs.Word words.This) h = refl
+primary_begins_left signs.Identifier h = refl
+primary_begins_left signs.Get h = refl
+primary_begins_left signs.Set h = refl
+primary_begins_left (signs.Word words.Null) h = refl
+primary_begins_left (signs.Word words.True) h = refl
+primary_begins_left (signs.Word words.False) h = refl
+primary_begins_left signs.Number h = refl
+primary_begins_left signs.Str h = refl
+primary_begins_left (signs.Punct puncts.LeftBracket) h = refl
+primary_begins_left (signs.Punct puncts.LeftBrace) h = refl
+primary_begins_left (signs.Punct puncts.LeftParen) h = refl
+primary_begins_left (signs.Word words.Function) h = refl
+primary_begins_left _ h = cc
+
+pub left_begins_expression : (k : Sign) → begins_left k ≡ true → begins_expression k ≡ true
+left_begins_expression (signs.Word words.This) h = refl
+left_begins_expression signs.Identifier h = refl
+left_begins_expression signs.Get h = refl
+left_begins_expression signs.Set h = refl
+left_begins_expression (signs.Word words.Null) h = refl
+left_begins_expression (signs.Word words.True) h = refl
+left_begins_expression (signs.Word words.False) h = refl
+left_begins_expression signs.Number h = refl
+left_begins_expression signs.Str h = refl
+left_begins_expression (signs.Punct puncts.LeftBracket) h = refl
+left_begins_expression (signs.Punct puncts.LeftBrace) h = refl
+left_begins_expression (signs.Punct puncts.LeftParen) h = refl
+left_begins_expression (signs.Word words.Function) h = refl
+left_begins_expression (signs.Word words.New) h = refl
+left_begins_expression _ h = cc
+
+pub primary_is_not_new : (k : Sign) → begins_primary k ≡ true → is_new k ≡ false
+primary_is_not_new (signs.Word words.New) h = cc
+primary_is_not_new _ h = refl
+
+pub left_is_no_prefix : (k : Sign) → begins_left k ≡ true → unary_operator k ≡ None
+left_is_no_prefix (signs.Punct puncts.Minus) h = cc
+left_is_no_prefix (signs.Punct puncts.Plus) h = cc
+left_is_no_prefix (signs.Punct puncts.Bang) h = cc
+left_is_no_prefix (signs.Punct puncts.Tilde) h = cc
+left_is_no_prefix (signs.Word words.Typeof) h = cc
+left_is_no_prefix (signs.Word words.Void) h = cc
+left_is_no_prefix (signs.Word words.Delete) h = cc
+left_is_no_prefix _ h = refl
+
+pub left_is_no_update : (k : Sign) → begins_left k ≡ true → update_operator k ≡ None
+left_is_no_update (signs.Punct puncts.PlusPlus) h = cc
+left_is_no_update (signs.Punct puncts.MinusMinus) h = cc
+left_is_no_update _ h = refl
+
+pub update_is_no_prefix : (k : Sign) (up : Bool) → update_operator k ≡ Some up → unary_operator k ≡ None
+update_is_no_prefix (signs.Punct puncts.Minus) up h = cc
+update_is_no_prefix (signs.Punct puncts.Plus) up h = cc
+update_is_no_prefix (signs.Punct puncts.Bang) up h = cc
+update_is_no_prefix (signs.Punct puncts.Tilde) up h = cc
+update_is_no_prefix (signs.Word words.Typeof) up h = cc
+update_is_no_prefix (signs.Word words.Void) up h = cc
+update_is_no_prefix (signs.Word words.Delete) up h = cc
+update_is_no_prefix _ up h = refl
+
+prefix_begins : (k : Sign) (op : UnOp) → unary_operator k ≡ Some op → begins_expression k ≡ true
+prefix_begins (signs.Punct puncts.Minus) op h = refl
+prefix_begins (signs.Punct puncts.Plus) op h = refl
+prefix_begins (signs.Punct puncts.Bang) op h = refl
+prefix_begins (signs.Punct puncts.Tilde) op h = refl
+prefix_begins (signs.Word words.Typeof) op h = refl
+prefix_begins (signs.Word words.Void) op h = refl
+prefix_begins (signs.Word words.Delete) op h = refl
+prefix_begins _ op h = cc
+
+update_begins : (k : Sign) (up : Bool) → update_operator k ≡ Some up → begins_expression k ≡ true
+update_begins (signs.Punct puncts.PlusPlus) up h = refl
+update_begins (signs.Punct puncts.MinusMinus) up h = refl
+update_begins _ up h = cc
+
+pub no_semicolon : (k : Sign) → begins_expression k ≡ true → is_semicolon k ≡ false
+no_semicolon (signs.Punct puncts.Semicolon) h = cc
+no_semicolon _ h = refl
+
+pub no_close_paren : (k : Sign) → begins_expression k ≡ true → is_close_paren k ≡ false
+no_close_paren (signs.Punct puncts.RightParen) h = cc
+no_close_paren _ h = refl
+
+pub no_close_bracket : (k : Sign) → begins_expression k ≡ true → is_close_bracket k ≡ false
+no_close_bracket (signs.Punct puncts.RightBracket) h = cc
+no_close_bracket _ h = refl
+
+pub no_comma : (k : Sign) → begins_expression k ≡ true → is_comma k ≡ false
+no_comma (signs.Punct puncts.Comma) h = cc
+no_comma _ h = refl
+
+pub no_var : (k : Sign) → begins_expression k ≡ true → is_var k ≡ false
+no_var (signs.Word words.Var) h = cc
+no_var _ h = refl
+
+pub no_statement_end : (k : Sign) → begins_expression k ≡ true → ends_statement k ≡ false
+no_statement_end (signs.Punct puncts.RightBrace) h = cc
+no_statement_end signs.End h = cc
+no_statement_end _ h = refl
+
+pub no_list_end : (k : Sign) → begins_expression k ≡ true → ends_list k ≡ false
+no_list_end (signs.Punct puncts.RightBrace) h = cc
+no_list_end signs.End h = cc
+no_list_end (signs.Word words.Case) h = cc
+no_list_end (signs.Word words.Default) h = cc
+no_list_end _ h = refl
+
+pub identifier_is_no_close : (k : Sign) → is_identifier k ≡ true → is_close_paren k ≡ false
+identifier_is_no_close (signs.Punct puncts.RightParen) h = cc
+identifier_is_no_close _ h = refl
+
+pub identifier_is_no_end : (k : Sign) → is_identifier k ≡ true → ends_list k ≡ false
+identifier_is_no_end (signs.Punct puncts.RightBrace) h = cc
+identifier_is_no_end signs.End h = cc
+identifier_is_no_end (signs.Word words.Case) h = cc
+identifier_is_no_end (signs.Word words.Default) h = cc
+identifier_is_no_end _ h = refl
+
+pub identifier_is_no_function : (k : Sign) → is_identifier k ≡ true → is_function k ≡ false
+identifier_is_no_function (signs.Word words.Function) h = cc
+identifier_is_no_function _ h = refl
+
+pub key_is_no_colon : (k : Sign) → is_key k ≡ true → is_colon k ≡ false
+key_is_no_colon (signs.Punct puncts.Colon) h = cc
+key_is_no_colon _ h = refl
+
+pub key_is_no_brace : (k : Sign) → is_key k ≡ true → is_close_brace k ≡ false
+key_is_no_brace (signs.Punct puncts.RightBrace) h = cc
+key_is_no_brace _ h = refl
+
+unbarred_is_no_function : (k : Sign) → bars_expression k ≡ false → is_function k ≡ false
+unbarred_is_no_function (signs.Word words.Function) h = cc
+unbarred_is_no_function _ h = refl
+
+-- an assignment operator goes on with nothing tighter
+pub assign_updates_not : (k : Sign) (op : Option BinOp) → assign_operator k ≡ Some op → updates k ≡ false
+assign_updates_not (signs.Punct puncts.PlusPlus) op h = cc
+assign_updates_not (signs.Punct puncts.MinusMinus) op h = cc
+assign_updates_not _ op h = refl
+
+pub assign_is_no_question : (k : Sign) (op : Option BinOp) → assign_operator k ≡ Some op → is_question k ≡ false
+assign_is_no_question (signs.Punct puncts.Question) op h = cc
+assign_is_no_question _ op h = refl
+
+pub assign_joins_not : (no_in : Bool) (k : Sign) (op : Option BinOp) → assign_operator k ≡ Some op → continues no_in 10 k ≡ false
+assign_joins_not true (signs.Punct puncts.Star) op h = cc
+assign_joins_not true (signs.Punct puncts.Slash) op h = cc
+assign_joins_not true (signs.Punct puncts.Percent) op h = cc
+assign_joins_not true (signs.Punct puncts.Plus) op h = cc
+assign_joins_not true (signs.Punct puncts.Minus) op h = cc
+assign_joins_not true (signs.Punct puncts.ShiftLeft) op h = cc
+assign_joins_not true (signs.Punct puncts.ShiftRight) op h = cc
+assign_joins_not true (signs.Punct puncts.ShiftRightUnsigned) op h = cc
+assign_joins_not true (signs.Punct puncts.Less) op h = cc
+assign_joins_not true (signs.Punct puncts.Greater) op h = cc
+assign_joins_not true (signs.Punct puncts.LessEqual) op h = cc
+assign_joins_not true (signs.Punct puncts.GreaterEqual) op h = cc
+assign_joins_not true (signs.Punct puncts.Equal) op h = cc
+assign_joins_not true (signs.Punct puncts.NotEqual) op h = cc
+assign_joins_not true (signs.Punct puncts.StrictEqual) op h = cc
+assign_joins_not true (signs.Punct puncts.StrictNotEqual) op h = cc
+assign_joins_not true (signs.Punct puncts.And) op h = cc
+assign_joins_not true (signs.Punct puncts.Caret) op h = cc
+assign_joins_not true (signs.Punct puncts.Or) op h = cc
+assign_joins_not true (signs.Punct puncts.AndAnd) op h = cc
+assign_joins_not true (signs.Punct puncts.OrOr) op h = cc
+assign_joins_not true (signs.Word words.InstanceOf) op h = cc
+assign_joins_not true (signs.Word words.In) op h = cc
+assign_joins_not false (signs.Punct puncts.Star) op h = cc
+assign_joins_not false (signs.Punct puncts.Slash) op h = cc
+assign_joins_not false (signs.Punct puncts.Percent) op h = cc
+assign_joins_not false (signs.Punct puncts.Plus) op h = cc
+assign_joins_not false (signs.Punct puncts.Minus) op h = cc
+assign_joins_not false (signs.Punct puncts.ShiftLeft) op h = cc
+assign_joins_not false (signs.Punct puncts.ShiftRight) op h = cc
+assign_joins_not false (signs.Punct puncts.ShiftRightUnsigned) op h = cc
+assign_joins_not false (signs.Punct puncts.Less) op h = cc
+assign_joins_not false (signs.Punct puncts.Greater) op h = cc
+assign_joins_not false (signs.Punct puncts.LessEqual) op h = cc
+assign_joins_not false (signs.Punct puncts.GreaterEqual) op h = cc
+assign_joins_not false (signs.Punct puncts.Equal) op h = cc
+assign_joins_not false (signs.Punct puncts.NotEqual) op h = cc
+assign_joins_not false (signs.Punct puncts.StrictEqual) op h = cc
+assign_joins_not false (signs.Punct puncts.StrictNotEqual) op h = cc
+assign_joins_not false (signs.Punct puncts.And) op h = cc
+assign_joins_not false (signs.Punct puncts.Caret) op h = cc
+assign_joins_not false (signs.Punct puncts.Or) op h = cc
+assign_joins_not false (signs.Punct puncts.AndAnd) op h = cc
+assign_joins_not false (signs.Punct puncts.OrOr) op h = cc
+assign_joins_not false (signs.Word words.InstanceOf) op h = cc
+assign_joins_not false (signs.Word words.In) op h = cc
+assign_joins_not true _ op h = refl
+assign_joins_not false _ op h = refl
+
+and_false : (b : Bool) → (b && false) ≡ false
+and_false true = refl
+and_false false = refl
+
+-- where a statement ends there is no label
+pub no_label : (k : Sign) (line : Bool) → (ends_statement k || line) ≡ true → (is_identifier k && not line) ≡ false
+no_label k true h = and_false (is_identifier k)
+no_label (signs.Punct puncts.RightBrace) false h = refl
+no_label signs.End false h = refl
+no_label signs.Identifier false h = cc
+no_label signs.Get false h = cc
+no_label signs.Set false h = cc
+no_label _ false h = refl
+
+pub primary_starts : {ts : List Token} {i : ℕ} {t : Expr} {j : ℕ} → ReadsPrimary ts i t j → begins_primary (sign_at ts i) ≡ true
+primary_starts (a_this a) = ap begins_primary a.is
+primary_starts {ts} {i} (a_name a) = identifier_begins (sign_at ts i) a.is
+primary_starts (a_null a) = ap begins_primary a.is
+primary_starts (a_true a) = ap begins_primary a.is
+primary_starts (a_false a) = ap begins_primary a.is
+primary_starts (a_number a) = ap begins_primary a.is
+primary_starts (a_string a) = ap begins_primary a.is
+primary_starts (an_array a b) = ap begins_primary a.is
+primary_starts (an_object a b) = ap begins_primary a.is
+primary_starts (in_parens a b c) = ap begins_primary a.is
+primary_starts (a_function a b) = ap begins_primary a.is
+primary_starts (a_named_function a b c) = ap begins_primary a.is
+
+pub begins_left_starts : {ts : List Token} {calls : Bool} {i : ℕ} {t : Expr} {j : ℕ} → BeginsLeft ts calls i t j → begins_left (sign_at ts i) ≡ true
+begins_left_starts {ts} {i = i} (primary a) = primary_begins_left (sign_at ts i) (primary_starts a)
+begins_left_starts (a_dot a b c) = begins_left_starts a
+begins_left_starts (an_index a b c d) = begins_left_starts a
+begins_left_starts (a_call a b c) = begins_left_starts a
+begins_left_starts (a_new a b c d) = ap begins_left a.is
+begins_left_starts (a_bare_new a b c) = ap begins_left a.is
+
+pub left_starts : {ts : List Token} {calls : Bool} {i : ℕ} {t : Expr} {j : ℕ} → ReadsLeft ts calls i t j → begins_left (sign_at ts i) ≡ true
+left_starts (whole_left a b) = begins_left_starts a
+
+pub postfix_starts : {ts : List Token} {i : ℕ} {t : Expr} {j : ℕ} → ReadsPostfix ts i t j → begins_left (sign_at ts i) ≡ true
+postfix_starts (left a b) = left_starts a
+postfix_starts (a_postfix a b c d) = left_starts a
+
+pub unary_starts : {ts : List Token} {i : ℕ} {t : Expr} {j : ℕ} → ReadsUnary ts i t j → begins_expression (sign_at ts i) ≡ true
+unary_starts {ts} {i} (postfix a) = left_begins_expression (sign_at ts i) (postfix_starts a)
+unary_starts {ts} {i} (a_prefix {op = op} a b) = prefix_begins (sign_at ts i) op a.is
+unary_starts {ts} {i} (an_update {up = up} a b c) = update_begins (sign_at ts i) up a.is
+
+mutual
+  pub begins_binary_starts : {ts : List Token} {no_in : Bool} {l i : ℕ} {t : Expr} {j : ℕ} → BeginsBinary ts no_in l i t j → begins_expression (sign_at ts i) ≡ true
+  begins_binary_starts (operand a) = unary_starts a
+  begins_binary_starts (tighter a) = binary_starts a
+  begins_binary_starts (a_joint a b c d) = begins_binary_starts a
+
+  pub binary_starts : {ts : List Token} {no_in : Bool} {l i : ℕ} {t : Expr} {j : ℕ} → ReadsBinary ts no_in l i t j → begins_expression (sign_at ts i) ≡ true
+  binary_starts (whole_binary a b) = begins_binary_starts a
+
+pub conditional_starts : {ts : List Token} {no_in : Bool} {i : ℕ} {t : Expr} {j : ℕ} → ReadsConditional ts no_in i t j → begins_expression (sign_at ts i) ≡ true
+conditional_starts (operands a b) = binary_starts a
+conditional_starts (a_conditional a b c d e) = binary_starts a
+
+pub assignment_starts : {ts : List Token} {no_in : Bool} {i : ℕ} {t : Expr} {j : ℕ} → ReadsAssignment ts no_in i t j → begins_expression (sign_at ts i) ≡ true
+assignment_starts (conditional a b) = conditional_starts a
+assignment_starts {ts} {i = i} (an_assignment a b c d) = left_begins_expression (sign_at ts i) (left_starts a)
+
+pub begins_expression_starts : {ts : List Token} {no_in : Bool} {i : ℕ} {t : Expr} {j : ℕ} → BeginsExpression ts no_in i t j → begins_expression (sign_at ts i) ≡ true
+begins_expression_starts (assignment a) = assignment_starts a
+begins_expression_starts (a_comma a b c) = begins_expression_starts a
+
+pub expression_starts : {ts : List Token} {no_in : Bool} {i : ℕ} {t : Expr} {j : ℕ} → ReadsExpression ts no_in i t j → begins_expression (sign_at ts i) ≡ true
+expression_starts (whole_expression a b) = begins_expression_starts a
+
+pub argument_list_starts : {ts : List Token} {i : ℕ} {t : Exprs} {j : ℕ} → ReadsArgumentList ts i t j → is_close_paren (sign_at ts i) ≡ false
+argument_list_starts {ts} {i} (last_argument a b) = no_close_paren (sign_at ts i) (assignment_starts a)
+argument_list_starts {ts} {i} (more_arguments a b c) = no_close_paren (sign_at ts i) (assignment_starts a)
+
+pub names_start : {ts : List Token} {i : ℕ} {t : List (Ident Span)} {j : ℕ} → ReadsNames ts i t j → is_close_paren (sign_at ts i) ≡ false
+names_start {ts} {i} (last_name a b) = identifier_is_no_close (sign_at ts i) a.is
+names_start {ts} {i} (more_names a b c) = identifier_is_no_close (sign_at ts i) a.is
+
+pub entry_starts : {ts : List Token} {i : ℕ} {t : Tree Span tree.entry} {j : ℕ} → ReadsEntry ts i t j → is_close_brace (sign_at ts i) ≡ false
+entry_starts {ts} {i} (a_value a b c) = key_is_no_brace (sign_at ts i) a.is
+entry_starts (a_getter a b c) = ap is_close_brace a.is
+entry_starts (a_setter a b c) = ap is_close_brace a.is
+
+pub rest_starts : {ts : List Token} {i : ℕ} {ps : List (Ident Span)} {c : Code} {j : ℕ} → ReadsRest ts i ps c j → At ts i open_paren
+rest_starts (a_rest a b c d e) = a
+
+pub catch_starts : {ts : List Token} {i : ℕ} {t : Tree Span tree.handler} {j : ℕ} → ReadsCatch ts i t j → At ts i (keyword words.Catch)
+catch_starts (a_catch a b c d e) = a
+
+pub block_starts : {ts : List Token} {i : ℕ} {t : Stmts} {j : ℕ} → ReadsBlock ts i t j → At ts i open_brace
+block_starts (in_braces a b c) = a
+
+-- what a statement begins with ends no list and is no function
+pub statement_starts : {ts : List Token} {i : ℕ} {t : Stmt} {j : ℕ} → ReadsStatement ts i t j → (ends_list (sign_at ts i) ≡ false) × (is_function (sign_at ts i) ≡ false)
+statement_starts (a_block a) = let e = block_starts a in (ap ends_list e.is, ap is_function e.is)
+statement_starts (a_var a b c) = (ap ends_list a.is, ap is_function a.is)
+statement_starts (an_empty a) = (ap ends_list a.is, ap is_function a.is)
+statement_starts {ts} {i} (an_expression a b c d) = (no_list_end (sign_at ts i) (expression_starts c), unbarred_is_no_function (sign_at ts i) a)
+statement_starts (an_if_else a b c d e) = (ap ends_list a.is, ap is_function a.is)
+statement_starts (an_if a b c d) = (ap ends_list a.is, ap is_function a.is)
+statement_starts (a_do_while a b c d e) = (ap ends_list a.is, ap is_function a.is)
+statement_starts (a_while a b c) = (ap ends_list a.is, ap is_function a.is)
+statement_starts (a_for a b c d e f g h m) = (ap ends_list a.is, ap is_function a.is)
+statement_starts (a_for_in a b c d e f g) = (ap ends_list a.is, ap is_function a.is)
+statement_starts (a_for_var_in a b c d e f g h) = (ap ends_list a.is, ap is_function a.is)
+statement_starts (a_continue a b) = (ap ends_list a.is, ap is_function a.is)
+statement_starts (a_continue_to a b c d) = (ap ends_list a.is, ap is_function a.is)
+statement_starts (a_break a b) = (ap ends_list a.is, ap is_function a.is)
+statement_starts (a_break_to a b c d) = (ap ends_list a.is, ap is_function a.is)
+statement_starts (a_return a b) = (ap ends_list a.is, ap is_function a.is)
+statement_starts (a_return_of a b c d) = (ap ends_list a.is, ap is_function a.is)
+statement_starts (a_switch a b c d e) = (ap ends_list a.is, ap is_function a.is)
+statement_starts {ts} {i} (a_label a b c) = (identifier_is_no_end (sign_at ts i) a.is, identifier_is_no_function (sign_at ts i) a.is)
+statement_starts (a_throw a b c d) = (ap ends_list a.is, ap is_function a.is)
+statement_starts (a_try_catch a b c d) = (ap ends_list a.is, ap is_function a.is)
+statement_starts (a_try_finally a b c d) = (ap ends_list a.is, ap is_function a.is)
+statement_starts (a_try_both a b c d e) = (ap ends_list a.is, ap is_function a.is)
+statement_starts (a_debugger a b) = (ap ends_list a.is, ap is_function a.is)
+
+-- before the semicolon of a `for` with variables no `in` follows the first name
+pub no_in_follows : {ts : List Token} {no_in : Bool} {i : ℕ} {t : Row Span tree.decl} {j : ℕ} → ReadsDeclarations ts no_in i t j → At ts j semicolon → is_in (sign_at ts (suc i)) ≡ false
+no_in_follows (last_declaration (declared a b) c) h = ap is_in h.is
+no_in_follows (last_declaration (initialised a b c) d) h = ap is_in b.is
+no_in_follows (more_declarations (declared a b) c d) h = ap is_in c.is
+no_in_follows (more_declarations (initialised a b c) d e) h = ap is_in b.is

@@ -1,0 +1,10 @@
+//! The grammar of scripts (clauses 11 to 14): its tables, and what a list of tokens reads as.
+#![tactic(auto)]
+
+mod operators;
+mod sign;
+mod word;
+
+pub use operators::{assign_op, binary_op, level};
+pub use sign::{Sign, sign_of};
+pub use word::{Word, is_reserved, reserved_word};
