@@ -2,3 +2,4 @@ pub mod Tree
 pub mod Spans
 pub mod Height
 pub mod Numbering
+pub mod View
