@@ -158,7 +158,7 @@ abbrev pub view_maybe : Option Expr → Maybe Span tree.expr
 view_maybe e = maybe (option_map view_expression e)
 
 abbrev pub view_items : List (Option Expr) → Row Span tree.item
-view_items l = row (map (λ e. item (option_map view_expression e)) l)
+view_items l = row (map item (map (option_map view_expression) l))
 
 abbrev pub view_entries : List Entry → Row Span tree.entry
 view_entries l = row (map view_entry l)
@@ -176,7 +176,7 @@ abbrev pub view_catch : Option (Ident × List Stmt) → Maybe Span tree.handler
 view_catch c = catch (option_map (λ h. (h.0, map view_statement h.1)) c)
 
 abbrev pub view_declarators : List (Ident × Option Expr) → Row Span tree.decl
-view_declarators l = row (map view_declarator l)
+view_declarators l = row (map declarator (map (λ d. (d.0, option_map view_expression d.1)) l))
 
 abbrev pub view_cases : List Case → Row Span tree.clause
 view_cases l = row (map view_case l)
