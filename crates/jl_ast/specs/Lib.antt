@@ -5,3 +5,4 @@ pub mod Numbering
 pub mod Table
 pub mod View
 pub mod Saturated
+pub mod Laws

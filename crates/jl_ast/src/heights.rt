@@ -82,7 +82,11 @@ fn statement_height(s: &Stmt) -> u32
         StmtKind::Labelled(_, s) => above(statement_height(s)),
         StmtKind::Switch(e, cases) => above(expression_height(e).max(cases_height(cases.items()))),
         StmtKind::Throw(e) => above(expression_height(e)),
-        StmtKind::Try { body, catch, finally } => {
+        StmtKind::Try {
+            body,
+            catch,
+            finally,
+        } => {
             let caught = match catch {
                 Some((_, body)) => statements_height(body.items()),
                 None => 0,
@@ -163,7 +167,11 @@ fn expression_height(e: &Expr) -> u32
         | ExprKind::Or(a, b)
         | ExprKind::Comma(a, b) => above(expression_height(a).max(expression_height(b))),
         ExprKind::Cond(a, b, c) => {
-            above(expression_height(a).max(expression_height(b)).max(expression_height(c)))
+            above(
+                expression_height(a)
+                    .max(expression_height(b))
+                    .max(expression_height(c)),
+            )
         }
         ExprKind::Assign(_, t, e) => above(target_height(t).max(expression_height(e))),
     }

@@ -31,4 +31,3 @@ invariant-entries_height-loop-entry l =
 abbrev pub invariant-expressions_height-loop-e : goal.invariant-expressions_height-loop-e
 invariant-expressions_height-loop-e l =
     max l.most (saturated (row_height (view_expressions (drop l.e-index l.expressions)))) ≡ saturated (row_height (view_expressions l.expressions))
-
