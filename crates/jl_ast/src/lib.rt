@@ -16,3 +16,6 @@ pub use ops::{BinOp, UnOp};
 pub use tree::{
     Body, Case, Entry, Expr, ExprKind, ForInit, Function, Ident, Program, Stmt, StmtKind, Target,
 };
+
+#[cfg(test)]
+mod tests;
