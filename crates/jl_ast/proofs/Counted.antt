@@ -1,8 +1,8 @@
 -- The functions of a numbered tree have its numbers in turn.
-use Rattle.std.proofs.Common.{◌≡◌, ℕ, ◌+◌, suc, zero, List, [], ◌∷◌, ◌++◌, map, refl, ap, arith, sym, ◌∙◌}
+use Rattle.std.proofs.Common.{◌≡◌, ℕ, ◌+◌, suc, zero, List, ◌∷◌, ◌++◌, map, refl, ap, arith}
 use Rattle.std.specs.List.{range_with_len}
 use Rattle.std.proofs.lemmas.List.{map-append}
-use Rattle.jl_ast.specs.Tree.{Program, Sort, func, Tree, Row, Maybe, this, name, number, string, boolean, null, array, object, function_expression, dot, index, call, new, unary, update, binary, and, or, conditional, assign, comma, to_name, to_dot, to_index, hole, filled, value, getter, setter, function, body, var, empty, expression, block, when, do_while, while, for, for_in, continue, break, return, labelled, switch, throw, try, debugger, nothing, init_expression, init_var, declarator, case, branch_of, catch, end, more, absent, present}
+use Rattle.jl_ast.specs.Tree.{Sort, func, Tree, Row, Maybe, this, name, number, string, boolean, null, array, object, function_expression, dot, index, call, new, unary, update, binary, and, or, conditional, assign, comma, to_name, to_dot, to_index, hole, filled, value, getter, setter, function, body, var, empty, expression, block, when, do_while, while, for, for_in, continue, break, return, labelled, switch, throw, try, debugger, nothing, init_expression, init_var, declarator, case, branch_of, catch, end, more, absent, present}
 use Rattle.jl_ast.specs.Numbering.{functions_in, functions_in_row, functions_in_maybe, numbered_tree, numbered_row, numbered_maybe}
 use Rattle.jl_ast.specs.Table.{functions_of, functions_of_row, functions_of_maybe, number_of}
 

@@ -1,5 +1,5 @@
 -- How the functions of a node's parts make those of the node.
-use Rattle.std.proofs.Common.{◌≡◌, List, [], ◌++◌, Option, Some, None, append-nil, ℕ, ◌+◌, ◌*◌, ◌<◌, map, rules, Result, OnOk, append_assoc, ap, sym, ◌∙◌}
+use Rattle.std.proofs.Common.{◌≡◌, List, [], ◌++◌, Option, Some, None, append-nil, ◌+◌, ◌*◌, ◌<◌, map, rules, Result, OnOk, append_assoc, ap, sym, ◌∙◌}
 use Rattle.std.proofs.lemmas.Result.{on_ok_weaker}
 use denote.Param.Weighed.{most}
 use Rattle.jl_ast.specs.declared.tree.Ident.{Ident}
