@@ -1,2 +1,10 @@
 pub mod Views
 pub mod Simulation
+pub mod Reading
+pub mod ReadingBytes
+pub mod ReadingScripts
+pub mod ReadingExamples
+pub mod Comings
+pub mod Reports
+pub mod Answering
+pub mod Endings

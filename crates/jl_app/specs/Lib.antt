@@ -1,5 +1,12 @@
 pub mod Sums
+pub mod Reading
 pub mod Places
 pub mod Meaning
 pub mod Weaving
 pub mod View
+pub mod Running
+pub mod Reporting
+pub mod Codes
+pub mod Texts
+pub mod Answers
+pub mod Endings

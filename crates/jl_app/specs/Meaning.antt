@@ -12,7 +12,7 @@ use Rattle.jl_op.specs.declared.value.Fault.TheVariants.{NumberOutside}
 use Rattle.jl_op.specs.declared.value.Seen.{Seen}
 use Rattle.jl_op.specs.declared.value.Value.TheVariants.{Undefined, Num}
 use Rattle.jl_op.specs.Operations.{Operation}
-use Rattle.jl_meaning.specs.Effects.{Part, End, Fail, Step, Print, Does, ◌>>=◌}
+use Rattle.jl_meaning.specs.Effects.{Part, End, Fail, Step, Print, Does, steps, ◌>>=◌}
 use Rattle.jl_app.specs.Sums.{Sum, number, binary, Script, parts}
 
 -- the operation with the id that comes after so many
@@ -50,15 +50,20 @@ value_of (binary at op a b) before = Step do
     z ← or_outside (result_of op x y)
     Does (with_id before (Binary op (seen x) (seen y) (seen z))) (End z)
 
--- what the builtin does, once its argument is evaluated and it is known to be callable: it is entered, and its loop has
--- a turn for its one argument
-abbrev pub called : Number → Part (Unit {0}) → Part (Unit {0})
-called x rest = Step (Step (Print (printed x) rest))
+-- what the call of `print` does, once its argument is evaluated: it is known to be callable, the builtin is entered, its
+-- loop has a turn for the one argument, and it returns
+abbrev pub print_call : Number → Part (Unit {0})
+print_call x = Does (with_id 2 (InvokePre (seen x))) (steps 2 (Print (printed x) (
+    Does (with_id 3 (InvokePost (record { value = Undefined }))) (End tt))))
 
--- what a script does: its one statement, the call in it, the name `print`, the argument, and the call itself
+-- up to the argument: the script's one statement, the call in it, and the name `print`
+abbrev pub script_begin : Part (Unit {0})
+script_begin = Does (with_id 0 ScriptEnter) (steps 3 (Does (with_id 4 Read) (End tt)))
+
+-- what a script does
 abbrev pub script : Script → Part (Unit {0})
-script s =
-    Does (with_id 0 ScriptEnter) (Step (Step (Step (Does (with_id 4 Read) (value_of s.argument 5 >>= λ x.
-    Does (with_id 2 (InvokePre (seen x))) (called x (
-    Does (with_id 3 (InvokePost (record { value = Undefined }))) (
-    Does (with_id 1 ScriptExit) (End tt)))))))))
+script s = do
+    _ ← script_begin
+    x ← value_of s.argument 5
+    _ ← print_call x
+    Does (with_id 1 ScriptExit) (End tt)

@@ -1,14 +1,14 @@
 -- The woven script, in which each operation is a call of a hook, `J$.NAME(id, ..)`:
 --     J$.S(1); J$.F(3, J$.R(5, "print", print))(SUM); J$.X(2);
-use Rattle.std.specs.Prelude.{ℕ, zero, suc, ◌+◌}
+use Rattle.std.specs.Prelude.{ℕ, ◌+◌}
 use Rattle.jl_num.specs.Number.{Number}
 use Rattle.jl_op.specs.declared.op.Operator.{Operator}
 use Rattle.jl_op.specs.declared.op.OpId.{OpId}
 use Rattle.jl_op.specs.declared.op.Op.TheVariants.{ScriptEnter, ScriptExit, Literal, Read, Binary, InvokePre, InvokePost}
 use Rattle.jl_op.specs.declared.value.Value.TheVariants.{Undefined}
-use Rattle.jl_meaning.specs.Effects.{Part, End, Step, Tells, ◌>>=◌}
+use Rattle.jl_meaning.specs.Effects.{Part, End, Step, Print, Tells, steps, ◌>>=◌}
 use Rattle.jl_app.specs.Sums.{Sum, number, binary, Script, parts}
-use Rattle.jl_app.specs.Meaning.{with_id, seen, result_of, or_outside, called}
+use Rattle.jl_app.specs.Meaning.{with_id, seen, result_of, or_outside, printed}
 
 pub data Hooked : Type 0 where
   -- `J$.T(id, n)`
@@ -22,10 +22,11 @@ woven (number at n) before = hooked_literal (record { 0 = before + 1 }) n
 woven (binary at op a b) before =
     hooked_binary (record { 0 = before + 1 }) op (woven a (before + 1)) (woven b (before + 1 + parts a))
 
--- so many steps
-abbrev pub steps : {A : Type 0} → ℕ → Part A → Part A
-steps zero p = p
-steps (suc n) p = Step (steps n p)
+-- what the hook of a binary operation does: it is entered, applies the operator, and tells of it
+abbrev pub hooked_operation : OpId → Operator → Number → Number → Part Number
+hooked_operation id op x y = Step do
+    z ← or_outside (result_of op x y)
+    Tells (id, Binary op (seen x) (seen y) (seen z)) (End z)
 
 -- what a woven sum does to give its value. A call of a hook takes a step, its arguments take theirs, and the hook is
 -- entered with a step.
@@ -34,15 +35,35 @@ hooked_value (hooked_literal id n) = steps 3 (Tells (id, Literal (seen n)) (End 
 hooked_value (hooked_binary id op a b) = Step do
     x ← hooked_value a
     y ← hooked_value b
-    Step do
-        z ← or_outside (result_of op x y)
-        Tells (id, Binary op (seen x) (seen y) (seen z)) (End z)
+    hooked_operation id op x y
 
--- what a woven script does. `J$.S(1);` is a statement, a call and a hook; then come a statement and its call, the call
--- of `J$.F`, that of `J$.R`, the name `print`, and the two hooks; then the argument and the call itself, and `J$.X(2);`.
+-- `J$.S(1);` is a statement, a call and a hook
+abbrev pub hooked_enter : Part (Unit {0})
+hooked_enter = steps 3 (Tells (with_id 0 ScriptEnter) (End tt))
+
+-- the second statement and its call, the call of `J$.F`, that of `J$.R`, the name `print`, and the two hooks, of which
+-- `J$.F` only gives the callee on
+abbrev pub hooked_callee : Part (Unit {0})
+hooked_callee = steps 6 (Tells (with_id 4 Read) (Step (End tt)))
+
+-- the call that `J$.F` prepared does what the call of `print` does by itself: the builtin is entered, and its loop has a
+-- turn for the one argument
+abbrev pub hooked_invoke : Number → Part (Unit {0})
+hooked_invoke x = Tells (with_id 2 (InvokePre (seen x))) (steps 2 (Print (printed x) (End tt)))
+
+abbrev pub hooked_return : Part (Unit {0})
+hooked_return = Tells (with_id 3 (InvokePost (record { value = Undefined }))) (End tt)
+
+-- `J$.X(2);`
+abbrev pub hooked_end : Part (Unit {0})
+hooked_end = steps 3 (Tells (with_id 1 ScriptExit) (End tt))
+
+-- what a woven script does
 abbrev pub hooked_script : Hooked → Part (Unit {0})
-hooked_script argument =
-    steps 3 (Tells (with_id 0 ScriptEnter) (steps 6 (Tells (with_id 4 Read) (Step (hooked_value argument >>= λ x.
-    Tells (with_id 2 (InvokePre (seen x))) (called x (
-    Tells (with_id 3 (InvokePost (record { value = Undefined }))) (
-    steps 3 (Tells (with_id 1 ScriptExit) (End tt))))))))))
+hooked_script argument = do
+    _ ← hooked_enter
+    _ ← hooked_callee
+    x ← hooked_value argument
+    _ ← hooked_invoke x
+    _ ← hooked_return
+    hooked_end

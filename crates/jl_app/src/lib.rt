@@ -2,8 +2,16 @@
 #![tactic(auto, using(crate::proofs::Views::nodes))]
 
 pub mod laws;
-mod run;
-mod tree;
-mod weave;
+pub mod outcome;
+mod answer;
+mod command;
+mod read;
+pub mod report;
+pub mod run;
+pub mod status;
+pub mod tree;
+pub mod weave;
 
+pub use command::jlint;
+pub use status::Status;
 pub use tree::{Script, Sum};

@@ -31,6 +31,11 @@ infixl 1 ◌>>=◌
 abbrev pub ◌>>=◌ : {A B : Type 0} → Part A → (A → Part B) → Part B
 p >>= k = and_then p k
 
+-- so many steps, and then the part
+abbrev pub steps : {A : Type 0} → ℕ → Part A → Part A
+steps zero p = p
+steps (suc n) p = Step (steps n p)
+
 -- what a run has done so far: the bytes of its output, the operations of the script, and those that hooks told of
 pub record World : Type 0 where
   pub output : List ℕ

@@ -1,5 +1,4 @@
-ghost use Rattle.std.specs.Prelude.{◌≡◌, ◌⊎◌, ◌↔◌, ◌+◌, ◌-◌, ◌<◌, ◌≤◌, min, length, take, drop, [], ◌++◌, IfOk, OnErr, IsErr, Contains};
-ghost use Rattle.jl_port.specs.Bytes.{Takes, Grows, IsAtEnd};
+ghost use Rattle.std.specs.Prelude.{◌≡◌, ◌↔◌, ◌-◌, ◌<◌, ◌≤◌, min, length, take, [], IfOk, OnErr, IsErr, Contains};
 ghost use Rattle.jl_port.specs.Count.{HasRisen, one_more};
 
 use super::traits::{Failed, Sink, Source};
@@ -22,7 +21,12 @@ impl Model for MemSource {
 
     ghost Value = { Supply };
 
-    ghost view = { λ s. record { left = drop s.at s.bytes.items; calls = s.calls; fails = s.fails.items; faults = s.faults } };
+    ghost view = { λ s. record {
+      left = drop s.at s.bytes.items;
+      calls = s.calls;
+      fails = s.fails.items;
+      faults = s.faults;
+    } };
 
     ghost invariant = { λ s. s.at ≤ length s.bytes.items };
 }
@@ -44,6 +48,7 @@ impl MemSource {
 
 impl Source for MemSource {
     ghost use Rattle.std.specs.Prelude.{Some};
+    ghost use Rattle.jl_port.specs.Memory.{after_read, after_failed_read};
 
     ghost left = { λ s. Some s.left };
 
@@ -57,8 +62,10 @@ impl Source for MemSource {
         ensures fails { IsErr result ↔ Contains self.old.fails (one_more self.old.calls) }
         ensures count { IfOk result (λ n. n ≡ min (length buf.old) (length self.old.left)) }
         ensures front { IfOk result (λ n. take n buf.new ≡ take n self.old.left) }
-        ensures rest { IfOk result (λ n. self.new ≡ record self.old { left = drop n self.old.left; calls = one_more self.old.calls }) }
-        ensures failed { OnErr result (self.new ≡ record self.old { calls = one_more self.old.calls; faults = one_more self.old.faults }) }
+        ensures rest { IfOk result (λ n. self.new ≡ after_read self.old n) }
+        ensures failed { OnErr result (self.new ≡ after_failed_read self.old) }
+
+        // What the trait says, at these fields.
         ensures end { IfOk result (λ n. n ≡ 0 → 0 < length buf.new → self.new.left ≡ []) }
         ensures risen { OnErr result (HasRisen self.old.faults self.new.faults) }
         ensures never_falls { self.old.faults ≤ self.new.faults }
@@ -93,7 +100,14 @@ impl Model for MemSink {
 
     ghost Value = { Store };
 
-    ghost view = { λ s. record { written = s.bytes.items; most = s.most; room = s.room; calls = s.calls; fails = s.fails.items; faults = s.faults } };
+    ghost view = { λ s. record {
+      written = s.bytes.items;
+      most = s.most;
+      room = s.room;
+      calls = s.calls;
+      fails = s.fails.items;
+      faults = s.faults;
+    } };
 
     ghost invariant = { λ s. (0 < s.most) × (length s.bytes.items ≤ s.room) × (s.room ≤ vec_capacity s.bytes) };
 }
@@ -108,7 +122,14 @@ impl MemSink {
         fails: Vec<u64>,
     ) -> Result<MemSink, AllocError>
         requires { 0 < most }
-        ensures { IfOk result (λ sink. sink ≡ record { written = []; most = most; room = room; calls = 0; fails = fails.items; faults = 0 }) }
+        ensures { IfOk result (λ sink. sink ≡ record {
+          written = [];
+          most = most;
+          room = room;
+          calls = 0;
+          fails = fails.items;
+          faults = 0;
+        }) }
     {
         Ok(MemSink {
             bytes: Vec::with_capacity(alloc, room)?,
@@ -130,7 +151,7 @@ impl MemSink {
 
 impl Sink for MemSink {
     ghost use Rattle.std.specs.Prelude.{Some};
-    ghost use Rattle.jl_port.specs.Memory.{IsRefused};
+    ghost use Rattle.jl_port.specs.Memory.{IsRefused, after_write, after_failed_write};
 
     ghost written = { λ s. Some s.written };
 
@@ -138,12 +159,17 @@ impl Sink for MemSink {
 
     ghost calls = { λ s. s.calls };
 
-    /// Takes the least of what there is, the most of a write and the room that is left.
+    /// Takes the least of what there is, the most of a write and the room that is left. It fails
+    /// exactly at the numbers listed, and where there is a byte and no room is left. The number of the
+    /// writes stands still at 2^64 - 1, and so does the count of faults.
     fn write(&mut self, bytes: &[u8]) -> Result<usize, Failed>
         ensures fails { IsErr result ↔ IsRefused self.old bytes.now }
-        ensures count { IfOk result (λ n. n ≡ min (min (length bytes.now) self.old.most) (self.old.room - length self.old.written)) }
-        ensures grows { IfOk result (λ n. self.new ≡ record self.old { written = self.old.written ++ take n bytes.now; calls = one_more self.old.calls }) }
-        ensures failed { OnErr result (self.new ≡ record self.old { calls = one_more self.old.calls; faults = one_more self.old.faults }) }
+        ensures count { IfOk result (λ n. n ≡ min (min (length bytes.now) self.old.most)
+            (self.old.room - length self.old.written)) }
+        ensures grows { IfOk result (λ n. self.new ≡ after_write self.old (take n bytes.now)) }
+        ensures failed { OnErr result (self.new ≡ after_failed_write self.old) }
+
+        // What the trait says, at these fields.
         ensures some { IfOk result (λ n. 0 < length bytes.now → 0 < n) }
         ensures risen { OnErr result (HasRisen self.old.faults self.new.faults) }
         ensures never_falls { self.old.faults ≤ self.new.faults }

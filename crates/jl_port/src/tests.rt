@@ -1,3 +1,5 @@
+ghost use Rattle.std.specs.Io.{ReadsAtMost};
+
 use super::*;
 use std::io::{Error, ErrorKind, Read, Write};
 use std::test::Fail;
@@ -20,7 +22,9 @@ impl Read for Broken {
     }
 }
 
-fn given(buf: &mut [u8], bytes: &[u8]) -> std::io::Result<usize> {
+fn given(buf: &mut [u8], bytes: &[u8]) -> std::io::Result<usize>
+    ensures { ReadsAtMost result buf.new }
+{
     let n = bytes.len().min(buf.len());
     buf[..n].copy_from_slice(&bytes[..n]);
     Ok(n)

@@ -10,7 +10,7 @@ use std::alloc::{AllocError, AllocFailed, Global};
 const CHUNK: usize = 4096;
 
 /// Why not all bytes of a source were given.
-#[derive(Debug, Drop)]
+#[derive(Clone, Copy, PartialEq, Eq, Debug)]
 pub enum ReadRefusal {
     /// There are more bytes than the limit.
     TooLong,
@@ -54,7 +54,8 @@ pub struct WriteFault {
 ///
 /// It is `TooLong` where `limit` + 1 bytes were read, and `ReadFault` only where a fault of the source
 /// came in this call. A read asks for 4,096 bytes, or for as many as `limit` + 1 still lacks where
-/// these are fewer. Whatever the answer, the source has lost what was read from it.
+/// these are fewer, and there are at most `limit` + 1 reads. Whatever the answer, the source has lost
+/// what was read from it.
 pub fn read_all<S: Source>(
     alloc: Global,
     source: &mut S,
@@ -65,12 +66,15 @@ pub fn read_all<S: Source>(
     ensures end { OnOk result (IsAtEnd (S.left source.new)) }
     ensures within { IfOk result (λ bytes. vec_len bytes ≤ limit) }
 
+    ensures long { IsErrOf result ReadRefusal.TooLong
+        → TakesCount (S.left source.old) (S.left source.new) (limit + 1) }
+    ensures fault { IsErrOf result ReadRefusal.ReadFault
+        → HasRisen (S.faults source.old) (S.faults source.new) }
+
     // Where the source tells its bytes, they are what it held, or it held too many.
     ensures told { IfOk result (λ bytes. IfSome (S.left source.old) (λ held. bytes.items ≡ held)) }
-    ensures told_long { IsErrOf result ReadRefusal.TooLong → IfSome (S.left source.old) (λ held. limit < length held) }
-
-    ensures long { IsErrOf result ReadRefusal.TooLong → TakesCount (S.left source.old) (S.left source.new) (limit + 1) }
-    ensures fault { IsErrOf result ReadRefusal.ReadFault → HasRisen (S.faults source.old) (S.faults source.new) }
+    ensures told_long { IsErrOf result ReadRefusal.TooLong
+        → IfSome (S.left source.old) (λ held. limit < length held) }
 
     ensures lost { TakesAtMost (S.left source.old) (S.left source.new) (limit + 1) }
     ensures never_falls { S.faults source.old ≤ S.faults source.new }
@@ -98,7 +102,8 @@ pub fn write_all<K: Sink>(sink: &mut K, bytes: &[u8]) -> Result<(), WriteFault>
 
     ensures fault { OnErr result (HasRisen (K.faults sink.old) (K.faults sink.new)) }
     ensures proper { IfErr result (λ f. f.written < length bytes.now) }
-    ensures front { IfErr result (λ f. Grows (K.written sink.old) (K.written sink.new) (take f.written bytes.now)) }
+    ensures front { IfErr result (λ f.
+        Grows (K.written sink.old) (K.written sink.new) (take f.written bytes.now)) }
 
     ensures never_falls { K.faults sink.old ≤ K.faults sink.new }
     ensures writes { K.calls sink.new ≤ K.calls sink.old + length bytes.now }

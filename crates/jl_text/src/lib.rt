@@ -1,11 +1,21 @@
-//! Lists, texts of UTF-16 units, and places in a source.
+//! Lists, texts of UTF-16 units, their encodings, and places in a source.
 #![tactic(auto)]
 
+mod encoding;
+mod lines;
 mod list;
+mod quoting;
+mod search;
 mod span;
 mod text;
 
+pub use encoding::{Utf8Fault, from_utf8, to_utf8, utf8_comes_back};
+pub use lines::Lines;
 pub use list::List;
+pub use quoting::quote;
 pub use span::Span;
 pub use std::alloc::AllocError as NoMemory;
-pub use text::{Text, TextFault};
+pub use text::{MOST_UNITS, Text, TextFault};
+
+#[cfg(test)]
+mod tests;

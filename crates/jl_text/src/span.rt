@@ -1,4 +1,4 @@
-/// A part of the source, in UTF-16 units: from the first to the one before `to`.
+/// A part of a source: its UTF-16 units from the place `from` up to the one before `to`.
 #[derive(Clone, Copy, PartialEq, Eq, Debug)]
 pub struct Span {
     pub from: u32,

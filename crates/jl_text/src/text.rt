@@ -1,7 +1,12 @@
-ghost use Rattle.std.specs.Prelude.{◌≡◌, ◌≤◌, ◌↔◌, length, IfOk, IsErrOf};
+ghost use Rattle.std.specs.Prelude.{◌≡◌, ◌≤◌, ◌<◌, ◌↔◌, ◌++◌, length, slice_range, IfOk, IsErrOf};
+ghost use Rattle.std.specs.Cmp.Lexicographic.{slice_cmp};
+ghost use Rattle.std.specs.Ordering.{nat_cmp};
 ghost use Rattle.jl_text.specs.declared.text.TextFault.TheVariants.{NoMemory};
+ghost use Rattle.jl_text.specs.Search.{first_place, last_place, IsFirstPlace, IsLastPlace};
 
+use crate::search::{first_place, last_place};
 use std::alloc::{AllocError, AllocFailed, Global};
+use std::cmp::Ordering;
 use std::marker::Model;
 use std::rc::Rc;
 
@@ -50,7 +55,7 @@ impl<T: Drop> From<AllocFailed<T>> for TextFault {
 }
 
 impl Text {
-    /// The text of these units.
+    /// The text of these units, if they are no more than `MOST_UNITS`.
     pub fn from_units(alloc: Global, units: &[u16]) -> Result<Text, TextFault>
         ensures made { IfOk result (λ t. t ≡ units.now) }
         ensures long { IsErrOf result TextFault.TooLong ↔ (1048577 ≤ length units.now) }
@@ -64,11 +69,81 @@ impl Text {
         })
     }
 
-    /// The units.
+    /// The units of `a` and then those of `b`, if they are no more than `MOST_UNITS` together.
+    pub fn concat(alloc: Global, a: &Text, b: &Text) -> Result<Text, TextFault>
+        ensures made { IfOk result (λ t. t ≡ a.now ++ b.now) }
+        ensures long { IsErrOf result TextFault.TooLong ↔ (1048577 ≤ length (a.now ++ b.now)) }
+    {
+        let front = a.units();
+        let back = b.units();
+        if front.len() + back.len() > MOST_UNITS {
+            return Err(TextFault::TooLong);
+        }
+        let mut units = Vec::with_capacity(alloc, front.len() + back.len())?;
+        units.extend_from_slice(front)?;
+        units.extend_from_slice(back)?;
+        Ok(Text {
+            units: Rc::new(alloc, units)?,
+        })
+    }
+
+    /// The units, at most `MOST_UNITS`.
     pub fn units(&self) -> &[u16]
         ensures same { result.now ≡ self.now }
         ensures short { length self.now ≤ 1048576 }
     {
         self.units.as_slice()
+    }
+
+    /// The same text. It takes no memory for units but where no further owner of them can be counted: there they are
+    /// copied.
+    pub fn share(&self, alloc: Global) -> Result<Text, AllocError>
+        ensures { IfOk result (λ t. t ≡ self.now) }
+    {
+        if let Ok(units) = self.units.clone() {
+            return Ok(Text { units });
+        }
+        let units = Vec::from_slice(alloc, self.units.as_slice())?;
+        Ok(Text {
+            units: Rc::new(alloc, units)?,
+        })
+    }
+
+    /// The units from the place `from` to the one before `to`.
+    pub fn slice(&self, alloc: Global, from: usize, to: usize) -> Result<Text, AllocError>
+        requires ordered { from ≤ to }
+        requires within { to ≤ length self.now }
+        ensures { IfOk result (λ t. t ≡ slice_range self.now from to) }
+    {
+        let units = Vec::from_slice(alloc, &self.units()[from..to])?;
+        Ok(Text {
+            units: Rc::new(alloc, units)?,
+        })
+    }
+
+    /// The least place at or after `from` at which `part` stands. It looks at each place once, and there at no more
+    /// units than `part` has.
+    pub fn find(&self, part: &Text, from: usize) -> Option<usize>
+        ensures value { result ≡ first_place self.now part.now from }
+        ensures least { IsFirstPlace self.now part.now from result }
+    {
+        first_place(self.units(), part.units(), from)
+    }
+
+    /// The greatest place at or before `from` at which `part` stands. It looks at each place once, and there at no
+    /// more units than `part` has.
+    pub fn find_last(&self, part: &Text, from: usize) -> Option<usize>
+        ensures value { result ≡ last_place self.now part.now from }
+        ensures greatest { IsLastPlace self.now part.now from result }
+    {
+        last_place(self.units(), part.units(), from)
+    }
+
+    /// The order of two texts as strings are compared (11.8.5): by the first unit in which they differ, and where one
+    /// is the front of the other, the shorter one first.
+    pub fn compare(a: &Text, b: &Text) -> Ordering
+        ensures { result ≡ slice_cmp nat_cmp a.now b.now }
+    {
+        a.units().cmp(&b.units())
     }
 }

@@ -1,0 +1,46 @@
+-- From what was read to what is due.
+use Rattle.std.proofs.Common.{◌≡◌, ◌≢◌, ℕ, suc, ◌+◌, ◌<◌, ◌≤◌, Bool, true, false, IsTrue, List, [], ◌∷◌, Option, Some, None, length, take, get_or, map, refl, sym, ap, ◌∙◌, subst, arith}
+use Rattle.std.specs.Prelude.{IfSome}
+use Rattle.std.specs.Bool.{Decides}
+use Rattle.std.specs.Str.{bytes_eq}
+use Rattle.std.proofs.lemmas.Slice.Eq.{slice_eq-Decides}
+use Rattle.std.proofs.lemmas.Bool.Decides.{Decides-eqb}
+use Rattle.std.specs.Borrow.{Bor}
+use Rattle.jl_port.specs.Bytes.{TakesCount, Grows}
+use Rattle.jl_port.specs.Count.{HasRisen}
+use Rattle.jl_app.specs.declared.status.Status.{Status}
+use Rattle.jl_app.specs.declared.status.Status.TheVariants as status
+use Rattle.jl_app.specs.Answers.{Due, IsDue}
+use Rattle.jl_app.specs.Endings.{Call, EndsWith, answered, write_failed}
+
+pub never : (b : Bool) → b ≡ false → IsTrue b → ⊥
+never b e h = cc
+
+-- one word
+pub one_word : (words : List (Bor (List ℕ))) (d : Bor (List ℕ)) → 1 ≤ length words → length words < 2 → map (λ w. w.now) words ≡ (get_or words 0 d).now ∷ []
+one_word [] d n m = absurd (omega arith)
+one_word (w ∷ []) d n m = refl
+one_word (w ∷ v ∷ words) d n m = absurd (omega arith)
+
+-- it is this word exactly where the test says so
+pub is_word : (words : List (List ℕ)) (word text : List ℕ) (b : Bool) → words ≡ word ∷ [] → b ≡ bytes_eq word text → (IsTrue b → words ≡ text ∷ []) × (words ≡ text ∷ [] → IsTrue b)
+is_word words word text b w e =
+    let test : Decides b (word ≡ text) = slice_eq-Decides Decides-eqb word text b e in
+    (λ t. w ∙ ap (λ x. x ∷ []) (test.0 t), λ f. test.1 (ap (λ l. get_or l 0 word) (sym w ∙ f)))
+
+pub told_same : (held : Option (List ℕ)) (bytes read : List ℕ) → read ≡ bytes → IfSome held (λ all. bytes ≡ all) → IfSome held (λ all. all ≡ read)
+told_same None bytes read e h = tt
+told_same (Some all) bytes read e h = sym (e ∙ h)
+
+-- too many bytes were read
+pub long_bytes : (limit : ℕ) (held left : Option (List ℕ)) → TakesCount held left (limit + 1) → IfSome held (λ all. limit < length all) → (bytes : List ℕ) × (limit < length bytes) × IfSome held (λ all. all ≡ bytes)
+long_bytes limit None left taken long = (taken.0, omega (arith, taken.1), tt)
+long_bytes limit (Some all) left taken long = (all, long, refl)
+
+-- the answer was written
+pub ends_answered : {call : Call} (due : Due) (answer : Status) (bytes : List ℕ) → answer ≡ due.status → bytes ≡ due.bytes → IsDue call.words call.held due → Grows call.written.0 call.written.1 bytes → call.knows due.told → EndsWith call answer
+ends_answered {call} due answer bytes s b is g k = subst (λ x. EndsWith call x) (sym s) (answered due is (subst (λ x. Grows call.written.0 call.written.1 x) b g) k)
+
+-- a front of the answer was written
+pub ends_short : {call : Call} (due : Due) (bytes : List ℕ) (n : ℕ) → bytes ≡ due.bytes → IsDue call.words call.held due → HasRisen call.write_faults.0 call.write_faults.1 → n < length bytes → Grows call.written.0 call.written.1 (take n bytes) → call.knows due.told → EndsWith call status.WriteFault
+ends_short {call} due bytes n b is risen less g k = write_failed due n is risen (subst (λ x. n < length x) b less) (subst (λ x. Grows call.written.0 call.written.1 (take n x)) b g) k

@@ -1,0 +1,5 @@
+use Rattle.jl_app.proofs.ReadingScripts.{one_script}
+use Rattle.jl_app.proofs.laws.one_reading.Goals as goal
+
+pub returns : goal.returns
+returns c = one_script

@@ -1,0 +1,4 @@
+pub mod EncodingLemmas
+mod Examples
+pub mod PlacesLemmas
+pub mod SearchLemmas

@@ -1,0 +1,70 @@
+// UTF-8 and UTF-16.
+ghost use Rattle.std.specs.Prelude.{◌≡◌, ◌↔◌, ℕ, IfOk};
+ghost use Rattle.std.specs.Str.{IsUtf8};
+ghost use Rattle.std.specs.Str.Lossy.{utf8_valid_len};
+ghost use Rattle.jl_text.specs.declared.encoding.Utf8Fault.TheVariants.{NoMemory};
+ghost use Rattle.jl_text.specs.Encoding.{units_of, bytes_of, Utf8ComesBack, IsNotUtf8At};
+
+use std::alloc::{AllocError, AllocFailed, Global};
+use std::str;
+
+/// Why bytes gave no units.
+#[derive(Debug, Drop)]
+pub enum Utf8Fault {
+    /// The bytes are not UTF-8: the longest front of them that is has this many bytes.
+    NotUtf8 { at: usize },
+    /// No memory was left.
+    NoMemory,
+}
+
+impl From<AllocError> for Utf8Fault {
+    ghost from_gives = { λ _ e. e ≡ NoMemory };
+
+    fn from(_error: AllocError) -> Utf8Fault {
+        Utf8Fault::NoMemory
+    }
+}
+
+impl<T: Drop> From<AllocFailed<T>> for Utf8Fault {
+    ghost from_gives = { λ _ e. e ≡ NoMemory };
+
+    fn from(_error: AllocFailed<T>) -> Utf8Fault {
+        Utf8Fault::NoMemory
+    }
+}
+
+/// The UTF-16 units of a text in UTF-8, or the place at which the bytes stop being UTF-8. Its steps are in the order of
+/// the number of bytes.
+pub fn from_utf8(alloc: Global, bytes: &[u8]) -> Result<Vec<u16>, Utf8Fault>
+    ensures made { IfOk result (λ units. IsUtf8 bytes.now × (units.items ≡ units_of bytes.now)) }
+    ensures not_utf8 { (at : ℕ) → IsNotUtf8At result at ↔ (¬ (IsUtf8 bytes.now) × (at ≡ utf8_valid_len bytes.now)) }
+{
+    let text = match str::from_utf8(bytes) {
+        Ok(text) => text,
+        Err(fault) => {
+            return Err(Utf8Fault::NotUtf8 {
+                at: fault.valid_up_to(),
+            });
+        }
+    };
+    let mut units = Vec::with_capacity(alloc, bytes.len())?;
+    for c in text.chars() {
+        let mut pair = [0; 2];
+        units.extend_from_slice(c.encode_utf16(&mut pair))?;
+    }
+    Ok(units)
+}
+
+/// The UTF-8 of UTF-16 units, with U+FFFD (the bytes EF BF BD) for each surrogate that has no partner. Its steps are in
+/// the order of the number of units.
+pub fn to_utf8(alloc: Global, units: &[u16]) -> Result<Vec<u8>, AllocError>
+    ensures { IfOk result (λ bytes. bytes.items ≡ bytes_of units.now) }
+{
+    let text = String::from_utf16_lossy(alloc, units)?;
+    Ok(text.into_bytes())
+}
+
+/// The law that the units of a text in UTF-8 give its bytes back.
+pub fn utf8_comes_back()
+    ensures { Utf8ComesBack }
+{}
