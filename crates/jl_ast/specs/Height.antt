@@ -1,7 +1,13 @@
--- How high a tree is. Expressions, statements, targets that are members, accessors and function declarations are nodes; a
--- function expression and its function are one node. A node is one more than the highest of its parts.
+-- How high a tree is. Expressions, statements, targets that are members, accessors and function declarations are
+-- nodes; a function expression and its function are one node. A node is one more than the highest of its parts.
 use Rattle.std.specs.Prelude.{ℕ, ◌+◌, max}
-use Rattle.jl_ast.specs.Tree.{Program, Sort, Tree, Row, Maybe, this, name, number, string, boolean, null, array, object, function_expression, dot, index, call, new, unary, update, binary, and, or, conditional, assign, comma, to_name, to_dot, to_index, hole, filled, value, getter, setter, function, body, var, empty, expression, block, when, do_while, while, for, for_in, continue, break, return, labelled, switch, throw, try, debugger, nothing, init_expression, init_var, declarator, case, branch_of, catch, end, more, absent, present}
+use Rattle.jl_ast.specs.Tree.{Program, Sort, Tree, Row, Maybe, this, name, number, string, boolean, null, array}
+use Rattle.jl_ast.specs.Tree.{object, function_expression, dot, index, call, new, unary, update, binary, and, or}
+use Rattle.jl_ast.specs.Tree.{conditional, assign, comma, to_name, to_dot, to_index, hole, filled, value, getter}
+use Rattle.jl_ast.specs.Tree.{setter, function, body, var, empty, expression, block, when, do_while, while, for}
+use Rattle.jl_ast.specs.Tree.{for_in, continue, break, return, labelled, switch, throw, try, debugger, nothing}
+use Rattle.jl_ast.specs.Tree.{init_expression, init_var, declarator, case, branch_of, catch, end, more, absent}
+use Rattle.jl_ast.specs.Tree.{present}
 
 abbrev mutual
   pub height : {S : Type 0} {x : Sort} → Tree S x → ℕ

@@ -1,7 +1,13 @@
--- The numbers of functions: a function before those inside it, and the function declarations of a body before the functions
--- of its statements; otherwise in the order of the text.
+-- The numbers of functions: a function before those inside it, and the function declarations of a body before the
+-- functions of its statements; otherwise in the order of the text.
 use Rattle.std.specs.Prelude.{ℕ, ◌+◌}
-use Rattle.jl_ast.specs.Tree.{Program, Sort, Tree, Row, Maybe, this, name, number, string, boolean, null, array, object, function_expression, dot, index, call, new, unary, update, binary, and, or, conditional, assign, comma, to_name, to_dot, to_index, hole, filled, value, getter, setter, function, body, var, empty, expression, block, when, do_while, while, for, for_in, continue, break, return, labelled, switch, throw, try, debugger, nothing, init_expression, init_var, declarator, case, branch_of, catch, end, more, absent, present}
+use Rattle.jl_ast.specs.Tree.{Program, Sort, Tree, Row, Maybe, this, name, number, string, boolean, null, array}
+use Rattle.jl_ast.specs.Tree.{object, function_expression, dot, index, call, new, unary, update, binary, and, or}
+use Rattle.jl_ast.specs.Tree.{conditional, assign, comma, to_name, to_dot, to_index, hole, filled, value, getter}
+use Rattle.jl_ast.specs.Tree.{setter, function, body, var, empty, expression, block, when, do_while, while, for}
+use Rattle.jl_ast.specs.Tree.{for_in, continue, break, return, labelled, switch, throw, try, debugger, nothing}
+use Rattle.jl_ast.specs.Tree.{init_expression, init_var, declarator, case, branch_of, catch, end, more, absent}
+use Rattle.jl_ast.specs.Tree.{present}
 
 abbrev mutual
   -- how many functions there are in a tree
@@ -91,7 +97,8 @@ abbrev mutual
   numbered_tree n (binary a b c s) = binary a (numbered_tree n b) (numbered_tree (n + functions_in b) c) s
   numbered_tree n (and a b s) = and (numbered_tree n a) (numbered_tree (n + functions_in a) b) s
   numbered_tree n (or a b s) = or (numbered_tree n a) (numbered_tree (n + functions_in a) b) s
-  numbered_tree n (conditional a b c s) = conditional (numbered_tree n a) (numbered_tree (n + functions_in a) b) (numbered_tree (n + functions_in a + functions_in b) c) s
+  numbered_tree n (conditional a b c s) = conditional (numbered_tree n a) (numbered_tree (n + functions_in a) b)
+      (numbered_tree (n + functions_in a + functions_in b) c) s
   numbered_tree n (assign a b c s) = assign a (numbered_tree n b) (numbered_tree (n + functions_in b) c) s
   numbered_tree n (comma a b s) = comma (numbered_tree n a) (numbered_tree (n + functions_in a) b) s
   numbered_tree n (to_name a) = to_name a
@@ -108,18 +115,23 @@ abbrev mutual
   numbered_tree n (empty s) = empty s
   numbered_tree n (expression a s) = expression (numbered_tree n a) s
   numbered_tree n (block a s) = block (numbered_row n a) s
-  numbered_tree n (when a b c s) = when (numbered_tree n a) (numbered_row (n + functions_in a) b) (numbered_maybe (n + functions_in a + functions_in_row b) c) s
+  numbered_tree n (when a b c s) = when (numbered_tree n a) (numbered_row (n + functions_in a) b)
+      (numbered_maybe (n + functions_in a + functions_in_row b) c) s
   numbered_tree n (do_while a b s) = do_while (numbered_row n a) (numbered_tree (n + functions_in_row a) b) s
   numbered_tree n (while a b s) = while (numbered_tree n a) (numbered_row (n + functions_in a) b) s
-  numbered_tree n (for a b c d s) = for (numbered_tree n a) (numbered_maybe (n + functions_in a) b) (numbered_maybe (n + functions_in a + functions_in_maybe b) c) (numbered_row (n + functions_in a + functions_in_maybe b + functions_in_maybe c) d) s
-  numbered_tree n (for_in is_var a b c s) = for_in is_var a (numbered_tree n b) (numbered_row (n + functions_in b) c) s
+  numbered_tree n (for a b c d s) = for (numbered_tree n a) (numbered_maybe (n + functions_in a) b)
+      (numbered_maybe (n + functions_in a + functions_in_maybe b) c)
+      (numbered_row (n + functions_in a + functions_in_maybe b + functions_in_maybe c) d) s
+  numbered_tree n (for_in is_var a b c s) =
+      for_in is_var a (numbered_tree n b) (numbered_row (n + functions_in b) c) s
   numbered_tree n (continue a s) = continue a s
   numbered_tree n (break a s) = break a s
   numbered_tree n (return a s) = return (numbered_maybe n a) s
   numbered_tree n (labelled a b s) = labelled a (numbered_tree n b) s
   numbered_tree n (switch a b s) = switch (numbered_tree n a) (numbered_row (n + functions_in a) b) s
   numbered_tree n (throw a s) = throw (numbered_tree n a) s
-  numbered_tree n (try a b c s) = try (numbered_row n a) (numbered_maybe (n + functions_in_row a) b) (numbered_maybe (n + functions_in_row a + functions_in_maybe b) c) s
+  numbered_tree n (try a b c s) = try (numbered_row n a) (numbered_maybe (n + functions_in_row a) b)
+      (numbered_maybe (n + functions_in_row a + functions_in_maybe b) c) s
   numbered_tree n (debugger s) = debugger s
   numbered_tree n nothing = nothing
   numbered_tree n (init_expression a) = init_expression (numbered_tree n a)

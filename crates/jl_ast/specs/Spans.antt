@@ -1,6 +1,12 @@
 -- The same tree with its places renamed, and without places.
 use Rattle.std.specs.Prelude.{map, option_map}
-use Rattle.jl_ast.specs.Tree.{Ident, Program, Sort, expr, stmt, func, target, Tree, Row, Maybe, this, name, number, string, boolean, null, array, object, function_expression, dot, index, call, new, unary, update, binary, and, or, conditional, assign, comma, to_name, to_dot, to_index, hole, filled, value, getter, setter, function, body, var, empty, expression, block, when, do_while, while, for, for_in, continue, break, return, labelled, switch, throw, try, debugger, nothing, init_expression, init_var, declarator, case, branch_of, catch, end, more, absent, present}
+use Rattle.jl_ast.specs.Tree.{Ident, Program, Sort, expr, stmt, func, target, Tree, Row, Maybe, this, name, number}
+use Rattle.jl_ast.specs.Tree.{string, boolean, null, array, object, function_expression, dot, index, call, new}
+use Rattle.jl_ast.specs.Tree.{unary, update, binary, and, or, conditional, assign, comma, to_name, to_dot, to_index}
+use Rattle.jl_ast.specs.Tree.{hole, filled, value, getter, setter, function, body, var, empty, expression, block}
+use Rattle.jl_ast.specs.Tree.{when, do_while, while, for, for_in, continue, break, return, labelled, switch, throw}
+use Rattle.jl_ast.specs.Tree.{try, debugger, nothing, init_expression, init_var, declarator, case, branch_of, catch}
+use Rattle.jl_ast.specs.Tree.{end, more, absent, present}
 
 abbrev pub ident : {S T : Type 0} → (S → T) → Ident S → Ident T
 ident f x = record { text = x.text; at = f x.at }

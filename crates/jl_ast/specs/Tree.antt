@@ -1,5 +1,6 @@
--- The syntax tree of a script (clauses 11 to 14), with no memory in it. S is what says where a node stands: a span, or
--- nothing. Brackets round an expression leave no node. Parts stand in the order of the text, and last a node's place.
+-- The syntax tree of a script (clauses 11 to 14), with no memory in it. S is what says where a node stands: a span,
+-- or nothing. Brackets round an expression leave no node. Parts stand in the order of the text, and last a node's
+-- place.
 use Rattle.std.specs.Prelude.{ℕ, Bool, List, [], ◌∷◌, Option}
 use Rattle.jl_ast.specs.declared.ops.BinOp.{BinOp}
 use Rattle.jl_ast.specs.declared.ops.UnOp.{UnOp}

@@ -1,5 +1,5 @@
 -- How many brackets are open after one token.
-use Rattle.std.proofs.Common.{◌≡◌, ℕ, suc, Bool, true, false, ◌∙◌, ap, refl, List, Option, Some}
+use Rattle.std.proofs.Common.{◌≡◌, ℕ, suc, Bool, true, false, ap, refl, List, Option, Some}
 use Rattle.jl_ast.specs.declared.ops.BinOp.{BinOp}
 use Rattle.jl_ast.specs.declared.ops.UnOp.{UnOp}
 use Rattle.jl_token.specs.declared.punct.Punct.TheVariants as puncts
@@ -56,7 +56,8 @@ joint_keeps false (signs.Punct puncts.RightBracket) n op h = cc
 joint_keeps false (signs.Punct puncts.RightBrace) n op h = cc
 joint_keeps _ _ n op h = refl
 
-pub after_joint : {ts : List Token} {no_in : Bool} {i : ℕ} {op : Joint} → JoinsAt ts no_in i op → opened ts (suc i) ≡ opened ts i
+pub after_joint : {ts : List Token} {no_in : Bool} {i : ℕ} {op : Joint} → JoinsAt ts no_in i op
+    → opened ts (suc i) ≡ opened ts i
 unfolding opened
 after_joint {ts} {no_in} {i} {op} e = joint_keeps no_in (sign_at ts i) (opened ts i) op e.is
 

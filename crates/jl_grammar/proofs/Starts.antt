@@ -1,5 +1,5 @@
 -- The tokens that what is read begins with.
-use Rattle.std.proofs.Common.{◌≡◌, ℕ, zero, suc, ◌<◌, ◌≤◌, max, Bool, true, false, not, ◌&&◌, ◌||◌, ap, refl, ◌∙◌, List, [], ◌∷◌, length, Option, Some, None, arith}
+use Rattle.std.proofs.Common.{◌≡◌, ℕ, suc, Bool, true, false, not, ◌&&◌, ◌||◌, ap, refl, List, Option, Some, None}
 use Rattle.jl_ast.specs.declared.ops.BinOp.{BinOp}
 use Rattle.jl_ast.specs.declared.ops.UnOp.{UnOp}
 use Rattle.jl_token.specs.declared.punct.Punct.TheVariants as puncts
@@ -10,11 +10,27 @@ use Rattle.jl_ast.specs.Tree as tree
 use Rattle.jl_text.specs.declared.span.Span.{Span}
 use Rattle.jl_token.specs.declared.token.Token.{Token}
 use Rattle.jl_grammar.specs.declared.sign.Sign.{Sign}
-use Rattle.jl_grammar.specs.Reads.{Expr, Stmt, Exprs, Stmts, Code, JoinsAt, AssignsAt, PrefixAt, UpdateAt, IsTarget, EndsAt, there, inserted, ReadsNames, last_name, more_names, ReadsParameters, no_parameters, parameters, ReadsPrimary, a_this, a_name, a_null, a_true, a_false, a_number, a_string, an_array, an_object, in_parens, a_function, a_named_function, ReadsItems, no_items, a_hole, last_item, more_items, ReadsEntries, no_entries, last_entry, more_entries, ReadsEntry, a_value, a_getter, a_setter, ReadsRest, a_rest, BeginsLeft, primary, a_dot, an_index, a_call, a_new, a_bare_new, ReadsLeft, whole_left, ReadsArguments, no_arguments, arguments, ReadsArgumentList, last_argument, more_arguments, ReadsPostfix, left, a_postfix, ReadsUnary, postfix, a_prefix, an_update, BeginsBinary, operand, tighter, a_joint, ReadsBinary, whole_binary, ReadsConditional, operands, a_conditional, ReadsAssignment, conditional, an_assignment, BeginsExpression, assignment, a_comma, ReadsExpression, whole_expression, ReadsStatement, a_block, a_var, an_empty, an_expression, an_if_else, an_if, a_do_while, a_while, a_for, a_for_in, a_for_var_in, a_continue, a_continue_to, a_break, a_break_to, a_return, a_return_of, a_switch, a_label, a_throw, a_try_catch, a_try_finally, a_try_both, a_debugger, ReadsBlock, in_braces, ReadsStatements, no_statements, more_statements, ReadsSub, several, alone, ReadsHead, a_head, ReadsDeclaration, declared, initialised, ReadsDeclarations, last_declaration, more_declarations, ReadsInit, no_init, an_init, init_vars, ReadsMaybe, no_expression, one_expression, ReadsClauses, no_clauses, a_case, a_default, ReadsCatch, a_catch, ReadsElements, no_elements, a_declaration, a_statement, ReadsFunction, a_declared_function, ReadsBody, a_directive, no_directive}
-use Rattle.jl_grammar.specs.Next.{open_paren, open_brace, semicolon, keyword, is_identifier, is_name, is_key, is_open_paren, is_open_brace, is_semicolon, is_comma, is_colon, is_question, is_label, bars_expression, ends_statement, ends_list, updates_at}
-use Rattle.jl_grammar.specs.Operators.{continues, assign_operator, assigns, unary_operator, update_operator, updates}
-use Rattle.jl_grammar.specs.Reader.{is_close_paren, is_close_bracket, is_close_brace, is_function, is_new, is_in, is_var}
-use Rattle.jl_grammar.specs.Tokens.{At, Is, sign_at, line_at}
+use Rattle.jl_grammar.specs.Reads.{Expr, Stmt, Exprs, Stmts, Code, ReadsNames, last_name, more_names, ReadsPrimary}
+use Rattle.jl_grammar.specs.Reads.{a_this, a_name, a_null, a_true, a_false, a_number, a_string, an_array, an_object}
+use Rattle.jl_grammar.specs.Reads.{in_parens, a_function, a_named_function, ReadsEntry, a_value, a_getter, a_setter}
+use Rattle.jl_grammar.specs.Reads.{ReadsRest, a_rest, BeginsLeft, primary, a_dot, an_index, a_call, a_new}
+use Rattle.jl_grammar.specs.Reads.{a_bare_new, ReadsLeft, whole_left, ReadsArgumentList, last_argument}
+use Rattle.jl_grammar.specs.Reads.{more_arguments, ReadsPostfix, left, a_postfix, ReadsUnary, postfix, a_prefix}
+use Rattle.jl_grammar.specs.Reads.{an_update, BeginsBinary, operand, tighter, a_joint, ReadsBinary, whole_binary}
+use Rattle.jl_grammar.specs.Reads.{ReadsConditional, operands, a_conditional, ReadsAssignment, conditional}
+use Rattle.jl_grammar.specs.Reads.{an_assignment, BeginsExpression, assignment, a_comma, ReadsExpression}
+use Rattle.jl_grammar.specs.Reads.{whole_expression, ReadsStatement, a_block, a_var, an_empty, an_expression}
+use Rattle.jl_grammar.specs.Reads.{an_if_else, an_if, a_do_while, a_while, a_for, a_for_in, a_for_var_in}
+use Rattle.jl_grammar.specs.Reads.{a_continue, a_continue_to, a_break, a_break_to, a_return, a_return_of, a_switch}
+use Rattle.jl_grammar.specs.Reads.{a_label, a_throw, a_try_catch, a_try_finally, a_try_both, a_debugger, ReadsBlock}
+use Rattle.jl_grammar.specs.Reads.{in_braces, declared, initialised, ReadsDeclarations, last_declaration}
+use Rattle.jl_grammar.specs.Reads.{more_declarations, ReadsCatch, a_catch}
+use Rattle.jl_grammar.specs.Next.{open_paren, open_brace, semicolon, keyword, is_identifier, is_key, is_semicolon}
+use Rattle.jl_grammar.specs.Next.{is_comma, is_colon, is_question, bars_expression, ends_statement, ends_list}
+use Rattle.jl_grammar.specs.Operators.{continues, assign_operator, unary_operator, update_operator, updates}
+use Rattle.jl_grammar.specs.Reader.{is_close_paren, is_close_bracket, is_close_brace, is_function, is_new, is_in}
+use Rattle.jl_grammar.specs.Reader.{is_var}
+use Rattle.jl_grammar.specs.Tokens.{At, sign_at}
 
 -- the tokens that a primary expression begins with
 abbrev pub begins_primary : Sign → Bool
@@ -230,7 +246,8 @@ pub assign_is_no_question : (k : Sign) (op : Option BinOp) → assign_operator k
 assign_is_no_question (signs.Punct puncts.Question) op h = cc
 assign_is_no_question _ op h = refl
 
-pub assign_joins_not : (no_in : Bool) (k : Sign) (op : Option BinOp) → assign_operator k ≡ Some op → continues no_in 10 k ≡ false
+pub assign_joins_not : (no_in : Bool) (k : Sign) (op : Option BinOp) → assign_operator k ≡ Some op
+    → continues no_in 10 k ≡ false
 assign_joins_not true (signs.Punct puncts.Star) op h = cc
 assign_joins_not true (signs.Punct puncts.Slash) op h = cc
 assign_joins_not true (signs.Punct puncts.Percent) op h = cc
@@ -294,7 +311,8 @@ no_label signs.Get false h = cc
 no_label signs.Set false h = cc
 no_label _ false h = refl
 
-pub primary_starts : {ts : List Token} {i : ℕ} {t : Expr} {j : ℕ} → ReadsPrimary ts i t j → begins_primary (sign_at ts i) ≡ true
+pub primary_starts : {ts : List Token} {i : ℕ} {t : Expr} {j : ℕ} → ReadsPrimary ts i t j
+    → begins_primary (sign_at ts i) ≡ true
 primary_starts (a_this a) = ap begins_primary a.is
 primary_starts {ts} {i} (a_name a) = identifier_begins (sign_at ts i) a.is
 primary_starts (a_null a) = ap begins_primary a.is
@@ -308,7 +326,8 @@ primary_starts (in_parens a b c) = ap begins_primary a.is
 primary_starts (a_function a b) = ap begins_primary a.is
 primary_starts (a_named_function a b c) = ap begins_primary a.is
 
-pub begins_left_starts : {ts : List Token} {calls : Bool} {i : ℕ} {t : Expr} {j : ℕ} → BeginsLeft ts calls i t j → begins_left (sign_at ts i) ≡ true
+pub begins_left_starts : {ts : List Token} {calls : Bool} {i : ℕ} {t : Expr} {j : ℕ} → BeginsLeft ts calls i t j
+    → begins_left (sign_at ts i) ≡ true
 begins_left_starts {ts} {i = i} (primary a) = primary_begins_left (sign_at ts i) (primary_starts a)
 begins_left_starts (a_dot a b c) = begins_left_starts a
 begins_left_starts (an_index a b c d) = begins_left_starts a
@@ -316,70 +335,86 @@ begins_left_starts (a_call a b c) = begins_left_starts a
 begins_left_starts (a_new a b c d) = ap begins_left a.is
 begins_left_starts (a_bare_new a b c) = ap begins_left a.is
 
-pub left_starts : {ts : List Token} {calls : Bool} {i : ℕ} {t : Expr} {j : ℕ} → ReadsLeft ts calls i t j → begins_left (sign_at ts i) ≡ true
+pub left_starts : {ts : List Token} {calls : Bool} {i : ℕ} {t : Expr} {j : ℕ} → ReadsLeft ts calls i t j
+    → begins_left (sign_at ts i) ≡ true
 left_starts (whole_left a b) = begins_left_starts a
 
-pub postfix_starts : {ts : List Token} {i : ℕ} {t : Expr} {j : ℕ} → ReadsPostfix ts i t j → begins_left (sign_at ts i) ≡ true
+pub postfix_starts : {ts : List Token} {i : ℕ} {t : Expr} {j : ℕ} → ReadsPostfix ts i t j
+    → begins_left (sign_at ts i) ≡ true
 postfix_starts (left a b) = left_starts a
 postfix_starts (a_postfix a b c d) = left_starts a
 
-pub unary_starts : {ts : List Token} {i : ℕ} {t : Expr} {j : ℕ} → ReadsUnary ts i t j → begins_expression (sign_at ts i) ≡ true
+pub unary_starts : {ts : List Token} {i : ℕ} {t : Expr} {j : ℕ} → ReadsUnary ts i t j
+    → begins_expression (sign_at ts i) ≡ true
 unary_starts {ts} {i} (postfix a) = left_begins_expression (sign_at ts i) (postfix_starts a)
 unary_starts {ts} {i} (a_prefix {op = op} a b) = prefix_begins (sign_at ts i) op a.is
 unary_starts {ts} {i} (an_update {up = up} a b c) = update_begins (sign_at ts i) up a.is
 
 mutual
-  pub begins_binary_starts : {ts : List Token} {no_in : Bool} {l i : ℕ} {t : Expr} {j : ℕ} → BeginsBinary ts no_in l i t j → begins_expression (sign_at ts i) ≡ true
+  pub begins_binary_starts : {ts : List Token} {no_in : Bool} {l i : ℕ} {t : Expr} {j : ℕ}
+      → BeginsBinary ts no_in l i t j → begins_expression (sign_at ts i) ≡ true
   begins_binary_starts (operand a) = unary_starts a
   begins_binary_starts (tighter a) = binary_starts a
   begins_binary_starts (a_joint a b c d) = begins_binary_starts a
 
-  pub binary_starts : {ts : List Token} {no_in : Bool} {l i : ℕ} {t : Expr} {j : ℕ} → ReadsBinary ts no_in l i t j → begins_expression (sign_at ts i) ≡ true
+  pub binary_starts : {ts : List Token} {no_in : Bool} {l i : ℕ} {t : Expr} {j : ℕ} → ReadsBinary ts no_in l i t j
+      → begins_expression (sign_at ts i) ≡ true
   binary_starts (whole_binary a b) = begins_binary_starts a
 
-pub conditional_starts : {ts : List Token} {no_in : Bool} {i : ℕ} {t : Expr} {j : ℕ} → ReadsConditional ts no_in i t j → begins_expression (sign_at ts i) ≡ true
+pub conditional_starts : {ts : List Token} {no_in : Bool} {i : ℕ} {t : Expr} {j : ℕ} → ReadsConditional ts no_in i t j
+    → begins_expression (sign_at ts i) ≡ true
 conditional_starts (operands a b) = binary_starts a
 conditional_starts (a_conditional a b c d e) = binary_starts a
 
-pub assignment_starts : {ts : List Token} {no_in : Bool} {i : ℕ} {t : Expr} {j : ℕ} → ReadsAssignment ts no_in i t j → begins_expression (sign_at ts i) ≡ true
+pub assignment_starts : {ts : List Token} {no_in : Bool} {i : ℕ} {t : Expr} {j : ℕ} → ReadsAssignment ts no_in i t j
+    → begins_expression (sign_at ts i) ≡ true
 assignment_starts (conditional a b) = conditional_starts a
 assignment_starts {ts} {i = i} (an_assignment a b c d) = left_begins_expression (sign_at ts i) (left_starts a)
 
-pub begins_expression_starts : {ts : List Token} {no_in : Bool} {i : ℕ} {t : Expr} {j : ℕ} → BeginsExpression ts no_in i t j → begins_expression (sign_at ts i) ≡ true
+pub begins_expression_starts : {ts : List Token} {no_in : Bool} {i : ℕ} {t : Expr} {j : ℕ}
+    → BeginsExpression ts no_in i t j → begins_expression (sign_at ts i) ≡ true
 begins_expression_starts (assignment a) = assignment_starts a
 begins_expression_starts (a_comma a b c) = begins_expression_starts a
 
-pub expression_starts : {ts : List Token} {no_in : Bool} {i : ℕ} {t : Expr} {j : ℕ} → ReadsExpression ts no_in i t j → begins_expression (sign_at ts i) ≡ true
+pub expression_starts : {ts : List Token} {no_in : Bool} {i : ℕ} {t : Expr} {j : ℕ} → ReadsExpression ts no_in i t j
+    → begins_expression (sign_at ts i) ≡ true
 expression_starts (whole_expression a b) = begins_expression_starts a
 
-pub argument_list_starts : {ts : List Token} {i : ℕ} {t : Exprs} {j : ℕ} → ReadsArgumentList ts i t j → is_close_paren (sign_at ts i) ≡ false
+pub argument_list_starts : {ts : List Token} {i : ℕ} {t : Exprs} {j : ℕ} → ReadsArgumentList ts i t j
+    → is_close_paren (sign_at ts i) ≡ false
 argument_list_starts {ts} {i} (last_argument a b) = no_close_paren (sign_at ts i) (assignment_starts a)
 argument_list_starts {ts} {i} (more_arguments a b c) = no_close_paren (sign_at ts i) (assignment_starts a)
 
-pub names_start : {ts : List Token} {i : ℕ} {t : List (Ident Span)} {j : ℕ} → ReadsNames ts i t j → is_close_paren (sign_at ts i) ≡ false
+pub names_start : {ts : List Token} {i : ℕ} {t : List (Ident Span)} {j : ℕ} → ReadsNames ts i t j
+    → is_close_paren (sign_at ts i) ≡ false
 names_start {ts} {i} (last_name a b) = identifier_is_no_close (sign_at ts i) a.is
 names_start {ts} {i} (more_names a b c) = identifier_is_no_close (sign_at ts i) a.is
 
-pub entry_starts : {ts : List Token} {i : ℕ} {t : Tree Span tree.entry} {j : ℕ} → ReadsEntry ts i t j → is_close_brace (sign_at ts i) ≡ false
+pub entry_starts : {ts : List Token} {i : ℕ} {t : Tree Span tree.entry} {j : ℕ} → ReadsEntry ts i t j
+    → is_close_brace (sign_at ts i) ≡ false
 entry_starts {ts} {i} (a_value a b c) = key_is_no_brace (sign_at ts i) a.is
 entry_starts (a_getter a b c) = ap is_close_brace a.is
 entry_starts (a_setter a b c) = ap is_close_brace a.is
 
-pub rest_starts : {ts : List Token} {i : ℕ} {ps : List (Ident Span)} {c : Code} {j : ℕ} → ReadsRest ts i ps c j → At ts i open_paren
+pub rest_starts : {ts : List Token} {i : ℕ} {ps : List (Ident Span)} {c : Code} {j : ℕ} → ReadsRest ts i ps c j
+    → At ts i open_paren
 rest_starts (a_rest a b c d e) = a
 
-pub catch_starts : {ts : List Token} {i : ℕ} {t : Tree Span tree.handler} {j : ℕ} → ReadsCatch ts i t j → At ts i (keyword words.Catch)
+pub catch_starts : {ts : List Token} {i : ℕ} {t : Tree Span tree.handler} {j : ℕ} → ReadsCatch ts i t j
+    → At ts i (keyword words.Catch)
 catch_starts (a_catch a b c d e) = a
 
 pub block_starts : {ts : List Token} {i : ℕ} {t : Stmts} {j : ℕ} → ReadsBlock ts i t j → At ts i open_brace
 block_starts (in_braces a b c) = a
 
 -- what a statement begins with ends no list and is no function
-pub statement_starts : {ts : List Token} {i : ℕ} {t : Stmt} {j : ℕ} → ReadsStatement ts i t j → (ends_list (sign_at ts i) ≡ false) × (is_function (sign_at ts i) ≡ false)
+pub statement_starts : {ts : List Token} {i : ℕ} {t : Stmt} {j : ℕ} → ReadsStatement ts i t j
+    → (ends_list (sign_at ts i) ≡ false) × (is_function (sign_at ts i) ≡ false)
 statement_starts (a_block a) = let e = block_starts a in (ap ends_list e.is, ap is_function e.is)
 statement_starts (a_var a b c) = (ap ends_list a.is, ap is_function a.is)
 statement_starts (an_empty a) = (ap ends_list a.is, ap is_function a.is)
-statement_starts {ts} {i} (an_expression a b c d) = (no_list_end (sign_at ts i) (expression_starts c), unbarred_is_no_function (sign_at ts i) a)
+statement_starts {ts} {i} (an_expression a b c d) =
+    (no_list_end (sign_at ts i) (expression_starts c), unbarred_is_no_function (sign_at ts i) a)
 statement_starts (an_if_else a b c d e) = (ap ends_list a.is, ap is_function a.is)
 statement_starts (an_if a b c d) = (ap ends_list a.is, ap is_function a.is)
 statement_starts (a_do_while a b c d e) = (ap ends_list a.is, ap is_function a.is)
@@ -394,7 +429,8 @@ statement_starts (a_break_to a b c d) = (ap ends_list a.is, ap is_function a.is)
 statement_starts (a_return a b) = (ap ends_list a.is, ap is_function a.is)
 statement_starts (a_return_of a b c d) = (ap ends_list a.is, ap is_function a.is)
 statement_starts (a_switch a b c d e) = (ap ends_list a.is, ap is_function a.is)
-statement_starts {ts} {i} (a_label a b c) = (identifier_is_no_end (sign_at ts i) a.is, identifier_is_no_function (sign_at ts i) a.is)
+statement_starts {ts} {i} (a_label a b c) =
+    (identifier_is_no_end (sign_at ts i) a.is, identifier_is_no_function (sign_at ts i) a.is)
 statement_starts (a_throw a b c d) = (ap ends_list a.is, ap is_function a.is)
 statement_starts (a_try_catch a b c d) = (ap ends_list a.is, ap is_function a.is)
 statement_starts (a_try_finally a b c d) = (ap ends_list a.is, ap is_function a.is)
@@ -402,7 +438,8 @@ statement_starts (a_try_both a b c d e) = (ap ends_list a.is, ap is_function a.i
 statement_starts (a_debugger a b) = (ap ends_list a.is, ap is_function a.is)
 
 -- before the semicolon of a `for` with variables no `in` follows the first name
-pub no_in_follows : {ts : List Token} {no_in : Bool} {i : ℕ} {t : Row Span tree.decl} {j : ℕ} → ReadsDeclarations ts no_in i t j → At ts j semicolon → is_in (sign_at ts (suc i)) ≡ false
+pub no_in_follows : {ts : List Token} {no_in : Bool} {i : ℕ} {t : Row Span tree.decl} {j : ℕ}
+    → ReadsDeclarations ts no_in i t j → At ts j semicolon → is_in (sign_at ts (suc i)) ≡ false
 no_in_follows (last_declaration (declared a b) c) h = ap is_in h.is
 no_in_follows (last_declaration (initialised a b c) d) h = ap is_in b.is
 no_in_follows (more_declarations (declared a b) c d) h = ap is_in c.is

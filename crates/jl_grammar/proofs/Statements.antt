@@ -1,18 +1,25 @@
 -- What the reader does at each production of statements and bodies.
-use Rattle.std.proofs.Common.{◌≡◌, ℕ, zero, suc, Bool, true, false, not, ◌&&◌, ◌||◌, refl, ap, ◌∙◌, arith, length, [], ◌∷◌}
-use Rattle.std.specs.Prelude.{List, Option, Some, None, if◌then◌else◌}
+use Rattle.std.proofs.Common.{◌≡◌, ℕ, zero, suc, Bool, true, false, not, ◌&&◌, ◌||◌, refl, ◌∙◌, length}
+use Rattle.std.specs.Prelude.{List, Option, Some, None}
 use Rattle.jl_ast.specs.Tree.{Ident, Tree, Row, Maybe}
 use Rattle.jl_ast.specs.Tree as tree
 use Rattle.jl_text.specs.declared.span.Span.{Span}
-use Rattle.jl_token.specs.declared.punct.Punct.TheVariants as puncts
 use Rattle.jl_token.specs.declared.token.Token.{Token}
 use Rattle.jl_grammar.specs.declared.sign.Sign.{Sign}
 use Rattle.jl_grammar.specs.declared.sign.Sign.TheVariants as signs
 use Rattle.jl_grammar.specs.declared.word.Word.TheVariants as words
-use Rattle.jl_grammar.specs.Next.{open_paren, close_paren, open_brace, close_brace, semicolon, comma, colon, equals, keyword, is_identifier, is_open_brace, is_semicolon, is_comma, is_colon, is_equals, is_else, is_finally, ends_statement, ends_list, is_directive}
-use Rattle.jl_grammar.specs.Reads.{Expr, Exprs, Stmt, Stmts, Code, EndsAt, there, inserted}
+use Rattle.jl_grammar.specs.Next.{open_paren, close_paren, open_brace, close_brace, semicolon, comma, colon, equals}
+use Rattle.jl_grammar.specs.Next.{keyword, is_identifier, is_open_brace, is_semicolon, is_comma, is_colon}
+use Rattle.jl_grammar.specs.Next.{is_equals, is_else, is_finally, ends_statement, ends_list, is_directive}
+use Rattle.jl_grammar.specs.Reads.{Expr, Stmt, Stmts, Code, EndsAt, there, inserted}
 use Rattle.jl_grammar.specs.Tokens.{At, Is, sign_at, line_at, strict_at, span, ident_at}
-use Rattle.jl_grammar.specs.Reader.{is_close_paren, is_close_bracket, is_close_brace, is_function, is_new, is_while, is_in, is_var, is_case, is_default, is_catch, name_of, with_directive, ends_at, names_from, parameters_at, label_at, closed, statements_from, block_at, elements_from, body_from, rest_at, function_at, items_from, value_at, getter_by, setter_by, accessor_at, entry_by, entry_at, entries_from, primary_by, primary_at, arguments_from, arguments_at, new_at, start_at, left_by, left_from, left_at, postfix_by, postfix_at, unary_by, unary_at, binary_by, binary_from, binary_at, conditional_from, conditional_at, assignment_by, assignment_at, comma_from, expression_at, head_at, sub_at, declaration_at, declarations_from, var_at, express_at, else_from, if_at, do_at, while_at, maybe_at, for_from, for_in_from, for_var_at, for_expression_at, for_at, continue_at, break_at, return_by, return_at, throw_at, clauses_from, switch_at, catch_at, finally_from, try_at, named_at, statement_by, statement_at, deeper, is_shallow, program_at, Read, Deeper, ◌>>=◌}
+use Rattle.jl_grammar.specs.Reader.{is_close_paren, is_function, is_in, is_var, name_of, ends_at, label_at, closed}
+use Rattle.jl_grammar.specs.Reader.{statements_from, block_at, elements_from, body_from, head_at, sub_at}
+use Rattle.jl_grammar.specs.Reader.{declaration_at, declarations_from, var_at, express_at, else_from, if_at, do_at}
+use Rattle.jl_grammar.specs.Reader.{while_at, maybe_at, for_from, for_in_from, for_var_at, for_expression_at}
+use Rattle.jl_grammar.specs.Reader.{for_at, continue_at, break_at, return_by, return_at, throw_at, clauses_from}
+use Rattle.jl_grammar.specs.Reader.{switch_at, catch_at, finally_from, try_at, named_at, statement_by, statement_at}
+use Rattle.jl_grammar.specs.Reader.{Deeper}
 
 module _ (ts : List Token) where
   pub ends_step : (i j : ℕ) → EndsAt ts i j → ends_at ts i ≡ Some j
@@ -20,15 +27,18 @@ module _ (ts : List Token) where
   ends_step i j (there e) = rw (e.is, ends_at)
   ends_step i j (inserted e f) = rw (e, f, ends_at)
 
-  pub no_end_step : (i : ℕ) → is_semicolon (sign_at ts i) ≡ false → ends_statement (sign_at ts i) ≡ false → line_at ts i ≡ false → ends_at ts i ≡ None
+  pub no_end_step : (i : ℕ) → is_semicolon (sign_at ts i) ≡ false → ends_statement (sign_at ts i) ≡ false
+      → line_at ts i ≡ false → ends_at ts i ≡ None
   unfolding ends_at
   no_end_step i a b c = rw (a, b, c, ends_at)
 
-  pub label_step : (i k : ℕ) → Is is_identifier ts i → line_at ts i ≡ false → ends_at ts (suc i) ≡ Some k → label_at ts i ≡ Some (Some (ident_at ts i), k)
+  pub label_step : (i k : ℕ) → Is is_identifier ts i → line_at ts i ≡ false → ends_at ts (suc i) ≡ Some k
+      → label_at ts i ≡ Some (Some (ident_at ts i), k)
   unfolding label_at
   label_step i k e l h = rw (e.is, l, h, label_at)
 
-  pub no_label_step : (i k : ℕ) → (is_identifier (sign_at ts i) && not (line_at ts i)) ≡ false → ends_at ts i ≡ Some k → label_at ts i ≡ Some (None, k)
+  pub no_label_step : (i k : ℕ) → (is_identifier (sign_at ts i) && not (line_at ts i)) ≡ false → ends_at ts i ≡ Some k
+      → label_at ts i ≡ Some (None, k)
   unfolding label_at
   no_label_step i k e h = rw (e, h, label_at)
 
@@ -38,69 +48,103 @@ module _ (ts : List Token) (d : Deeper) where
   no_statements_step zero i e = rw (e, statements_from)
   no_statements_step (suc n) i e = rw (e, statements_from)
 
-  pub more_statements_step : (n i j k : ℕ) (w : Stmt) (ws : Stmts) → ends_list (sign_at ts i) ≡ false → d.statement i ≡ Some (w, j) → statements_from ts d n j ≡ Some (ws, k) → statements_from ts d (suc n) i ≡ Some (tree.more w ws, k)
+  pub more_statements_step : (n i j k : ℕ) (w : Stmt) (ws : Stmts) → ends_list (sign_at ts i) ≡ false
+      → d.statement i ≡ Some (w, j) → statements_from ts d n j ≡ Some (ws, k)
+      → statements_from ts d (suc n) i ≡ Some (tree.more w ws, k)
   unfolding statements_from
   more_statements_step n i j k w ws e h g = rw (e, h, g, statements_from)
 
-  pub block_step : (i j : ℕ) (ws : Stmts) → At ts i open_brace → statements_from ts d (length ts) (suc i) ≡ Some (ws, j) → At ts j close_brace → block_at ts d i ≡ Some (ws, suc j)
+  pub block_step : (i j : ℕ) (ws : Stmts) → At ts i open_brace
+      → statements_from ts d (length ts) (suc i) ≡ Some (ws, j) → At ts j close_brace
+      → block_at ts d i ≡ Some (ws, suc j)
   unfolding block_at
   block_step i j ws e h f = rw (e.is, h, f.is, block_at)
 
-  pub no_elements_step : (n i : ℕ) → ends_list (sign_at ts i) ≡ true → elements_from ts d n i ≡ Some ((tree.end, tree.end), i)
+  pub no_elements_step : (n i : ℕ) → ends_list (sign_at ts i) ≡ true
+      → elements_from ts d n i ≡ Some ((tree.end, tree.end), i)
   unfolding elements_from
   no_elements_step zero i e = rw (e, elements_from)
   no_elements_step (suc n) i e = rw (e, elements_from)
 
-  pub declared_step : (n i j k : ℕ) (ps : List (Ident Span)) (c : Code) (fs : Row Span tree.func) (ws : Stmts) → At ts i (keyword words.Function) → Is is_identifier ts (suc i) → d.rest (suc (suc i)) ≡ Some ((ps, c), j) → elements_from ts d n j ≡ Some ((fs, ws), k) → elements_from ts d (suc n) i ≡ Some ((tree.more (tree.function 0 (Some (ident_at ts (suc i))) ps c (span ts i j)) fs, ws), k)
+  pub declared_step : (n i j k : ℕ) (ps : List (Ident Span)) (c : Code) (fs : Row Span tree.func) (ws : Stmts)
+      → At ts i (keyword words.Function) → Is is_identifier ts (suc i) → d.rest (suc (suc i)) ≡ Some ((ps, c), j)
+      → elements_from ts d n j ≡ Some ((fs, ws), k)
+      → elements_from ts d (suc n) i ≡ Some (
+        (
+          tree.more
+              (tree.function 0 (Some (ident_at ts (suc i))) ps c (span ts i j)) fs,
+          ws,
+        ),
+        k,
+      )
   unfolding elements_from
   declared_step n i j k ps c fs ws e f h g = rw (e.is, elements_from) (rw (f.is, h, g) refl)
 
-  pub element_step : (n i j k : ℕ) (w : Stmt) (fs : Row Span tree.func) (ws : Stmts) → ends_list (sign_at ts i) ≡ false → is_function (sign_at ts i) ≡ false → d.statement i ≡ Some (w, j) → elements_from ts d n j ≡ Some ((fs, ws), k) → elements_from ts d (suc n) i ≡ Some ((fs, tree.more w ws), k)
+  pub element_step : (n i j k : ℕ) (w : Stmt) (fs : Row Span tree.func) (ws : Stmts)
+      → ends_list (sign_at ts i) ≡ false → is_function (sign_at ts i) ≡ false → d.statement i ≡ Some (w, j)
+      → elements_from ts d n j ≡ Some ((fs, ws), k) → elements_from ts d (suc n) i ≡ Some ((fs, tree.more w ws), k)
   unfolding elements_from
   element_step n i j k w fs ws e f h g = rw (e, f, h, g, elements_from)
 
-  pub directive_step : (n i j k : ℕ) (w : Stmt) (strict : Bool) (fs : Row Span tree.func) (ws : Stmts) → is_directive ts i ≡ true → d.statement i ≡ Some (w, j) → body_from ts d n j ≡ Some (tree.body strict fs ws, k) → body_from ts d (suc n) i ≡ Some (tree.body (strict_at ts i || strict) fs (tree.more w ws), k)
+  pub directive_step : (n i j k : ℕ) (w : Stmt) (strict : Bool) (fs : Row Span tree.func) (ws : Stmts)
+      → is_directive ts i ≡ true → d.statement i ≡ Some (w, j) → body_from ts d n j ≡ Some (tree.body strict fs ws, k)
+      → body_from ts d (suc n) i ≡ Some (tree.body (strict_at ts i || strict) fs (tree.more w ws), k)
   unfolding body_from
   directive_step n i j k w strict fs ws e h g = rw (e, h, g, body_from)
 
-  pub no_directive_step : (n i j : ℕ) (fs : Row Span tree.func) (ws : Stmts) → is_directive ts i ≡ false → elements_from ts d (length ts) i ≡ Some ((fs, ws), j) → body_from ts d n i ≡ Some (tree.body false fs ws, j)
+  pub no_directive_step : (n i j : ℕ) (fs : Row Span tree.func) (ws : Stmts) → is_directive ts i ≡ false
+      → elements_from ts d (length ts) i ≡ Some ((fs, ws), j) → body_from ts d n i ≡ Some (tree.body false fs ws, j)
   unfolding body_from
   no_directive_step zero i j fs ws e h = rw (e, h, body_from)
   no_directive_step (suc n) i j fs ws e h = rw (e, h, body_from)
 
-  pub head_step : (i j : ℕ) (t : Expr) → At ts i open_paren → d.expression false (suc i) ≡ Some (t, j) → At ts j close_paren → head_at ts d i ≡ Some (t, suc j)
+  pub head_step : (i j : ℕ) (t : Expr) → At ts i open_paren → d.expression false (suc i) ≡ Some (t, j)
+      → At ts j close_paren → head_at ts d i ≡ Some (t, suc j)
   unfolding head_at closed
   head_step i j t e h f = rw (e.is, h, f.is, head_at)
 
-  pub several_step : (i j : ℕ) (ws : Stmts) → is_open_brace (sign_at ts i) ≡ true → block_at ts d i ≡ Some (ws, j) → sub_at ts d i ≡ Some (ws, j)
+  pub several_step : (i j : ℕ) (ws : Stmts) → is_open_brace (sign_at ts i) ≡ true → block_at ts d i ≡ Some (ws, j)
+      → sub_at ts d i ≡ Some (ws, j)
   unfolding sub_at
   several_step i j ws e h = rw (e, h, sub_at)
 
-  pub alone_step : (i j : ℕ) (w : Stmt) → is_open_brace (sign_at ts i) ≡ false → d.statement i ≡ Some (w, j) → sub_at ts d i ≡ Some (tree.more w tree.end, j)
+  pub alone_step : (i j : ℕ) (w : Stmt) → is_open_brace (sign_at ts i) ≡ false → d.statement i ≡ Some (w, j)
+      → sub_at ts d i ≡ Some (tree.more w tree.end, j)
   unfolding sub_at
   alone_step i j w e h = rw (e, h, sub_at)
 
-  pub uninitialised_step : (no_in : Bool) (i : ℕ) → Is is_identifier ts i → is_equals (sign_at ts (suc i)) ≡ false → declaration_at ts d no_in i ≡ Some (tree.declarator (ident_at ts i) tree.absent, suc i)
+  pub uninitialised_step : (no_in : Bool) (i : ℕ) → Is is_identifier ts i → is_equals (sign_at ts (suc i)) ≡ false
+      → declaration_at ts d no_in i ≡ Some (tree.declarator (ident_at ts i) tree.absent, suc i)
   unfolding declaration_at
   uninitialised_step no_in i e f = rw (e.is, f, declaration_at)
 
-  pub initialised_step : (no_in : Bool) (i j : ℕ) (t : Expr) → Is is_identifier ts i → At ts (suc i) equals → d.assignment no_in (suc (suc i)) ≡ Some (t, j) → declaration_at ts d no_in i ≡ Some (tree.declarator (ident_at ts i) (tree.present t), j)
+  pub initialised_step : (no_in : Bool) (i j : ℕ) (t : Expr) → Is is_identifier ts i → At ts (suc i) equals
+      → d.assignment no_in (suc (suc i)) ≡ Some (t, j)
+      → declaration_at ts d no_in i ≡ Some (tree.declarator (ident_at ts i) (tree.present t), j)
   unfolding declaration_at
   initialised_step no_in i j t e f h = rw (e.is, f.is, h, declaration_at)
 
-  pub last_declaration_step : (no_in : Bool) (n i j : ℕ) (x : Tree Span tree.decl) → declaration_at ts d no_in i ≡ Some (x, j) → is_comma (sign_at ts j) ≡ false → declarations_from ts d no_in (suc n) i ≡ Some (tree.more x tree.end, j)
+  pub last_declaration_step : (no_in : Bool) (n i j : ℕ) (x : Tree Span tree.decl)
+      → declaration_at ts d no_in i ≡ Some (x, j) → is_comma (sign_at ts j) ≡ false
+      → declarations_from ts d no_in (suc n) i ≡ Some (tree.more x tree.end, j)
   unfolding declarations_from
   last_declaration_step no_in n i j x h e = rw (h, e, declarations_from)
 
-  pub more_declarations_step : (no_in : Bool) (n i j k : ℕ) (x : Tree Span tree.decl) (xs : Row Span tree.decl) → declaration_at ts d no_in i ≡ Some (x, j) → At ts j comma → declarations_from ts d no_in n (suc j) ≡ Some (xs, k) → declarations_from ts d no_in (suc n) i ≡ Some (tree.more x xs, k)
+  pub more_declarations_step : (no_in : Bool) (n i j k : ℕ) (x : Tree Span tree.decl) (xs : Row Span tree.decl)
+      → declaration_at ts d no_in i ≡ Some (x, j) → At ts j comma
+      → declarations_from ts d no_in n (suc j) ≡ Some (xs, k)
+      → declarations_from ts d no_in (suc n) i ≡ Some (tree.more x xs, k)
   unfolding declarations_from
   more_declarations_step no_in n i j k x xs h e g = rw (h, e.is, g, declarations_from)
 
-  pub block_statement_step : (i j : ℕ) (ws : Stmts) → At ts i open_brace → block_at ts d i ≡ Some (ws, j) → statement_at ts d i ≡ Some (tree.block ws (span ts i j), j)
+  pub block_statement_step : (i j : ℕ) (ws : Stmts) → At ts i open_brace → block_at ts d i ≡ Some (ws, j)
+      → statement_at ts d i ≡ Some (tree.block ws (span ts i j), j)
   unfolding statement_at statement_by
   block_statement_step i j ws e h = rw (e.is, h, statement_at)
 
-  pub var_step : (i j k : ℕ) (xs : Row Span tree.decl) → At ts i (keyword words.Var) → declarations_from ts d false (length ts) (suc i) ≡ Some (xs, j) → ends_at ts j ≡ Some k → statement_at ts d i ≡ Some (tree.var xs (span ts i k), k)
+  pub var_step : (i j k : ℕ) (xs : Row Span tree.decl) → At ts i (keyword words.Var)
+      → declarations_from ts d false (length ts) (suc i) ≡ Some (xs, j) → ends_at ts j ≡ Some k
+      → statement_at ts d i ≡ Some (tree.var xs (span ts i k), k)
   unfolding statement_at statement_by var_at
   var_step i j k xs e h g = rw (e.is, statement_at) (rw (h, g, var_at))
 
@@ -108,116 +152,178 @@ module _ (ts : List Token) (d : Deeper) where
   unfolding statement_at statement_by
   empty_step i e = rw (e.is, statement_at)
 
-  pub express_step : (i j k : ℕ) (t : Expr) → d.expression false i ≡ Some (t, j) → ends_at ts j ≡ Some k → express_at ts d i ≡ Some (tree.expression t (span ts i k), k)
+  pub express_step : (i j k : ℕ) (t : Expr) → d.expression false i ≡ Some (t, j) → ends_at ts j ≡ Some k
+      → express_at ts d i ≡ Some (tree.expression t (span ts i k), k)
   unfolding express_at
   express_step i j k t h g = rw (h, g, express_at)
 
-  pub if_else_step : (i j k m : ℕ) (t : Expr) (ws us : Stmts) → At ts i (keyword words.If) → head_at ts d (suc i) ≡ Some (t, j) → sub_at ts d j ≡ Some (ws, k) → At ts k (keyword words.Else) → sub_at ts d (suc k) ≡ Some (us, m) → statement_at ts d i ≡ Some (tree.when t ws (tree.present (tree.branch_of us)) (span ts i m), m)
+  pub if_else_step : (i j k m : ℕ) (t : Expr) (ws us : Stmts) → At ts i (keyword words.If)
+      → head_at ts d (suc i) ≡ Some (t, j) → sub_at ts d j ≡ Some (ws, k) → At ts k (keyword words.Else)
+      → sub_at ts d (suc k) ≡ Some (us, m)
+      → statement_at ts d i ≡ Some (tree.when t ws (tree.present (tree.branch_of us)) (span ts i m), m)
   unfolding statement_at statement_by if_at else_from
   if_else_step i j k m t ws us e h g f q = rw (e.is, statement_at) (rw (h, g, f.is, q, if_at))
 
-  pub if_step : (i j k : ℕ) (t : Expr) (ws : Stmts) → At ts i (keyword words.If) → head_at ts d (suc i) ≡ Some (t, j) → sub_at ts d j ≡ Some (ws, k) → is_else (sign_at ts k) ≡ false → statement_at ts d i ≡ Some (tree.when t ws tree.absent (span ts i k), k)
+  pub if_step : (i j k : ℕ) (t : Expr) (ws : Stmts) → At ts i (keyword words.If) → head_at ts d (suc i) ≡ Some (t, j)
+      → sub_at ts d j ≡ Some (ws, k) → is_else (sign_at ts k) ≡ false
+      → statement_at ts d i ≡ Some (tree.when t ws tree.absent (span ts i k), k)
   unfolding statement_at statement_by if_at else_from
   if_step i j k t ws e h g f = rw (e.is, statement_at) (rw (h, g, f, if_at))
 
-  pub do_step : (i j k m : ℕ) (t : Expr) (ws : Stmts) → At ts i (keyword words.Do) → sub_at ts d (suc i) ≡ Some (ws, j) → At ts j (keyword words.While) → head_at ts d (suc j) ≡ Some (t, k) → ends_at ts k ≡ Some m → statement_at ts d i ≡ Some (tree.do_while ws t (span ts i m), m)
+  pub do_step : (i j k m : ℕ) (t : Expr) (ws : Stmts) → At ts i (keyword words.Do)
+      → sub_at ts d (suc i) ≡ Some (ws, j) → At ts j (keyword words.While) → head_at ts d (suc j) ≡ Some (t, k)
+      → ends_at ts k ≡ Some m → statement_at ts d i ≡ Some (tree.do_while ws t (span ts i m), m)
   unfolding statement_at statement_by do_at
   do_step i j k m t ws e h f g q = rw (e.is, statement_at) (rw (h, f.is, g, q, do_at))
 
-  pub while_step : (i j k : ℕ) (t : Expr) (ws : Stmts) → At ts i (keyword words.While) → head_at ts d (suc i) ≡ Some (t, j) → sub_at ts d j ≡ Some (ws, k) → statement_at ts d i ≡ Some (tree.while t ws (span ts i k), k)
+  pub while_step : (i j k : ℕ) (t : Expr) (ws : Stmts) → At ts i (keyword words.While)
+      → head_at ts d (suc i) ≡ Some (t, j) → sub_at ts d j ≡ Some (ws, k)
+      → statement_at ts d i ≡ Some (tree.while t ws (span ts i k), k)
   unfolding statement_at statement_by while_at
   while_step i j k t ws e h g = rw (e.is, statement_at) (rw (h, g, while_at))
 
-  pub absent_step : (ends : Sign → Bool) (i : ℕ) → ends (sign_at ts i) ≡ true → maybe_at ts d ends i ≡ Some (tree.absent, i)
+  pub absent_step : (ends : Sign → Bool) (i : ℕ) → ends (sign_at ts i) ≡ true
+      → maybe_at ts d ends i ≡ Some (tree.absent, i)
   unfolding maybe_at
   absent_step ends i e = rw (e, maybe_at)
 
-  pub present_step : (ends : Sign → Bool) (i j : ℕ) (t : Expr) → ends (sign_at ts i) ≡ false → d.expression false i ≡ Some (t, j) → maybe_at ts d ends i ≡ Some (tree.present t, j)
+  pub present_step : (ends : Sign → Bool) (i j : ℕ) (t : Expr) → ends (sign_at ts i) ≡ false
+      → d.expression false i ≡ Some (t, j) → maybe_at ts d ends i ≡ Some (tree.present t, j)
   unfolding maybe_at
   present_step ends i j t e h = rw (e, h, maybe_at)
 
-  pub for_from_step : (i j k m n : ℕ) (a : Tree Span tree.init) (b c : Maybe Span tree.expr) (ws : Stmts) → At ts j semicolon → maybe_at ts d is_semicolon (suc j) ≡ Some (b, k) → At ts k semicolon → maybe_at ts d is_close_paren (suc k) ≡ Some (c, m) → At ts m close_paren → sub_at ts d (suc m) ≡ Some (ws, n) → for_from ts d i (a, j) ≡ Some (tree.for a b c ws (span ts i n), n)
+  pub for_from_step : (i j k m n : ℕ) (a : Tree Span tree.init) (b c : Maybe Span tree.expr) (ws : Stmts)
+      → At ts j semicolon → maybe_at ts d is_semicolon (suc j) ≡ Some (b, k) → At ts k semicolon
+      → maybe_at ts d is_close_paren (suc k) ≡ Some (c, m) → At ts m close_paren → sub_at ts d (suc m) ≡ Some (ws, n)
+      → for_from ts d i (a, j) ≡ Some (tree.for a b c ws (span ts i n), n)
   unfolding for_from
   for_from_step i j k m n a b c ws e h f g q r = rw (e.is, h, f.is, g, q.is, r, for_from)
 
-  pub for_nothing_step : (i : ℕ) → At ts i (keyword words.For) → At ts (suc i) open_paren → At ts (suc (suc i)) semicolon → statement_at ts d i ≡ for_from ts d i (tree.nothing, suc (suc i))
+  pub for_nothing_step : (i : ℕ) → At ts i (keyword words.For) → At ts (suc i) open_paren
+      → At ts (suc (suc i)) semicolon → statement_at ts d i ≡ for_from ts d i (tree.nothing, suc (suc i))
   unfolding statement_at statement_by for_at
   for_nothing_step i e f g = rw (e.is, statement_at) (rw (f.is, g.is, for_at) refl)
 
-  pub for_expression_step : (i j : ℕ) (t : Expr) → At ts i (keyword words.For) → At ts (suc i) open_paren → is_semicolon (sign_at ts (suc (suc i))) ≡ false → is_var (sign_at ts (suc (suc i))) ≡ false → d.expression true (suc (suc i)) ≡ Some (t, j) → is_in (sign_at ts j) ≡ false → statement_at ts d i ≡ for_from ts d i (tree.init_expression t, j)
+  pub for_expression_step : (i j : ℕ) (t : Expr) → At ts i (keyword words.For) → At ts (suc i) open_paren
+      → is_semicolon (sign_at ts (suc (suc i))) ≡ false → is_var (sign_at ts (suc (suc i))) ≡ false
+      → d.expression true (suc (suc i)) ≡ Some (t, j) → is_in (sign_at ts j) ≡ false
+      → statement_at ts d i ≡ for_from ts d i (tree.init_expression t, j)
   unfolding statement_at statement_by for_at for_expression_at
-  for_expression_step i j t e f a b h g = rw (e.is, statement_at) (rw (f.is, a, b, for_at) (rw (h, g, for_expression_at) refl))
+  for_expression_step i j t e f a b h g = rw (e.is, statement_at)
+      (rw (f.is, a, b, for_at) (rw (h, g, for_expression_at) refl))
 
-  pub for_vars_step : (i j : ℕ) (xs : Row Span tree.decl) → At ts i (keyword words.For) → At ts (suc i) open_paren → At ts (suc (suc i)) (keyword words.Var) → (is_identifier (sign_at ts (suc (suc (suc i)))) && is_in (sign_at ts (suc (suc (suc (suc i)))))) ≡ false → declarations_from ts d true (length ts) (suc (suc (suc i))) ≡ Some (xs, j) → statement_at ts d i ≡ for_from ts d i (tree.init_var xs, j)
+  pub for_vars_step : (i j : ℕ) (xs : Row Span tree.decl) → At ts i (keyword words.For) → At ts (suc i) open_paren
+      → At ts (suc (suc i)) (keyword words.Var)
+      → (is_identifier (sign_at ts (suc (suc (suc i)))) && is_in (sign_at ts (suc (suc (suc (suc i)))))) ≡ false
+      → declarations_from ts d true (length ts) (suc (suc (suc i))) ≡ Some (xs, j)
+      → statement_at ts d i ≡ for_from ts d i (tree.init_var xs, j)
   unfolding statement_at statement_by for_at for_var_at
   for_vars_step i j xs e f g a h = rw (e.is, statement_at) (rw (f.is, g.is, for_at) (rw (a, h, for_var_at) refl))
 
-  pub for_in_from_step : (i j k m : ℕ) (is_var : Bool) (x : Ident Span) (t : Expr) (ws : Stmts) → d.expression false j ≡ Some (t, k) → At ts k close_paren → sub_at ts d (suc k) ≡ Some (ws, m) → for_in_from ts d i is_var x j ≡ Some (tree.for_in is_var x t ws (span ts i m), m)
+  pub for_in_from_step : (i j k m : ℕ) (is_var : Bool) (x : Ident Span) (t : Expr) (ws : Stmts)
+      → d.expression false j ≡ Some (t, k) → At ts k close_paren → sub_at ts d (suc k) ≡ Some (ws, m)
+      → for_in_from ts d i is_var x j ≡ Some (tree.for_in is_var x t ws (span ts i m), m)
   unfolding for_in_from
   for_in_from_step i j k m is_var x t ws h e g = rw (h, e.is, g, for_in_from)
 
-  pub for_in_step : (i j : ℕ) (t : Expr) (x : Ident Span) → At ts i (keyword words.For) → At ts (suc i) open_paren → is_semicolon (sign_at ts (suc (suc i))) ≡ false → is_var (sign_at ts (suc (suc i))) ≡ false → d.expression true (suc (suc i)) ≡ Some (t, j) → At ts j (keyword words.In) → name_of t ≡ Some x → statement_at ts d i ≡ for_in_from ts d i false x (suc j)
+  pub for_in_step : (i j : ℕ) (t : Expr) (x : Ident Span) → At ts i (keyword words.For) → At ts (suc i) open_paren
+      → is_semicolon (sign_at ts (suc (suc i))) ≡ false → is_var (sign_at ts (suc (suc i))) ≡ false
+      → d.expression true (suc (suc i)) ≡ Some (t, j) → At ts j (keyword words.In) → name_of t ≡ Some x
+      → statement_at ts d i ≡ for_in_from ts d i false x (suc j)
   unfolding statement_at statement_by for_at for_expression_at
-  for_in_step i j t x e f a b h g q = rw (e.is, statement_at) (rw (f.is, a, b, for_at) (rw (h, g.is, q, for_expression_at) refl))
+  for_in_step i j t x e f a b h g q = rw (e.is, statement_at)
+      (rw (f.is, a, b, for_at) (rw (h, g.is, q, for_expression_at) refl))
 
-  pub for_var_in_step : (i : ℕ) → At ts i (keyword words.For) → At ts (suc i) open_paren → At ts (suc (suc i)) (keyword words.Var) → Is is_identifier ts (suc (suc (suc i))) → At ts (suc (suc (suc (suc i)))) (keyword words.In) → statement_at ts d i ≡ for_in_from ts d i true (ident_at ts (suc (suc (suc i)))) (suc (suc (suc (suc (suc i)))))
+  pub for_var_in_step : (i : ℕ) → At ts i (keyword words.For) → At ts (suc i) open_paren
+      → At ts (suc (suc i)) (keyword words.Var) → Is is_identifier ts (suc (suc (suc i)))
+      → At ts (suc (suc (suc (suc i)))) (keyword words.In)
+      → statement_at ts d i ≡ for_in_from ts d i true (ident_at ts (suc (suc (suc i))))
+      (suc (suc (suc (suc (suc i)))))
   unfolding statement_at statement_by for_at for_var_at
   for_var_in_step i e f g h q = rw (e.is, statement_at) (rw (f.is, g.is, for_at) (rw (h.is, q.is, for_var_at) refl))
 
-  pub continue_step : (i k : ℕ) (x : Option (Ident Span)) → At ts i (keyword words.Continue) → label_at ts (suc i) ≡ Some (x, k) → statement_at ts d i ≡ Some (tree.continue x (span ts i k), k)
+  pub continue_step : (i k : ℕ) (x : Option (Ident Span)) → At ts i (keyword words.Continue)
+      → label_at ts (suc i) ≡ Some (x, k) → statement_at ts d i ≡ Some (tree.continue x (span ts i k), k)
   unfolding statement_at statement_by continue_at
   continue_step i k x e h = rw (e.is, statement_at) (rw (h, continue_at))
 
-  pub break_step : (i k : ℕ) (x : Option (Ident Span)) → At ts i (keyword words.Break) → label_at ts (suc i) ≡ Some (x, k) → statement_at ts d i ≡ Some (tree.break x (span ts i k), k)
+  pub break_step : (i k : ℕ) (x : Option (Ident Span)) → At ts i (keyword words.Break)
+      → label_at ts (suc i) ≡ Some (x, k) → statement_at ts d i ≡ Some (tree.break x (span ts i k), k)
   unfolding statement_at statement_by break_at
   break_step i k x e h = rw (e.is, statement_at) (rw (h, break_at))
 
-  pub return_step : (i k : ℕ) → At ts i (keyword words.Return) → ends_at ts (suc i) ≡ Some k → statement_at ts d i ≡ Some (tree.return tree.absent (span ts i k), k)
+  pub return_step : (i k : ℕ) → At ts i (keyword words.Return) → ends_at ts (suc i) ≡ Some k
+      → statement_at ts d i ≡ Some (tree.return tree.absent (span ts i k), k)
   unfolding statement_at statement_by return_at return_by
   return_step i k e h = rw (e.is, statement_at) (rw (h, return_at))
 
-  pub return_of_step : (i j k : ℕ) (t : Expr) → At ts i (keyword words.Return) → ends_at ts (suc i) ≡ None → d.expression false (suc i) ≡ Some (t, j) → ends_at ts j ≡ Some k → statement_at ts d i ≡ Some (tree.return (tree.present t) (span ts i k), k)
+  pub return_of_step : (i j k : ℕ) (t : Expr) → At ts i (keyword words.Return) → ends_at ts (suc i) ≡ None
+      → d.expression false (suc i) ≡ Some (t, j) → ends_at ts j ≡ Some k
+      → statement_at ts d i ≡ Some (tree.return (tree.present t) (span ts i k), k)
   unfolding statement_at statement_by return_at return_by
   return_of_step i j k t e n h g = rw (e.is, statement_at) (rw (n, h, g, return_at))
 
-  pub throw_step : (i j k : ℕ) (t : Expr) → At ts i (keyword words.Throw) → line_at ts (suc i) ≡ false → d.expression false (suc i) ≡ Some (t, j) → ends_at ts j ≡ Some k → statement_at ts d i ≡ Some (tree.throw t (span ts i k), k)
+  pub throw_step : (i j k : ℕ) (t : Expr) → At ts i (keyword words.Throw) → line_at ts (suc i) ≡ false
+      → d.expression false (suc i) ≡ Some (t, j) → ends_at ts j ≡ Some k
+      → statement_at ts d i ≡ Some (tree.throw t (span ts i k), k)
   unfolding statement_at statement_by throw_at
   throw_step i j k t e l h g = rw (e.is, statement_at) (rw (l, h, g, throw_at))
 
-  pub no_clauses_step : (n i : ℕ) (fresh : Bool) → At ts i close_brace → clauses_from ts d n fresh i ≡ Some (tree.end, i)
+  pub no_clauses_step : (n i : ℕ) (fresh : Bool) → At ts i close_brace
+      → clauses_from ts d n fresh i ≡ Some (tree.end, i)
   unfolding clauses_from
   no_clauses_step zero i fresh e = rw (e.is, clauses_from)
   no_clauses_step (suc n) i fresh e = rw (e.is, clauses_from)
 
-  pub case_step : (n i j k m : ℕ) (fresh : Bool) (t : Expr) (ws : Stmts) (cs : Row Span tree.clause) → At ts i (keyword words.Case) → d.expression false (suc i) ≡ Some (t, j) → At ts j colon → statements_from ts d (length ts) (suc j) ≡ Some (ws, k) → clauses_from ts d n fresh k ≡ Some (cs, m) → clauses_from ts d (suc n) fresh i ≡ Some (tree.more (tree.case (tree.present t) ws) cs, m)
+  pub case_step : (n i j k m : ℕ) (fresh : Bool) (t : Expr) (ws : Stmts) (cs : Row Span tree.clause)
+      → At ts i (keyword words.Case) → d.expression false (suc i) ≡ Some (t, j) → At ts j colon
+      → statements_from ts d (length ts) (suc j) ≡ Some (ws, k) → clauses_from ts d n fresh k ≡ Some (cs, m)
+      → clauses_from ts d (suc n) fresh i ≡ Some (tree.more (tree.case (tree.present t) ws) cs, m)
   unfolding clauses_from
   case_step n i j k m fresh t ws cs e h f g q = rw (e.is, clauses_from) (rw (h, f.is, g, q) refl)
 
-  pub default_step : (n i k m : ℕ) (ws : Stmts) (cs : Row Span tree.clause) → At ts i (keyword words.Default) → At ts (suc i) colon → statements_from ts d (length ts) (suc (suc i)) ≡ Some (ws, k) → clauses_from ts d n false k ≡ Some (cs, m) → clauses_from ts d (suc n) true i ≡ Some (tree.more (tree.case tree.absent ws) cs, m)
+  pub default_step : (n i k m : ℕ) (ws : Stmts) (cs : Row Span tree.clause) → At ts i (keyword words.Default)
+      → At ts (suc i) colon → statements_from ts d (length ts) (suc (suc i)) ≡ Some (ws, k)
+      → clauses_from ts d n false k ≡ Some (cs, m)
+      → clauses_from ts d (suc n) true i ≡ Some (tree.more (tree.case tree.absent ws) cs, m)
   unfolding clauses_from
   default_step n i k m ws cs e f g q = rw (e.is, clauses_from) (rw (f.is, g, q) refl)
 
-  pub switch_step : (i j k : ℕ) (t : Expr) (cs : Row Span tree.clause) → At ts i (keyword words.Switch) → head_at ts d (suc i) ≡ Some (t, j) → At ts j open_brace → clauses_from ts d (length ts) true (suc j) ≡ Some (cs, k) → At ts k close_brace → statement_at ts d i ≡ Some (tree.switch t cs (span ts i (suc k)), suc k)
+  pub switch_step : (i j k : ℕ) (t : Expr) (cs : Row Span tree.clause) → At ts i (keyword words.Switch)
+      → head_at ts d (suc i) ≡ Some (t, j) → At ts j open_brace
+      → clauses_from ts d (length ts) true (suc j) ≡ Some (cs, k) → At ts k close_brace
+      → statement_at ts d i ≡ Some (tree.switch t cs (span ts i (suc k)), suc k)
   unfolding statement_at statement_by switch_at
   switch_step i j k t cs e h f g q = rw (e.is, statement_at) (rw (h, f.is, g, q.is, switch_at))
 
-  pub catch_step : (i j : ℕ) (ws : Stmts) → At ts (suc i) open_paren → Is is_identifier ts (suc (suc i)) → At ts (suc (suc (suc i))) close_paren → block_at ts d (suc (suc (suc (suc i)))) ≡ Some (ws, j) → catch_at ts d i ≡ Some (tree.catch (ident_at ts (suc (suc i))) ws, j)
+  pub catch_step : (i j : ℕ) (ws : Stmts) → At ts (suc i) open_paren → Is is_identifier ts (suc (suc i))
+      → At ts (suc (suc (suc i))) close_paren → block_at ts d (suc (suc (suc (suc i)))) ≡ Some (ws, j)
+      → catch_at ts d i ≡ Some (tree.catch (ident_at ts (suc (suc i))) ws, j)
   unfolding catch_at
   catch_step i j ws e f g h = rw (e.is, f.is, g.is, h, catch_at)
 
-  pub try_catch_step : (i j k : ℕ) (ws : Stmts) (h : Tree Span tree.handler) → At ts i (keyword words.Try) → block_at ts d (suc i) ≡ Some (ws, j) → At ts j (keyword words.Catch) → catch_at ts d j ≡ Some (h, k) → is_finally (sign_at ts k) ≡ false → statement_at ts d i ≡ Some (tree.try ws (tree.present h) tree.absent (span ts i k), k)
+  pub try_catch_step : (i j k : ℕ) (ws : Stmts) (h : Tree Span tree.handler) → At ts i (keyword words.Try)
+      → block_at ts d (suc i) ≡ Some (ws, j) → At ts j (keyword words.Catch) → catch_at ts d j ≡ Some (h, k)
+      → is_finally (sign_at ts k) ≡ false
+      → statement_at ts d i ≡ Some (tree.try ws (tree.present h) tree.absent (span ts i k), k)
   unfolding statement_at statement_by try_at finally_from
   try_catch_step i j k ws h e b f g q = rw (e.is, statement_at) (rw (b, f.is, g, q, try_at))
 
-  pub try_finally_step : (i j k : ℕ) (ws us : Stmts) → At ts i (keyword words.Try) → block_at ts d (suc i) ≡ Some (ws, j) → At ts j (keyword words.Finally) → block_at ts d (suc j) ≡ Some (us, k) → statement_at ts d i ≡ Some (tree.try ws tree.absent (tree.present (tree.branch_of us)) (span ts i k), k)
+  pub try_finally_step : (i j k : ℕ) (ws us : Stmts) → At ts i (keyword words.Try)
+      → block_at ts d (suc i) ≡ Some (ws, j) → At ts j (keyword words.Finally) → block_at ts d (suc j) ≡ Some (us, k)
+      → statement_at ts d i ≡ Some (tree.try ws tree.absent (tree.present (tree.branch_of us)) (span ts i k), k)
   unfolding statement_at statement_by try_at
   try_finally_step i j k ws us e b f g = rw (e.is, statement_at) (rw (b, f.is, g, try_at))
 
-  pub try_both_step : (i j k m : ℕ) (ws us : Stmts) (h : Tree Span tree.handler) → At ts i (keyword words.Try) → block_at ts d (suc i) ≡ Some (ws, j) → At ts j (keyword words.Catch) → catch_at ts d j ≡ Some (h, k) → At ts k (keyword words.Finally) → block_at ts d (suc k) ≡ Some (us, m) → statement_at ts d i ≡ Some (tree.try ws (tree.present h) (tree.present (tree.branch_of us)) (span ts i m), m)
+  pub try_both_step : (i j k m : ℕ) (ws us : Stmts) (h : Tree Span tree.handler) → At ts i (keyword words.Try)
+      → block_at ts d (suc i) ≡ Some (ws, j) → At ts j (keyword words.Catch) → catch_at ts d j ≡ Some (h, k)
+      → At ts k (keyword words.Finally) → block_at ts d (suc k) ≡ Some (us, m)
+      → statement_at ts d i ≡ Some (tree.try ws (tree.present h) (tree.present (tree.branch_of us)) (span ts i m), m)
   unfolding statement_at statement_by try_at finally_from
   try_both_step i j k m ws us h e b f g q r = rw (e.is, statement_at) (rw (b, f.is, g, q.is, r, try_at))
 
-  pub debugger_step : (i k : ℕ) → At ts i (keyword words.Debugger) → ends_at ts (suc i) ≡ Some k → statement_at ts d i ≡ Some (tree.debugger (span ts i k), k)
+  pub debugger_step : (i k : ℕ) → At ts i (keyword words.Debugger) → ends_at ts (suc i) ≡ Some k
+      → statement_at ts d i ≡ Some (tree.debugger (span ts i k), k)
   unfolding statement_at statement_by
   debugger_step i k e h = rw (e.is, h, statement_at)
 
@@ -228,10 +334,13 @@ module _ (ts : List Token) (d : Deeper) where
   named_by i signs.Set h = refl
   named_by i _ h = cc
 
-  pub labelled_step : (i j : ℕ) (w : Stmt) → Is is_identifier ts i → At ts (suc i) colon → d.statement (suc (suc i)) ≡ Some (w, j) → statement_at ts d i ≡ Some (tree.labelled (ident_at ts i) w (span ts i j), j)
+  pub labelled_step : (i j : ℕ) (w : Stmt) → Is is_identifier ts i → At ts (suc i) colon
+      → d.statement (suc (suc i)) ≡ Some (w, j)
+      → statement_at ts d i ≡ Some (tree.labelled (ident_at ts i) w (span ts i j), j)
   unfolding statement_at named_at
   labelled_step i j w e f h = named_by i (sign_at ts i) e.is ∙ rw (f.is, h, named_at)
 
-  pub named_expression_step : (i : ℕ) → Is is_identifier ts i → is_colon (sign_at ts (suc i)) ≡ false → statement_at ts d i ≡ express_at ts d i
+  pub named_expression_step : (i : ℕ) → Is is_identifier ts i → is_colon (sign_at ts (suc i)) ≡ false
+      → statement_at ts d i ≡ express_at ts d i
   unfolding statement_at named_at
   named_expression_step i e f = named_by i (sign_at ts i) e.is ∙ rw (f, named_at) refl

@@ -7,3 +7,5 @@ pub mod Brackets
 pub mod Reads
 pub mod Program
 pub mod Reader
+pub mod Laws
+pub mod Accepted

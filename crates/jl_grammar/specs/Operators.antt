@@ -35,7 +35,8 @@ binary_operator (signs.Punct puncts.Caret) = Some ops.BitXor
 binary_operator (signs.Punct puncts.Or) = Some ops.BitOr
 binary_operator _ = None
 
--- how tightly they bind: `|`, `^`, `&` (11.10), equality (11.9), relations (11.8), shifts (11.7), sums (11.6), products (11.5)
+-- how tightly they bind: `|`, `^`, `&` (11.10), equality (11.9), relations (11.8), shifts (11.7), sums (11.6),
+-- products (11.5)
 abbrev pub level : BinOp → ℕ
 level ops.BitOr = 1
 level ops.BitXor = 2

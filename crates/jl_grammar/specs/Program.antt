@@ -18,8 +18,8 @@ last_end (t ∷ u ∷ ts) = last_end (u ∷ ts)
 abbrev pub program_of : List Token → Code → Program Span
 program_of ts c = numbered (record { body = c; at = record { from = 0; to = last_end ts } })
 
--- All the tokens read as p (clause 14), which is no higher than limit, and at no place are more than twice as many brackets
--- open.
+-- All the tokens read as p (clause 14), which is no higher than limit, and at no place are more than twice as many
+-- brackets open.
 pub record Reads (ts : List Token) (limit : ℕ) (p : Program Span) : Type 0 where
   pub code : Code
   pub whole : ReadsBody ts 0 code (length ts)

@@ -1,7 +1,8 @@
--- A reader as a function, that tells what the grammar reads. It is a step of the proofs: no public clause speaks of it.
--- Each function reads from a place and gives what it read with the place after it. What begins later than the whole, as a
--- right operand or what is in brackets, is read one level deeper.
-use Rattle.std.specs.Prelude.{ℕ, zero, suc, pred, ◌*◌, nat_eq, Bool, true, false, not, ◌&&◌, ◌||◌, List, [], ◌∷◌, length, Option, Some, None, option_and_then, nat_le, if◌then◌else◌}
+-- A reader as a function, that tells what the grammar reads. It is a step of the proofs: no public clause but a law
+-- speaks of it. Each function reads from a place and gives what it read with the place after it. What begins later than
+-- the whole, as a right operand or what is in brackets, is read one level deeper.
+use Rattle.std.specs.Prelude.{ℕ, zero, suc, pred, ◌*◌, nat_eq, Bool, true, false, not, ◌&&◌, ◌||◌, List, [], ◌∷◌}
+use Rattle.std.specs.Prelude.{length, Option, Some, None, option_and_then, nat_le, if◌then◌else◌}
 use Rattle.jl_ast.specs.declared.ops.BinOp.{BinOp}
 use Rattle.jl_ast.specs.declared.ops.UnOp.{UnOp}
 use Rattle.jl_ast.specs.Height.{program_height}
@@ -13,8 +14,11 @@ use Rattle.jl_token.specs.declared.token.Token.{Token}
 use Rattle.jl_grammar.specs.declared.sign.Sign.{Sign}
 use Rattle.jl_grammar.specs.declared.sign.Sign.TheVariants as signs
 use Rattle.jl_grammar.specs.declared.word.Word.TheVariants as words
-use Rattle.jl_grammar.specs.Next.{is_identifier, is_name, is_key, is_open_paren, is_open_brace, is_semicolon, is_comma, is_colon, is_question, is_equals, is_else, is_finally, ends_statement, ends_list, continues_left, is_directive, target_of}
-use Rattle.jl_grammar.specs.Operators.{Joint, joint, joined, looseness, continues, assign_operator, unary_operator, update_operator}
+use Rattle.jl_grammar.specs.Next.{is_identifier, is_name, is_key, is_open_paren, is_open_brace, is_semicolon}
+use Rattle.jl_grammar.specs.Next.{is_comma, is_colon, is_question, is_equals, is_else, is_finally, ends_statement}
+use Rattle.jl_grammar.specs.Next.{ends_list, continues_left, is_directive, target_of}
+use Rattle.jl_grammar.specs.Operators.{Joint, joint, joined, looseness, continues, assign_operator, unary_operator}
+use Rattle.jl_grammar.specs.Operators.{update_operator}
 use Rattle.jl_grammar.specs.Brackets.{opened}
 use Rattle.jl_grammar.specs.Program.{program_of}
 use Rattle.jl_grammar.specs.Reads.{Expr, Exprs, Stmt, Stmts, Code}
@@ -93,19 +97,20 @@ pub record Deeper : Type 0 where
 
 -- the place after a semicolon that is there or is inserted
 unfoldable pub ends_at : List Token → ℕ → Option ℕ
-ends_at ts i = if is_semicolon (sign_at ts i) then Some (suc i) else (if ends_statement (sign_at ts i) || line_at ts i then Some i else None)
+ends_at ts i = if is_semicolon (sign_at ts i) then Some (suc i) else
+    (if ends_statement (sign_at ts i) || line_at ts i then Some i else None)
 
 -- at most n names and the bracket after them
 unfoldable pub names_from : List Token → ℕ → ℕ → Read (List (Ident Span))
 names_from ts zero i = None
 names_from ts (suc n) i =
-  if is_identifier (sign_at ts i)
-  then (if is_close_paren (sign_at ts (suc i))
+    if is_identifier (sign_at ts i)
+    then (if is_close_paren (sign_at ts (suc i))
     then Some (ident_at ts i ∷ [], suc (suc i))
     else (if is_comma (sign_at ts (suc i))
-      then (names_from ts n (suc (suc i)) >>= λ r. Some (ident_at ts i ∷ r.0, r.1))
-      else None))
-  else None
+    then (names_from ts n (suc (suc i)) >>= λ r. Some (ident_at ts i ∷ r.0, r.1))
+    else None))
+    else None
 
 unfoldable pub parameters_at : List Token → ℕ → Read (List (Ident Span))
 parameters_at ts i = if is_close_paren (sign_at ts i) then Some ([], suc i) else names_from ts (length ts) i
@@ -113,9 +118,9 @@ parameters_at ts i = if is_close_paren (sign_at ts i) then Some ([], suc i) else
 -- the label of a `continue` or `break`, or none, and the end of the statement
 unfoldable pub label_at : List Token → ℕ → Read (Option (Ident Span))
 label_at ts i =
-  if is_identifier (sign_at ts i) && not (line_at ts i)
-  then (ends_at ts (suc i) >>= λ k. Some (Some (ident_at ts i), k))
-  else (ends_at ts i >>= λ k. Some (None, k))
+    if is_identifier (sign_at ts i) && not (line_at ts i)
+    then (ends_at ts (suc i) >>= λ k. Some (Some (ident_at ts i), k))
+    else (ends_at ts i >>= λ k. Some (None, k))
 
 module _ (ts : List Token) (d : Deeper) where
   -- an expression and the `)` after it
@@ -126,88 +131,99 @@ module _ (ts : List Token) (d : Deeper) where
   unfoldable pub statements_from : ℕ → ℕ → Read Stmts
   statements_from zero i = if ends_list (sign_at ts i) then Some (tree.end, i) else None
   statements_from (suc n) i =
-    if ends_list (sign_at ts i)
-    then Some (tree.end, i)
-    else (d.statement i >>= λ x. statements_from n x.1 >>= λ r. Some (tree.more x.0 r.0, r.1))
+      if ends_list (sign_at ts i)
+      then Some (tree.end, i)
+      else (d.statement i >>= λ x. statements_from n x.1 >>= λ r. Some (tree.more x.0 r.0, r.1))
 
   unfoldable pub block_at : ℕ → Read Stmts
   block_at i =
-    if is_open_brace (sign_at ts i)
-    then (statements_from (length ts) (suc i) >>= λ x. if is_close_brace (sign_at ts x.1) then Some (x.0, suc x.1) else None)
-    else None
+      if is_open_brace (sign_at ts i)
+      then (statements_from (length ts) (suc i) >>= λ x.
+      if is_close_brace (sign_at ts x.1) then Some (x.0, suc x.1) else None)
+      else None
 
   -- at most n function declarations and statements
   unfoldable pub elements_from : ℕ → ℕ → Read (Row Span tree.func × Stmts)
   elements_from zero i = if ends_list (sign_at ts i) then Some ((tree.end, tree.end), i) else None
   elements_from (suc n) i =
-    if ends_list (sign_at ts i)
-    then Some ((tree.end, tree.end), i)
-    else (if is_function (sign_at ts i)
+      if ends_list (sign_at ts i)
+      then Some ((tree.end, tree.end), i)
+      else (if is_function (sign_at ts i)
       then (if is_identifier (sign_at ts (suc i))
-        then (d.rest (suc (suc i)) >>= λ x. elements_from n x.1 >>= λ r.
-          Some ((tree.more (tree.function 0 (Some (ident_at ts (suc i))) x.0.0 x.0.1 (span ts i x.1)) r.0.0, r.0.1), r.1))
-        else None)
+      then (d.rest (suc (suc i)) >>= λ x. elements_from n x.1 >>= λ r.
+      Some (
+        (tree.more (tree.function 0 (Some (ident_at ts (suc i))) x.0.0 x.0.1 (span ts i x.1)) r.0.0, r.0.1),
+        r.1,
+      ))
+      else None)
       else (d.statement i >>= λ x. elements_from n x.1 >>= λ r. Some ((r.0.0, tree.more x.0 r.0.1), r.1)))
 
   -- at most n directives, and what follows them
   unfoldable pub body_from : ℕ → ℕ → Read Code
   body_from zero i =
-    if is_directive ts i then None else (elements_from (length ts) i >>= λ x. Some (tree.body false x.0.0 x.0.1, x.1))
+      if is_directive ts i then None else (elements_from (length ts) i >>= λ x. Some (tree.body false x.0.0 x.0.1, x.1))
   body_from (suc n) i =
-    if is_directive ts i
-    then (d.statement i >>= λ x. body_from n x.1 >>= λ r. Some (with_directive (strict_at ts i) x.0 r.0, r.1))
-    else (elements_from (length ts) i >>= λ x. Some (tree.body false x.0.0 x.0.1, x.1))
+      if is_directive ts i
+      then (d.statement i >>= λ x. body_from n x.1 >>= λ r. Some (with_directive (strict_at ts i) x.0 r.0, r.1))
+      else (elements_from (length ts) i >>= λ x. Some (tree.body false x.0.0 x.0.1, x.1))
 
   unfoldable pub rest_at : ℕ → Read (List (Ident Span) × Code)
   rest_at i =
-    if is_open_paren (sign_at ts i)
-    then (parameters_at ts (suc i) >>= λ p. if is_open_brace (sign_at ts p.1)
-      then (body_from (length ts) (suc p.1) >>= λ c. if is_close_brace (sign_at ts c.1) then Some ((p.0, c.0), suc c.1) else None)
+      if is_open_paren (sign_at ts i)
+      then (parameters_at ts (suc i) >>= λ p. if is_open_brace (sign_at ts p.1)
+      then (body_from (length ts) (suc p.1) >>= λ c.
+      if is_close_brace (sign_at ts c.1) then Some ((p.0, c.0), suc c.1) else None)
       else None)
-    else None
+      else None
 
   unfoldable pub function_at : ℕ → Read Expr
   function_at i =
-    if is_identifier (sign_at ts (suc i))
-    then (rest_at (suc (suc i)) >>= λ r.
-      Some (tree.function_expression (tree.function 0 (Some (ident_at ts (suc i))) r.0.0 r.0.1 (span ts i r.1)) (span ts i r.1), r.1))
-    else (rest_at (suc i) >>= λ r.
+      if is_identifier (sign_at ts (suc i))
+      then (rest_at (suc (suc i)) >>= λ r.
+      Some (
+        tree.function_expression (tree.function 0 (Some (ident_at ts (suc i))) r.0.0 r.0.1 (span ts i r.1))
+            (span ts i r.1),
+        r.1,
+      ))
+      else (rest_at (suc i) >>= λ r.
       Some (tree.function_expression (tree.function 0 None r.0.0 r.0.1 (span ts i r.1)) (span ts i r.1), r.1))
 
   -- at most n items of an array, and the `]` after them
   unfoldable pub items_from : ℕ → ℕ → Read (Row Span tree.item)
   items_from zero i = if is_close_bracket (sign_at ts i) then Some (tree.end, suc i) else None
   items_from (suc n) i =
-    if is_close_bracket (sign_at ts i)
-    then Some (tree.end, suc i)
-    else (if is_comma (sign_at ts i)
+      if is_close_bracket (sign_at ts i)
+      then Some (tree.end, suc i)
+      else (if is_comma (sign_at ts i)
       then (items_from n (suc i) >>= λ r. Some (tree.more tree.hole r.0, r.1))
       else (d.assignment false i >>= λ x. if is_close_bracket (sign_at ts x.1)
-        then Some (tree.more (tree.filled x.0) tree.end, suc x.1)
-        else (if is_comma (sign_at ts x.1)
-          then (items_from n (suc x.1) >>= λ r. Some (tree.more (tree.filled x.0) r.0, r.1))
-          else None)))
+      then Some (tree.more (tree.filled x.0) tree.end, suc x.1)
+      else (if is_comma (sign_at ts x.1)
+      then (items_from n (suc x.1) >>= λ r. Some (tree.more (tree.filled x.0) r.0, r.1))
+      else None)))
 
   unfoldable pub value_at : ℕ → Read (Tree Span tree.entry)
   value_at i =
-    if is_key (sign_at ts i) && is_colon (sign_at ts (suc i))
-    then (d.assignment false (suc (suc i)) >>= λ x. Some (tree.value (key_ident_at ts i) x.0, x.1))
-    else None
+      if is_key (sign_at ts i) && is_colon (sign_at ts (suc i))
+      then (d.assignment false (suc (suc i)) >>= λ x. Some (tree.value (key_ident_at ts i) x.0, x.1))
+      else None
 
   unfoldable pub getter_by : ℕ → List (Ident Span) → Code → ℕ → Read (Tree Span tree.entry)
   getter_by i [] c j = Some (tree.getter (key_ident_at ts (suc i)) (tree.function 0 None [] c (span ts i j)), j)
   getter_by i _ c j = None
 
   unfoldable pub setter_by : ℕ → List (Ident Span) → Code → ℕ → Read (Tree Span tree.entry)
-  setter_by i (p ∷ []) c j = Some (tree.setter (key_ident_at ts (suc i)) (tree.function 0 None (p ∷ []) c (span ts i j)), j)
+  setter_by i (p
+      ∷ []) c j = Some (tree.setter (key_ident_at ts (suc i)) (tree.function 0 None (p ∷ []) c (span ts i j)), j)
   setter_by i _ c j = None
 
   -- a property that begins with `get` or `set`
-  unfoldable pub accessor_at : (ℕ → List (Ident Span) → Code → ℕ → Read (Tree Span tree.entry)) → ℕ → Read (Tree Span tree.entry)
+  unfoldable pub accessor_at : (ℕ → List (Ident Span) → Code → ℕ → Read (Tree Span tree.entry)) → ℕ
+      → Read (Tree Span tree.entry)
   accessor_at by i =
-    if is_colon (sign_at ts (suc i))
-    then value_at i
-    else (if is_key (sign_at ts (suc i)) then (rest_at (suc (suc i)) >>= λ r. by i r.0.0 r.0.1 r.1) else None)
+      if is_colon (sign_at ts (suc i))
+      then value_at i
+      else (if is_key (sign_at ts (suc i)) then (rest_at (suc (suc i)) >>= λ r. by i r.0.0 r.0.1 r.1) else None)
 
   unfoldable pub entry_by : ℕ → Sign → Read (Tree Span tree.entry)
   entry_by i signs.Get = accessor_at getter_by i
@@ -221,13 +237,13 @@ module _ (ts : List Token) (d : Deeper) where
   unfoldable pub entries_from : ℕ → ℕ → Read (Row Span tree.entry)
   entries_from zero i = if is_close_brace (sign_at ts i) then Some (tree.end, suc i) else None
   entries_from (suc n) i =
-    if is_close_brace (sign_at ts i)
-    then Some (tree.end, suc i)
-    else (entry_at i >>= λ x. if is_close_brace (sign_at ts x.1)
+      if is_close_brace (sign_at ts i)
+      then Some (tree.end, suc i)
+      else (entry_at i >>= λ x. if is_close_brace (sign_at ts x.1)
       then Some (tree.more x.0 tree.end, suc x.1)
       else (if is_comma (sign_at ts x.1)
-        then (entries_from n (suc x.1) >>= λ r. Some (tree.more x.0 r.0, r.1))
-        else None))
+      then (entries_from n (suc x.1) >>= λ r. Some (tree.more x.0 r.0, r.1))
+      else None))
 
   unfoldable pub primary_by : ℕ → Sign → Read Expr
   primary_by i (signs.Word words.This) = Some (tree.this (span ts i (suc i)), suc i)
@@ -239,8 +255,10 @@ module _ (ts : List Token) (d : Deeper) where
   primary_by i (signs.Word words.False) = Some (tree.boolean false (span ts i (suc i)), suc i)
   primary_by i signs.Number = Some (tree.number (number_at ts i) (span ts i (suc i)), suc i)
   primary_by i signs.Str = Some (tree.string (text_at ts i) (span ts i (suc i)), suc i)
-  primary_by i (signs.Punct puncts.LeftBracket) = items_from (length ts) (suc i) >>= λ x. Some (tree.array x.0 (span ts i x.1), x.1)
-  primary_by i (signs.Punct puncts.LeftBrace) = entries_from (length ts) (suc i) >>= λ x. Some (tree.object x.0 (span ts i x.1), x.1)
+  primary_by i (signs.Punct puncts.LeftBracket) = items_from (length ts) (suc i) >>= λ x.
+      Some (tree.array x.0 (span ts i x.1), x.1)
+  primary_by i (signs.Punct puncts.LeftBrace) = entries_from (length ts) (suc i) >>= λ x.
+      Some (tree.object x.0 (span ts i x.1), x.1)
   primary_by i (signs.Punct puncts.LeftParen) = d.expression false (suc i) >>= closed
   primary_by i (signs.Word words.Function) = function_at i
   primary_by i _ = None
@@ -252,9 +270,9 @@ module _ (ts : List Token) (d : Deeper) where
   unfoldable pub arguments_from : ℕ → ℕ → Read Exprs
   arguments_from zero i = None
   arguments_from (suc n) i = d.assignment false i >>= λ x.
-    if is_close_paren (sign_at ts x.1)
-    then Some (tree.more x.0 tree.end, suc x.1)
-    else (if is_comma (sign_at ts x.1)
+      if is_close_paren (sign_at ts x.1)
+      then Some (tree.more x.0 tree.end, suc x.1)
+      else (if is_comma (sign_at ts x.1)
       then (arguments_from n (suc x.1) >>= λ r. Some (tree.more x.0 r.0, r.1))
       else None)
 
@@ -263,19 +281,21 @@ module _ (ts : List Token) (d : Deeper) where
 
   unfoldable pub new_at : ℕ → Read Expr
   new_at i = d.member (suc i) >>= λ x.
-    if is_open_paren (sign_at ts x.1)
-    then (arguments_at (suc x.1) >>= λ a. Some (tree.new x.0 a.0 (span ts i a.1), a.1))
-    else Some (tree.new x.0 tree.end (span ts i x.1), x.1)
+      if is_open_paren (sign_at ts x.1)
+      then (arguments_at (suc x.1) >>= λ a. Some (tree.new x.0 a.0 (span ts i a.1), a.1))
+      else Some (tree.new x.0 tree.end (span ts i x.1), x.1)
 
   unfoldable pub start_at : ℕ → Read Expr
   start_at i = if is_new (sign_at ts i) then new_at i else primary_at i
 
   unfoldable pub left_by : Bool → (Expr → ℕ → Read Expr) → ℕ → Expr → ℕ → Sign → Read Expr
   left_by calls go i t j (signs.Punct puncts.Dot) =
-    if is_name (sign_at ts (suc j)) then go (tree.dot t (text_at ts (suc j)) (span ts i (suc (suc j)))) (suc (suc j)) else None
+      if is_name (sign_at ts (suc j)) then go (tree.dot t (text_at ts (suc j)) (span ts i (suc (suc j))))
+      (suc (suc j)) else None
   left_by calls go i t j (signs.Punct puncts.LeftBracket) = d.expression false (suc j) >>= λ x.
-    if is_close_bracket (sign_at ts x.1) then go (tree.index t x.0 (span ts i (suc x.1))) (suc x.1) else None
-  left_by true go i t j (signs.Punct puncts.LeftParen) = arguments_at (suc j) >>= λ x. go (tree.call t x.0 (span ts i x.1)) x.1
+      if is_close_bracket (sign_at ts x.1) then go (tree.index t x.0 (span ts i (suc x.1))) (suc x.1) else None
+  left_by true go i t j (signs.Punct puncts.LeftParen) = arguments_at (suc j) >>= λ x.
+      go (tree.call t x.0 (span ts i x.1)) x.1
   left_by calls go i t j _ = Some (t, j)
 
   -- goes on with a left-hand side that began at i, with at most n more parts
@@ -296,7 +316,7 @@ module _ (ts : List Token) (d : Deeper) where
   unfoldable pub unary_by : ℕ → ℕ → Option UnOp → Option Bool → Read Expr
   unary_by n i (Some op) up = d.unary (suc i) >>= λ x. Some (tree.unary op x.0 (span ts i x.1), x.1)
   unary_by n i None (Some up) =
-    left_at true n (suc i) >>= λ x. target_of x.0 >>= λ g. Some (tree.update up true g (span ts i x.1), x.1)
+      left_at true n (suc i) >>= λ x. target_of x.0 >>= λ g. Some (tree.update up true g (span ts i x.1), x.1)
   unary_by n i None None = postfix_at n i
 
   unfoldable pub unary_at : ℕ → ℕ → Read Expr
@@ -305,9 +325,9 @@ module _ (ts : List Token) (d : Deeper) where
   unfoldable pub binary_by : Bool → (Expr → ℕ → Read Expr) → ℕ → ℕ → Expr → ℕ → Option Joint → Read Expr
   binary_by no_in go m i t j None = Some (t, j)
   binary_by no_in go m i t j (Some op) =
-    if nat_le (looseness op) m
-    then (d.binary no_in (pred (looseness op)) (suc j) >>= λ x. go (joined op t x.0 (span ts i x.1)) x.1)
-    else Some (t, j)
+      if nat_le (looseness op) m
+      then (d.binary no_in (pred (looseness op)) (suc j) >>= λ x. go (joined op t x.0 (span ts i x.1)) x.1)
+      else Some (t, j)
 
   -- goes on with joints as loose as m, with at most n more operands
   unfoldable pub binary_from : Bool → ℕ → ℕ → ℕ → Expr → ℕ → Read Expr
@@ -319,12 +339,12 @@ module _ (ts : List Token) (d : Deeper) where
 
   unfoldable pub conditional_from : Bool → ℕ → Expr × ℕ → Read Expr
   conditional_from no_in i x =
-    if is_question (sign_at ts x.1)
-    then (d.assignment false (suc x.1) >>= λ a.
+      if is_question (sign_at ts x.1)
+      then (d.assignment false (suc x.1) >>= λ a.
       if is_colon (sign_at ts a.1)
       then (d.assignment no_in (suc a.1) >>= λ b. Some (tree.conditional x.0 a.0 b.0 (span ts i b.1), b.1))
       else None)
-    else Some x
+      else Some x
 
   unfoldable pub conditional_at : Bool → ℕ → ℕ → Read Expr
   conditional_at no_in n i = binary_at no_in n 10 i >>= conditional_from no_in i
@@ -332,18 +352,19 @@ module _ (ts : List Token) (d : Deeper) where
   unfoldable pub assignment_by : Bool → ℕ → Expr → ℕ → Option (Option BinOp) → Read Expr
   assignment_by no_in i t j None = Some (t, j)
   assignment_by no_in i t j (Some op) =
-    target_of t >>= λ g. d.assignment no_in (suc j) >>= λ v. Some (tree.assign op g v.0 (span ts i v.1), v.1)
+      target_of t >>= λ g. d.assignment no_in (suc j) >>= λ v. Some (tree.assign op g v.0 (span ts i v.1), v.1)
 
   unfoldable pub assignment_at : Bool → ℕ → ℕ → Read Expr
-  assignment_at no_in n i = conditional_at no_in n i >>= λ x. assignment_by no_in i x.0 x.1 (assign_operator (sign_at ts x.1))
+  assignment_at no_in n i = conditional_at no_in n i >>= λ x.
+      assignment_by no_in i x.0 x.1 (assign_operator (sign_at ts x.1))
 
   -- goes on with commas, at most n of them
   unfoldable pub comma_from : Bool → ℕ → ℕ → Expr → ℕ → Read Expr
   comma_from no_in zero i t j = if is_comma (sign_at ts j) then None else Some (t, j)
   comma_from no_in (suc n) i t j =
-    if is_comma (sign_at ts j)
-    then (d.assignment no_in (suc j) >>= λ x. comma_from no_in n i (tree.comma t x.0 (span ts i x.1)) x.1)
-    else Some (t, j)
+      if is_comma (sign_at ts j)
+      then (d.assignment no_in (suc j) >>= λ x. comma_from no_in n i (tree.comma t x.0 (span ts i x.1)) x.1)
+      else Some (t, j)
 
   unfoldable pub expression_at : Bool → ℕ → ℕ → Read Expr
   expression_at no_in n i = assignment_at no_in n i >>= λ x. comma_from no_in n i x.0 x.1
@@ -352,87 +373,90 @@ module _ (ts : List Token) (d : Deeper) where
   head_at i = if is_open_paren (sign_at ts i) then (d.expression false (suc i) >>= closed) else None
 
   unfoldable pub sub_at : ℕ → Read Stmts
-  sub_at i = if is_open_brace (sign_at ts i) then block_at i else (d.statement i >>= λ x. Some (tree.more x.0 tree.end, x.1))
+  sub_at i = if is_open_brace (sign_at ts i) then block_at i else
+      (d.statement i >>= λ x. Some (tree.more x.0 tree.end, x.1))
 
   unfoldable pub declaration_at : Bool → ℕ → Read (Tree Span tree.decl)
   declaration_at no_in i =
-    if is_identifier (sign_at ts i)
-    then (if is_equals (sign_at ts (suc i))
+      if is_identifier (sign_at ts i)
+      then (if is_equals (sign_at ts (suc i))
       then (d.assignment no_in (suc (suc i)) >>= λ x. Some (tree.declarator (ident_at ts i) (tree.present x.0), x.1))
       else Some (tree.declarator (ident_at ts i) tree.absent, suc i))
-    else None
+      else None
 
   -- at most n declarations
   unfoldable pub declarations_from : Bool → ℕ → ℕ → Read (Row Span tree.decl)
   declarations_from no_in zero i = None
   declarations_from no_in (suc n) i = declaration_at no_in i >>= λ x.
-    if is_comma (sign_at ts x.1)
-    then (declarations_from no_in n (suc x.1) >>= λ r. Some (tree.more x.0 r.0, r.1))
-    else Some (tree.more x.0 tree.end, x.1)
+      if is_comma (sign_at ts x.1)
+      then (declarations_from no_in n (suc x.1) >>= λ r. Some (tree.more x.0 r.0, r.1))
+      else Some (tree.more x.0 tree.end, x.1)
 
   unfoldable pub var_at : ℕ → Read Stmt
-  var_at i = declarations_from false (length ts) (suc i) >>= λ x. ends_at ts x.1 >>= λ k. Some (tree.var x.0 (span ts i k), k)
+  var_at i = declarations_from false (length ts) (suc i) >>= λ x. ends_at ts x.1 >>= λ k.
+      Some (tree.var x.0 (span ts i k), k)
 
   unfoldable pub express_at : ℕ → Read Stmt
   express_at i = d.expression false i >>= λ x. ends_at ts x.1 >>= λ k. Some (tree.expression x.0 (span ts i k), k)
 
   unfoldable pub else_from : ℕ → Expr → Stmts × ℕ → Read Stmt
   else_from i t x =
-    if is_else (sign_at ts x.1)
-    then (sub_at (suc x.1) >>= λ y. Some (tree.when t x.0 (tree.present (tree.branch_of y.0)) (span ts i y.1), y.1))
-    else Some (tree.when t x.0 tree.absent (span ts i x.1), x.1)
+      if is_else (sign_at ts x.1)
+      then (sub_at (suc x.1) >>= λ y. Some (tree.when t x.0 (tree.present (tree.branch_of y.0)) (span ts i y.1), y.1))
+      else Some (tree.when t x.0 tree.absent (span ts i x.1), x.1)
 
   unfoldable pub if_at : ℕ → Read Stmt
   if_at i = head_at (suc i) >>= λ t. sub_at t.1 >>= else_from i t.0
 
   unfoldable pub do_at : ℕ → Read Stmt
   do_at i = sub_at (suc i) >>= λ x.
-    if is_while (sign_at ts x.1)
-    then (head_at (suc x.1) >>= λ t. ends_at ts t.1 >>= λ k. Some (tree.do_while x.0 t.0 (span ts i k), k))
-    else None
+      if is_while (sign_at ts x.1)
+      then (head_at (suc x.1) >>= λ t. ends_at ts t.1 >>= λ k. Some (tree.do_while x.0 t.0 (span ts i k), k))
+      else None
 
   unfoldable pub while_at : ℕ → Read Stmt
   while_at i = head_at (suc i) >>= λ t. sub_at t.1 >>= λ x. Some (tree.while t.0 x.0 (span ts i x.1), x.1)
 
   -- an expression, or none before a token that passes the test
   unfoldable pub maybe_at : (Sign → Bool) → ℕ → Read (Maybe Span tree.expr)
-  maybe_at ends i = if ends (sign_at ts i) then Some (tree.absent, i) else (d.expression false i >>= λ x. Some (tree.present x.0, x.1))
+  maybe_at ends i = if ends (sign_at ts i) then Some (tree.absent, i) else
+      (d.expression false i >>= λ x. Some (tree.present x.0, x.1))
 
   -- a `for` from its first semicolon on
   unfoldable pub for_from : ℕ → Tree Span tree.init × ℕ → Read Stmt
   for_from i a =
-    if is_semicolon (sign_at ts a.1)
-    then (maybe_at is_semicolon (suc a.1) >>= λ b. if is_semicolon (sign_at ts b.1)
+      if is_semicolon (sign_at ts a.1)
+      then (maybe_at is_semicolon (suc a.1) >>= λ b. if is_semicolon (sign_at ts b.1)
       then (maybe_at is_close_paren (suc b.1) >>= λ c. if is_close_paren (sign_at ts c.1)
-        then (sub_at (suc c.1) >>= λ x. Some (tree.for a.0 b.0 c.0 x.0 (span ts i x.1), x.1))
-        else None)
+      then (sub_at (suc c.1) >>= λ x. Some (tree.for a.0 b.0 c.0 x.0 (span ts i x.1), x.1))
       else None)
-    else None
+      else None)
+      else None
 
   -- a `for` after its `in`
   unfoldable pub for_in_from : ℕ → Bool → Ident Span → ℕ → Read Stmt
   for_in_from i is_var x j = d.expression false j >>= λ t. if is_close_paren (sign_at ts t.1)
-    then (sub_at (suc t.1) >>= λ w. Some (tree.for_in is_var x t.0 w.0 (span ts i w.1), w.1))
-    else None
+      then (sub_at (suc t.1) >>= λ w. Some (tree.for_in is_var x t.0 w.0 (span ts i w.1), w.1))
+      else None
 
   unfoldable pub for_var_at : ℕ → Read Stmt
   for_var_at i =
-    if is_identifier (sign_at ts (suc (suc (suc i)))) && is_in (sign_at ts (suc (suc (suc (suc i)))))
-    then for_in_from i true (ident_at ts (suc (suc (suc i)))) (suc (suc (suc (suc (suc i)))))
-    else (declarations_from true (length ts) (suc (suc (suc i))) >>= λ x. for_from i (tree.init_var x.0, x.1))
+      if is_identifier (sign_at ts (suc (suc (suc i)))) && is_in (sign_at ts (suc (suc (suc (suc i)))))
+      then for_in_from i true (ident_at ts (suc (suc (suc i)))) (suc (suc (suc (suc (suc i)))))
+      else (declarations_from true (length ts) (suc (suc (suc i))) >>= λ x. for_from i (tree.init_var x.0, x.1))
 
   unfoldable pub for_expression_at : ℕ → Read Stmt
   for_expression_at i = d.expression true (suc (suc i)) >>= λ x. if is_in (sign_at ts x.1)
-    then (name_of x.0 >>= λ n. for_in_from i false n (suc x.1))
-    else for_from i (tree.init_expression x.0, x.1)
+      then (name_of x.0 >>= λ n. for_in_from i false n (suc x.1))
+      else for_from i (tree.init_expression x.0, x.1)
 
   unfoldable pub for_at : ℕ → Read Stmt
   for_at i =
-    if is_open_paren (sign_at ts (suc i))
-    then (if is_semicolon (sign_at ts (suc (suc i)))
+      if is_open_paren (sign_at ts (suc i))
+      then (if is_semicolon (sign_at ts (suc (suc i)))
       then for_from i (tree.nothing, suc (suc i))
       else (if is_var (sign_at ts (suc (suc i))) then for_var_at i else for_expression_at i))
-    else None
+      else None
 
   unfoldable pub continue_at : ℕ → Read Stmt
   continue_at i = label_at ts (suc i) >>= λ x. Some (tree.continue x.0 (span ts i x.1), x.1)
@@ -442,64 +466,74 @@ module _ (ts : List Token) (d : Deeper) where
 
   unfoldable pub return_by : ℕ → Option ℕ → Read Stmt
   return_by i (Some k) = Some (tree.return tree.absent (span ts i k), k)
-  return_by i None = d.expression false (suc i) >>= λ x. ends_at ts x.1 >>= λ k. Some (tree.return (tree.present x.0) (span ts i k), k)
+  return_by i None = d.expression false (suc i) >>= λ x. ends_at ts x.1 >>= λ k.
+      Some (tree.return (tree.present x.0) (span ts i k), k)
 
   unfoldable pub return_at : ℕ → Read Stmt
   return_at i = return_by i (ends_at ts (suc i))
 
   unfoldable pub throw_at : ℕ → Read Stmt
   throw_at i =
-    if line_at ts (suc i)
-    then None
-    else (d.expression false (suc i) >>= λ x. ends_at ts x.1 >>= λ k. Some (tree.throw x.0 (span ts i k), k))
+      if line_at ts (suc i)
+      then None
+      else (d.expression false (suc i) >>= λ x. ends_at ts x.1 >>= λ k. Some (tree.throw x.0 (span ts i k), k))
 
   -- at most n clauses of a `switch`, with one default or, with false, none
   unfoldable pub clauses_from : ℕ → Bool → ℕ → Read (Row Span tree.clause)
   clauses_from zero fresh i = if is_close_brace (sign_at ts i) then Some (tree.end, i) else None
   clauses_from (suc n) fresh i =
-    if is_close_brace (sign_at ts i)
-    then Some (tree.end, i)
-    else (if is_case (sign_at ts i)
+      if is_close_brace (sign_at ts i)
+      then Some (tree.end, i)
+      else (if is_case (sign_at ts i)
       then (d.expression false (suc i) >>= λ t. if is_colon (sign_at ts t.1)
-        then (statements_from (length ts) (suc t.1) >>= λ x. clauses_from n fresh x.1 >>= λ r.
-          Some (tree.more (tree.case (tree.present t.0) x.0) r.0, r.1))
-        else None)
+      then (statements_from (length ts) (suc t.1) >>= λ x. clauses_from n fresh x.1 >>= λ r.
+      Some (tree.more (tree.case (tree.present t.0) x.0) r.0, r.1))
+      else None)
       else (if is_default (sign_at ts i) && (fresh && is_colon (sign_at ts (suc i)))
-        then (statements_from (length ts) (suc (suc i)) >>= λ x. clauses_from n false x.1 >>= λ r.
-          Some (tree.more (tree.case tree.absent x.0) r.0, r.1))
-        else None))
+      then (statements_from (length ts) (suc (suc i)) >>= λ x. clauses_from n false x.1 >>= λ r.
+      Some (tree.more (tree.case tree.absent x.0) r.0, r.1))
+      else None))
 
   unfoldable pub switch_at : ℕ → Read Stmt
   switch_at i = head_at (suc i) >>= λ t. if is_open_brace (sign_at ts t.1)
-    then (clauses_from (length ts) true (suc t.1) >>= λ c.
+      then (clauses_from (length ts) true (suc t.1) >>= λ c.
       if is_close_brace (sign_at ts c.1) then Some (tree.switch t.0 c.0 (span ts i (suc c.1)), suc c.1) else None)
-    else None
+      else None
 
   unfoldable pub catch_at : ℕ → Read (Tree Span tree.handler)
   catch_at i =
-    if is_open_paren (sign_at ts (suc i)) && (is_identifier (sign_at ts (suc (suc i))) && is_close_paren (sign_at ts (suc (suc (suc i)))))
-    then (block_at (suc (suc (suc (suc i)))) >>= λ x. Some (tree.catch (ident_at ts (suc (suc i))) x.0, x.1))
-    else None
+      if is_open_paren (sign_at ts (suc i)) &&
+      (is_identifier (sign_at ts (suc (suc i))) && is_close_paren (sign_at ts (suc (suc (suc i)))))
+      then (block_at (suc (suc (suc (suc i)))) >>= λ x. Some (tree.catch (ident_at ts (suc (suc i))) x.0, x.1))
+      else None
 
   unfoldable pub finally_from : ℕ → Stmts → Tree Span tree.handler × ℕ → Read Stmt
   finally_from i ws h =
-    if is_finally (sign_at ts h.1)
-    then (block_at (suc h.1) >>= λ u. Some (tree.try ws (tree.present h.0) (tree.present (tree.branch_of u.0)) (span ts i u.1), u.1))
-    else Some (tree.try ws (tree.present h.0) tree.absent (span ts i h.1), h.1)
+      if is_finally (sign_at ts h.1)
+      then (block_at (suc h.1) >>= λ u. Some (
+        tree.try ws (tree.present h.0) (tree.present (tree.branch_of u.0))
+            (span ts i u.1),
+        u.1,
+      ))
+      else Some (tree.try ws (tree.present h.0) tree.absent (span ts i h.1), h.1)
 
   unfoldable pub try_at : ℕ → Read Stmt
   try_at i = block_at (suc i) >>= λ x. if is_catch (sign_at ts x.1)
-    then (catch_at x.1 >>= finally_from i x.0)
-    else (if is_finally (sign_at ts x.1)
-      then (block_at (suc x.1) >>= λ u. Some (tree.try x.0 tree.absent (tree.present (tree.branch_of u.0)) (span ts i u.1), u.1))
+      then (catch_at x.1 >>= finally_from i x.0)
+      else (if is_finally (sign_at ts x.1)
+      then (block_at (suc x.1) >>= λ u. Some (
+        tree.try x.0 tree.absent (tree.present (tree.branch_of u.0))
+            (span ts i u.1),
+        u.1,
+      ))
       else None)
 
   -- a statement that begins with an identifier
   unfoldable pub named_at : ℕ → Read Stmt
   named_at i =
-    if is_colon (sign_at ts (suc i))
-    then (d.statement (suc (suc i)) >>= λ w. Some (tree.labelled (ident_at ts i) w.0 (span ts i w.1), w.1))
-    else express_at i
+      if is_colon (sign_at ts (suc i))
+      then (d.statement (suc (suc i)) >>= λ w. Some (tree.labelled (ident_at ts i) w.0 (span ts i w.1), w.1))
+      else express_at i
 
   unfoldable pub statement_by : ℕ → Sign → Read Stmt
   statement_by i (signs.Punct puncts.LeftBrace) = block_at i >>= λ x. Some (tree.block x.0 (span ts i x.1), x.1)
@@ -553,7 +587,8 @@ is_shallow ts most (suc n) = nat_le (opened ts (suc n)) most && is_shallow ts mo
 -- the program that the tokens are, if they are one within the limit
 unfoldable pub program_at : List Token → ℕ → Option (Program Span)
 program_at ts limit =
-  if is_shallow ts (2 * limit) (length ts)
-  then (body_from ts (deeper ts (3 * limit)) (length ts) 0 >>= λ x.
-    if nat_eq x.1 (length ts) && nat_le (program_height (program_of ts x.0)) limit then Some (program_of ts x.0) else None)
-  else None
+    if is_shallow ts (2 * limit) (length ts)
+    then (body_from ts (deeper ts (3 * limit)) (length ts) 0 >>= λ x.
+    if nat_eq x.1 (length ts) && nat_le (program_height (program_of ts x.0)) limit then Some
+    (program_of ts x.0) else None)
+    else None

@@ -1,18 +1,17 @@
 -- What the grammar sees of a token (clause 7).
 use Rattle.std.specs.Prelude.{Bool, true, false, Option, Some, None, codes, if◌then◌else◌}
 use Rattle.jl_ast.specs.Tree.{Text}
-use Rattle.jl_token.specs.declared.punct.Punct.TheVariants as puncts
 use Rattle.jl_token.specs.declared.token.TokenKind.{TokenKind}
 use Rattle.jl_token.specs.declared.token.TokenKind.TheVariants as kinds
 use Rattle.jl_grammar.specs.declared.sign.Sign.{Sign}
 use Rattle.jl_grammar.specs.declared.sign.Sign.TheVariants as signs
 use Rattle.jl_grammar.specs.declared.word.Word.{Word}
-use Rattle.jl_grammar.specs.declared.word.Word.TheVariants as words
 use Rattle.jl_grammar.specs.Words.{same_text, word_of}
 
 abbrev unreserved : Bool → Text → Sign
 unreserved true t = signs.Identifier
-unreserved false t = if same_text (codes "get") t then signs.Get else if same_text (codes "set") t then signs.Set else signs.Identifier
+unreserved false t = if same_text (codes "get") t then signs.Get else if same_text
+    (codes "set") t then signs.Set else signs.Identifier
 
 abbrev reserved : Option Word → Bool → Text → Sign
 reserved (Some w) true t = signs.EscapedWord

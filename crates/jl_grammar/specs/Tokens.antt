@@ -1,6 +1,7 @@
 -- The tokens at the places of a list, counted from 0.
-use Rattle.std.specs.Prelude.{◌≡◌, ℕ, zero, suc, Bool, true, false, ◌&&◌, List, [], ◌∷◌, Option, Some, None, codes, decimal, nat_abs}
+use Rattle.std.specs.Prelude.{◌≡◌, ℕ, zero, suc, Bool, true, false, ◌&&◌, List, [], ◌∷◌, None, codes}
 use Rattle.jl_ast.specs.Tree.{Ident, Text}
+use Rattle.jl_num.specs.Digits.{number_text}
 use Rattle.jl_num.specs.Number.{Number}
 use Rattle.jl_text.specs.declared.span.Span.{Span}
 use Rattle.jl_token.specs.declared.token.Token.{Token}
@@ -54,7 +55,7 @@ number_at (t ∷ ts) (suc i) = number_at ts i
 
 -- the key that a token is (11.1.5): a number stands for its digits (9.8.1)
 abbrev key_of : TokenKind → Text
-key_of (kinds.Number (Some z)) = decimal (nat_abs z)
+key_of (kinds.Number n) = number_text n 10
 key_of k = text_of k
 
 abbrev pub key_at : List Token → ℕ → Text

@@ -1,6 +1,7 @@
 //! The grammar of scripts (clauses 11 to 14): its tables, and what a list of tokens reads as.
 #![tactic(auto)]
 
+pub mod laws;
 mod operators;
 mod sign;
 mod word;

@@ -47,8 +47,8 @@ fn binary_punct(punct: Punct) -> Option<BinOp>
     }
 }
 
-/// The assignment operator (11.13) that a token is, by the operation that it does: `Some(None)` is `=`. None where it is no
-/// assignment operator.
+/// The assignment operator (11.13) that a token is, by the operation that it does: `Some(None)` is `=`. None where it
+/// is no assignment operator.
 pub fn assign_op(kind: &TokenKind) -> Option<Option<BinOp>>
     ensures { result ≡ assign_operator (sign_of kind.now) }
 {

@@ -1,0 +1,117 @@
+-- Heights of what is read, and what is read with a level more.
+use Rattle.std.proofs.Common.{◌≡◌, ℕ, zero, suc, ◌+◌, ◌≤◌, ◌<◌, max, Bool, true, false, not, ◌&&◌, ap, ◌∙◌, refl}
+use Rattle.std.proofs.Common.{arith}
+use Rattle.std.specs.Prelude.{List, Option, Some}
+use Rattle.jl_ast.specs.Height.{height}
+use Rattle.jl_ast.specs.declared.ops.BinOp.{BinOp}
+use Rattle.jl_ast.specs.Tree.{Ident, Tree}
+use Rattle.jl_ast.specs.Tree as tree
+use Rattle.jl_text.specs.declared.span.Span.{Span}
+use Rattle.jl_token.specs.declared.token.Token.{Token}
+use Rattle.jl_grammar.specs.declared.word.Word.TheVariants as words
+use Rattle.jl_grammar.specs.Next.{keyword, is_question, is_comma, updates_at, target_of}
+use Rattle.jl_grammar.specs.Operators.{Joint, plain, both, either, joined, continues, assigns, updates}
+use Rattle.jl_grammar.specs.Reads.{Expr, Stmt, Code, AssignsAt, IsTarget}
+use Rattle.jl_grammar.specs.Reader.{Read, Deeper, deeper, expression_at, assignment_at, unary_at, binary_at}
+use Rattle.jl_grammar.specs.Reader.{conditional_at, left_at, statement_at, rest_at}
+use Rattle.jl_grammar.specs.Tokens.{At, sign_at, line_at}
+use Rattle.jl_grammar.proofs.Expressions.{no_postfix_step, no_prefix_step, binary_step, binary_stop}
+use Rattle.jl_grammar.proofs.Expressions.{no_question_step, no_assign_step, expression_step, comma_stop}
+use Rattle.jl_grammar.proofs.Starts.{begins_left, left_is_no_prefix, left_is_no_update, assign_updates_not}
+use Rattle.jl_grammar.proofs.Starts.{assign_is_no_question, assign_joins_not}
+
+pub function_pos : (t : Tree Span tree.func) → 1 ≤ height t
+function_pos (tree.function n x ps c s) = omega arith
+
+pub height_pos : (t : Expr) → 1 ≤ height t
+height_pos (tree.function_expression t s) = function_pos t
+height_pos (tree.name x s) = omega arith
+height_pos _ = omega arith
+
+pub statement_pos : (t : Stmt) → 1 ≤ height t
+statement_pos (tree.empty s) = omega arith
+statement_pos _ = omega arith
+
+pub joined_height : (op : Joint) (a b : Expr) (s : Span) → height (joined op a b s) ≡ max (height a) (height b) + 1
+joined_height (plain op) a b s = refl
+joined_height both a b s = refl
+joined_height either a b s = refl
+
+-- an expression that may be assigned to is no higher than one more than the target
+pub target_height : (t : Expr) (g : Tree Span tree.target) → IsTarget t g → height t ≤ height g + 1
+target_height t g h = of_target t g h.is
+  where
+    same : (a b : Tree Span tree.target) → Some a ≡ Some b → height a ≡ height b
+    same a b e = cc
+
+    of_target : (t : Expr) (g : Tree Span tree.target) → target_of t ≡ Some g → height t ≤ height g + 1
+    of_target (tree.name x s) g e = omega arith
+    of_target (tree.dot a x s) g e = let q = same (tree.to_dot a x s) g e in omega arith
+    of_target (tree.index a b s) g e = let q = same (tree.to_index a b s) g e in omega arith
+    of_target _ g e = cc
+
+-- a left-hand side before an assignment operator is a whole conditional expression
+pub left_conditional : (ts : List Token) (d : Deeper) (no_in : Bool) (n i j : ℕ) (t : Expr) (op : Option BinOp)
+    → begins_left (sign_at ts i) ≡ true → left_at ts d true n i ≡ Some (t, j) → AssignsAt ts j op
+    → conditional_at ts d no_in n i ≡ Some (t, j)
+left_conditional ts d no_in n i j t op b h e =
+    let u : updates_at ts j ≡ false = ap (λ x. x && not (line_at ts j)) (assign_updates_not (sign_at ts j) op e.is) in
+    let p = no_prefix_step ts d n i j t (left_is_no_prefix (sign_at ts i) b) (left_is_no_update (sign_at ts i) b)
+    (no_postfix_step ts d n i j t h u) in
+    no_question_step ts d no_in n i j t (binary_step ts d no_in n 10 i j t p
+    ∙ binary_stop ts d no_in n 10 i j t (assign_joins_not no_in (sign_at ts j) op e.is))
+    (assign_is_no_question (sign_at ts j) op e.is)
+
+-- a left-hand side before an `in` that is no operator is a whole expression
+pub left_expression : (ts : List Token) (d : Deeper) (n i j : ℕ) (t : Expr) → begins_left (sign_at ts i) ≡ true
+    → left_at ts d true n i ≡ Some (t, j) → At ts j (keyword words.In) → expression_at ts d true n i ≡ Some (t, j)
+left_expression ts d n i j t b h e =
+    let u : updates_at ts j ≡ false = ap (λ k. updates k && not (line_at ts j)) e.is in
+    let p = no_prefix_step ts d n i j t (left_is_no_prefix (sign_at ts i) b) (left_is_no_update (sign_at ts i) b)
+    (no_postfix_step ts d n i j t h u) in
+    let q = no_question_step ts d true n i j t (binary_step ts d true n 10 i j t p
+    ∙ binary_stop ts d true n 10 i j t (ap (continues true 10) e.is)) (ap is_question e.is) in
+    expression_step ts d true n i j t (no_assign_step ts d true n i j t q (ap assigns e.is))
+    ∙ comma_stop ts d true n i j t (ap is_comma e.is)
+
+pub deeper_expression : (ts : List Token) (f : ℕ) (no_in : Bool) (i : ℕ) (r : Read Expr) → 0 < f
+    → ((g : ℕ) → f ≡ suc g → expression_at ts (deeper ts g) no_in g i ≡ r) → (deeper ts f).expression no_in i ≡ r
+unfolding deeper
+deeper_expression ts zero no_in i r p h = absurd (omega arith)
+deeper_expression ts (suc g) no_in i r p h = h g refl
+
+pub deeper_assignment : (ts : List Token) (f : ℕ) (no_in : Bool) (i : ℕ) (r : Read Expr) → 0 < f
+    → ((g : ℕ) → f ≡ suc g → assignment_at ts (deeper ts g) no_in g i ≡ r) → (deeper ts f).assignment no_in i ≡ r
+unfolding deeper
+deeper_assignment ts zero no_in i r p h = absurd (omega arith)
+deeper_assignment ts (suc g) no_in i r p h = h g refl
+
+pub deeper_unary : (ts : List Token) (f i : ℕ) (r : Read Expr) → 0 < f
+    → ((g : ℕ) → f ≡ suc g → unary_at ts (deeper ts g) g i ≡ r) → (deeper ts f).unary i ≡ r
+unfolding deeper
+deeper_unary ts zero i r p h = absurd (omega arith)
+deeper_unary ts (suc g) i r p h = h g refl
+
+pub deeper_binary : (ts : List Token) (f : ℕ) (no_in : Bool) (m i : ℕ) (r : Read Expr) → 0 < f
+    → ((g : ℕ) → f ≡ suc g → binary_at ts (deeper ts g) no_in g m i ≡ r) → (deeper ts f).binary no_in m i ≡ r
+unfolding deeper
+deeper_binary ts zero no_in m i r p h = absurd (omega arith)
+deeper_binary ts (suc g) no_in m i r p h = h g refl
+
+pub deeper_member : (ts : List Token) (f i : ℕ) (r : Read Expr) → 0 < f
+    → ((g : ℕ) → f ≡ suc g → left_at ts (deeper ts g) false g i ≡ r) → (deeper ts f).member i ≡ r
+unfolding deeper
+deeper_member ts zero i r p h = absurd (omega arith)
+deeper_member ts (suc g) i r p h = h g refl
+
+pub deeper_statement : (ts : List Token) (f i : ℕ) (r : Read Stmt) → 0 < f
+    → ((g : ℕ) → f ≡ suc g → statement_at ts (deeper ts g) i ≡ r) → (deeper ts f).statement i ≡ r
+unfolding deeper
+deeper_statement ts zero i r p h = absurd (omega arith)
+deeper_statement ts (suc g) i r p h = h g refl
+
+pub deeper_rest : (ts : List Token) (f i : ℕ) (r : Read (List (Ident Span) × Code)) → 0 < f
+    → ((g : ℕ) → f ≡ suc g → rest_at ts (deeper ts g) i ≡ r) → (deeper ts f).rest i ≡ r
+unfolding deeper
+deeper_rest ts zero i r p h = absurd (omega arith)
+deeper_rest ts (suc g) i r p h = h g refl
