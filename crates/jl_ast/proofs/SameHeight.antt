@@ -1,9 +1,16 @@
 -- Neither places nor numbers change how high a tree is.
 use Rattle.std.proofs.Common.{◌≡◌, ℕ, ◌+◌, refl}
-use Rattle.jl_ast.specs.Tree.{Sort, Tree, Row, Maybe, this, name, number, string, boolean, null, array, object, function_expression, dot, index, call, new, unary, update, binary, and, or, conditional, assign, comma, to_name, to_dot, to_index, hole, filled, value, getter, setter, function, body, var, empty, expression, block, when, do_while, while, for, for_in, continue, break, return, labelled, switch, throw, try, debugger, nothing, init_expression, init_var, declarator, case, branch_of, catch, end, more, absent, present}
+use Rattle.jl_ast.specs.Tree.{Sort, Tree, Row, Maybe, this, name, number, string, boolean, null, array, object}
+use Rattle.jl_ast.specs.Tree.{function_expression, dot, index, call, new, unary, update, binary, and, or}
+use Rattle.jl_ast.specs.Tree.{conditional, assign, comma, to_name, to_dot, to_index, hole, filled, value, getter}
+use Rattle.jl_ast.specs.Tree.{setter, function, body, var, empty, expression, block, when, do_while, while, for}
+use Rattle.jl_ast.specs.Tree.{for_in, continue, break, return, labelled, switch, throw, try, debugger, nothing}
+use Rattle.jl_ast.specs.Tree.{init_expression, init_var, declarator, case, branch_of, catch, end, more, absent}
+use Rattle.jl_ast.specs.Tree.{present}
 use Rattle.jl_ast.specs.Spans.{map_tree, map_row, map_maybe}
 use Rattle.jl_ast.specs.Height.{height, row_height, maybe_height}
-use Rattle.jl_ast.specs.Numbering.{functions_in, functions_in_row, functions_in_maybe, numbered_tree, numbered_row, numbered_maybe}
+use Rattle.jl_ast.specs.Numbering.{functions_in, functions_in_row, functions_in_maybe, numbered_tree}
+use Rattle.jl_ast.specs.Numbering.{numbered_row, numbered_maybe}
 
 module _ {S T : Type 0} (f : S → T) where
   mutual
@@ -92,7 +99,11 @@ mutual
   renumbered n (binary a b c s) = cc (renumbered n b, renumbered (n + functions_in b) c)
   renumbered n (and a b s) = cc (renumbered n a, renumbered (n + functions_in a) b)
   renumbered n (or a b s) = cc (renumbered n a, renumbered (n + functions_in a) b)
-  renumbered n (conditional a b c s) = cc (renumbered n a, renumbered (n + functions_in a) b, renumbered (n + functions_in a + functions_in b) c)
+  renumbered n (conditional a b c s) = cc (
+    renumbered n a,
+    renumbered (n + functions_in a) b,
+    renumbered (n + functions_in a + functions_in b) c,
+  )
   renumbered n (assign a b c s) = cc (renumbered n b, renumbered (n + functions_in b) c)
   renumbered n (comma a b s) = cc (renumbered n a, renumbered (n + functions_in a) b)
   renumbered n (to_name a) = refl
@@ -109,10 +120,19 @@ mutual
   renumbered n (empty s) = refl
   renumbered n (expression a s) = cc (renumbered n a)
   renumbered n (block a s) = cc (renumbered_row n a)
-  renumbered n (when a b c s) = cc (renumbered n a, renumbered_row (n + functions_in a) b, renumbered_maybe (n + functions_in a + functions_in_row b) c)
+  renumbered n (when a b c s) = cc (
+    renumbered n a,
+    renumbered_row (n + functions_in a) b,
+    renumbered_maybe (n + functions_in a + functions_in_row b) c,
+  )
   renumbered n (do_while a b s) = cc (renumbered_row n a, renumbered (n + functions_in_row a) b)
   renumbered n (while a b s) = cc (renumbered n a, renumbered_row (n + functions_in a) b)
-  renumbered n (for a b c d s) = cc (renumbered n a, renumbered_maybe (n + functions_in a) b, renumbered_maybe (n + functions_in a + functions_in_maybe b) c, renumbered_row (n + functions_in a + functions_in_maybe b + functions_in_maybe c) d)
+  renumbered n (for a b c d s) = cc (
+    renumbered n a,
+    renumbered_maybe (n + functions_in a) b,
+    renumbered_maybe (n + functions_in a + functions_in_maybe b) c,
+    renumbered_row (n + functions_in a + functions_in_maybe b + functions_in_maybe c) d,
+  )
   renumbered n (for_in is_var a b c s) = cc (renumbered n b, renumbered_row (n + functions_in b) c)
   renumbered n (continue a s) = refl
   renumbered n (break a s) = refl
@@ -120,7 +140,11 @@ mutual
   renumbered n (labelled a b s) = cc (renumbered n b)
   renumbered n (switch a b s) = cc (renumbered n a, renumbered_row (n + functions_in a) b)
   renumbered n (throw a s) = cc (renumbered n a)
-  renumbered n (try a b c s) = cc (renumbered_row n a, renumbered_maybe (n + functions_in_row a) b, renumbered_maybe (n + functions_in_row a + functions_in_maybe b) c)
+  renumbered n (try a b c s) = cc (
+    renumbered_row n a,
+    renumbered_maybe (n + functions_in_row a) b,
+    renumbered_maybe (n + functions_in_row a + functions_in_maybe b) c,
+  )
   renumbered n (debugger s) = refl
   renumbered n nothing = refl
   renumbered n (init_expression a) = cc (renumbered n a)
@@ -130,10 +154,12 @@ mutual
   renumbered n (branch_of a) = cc (renumbered_row n a)
   renumbered n (catch a b) = cc (renumbered_row n b)
 
-  pub renumbered_row : {S : Type 0} {x : Sort} (n : ℕ) (t : Row S x) → row_height (numbered_row n t) ≡ row_height t
+  pub renumbered_row : {S : Type 0} {x : Sort} (n : ℕ) (t : Row S x) →
+      row_height (numbered_row n t) ≡ row_height t
   renumbered_row n end = refl
   renumbered_row n (more a b) = cc (renumbered n a, renumbered_row (n + functions_in a) b)
 
-  pub renumbered_maybe : {S : Type 0} {x : Sort} (n : ℕ) (t : Maybe S x) → maybe_height (numbered_maybe n t) ≡ maybe_height t
+  pub renumbered_maybe : {S : Type 0} {x : Sort} (n : ℕ) (t : Maybe S x) →
+      maybe_height (numbered_maybe n t) ≡ maybe_height t
   renumbered_maybe n absent = refl
   renumbered_maybe n (present a) = cc (renumbered n a)

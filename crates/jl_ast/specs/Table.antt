@@ -1,7 +1,13 @@
--- The functions of a tree in the order in which they are numbered: a function before those inside it, and the function
--- declarations of a body before the functions of its statements; otherwise in the order of the text.
+-- The functions of a tree in the order in which they are numbered: a function before those inside it, and the
+-- function declarations of a body before the functions of its statements; otherwise in the order of the text.
 use Rattle.std.specs.Prelude.{ℕ, List, [], ◌∷◌, ◌++◌}
-use Rattle.jl_ast.specs.Tree.{Program, Sort, func, Tree, Row, Maybe, this, name, number, string, boolean, null, array, object, function_expression, dot, index, call, new, unary, update, binary, and, or, conditional, assign, comma, to_name, to_dot, to_index, hole, filled, value, getter, setter, function, body, var, empty, expression, block, when, do_while, while, for, for_in, continue, break, return, labelled, switch, throw, try, debugger, nothing, init_expression, init_var, declarator, case, branch_of, catch, end, more, absent, present}
+use Rattle.jl_ast.specs.Tree.{Program, Sort, func, Tree, Row, Maybe, this, name, number, string, boolean, null}
+use Rattle.jl_ast.specs.Tree.{array, object, function_expression, dot, index, call, new, unary, update, binary}
+use Rattle.jl_ast.specs.Tree.{and, or, conditional, assign, comma, to_name, to_dot, to_index, hole, filled}
+use Rattle.jl_ast.specs.Tree.{value, getter, setter, function, body, var, empty, expression, block, when}
+use Rattle.jl_ast.specs.Tree.{do_while, while, for, for_in, continue, break, return, labelled, switch, throw}
+use Rattle.jl_ast.specs.Tree.{try, debugger, nothing, init_expression, init_var, declarator, case, branch_of}
+use Rattle.jl_ast.specs.Tree.{catch, end, more, absent, present}
 
 abbrev mutual
   pub functions_of : {S : Type 0} {x : Sort} → Tree S x → List (Tree S func)
@@ -43,7 +49,8 @@ abbrev mutual
   functions_of (when a b c s) = functions_of a ++ functions_of_row b ++ functions_of_maybe c
   functions_of (do_while a b s) = functions_of_row a ++ functions_of b
   functions_of (while a b s) = functions_of a ++ functions_of_row b
-  functions_of (for a b c d s) = functions_of a ++ functions_of_maybe b ++ functions_of_maybe c ++ functions_of_row d
+  functions_of (for a b c d s) = functions_of a ++ functions_of_maybe b ++ functions_of_maybe c
+      ++ functions_of_row d
   functions_of (for_in is_var a b c s) = functions_of b ++ functions_of_row c
   functions_of (continue a s) = []
   functions_of (break a s) = []

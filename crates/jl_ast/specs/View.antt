@@ -1,8 +1,9 @@
--- The plain tree that a tree of the code is. A list is a row, a box is what it holds, a span is a place; a kind becomes a
--- tree once it has its span.
+-- The plain tree that a tree of the code is. A list is a row, a box is what it holds, a span is a place; a kind
+-- becomes a tree once it has its span.
 use Rattle.std.specs.Prelude.{List, map, Option, None, Some, option_map}
 use Rattle.jl_text.specs.declared.span.Span.{Span}
-use Rattle.jl_ast.specs.declared.tree.Entry.TheOpen.{Entry-F, ExprKind-F, ForInit-F, StmtKind-F, Target-F, Body-F, Case-F, Expr-F, Function-F, Stmt-F}
+use Rattle.jl_ast.specs.declared.tree.Entry.TheOpen.{Entry-F, ExprKind-F, ForInit-F, StmtKind-F, Target-F}
+use Rattle.jl_ast.specs.declared.tree.Entry.TheOpen.{Body-F, Case-F, Expr-F, Function-F, Stmt-F}
 use Rattle.jl_ast.specs.declared.tree.Ident.{Ident}
 use Rattle.jl_ast.specs.declared.tree.Program.{Program}
 use Rattle.jl_ast.specs.declared.tree.Entry.{Entry, fold-Entry}
@@ -43,8 +44,11 @@ abbrev pub declarator : Ident × Option (Tree Span tree.expr) → Tree Span tree
 declarator d = tree.declarator (view_ident d.0) (maybe d.1)
 
 -- a node of the code's tree whose parts are plain trees already
-abbrev Layer : (Type 0 → Type 0 → Type 0 → Type 0 → Type 0 → Type 0 → Type 0 → Type 0 → Type 0 → Type 0 → Type 0) → Type 0
-Layer F = F (Tree Span tree.entry) (Span → Tree Span tree.expr) (Tree Span tree.init) (Span → Tree Span tree.stmt) (Tree Span tree.target) (Tree Span tree.code) (Tree Span tree.clause) (Tree Span tree.expr) (Tree Span tree.func) (Tree Span tree.stmt)
+abbrev Layer : (Type 0 → Type 0 → Type 0 → Type 0 → Type 0 → Type 0 → Type 0 → Type 0 → Type 0 → Type 0 →
+    Type 0) → Type 0
+Layer F = F (Tree Span tree.entry) (Span → Tree Span tree.expr) (Tree Span tree.init)
+    (Span → Tree Span tree.stmt) (Tree Span tree.target) (Tree Span tree.code) (Tree Span tree.clause)
+    (Tree Span tree.expr) (Tree Span tree.func) (Tree Span tree.stmt)
 
 abbrev pub entry_of : Layer Entry-F → Tree Span tree.entry
 entry_of (Entry-F.Value k e) = tree.value (view_ident k) e
@@ -119,34 +123,54 @@ abbrev pub placed_statement : Layer Stmt-F → Tree Span tree.stmt
 placed_statement s = s.kind s.span
 
 abbrev pub view_expression_kind : ExprKind → Span → Tree Span tree.expr
-view_expression_kind = fold-ExprKind _ _ _ _ _ _ _ _ _ _ entry_of expression_of init_of statement_of target_of body_of case_of placed_expression function_of placed_statement
+view_expression_kind =
+    fold-ExprKind _ _ _ _ _ _ _ _ _ _ entry_of expression_of init_of statement_of target_of body_of
+    case_of placed_expression function_of placed_statement
 
 abbrev pub view_expression : Expr → Tree Span tree.expr
-view_expression = fold-Expr _ _ _ _ _ _ _ _ _ _ entry_of expression_of init_of statement_of target_of body_of case_of placed_expression function_of placed_statement
+view_expression =
+    fold-Expr _ _ _ _ _ _ _ _ _ _ entry_of expression_of init_of statement_of target_of body_of
+    case_of placed_expression function_of placed_statement
 
 abbrev pub view_target : Target → Tree Span tree.target
-view_target = fold-Target _ _ _ _ _ _ _ _ _ _ entry_of expression_of init_of statement_of target_of body_of case_of placed_expression function_of placed_statement
+view_target =
+    fold-Target _ _ _ _ _ _ _ _ _ _ entry_of expression_of init_of statement_of target_of body_of
+    case_of placed_expression function_of placed_statement
 
 abbrev pub view_entry : Entry → Tree Span tree.entry
-view_entry = fold-Entry _ _ _ _ _ _ _ _ _ _ entry_of expression_of init_of statement_of target_of body_of case_of placed_expression function_of placed_statement
+view_entry =
+    fold-Entry _ _ _ _ _ _ _ _ _ _ entry_of expression_of init_of statement_of target_of body_of
+    case_of placed_expression function_of placed_statement
 
 abbrev pub view_function : Function → Tree Span tree.func
-view_function = fold-Function _ _ _ _ _ _ _ _ _ _ entry_of expression_of init_of statement_of target_of body_of case_of placed_expression function_of placed_statement
+view_function =
+    fold-Function _ _ _ _ _ _ _ _ _ _ entry_of expression_of init_of statement_of target_of body_of
+    case_of placed_expression function_of placed_statement
 
 abbrev pub view_body : Body → Tree Span tree.code
-view_body = fold-Body _ _ _ _ _ _ _ _ _ _ entry_of expression_of init_of statement_of target_of body_of case_of placed_expression function_of placed_statement
+view_body =
+    fold-Body _ _ _ _ _ _ _ _ _ _ entry_of expression_of init_of statement_of target_of body_of
+    case_of placed_expression function_of placed_statement
 
 abbrev pub view_statement_kind : StmtKind → Span → Tree Span tree.stmt
-view_statement_kind = fold-StmtKind _ _ _ _ _ _ _ _ _ _ entry_of expression_of init_of statement_of target_of body_of case_of placed_expression function_of placed_statement
+view_statement_kind =
+    fold-StmtKind _ _ _ _ _ _ _ _ _ _ entry_of expression_of init_of statement_of target_of body_of
+    case_of placed_expression function_of placed_statement
 
 abbrev pub view_statement : Stmt → Tree Span tree.stmt
-view_statement = fold-Stmt _ _ _ _ _ _ _ _ _ _ entry_of expression_of init_of statement_of target_of body_of case_of placed_expression function_of placed_statement
+view_statement =
+    fold-Stmt _ _ _ _ _ _ _ _ _ _ entry_of expression_of init_of statement_of target_of body_of
+    case_of placed_expression function_of placed_statement
 
 abbrev pub view_init : ForInit → Tree Span tree.init
-view_init = fold-ForInit _ _ _ _ _ _ _ _ _ _ entry_of expression_of init_of statement_of target_of body_of case_of placed_expression function_of placed_statement
+view_init =
+    fold-ForInit _ _ _ _ _ _ _ _ _ _ entry_of expression_of init_of statement_of target_of body_of
+    case_of placed_expression function_of placed_statement
 
 abbrev pub view_case : Case → Tree Span tree.clause
-view_case = fold-Case _ _ _ _ _ _ _ _ _ _ entry_of expression_of init_of statement_of target_of body_of case_of placed_expression function_of placed_statement
+view_case =
+    fold-Case _ _ _ _ _ _ _ _ _ _ entry_of expression_of init_of statement_of target_of body_of
+    case_of placed_expression function_of placed_statement
 
 abbrev pub view_declarator : Ident × Option Expr → Tree Span tree.decl
 view_declarator d = declarator (d.0, option_map view_expression d.1)

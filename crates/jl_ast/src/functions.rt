@@ -1,6 +1,10 @@
 ghost use Rattle.std.specs.Prelude.{◌≡◌, [], ◌∷◌, ◌++◌, map, IfOk, OnOk};
+ghost use Rattle.jl_ast.specs.Found.{Adds};
 ghost use Rattle.jl_ast.specs.Table.{table, functions_of, functions_of_row, functions_of_maybe};
-ghost use Rattle.jl_ast.specs.View.{view, view_expression, view_expressions, view_maybe, view_items, view_target, view_entry, view_entries, view_function, view_functions, view_body, view_statement, view_statements, view_init, view_declarators, view_cases};
+ghost use Rattle.jl_ast.specs.View.{view, view_expression, view_expressions, view_maybe, view_items};
+ghost use Rattle.jl_ast.specs.View.{view_target, view_entry, view_entries, view_function, view_functions};
+ghost use Rattle.jl_ast.specs.View.{view_body, view_statement, view_statements, view_init, view_declarators};
+ghost use Rattle.jl_ast.specs.View.{view_cases};
 
 use crate::tree::{
     Body, Case, Entry, Expr, ExprKind, ForInit, Function, Ident, Program, Stmt, StmtKind, Target,
@@ -9,9 +13,10 @@ use jl_text::NoMemory;
 use std::alloc::Global;
 use std::marker::Model;
 
-/// The functions of a program in the order of their numbers: the declarations of a body come first, each before what it
-/// holds, then the function expressions and accessors of its statements in the order of the text, each before what it
-/// holds. In a program that is numbered the function at an index has that number.
+/// The functions of a program in the order of their numbers: the declarations of a body come first, each before what
+/// it holds, then the function expressions and accessors of its statements in the order of the text, each before what
+/// it holds. In a program that is numbered the function at an index has that number. It is refused for want of memory
+/// alone, and recurses as deep as the program is high.
 pub fn function_table(alloc: Global, p: &Program) -> Result<Vec<&Function>, NoMemory>
     ensures { IfOk result (λ r. map view_function (map (λ f. f.now) r.items) ≡ table (view p.now)) }
 {
@@ -58,7 +63,7 @@ impl<'a> Found<'a> {
 
 #[cycle(functions)]
 fn add_function<'a>(f: &'a Function, found: &mut Found<'a>) -> Result<(), NoMemory>
-    ensures { OnOk result (map view_function found.new ≡ map view_function found.old ++ functions_of (view_function f.now)) }
+    ensures { OnOk result (Adds (functions_of (view_function f.now)) found.old found.new) }
 {
     found.push(f)?;
     add_body(&f.body, found)
@@ -66,7 +71,7 @@ fn add_function<'a>(f: &'a Function, found: &mut Found<'a>) -> Result<(), NoMemo
 
 #[cycle(functions)]
 fn add_body<'a>(b: &'a Body, found: &mut Found<'a>) -> Result<(), NoMemory>
-    ensures { OnOk result (map view_function found.new ≡ map view_function found.old ++ functions_of (view_body b.now)) }
+    ensures { OnOk result (Adds (functions_of (view_body b.now)) found.old found.new) }
 {
     add_functions(b.functions.items(), found)?;
     add_statements(b.statements.items(), found)
@@ -74,7 +79,7 @@ fn add_body<'a>(b: &'a Body, found: &mut Found<'a>) -> Result<(), NoMemory>
 
 #[cycle(functions)]
 fn add_functions<'a>(functions: &'a [Function], found: &mut Found<'a>) -> Result<(), NoMemory>
-    ensures { OnOk result (map view_function found.new ≡ map view_function found.old ++ functions_of_row (view_functions functions.now)) }
+    ensures { OnOk result (Adds (functions_of_row (view_functions functions.now)) found.old found.new) }
 {
     for f in functions {
         add_function(f, found)?;
@@ -84,7 +89,7 @@ fn add_functions<'a>(functions: &'a [Function], found: &mut Found<'a>) -> Result
 
 #[cycle(functions)]
 fn add_statements<'a>(statements: &'a [Stmt], found: &mut Found<'a>) -> Result<(), NoMemory>
-    ensures { OnOk result (map view_function found.new ≡ map view_function found.old ++ functions_of_row (view_statements statements.now)) }
+    ensures { OnOk result (Adds (functions_of_row (view_statements statements.now)) found.old found.new) }
 {
     for s in statements {
         add_statement(s, found)?;
@@ -94,7 +99,7 @@ fn add_statements<'a>(statements: &'a [Stmt], found: &mut Found<'a>) -> Result<(
 
 #[cycle(functions)]
 fn add_statement<'a>(s: &'a Stmt, found: &mut Found<'a>) -> Result<(), NoMemory>
-    ensures { OnOk result (map view_function found.new ≡ map view_function found.old ++ functions_of (view_statement s.now)) }
+    ensures { OnOk result (Adds (functions_of (view_statement s.now)) found.old found.new) }
 {
     match &s.kind {
         StmtKind::Empty | StmtKind::Continue(_) | StmtKind::Break(_) | StmtKind::Debugger => Ok(()),
@@ -153,7 +158,7 @@ fn add_statement<'a>(s: &'a Stmt, found: &mut Found<'a>) -> Result<(), NoMemory>
 
 #[cycle(functions)]
 fn add_init<'a>(init: &'a ForInit, found: &mut Found<'a>) -> Result<(), NoMemory>
-    ensures { OnOk result (map view_function found.new ≡ map view_function found.old ++ functions_of (view_init init.now)) }
+    ensures { OnOk result (Adds (functions_of (view_init init.now)) found.old found.new) }
 {
     match init {
         ForInit::Nothing => Ok(()),
@@ -167,7 +172,7 @@ fn add_declarators<'a>(
     declarators: &'a [(Ident, Option<Expr>)],
     found: &mut Found<'a>,
 ) -> Result<(), NoMemory>
-    ensures { OnOk result (map view_function found.new ≡ map view_function found.old ++ functions_of_row (view_declarators declarators.now)) }
+    ensures { OnOk result (Adds (functions_of_row (view_declarators declarators.now)) found.old found.new) }
 {
     for d in declarators {
         if let Some(e) = &d.1 {
@@ -179,7 +184,7 @@ fn add_declarators<'a>(
 
 #[cycle(functions)]
 fn add_cases<'a>(cases: &'a [Case], found: &mut Found<'a>) -> Result<(), NoMemory>
-    ensures { OnOk result (map view_function found.new ≡ map view_function found.old ++ functions_of_row (view_cases cases.now)) }
+    ensures { OnOk result (Adds (functions_of_row (view_cases cases.now)) found.old found.new) }
 {
     for c in cases {
         add_held(&c.test, found)?;
@@ -190,7 +195,7 @@ fn add_cases<'a>(cases: &'a [Case], found: &mut Found<'a>) -> Result<(), NoMemor
 
 #[cycle(functions)]
 fn add_held<'a>(e: &'a Option<Expr>, found: &mut Found<'a>) -> Result<(), NoMemory>
-    ensures { OnOk result (map view_function found.new ≡ map view_function found.old ++ functions_of_maybe (view_maybe e.now)) }
+    ensures { OnOk result (Adds (functions_of_maybe (view_maybe e.now)) found.old found.new) }
 {
     match e {
         Some(e) => add_expression(e, found),
@@ -200,7 +205,7 @@ fn add_held<'a>(e: &'a Option<Expr>, found: &mut Found<'a>) -> Result<(), NoMemo
 
 #[cycle(functions)]
 fn add_expression<'a>(e: &'a Expr, found: &mut Found<'a>) -> Result<(), NoMemory>
-    ensures { OnOk result (map view_function found.new ≡ map view_function found.old ++ functions_of (view_expression e.now)) }
+    ensures { OnOk result (Adds (functions_of (view_expression e.now)) found.old found.new) }
 {
     match &e.kind {
         ExprKind::This | ExprKind::Name(_) | ExprKind::Num(_) => Ok(()),
@@ -237,7 +242,7 @@ fn add_expression<'a>(e: &'a Expr, found: &mut Found<'a>) -> Result<(), NoMemory
 
 #[cycle(functions)]
 fn add_target<'a>(t: &'a Target, found: &mut Found<'a>) -> Result<(), NoMemory>
-    ensures { OnOk result (map view_function found.new ≡ map view_function found.old ++ functions_of (view_target t.now)) }
+    ensures { OnOk result (Adds (functions_of (view_target t.now)) found.old found.new) }
 {
     match t {
         Target::Name(_) => Ok(()),
@@ -251,7 +256,7 @@ fn add_target<'a>(t: &'a Target, found: &mut Found<'a>) -> Result<(), NoMemory>
 
 #[cycle(functions)]
 fn add_items<'a>(items: &'a [Option<Expr>], found: &mut Found<'a>) -> Result<(), NoMemory>
-    ensures { OnOk result (map view_function found.new ≡ map view_function found.old ++ functions_of_row (view_items items.now)) }
+    ensures { OnOk result (Adds (functions_of_row (view_items items.now)) found.old found.new) }
 {
     for e in items {
         if let Some(e) = e {
@@ -263,7 +268,7 @@ fn add_items<'a>(items: &'a [Option<Expr>], found: &mut Found<'a>) -> Result<(),
 
 #[cycle(functions)]
 fn add_entries<'a>(entries: &'a [Entry], found: &mut Found<'a>) -> Result<(), NoMemory>
-    ensures { OnOk result (map view_function found.new ≡ map view_function found.old ++ functions_of_row (view_entries entries.now)) }
+    ensures { OnOk result (Adds (functions_of_row (view_entries entries.now)) found.old found.new) }
 {
     for entry in entries {
         add_entry(entry, found)?;
@@ -273,7 +278,7 @@ fn add_entries<'a>(entries: &'a [Entry], found: &mut Found<'a>) -> Result<(), No
 
 #[cycle(functions)]
 fn add_entry<'a>(entry: &'a Entry, found: &mut Found<'a>) -> Result<(), NoMemory>
-    ensures { OnOk result (map view_function found.new ≡ map view_function found.old ++ functions_of (view_entry entry.now)) }
+    ensures { OnOk result (Adds (functions_of (view_entry entry.now)) found.old found.new) }
 {
     match entry {
         Entry::Value(_, e) => add_expression(e, found),
@@ -283,7 +288,7 @@ fn add_entry<'a>(entry: &'a Entry, found: &mut Found<'a>) -> Result<(), NoMemory
 
 #[cycle(functions)]
 fn add_expressions<'a>(expressions: &'a [Expr], found: &mut Found<'a>) -> Result<(), NoMemory>
-    ensures { OnOk result (map view_function found.new ≡ map view_function found.old ++ functions_of_row (view_expressions expressions.now)) }
+    ensures { OnOk result (Adds (functions_of_row (view_expressions expressions.now)) found.old found.new) }
 {
     for e in expressions {
         add_expression(e, found)?;

@@ -1,15 +1,17 @@
 ghost use Rattle.std.specs.Prelude.{◌≡◌, ◌+◌};
 ghost use Rattle.jl_ast.specs.Height.{height, row_height, maybe_height, program_height};
 ghost use Rattle.jl_ast.specs.Saturated.{saturated};
-ghost use Rattle.jl_ast.specs.View.{view, view_expression, view_expressions, view_maybe, view_items, view_target, view_entries, view_functions, view_body, view_statement, view_statements, view_init, view_declarators, view_cases};
+ghost use Rattle.jl_ast.specs.View.{view, view_expression, view_expressions, view_maybe, view_items};
+ghost use Rattle.jl_ast.specs.View.{view_target, view_entries, view_functions, view_body, view_statement};
+ghost use Rattle.jl_ast.specs.View.{view_statements, view_init, view_declarators, view_cases};
 
 use crate::tree::{
     Body, Case, Entry, Expr, ExprKind, ForInit, Function, Ident, Program, Stmt, StmtKind, Target,
 };
 
-/// The height of a program: that of its highest function or statement, and 0 where it has none. A node is one higher than
-/// the highest of its parts; a function expression and its function are one node. A height past 2^32 - 1 is given as
-/// 2^32 - 1. It recurses as deep as the program is high.
+/// The height of a program: that of its highest function or statement, and 0 where it has none. A node is one higher
+/// than the highest of its parts; a function expression and its function are one node. A height past 2^32 - 1 is given
+/// as 2^32 - 1. It recurses as deep as the program is high.
 pub fn height(p: &Program) -> u32
     ensures { result ≡ saturated (program_height (view p.now)) }
 {

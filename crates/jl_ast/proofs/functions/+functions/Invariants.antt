@@ -1,6 +1,7 @@
 use Rattle.std.proofs.Common.{◌≡◌, ◌++◌, drop, map}
 use Rattle.jl_ast.specs.Table.{functions_of_row}
-use Rattle.jl_ast.specs.View.{view_function, view_functions, view_statements, view_declarators, view_cases, view_items, view_entries, view_expressions}
+use Rattle.jl_ast.specs.View.{view_function, view_functions, view_statements, view_declarators, view_cases}
+use Rattle.jl_ast.specs.View.{view_items, view_entries, view_expressions}
 use Rattle.jl_ast.proofs.functions.+functions.Given as goal
 
 abbrev pub invariant-add_functions-loop-f : goal.invariant-add_functions-loop-f
