@@ -8,3 +8,4 @@ pub mod Comings
 pub mod Reports
 pub mod Answering
 pub mod Endings
+pub mod Headline

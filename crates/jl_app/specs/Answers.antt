@@ -1,9 +1,9 @@
 -- What is due to a list of words, and to a script.
-use Rattle.std.specs.Prelude.{◌≡◌, ℕ, ◌+◌, ◌*◌, ◌<◌, ◌≤◌, List, [], ◌∷◌, ◌++◌, Option, None, Some, IfSome, length, codes}
+use Rattle.std.specs.Prelude.{◌≡◌, ℕ, ◌+◌, ◌*◌, ◌<◌, ◌≤◌, List, [], ◌∷◌, ◌++◌, Option, IfSome, length, codes}
 use Rattle.std.specs.Fmt.{decimal}
 use Rattle.jl_op.specs.declared.value.Fault.TheVariants.{NumberOutside}
 use Rattle.jl_op.specs.Operations.{Operation}
-use Rattle.jl_meaning.specs.Effects.{Finish, Ends, Fails, Outcome, Over, Spent, World, nothing_done, run, world_of, steps_taken}
+use Rattle.jl_meaning.specs.Effects.{Ends, Fails, Outcome, Over, Spent, nothing_done, run, world_of, steps_taken}
 use Rattle.jl_app.specs.declared.status.Status.{Status}
 use Rattle.jl_app.specs.declared.status.Status.TheVariants as status
 use Rattle.jl_app.specs.Sums.{Script}

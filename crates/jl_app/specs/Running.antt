@@ -1,7 +1,7 @@
 -- How a run in progress stands to what its part does.
 use Rattle.std.specs.Prelude.{◌≡◌, ℕ, List, length, Result, Ok, Err}
 use Rattle.jl_op.specs.Operations.{Operation}
-use Rattle.jl_meaning.specs.Effects.{World, Finish, Ends, Fails, Outcome, Over, Spent, world_of, steps_taken}
+use Rattle.jl_meaning.specs.Effects.{World, Ends, Fails, Outcome, Over, Spent, world_of, steps_taken}
 use Rattle.jl_app.specs.declared.outcome.Outcome.{Outcome as End}
 use Rattle.jl_app.specs.declared.outcome.Outcome.TheVariants as ends
 use Rattle.jl_app.specs.declared.outcome.Run.{Run}

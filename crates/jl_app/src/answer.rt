@@ -8,9 +8,6 @@ ghost use Rattle.jl_app.specs.Sums.{parts};
 ghost use Rattle.jl_app.specs.Texts.{outcome_text, outcome_status};
 ghost use Rattle.jl_app.specs.View.{view_script};
 
-use jl_op::{Crowd, Fault, Observer};
-use std::alloc::{AllocError, Global};
-
 use crate::outcome::{Outcome, Run};
 use crate::read::{ReadingRefusal, read};
 use crate::report::{report, text};
@@ -18,6 +15,8 @@ use crate::run::run;
 use crate::status::Status;
 use crate::tree::Script;
 use crate::weave::weave;
+use jl_op::{Crowd, Fault, Observer};
+use std::alloc::{AllocError, Global};
 
 /// How many steps a script's own run has.
 const BUDGET: u64 = 1_000_000;

@@ -1,17 +1,19 @@
-ghost use Rattle.std.specs.Prelude.{◌≡◌, ◌≢◌, ◌↔◌, ◌⊎◌, List, [], ◌∷◌, map, Option, IfOk, IsErrOf, IsTrue};
+ghost use Rattle.std.specs.Prelude.{◌≡◌, ◌≢◌, ◌↔◌, ◌⊎◌, ◌≤◌, ℕ, List, [], ◌∷◌, length, map, Option, Some, IfOk, IsErrOf, IsTrue};
 ghost use Rattle.jl_op.specs.Operations.{Operation};
 ghost use Rattle.jl_port.specs.Bytes.{Grows};
 ghost use Rattle.jl_port.specs.Count.{HasRisen};
-ghost use Rattle.jl_app.specs.Answers.{Due, IsDue, lint};
-ghost use Rattle.jl_app.specs.Endings.{EndsWith};
+ghost use Rattle.jl_app.specs.Answers.{Due, IsDue, lint, most_bytes, own_run};
+ghost use Rattle.jl_app.specs.Endings.{EndsWith, HasAnswered, IsAboutOwnRun};
+ghost use Rattle.jl_app.specs.Reading.{IsScript};
+ghost use Rattle.jl_app.specs.Sums.{Script};
+ghost use Rattle.jl_meaning.specs.Effects.{IsOver};
 ghost use Rattle.jl_app.specs.declared.command.Unanswered.TheVariants.{NoMemory};
-
-use jl_op::{Crowd, Observer};
-use jl_port::{ReadRefusal, Shelf, Sink, Source, read_all, write_all};
-use std::alloc::{AllocError, Global};
 
 use crate::answer::{Answer, MOST_BYTES, line_only, lint};
 use crate::status::Status;
+use jl_op::{Crowd, Observer};
+use jl_port::{ReadRefusal, Shelf, Sink, Source, read_all, write_all};
+use std::alloc::{AllocError, Global};
 
 /// Why nothing is answered.
 #[derive(Drop)]
@@ -79,6 +81,8 @@ pub fn jlint<S: Source, K: Sink, H: Shelf>(
     requires rules { ⟦<Crowd as Observer>⟧.rules crowd.old ≡ 1 ∷ [] }
     requires fresh { ⟦<Crowd as Observer>⟧.stands_for crowd.old [] }
     ensures ends { EndsWith (record { words = map (λ word. word.now) words.now; held = S.left source.old; read_faults = (S.faults source.old, S.faults source.new); written = (K.written sink.old, K.written sink.new); write_faults = (K.faults sink.old, K.faults sink.new); knows = λ told. ⟦<Crowd as Observer>⟧.stands_for crowd.new told }) result }
+    // For a source that tells its bytes, the answer to a script is about the script's own run, where that is over.
+    ensures headline { (bytes : List ℕ) (s : Script) → S.left source.old ≡ Some bytes → length bytes ≤ most_bytes → IsScript bytes s → map (λ word. word.now) words.now ≡ lint → IsOver (own_run s) → HasAnswered result → IsAboutOwnRun (record { words = map (λ word. word.now) words.now; held = S.left source.old; read_faults = (S.faults source.old, S.faults source.new); written = (K.written sink.old, K.written sink.new); write_faults = (K.faults sink.old, K.faults sink.new); knows = λ told. ⟦<Crowd as Observer>⟧.stands_for crowd.new told }) s result }
     ensures unread { map (λ word. word.now) words.now ≢ lint → source.new ≡ source.old }
     ensures shelf { _shelf.new ≡ _shelf.old }
     ensures same_rules { ⟦<Crowd as Observer>⟧.rules crowd.new ≡ ⟦<Crowd as Observer>⟧.rules crowd.old }

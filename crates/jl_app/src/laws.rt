@@ -1,8 +1,19 @@
 //! Laws over the definitions; each is the contract of a function that does nothing.
 
+ghost use Rattle.jl_meaning.specs.Follows.{Simulates};
+ghost use Rattle.jl_app.specs.Meaning.{script};
 ghost use Rattle.jl_app.specs.Reading.{OneReading};
+ghost use Rattle.jl_app.specs.Sums.{Script};
+ghost use Rattle.jl_app.specs.Weaving.{woven, hooked_script};
 
 /// No bytes are two scripts.
 pub fn one_reading()
     ensures { OneReading }
+{}
+
+/// The woven script does what the script does by itself: its runs are over where those are, in the same way and with the
+/// same output, its hooks tell of the script's operations in order, and it takes at most 32 times as many steps and 64.
+#[tactic(auto, using(crate::proofs::Headline::script_simulates))]
+pub fn woven_scripts_simulate()
+    ensures { (s : Script) → Simulates (script s) (hooked_script (woven s.argument 5)) }
 {}

@@ -1,10 +1,10 @@
 //! The commands of jlint: a script in, its answer out.
 #![tactic(auto, using(crate::proofs::Views::nodes))]
 
-pub mod laws;
-pub mod outcome;
 mod answer;
 mod command;
+pub mod laws;
+pub mod outcome;
 mod read;
 pub mod report;
 pub mod run;
@@ -15,3 +15,6 @@ pub mod weave;
 pub use command::jlint;
 pub use status::Status;
 pub use tree::{Script, Sum};
+
+#[cfg(test)]
+mod tests;

@@ -54,6 +54,7 @@ fn skip_spaces(bytes: &[u8]) -> &[u8]
 fn expect<'a>(bytes: &'a [u8], word: &[u8]) -> Result<&'a [u8], ReadingRefusal>
     ensures found { IfOk result (λ after. bytes.now ≡ word.now ++ after.now) }
     ensures none { OnErr result ((after : List ℕ) → bytes.now ≡ word.now ++ after → ⊥) }
+    ensures why { OnErr result (IsErrOf result ReadingRefusal.NotYet) }
 {
     let Some(after) = bytes.strip_prefix(word) else {
         return Err(ReadingRefusal::NotYet);
@@ -171,7 +172,8 @@ fn factor(size: usize, bytes: &[u8], room: u32) -> Result<(Sum, &[u8], u32), Rea
     requires { size < 2 ^ 32 }
     ensures found { IfOk result (λ read. ReadsNumber size bytes.now (view read.0) read.1.now) }
     ensures counted { IfOk result (λ read. numbers (view read.0) + read.2 ≡ room) }
-    ensures none { IsErrOf result ReadingRefusal.NotYet → (s : PlainSum) (rest : List ℕ) → ReadsNumber size bytes.now s rest → room < numbers s }
+    ensures none { OnErr result ((s : PlainSum) (rest : List ℕ) → ReadsNumber size bytes.now s rest → room < numbers s) }
+    ensures why { OnErr result (IsErrOf result ReadingRefusal.NotYet) }
 {
     let Some((value, after)) = number(bytes) else {
         return Err(ReadingRefusal::NotYet);

@@ -1,7 +1,7 @@
 -- Parts one after another.
 use Rattle.std.proofs.Common.{◌≡◌, ℕ, zero, suc, ◌+◌, ◌<◌, ◌∷◌, [], ◌++◌, refl, ap, ◌∙◌, arith}
 use Rattle.jl_op.specs.declared.value.Fault.{Fault}
-use Rattle.jl_meaning.specs.Effects.{Part, End, Fail, Step, Print, Does, Tells, steps, and_then, World, Ends, Fails, Over, Spent, run}
+use Rattle.jl_meaning.specs.Effects.{Part, End, Fail, Step, Print, Does, Tells, steps, and_then, World, Finish, Ends, Fails, Over, Spent, run}
 use Rattle.jl_meaning.specs.Follows.{Matches, ends, fails, both, extra, prints, told, spare}
 
 -- they match where each matches
@@ -54,3 +54,24 @@ pub run_steps_spent : {A : Type 0} (k n : ℕ) (p : Part A) (w : World) → n < 
 run_steps_spent zero n p w h = absurd (omega arith)
 run_steps_spent (suc k) zero p w h = refl
 run_steps_spent (suc k) (suc n) p w h = run_steps_spent k n p w (omega arith)
+
+-- A run that is over is the same with more steps, but that more are left.
+pub run_more : {A : Type 0} (n k d : ℕ) (p : Part A) (w : World) (e : Finish A) (m : ℕ) (v : World) → k ≡ n + d → run n p w ≡ Over e m v → run k p w ≡ Over e (m + d) v
+run_more n k d (End a) w e m v s is =
+    let end : Ends a ≡ e = cc in
+    let world : w ≡ v = cc in
+    let left : n ≡ m = cc in
+    let steps : k ≡ m + d = omega arith in
+    ap (λ x. Over x k w) end ∙ ap (λ x. Over e x w) steps ∙ ap (λ x. Over e (m + d) x) world
+run_more n k d (Fail f) w e m v s is =
+    let end : Fails f ≡ e = cc in
+    let world : w ≡ v = cc in
+    let left : n ≡ m = cc in
+    let steps : k ≡ m + d = omega arith in
+    ap (λ x. Over x k w) end ∙ ap (λ x. Over e x w) steps ∙ ap (λ x. Over e (m + d) x) world
+run_more zero k d (Step p) w e m v s is = cc
+run_more (suc n) zero d (Step p) w e m v s is = absurd (omega arith)
+run_more (suc n) (suc k) d (Step p) w e m v s is = run_more n k d p w e m v (omega arith) is
+run_more n k d (Print line p) w e m v s is = run_more n k d p (record w { output = w.output ++ line ++ 10 ∷ [] }) e m v s is
+run_more n k d (Does o p) w e m v s is = run_more n k d p (record w { operations = w.operations ++ o ∷ [] }) e m v s is
+run_more n k d (Tells o p) w e m v s is = run_more n k d p (record w { hooks = w.hooks ++ o ∷ [] }) e m v s is

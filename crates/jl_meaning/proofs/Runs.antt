@@ -1,9 +1,9 @@
 -- What matching means for runs: an induction over the effects.
-use Rattle.std.proofs.Common.{◌≡◌, ℕ, zero, suc, ◌+◌, ◌*◌, ◌-◌, ◌<◌, ◌≤◌, List, [], ◌∷◌, ◌++◌, refl, sym, ap, ◌∙◌, subst, ⊎_elim, arith, append_assoc, append-nil}
+use Rattle.std.proofs.Common.{◌≡◌, ℕ, zero, suc, ◌+◌, ◌*◌, ◌<◌, ◌≤◌, List, [], ◌∷◌, ◌++◌, refl, sym, ap, ◌∙◌, subst, ⊎_elim, arith, append_assoc, append-nil}
 use Rattle.std.proofs.lemmas.Bool.{cases_lt}
 use Rattle.jl_op.specs.Operations.{Operation}
-use Rattle.jl_meaning.specs.Effects.{Part, End, Fail, Step, Print, Does, Tells, World, nothing_done, Finish, Ends, Fails, Outcome, Over, Spent, run, IsOver, world_of, steps_taken}
-use Rattle.jl_meaning.specs.Follows.{IsPrefix, plus, Matches, ends, fails, both, extra, prints, told, spare, SameSeen, Alike, IsWithin, Simulates}
+use Rattle.jl_meaning.specs.Effects.{Part, Step, World, nothing_done, Finish, Ends, Fails, Outcome, Over, Spent, run, IsOver, world_of, steps_taken}
+use Rattle.jl_meaning.specs.Follows.{IsPrefix, plus, Matches, ends, fails, both, extra, prints, told, spare, Alike, IsWithin, Simulates}
 
 prefix_same : {A : Type 0} (a : List A) → IsPrefix a a
 prefix_same a = ([], append-nil a)

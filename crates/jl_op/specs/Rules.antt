@@ -1,8 +1,7 @@
 -- What each rule complains about: an operation, in view of the operations before it.
 use Rattle.std.specs.Prelude.{ℕ, Bool, true, false, List, None, Some, not, ◌&&◌, ◌==◌, if◌then◌else◌}
 use Rattle.jl_op.specs.declared.op.Op.{Op}
-use Rattle.jl_op.specs.declared.op.Op.TheVariants.{ScriptEnter, ScriptExit, Literal, Read, Binary, InvokePre, InvokePost}
-use Rattle.jl_op.specs.declared.value.Seen.{Seen}
+use Rattle.jl_op.specs.declared.op.Op.TheVariants.{Binary}
 use Rattle.jl_op.specs.declared.value.Value.{Value}
 use Rattle.jl_op.specs.declared.value.Value.TheVariants.{Undefined, Num}
 use Rattle.jl_op.specs.Operations.{Operation}

@@ -2,9 +2,8 @@ ghost use Rattle.std.specs.Prelude.{◌≡◌, ◌≤◌, ℕ, List, [], ◌∷�
 ghost use Rattle.jl_op.specs.Operations.{Operation};
 ghost use Rattle.jl_op.specs.Summary.{Counts, summary};
 
-use std::alloc::AllocError;
-
 use crate::op::{Op, OpId};
+use std::alloc::AllocError;
 
 /// A checker of one rule, which is told of each operation and counts the places where its rule hits.
 pub trait Analysis: Drop {

@@ -2,11 +2,10 @@ ghost use Rattle.std.specs.Prelude.{List, [], ◌∷◌, ◌≡◌, ◌<◌, len
 ghost use Rattle.jl_op.specs.Summary.{summary};
 ghost use Rattle.jl_op.specs.Operations.{Operation};
 
-use std::alloc::AllocError;
-
 use crate::analysis::Analysis;
 use crate::observer::Observer;
 use crate::op::{Op, OpId};
+use std::alloc::AllocError;
 
 /// Boxed analyses, each of which is told of each operation, in their order; so far one at most.
 #[derive(Drop)]
@@ -89,15 +88,13 @@ impl Crowd {
 
 #[cfg(test)]
 mod tests {
-    use std::test::Fail;
-
-    use jl_num::Num;
-
     use super::*;
     use crate::nan_made::NanMade;
     use crate::observer::Nobody;
     use crate::op::Operator;
     use crate::value::{Seen, Value};
+    use jl_num::Num;
+    use std::test::Fail;
 
     #[test]
     fn a_crowd_counts_hits(rt: HostRuntime) -> Result<(), Fail> {

@@ -1,12 +1,11 @@
 ghost use Rattle.std.specs.Prelude.{◌≡◌, [], ◌∷◌, ◌++◌, OnOk};
 ghost use Rattle.jl_op.specs.Rules.{nan_made, is_nan};
 
-use std::alloc::{AllocError, Global};
-
 use crate::analysis::Analysis;
 use crate::op::{Op, OpId};
 use crate::tally::Tally;
 use crate::value::{Seen, Value};
+use std::alloc::{AllocError, Global};
 
 /// The checker of nan-made, rule 1: an operator makes NaN of operands none of which is NaN.
 #[derive(Drop)]

@@ -1,9 +1,8 @@
 ghost use Rattle.std.specs.Prelude.{◌≡◌, ℕ, List, [], ◌∷◌, ◌++◌, OnOk};
 ghost use Rattle.jl_op.specs.Operations.{Operation};
 
-use std::alloc::AllocError;
-
 use crate::op::{Op, OpId};
+use std::alloc::AllocError;
 
 /// Who is told of each operation of a run.
 pub trait Observer {

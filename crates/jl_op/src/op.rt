@@ -22,7 +22,9 @@ pub enum Op {
     /// The script's statements have ended normally.
     ScriptExit,
     /// A literal was evaluated.
-    Literal { value: Seen },
+    Literal {
+        value: Seen,
+    },
     /// A name's value was got.
     Read,
     /// A binary operator gave a result.
@@ -33,7 +35,11 @@ pub enum Op {
         result: Seen,
     },
     /// A callee that is callable is about to be called.
-    InvokePre { argument: Seen },
+    InvokePre {
+        argument: Seen,
+    },
     /// A call has returned.
-    InvokePost { result: Seen },
+    InvokePost {
+        result: Seen,
+    },
 }

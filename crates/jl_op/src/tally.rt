@@ -1,11 +1,10 @@
 ghost use Rattle.std.specs.Prelude.{◌≡◌, [], OnOk, OnErr};
 ghost use Rattle.jl_op.specs.Summary.{counted};
 
+use crate::op::OpId;
 use indexmap::IndexSet;
 use std::alloc::{AllocError, Global};
 use std::marker::Model;
-
-use crate::op::OpId;
 
 /// The number of hits at each id, in the order of the first hits. Contracts see it as that list.
 #[derive(Drop)]

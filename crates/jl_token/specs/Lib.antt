@@ -1,0 +1,7 @@
+pub mod Characters
+pub mod Punctuators
+pub mod Elements
+pub mod Faults
+pub mod Tokens
+pub mod Scanner
+pub mod Spelling

@@ -7,7 +7,7 @@ use Rattle.jl_app.proofs.read.product.Goals as goal
 
 pub returns-in_err-sum-clause-none : goal.returns-in_err-sum-clause-none
 returns-in_err-sum-clause-none c = λ is s rest r.
-    starts_past multiplicative_in (ReadsNumber c.args.size) (c.in_err-sum.ensures.none (search rules)) (product_starts c.args.size r)
+    starts_past multiplicative_in (ReadsNumber c.args.size) c.in_err-sum.ensures.none (product_starts c.args.size r)
 
 pub parts-init : goal.parts-init
 parts-init c = record {
@@ -21,7 +21,7 @@ pub returns-in_err-second-clause-none : goal.returns-in_err-second-clause-none
 returns-in_err-second-clause-none c = λ is s rest r.
     let comes : multiplicative_in (after_spaces c.parts.rest.now) ≡ Some (c.in-Some.op, c.in-Some.after.now) = search rules in
     goes_past multiplicative_in (ReadsNumber c.args.size) comes
-    (subst (λ z. (b : Sum) (e : List ℕ) → ReadsNumber c.args.size z b e → c.parts.left < numbers b) c.skip_spaces-in-Some.ensures (c.in_err-second.ensures.none (search rules)))
+    (subst (λ z. (b : Sum) (e : List ℕ) → ReadsNumber c.args.size z b e → c.parts.left < numbers b) c.skip_spaces-in-Some.ensures c.in_err-second.ensures.none)
     c.parts.invariant.counted (c.parts.invariant.goes s rest r)
 
 pub parts-smaller : goal.parts-smaller

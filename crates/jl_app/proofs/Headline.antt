@@ -1,0 +1,106 @@
+-- The answer is about the script's own run.
+use Rattle.std.proofs.Common.{◌≡◌, ℕ, ◌+◌, ◌-◌, ◌*◌, ◌≤◌, ◌++◌, List, [], ◌∷◌, Some, length, refl, sym, ap, ◌∙◌, subst, arith}
+use Rattle.std.specs.Prelude.{IfSome}
+use Rattle.jl_port.specs.Bytes.{Grows}
+use Rattle.jl_op.specs.declared.value.Fault.TheVariants.{NumberOutside}
+use Rattle.jl_meaning.specs.Effects.{Part, Finish, Ends, Fails, Outcome, Over, Spent, World, nothing_done, run, IsOver, world_of, steps_taken}
+use Rattle.jl_meaning.specs.Follows.{SameSeen, Alike, Simulates}
+use Rattle.jl_meaning.proofs.Chains.{run_more}
+use Rattle.jl_meaning.proofs.Runs.{simulates}
+use Rattle.jl_app.specs.declared.status.Status.{Status}
+use Rattle.jl_app.specs.Sums.{Script}
+use Rattle.jl_app.specs.Reading.{IsScript}
+use Rattle.jl_app.specs.Places.{places}
+use Rattle.jl_app.specs.Meaning.{script}
+use Rattle.jl_app.specs.Weaving.{woven, hooked_script}
+use Rattle.jl_app.specs.Reporting.{Lines, IsReport, lines_text}
+use Rattle.jl_app.specs.Answers.{Due, budget, woven_budget, own_run, woven_run, end_text, end_line, run_status, run_answer, most_bytes, IsLinted, too_long, not_yet, ran, lint, bad_words, linted}
+use Rattle.jl_app.specs.Endings.{Call, EndsWith, answered, write_failed, read_failed, no_memory, HasAnswered, IsAboutOwnRun}
+use Rattle.jl_app.proofs.Simulation.{script_matches}
+use Rattle.jl_app.proofs.ReadingScripts.{one_script}
+
+pub script_simulates : (s : Script) → Simulates (script s) (hooked_script (woven s.argument 5))
+script_simulates s = simulates (script s) (hooked_script (woven s.argument 5)) (script_matches s)
+
+-- What alike runs share.
+
+same_status : {A : Type 0} (own woven : Outcome A) (lines : Lines) → Alike own woven → run_status woven lines ≡ run_status own lines
+same_status {A = A} (Over e m v) (Over f n w) lines a = ap (λ x. run_status (Over x n w) lines) a.0 ∙ finish_status e m n v w lines
+  where
+    finish_status : (e : Finish A) (m n : ℕ) (v w : World) (lines : Lines) → run_status (Over e n w) lines ≡ run_status (Over e m v) lines
+    finish_status (Ends a) m n v w [] = refl
+    finish_status (Ends a) m n v w (line ∷ lines) = refl
+    finish_status (Fails f) m n v w lines = refl
+same_status (Over e m v) (Spent w) lines a = absurd a
+same_status (Spent v) r lines a = absurd a
+
+same_text : {A : Type 0} (own woven : Outcome A) → Alike own woven → end_text woven ≡ end_text own
+same_text {A = A} (Over e m v) (Over f n w) a = ap (λ x. end_text (Over x n w)) a.0 ∙ finish_text e m n v w
+  where
+    finish_text : (e : Finish A) (m n : ℕ) (v w : World) → end_text (Over e n w) ≡ end_text (Over e m v)
+    finish_text (Ends a) m n v w = refl
+    finish_text (Fails NumberOutside) m n v w = refl
+same_text (Over e m v) (Spent w) a = absurd a
+same_text (Spent v) r a = absurd a
+
+same_seen : {A : Type 0} (own woven : Outcome A) → Alike own woven → SameSeen (world_of own) (world_of woven)
+same_seen (Over e m v) (Over f n w) a = a.1
+same_seen (Over e m v) (Spent w) a = absurd a
+same_seen (Spent v) r a = absurd a
+
+alike_over : {A : Type 0} (own woven : Outcome A) → Alike own woven → IsOver woven
+alike_over (Over e m v) (Over f n w) a = tt
+alike_over (Over e m v) (Spent w) a = absurd a
+alike_over (Spent v) r a = absurd a
+
+-- More steps than a run needs are not taken.
+same_steps : (n d : ℕ) (p : Part (Unit {0})) (own : Outcome (Unit {0})) → run n p nothing_done ≡ own → IsOver own → steps_taken (n + d) (run (n + d) p nothing_done) ≡ steps_taken n own
+same_steps n d p (Over e left v) is over =
+    ap (steps_taken (n + d)) (run_more n (n + d) d p nothing_done e left v refl is) ∙ (let same : (n + d) - (left + d) ≡ n - left = omega arith in same)
+same_steps n d p (Spent v) is over = absurd over
+
+module _ (s : Script) (over : IsOver (own_run s)) where
+  alike : Alike (own_run s) (woven_run s)
+  alike = (script_simulates s).follows budget over
+
+  seen : SameSeen (world_of (own_run s)) (world_of (woven_run s))
+  seen = same_seen (own_run s) (woven_run s) alike
+
+  taken : steps_taken woven_budget (run woven_budget (script s) nothing_done) ≡ steps_taken budget (own_run s)
+  taken = same_steps budget (31 * budget + 64) (script s) (own_run s) refl over
+
+  about : {call : Call} (lines : Lines) → IsReport (places s) (world_of (woven_run s)).hooks lines → Grows call.written.0 call.written.1 (run_answer s lines).bytes → call.knows (run_answer s lines).told → IsAboutOwnRun call s (run_answer s lines).status
+  about {call} lines report grows knows =
+      let hooks : (world_of (woven_run s)).hooks ≡ (world_of (own_run s)).operations = seen.hooks in
+      let steps = steps_taken woven_budget (woven_run s) in
+      let ended = alike_over (own_run s) (woven_run s) alike in
+      record {
+        lines = lines;
+        steps = steps;
+        report = subst (λ ops. IsReport (places s) ops lines) hooks report;
+        status = same_status (own_run s) (woven_run s) lines alike;
+        bytes = subst (λ bytes. Grows call.written.0 call.written.1 bytes)
+            (ap (λ out. out ++ (lines_text lines ++ end_line (end_text (woven_run s)) steps (length (world_of (woven_run s)).hooks) (length lines))) seen.output
+            ∙ ap (λ end. (world_of (own_run s)).output ++ (lines_text lines ++ end_line end steps (length (world_of (woven_run s)).hooks) (length lines))) (same_text (own_run s) (woven_run s) alike)
+            ∙ ap (λ ops. (world_of (own_run s)).output ++ (lines_text lines ++ end_line (end_text (own_run s)) steps (length ops) (length lines))) hooks)
+            grows;
+        no_fewer = subst (λ n. n ≤ steps) taken ((script_simulates s).no_fewer woven_budget ended);
+        not_many_more = subst (λ n. steps ≤ 32 * n + 64) taken ((script_simulates s).not_many_more woven_budget ended);
+        told = subst (λ ops. call.knows ops) hooks knows;
+      }
+
+due_about : {call : Call} (due : Due) (bytes : List ℕ) (s : Script) → IsOver (own_run s) → length bytes ≤ most_bytes → IsScript bytes s → IsLinted bytes due → Grows call.written.0 call.written.1 due.bytes → call.knows due.told → IsAboutOwnRun call s due.status
+due_about _ bytes s over small is (too_long h) grows knows = absurd (omega arith)
+due_about _ bytes s over small is (not_yet h none) grows knows = absurd (none s is)
+due_about {call} _ bytes s over small is (ran t lines h is2 report) grows knows =
+    let same : t ≡ s = one_script bytes t s is2 is in
+    subst (λ x. IsReport (places x) (world_of (woven_run x)).hooks lines → Grows call.written.0 call.written.1 (run_answer x lines).bytes → call.knows (run_answer x lines).told → IsAboutOwnRun call s (run_answer x lines).status) (sym same) (about s over lines) report grows knows
+
+pub headline : {call : Call} {answer : Status} → EndsWith call answer → (bytes : List ℕ) (s : Script) → call.held ≡ Some bytes → length bytes ≤ most_bytes → IsScript bytes s → call.words ≡ lint → IsOver (own_run s) → HasAnswered answer → IsAboutOwnRun call s answer
+headline {call} (answered due (bad_words other) grows knows) bytes s held small is words over answers = absurd (other words)
+headline {call} (answered due (linted read words2 told l) grows knows) bytes s held small is words over answers =
+    let same : bytes ≡ read = subst (λ h. IfSome h (λ all. all ≡ read)) held told in
+    due_about due bytes s over small is (subst (λ b. IsLinted b due) (sym same) l) grows knows
+headline (write_failed due n is2 risen less grows knows) bytes s held small is words over answers = absurd answers
+headline (read_failed words2 risen same knows) bytes s held small is words over answers = absurd answers
+headline (no_memory same) bytes s held small is words over answers = absurd answers

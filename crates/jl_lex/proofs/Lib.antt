@@ -1,0 +1,6 @@
+pub mod Loops
+pub mod StringLoops
+pub mod Powers
+pub mod AmountLemmas
+pub mod NumberLoops
+pub mod LexLoops

@@ -1,0 +1,16 @@
+//! The lexer (clause 7): the tokens of a text, or its first input element that can't be formed.
+#![tactic(auto)]
+
+mod characters;
+mod comments;
+mod element;
+mod lexer;
+mod names;
+mod numbers;
+mod punctuators;
+mod strings;
+
+pub use lexer::{LexRefusal, lex};
+
+#[cfg(test)]
+mod tests;

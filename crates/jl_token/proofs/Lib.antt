@@ -1,0 +1,14 @@
+pub mod Rows
+pub mod Tests
+pub mod Units
+pub mod Parts
+pub mod Strings
+pub mod Numbers
+pub mod Values
+pub mod Table
+pub mod Branches
+pub mod Found
+pub mod Against
+pub mod Blamed
+pub mod Whole
+pub mod Examples

@@ -1,0 +1,29 @@
+//! What holds of the tokens of each text.
+#![tactic(auto)]
+
+ghost use Rattle.jl_token.specs.Tokens.{TokensAreUnique, BadPlaceIsUnique, TokensOrBad, NeverBoth, SpansAreInOrder};
+
+/// A text has one list of tokens at most.
+pub fn tokens_are_unique()
+    ensures { TokensAreUnique }
+{}
+
+/// A text has one place at most at which the first input element that can't be formed stands, and one cause for it.
+pub fn bad_place_is_unique()
+    ensures { BadPlaceIsUnique }
+{}
+
+/// Each text has tokens, or a first input element that can't be formed.
+pub fn tokens_or_bad()
+    ensures { TokensOrBad }
+{}
+
+/// No text has both.
+pub fn never_both()
+    ensures { NeverBoth }
+{}
+
+/// The spans of the tokens rise, don't overlap, hold a unit at least, and lie in the text.
+pub fn spans_are_in_order()
+    ensures { SpansAreInOrder }
+{}
