@@ -1,5 +1,5 @@
 //! The commands of jlint: a script in, its answer out.
-#![tactic(auto, using(crate::proofs::Views::nodes))]
+#![tactic(auto)]
 
 mod answer;
 mod command;

@@ -1,3 +1,5 @@
+#![tactic(auto, using(crate::proofs::Views::nodes))]
+
 ghost use Rattle.std.specs.Prelude.{◌≡◌, ◌+◌};
 ghost use Rattle.jl_ast.specs.Height.{height, row_height, maybe_height, program_height};
 ghost use Rattle.jl_ast.specs.Saturated.{saturated};

@@ -1,5 +1,5 @@
 //! The syntax tree of a script (clauses 11 to 14).
-#![tactic(auto, using(crate::proofs::Views::nodes))]
+#![tactic(auto)]
 
 mod functions;
 mod heights;
