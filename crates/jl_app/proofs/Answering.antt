@@ -1,13 +1,12 @@
 -- The answer that the code makes of a run is the one that is due.
-use Rattle.std.proofs.Common.{◌≡◌, ℕ, zero, suc, ◌+◌, ◌*◌, ◌<◌, ◌≤◌, ◌^◌, ◌++◌, List, [], ◌∷◌, length, map, sum_by, refl, sym, ap, ◌∙◌, subst, arith}
+use Rattle.std.proofs.Common.{◌≡◌, ℕ, ◌+◌, ◌*◌, ◌<◌, ◌≤◌, ◌^◌, ◌++◌, List, [], ◌∷◌, length, map, sum_by, refl, sym, ap, ◌∙◌, subst, arith}
 use Rattle.std.specs.Prelude.{All, IfSome, slice_get}
 use Rattle.std.specs.Ordering.{nat_cmp}
 use Rattle.std.specs.List.Sorted.{IsStrictlySortedBy}
 use Rattle.jl_op.specs.Operations.{Operation}
 use Rattle.jl_op.specs.Summary.{Counts, hits, summary}
-use Rattle.jl_op.specs.declared.value.Fault.{Fault}
 use Rattle.jl_op.specs.declared.value.Fault.TheVariants.{NumberOutside}
-use Rattle.jl_meaning.specs.Effects.{Finish, Ends, Fails, Outcome, Over, Spent, run, nothing_done, world_of, steps_taken}
+use Rattle.jl_meaning.specs.Effects.{Ends, Fails, Outcome, Over, Spent, run, nothing_done, world_of, steps_taken}
 use Rattle.jl_app.specs.declared.outcome.Outcome.{Outcome as Answered}
 use Rattle.jl_app.specs.declared.status.Status.{Status}
 use Rattle.jl_app.specs.Reporting.{Lines, count_at, if_any, total_at, lines_text}
@@ -67,7 +66,7 @@ answer_is {r = r} s found taken lines reports answer text end bytes is few f p c
       };
       status = status_is (woven_run s) lines r.outcome reports answer st is.outcome n;
       bytes_are = b ∙ ap (λ x. x ++ (text ++ end)) is.output ∙ ap (λ x. (world_of (woven_run s)).output ++ (x ++ end)) t
-        ∙ ap (λ x. (world_of (woven_run s)).output ++ (lines_text lines ++ x)) (e
+          ∙ ap (λ x. (world_of (woven_run s)).output ++ (lines_text lines ++ x)) (e
           ∙ ap (λ x. end_line x r.steps r.hooks reports) (text_is (woven_run s) r.outcome is.outcome)
           ∙ ap (λ x. end_line (end_text (woven_run s)) x r.hooks reports) is.steps
           ∙ ap (λ x. end_line (end_text (woven_run s)) (steps_taken woven_budget (woven_run s)) x reports) is.hooks

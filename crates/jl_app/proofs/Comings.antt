@@ -1,17 +1,15 @@
 -- A run in progress, from one part to the next.
-use Rattle.std.proofs.Common.{◌≡◌, ℕ, zero, suc, ◌+◌, ◌-◌, ◌<◌, ◌≤◌, List, [], ◌∷◌, ◌++◌, Option, Some, None, Result, Ok, Err, refl, sym, ap, ◌∙◌, subst, arith}
+use Rattle.std.proofs.Common.{◌≡◌, ℕ, zero, suc, ◌+◌, ◌-◌, ◌≤◌, List, [], ◌∷◌, ◌++◌, Result, Ok, Err, sym, ap, ◌∙◌, subst, arith}
 use Rattle.jl_num.specs.Number.{Number}
 use Rattle.jl_op.specs.Operations.{Operation}
-use Rattle.jl_op.specs.declared.value.Fault.TheVariants.{NumberOutside}
-use Rattle.jl_meaning.specs.Effects.{Part, End, Fail, Step, Print, Does, Tells, steps, and_then, World, Finish, Ends, Fails, Outcome, Over, Spent, run}
-use Rattle.jl_meaning.proofs.Chains.{run_then, run_then_fails, run_then_spent, run_steps, run_steps_spent}
+use Rattle.jl_meaning.specs.Effects.{Part, End, Fail, Step, Print, Does, Tells, steps, and_then, World, Finish, Ends, Fails, Outcome, Over, run}
+use Rattle.jl_meaning.proofs.Chains.{run_then, run_then_fails, run_then_spent, run_steps}
 use Rattle.jl_op.specs.declared.value.Fault.{Fault}
 use Rattle.jl_app.specs.declared.outcome.Outcome.{Outcome as Answered}
 use Rattle.jl_app.specs.declared.outcome.Outcome.TheVariants as answers
 use Rattle.jl_app.specs.declared.run.State.{State}
 use Rattle.jl_app.specs.declared.run.Stop.{Stop}
 use Rattle.jl_app.specs.declared.run.Stop.TheVariants as stops
-use Rattle.jl_app.specs.Meaning.{or_outside}
 use Rattle.jl_op.specs.declared.op.OpId.{OpId}
 use Rattle.jl_op.specs.declared.op.Operator.{Operator}
 use Rattle.jl_app.specs.Weaving.{Hooked, hooked_binary, hooked_value, hooked_operation}

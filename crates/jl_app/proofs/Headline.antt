@@ -1,8 +1,7 @@
 -- The answer is about the script's own run.
-use Rattle.std.proofs.Common.{◌≡◌, ℕ, ◌+◌, ◌-◌, ◌*◌, ◌<◌, ◌≤◌, ◌++◌, List, [], ◌∷◌, Option, Some, None, length, refl, sym, ap, ◌∙◌, subst, arith}
+use Rattle.std.proofs.Common.{◌≡◌, ℕ, ◌+◌, ◌-◌, ◌*◌, ◌≤◌, ◌++◌, List, [], ◌∷◌, Some, length, refl, sym, ap, ◌∙◌, subst, arith}
 use Rattle.std.specs.Prelude.{IfSome}
 use Rattle.jl_port.specs.Bytes.{Grows}
-use Rattle.jl_op.specs.Operations.{Operation}
 use Rattle.jl_op.specs.declared.value.Fault.TheVariants.{NumberOutside}
 use Rattle.jl_meaning.specs.Effects.{Part, Finish, Ends, Fails, Outcome, Over, Spent, World, nothing_done, run, IsOver, world_of, steps_taken}
 use Rattle.jl_meaning.specs.Follows.{SameSeen, Alike, Simulates}
@@ -15,7 +14,7 @@ use Rattle.jl_app.specs.Places.{places}
 use Rattle.jl_app.specs.Meaning.{script}
 use Rattle.jl_app.specs.Weaving.{woven, hooked_script}
 use Rattle.jl_app.specs.Reporting.{Lines, IsReport, lines_text}
-use Rattle.jl_app.specs.Answers.{Due, budget, woven_budget, own_run, woven_run, end_text, end_line, run_status, run_answer, most_bytes, IsLinted, too_long, not_yet, ran, lint, IsDue, bad_words, linted}
+use Rattle.jl_app.specs.Answers.{Due, budget, woven_budget, own_run, woven_run, end_text, end_line, run_status, run_answer, most_bytes, IsLinted, too_long, not_yet, ran, lint, bad_words, linted}
 use Rattle.jl_app.specs.Endings.{Call, EndsWith, answered, write_failed, read_failed, no_memory, HasAnswered, IsAboutOwnRun}
 use Rattle.jl_app.proofs.Simulation.{script_matches}
 use Rattle.jl_app.proofs.ReadingScripts.{one_script}
@@ -81,10 +80,10 @@ module _ (s : Script) (over : IsOver (own_run s)) where
         report = subst (λ ops. IsReport (places s) ops lines) hooks report;
         status = same_status (own_run s) (woven_run s) lines alike;
         bytes = subst (λ bytes. Grows call.written.0 call.written.1 bytes)
-          (ap (λ out. out ++ (lines_text lines ++ end_line (end_text (woven_run s)) steps (length (world_of (woven_run s)).hooks) (length lines))) seen.output
-          ∙ ap (λ end. (world_of (own_run s)).output ++ (lines_text lines ++ end_line end steps (length (world_of (woven_run s)).hooks) (length lines))) (same_text (own_run s) (woven_run s) alike)
-          ∙ ap (λ ops. (world_of (own_run s)).output ++ (lines_text lines ++ end_line (end_text (own_run s)) steps (length ops) (length lines))) hooks)
-          grows;
+            (ap (λ out. out ++ (lines_text lines ++ end_line (end_text (woven_run s)) steps (length (world_of (woven_run s)).hooks) (length lines))) seen.output
+            ∙ ap (λ end. (world_of (own_run s)).output ++ (lines_text lines ++ end_line end steps (length (world_of (woven_run s)).hooks) (length lines))) (same_text (own_run s) (woven_run s) alike)
+            ∙ ap (λ ops. (world_of (own_run s)).output ++ (lines_text lines ++ end_line (end_text (own_run s)) steps (length ops) (length lines))) hooks)
+            grows;
         no_fewer = subst (λ n. n ≤ steps) taken ((script_simulates s).no_fewer woven_budget ended);
         not_many_more = subst (λ n. steps ≤ 32 * n + 64) taken ((script_simulates s).not_many_more woven_budget ended);
         told = subst (λ ops. call.knows ops) hooks knows;

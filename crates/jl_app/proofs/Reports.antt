@@ -1,8 +1,8 @@
 -- The report that is made of counts is the report of the hits.
-use Rattle.std.proofs.Common.{◌≡◌, ℕ, zero, suc, ◌+◌, ◌-◌, ◌^◌, ◌<◌, ◌≤◌, Bool, true, false, nat_eq, List, [], ◌∷◌, ◌++◌, Option, Some, None, length, take, get_or, map, sum_by, refl, sym, ap, ◌∙◌, arith, append_assoc, append-nil}
+use Rattle.std.proofs.Common.{◌≡◌, ℕ, zero, suc, ◌+◌, ◌^◌, ◌<◌, ◌≤◌, Bool, true, false, nat_eq, List, [], ◌∷◌, ◌++◌, Option, length, take, get_or, sum_by, refl, sym, ap, ◌∙◌, arith, append_assoc, append-nil}
 use Rattle.std.proofs.lemmas.List.Sums.{sum_by-cons}
 use Rattle.std.proofs.lemmas.List.Elements.{All-cons}
-use Rattle.std.specs.Prelude.{unwrap_or, if◌then◌else◌, All, count_by, min, fold}
+use Rattle.std.specs.Prelude.{unwrap_or, if◌then◌else◌, All, count_by, fold}
 use Rattle.jl_op.specs.declared.op.OpId.{OpId}
 use Rattle.jl_op.specs.Operations.{Operation}
 use Rattle.jl_op.specs.Rules.{hit}

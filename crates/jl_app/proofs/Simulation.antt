@@ -1,7 +1,7 @@
 -- The woven script matches the script.
-use Rattle.std.proofs.Common.{◌≡◌, ℕ, ◌+◌, ◌≤◌, Option, Some, None, arith}
+use Rattle.std.proofs.Common.{ℕ, ◌+◌, Option, Some, None, arith}
 use Rattle.jl_num.specs.Number.{Number}
-use Rattle.jl_meaning.specs.Follows.{plus, Matches, ends, fails, both, extra, prints, told, spare}
+use Rattle.jl_meaning.specs.Follows.{plus, Matches, ends, fails, both, extra, prints, told}
 use Rattle.jl_meaning.proofs.Chains.{matches_then}
 use Rattle.jl_app.specs.Sums.{Sum, number, binary, Script, parts}
 use Rattle.jl_app.specs.Meaning.{or_outside, result_of, value_of, script}

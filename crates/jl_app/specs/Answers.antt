@@ -1,9 +1,10 @@
 -- What is due to a list of words, and to a script.
-use Rattle.std.specs.Prelude.{◌≡◌, ℕ, ◌+◌, ◌*◌, ◌<◌, ◌≤◌, List, [], ◌∷◌, ◌++◌, Option, None, Some, IfSome, length, codes}
+use Rattle.std.specs.Prelude.{◌≡◌, ℕ, ◌+◌, ◌*◌, ◌<◌, ◌≤◌, List, [], ◌∷◌, ◌++◌, Option, IfSome, length, map, codes}
+use Rattle.std.specs.Borrow.{Bor}
 use Rattle.std.specs.Fmt.{decimal}
 use Rattle.jl_op.specs.declared.value.Fault.TheVariants.{NumberOutside}
 use Rattle.jl_op.specs.Operations.{Operation}
-use Rattle.jl_meaning.specs.Effects.{Finish, Ends, Fails, Outcome, Over, Spent, World, nothing_done, run, world_of, steps_taken}
+use Rattle.jl_meaning.specs.Effects.{Ends, Fails, Outcome, Over, Spent, nothing_done, run, world_of, steps_taken}
 use Rattle.jl_app.specs.declared.status.Status.{Status}
 use Rattle.jl_app.specs.declared.status.Status.TheVariants as status
 use Rattle.jl_app.specs.Sums.{Script}
@@ -79,6 +80,10 @@ pub data IsLinted (bytes : List ℕ) : Due → Type 0 where
   too_long : most_bytes < length bytes → IsLinted bytes (line_only status.Refused (codes "refused TooLong"))
   not_yet : length bytes ≤ most_bytes → ((s : Script) → IsScript bytes s → ⊥) → IsLinted bytes (line_only status.Refused (codes "refused NotYet"))
   ran : (s : Script) (lines : Lines) → length bytes ≤ most_bytes → IsScript bytes s → IsReport (places s) (world_of (woven_run s)).hooks lines → IsLinted bytes (run_answer s lines)
+
+-- the texts of borrowed words
+abbrev pub texts : List (Bor (List ℕ)) → List (List ℕ)
+texts words = map (λ word. word.now) words
 
 -- the words are a command: the one word `lint`
 abbrev pub lint : List (List ℕ)

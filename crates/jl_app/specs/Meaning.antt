@@ -1,6 +1,6 @@
 -- What a script of the form `print(SUM);` does by itself: its operations, and its steps. A statement, an expression, an
 -- entered builtin and each turn of its loop take a step.
-use Rattle.std.specs.Prelude.{ℕ, ◌+◌, suc, Option, Some, None, List, [], ◌∷◌}
+use Rattle.std.specs.Prelude.{ℕ, ◌+◌, Option, Some, None, List}
 use Rattle.jl_num.specs.Number.{Number}
 use Rattle.jl_num.specs.Arithmetic.{sum_of, difference_of, product_of, quotient_of, remainder_of}
 use Rattle.jl_num.specs.Digits.{number_text}
@@ -45,10 +45,10 @@ printed n = number_text n 10
 abbrev pub value_of : Sum → (before : ℕ) → Part Number
 value_of (number at n) before = Step (Does (with_id before (Literal (seen n))) (End n))
 value_of (binary at op a b) before = Step do
-    x ← value_of a (before + 1)
-    y ← value_of b (before + 1 + parts a)
-    z ← or_outside (result_of op x y)
-    Does (with_id before (Binary op (seen x) (seen y) (seen z))) (End z)
+  x ← value_of a (before + 1)
+  y ← value_of b (before + 1 + parts a)
+  z ← or_outside (result_of op x y)
+  Does (with_id before (Binary op (seen x) (seen y) (seen z))) (End z)
 
 -- what the call of `print` does, once its argument is evaluated: it is known to be callable, the builtin is entered, its
 -- loop has a turn for the one argument, and it returns
@@ -63,7 +63,7 @@ script_begin = Does (with_id 0 ScriptEnter) (steps 3 (Does (with_id 4 Read) (End
 -- what a script does
 abbrev pub script : Script → Part (Unit {0})
 script s = do
-    _ ← script_begin
-    x ← value_of s.argument 5
-    _ ← print_call x
-    Does (with_id 1 ScriptExit) (End tt)
+  _ ← script_begin
+  x ← value_of s.argument 5
+  _ ← print_call x
+  Does (with_id 1 ScriptExit) (End tt)

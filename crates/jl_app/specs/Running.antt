@@ -1,7 +1,7 @@
 -- How a run in progress stands to what its part does.
 use Rattle.std.specs.Prelude.{◌≡◌, ℕ, List, length, Result, Ok, Err}
 use Rattle.jl_op.specs.Operations.{Operation}
-use Rattle.jl_meaning.specs.Effects.{World, Finish, Ends, Fails, Outcome, Over, Spent, world_of, steps_taken}
+use Rattle.jl_meaning.specs.Effects.{Part, run, World, Ends, Fails, Outcome, Over, Spent, world_of, steps_taken}
 use Rattle.jl_app.specs.declared.outcome.Outcome.{Outcome as End}
 use Rattle.jl_app.specs.declared.outcome.Outcome.TheVariants as ends
 use Rattle.jl_app.specs.declared.outcome.Run.{Run}
@@ -21,6 +21,12 @@ Comes stands_for r (Ok a) observer state = (w : World) × (r ≡ Over (Ends a) s
 Comes stands_for r (Err (stops.Fault f)) observer state = (w : World) × (r ≡ Over (Fails f) state.left w) × Stands stands_for observer state w
 Comes stands_for r (Err stops.Spent) observer state = (w : World) × (r ≡ Spent w) × (state.left ≡ 0) × Stands stands_for observer state w
 Comes stands_for r (Err stops.NoMemory) observer state = Unit {0}
+
+-- What was answered, and what the state and the observer have become, is what the part does from here, whatever has
+-- been done before.
+abbrev pub Performs : {O A : Type 0} → (O → List Operation → Type 0) → O → State → Part A → Result A Stop → O → State → Type 0
+Performs stands_for observer state p answer observer' state' =
+    (w : World) → Stands stands_for observer state w → Comes stands_for (run state.left p w) answer observer' state'
 
 -- how a run ended
 abbrev pub end_of : {A : Type 0} → Outcome A → End

@@ -1,5 +1,4 @@
 -- What contracts see of the trees.
-use Rattle.std.specs.Prelude.{ℕ}
 use Rattle.jl_app.specs.declared.tree.Script.{Script as ScriptTree}
 use Rattle.jl_app.specs.declared.tree.Sum.{Sum as SumTree, fold-Sum}
 use Rattle.jl_app.specs.declared.tree.Sum.TheOpen.{Sum-F}

@@ -7,7 +7,7 @@ use Rattle.jl_op.specs.declared.op.OpId.{OpId}
 use Rattle.jl_op.specs.declared.op.Op.TheVariants.{ScriptEnter, ScriptExit, Literal, Read, Binary, InvokePre, InvokePost}
 use Rattle.jl_op.specs.declared.value.Value.TheVariants.{Undefined}
 use Rattle.jl_meaning.specs.Effects.{Part, End, Step, Print, Tells, steps, ◌>>=◌}
-use Rattle.jl_app.specs.Sums.{Sum, number, binary, Script, parts}
+use Rattle.jl_app.specs.Sums.{Sum, number, binary, parts}
 use Rattle.jl_app.specs.Meaning.{with_id, seen, result_of, or_outside, printed}
 
 pub data Hooked : Type 0 where
@@ -25,17 +25,17 @@ woven (binary at op a b) before =
 -- what the hook of a binary operation does: it is entered, applies the operator, and tells of it
 abbrev pub hooked_operation : OpId → Operator → Number → Number → Part Number
 hooked_operation id op x y = Step do
-    z ← or_outside (result_of op x y)
-    Tells (id, Binary op (seen x) (seen y) (seen z)) (End z)
+  z ← or_outside (result_of op x y)
+  Tells (id, Binary op (seen x) (seen y) (seen z)) (End z)
 
 -- what a woven sum does to give its value. A call of a hook takes a step, its arguments take theirs, and the hook is
 -- entered with a step.
 abbrev pub hooked_value : Hooked → Part Number
 hooked_value (hooked_literal id n) = steps 3 (Tells (id, Literal (seen n)) (End n))
 hooked_value (hooked_binary id op a b) = Step do
-    x ← hooked_value a
-    y ← hooked_value b
-    hooked_operation id op x y
+  x ← hooked_value a
+  y ← hooked_value b
+  hooked_operation id op x y
 
 -- `J$.S(1);` is a statement, a call and a hook
 abbrev pub hooked_enter : Part (Unit {0})
@@ -61,9 +61,9 @@ hooked_end = steps 3 (Tells (with_id 1 ScriptExit) (End tt))
 -- what a woven script does
 abbrev pub hooked_script : Hooked → Part (Unit {0})
 hooked_script argument = do
-    _ ← hooked_enter
-    _ ← hooked_callee
-    x ← hooked_value argument
-    _ ← hooked_invoke x
-    _ ← hooked_return
-    hooked_end
+  _ ← hooked_enter
+  _ ← hooked_callee
+  x ← hooked_value argument
+  _ ← hooked_invoke x
+  _ ← hooked_return
+  hooked_end

@@ -8,9 +8,6 @@ ghost use Rattle.jl_app.specs.Sums.{parts};
 ghost use Rattle.jl_app.specs.Texts.{outcome_text, outcome_status};
 ghost use Rattle.jl_app.specs.View.{view_script};
 
-use jl_op::{Crowd, Fault, Observer};
-use std::alloc::{AllocError, Global};
-
 use crate::outcome::{Outcome, Run};
 use crate::read::{ReadingRefusal, read};
 use crate::report::{report, text};
@@ -18,6 +15,8 @@ use crate::run::run;
 use crate::status::Status;
 use crate::tree::Script;
 use crate::weave::weave;
+use jl_op::{Crowd, Fault, Observer};
+use std::alloc::{AllocError, Global};
 
 /// How many steps a script's own run has.
 const BUDGET: u64 = 1_000_000;
@@ -37,7 +36,8 @@ pub(crate) struct Answer {
 
 /// The answer without a run: a line.
 pub(crate) fn line_only(alloc: Global, status: Status, text: &str) -> Result<Answer, AllocError>
-    ensures { IfOk result (λ a. (a.status ≡ (line_only status text.now).status) × (a.bytes.items ≡ (line_only status text.now).bytes)) }
+    ensures { IfOk result (λ a. (a.status ≡ (line_only status text.now).status)
+        × (a.bytes.items ≡ (line_only status text.now).bytes)) }
 {
     let line = format!(in alloc; "jlint: {text}\n")?;
     Ok(Answer {
@@ -59,7 +59,8 @@ fn end_text(outcome: Outcome) -> &'static str
 
 /// The last line of an answer with a run.
 fn end_line(alloc: Global, run: &Run, reports: usize) -> Result<String, AllocError>
-    ensures { IfOk result (λ text. string_bytes text ≡ end_line (outcome_text run.now.outcome) run.now.steps run.now.hooks reports) }
+    ensures { IfOk result (λ text. string_bytes text
+        ≡ end_line (outcome_text run.now.outcome) run.now.steps run.now.hooks reports) }
 {
     let end = end_text(run.outcome);
     let steps = run.steps;
@@ -122,7 +123,11 @@ pub(crate) fn lint(alloc: Global, bytes: &[u8], crowd: &mut Crowd) -> Result<Ans
     requires small { length bytes.now ≤ 1048576 }
     requires rules { ⟦<Crowd as Observer>⟧.rules crowd.old ≡ 1 ∷ [] }
     requires fresh { ⟦<Crowd as Observer>⟧.stands_for crowd.old [] }
-    ensures due { IfOk result (λ a. (due : Due) × IsLinted bytes.now due × (a.status ≡ due.status) × (a.bytes.items ≡ due.bytes) × ⟦<Crowd as Observer>⟧.stands_for crowd.new due.told) }
+    ensures due { IfOk result (λ a. (due : Due)
+        × IsLinted bytes.now due
+        × (a.status ≡ due.status)
+        × (a.bytes.items ≡ due.bytes)
+        × ⟦<Crowd as Observer>⟧.stands_for crowd.new due.told) }
     ensures same_rules { ⟦<Crowd as Observer>⟧.rules crowd.new ≡ ⟦<Crowd as Observer>⟧.rules crowd.old }
 {
     match read(alloc, bytes) {

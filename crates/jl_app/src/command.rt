@@ -1,20 +1,19 @@
-ghost use Rattle.std.specs.Prelude.{◌≡◌, ◌≢◌, ◌↔◌, ◌⊎◌, ◌≤◌, ℕ, List, [], ◌∷◌, length, map, Option, Some, IfOk, IsErrOf, IsTrue};
+ghost use Rattle.std.specs.Prelude.{◌≡◌, ◌≢◌, ◌↔◌, ◌⊎◌, ◌≤◌, ℕ, List, [], ◌∷◌, length, Option, Some, IfOk, IsErrOf, IsTrue};
 ghost use Rattle.jl_op.specs.Operations.{Operation};
 ghost use Rattle.jl_port.specs.Bytes.{Grows};
 ghost use Rattle.jl_port.specs.Count.{HasRisen};
-ghost use Rattle.jl_app.specs.Answers.{Due, IsDue, lint, most_bytes, own_run};
+ghost use Rattle.jl_app.specs.Answers.{Due, IsDue, texts, lint, most_bytes, own_run};
 ghost use Rattle.jl_app.specs.Endings.{EndsWith, HasAnswered, IsAboutOwnRun};
 ghost use Rattle.jl_app.specs.Reading.{IsScript};
 ghost use Rattle.jl_app.specs.Sums.{Script};
 ghost use Rattle.jl_meaning.specs.Effects.{IsOver};
 ghost use Rattle.jl_app.specs.declared.command.Unanswered.TheVariants.{NoMemory};
 
+use crate::answer::{Answer, MOST_BYTES, line_only, lint};
+use crate::status::Status;
 use jl_op::{Crowd, Observer};
 use jl_port::{ReadRefusal, Shelf, Sink, Source, read_all, write_all};
 use std::alloc::{AllocError, Global};
-
-use crate::answer::{Answer, MOST_BYTES, line_only, lint};
-use crate::status::Status;
 
 /// Why nothing is answered.
 #[derive(Drop)]
@@ -33,7 +32,7 @@ impl From<AllocError> for Unanswered {
 
 /// Whether the words are the one command that there is.
 fn is_lint(words: &[&str]) -> bool
-    ensures { IsTrue result ↔ (map (λ word. word.now) words.now ≡ lint) }
+    ensures { IsTrue result ↔ (texts words.now ≡ lint) }
 {
     match words {
         [word] => *word == "lint",
@@ -50,9 +49,15 @@ fn due<S: Source>(
 ) -> Result<Answer, Unanswered>
     requires rules { ⟦<Crowd as Observer>⟧.rules crowd.old ≡ 1 ∷ [] }
     requires fresh { ⟦<Crowd as Observer>⟧.stands_for crowd.old [] }
-    ensures due { IfOk result (λ a. (due : Due) × IsDue (map (λ word. word.now) words.now) (S.left source.old) due × (a.status ≡ due.status) × (a.bytes.items ≡ due.bytes) × ⟦<Crowd as Observer>⟧.stands_for crowd.new due.told) }
-    ensures fault { IsErrOf result Unanswered.ReadFault → (map (λ word. word.now) words.now ≡ lint) × HasRisen (S.faults source.old) (S.faults source.new) × ⟦<Crowd as Observer>⟧.stands_for crowd.new [] }
-    ensures unread { map (λ word. word.now) words.now ≢ lint → source.new ≡ source.old }
+    ensures due { IfOk result (λ a. (due : Due)
+        × IsDue (texts words.now) (S.left source.old) due
+        × (a.status ≡ due.status)
+        × (a.bytes.items ≡ due.bytes)
+        × ⟦<Crowd as Observer>⟧.stands_for crowd.new due.told) }
+    ensures fault { IsErrOf result Unanswered.ReadFault → (texts words.now ≡ lint)
+        × HasRisen (S.faults source.old) (S.faults source.new)
+        × ⟦<Crowd as Observer>⟧.stands_for crowd.new [] }
+    ensures unread { texts words.now ≢ lint → source.new ≡ source.old }
     ensures same_rules { ⟦<Crowd as Observer>⟧.rules crowd.new ≡ ⟦<Crowd as Observer>⟧.rules crowd.old }
 {
     if !is_lint(words) {
@@ -81,10 +86,26 @@ pub fn jlint<S: Source, K: Sink, H: Shelf>(
 ) -> Status
     requires rules { ⟦<Crowd as Observer>⟧.rules crowd.old ≡ 1 ∷ [] }
     requires fresh { ⟦<Crowd as Observer>⟧.stands_for crowd.old [] }
-    ensures ends { EndsWith (record { words = map (λ word. word.now) words.now; held = S.left source.old; read_faults = (S.faults source.old, S.faults source.new); written = (K.written sink.old, K.written sink.new); write_faults = (K.faults sink.old, K.faults sink.new); knows = λ told. ⟦<Crowd as Observer>⟧.stands_for crowd.new told }) result }
+    ensures ends { EndsWith (record {
+      words = texts words.now;
+      held = S.left source.old;
+      read_faults = (S.faults source.old, S.faults source.new);
+      written = (K.written sink.old, K.written sink.new);
+      write_faults = (K.faults sink.old, K.faults sink.new);
+      knows = λ told. ⟦<Crowd as Observer>⟧.stands_for crowd.new told;
+    }) result }
     // For a source that tells its bytes, the answer to a script is about the script's own run, where that is over.
-    ensures headline { (bytes : List ℕ) (s : Script) → S.left source.old ≡ Some bytes → length bytes ≤ most_bytes → IsScript bytes s → map (λ word. word.now) words.now ≡ lint → IsOver (own_run s) → HasAnswered result → IsAboutOwnRun (record { words = map (λ word. word.now) words.now; held = S.left source.old; read_faults = (S.faults source.old, S.faults source.new); written = (K.written sink.old, K.written sink.new); write_faults = (K.faults sink.old, K.faults sink.new); knows = λ told. ⟦<Crowd as Observer>⟧.stands_for crowd.new told }) s result }
-    ensures unread { map (λ word. word.now) words.now ≢ lint → source.new ≡ source.old }
+    ensures headline { (bytes : List ℕ) (s : Script) → S.left source.old ≡ Some bytes
+        → length bytes ≤ most_bytes → IsScript bytes s → texts words.now ≡ lint
+        → IsOver (own_run s) → HasAnswered result → IsAboutOwnRun (record {
+          words = texts words.now;
+          held = S.left source.old;
+          read_faults = (S.faults source.old, S.faults source.new);
+          written = (K.written sink.old, K.written sink.new);
+          write_faults = (K.faults sink.old, K.faults sink.new);
+          knows = λ told. ⟦<Crowd as Observer>⟧.stands_for crowd.new told;
+        }) s result }
+    ensures unread { texts words.now ≢ lint → source.new ≡ source.old }
     ensures shelf { _shelf.new ≡ _shelf.old }
     ensures same_rules { ⟦<Crowd as Observer>⟧.rules crowd.new ≡ ⟦<Crowd as Observer>⟧.rules crowd.old }
 {

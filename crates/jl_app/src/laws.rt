@@ -16,5 +16,4 @@ pub fn one_reading()
 #[tactic(auto, using(crate::proofs::Headline::script_simulates))]
 pub fn woven_scripts_simulate()
     ensures { (s : Script) → Simulates (script s) (hooked_script (woven s.argument 5)) }
-{
-}
+{}

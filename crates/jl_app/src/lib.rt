@@ -1,20 +1,19 @@
 //! The commands of jlint: a script in, its answer out.
 #![tactic(auto, using(crate::proofs::Views::nodes))]
 
-pub mod laws;
-pub mod outcome;
 mod answer;
 mod command;
+pub mod laws;
+mod outcome;
 mod read;
-pub mod report;
-pub mod run;
-pub mod status;
-pub mod tree;
-pub mod weave;
+mod report;
+mod run;
+mod status;
+mod tree;
+mod weave;
 
 pub use command::jlint;
 pub use status::Status;
-pub use tree::{Script, Sum};
 
 #[cfg(test)]
 mod tests;

@@ -1,11 +1,9 @@
 ghost use Rattle.std.specs.Prelude.{◌<◌};
 
-use std::test::Fail;
-
+use crate::command::jlint;
 use jl_op::{Crowd, NanMade};
 use jl_port::{MemSink, MemSource, Same};
-
-use crate::command::jlint;
+use std::test::Fail;
 
 /// The status and the bytes that these words give, of a source and into a sink.
 fn answer(

@@ -4,17 +4,19 @@ ghost use Rattle.jl_app.specs.Places.{sum_places};
 ghost use Rattle.jl_app.specs.View.{view, view_woven};
 ghost use Rattle.jl_app.specs.Weaving.{woven};
 
+use crate::tree::Sum;
 use jl_num::Num;
 use jl_op::{OpId, Operator};
 use std::alloc::{AllocError, Global};
-
-use crate::tree::Sum;
 
 /// A sum in which each operation calls a hook with the operation's id.
 #[derive(Drop)]
 pub enum Woven {
     /// `J$.T(id, value)`
-    Literal { id: OpId, value: Num },
+    Literal {
+        id: OpId,
+        value: Num,
+    },
     /// `J$.B(id, "op", left, right)`
     Binary {
         id: OpId,

@@ -9,7 +9,7 @@ pub struct Ident {
     pub span: Span,
 }
 
-/// A program (clause 14). Its span goes to the end of the last token.
+/// A program (clause 14). Its span goes to the end of the last token. Dropping it recurses as deep as it is high.
 #[derive(Drop)]
 pub struct Program {
     pub body: Body,

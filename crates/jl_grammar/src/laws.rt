@@ -1,4 +1,5 @@
 //! The laws of the grammar: each is the contract of a function.
+ghost use Rattle.jl_grammar.specs.Accepted.{OneAccepted};
 ghost use Rattle.jl_grammar.specs.Laws.{DirectivesAreAlone, LimitsAgree, OneReading, ReaderTells};
 
 /// A list of tokens reads as one program at most, within any limit.
@@ -19,4 +20,9 @@ pub fn reader_tells()
 /// The test for a directive of the definitions tells the statements that are one string token (14.1).
 pub fn directives_are_alone()
     ensures { DirectivesAreAlone }
+{}
+
+/// Bytes are accepted as one program at most, whatever further test of programs there is.
+pub fn one_accepted()
+    ensures { OneAccepted }
 {}

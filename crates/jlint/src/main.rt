@@ -1,13 +1,12 @@
 //! The program jlint: standard input is the script, standard output the answer, and the exit status how it ended.
 #![tactic(auto)]
 
-use std::env;
-use std::io::{self, ErrorKind};
-use std::process::ExitCode;
-
 use jl_app::{Status, jlint};
 use jl_op::{Crowd, NanMade};
 use jl_port::{InSource, OutSink, Same};
+use std::env;
+use std::io::{self, ErrorKind};
+use std::process::ExitCode;
 
 fn main(rt: HostRuntime) -> ExitCode {
     match run(&rt) {

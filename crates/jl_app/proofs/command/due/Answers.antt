@@ -1,4 +1,4 @@
-use Rattle.std.proofs.Common.{◌∙◌, ap, Err}
+use Rattle.std.proofs.Common.{ap, Err}
 use Rattle.std.specs.Prelude.{codes}
 use Rattle.jl_app.specs.declared.status.Status.TheVariants.{BadWords, Refused}
 use Rattle.jl_app.specs.Answers.{line_only, bad_words, linted, too_long}

@@ -1,7 +1,7 @@
-use Rattle.std.proofs.Common.{◌≡◌, ◌+◌, ap, ◌∙◌, sym, subst, Ok, Err}
+use Rattle.std.proofs.Common.{◌≡◌, ap, ◌∙◌, sym, subst, Err}
 use Rattle.std.proofs.lemmas.Result.{err_from_is_err_and}
-use Rattle.jl_meaning.specs.Effects.{World, run}
-use Rattle.jl_app.specs.Running.{Stands, Comes}
+use Rattle.jl_meaning.specs.Effects.{run}
+use Rattle.jl_app.specs.Running.{Comes}
 use Rattle.jl_app.specs.View.{view_woven}
 use Rattle.jl_app.specs.Weaving.{hooked_value, hooked_binary}
 use Rattle.jl_app.proofs.Comings.{stands_on, left_stops, right_stops, operates}

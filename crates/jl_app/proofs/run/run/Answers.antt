@@ -1,4 +1,4 @@
-use Rattle.std.proofs.Common.{[], refl, sym, subst, Ok, Err}
+use Rattle.std.proofs.Common.{refl, sym, subst, Err}
 use Rattle.jl_meaning.specs.Effects.{nothing_done, run}
 use Rattle.jl_app.specs.Running.{Stands, Comes, IsRun}
 use Rattle.jl_app.specs.View.{view_woven}
