@@ -1,4 +1,4 @@
-// Small texts, and long ones. The expected values are those of edition 5.1, and of node where it agrees with it.
+// Small texts, and long ones. The expected values are reckoned by hand from edition 5.1.
 use crate::*;
 use jl_text::{Utf8Fault, from_utf8, to_utf8};
 use jl_token::{Token, TokenKind, spelling};
