@@ -10,7 +10,6 @@ pub mod Complete
 pub mod Holds
 pub mod SoundExpressions
 pub mod Sound
-pub mod Numbered
 pub mod One
 pub mod OneAccepted
 pub mod Sample

@@ -16,7 +16,7 @@ use Rattle.jl_grammar.specs.Reader.{body_from, deeper, is_shallow, program_at}
 use Rattle.jl_grammar.specs.Reads.{Code, ReadsBody}
 use Rattle.jl_grammar.specs.Tokens.{sign_at}
 use Rattle.jl_grammar.proofs.Complete.{body_complete}
-use Rattle.jl_grammar.proofs.Numbered.{tree_height}
+use Rattle.jl_ast.proofs.SameHeight.{renumbered}
 use Rattle.jl_grammar.proofs.Holds.{Holds}
 use Rattle.jl_grammar.proofs.Sound.{deeper_sound}
 use Rattle.jl_grammar.proofs.SoundExpressions.{body_sound}
@@ -26,7 +26,7 @@ unfolding opened
 none_opened ts = refl
 
 code_height : (ts : List Token) (c : Code) → program_height (program_of ts c) ≡ height c
-code_height ts c = tree_height 0 c
+code_height ts c = renumbered 0 c
 
 -- the reader's answer, with levels enough
 pub answer : (ts : List Token) (limit f : ℕ) (p : Program Span) (r : Reads ts limit p) → 3 * limit ≤ f

@@ -1,5 +1,5 @@
--- Which units are what. A unit is one of the numbers of UTF-16; it stands for the character with that number (clause
--- 6).
+-- Which units are what. A unit is one of the numbers of UTF-16; it stands for the character with that number
+-- (clause 6).
 use Rattle.std.specs.Prelude.{ℕ, Bool, true, false, ◌==◌, ◌&&◌, ◌||◌, ◌+◌, ◌-◌, ◌*◌, nat_le, List, [], ◌∷◌, Option, Some, None, if◌then◌else◌}
 use Rattle.unicode.specs.GeneralCategory.{general_category}
 use Rattle.ucd_category.specs.declared.GeneralCategory.{GeneralCategory}

@@ -1,5 +1,4 @@
--- The input elements of a script (clause 7): with which of them a row of units begins, and which units are left after
--- it.
+-- The input elements of a script (clause 7): with which of them a row of units begins, and which units are left.
 -- The relations here speak of any front of the units; that the longest front is taken is said in `Tokens`.
 -- Units stand here by their numbers: 10 LF, 13 CR, 42 `*`, 43 `+`, 45 `-`, 46 `.`, 47 `/`, 48 `0`, 92 a backslash, 117 `u`,
 -- 69 and 101 `E` and `e`, 88 and 120 `X` and `x`.

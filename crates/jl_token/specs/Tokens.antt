@@ -1,6 +1,5 @@
 -- The tokens of a text (clause 7): the text is split into input elements, each the longest that can be formed at its
--- place;
--- the tokens are those that are neither white space, line terminator nor comment.
+-- place; the tokens are those that are neither white space, line terminator nor comment.
 use Rattle.std.specs.Prelude.{◌≡◌, ◌<◌, ◌≤◌, ℕ, ◌-◌, Bool, true, false, ◌||◌, ◌⊎◌, List, [], ◌∷◌, length}
 use Rattle.jl_token.specs.Elements.{Element, White, LineEnd, Comment, Word, Front, Many}
 use Rattle.jl_token.specs.Faults.{Fault}
