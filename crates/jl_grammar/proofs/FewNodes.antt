@@ -246,7 +246,7 @@ mutual
   function_few (a_declared_function a b c) = let rc = rest_few c in omega arith
 
   pub body_few : {ts : List Token} {i : ℕ} {t : Code} {j : ℕ} → ReadsBody ts i t j → nodes t + i ≤ j
-  body_few (a_directive a b c) = let rb = statement_few b in let rc = body_few c in omega arith
+  body_few (a_directive a b c d) = let rc = ends_at_goes c in let rd = body_few d in omega arith
   body_few (no_directive a b) = let rb = elements_few b in omega arith
 
 pub few_nodes : FewNodes
