@@ -17,7 +17,7 @@ use Rattle.jl_grammar.specs.Laws.{IsAlone, DirectivesAreAlone}
 use Rattle.jl_grammar.specs.Next.{continues_at, continues_left, is_comma, is_directive, is_identifier, is_question}
 use Rattle.jl_grammar.specs.Next.{is_string, updates_at}
 use Rattle.jl_grammar.specs.Operators.{Joint, both, either, joined, plain, assigns, continues, joint, looseness_of}
-use Rattle.jl_grammar.specs.Reads.{Expr, Stmt, EndsAt, BeginsBinary, ReadsExpression, ReadsStatement, primary}
+use Rattle.jl_grammar.specs.Reads.{Expr, Stmt, EndsAt, ReadsPrimary, BeginsBinary, ReadsExpression, ReadsStatement, primary}
 use Rattle.jl_grammar.specs.Reads.{whole_left, left, a_postfix, postfix}
 use Rattle.jl_grammar.specs.Reads.{a_prefix, an_update, operand, tighter, a_joint, whole_binary, operands}
 use Rattle.jl_grammar.specs.Reads.{a_conditional, conditional, an_assignment, assignment, a_comma, whole_expression}
@@ -27,6 +27,7 @@ use Rattle.jl_grammar.specs.Reads.{a_return, a_return_of, a_switch, a_label, a_t
 use Rattle.jl_grammar.specs.Reads.{a_try_both, a_debugger, a_string}
 use Rattle.jl_grammar.specs.Tokens.{At, sign_at, span, text_at}
 use Rattle.jl_grammar.proofs.Complete.{expression_complete}
+use Rattle.jl_grammar.proofs.Holds.{both_true, and_true, not_true, string_sign}
 use Rattle.jl_grammar.proofs.One.{opened_past}
 use Rattle.jl_grammar.proofs.SoundExpressions.{lift_to, tighter_stops}
 use Rattle.jl_grammar.proofs.Starts.{block_starts}
@@ -55,20 +56,12 @@ abbrev Same : Expr × ℕ → Expr × ℕ → Type 0
 Same x y = x ≡ y
 
 -- from a place one expression is read at most
-one_expression : (ts : List Token) (no_in : Bool) (i j k : ℕ) (t u : Expr) → ReadsExpression ts no_in i t j
+pub one_expression : (ts : List Token) (no_in : Bool) (i j k : ℕ) (t u : Expr) → ReadsExpression ts no_in i t j
     → ReadsExpression ts no_in i u k → Same (t, j) (u, k)
 one_expression ts no_in i j k t u r s =
     let f = height t + height u + length ts in
     same_Some _ _ (sym (expression_complete ts (length ts) (bounded ts) r f (omega arith))
     ∙ expression_complete ts (length ts) (bounded ts) s f (omega arith))
-
-both_true : (a b : Bool) → (a && b) ≡ true → (a ≡ true) × (b ≡ true)
-both_true true b h = (refl, h)
-both_true false b h = cc
-
-and_true : (a b : Bool) → a ≡ true → b ≡ true → (a && b) ≡ true
-and_true true b h g = g
-and_true false b h g = cc
 
 neither : (a b : Bool) → (a || b) ≡ false → (a ≡ false) × (b ≡ false)
 neither true b h = cc
@@ -77,14 +70,6 @@ neither false b h = (refl, h)
 or_false : (a b : Bool) → a ≡ false → b ≡ false → (a || b) ≡ false
 or_false true b h g = cc
 or_false false b h g = g
-
-not_true : (b : Bool) → not b ≡ true → b ≡ false
-not_true true h = cc
-not_true false h = refl
-
-string_sign : (k : Sign) → is_string k ≡ true → k ≡ signs.Str
-string_sign signs.Str h = refl
-string_sign _ h = cc
 
 clash : {ts : List Token} {i : ℕ} {k : Sign} → At ts i k → At ts i signs.Str → is_string k ≡ false → ⊥
 clash {k = k} a s h = differ (sym h ∙ ap is_string (sym a.is ∙ s.is))
@@ -158,10 +143,10 @@ alone_stops (whole_expression (assignment (conditional (a_conditional a b c d e)
 alone_stops (whole_expression (assignment (an_assignment a b c d)) e) h = cc
 alone_stops (whole_expression (a_comma a b c) d) h = cc
 
-string_alone : (ts : List Token) (i : ℕ) → At ts i signs.Str → continues_at ts (suc i) ≡ false
-    → ReadsExpression ts false i (tree.string (text_at ts i) (span ts i (suc i))) (suc i)
-string_alone ts i s h =
-    let t = tree.string (text_at ts i) (span ts i (suc i)) in
+-- a primary expression that is one token, before a token that goes on with nothing
+pub primary_alone : (ts : List Token) (i : ℕ) (t : Expr) → ReadsPrimary ts i t (suc i)
+    → continues_at ts (suc i) ≡ false → ReadsExpression ts false i t (suc i)
+primary_alone ts i t s h =
     let k = sign_at ts (suc i) in
     let p = neither _ (is_comma k) h in
     let q = neither _ (assigns k) p.0 in
@@ -169,8 +154,7 @@ string_alone ts i s h =
     let u = neither _ (continues false 10 k) r.0 in
     let v = neither (continues_left true k) (updates_at ts (suc i)) u.0 in
     let c = tighter_stops (looseness_of (joint false k)) 9 10 (omega arith) u.1 in
-    let o : BeginsBinary ts false zero i t (suc i) =
-    operand (postfix (left (whole_left (primary (a_string s)) v.0) v.1)) in
+    let o : BeginsBinary ts false zero i t (suc i) = operand (postfix (left (whole_left (primary s) v.0) v.1)) in
     let l = lift_to ts false 0 10 i t (suc i) (omega arith) o c in
     whole_expression (assignment (conditional (operands (whole_binary l u.1) r.1) q.1)) p.1
 
@@ -181,7 +165,7 @@ directives_are_alone ts i w j r = (to, back)
     to h =
         let b = both_true (is_string (sign_at ts i)) (not (continues_at ts (suc i))) h in
         let s : At ts i signs.Str = record { is = string_sign _ b.0 } in
-        let e = string_alone ts i s (not_true _ b.1) in
+        let e = primary_alone ts i _ (a_string s) (not_true _ b.1) in
         let x = expressed r s in
         let q = one_expression ts false i x.end (suc i) x.value
         (tree.string (text_at ts i) (span ts i (suc i))) x.reads e in
