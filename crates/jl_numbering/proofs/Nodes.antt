@@ -1,5 +1,5 @@
 -- What a node is once the functions of its boxed parts have their numbers.
-use Rattle.std.proofs.Common.{◌≡◌, ◌+◌, ℕ, Bool, List, Option, ap, sym, ◌∙◌}
+use Rattle.std.proofs.Common.{◌≡◌, ◌+◌, ℕ, Bool, List, Option, ap, ◌∙◌}
 use Rattle.std.specs.Box.{with_value}
 use Rattle.std.specs.Global.{Global}
 use Rattle.std.specs.declared.boxed.Box.{Box}

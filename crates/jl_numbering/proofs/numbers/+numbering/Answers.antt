@@ -1,10 +1,10 @@
-use Rattle.std.proofs.Common.{rules, ◌≡◌, ◌+◌, ◌<◌, ℕ, length, get_or, arith, ap, refl}
+use Rattle.std.proofs.Common.{rules, ◌≡◌, ◌<◌, length, get_or, arith, ap, refl}
 use Rattle.jl_ast.specs.declared.tree.ExprKind.{the_lemmas}
 use Rattle.jl_ast.specs.View.{view_expression, view_function, view_statement, view_target}
 use Rattle.jl_ast.proofs.Views.{init_Var, statement_placed, statement_Var}
 use Rattle.jl_numbering.proofs.Nodes.{boxed, listed, function_numbered, dot_numbered, index_numbered, call_numbered, new_numbered, unary_numbered}
 use Rattle.jl_numbering.proofs.Nodes.{update_numbered, binary_numbered, and_numbered, or_numbered, comma_numbered, conditional_numbered, assign_numbered, labelled_numbered}
-use Rattle.jl_numbering.proofs.Walk.{same_beyond, item_fits, one_more, all_numbered}
+use Rattle.jl_numbering.proofs.Walk.{same_beyond, one_more, all_numbered}
 use Rattle.jl_numbering.proofs.Lists.{functions, statements, declarators, cases, items, entries, expressions}
 use Rattle.jl_numbering.proofs.Lists.{item_numbered, item_counted}
 use Rattle.jl_ast.specs.Tree.{declarator}
