@@ -4,3 +4,6 @@
 mod numbers;
 
 pub use numbers::number;
+
+#[cfg(test)]
+mod tests;
