@@ -17,7 +17,8 @@ use Rattle.jl_ast.specs.Numbering.{functions_in, numbered_row, numbered_tree}
 use Rattle.jl_ast.specs.Tree.{Sort, Text, Tree}
 use Rattle.jl_ast.specs.View.{view_expression, view_expressions, view_function, view_statement, view_target}
 use Rattle.jl_ast.proofs.Views.{expression_placed, statement_placed, statement_Labelled}
-use Rattle.jl_ast.proofs.Views.{expression_Function, expression_Dot, expression_Index, expression_Call, expression_New}
+use Rattle.jl_ast.proofs.Views.{expression_Function, expression_Dot, expression_Index, expression_Call}
+use Rattle.jl_ast.proofs.Views.{expression_New}
 use Rattle.jl_ast.proofs.Views.{expression_Unary, expression_Update, expression_Binary, expression_And, expression_Or}
 use Rattle.jl_ast.proofs.Views.{expression_Comma, expression_Cond, expression_Assign}
 
@@ -67,7 +68,8 @@ dot_numbered e e' o k o' n m i j s w = cc (
 )
 
 pub index_numbered : (e e' : Expr) (a b : Box Expr Global) (a' b' : Expr) (n m p : ℕ) →
-    e.kind ≡ expression.Index a b → e'.kind ≡ expression.Index (with_value a a') (with_value b b') → e'.span ≡ e.span →
+    e.kind ≡ expression.Index a b → e'.kind ≡ expression.Index (with_value a a') (with_value b b') →
+    e'.span ≡ e.span →
     Walked view_expression a.value a' n m → Walked view_expression b.value b' m p →
     view_expression e' ≡ numbered_tree n (view_expression e)
 index_numbered e e' a b a' b' n m p i j s w x = cc (
@@ -119,7 +121,8 @@ unary_numbered e e' o a a' n m i j s w = cc (
 )
 
 pub update_numbered : (e e' : Expr) (up prefix : Bool) (a : Box Target Global) (a' : Target) (n m : ℕ) →
-    e.kind ≡ expression.Update up prefix a → e'.kind ≡ expression.Update up prefix (with_value a a') → e'.span ≡ e.span →
+    e.kind ≡ expression.Update up prefix a → e'.kind ≡ expression.Update up prefix (with_value a a') →
+    e'.span ≡ e.span →
     Walked view_target a.value a' n m →
     view_expression e' ≡ numbered_tree n (view_expression e)
 update_numbered e e' up prefix a a' n m i j s w = cc (
@@ -131,7 +134,8 @@ update_numbered e e' up prefix a a' n m i j s w = cc (
 )
 
 pub binary_numbered : (e e' : Expr) (o : BinOp) (a b : Box Expr Global) (a' b' : Expr) (n m p : ℕ) →
-    e.kind ≡ expression.Binary o a b → e'.kind ≡ expression.Binary o (with_value a a') (with_value b b') → e'.span ≡ e.span →
+    e.kind ≡ expression.Binary o a b → e'.kind ≡ expression.Binary o (with_value a a') (with_value b b') →
+    e'.span ≡ e.span →
     Walked view_expression a.value a' n m → Walked view_expression b.value b' m p →
     view_expression e' ≡ numbered_tree n (view_expression e)
 binary_numbered e e' o a b a' b' n m p i j s w x = cc (
@@ -173,7 +177,8 @@ or_numbered e e' a b a' b' n m p i j s w x = cc (
 )
 
 pub comma_numbered : (e e' : Expr) (a b : Box Expr Global) (a' b' : Expr) (n m p : ℕ) →
-    e.kind ≡ expression.Comma a b → e'.kind ≡ expression.Comma (with_value a a') (with_value b b') → e'.span ≡ e.span →
+    e.kind ≡ expression.Comma a b → e'.kind ≡ expression.Comma (with_value a a') (with_value b b') →
+    e'.span ≡ e.span →
     Walked view_expression a.value a' n m → Walked view_expression b.value b' m p →
     view_expression e' ≡ numbered_tree n (view_expression e)
 comma_numbered e e' a b a' b' n m p i j s w x = cc (
@@ -187,8 +192,10 @@ comma_numbered e e' a b a' b' n m p i j s w x = cc (
 )
 
 pub conditional_numbered : (e e' : Expr) (a b c : Box Expr Global) (a' b' c' : Expr) (n m p q : ℕ) →
-    e.kind ≡ expression.Cond a b c → e'.kind ≡ expression.Cond (with_value a a') (with_value b b') (with_value c c') → e'.span ≡ e.span →
-    Walked view_expression a.value a' n m → Walked view_expression b.value b' m p → Walked view_expression c.value c' p q →
+    e.kind ≡ expression.Cond a b c → e'.kind ≡ expression.Cond (with_value a a') (with_value b b')
+    (with_value c c') → e'.span ≡ e.span →
+    Walked view_expression a.value a' n m → Walked view_expression b.value b' m p →
+    Walked view_expression c.value c' p q →
     view_expression e' ≡ numbered_tree n (view_expression e)
 conditional_numbered e e' a b c a' b' c' n m p q i j s w x y = cc (
   expression_placed e,
@@ -202,8 +209,10 @@ conditional_numbered e e' a b c a' b' c' n m p q i j s w x y = cc (
   x.counted,
 )
 
-pub assign_numbered : (e e' : Expr) (o : Option BinOp) (a : Box Target Global) (b : Box Expr Global) (a' : Target) (b' : Expr) (n m p : ℕ) →
-    e.kind ≡ expression.Assign o a b → e'.kind ≡ expression.Assign o (with_value a a') (with_value b b') → e'.span ≡ e.span →
+pub assign_numbered : (e e' : Expr) (o : Option BinOp) (a : Box Target Global) (b : Box Expr Global)
+    (a' : Target) (b' : Expr) (n m p : ℕ) →
+    e.kind ≡ expression.Assign o a b → e'.kind ≡ expression.Assign o (with_value a a') (with_value b b') →
+    e'.span ≡ e.span →
     Walked view_target a.value a' n m → Walked view_expression b.value b' m p →
     view_expression e' ≡ numbered_tree n (view_expression e)
 assign_numbered e e' o a b a' b' n m p i j s w x = cc (

@@ -1,5 +1,6 @@
 -- A list of trees whose first trees have their numbers, and the others not yet.
-use Rattle.std.proofs.Common.{◌≡◌, ℕ, ◌+◌, ◌<◌, ◌≤◌, ◌^◌, suc, List, [], ◌∷◌, ◌++◌, length, take, drop, get_or, set, refl, sym, ap, ◌∙◌, arith}
+use Rattle.std.proofs.Common.{◌≡◌, ℕ, ◌+◌, ◌<◌, ◌≤◌, ◌^◌, suc, List, [], ◌∷◌, ◌++◌, length, take, drop, get_or}
+use Rattle.std.proofs.Common.{set, refl, sym, ap, ◌∙◌, arith}
 use Rattle.std.proofs.Common.{drop-cons, add-one, get_or-set_other, length-set}
 use Rattle.std.specs.List.{refill}
 use Rattle.std.proofs.lemmas.List.{take_more_set, drop-set-lt, drop_all, take-append-le}
@@ -26,10 +27,12 @@ before f (a ∷ l) r = more (f a) (before f l r)
 
 -- the first k items of `now` are numbered, and the others come from `next` on
 pub record Halfway {S A : Type 0} {x : Sort} (seen : Seen S x A) (old now : List A) (k from next : ℕ) : Type 0 where
-  pub numbered : before seen.one (take k now) (numbered_row next (seen.all (drop k now))) ≡ numbered_row from (seen.all old)
+  pub numbered : before seen.one (take k now) (numbered_row next (seen.all (drop k now))) ≡ numbered_row from
+      (seen.all old)
   pub counted : next + functions_in_row (seen.all (drop k now)) ≡ from + functions_in_row (seen.all old)
 
-before-append : {S A : Type 0} {x : Sort} (f : A → Tree S x) (l m : List A) (r : Row S x) → before f (l ++ m) r ≡ before f l (before f m r)
+before-append : {S A : Type 0} {x : Sort} (f : A → Tree S x) (l m : List A) (r : Row S x) →
+    before f (l ++ m) r ≡ before f l (before f m r)
 before-append f [] m r = refl
 before-append f (a ∷ l) m r = ap (more (f a)) (before-append f l m r)
 

@@ -2,8 +2,10 @@ use Rattle.std.proofs.Common.{rules, ◌≡◌, ◌<◌, length, get_or, arith, 
 use Rattle.jl_ast.specs.declared.tree.ExprKind.{the_lemmas}
 use Rattle.jl_ast.specs.View.{view_expression, view_function, view_statement, view_target}
 use Rattle.jl_ast.proofs.Views.{init_Var, statement_placed, statement_Var}
-use Rattle.jl_numbering.proofs.Nodes.{boxed, listed, function_numbered, dot_numbered, index_numbered, call_numbered, new_numbered, unary_numbered}
-use Rattle.jl_numbering.proofs.Nodes.{update_numbered, binary_numbered, and_numbered, or_numbered, comma_numbered, conditional_numbered, assign_numbered, labelled_numbered}
+use Rattle.jl_numbering.proofs.Nodes.{boxed, listed, function_numbered, dot_numbered, index_numbered}
+use Rattle.jl_numbering.proofs.Nodes.{call_numbered, new_numbered, unary_numbered}
+use Rattle.jl_numbering.proofs.Nodes.{update_numbered, binary_numbered, and_numbered, or_numbered}
+use Rattle.jl_numbering.proofs.Nodes.{comma_numbered, conditional_numbered, assign_numbered, labelled_numbered}
 use Rattle.jl_numbering.proofs.Walk.{same_beyond, one_more, all_numbered}
 use Rattle.jl_numbering.proofs.Lists.{functions, statements, declarators, cases, items, entries, expressions}
 use Rattle.jl_numbering.proofs.Lists.{item_numbered, item_counted}
@@ -15,8 +17,10 @@ pub number_functions-loop-f-preserved : goal.number_functions-loop-f-preserved
 number_functions-loop-f-preserved t c =
     let l = c.loop-f in let k : l.f-index < length l.f-items = omega arith in
     record {
-      unvisited = same_beyond l.f-index c.args.functions.now l.f-items c.number_function-after.new.f l.invariant.unvisited;
-      halfway = one_more functions _ _ _ _ _ c.f-item.result _ _ l.invariant.halfway k c.number_function-after.ensures.numbered c.number_function-after.ensures.counted;
+      unvisited = same_beyond l.f-index c.args.functions.now l.f-items
+          c.number_function-after.new.f l.invariant.unvisited;
+      halfway = one_more functions _ _ _ _ _ c.f-item.result _ _ l.invariant.halfway k
+          c.number_function-after.ensures.numbered c.number_function-after.ensures.counted;
     }
 
 pub number_functions-returns-clause-numbered : goal.number_functions-returns-clause-numbered
@@ -28,8 +32,10 @@ pub number_statements-loop-s-preserved : goal.number_statements-loop-s-preserved
 number_statements-loop-s-preserved t c =
     let l = c.loop-s in let k : l.s-index < length l.s-items = omega arith in
     record {
-      unvisited = same_beyond l.s-index c.args.statements.now l.s-items c.number_statement-after.new.s l.invariant.unvisited;
-      halfway = one_more statements _ _ _ _ _ c.s-item.result _ _ l.invariant.halfway k c.number_statement-after.ensures.numbered c.number_statement-after.ensures.counted;
+      unvisited = same_beyond l.s-index c.args.statements.now l.s-items
+          c.number_statement-after.new.s l.invariant.unvisited;
+      halfway = one_more statements _ _ _ _ _ c.s-item.result _ _ l.invariant.halfway k
+          c.number_statement-after.ensures.numbered c.number_statement-after.ensures.counted;
     }
 
 pub number_statements-returns-clause-numbered : goal.number_statements-returns-clause-numbered
@@ -42,7 +48,8 @@ number_cases-loop-c-preserved t c =
     let l = c.loop-c in let k : l.c-index < length l.c-items = omega arith in
     record {
       unvisited = same_beyond l.c-index c.args.cases.now l.c-items c.number_case-after.new.c l.invariant.unvisited;
-      halfway = one_more cases _ _ _ _ _ c.c-item.result _ _ l.invariant.halfway k c.number_case-after.ensures.numbered c.number_case-after.ensures.counted;
+      halfway = one_more cases _ _ _ _ _ c.c-item.result _ _ l.invariant.halfway k
+          c.number_case-after.ensures.numbered c.number_case-after.ensures.counted;
     }
 
 pub number_cases-returns-clause-numbered : goal.number_cases-returns-clause-numbered
@@ -54,8 +61,10 @@ pub number_entries-loop-entry-preserved : goal.number_entries-loop-entry-preserv
 number_entries-loop-entry-preserved t c =
     let l = c.loop-entry in let k : l.entry-index < length l.entry-items = omega arith in
     record {
-      unvisited = same_beyond l.entry-index c.args.entries.now l.entry-items c.number_entry-after.new.entry l.invariant.unvisited;
-      halfway = one_more entries _ _ _ _ _ c.entry-item.result _ _ l.invariant.halfway k c.number_entry-after.ensures.numbered c.number_entry-after.ensures.counted;
+      unvisited = same_beyond l.entry-index c.args.entries.now l.entry-items
+          c.number_entry-after.new.entry l.invariant.unvisited;
+      halfway = one_more entries _ _ _ _ _ c.entry-item.result _ _ l.invariant.halfway k
+          c.number_entry-after.ensures.numbered c.number_entry-after.ensures.counted;
     }
 
 pub number_entries-returns-clause-numbered : goal.number_entries-returns-clause-numbered
@@ -67,8 +76,10 @@ pub number_expressions-loop-e-preserved : goal.number_expressions-loop-e-preserv
 number_expressions-loop-e-preserved t c =
     let l = c.loop-e in let k : l.e-index < length l.e-items = omega arith in
     record {
-      unvisited = same_beyond l.e-index c.args.expressions.now l.e-items c.number_expression-after.new.e l.invariant.unvisited;
-      halfway = one_more expressions _ _ _ _ _ c.e-item.result _ _ l.invariant.halfway k c.number_expression-after.ensures.numbered c.number_expression-after.ensures.counted;
+      unvisited = same_beyond l.e-index c.args.expressions.now l.e-items
+          c.number_expression-after.new.e l.invariant.unvisited;
+      halfway = one_more expressions _ _ _ _ _ c.e-item.result _ _ l.invariant.halfway k
+          c.number_expression-after.ensures.numbered c.number_expression-after.ensures.counted;
     }
 
 pub number_expressions-returns-clause-numbered : goal.number_expressions-returns-clause-numbered
@@ -92,7 +103,8 @@ number_declarators-loop-d-preserved t c =
     let l = c.loop-d in let k : l.d-index < length l.d-items = omega arith in
     let a = get_or l.d-items l.d-index c.d-item.result in
     record {
-      unvisited = same_beyond l.d-index c.args.declarators.now l.d-items (a.0, c.number_held-after.new.e) l.invariant.unvisited;
+      unvisited = same_beyond l.d-index c.args.declarators.now l.d-items
+          (a.0, c.number_held-after.new.e) l.invariant.unvisited;
       halfway = one_more declarators _ _ _ _ _ c.d-item.result _ _ l.invariant.halfway k
           (ap (declarator (view_ident a.0)) c.number_held-after.ensures.numbered)
           c.number_held-after.ensures.counted;
@@ -108,7 +120,7 @@ number_declarators-returns-clause-numbered t c =
     let l = c.loop-d in let k : l.d-index ≡ length l.d-items = omega arith in
     all_numbered declarators _ _ _ _ _ l.invariant.halfway l.invariant.unvisited k
 
--- boxes
+-- arms that go into a box
 
 pub number_expression-returns-in-Function-clause-numbered :
     goal.number_expression-returns-in-Function-clause-numbered
@@ -153,7 +165,8 @@ pub number_expression-returns-in-New-clause-numbered :
     goal.number_expression-returns-in-New-clause-numbered
 number_expression-returns-in-New-clause-numbered t c =
     let h = c.in-New in
-    new_numbered c.args.e.now _ h.f h.arguments c.number_expression-after-in-New.new.e c.number_expressions-in-New.new.expressions
+    new_numbered c.args.e.now _ h.f h.arguments c.number_expression-after-in-New.new.e
+    c.number_expressions-in-New.new.expressions
     _ _ h.is (rw h.is (search (rules, the_lemmas))) refl
     (boxed view_expression h.f _ _ _ _ _ h.f-is c.deref_mut-in-New.ensures.value
     c.number_expression-after-in-New.ensures.numbered c.number_expression-after-in-New.ensures.counted)
@@ -181,7 +194,8 @@ pub number_expression-returns-in-Binary-clause-numbered :
     goal.number_expression-returns-in-Binary-clause-numbered
 number_expression-returns-in-Binary-clause-numbered t c =
     let h = c.in-Binary in
-    binary_numbered c.args.e.now _ h.field-0 h.a h.b c.number_expression-after-in-Binary.new.e c.number_expression-in-Binary.new.e
+    binary_numbered c.args.e.now _ h.field-0 h.a h.b c.number_expression-after-in-Binary.new.e
+    c.number_expression-in-Binary.new.e
     _ _ _ h.is (rw h.is (search (rules, the_lemmas))) refl
     (boxed view_expression h.a _ _ _ _ _ h.a-is c.deref_mut-in-Binary.ensures.value
     c.number_expression-after-in-Binary.ensures.numbered c.number_expression-after-in-Binary.ensures.counted)
@@ -225,7 +239,8 @@ pub number_expression-returns-in-Cond-clause-numbered :
     goal.number_expression-returns-in-Cond-clause-numbered
 number_expression-returns-in-Cond-clause-numbered t c =
     let h = c.in-Cond in
-    conditional_numbered c.args.e.now _ h.a h.b h.c c.number_expression-after-in-Cond.new.e c.number_expression-after-in-Cond-2.new.e c.number_expression-in-Cond.new.e
+    conditional_numbered c.args.e.now _ h.a h.b h.c c.number_expression-after-in-Cond.new.e
+    c.number_expression-after-in-Cond-2.new.e c.number_expression-in-Cond.new.e
     _ _ _ _ h.is (rw h.is (search (rules, the_lemmas))) refl
     (boxed view_expression h.a _ _ _ _ _ h.a-is c.deref_mut-in-Cond.ensures.value
     c.number_expression-after-in-Cond.ensures.numbered c.number_expression-after-in-Cond.ensures.counted)
@@ -261,5 +276,8 @@ number_init-number_declarators-requires t c =
 
 pub number_statement-number_declarators-requires : goal.number_statement-number_declarators-requires
 number_statement-number_declarators-requires t c =
-    let h = c.in-Var in let d = c.decreases in let f = c.requires.few in
-    (rw h.declarators-is (search (rules, the_lemmas)), rw h.declarators-is (rw (statement_placed, h.is, statement_Var) at f))
+    let h = c.in-Var in let d = c.decreases in let f = c.requires.few in (
+      rw h.declarators-is (search (rules, the_lemmas)),
+      rw h.declarators-is (rw
+          (statement_placed, h.is, statement_Var) at f),
+    )
