@@ -1,0 +1,15 @@
+//! What is wrong with a program that was read: early errors (clause 16), names that scripts here don't have, and the
+//! name of the hooks. And what a body declares and mentions (10.5, 10.6).
+#![tactic(auto)]
+
+mod check;
+mod found;
+mod hoisting;
+mod name_set;
+mod names;
+mod rules;
+mod setting;
+
+pub use check::ScopeRefusal;
+pub use hoisting::{is_strict, vars};
+pub use rules::EarlyRule;
