@@ -5,6 +5,7 @@
 mod check;
 mod found;
 mod hoisting;
+mod mentions;
 mod name_set;
 mod names;
 mod rules;
@@ -12,4 +13,5 @@ mod setting;
 
 pub use check::ScopeRefusal;
 pub use hoisting::{is_strict, vars};
+pub use mentions::mentions_arguments;
 pub use rules::EarlyRule;
