@@ -91,30 +91,27 @@ pub record Keys : Type 0 where
 abbrev pub no_keys : Keys
 no_keys = record { values = []; getters = []; setters = [] }
 
+-- these keys and that of one more property
+abbrev pub with_key : Keys → Tree Span entry → Keys
+with_key keys (value k e) = record keys { values = with_name keys.values k.text }
+with_key keys (getter k f) = record keys { getters = with_name keys.getters k.text }
+with_key keys (setter k f) = record keys { setters = with_name keys.setters k.text }
+
 -- no key of an object literal is that of a value and of an accessor, nor that of two getters or two setters, nor in
--- strict code that of two values (11.1.5)
-unfoldable pub value_key_breaches : Setting → Keys → Text → Span → List Breach
-value_key_breaches s keys k at =
-    broken_if (among k keys.getters || among k keys.setters) rules.KeyClash at
-    ++ broken_if (s.strict && among k keys.values) rules.StrictKey at
+-- strict code that of two values (11.1.5): a property with those before it
+abbrev pub key_breaches : Setting → Keys → Tree Span entry → List Breach
+key_breaches s keys (value k e) =
+    broken_if (among k.text keys.getters || among k.text keys.setters) rules.KeyClash k.at
+    ++ broken_if (s.strict && among k.text keys.values) rules.StrictKey k.at
+key_breaches s keys (getter k f) =
+    broken_if (among k.text keys.values || among k.text keys.getters) rules.KeyClash k.at
+key_breaches s keys (setter k f) =
+    broken_if (among k.text keys.values || among k.text keys.setters) rules.KeyClash k.at
 
-unfoldable pub getter_key_breaches : Keys → Text → Span → List Breach
-getter_key_breaches keys k at = broken_if (among k keys.values || among k keys.getters) rules.KeyClash at
-
-unfoldable pub setter_key_breaches : Keys → Text → Span → List Breach
-setter_key_breaches keys k at = broken_if (among k keys.values || among k keys.setters) rules.KeyClash at
-
-abbrev pub key_breaches : Setting → Keys → Row Span entry → List Breach
-key_breaches s keys end = []
-key_breaches s keys (more (value k e) l) =
-    value_key_breaches s keys k.text k.at
-    ++ key_breaches s (record keys { values = with_name keys.values k.text }) l
-key_breaches s keys (more (getter k f) l) =
-    getter_key_breaches keys k.text k.at
-    ++ key_breaches s (record keys { getters = with_name keys.getters k.text }) l
-key_breaches s keys (more (setter k f) l) =
-    setter_key_breaches keys k.text k.at
-    ++ key_breaches s (record keys { setters = with_name keys.setters k.text }) l
+-- all properties, behind some with these keys
+abbrev pub literal_breaches : Setting → Keys → Row Span entry → List Breach
+literal_breaches s keys end = []
+literal_breaches s keys (more t l) = key_breaches s keys t ++ literal_breaches s (with_key keys t) l
 
 -- functions
 
@@ -140,7 +137,7 @@ abbrev mutual
   pub breaches : Setting → {x : Sort} → Tree Span x → List Breach
   breaches s (name x at) = read_breaches s x at
   breaches s (array l at) = row_breaches s l
-  breaches s (object l at) = key_breaches s no_keys l ++ row_breaches s l
+  breaches s (object l at) = literal_breaches s no_keys l ++ row_breaches s l
   breaches s (function_expression f at) = breaches s f
   breaches s (dot o k at) = breaches s o
   breaches s (index o k at) = breaches s o ++ breaches s k

@@ -1,6 +1,6 @@
 #![tactic(auto, using(jl_ast::proofs::Views::nodes))]
 
-ghost use Rattle.std.specs.Prelude.{◌≡◌, [], ◌++◌, map, IfOk, OnOk};
+ghost use Rattle.std.specs.Prelude.{◌≡◌, [], ◌++◌, map, option_map, IfOk, OnOk};
 ghost use Rattle.jl_scope.specs.Hoisting.{variables, strict_in, declared_in, declared_in_row, bound_by_function};
 ghost use Rattle.jl_scope.specs.Hoisting.{name_texts, function_names, bound_by_body, declared_in_maybe};
 ghost use Rattle.jl_scope.specs.Names.{with_names};
@@ -51,6 +51,39 @@ pub(crate) fn add_body<'a>(body: &'a Body, names: &mut Vec<&'a Text>) -> Result<
 {
     add_functions(body.functions.items(), names)?;
     add_statements(body.statements.items(), names)
+}
+
+/// Adds the names that a function binds: its own, its parameters, and what its body does.
+pub(crate) fn add_function<'a>(
+    name: &'a Option<Ident>,
+    params: &'a [Ident],
+    body: &'a Body,
+    names: &mut Vec<&'a Text>,
+) -> Result<(), NoMemory>
+    ensures { OnOk result (Adds (bound_by_function (option_map view_ident name.now) (map view_ident params.now)
+        (view_body body.now)) names.old.items names.new.items) }
+{
+    add_name(name, names)?;
+    add_parameters(params, names)?;
+    add_body(body, names)
+}
+
+fn add_name<'a>(name: &'a Option<Ident>, names: &mut Vec<&'a Text>) -> Result<(), NoMemory>
+    ensures { OnOk result (Adds (name_texts (option_map view_ident name.now)) names.old.items names.new.items) }
+{
+    if let Some(name) = name {
+        names.push(&name.text)?;
+    }
+    Ok(())
+}
+
+fn add_parameters<'a>(params: &'a [Ident], names: &mut Vec<&'a Text>) -> Result<(), NoMemory>
+    ensures { OnOk result (Adds (map (λ x. x.text) (map view_ident params.now)) names.old.items names.new.items) }
+{
+    for p in params {
+        names.push(&p.text)?;
+    }
+    Ok(())
 }
 
 fn add_functions<'a>(functions: &'a [Function], names: &mut Vec<&'a Text>) -> Result<(), NoMemory>

@@ -4,12 +4,16 @@
 
 mod check;
 mod found;
+mod heads;
 mod hoisting;
+mod keys;
 mod mentions;
 mod name_set;
 mod names;
+mod offers;
 mod rules;
 mod setting;
+mod walk;
 
 pub use check::ScopeRefusal;
 pub use hoisting::{is_strict, vars};
