@@ -3,8 +3,8 @@ pub use Rattle.jl_scope.specs.Kinds.{Breach, early, left_out, reserved_name}
 use Rattle.std.specs.Prelude.{◌≡◌, Option, None, Some, Result, Ok, Err}
 use Rattle.jl_text.specs.declared.span.Span.{Span}
 use Rattle.jl_ast.specs.Tree.{Program}
-use Rattle.jl_scope.specs.declared.check.ScopeRefusal.{ScopeRefusal}
-use Rattle.jl_scope.specs.declared.check.ScopeRefusal.TheVariants as refusals
+use Rattle.jl_scope.specs.declared.refusal.ScopeRefusal.{ScopeRefusal}
+use Rattle.jl_scope.specs.declared.refusal.ScopeRefusal.TheVariants as refusals
 use Rattle.jl_scope.specs.Kinds.{first}
 use Rattle.jl_scope.specs.Breaches.{breaches_of}
 

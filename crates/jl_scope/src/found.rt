@@ -1,4 +1,4 @@
-ghost use Rattle.std.specs.Prelude.{◌≡◌, ◌++◌, None, if◌then◌else◌, ◌∷◌, []};
+ghost use Rattle.std.specs.Prelude.{◌≡◌, None, option_map};
 ghost use Rattle.jl_scope.specs.Kinds.{comes_before, first_from, sooner};
 ghost use Rattle.jl_scope.specs.Steps.{breach_of};
 ghost use Rattle.jl_scope.specs.Breaches.{broken_if};
@@ -76,5 +76,12 @@ impl<'a> Found<'a> {
         if broken {
             self.offer(Finding::Early(rule, at));
         }
+    }
+
+    /// What was found first.
+    pub(crate) fn into_first(self) -> Option<Finding<'a>>
+        ensures { option_map breach_of result ≡ self }
+    {
+        self.first
     }
 }

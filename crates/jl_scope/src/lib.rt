@@ -2,7 +2,7 @@
 //! name of the hooks. And what a body declares and mentions (10.5, 10.6).
 #![tactic(auto)]
 
-mod check;
+mod checking;
 mod found;
 mod heads;
 mod hoisting;
@@ -11,11 +11,13 @@ mod mentions;
 mod name_set;
 mod names;
 mod offers;
+mod refusal;
 mod rules;
 mod setting;
 mod walk;
 
-pub use check::ScopeRefusal;
+pub use checking::check;
 pub use hoisting::{is_strict, vars};
 pub use mentions::mentions_arguments;
+pub use refusal::ScopeRefusal;
 pub use rules::EarlyRule;

@@ -212,8 +212,9 @@ fn walk_declarators<'a>(
 {
     for d in declarators {
         found.written(&d.0.text, d.0.span, s);
-        if let Some(e) = &d.1 {
-            walk_expression(e, s, found)?;
+        match &d.1 {
+            Some(e) => walk_expression(e, s, found)?,
+            None => {}
         }
     }
     Ok(())
@@ -333,8 +334,9 @@ fn walk_items<'a>(
         ≡ first_from found.old (row_breaches (setting_of s.now) (view_items items.now))) }
 {
     for e in items {
-        if let Some(e) = e {
-            walk_expression(e, s, found)?;
+        match e {
+            Some(e) => walk_expression(e, s, found)?,
+            None => {}
         }
     }
     Ok(())

@@ -1,5 +1,9 @@
+ghost use Rattle.std.specs.Prelude.{◌≡◌};
+ghost use Rattle.jl_scope.specs.declared.refusal.ScopeRefusal.TheVariants.{NoMemory};
+
 use crate::rules::EarlyRule;
 use jl_text::{Span, Text};
+use std::alloc::AllocError;
 
 /// What is wrong with a program, and where.
 #[derive(Drop)]
@@ -12,4 +16,12 @@ pub enum ScopeRefusal {
     ReservedName { span: Span },
     /// No memory was left.
     NoMemory,
+}
+
+impl From<AllocError> for ScopeRefusal {
+    ghost from_gives = { λ _ e. e ≡ NoMemory };
+
+    fn from(_error: AllocError) -> ScopeRefusal {
+        ScopeRefusal::NoMemory
+    }
 }
