@@ -80,7 +80,7 @@ impl<'a> Found<'a> {
 
     /// What was found first.
     pub(crate) fn into_first(self) -> Option<Finding<'a>>
-        ensures { option_map breach_of result ≡ self }
+        ensures { option_map breach_of result ≡ self.entry }
     {
         self.first
     }
