@@ -46,6 +46,10 @@ read_breaches s x at = free_breaches s x at ++ identifier_breaches s x at
 unfoldable pub target_breaches : Setting → Text → Span → List Breach
 target_breaches s x at = free_breaches s x at ++ written_breaches s x at
 
+-- the name in the head of a `for-in`, which is declared there or not (12.6.4)
+abbrev pub for_in_breaches : Setting → Bool → Text → Span → List Breach
+for_in_breaches s is_var x at = if is_var then written_breaches s x at else target_breaches s x at
+
 -- a label (12.12): none of the labels round it
 unfoldable pub label_breaches : Setting → Text → Span → List Breach
 label_breaches s x at = broken_if (has_label x s.labels) rules.LabelTwice at ++ identifier_breaches s x at
@@ -170,8 +174,7 @@ abbrev mutual
   breaches s (for i c u l at) =
       breaches s i ++ maybe_breaches s c ++ maybe_breaches s u ++ row_breaches (in_a_loop s) l
   breaches s (for_in is_var x o l at) =
-      (if is_var then written_breaches s x.text x.at else target_breaches s x.text x.at)
-      ++ breaches s o ++ row_breaches (in_a_loop s) l
+      for_in_breaches s is_var x.text x.at ++ breaches s o ++ row_breaches (in_a_loop s) l
   breaches s (continue x at) = continue_breaches s x at
   breaches s (break x at) = break_breaches s x at
   breaches s (return e at) = return_breaches s at ++ maybe_breaches s e

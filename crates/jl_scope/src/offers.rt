@@ -7,7 +7,7 @@ ghost use Rattle.jl_scope.specs.Kinds.{first_from};
 ghost use Rattle.jl_scope.specs.Steps.{setting_of};
 ghost use Rattle.jl_scope.specs.Breaches.{identifier_breaches, written_breaches, free_breaches, read_breaches};
 ghost use Rattle.jl_scope.specs.Breaches.{target_breaches, label_breaches, break_breaches, continue_breaches};
-ghost use Rattle.jl_scope.specs.Breaches.{return_breaches, delete_breaches, is_name, is_delete};
+ghost use Rattle.jl_scope.specs.Breaches.{return_breaches, delete_breaches, is_name, is_delete, for_in_breaches};
 
 use crate::found::{Finding, Found};
 use crate::names::{is_among, is_hooks_name, is_left_out, is_strict_name, is_strict_word};
@@ -64,6 +64,17 @@ impl<'a> Found<'a> {
     {
         self.free(name, at, s);
         self.written(name, at, s);
+    }
+
+    /// The name in the head of a `for-in` (12.6.4).
+    pub(crate) fn for_in_name(&mut self, is_var: bool, name: &'a Text, at: Span, s: &Setting<'_>)
+        ensures { self.new ≡ first_from self.old (for_in_breaches (setting_of s.now) is_var name.now at) }
+    {
+        if is_var {
+            self.written(name, at, s);
+        } else {
+            self.target(name, at, s);
+        }
     }
 
     /// The label of a statement.

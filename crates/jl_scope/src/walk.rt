@@ -1,10 +1,11 @@
 #![tactic(auto, using(jl_ast::proofs::Views::nodes, crate::proofs::Firsts::lists))]
 
-ghost use Rattle.std.specs.Prelude.{◌≡◌, OnOk};
+ghost use Rattle.std.specs.Prelude.{◌≡◌, ◌++◌, OnOk};
 ghost use Rattle.jl_ast.specs.View.{view_body, view_function, view_functions, view_statement, view_statements};
 ghost use Rattle.jl_ast.specs.View.{view_init, view_declarators, view_cases, view_maybe, view_expression};
 ghost use Rattle.jl_ast.specs.View.{view_expressions, view_target, view_items, view_entry, view_entries};
-ghost use Rattle.jl_scope.specs.Breaches.{breaches, row_breaches, maybe_breaches};
+ghost use Rattle.jl_scope.specs.Breaches.{breaches, row_breaches, maybe_breaches, label_breaches, written_breaches};
+ghost use Rattle.jl_scope.specs.Setting.{is_loop, under_label, in_catch};
 ghost use Rattle.jl_scope.specs.Kinds.{first_from};
 ghost use Rattle.jl_scope.specs.Steps.{setting_of};
 
@@ -123,11 +124,7 @@ fn walk_statement<'a>(
             object,
             body,
         } => {
-            if *is_var {
-                found.written(&name.text, name.span, s);
-            } else {
-                found.target(&name.text, name.span, s);
-            }
+            found.for_in_name(*is_var, &name.text, name.span, s);
             walk_expression(object, s, found)?;
             walk_statements(body.items(), &s.in_a_loop(), found)
         }
@@ -143,19 +140,7 @@ fn walk_statement<'a>(
             found.return_at(statement.span, s);
             walk_held(e, s, found)
         }
-        StmtKind::Labelled(name, labelled) => {
-            found.label(&name.text, name.span, s);
-            let label = Label {
-                name: name.text.units(),
-                of_loop: is_loop(labelled),
-            };
-            let labels = with_label(s.alloc, label, s.labels)?;
-            let inner = Setting {
-                labels: labels.as_slice(),
-                ..*s
-            };
-            walk_statement(labelled, &inner, found)
-        }
+        StmtKind::Labelled(name, labelled) => walk_labelled(name, labelled, s, found),
         StmtKind::Switch(e, cases) => {
             walk_expression(e, s, found)?;
             walk_cases(cases.items(), &s.in_a_switch(), found)
@@ -167,15 +152,7 @@ fn walk_statement<'a>(
         } => {
             walk_statements(body.items(), s, found)?;
             match catch {
-                Some((name, body)) => {
-                    found.written(&name.text, name.span, s);
-                    let bound = bind(s.alloc, s.bound, &[&name.text])?;
-                    let inner = Setting {
-                        bound: bound.as_slice(),
-                        ..*s
-                    };
-                    walk_statements(body.items(), &inner, found)?;
-                }
+                Some((name, body)) => walk_catch(name, body.items(), s, found)?,
                 None => {}
             }
             match finally {
@@ -184,6 +161,49 @@ fn walk_statement<'a>(
             }
         }
     }
+}
+
+#[cycle(walk)]
+fn walk_labelled<'a>(
+    name: &'a Ident,
+    labelled: &'a Stmt,
+    s: &Setting<'_>,
+    found: &mut Found<'a>,
+) -> Result<(), NoMemory>
+    ensures { OnOk result (found.new ≡ first_from found.old (label_breaches (setting_of s.now) name.now.text name.now.span
+        ++ breaches (under_label (setting_of s.now) name.now.text (is_loop (view_statement labelled.now)))
+        (view_statement labelled.now))) }
+{
+    found.label(&name.text, name.span, s);
+    let label = Label {
+        name: name.text.units(),
+        of_loop: is_loop(labelled),
+    };
+    let labels = with_label(s.alloc, label, s.labels)?;
+    let inner = Setting {
+        labels: labels.as_slice(),
+        ..*s
+    };
+    walk_statement(labelled, &inner, found)
+}
+
+#[cycle(walk)]
+fn walk_catch<'a>(
+    name: &'a Ident,
+    body: &'a [Stmt],
+    s: &Setting<'_>,
+    found: &mut Found<'a>,
+) -> Result<(), NoMemory>
+    ensures { OnOk result (found.new ≡ first_from found.old (written_breaches (setting_of s.now) name.now.text name.now.span
+        ++ row_breaches (in_catch (setting_of s.now) name.now.text) (view_statements body.now))) }
+{
+    found.written(&name.text, name.span, s);
+    let bound = bind(s.alloc, s.bound, &[&name.text])?;
+    let inner = Setting {
+        bound: bound.as_slice(),
+        ..*s
+    };
+    walk_statements(body, &inner, found)
 }
 
 #[cycle(walk)]

@@ -1,4 +1,4 @@
-use Rattle.std.proofs.Common.{◌≡◌, ℕ, ◌+◌, ◌*◌, ◌<◌, ◌++◌, refl, option_map, ap, sym, ◌∙◌, subst}
+use Rattle.std.proofs.Common.{◌≡◌, ℕ, ◌+◌, ◌*◌, ◌<◌, ◌++◌, refl, option_map, ap, sym, ◌∙◌, subst, arith}
 use Rattle.jl_ast.specs.Tree as tree
 use Rattle.jl_ast.specs.View.{view_functions, view_function, view_statements, view_statement, view_entries, view_entry}
 use Rattle.jl_ast.specs.View.{view_expressions, view_expression, view_cases, view_case, view_declarators}
@@ -83,9 +83,10 @@ walk_statement-walk_statements-requires-in-For t c =
     let h = c.in-For in
     let k : c.args.statement.now.kind ≡ statement.For h.init h.test h.step c.items-in-For.result.now =
     cc (h.is, c.items-in-For.ensures) in
-    let d : 2 * size-Stmt c.args.statement.now + 0 ≡ t = c.decreases in
-    let P : ℕ → Type 0 = λ n. 2 * most size-Stmt c.items-in-For.result.now + 1 < n in
-    (subst P d (below_for c.args.statement.now h.init h.test h.step c.items-in-For.result.now k), tt)
+    let d : 3 * size-Stmt c.args.statement.now + 0 ≡ t = c.decreases in
+    let P : ℕ → Type 0 = λ n. 3 * most size-Stmt c.items-in-For.result.now + 1 < n in
+    let below = below_for c.args.statement.now h.init h.test h.step c.items-in-For.result.now k in
+    (subst P d (omega (arith, below)), tt)
 
 pub walk_statement-returns-in-Some : goal.walk_statement-returns-in-Some
 walk_statement-returns-in-Some t c =
