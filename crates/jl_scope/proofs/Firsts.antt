@@ -1,6 +1,6 @@
 -- The first of several lists of breaches.
 use Rattle.std.proofs.Common.{◌≡◌, ℕ, suc, ◌+◌, ◌<◌, List, [], ◌∷◌, ◌++◌, ◌&&◌, map, Option, Some, None, option_map, Result, OnOk, length, get_or, drop}
-use Rattle.std.proofs.Common.{ap, refl, sym, subst, ◌∙◌, add-one}
+use Rattle.std.proofs.Common.{ap, refl, sym, ◌∙◌, add-one}
 use Rattle.std.proofs.lemmas.Result.{on_ok_weaker}
 use Rattle.std.proofs.Math.Seq.{drop-cons}
 use Rattle.jl_text.specs.declared.span.Span.{Span}

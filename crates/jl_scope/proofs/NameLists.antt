@@ -1,5 +1,5 @@
 -- Lists of names behind references, and the names.
-use Rattle.std.proofs.Common.{◌≡◌, ℕ, Bool, true, false, cond, ◌||◌, List, [], ◌∷◌, ◌++◌, map, ap, refl, ◌∙◌, if◌then◌else◌}
+use Rattle.std.proofs.Common.{◌≡◌, ℕ, Bool, true, false, cond, ◌||◌, List, [], ◌∷◌, ◌++◌, map, ap, refl, ◌∙◌}
 use Rattle.std.proofs.lemmas.List.{map-append}
 use Rattle.std.specs.List.{list_any}
 use Rattle.std.specs.Str.{bytes_eq}
@@ -17,8 +17,8 @@ pub with_name_now : (x : Bor (List ℕ)) (l : List (Bor (List ℕ))) →
 with_name_now x l =
     push (list_any (λ n. bytes_eq x.now n.now) l)
     ∙ ap (λ b. cond b (map (λ n. n.now) l) (map (λ n. n.now) l ++ x.now ∷ [])) (among_now x.now l)
-    where
-      push : (b : Bool) → map (λ n. n.now) (cond b l (l ++ x ∷ []))
-          ≡ cond b (map (λ n. n.now) l) (map (λ n. n.now) l ++ x.now ∷ [])
-      push true = refl
-      push false = map-append (λ n. n.now) l (x ∷ [])
+  where
+    push : (b : Bool) → map (λ n. n.now) (cond b l (l ++ x ∷ []))
+        ≡ cond b (map (λ n. n.now) l) (map (λ n. n.now) l ++ x.now ∷ [])
+    push true = refl
+    push false = map-append (λ n. n.now) l (x ∷ [])

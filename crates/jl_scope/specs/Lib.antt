@@ -6,4 +6,5 @@ pub mod Kinds
 pub mod Setting
 pub mod Breaches
 pub mod Breach
+pub mod Laws
 pub mod Steps

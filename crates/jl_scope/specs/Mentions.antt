@@ -1,7 +1,7 @@
 -- Whether a name is mentioned: as an expression, as what is assigned to, in the head of a `for-in`, or where a
 -- variable, a function or the parameter of a `catch` is declared. Keys, names after a dot and labels are no mentions,
 -- and what functions hold is not looked at.
-use Rattle.std.specs.Prelude.{Bool, true, false, ◌||◌, List, [], ◌∷◌}
+use Rattle.std.specs.Prelude.{Bool, false, ◌||◌}
 use Rattle.jl_text.specs.declared.span.Span.{Span}
 use Rattle.jl_ast.specs.Tree.{Text, Sort, Tree, Row, Maybe, name, array, object, dot, index, call, new, unary}
 use Rattle.jl_ast.specs.Tree.{update, binary, and, or, conditional, assign, comma, to_name, to_dot, to_index, filled}

@@ -130,7 +130,10 @@ fn add_statement<'a>(s: &'a Stmt, names: &mut Vec<&'a Text>) -> Result<(), NoMem
             add_statements(body.items(), names)
         }
         StmtKind::ForIn {
-            is_var, name, body, ..
+            is_var,
+            name,
+            body,
+            ..
         } => {
             if *is_var {
                 names.push(&name.text)?;

@@ -7,6 +7,7 @@ mod found;
 mod heads;
 mod hoisting;
 mod keys;
+mod laws;
 mod mentions;
 mod name_set;
 mod names;
@@ -18,6 +19,10 @@ mod walk;
 
 pub use checking::check;
 pub use hoisting::{is_strict, vars};
+pub use laws::{bind_binds, first_comes_first};
 pub use mentions::mentions_arguments;
 pub use refusal::ScopeRefusal;
 pub use rules::EarlyRule;
+
+#[cfg(test)]
+mod tests;

@@ -73,7 +73,10 @@ fn statement_mentions(s: &Stmt) -> bool
             init_mentions(init) || held_mentions(test) || held_mentions(step) || in_body
         }
         StmtKind::ForIn {
-            name, object, body, ..
+            name,
+            object,
+            body,
+            ..
         } => {
             is_arguments(name.text.units())
                 || expression_mentions(object)

@@ -207,11 +207,7 @@ fn walk_catch<'a>(
 }
 
 #[cycle(walk)]
-fn walk_init<'a>(
-    init: &'a ForInit,
-    s: &Setting<'_>,
-    found: &mut Found<'a>,
-) -> Result<(), NoMemory>
+fn walk_init<'a>(init: &'a ForInit, s: &Setting<'_>, found: &mut Found<'a>) -> Result<(), NoMemory>
     ensures { OnOk result (found.new ≡ first_from found.old (breaches (setting_of s.now) (view_init init.now))) }
 {
     match init {
@@ -241,11 +237,7 @@ fn walk_declarators<'a>(
 }
 
 #[cycle(walk)]
-fn walk_cases<'a>(
-    cases: &'a [Case],
-    s: &Setting<'_>,
-    found: &mut Found<'a>,
-) -> Result<(), NoMemory>
+fn walk_cases<'a>(cases: &'a [Case], s: &Setting<'_>, found: &mut Found<'a>) -> Result<(), NoMemory>
     ensures { OnOk result (found.new
         ≡ first_from found.old (row_breaches (setting_of s.now) (view_cases cases.now))) }
 {
@@ -272,11 +264,7 @@ fn walk_held<'a>(
 }
 
 #[cycle(walk)]
-fn walk_expression<'a>(
-    e: &'a Expr,
-    s: &Setting<'_>,
-    found: &mut Found<'a>,
-) -> Result<(), NoMemory>
+fn walk_expression<'a>(e: &'a Expr, s: &Setting<'_>, found: &mut Found<'a>) -> Result<(), NoMemory>
     ensures { OnOk result (found.new
         ≡ first_from found.old (breaches (setting_of s.now) (view_expression e.now))) }
 {
@@ -324,11 +312,7 @@ fn walk_expression<'a>(
 }
 
 #[cycle(walk)]
-fn walk_target<'a>(
-    t: &'a Target,
-    s: &Setting<'_>,
-    found: &mut Found<'a>,
-) -> Result<(), NoMemory>
+fn walk_target<'a>(t: &'a Target, s: &Setting<'_>, found: &mut Found<'a>) -> Result<(), NoMemory>
     ensures { OnOk result (found.new ≡ first_from found.old (breaches (setting_of s.now) (view_target t.now))) }
 {
     match t {
@@ -378,11 +362,7 @@ fn walk_entries<'a>(
 }
 
 #[cycle(walk)]
-fn walk_entry<'a>(
-    entry: &'a Entry,
-    s: &Setting<'_>,
-    found: &mut Found<'a>,
-) -> Result<(), NoMemory>
+fn walk_entry<'a>(entry: &'a Entry, s: &Setting<'_>, found: &mut Found<'a>) -> Result<(), NoMemory>
     ensures { OnOk result (found.new ≡ first_from found.old (breaches (setting_of s.now) (view_entry entry.now))) }
 {
     match entry {

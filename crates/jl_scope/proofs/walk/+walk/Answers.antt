@@ -114,8 +114,10 @@ walk_statement-returns-in_ok-walk_held-in-For-2 t c =
     let s = setting_of c.args.s.now in
     let v : view_statement c.args.statement.now ≡ tree.for (view_init h.init) (view_maybe h.test) (view_maybe h.step)
     (view_statements c.items-in-For.result.now) c.args.statement.now.span =
-    cc (statement_placed c.args.statement.now,
-    statement_For h.init h.test h.step h.body c.args.statement.now.span) in
+    cc (
+      statement_placed c.args.statement.now,
+      statement_For h.init h.test h.step h.body c.args.statement.now.span,
+    ) in
     let init = breaches s (view_init h.init) in
     let test = maybe_breaches s (view_maybe h.test) in
     let step = maybe_breaches s (view_maybe h.step) in

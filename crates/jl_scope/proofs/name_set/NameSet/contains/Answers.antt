@@ -1,4 +1,4 @@
-use Rattle.std.proofs.Common.{◌≡◌, ◌∙◌, ap}
+use Rattle.std.proofs.Common.{◌∙◌, ap}
 use Rattle.jl_scope.specs.Names.{among}
 use Rattle.jl_scope.proofs.NameLists.{among_now}
 use Rattle.jl_scope.proofs.name_set.NameSet.contains.Goals as goal

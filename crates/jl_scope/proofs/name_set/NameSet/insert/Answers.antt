@@ -1,4 +1,4 @@
-use Rattle.std.proofs.Common.{◌≡◌, ◌∙◌, ap, map, not}
+use Rattle.std.proofs.Common.{◌∙◌, ap, map, not}
 use Rattle.jl_scope.specs.Names.{among, with_name}
 use Rattle.jl_scope.proofs.NameLists.{among_now, with_name_now}
 use Rattle.jl_scope.proofs.name_set.NameSet.insert.Goals as goal
