@@ -172,8 +172,26 @@ pub examples :
     × (first_breach left_out_before_hooks ≡ Some (left_out (codes "Date") (at 4 8)))
     × (first_breach hooks_label ≡ Some (reserved_name (at 0 2)))
 unfolding left_out_names strict_words strict_names hooks_name is_left_out identifier_breaches written_breaches
-  free_breaches read_breaches target_breaches label_breaches break_breaches continue_breaches return_breaches
-  delete_breaches
-examples =
-    (refl, refl, refl, refl, refl, refl, refl, refl, refl, refl, refl, refl, refl, refl, refl, refl, refl, refl,
-    refl)
+    free_breaches read_breaches target_breaches label_breaches break_breaches continue_breaches return_breaches
+    delete_breaches
+examples = (
+  refl,
+  refl,
+  refl,
+  refl,
+  refl,
+  refl,
+  refl,
+  refl,
+  refl,
+  refl,
+  refl,
+  refl,
+  refl,
+  refl,
+  refl,
+  refl,
+  refl,
+  refl,
+  refl,
+)

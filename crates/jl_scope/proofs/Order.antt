@@ -73,9 +73,12 @@ taken a b l p h =
 
 passed : (a b : Breach) (l : List Breach) → comes_before b a ≡ false →
     IsFirstFound a l (first_from (Some a) l) → IsFirstFound a (b ∷ l) (first_from (sooner (Some a) b) l)
-passed a b l p h =
-    (h.0, ap (λ t. first_from (cond t (Some b) (Some a)) l) p ∙ h.1, skip h.0 h.2,
-    (h.3.0, (not_before b a h.0 p h.3.0, h.3.1)))
+passed a b l p h = (
+  h.0,
+  ap (λ t. first_from (cond t (Some b) (Some a)) l) p ∙ h.1,
+  skip h.0 h.2,
+  (h.3.0, (not_before b a h.0 p h.3.0, h.3.1)),
+)
   where
     skip : (r : Breach) → IsOneOf r (a ∷ l) → IsOneOf r (a ∷ b ∷ l)
     skip r (inl e) = inl e

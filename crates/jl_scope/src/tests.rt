@@ -1,104 +1,59 @@
-// What is expected is read off edition 5.1 for the sources that stand beside the trees.
+// What is expected is read off edition 5.1 for the source that stands beside a tree.
 use super::*;
-use jl_ast::{Body, Expr, ExprKind, Function, Ident, Program, Stmt, StmtKind};
+use jl_ast::{Body, Expr, ExprKind, Ident, Program, Stmt, StmtKind};
 use jl_text::{List, NoMemory, Span, Text, TextFault};
 use std::alloc::Global;
 use std::test::Fail;
 
-fn at(from: u32, to: u32) -> Span {
-    Span { from, to }
-}
+const HERE: Span = Span { from: 3, to: 4 };
 
-fn text(alloc: Global, name: &str) -> Result<Text, TextFault> {
-    let mut units: Vec<u16> = Vec::new(alloc);
-    for byte in name.as_bytes() {
-        units.push(*byte as u16)?;
-    }
-    Text::from_units(alloc, units.as_slice())
-}
+const A: [u16; 1] = [97];
 
-fn ident(alloc: Global, name: &str, from: u32) -> Result<Ident, TextFault> {
-    Ok(Ident {
-        text: text(alloc, name)?,
-        span: at(from, from + 1),
-    })
-}
+const DATE: [u16; 4] = [68, 97, 116, 101];
 
-fn read(alloc: Global, name: &str, from: u32, to: u32) -> Result<Expr, TextFault> {
-    Ok(Expr {
-        kind: ExprKind::Name(text(alloc, name)?),
-        span: at(from, to),
-    })
-}
+const HOOKS: [u16; 2] = [74, 36];
 
-fn body(alloc: Global) -> Body {
-    Body {
+const ARGUMENTS: [u16; 9] = [97, 114, 103, 117, 109, 101, 110, 116, 115];
+
+// a body with this one statement
+fn holding(alloc: Global, kind: StmtKind) -> Result<Body, NoMemory> {
+    let mut statements = List::new(alloc);
+    statements.push(Stmt { kind, span: HERE })?;
+    Ok(Body {
         strict: false,
         functions: List::new(alloc),
-        statements: List::new(alloc),
-    }
+        statements,
+    })
 }
 
-fn add(body: &mut Body, kind: StmtKind, span: Span) -> Result<(), NoMemory> {
-    body.statements.push(Stmt { kind, span })
+fn program(body: Body) -> Program {
+    Program { body, span: HERE }
 }
 
-fn one(alloc: Global, name: &str) -> Result<List<(Ident, Option<Expr>)>, TextFault> {
+// the statement that is this name
+fn reading(alloc: Global, units: &[u16]) -> Result<StmtKind, TextFault> {
+    let kind = ExprKind::Name(Text::from_units(alloc, units)?);
+    Ok(StmtKind::Expr(Expr { kind, span: HERE }))
+}
+
+// var a, a;
+fn declaring_twice(alloc: Global) -> Result<StmtKind, TextFault> {
     let mut declarators = List::new(alloc);
-    declarators.push((ident(alloc, name, 0)?, None))?;
-    Ok(declarators)
-}
-
-// the program that is this one statement
-fn refusal_of(alloc: Global, kind: StmtKind) -> Result<(), ScopeRefusal> {
-    let mut all = body(alloc);
-    add(&mut all, kind, at(0, 9))?;
-    check(
-        alloc,
-        &Program {
-            body: all,
-            span: at(0, 9),
-        },
-    )
+    for _ in 0..2 {
+        let text = Text::from_units(alloc, &A)?;
+        declarators.push((Ident { text, span: HERE }, None))?;
+    }
+    Ok(StmtKind::Var(declarators))
 }
 
 #[test]
-fn nothing_is_wrong(rt: HostRuntime) -> Result<(), Fail> {
-    // a;
-    let kind = StmtKind::Expr(read(rt.alloc(), "a", 0, 1)?);
-    assert!(rt; refusal_of(rt.alloc(), kind).is_ok());
-    Ok(())
-}
-
-#[test]
-fn a_label_stands_twice(rt: HostRuntime) -> Result<(), Fail> {
-    // L: L: ;
-    let alloc = rt.alloc();
-    let inner = StmtKind::Labelled(
-        ident(alloc, "L", 3)?,
-        Box::new(
-            alloc,
-            Stmt {
-                kind: StmtKind::Empty,
-                span: at(6, 7),
-            },
-        )?,
-    );
-    let outer = StmtKind::Labelled(
-        ident(alloc, "L", 0)?,
-        Box::new(
-            alloc,
-            Stmt {
-                kind: inner,
-                span: at(3, 7),
-            },
-        )?,
-    );
-    match refusal_of(alloc, outer) {
+fn a_return_stands_outside(rt: HostRuntime) -> Result<(), Fail> {
+    // return;
+    let p = program(holding(rt.alloc(), StmtKind::Return(None))?);
+    match check(rt.alloc(), &p) {
         Err(ScopeRefusal::Early { rule, span }) => {
-            assert_eq!(rt; rule, EarlyRule::LabelTwice);
-            assert_eq!(rt; rule.name(), "label-twice");
-            assert_eq!(rt; span, at(3, 4));
+            assert_eq!(rt; rule.name(), "return-outside");
+            assert_eq!(rt; span, HERE);
         }
         _ => panic!(rt; "another answer"),
     }
@@ -107,13 +62,12 @@ fn a_label_stands_twice(rt: HostRuntime) -> Result<(), Fail> {
 
 #[test]
 fn a_name_is_left_out(rt: HostRuntime) -> Result<(), Fail> {
-    // throw Date;
-    let alloc = rt.alloc();
-    let kind = StmtKind::Throw(read(alloc, "Date", 6, 10)?);
-    match refusal_of(alloc, kind) {
+    // Date;
+    let p = program(holding(rt.alloc(), reading(rt.alloc(), &DATE)?)?);
+    match check(rt.alloc(), &p) {
         Err(ScopeRefusal::LeftOut { name, span }) => {
-            assert!(rt; name.units() == text(alloc, "Date")?.units());
-            assert_eq!(rt; span, at(6, 10));
+            assert!(rt; name.units() == DATE.as_slice());
+            assert_eq!(rt; span, HERE);
         }
         _ => panic!(rt; "another answer"),
     }
@@ -123,9 +77,9 @@ fn a_name_is_left_out(rt: HostRuntime) -> Result<(), Fail> {
 #[test]
 fn a_name_is_reserved(rt: HostRuntime) -> Result<(), Fail> {
     // J$;
-    let kind = StmtKind::Expr(read(rt.alloc(), "J$", 0, 2)?);
-    match refusal_of(rt.alloc(), kind) {
-        Err(ScopeRefusal::ReservedName { span }) => assert_eq!(rt; span, at(0, 2)),
+    let p = program(holding(rt.alloc(), reading(rt.alloc(), &HOOKS)?)?);
+    match check(rt.alloc(), &p) {
+        Err(ScopeRefusal::ReservedName { span }) => assert_eq!(rt; span, HERE),
         _ => panic!(rt; "another answer"),
     }
     Ok(())
@@ -133,64 +87,21 @@ fn a_name_is_reserved(rt: HostRuntime) -> Result<(), Fail> {
 
 #[test]
 fn variables_stand_once(rt: HostRuntime) -> Result<(), Fail> {
-    // var a; for (var b in a) { var a; }
-    let alloc = rt.alloc();
-    let mut held = List::new(alloc);
-    held.push(Stmt {
-        kind: StmtKind::Var(one(alloc, "a")?),
-        span: at(26, 32),
-    })?;
-    let mut all = body(alloc);
-    add(&mut all, StmtKind::Var(one(alloc, "a")?), at(0, 6))?;
-    let for_in = StmtKind::ForIn {
-        is_var: true,
-        name: ident(alloc, "b", 16)?,
-        object: read(alloc, "a", 21, 22)?,
-        body: held,
-    };
-    add(&mut all, for_in, at(7, 34))?;
-    let names = vars(alloc, &all)?;
-    assert_eq!(rt; names.len(), 2);
-    assert!(rt; names[0].units() == text(alloc, "a")?.units());
-    assert!(rt; names[1].units() == text(alloc, "b")?.units());
+    let p = program(holding(rt.alloc(), declaring_twice(rt.alloc())?)?);
+    assert!(rt; check(rt.alloc(), &p).is_ok());
+    let names = vars(rt.alloc(), &p.body)?;
+    assert_eq!(rt; names.len(), 1);
+    assert!(rt; names[0].units() == A.as_slice());
     Ok(())
 }
 
 #[test]
 fn arguments_are_mentioned(rt: HostRuntime) -> Result<(), Fail> {
     // arguments;
-    let alloc = rt.alloc();
-    let mut inner = body(alloc);
-    add(
-        &mut inner,
-        StmtKind::Expr(read(alloc, "arguments", 0, 9)?),
-        at(0, 10),
-    )?;
-    assert!(rt; mentions_arguments(&inner));
-    // (function () { arguments; });
-    let f = Function {
-        number: 0,
-        name: None,
-        params: List::new(alloc),
-        body: inner,
-        span: at(1, 27),
-    };
-    let mut outer = body(alloc);
-    let e = Expr {
-        kind: ExprKind::Function(Box::new(alloc, f)?),
-        span: at(1, 27),
-    };
-    add(&mut outer, StmtKind::Expr(e), at(0, 29))?;
-    assert!(rt; !mentions_arguments(&outer));
-    Ok(())
-}
-
-#[test]
-fn strictness_is_handed_on(rt: HostRuntime) -> Result<(), Fail> {
-    let mut b = body(rt.alloc());
-    assert!(rt; !is_strict(false, &b));
-    assert!(rt; is_strict(true, &b));
-    b.strict = true;
-    assert!(rt; is_strict(false, &b));
+    let mut body = holding(rt.alloc(), reading(rt.alloc(), &ARGUMENTS)?)?;
+    assert!(rt; mentions_arguments(&body));
+    assert!(rt; !is_strict(false, &body));
+    body.strict = true;
+    assert!(rt; is_strict(false, &body));
     Ok(())
 }
