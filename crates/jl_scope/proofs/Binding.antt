@@ -1,13 +1,11 @@
 -- Which left-out names are bound.
-use Rattle.std.proofs.Common.{◌≡◌, ℕ, Bool, true, false, ◌||◌, cond, List, [], ◌∷◌, ◌++◌, refl, sym, ap, ◌∙◌}
+use Rattle.std.proofs.Common.{◌≡◌, Bool, true, false, ◌||◌, cond, List, [], ◌∷◌, ◌++◌, refl, sym, ap, ◌∙◌}
 use Rattle.std.proofs.Common.{true≢false}
-use Rattle.std.specs.List.{list_any}
-use Rattle.std.specs.Str.{bytes_eq}
 use Rattle.std.proofs.lemmas.List.Folds.{list_any-append}
 use Rattle.std.proofs.lemmas.Slice.Eq.{bytes_eq-Decides}
 use Rattle.jl_ast.specs.Tree.{Text}
 use Rattle.jl_scope.specs.Names.{same_text, among, with_name}
-use Rattle.jl_scope.specs.Setting.{bind, bind_name, is_left_out}
+use Rattle.jl_scope.specs.Setting.{bind_name, is_left_out}
 use Rattle.jl_scope.specs.Laws.{BindBinds}
 
 or_false : (a : Bool) → (a || false) ≡ a

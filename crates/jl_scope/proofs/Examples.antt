@@ -1,13 +1,13 @@
 -- Small programs and what is wrong with them, by computing the definitions. The source of each stands before its tree.
-use Rattle.std.specs.Prelude.{◌≡◌, ℕ, Bool, true, false, List, [], ◌∷◌, Option, None, Some, codes, refl, pos}
+use Rattle.std.specs.Prelude.{◌≡◌, ℕ, Bool, true, false, [], ◌∷◌, None, Some, codes, refl, pos}
 use Rattle.jl_text.specs.declared.span.Span.{Span}
 use Rattle.jl_ast.specs.declared.ops.UnOp.TheVariants.{Delete}
-use Rattle.jl_ast.specs.Tree.{Ident, Program, Tree, Row, func, stmt, row, end, absent, present, function, body}
+use Rattle.jl_ast.specs.Tree.{Ident, Program, Row, func, stmt, row, end, absent, present, function, body}
 use Rattle.jl_ast.specs.Tree.{name, number, object, function_expression, unary, assign, to_name, value, getter, var}
 use Rattle.jl_ast.specs.Tree.{empty, expression, block, while, continue, break, return, labelled, try, declarator}
 use Rattle.jl_ast.specs.Tree.{branch_of, catch}
 use Rattle.jl_scope.specs.declared.rules.EarlyRule.TheVariants as rules
-use Rattle.jl_scope.specs.Breach.{Breach, early, left_out, reserved_name, first_breach}
+use Rattle.jl_scope.specs.Breach.{early, left_out, reserved_name, first_breach}
 use Rattle.jl_scope.specs.Names.{left_out_names, strict_words, strict_names, hooks_name}
 use Rattle.jl_scope.specs.Setting.{is_left_out}
 use Rattle.jl_scope.specs.Breaches.{identifier_breaches, written_breaches, free_breaches, read_breaches}

@@ -1,5 +1,5 @@
 -- `comes_before` orders breaches by three numbers: the kind, the place, and the number of the rule.
-use Rattle.std.proofs.Common.{◌≡◌, ℕ, Bool, true, false, ◌&&◌, ◌||◌, nat_lt, nat_eq, List, [], ◌∷◌, Option, None, Some}
+use Rattle.std.proofs.Common.{◌≡◌, ℕ, Bool, true, false, ◌&&◌, ◌||◌, nat_lt, nat_eq, List, [], ◌∷◌, Option, Some}
 use Rattle.std.proofs.Common.{cond, refl, sym, ◌∙◌, ap, subst, inl, inr, arith}
 use Rattle.std.proofs.lemmas.Bool.Decides.{nat_tests}
 use Rattle.jl_scope.specs.Kinds.{Breach, early, left_out, reserved_name, comes_before, first_from, sooner}
