@@ -1,0 +1,2 @@
+//! The canonical text of a program.
+#![tactic(auto)]
