@@ -1,0 +1,3 @@
+mod Spells
+mod Fronts
+mod Skeleton
