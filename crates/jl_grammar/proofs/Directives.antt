@@ -17,7 +17,7 @@ use Rattle.jl_grammar.specs.Laws.{IsAlone, DirectivesAreAlone}
 use Rattle.jl_grammar.specs.Next.{continues_at, continues_left, is_comma, is_directive, is_identifier, is_question}
 use Rattle.jl_grammar.specs.Next.{is_string, updates_at}
 use Rattle.jl_grammar.specs.Operators.{Joint, both, either, joined, plain, assigns, continues, joint, looseness_of}
-use Rattle.jl_grammar.specs.Reads.{Expr, Stmt, EndsAt, BeginsBinary, ReadsExpression, ReadsStatement, primary}
+use Rattle.jl_grammar.specs.Reads.{Expr, Stmt, EndsAt, ReadsPrimary, BeginsBinary, ReadsExpression, ReadsStatement, primary}
 use Rattle.jl_grammar.specs.Reads.{whole_left, left, a_postfix, postfix}
 use Rattle.jl_grammar.specs.Reads.{a_prefix, an_update, operand, tighter, a_joint, whole_binary, operands}
 use Rattle.jl_grammar.specs.Reads.{a_conditional, conditional, an_assignment, assignment, a_comma, whole_expression}
@@ -56,7 +56,7 @@ abbrev Same : Expr × ℕ → Expr × ℕ → Type 0
 Same x y = x ≡ y
 
 -- from a place one expression is read at most
-one_expression : (ts : List Token) (no_in : Bool) (i j k : ℕ) (t u : Expr) → ReadsExpression ts no_in i t j
+pub one_expression : (ts : List Token) (no_in : Bool) (i j k : ℕ) (t u : Expr) → ReadsExpression ts no_in i t j
     → ReadsExpression ts no_in i u k → Same (t, j) (u, k)
 one_expression ts no_in i j k t u r s =
     let f = height t + height u + length ts in
@@ -143,10 +143,10 @@ alone_stops (whole_expression (assignment (conditional (a_conditional a b c d e)
 alone_stops (whole_expression (assignment (an_assignment a b c d)) e) h = cc
 alone_stops (whole_expression (a_comma a b c) d) h = cc
 
-string_alone : (ts : List Token) (i : ℕ) → At ts i signs.Str → continues_at ts (suc i) ≡ false
-    → ReadsExpression ts false i (tree.string (text_at ts i) (span ts i (suc i))) (suc i)
-string_alone ts i s h =
-    let t = tree.string (text_at ts i) (span ts i (suc i)) in
+-- a primary expression that is one token, before a token that goes on with nothing
+pub primary_alone : (ts : List Token) (i : ℕ) (t : Expr) → ReadsPrimary ts i t (suc i)
+    → continues_at ts (suc i) ≡ false → ReadsExpression ts false i t (suc i)
+primary_alone ts i t s h =
     let k = sign_at ts (suc i) in
     let p = neither _ (is_comma k) h in
     let q = neither _ (assigns k) p.0 in
@@ -154,8 +154,7 @@ string_alone ts i s h =
     let u = neither _ (continues false 10 k) r.0 in
     let v = neither (continues_left true k) (updates_at ts (suc i)) u.0 in
     let c = tighter_stops (looseness_of (joint false k)) 9 10 (omega arith) u.1 in
-    let o : BeginsBinary ts false zero i t (suc i) =
-    operand (postfix (left (whole_left (primary (a_string s)) v.0) v.1)) in
+    let o : BeginsBinary ts false zero i t (suc i) = operand (postfix (left (whole_left (primary s) v.0) v.1)) in
     let l = lift_to ts false 0 10 i t (suc i) (omega arith) o c in
     whole_expression (assignment (conditional (operands (whole_binary l u.1) r.1) q.1)) p.1
 
@@ -166,7 +165,7 @@ directives_are_alone ts i w j r = (to, back)
     to h =
         let b = both_true (is_string (sign_at ts i)) (not (continues_at ts (suc i))) h in
         let s : At ts i signs.Str = record { is = string_sign _ b.0 } in
-        let e = string_alone ts i s (not_true _ b.1) in
+        let e = primary_alone ts i _ (a_string s) (not_true _ b.1) in
         let x = expressed r s in
         let q = one_expression ts false i x.end (suc i) x.value
         (tree.string (text_at ts i) (span ts i (suc i))) x.reads e in
