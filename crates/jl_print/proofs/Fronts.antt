@@ -21,9 +21,8 @@ pub data Front (ts : List Token) (no_in : Bool) (i : ℕ) (t : Expr) (j : ℕ) :
   of_left : BeginsLeft ts true i t j → Front ts no_in i t j 0
   of_postfix : ReadsPostfix ts i t j → Front ts no_in i t j 1
   of_binary : {l : ℕ} → l ≤ 10 → BeginsBinary ts no_in l i t j → Front ts no_in i t j (suc (suc l))
-  of_conditional : ReadsConditional ts no_in i t j → Front ts no_in i t j 13
-  of_assignment : ReadsAssignment ts no_in i t j → Front ts no_in i t j 14
-  of_expression : BeginsExpression ts no_in i t j → Front ts no_in i t j 15
+  of_assignment : ReadsAssignment ts no_in i t j → Front ts no_in i t j 13
+  of_expression : BeginsExpression ts no_in i t j → Front ts no_in i t j 14
 
 module _ {ts : List Token} {no_in : Bool} {i : ℕ} {t : Expr} {j : ℕ} where
   pub to_left : Front ts no_in i t j 0 → BeginsLeft ts true i t j
@@ -31,15 +30,14 @@ module _ {ts : List Token} {no_in : Bool} {i : ℕ} {t : Expr} {j : ℕ} where
 
   pub to_binary : (l : ℕ) → l ≤ 10 → Front ts no_in i t j (suc (suc l)) → BeginsBinary ts no_in l i t j
   to_binary l h (of_binary g f) = f
-  to_binary l h (of_conditional f) = absurd (omega arith)
   to_binary l h (of_assignment f) = absurd (omega arith)
   to_binary l h (of_expression f) = absurd (omega arith)
 
-  pub to_assignment : Front ts no_in i t j 14 → ReadsAssignment ts no_in i t j
+  pub to_assignment : Front ts no_in i t j 13 → ReadsAssignment ts no_in i t j
   to_assignment (of_binary h f) = absurd (omega arith)
   to_assignment (of_assignment f) = f
 
-  pub to_expression : Front ts no_in i t j 15 → BeginsExpression ts no_in i t j
+  pub to_expression : Front ts no_in i t j 14 → BeginsExpression ts no_in i t j
   to_expression (of_binary h f) = absurd (omega arith)
   to_expression (of_expression f) = f
 
@@ -49,7 +47,7 @@ pub record Quiet (no_in : Bool) (r : ℕ) (ts : List Token) (j : ℕ) : Type 0 w
   pub update : 1 ≤ r → updates_at ts j ≡ false
   pub operator : continues no_in (r - 3) (sign_at ts j) ≡ false
   pub question : 13 ≤ r → is_question (sign_at ts j) ≡ false
-  pub assigns : 14 ≤ r → assigns (sign_at ts j) ≡ false
+  pub assigns : 13 ≤ r → assigns (sign_at ts j) ≡ false
 
 tighter_stops : (s x y : ℕ) → x ≤ y → (nat_le 1 s && nat_le s y) ≡ false → (nat_le 1 s && nat_le s x) ≡ false
 tighter_stops s x y l h = grind (arith, leb_tells)
@@ -121,7 +119,7 @@ quiet_stop {ts} {j} no_in r h =
       assigns = λ g. p.assigns;
     }
 
-looser : (ts : List Token) (no_in : Bool) (i : ℕ) (t : Expr) (j r : ℕ) → r ≤ 14 → Front ts no_in i t j r
+looser : (ts : List Token) (no_in : Bool) (i : ℕ) (t : Expr) (j r : ℕ) → r ≤ 13 → Front ts no_in i t j r
     → Quiet no_in (suc r) ts j → Front ts no_in i t j (suc r)
 looser ts no_in i t j r h (of_left f) q = of_postfix (left (whole_left f (q.left (omega arith))) (q.update (omega arith)))
 looser ts no_in i t j r h (of_postfix f) q = of_binary (omega arith) (operand (postfix f))
@@ -137,13 +135,12 @@ looser ts no_in i t j r h (of_binary {l = l} g f) q = go (cases_lt l 10)
     go (inl p) = of_binary (omega arith) (tighter whole)
     go (inr p) = let e : l ≡ 10 = omega arith in
         subst (λ n. Front ts no_in i t j (suc (suc (suc n)))) (sym e)
-        (of_conditional (operands
-        (subst (λ n. ReadsBinary ts no_in n i t j) e whole) (q.question (omega arith))))
-looser ts no_in i t j r h (of_conditional f) q = of_assignment (conditional f (q.assigns (omega arith)))
+        (of_assignment (conditional (operands
+        (subst (λ n. ReadsBinary ts no_in n i t j) e whole) (q.question (omega arith))) (q.assigns (omega arith))))
 looser ts no_in i t j r h (of_assignment f) q = of_expression (assignment f)
 looser ts no_in i t j r h (of_expression f) q = absurd (omega arith)
 
-loosest : (ts : List Token) (no_in : Bool) (i : ℕ) (t : Expr) (j n r : ℕ) → n + r ≤ 15 → Front ts no_in i t j r
+loosest : (ts : List Token) (no_in : Bool) (i : ℕ) (t : Expr) (j n r : ℕ) → n + r ≤ 14 → Front ts no_in i t j r
     → Quiet no_in (n + r) ts j → Front ts no_in i t j (n + r)
 loosest ts no_in i t j zero r h f q = subst (λ x. Front ts no_in i t j x) (omega arith) f
 loosest ts no_in i t j (suc n) r h f q =
@@ -153,7 +150,7 @@ loosest ts no_in i t j (suc n) r h f q =
     (loosest ts no_in i t j n r (omega arith) f (quiet_less (n + r) (suc (n + r)) (omega arith) p)) p)
 
 -- a front is also a looser one, where nothing goes on with that
-pub as_loose : {ts : List Token} {no_in : Bool} {i : ℕ} {t : Expr} {j : ℕ} (r s : ℕ) → r ≤ s → s ≤ 15
+pub as_loose : {ts : List Token} {no_in : Bool} {i : ℕ} {t : Expr} {j : ℕ} (r s : ℕ) → r ≤ s → s ≤ 14
     → Front ts no_in i t j r → Quiet no_in s ts j → Front ts no_in i t j s
 as_loose {ts} {no_in} {i} {t} {j} r s h g f q =
     let e : (s - r) + r ≡ s = omega arith in

@@ -1,3 +1,9 @@
 mod Spells
 mod Fronts
 mod Skeleton
+mod Places
+mod Operators
+mod Names
+mod Following
+mod BackParts
+mod Back

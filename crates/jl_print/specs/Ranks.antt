@@ -24,8 +24,8 @@ rank_of (binary op a b s) = if is_in op then 0 else operator_rank op
 rank_of (and a b s) = 11
 rank_of (or a b s) = 12
 rank_of (conditional a b c s) = 13
-rank_of (assign op g e s) = 14
-rank_of (comma a b s) = 15
+rank_of (assign op g e s) = 13
+rank_of (comma a b s) = 14
 rank_of _ = 0
 
 -- it needs no brackets where something as loose as r may stand

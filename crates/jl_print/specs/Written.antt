@@ -7,7 +7,8 @@ use Rattle.jl_ast.specs.Tree as tree
 use Rattle.jl_token.specs.declared.punct.Punct.TheVariants as puncts
 use Rattle.jl_token.specs.declared.token.TokenKind.{TokenKind}
 use Rattle.jl_token.specs.declared.token.TokenKind.TheVariants as kinds
-use Rattle.jl_grammar.specs.Words.{same_text}
+use Rattle.jl_grammar.specs.Next.{bars_expression}
+use Rattle.jl_grammar.specs.Signs.{sign_of}
 use Rattle.jl_print.specs.Ranks.{fits, is_in, operator_rank}
 use Rattle.jl_print.specs.Pieces.{name, punct, string, key, operator, prefix_operator, update_operator, assign_punct}
 use Rattle.jl_print.specs.Pieces.{in_parens, fitted, braced}
@@ -37,9 +38,8 @@ is_string _ = false
 
 -- it would be read as a block or as a function declaration (12.4)
 abbrev pub begins_otherwise : List TokenKind → Bool
-begins_otherwise (kinds.Punct puncts.LeftBrace ∷ ks) = true
-begins_otherwise (kinds.Name t escaped ∷ ks) = same_text (codes "function") t
-begins_otherwise _ = false
+begins_otherwise [] = false
+begins_otherwise (k ∷ ks) = bars_expression (sign_of k)
 
 -- FormalParameterList? in its brackets (clause 13)
 abbrev pub further_names : {S : Type 0} → List (Ident S) → List TokenKind
@@ -99,12 +99,12 @@ unfoldable mutual
   written (tree.or a b s) =
       fitted (fits a 12) (written a) ++ (punct puncts.OrOr ∷ fitted (fits b 11) (written b))
   written (tree.conditional a b c s) =
-      fitted (fits a 12) (written a) ++ (punct puncts.Question ∷ (fitted (fits b 14) (written b) ++
-      (colon ∷ fitted (fits c 14) (written c))))
-  written (tree.assign None g a s) = written g ++ (punct puncts.Assign ∷ fitted (fits a 14) (written a))
+      fitted (fits a 12) (written a) ++ (punct puncts.Question ∷ (fitted (fits b 13) (written b) ++
+      (colon ∷ fitted (fits c 13) (written c))))
+  written (tree.assign None g a s) = written g ++ (punct puncts.Assign ∷ fitted (fits a 13) (written a))
   written (tree.assign (Some op) g a s) =
-      written g ++ (punct (assign_punct op) ∷ fitted (fits a 14) (written a))
-  written (tree.comma a b s) = written a ++ (comma ∷ fitted (fits b 14) (written b))
+      written g ++ (punct (assign_punct op) ∷ fitted (fits a 13) (written a))
+  written (tree.comma a b s) = written a ++ (comma ∷ fitted (fits b 13) (written b))
   -- what is assigned to
   written (tree.to_name x) = name x.text ∷ []
   written (tree.to_dot a t s) = fitted (fits a 0) (written a) ++ (punct puncts.Dot ∷ name t ∷ [])
@@ -113,8 +113,8 @@ unfoldable mutual
       (punct puncts.LeftBracket ∷ (written b ++ punct puncts.RightBracket ∷ []))
   -- the parts of array and object literals (11.1.4, 11.1.5)
   written tree.hole = []
-  written (tree.filled a) = fitted (fits a 14) (written a)
-  written (tree.value k a) = key k.text ∷ colon ∷ fitted (fits a 14) (written a)
+  written (tree.filled a) = fitted (fits a 13) (written a)
+  written (tree.value k a) = key k.text ∷ colon ∷ fitted (fits a 13) (written a)
   written (tree.getter k (tree.function n x ps c s)) =
       name (codes "get") ∷ key k.text ∷ (parameters ps ++ braced (written c))
   written (tree.setter k (tree.function n x ps c s)) =
@@ -158,7 +158,7 @@ unfoldable mutual
   written (tree.init_var ds) = name (codes "var") ∷ written_declarators ds
   written (tree.declarator x tree.absent) = name x.text ∷ []
   written (tree.declarator x (tree.present a)) =
-      name x.text ∷ punct puncts.Assign ∷ fitted (fits a 14) (written a)
+      name x.text ∷ punct puncts.Assign ∷ fitted (fits a 13) (written a)
   written (tree.case tree.absent ws) = name (codes "default") ∷ colon ∷ written_all ws
   written (tree.case (tree.present a) ws) = name (codes "case") ∷ (written a ++ (colon ∷ written_all ws))
   written (tree.branch_of ws) = braced (written_all ws)
@@ -182,11 +182,11 @@ unfoldable mutual
   -- with commas between them: arguments, properties, declarators, and the elements of an array
   pub written_arguments : {S : Type 0} → Row S tree.expr → List TokenKind
   written_arguments tree.end = []
-  written_arguments (tree.more t r) = fitted (fits t 14) (written t) ++ further_arguments r
+  written_arguments (tree.more t r) = fitted (fits t 13) (written t) ++ further_arguments r
 
   pub further_arguments : {S : Type 0} → Row S tree.expr → List TokenKind
   further_arguments tree.end = []
-  further_arguments (tree.more t r) = comma ∷ (fitted (fits t 14) (written t) ++ further_arguments r)
+  further_arguments (tree.more t r) = comma ∷ (fitted (fits t 13) (written t) ++ further_arguments r)
 
   pub written_entries : {S : Type 0} → Row S tree.entry → List TokenKind
   written_entries tree.end = []
