@@ -35,7 +35,7 @@ use Rattle.jl_print.specs.Pieces.{name, punct, string, key, operator, prefix_ope
 use Rattle.jl_print.specs.Pieces.{in_parens, fitted, braced}
 use Rattle.jl_print.specs.Ranks.{rank_of, fits, is_in, operator_rank}
 use Rattle.jl_print.specs.WellFormed.{WellFormed, AllWellFormed, MaybeWellFormed, IsAssigning, AreIdentifiers}
-use Rattle.jl_print.specs.WellFormed.{HasOneDefault, AreNamed}
+use Rattle.jl_print.specs.WellFormed.{HasOneDefault, AreNamed, IsSome}
 use Rattle.jl_print.specs.Written.{written, written_arguments, further_arguments, written_entries, further}
 use Rattle.jl_print.specs.Written.{written_items, items_after, is_name, parameters, maybe_name, written_all}
 use Rattle.jl_print.specs.Written.{written_maybe, written_after, written_declarators, begins_otherwise, is_string}
@@ -51,6 +51,8 @@ use Rattle.jl_print.proofs.Places.{Back, up_to, Alone, BackWhole, whole, BackPri
 use Rattle.jl_print.proofs.Skeleton.{skeleton, skeleton_row, skeleton_maybe, named}
 use Rattle.jl_print.proofs.Spells.{Spelled, Spells, Parts, parts, line_after, line_append, at, identifier, any_name}
 use Rattle.jl_print.proofs.Spells.{any_key, name_text, text_spelled, number_spelled, strict_spelled}
+use Rattle.jl_print.proofs.BackParts.{arguments_stop, further_stop, items_stop, BackFurtherEntries}
+use Rattle.jl_print.proofs.BackParts.{BackFurtherDeclarations}
 use Rattle.jl_print.proofs.BackParts.{as_unary, of_unary, of_primary, joint_back, same_binary, Loose, loose_of}
 use Rattle.jl_print.proofs.BackParts.{operands_back, binary_back, callee, BackTarget, BackArguments}
 use Rattle.jl_print.proofs.BackParts.{BackArgumentList, BackItems, BackEntry, BackEntries, BackRest, BackBody}
@@ -308,38 +310,37 @@ module _ {ts : List Token} where
     back_arguments (tree.more t r) w i j line h =
         let p = parts ts i line (fitted (fits t 13) (written t) ++ further_arguments r)
         (punct puncts.RightParen ∷ []) j h in
-        let x = back_argument_list t r w i p.middle line p.first (at p.second.0) in
-        record {
-          trees = x.trees;
-          same = x.same;
-          is = subst (λ n. ReadsArguments ts i x.trees n) p.second.1 (reads.arguments x.is);
-        }
-
-    back_argument_list : (t : Expr) (r : Exprs) → AllWellFormed (tree.more t r) → (i j : ℕ) (line : Bool)
-        → Spells ts i line (fitted (fits t 13) (written t) ++ further_arguments r) j → At ts j close_paren
-        → BackArgumentList ts i (tree.more t r) (suc j)
-    back_argument_list t tree.end w i j line h c =
-        let p = parts ts i line (fitted (fits t 13) (written t)) [] j h in
-        let s = subst (λ n. At ts n close_paren) (sym p.second) c in
-        let x = in_place t 13 (omega arith) (back t w.0) false i p.middle line p.first
-        (quiet_stop false 13 (ap stops s.is)) in
-        let y : ReadsArgumentList ts i (tree.more x.tree tree.end) (suc p.middle) =
-        reads.last_argument (to_assignment x.is) s in
-        record {
-          trees = tree.more x.tree tree.end;
-          same = ap (λ x. tree.more x tree.end) x.same;
-          is = subst (λ n. ReadsArgumentList ts i (tree.more x.tree tree.end) (suc n)) p.second y;
-        }
-    back_argument_list t (tree.more u r) w i j line h c =
-        let p = parts ts i line (fitted (fits t 13) (written t)) (further_arguments (tree.more u r)) j h in
-        let s = at p.second.0 in
-        let x = in_place t 13 (omega arith) (back t w.0) false i p.middle line p.first
-        (quiet_stop false 13 (ap stops s.is)) in
-        let y = back_argument_list u r w.1 (suc p.middle) j false p.second.1 c in
+        let c = at p.second.0 in
+        let m = line_after line (fitted (fits t 13) (written t)) in
+        let o = parts ts i line (fitted (fits t 13) (written t)) (further_arguments r) p.middle p.first in
+        let x = in_place t 13 (omega arith) (back t w.0) false i o.middle line o.first
+        (quiet_stop false 13 (arguments_stop ts r o.middle p.middle m o.second (ap stops c.is))) in
+        let y = back_further_arguments r w.1 o.middle p.middle m o.second c i x.tree (to_assignment x.is) in
         record {
           trees = tree.more x.tree y.trees;
           same = ap₂ (λ x y. tree.more x y) x.same y.same;
-          is = reads.more_arguments (to_assignment x.is) s y.is;
+          is = subst (λ n. ReadsArguments ts i (tree.more x.tree y.trees) n) p.second.1 (reads.arguments y.is);
+        }
+
+    back_further_arguments : (r : Exprs) → AllWellFormed r → (m j : ℕ) (line : Bool)
+        → Spells ts m line (further_arguments r) j → At ts j close_paren → (i : ℕ) (u : Expr)
+        → ReadsAssignment ts false i u m → BackArgumentList ts i u r (suc j)
+    back_further_arguments tree.end w m j line h c i u z = record {
+      trees = tree.end;
+      same = refl;
+      is = subst (λ n. ReadsArgumentList ts i (tree.more u tree.end) (suc n)) h
+          (reads.last_argument z (subst (λ n. At ts n close_paren) (sym h) c));
+    }
+    back_further_arguments (tree.more t r) w m j line h c i u z =
+        let k = line_after false (fitted (fits t 13) (written t)) in
+        let o = parts ts (suc m) false (fitted (fits t 13) (written t)) (further_arguments r) j h.1 in
+        let x = in_place t 13 (omega arith) (back t w.0) false (suc m) o.middle false o.first
+        (quiet_stop false 13 (arguments_stop ts r o.middle j k o.second (ap stops c.is))) in
+        let y = back_further_arguments r w.1 o.middle j k o.second c (suc m) x.tree (to_assignment x.is) in
+        record {
+          trees = tree.more x.tree y.trees;
+          same = ap₂ (λ x y. tree.more x y) x.same y.same;
+          is = reads.more_arguments z (at h.0) y.is;
         }
 
     back_items : (us : Row Span tree.item) → AllWellFormed us → (i j : ℕ) (line : Bool)
@@ -350,46 +351,69 @@ module _ {ts : List Token} where
       is = subst (λ n. ReadsItems ts i tree.end (suc n)) h
           (reads.no_items (subst (λ n. At ts n close_bracket) (sym h) c));
     }
-    back_items (tree.more t r) w i j line h c = back_items_from t r w i j line h c
+    back_items (tree.more tree.hole r) w i j line h c = after_hole r w.1 i j line h c
+    back_items (tree.more (tree.filled t) r) w i j line h c =
+        let ks = fitted (fits t 13) (written t) in
+        let p = parts ts i line ks (items_after (tree.filled t) r) j h in
+        let x = in_place t 13 (omega arith) (back t w.0) false i p.middle line p.first
+        (quiet_stop false 13 (items_stop ts t r p.middle j (line_after line ks) p.second (ap stops c.is))) in
+        after_filled t r w.1 p.middle j (line_after line ks) p.second c i x (to_assignment x.is)
 
-    back_items_from : (t : Tree Span tree.item) (r : Row Span tree.item) → AllWellFormed (tree.more t r) → (i j : ℕ)
-        (line : Bool) → Spells ts i line (written t ++ items_after t r) j → At ts j close_bracket
-        → BackItems ts i (tree.more t r) (suc j)
-    back_items_from tree.hole tree.end w i j line h c = record {
+    after_hole : (r : Row Span tree.item) → AllWellFormed r → (i j : ℕ) (line : Bool)
+        → Spells ts i line (items_after tree.hole r) j → At ts j close_bracket
+        → BackItems ts i (tree.more tree.hole r) (suc j)
+    after_hole tree.end w i j line h c = record {
       items = tree.more tree.hole tree.end;
       same = refl;
       is = reads.a_hole (at h.0) (subst (λ n. ReadsItems ts (suc i) tree.end (suc n)) h.1
           (reads.no_items (subst (λ n. At ts n close_bracket) (sym h.1) c)));
     }
-    back_items_from tree.hole (tree.more u r) w i j line h c =
-        let y = back_items_from u r w.1 (suc i) j false h.1 c in
+    after_hole (tree.more tree.hole r) w i j line h c =
+        let y = after_hole r w.1 (suc i) j false h.1 c in
         record {
           items = tree.more tree.hole y.items;
           same = ap (λ y. tree.more tree.hole y) y.same;
           is = reads.a_hole (at h.0) y.is;
         }
-    back_items_from (tree.filled t) tree.end w i j line h c =
-        let p = parts ts i line (fitted (fits t 13) (written t)) [] j h in
-        let s = subst (λ n. At ts n close_bracket) (sym p.second) c in
-        let x = in_place t 13 (omega arith) (back t w.0) false i p.middle line p.first
-        (quiet_stop false 13 (ap stops s.is)) in
-        let y : ReadsItems ts i (tree.more (tree.filled x.tree) tree.end) (suc p.middle) =
-        reads.last_item (to_assignment x.is) s in
+    after_hole (tree.more (tree.filled t) r) w i j line h c =
+        let ks = fitted (fits t 13) (written t) in
+        let p = parts ts (suc i) false ks (items_after (tree.filled t) r) j h.1 in
+        let x = in_place t 13 (omega arith) (back t w.0) false (suc i) p.middle false p.first
+        (quiet_stop false 13 (items_stop ts t r p.middle j (line_after false ks) p.second (ap stops c.is))) in
+        let y = after_filled t r w.1 p.middle j (line_after false ks) p.second c (suc i) x (to_assignment x.is) in
         record {
-          items = tree.more (tree.filled x.tree) tree.end;
-          same = ap (λ x. tree.more (tree.filled x) tree.end) x.same;
-          is = subst (λ n. ReadsItems ts i (tree.more (tree.filled x.tree) tree.end) (suc n)) p.second y;
+          items = tree.more tree.hole y.items;
+          same = ap (λ y. tree.more tree.hole y) y.same;
+          is = reads.a_hole (at h.0) y.is;
         }
-    back_items_from (tree.filled t) (tree.more u r) w i j line h c =
-        let p = parts ts i line (fitted (fits t 13) (written t)) (punct puncts.Comma ∷ (written u ++ items_after u r)) j h in
-        let s = at p.second.0 in
-        let x = in_place t 13 (omega arith) (back t w.0) false i p.middle line p.first
-        (quiet_stop false 13 (ap stops s.is)) in
-        let y = back_items_from u r w.1 (suc p.middle) j false p.second.1 c in
+
+    after_filled : (t : Expr) (r : Row Span tree.item) → AllWellFormed r → (m j : ℕ) (line : Bool)
+        → Spells ts m line (items_after (tree.filled t) r) j → At ts j close_bracket → (i : ℕ)
+        → (x : Back ts false 13 i t m) → ReadsAssignment ts false i x.tree m
+        → BackItems ts i (tree.more (tree.filled t) r) (suc j)
+    after_filled t tree.end w m j line h c i x z = record {
+      items = tree.more (tree.filled x.tree) tree.end;
+      same = ap (λ x. tree.more (tree.filled x) tree.end) x.same;
+      is = subst (λ n. ReadsItems ts i (tree.more (tree.filled x.tree) tree.end) (suc n)) h
+          (reads.last_item z (subst (λ n. At ts n close_bracket) (sym h) c));
+    }
+    after_filled t (tree.more tree.hole r) w m j line h c i x z =
+        let y = after_hole r w.1 (suc m) j false h.1 c in
         record {
           items = tree.more (tree.filled x.tree) y.items;
           same = ap₂ (λ x y. tree.more (tree.filled x) y) x.same y.same;
-          is = reads.more_items (to_assignment x.is) s y.is;
+          is = reads.more_items z (at h.0) y.is;
+        }
+    after_filled t (tree.more (tree.filled u) r) w m j line h c i x z =
+        let ks = fitted (fits u 13) (written u) in
+        let p = parts ts (suc m) false ks (items_after (tree.filled u) r) j h.1 in
+        let v = in_place u 13 (omega arith) (back u w.0) false (suc m) p.middle false p.first
+        (quiet_stop false 13 (items_stop ts u r p.middle j (line_after false ks) p.second (ap stops c.is))) in
+        let y = after_filled u r w.1 p.middle j (line_after false ks) p.second c (suc m) v (to_assignment v.is) in
+        record {
+          items = tree.more (tree.filled x.tree) y.items;
+          same = ap₂ (λ x y. tree.more (tree.filled x) y) x.same y.same;
+          is = reads.more_items z (at h.0) y.is;
         }
 
     back_entry : (e : Tree Span tree.entry) → WellFormed e → (i j : ℕ) (line : Bool) → Spells ts i line (written e) j
@@ -433,32 +457,36 @@ module _ {ts : List Token} where
       is = subst (λ n. ReadsEntries ts i tree.end (suc n)) h
           (reads.no_entries (subst (λ n. At ts n close_brace) (sym h) c));
     }
-    back_entries (tree.more t r) w i j line h c = back_entries_from t r w i j line h c
-
-    back_entries_from : (t : Tree Span tree.entry) (r : Row Span tree.entry) → AllWellFormed (tree.more t r)
-        → (i j : ℕ) (line : Bool) → Spells ts i line (written t ++ further r) j → At ts j close_brace
-        → BackEntries ts i (tree.more t r) (suc j)
-    back_entries_from t tree.end w i j line h c =
-        let p = parts ts i line (written t) [] j h in
-        let s = subst (λ n. At ts n close_brace) (sym p.second) c in
-        let x = back_entry t w.0 i p.middle line p.first (ap stops s.is) in
-        let y : ReadsEntries ts i (tree.more x.entry tree.end) (suc p.middle) = reads.last_entry x.is s in
-        record {
-          entries = tree.more x.entry tree.end;
-          same = ap (λ x. tree.more x tree.end) x.same;
-          is = subst (λ n. ReadsEntries ts i (tree.more x.entry tree.end) (suc n)) p.second y;
-        }
-    back_entries_from t (tree.more u r) w i j line h c =
-        let p = parts ts i line (written t) (further (tree.more u r)) j h in
-        let s = at p.second.0 in
-        let x = back_entry t w.0 i p.middle line p.first (ap stops s.is) in
-        let y = back_entries_from u r w.1 (suc p.middle) j false p.second.1 c in
+    back_entries (tree.more t r) w i j line h c =
+        let m = line_after line (written t) in
+        let p = parts ts i line (written t) (further r) j h in
+        let x = back_entry t w.0 i p.middle line p.first (further_stop ts r p.middle j m p.second (ap stops c.is)) in
+        let y = back_further_entries r w.1 p.middle j m p.second c i x.entry x.is in
         record {
           entries = tree.more x.entry y.entries;
           same = ap₂ (λ x y. tree.more x y) x.same y.same;
-          is = reads.more_entries x.is s y.is;
+          is = y.is;
         }
 
+    back_further_entries : (r : Row Span tree.entry) → AllWellFormed r → (m j : ℕ) (line : Bool)
+        → Spells ts m line (further r) j → At ts j close_brace → (i : ℕ) (u : Tree Span tree.entry)
+        → ReadsEntry ts i u m → BackFurtherEntries ts i u r (suc j)
+    back_further_entries tree.end w m j line h c i u z = record {
+      entries = tree.end;
+      same = refl;
+      is = subst (λ n. ReadsEntries ts i (tree.more u tree.end) (suc n)) h
+          (reads.last_entry z (subst (λ n. At ts n close_brace) (sym h) c));
+    }
+    back_further_entries (tree.more t r) w m j line h c i u z =
+        let k = line_after false (written t) in
+        let p = parts ts (suc m) false (written t) (further r) j h.1 in
+        let x = back_entry t w.0 (suc m) p.middle false p.first (further_stop ts r p.middle j k p.second (ap stops c.is)) in
+        let y = back_further_entries r w.1 p.middle j k p.second c (suc m) x.entry x.is in
+        record {
+          entries = tree.more x.entry y.entries;
+          same = ap₂ (λ x y. tree.more x y) x.same y.same;
+          is = reads.more_entries z (at h.0) y.is;
+        }
 
     back_declarator : (no_in : Bool) (d : Tree Span tree.decl) → WellFormed d → (i j : ℕ) (line : Bool)
         → Spells ts i line (written d) j → stops (sign_at ts j) ≡ true → BackDeclaration ts no_in i d j
@@ -477,30 +505,40 @@ module _ {ts : List Token} where
           is = reads.initialised (identifier w.0 h.0) (at h.1.0) (to_assignment y.is);
         }
 
-    back_declarators : (no_in : Bool) (t : Tree Span tree.decl) (r : Row Span tree.decl)
-        → AllWellFormed (tree.more t r) → (i j : ℕ) (line : Bool) → Spells ts i line (written t ++ further r) j
-        → stops (sign_at ts j) ≡ true → is_comma (sign_at ts j) ≡ false
-        → BackDeclarations ts no_in i (tree.more t r) j
-    back_declarators no_in t tree.end w i j line h c e =
-        let p = parts ts i line (written t) [] j h in
-        let x = back_declarator no_in t w.0 i p.middle line p.first
-        (subst (λ n. stops (sign_at ts n) ≡ true) (sym p.second) c) in
-        let y : ReadsDeclarations ts no_in i (tree.more x.declaration tree.end) p.middle =
-        reads.last_declaration x.is (subst (λ n. is_comma (sign_at ts n) ≡ false) (sym p.second) e) in
-        record {
-          declarations = tree.more x.declaration tree.end;
-          same = ap (λ x. tree.more x tree.end) x.same;
-          is = subst (λ n. ReadsDeclarations ts no_in i (tree.more x.declaration tree.end) n) p.second y;
-        }
-    back_declarators no_in t (tree.more u r) w i j line h c e =
-        let p = parts ts i line (written t) (further (tree.more u r)) j h in
-        let s = at p.second.0 in
-        let x = back_declarator no_in t w.0 i p.middle line p.first (ap stops s.is) in
-        let y = back_declarators no_in u r w.1 (suc p.middle) j false p.second.1 c e in
+    back_declarators : (no_in : Bool) (ds : Row Span tree.decl) → IsSome ds → AllWellFormed ds → (i j : ℕ) (line : Bool)
+        → Spells ts i line (written_declarators ds) j → stops (sign_at ts j) ≡ true → is_comma (sign_at ts j) ≡ false
+        → BackDeclarations ts no_in i ds j
+    back_declarators no_in tree.end o w i j line h c e = absurd o
+    back_declarators no_in (tree.more t r) o w i j line h c e =
+        let m = line_after line (written t) in
+        let p = parts ts i line (written t) (further r) j h in
+        let x = back_declarator no_in t w.0 i p.middle line p.first (further_stop ts r p.middle j m p.second c) in
+        let y = back_further_declarators no_in r w.1 p.middle j m p.second c e i x.declaration x.is in
         record {
           declarations = tree.more x.declaration y.declarations;
           same = ap₂ (λ x y. tree.more x y) x.same y.same;
-          is = reads.more_declarations x.is s y.is;
+          is = y.is;
+        }
+
+    back_further_declarators : (no_in : Bool) (r : Row Span tree.decl) → AllWellFormed r → (m j : ℕ) (line : Bool)
+        → Spells ts m line (further r) j → stops (sign_at ts j) ≡ true → is_comma (sign_at ts j) ≡ false
+        → (i : ℕ) (u : Tree Span tree.decl) → ReadsDeclaration ts no_in i u m
+        → BackFurtherDeclarations ts no_in i u r j
+    back_further_declarators no_in tree.end w m j line h c e i u z = record {
+      declarations = tree.end;
+      same = refl;
+      is = subst (λ n. ReadsDeclarations ts no_in i (tree.more u tree.end) n) h
+          (reads.last_declaration z (subst (λ n. is_comma (sign_at ts n) ≡ false) (sym h) e));
+    }
+    back_further_declarators no_in (tree.more t r) w m j line h c e i u z =
+        let k = line_after false (written t) in
+        let p = parts ts (suc m) false (written t) (further r) j h.1 in
+        let x = back_declarator no_in t w.0 (suc m) p.middle false p.first (further_stop ts r p.middle j k p.second c) in
+        let y = back_further_declarators no_in r w.1 p.middle j k p.second c e (suc m) x.declaration x.is in
+        record {
+          declarations = tree.more x.declaration y.declarations;
+          same = ap₂ (λ x y. tree.more x y) x.same y.same;
+          is = reads.more_declarations z (at h.0) y.is;
         }
 
     back_statements : (ws : Stmts) → AllWellFormed ws → (i j : ℕ) (line : Bool) → Spells ts i line (written_all ws) j
@@ -542,9 +580,8 @@ module _ {ts : List Token} where
     back_init (tree.init_expression a) w i j line h c =
         let x = whole a (back a w) true i j line h (ap stops c.is) (ap is_comma c.is) in
         record { init = tree.init_expression x.tree; same = ap tree.init_expression x.same; is = reads.an_init x.is }
-    back_init (tree.init_var tree.end) w i j line h c = absurd w.0
-    back_init (tree.init_var (tree.more t r)) w i j line h c =
-        let x = back_declarators true t r w.1 (suc i) j false h.1 (ap stops c.is) (ap is_comma c.is) in
+    back_init (tree.init_var ds) w i j line h c =
+        let x = back_declarators true ds w.0 w.1 (suc i) j false h.1 (ap stops c.is) (ap is_comma c.is) in
         record {
           init = tree.init_var x.declarations;
           same = ap tree.init_var x.same;
@@ -595,11 +632,10 @@ module _ {ts : List Token} where
 
     back_statement : (t : Stmt) → WellFormed t → (i j : ℕ) (line : Bool) → Spells ts i line (written t) j
         → goes_on (sign_at ts j) ≡ false → BackStatement ts i t j
-    back_statement (tree.var tree.end s) w i j line h q = absurd w.0
-    back_statement (tree.var (tree.more t r) s) w i j line h q =
-        let p = parts ts (suc i) false (written t ++ further r) (punct puncts.Semicolon ∷ []) j h.1 in
+    back_statement (tree.var ds s) w i j line h q =
+        let p = parts ts (suc i) false (written_declarators ds) (punct puncts.Semicolon ∷ []) j h.1 in
         let k = at p.second.0 in
-        let x = back_declarators false t r w.1 (suc i) p.middle false p.first (ap stops k.is) (ap is_comma k.is) in
+        let x = back_declarators false ds w.0 w.1 (suc i) p.middle false p.first (ap stops k.is) (ap is_comma k.is) in
         statement_up_to (record {
           statement = tree.var x.declarations (span ts i (suc p.middle));
           same = ap (λ x. tree.var x tt) x.same;

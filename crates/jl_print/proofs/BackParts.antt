@@ -188,10 +188,11 @@ pub record BackArguments (ts : List Token) (i : ℕ) (us : Exprs) (j : ℕ) : Ty
   pub same : skeleton_row trees ≡ skeleton_row us
   pub is : ReadsArguments ts i trees j
 
-pub record BackArgumentList (ts : List Token) (i : ℕ) (us : Exprs) (j : ℕ) : Type 0 where
+-- an argument that is read, and those after it
+pub record BackArgumentList (ts : List Token) (i : ℕ) (u : Expr) (us : Exprs) (j : ℕ) : Type 0 where
   pub trees : Exprs
   pub same : skeleton_row trees ≡ skeleton_row us
-  pub is : ReadsArgumentList ts i trees j
+  pub is : ReadsArgumentList ts i (tree.more u trees) j
 
 pub record BackItems (ts : List Token) (i : ℕ) (us : Row Span tree.item) (j : ℕ) : Type 0 where
   pub items : Row Span tree.item
@@ -207,6 +208,12 @@ pub record BackEntries (ts : List Token) (i : ℕ) (us : Row Span tree.entry) (j
   pub entries : Row Span tree.entry
   pub same : skeleton_row entries ≡ skeleton_row us
   pub is : ReadsEntries ts i entries j
+
+pub record BackFurtherEntries (ts : List Token) (i : ℕ) (u : Tree Span tree.entry) (us : Row Span tree.entry)
+    (j : ℕ) : Type 0 where
+  pub entries : Row Span tree.entry
+  pub same : skeleton_row entries ≡ skeleton_row us
+  pub is : ReadsEntries ts i (tree.more u entries) j
 
 pub record BackRest (ts : List Token) (i : ℕ) (ps : List (Ident Span)) (c : Code) (j : ℕ) : Type 0 where
   pub names : List (Ident Span)
@@ -294,6 +301,12 @@ pub record BackDeclarations (ts : List Token) (no_in : Bool) (i : ℕ) (ds : Row
   pub same : skeleton_row declarations ≡ skeleton_row ds
   pub is : ReadsDeclarations ts no_in i declarations j
 
+pub record BackFurtherDeclarations (ts : List Token) (no_in : Bool) (i : ℕ) (u : Tree Span tree.decl)
+    (us : Row Span tree.decl) (j : ℕ) : Type 0 where
+  pub declarations : Row Span tree.decl
+  pub same : skeleton_row declarations ≡ skeleton_row us
+  pub is : ReadsDeclarations ts no_in i (tree.more u declarations) j
+
 pub record BackBlock (ts : List Token) (i : ℕ) (ws : Stmts) (j : ℕ) : Type 0 where
   pub statements : Stmts
   pub same : skeleton_row statements ≡ skeleton_row ws
@@ -303,6 +316,26 @@ pub record BackStatements (ts : List Token) (i : ℕ) (ws : Stmts) (j : ℕ) : T
   pub statements : Stmts
   pub same : skeleton_row statements ≡ skeleton_row ws
   pub is : ReadsStatements ts i statements j
+
+-- what stands after an element of a list, up to a token that ends expressions, is a comma or that token
+module _ (ts : List Token) where
+  pub arguments_stop : (r : Exprs) (m j : ℕ) (line : Bool) → Spells ts m line (further_arguments r) j
+      → stops (sign_at ts j) ≡ true → stops (sign_at ts m) ≡ true
+  unfolding written
+  arguments_stop tree.end m j line h c = subst (λ n. stops (sign_at ts n) ≡ true) (sym h) c
+  arguments_stop (tree.more t r) m j line h c = ap stops (at h.0).is
+
+  pub further_stop : {x : Sort} (r : Row Span x) (m j : ℕ) (line : Bool) → Spells ts m line (further r) j
+      → stops (sign_at ts j) ≡ true → stops (sign_at ts m) ≡ true
+  unfolding written
+  further_stop tree.end m j line h c = subst (λ n. stops (sign_at ts n) ≡ true) (sym h) c
+  further_stop (tree.more t r) m j line h c = ap stops (at h.0).is
+
+  pub items_stop : (t : Expr) (r : Row Span tree.item) (m j : ℕ) (line : Bool)
+      → Spells ts m line (items_after (tree.filled t) r) j → stops (sign_at ts j) ≡ true → stops (sign_at ts m) ≡ true
+  unfolding written
+  items_stop t tree.end m j line h c = subst (λ n. stops (sign_at ts n) ≡ true) (sym h) c
+  items_stop t (tree.more u r) m j line h c = ap stops (at h.0).is
 
 pub no_equals : (k : Sign) → stops k ≡ true → is_equals k ≡ false
 no_equals (signs.Punct puncts.Assign) h = cc
