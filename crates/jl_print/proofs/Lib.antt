@@ -7,3 +7,4 @@ mod Names
 mod Following
 mod BackParts
 mod Back
+mod Depth
