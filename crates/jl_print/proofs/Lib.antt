@@ -8,3 +8,9 @@ mod Following
 mod BackParts
 mod Back
 mod Depth
+mod Lexical
+mod Formed
+mod Renumbered
+mod ReadFormed
+mod Laid
+mod Printed
