@@ -13,4 +13,6 @@ mod Formed
 mod Renumbered
 mod ReadFormed
 mod Laid
+mod Followers
+mod LexedNumbers
 mod Printed
