@@ -160,6 +160,10 @@ valued n ds rest h v f =
     whole_ends ds f ∙ ap (λ m. number_of rest (value_of m 0 0)) v
     ∙ ap (number_of rest) (value_complete n 0 0 n (has_value n h))
 
+zero_digit : is_digit 48 ≡ true
+unfolding is_digit
+zero_digit = refl
+
 decimal_found : (n : ℕ) (us rest : List ℕ) → n ≤ 9007199254740991 → Decimal n us → FollowsNumber rest
     → scan (us ++ rest) ≡ found (Word (kinds.Number (Some (pos n)))) rest
 decimal_found n us rest h d f = ap (λ l. scan (l ++ rest)) d.are ∙ go (cases_lt 0 n)
@@ -180,10 +184,6 @@ decimal_found n us rest h d f = ap (λ l. scan (l ++ rest)) d.are ∙ go (cases_
         let e = sym d.are ∙ d.zero_alone (omega arith) in
         ap (λ l. scan (l ++ rest)) e ∙ digit_begins 48 rest zero_digit ∙ ap number_end (zero_numeral f)
         ∙ valued n (48 ∷ []) rest h (ap (decimal_from 0) (sym e) ∙ value) f
-      where
-        zero_digit : is_digit 48 ≡ true
-        unfolding is_digit
-        zero_digit = refl
 
 no_sign : (n : ℕ) → int_lt (pos n) (pos 0) ≡ false
 no_sign n = let e : nat_lt n 0 ≡ false = grind (arith, nat_tests) in e

@@ -15,4 +15,5 @@ mod ReadFormed
 mod Laid
 mod Followers
 mod LexedNumbers
+mod LexedStrings
 mod Printed
