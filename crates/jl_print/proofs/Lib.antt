@@ -16,4 +16,5 @@ mod Laid
 mod Followers
 mod LexedNumbers
 mod LexedStrings
+mod Lexed
 mod Printed
