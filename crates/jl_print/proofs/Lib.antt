@@ -17,4 +17,5 @@ mod Followers
 mod LexedNumbers
 mod LexedStrings
 mod Lexed
+mod Clean
 mod Printed

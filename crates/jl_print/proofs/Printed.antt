@@ -21,13 +21,15 @@ use Rattle.jl_grammar.specs.Signs.{sign_of}
 use Rattle.jl_grammar.specs.Tokens.{At, sign_at}
 use Rattle.jl_grammar.proofs.One.{opened_past}
 use Rattle.jl_grammar.proofs.Opened.{after}
-use Rattle.jl_print.specs.Laws.{ReadsBack}
+use Rattle.jl_print.specs.Laws.{PrintedReadsBack, ReadsBack}
 use Rattle.jl_print.specs.Layout.{ends_line, text_of}
 use Rattle.jl_print.specs.WellFormed.{IsWellFormed}
 use Rattle.jl_print.specs.Written.{written, tokens_of}
 use Rattle.jl_print.proofs.Back.{back_body}
 use Rattle.jl_print.proofs.Depth.{left_open, most_open, tame}
 use Rattle.jl_print.proofs.Laid.{Laid}
+use Rattle.jl_print.proofs.Clean.{good}
+use Rattle.jl_print.proofs.Lexed.{laid}
 use Rattle.jl_print.proofs.Skeleton.{skeleton, no_place, same_numbers}
 use Rattle.jl_print.proofs.Spells.{Spells, at}
 
@@ -82,7 +84,7 @@ same_height c d e =
         λ t. ap height (same_numbers 0 t) ∙ renumbered 0 (map_tree no_place t) ∙ moved no_place t in
     sym (h c) ∙ ap (λ t. height (numbered_tree 0 t)) e ∙ h d
 
-pub reads_back : (p : Program Span) (limit : ℕ) → IsWellFormed p → program_height p ≤ limit → Laid (tokens_of p)
+reads_back : (p : Program Span) (limit : ℕ) → IsWellFormed p → program_height p ≤ limit → Laid (tokens_of p)
     → ReadsBack (text_of p) limit p
 reads_back p limit w h l =
     let ts = l.tokens in
@@ -106,3 +108,6 @@ reads_back p limit w h l =
       };
       same = same_program b.code p (record { from = 0; to = last_end ts }) b.same w.numbers;
     }
+
+pub printed_reads_back : PrintedReadsBack
+printed_reads_back p limit w h = reads_back p limit w h (laid (tokens_of p) (good p.body w.body).clean)
