@@ -1,26 +1,18 @@
 -- What is written of a tree is read again, as that tree but for its places and numbers.
-use Rattle.std.proofs.Common.{◌≡◌, ℕ, zero, suc, pred, ◌+◌, ◌-◌, ◌≤◌, ◌<◌, Bool, true, false, not, ◌&&◌, ◌||◌, refl, ap, ap₂}
+use Rattle.std.proofs.Common.{◌≡◌, ℕ, suc, Bool, true, false, ◌||◌, refl, ap, ap₂}
 use Rattle.std.proofs.Common.{sym, ◌∙◌, subst, List, [], ◌∷◌, ◌++◌, arith}
-use Rattle.std.specs.Prelude.{Option, Some, None, codes, map, option_map, if◌then◌else◌}
-use Rattle.jl_ast.specs.declared.ops.BinOp.{BinOp}
-use Rattle.jl_ast.specs.declared.ops.BinOp.TheVariants as ops
+use Rattle.std.specs.Prelude.{Some, None, codes, map, if◌then◌else◌}
 use Rattle.jl_ast.specs.Tree.{Ident, Sort, Tree, Row, Maybe, Text}
 use Rattle.jl_ast.specs.Tree as tree
 use Rattle.jl_text.specs.declared.span.Span.{Span}
 use Rattle.jl_token.specs.declared.punct.Punct.TheVariants as puncts
 use Rattle.jl_token.specs.declared.token.Token.{Token}
-use Rattle.jl_token.specs.declared.token.TokenKind.{TokenKind}
 use Rattle.jl_token.specs.declared.token.TokenKind.TheVariants as kinds
 use Rattle.jl_grammar.specs.declared.sign.Sign.{Sign}
-use Rattle.jl_grammar.specs.declared.sign.Sign.TheVariants as signs
-use Rattle.jl_grammar.specs.Next.{open_paren, close_paren, open_bracket, close_bracket, open_brace, close_brace}
-use Rattle.jl_grammar.specs.Next.{semicolon, colon, is_comma, is_colon, is_equals, is_else, is_finally, ends_list}
-use Rattle.jl_grammar.specs.Next.{is_string as is_string_token, is_directive, continues_at, keyword}
-use Rattle.jl_grammar.specs.declared.word.Word.TheVariants as words
-use Rattle.jl_grammar.specs.Laws.{IsAlone}
-use Rattle.jl_grammar.proofs.Directives.{directives_are_alone}
-use Rattle.jl_grammar.specs.Next.{bars_expression, continues_left}
-use Rattle.jl_grammar.specs.Operators.{Joint, plain, both, either, joined, looseness, level, continues, updates}
+use Rattle.jl_grammar.specs.Next.{close_paren, close_bracket, close_brace}
+use Rattle.jl_grammar.specs.Next.{semicolon, is_comma, is_equals, is_else, is_finally, ends_list}
+use Rattle.jl_grammar.specs.Next.{continues_left}
+use Rattle.jl_grammar.specs.Operators.{both, either, continues}
 use Rattle.jl_grammar.specs.Operators.{assign_operator}
 use Rattle.jl_grammar.specs.Reads as reads
 use Rattle.jl_grammar.specs.Reads.{Expr, Exprs, Stmt, Stmts, Code, IsTarget, ReadsPrimary, ReadsUnary, ReadsLeft}
@@ -29,41 +21,41 @@ use Rattle.jl_grammar.specs.Reads.{ReadsBody, BeginsLeft, BeginsBinary, ReadsAss
 use Rattle.jl_grammar.specs.Reads.{ReadsDeclarations, ReadsBlock, ReadsStatement, ReadsStatements, ReadsHead}
 use Rattle.jl_grammar.specs.Reads.{ReadsInit, ReadsMaybe, ReadsClauses, ReadsCatch, ReadsElements, there}
 use Rattle.jl_grammar.proofs.Progress.{expression_goes}
-use Rattle.jl_grammar.specs.Tokens.{At, sign_at, line_at, text_at, number_at, strict_at, span, ident_at, key_ident_at}
+use Rattle.jl_grammar.specs.Tokens.{At, sign_at, text_at, number_at, strict_at, span, ident_at, key_ident_at}
 use Rattle.jl_print.specs.Layout.{ends_line}
-use Rattle.jl_print.specs.Pieces.{name, punct, string, key, operator, prefix_operator, update_operator, assign_punct}
+use Rattle.jl_print.specs.Pieces.{name, punct, string, key, prefix_operator, update_operator, assign_punct}
 use Rattle.jl_print.specs.Pieces.{in_parens, fitted, braced}
-use Rattle.jl_print.specs.Ranks.{rank_of, fits, is_in, operator_rank}
-use Rattle.jl_print.specs.WellFormed.{WellFormed, AllWellFormed, MaybeWellFormed, IsAssigning, AreIdentifiers}
+use Rattle.jl_print.specs.Ranks.{rank_of, fits}
+use Rattle.jl_print.specs.WellFormed.{WellFormed, AllWellFormed, MaybeWellFormed}
 use Rattle.jl_print.specs.WellFormed.{HasOneDefault, AreNamed, IsSome}
 use Rattle.jl_print.specs.Written.{written, written_arguments, further_arguments, written_entries, further}
-use Rattle.jl_print.specs.Written.{written_items, items_after, is_name, parameters, maybe_name, written_all}
-use Rattle.jl_print.specs.Written.{written_maybe, written_after, written_declarators, begins_otherwise, is_string}
-use Rattle.jl_print.proofs.Fronts.{Front, of_left, of_postfix, of_binary, of_assignment, of_expression, to_left}
-use Rattle.jl_print.proofs.Fronts.{to_binary, to_assignment, to_expression, as_loose, Quiet, quiet_zero, quiet_less}
+use Rattle.jl_print.specs.Written.{written_items, items_after, is_name, parameters, written_all}
+use Rattle.jl_print.specs.Written.{written_maybe, written_declarators}
+use Rattle.jl_print.proofs.Fronts.{of_left, of_postfix, of_assignment, of_expression, to_left}
+use Rattle.jl_print.proofs.Fronts.{to_binary, to_assignment, to_expression, as_loose, quiet_zero, quiet_less}
 use Rattle.jl_print.proofs.Fronts.{quiet_stop, stops}
 use Rattle.jl_print.proofs.Following.{goes_on, no_else, no_finally, statements_begin, clauses_begin, first_line}
-use Rattle.jl_print.proofs.Following.{begins_so, no_label, elements_begin}
-use Rattle.jl_print.proofs.Names.{same_name, same_key, back_parameters}
-use Rattle.jl_print.proofs.Operators.{JointToken, binary_token, in_token, and_token, or_token, quiet_joint, joins_at}
+use Rattle.jl_print.proofs.Following.{elements_begin}
+use Rattle.jl_print.proofs.Names.{same_name, same_key}
+use Rattle.jl_print.proofs.Operators.{and_token, or_token}
 use Rattle.jl_print.proofs.Operators.{prefix_at, update_at, update_is_no_part, assigns_at, assign_is_no_part}
-use Rattle.jl_print.proofs.Places.{Back, up_to, Alone, BackWhole, whole, BackPrimary, enclosed, bracketed, in_place, rank_top}
-use Rattle.jl_print.proofs.Skeleton.{skeleton, skeleton_row, skeleton_maybe, named}
-use Rattle.jl_print.proofs.Spells.{Spelled, Spells, Parts, parts, line_after, line_append, at, identifier, any_name}
-use Rattle.jl_print.proofs.Spells.{any_key, name_text, text_spelled, number_spelled, strict_spelled}
+use Rattle.jl_print.proofs.Places.{Back, up_to, Alone, whole, in_place, rank_top}
+use Rattle.jl_print.proofs.Skeleton.{skeleton, skeleton_row, named}
+use Rattle.jl_print.proofs.Spells.{Spells, parts, line_after, at, identifier, any_name}
+use Rattle.jl_print.proofs.Spells.{any_key, name_text, text_spelled, number_spelled}
 use Rattle.jl_print.proofs.BackParts.{arguments_stop, further_stop, items_stop, BackFurtherEntries}
 use Rattle.jl_print.proofs.BackParts.{BackFurtherDeclarations}
-use Rattle.jl_print.proofs.BackParts.{as_unary, of_unary, of_primary, joint_back, same_binary, Loose, loose_of}
-use Rattle.jl_print.proofs.BackParts.{operands_back, binary_back, callee, BackTarget, BackArguments}
-use Rattle.jl_print.proofs.BackParts.{BackArgumentList, BackItems, BackEntry, BackEntries, BackRest, BackBody}
+use Rattle.jl_print.proofs.BackParts.{as_unary, of_unary, of_primary, joint_back}
+use Rattle.jl_print.proofs.BackParts.{binary_back, callee, BackTarget, BackArguments}
+use Rattle.jl_print.proofs.BackParts.{BackArgumentList, BackItems, BackEntry, BackEntries}
 use Rattle.jl_print.proofs.BackParts.{BodyAlone, rest_back, quiet_question, same_conditional, target_up_to}
-use Rattle.jl_print.proofs.BackParts.{no_names, OneName, one_name, same_setter, BackDeclaration, BackDeclarations}
-use Rattle.jl_print.proofs.BackParts.{BackBlock, BackStatements, no_equals, BackHead, BackInit, BackMaybe}
+use Rattle.jl_print.proofs.BackParts.{no_names, one_name, same_setter, BackDeclaration, BackDeclarations}
+use Rattle.jl_print.proofs.BackParts.{BackStatements, no_equals, BackInit, BackMaybe}
 use Rattle.jl_print.proofs.BackParts.{BackStatement, BackHandler, BackClauses, BackElements, statement_up_to}
 use Rattle.jl_print.proofs.BackParts.{head_back, same_case, same_when, same_for, same_for_in, same_try}
-use Rattle.jl_print.proofs.BackParts.{expression_statement, StatementsAlone, block_back, same_declaration}
-use Rattle.jl_print.proofs.BackParts.{end_is_no_string, no_directive_at_end, no_directive_at_function, not_both}
-use Rattle.jl_print.proofs.BackParts.{string_in_brackets, no_directive_before, stops_directive, is_strict}
+use Rattle.jl_print.proofs.BackParts.{expression_statement, block_back, same_declaration}
+use Rattle.jl_print.proofs.BackParts.{no_directive_at_end, no_directive_at_function}
+use Rattle.jl_print.proofs.BackParts.{no_directive_before, stops_directive, is_strict}
 use Rattle.jl_print.proofs.BackParts.{line_of_target}
 
 module _ {ts : List Token} where

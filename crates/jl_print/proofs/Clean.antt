@@ -1,5 +1,5 @@
 -- What is written of a well formed tree can be laid out.
-use Rattle.std.proofs.Common.{◌≡◌, ℕ, suc, ◌+◌, ◌≤◌, ◌<◌, Bool, true, false, not, ◌&&◌, ◌||◌, ◌==◌, refl, ap, ◌∙◌, sym, subst}
+use Rattle.std.proofs.Common.{◌≡◌, ℕ, ◌≤◌, Bool, true, false, not, ◌&&◌, ◌||◌, ◌==◌, refl, ap, ◌∙◌, sym, subst}
 use Rattle.std.proofs.Common.{List, [], ◌∷◌, ◌++◌, ◌⊎◌, inl, inr, arith, length}
 use Rattle.std.specs.Prelude.{Option, Some, None, codes, nat_le, if◌then◌else◌}
 use Rattle.std.proofs.lemmas.Bool.{leb-true}
@@ -15,13 +15,13 @@ use Rattle.jl_token.specs.declared.punct.Punct.TheVariants as puncts
 use Rattle.jl_token.specs.declared.token.TokenKind.{TokenKind}
 use Rattle.jl_token.specs.declared.token.TokenKind.TheVariants as kinds
 use Rattle.jl_token.proofs.Tests.{or_cases, and_true, is_unit}
-use Rattle.jl_token.proofs.Units.{units, all_below, each_between}
-use Rattle.jl_print.specs.Layout.{is_dot, is_number}
+use Rattle.jl_token.proofs.Units.{units, each_between}
+use Rattle.jl_print.specs.Layout.{is_dot}
 use Rattle.jl_print.specs.Pieces.{name, punct, string, key, is_bare_key, is_plain_letter, is_plain_digit, are_plain}
 use Rattle.jl_print.specs.Pieces.{operator, prefix_operator, update_operator, assign_punct, in_parens, fitted, braced}
 use Rattle.jl_print.specs.Ranks.{fits, is_in, operator_rank}
-use Rattle.jl_print.specs.WellFormed.{WellFormed, AllWellFormed, MaybeWellFormed, IsName, IsIdentifier, IsShort}
-use Rattle.jl_print.specs.WellFormed.{IsLiteral, IsMaybeIdentifier, AreIdentifiers, is_identifier_name, are_parts}
+use Rattle.jl_print.specs.WellFormed.{WellFormed, AllWellFormed, MaybeWellFormed, IsName, IsShort}
+use Rattle.jl_print.specs.WellFormed.{IsMaybeIdentifier, AreIdentifiers, is_identifier_name, are_parts}
 use Rattle.jl_print.specs.Written.{written, written_all, written_maybe, written_after, written_arguments}
 use Rattle.jl_print.specs.Written.{further_arguments, written_entries, written_declarators, further, written_items}
 use Rattle.jl_print.specs.Written.{items_after, parameters, further_names, maybe_name, directive, is_name, last_item}
@@ -83,12 +83,12 @@ letter_starts : (u : ℕ) → is_plain_letter u ≡ true → is_identifier_start
 unfolding units
 letter_starts u h = elim (or_cases (nat_le 65 u && nat_le u 90) _ h) [
   | inl a ↦ (let b = and_true (nat_le 65 u) (nat_le u 90) a in
-    let c = leb-true 65 u b.0 in let d = leb-true u 90 b.1 in
-    each_between is_identifier_start 65 26 refl u c (omega arith))
+      let c = leb-true 65 u b.0 in let d = leb-true u 90 b.1 in
+      each_between is_identifier_start 65 26 refl u c (omega arith))
   | inr a ↦ elim (or_cases (nat_le 97 u && nat_le u 122) _ a) [
     | inl b ↦ (let c = and_true (nat_le 97 u) (nat_le u 122) b in
-      let d = leb-true 97 u c.0 in let e = leb-true u 122 c.1 in
-      each_between is_identifier_start 97 26 refl u d (omega arith))
+        let d = leb-true 97 u c.0 in let e = leb-true u 122 c.1 in
+        each_between is_identifier_start 97 26 refl u d (omega arith))
     | inr b ↦ elim (or_cases (u == 36) (u == 95) b) [
       | inl c ↦ subst (λ v. is_identifier_start v ≡ true) (sym (is_unit u 36 c)) refl
       | inr c ↦ subst (λ v. is_identifier_start v ≡ true) (sym (is_unit u 95 c)) refl

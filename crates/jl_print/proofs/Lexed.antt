@@ -1,16 +1,15 @@
 -- A text that is laid out has the tokens that it was made of.
-use Rattle.std.proofs.Common.{◌≡◌, ℕ, zero, suc, ◌+◌, ◌≤◌, Bool, true, false, ◌&&◌, ◌||◌, refl, ap, sym, ◌∙◌, subst, List, []}
-use Rattle.std.proofs.Common.{◌∷◌, ◌++◌, Some, length, arith}
-use Rattle.std.specs.Prelude.{pos, if◌then◌else◌}
+use Rattle.std.proofs.Common.{◌≡◌, ℕ, suc, Bool, true, false, ◌&&◌, ◌||◌, refl, ap, sym, ◌∙◌, subst, List, []}
+use Rattle.std.proofs.Common.{◌∷◌, ◌++◌, length}
+use Rattle.std.specs.Prelude.{if◌then◌else◌}
 use Rattle.jl_grammar.specs.Words.{same_text}
-use Rattle.jl_num.specs.Number.{Number}
-use Rattle.jl_text.specs.Quoted.{quoted, quoted_after}
+use Rattle.jl_text.specs.Quoted.{quoted_after}
 use Rattle.jl_token.specs.Characters.{is_digit, first_is}
 use Rattle.jl_token.specs.Elements.{White, LineEnd, Word, Many, no_more, one_more}
 use Rattle.jl_token.specs.Punctuators.{punctuator_units}
 use Rattle.jl_token.specs.Scanner.{scan, found}
 use Rattle.jl_token.specs.Spelling.{spelled}
-use Rattle.jl_token.specs.Tokens.{Piece, piece, place, OnePiece, tokens_among, Tokens}
+use Rattle.jl_token.specs.Tokens.{Piece, piece, place, OnePiece, tokens_among}
 use Rattle.jl_token.specs.declared.punct.Punct.{Punct}
 use Rattle.jl_token.specs.declared.punct.Punct.TheVariants as puncts
 use Rattle.jl_token.specs.declared.token.Token.{Token}
@@ -19,7 +18,7 @@ use Rattle.jl_token.specs.declared.token.TokenKind.TheVariants as kinds
 use Rattle.jl_token.proofs.Tests.{and_true}
 use Rattle.jl_token.proofs.Units.{units, starts}
 use Rattle.jl_print.specs.Layout.{ends_line, is_number, is_dot, joins_right, joins_left, between, laid_out}
-use Rattle.jl_print.specs.WellFormed.{IsName, IsLiteral, IsShort, is_identifier_name}
+use Rattle.jl_print.specs.WellFormed.{IsName, IsLiteral, IsShort}
 use Rattle.jl_print.proofs.Followers.{Follows, line_feed, space, left_paren, right_paren, comma, dot, semicolon}
 use Rattle.jl_print.proofs.Followers.{left_bracket, right_bracket, one_found, line_feed_found, space_found, name_found}
 use Rattle.jl_print.proofs.Followers.{left_paren_found, left_bracket_found, dot_found, punctuator_scanned}
@@ -27,7 +26,7 @@ use Rattle.jl_print.proofs.Laid.{Laid}
 use Rattle.jl_print.proofs.LexedNumbers as numbers
 use Rattle.jl_print.proofs.LexedNumbers.{FollowsNumber, number_found}
 use Rattle.jl_print.proofs.LexedStrings.{string_found}
-use Rattle.jl_print.proofs.Spells.{Spelled, Spells}
+use Rattle.jl_print.proofs.Spells.{Spells}
 
 -- a kind as the lexer would make it
 abbrev pub IsClean : TokenKind → Type 0
@@ -185,8 +184,10 @@ with_kind text line k rest ks w f s =
     record {
       pieces = piece (Word k) (place text us) (place text rest) ∷ s.pieces;
       splits = one_more (one_found text us (Word k) rest (word_found k rest w f)) s.splits;
-      spelled = (record { kind = refl; line = refl },
-          shifted t (tokens_among false s.pieces) 0 (ends_line k) ks (length (tokens_among false s.pieces)) s.spelled);
+      spelled = (
+        record { kind = refl; line = refl },
+        shifted t (tokens_among false s.pieces) 0 (ends_line k) ks (length (tokens_among false s.pieces)) s.spelled,
+      );
     }
 
 -- before the last line feed anything fits

@@ -1,14 +1,14 @@
 -- The decimal digits of a number are found as that number.
-use Rattle.std.proofs.Common.{◌≡◌, ℕ, zero, suc, ◌+◌, ◌-◌, ◌*◌, ◌/◌, ◌%◌, ◌<◌, ◌≤◌, ◌⊎◌, inl, inr, Bool, true, false, ◌||◌}
-use Rattle.std.proofs.Common.{◌==◌, refl, ap, sym, ◌∙◌, subst, List, [], ◌∷◌, ◌++◌, Some, None, arith, append_assoc}
-use Rattle.std.specs.Prelude.{pos, nat_lt, int_lt, if◌then◌else◌}
+use Rattle.std.proofs.Common.{◌≡◌, ℕ, zero, suc, ◌+◌, ◌-◌, ◌*◌, ◌/◌, ◌%◌, ◌<◌, ◌≤◌, ◌⊎◌, inl, inr, true, false}
+use Rattle.std.proofs.Common.{◌==◌, refl, ap, sym, ◌∙◌, subst, List, [], ◌∷◌, ◌++◌, Some, None, arith}
+use Rattle.std.specs.Prelude.{pos, nat_lt, int_lt}
 use Rattle.std.proofs.lemmas.Bool.{cases_lt}
 use Rattle.std.proofs.lemmas.Bool.Decides.{nat_tests, leb_tells}
-use Rattle.jl_num.specs.Digits.{digit_code, digits_within, digits_of, number_text}
+use Rattle.jl_num.specs.Digits.{digit_code, digits_within, number_text}
 use Rattle.jl_num.proofs.Places.{one_digit, more_digits, last_digit, quotient_less}
-use Rattle.jl_token.specs.Characters.{is_digit, is_identifier_start, decimal_from, first_is}
+use Rattle.jl_token.specs.Characters.{is_digit, decimal_from}
 use Rattle.jl_token.specs.Elements.{Word, Many, no_more, one_more, OneUnit, unit, HasValue}
-use Rattle.jl_token.specs.Scanner.{found, many, one_unit, letter, name_escape, scan, scan_word, numeral, after_zero}
+use Rattle.jl_token.specs.Scanner.{found, one_unit, letter, name_escape, scan, scan_word, numeral, after_zero}
 use Rattle.jl_token.specs.Scanner.{after_whole, from_whole, with_exponent, exponent, number_end, number_of, value_of}
 use Rattle.jl_token.specs.Scanner.{is_some_of}
 use Rattle.jl_token.specs.declared.token.TokenKind.TheVariants as kinds

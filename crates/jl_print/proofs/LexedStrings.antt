@@ -1,8 +1,8 @@
 -- A text between quotes is found as a string with that text.
-use Rattle.std.proofs.Common.{◌≡◌, ℕ, zero, suc, ◌+◌, ◌-◌, ◌*◌, ◌/◌, ◌%◌, ◌<◌, ◌≤◌, ◌⊎◌, inl, inr, Bool, true, false, not}
-use Rattle.std.proofs.Common.{◌&&◌, ◌||◌, ◌==◌, refl, ap, ap₂, sym, ◌∙◌, subst, List, [], ◌∷◌, ◌++◌, Some, None, Option, length}
+use Rattle.std.proofs.Common.{◌≡◌, ℕ, suc, ◌+◌, ◌/◌, ◌%◌, ◌<◌, ◌≤◌, ◌⊎◌, inl, inr, Bool, true, false, not}
+use Rattle.std.proofs.Common.{◌&&◌, ◌||◌, ◌==◌, refl, ap, ap₂, sym, ◌∙◌, subst, List, [], ◌∷◌, ◌++◌, Some, length}
 use Rattle.std.proofs.Common.{arith, append_assoc}
-use Rattle.std.specs.Prelude.{nat_eq, nat_le, nat_lt, if◌then◌else◌, slice_index, cond}
+use Rattle.std.specs.Prelude.{nat_eq, nat_le, nat_lt, if◌then◌else◌, slice_index}
 use Rattle.std.specs.Char.{digit_char}
 use Rattle.std.specs.Char.Utf16.{is_high_surrogate, is_low_surrogate}
 use Rattle.std.specs.Int.{is_in_range}
@@ -10,7 +10,7 @@ use Rattle.std.proofs.lemmas.Bool.{cases_lt, leb-true, le-leb}
 use Rattle.std.proofs.lemmas.Bool.Decides.{nat_tests, leb_tells}
 use Rattle.std.proofs.lemmas.List.{length-append}
 use Rattle.jl_grammar.specs.Words.{same_text}
-use Rattle.jl_text.specs.Quoted.{short_escape, is_hidden, is_lone, unicode_escape, quoted_unit, quoted_after, quoted}
+use Rattle.jl_text.specs.Quoted.{is_hidden, is_lone, unicode_escape, quoted_unit, quoted_after, quoted}
 use Rattle.jl_token.specs.Characters.{is_hex_digit, is_digit, are_hex_digits, hex_digit_value, hex_number, is_line_terminator}
 use Rattle.jl_token.specs.Characters.{single_escape, is_quote}
 use Rattle.jl_token.specs.Elements.{Word, Many, no_more, one_more, Character, plain, single, string_text, is_plain}
@@ -20,7 +20,7 @@ use Rattle.jl_token.specs.declared.token.TokenKind.TheVariants as kinds
 use Rattle.jl_token.proofs.Against.{mark_stops}
 use Rattle.jl_token.proofs.Rows.{many_whole}
 use Rattle.jl_token.proofs.Strings.{reads_character}
-use Rattle.jl_token.proofs.Tests.{or_cases, or_false, both_false, and_true, true_or_false, is_unit, other_unit}
+use Rattle.jl_token.proofs.Tests.{or_cases, or_false, and_true, true_or_false, is_unit}
 use Rattle.jl_token.proofs.Units.{units}
 
 -- a hexadecimal digit is read back
@@ -94,7 +94,7 @@ hidden_low : (u : ℕ) → is_hidden u ≡ true → u < 65536
 hidden_low u h = elim (or_cases _ _ h) [
   | inl a ↦ (let b = less u 32 a in omega arith)
   | inr a ↦ elim (or_cases _ _ a) [
-    | inl b ↦ (let c = leb-true u 0x9F (and_true _ _ b).1 in omega arith)
+    | inl b ↦ (let c = leb-true u 0x9F (and_true (nat_le 0x7F u) (nat_le u 0x9F) b).1 in omega arith)
     | inr b ↦ elim (or_cases _ _ b) [
       | inl c ↦ (let d = is_unit u 0x2028 c in omega arith)
       | inr c ↦ (let d = is_unit u 0x2029 c in omega arith)
@@ -105,11 +105,11 @@ hidden_low u h = elim (or_cases _ _ h) [
 lone_low : (before u after : ℕ) → is_lone before u after ≡ true → u < 65536
 lone_low before u after h = elim (or_cases (is_high_surrogate u && not (is_low_surrogate after))
     (is_low_surrogate u && not (is_high_surrogate before)) h) [
-  | inl a ↦ (let b = and_true (is_high_surrogate u) (not (is_low_surrogate after)) a in
-    let c = less u 0xDC00 (and_true (nat_le 0xD800 u) (nat_lt u 0xDC00) b.0).1 in omega arith)
-  | inr a ↦ (let b = and_true (is_low_surrogate u) (not (is_high_surrogate before)) a in
-    let c = less u 0xE000 (and_true (nat_le 0xDC00 u) (nat_lt u 0xE000) b.0).1 in omega arith)
-]
+      | inl a ↦ (let b = and_true (is_high_surrogate u) (not (is_low_surrogate after)) a in
+          let c = less u 0xDC00 (and_true (nat_le 0xD800 u) (nat_lt u 0xDC00) b.0).1 in omega arith)
+      | inr a ↦ (let b = and_true (is_low_surrogate u) (not (is_high_surrogate before)) a in
+          let c = less u 0xE000 (and_true (nat_le 0xDC00 u) (nat_lt u 0xE000) b.0).1 in omega arith)
+    ]
 
 unit_back : (before u after : ℕ) → Written u (quoted_unit before u after)
 unfolding single_escape is_line_terminator
