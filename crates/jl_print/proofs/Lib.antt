@@ -6,6 +6,7 @@ mod Operators
 mod Names
 mod Following
 mod BackParts
+mod Statements
 mod Back
 mod Depth
 mod Lexical
