@@ -1,16 +1,15 @@
 -- What is written of a tree is read again, as that tree but for its places and numbers.
 use Rattle.std.proofs.Common.{◌≡◌, ℕ, suc, Bool, true, false, ◌||◌, refl, ap, ap₂}
 use Rattle.std.proofs.Common.{sym, ◌∙◌, subst, List, [], ◌∷◌, ◌++◌, arith}
-use Rattle.std.specs.Prelude.{Some, None, codes, map, if◌then◌else◌}
+use Rattle.std.specs.Prelude.{Some, None, map, if◌then◌else◌}
 use Rattle.jl_ast.specs.Tree.{Ident, Sort, Tree, Row, Maybe, Text}
 use Rattle.jl_ast.specs.Tree as tree
 use Rattle.jl_text.specs.declared.span.Span.{Span}
 use Rattle.jl_token.specs.declared.punct.Punct.TheVariants as puncts
 use Rattle.jl_token.specs.declared.token.Token.{Token}
 use Rattle.jl_token.specs.declared.token.TokenKind.TheVariants as kinds
-use Rattle.jl_grammar.specs.declared.sign.Sign.{Sign}
 use Rattle.jl_grammar.specs.Next.{close_paren, close_bracket, close_brace}
-use Rattle.jl_grammar.specs.Next.{semicolon, is_comma, is_equals, is_else, is_finally, ends_list}
+use Rattle.jl_grammar.specs.Next.{semicolon, is_comma, is_equals, ends_list}
 use Rattle.jl_grammar.specs.Next.{continues_left}
 use Rattle.jl_grammar.specs.Operators.{both, either, continues}
 use Rattle.jl_grammar.specs.Operators.{assign_operator}
@@ -20,7 +19,6 @@ use Rattle.jl_grammar.specs.Reads.{ReadsArguments, ReadsArgumentList, ReadsItems
 use Rattle.jl_grammar.specs.Reads.{ReadsBody, BeginsLeft, BeginsBinary, ReadsAssignment, ReadsDeclaration}
 use Rattle.jl_grammar.specs.Reads.{ReadsDeclarations, ReadsBlock, ReadsStatement, ReadsStatements, ReadsHead}
 use Rattle.jl_grammar.specs.Reads.{ReadsInit, ReadsMaybe, ReadsClauses, ReadsCatch, ReadsElements, there}
-use Rattle.jl_grammar.proofs.Progress.{expression_goes}
 use Rattle.jl_grammar.specs.Tokens.{At, sign_at, text_at, number_at, strict_at, span, ident_at, key_ident_at}
 use Rattle.jl_print.specs.Layout.{ends_line}
 use Rattle.jl_print.specs.Pieces.{name, punct, string, key, prefix_operator, update_operator, assign_punct}
@@ -30,11 +28,11 @@ use Rattle.jl_print.specs.WellFormed.{WellFormed, AllWellFormed, MaybeWellFormed
 use Rattle.jl_print.specs.WellFormed.{HasOneDefault, AreNamed, IsSome}
 use Rattle.jl_print.specs.Written.{written, written_arguments, further_arguments, written_entries, further}
 use Rattle.jl_print.specs.Written.{written_items, items_after, is_name, parameters, written_all}
-use Rattle.jl_print.specs.Written.{written_maybe, written_declarators}
+use Rattle.jl_print.specs.Written.{written_declarators}
 use Rattle.jl_print.proofs.Fronts.{of_left, of_postfix, of_assignment, of_expression, to_left}
 use Rattle.jl_print.proofs.Fronts.{to_binary, to_assignment, to_expression, as_loose, quiet_zero, quiet_less}
 use Rattle.jl_print.proofs.Fronts.{quiet_stop, stops}
-use Rattle.jl_print.proofs.Following.{goes_on, no_else, no_finally, statements_begin, clauses_begin, first_line}
+use Rattle.jl_print.proofs.Following.{statements_begin, clauses_begin}
 use Rattle.jl_print.proofs.Following.{elements_begin}
 use Rattle.jl_print.proofs.Names.{same_name, same_key}
 use Rattle.jl_print.proofs.Operators.{and_token, or_token}
@@ -50,9 +48,9 @@ use Rattle.jl_print.proofs.BackParts.{binary_back, callee, BackTarget, BackArgum
 use Rattle.jl_print.proofs.BackParts.{BackArgumentList, BackItems, BackEntry, BackEntries}
 use Rattle.jl_print.proofs.BackParts.{BodyAlone, rest_back, quiet_question, same_conditional, target_up_to}
 use Rattle.jl_print.proofs.BackParts.{no_names, one_name, same_setter, BackDeclaration, BackDeclarations}
-use Rattle.jl_print.proofs.BackParts.{BackStatements, no_equals, BackInit, BackMaybe}
-use Rattle.jl_print.proofs.BackParts.{BackStatement, BackHandler, BackClauses, BackElements, statement_up_to}
-use Rattle.jl_print.proofs.BackParts.{head_back, same_case, same_when, same_for, same_for_in, same_try}
+use Rattle.jl_print.proofs.BackParts.{BackStatements, no_equals}
+use Rattle.jl_print.proofs.BackParts.{BackClauses, BackElements, statement_up_to}
+use Rattle.jl_print.proofs.BackParts.{same_case}
 use Rattle.jl_print.proofs.BackParts.{expression_statement, block_back, same_declaration}
 use Rattle.jl_print.proofs.BackParts.{no_directive_at_end, no_directive_at_function}
 use Rattle.jl_print.proofs.BackParts.{no_directive_before, stops_directive, is_strict}

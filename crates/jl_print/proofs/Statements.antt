@@ -1,19 +1,16 @@
 -- How each statement that holds expressions or statements is read, given how these are.
-use Rattle.std.proofs.Common.{◌≡◌, ℕ, suc, Bool, true, false, ◌||◌, refl, ap, ap₂}
-use Rattle.std.proofs.Common.{sym, ◌∙◌, subst, List, [], ◌∷◌, ◌++◌, arith}
-use Rattle.std.specs.Prelude.{Some, None, codes, map, if◌then◌else◌}
+use Rattle.std.proofs.Common.{◌≡◌, ℕ, suc, Bool, true, false, refl, ap, ap₂}
+use Rattle.std.proofs.Common.{sym, subst, List, [], ◌∷◌, ◌++◌}
+use Rattle.std.specs.Prelude.{codes}
 use Rattle.jl_ast.specs.Tree.{Ident, Sort, Tree, Row, Maybe, Text}
 use Rattle.jl_ast.specs.Tree as tree
 use Rattle.jl_text.specs.declared.span.Span.{Span}
 use Rattle.jl_token.specs.declared.punct.Punct.TheVariants as puncts
 use Rattle.jl_token.specs.declared.token.Token.{Token}
-use Rattle.jl_token.specs.declared.token.TokenKind.TheVariants as kinds
 use Rattle.jl_grammar.specs.declared.sign.Sign.{Sign}
-use Rattle.jl_grammar.specs.Next.{close_paren, close_bracket, close_brace}
-use Rattle.jl_grammar.specs.Next.{semicolon, is_comma, is_equals, is_else, is_finally, ends_list}
+use Rattle.jl_grammar.specs.Next.{close_paren, close_brace}
+use Rattle.jl_grammar.specs.Next.{semicolon, is_comma, is_else, is_finally}
 use Rattle.jl_grammar.specs.Next.{continues_left}
-use Rattle.jl_grammar.specs.Operators.{both, either, continues}
-use Rattle.jl_grammar.specs.Operators.{assign_operator}
 use Rattle.jl_grammar.specs.Reads as reads
 use Rattle.jl_grammar.specs.Reads.{Expr, Exprs, Stmt, Stmts, Code, IsTarget, ReadsPrimary, ReadsUnary, ReadsLeft}
 use Rattle.jl_grammar.specs.Reads.{ReadsArguments, ReadsArgumentList, ReadsItems, ReadsEntries, ReadsEntry, ReadsRest}
@@ -21,42 +18,21 @@ use Rattle.jl_grammar.specs.Reads.{ReadsBody, BeginsLeft, BeginsBinary, ReadsAss
 use Rattle.jl_grammar.specs.Reads.{ReadsDeclarations, ReadsBlock, ReadsStatement, ReadsStatements, ReadsHead}
 use Rattle.jl_grammar.specs.Reads.{ReadsInit, ReadsMaybe, ReadsClauses, ReadsCatch, ReadsElements, there}
 use Rattle.jl_grammar.proofs.Progress.{expression_goes}
-use Rattle.jl_grammar.specs.Tokens.{At, sign_at, text_at, number_at, strict_at, span, ident_at, key_ident_at}
-use Rattle.jl_print.specs.Layout.{ends_line}
-use Rattle.jl_print.specs.Pieces.{name, punct, string, key, prefix_operator, update_operator, assign_punct}
-use Rattle.jl_print.specs.Pieces.{in_parens, fitted, braced}
-use Rattle.jl_print.specs.Ranks.{rank_of, fits}
-use Rattle.jl_print.specs.WellFormed.{WellFormed, AllWellFormed, MaybeWellFormed}
-use Rattle.jl_print.specs.WellFormed.{HasOneDefault, AreNamed, IsSome}
-use Rattle.jl_print.specs.Written.{written, written_arguments, further_arguments, written_entries, further}
-use Rattle.jl_print.specs.Written.{written_items, items_after, is_name, parameters, written_all}
-use Rattle.jl_print.specs.Written.{written_maybe, written_declarators}
-use Rattle.jl_print.proofs.Fronts.{of_left, of_postfix, of_assignment, of_expression, to_left}
-use Rattle.jl_print.proofs.Fronts.{to_binary, to_assignment, to_expression, as_loose, quiet_zero, quiet_less}
-use Rattle.jl_print.proofs.Fronts.{quiet_stop, stops}
-use Rattle.jl_print.proofs.Following.{goes_on, no_else, no_finally, statements_begin, clauses_begin, first_line}
-use Rattle.jl_print.proofs.Following.{elements_begin}
-use Rattle.jl_print.proofs.Names.{same_name, same_key}
-use Rattle.jl_print.proofs.Operators.{and_token, or_token}
-use Rattle.jl_print.proofs.Operators.{prefix_at, update_at, update_is_no_part, assigns_at, assign_is_no_part}
-use Rattle.jl_print.proofs.Places.{Back, up_to, Alone, whole, in_place, rank_top}
-use Rattle.jl_print.proofs.Skeleton.{skeleton, skeleton_row, named}
-use Rattle.jl_print.proofs.Spells.{Spells, parts, line_after, at, identifier, any_name}
-use Rattle.jl_print.proofs.Spells.{any_key, name_text, text_spelled, number_spelled}
-use Rattle.jl_print.proofs.BackParts.{arguments_stop, further_stop, items_stop, BackFurtherEntries}
-use Rattle.jl_print.proofs.BackParts.{BackFurtherDeclarations}
-use Rattle.jl_print.proofs.BackParts.{as_unary, of_unary, of_primary, joint_back}
-use Rattle.jl_print.proofs.BackParts.{binary_back, callee, BackTarget, BackArguments}
-use Rattle.jl_print.proofs.BackParts.{BackArgumentList, BackItems, BackEntry, BackEntries}
-use Rattle.jl_print.proofs.BackParts.{BodyAlone, rest_back, quiet_question, same_conditional, target_up_to}
-use Rattle.jl_print.proofs.BackParts.{no_names, one_name, same_setter, BackDeclaration, BackDeclarations}
-use Rattle.jl_print.proofs.BackParts.{BackStatements, no_equals, BackInit, BackMaybe}
-use Rattle.jl_print.proofs.BackParts.{BackStatement, BackHandler, BackClauses, BackElements, statement_up_to}
-use Rattle.jl_print.proofs.BackParts.{head_back, same_case, same_when, same_for, same_for_in, same_try}
-use Rattle.jl_print.proofs.BackParts.{expression_statement, block_back, same_declaration}
-use Rattle.jl_print.proofs.BackParts.{no_directive_at_end, no_directive_at_function}
-use Rattle.jl_print.proofs.BackParts.{no_directive_before, stops_directive, is_strict}
-use Rattle.jl_print.proofs.BackParts.{line_of_target}
+use Rattle.jl_grammar.specs.Tokens.{At, sign_at, span, ident_at}
+use Rattle.jl_print.specs.Pieces.{name, punct}
+use Rattle.jl_print.specs.Pieces.{in_parens, braced}
+use Rattle.jl_print.specs.Written.{written}
+use Rattle.jl_print.specs.Written.{written_all}
+use Rattle.jl_print.specs.Written.{written_maybe}
+use Rattle.jl_print.proofs.Fronts.{stops}
+use Rattle.jl_print.proofs.Following.{goes_on, no_else, no_finally, first_line}
+use Rattle.jl_print.proofs.Names.{same_name}
+use Rattle.jl_print.proofs.Places.{Alone, whole}
+use Rattle.jl_print.proofs.Spells.{Spells, parts, line_after, at, identifier}
+use Rattle.jl_print.proofs.BackParts.{BackInit, BackMaybe}
+use Rattle.jl_print.proofs.BackParts.{BackStatement, BackHandler, BackClauses, statement_up_to}
+use Rattle.jl_print.proofs.BackParts.{head_back, same_when, same_for, same_for_in, same_try}
+use Rattle.jl_print.proofs.BackParts.{block_back}
 use Rattle.jl_print.proofs.BackParts.{StatementsAlone, BackClauses}
 use Rattle.jl_print.specs.WellFormed.{IsIdentifier}
 
