@@ -1,0 +1,251 @@
+-- Numbering a numbered tree changes nothing but the numbers that it begins with.
+use Rattle.std.proofs.Common.{◌≡◌, ℕ, ◌+◌, refl}
+use Rattle.jl_ast.specs.Tree.{Sort, Tree, Row, Maybe, this, name, number, string, boolean, null, array}
+use Rattle.jl_ast.specs.Tree.{object, function_expression, dot, index, call, new, unary, update, binary, and, or}
+use Rattle.jl_ast.specs.Tree.{conditional, assign, comma, to_name, to_dot, to_index, hole, filled, value, getter}
+use Rattle.jl_ast.specs.Tree.{setter, function, body, var, empty, expression, block, when, do_while, while, for}
+use Rattle.jl_ast.specs.Tree.{for_in, continue, break, return, labelled, switch, throw, try, debugger, nothing}
+use Rattle.jl_ast.specs.Tree.{init_expression, init_var, declarator, case, branch_of, catch, end, more, absent}
+use Rattle.jl_ast.specs.Tree.{present}
+use Rattle.jl_ast.specs.Numbering.{functions_in, functions_in_row, functions_in_maybe, numbered_tree, numbered_row}
+use Rattle.jl_ast.specs.Numbering.{numbered_maybe}
+
+module _ {S : Type 0} where
+  mutual
+    as_many_numbered : {x : Sort} (n : ℕ) (t : Tree S x) → functions_in (numbered_tree n t) ≡ functions_in t
+    as_many_numbered n (this s) = refl
+    as_many_numbered n (name a s) = refl
+    as_many_numbered n (number a s) = refl
+    as_many_numbered n (string a s) = refl
+    as_many_numbered n (boolean a s) = refl
+    as_many_numbered n (null s) = refl
+    as_many_numbered n (array a s) = cc (as_many_numbered_row n a)
+    as_many_numbered n (object a s) = cc (as_many_numbered_row n a)
+    as_many_numbered n (function_expression a s) = cc (as_many_numbered n a)
+    as_many_numbered n (dot a b s) = cc (as_many_numbered n a)
+    as_many_numbered n (index a b s) = cc (as_many_numbered n a, as_many_numbered (n + functions_in a) b)
+    as_many_numbered n (call a b s) = cc (as_many_numbered n a, as_many_numbered_row (n + functions_in a) b)
+    as_many_numbered n (new a b s) = cc (as_many_numbered n a, as_many_numbered_row (n + functions_in a) b)
+    as_many_numbered n (unary a b s) = cc (as_many_numbered n b)
+    as_many_numbered n (update up prefix a s) = cc (as_many_numbered n a)
+    as_many_numbered n (binary a b c s) = cc (as_many_numbered n b, as_many_numbered (n + functions_in b) c)
+    as_many_numbered n (and a b s) = cc (as_many_numbered n a, as_many_numbered (n + functions_in a) b)
+    as_many_numbered n (or a b s) = cc (as_many_numbered n a, as_many_numbered (n + functions_in a) b)
+    as_many_numbered n (conditional a b c s) = cc (
+      as_many_numbered n a,
+      as_many_numbered (n + functions_in a) b,
+      as_many_numbered (n + functions_in a + functions_in b) c,
+    )
+    as_many_numbered n (assign a b c s) = cc (as_many_numbered n b, as_many_numbered (n + functions_in b) c)
+    as_many_numbered n (comma a b s) = cc (as_many_numbered n a, as_many_numbered (n + functions_in a) b)
+    as_many_numbered n (to_name a) = refl
+    as_many_numbered n (to_dot a b s) = cc (as_many_numbered n a)
+    as_many_numbered n (to_index a b s) = cc (as_many_numbered n a, as_many_numbered (n + functions_in a) b)
+    as_many_numbered n hole = refl
+    as_many_numbered n (filled a) = cc (as_many_numbered n a)
+    as_many_numbered n (value a b) = cc (as_many_numbered n b)
+    as_many_numbered n (getter a b) = cc (as_many_numbered n b)
+    as_many_numbered n (setter a b) = cc (as_many_numbered n b)
+    as_many_numbered n (function k a params b s) = cc (as_many_numbered (n + 1) b)
+    as_many_numbered n (body strict a b) = cc (
+      as_many_numbered_row n a,
+      as_many_numbered_row (n + functions_in_row a) b,
+    )
+    as_many_numbered n (var a s) = cc (as_many_numbered_row n a)
+    as_many_numbered n (empty s) = refl
+    as_many_numbered n (expression a s) = cc (as_many_numbered n a)
+    as_many_numbered n (block a s) = cc (as_many_numbered_row n a)
+    as_many_numbered n (when a b c s) = cc (
+      as_many_numbered n a,
+      as_many_numbered_row (n + functions_in a) b,
+      as_many_numbered_maybe (n + functions_in a + functions_in_row b) c,
+    )
+    as_many_numbered n (do_while a b s) = cc (as_many_numbered_row n a, as_many_numbered (n + functions_in_row a) b)
+    as_many_numbered n (while a b s) = cc (as_many_numbered n a, as_many_numbered_row (n + functions_in a) b)
+    as_many_numbered n (for a b c d s) = cc (
+      as_many_numbered n a,
+      as_many_numbered_maybe (n + functions_in a) b,
+      as_many_numbered_maybe (n + functions_in a + functions_in_maybe b) c,
+      as_many_numbered_row (n + functions_in a + functions_in_maybe b + functions_in_maybe c) d,
+    )
+    as_many_numbered n (for_in is_var a b c s) = cc (
+      as_many_numbered n b,
+      as_many_numbered_row (n + functions_in b) c,
+    )
+    as_many_numbered n (continue a s) = refl
+    as_many_numbered n (break a s) = refl
+    as_many_numbered n (return a s) = cc (as_many_numbered_maybe n a)
+    as_many_numbered n (labelled a b s) = cc (as_many_numbered n b)
+    as_many_numbered n (switch a b s) = cc (as_many_numbered n a, as_many_numbered_row (n + functions_in a) b)
+    as_many_numbered n (throw a s) = cc (as_many_numbered n a)
+    as_many_numbered n (try a b c s) = cc (
+      as_many_numbered_row n a,
+      as_many_numbered_maybe (n + functions_in_row a) b,
+      as_many_numbered_maybe (n + functions_in_row a + functions_in_maybe b) c,
+    )
+    as_many_numbered n (debugger s) = refl
+    as_many_numbered n nothing = refl
+    as_many_numbered n (init_expression a) = cc (as_many_numbered n a)
+    as_many_numbered n (init_var a) = cc (as_many_numbered_row n a)
+    as_many_numbered n (declarator a b) = cc (as_many_numbered_maybe n b)
+    as_many_numbered n (case a b) = cc (as_many_numbered_maybe n a, as_many_numbered_row (n + functions_in_maybe a) b)
+    as_many_numbered n (branch_of a) = cc (as_many_numbered_row n a)
+    as_many_numbered n (catch a b) = cc (as_many_numbered_row n b)
+
+    as_many_numbered_row : {x : Sort} (n : ℕ) (t : Row S x)
+        → functions_in_row (numbered_row n t) ≡ functions_in_row t
+    as_many_numbered_row n end = refl
+    as_many_numbered_row n (more a b) = cc (as_many_numbered n a, as_many_numbered_row (n + functions_in a) b)
+
+    as_many_numbered_maybe : {x : Sort} (n : ℕ) (t : Maybe S x)
+        → functions_in_maybe (numbered_maybe n t) ≡ functions_in_maybe t
+    as_many_numbered_maybe n absent = refl
+    as_many_numbered_maybe n (present a) = cc (as_many_numbered n a)
+
+  mutual
+    pub again : {x : Sort} (m n : ℕ) (t : Tree S x) → numbered_tree m (numbered_tree n t) ≡ numbered_tree m t
+    again m n (this s) = refl
+    again m n (name a s) = refl
+    again m n (number a s) = refl
+    again m n (string a s) = refl
+    again m n (boolean a s) = refl
+    again m n (null s) = refl
+    again m n (array a s) = cc (again_row m n a)
+    again m n (object a s) = cc (again_row m n a)
+    again m n (function_expression a s) = cc (again m n a)
+    again m n (dot a b s) = cc (again m n a)
+    again m n (index a b s) = cc (
+      again m n a,
+      again (m + functions_in a) (n + functions_in a) b,
+      as_many_numbered n a,
+    )
+    again m n (call a b s) = cc (
+      again m n a,
+      again_row (m + functions_in a) (n + functions_in a) b,
+      as_many_numbered n a,
+    )
+    again m n (new a b s) = cc (
+      again m n a,
+      again_row (m + functions_in a) (n + functions_in a) b,
+      as_many_numbered n a,
+    )
+    again m n (unary a b s) = cc (again m n b)
+    again m n (update up prefix a s) = cc (again m n a)
+    again m n (binary a b c s) = cc (
+      again m n b,
+      again (m + functions_in b) (n + functions_in b) c,
+      as_many_numbered n b,
+    )
+    again m n (and a b s) = cc (again m n a, again (m + functions_in a) (n + functions_in a) b, as_many_numbered n a)
+    again m n (or a b s) = cc (again m n a, again (m + functions_in a) (n + functions_in a) b, as_many_numbered n a)
+    again m n (conditional a b c s) = cc (
+      again m n a,
+      again (m + functions_in a) (n + functions_in a) b,
+      again (m + functions_in a + functions_in b) (n + functions_in a + functions_in b) c,
+      as_many_numbered n a,
+      as_many_numbered (n + functions_in a) b,
+    )
+    again m n (assign a b c s) = cc (
+      again m n b,
+      again (m + functions_in b) (n + functions_in b) c,
+      as_many_numbered n b,
+    )
+    again m n (comma a b s) = cc (
+      again m n a,
+      again (m + functions_in a) (n + functions_in a) b,
+      as_many_numbered n a,
+    )
+    again m n (to_name a) = refl
+    again m n (to_dot a b s) = cc (again m n a)
+    again m n (to_index a b s) = cc (
+      again m n a,
+      again (m + functions_in a) (n + functions_in a) b,
+      as_many_numbered n a,
+    )
+    again m n hole = refl
+    again m n (filled a) = cc (again m n a)
+    again m n (value a b) = cc (again m n b)
+    again m n (getter a b) = cc (again m n b)
+    again m n (setter a b) = cc (again m n b)
+    again m n (function k a params b s) = cc (again (m + 1) (n + 1) b)
+    again m n (body strict a b) = cc (
+      again_row m n a,
+      again_row (m + functions_in_row a) (n + functions_in_row a) b,
+      as_many_numbered_row n a,
+    )
+    again m n (var a s) = cc (again_row m n a)
+    again m n (empty s) = refl
+    again m n (expression a s) = cc (again m n a)
+    again m n (block a s) = cc (again_row m n a)
+    again m n (when a b c s) = cc (
+      again m n a,
+      again_row (m + functions_in a) (n + functions_in a) b,
+      again_maybe (m + functions_in a + functions_in_row b) (n + functions_in a + functions_in_row b) c,
+      as_many_numbered n a,
+      as_many_numbered_row (n + functions_in a) b,
+    )
+    again m n (do_while a b s) = cc (
+      again_row m n a,
+      again (m + functions_in_row a) (n + functions_in_row a) b,
+      as_many_numbered_row n a,
+    )
+    again m n (while a b s) = cc (
+      again m n a,
+      again_row (m + functions_in a) (n + functions_in a) b,
+      as_many_numbered n a,
+    )
+    again m n (for a b c d s) = cc (
+      again m n a,
+      again_maybe (m + functions_in a) (n + functions_in a) b,
+      again_maybe (m + functions_in a + functions_in_maybe b) (n + functions_in a + functions_in_maybe b) c,
+      again_row (m + functions_in a + functions_in_maybe b + functions_in_maybe c) (n + functions_in a + functions_in_maybe b + functions_in_maybe c) d,
+      as_many_numbered n a,
+      as_many_numbered_maybe (n + functions_in a) b,
+      as_many_numbered_maybe (n + functions_in a + functions_in_maybe b) c,
+    )
+    again m n (for_in is_var a b c s) = cc (
+      again m n b,
+      again_row (m + functions_in b) (n + functions_in b) c,
+      as_many_numbered n b,
+    )
+    again m n (continue a s) = refl
+    again m n (break a s) = refl
+    again m n (return a s) = cc (again_maybe m n a)
+    again m n (labelled a b s) = cc (again m n b)
+    again m n (switch a b s) = cc (
+      again m n a,
+      again_row (m + functions_in a) (n + functions_in a) b,
+      as_many_numbered n a,
+    )
+    again m n (throw a s) = cc (again m n a)
+    again m n (try a b c s) = cc (
+      again_row m n a,
+      again_maybe (m + functions_in_row a) (n + functions_in_row a) b,
+      again_maybe (m + functions_in_row a + functions_in_maybe b) (n + functions_in_row a + functions_in_maybe b) c,
+      as_many_numbered_row n a,
+      as_many_numbered_maybe (n + functions_in_row a) b,
+    )
+    again m n (debugger s) = refl
+    again m n nothing = refl
+    again m n (init_expression a) = cc (again m n a)
+    again m n (init_var a) = cc (again_row m n a)
+    again m n (declarator a b) = cc (again_maybe m n b)
+    again m n (case a b) = cc (
+      again_maybe m n a,
+      again_row (m + functions_in_maybe a) (n + functions_in_maybe a) b,
+      as_many_numbered_maybe n a,
+    )
+    again m n (branch_of a) = cc (again_row m n a)
+    again m n (catch a b) = cc (again_row m n b)
+
+    pub again_row : {x : Sort} (m n : ℕ) (t : Row S x) → numbered_row m (numbered_row n t) ≡ numbered_row m t
+    again_row m n end = refl
+    again_row m n (more a b) = cc (
+      again m n a,
+      again_row (m + functions_in a) (n + functions_in a) b,
+      as_many_numbered n a,
+    )
+
+    pub again_maybe : {x : Sort} (m n : ℕ) (t : Maybe S x) → numbered_maybe m (numbered_maybe n t) ≡ numbered_maybe m t
+    again_maybe m n absent = refl
+    again_maybe m n (present a) = cc (again m n a)

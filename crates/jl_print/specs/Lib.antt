@@ -1,0 +1,6 @@
+pub mod Pieces
+pub mod Ranks
+pub mod Written
+pub mod Layout
+pub mod WellFormed
+pub mod Laws
