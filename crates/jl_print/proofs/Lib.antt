@@ -20,3 +20,4 @@ mod LexedStrings
 mod Lexed
 mod Clean
 mod Printed
+mod Examples
