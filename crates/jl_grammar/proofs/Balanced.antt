@@ -272,5 +272,6 @@ mutual
       let rc = rest_closes c in omega arith
 
   pub body_closes : {ts : List Token} {i : ℕ} {t : Code} {j : ℕ} → ReadsBody ts i t j → opened ts j ≡ opened ts i
-  body_closes (a_directive a b c) = let rb = statement_closes b in let rc = body_closes c in omega arith
+  body_closes (a_directive a b c d) = let ra = after a in let rc = ends_at_closes c in let rd = body_closes d in
+      omega arith
   body_closes (no_directive a b) = let rb = elements_closes b in omega arith

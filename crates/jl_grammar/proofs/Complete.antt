@@ -44,7 +44,7 @@ use Rattle.jl_grammar.specs.Reader.{expression_at, head_at, sub_at, declaration_
 use Rattle.jl_grammar.specs.Reader.{maybe_at, clauses_from, catch_at, statement_by, statement_at, is_close_paren}
 use Rattle.jl_grammar.specs.Reader.{is_in}
 use Rattle.jl_grammar.specs.Tokens.{sign_at, line_at, text_at, span, ident_at}
-use Rattle.jl_grammar.proofs.Balanced.{parameters_closes, entry_closes, rest_closes, begins_left_closes}
+use Rattle.jl_grammar.proofs.Balanced.{parameters_closes, entry_closes, rest_closes, begins_left_closes, ends_at_closes}
 use Rattle.jl_grammar.proofs.Balanced.{left_closes, begins_binary_closes, binary_closes, assignment_closes}
 use Rattle.jl_grammar.proofs.Balanced.{begins_expression_closes, expression_closes, statement_closes, block_closes}
 use Rattle.jl_grammar.proofs.Balanced.{statements_closes, sub_closes, head_closes, declaration_closes}
@@ -55,7 +55,7 @@ use Rattle.jl_grammar.proofs.Levels.{left_expression, deeper_expression, deeper_
 use Rattle.jl_grammar.proofs.Levels.{deeper_binary, deeper_member, deeper_statement, deeper_rest}
 use Rattle.jl_grammar.proofs.Opened.{after, after_identifier, after_key, after_joint, after_assign, after_prefix}
 use Rattle.jl_grammar.proofs.Opened.{after_update}
-use Rattle.jl_grammar.proofs.Progress.{names_goes, items_goes, entries_goes, entry_goes, rest_goes}
+use Rattle.jl_grammar.proofs.Progress.{names_goes, items_goes, entries_goes, entry_goes, rest_goes, ends_at_goes}
 use Rattle.jl_grammar.proofs.Progress.{argument_list_goes, assignment_goes, expression_goes, statement_goes}
 use Rattle.jl_grammar.proofs.Progress.{statements_goes, declaration_goes, declarations_goes, clauses_goes}
 use Rattle.jl_grammar.proofs.Progress.{elements_goes, function_goes, body_goes}
@@ -541,14 +541,12 @@ module _ (ts : List Token) (cap : ℕ) (wide : (i : ℕ) → opened ts i ≤ cap
 
     pub body_complete : {i j : ℕ} {t : Code} → ReadsBody ts i t j → (f : ℕ) → height t + cap ≤ f + opened ts i
         → (n : ℕ) → j ≤ n + i → body_from ts (deeper ts f) n i ≡ Some (t, j)
-    body_complete (a_directive a b c) f m zero l = let g = statement_goes b in let h = body_goes c in
+    body_complete (a_directive a b c d) f m zero l = let g = ends_at_goes c in let h = body_goes d in
         absurd (omega arith)
-    body_complete {i} (a_directive {j = j} {k = k} {w = x} {strict = strict} {fs = fs} {ws = ws} a b c) f m
-        (suc n) l =
-        let w = wide i in let p = statement_pos x in let g = statement_goes b in let q = statement_closes b in
-        statements.directive_step ts (deeper ts f) n i j k x strict fs ws a
-        (deeper_statement ts f i (Some (x, j)) (omega arith) (λ h z. statement_complete b h (omega arith)))
-        (body_complete c f (omega arith) n (omega arith))
+    body_complete {i} (a_directive {j = j} {k = k} {strict = strict} {fs = fs} {ws = ws} a b c d) f m (suc n) l =
+        let r = after a in let g = ends_at_goes c in let q = ends_at_closes c in
+        statements.directive_step ts (deeper ts f) n i j k strict fs ws a b c
+        (body_complete d f (omega arith) n (omega arith))
     body_complete {i} {j} (no_directive {fs = fs} {ws = ws} a b) f m n l =
         let w = elements_within b in
         statements.no_directive_step ts (deeper ts f) n i j fs ws a

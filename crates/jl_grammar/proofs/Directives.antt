@@ -27,6 +27,7 @@ use Rattle.jl_grammar.specs.Reads.{a_return, a_return_of, a_switch, a_label, a_t
 use Rattle.jl_grammar.specs.Reads.{a_try_both, a_debugger, a_string}
 use Rattle.jl_grammar.specs.Tokens.{At, sign_at, span, text_at}
 use Rattle.jl_grammar.proofs.Complete.{expression_complete}
+use Rattle.jl_grammar.proofs.Holds.{both_true, and_true, not_true, string_sign}
 use Rattle.jl_grammar.proofs.One.{opened_past}
 use Rattle.jl_grammar.proofs.SoundExpressions.{lift_to, tighter_stops}
 use Rattle.jl_grammar.proofs.Starts.{block_starts}
@@ -62,14 +63,6 @@ one_expression ts no_in i j k t u r s =
     same_Some _ _ (sym (expression_complete ts (length ts) (bounded ts) r f (omega arith))
     ∙ expression_complete ts (length ts) (bounded ts) s f (omega arith))
 
-both_true : (a b : Bool) → (a && b) ≡ true → (a ≡ true) × (b ≡ true)
-both_true true b h = (refl, h)
-both_true false b h = cc
-
-and_true : (a b : Bool) → a ≡ true → b ≡ true → (a && b) ≡ true
-and_true true b h g = g
-and_true false b h g = cc
-
 neither : (a b : Bool) → (a || b) ≡ false → (a ≡ false) × (b ≡ false)
 neither true b h = cc
 neither false b h = (refl, h)
@@ -77,14 +70,6 @@ neither false b h = (refl, h)
 or_false : (a b : Bool) → a ≡ false → b ≡ false → (a || b) ≡ false
 or_false true b h g = cc
 or_false false b h g = g
-
-not_true : (b : Bool) → not b ≡ true → b ≡ false
-not_true true h = cc
-not_true false h = refl
-
-string_sign : (k : Sign) → is_string k ≡ true → k ≡ signs.Str
-string_sign signs.Str h = refl
-string_sign _ h = cc
 
 clash : {ts : List Token} {i : ℕ} {k : Sign} → At ts i k → At ts i signs.Str → is_string k ≡ false → ⊥
 clash {k = k} a s h = differ (sym h ∙ ap is_string (sym a.is ∙ s.is))

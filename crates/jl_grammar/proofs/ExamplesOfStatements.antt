@@ -349,12 +349,10 @@ loops = (refl, refl, refl, refl, refl, refl, refl, refl, refl, refl, refl)
 pub directives :
     -- "use strict"
     (read (string (codes "use strict") ∷ [])
-    ≡ program (tree.body true tree.end (tree.row ((tree.expression (tree.string (codes "use strict") tt) tt)
-    ∷ []))))
+    ≡ program (tree.body true tree.end tree.end))
     -- "a"; "use strict" (new line) a
     × (read (string (codes "a") ∷ sign puncts.Semicolon ∷ string (codes "use strict") ∷ below (word a) ∷ [])
-    ≡ program (tree.body true tree.end (tree.row ((tree.expression (tree.string (codes "a") tt) tt)
-    ∷ (tree.expression (tree.string (codes "use strict") tt) tt) ∷ (tree.expression (tree.name a tt) tt) ∷ []))))
+    ≡ program (tree.body true tree.end (tree.row ((tree.expression (tree.name a tt) tt) ∷ []))))
     -- a; "use strict"
     × (read (word a ∷ sign puncts.Semicolon ∷ string (codes "use strict") ∷ [])
     ≡ program (tree.body false tree.end (tree.row ((tree.expression (tree.name a tt) tt)
@@ -373,13 +371,15 @@ pub directives :
     ((tree.expression (tree.dot (tree.string (codes "use strict") tt) a tt) tt) ∷ []))))
     -- 'use strict'
     × (read (odd_string (codes "use strict") ∷ [])
-    ≡ program (tree.body false tree.end (tree.row ((tree.expression (tree.string (codes "use strict") tt) tt)
-    ∷ []))))
+    ≡ program (tree.body false tree.end tree.end))
+    -- "use strict" a
+    × (read (string (codes "use strict") ∷ word a ∷ [])
+    ≡ None)
     -- function f() { "use strict" }
     × (read (word (codes "function") ∷ word f ∷ sign puncts.LeftParen ∷ sign puncts.RightParen ∷ sign puncts.LeftBrace
     ∷ string (codes "use strict") ∷ sign puncts.RightBrace ∷ [])
     ≡ program (tree.body false (tree.row ((tree.function 0 (Some (ident f)) (([]))
-    (tree.body true tree.end (tree.row ((tree.expression (tree.string (codes "use strict") tt) tt) ∷ []))) tt)
+    (tree.body true tree.end tree.end) tt)
     ∷ [])) tree.end))
 unfolding span opened ends_at names_from parameters_at label_at closed statements_from block_at elements_from
     body_from rest_at function_at items_from value_at getter_by setter_by accessor_at entry_by entry_at entries_from
@@ -388,4 +388,4 @@ unfolding span opened ends_at names_from parameters_at label_at closed statement
     comma_from expression_at head_at sub_at declaration_at declarations_from var_at express_at else_from if_at do_at
     while_at maybe_at for_from for_in_from for_var_at for_expression_at for_at continue_at break_at return_by return_at
     throw_at clauses_from switch_at catch_at finally_from try_at named_at statement_by statement_at deeper program_at
-directives = (refl, refl, refl, refl, refl, refl, refl, refl)
+directives = (refl, refl, refl, refl, refl, refl, refl, refl, refl)

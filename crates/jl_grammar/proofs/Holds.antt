@@ -1,12 +1,12 @@
 -- Steps of a proof on what was read, if anything was.
-use Rattle.std.proofs.Common.{◌≡◌, Bool, true, false, ◌&&◌, refl}
+use Rattle.std.proofs.Common.{◌≡◌, Bool, true, false, not, ◌&&◌, refl}
 use Rattle.std.specs.Prelude.{Option, Some, None, IfSome, option_and_then, if◌then◌else◌}
 use Rattle.jl_token.specs.declared.punct.Punct.TheVariants as puncts
 use Rattle.jl_grammar.specs.declared.sign.Sign.TheVariants as signs
 use Rattle.jl_grammar.specs.declared.word.Word.TheVariants as words
 use Rattle.jl_grammar.specs.declared.sign.Sign.{Sign}
 use Rattle.jl_grammar.specs.Next.{is_open_paren, is_open_brace, is_semicolon, is_comma, is_colon, is_question}
-use Rattle.jl_grammar.specs.Next.{is_equals, is_else, is_finally}
+use Rattle.jl_grammar.specs.Next.{is_equals, is_else, is_finally, is_string}
 use Rattle.jl_grammar.specs.Reader.{is_close_paren, is_close_bracket, is_close_brace, is_function, is_new, is_while}
 use Rattle.jl_grammar.specs.Reader.{is_in, is_var, is_case, is_default, is_catch}
 
@@ -45,6 +45,14 @@ when_true b x f = test b x None f (λ h. nothing)
 pub both_true : (a b : Bool) → (a && b) ≡ true → (a ≡ true) × (b ≡ true)
 both_true true b h = (refl, h)
 both_true false b h = cc
+
+pub and_true : (a b : Bool) → a ≡ true → b ≡ true → (a && b) ≡ true
+and_true true b h g = g
+and_true false b h g = cc
+
+pub not_true : (b : Bool) → not b ≡ true → b ≡ false
+not_true true h = cc
+not_true false h = refl
 
 -- what an optional value is
 pub told : {A : Type 0} (o : Option A) → Holds o (λ x. o ≡ Some x)
@@ -98,6 +106,10 @@ else_sign _ h = cc
 pub finally_sign : (k : Sign) → is_finally k ≡ true → k ≡ signs.Word words.Finally
 finally_sign (signs.Word words.Finally) h = refl
 finally_sign _ h = cc
+
+pub string_sign : (k : Sign) → is_string k ≡ true → k ≡ signs.Str
+string_sign signs.Str h = refl
+string_sign _ h = cc
 
 pub function_sign : (k : Sign) → is_function k ≡ true → k ≡ signs.Word words.Function
 function_sign (signs.Word words.Function) h = refl

@@ -15,6 +15,7 @@ use Rattle.jl_grammar.specs.Program.{Reads, program_of}
 use Rattle.jl_grammar.specs.Reader.{body_from, deeper, is_shallow, program_at}
 use Rattle.jl_grammar.specs.Reads.{Code, ReadsBody}
 use Rattle.jl_grammar.specs.Tokens.{sign_at}
+use Rattle.jl_grammar.proofs.Holds.{both_true}
 use Rattle.jl_grammar.proofs.Complete.{body_complete}
 use Rattle.jl_ast.proofs.SameHeight.{renumbered}
 use Rattle.jl_grammar.proofs.Holds.{Holds}
@@ -53,10 +54,6 @@ read ts f c j e = of_holds _ _ _ (body_sound ts (deeper ts f) (deeper_sound ts f
         → ReadsBody ts 0 c j
     of_holds None c j h e = absurd (cc)
     of_holds (Some x) c j h e = subst (λ (y : Code × ℕ). ReadsBody ts 0 y.0 y.1) (same_Some _ _ e) h.has
-
-both_true : (a b : Bool) → (a && b) ≡ true → (a ≡ true) × (b ≡ true)
-both_true true b h = (refl, h)
-both_true false b h = cc
 
 -- no more brackets are open up to a place
 shallow_up_to : (ts : List Token) (most n : ℕ) → is_shallow ts most n ≡ true → (i : ℕ) → i ≤ n → opened ts i ≤ most

@@ -223,5 +223,5 @@ mutual
   function_goes (a_declared_function a b c) = let rc = rest_goes c in omega arith
 
   pub body_goes : {ts : List Token} {i : ℕ} {t : Code} {j : ℕ} → ReadsBody ts i t j → i ≤ j
-  body_goes (a_directive a b c) = let rb = statement_goes b in let rc = body_goes c in omega arith
+  body_goes (a_directive a b c d) = let rc = ends_at_goes c in let rd = body_goes d in omega arith
   body_goes (no_directive a b) = elements_goes b

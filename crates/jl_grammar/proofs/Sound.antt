@@ -31,8 +31,8 @@ use Rattle.jl_grammar.specs.Tokens.{At, sign_at, line_at, span}
 use Rattle.jl_grammar.proofs.Holds.{Holds, nothing, just, after, weaken, test, when_true, both_true}
 use Rattle.jl_grammar.proofs.Holds.{close_paren_sign, close_brace_sign, open_paren_sign, open_brace_sign}
 use Rattle.jl_grammar.proofs.Holds.{semicolon_sign, comma_sign, colon_sign, equals_sign, else_sign, finally_sign}
-use Rattle.jl_grammar.proofs.Holds.{while_sign, in_sign, var_sign, case_sign, default_sign, catch_sign}
-use Rattle.jl_grammar.proofs.SoundExpressions.{left_of_expression, named, Sound, no_line, not_true, ends_sound}
+use Rattle.jl_grammar.proofs.Holds.{not_true, while_sign, in_sign, var_sign, case_sign, default_sign, catch_sign}
+use Rattle.jl_grammar.proofs.SoundExpressions.{left_of_expression, named, Sound, no_line, ends_sound}
 use Rattle.jl_grammar.proofs.SoundExpressions.{statements_sound, block_sound, rest_sound, left_sound, unary_sound}
 use Rattle.jl_grammar.proofs.SoundExpressions.{binary_sound, assignment_sound, expression_sound}
 

@@ -29,9 +29,9 @@ use Rattle.jl_grammar.specs.Reads.{assignment, a_comma, ReadsExpression, whole_e
 use Rattle.jl_grammar.specs.Reads.{ReadsBlock, in_braces, ReadsStatements, no_statements, more_statements}
 use Rattle.jl_grammar.specs.Reads.{ReadsElements, no_elements, a_declaration, a_statement, a_declared_function}
 use Rattle.jl_grammar.specs.Reads.{ReadsBody, a_directive, no_directive}
-use Rattle.jl_grammar.specs.Next.{keyword, is_identifier, is_name, is_key, is_open_paren, is_open_brace}
+use Rattle.jl_grammar.specs.Next.{keyword, is_identifier, is_name, is_key, is_open_paren, is_open_brace, is_string}
 use Rattle.jl_grammar.specs.Next.{is_semicolon, is_comma, is_colon, is_question, ends_statement, ends_list}
-use Rattle.jl_grammar.specs.Next.{continues_left, is_directive, target_of}
+use Rattle.jl_grammar.specs.Next.{continues_at, continues_left, is_directive, target_of}
 use Rattle.jl_grammar.specs.Operators.{Joint, plain, both, either, joint, joined, looseness, looseness_of}
 use Rattle.jl_grammar.specs.Operators.{continues, assign_operator, unary_operator, update_operator}
 use Rattle.jl_grammar.specs.Reader.{is_close_paren, is_close_bracket, is_close_brace, is_function, is_new, name_of}
@@ -47,7 +47,7 @@ use Rattle.jl_grammar.proofs.Expressions.{some_looseness}
 use Rattle.jl_grammar.proofs.Holds.{Holds, nothing, just, after, weaken, test, when_true, both_true, told}
 use Rattle.jl_grammar.proofs.Holds.{close_paren_sign, close_bracket_sign, close_brace_sign, open_paren_sign}
 use Rattle.jl_grammar.proofs.Holds.{open_brace_sign, semicolon_sign, comma_sign, colon_sign, question_sign}
-use Rattle.jl_grammar.proofs.Holds.{function_sign, new_sign}
+use Rattle.jl_grammar.proofs.Holds.{function_sign, new_sign, string_sign, not_true}
 
 -- the joints read so far may stop a tighter reading
 pub tighter_stops : (s x y : ℕ) → x ≤ y → (nat_le 1 s && nat_le s y) ≡ false → (nat_le 1 s && nat_le s x) ≡ false
@@ -162,10 +162,6 @@ no_line false true c x y h = cc
 no_line false false true x y h = cc
 no_line false false false x y h = refl
 
-pub not_true : (b : Bool) → not b ≡ true → b ≡ false
-not_true true h = cc
-not_true false h = refl
-
 pub ends_sound : (ts : List Token) (i : ℕ) → Holds (ends_at ts i) (λ j. EndsAt ts i j)
 unfolding ends_at
 ends_sound ts i = test (is_semicolon (sign_at ts i)) _ _ (λ h. just (there (record { is = semicolon_sign _ h })))
@@ -213,17 +209,19 @@ module _ (ts : List Token) (d : Deeper) (sound : Sound ts d) where
       (λ g. after _ _ (sound.statement i) (λ x r.
       after _ _ (elements_sound n x.1) (λ y q. just (a_statement r q)))))
 
-  with_directive_sound : (i : ℕ) (w : Stmt) (j : ℕ) (c : Code) (k : ℕ) → is_directive ts i ≡ true
-      → ReadsStatement ts i w j → ReadsBody ts j c k → ReadsBody ts i (with_directive (strict_at ts i) w c) k
-  with_directive_sound i w j (tree.body s fs ws) k h r q = a_directive h r q
+  with_directive_sound : (i j : ℕ) (c : Code) (k : ℕ) → is_directive ts i ≡ true → EndsAt ts (suc i) j
+      → ReadsBody ts j c k → ReadsBody ts i (with_directive (strict_at ts i) c) k
+  with_directive_sound i j (tree.body s fs ws) k h r q =
+      let b = both_true (is_string (sign_at ts i)) (not (continues_at ts (suc i))) h in
+      a_directive (record { is = string_sign _ b.0 }) (not_true _ b.1) r q
 
   pub body_sound : (n i : ℕ) → Holds (body_from ts d n i) (λ x. ReadsBody ts i x.0 x.1)
   unfolding body_from
   body_sound zero i = test (is_directive ts i) _ _ (λ h. nothing)
       (λ h. after _ _ (elements_sound (length ts) i) (λ x r. just (no_directive h r)))
   body_sound (suc n) i = test (is_directive ts i) _ _
-      (λ h. after _ _ (sound.statement i) (λ x r.
-      after _ _ (body_sound n x.1) (λ y q. just (with_directive_sound i x.0 x.1 y.0 y.1 h r q))))
+      (λ h. after _ _ (ends_sound ts (suc i)) (λ j r.
+      after _ _ (body_sound n j) (λ y q. just (with_directive_sound i j y.0 y.1 h r q))))
       (λ h. after _ _ (elements_sound (length ts) i) (λ x r. just (no_directive h r)))
 
   pub rest_sound : (i : ℕ) → Holds (rest_at ts d i) (λ x. ReadsRest ts i x.0.0 x.0.1 x.1)

@@ -1,5 +1,5 @@
 -- What the reader does at each production of statements and bodies.
-use Rattle.std.proofs.Common.{◌≡◌, ℕ, zero, suc, Bool, true, false, not, ◌&&◌, ◌||◌, refl, ◌∙◌, length}
+use Rattle.std.proofs.Common.{◌≡◌, ℕ, zero, suc, Bool, true, false, not, ◌&&◌, ◌||◌, refl, ap, ◌∙◌, length}
 use Rattle.std.specs.Prelude.{List, Option, Some, None}
 use Rattle.jl_ast.specs.Tree.{Ident, Tree, Row, Maybe}
 use Rattle.jl_ast.specs.Tree as tree
@@ -11,6 +11,7 @@ use Rattle.jl_grammar.specs.declared.word.Word.TheVariants as words
 use Rattle.jl_grammar.specs.Next.{open_paren, close_paren, open_brace, close_brace, semicolon, comma, colon, equals}
 use Rattle.jl_grammar.specs.Next.{keyword, is_identifier, is_open_brace, is_semicolon, is_comma, is_colon}
 use Rattle.jl_grammar.specs.Next.{is_equals, is_else, is_finally, ends_statement, ends_list, is_directive}
+use Rattle.jl_grammar.specs.Next.{continues_at, is_string}
 use Rattle.jl_grammar.specs.Reads.{Expr, Stmt, Stmts, Code, EndsAt, there, inserted}
 use Rattle.jl_grammar.specs.Tokens.{At, Is, sign_at, line_at, strict_at, span, ident_at}
 use Rattle.jl_grammar.specs.Reader.{is_close_paren, is_function, is_in, is_var, name_of, ends_at, label_at, closed}
@@ -20,6 +21,7 @@ use Rattle.jl_grammar.specs.Reader.{while_at, maybe_at, for_from, for_in_from, f
 use Rattle.jl_grammar.specs.Reader.{for_at, continue_at, break_at, return_by, return_at, throw_at, clauses_from}
 use Rattle.jl_grammar.specs.Reader.{switch_at, catch_at, finally_from, try_at, named_at, statement_by, statement_at}
 use Rattle.jl_grammar.specs.Reader.{Deeper}
+use Rattle.jl_grammar.proofs.Holds.{and_true}
 
 module _ (ts : List Token) where
   pub ends_step : (i j : ℕ) → EndsAt ts i j → ends_at ts i ≡ Some j
@@ -86,11 +88,15 @@ module _ (ts : List Token) (d : Deeper) where
   unfolding elements_from
   element_step n i j k w fs ws e f h g = rw (e, f, h, g, elements_from)
 
-  pub directive_step : (n i j k : ℕ) (w : Stmt) (strict : Bool) (fs : Row Span tree.func) (ws : Stmts)
-      → is_directive ts i ≡ true → d.statement i ≡ Some (w, j) → body_from ts d n j ≡ Some (tree.body strict fs ws, k)
-      → body_from ts d (suc n) i ≡ Some (tree.body (strict_at ts i || strict) fs (tree.more w ws), k)
+  is_a_directive : (i : ℕ) → At ts i signs.Str → continues_at ts (suc i) ≡ false → is_directive ts i ≡ true
+  is_a_directive i e c = and_true _ _ (ap is_string e.is) (ap not c)
+
+  pub directive_step : (n i j k : ℕ) (strict : Bool) (fs : Row Span tree.func) (ws : Stmts) → At ts i signs.Str
+      → continues_at ts (suc i) ≡ false → EndsAt ts (suc i) j → body_from ts d n j ≡ Some (tree.body strict fs ws, k)
+      → body_from ts d (suc n) i ≡ Some (tree.body (strict_at ts i || strict) fs ws, k)
   unfolding body_from
-  directive_step n i j k w strict fs ws e h g = rw (e, h, g, body_from)
+  directive_step n i j k strict fs ws e c h g =
+      let a = is_a_directive i e c in let b = ends_step ts (suc i) j h in rw (a, b, g, body_from)
 
   pub no_directive_step : (n i j : ℕ) (fs : Row Span tree.func) (ws : Stmts) → is_directive ts i ≡ false
       → elements_from ts d (length ts) i ≡ Some ((fs, ws), j) → body_from ts d n i ≡ Some (tree.body false fs ws, j)

@@ -359,6 +359,6 @@ mutual
       let rc = rest_within c in let sc = rest_goes c in omega arith
 
   pub body_within : {ts : List Token} {i : ℕ} {t : Code} {j : ℕ} → ReadsBody ts i t j → j ≤ max i (length ts)
-  body_within (a_directive a b c) = let rb = statement_within b in let sb = statement_goes b in
-      let rc = body_within c in let sc = body_goes c in omega arith
+  body_within (a_directive a b c d) = let ra = at_within a refl in let rc = ends_at_within c in
+      let rd = body_within d in omega arith
   body_within (no_directive a b) = elements_within b

@@ -81,9 +81,9 @@ abbrev pub name_of : Expr → Option (Ident Span)
 name_of (tree.name t s) = Some (record { text = t; at = s })
 name_of _ = None
 
--- a statement before what a body holds, and whether it makes the body strict
-abbrev pub with_directive : Bool → Stmt → Code → Code
-with_directive strict w (tree.body s fs ws) = tree.body (strict || s) fs (tree.more w ws)
+-- a body after a directive, which may make it strict
+abbrev pub with_directive : Bool → Code → Code
+with_directive strict (tree.body s fs ws) = tree.body (strict || s) fs ws
 
 -- what is read one level deeper
 pub record Deeper : Type 0 where
@@ -164,7 +164,7 @@ module _ (ts : List Token) (d : Deeper) where
       if is_directive ts i then None else (elements_from (length ts) i >>= λ x. Some (tree.body false x.0.0 x.0.1, x.1))
   body_from (suc n) i =
       if is_directive ts i
-      then (d.statement i >>= λ x. body_from n x.1 >>= λ r. Some (with_directive (strict_at ts i) x.0 r.0, r.1))
+      then (ends_at ts (suc i) >>= λ j. body_from n j >>= λ r. Some (with_directive (strict_at ts i) r.0, r.1))
       else (elements_from (length ts) i >>= λ x. Some (tree.body false x.0.0 x.0.1, x.1))
 
   unfoldable pub rest_at : ℕ → Read (List (Ident Span) × Code)

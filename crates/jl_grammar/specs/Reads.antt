@@ -19,7 +19,8 @@ use Rattle.jl_grammar.specs.Next.{open_paren, close_paren, open_bracket, close_b
 use Rattle.jl_grammar.specs.Next.{dot_sign, semicolon, comma, colon, question, equals, keyword, is_identifier}
 use Rattle.jl_grammar.specs.Next.{is_name, is_key, is_open_paren, is_open_brace, is_semicolon, is_comma}
 use Rattle.jl_grammar.specs.Next.{is_question, is_equals, is_else, is_finally, bars_expression, ends_statement}
-use Rattle.jl_grammar.specs.Next.{ends_list, continues_left, updates_at, is_directive, is_label, target_of}
+use Rattle.jl_grammar.specs.Next.{ends_list, continues_left, continues_at, updates_at, is_directive, is_label}
+use Rattle.jl_grammar.specs.Next.{target_of}
 
 abbrev pub Expr : Type 0
 Expr = Tree Span tree.expr
@@ -410,10 +411,11 @@ mutual
         → Is is_identifier ts (suc i) → ReadsRest ts (suc (suc i)) ps c j
         → ReadsFunction ts i (tree.function 0 (Some (ident_at ts (suc i))) ps c (span ts i j)) j
 
-  -- FunctionBody, Program (clauses 13 and 14): a directive prologue (14.1) and what follows it
+  -- FunctionBody, Program (clauses 13 and 14): a directive prologue (14.1) and what follows it. A directive is an
+  -- expression statement that is a string alone, and leaves nothing but whether the body is strict.
   pub data ReadsBody (ts : List Token) : ℕ → Code → ℕ → Type 0 where
-    a_directive : {i j k : ℕ} {w : Stmt} {strict : Bool} {fs : Row Span tree.func} {ws : Stmts}
-        → is_directive ts i ≡ true → ReadsStatement ts i w j → ReadsBody ts j (tree.body strict fs ws) k
-        → ReadsBody ts i (tree.body (strict_at ts i || strict) fs (tree.more w ws)) k
+    a_directive : {i j k : ℕ} {strict : Bool} {fs : Row Span tree.func} {ws : Stmts} → At ts i signs.Str
+        → continues_at ts (suc i) ≡ false → EndsAt ts (suc i) j → ReadsBody ts j (tree.body strict fs ws) k
+        → ReadsBody ts i (tree.body (strict_at ts i || strict) fs ws) k
     no_directive : {i j : ℕ} {fs : Row Span tree.func} {ws : Stmts} → is_directive ts i ≡ false
         → ReadsElements ts i fs ws j → ReadsBody ts i (tree.body false fs ws) j
