@@ -1,1 +1,5 @@
 pub mod Places
+pub mod Levels
+pub mod Rows
+pub mod Turns
+pub mod Lists

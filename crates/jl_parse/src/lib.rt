@@ -1,9 +1,16 @@
 //! The parser (clauses 11 to 14): the program that a list of tokens is, or a place that shows why there is none.
 #![tactic(auto)]
 
+mod clauses;
+mod expressions;
+mod functions;
+mod loops;
+mod nodes;
 mod operators;
+mod primary;
 mod refusal;
 mod signs;
+mod statements;
 mod tokens;
 
 pub use refusal::ParseRefusal;

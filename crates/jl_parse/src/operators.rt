@@ -2,7 +2,9 @@
 ghost use Rattle.std.specs.Prelude.{◌≡◌, ◌≤◌};
 ghost use Rattle.jl_grammar.specs.Next.{continues_left};
 ghost use Rattle.jl_grammar.specs.Operators.{unary_operator, update_operator, looseness, joined};
+ghost use Rattle.jl_ast.specs.View.{view_expression, view_expression_kind};
 ghost use Rattle.jl_parse.specs.Steps.{joint_of};
+ghost use Rattle.jl_text.specs.declared.span.Span.{Span};
 
 use jl_ast::{BinOp, Expr, ExprKind, UnOp};
 use jl_grammar::{Sign, Word, level};
@@ -30,7 +32,10 @@ impl Joint {
     }
 
     /// The expression that joins two operands.
-    pub fn join(self, a: Box<Expr>, b: Box<Expr>) -> ExprKind {
+    #[tactic(auto, using(jl_ast::proofs::Views::nodes))]
+    pub fn join(self, a: Box<Expr>, b: Box<Expr>) -> ExprKind
+        ensures { (s : Span) → view_expression_kind result s ≡ joined (joint_of self) (view_expression a.value) (view_expression b.value) s }
+    {
         match self {
             Joint::Plain(op) => ExprKind::Binary(op, a, b),
             Joint::And => ExprKind::And(a, b),

@@ -37,3 +37,6 @@ impl<T: Drop> From<AllocFailed<T>> for Stop {
         Stop::NoMemory
     }
 }
+
+/// What was read, and the place after it.
+pub type Read<T> = Result<(T, usize), Stop>;

@@ -1,5 +1,5 @@
 //! The tokens at the places of a list, counted from 0.
-ghost use Rattle.std.specs.Prelude.{◌≡◌, ◌≤◌, [], ◌∷◌, length, IfOk, suc, false, option_map};
+ghost use Rattle.std.specs.Prelude.{◌≡◌, ◌≤◌, [], ◌∷◌, length, IfOk, suc, false, true, option_map};
 ghost use Rattle.jl_ast.specs.View.{view_ident};
 ghost use Rattle.jl_grammar.specs.Tokens.{sign_at, line_at, text_at, number_at, key_at, strict_at, from_at, to_at, span, ident_at, key_ident_at};
 ghost use Rattle.jl_grammar.specs.Words.{same_text};
@@ -8,7 +8,6 @@ ghost use Rattle.jl_grammar.specs.Operators.{joint, binary_operator, assign_oper
 ghost use Rattle.jl_parse.specs.Steps.{is_end, joint_of};
 
 use crate::operators::{Joint, continues_left, update_op};
-use crate::refusal::Stop;
 use crate::signs::{is_comma, is_in, is_question};
 use jl_ast::{BinOp, Ident};
 use jl_grammar::{Sign, assign_op, binary_op, sign_of};
@@ -121,7 +120,7 @@ impl<'a> Tokens<'a> {
     }
 
     /// The text of the token there, which is a name or a string; of any other the empty text.
-    pub fn text(&self, alloc: Global, at: usize) -> Result<Text, Stop>
+    pub fn text(&self, alloc: Global, at: usize) -> Result<Text, AllocError>
         ensures { IfOk result (λ t. t ≡ text_at self.now at) }
     {
         match self.tokens.get(at) {
@@ -141,7 +140,7 @@ impl<'a> Tokens<'a> {
     }
 
     /// The name that the token there is.
-    pub fn ident(&self, alloc: Global, at: usize) -> Result<Ident, Stop>
+    pub fn ident(&self, alloc: Global, at: usize) -> Result<Ident, AllocError>
         requires { is_end (sign_at self.now at) ≡ false }
         ensures { IfOk result (λ x. view_ident x ≡ ident_at self.now at) }
     {
@@ -153,7 +152,7 @@ impl<'a> Tokens<'a> {
     }
 
     /// The key that the token there is (11.1.5): a number stands for its digits.
-    pub fn key(&self, alloc: Global, at: usize) -> Result<Ident, Stop>
+    pub fn key(&self, alloc: Global, at: usize) -> Result<Ident, AllocError>
         requires { is_end (sign_at self.now at) ≡ false }
         ensures { IfOk result (λ x. view_ident x ≡ key_ident_at self.now at) }
     {
@@ -164,7 +163,7 @@ impl<'a> Tokens<'a> {
         })
     }
 
-    fn key_text(&self, alloc: Global, at: usize) -> Result<Text, Stop>
+    fn key_text(&self, alloc: Global, at: usize) -> Result<Text, AllocError>
         ensures { IfOk result (λ t. t ≡ key_at self.now at) }
     {
         match self.tokens.get(at) {
@@ -233,7 +232,8 @@ impl<'a> Tokens<'a> {
 
     /// Whether a directive (14.1) begins there.
     pub fn is_directive(&self, at: usize) -> bool
-        ensures { result ≡ is_directive self.now at }
+        ensures is { result ≡ is_directive self.now at }
+        ensures there { result ≡ true → is_end (sign_at self.now at) ≡ false }
     {
         match self.sign(at) {
             Sign::Str => !self.continues(self.after(at)),
@@ -243,20 +243,20 @@ impl<'a> Tokens<'a> {
 }
 
 // The text of these few units: none, or the characters of a number. So few are never too many for a text.
-fn short_text(alloc: Global, units: &[u16]) -> Result<Text, Stop>
+fn short_text(alloc: Global, units: &[u16]) -> Result<Text, AllocError>
     ensures { IfOk result (λ t. t ≡ units.now) }
 {
     match Text::from_units(alloc, units) {
         Ok(text) => Ok(text),
-        Err(TextFault::NoMemory | TextFault::TooLong) => Err(Stop::NoMemory),
+        Err(TextFault::NoMemory | TextFault::TooLong) => Err(AllocError),
     }
 }
 
-fn text_of(alloc: Global, token: &Token) -> Result<Text, Stop>
+fn text_of(alloc: Global, token: &Token) -> Result<Text, AllocError>
     ensures { IfOk result (λ t. t ≡ text_at (token.now ∷ []) 0) }
 {
     match &token.kind {
-        TokenKind::Name { text, .. } | TokenKind::Str { text, .. } => Ok(text.share(alloc)?),
+        TokenKind::Name { text, .. } | TokenKind::Str { text, .. } => text.share(alloc),
         _ => short_text(alloc, &[]),
     }
 }
@@ -270,7 +270,7 @@ fn number_of(token: &Token) -> Num
     }
 }
 
-fn key_of(alloc: Global, token: &Token) -> Result<Text, Stop>
+fn key_of(alloc: Global, token: &Token) -> Result<Text, AllocError>
     ensures { IfOk result (λ t. t ≡ key_at (token.now ∷ []) 0) }
 {
     match &token.kind {
