@@ -3,3 +3,4 @@ pub mod Levels
 pub mod Rows
 pub mod Turns
 pub mod Lists
+pub mod Limits

@@ -12,5 +12,6 @@ mod refusal;
 mod signs;
 mod statements;
 mod tokens;
+mod whole;
 
 pub use refusal::ParseRefusal;

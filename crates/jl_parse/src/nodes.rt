@@ -2,12 +2,13 @@
 #![tactic(auto, using(jl_ast::proofs::Views::nodes))]
 
 ghost use Rattle.std.specs.Prelude.{◌≡◌, IfOk};
-ghost use Rattle.jl_ast.specs.View.{view_expression, view_expression_kind, view_target};
+ghost use Rattle.jl_ast.specs.View.{view_expression, view_expression_kind, view_ident, view_statement, view_target};
+ghost use Rattle.jl_ast.specs.Tree as tree;
 ghost use Rattle.jl_grammar.specs.Next.{target_of};
 ghost use Rattle.jl_parse.specs.Steps.{Gives};
 
 use crate::refusal::Stop;
-use jl_ast::{Expr, ExprKind, Ident, Target};
+use jl_ast::{Expr, ExprKind, Ident, Stmt, StmtKind, Target};
 use jl_text::Span;
 use std::alloc::{AllocError, Global};
 
@@ -37,4 +38,12 @@ pub fn target(alloc: Global, e: Box<Expr>, at: usize) -> Result<Box<Target>, Sto
         }
         _ => Err(Stop::At(at)),
     }
+}
+
+/// A statement with a label (12.12).
+pub fn labelled(alloc: Global, label: Ident, s: Stmt, span: Span) -> Result<Stmt, AllocError>
+    ensures { IfOk result (λ r. view_statement r ≡ tree.labelled (view_ident label) (view_statement s) span) }
+{
+    let kind = StmtKind::Labelled(label, Box::new(alloc, s)?);
+    Ok(Stmt { kind, span })
 }

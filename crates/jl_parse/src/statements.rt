@@ -1,9 +1,10 @@
 //! Statements (clause 12) but those with a head of three parts and those with clauses.
 #![tactic(auto, using(jl_ast::proofs::Views::nodes))]
 
-ghost use Rattle.std.specs.Prelude.{◌≡◌, false, length, option_map, suc};
+ghost use Rattle.std.specs.Prelude.{◌≡◌, false, length, option_map, suc, true};
 ghost use Rattle.jl_ast.specs.Tree as tree;
 ghost use Rattle.jl_ast.specs.View.{view_declarator, view_declarators, view_ident, view_statement, view_statements};
+ghost use Rattle.jl_grammar.specs.Next.{is_colon};
 ghost use Rattle.jl_grammar.specs.Reader.{Deeper, block_at, break_at, continue_at, declaration_at, declarations_from, deeper, do_at, ends_at, express_at, if_at, label_at, named_at, return_at, statement_by, statements_from, sub_at, throw_at, var_at, while_at};
 ghost use Rattle.jl_grammar.specs.Tokens.{sign_at, span};
 ghost use Rattle.jl_grammar.specs.declared.sign.Sign.TheVariants as Sign;
@@ -14,6 +15,7 @@ ghost use Rattle.jl_parse.specs.Steps.{Gives, GivesStatement, is_end};
 use crate::clauses::{switch_statement, try_statement};
 use crate::expressions::{expression, inner_assignment};
 use crate::loops::for_statement;
+use crate::nodes::labelled;
 use crate::primary::head;
 use crate::refusal::{Read, Stop};
 use crate::signs::{
@@ -316,22 +318,35 @@ fn throw_statement(alloc: Global, tokens: &Tokens, depth: u64, at: usize) -> Rea
     Ok((Stmt { kind, span }, next))
 }
 
+// A statement with a label (12.12), whose colon stands at `colon`.
+#[cycle(parser)]
+#[tactic(auto, unfolding(jl_grammar::specs::Reader::named_at))]
+fn labelled_statement(alloc: Global, tokens: &Tokens, depth: u64, at: usize, colon: usize) -> Read<Stmt>
+    requires place { colon ≡ suc at }
+    requires name { is_end (sign_at tokens.now at) ≡ false }
+    requires colon { is_colon (sign_at tokens.now colon) ≡ true }
+    requires there { is_end (sign_at tokens.now colon) ≡ false }
+    ensures { GivesStatement result (named_at tokens.now (deeper tokens.now depth) at) }
+{
+    let label = tokens.ident(alloc, at)?;
+    let (s, end) = statement(alloc, tokens, depth, tokens.after(colon))?;
+    let span = tokens.span(at, end);
+    Ok((labelled(alloc, label, s, span)?, end))
+}
+
 // A statement that begins with an identifier: with a label (12.12), or an expression.
 #[cycle(parser)]
-#[tactic(auto, using(jl_ast::proofs::Views::nodes), unfolding(jl_grammar::specs::Reader::named_at))]
+#[tactic(auto, unfolding(jl_grammar::specs::Reader::named_at))]
 fn named_statement(alloc: Global, tokens: &Tokens, depth: u64, at: usize) -> Read<Stmt>
     requires { is_end (sign_at tokens.now at) ≡ false }
     ensures { GivesStatement result (named_at tokens.now (deeper tokens.now depth) at) }
 {
     let colon = tokens.after(at);
-    if !is_colon(tokens.sign(colon)) {
-        return expression_statement(alloc, tokens, depth, at);
+    if is_colon(tokens.sign(colon)) {
+        labelled_statement(alloc, tokens, depth, at, colon)
+    } else {
+        expression_statement(alloc, tokens, depth, at)
     }
-    let (s, end) = statement(alloc, tokens, depth, tokens.after(colon))?;
-    let label = tokens.ident(alloc, at)?;
-    let kind = StmtKind::Labelled(label, Box::new(alloc, s)?);
-    let span = tokens.span(at, end);
-    Ok((Stmt { kind, span }, end))
 }
 
 // A block as a statement (12.1).

@@ -3,6 +3,7 @@ ghost use Rattle.std.specs.Prelude.{◌≡◌, ◌≤◌, [], ◌∷◌, length,
 ghost use Rattle.jl_ast.specs.View.{view_ident};
 ghost use Rattle.jl_grammar.specs.Tokens.{sign_at, line_at, text_at, number_at, key_at, strict_at, from_at, to_at, span, ident_at, key_ident_at};
 ghost use Rattle.jl_grammar.specs.Words.{same_text};
+ghost use Rattle.jl_grammar.specs.Program.{last_end};
 ghost use Rattle.jl_grammar.specs.Next.{continues_at, is_directive};
 ghost use Rattle.jl_grammar.specs.Operators.{joint, binary_operator, assign_operator};
 ghost use Rattle.jl_parse.specs.Steps.{is_end, joint_of};
@@ -101,6 +102,16 @@ impl<'a> Tokens<'a> {
         match self.tokens.get(at) {
             Some(token) => token.span.to,
             None => 0,
+        }
+    }
+
+    /// The end of the last token, and 0 where there is none.
+    pub fn last_end(&self) -> u32
+        ensures { result ≡ last_end self.now }
+    {
+        match self.tokens {
+            [.., last] => last.span.to,
+            [] => 0,
         }
     }
 

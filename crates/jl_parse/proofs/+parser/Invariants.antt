@@ -136,6 +136,9 @@ decreases-statements::return_statement l = l.depth * 20 + 1
 abbrev pub decreases-statements::throw_statement : goal.decreases-statements::throw_statement
 decreases-statements::throw_statement l = l.depth * 20 + 1
 
+abbrev pub decreases-statements::labelled_statement : goal.decreases-statements::labelled_statement
+decreases-statements::labelled_statement l = l.depth * 20 + 1
+
 abbrev pub decreases-statements::named_statement : goal.decreases-statements::named_statement
 decreases-statements::named_statement l = l.depth * 20 + 2
 
