@@ -127,11 +127,6 @@ the_one ts limit p q r h e w = e ∙ same_Some _ _ (sym h ∙ (reader_tells ts l
 pub none_read : (ts : List Token) (limit : ℕ) (p : Program Span) → program_at ts limit ≡ None → Reads ts limit p → ⊥
 none_read ts limit p h w = let e = sym h ∙ (reader_tells ts limit p).1 w in cc
 
-pub last_is : (ts : List Token) (t : Token) → 1 ≤ length ts → t ≡ get_or ts (length ts - 1) t → t.span.to ≡ last_end ts
-last_is [] t l e = absurd (omega arith)
-last_is (u ∷ []) t l e = ap (λ (v : Token). v.span.to) e
-last_is (u ∷ v ∷ ts) t l e = last_is (v ∷ ts) t (omega arith) e
-
 pub ruleset whole_program = (too_deep, no_body, cut_short, too_high, is_whole, few_functions)
 
 pub placed_token : (ts : List Token) (i x : ℕ) → i < length ts → x ≡ from_at ts i → IsPlace ts x

@@ -8,6 +8,7 @@ use Rattle.jl_grammar.specs.declared.sign.Sign.{Sign}
 use Rattle.jl_grammar.specs.declared.sign.Sign.TheVariants as signs
 use Rattle.jl_grammar.specs.declared.word.Word.TheVariants as words
 use Rattle.jl_grammar.specs.Operators.{joint, plain, binary_operator}
+use Rattle.jl_grammar.specs.Program.{last_end}
 use Rattle.jl_grammar.specs.Reader.{is_in}
 use Rattle.jl_grammar.specs.Signs.{sign_of}
 use Rattle.jl_grammar.specs.Tokens.{sign_at, line_at, text_at, number_at, key_at, strict_at, from_at, to_at, span}
@@ -155,3 +156,15 @@ joint_other false _ a b h = refl
 -- an answer that is a value is any value that is the same
 pub if_ok_same : {A E : Type 0} (r : Result A E) (x y : A) → x ≡ y → IfOk r (λ t. t ≡ x) → IfOk r (λ t. t ≡ y)
 if_ok_same r x y e h = subst (λ v. IfOk r (λ t. t ≡ v)) e h
+
+-- the last token ends where the one at the last place does
+pub end_is_last : (ts : List Token) → to_at ts (length ts - 1) ≡ last_end ts
+end_is_last [] = refl
+end_is_last (t ∷ []) = refl
+end_is_last (t ∷ u ∷ ts) =
+    let e : length (t ∷ u ∷ ts) - 1 ≡ suc (length (u ∷ ts) - 1) = omega arith in
+    ap (to_at (t ∷ u ∷ ts)) e ∙ end_is_last (u ∷ ts)
+
+pub none_is_last : (ts : List Token) → length ts ≡ 0 → 0 ≡ last_end ts
+none_is_last [] h = refl
+none_is_last (t ∷ ts) h = absurd (omega arith)

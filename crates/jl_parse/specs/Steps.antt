@@ -30,14 +30,6 @@ abbrev pub is_end : Sign → Bool
 is_end signs.End = true
 is_end _ = false
 
--- the signs that begin a primary expression of more than one token
-abbrev pub opens_primary : Sign → Bool
-opens_primary (signs.Punct puncts.LeftParen) = true
-opens_primary (signs.Punct puncts.LeftBracket) = true
-opens_primary (signs.Punct puncts.LeftBrace) = true
-opens_primary (signs.Word words.Function) = true
-opens_primary _ = false
-
 -- why there is no answer: nothing is read, or memory ran out
 abbrev pub Refuses : {Y : Type 0} → Stop → Option Y → Type 0
 Refuses (stops.At i) read = read ≡ None

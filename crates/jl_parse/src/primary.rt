@@ -1,9 +1,10 @@
 //! Primary expressions, members, calls and `new` (11.1, 11.2).
 ghost use Rattle.std.specs.Prelude.{◌≡◌, suc, false, true, length, Some};
 ghost use Rattle.jl_ast.specs.View.{view_expression, view_expression_kind, view_expressions, view_items};
-ghost use Rattle.jl_grammar.specs.Reader.{Deeper, deeper, head_at, primary_at, items_from, arguments_at, arguments_from, new_at, start_at, left_at, left_by};
+ghost use Rattle.jl_grammar.specs.Reader.{deeper, head_at, primary_at, primary_by, items_from, arguments_at, arguments_from, new_at, start_at, left_at, left_by};
 ghost use Rattle.jl_grammar.specs.Tokens.{sign_at, span};
-ghost use Rattle.jl_parse.specs.Steps.{Gives, GivesExpression, is_end, opens_primary};
+ghost use Rattle.jl_grammar.specs.declared.sign.Sign.TheVariants as Sign;
+ghost use Rattle.jl_parse.specs.Steps.{Gives, GivesExpression, is_end};
 
 use crate::expressions::{expression, inner_assignment};
 use crate::functions::{entries, function_expression};
@@ -45,30 +46,6 @@ fn token(alloc: Global, tokens: &Tokens, at: usize, kind: ExprKind) -> Read<Box<
     Ok((node(alloc, kind, tokens.span(at, next))?, next))
 }
 
-// A primary expression that is one token (11.1).
-#[tactic(auto, using(jl_ast::proofs::Views::nodes), unfolding(jl_grammar::specs::Reader::primary_at, jl_grammar::specs::Reader::primary_by))]
-fn leaf(alloc: Global, tokens: &Tokens, at: usize) -> Read<Box<Expr>>
-    requires { opens_primary (sign_at tokens.now at) ≡ false }
-    ensures { (d : Deeper) → GivesExpression result (primary_at tokens.now d at) }
-{
-    match tokens.sign(at) {
-        Sign::Word(Word::This) => token(alloc, tokens, at, ExprKind::This),
-        Sign::Identifier | Sign::Get | Sign::Set => {
-            let name = tokens.text(alloc, at)?;
-            token(alloc, tokens, at, ExprKind::Name(name))
-        }
-        Sign::Word(Word::Null) => token(alloc, tokens, at, ExprKind::Null),
-        Sign::Word(Word::True) => token(alloc, tokens, at, ExprKind::Bool(true)),
-        Sign::Word(Word::False) => token(alloc, tokens, at, ExprKind::Bool(false)),
-        Sign::Number => token(alloc, tokens, at, ExprKind::Num(tokens.number(at))),
-        Sign::Str => {
-            let text = tokens.text(alloc, at)?;
-            token(alloc, tokens, at, ExprKind::Str(text))
-        }
-        _ => Err(Stop::At(at)),
-    }
-}
-
 // The items of an array literal (11.1.4) and the `]` after them.
 #[cycle(parser)]
 #[tactic(auto, using(crate::proofs::Turns::items_loop))]
@@ -105,26 +82,65 @@ fn items(alloc: Global, tokens: &Tokens, depth: u64, at: usize) -> Read<List<Opt
     }
 }
 
-// A primary expression (11.1).
+// A primary expression (11.1) that begins with a punctuator.
 #[cycle(parser)]
-#[tactic(auto, using(jl_ast::proofs::Views::nodes), unfolding(jl_grammar::specs::Reader::primary_at, jl_grammar::specs::Reader::primary_by, jl_grammar::specs::Reader::head_at))]
-fn primary(alloc: Global, tokens: &Tokens, depth: u64, at: usize) -> Read<Box<Expr>>
-    ensures { GivesExpression result (primary_at tokens.now (deeper tokens.now depth) at) }
+#[tactic(auto, using(jl_ast::proofs::Views::nodes), unfolding(jl_grammar::specs::Reader::primary_by, jl_grammar::specs::Reader::head_at))]
+fn punct_primary(alloc: Global, tokens: &Tokens, depth: u64, at: usize, punct: Punct) -> Read<Box<Expr>>
+    requires { sign_at tokens.now at ≡ Sign.Punct punct }
+    ensures { GivesExpression result (primary_by tokens.now (deeper tokens.now depth) at (Sign.Punct punct)) }
 {
-    match tokens.sign(at) {
-        Sign::Punct(Punct::LeftParen) => head(alloc, tokens, depth, at),
-        Sign::Punct(Punct::LeftBracket) => {
+    match punct {
+        Punct::LeftParen => head(alloc, tokens, depth, at),
+        Punct::LeftBracket => {
             let (items, end) = items(alloc, tokens, depth, tokens.after(at))?;
             let kind = ExprKind::Array(items);
             Ok((node(alloc, kind, tokens.span(at, end))?, end))
         }
-        Sign::Punct(Punct::LeftBrace) => {
+        Punct::LeftBrace => {
             let (entries, end) = entries(alloc, tokens, depth, tokens.after(at))?;
             let kind = ExprKind::Object(entries);
             Ok((node(alloc, kind, tokens.span(at, end))?, end))
         }
-        Sign::Word(Word::Function) => function_expression(alloc, tokens, depth, at),
-        _ => leaf(alloc, tokens, at),
+        _ => Err(Stop::At(at)),
+    }
+}
+
+// A primary expression (11.1) that begins with a reserved word.
+#[cycle(parser)]
+#[tactic(auto, using(jl_ast::proofs::Views::nodes), unfolding(jl_grammar::specs::Reader::primary_by))]
+fn word_primary(alloc: Global, tokens: &Tokens, depth: u64, at: usize, word: Word) -> Read<Box<Expr>>
+    requires { sign_at tokens.now at ≡ Sign.Word word }
+    ensures { GivesExpression result (primary_by tokens.now (deeper tokens.now depth) at (Sign.Word word)) }
+{
+    match word {
+        Word::This => token(alloc, tokens, at, ExprKind::This),
+        Word::Null => token(alloc, tokens, at, ExprKind::Null),
+        Word::True => token(alloc, tokens, at, ExprKind::Bool(true)),
+        Word::False => token(alloc, tokens, at, ExprKind::Bool(false)),
+        Word::Function => function_expression(alloc, tokens, depth, at),
+        _ => Err(Stop::At(at)),
+    }
+}
+
+// A primary expression (11.1).
+#[cycle(parser)]
+#[tactic(auto, using(jl_ast::proofs::Views::nodes), unfolding(jl_grammar::specs::Reader::primary_at, jl_grammar::specs::Reader::primary_by))]
+fn primary(alloc: Global, tokens: &Tokens, depth: u64, at: usize) -> Read<Box<Expr>>
+    ensures { GivesExpression result (primary_at tokens.now (deeper tokens.now depth) at) }
+{
+    match tokens.sign(at) {
+        Sign::Punct(punct) => punct_primary(alloc, tokens, depth, at, punct),
+        Sign::Word(word) => word_primary(alloc, tokens, depth, at, word),
+        Sign::Identifier | Sign::Get | Sign::Set => {
+            let name = tokens.text(alloc, at)?;
+            token(alloc, tokens, at, ExprKind::Name(name))
+        }
+        Sign::Number => token(alloc, tokens, at, ExprKind::Num(tokens.number(at))),
+        Sign::Str => {
+            let text = tokens.text(alloc, at)?;
+            token(alloc, tokens, at, ExprKind::Str(text))
+        }
+        Sign::EscapedWord | Sign::End => Err(Stop::At(at)),
     }
 }
 

@@ -106,12 +106,13 @@ impl<'a> Tokens<'a> {
     }
 
     /// The end of the last token, and 0 where there is none.
+    #[tactic(auto, using(crate::proofs::Places::end_is_last, crate::proofs::Places::none_is_last))]
     pub fn last_end(&self) -> u32
         ensures { result ≡ last_end self.now }
     {
-        match self.tokens {
-            [.., last] => last.span.to,
-            [] => 0,
+        match self.tokens.len() {
+            0 => 0,
+            count => self.end(count - 1),
         }
     }
 

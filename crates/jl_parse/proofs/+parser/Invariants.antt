@@ -20,19 +20,19 @@ abbrev pub decreases-expressions::inner_binary : goal.decreases-expressions::inn
 decreases-expressions::inner_binary l = l.depth * 20
 
 abbrev pub decreases-expressions::postfix : goal.decreases-expressions::postfix
-decreases-expressions::postfix l = l.depth * 20 + 11
+decreases-expressions::postfix l = l.depth * 20 + 12
 
 abbrev pub decreases-expressions::unary : goal.decreases-expressions::unary
-decreases-expressions::unary l = l.depth * 20 + 12
+decreases-expressions::unary l = l.depth * 20 + 13
 
 abbrev pub decreases-expressions::binary : goal.decreases-expressions::binary
-decreases-expressions::binary l = l.depth * 20 + 13
+decreases-expressions::binary l = l.depth * 20 + 14
 
 abbrev pub decreases-expressions::conditional : goal.decreases-expressions::conditional
-decreases-expressions::conditional l = l.depth * 20 + 14
+decreases-expressions::conditional l = l.depth * 20 + 15
 
 abbrev pub decreases-expressions::assignment : goal.decreases-expressions::assignment
-decreases-expressions::assignment l = l.depth * 20 + 15
+decreases-expressions::assignment l = l.depth * 20 + 16
 
 abbrev pub decreases-expressions::expression : goal.decreases-expressions::expression
 decreases-expressions::expression l = l.depth * 20
@@ -43,8 +43,14 @@ decreases-primary::head l = l.depth * 20 + 1
 abbrev pub decreases-primary::items : goal.decreases-primary::items
 decreases-primary::items l = l.depth * 20 + 1
 
+abbrev pub decreases-primary::punct_primary : goal.decreases-primary::punct_primary
+decreases-primary::punct_primary l = l.depth * 20 + 8
+
+abbrev pub decreases-primary::word_primary : goal.decreases-primary::word_primary
+decreases-primary::word_primary l = l.depth * 20 + 8
+
 abbrev pub decreases-primary::primary : goal.decreases-primary::primary
-decreases-primary::primary l = l.depth * 20 + 8
+decreases-primary::primary l = l.depth * 20 + 9
 
 abbrev pub decreases-primary::some_arguments : goal.decreases-primary::some_arguments
 decreases-primary::some_arguments l = l.depth * 20 + 1
@@ -59,13 +65,13 @@ abbrev pub decreases-primary::member : goal.decreases-primary::member
 decreases-primary::member l = l.depth * 20
 
 abbrev pub decreases-primary::start : goal.decreases-primary::start
-decreases-primary::start l = l.depth * 20 + 9
+decreases-primary::start l = l.depth * 20 + 10
 
 abbrev pub decreases-primary::longer : goal.decreases-primary::longer
 decreases-primary::longer l = l.depth * 20 + 3
 
 abbrev pub decreases-primary::left : goal.decreases-primary::left
-decreases-primary::left l = l.depth * 20 + 10
+decreases-primary::left l = l.depth * 20 + 11
 
 abbrev pub decreases-functions::rest : goal.decreases-functions::rest
 decreases-functions::rest l = l.depth * 20 + 4
