@@ -15,3 +15,7 @@ mod tokens;
 mod whole;
 
 pub use refusal::ParseRefusal;
+pub use whole::parse;
+
+#[cfg(test)]
+mod tests;

@@ -13,6 +13,16 @@ pub enum ParseRefusal {
     NoMemory,
 }
 
+impl From<AllocError> for ParseRefusal {
+    ghost use Rattle.jl_parse.specs.declared.refusal.ParseRefusal.TheVariants as ParseRefusal;
+
+    ghost from_gives = { λ _ e. e ≡ ParseRefusal.NoMemory };
+
+    fn from(_error: AllocError) -> ParseRefusal {
+        ParseRefusal::NoMemory
+    }
+}
+
 /// Why a part is not read.
 #[derive(Debug, Drop)]
 pub enum Stop {

@@ -1,19 +1,24 @@
 //! Whole programs (clause 14), the limits on them, and where a refusal points.
-ghost use Rattle.std.specs.Prelude.{◌≡◌, ◌<◌, ◌^◌, is_some, length, not, IfOk};
+ghost use Rattle.std.specs.Prelude.{◌≡◌, ◌<◌, ◌^◌, is_some, length, not, IfErr, IfOk, MatchResult};
 ghost use Rattle.jl_ast.specs.Numbering.{functions_in, numbered};
+ghost use Rattle.jl_ast.specs.Tree.{Program as Tree};
 ghost use Rattle.jl_ast.specs.View.{view};
 ghost use Rattle.jl_grammar.specs.Brackets.{bracket};
+ghost use Rattle.jl_grammar.specs.Program.{Reads};
 ghost use Rattle.jl_grammar.specs.Reader.{is_shallow, program_at};
 ghost use Rattle.jl_parse.specs.Refusals.{IsPlaced};
 ghost use Rattle.jl_parse.specs.Steps.{Gives};
+ghost use Rattle.jl_parse.specs.declared.refusal.ParseRefusal.TheVariants.{NoMemory};
+ghost use Rattle.jl_text.specs.declared.span.Span.{Span as Place};
 
 use crate::functions::body;
 use crate::refusal::{ParseRefusal, Stop};
 use crate::tokens::Tokens;
 use jl_ast::{Program, height};
 use jl_grammar::Sign;
+use jl_numbering::number;
 use jl_text::Span;
-use jl_token::Punct;
+use jl_token::{Punct, Token};
 use std::alloc::Global;
 
 // How many brackets are open after a token, before which there are so many.
@@ -90,5 +95,28 @@ fn unreadable(tokens: &Tokens, at: usize) -> ParseRefusal
         ParseRefusal::Unreadable {
             at: tokens.last_end(),
         }
+    }
+}
+
+/// The program (clause 14) that the tokens are, if its height is at most `limit` and at no place more than twice as
+/// many brackets are open. Semicolons are inserted where edition 5.1 allows it (7.9). Any other list of tokens is
+/// refused with a place: the first bracket inside too many others; else the first token that can't stand where it does,
+/// or the end of the last one; and that end where the program is too high, or the token at which the levels run out. A tree of height 2^32 - 1 or more, which only
+/// the greatest limit allows, is refused for want of memory. Three passes over the tokens and two over the tree; it
+/// recurses as deep as brackets are open and as the program is high.
+pub fn parse(alloc: Global, tokens: &[Token], limit: u32) -> Result<Program, ParseRefusal>
+    requires { length tokens.now < 2 ^ 32 }
+    ensures found { IfOk result (λ p. Reads tokens.now limit (view p)) }
+    ensures only { (p : Tree Place) → Reads tokens.now limit p → MatchResult result (λ r. view r ≡ p) (λ e. e ≡ NoMemory) }
+    ensures place { IfErr result (IsPlaced tokens.now) }
+{
+    let tokens = Tokens::new(alloc, tokens)?;
+    match program(alloc, &tokens, limit) {
+        Ok(mut program) => {
+            number(&mut program);
+            Ok(program)
+        }
+        Err(Stop::At(at)) => Err(unreadable(&tokens, at)),
+        Err(Stop::NoMemory) => Err(ParseRefusal::NoMemory),
     }
 }
