@@ -4,3 +4,4 @@ pub mod Rows
 pub mod Turns
 pub mod Lists
 pub mod Limits
+pub mod Parts
