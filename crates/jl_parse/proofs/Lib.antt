@@ -1,0 +1,7 @@
+pub mod Places
+pub mod Levels
+pub mod Rows
+pub mod Turns
+pub mod Lists
+pub mod Limits
+pub mod Parts

@@ -1,0 +1,56 @@
+-- What the reader reads of some statements, once their parts are read.
+use Rattle.std.proofs.Common.{◌≡◌, ℕ, suc, Bool, true, false, refl, List}
+use Rattle.std.specs.Prelude.{Option, Some, None}
+use Rattle.jl_text.specs.declared.span.Span.{Span}
+use Rattle.jl_token.specs.declared.token.Token.{Token}
+use Rattle.jl_ast.specs.Tree.{Ident, Tree}
+use Rattle.jl_ast.specs.Tree as tree
+use Rattle.jl_grammar.specs.Next.{is_catch, is_colon, is_else, is_finally, is_key}
+use Rattle.jl_grammar.specs.Reader.{◌>>=◌, Deeper, Read, accessor_at, block_at, else_from, ends_at, finally_from, head_at}
+use Rattle.jl_grammar.specs.Reader.{if_at, rest_at, return_at, return_by, sub_at, try_at}
+use Rattle.jl_grammar.specs.Reads.{Code, Expr, Stmt, Stmts}
+use Rattle.jl_grammar.specs.Tokens.{sign_at, span}
+
+module _ (ts : List Token) (d : Deeper) where
+  pub if_else_read : (i : ℕ) (t : Expr) (j : ℕ) (ws : Stmts) (k : ℕ) (us : Stmts) (m : ℕ)
+      → head_at ts d (suc i) ≡ Some (t, j) → sub_at ts d j ≡ Some (ws, k) → is_else (sign_at ts k) ≡ true
+      → sub_at ts d (suc k) ≡ Some (us, m)
+      → if_at ts d i ≡ Some (tree.when t ws (tree.present (tree.branch_of us)) (span ts i m), m)
+  unfolding if_at else_from
+  if_else_read i t j ws k us m h s e q = rw (if_at, h, s, else_from, e, q) refl
+
+  pub if_read : (i : ℕ) (t : Expr) (j : ℕ) (ws : Stmts) (k : ℕ)
+      → head_at ts d (suc i) ≡ Some (t, j) → sub_at ts d j ≡ Some (ws, k) → is_else (sign_at ts k) ≡ false
+      → if_at ts d i ≡ Some (tree.when t ws tree.absent (span ts i k), k)
+  unfolding if_at else_from
+  if_read i t j ws k h s e = rw (if_at, h, s, else_from, e) refl
+
+  pub return_read : (i : ℕ) (t : Expr) (j k : ℕ) → ends_at ts (suc i) ≡ None → d.expression false (suc i) ≡ Some (t, j)
+      → ends_at ts j ≡ Some k → return_at ts d i ≡ Some (tree.return (tree.present t) (span ts i k), k)
+  unfolding return_at return_by
+  return_read i t j k e h g = rw (return_at, e, return_by, h, g) refl
+
+  pub finally_read : (i : ℕ) (ws : Stmts) (h : Tree Span tree.handler) (j : ℕ) (us : Stmts) (k : ℕ)
+      → is_finally (sign_at ts j) ≡ true → block_at ts d (suc j) ≡ Some (us, k)
+      → finally_from ts d i ws (h, j)
+      ≡ Some (tree.try ws (tree.present h) (tree.present (tree.branch_of us)) (span ts i k), k)
+  unfolding finally_from
+  finally_read i ws h j us k e q = rw (finally_from, e, q) refl
+
+  pub no_finally_read : (i : ℕ) (ws : Stmts) (h : Tree Span tree.handler) (j : ℕ) → is_finally (sign_at ts j) ≡ false
+      → finally_from ts d i ws (h, j) ≡ Some (tree.try ws (tree.present h) tree.absent (span ts i j), j)
+  unfolding finally_from
+  no_finally_read i ws h j e = rw (finally_from, e) refl
+
+  pub try_finally_read : (i : ℕ) (ws : Stmts) (j : ℕ) (us : Stmts) (k : ℕ) → block_at ts d (suc i) ≡ Some (ws, j)
+      → is_catch (sign_at ts j) ≡ false → is_finally (sign_at ts j) ≡ true → block_at ts d (suc j) ≡ Some (us, k)
+      → try_at ts d i ≡ Some (tree.try ws tree.absent (tree.present (tree.branch_of us)) (span ts i k), k)
+  unfolding try_at
+  try_finally_read i ws j us k b c e q = rw (try_at, b, c, e, q) refl
+
+  pub accessor_read : (by : ℕ → List (Ident Span) → Code → ℕ → Read (Tree Span tree.entry)) (i : ℕ)
+      (ps : List (Ident Span)) (c : Code) (j : ℕ) → is_colon (sign_at ts (suc i)) ≡ false
+      → is_key (sign_at ts (suc i)) ≡ true → rest_at ts d (suc (suc i)) ≡ Some ((ps, c), j)
+      → accessor_at ts d by i ≡ by i ps c j
+  unfolding accessor_at
+  accessor_read by i ps c j e f g = rw (accessor_at, e, f, g) refl

@@ -1,0 +1,170 @@
+-- The token at a place, as a slice has it.
+use Rattle.std.proofs.Common.{◌≡◌, ℕ, zero, suc, ◌-◌, ◌≤◌, ◌<◌, List, [], ◌∷◌, length, map, get_or, refl, ap, ap₂}
+use Rattle.std.proofs.Common.{◌∙◌, Bool, true, false, ◌&&◌, arith}
+use Rattle.std.proofs.Common.{subst}
+use Rattle.std.specs.Prelude.{Option, Some, None, option_map, Result, IfOk}
+use Rattle.jl_token.specs.declared.token.Token.{Token}
+use Rattle.jl_grammar.specs.declared.sign.Sign.{Sign}
+use Rattle.jl_grammar.specs.declared.sign.Sign.TheVariants as signs
+use Rattle.jl_grammar.specs.declared.word.Word.TheVariants as words
+use Rattle.jl_grammar.specs.Operators.{joint, plain, binary_operator}
+use Rattle.jl_grammar.specs.Program.{last_end}
+use Rattle.jl_grammar.specs.Reader.{is_in}
+use Rattle.jl_grammar.specs.Signs.{sign_of}
+use Rattle.jl_grammar.specs.Tokens.{sign_at, line_at, text_at, number_at, key_at, strict_at, from_at, to_at, span}
+use Rattle.jl_token.specs.declared.punct.Punct.TheVariants as puncts
+use Rattle.jl_parse.specs.Steps.{is_end}
+
+sign_there : (ts : List Token) (i : ℕ) (t : Sign) → i < length ts
+    → t ≡ get_or (map (λ (u : Token). sign_of u.kind) ts) i t → t ≡ sign_at ts i
+sign_there [] i t h e = absurd (omega arith)
+sign_there (u ∷ ts) zero t h e = cc
+sign_there (u ∷ ts) (suc i) t h e = sign_there ts i t (omega arith) e
+
+signs_long : (ts : List Token) → length (map (λ (u : Token). sign_of u.kind) ts) ≡ length ts
+signs_long [] = refl
+signs_long (u ∷ ts) = ap suc (signs_long ts)
+
+pub sign_in : (ts : List Token) (ss : List Sign) (i : ℕ) (t : Sign) → ss ≡ map (λ (u : Token). sign_of u.kind) ts
+    → i < length ss → t ≡ get_or ss i t → t ≡ sign_at ts i
+sign_in ts ss i t s h e =
+    let l = signs_long ts in let k = ap (λ (r : List Sign). length r) s in
+    sign_there ts i t (omega arith) (e ∙ ap (λ (r : List Sign). get_or r i t) s)
+
+pub sign_past : (ts : List Token) (ss : List Sign) (i : ℕ) → ss ≡ map (λ (u : Token). sign_of u.kind) ts
+    → length ss ≤ i → signs.End ≡ sign_at ts i
+sign_past ts ss i s h =
+    let l = signs_long ts in let k = ap (λ (r : List Sign). length r) s in past ts i (omega arith)
+  where
+    past : (ts : List Token) (i : ℕ) → length ts ≤ i → signs.End ≡ sign_at ts i
+    past [] i h = refl
+    past (u ∷ ts) zero h = absurd (omega arith)
+    past (u ∷ ts) (suc i) h = past ts i (omega arith)
+
+pub line_in : (ts : List Token) (i : ℕ) (t : Token) → i < length ts → t ≡ get_or ts i t → t.line_before ≡ line_at ts i
+line_in [] i t h e = absurd (omega arith)
+line_in (u ∷ ts) zero t h e = cc
+line_in (u ∷ ts) (suc i) t h e = line_in ts i t (omega arith) e
+
+pub line_past : (ts : List Token) (i : ℕ) → length ts ≤ i → true ≡ line_at ts i
+line_past [] i h = refl
+line_past (u ∷ ts) zero h = absurd (omega arith)
+line_past (u ∷ ts) (suc i) h = line_past ts i (omega arith)
+
+pub from_in : (ts : List Token) (i : ℕ) (t : Token) → i < length ts → t ≡ get_or ts i t → t.span.from ≡ from_at ts i
+from_in [] i t h e = absurd (omega arith)
+from_in (u ∷ ts) zero t h e = cc
+from_in (u ∷ ts) (suc i) t h e = from_in ts i t (omega arith) e
+
+pub from_past : (ts : List Token) (i : ℕ) → length ts ≤ i → 0 ≡ from_at ts i
+from_past [] i h = refl
+from_past (u ∷ ts) zero h = absurd (omega arith)
+from_past (u ∷ ts) (suc i) h = from_past ts i (omega arith)
+
+pub to_in : (ts : List Token) (i : ℕ) (t : Token) → i < length ts → t ≡ get_or ts i t → t.span.to ≡ to_at ts i
+to_in [] i t h e = absurd (omega arith)
+to_in (u ∷ ts) zero t h e = cc
+to_in (u ∷ ts) (suc i) t h e = to_in ts i t (omega arith) e
+
+pub to_past : (ts : List Token) (i : ℕ) → length ts ≤ i → 0 ≡ to_at ts i
+to_past [] i h = refl
+to_past (u ∷ ts) zero h = absurd (omega arith)
+to_past (u ∷ ts) (suc i) h = to_past ts i (omega arith)
+
+-- a token that is there stands within the list
+pub within : (ts : List Token) (i : ℕ) → is_end (sign_at ts i) ≡ false → i < length ts
+within [] i h = cc
+within (t ∷ ts) zero h = omega arith
+within (t ∷ ts) (suc i) h = let g = within ts i h in omega arith
+
+pub span_none : (ts : List Token) (i j f : ℕ) → j ≡ 0 → f ≡ from_at ts i → record { from = f; to = 0 } ≡ span ts i j
+unfolding span
+span_none ts i zero f h e = ap (λ (x : ℕ). record { from = x; to = 0 }) e
+span_none ts i (suc j) f h e = absurd (omega arith)
+
+pub span_some : (ts : List Token) (i j f g : ℕ) → (j ≡ 0 → ⊥) → f ≡ from_at ts i → g ≡ to_at ts (j - 1)
+    → record { from = f; to = g } ≡ span ts i j
+unfolding span
+span_some ts i zero f g h e q = absurd (h refl)
+span_some ts i (suc j) f g h e q = ap₂ (λ (x y : ℕ). record { from = x; to = y }) e (q ∙ ap (to_at ts) (omega arith))
+
+pub text_in : (ts : List Token) (i : ℕ) (t : Token) → i < length ts → t ≡ get_or ts i t
+    → text_at (t ∷ []) 0 ≡ text_at ts i
+text_in [] i t h e = absurd (omega arith)
+text_in (u ∷ ts) zero t h e = ap (λ (v : Token). text_at (v ∷ []) 0) e
+text_in (u ∷ ts) (suc i) t h e = text_in ts i t (omega arith) e
+
+pub text_past : (ts : List Token) (i : ℕ) → length ts ≤ i → [] ≡ text_at ts i
+text_past [] i h = refl
+text_past (u ∷ ts) zero h = absurd (omega arith)
+text_past (u ∷ ts) (suc i) h = text_past ts i (omega arith)
+
+pub number_in : (ts : List Token) (i : ℕ) (t : Token) → i < length ts → t ≡ get_or ts i t
+    → number_at (t ∷ []) 0 ≡ number_at ts i
+number_in [] i t h e = absurd (omega arith)
+number_in (u ∷ ts) zero t h e = ap (λ (v : Token). number_at (v ∷ []) 0) e
+number_in (u ∷ ts) (suc i) t h e = number_in ts i t (omega arith) e
+
+pub number_past : (ts : List Token) (i : ℕ) → length ts ≤ i → None ≡ number_at ts i
+number_past [] i h = refl
+number_past (u ∷ ts) zero h = absurd (omega arith)
+number_past (u ∷ ts) (suc i) h = number_past ts i (omega arith)
+
+pub strict_in : (ts : List Token) (i : ℕ) (t : Token) → i < length ts → t ≡ get_or ts i t
+    → strict_at (t ∷ []) 0 ≡ strict_at ts i
+strict_in [] i t h e = absurd (omega arith)
+strict_in (u ∷ ts) zero t h e = ap (λ (v : Token). strict_at (v ∷ []) 0) e
+strict_in (u ∷ ts) (suc i) t h e = strict_in ts i t (omega arith) e
+
+pub strict_past : (ts : List Token) (i : ℕ) → length ts ≤ i → false ≡ strict_at ts i
+strict_past [] i h = refl
+strict_past (u ∷ ts) zero h = absurd (omega arith)
+strict_past (u ∷ ts) (suc i) h = strict_past ts i (omega arith)
+
+pub key_in : (ts : List Token) (i : ℕ) (t : Token) → i < length ts → t ≡ get_or ts i t
+    → key_at (t ∷ []) 0 ≡ key_at ts i
+key_in [] i t h e = absurd (omega arith)
+key_in (u ∷ ts) zero t h e = ap (λ (v : Token). key_at (v ∷ []) 0) e
+key_in (u ∷ ts) (suc i) t h e = key_in ts i t (omega arith) e
+
+pub key_past : (ts : List Token) (i : ℕ) → length ts ≤ i → [] ≡ key_at ts i
+key_past [] i h = refl
+key_past (u ∷ ts) zero h = absurd (omega arith)
+key_past (u ∷ ts) (suc i) h = key_past ts i (omega arith)
+
+pub kind_in : (ts : List Token) (i : ℕ) (t : Token) → i < length ts → t ≡ get_or ts i t → sign_of t.kind ≡ sign_at ts i
+kind_in [] i t h e = absurd (omega arith)
+kind_in (u ∷ ts) zero t h e = ap (λ (v : Token). sign_of v.kind) e
+kind_in (u ∷ ts) (suc i) t h e = kind_in ts i t (omega arith) e
+
+pub kind_past : (ts : List Token) (i : ℕ) → length ts ≤ i → signs.End ≡ sign_at ts i
+kind_past [] i h = refl
+kind_past (u ∷ ts) zero h = absurd (omega arith)
+kind_past (u ∷ ts) (suc i) h = kind_past ts i (omega arith)
+
+-- a joint other than a logical one is an operator
+pub joint_other : (no_in : Bool) (k : Sign) → (k ≡ signs.Punct puncts.AndAnd → ⊥) → (k ≡ signs.Punct puncts.OrOr → ⊥)
+    → (no_in && is_in k) ≡ false → joint no_in k ≡ option_map plain (binary_operator k)
+joint_other no_in (signs.Punct puncts.AndAnd) a b h = absurd (a refl)
+joint_other no_in (signs.Punct puncts.OrOr) a b h = absurd (b refl)
+joint_other true (signs.Word words.In) a b h = cc
+joint_other true (signs.Punct _) a b h = refl
+joint_other true _ a b h = refl
+joint_other false (signs.Word words.In) a b h = refl
+joint_other false _ a b h = refl
+
+-- an answer that is a value is any value that is the same
+pub if_ok_same : {A E : Type 0} (r : Result A E) (x y : A) → x ≡ y → IfOk r (λ t. t ≡ x) → IfOk r (λ t. t ≡ y)
+if_ok_same r x y e h = subst (λ v. IfOk r (λ t. t ≡ v)) e h
+
+-- the last token ends where the one at the last place does
+pub end_is_last : (ts : List Token) → to_at ts (length ts - 1) ≡ last_end ts
+end_is_last [] = refl
+end_is_last (t ∷ []) = refl
+end_is_last (t ∷ u ∷ ts) =
+    let e : length (t ∷ u ∷ ts) - 1 ≡ suc (length (u ∷ ts) - 1) = omega arith in
+    ap (to_at (t ∷ u ∷ ts)) e ∙ end_is_last (u ∷ ts)
+
+pub none_is_last : (ts : List Token) → length ts ≡ 0 → 0 ≡ last_end ts
+none_is_last [] h = refl
+none_is_last (t ∷ ts) h = absurd (omega arith)

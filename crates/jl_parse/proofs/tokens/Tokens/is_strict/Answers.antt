@@ -1,0 +1,10 @@
+use Rattle.jl_parse.proofs.Places.{strict_in, strict_past}
+use Rattle.jl_parse.proofs.tokens.Tokens.is_strict.Goals as goal
+
+pub returns-in-Some : goal.returns-in-Some
+returns-in-Some c =
+    let h = c.in-Some.ensures.lookup in
+    let e = strict_in _ _ _ h.3.0 h.1 in cc (e, c.self.view_is, c.is_use_strict.ensures)
+
+pub returns-in-None : goal.returns-in-None
+returns-in-None c = let e = strict_past _ _ c.in-None.ensures.lookup.3 in cc (e, c.self.view_is)

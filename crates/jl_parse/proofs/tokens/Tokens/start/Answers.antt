@@ -1,0 +1,8 @@
+use Rattle.jl_parse.proofs.Places.{from_in, from_past}
+use Rattle.jl_parse.proofs.tokens.Tokens.start.Goals as goal
+
+pub returns-in-Some : goal.returns-in-Some
+returns-in-Some c = let h = c.in-Some.ensures.lookup in let e = from_in _ _ _ h.3.0 h.1 in cc (e, c.self.view_is)
+
+pub returns-in-None : goal.returns-in-None
+returns-in-None c = let e = from_past _ _ c.in-None.ensures.lookup.3 in cc (e, c.self.view_is)

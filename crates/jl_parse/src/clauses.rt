@@ -1,0 +1,172 @@
+//! `switch` and `try` statements (12.11, 12.14).
+#![tactic(auto, using(jl_ast::proofs::Views::nodes))]
+
+ghost use Rattle.std.specs.Prelude.{◌≡◌, false, length, true};
+ghost use Rattle.jl_ast.specs.Tree as tree;
+ghost use Rattle.jl_ast.specs.View.{view_case, view_cases, view_ident, view_statements};
+ghost use Rattle.jl_grammar.specs.Reader.{catch_at, clauses_from, deeper, finally_from, switch_at, try_at};
+ghost use Rattle.jl_grammar.specs.Tokens.{sign_at};
+ghost use Rattle.jl_parse.specs.Steps.{Gives, GivesStatement, clause_of, is_end};
+
+use crate::expressions::expression;
+use crate::primary::head;
+use crate::refusal::{Read, Stop};
+use crate::signs::{
+    is_case, is_catch, is_close_brace, is_close_paren, is_colon, is_default, is_finally,
+    is_identifier, is_open_brace, is_open_paren,
+};
+use crate::statements::{block, statements};
+use crate::tokens::Tokens;
+use jl_ast::{Case, Ident, Stmt, StmtKind};
+use jl_text::List;
+use std::alloc::Global;
+
+// A clause of a `switch` (12.11); a default one only where `fresh`.
+#[cycle(parser)]
+#[tactic(auto, using(jl_ast::proofs::Views::nodes), unfolding(crate::specs::Steps::clause_of))]
+fn clause(alloc: Global, tokens: &Tokens, depth: u64, fresh: bool, at: usize) -> Read<Case>
+    ensures { Gives (λ x. (view_case x.0, x.1)) result (clause_of tokens.now (deeper tokens.now depth) fresh at) }
+{
+    let sign = tokens.sign(at);
+    if is_case(sign) {
+        let (test, end) = expression(alloc, tokens, depth, false, tokens.after(at))?;
+        if !is_colon(tokens.sign(end)) {
+            return Err(Stop::At(end));
+        }
+        let (body, end) = statements(alloc, tokens, depth, tokens.after(end))?;
+        let test = Some(Box::into_inner(test));
+        return Ok((Case { test, body }, end));
+    }
+    if !is_default(sign) || !fresh {
+        return Err(Stop::At(at));
+    }
+    let colon = tokens.after(at);
+    if !is_colon(tokens.sign(colon)) {
+        return Err(Stop::At(colon));
+    }
+    let (body, end) = statements(alloc, tokens, depth, tokens.after(colon))?;
+    Ok((Case { test: None, body }, end))
+}
+
+// The clauses of a `switch` (12.11), up to the `}` after them.
+#[cycle(parser)]
+#[tactic(auto, using(crate::proofs::Lists::clauses_loop))]
+fn clauses(alloc: Global, tokens: &Tokens, depth: u64, at: usize) -> Read<List<Case>>
+    ensures { Gives (λ x. (view_cases x.0, x.1)) result (clauses_from tokens.now (deeper tokens.now depth) (length tokens.now) true at) }
+{
+    let mut clauses = List::new(alloc);
+    let mut fresh = true;
+    let mut next = at;
+    let mut room = tokens.len();
+    'parts: loop {
+        let sign = tokens.sign(next);
+        if is_close_brace(sign) {
+            return Ok((clauses, next));
+        }
+        if room == 0 {
+            return Err(Stop::At(next));
+        }
+        room -= 1;
+        let (c, end) = clause(alloc, tokens, depth, fresh, next)?;
+        clauses.push(c)?;
+        fresh = fresh && is_case(sign);
+        next = end;
+    }
+}
+
+/// A `switch` statement (12.11).
+#[cycle(parser)]
+#[tactic(auto, using(jl_ast::proofs::Views::nodes), unfolding(jl_grammar::specs::Reader::switch_at))]
+pub fn switch_statement(alloc: Global, tokens: &Tokens, depth: u64, at: usize) -> Read<Stmt>
+    requires { is_end (sign_at tokens.now at) ≡ false }
+    ensures { GivesStatement result (switch_at tokens.now (deeper tokens.now depth) at) }
+{
+    let (e, end) = head(alloc, tokens, depth, tokens.after(at))?;
+    if !is_open_brace(tokens.sign(end)) {
+        return Err(Stop::At(end));
+    }
+    let (clauses, end) = clauses(alloc, tokens, depth, tokens.after(end))?;
+    if !is_close_brace(tokens.sign(end)) {
+        return Err(Stop::At(end));
+    }
+    let end = tokens.after(end);
+    let kind = StmtKind::Switch(Box::into_inner(e), clauses);
+    let span = tokens.span(at, end);
+    Ok((Stmt { kind, span }, end))
+}
+
+// The `catch` of a `try` (12.14).
+#[cycle(parser)]
+#[tactic(auto, unfolding(jl_grammar::specs::Reader::catch_at))]
+fn catch(alloc: Global, tokens: &Tokens, depth: u64, at: usize) -> Read<(Ident, List<Stmt>)>
+    requires { is_end (sign_at tokens.now at) ≡ false }
+    ensures { Gives (λ x. (tree.catch (view_ident x.0.0) (view_statements x.0.1), x.1)) result (catch_at tokens.now (deeper tokens.now depth) at) }
+{
+    let open = tokens.after(at);
+    if !is_open_paren(tokens.sign(open)) {
+        return Err(Stop::At(open));
+    }
+    let name = tokens.after(open);
+    if !is_identifier(tokens.sign(name)) {
+        return Err(Stop::At(name));
+    }
+    let close = tokens.after(name);
+    if !is_close_paren(tokens.sign(close)) {
+        return Err(Stop::At(close));
+    }
+    let (body, end) = block(alloc, tokens, depth, tokens.after(close))?;
+    Ok(((tokens.ident(alloc, name)?, body), end))
+}
+
+/// A `try` statement (12.14).
+#[cycle(parser)]
+#[tactic(auto, using(jl_ast::proofs::Views::nodes), unfolding(jl_grammar::specs::Reader::try_at, jl_grammar::specs::Reader::finally_from))]
+pub fn try_statement(alloc: Global, tokens: &Tokens, depth: u64, at: usize) -> Read<Stmt>
+    requires { is_end (sign_at tokens.now at) ≡ false }
+    ensures { GivesStatement result (try_at tokens.now (deeper tokens.now depth) at) }
+{
+    let (body, end) = block(alloc, tokens, depth, tokens.after(at))?;
+    let sign = tokens.sign(end);
+    if is_catch(sign) {
+        let (caught, end) = catch(alloc, tokens, depth, end)?;
+        return finally(alloc, tokens, depth, at, body, caught, end);
+    }
+    if !is_finally(sign) {
+        return Err(Stop::At(end));
+    }
+    let (last, end) = block(alloc, tokens, depth, tokens.after(end))?;
+    let kind = StmtKind::Try {
+        body,
+        catch: None,
+        finally: Some(last),
+    };
+    let span = tokens.span(at, end);
+    Ok((Stmt { kind, span }, end))
+}
+
+// The `finally` of a `try` with a `catch`, if there is one (12.14).
+#[cycle(parser)]
+#[tactic(auto, using(jl_ast::proofs::Views::nodes), unfolding(jl_grammar::specs::Reader::finally_from))]
+fn finally(alloc: Global, tokens: &Tokens, depth: u64, at: usize, body: List<Stmt>, caught: (Ident, List<Stmt>), end: usize) -> Read<Stmt>
+    ensures { GivesStatement result (finally_from tokens.now (deeper tokens.now depth) at (view_statements body)
+        (tree.catch (view_ident caught.0) (view_statements caught.1), end)) }
+{
+    if is_finally(tokens.sign(end)) {
+        let (last, end) = block(alloc, tokens, depth, tokens.after(end))?;
+        let kind = StmtKind::Try {
+            body,
+            catch: Some(caught),
+            finally: Some(last),
+        };
+        let span = tokens.span(at, end);
+        Ok((Stmt { kind, span }, end))
+    } else {
+        let kind = StmtKind::Try {
+            body,
+            catch: Some(caught),
+            finally: None,
+        };
+        let span = tokens.span(at, end);
+        Ok((Stmt { kind, span }, end))
+    }
+}

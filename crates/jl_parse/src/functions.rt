@@ -1,0 +1,328 @@
+//! Functions, what they hold (clauses 13 and 14), and object literals (11.1.5).
+ghost use Rattle.std.specs.Prelude.{◌≡◌, false, length, map, IfOk};
+ghost use Rattle.jl_ast.specs.Tree as tree;
+ghost use Rattle.jl_ast.specs.View.{view_body, view_entries, view_entry, view_expression, view_function, view_ident};
+ghost use Rattle.jl_grammar.specs.Reader.{deeper, accessor_at, body_from, elements_from, entries_from, entry_at, function_at, getter_by, parameters_at, rest_at, setter_by, value_at};
+ghost use Rattle.jl_grammar.specs.Tokens.{sign_at};
+ghost use Rattle.jl_parse.specs.Steps.{Gives, GivesExpression, GivesRest, is_end, declaration_of, with_elements};
+
+use crate::expressions::inner_assignment;
+use crate::nodes::node;
+use crate::refusal::{Read, Stop};
+use crate::signs::{
+    ends_list, is_close_brace, is_close_paren, is_colon, is_comma, is_function, is_identifier,
+    is_key, is_open_brace, is_open_paren,
+};
+use crate::statements::{ends, statement};
+use crate::tokens::Tokens;
+use jl_ast::{Body, Entry, Expr, ExprKind, Function, Ident};
+use jl_grammar::Sign;
+use jl_text::{List, Span};
+use std::alloc::{AllocError, Global};
+
+// The parameters of a function after its `(`, and the `)` after them.
+#[tactic(auto, using(crate::proofs::Lists::parameters_loop), unfolding(jl_grammar::specs::Reader::parameters_at))]
+fn parameters(alloc: Global, tokens: &Tokens, at: usize) -> Read<List<Ident>>
+    ensures { Gives (λ x. (map view_ident x.0, x.1)) result (parameters_at tokens.now at) }
+{
+    let mut parameters = List::new(alloc);
+    if is_close_paren(tokens.sign(at)) {
+        return Ok((parameters, tokens.after(at)));
+    }
+    let mut next = at;
+    let mut room = tokens.len();
+    'parts: loop {
+        if room == 0 || !is_identifier(tokens.sign(next)) {
+            return Err(Stop::At(next));
+        }
+        room -= 1;
+        parameters.push(tokens.ident(alloc, next)?)?;
+        let end = tokens.after(next);
+        let sign = tokens.sign(end);
+        if is_close_paren(sign) {
+            return Ok((parameters, tokens.after(end)));
+        }
+        if !is_comma(sign) {
+            return Err(Stop::At(end));
+        }
+        next = tokens.after(end);
+    }
+}
+
+// The parameters and the body of a function, from its `(` to its `}`.
+#[cycle(parser)]
+#[tactic(auto, unfolding(jl_grammar::specs::Reader::rest_at))]
+fn rest(alloc: Global, tokens: &Tokens, depth: u64, at: usize) -> Read<(List<Ident>, Body)>
+    ensures { GivesRest result (rest_at tokens.now (deeper tokens.now depth) at) }
+{
+    if !is_open_paren(tokens.sign(at)) {
+        return Err(Stop::At(at));
+    }
+    let (parameters, end) = parameters(alloc, tokens, tokens.after(at))?;
+    if !is_open_brace(tokens.sign(end)) {
+        return Err(Stop::At(end));
+    }
+    let (body, end) = body(alloc, tokens, depth, tokens.after(end))?;
+    if is_close_brace(tokens.sign(end)) {
+        Ok(((parameters, body), tokens.after(end)))
+    } else {
+        Err(Stop::At(end))
+    }
+}
+
+#[cycle(parser)]
+#[tactic(auto, using(crate::proofs::Levels::levels))]
+fn inner_rest(alloc: Global, tokens: &Tokens, depth: u64, at: usize) -> Read<(List<Ident>, Body)>
+    ensures { GivesRest result ((deeper tokens.now depth).rest at) }
+{
+    if depth == 0 {
+        return Err(Stop::At(at));
+    }
+    rest(alloc, tokens, depth - 1, at)
+}
+
+// The node of a function expression.
+#[tactic(auto, using(jl_ast::proofs::Views::nodes))]
+fn function_node(alloc: Global, function: Function, span: Span) -> Result<Box<Expr>, AllocError>
+    ensures { IfOk result (λ e. view_expression e.value ≡ tree.function_expression (view_function function) span) }
+{
+    node(alloc, ExprKind::Function(Box::new(alloc, function)?), span)
+}
+
+/// A function expression (clause 13).
+#[cycle(parser)]
+#[tactic(auto, using(jl_ast::proofs::Views::nodes), unfolding(jl_grammar::specs::Reader::function_at))]
+pub fn function_expression(alloc: Global, tokens: &Tokens, depth: u64, at: usize) -> Read<Box<Expr>>
+    requires { is_end (sign_at tokens.now at) ≡ false }
+    ensures { GivesExpression result (function_at tokens.now (deeper tokens.now depth) at) }
+{
+    let name = tokens.after(at);
+    if is_identifier(tokens.sign(name)) {
+        let ((params, body), end) = rest(alloc, tokens, depth, tokens.after(name))?;
+        let span = tokens.span(at, end);
+        let function = Function {
+            number: 0,
+            name: Some(tokens.ident(alloc, name)?),
+            params,
+            body,
+            span,
+        };
+        Ok((function_node(alloc, function, span)?, end))
+    } else {
+        let ((params, body), end) = rest(alloc, tokens, depth, name)?;
+        let span = tokens.span(at, end);
+        let function = Function {
+            number: 0,
+            name: None,
+            params,
+            body,
+            span,
+        };
+        Ok((function_node(alloc, function, span)?, end))
+    }
+}
+
+// A function declaration (clause 13).
+#[cycle(parser)]
+#[tactic(auto, using(jl_ast::proofs::Views::nodes))]
+fn declaration(alloc: Global, tokens: &Tokens, depth: u64, at: usize) -> Read<Function>
+    requires { is_end (sign_at tokens.now at) ≡ false }
+    ensures { Gives (λ x. (view_function x.0, x.1)) result (declaration_of tokens.now (deeper tokens.now depth) at) }
+{
+    let name = tokens.after(at);
+    if !is_identifier(tokens.sign(name)) {
+        return Err(Stop::At(name));
+    }
+    let ((params, body), end) = inner_rest(alloc, tokens, depth, tokens.after(name))?;
+    let function = Function {
+        number: 0,
+        name: Some(tokens.ident(alloc, name)?),
+        params,
+        body,
+        span: tokens.span(at, end),
+    };
+    Ok((function, end))
+}
+
+// The function declarations and statements of a body (clause 14), after its directives.
+#[cycle(parser)]
+#[tactic(auto, using(jl_ast::proofs::Views::nodes, crate::proofs::Lists::elements_loop))]
+fn elements(alloc: Global, tokens: &Tokens, depth: u64, at: usize, strict: bool) -> Read<Body>
+    ensures { Gives (λ x. (view_body x.0, x.1)) result (with_elements strict tree.end tree.end
+        (elements_from tokens.now (deeper tokens.now depth) (length tokens.now) at)) }
+{
+    let mut functions = List::new(alloc);
+    let mut statements = List::new(alloc);
+    let mut next = at;
+    let mut room = tokens.len();
+    'parts: loop {
+        let sign = tokens.sign(next);
+        if ends_list(sign) {
+            let body = Body {
+                strict,
+                functions,
+                statements,
+            };
+            return Ok((body, next));
+        }
+        if room == 0 {
+            return Err(Stop::At(next));
+        }
+        room -= 1;
+        if is_function(sign) {
+            let (f, end) = declaration(alloc, tokens, depth, next)?;
+            functions.push(f)?;
+            next = end;
+        } else {
+            let (s, end) = statement(alloc, tokens, depth, next)?;
+            statements.push(s)?;
+            next = end;
+        }
+    }
+}
+
+/// What a function or a program holds (clause 14), up to what ends it. A directive leaves no statement.
+#[cycle(parser)]
+#[tactic(auto, using(crate::proofs::Lists::body_loop))]
+pub fn body(alloc: Global, tokens: &Tokens, depth: u64, at: usize) -> Read<Body>
+    ensures { Gives (λ x. (view_body x.0, x.1)) result (body_from tokens.now (deeper tokens.now depth) (length tokens.now) at) }
+{
+    let mut strict = false;
+    let mut next = at;
+    let mut room = tokens.len();
+    'parts: loop {
+        if !tokens.is_directive(next) {
+            return elements(alloc, tokens, depth, next, strict);
+        }
+        if room == 0 {
+            return Err(Stop::At(next));
+        }
+        room -= 1;
+        strict = strict || tokens.is_strict(next);
+        let after = tokens.after(next);
+        let Some(end) = ends(tokens, after) else {
+            return Err(Stop::At(after));
+        };
+        next = end;
+    }
+}
+
+// A property that is a value under a key (11.1.5).
+#[cycle(parser)]
+#[tactic(auto, using(jl_ast::proofs::Views::nodes), unfolding(jl_grammar::specs::Reader::value_at))]
+fn value(alloc: Global, tokens: &Tokens, depth: u64, at: usize) -> Read<Entry>
+    ensures { Gives (λ x. (view_entry x.0, x.1)) result (value_at tokens.now (deeper tokens.now depth) at) }
+{
+    if !is_key(tokens.sign(at)) {
+        return Err(Stop::At(at));
+    }
+    let colon = tokens.after(at);
+    if !is_colon(tokens.sign(colon)) {
+        return Err(Stop::At(colon));
+    }
+    let (e, end) = inner_assignment(alloc, tokens, depth, false, tokens.after(colon))?;
+    let key = tokens.key(alloc, at)?;
+    Ok((Entry::Value(key, Box::into_inner(e)), end))
+}
+
+// A property that begins with `get` (11.1.5).
+#[cycle(parser)]
+#[tactic(auto, using(jl_ast::proofs::Views::nodes, crate::proofs::Lists::getters), unfolding(jl_grammar::specs::Reader::accessor_at))]
+fn getter(alloc: Global, tokens: &Tokens, depth: u64, at: usize) -> Read<Entry>
+    requires { is_end (sign_at tokens.now at) ≡ false }
+    ensures { Gives (λ x. (view_entry x.0, x.1)) result (accessor_at tokens.now (deeper tokens.now depth)
+        (getter_by tokens.now (deeper tokens.now depth)) at) }
+{
+    let name = tokens.after(at);
+    if is_colon(tokens.sign(name)) {
+        return value(alloc, tokens, depth, at);
+    }
+    if !is_key(tokens.sign(name)) {
+        return Err(Stop::At(name));
+    }
+    let open = tokens.after(name);
+    let ((params, body), end) = rest(alloc, tokens, depth, open)?;
+    if params.len() != 0 {
+        return Err(Stop::At(open));
+    }
+    let function = Function {
+        number: 0,
+        name: None,
+        params,
+        body,
+        span: tokens.span(at, end),
+    };
+    Ok((Entry::Get(tokens.key(alloc, name)?, function), end))
+}
+
+// A property that begins with `set` (11.1.5).
+#[cycle(parser)]
+#[tactic(auto, using(jl_ast::proofs::Views::nodes, crate::proofs::Lists::setters), unfolding(jl_grammar::specs::Reader::accessor_at))]
+fn setter(alloc: Global, tokens: &Tokens, depth: u64, at: usize) -> Read<Entry>
+    requires { is_end (sign_at tokens.now at) ≡ false }
+    ensures { Gives (λ x. (view_entry x.0, x.1)) result (accessor_at tokens.now (deeper tokens.now depth)
+        (setter_by tokens.now (deeper tokens.now depth)) at) }
+{
+    let name = tokens.after(at);
+    if is_colon(tokens.sign(name)) {
+        return value(alloc, tokens, depth, at);
+    }
+    if !is_key(tokens.sign(name)) {
+        return Err(Stop::At(name));
+    }
+    let open = tokens.after(name);
+    let ((params, body), end) = rest(alloc, tokens, depth, open)?;
+    if params.len() != 1 {
+        return Err(Stop::At(open));
+    }
+    let function = Function {
+        number: 0,
+        name: None,
+        params,
+        body,
+        span: tokens.span(at, end),
+    };
+    Ok((Entry::Set(tokens.key(alloc, name)?, function), end))
+}
+
+#[cycle(parser)]
+#[tactic(auto, unfolding(jl_grammar::specs::Reader::entry_at, jl_grammar::specs::Reader::entry_by))]
+fn entry(alloc: Global, tokens: &Tokens, depth: u64, at: usize) -> Read<Entry>
+    ensures { Gives (λ x. (view_entry x.0, x.1)) result (entry_at tokens.now (deeper tokens.now depth) at) }
+{
+    match tokens.sign(at) {
+        Sign::Get => getter(alloc, tokens, depth, at),
+        Sign::Set => setter(alloc, tokens, depth, at),
+        _ => value(alloc, tokens, depth, at),
+    }
+}
+
+/// The properties of an object literal (11.1.5) and the `}` after them.
+#[cycle(parser)]
+#[tactic(auto, using(crate::proofs::Lists::entries_loop))]
+pub fn entries(alloc: Global, tokens: &Tokens, depth: u64, at: usize) -> Read<List<Entry>>
+    ensures { Gives (λ x. (view_entries x.0, x.1)) result (entries_from tokens.now (deeper tokens.now depth) (length tokens.now) at) }
+{
+    let mut entries = List::new(alloc);
+    let mut next = at;
+    let mut room = tokens.len();
+    'parts: loop {
+        if is_close_brace(tokens.sign(next)) {
+            return Ok((entries, tokens.after(next)));
+        }
+        if room == 0 {
+            return Err(Stop::At(next));
+        }
+        room -= 1;
+        let (e, end) = entry(alloc, tokens, depth, next)?;
+        entries.push(e)?;
+        let sign = tokens.sign(end);
+        if is_close_brace(sign) {
+            return Ok((entries, tokens.after(end)));
+        }
+        if !is_comma(sign) {
+            return Err(Stop::At(end));
+        }
+        next = tokens.after(end);
+    }
+}

@@ -1,0 +1,21 @@
+//! The parser (clauses 11 to 14): the program that a list of tokens is, or a place that shows why there is none.
+#![tactic(auto)]
+
+mod clauses;
+mod expressions;
+mod functions;
+mod loops;
+mod nodes;
+mod operators;
+mod primary;
+mod refusal;
+mod signs;
+mod statements;
+mod tokens;
+mod whole;
+
+pub use refusal::ParseRefusal;
+pub use whole::parse;
+
+#[cfg(test)]
+mod tests;

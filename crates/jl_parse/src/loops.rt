@@ -1,0 +1,162 @@
+//! The `for` statements (12.6.3, 12.6.4).
+#![tactic(auto, using(jl_ast::proofs::Views::nodes))]
+
+ghost use Rattle.std.specs.Prelude.{◌≡◌, ◌&&◌, false, suc, true};
+ghost use Rattle.jl_ast.specs.View.{view_expression, view_ident, view_init, view_maybe};
+ghost use Rattle.jl_grammar.specs.Next.{is_identifier, is_semicolon};
+ghost use Rattle.jl_grammar.specs.Reader.{deeper, for_at, for_expression_at, for_from, for_in_from, for_var_at, is_close_paren, is_in, maybe_at, name_of};
+ghost use Rattle.jl_grammar.specs.Tokens.{sign_at};
+ghost use Rattle.jl_parse.specs.Steps.{Gives, GivesStatement, is_end};
+
+use crate::expressions::expression;
+use crate::refusal::{Read, Stop};
+use crate::signs::{is_close_paren, is_identifier, is_in, is_open_paren, is_semicolon, is_var};
+use crate::statements::{declarators, sub};
+use crate::tokens::Tokens;
+use jl_ast::{Expr, ExprKind, ForInit, Ident, Stmt, StmtKind};
+use std::alloc::Global;
+
+// An expression, or none before a semicolon.
+#[cycle(parser)]
+#[tactic(auto, unfolding(jl_grammar::specs::Reader::maybe_at))]
+fn until_semicolon(alloc: Global, tokens: &Tokens, depth: u64, at: usize) -> Read<Option<Expr>>
+    ensures { Gives (λ x. (view_maybe x.0, x.1)) result (maybe_at tokens.now (deeper tokens.now depth) is_semicolon at) }
+{
+    if is_semicolon(tokens.sign(at)) {
+        return Ok((None, at));
+    }
+    let (e, end) = expression(alloc, tokens, depth, false, at)?;
+    Ok((Some(Box::into_inner(e)), end))
+}
+
+// An expression, or none before a `)`.
+#[cycle(parser)]
+#[tactic(auto, unfolding(jl_grammar::specs::Reader::maybe_at))]
+fn until_close(alloc: Global, tokens: &Tokens, depth: u64, at: usize) -> Read<Option<Expr>>
+    ensures { Gives (λ x. (view_maybe x.0, x.1)) result (maybe_at tokens.now (deeper tokens.now depth) is_close_paren at) }
+{
+    if is_close_paren(tokens.sign(at)) {
+        return Ok((None, at));
+    }
+    let (e, end) = expression(alloc, tokens, depth, false, at)?;
+    Ok((Some(Box::into_inner(e)), end))
+}
+
+// A `for` from its first semicolon on.
+#[cycle(parser)]
+#[tactic(auto, using(jl_ast::proofs::Views::nodes), unfolding(jl_grammar::specs::Reader::for_from))]
+fn for_rest(alloc: Global, tokens: &Tokens, depth: u64, at: usize, init: ForInit, end: usize) -> Read<Stmt>
+    ensures { GivesStatement result (for_from tokens.now (deeper tokens.now depth) at (view_init init, end)) }
+{
+    if !is_semicolon(tokens.sign(end)) {
+        return Err(Stop::At(end));
+    }
+    let (test, end) = until_semicolon(alloc, tokens, depth, tokens.after(end))?;
+    if !is_semicolon(tokens.sign(end)) {
+        return Err(Stop::At(end));
+    }
+    let (step, end) = until_close(alloc, tokens, depth, tokens.after(end))?;
+    if !is_close_paren(tokens.sign(end)) {
+        return Err(Stop::At(end));
+    }
+    let (body, end) = sub(alloc, tokens, depth, tokens.after(end))?;
+    let kind = StmtKind::For(init, test, step, body);
+    let span = tokens.span(at, end);
+    Ok((Stmt { kind, span }, end))
+}
+
+// A `for` after its `in`, which stands before `next`.
+#[cycle(parser)]
+#[tactic(auto, using(jl_ast::proofs::Views::nodes), unfolding(jl_grammar::specs::Reader::for_in_from))]
+fn for_in_rest(alloc: Global, tokens: &Tokens, depth: u64, at: usize, is_var: bool, name: Ident, next: usize) -> Read<Stmt>
+    ensures { GivesStatement result (for_in_from tokens.now (deeper tokens.now depth) at is_var (view_ident name) next) }
+{
+    let (object, end) = expression(alloc, tokens, depth, false, next)?;
+    if !is_close_paren(tokens.sign(end)) {
+        return Err(Stop::At(end));
+    }
+    let (body, end) = sub(alloc, tokens, depth, tokens.after(end))?;
+    let kind = StmtKind::ForIn {
+        is_var,
+        name,
+        object: Box::into_inner(object),
+        body,
+    };
+    let span = tokens.span(at, end);
+    Ok((Stmt { kind, span }, end))
+}
+
+// Whether a name and an `in` stand there.
+fn is_name_in(tokens: &Tokens, at: usize) -> bool
+    ensures is { result ≡ (is_identifier (sign_at tokens.now at) && is_in (sign_at tokens.now (suc at))) }
+    ensures first { result ≡ true → is_end (sign_at tokens.now at) ≡ false }
+    ensures second { result ≡ true → is_end (sign_at tokens.now (suc at)) ≡ false }
+{
+    is_identifier(tokens.sign(at)) && is_in(tokens.sign(tokens.after(at)))
+}
+
+// A `for` whose head begins with a `var`, which stands at `var`.
+#[cycle(parser)]
+#[tactic(auto, using(jl_ast::proofs::Views::nodes), unfolding(jl_grammar::specs::Reader::for_var_at))]
+fn for_var(alloc: Global, tokens: &Tokens, depth: u64, at: usize, var: usize) -> Read<Stmt>
+    requires place { var ≡ suc (suc at) }
+    requires there { is_end (sign_at tokens.now var) ≡ false }
+    ensures { GivesStatement result (for_var_at tokens.now (deeper tokens.now depth) at) }
+{
+    let first = tokens.after(var);
+    if is_name_in(tokens, first) {
+        let name = tokens.ident(alloc, first)?;
+        let next = tokens.after(tokens.after(first));
+        return for_in_rest(alloc, tokens, depth, at, true, name, next);
+    }
+    let (declarators, end) = declarators(alloc, tokens, depth, true, first)?;
+    for_rest(alloc, tokens, depth, at, ForInit::Var(declarators), end)
+}
+
+// The name that an expression is; where it is none, nothing can be read at the token with index `at`.
+fn name(e: Box<Expr>, at: usize) -> Result<Ident, Stop>
+    ensures { Gives view_ident result (name_of (view_expression e.value)) }
+{
+    let Expr { kind, span } = Box::into_inner(e);
+    match kind {
+        ExprKind::Name(text) => Ok(Ident { text, span }),
+        _ => Err(Stop::At(at)),
+    }
+}
+
+// A `for` whose head begins with an expression, which stands at `first`.
+#[cycle(parser)]
+#[tactic(auto, using(jl_ast::proofs::Views::nodes), unfolding(jl_grammar::specs::Reader::for_expression_at))]
+fn for_expression(alloc: Global, tokens: &Tokens, depth: u64, at: usize, first: usize) -> Read<Stmt>
+    requires { first ≡ suc (suc at) }
+    ensures { GivesStatement result (for_expression_at tokens.now (deeper tokens.now depth) at) }
+{
+    let (e, end) = expression(alloc, tokens, depth, true, first)?;
+    if is_in(tokens.sign(end)) {
+        let name = name(e, end)?;
+        return for_in_rest(alloc, tokens, depth, at, false, name, tokens.after(end));
+    }
+    for_rest(alloc, tokens, depth, at, ForInit::Expr(Box::into_inner(e)), end)
+}
+
+/// A `for` statement (12.6.3, 12.6.4).
+#[cycle(parser)]
+#[tactic(auto, using(jl_ast::proofs::Views::nodes), unfolding(jl_grammar::specs::Reader::for_at))]
+pub fn for_statement(alloc: Global, tokens: &Tokens, depth: u64, at: usize) -> Read<Stmt>
+    requires { is_end (sign_at tokens.now at) ≡ false }
+    ensures { GivesStatement result (for_at tokens.now (deeper tokens.now depth) at) }
+{
+    let open = tokens.after(at);
+    if !is_open_paren(tokens.sign(open)) {
+        return Err(Stop::At(open));
+    }
+    let first = tokens.after(open);
+    let sign = tokens.sign(first);
+    if is_semicolon(sign) {
+        return for_rest(alloc, tokens, depth, at, ForInit::Nothing, first);
+    }
+    if is_var(sign) {
+        return for_var(alloc, tokens, depth, at, first);
+    }
+    for_expression(alloc, tokens, depth, at, first)
+}

@@ -1,0 +1,284 @@
+//! Primary expressions, members, calls and `new` (11.1, 11.2).
+ghost use Rattle.std.specs.Prelude.{◌≡◌, suc, false, true, length, Some};
+ghost use Rattle.jl_ast.specs.View.{view_expression, view_expression_kind, view_expressions, view_items};
+ghost use Rattle.jl_grammar.specs.Reader.{deeper, head_at, primary_at, primary_by, items_from, arguments_at, arguments_from, new_at, start_at, left_at, left_by};
+ghost use Rattle.jl_grammar.specs.Tokens.{sign_at, span};
+ghost use Rattle.jl_grammar.specs.declared.sign.Sign.TheVariants as Sign;
+ghost use Rattle.jl_parse.specs.Steps.{Gives, GivesExpression, is_end};
+
+use crate::expressions::{expression, inner_assignment};
+use crate::functions::{entries, function_expression};
+use crate::nodes::node;
+use crate::operators::continues_left;
+use crate::refusal::{Read, Stop};
+use crate::signs::{is_close_bracket, is_close_paren, is_comma, is_name, is_new, is_open_paren};
+use crate::tokens::Tokens;
+use jl_ast::{Expr, ExprKind};
+use jl_grammar::{Sign, Word};
+use jl_text::List;
+use jl_token::Punct;
+use std::alloc::Global;
+
+/// An expression in parentheses.
+#[cycle(parser)]
+#[tactic(auto, unfolding(jl_grammar::specs::Reader::head_at, jl_grammar::specs::Reader::closed))]
+pub fn head(alloc: Global, tokens: &Tokens, depth: u64, at: usize) -> Read<Box<Expr>>
+    ensures { GivesExpression result (head_at tokens.now (deeper tokens.now depth) at) }
+{
+    if !is_open_paren(tokens.sign(at)) {
+        return Err(Stop::At(at));
+    }
+    let (e, end) = expression(alloc, tokens, depth, false, tokens.after(at))?;
+    if is_close_paren(tokens.sign(end)) {
+        Ok((e, tokens.after(end)))
+    } else {
+        Err(Stop::At(end))
+    }
+}
+
+// An expression that is one token.
+#[tactic(auto, using(jl_ast::proofs::Views::nodes))]
+fn token(alloc: Global, tokens: &Tokens, at: usize, kind: ExprKind) -> Read<Box<Expr>>
+    requires { is_end (sign_at tokens.now at) ≡ false }
+    ensures { GivesExpression result (Some (view_expression_kind kind (span tokens.now at (suc at)), suc at)) }
+{
+    let next = tokens.after(at);
+    Ok((node(alloc, kind, tokens.span(at, next))?, next))
+}
+
+// The items of an array literal (11.1.4) and the `]` after them.
+#[cycle(parser)]
+#[tactic(auto, using(crate::proofs::Turns::items_loop))]
+fn items(alloc: Global, tokens: &Tokens, depth: u64, at: usize) -> Read<List<Option<Expr>>>
+    ensures { Gives (λ x. (view_items x.0, x.1)) result (items_from tokens.now (deeper tokens.now depth) (length tokens.now) at) }
+{
+    let mut items = List::new(alloc);
+    let mut next = at;
+    let mut room = tokens.len();
+    'parts: loop {
+        let sign = tokens.sign(next);
+        if is_close_bracket(sign) {
+            return Ok((items, tokens.after(next)));
+        }
+        if room == 0 {
+            return Err(Stop::At(next));
+        }
+        room -= 1;
+        if is_comma(sign) {
+            items.push(None)?;
+            next = tokens.after(next);
+        } else {
+            let (e, end) = inner_assignment(alloc, tokens, depth, false, next)?;
+            items.push(Some(Box::into_inner(e)))?;
+            let sign = tokens.sign(end);
+            if is_close_bracket(sign) {
+                return Ok((items, tokens.after(end)));
+            }
+            if !is_comma(sign) {
+                return Err(Stop::At(end));
+            }
+            next = tokens.after(end);
+        }
+    }
+}
+
+// A primary expression (11.1) that begins with a punctuator.
+#[cycle(parser)]
+#[tactic(auto, using(jl_ast::proofs::Views::nodes), unfolding(jl_grammar::specs::Reader::primary_by, jl_grammar::specs::Reader::head_at))]
+fn punct_primary(alloc: Global, tokens: &Tokens, depth: u64, at: usize, punct: Punct) -> Read<Box<Expr>>
+    requires { sign_at tokens.now at ≡ Sign.Punct punct }
+    ensures { GivesExpression result (primary_by tokens.now (deeper tokens.now depth) at (Sign.Punct punct)) }
+{
+    match punct {
+        Punct::LeftParen => head(alloc, tokens, depth, at),
+        Punct::LeftBracket => {
+            let (items, end) = items(alloc, tokens, depth, tokens.after(at))?;
+            let kind = ExprKind::Array(items);
+            Ok((node(alloc, kind, tokens.span(at, end))?, end))
+        }
+        Punct::LeftBrace => {
+            let (entries, end) = entries(alloc, tokens, depth, tokens.after(at))?;
+            let kind = ExprKind::Object(entries);
+            Ok((node(alloc, kind, tokens.span(at, end))?, end))
+        }
+        _ => Err(Stop::At(at)),
+    }
+}
+
+// A primary expression (11.1) that begins with a reserved word.
+#[cycle(parser)]
+#[tactic(auto, using(jl_ast::proofs::Views::nodes), unfolding(jl_grammar::specs::Reader::primary_by))]
+fn word_primary(alloc: Global, tokens: &Tokens, depth: u64, at: usize, word: Word) -> Read<Box<Expr>>
+    requires { sign_at tokens.now at ≡ Sign.Word word }
+    ensures { GivesExpression result (primary_by tokens.now (deeper tokens.now depth) at (Sign.Word word)) }
+{
+    match word {
+        Word::This => token(alloc, tokens, at, ExprKind::This),
+        Word::Null => token(alloc, tokens, at, ExprKind::Null),
+        Word::True => token(alloc, tokens, at, ExprKind::Bool(true)),
+        Word::False => token(alloc, tokens, at, ExprKind::Bool(false)),
+        Word::Function => function_expression(alloc, tokens, depth, at),
+        _ => Err(Stop::At(at)),
+    }
+}
+
+// A primary expression (11.1).
+#[cycle(parser)]
+#[tactic(auto, using(jl_ast::proofs::Views::nodes), unfolding(jl_grammar::specs::Reader::primary_at, jl_grammar::specs::Reader::primary_by))]
+fn primary(alloc: Global, tokens: &Tokens, depth: u64, at: usize) -> Read<Box<Expr>>
+    ensures { GivesExpression result (primary_at tokens.now (deeper tokens.now depth) at) }
+{
+    match tokens.sign(at) {
+        Sign::Punct(punct) => punct_primary(alloc, tokens, depth, at, punct),
+        Sign::Word(word) => word_primary(alloc, tokens, depth, at, word),
+        Sign::Identifier | Sign::Get | Sign::Set => {
+            let name = tokens.text(alloc, at)?;
+            token(alloc, tokens, at, ExprKind::Name(name))
+        }
+        Sign::Number => token(alloc, tokens, at, ExprKind::Num(tokens.number(at))),
+        Sign::Str => {
+            let text = tokens.text(alloc, at)?;
+            token(alloc, tokens, at, ExprKind::Str(text))
+        }
+        Sign::EscapedWord | Sign::End => Err(Stop::At(at)),
+    }
+}
+
+// The arguments of a call (11.2) after its `(`, of which there is one at least, and the `)` after them.
+#[cycle(parser)]
+#[tactic(auto, using(crate::proofs::Turns::arguments_loop))]
+fn some_arguments(alloc: Global, tokens: &Tokens, depth: u64, at: usize) -> Read<List<Expr>>
+    ensures { Gives (λ x. (view_expressions x.0, x.1)) result (arguments_from tokens.now (deeper tokens.now depth) (length tokens.now) at) }
+{
+    let mut arguments = List::new(alloc);
+    let mut next = at;
+    let mut room = tokens.len();
+    'parts: loop {
+        if room == 0 {
+            return Err(Stop::At(next));
+        }
+        room -= 1;
+        let (e, end) = inner_assignment(alloc, tokens, depth, false, next)?;
+        arguments.push(Box::into_inner(e))?;
+        let sign = tokens.sign(end);
+        if is_close_paren(sign) {
+            return Ok((arguments, tokens.after(end)));
+        }
+        if !is_comma(sign) {
+            return Err(Stop::At(end));
+        }
+        next = tokens.after(end);
+    }
+}
+
+// The arguments of a call (11.2) after its `(`, and the `)` after them.
+#[cycle(parser)]
+#[tactic(auto, unfolding(jl_grammar::specs::Reader::arguments_at))]
+fn arguments(alloc: Global, tokens: &Tokens, depth: u64, at: usize) -> Read<List<Expr>>
+    ensures { Gives (λ x. (view_expressions x.0, x.1)) result (arguments_at tokens.now (deeper tokens.now depth) at) }
+{
+    if is_close_paren(tokens.sign(at)) {
+        Ok((List::new(alloc), tokens.after(at)))
+    } else {
+        some_arguments(alloc, tokens, depth, at)
+    }
+}
+
+// `new` with its operand, and its arguments if there are any (11.2).
+#[cycle(parser)]
+#[tactic(auto, using(jl_ast::proofs::Views::nodes), unfolding(jl_grammar::specs::Reader::new_at))]
+fn new_expression(alloc: Global, tokens: &Tokens, depth: u64, at: usize) -> Read<Box<Expr>>
+    requires { is_end (sign_at tokens.now at) ≡ false }
+    ensures { GivesExpression result (new_at tokens.now (deeper tokens.now depth) at) }
+{
+    let (callee, end) = member(alloc, tokens, depth, tokens.after(at))?;
+    if is_open_paren(tokens.sign(end)) {
+        let (arguments, end) = arguments(alloc, tokens, depth, tokens.after(end))?;
+        let kind = ExprKind::New(callee, arguments);
+        Ok((node(alloc, kind, tokens.span(at, end))?, end))
+    } else {
+        let kind = ExprKind::New(callee, List::new(alloc));
+        Ok((node(alloc, kind, tokens.span(at, end))?, end))
+    }
+}
+
+// A MemberExpression (11.2) one level deeper.
+#[cycle(parser)]
+#[tactic(auto, using(crate::proofs::Levels::levels))]
+fn member(alloc: Global, tokens: &Tokens, depth: u64, at: usize) -> Read<Box<Expr>>
+    ensures { GivesExpression result ((deeper tokens.now depth).member at) }
+{
+    if depth == 0 {
+        return Err(Stop::At(at));
+    }
+    left(alloc, tokens, depth - 1, false, at)
+}
+
+#[cycle(parser)]
+#[tactic(auto, unfolding(jl_grammar::specs::Reader::start_at))]
+fn start(alloc: Global, tokens: &Tokens, depth: u64, at: usize) -> Read<Box<Expr>>
+    ensures { GivesExpression result (start_at tokens.now (deeper tokens.now depth) at) }
+{
+    if is_new(tokens.sign(at)) {
+        new_expression(alloc, tokens, depth, at)
+    } else {
+        primary(alloc, tokens, depth, at)
+    }
+}
+
+// A member or a call of an expression that began at `at` and ends before `end` (11.2); no more where none follows.
+#[cycle(parser)]
+#[tactic(auto, using(jl_ast::proofs::Views::nodes), unfolding(jl_grammar::specs::Reader::left_by))]
+fn longer(alloc: Global, tokens: &Tokens, depth: u64, at: usize, left: Box<Expr>, end: usize) -> Read<Box<Expr>>
+    ensures { GivesExpression result (left_by tokens.now (deeper tokens.now depth) true (λ t j. Some (t, j)) at (view_expression left.value) end (sign_at tokens.now end)) }
+{
+    match tokens.sign(end) {
+        Sign::Punct(Punct::Dot) => {
+            let name = tokens.after(end);
+            if !is_name(tokens.sign(name)) {
+                return Err(Stop::At(name));
+            }
+            let next = tokens.after(name);
+            let kind = ExprKind::Dot(left, tokens.text(alloc, name)?);
+            Ok((node(alloc, kind, tokens.span(at, next))?, next))
+        }
+        Sign::Punct(Punct::LeftBracket) => {
+            let (key, end) = expression(alloc, tokens, depth, false, tokens.after(end))?;
+            if !is_close_bracket(tokens.sign(end)) {
+                return Err(Stop::At(end));
+            }
+            let next = tokens.after(end);
+            let kind = ExprKind::Index(left, key);
+            Ok((node(alloc, kind, tokens.span(at, next))?, next))
+        }
+        Sign::Punct(Punct::LeftParen) => {
+            let (arguments, next) = arguments(alloc, tokens, depth, tokens.after(end))?;
+            let kind = ExprKind::Call(left, arguments);
+            Ok((node(alloc, kind, tokens.span(at, next))?, next))
+        }
+        _ => Ok((left, end)),
+    }
+}
+
+/// A MemberExpression, and with `calls` a LeftHandSideExpression (11.2).
+#[cycle(parser)]
+#[tactic(auto, using(jl_ast::proofs::Views::nodes, crate::proofs::Turns::left_loop), unfolding(jl_grammar::specs::Reader::left_at))]
+pub fn left(alloc: Global, tokens: &Tokens, depth: u64, calls: bool, at: usize) -> Read<Box<Expr>>
+    ensures { GivesExpression result (left_at tokens.now (deeper tokens.now depth) calls depth at) }
+{
+    let (mut left, mut end) = start(alloc, tokens, depth, at)?;
+    let mut room = depth;
+    'parts: loop {
+        let sign = tokens.sign(end);
+        if !continues_left(sign, calls) {
+            return Ok((left, end));
+        }
+        if room == 0 {
+            return Err(Stop::At(end));
+        }
+        room -= 1;
+        let (more, next) = longer(alloc, tokens, depth, at, left, end)?;
+        left = more;
+        end = next;
+    }
+}

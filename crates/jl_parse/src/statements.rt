@@ -1,0 +1,438 @@
+//! Statements (clause 12) but those with a head of three parts and those with clauses.
+#![tactic(auto, using(jl_ast::proofs::Views::nodes))]
+
+ghost use Rattle.std.specs.Prelude.{◌≡◌, false, length, option_map, suc, true};
+ghost use Rattle.jl_ast.specs.Tree as tree;
+ghost use Rattle.jl_ast.specs.View.{view_declarator, view_declarators, view_ident, view_statement, view_statements};
+ghost use Rattle.jl_grammar.specs.Next.{is_colon};
+ghost use Rattle.jl_grammar.specs.Reader.{Deeper, block_at, break_at, continue_at, declaration_at, declarations_from, deeper, do_at, ends_at, express_at, if_at, label_at, named_at, return_at, statement_by, statements_from, sub_at, throw_at, var_at, while_at};
+ghost use Rattle.jl_grammar.specs.Tokens.{sign_at, span};
+ghost use Rattle.jl_grammar.specs.declared.sign.Sign.TheVariants as Sign;
+ghost use Rattle.jl_grammar.specs.declared.word.Word.TheVariants as Word;
+ghost use Rattle.jl_token.specs.declared.punct.Punct.TheVariants as Punct;
+ghost use Rattle.jl_parse.specs.Steps.{Gives, GivesStatement, is_end};
+
+use crate::clauses::{switch_statement, try_statement};
+use crate::expressions::{expression, inner_assignment};
+use crate::loops::for_statement;
+use crate::nodes::labelled;
+use crate::primary::head;
+use crate::refusal::{Read, Stop};
+use crate::signs::{
+    ends_list, ends_statement, is_close_brace, is_colon, is_comma, is_else, is_equals,
+    is_identifier, is_open_brace, is_semicolon, is_while,
+};
+use crate::tokens::Tokens;
+use jl_ast::{Expr, Ident, Stmt, StmtKind};
+use jl_grammar::{Sign, Word};
+use jl_text::List;
+use jl_token::Punct;
+use std::alloc::Global;
+
+/// The place after a semicolon that is there or is inserted (7.9.1).
+#[tactic(auto, unfolding(jl_grammar::specs::Reader::ends_at))]
+pub fn ends(tokens: &Tokens, at: usize) -> Option<usize>
+    ensures { result ≡ ends_at tokens.now at }
+{
+    let sign = tokens.sign(at);
+    if is_semicolon(sign) {
+        return Some(tokens.after(at));
+    }
+    if ends_statement(sign) || tokens.line_before(at) {
+        Some(at)
+    } else {
+        None
+    }
+}
+
+// The statements up to what ends their list.
+#[cycle(parser)]
+#[tactic(auto, using(crate::proofs::Lists::statements_loop))]
+pub fn statements(alloc: Global, tokens: &Tokens, depth: u64, at: usize) -> Read<List<Stmt>>
+    ensures { Gives (λ x. (view_statements x.0, x.1)) result (statements_from tokens.now (deeper tokens.now depth) (length tokens.now) at) }
+{
+    let mut statements = List::new(alloc);
+    let mut next = at;
+    let mut room = tokens.len();
+    'parts: loop {
+        if ends_list(tokens.sign(next)) {
+            return Ok((statements, next));
+        }
+        if room == 0 {
+            return Err(Stop::At(next));
+        }
+        room -= 1;
+        let (s, end) = statement(alloc, tokens, depth, next)?;
+        statements.push(s)?;
+        next = end;
+    }
+}
+
+/// The statements between `{` and `}` (12.1).
+#[cycle(parser)]
+#[tactic(auto, unfolding(jl_grammar::specs::Reader::block_at))]
+pub fn block(alloc: Global, tokens: &Tokens, depth: u64, at: usize) -> Read<List<Stmt>>
+    ensures { Gives (λ x. (view_statements x.0, x.1)) result (block_at tokens.now (deeper tokens.now depth) at) }
+{
+    if !is_open_brace(tokens.sign(at)) {
+        return Err(Stop::At(at));
+    }
+    let (body, end) = statements(alloc, tokens, depth, tokens.after(at))?;
+    if is_close_brace(tokens.sign(end)) {
+        Ok((body, tokens.after(end)))
+    } else {
+        Err(Stop::At(end))
+    }
+}
+
+/// A statement under another: the statements of a block, or the one statement.
+#[cycle(parser)]
+#[tactic(auto, unfolding(jl_grammar::specs::Reader::sub_at))]
+pub fn sub(alloc: Global, tokens: &Tokens, depth: u64, at: usize) -> Read<List<Stmt>>
+    ensures { Gives (λ x. (view_statements x.0, x.1)) result (sub_at tokens.now (deeper tokens.now depth) at) }
+{
+    if is_open_brace(tokens.sign(at)) {
+        return block(alloc, tokens, depth, at);
+    }
+    let (s, end) = statement(alloc, tokens, depth, at)?;
+    let mut body = List::new(alloc);
+    body.push(s)?;
+    Ok((body, end))
+}
+
+// A variable with its initialiser (12.2).
+#[cycle(parser)]
+#[tactic(auto, unfolding(jl_grammar::specs::Reader::declaration_at))]
+fn declarator(alloc: Global, tokens: &Tokens, depth: u64, no_in: bool, at: usize) -> Read<(Ident, Option<Expr>)>
+    ensures { Gives (λ x. (view_declarator x.0, x.1)) result (declaration_at tokens.now (deeper tokens.now depth) no_in at) }
+{
+    if !is_identifier(tokens.sign(at)) {
+        return Err(Stop::At(at));
+    }
+    let name = tokens.ident(alloc, at)?;
+    let end = tokens.after(at);
+    if is_equals(tokens.sign(end)) {
+        let (e, end) = inner_assignment(alloc, tokens, depth, no_in, tokens.after(end))?;
+        Ok(((name, Some(Box::into_inner(e))), end))
+    } else {
+        Ok(((name, None), end))
+    }
+}
+
+/// The variables of a `var` (12.2).
+#[cycle(parser)]
+#[tactic(auto, using(crate::proofs::Lists::declarations_loop))]
+pub fn declarators(alloc: Global, tokens: &Tokens, depth: u64, no_in: bool, at: usize) -> Read<List<(Ident, Option<Expr>)>>
+    ensures { Gives (λ x. (view_declarators x.0, x.1)) result (declarations_from tokens.now (deeper tokens.now depth) no_in (length tokens.now) at) }
+{
+    let mut declarators = List::new(alloc);
+    let mut next = at;
+    let mut room = tokens.len();
+    'parts: loop {
+        if room == 0 {
+            return Err(Stop::At(next));
+        }
+        room -= 1;
+        let (d, end) = declarator(alloc, tokens, depth, no_in, next)?;
+        declarators.push(d)?;
+        if !is_comma(tokens.sign(end)) {
+            return Ok((declarators, end));
+        }
+        next = tokens.after(end);
+    }
+}
+
+// A `var` statement (12.2).
+#[cycle(parser)]
+#[tactic(auto, using(jl_ast::proofs::Views::nodes), unfolding(jl_grammar::specs::Reader::var_at))]
+fn var_statement(alloc: Global, tokens: &Tokens, depth: u64, at: usize) -> Read<Stmt>
+    requires { is_end (sign_at tokens.now at) ≡ false }
+    ensures { GivesStatement result (var_at tokens.now (deeper tokens.now depth) at) }
+{
+    let (declarators, end) = declarators(alloc, tokens, depth, false, tokens.after(at))?;
+    let Some(next) = ends(tokens, end) else {
+        return Err(Stop::At(end));
+    };
+    let kind = StmtKind::Var(declarators);
+    let span = tokens.span(at, next);
+    Ok((Stmt { kind, span }, next))
+}
+
+// An expression statement (12.4).
+#[cycle(parser)]
+#[tactic(auto, using(jl_ast::proofs::Views::nodes), unfolding(jl_grammar::specs::Reader::express_at))]
+fn expression_statement(alloc: Global, tokens: &Tokens, depth: u64, at: usize) -> Read<Stmt>
+    ensures { GivesStatement result (express_at tokens.now (deeper tokens.now depth) at) }
+{
+    let (e, end) = expression(alloc, tokens, depth, false, at)?;
+    let Some(next) = ends(tokens, end) else {
+        return Err(Stop::At(end));
+    };
+    let kind = StmtKind::Expr(Box::into_inner(e));
+    let span = tokens.span(at, next);
+    Ok((Stmt { kind, span }, next))
+}
+
+// An `if` statement (12.5).
+#[cycle(parser)]
+#[tactic(auto, using(jl_ast::proofs::Views::nodes), unfolding(jl_grammar::specs::Reader::if_at, jl_grammar::specs::Reader::else_from))]
+fn if_statement(alloc: Global, tokens: &Tokens, depth: u64, at: usize) -> Read<Stmt>
+    requires { is_end (sign_at tokens.now at) ≡ false }
+    ensures { GivesStatement result (if_at tokens.now (deeper tokens.now depth) at) }
+{
+    let (test, end) = head(alloc, tokens, depth, tokens.after(at))?;
+    let (body, end) = sub(alloc, tokens, depth, end)?;
+    if is_else(tokens.sign(end)) {
+        let (other, end) = sub(alloc, tokens, depth, tokens.after(end))?;
+        let kind = StmtKind::If(Box::into_inner(test), body, Some(other));
+        let span = tokens.span(at, end);
+        Ok((Stmt { kind, span }, end))
+    } else {
+        let kind = StmtKind::If(Box::into_inner(test), body, None);
+        let span = tokens.span(at, end);
+        Ok((Stmt { kind, span }, end))
+    }
+}
+
+// A `do` statement (12.6.1).
+#[cycle(parser)]
+#[tactic(auto, using(jl_ast::proofs::Views::nodes), unfolding(jl_grammar::specs::Reader::do_at))]
+fn do_statement(alloc: Global, tokens: &Tokens, depth: u64, at: usize) -> Read<Stmt>
+    requires { is_end (sign_at tokens.now at) ≡ false }
+    ensures { GivesStatement result (do_at tokens.now (deeper tokens.now depth) at) }
+{
+    let (body, end) = sub(alloc, tokens, depth, tokens.after(at))?;
+    if !is_while(tokens.sign(end)) {
+        return Err(Stop::At(end));
+    }
+    let (test, end) = head(alloc, tokens, depth, tokens.after(end))?;
+    let Some(after) = ends(tokens, end) else {
+        return Err(Stop::At(end));
+    };
+    let kind = StmtKind::DoWhile(body, Box::into_inner(test));
+    let span = tokens.span(at, after);
+    Ok((Stmt { kind, span }, after))
+}
+
+// A `while` statement (12.6.2).
+#[cycle(parser)]
+#[tactic(auto, using(jl_ast::proofs::Views::nodes), unfolding(jl_grammar::specs::Reader::while_at))]
+fn while_statement(alloc: Global, tokens: &Tokens, depth: u64, at: usize) -> Read<Stmt>
+    requires { is_end (sign_at tokens.now at) ≡ false }
+    ensures { GivesStatement result (while_at tokens.now (deeper tokens.now depth) at) }
+{
+    let (test, end) = head(alloc, tokens, depth, tokens.after(at))?;
+    let (body, end) = sub(alloc, tokens, depth, end)?;
+    let kind = StmtKind::While(Box::into_inner(test), body);
+    let span = tokens.span(at, end);
+    Ok((Stmt { kind, span }, end))
+}
+
+// The label of a `continue` or `break`, if there is one, and the end of the statement (12.7, 12.8).
+#[tactic(auto, unfolding(jl_grammar::specs::Reader::label_at))]
+fn label(alloc: Global, tokens: &Tokens, at: usize) -> Read<Option<Ident>>
+    ensures { Gives (λ x. (option_map view_ident x.0, x.1)) result (label_at tokens.now at) }
+{
+    if is_identifier(tokens.sign(at)) && !tokens.line_before(at) {
+        let end = tokens.after(at);
+        let Some(next) = ends(tokens, end) else {
+            return Err(Stop::At(end));
+        };
+        Ok((Some(tokens.ident(alloc, at)?), next))
+    } else {
+        let Some(next) = ends(tokens, at) else {
+            return Err(Stop::At(at));
+        };
+        Ok((None, next))
+    }
+}
+
+// A `continue` statement (12.7).
+#[tactic(auto, using(jl_ast::proofs::Views::nodes), unfolding(jl_grammar::specs::Reader::continue_at))]
+fn continue_statement(alloc: Global, tokens: &Tokens, at: usize) -> Read<Stmt>
+    requires { is_end (sign_at tokens.now at) ≡ false }
+    ensures { (d : Deeper) → GivesStatement result (continue_at tokens.now d at) }
+{
+    let (label, end) = label(alloc, tokens, tokens.after(at))?;
+    let kind = StmtKind::Continue(label);
+    let span = tokens.span(at, end);
+    Ok((Stmt { kind, span }, end))
+}
+
+// A `break` statement (12.8).
+#[tactic(auto, using(jl_ast::proofs::Views::nodes), unfolding(jl_grammar::specs::Reader::break_at))]
+fn break_statement(alloc: Global, tokens: &Tokens, at: usize) -> Read<Stmt>
+    requires { is_end (sign_at tokens.now at) ≡ false }
+    ensures { (d : Deeper) → GivesStatement result (break_at tokens.now d at) }
+{
+    let (label, end) = label(alloc, tokens, tokens.after(at))?;
+    let kind = StmtKind::Break(label);
+    let span = tokens.span(at, end);
+    Ok((Stmt { kind, span }, end))
+}
+
+// A `return` statement (12.9).
+#[cycle(parser)]
+#[tactic(auto, using(jl_ast::proofs::Views::nodes), unfolding(jl_grammar::specs::Reader::return_at, jl_grammar::specs::Reader::return_by))]
+fn return_statement(alloc: Global, tokens: &Tokens, depth: u64, at: usize) -> Read<Stmt>
+    requires { is_end (sign_at tokens.now at) ≡ false }
+    ensures { GivesStatement result (return_at tokens.now (deeper tokens.now depth) at) }
+{
+    let inside = tokens.after(at);
+    if let Some(next) = ends(tokens, inside) {
+        let span = tokens.span(at, next);
+        return Ok((
+            Stmt {
+                kind: StmtKind::Return(None),
+                span,
+            },
+            next,
+        ));
+    }
+    let (e, end) = expression(alloc, tokens, depth, false, inside)?;
+    let Some(next) = ends(tokens, end) else {
+        return Err(Stop::At(end));
+    };
+    let kind = StmtKind::Return(Some(Box::into_inner(e)));
+    let span = tokens.span(at, next);
+    Ok((Stmt { kind, span }, next))
+}
+
+// A `throw` statement (12.13).
+#[cycle(parser)]
+#[tactic(auto, using(jl_ast::proofs::Views::nodes), unfolding(jl_grammar::specs::Reader::throw_at))]
+fn throw_statement(alloc: Global, tokens: &Tokens, depth: u64, at: usize) -> Read<Stmt>
+    requires { is_end (sign_at tokens.now at) ≡ false }
+    ensures { GivesStatement result (throw_at tokens.now (deeper tokens.now depth) at) }
+{
+    let inside = tokens.after(at);
+    if tokens.line_before(inside) {
+        return Err(Stop::At(inside));
+    }
+    let (e, end) = expression(alloc, tokens, depth, false, inside)?;
+    let Some(next) = ends(tokens, end) else {
+        return Err(Stop::At(end));
+    };
+    let kind = StmtKind::Throw(Box::into_inner(e));
+    let span = tokens.span(at, next);
+    Ok((Stmt { kind, span }, next))
+}
+
+// A statement with a label (12.12), whose colon stands at `colon`.
+#[cycle(parser)]
+#[tactic(auto, unfolding(jl_grammar::specs::Reader::named_at))]
+fn labelled_statement(alloc: Global, tokens: &Tokens, depth: u64, at: usize, colon: usize) -> Read<Stmt>
+    requires place { colon ≡ suc at }
+    requires name { is_end (sign_at tokens.now at) ≡ false }
+    requires colon { is_colon (sign_at tokens.now colon) ≡ true }
+    requires there { is_end (sign_at tokens.now colon) ≡ false }
+    ensures { GivesStatement result (named_at tokens.now (deeper tokens.now depth) at) }
+{
+    let label = tokens.ident(alloc, at)?;
+    let (s, end) = statement(alloc, tokens, depth, tokens.after(colon))?;
+    let span = tokens.span(at, end);
+    Ok((labelled(alloc, label, s, span)?, end))
+}
+
+// A statement that begins with an identifier: with a label (12.12), or an expression.
+#[cycle(parser)]
+#[tactic(auto, unfolding(jl_grammar::specs::Reader::named_at))]
+fn named_statement(alloc: Global, tokens: &Tokens, depth: u64, at: usize) -> Read<Stmt>
+    requires { is_end (sign_at tokens.now at) ≡ false }
+    ensures { GivesStatement result (named_at tokens.now (deeper tokens.now depth) at) }
+{
+    let colon = tokens.after(at);
+    if is_colon(tokens.sign(colon)) {
+        labelled_statement(alloc, tokens, depth, at, colon)
+    } else {
+        expression_statement(alloc, tokens, depth, at)
+    }
+}
+
+// A block as a statement (12.1).
+#[cycle(parser)]
+#[tactic(auto, using(jl_ast::proofs::Views::nodes), unfolding(jl_grammar::specs::Reader::statement_by))]
+fn block_statement(alloc: Global, tokens: &Tokens, depth: u64, at: usize) -> Read<Stmt>
+    ensures { GivesStatement result (statement_by tokens.now (deeper tokens.now depth) at (Sign.Punct Punct.LeftBrace)) }
+{
+    let (body, end) = block(alloc, tokens, depth, at)?;
+    let kind = StmtKind::Block(body);
+    let span = tokens.span(at, end);
+    Ok((Stmt { kind, span }, end))
+}
+
+// The empty statement (12.3).
+fn empty_statement(tokens: &Tokens, at: usize) -> (Stmt, usize)
+    requires { is_end (sign_at tokens.now at) ≡ false }
+    ensures place { result.1 ≡ suc at }
+    ensures is { view_statement result.0 ≡ tree.empty (span tokens.now at (suc at)) }
+{
+    let end = tokens.after(at);
+    let span = tokens.span(at, end);
+    (
+        Stmt {
+            kind: StmtKind::Empty,
+            span,
+        },
+        end,
+    )
+}
+
+// A `debugger` statement (12.15).
+#[tactic(auto, using(jl_ast::proofs::Views::nodes), unfolding(jl_grammar::specs::Reader::statement_by))]
+fn debugger_statement(tokens: &Tokens, at: usize) -> Read<Stmt>
+    requires { is_end (sign_at tokens.now at) ≡ false }
+    ensures { (d : Deeper) → GivesStatement result (statement_by tokens.now d at (Sign.Word Word.Debugger)) }
+{
+    let end = tokens.after(at);
+    let Some(next) = ends(tokens, end) else {
+        return Err(Stop::At(end));
+    };
+    let kind = StmtKind::Debugger;
+    let span = tokens.span(at, next);
+    Ok((Stmt { kind, span }, next))
+}
+
+/// A statement (clause 12) one level deeper.
+#[cycle(parser)]
+#[tactic(auto, using(crate::proofs::Levels::levels), unfolding(jl_grammar::specs::Reader::statement_at, jl_grammar::specs::Reader::statement_by))]
+pub fn statement(alloc: Global, tokens: &Tokens, depth: u64, at: usize) -> Read<Stmt>
+    ensures { GivesStatement result ((deeper tokens.now depth).statement at) }
+{
+    if depth == 0 {
+        return Err(Stop::At(at));
+    }
+    let levels = depth - 1;
+    match tokens.sign(at) {
+        Sign::Punct(Punct::LeftBrace) => block_statement(alloc, tokens, levels, at),
+        Sign::Punct(Punct::Semicolon) => Ok(empty_statement(tokens, at)),
+        Sign::Identifier | Sign::Get | Sign::Set => named_statement(alloc, tokens, levels, at),
+        Sign::Word(word) => word_statement(alloc, tokens, levels, at, word),
+        _ => expression_statement(alloc, tokens, levels, at),
+    }
+}
+
+// A statement that begins with a reserved word.
+#[cycle(parser)]
+#[tactic(auto, unfolding(jl_grammar::specs::Reader::statement_by))]
+fn word_statement(alloc: Global, tokens: &Tokens, depth: u64, at: usize, word: Word) -> Read<Stmt>
+    requires { sign_at tokens.now at ≡ Sign.Word word }
+    ensures { GivesStatement result (statement_by tokens.now (deeper tokens.now depth) at (Sign.Word word)) }
+{
+    match word {
+        Word::Var => var_statement(alloc, tokens, depth, at),
+        Word::If => if_statement(alloc, tokens, depth, at),
+        Word::Do => do_statement(alloc, tokens, depth, at),
+        Word::While => while_statement(alloc, tokens, depth, at),
+        Word::For => for_statement(alloc, tokens, depth, at),
+        Word::Continue => continue_statement(alloc, tokens, at),
+        Word::Break => break_statement(alloc, tokens, at),
+        Word::Return => return_statement(alloc, tokens, depth, at),
+        Word::Switch => switch_statement(alloc, tokens, depth, at),
+        Word::Throw => throw_statement(alloc, tokens, depth, at),
+        Word::Try => try_statement(alloc, tokens, depth, at),
+        Word::Debugger => debugger_statement(tokens, at),
+        Word::Function => Err(Stop::At(at)),
+        _ => expression_statement(alloc, tokens, depth, at),
+    }
+}

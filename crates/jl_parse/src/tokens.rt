@@ -1,0 +1,325 @@
+//! The tokens at the places of a list, counted from 0.
+ghost use Rattle.std.specs.Prelude.{◌≡◌, ◌≤◌, [], ◌∷◌, length, IfOk, suc, false, true, option_map};
+ghost use Rattle.jl_ast.specs.View.{view_ident};
+ghost use Rattle.jl_grammar.specs.Tokens.{sign_at, line_at, text_at, number_at, key_at, strict_at, from_at, to_at, span, ident_at, key_ident_at};
+ghost use Rattle.jl_grammar.specs.Words.{same_text};
+ghost use Rattle.jl_grammar.specs.Program.{last_end};
+ghost use Rattle.jl_grammar.specs.Next.{continues_at, is_directive};
+ghost use Rattle.jl_grammar.specs.Operators.{joint, binary_operator, assign_operator};
+ghost use Rattle.jl_parse.specs.Steps.{is_end, joint_of};
+
+use crate::operators::{Joint, continues_left, update_op};
+use crate::signs::{is_comma, is_in, is_question};
+use jl_ast::{BinOp, Ident};
+use jl_grammar::{Sign, assign_op, binary_op, sign_of};
+use jl_num::{Num, digits};
+use jl_text::{Span, Text, TextFault};
+use jl_token::{Punct, Token, TokenKind};
+use std::alloc::{AllocError, Global};
+use std::marker::Model;
+
+/// A list of tokens, with what the grammar sees of each. Contracts see it as the list.
+#[derive(Drop)]
+pub struct Tokens<'a> {
+    tokens: &'a [Token],
+    signs: Vec<Sign>,
+}
+
+impl<'a> Model for Tokens<'a> {
+    ghost use Rattle.std.specs.Prelude.{◌≡◌, List, map};
+    ghost use Rattle.jl_grammar.specs.Signs.{sign_of};
+    ghost use Rattle.jl_token.specs.declared.token.Token.{Token};
+
+    ghost Value = { List Token };
+
+    ghost view = { λ it. it.tokens.now };
+
+    ghost invariant = { λ it. it.signs.items ≡ map (λ t. sign_of t.kind) it.tokens.now };
+}
+
+impl<'a> Tokens<'a> {
+    /// The list with these tokens.
+    pub fn new(alloc: Global, tokens: &'a [Token]) -> Result<Tokens<'a>, AllocError>
+        ensures { IfOk result (λ r. r ≡ tokens.now) }
+    {
+        let mut signs = Vec::with_capacity(alloc, tokens.len())?;
+        for token in tokens {
+            signs.push(sign_of(&token.kind))?;
+        }
+        Ok(Tokens { tokens, signs })
+    }
+
+    /// How many tokens there are.
+    pub fn len(&self) -> usize
+        ensures { result ≡ length self.now }
+    {
+        self.tokens.len()
+    }
+
+    /// What the token there is; past the last one the end.
+    pub fn sign(&self, at: usize) -> Sign
+        ensures { result ≡ sign_at self.now at }
+    {
+        match self.signs.get(at) {
+            Some(sign) => *sign,
+            None => Sign::End,
+        }
+    }
+
+    /// The place after a token that is there.
+    pub fn after(&self, at: usize) -> usize
+        requires { is_end (sign_at self.now at) ≡ false }
+        ensures { result ≡ suc at }
+    {
+        let _length = self.tokens.len();
+        at + 1
+    }
+
+    /// Whether a line ends before the token there.
+    pub fn line_before(&self, at: usize) -> bool
+        ensures { result ≡ line_at self.now at }
+    {
+        match self.tokens.get(at) {
+            Some(token) => token.line_before,
+            None => true,
+        }
+    }
+
+    /// Where the token there begins.
+    pub fn start(&self, at: usize) -> u32
+        ensures { result ≡ from_at self.now at }
+    {
+        match self.tokens.get(at) {
+            Some(token) => token.span.from,
+            None => 0,
+        }
+    }
+
+    /// Where the token there ends.
+    pub fn end(&self, at: usize) -> u32
+        ensures { result ≡ to_at self.now at }
+    {
+        match self.tokens.get(at) {
+            Some(token) => token.span.to,
+            None => 0,
+        }
+    }
+
+    /// The end of the last token, and 0 where there is none.
+    #[tactic(auto, using(crate::proofs::Places::end_is_last, crate::proofs::Places::none_is_last))]
+    pub fn last_end(&self) -> u32
+        ensures { result ≡ last_end self.now }
+    {
+        match self.tokens.len() {
+            0 => 0,
+            count => self.end(count - 1),
+        }
+    }
+
+    /// From the token at one place to the end of the last one before another.
+    pub fn span(&self, from: usize, to: usize) -> Span
+        ensures { result ≡ span self.now from to }
+    {
+        let start = self.start(from);
+        if to == 0 {
+            Span { from: start, to: 0 }
+        } else {
+            Span {
+                from: start,
+                to: self.end(to - 1),
+            }
+        }
+    }
+
+    /// The text of the token there, which is a name or a string; of any other the empty text.
+    pub fn text(&self, alloc: Global, at: usize) -> Result<Text, AllocError>
+        ensures { IfOk result (λ t. t ≡ text_at self.now at) }
+    {
+        match self.tokens.get(at) {
+            Some(token) => text_of(alloc, token),
+            None => short_text(alloc, &[]),
+        }
+    }
+
+    /// The number of the token there; of one that is no number NaN.
+    pub fn number(&self, at: usize) -> Num
+        ensures { result ≡ number_at self.now at }
+    {
+        match self.tokens.get(at) {
+            Some(token) => number_of(token),
+            None => Num::NAN,
+        }
+    }
+
+    /// The name that the token there is.
+    pub fn ident(&self, alloc: Global, at: usize) -> Result<Ident, AllocError>
+        requires { is_end (sign_at self.now at) ≡ false }
+        ensures { IfOk result (λ x. view_ident x ≡ ident_at self.now at) }
+    {
+        let span = self.span(at, self.after(at));
+        Ok(Ident {
+            text: self.text(alloc, at)?,
+            span,
+        })
+    }
+
+    /// The key that the token there is (11.1.5): a number stands for its digits.
+    pub fn key(&self, alloc: Global, at: usize) -> Result<Ident, AllocError>
+        requires { is_end (sign_at self.now at) ≡ false }
+        ensures { IfOk result (λ x. view_ident x ≡ key_ident_at self.now at) }
+    {
+        let span = self.span(at, self.after(at));
+        Ok(Ident {
+            text: self.key_text(alloc, at)?,
+            span,
+        })
+    }
+
+    fn key_text(&self, alloc: Global, at: usize) -> Result<Text, AllocError>
+        ensures { IfOk result (λ t. t ≡ key_at self.now at) }
+    {
+        match self.tokens.get(at) {
+            Some(token) => key_of(alloc, token),
+            None => short_text(alloc, &[]),
+        }
+    }
+
+    /// Whether the token there is the directive of strict code (14.1).
+    pub fn is_strict(&self, at: usize) -> bool
+        ensures { result ≡ strict_at self.now at }
+    {
+        match self.tokens.get(at) {
+            Some(token) => is_use_strict(token),
+            None => false,
+        }
+    }
+
+    /// What the token there is between two operands; `in` is nothing where the grammar says NoIn (11.8).
+    pub fn joint(&self, at: usize, no_in: bool) -> Option<Joint>
+        ensures { option_map joint_of result ≡ joint no_in (sign_at self.now at) }
+    {
+        let sign = self.sign(at);
+        if no_in && is_in(sign) {
+            return None;
+        }
+        match sign {
+            Sign::Punct(Punct::AndAnd) => Some(Joint::And),
+            Sign::Punct(Punct::OrOr) => Some(Joint::Or),
+            _ => self.binary_op(at).map(Joint::Plain),
+        }
+    }
+
+    /// The operator between two operands that the token there is.
+    fn binary_op(&self, at: usize) -> Option<BinOp>
+        ensures { result ≡ binary_operator (sign_at self.now at) }
+    {
+        match self.tokens.get(at) {
+            Some(token) => binary_op(&token.kind),
+            None => None,
+        }
+    }
+
+    /// The assignment operator that the token there is.
+    pub fn assign_op(&self, at: usize) -> Option<Option<BinOp>>
+        ensures { result ≡ assign_operator (sign_at self.now at) }
+    {
+        match self.tokens.get(at) {
+            Some(token) => assign_op(&token.kind),
+            None => None,
+        }
+    }
+
+    // Whether the token there continues an expression that is one token.
+    fn continues(&self, at: usize) -> bool
+        ensures { result ≡ continues_at self.now at }
+    {
+        let sign = self.sign(at);
+        continues_left(sign, true)
+            || (update_op(sign).is_some() && !self.line_before(at))
+            || self.joint(at, false).is_some()
+            || is_question(sign)
+            || self.assign_op(at).is_some()
+            || is_comma(sign)
+    }
+
+    /// Whether a directive (14.1) begins there.
+    pub fn is_directive(&self, at: usize) -> bool
+        ensures is { result ≡ is_directive self.now at }
+        ensures there { result ≡ true → is_end (sign_at self.now at) ≡ false }
+    {
+        match self.sign(at) {
+            Sign::Str => !self.continues(self.after(at)),
+            _ => false,
+        }
+    }
+}
+
+// The text of these few units: none, or the characters of a number. So few are never too many for a text.
+fn short_text(alloc: Global, units: &[u16]) -> Result<Text, AllocError>
+    ensures { IfOk result (λ t. t ≡ units.now) }
+{
+    match Text::from_units(alloc, units) {
+        Ok(text) => Ok(text),
+        Err(TextFault::NoMemory | TextFault::TooLong) => Err(AllocError),
+    }
+}
+
+fn text_of(alloc: Global, token: &Token) -> Result<Text, AllocError>
+    ensures { IfOk result (λ t. t ≡ text_at (token.now ∷ []) 0) }
+{
+    match &token.kind {
+        TokenKind::Name { text, .. } | TokenKind::Str { text, .. } => text.share(alloc),
+        _ => short_text(alloc, &[]),
+    }
+}
+
+fn number_of(token: &Token) -> Num
+    ensures { result ≡ number_at (token.now ∷ []) 0 }
+{
+    match &token.kind {
+        TokenKind::Number(number) => *number,
+        _ => Num::NAN,
+    }
+}
+
+fn key_of(alloc: Global, token: &Token) -> Result<Text, AllocError>
+    ensures { IfOk result (λ t. t ≡ key_at (token.now ∷ []) 0) }
+{
+    match &token.kind {
+        TokenKind::Number(number) => {
+            let digits = digits(alloc, *number, 10)?;
+            let mut units = Vec::with_capacity(alloc, digits.len())?;
+            for digit in &digits {
+                units.push(u16::from(*digit))?;
+            }
+            short_text(alloc, units.as_slice())
+        }
+        _ => text_of(alloc, token),
+    }
+}
+
+fn is_use_strict(token: &Token) -> bool
+    ensures { result ≡ strict_at (token.now ∷ []) 0 }
+{
+    match &token.kind {
+        TokenKind::Str { text, plain } => *plain && is_spelled(text.units(), b"use strict"),
+        _ => false,
+    }
+}
+
+// Whether the units are these ASCII characters.
+fn is_spelled(mut units: &[u16], mut spelling: &[u8]) -> bool
+    ensures { result ≡ same_text spelling.entry.now units.entry.now }
+{
+    while let [byte, more_bytes @ ..] = spelling {
+        let [unit, more_units @ ..] = units else {
+            return false;
+        };
+        if *unit != *byte as u16 {
+            return false;
+        }
+        units = more_units;
+        spelling = more_bytes;
+    }
+    units.is_empty()
+}
