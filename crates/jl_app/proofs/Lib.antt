@@ -1,9 +1,5 @@
 pub mod Views
 pub mod Simulation
-pub mod Reading
-pub mod ReadingBytes
-pub mod ReadingScripts
-pub mod ReadingExamples
 pub mod Comings
 pub mod Reports
 pub mod Answering

@@ -2,7 +2,7 @@
 
 ghost use Rattle.jl_meaning.specs.Follows.{Simulates};
 ghost use Rattle.jl_app.specs.Meaning.{script};
-ghost use Rattle.jl_app.specs.Reading.{OneReading};
+ghost use Rattle.jl_app.specs.Accepting.{OneReading};
 ghost use Rattle.jl_app.specs.Sums.{Script};
 ghost use Rattle.jl_app.specs.Weaving.{woven, hooked_script};
 

@@ -1,6 +1,6 @@
 ghost use Rattle.std.specs.Prelude.{◌<◌};
 
-use crate::command::jlint;
+use crate::top::jlint;
 use jl_op::{Crowd, NanMade};
 use jl_port::{MemSink, MemSource, Same};
 use std::test::Fail;
