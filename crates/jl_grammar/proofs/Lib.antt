@@ -1,4 +1,6 @@
 pub mod Progress
+pub mod CountedNodes
+pub mod FewNodes
 pub mod Opened
 pub mod Balanced
 pub mod Within

@@ -1,11 +1,13 @@
 -- The laws of the grammar.
-use Rattle.std.specs.Prelude.{◌≡◌, ◌↔◌, ℕ, suc, true, false, List, Some}
+use Rattle.std.specs.Prelude.{◌≡◌, ◌↔◌, ◌≤◌, ℕ, suc, true, false, List, length, Some}
+use Rattle.jl_ast.specs.Numbering.{functions_in}
 use Rattle.jl_ast.specs.Tree.{Program}
 use Rattle.jl_ast.specs.Tree as tree
 use Rattle.jl_text.specs.declared.span.Span.{Span}
 use Rattle.jl_token.specs.declared.token.Token.{Token}
 use Rattle.jl_grammar.specs.declared.sign.Sign.TheVariants as signs
 use Rattle.jl_grammar.specs.Next.{is_directive}
+use Rattle.jl_grammar.specs.Nodes.{nodes}
 use Rattle.jl_grammar.specs.Program.{Reads}
 use Rattle.jl_grammar.specs.Reader.{program_at}
 use Rattle.jl_grammar.specs.Reads.{EndsAt, ReadsExpression, ReadsStatement, Stmt}
@@ -34,3 +36,11 @@ pub record IsAlone (ts : List Token) (i : ℕ) (w : Stmt) (j : ℕ) : Type 0 whe
 abbrev pub DirectivesAreAlone : Type 0
 DirectivesAreAlone = (ts : List Token) (i : ℕ) (w : Stmt) (j : ℕ) → ReadsStatement ts i w j
     → (is_directive ts i ≡ true) ↔ IsAlone ts i w j
+
+-- a program has no more nodes than tokens
+abbrev pub FewNodes : Type 0
+FewNodes = (ts : List Token) (limit : ℕ) (p : Program Span) → Reads ts limit p → nodes p.body ≤ length ts
+
+-- and no more functions than nodes
+abbrev pub FunctionsAreNodes : Type 0
+FunctionsAreNodes = (p : Program Span) → functions_in p.body ≤ nodes p.body

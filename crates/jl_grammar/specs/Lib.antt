@@ -6,6 +6,7 @@ pub mod Next
 pub mod Brackets
 pub mod Reads
 pub mod Program
+pub mod Nodes
 pub mod Reader
 pub mod Laws
 pub mod Accepted

@@ -1,6 +1,7 @@
 //! The laws of the grammar: each is the contract of a function.
 ghost use Rattle.jl_grammar.specs.Accepted.{OneAccepted};
-ghost use Rattle.jl_grammar.specs.Laws.{DirectivesAreAlone, LimitsAgree, OneReading, ReaderTells};
+ghost use Rattle.jl_grammar.specs.Laws.{DirectivesAreAlone, FewNodes, FunctionsAreNodes, LimitsAgree, OneReading};
+ghost use Rattle.jl_grammar.specs.Laws.{ReaderTells};
 
 /// A list of tokens reads as one program at most, within any limit.
 pub fn one_reading()
@@ -25,4 +26,14 @@ pub fn directives_are_alone()
 /// Bytes are accepted as one program at most, whatever further test of programs there is.
 pub fn one_accepted()
     ensures { OneAccepted }
+{}
+
+/// A program that is read has no more nodes than tokens.
+pub fn few_nodes()
+    ensures { FewNodes }
+{}
+
+/// A program has no more functions than nodes.
+pub fn functions_are_nodes()
+    ensures { FunctionsAreNodes }
 {}

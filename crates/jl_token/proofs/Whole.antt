@@ -1,10 +1,10 @@
 -- The scanner's pieces are the pieces of the text, and so the tokens of a text are found, and are the only ones.
-use Rattle.std.proofs.Common.{◌≡◌, refl, sym, ap, ◌∙◌, subst, ℕ, ◌<◌, ◌≤◌, ◌⊎◌, inl, inr, Bool, true, false, ◌||◌, List, [], ◌∷◌, length, Some, None, arith, length-append}
+use Rattle.std.proofs.Common.{◌≡◌, refl, sym, ap, ◌∙◌, subst, ℕ, ◌+◌, ◌<◌, ◌≤◌, ◌⊎◌, inl, inr, Bool, true, false, ◌||◌, List, [], ◌∷◌, length, Some, None, arith, length-append}
 use Rattle.jl_token.specs.Characters.{is_digit, is_hex_digit, is_on_line}
 use Rattle.jl_token.specs.Punctuators.{punctuator_units}
 use Rattle.jl_token.specs.Elements.{Element, White, LineEnd, Comment, Word, Many, no_more, one_more, OneUnit, Name, name, Digits, digits, WholeDigits, zero_digit, nonzero, Exponent, no_exponent, no_sign, plus, minus, Numeral, whole, with_point, from_point, hex, StringLiteral, string, Front, white_space, line_terminator, carriage_return_line_feed, line_comment, block_comment, identifier_name, punctuator, numeric_literal, string_literal}
 use Rattle.jl_token.specs.Faults.{Fault, unclosed_string, unclosed_comment, string_escape, name_escape, first_escape, digit_follows, name_follows, no_number, long_name, long_string, no_element}
-use Rattle.jl_token.specs.Tokens.{Begins, Piece, piece, place, OnePiece, one_piece, tokens_among, Tokens, BadAt, InOrder, TokensAreUnique, BadPlaceIsUnique, TokensOrBad, NeverBoth, SpansAreInOrder}
+use Rattle.jl_token.specs.Tokens.{Begins, Piece, piece, place, OnePiece, one_piece, tokens_among, Tokens, BadAt, InOrder, TokensAreUnique, BadPlaceIsUnique, TokensOrBad, NeverBoth, SpansAreInOrder, FewTokens}
 use Rattle.jl_token.specs.Scanner.{Outcome, found, bad, many, scan_word, scan, piece_found, next_piece}
 use Rattle.jl_token.specs.declared.punct.Punct.{Punct}
 use Rattle.jl_token.specs.declared.token.BadKind.{BadKind}
@@ -215,3 +215,11 @@ in_order text us rest ps line i (one_more {mid} {xs} (one_piece {e = Word k} b) 
 
 pub spans_are_in_order : SpansAreInOrder
 spans_are_in_order text ts t = subst (λ w. InOrder 0 (length text) w) (sym t.are) (in_order text text [] t.pieces false 0 t.splits (omega arith) (omega arith))
+
+-- tokens that stand in order are no more than the places that they stand on
+few_in : (ts : List Token) (i j : ℕ) → InOrder i j ts → length ts + i ≤ j
+few_in [] i j h = omega (arith, h)
+few_in (t ∷ ts) i j h = omega (arith, h.0, h.1, few_in ts t.span.to j h.2)
+
+pub few_tokens : FewTokens
+few_tokens text ts t = omega (arith, few_in ts 0 (length text) (spans_are_in_order text ts t))

@@ -71,3 +71,7 @@ NeverBoth = (text : List ℕ) (ts : List Token) (i : ℕ) (k : BadKind) → Toke
 -- spans rise, don't overlap and lie in the text
 abbrev pub SpansAreInOrder : Type 0
 SpansAreInOrder = (text : List ℕ) (ts : List Token) → Tokens text ts → InOrder 0 (length text) ts
+
+-- a text has no more tokens than units
+abbrev pub FewTokens : Type 0
+FewTokens = (text : List ℕ) (ts : List Token) → Tokens text ts → length ts ≤ length text

@@ -1,7 +1,7 @@
 //! What holds of the tokens of each text.
 #![tactic(auto)]
 
-ghost use Rattle.jl_token.specs.Tokens.{TokensAreUnique, BadPlaceIsUnique, TokensOrBad, NeverBoth, SpansAreInOrder};
+ghost use Rattle.jl_token.specs.Tokens.{TokensAreUnique, BadPlaceIsUnique, TokensOrBad, NeverBoth, SpansAreInOrder, FewTokens};
 
 /// A text has one list of tokens at most.
 pub fn tokens_are_unique()
@@ -26,4 +26,9 @@ pub fn never_both()
 /// The spans of the tokens rise, don't overlap, hold a unit at least, and lie in the text.
 pub fn spans_are_in_order()
     ensures { SpansAreInOrder }
+{}
+
+/// A text has no more tokens than units.
+pub fn few_tokens()
+    ensures { FewTokens }
 {}

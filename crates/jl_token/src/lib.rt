@@ -7,7 +7,8 @@ mod punct;
 mod token;
 
 pub use laws::{
-    bad_place_is_unique, never_both, spans_are_in_order, tokens_are_unique, tokens_or_bad,
+    bad_place_is_unique, few_tokens, never_both, spans_are_in_order, tokens_are_unique,
+    tokens_or_bad,
 };
 pub use printed::spelling;
 pub use punct::Punct;
