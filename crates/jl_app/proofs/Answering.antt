@@ -1,6 +1,6 @@
 -- The answer that the code makes of a run is the one that is due.
 use Rattle.std.proofs.Common.{◌≡◌, ℕ, ◌+◌, ◌*◌, ◌<◌, ◌≤◌, ◌^◌, ◌++◌, List, [], ◌∷◌, length, map, sum_by, refl, sym, ap, ◌∙◌, subst, arith}
-use Rattle.std.specs.Prelude.{All, IfSome, slice_get}
+use Rattle.std.specs.Prelude.{All, IfSome, slice_get, Result, Ok, Err, IfOk, OnOk}
 use Rattle.std.specs.Ordering.{nat_cmp}
 use Rattle.std.specs.List.Sorted.{IsStrictlySortedBy}
 use Rattle.jl_op.specs.Operations.{Operation}
@@ -11,8 +11,7 @@ use Rattle.jl_app.specs.declared.outcome.Outcome.{Outcome as Answered}
 use Rattle.jl_app.specs.declared.status.Status.{Status}
 use Rattle.jl_app.specs.Reporting.{Lines, count_at, if_any, total_at, lines_text}
 use Rattle.jl_app.specs.Places.{places}
-use Rattle.jl_app.specs.Sums.{Sum, number, binary, parts, Script}
-use Rattle.jl_app.specs.Reading.{numbers, IsScript}
+use Rattle.jl_app.specs.Sums.{Script}
 use Rattle.jl_app.specs.Weaving.{Hooked, woven, hooked_script}
 use Rattle.jl_app.specs.declared.outcome.Run.{Run}
 use Rattle.jl_app.proofs.Reports.{hits_few, summary_positive, summary_few, summary_total}
@@ -55,8 +54,8 @@ pub few_found : (found : Counts) (ops : List Operation) → found ≡ summary 1 
 few_found found ops e h = subst (λ c. sum_by (λ x. x.1) c < 2 ^ 64) (sym e) (summary_few 1 ops h)
 
 -- what is answered
-pub answer_is : {O : Type 0} {told : O → List Operation → Type 0} {r : Run} {o : O} (s : Script) (found : Counts) (taken : List ℕ) (lines : Lines) (reports : ℕ) (answer : Status) (text end bytes : List ℕ) → IsRun told woven_budget (woven_run s) r o → r.hooks < 2 ^ 64 → found ≡ summary 1 (world_of (woven_run s)).hooks → taken ≡ places s → ((at : ℕ) → count_at lines at ≡ if_any (total_at taken at found)) → IsStrictlySortedBy nat_cmp (map (λ line. line.0) lines) → reports ≡ length lines → answer ≡ outcome_status r.outcome reports → text ≡ lines_text lines → end ≡ end_line (outcome_text r.outcome) r.steps r.hooks reports → bytes ≡ r.output.items ++ (text ++ end) → IsRunAnswer s lines answer bytes
-answer_is {r = r} s found taken lines reports answer text end bytes is few f p counts sorted n st t e b =
+pub answer_is : {O : Type 0} {told : O → List Operation → Type 0} {r : Run} {o : O} (units : List ℕ) (s : Script) (found : Counts) (taken : List ℕ) (lines : Lines) (reports : ℕ) (answer : Status) (text end bytes : List ℕ) → IsRun told woven_budget (woven_run s) r o → r.hooks < 2 ^ 64 → found ≡ summary 1 (world_of (woven_run s)).hooks → taken ≡ places s → ((at : ℕ) → count_at lines at ≡ if_any (total_at taken at found)) → IsStrictlySortedBy nat_cmp (map (λ line. line.0) lines) → reports ≡ length lines → answer ≡ outcome_status r.outcome reports → text ≡ lines_text units lines → end ≡ end_line (outcome_text r.outcome) r.steps r.hooks reports → bytes ≡ r.output.items ++ (text ++ end) → IsRunAnswer units s lines answer bytes
+answer_is {r = r} units s found taken lines reports answer text end bytes is few f p counts sorted n st t e b =
     let ops = (world_of (woven_run s)).hooks in
     let short = few_of ops r is.hooks few in
     record {
@@ -66,17 +65,14 @@ answer_is {r = r} s found taken lines reports answer text end bytes is few f p c
       };
       status = status_is (woven_run s) lines r.outcome reports answer st is.outcome n;
       bytes_are = b ∙ ap (λ x. x ++ (text ++ end)) is.output ∙ ap (λ x. (world_of (woven_run s)).output ++ (x ++ end)) t
-          ∙ ap (λ x. (world_of (woven_run s)).output ++ (lines_text lines ++ x)) (e
+          ∙ ap (λ x. (world_of (woven_run s)).output ++ (lines_text units lines ++ x)) (e
           ∙ ap (λ x. end_line x r.steps r.hooks reports) (text_is (woven_run s) r.outcome is.outcome)
           ∙ ap (λ x. end_line (end_text (woven_run s)) x r.hooks reports) is.steps
           ∙ ap (λ x. end_line (end_text (woven_run s)) (steps_taken woven_budget (woven_run s)) x reports) is.hooks
           ∙ ap (λ x. end_line (end_text (woven_run s)) (steps_taken woven_budget (woven_run s)) (length ops) x) n);
     }
 
--- a sum has fewer than twice as many parts as numbers
-pub parts_within : (s : Sum) → parts s + 1 ≡ 2 * numbers s
-parts_within (number at n) = refl
-parts_within (binary at op a b) = omega (arith, parts_within a, parts_within b)
-
-pub script_small : (bytes : List ℕ) (s : Script) → IsScript bytes s → parts s.argument < 2 ^ 31
-script_small bytes s h = omega (arith, parts_within s.argument, h.few)
+-- what holds of the value and what holds beside it
+pub both_ok : {T E K : Type 0} (r : Result T E) (P Q : T → Type 0) → ((x : T) → P x → K → Q x) → IfOk r P → OnOk r K → IfOk r Q
+both_ok (Ok x) P Q f p k = f x p k
+both_ok (Err e) P Q f p k = tt

@@ -9,12 +9,12 @@ use Rattle.jl_op.specs.Rules.{hit}
 use Rattle.jl_op.specs.Summary.{Counts, one_more, counted, hits_after, hits, summary}
 use Rattle.jl_app.specs.Reporting.{Lines, nth, is_place, place_of, if_any, hits_at, total_at, line_text, lines_text}
 
-pub lines_text-append : (a b : Lines) → lines_text (a ++ b) ≡ lines_text a ++ lines_text b
-lines_text-append [] b = refl
-lines_text-append (x ∷ a) b = ap (λ l. line_text x ++ l) (lines_text-append a b) ∙ sym (append_assoc (line_text x) (lines_text a) (lines_text b))
+pub lines_text-append : (units : List ℕ) (a b : Lines) → lines_text units (a ++ b) ≡ lines_text units a ++ lines_text units b
+lines_text-append units [] b = refl
+lines_text-append units (x ∷ a) b = ap (λ l. line_text units x ++ l) (lines_text-append units a b) ∙ sym (append_assoc (line_text units x) (lines_text units a) (lines_text units b))
 
-pub lines_text-push : (a : Lines) (x : ℕ × ℕ) → lines_text (a ++ x ∷ []) ≡ lines_text a ++ line_text x
-lines_text-push a x = lines_text-append a (x ∷ []) ∙ ap (λ l. lines_text a ++ l) (append-nil (line_text x))
+pub lines_text-push : (units : List ℕ) (a : Lines) (x : ℕ × ℕ) → lines_text units (a ++ x ∷ []) ≡ lines_text units a ++ line_text units x
+lines_text-push units a x = lines_text-append units a (x ∷ []) ∙ ap (λ l. lines_text units a ++ l) (append-nil (line_text units x))
 
 pub unwrap_or-if_any : (n : ℕ) (o : Option ℕ) → o ≡ if_any n → unwrap_or o 0 ≡ n
 unwrap_or-if_any zero o e = ap (λ x. unwrap_or x 0) e

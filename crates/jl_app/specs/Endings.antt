@@ -9,7 +9,6 @@ use Rattle.jl_app.specs.declared.status.Status.TheVariants as status
 use Rattle.jl_app.specs.Sums.{Script}
 use Rattle.jl_app.specs.Places.{places}
 use Rattle.jl_app.specs.Reporting.{Lines, IsReport, lines_text}
-use Rattle.jl_text.specs.Encoding.{units_of}
 use Rattle.jl_app.specs.declared.command.Command.{Command}
 use Rattle.jl_app.specs.Commands.{words_of}
 use Rattle.jl_app.specs.Answers.{Due, IsDue, own_run, budget, end_text, end_line, run_status}
@@ -43,15 +42,15 @@ HasAnswered status.WriteFault = ⊥
 HasAnswered status.NoMemory = ⊥
 HasAnswered _ = Unit {0}
 
--- The answer is about the own run of the script in these bytes: it was written with what that run printed; its lines are those of that
+-- The answer is about the own run of a script, which stands in a source of these units: it was written with what that run printed; its lines are those of that
 -- run's operations, which the crowd was told of; its end and status are those of that run; and the steps that it counts
 -- are no fewer than that run's, and not many more.
-pub record IsAboutOwnRun (call : Call) (bytes : List ℕ) (s : Script) (answer : Status) : Type 0 where
+pub record IsAboutOwnRun (call : Call) (units : List ℕ) (s : Script) (answer : Status) : Type 0 where
   pub lines : Lines
   pub steps : ℕ
   pub report : IsReport (places s) (world_of (own_run s)).operations lines
   pub status : answer ≡ run_status (own_run s) lines
-  pub written : Grows call.written.0 call.written.1 ((world_of (own_run s)).output ++ (lines_text (units_of bytes) lines ++ end_line (end_text (own_run s)) steps (length (world_of (own_run s)).operations) (length lines)))
+  pub written : Grows call.written.0 call.written.1 ((world_of (own_run s)).output ++ (lines_text units lines ++ end_line (end_text (own_run s)) steps (length (world_of (own_run s)).operations) (length lines)))
   pub no_fewer : steps_taken budget (own_run s) ≤ steps
   pub not_many_more : steps ≤ 32 * steps_taken budget (own_run s) + 64
   pub told : call.knows (world_of (own_run s)).operations

@@ -97,22 +97,22 @@ fn checked(alloc: Global, source: &Source, program: &Program) -> Result<(), Unac
     ensures refused { (bytes : Items ℕ) → IsProgram bytes (view program.now) → source.now ≡ units_of bytes
         → IfErr result (Refuses bytes) }
 {
-    let refusal = match check(alloc, program) {
-        Ok(()) => return Ok(()),
-        Err(ScopeRefusal::Early { rule, span }) => Refusal::Early {
-            rule,
-            at: source.position(span.from),
-        },
-        Err(ScopeRefusal::LeftOut { name, span }) => Refusal::LeftOut {
-            name,
-            at: source.position(span.from),
-        },
-        Err(ScopeRefusal::ReservedName { span }) => Refusal::ReservedName {
-            at: source.position(span.from),
-        },
-        Err(ScopeRefusal::NoMemory) => return Err(Unaccepted::NoMemory),
-    };
-    Err(Unaccepted::Refused(refusal))
+    match check(alloc, program) {
+        Ok(()) => Ok(()),
+        Err(ScopeRefusal::Early { rule, span }) => {
+            let at = source.position(span.from);
+            Err(Unaccepted::Refused(Refusal::Early { rule, at }))
+        }
+        Err(ScopeRefusal::LeftOut { name, span }) => {
+            let at = source.position(span.from);
+            Err(Unaccepted::Refused(Refusal::LeftOut { name, at }))
+        }
+        Err(ScopeRefusal::ReservedName { span }) => {
+            let at = source.position(span.from);
+            Err(Unaccepted::Refused(Refusal::ReservedName { at }))
+        }
+        Err(ScopeRefusal::NoMemory) => Err(Unaccepted::NoMemory),
+    }
 }
 
 /// The program that these bytes are accepted as, with its text. Its cost is that of the lexer, the parser and the check

@@ -47,7 +47,7 @@ impl Source {
     pub fn position(&self, at: u32) -> Position
         ensures { result ≡ position self.now at }
     {
-        let within = at.min(self.units.len() as u32);
+        let within = at.min(self.units().len() as u32);
         let (line, column) = self.lines.line_col(within);
         Position { line, column }
     }

@@ -8,6 +8,7 @@ ghost use Rattle.jl_app.specs.Commands.{texts, words_of};
 ghost use Rattle.jl_app.specs.Endings.{EndsWith, HasAnswered, IsAboutOwnRun};
 ghost use Rattle.jl_app.specs.Sums.{Script};
 ghost use Rattle.jl_meaning.specs.Effects.{IsOver};
+ghost use Rattle.jl_text.specs.Encoding.{units_of};
 ghost use Rattle.jl_app.specs.declared.command.Command.{Command as Named};
 ghost use Rattle.jl_app.specs.declared.top.Unanswered.TheVariants.{NoMemory};
 
@@ -99,7 +100,7 @@ pub fn jlint<S: Source, K: Sink, H: Shelf>(
           written = (K.written sink.old, K.written sink.new);
           write_faults = (K.faults sink.old, K.faults sink.new);
           knows = λ told. ⟦<Crowd as Observer>⟧.stands_for crowd.new told;
-        }) bytes s result }
+        }) (units_of bytes) s result }
     ensures unread { ((c : Named) → texts words.now ≡ words_of c → ⊥) → source.new ≡ source.old }
     ensures shelf { _shelf.new ≡ _shelf.old }
     ensures same_rules { ⟦<Crowd as Observer>⟧.rules crowd.new ≡ ⟦<Crowd as Observer>⟧.rules crowd.old }

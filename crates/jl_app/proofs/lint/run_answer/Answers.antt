@@ -30,6 +30,6 @@ returns-clause-run g c =
     let found = found_of _ c.found.result.now ops (c.in_ok-run.ensures.rules ∙ c.requires.rules) (c.found.ensures ops is.told) in
     let taken = c.deref.ensures.value ∙ c.in_ok-woven.ensures.places ∙ ap (λ l. l ++ sum_places s.argument) c.in_ok-places.ensures.items in (
       c.in_ok-lines.lines.entries,
-      answer_is s c.found.result.now c.deref.result.now c.in_ok-lines.lines.entries c.len-reports.result c.run_status-status.result c.deref-2.result.now c.deref-3.result.now c.in_ok-joined.field-0.items
+      answer_is c.args.source.now s c.found.result.now c.deref.result.now c.in_ok-lines.lines.entries c.len-reports.result c.run_status-status.result c.deref-2.result.now c.deref-3.result.now c.in_ok-joined.field-0.items
           is c.in_ok-run.ensures.few found taken c.in_ok-lines.ensures.counts c.in_ok-lines.ensures.by_place c.len-reports.ensures.len c.run_status-status.ensures (c.deref-2.ensures ∙ c.in_ok-report.ensures) (c.deref-3.ensures ∙ c.in_ok-end.ensures) c.in_ok-joined.ensures,
     )

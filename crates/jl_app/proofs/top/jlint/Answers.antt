@@ -7,7 +7,7 @@ use Rattle.jl_app.proofs.top.jlint.Goals as goal
 pub returns-in-Err-ReadFault-clause-ends : goal.returns-in-Err-ReadFault-clause-ends
 returns-in-Err-ReadFault-clause-ends g c =
     let fault = c.in-Err-ReadFault.ensures.fault (ap Err c.in-Err-ReadFault.field-0-is) in
-    read_failed fault.0 fault.1 refl fault.2
+    read_failed fault.0.0 fault.0.1 fault.1 refl fault.2
 
 pub returns-in-Err-NoMemory-clause-ends : goal.returns-in-Err-NoMemory-clause-ends
 returns-in-Err-NoMemory-clause-ends g c = no_memory refl

@@ -1,0 +1,39 @@
+use Rattle.std.proofs.Common.{◌≡◌, ◌∙◌, ap, sym, subst, Err}
+use Rattle.std.proofs.lemmas.Result.{IfOk-weaker}
+use Rattle.std.specs.Prelude.{codes}
+use Rattle.jl_ast.specs.View.{view}
+use Rattle.jl_text.specs.Encoding.{units_of}
+use Rattle.jl_app.specs.declared.command.Command.TheVariants.{Lint, Check}
+use Rattle.jl_app.specs.Answers.{refused_only, functions_line, counted, refused, accepted, IsAnswered, IsLinted}
+use Rattle.jl_app.specs.Refusals.{refusal_words}
+use Rattle.jl_app.proofs.Scripts.{script_small}
+use Rattle.jl_app.proofs.answer.respond.Goals as goal
+
+pub lint-requires-clause-parts : goal.lint-requires-clause-parts
+lint-requires-clause-parts g c = λ s is. script_small c.args.bytes.now _ s c.in-Ok.ensures.accepted.0 is
+
+pub returns-in-Err-Refused-clause-due : goal.returns-in-Err-Refused-clause-due
+returns-in-Err-Refused-clause-due g c =
+    let cause = c.in-Err-Refused.refusal in
+    let why = rw c.in-Err-Refused.field-0-is at c.in-Err-Refused.ensures.refused in
+    let said = rw c.in-Err-Refused.field-0-is at c.refused.ensures in
+    IfOk-weaker c.refused.result _ _ (λ a answered. (refused_only (refusal_words cause), refused cause why, answered.0, answered.1, c.requires.fresh)) said
+
+pub returns-in-Lint-clause-due : goal.returns-in-Lint-clause-due
+returns-in-Lint-clause-due g c =
+    let p = view c.in-Ok.accepted.program in
+    let is = c.in-Ok.ensures.accepted in
+    IfOk-weaker c.lint.result _ _
+        (λ a due. (due.0,
+            subst (λ x. IsAnswered x c.args.bytes.now due.0) (sym c.in-Lint.is)
+                (accepted p is.0 (subst (λ us. IsLinted us p due.0) is.1 due.1)), due.2, due.3, due.4))
+        c.lint.ensures.due
+
+pub returns-clause-due : goal.returns-clause-due
+returns-clause-due g c =
+    let p = view c.in-Ok.accepted.program in
+    IfOk-weaker c.check.result _ _
+        (λ a answered. (functions_line p,
+            subst (λ x. IsAnswered x c.args.bytes.now (functions_line p)) (sym c.in-Check.is) (accepted p c.in-Ok.ensures.accepted.0 counted),
+            answered.0, answered.1, c.requires.fresh))
+        c.check.ensures
