@@ -1,5 +1,5 @@
 -- Which bytes are refused, for which cause, and in which words.
-use Rattle.std.specs.Prelude.{◌≡◌, ℕ, ◌<◌, ◌≤◌, ◌++◌, List, Some, length, codes}
+use Rattle.std.specs.Prelude.{◌≡◌, ℕ, ◌<◌, ◌≤◌, ◌⊎◌, ◌++◌, List, Some, length, codes}
 use Rattle.std.specs.Fmt.{decimal}
 use Rattle.std.specs.Str.{IsUtf8}
 use Rattle.std.specs.Str.Lossy.{utf8_valid_len}
@@ -18,7 +18,7 @@ use Rattle.jl_scope.specs.Rules.{rule_name}
 use Rattle.jl_app.specs.declared.position.Position.{Position}
 use Rattle.jl_app.specs.declared.refusal.Refusal.{Refusal}
 use Rattle.jl_app.specs.declared.refusal.Refusal.TheVariants as refusals
-use Rattle.jl_app.specs.Accepting.{most_bytes, most_levels, IsText, HasTokens, IsProgram}
+use Rattle.jl_app.specs.Accepting.{most_bytes, most_levels, IsAccepted, IsText, HasTokens, IsProgram}
 use Rattle.jl_app.specs.Positions.{position, position_text}
 
 -- where a part of the script begins, told as a line and a column
@@ -64,3 +64,12 @@ refusal_words (refusals.Unreadable at) = codes "Unreadable at " ++ position_text
 refusal_words (refusals.Early rule at) = codes "Early " ++ (rule_name rule ++ (codes " at " ++ position_text at))
 refusal_words (refusals.LeftOut name at) = codes "LeftOut " ++ (bytes_of name ++ (codes " at " ++ position_text at))
 refusal_words (refusals.ReservedName at) = codes "ReservedName at " ++ position_text at
+
+-- no bytes are both accepted and refused
+abbrev pub NeverBoth : Type 0
+NeverBoth = (bytes : List ℕ) (p : Program Span) (cause : Refusal) → IsAccepted bytes p → IsRefused bytes cause → ⊥
+
+-- and all bytes are one of the two
+abbrev pub AcceptedOrRefused : Type 0
+AcceptedOrRefused = (bytes : List ℕ)
+    → ((p : Program Span) × IsAccepted bytes p) ⊎ ((cause : Refusal) × IsRefused bytes cause)

@@ -7,4 +7,4 @@ pub returns-in-Err-BadInput-clause-refused : goal.returns-in-Err-BadInput-clause
 returns-in-Err-BadInput-clause-refused c = λ bytes text same.
     let bad = rw c.in-Err-BadInput.field-0-is at c.in-Err-BadInput.ensures.refused in
     bad_input_at bytes c.args.source.now c.in-Err-BadInput.at c.in-Err-BadInput.kind _ text same
-        (subst (λ us. BadAt us c.in-Err-BadInput.at c.in-Err-BadInput.kind) c.units.ensures.same bad) c.position-at.ensures
+    (subst (λ us. BadAt us c.in-Err-BadInput.at c.in-Err-BadInput.kind) c.units.ensures.same bad) c.position-at.ensures

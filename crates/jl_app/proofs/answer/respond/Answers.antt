@@ -24,16 +24,25 @@ returns-in-Lint-clause-due g c =
     let p = view c.in-Ok.accepted.program in
     let is = c.in-Ok.ensures.accepted in
     IfOk-weaker c.lint.result _ _
-        (λ a due. (due.0,
-            subst (λ x. IsAnswered x c.args.bytes.now due.0) (sym c.in-Lint.is)
-                (accepted p is.0 (subst (λ us. IsLinted us p due.0) is.1 due.1)), due.2, due.3, due.4))
-        c.lint.ensures.due
+    (λ a due. (
+      due.0,
+      subst (λ x. IsAnswered x c.args.bytes.now due.0) (sym c.in-Lint.is)
+          (accepted p is.0 (subst (λ us. IsLinted us p due.0) is.1 due.1)),
+      due.2,
+      due.3,
+      due.4,
+    ))
+    c.lint.ensures.due
 
 pub returns-clause-due : goal.returns-clause-due
 returns-clause-due g c =
     let p = view c.in-Ok.accepted.program in
     IfOk-weaker c.check.result _ _
-        (λ a answered. (functions_line p,
-            subst (λ x. IsAnswered x c.args.bytes.now (functions_line p)) (sym c.in-Check.is) (accepted p c.in-Ok.ensures.accepted.0 counted),
-            answered.0, answered.1, c.requires.fresh))
-        c.check.ensures
+    (λ a answered. (
+      functions_line p,
+      subst (λ x. IsAnswered x c.args.bytes.now (functions_line p)) (sym c.in-Check.is) (accepted p c.in-Ok.ensures.accepted.0 counted),
+      answered.0,
+      answered.1,
+      c.requires.fresh,
+    ))
+    c.check.ensures

@@ -11,10 +11,10 @@ pub returns-in_default-items : goal.returns-in_default-items
 returns-in_default-items c =
     let named : c.in-Call.callee.value.kind ≡ kinds.Name c.in-Name.name = ap (λ e. e.kind) (sym c.deref.ensures) ∙ c.in-Name.is in
     sym (other_arguments c.args.e.now c.in-Call.callee c.in-Call.arguments c.in-Name.name c.in-Call.is named
-        (λ one. elim c.in_default-items.branch [
-            | in_default-items-via-then-items-lt1 w ↦ grind (arith, nat_tests, ap length c.items.ensures)
-            | in_default-items-via-else-items-lt1+else-this-lt2 w ↦ grind (arith, nat_tests, ap length c.items.ensures)
-        ]))
+    (λ one. elim c.in_default-items.branch [
+      | in_default-items-via-then-items-lt1 w ↦ grind (arith, nat_tests, ap length c.items.ensures)
+      | in_default-items-via-else-items-lt1+else-this-lt2 w ↦ grind (arith, nat_tests, ap length c.items.ensures)
+    ]))
 
 pub returns-then-not-is_print : goal.returns-then-not-is_print
 returns-then-not-is_print c =

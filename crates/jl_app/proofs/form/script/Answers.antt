@@ -21,7 +21,7 @@ returns-in-len1 c =
 pub returns-in_default : goal.returns-in_default
 returns-in_default c =
     sym (others_are_none c.args.program.now c.items.result.now c.items.ensures c.if-body.false (sym c.len.ensures ∙ c.if-len-ne0.false)
-        (λ one. elim c.in_default.branch [
-            | in_default-via-then-items-lt1 w ↦ grind (arith, nat_tests)
-            | in_default-via-else-items-lt1+else-this-lt2 w ↦ grind (arith, nat_tests)
-        ]))
+    (λ one. elim c.in_default.branch [
+      | in_default-via-then-items-lt1 w ↦ grind (arith, nat_tests)
+      | in_default-via-else-items-lt1+else-this-lt2 w ↦ grind (arith, nat_tests)
+    ]))

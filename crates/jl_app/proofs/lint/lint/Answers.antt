@@ -19,8 +19,8 @@ returns-in-Some-clause-due g c =
     let units = c.args.accepted.now.source in
     let is : script_of (view c.args.accepted.now.program) ≡ Some s = sym c.in_ok-script.ensures ∙ ap (option_map view_script) c.in-Some.is in
     both_ok c.run_answer.result _ _
-        (λ a run told. (run_answer units s run.0, ran s run.0 is run.1.report, run.1.status, run.1.bytes_are, told))
-        c.run_answer.ensures.run c.run_answer.ensures.told
+    (λ a run told. (run_answer units s run.0, ran s run.0 is run.1.report, run.1.status, run.1.bytes_are, told))
+    c.run_answer.ensures.run c.run_answer.ensures.told
 
 pub returns-in-None-clause-due : goal.returns-in-None-clause-due
 returns-in-None-clause-due g c =
