@@ -1,19 +1,16 @@
--- What is wrong with a program.
+-- The first thing that is wrong with a program.
+pub use Rattle.jl_scope.specs.Kinds.{Breach, early, left_out, reserved_name}
 use Rattle.std.specs.Prelude.{◌≡◌, Option, None, Some, Result, Ok, Err}
-use Rattle.jl_ast.specs.Tree.{Program, Text}
 use Rattle.jl_text.specs.declared.span.Span.{Span}
-use Rattle.jl_scope.specs.declared.rules.EarlyRule.{EarlyRule}
-use Rattle.jl_scope.specs.declared.checker.ScopeRefusal.{ScopeRefusal}
-use Rattle.jl_scope.specs.declared.checker.ScopeRefusal.TheVariants as refusals
-
-pub data Breach : Type 0 where
-  early : EarlyRule → Span → Breach
-  left_out : Text → Span → Breach
-  reserved_name : Span → Breach
+use Rattle.jl_ast.specs.Tree.{Program}
+use Rattle.jl_scope.specs.declared.refusal.ScopeRefusal.{ScopeRefusal}
+use Rattle.jl_scope.specs.declared.refusal.ScopeRefusal.TheVariants as refusals
+use Rattle.jl_scope.specs.Kinds.{first}
+use Rattle.jl_scope.specs.Breaches.{breaches_of}
 
 -- the first thing that is wrong with a program, if anything is
-pub first_breach : Program Span → Option Breach
-first_breach p = None
+abbrev pub first_breach : Program Span → Option Breach
+first_breach p = first (breaches_of p)
 
 -- what `check` answers
 abbrev pub Tells : Result (Unit {0}) ScopeRefusal → Option Breach → Type 0

@@ -1,2 +1,9 @@
 pub mod Rules
+pub mod Names
+pub mod Hoisting
+pub mod Mentions
+pub mod Kinds
+pub mod Setting
+pub mod Breaches
 pub mod Breach
+pub mod Steps
