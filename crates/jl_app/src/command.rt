@@ -3,7 +3,7 @@ ghost use Rattle.jl_app.specs.Commands.{texts, words_of};
 ghost use Rattle.jl_app.specs.declared.command.Command.{Command as Named};
 
 /// What the program can be asked for.
-#[derive(Clone, Copy, Drop)]
+#[derive(Clone, Copy)]
 pub enum Command {
     /// Runs a script and reports what was odd.
     Lint,
