@@ -1,5 +1,7 @@
 -- Accepted bytes: they are one script at most, and a script is small.
-use Rattle.std.proofs.Common.{◌≡◌, ℕ, zero, suc, ◌+◌, ◌<◌, ◌≤◌, ◌^◌, ◌++◌, inl, inr, Bool, true, false, List, [], ◌∷◌, Option, Some, None, option_map, length, refl, sym, ap, ◌∙◌, subst, arith, length-append}
+use Rattle.std.proofs.Common.{◌≡◌, ℕ, ◌+◌, ◌<◌, ◌≤◌, ◌^◌, inl, inr, Bool, true, false, List}
+use Rattle.std.proofs.Common.{[], ◌∷◌, Option, Some, None, option_map, length, refl, sym, ap, ◌∙◌, arith}
+use Rattle.std.proofs.Common.{length-append}
 use Rattle.std.proofs.lemmas.Str.{encodes-chars, length-encode, len_utf8_bounds}
 use Rattle.std.proofs.lemmas.Bool.{cases_lt}
 use Rattle.std.proofs.lemmas.Bool.Decides.{nat_tests}
@@ -18,8 +20,9 @@ use Rattle.jl_token.proofs.Whole.{few_tokens}
 use Rattle.jl_grammar.proofs.FewNodes.{few_nodes}
 use Rattle.jl_grammar.proofs.OneAccepted.{one_accepted}
 use Rattle.jl_grammar.specs.Nodes.{nodes, nodes_row}
-use Rattle.jl_app.specs.Accepting.{IsAccepted, IsScript, OneReading, is_legal}
-use Rattle.jl_app.specs.Form.{operator_of, joined, sum_in, script_in_call, script_in_statement, script_in_statements, script_in, script_of}
+use Rattle.jl_app.specs.Accepting.{IsAccepted, OneReading, is_legal}
+use Rattle.jl_app.specs.Form.{operator_of, joined, sum_in, script_in_call, script_in_statement}
+use Rattle.jl_app.specs.Form.{script_in_statements, script_in, script_of}
 use Rattle.jl_app.specs.Sums.{Sum, number, binary, parts, Script}
 
 pub one_script : OneReading
@@ -42,14 +45,23 @@ few_units c =
 
 few_units_all : (cs : List ℕ) → length (encode_utf16_all cs) ≤ length (encodes cs)
 few_units_all [] = omega arith
-few_units_all (c ∷ cs) = omega (arith, few_units c, few_units_all cs, length-append (encode_utf16 c) (encode_utf16_all cs), length-append (encode c) (encodes cs))
+few_units_all (c ∷ cs) =
+    omega (
+      arith,
+      few_units c,
+      few_units_all cs,
+      length-append (encode_utf16 c) (encode_utf16_all cs),
+      length-append (encode c) (encodes cs),
+    )
 
 pub units_within : (bytes : List ℕ) → IsUtf8 bytes → length (units_of bytes) ≤ length bytes
 units_within bytes utf8 = omega (arith, few_units_all (chars bytes), ap length (encodes-chars bytes utf8))
 
 -- A sum has no more parts than its expression has nodes.
 
-joined_small : (at : ℕ) (op : Option Operator) (a b : Option Sum) (s : Sum) (m n : ℕ) → ((x : Sum) → a ≡ Some x → parts x ≤ m) → ((x : Sum) → b ≡ Some x → parts x ≤ n) → joined at op a b ≡ Some s → parts s ≤ m + n + 1
+joined_small : (at : ℕ) (op : Option Operator) (a b : Option Sum) (s : Sum) (m n : ℕ)
+    → ((x : Sum) → a ≡ Some x → parts x ≤ m) → ((x : Sum) → b ≡ Some x → parts x ≤ n)
+    → joined at op a b ≡ Some s → parts s ≤ m + n + 1
 joined_small at (Some op) (Some a) (Some b) s m n left right e =
     let is : s ≡ binary at op a b = cc in
     let size : parts s ≡ 1 + (parts a + parts b) = ap parts is in
@@ -63,10 +75,16 @@ sum_small (tree.number n p) s e =
     let is : s ≡ number p.from n = cc in
     let size : parts s ≡ 1 = ap parts is in
     omega arith
-sum_small (tree.binary op a b p) s e = joined_small p.from (operator_of op) (sum_in a) (sum_in b) s (nodes a) (nodes b) (sum_small a) (sum_small b) e
+sum_small (tree.binary op a b p) s e = joined_small p.from (operator_of op) (sum_in a) (sum_in b) s (nodes a)
+    (nodes b) (sum_small a) (sum_small b) e
 sum_small _ s e = absurd (cc)
 
-argument_small : (b : Bool) (at print_at : ℕ) (sum : Option Sum) (s : Script) (n : ℕ) → ((x : Sum) → sum ≡ Some x → parts x ≤ n) → (if b then option_map (λ argument. record { at = at; print_at = print_at; argument = argument }) sum else None) ≡ Some s → parts s.argument ≤ n
+argument_small : (b : Bool) (at print_at : ℕ) (sum : Option Sum) (s : Script) (n : ℕ)
+    → ((x : Sum) → sum ≡ Some x → parts x ≤ n)
+    → (if b
+    then option_map (λ argument. record { at = at; print_at = print_at; argument = argument }) sum
+    else None) ≡ Some s
+    → parts s.argument ≤ n
 argument_small true at print_at (Some x) s n small e =
     let is : s ≡ record { at = at; print_at = print_at; argument = x } = cc in
     let size : parts s.argument ≡ parts x = ap (λ r. parts r.argument) is in
@@ -94,6 +112,14 @@ code_small (tree.body false end r) s is = omega (arith, statements_small r s is)
 code_small (tree.body true f r) s is = absurd (cc)
 code_small (tree.body false (more f g) r) s is = absurd (cc)
 
-pub script_small : (bytes : List ℕ) (p : Program Span) (s : Script) → IsAccepted bytes p → script_of p ≡ Some s → parts s.argument < 2 ^ 31
+pub script_small : (bytes : List ℕ) (p : Program Span) (s : Script) → IsAccepted bytes p → script_of p ≡ Some s
+    → parts s.argument < 2 ^ 31
 script_small bytes p s is e =
-    omega (arith, code_small p.body s e, few_nodes is.tokens 200 p is.read, few_tokens (units_of bytes) is.tokens is.lexed, units_within bytes is.decoded, is.short)
+    omega (
+      arith,
+      code_small p.body s e,
+      few_nodes is.tokens 200 p is.read,
+      few_tokens (units_of bytes) is.tokens is.lexed,
+      units_within bytes is.decoded,
+      is.short,
+    )

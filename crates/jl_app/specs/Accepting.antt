@@ -1,5 +1,5 @@
 -- The bytes that are accepted, and as what.
-use Rattle.std.specs.Prelude.{◌≡◌, ℕ, ◌≤◌, Bool, List, Option, Some, length, is_none}
+use Rattle.std.specs.Prelude.{◌≡◌, ℕ, ◌≤◌, Bool, List, Some, length, is_none}
 use Rattle.std.specs.Str.{IsUtf8}
 use Rattle.jl_ast.specs.Tree.{Program}
 use Rattle.jl_text.specs.Encoding.{units_of}

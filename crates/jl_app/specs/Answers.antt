@@ -61,7 +61,8 @@ end_text (Spent w) = codes "spent"
 -- the last line
 abbrev pub end_line : (end : List ℕ) → (steps hooks reports : ℕ) → List ℕ
 end_line end steps hooks reports =
-    codes "jlint: " ++ (end ++ (codes " steps=" ++ (decimal steps ++ (codes " hooks=" ++ (decimal hooks ++ (codes " reports=" ++ (decimal reports ++ 10 ∷ [])))))))
+    codes "jlint: " ++ (end ++ (codes " steps=" ++ (decimal steps
+    ++ (codes " hooks=" ++ (decimal hooks ++ (codes " reports=" ++ (decimal reports ++ 10 ∷ [])))))))
 
 -- the status of a run with these report lines
 abbrev pub run_status : {A : Type 0} → Outcome A → Lines → Status
@@ -74,12 +75,15 @@ run_status (Spent w) lines = status.Spent
 abbrev pub run_answer : (units : List ℕ) → Script → Lines → Due
 run_answer units s lines = record {
   status = run_status (woven_run s) lines;
-  bytes = (world_of (woven_run s)).output ++ (lines_text units lines ++ end_line (end_text (woven_run s)) (steps_taken woven_budget (woven_run s)) (length (world_of (woven_run s)).hooks) (length lines));
+  bytes = (world_of (woven_run s)).output ++ (lines_text units lines
+      ++ end_line (end_text (woven_run s)) (steps_taken woven_budget (woven_run s))
+      (length (world_of (woven_run s)).hooks) (length lines));
   told = (world_of (woven_run s)).hooks;
 }
 
 -- it is the answer to the script, and these are the lines of the report
-pub record IsRunAnswer (units : List ℕ) (s : Script) (lines : Lines) (answer : Status) (written : List ℕ) : Type 0 where
+pub record IsRunAnswer (units : List ℕ) (s : Script) (lines : Lines) (answer : Status) (written : List ℕ)
+    : Type 0 where
   pub report : IsReport (places s) (world_of (woven_run s)).hooks lines
   pub status : answer ≡ (run_answer units s lines).status
   pub bytes_are : written ≡ (run_answer units s lines).bytes
@@ -103,14 +107,16 @@ abbrev pub Responds : Command → (units : List ℕ) → Program Span → Due �
 Responds commands.Lint units p due = IsLinted units p due
 Responds commands.Check units p due = IsChecked p due
 
--- What a command answers to these bytes. Each is refused or accepted, and never both.
+-- what a command answers to these bytes, which are refused or accepted
 pub data IsAnswered (c : Command) (bytes : List ℕ) : Due → Type 0 where
   refused : (cause : Refusal) → IsRefused bytes cause → IsAnswered c bytes (refused_only (refusal_words cause))
-  accepted : {due : Due} (p : Program Span) → IsAccepted bytes p → Responds c (units_of bytes) p due → IsAnswered c bytes due
+  accepted : {due : Due} (p : Program Span) → IsAccepted bytes p → Responds c (units_of bytes) p due
+      → IsAnswered c bytes due
 
--- What is due to these words, where the source tells that it holds these bytes, or tells nothing. Of a source that holds
--- too many bytes not all are read, and these are the first.
+-- What is due to these words, where the source tells that it holds these bytes, or tells nothing. Of a source that
+-- holds too many bytes not all are read, and these are the first.
 pub data IsDue (words : List (List ℕ)) (held : Option (List ℕ)) : Due → Type 0 where
-  bad_words : ((c : Command) → words ≡ words_of c → ⊥) → IsDue words held (line_only status.BadWords (codes "bad words"))
+  bad_words : ((c : Command) → words ≡ words_of c → ⊥)
+      → IsDue words held (line_only status.BadWords (codes "bad words"))
   answered_to : {due : Due} (c : Command) (bytes : List ℕ) → words ≡ words_of c → IfSome held (λ all. all ≡ bytes)
       → IsAnswered c bytes due → IsDue words held due

@@ -59,7 +59,8 @@ kind_word kinds.LongText = codes "LongText"
 abbrev pub refusal_words : Refusal → List ℕ
 refusal_words refusals.TooLong = codes "TooLong"
 refusal_words (refusals.NotUtf8 at) = codes "NotUtf8 at byte " ++ decimal at
-refusal_words (refusals.BadInput kind at) = codes "BadInput " ++ (kind_word kind ++ (codes " at " ++ position_text at))
+refusal_words (refusals.BadInput kind at) = codes "BadInput "
+    ++ (kind_word kind ++ (codes " at " ++ position_text at))
 refusal_words (refusals.Unreadable at) = codes "Unreadable at " ++ position_text at
 refusal_words (refusals.Early rule at) = codes "Early " ++ (rule_name rule ++ (codes " at " ++ position_text at))
 refusal_words (refusals.LeftOut name at) = codes "LeftOut " ++ (bytes_of name ++ (codes " at " ++ position_text at))

@@ -9,7 +9,8 @@ returns-in-Err-Early-clause-refused c = λ bytes read same.
 pub returns-in-Err-LeftOut-clause-refused : goal.returns-in-Err-LeftOut-clause-refused
 returns-in-Err-LeftOut-clause-refused c = λ bytes read same.
     let broken = rw c.in-Err-LeftOut.field-0-is at c.in-Err-LeftOut.ensures in
-    left_out_at bytes _ _ c.in-Err-LeftOut.name c.in-Err-LeftOut.span _ read same broken c.position-at-in-Err-LeftOut.ensures
+    left_out_at bytes _ _ c.in-Err-LeftOut.name c.in-Err-LeftOut.span _ read same broken
+    c.position-at-in-Err-LeftOut.ensures
 
 pub returns-in-Err-ReservedName-clause-refused : goal.returns-in-Err-ReservedName-clause-refused
 returns-in-Err-ReservedName-clause-refused c = λ bytes read same.

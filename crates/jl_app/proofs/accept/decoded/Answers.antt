@@ -1,4 +1,4 @@
-use Rattle.std.proofs.Common.{◌≡◌, refl, sym, subst, ap, length, arith}
+use Rattle.std.proofs.Common.{refl, sym, subst, ap, length, arith}
 use Rattle.jl_app.specs.declared.refusal.Refusal.TheVariants.{NotUtf8}
 use Rattle.jl_app.specs.Refusals.{IsRefused, not_utf8}
 use Rattle.jl_app.proofs.Scripts.{units_within}
@@ -11,4 +11,5 @@ pub returns-in-Err-NotUtf8-clause-refused : goal.returns-in-Err-NotUtf8-clause-r
 returns-in-Err-NotUtf8-clause-refused c =
     let told = rw c.in-Err-NotUtf8.field-0-is at c.in-Err-NotUtf8.ensures.not_utf8 in
     let is = (told c.in-Err-NotUtf8.at).0 refl in
-    rw c.in-Err-NotUtf8.field-0-is (subst (λ n. IsRefused c.args.bytes.now (NotUtf8 n)) (sym is.1) (not_utf8 c.requires is.0))
+    rw c.in-Err-NotUtf8.field-0-is
+    (subst (λ n. IsRefused c.args.bytes.now (NotUtf8 n)) (sym is.1) (not_utf8 c.requires is.0))

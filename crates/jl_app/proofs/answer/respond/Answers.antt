@@ -1,9 +1,6 @@
-use Rattle.std.proofs.Common.{◌≡◌, ◌∙◌, ap, sym, subst, Err}
+use Rattle.std.proofs.Common.{sym, subst}
 use Rattle.std.proofs.lemmas.Result.{IfOk-weaker}
-use Rattle.std.specs.Prelude.{codes}
 use Rattle.jl_ast.specs.View.{view}
-use Rattle.jl_text.specs.Encoding.{units_of}
-use Rattle.jl_app.specs.declared.command.Command.TheVariants.{Lint, Check}
 use Rattle.jl_app.specs.Answers.{refused_only, functions_line, counted, refused, accepted, IsAnswered, IsLinted}
 use Rattle.jl_app.specs.Refusals.{refusal_words}
 use Rattle.jl_app.proofs.Scripts.{script_small}
@@ -17,7 +14,14 @@ returns-in-Err-Refused-clause-due g c =
     let cause = c.in-Err-Refused.refusal in
     let why = rw c.in-Err-Refused.field-0-is at c.in-Err-Refused.ensures.refused in
     let said = rw c.in-Err-Refused.field-0-is at c.refused.ensures in
-    IfOk-weaker c.refused.result _ _ (λ a answered. (refused_only (refusal_words cause), refused cause why, answered.0, answered.1, c.requires.fresh)) said
+    IfOk-weaker c.refused.result _ _
+    (λ a answered. (
+      refused_only (refusal_words cause),
+      refused cause why,
+      answered.0,
+      answered.1,
+      c.requires.fresh,
+    )) said
 
 pub returns-in-Lint-clause-due : goal.returns-in-Lint-clause-due
 returns-in-Lint-clause-due g c =
@@ -40,7 +44,8 @@ returns-clause-due g c =
     IfOk-weaker c.check.result _ _
     (λ a answered. (
       functions_line p,
-      subst (λ x. IsAnswered x c.args.bytes.now (functions_line p)) (sym c.in-Check.is) (accepted p c.in-Ok.ensures.accepted.0 counted),
+      subst (λ x. IsAnswered x c.args.bytes.now (functions_line p)) (sym c.in-Check.is)
+          (accepted p c.in-Ok.ensures.accepted.0 counted),
       answered.0,
       answered.1,
       c.requires.fresh,

@@ -14,4 +14,5 @@ loop-at-preserved c =
     ∙ ap (λ l. string_bytes c.loop-at.text ++ l) (c.deref.ensures ∙ c.in_ok-line.ensures)
     ∙ ap (λ l. l ++ line_text c.args.source.now x) c.loop-at.invariant
     ∙ sym (lines_text-push c.args.source.now before x)
-    ∙ ap (lines_text c.args.source.now) (sym (map-append deref_pair c.loop-at.yielded ((c.in-Some.at, c.in-Some.count) ∷ [])))
+    ∙ ap (lines_text c.args.source.now)
+    (sym (map-append deref_pair c.loop-at.yielded ((c.in-Some.at, c.in-Some.count) ∷ [])))
