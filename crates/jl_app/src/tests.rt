@@ -1,5 +1,7 @@
 ghost use Rattle.std.specs.Prelude.{◌<◌};
 
+mod names;
+
 use crate::top::jlint;
 use jl_op::{Crowd, NanMade};
 use jl_port::{MemSink, MemSource, Same};
