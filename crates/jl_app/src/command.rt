@@ -14,7 +14,8 @@ pub enum Command {
 impl Command {
     /// The command that these words are, which is one word, its name.
     pub fn of(words: &[&str]) -> Option<Command>
-        ensures { MatchOption result ((c : Named) → texts words.now ≡ words_of c → ⊥) (λ c. texts words.now ≡ words_of c) }
+        ensures { MatchOption result ((c : Named) → texts words.now ≡ words_of c → ⊥)
+            (λ c. texts words.now ≡ words_of c) }
     {
         let [word] = words else {
             return None;

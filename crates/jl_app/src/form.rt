@@ -15,8 +15,8 @@ use std::alloc::{AllocError, Global};
 /// The units of the name `print`.
 const PRINT: [u16; 5] = [0x70, 0x72, 0x69, 0x6E, 0x74];
 
-/// The script of the form `print(SUM);` that a program is, if it is one: not strict, with no declared function, and with
-/// one statement.
+/// The script of the form `print(SUM);` that a program is, if it is one: not strict, with no declared function, and
+/// with one statement.
 pub(crate) fn script(alloc: Global, program: &Program) -> Result<Option<Script>, AllocError>
     ensures { IfOk result (λ s. option_map view_script s ≡ script_of (view_program program.now)) }
 {

@@ -88,8 +88,10 @@ fn run_answer(
     requires parts { parts (view_script script.now).argument < 2 ^ 31 }
     requires rules { ⟦<Crowd as Observer>⟧.rules crowd.old ≡ 1 ∷ [] }
     requires fresh { ⟦<Crowd as Observer>⟧.stands_for crowd.old [] }
-    ensures run { IfOk result (λ a. (lines : Lines) × IsRunAnswer source.now (view_script script.now) lines a.status a.bytes.items) }
-    ensures told { OnOk result (⟦<Crowd as Observer>⟧.stands_for crowd.new (world_of (woven_run (view_script script.now))).hooks) }
+    ensures run { IfOk result (λ a. (lines : Lines)
+        × IsRunAnswer source.now (view_script script.now) lines a.status a.bytes.items) }
+    ensures told { OnOk result (⟦<Crowd as Observer>⟧.stands_for crowd.new
+        (world_of (woven_run (view_script script.now))).hooks) }
     ensures same_rules { ⟦<Crowd as Observer>⟧.rules crowd.new ≡ ⟦<Crowd as Observer>⟧.rules crowd.old }
 {
     let mut places = vec![in alloc; 0, 0, script.at, script.at, script.print_at]?;

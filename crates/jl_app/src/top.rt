@@ -70,8 +70,8 @@ fn due<S: Source>(
 /// Runs the command that the words name, with the source as the script and the sink for the answer; all bytes of an
 /// answer are made before the first is written.
 ///
-/// `check` tells whether a script is accepted; `lint` runs one of the form `print(SUM);`. The shelf is for a text between
-/// its printing and its reading, and no command uses it yet.
+/// `check` tells whether a script is accepted; `lint` runs one of the form `print(SUM);`. The shelf is for a text
+/// between its printing and its reading, and no command uses it yet.
 pub fn jlint<S: Source, K: Sink, H: Shelf>(
     alloc: Global,
     words: &[&str],
