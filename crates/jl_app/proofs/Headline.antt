@@ -1,33 +1,49 @@
 -- The answer is about the script's own run.
-use Rattle.std.proofs.Common.{◌≡◌, ℕ, ◌+◌, ◌-◌, ◌*◌, ◌≤◌, ◌++◌, List, [], ◌∷◌, Some, length, refl, sym, ap, ◌∙◌, subst, arith}
+use Rattle.std.proofs.Common.{◌≡◌, ℕ, ◌+◌, ◌-◌, ◌*◌, ◌≤◌, ◌++◌, List, [], ◌∷◌, Some, None, length, refl, sym}
+use Rattle.std.proofs.Common.{ap, ◌∙◌, subst, arith}
 use Rattle.std.specs.Prelude.{IfSome}
 use Rattle.jl_port.specs.Bytes.{Grows}
 use Rattle.jl_op.specs.declared.value.Fault.TheVariants.{NumberOutside}
-use Rattle.jl_meaning.specs.Effects.{Part, Finish, Ends, Fails, Outcome, Over, Spent, World, nothing_done, run, IsOver, world_of, steps_taken}
+use Rattle.jl_meaning.specs.Effects.{Part, Finish, Ends, Fails, Outcome, Over, Spent, World, nothing_done, run}
+use Rattle.jl_meaning.specs.Effects.{IsOver, world_of, steps_taken}
 use Rattle.jl_meaning.specs.Follows.{SameSeen, Alike, Simulates}
 use Rattle.jl_meaning.proofs.Chains.{run_more}
 use Rattle.jl_meaning.proofs.Runs.{simulates}
 use Rattle.jl_app.specs.declared.status.Status.{Status}
 use Rattle.jl_app.specs.Sums.{Script}
-use Rattle.jl_app.specs.Reading.{IsScript}
 use Rattle.jl_app.specs.Places.{places}
 use Rattle.jl_app.specs.Meaning.{script}
 use Rattle.jl_app.specs.Weaving.{woven, hooked_script}
 use Rattle.jl_app.specs.Reporting.{Lines, IsReport, lines_text}
-use Rattle.jl_app.specs.Answers.{Due, budget, woven_budget, own_run, woven_run, end_text, end_line, run_status, run_answer, most_bytes, IsLinted, too_long, not_yet, ran, lint, bad_words, linted}
-use Rattle.jl_app.specs.Endings.{Call, EndsWith, answered, write_failed, read_failed, no_memory, HasAnswered, IsAboutOwnRun}
+use Rattle.jl_app.specs.Answers.{Due, budget, woven_budget, own_run, woven_run, end_text, end_line, run_status}
+use Rattle.jl_app.specs.Answers.{run_answer, IsLinted, not_yet, ran, IsAnswered, refused, accepted, bad_words}
+use Rattle.jl_app.specs.Answers.{answered_to}
+use Rattle.jl_ast.specs.Tree.{Program}
+use Rattle.jl_text.specs.Encoding.{units_of}
+use Rattle.jl_text.specs.declared.span.Span.{Span}
+use Rattle.jl_grammar.proofs.OneAccepted.{one_accepted}
+use Rattle.jl_app.specs.declared.command.Command.{Command}
+use Rattle.jl_app.specs.declared.command.Command.TheVariants.{Lint, Check}
+use Rattle.jl_app.specs.Accepting.{IsScript, is_legal}
+use Rattle.jl_app.specs.Commands.{words_of}
+use Rattle.jl_app.specs.Form.{script_of}
+use Rattle.jl_app.specs.Endings.{Call, EndsWith, answered, write_failed, read_failed, no_memory, HasAnswered}
+use Rattle.jl_app.specs.Endings.{IsAboutOwnRun}
 use Rattle.jl_app.proofs.Simulation.{script_matches}
-use Rattle.jl_app.proofs.ReadingScripts.{one_script}
+use Rattle.jl_app.proofs.Refusing.{never_both}
 
 pub script_simulates : (s : Script) → Simulates (script s) (hooked_script (woven s.argument 5))
 script_simulates s = simulates (script s) (hooked_script (woven s.argument 5)) (script_matches s)
 
 -- What alike runs share.
 
-same_status : {A : Type 0} (own woven : Outcome A) (lines : Lines) → Alike own woven → run_status woven lines ≡ run_status own lines
-same_status {A = A} (Over e m v) (Over f n w) lines a = ap (λ x. run_status (Over x n w) lines) a.0 ∙ finish_status e m n v w lines
+same_status : {A : Type 0} (own woven : Outcome A) (lines : Lines) → Alike own woven
+    → run_status woven lines ≡ run_status own lines
+same_status {A = A} (Over e m v) (Over f n w) lines a = ap (λ x. run_status (Over x n w) lines) a.0
+    ∙ finish_status e m n v w lines
   where
-    finish_status : (e : Finish A) (m n : ℕ) (v w : World) (lines : Lines) → run_status (Over e n w) lines ≡ run_status (Over e m v) lines
+    finish_status : (e : Finish A) (m n : ℕ) (v w : World) (lines : Lines)
+        → run_status (Over e n w) lines ≡ run_status (Over e m v) lines
     finish_status (Ends a) m n v w [] = refl
     finish_status (Ends a) m n v w (line ∷ lines) = refl
     finish_status (Fails f) m n v w lines = refl
@@ -54,12 +70,14 @@ alike_over (Over e m v) (Spent w) a = absurd a
 alike_over (Spent v) r a = absurd a
 
 -- More steps than a run needs are not taken.
-same_steps : (n d : ℕ) (p : Part (Unit {0})) (own : Outcome (Unit {0})) → run n p nothing_done ≡ own → IsOver own → steps_taken (n + d) (run (n + d) p nothing_done) ≡ steps_taken n own
+same_steps : (n d : ℕ) (p : Part (Unit {0})) (own : Outcome (Unit {0})) → run n p nothing_done ≡ own
+    → IsOver own → steps_taken (n + d) (run (n + d) p nothing_done) ≡ steps_taken n own
 same_steps n d p (Over e left v) is over =
-    ap (steps_taken (n + d)) (run_more n (n + d) d p nothing_done e left v refl is) ∙ (let same : (n + d) - (left + d) ≡ n - left = omega arith in same)
+    ap (steps_taken (n + d)) (run_more n (n + d) d p nothing_done e left v refl is)
+    ∙ (let same : (n + d) - (left + d) ≡ n - left = omega arith in same)
 same_steps n d p (Spent v) is over = absurd over
 
-module _ (s : Script) (over : IsOver (own_run s)) where
+module _ (units : List ℕ) (s : Script) (over : IsOver (own_run s)) where
   alike : Alike (own_run s) (woven_run s)
   alike = (script_simulates s).follows budget over
 
@@ -69,7 +87,10 @@ module _ (s : Script) (over : IsOver (own_run s)) where
   taken : steps_taken woven_budget (run woven_budget (script s) nothing_done) ≡ steps_taken budget (own_run s)
   taken = same_steps budget (31 * budget + 64) (script s) (own_run s) refl over
 
-  about : {call : Call} (lines : Lines) → IsReport (places s) (world_of (woven_run s)).hooks lines → Grows call.written.0 call.written.1 (run_answer s lines).bytes → call.knows (run_answer s lines).told → IsAboutOwnRun call s (run_answer s lines).status
+  about : {call : Call} (lines : Lines) → IsReport (places s) (world_of (woven_run s)).hooks lines
+      → Grows call.written.0 call.written.1 (run_answer units s lines).bytes
+      → call.knows (run_answer units s lines).told
+      → IsAboutOwnRun call units s (run_answer units s lines).status
   about {call} lines report grows knows =
       let hooks : (world_of (woven_run s)).hooks ≡ (world_of (own_run s)).operations = seen.hooks in
       let steps = steps_taken woven_budget (woven_run s) in
@@ -79,28 +100,62 @@ module _ (s : Script) (over : IsOver (own_run s)) where
         steps = steps;
         report = subst (λ ops. IsReport (places s) ops lines) hooks report;
         status = same_status (own_run s) (woven_run s) lines alike;
-        bytes = subst (λ bytes. Grows call.written.0 call.written.1 bytes)
-            (ap (λ out. out ++ (lines_text lines ++ end_line (end_text (woven_run s)) steps (length (world_of (woven_run s)).hooks) (length lines))) seen.output
-            ∙ ap (λ end. (world_of (own_run s)).output ++ (lines_text lines ++ end_line end steps (length (world_of (woven_run s)).hooks) (length lines))) (same_text (own_run s) (woven_run s) alike)
-            ∙ ap (λ ops. (world_of (own_run s)).output ++ (lines_text lines ++ end_line (end_text (own_run s)) steps (length ops) (length lines))) hooks)
+        written = subst (λ bytes. Grows call.written.0 call.written.1 bytes)
+            (ap (λ out. out ++ (lines_text units lines
+            ++ end_line (end_text (woven_run s)) steps (length (world_of (woven_run s)).hooks)
+            (length lines))) seen.output
+            ∙ ap (λ end. (world_of (own_run s)).output
+            ++ (lines_text units lines ++ end_line end steps (length (world_of (woven_run s)).hooks)
+            (length lines))) (same_text (own_run s) (woven_run s) alike)
+            ∙ ap (λ ops. (world_of (own_run s)).output
+            ++ (lines_text units lines ++ end_line (end_text (own_run s)) steps (length ops) (length lines)))
+            hooks)
             grows;
         no_fewer = subst (λ n. n ≤ steps) taken ((script_simulates s).no_fewer woven_budget ended);
-        not_many_more = subst (λ n. steps ≤ 32 * n + 64) taken ((script_simulates s).not_many_more woven_budget ended);
+        not_many_more = subst (λ n. steps ≤ 32 * n + 64) taken
+            ((script_simulates s).not_many_more woven_budget ended);
         told = subst (λ ops. call.knows ops) hooks knows;
       }
 
-due_about : {call : Call} (due : Due) (bytes : List ℕ) (s : Script) → IsOver (own_run s) → length bytes ≤ most_bytes → IsScript bytes s → IsLinted bytes due → Grows call.written.0 call.written.1 due.bytes → call.knows due.told → IsAboutOwnRun call s due.status
-due_about _ bytes s over small is (too_long h) grows knows = absurd (omega arith)
-due_about _ bytes s over small is (not_yet h none) grows knows = absurd (none s is)
-due_about {call} _ bytes s over small is (ran t lines h is2 report) grows knows =
-    let same : t ≡ s = one_script bytes t s is2 is in
-    subst (λ x. IsReport (places x) (world_of (woven_run x)).hooks lines → Grows call.written.0 call.written.1 (run_answer x lines).bytes → call.knows (run_answer x lines).told → IsAboutOwnRun call s (run_answer x lines).status) (sym same) (about s over lines) report grows knows
+lint_about : {call : Call} (units : List ℕ) (p : Program Span) (s : Script) (due : Due) → IsOver (own_run s)
+    → script_of p ≡ Some s → IsLinted units p due → Grows call.written.0 call.written.1 due.bytes
+    → call.knows due.told → IsAboutOwnRun call units s due.status
+lint_about units p s _ over is (not_yet none) grows knows =
+    let both : Some s ≡ None = sym is ∙ none in absurd (cc)
+lint_about {call} units p s _ over is (ran t lines is2 report) grows knows =
+    let both : Some s ≡ Some t = sym is ∙ is2 in
+    let same : s ≡ t = cc in
+    subst (λ x. IsReport (places x) (world_of (woven_run x)).hooks lines
+    → Grows call.written.0 call.written.1 (run_answer units x lines).bytes
+    → call.knows (run_answer units x lines).told
+    → IsAboutOwnRun call units s (run_answer units x lines).status) same (about units s over lines) report
+    grows knows
 
-pub headline : {call : Call} {answer : Status} → EndsWith call answer → (bytes : List ℕ) (s : Script) → call.held ≡ Some bytes → length bytes ≤ most_bytes → IsScript bytes s → call.words ≡ lint → IsOver (own_run s) → HasAnswered answer → IsAboutOwnRun call s answer
-headline {call} (answered due (bad_words other) grows knows) bytes s held small is words over answers = absurd (other words)
-headline {call} (answered due (linted read words2 told l) grows knows) bytes s held small is words over answers =
+due_about : {call : Call} (bytes : List ℕ) (s : Script) (due : Due) → IsOver (own_run s) → IsScript bytes s
+    → IsAnswered Lint bytes due → Grows call.written.0 call.written.1 due.bytes → call.knows due.told
+    → IsAboutOwnRun call (units_of bytes) s due.status
+due_about bytes s _ over is (refused cause r) grows knows = absurd (never_both bytes is.program cause is.accepted r)
+due_about {call} bytes s due over is (accepted p a responds) grows knows =
+    let same : is.program ≡ p = one_accepted is_legal bytes is.program p is.accepted a in
+    lint_about (units_of bytes) p s due over (subst (λ q. script_of q ≡ Some s) same is.is) responds grows knows
+
+one_command : (c d : Command) → words_of c ≡ words_of d → c ≡ d
+one_command Lint Lint e = refl
+one_command Lint Check e = absurd (cc)
+one_command Check Lint e = absurd (cc)
+one_command Check Check e = refl
+
+pub headline : {call : Call} {answer : Status} → EndsWith call answer → (bytes : List ℕ) (s : Script)
+    → call.held ≡ Some bytes → IsScript bytes s → call.words ≡ words_of Lint → IsOver (own_run s)
+    → HasAnswered answer → IsAboutOwnRun call (units_of bytes) s answer
+headline {call} (answered due (bad_words other) grows knows) bytes s held is words over answers =
+    absurd (other Lint words)
+headline {call} (answered due (answered_to c read words2 told l) grows knows) bytes s held is words over answers =
     let same : bytes ≡ read = subst (λ h. IfSome h (λ all. all ≡ read)) held told in
-    due_about due bytes s over small is (subst (λ b. IsLinted b due) (sym same) l) grows knows
-headline (write_failed due n is2 risen less grows knows) bytes s held small is words over answers = absurd answers
-headline (read_failed words2 risen same knows) bytes s held small is words over answers = absurd answers
-headline (no_memory same) bytes s held small is words over answers = absurd answers
+    let command : c ≡ Lint = one_command c Lint (sym words2 ∙ words) in
+    due_about bytes s due over is
+    (subst (λ b. IsAnswered Lint b due) (sym same) (subst (λ d. IsAnswered d read due) command l)) grows
+    knows
+headline (write_failed due n is2 risen less grows knows) bytes s held is words over answers = absurd answers
+headline (read_failed c words2 risen same knows) bytes s held is words over answers = absurd answers
+headline (no_memory same) bytes s held is words over answers = absurd answers

@@ -1,9 +1,9 @@
 pub mod Views
 pub mod Simulation
-pub mod Reading
-pub mod ReadingBytes
-pub mod ReadingScripts
-pub mod ReadingExamples
+pub mod Scripts
+pub mod Forms
+pub mod PositionLemmas
+pub mod Refusing
 pub mod Comings
 pub mod Reports
 pub mod Answering

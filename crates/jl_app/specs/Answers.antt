@@ -1,14 +1,23 @@
 -- What is due to a list of words, and to a script.
-use Rattle.std.specs.Prelude.{◌≡◌, ℕ, ◌+◌, ◌*◌, ◌<◌, ◌≤◌, List, [], ◌∷◌, ◌++◌, Option, IfSome, length, map, codes}
-use Rattle.std.specs.Borrow.{Bor}
+use Rattle.std.specs.Prelude.{◌≡◌, ℕ, ◌+◌, ◌*◌, List, [], ◌∷◌, ◌++◌, Option, Some, None, IfSome, length, codes}
 use Rattle.std.specs.Fmt.{decimal}
 use Rattle.jl_op.specs.declared.value.Fault.TheVariants.{NumberOutside}
 use Rattle.jl_op.specs.Operations.{Operation}
 use Rattle.jl_meaning.specs.Effects.{Ends, Fails, Outcome, Over, Spent, nothing_done, run, world_of, steps_taken}
 use Rattle.jl_app.specs.declared.status.Status.{Status}
 use Rattle.jl_app.specs.declared.status.Status.TheVariants as status
+use Rattle.jl_ast.specs.Table.{table}
+use Rattle.jl_ast.specs.Tree.{Program}
+use Rattle.jl_text.specs.Encoding.{units_of}
+use Rattle.jl_text.specs.declared.span.Span.{Span}
+use Rattle.jl_app.specs.declared.command.Command.{Command}
+use Rattle.jl_app.specs.declared.command.Command.TheVariants as commands
+use Rattle.jl_app.specs.declared.refusal.Refusal.{Refusal}
+use Rattle.jl_app.specs.Accepting.{IsAccepted}
+use Rattle.jl_app.specs.Commands.{words_of}
+use Rattle.jl_app.specs.Form.{script_of}
+use Rattle.jl_app.specs.Refusals.{IsRefused, refusal_words}
 use Rattle.jl_app.specs.Sums.{Script}
-use Rattle.jl_app.specs.Reading.{IsScript}
 use Rattle.jl_app.specs.Places.{places}
 use Rattle.jl_app.specs.Meaning.{script}
 use Rattle.jl_app.specs.Weaving.{woven, hooked_script}
@@ -23,6 +32,10 @@ pub record Due : Type 0 where
 -- the answer without a run: a line
 abbrev pub line_only : Status → List ℕ → Due
 line_only status text = record { status = status; bytes = codes "jlint: " ++ (text ++ 10 ∷ []); told = [] }
+
+-- the answer to a script that is refused, with these words of the refusal
+abbrev pub refused_only : List ℕ → Due
+refused_only text = line_only status.Refused (codes "refused " ++ text)
 
 -- the steps of a script's own run, and those of the woven script's
 abbrev pub budget : ℕ
@@ -48,7 +61,8 @@ end_text (Spent w) = codes "spent"
 -- the last line
 abbrev pub end_line : (end : List ℕ) → (steps hooks reports : ℕ) → List ℕ
 end_line end steps hooks reports =
-    codes "jlint: " ++ (end ++ (codes " steps=" ++ (decimal steps ++ (codes " hooks=" ++ (decimal hooks ++ (codes " reports=" ++ (decimal reports ++ 10 ∷ [])))))))
+    codes "jlint: " ++ (end ++ (codes " steps=" ++ (decimal steps
+    ++ (codes " hooks=" ++ (decimal hooks ++ (codes " reports=" ++ (decimal reports ++ 10 ∷ [])))))))
 
 -- the status of a run with these report lines
 abbrev pub run_status : {A : Type 0} → Outcome A → Lines → Status
@@ -57,40 +71,52 @@ run_status (Over (Ends a) left w) (line ∷ lines) = status.Reports
 run_status (Over (Fails f) left w) lines = status.Fault
 run_status (Spent w) lines = status.Spent
 
--- the answer to a script: what it printed, the report, and the last line
-abbrev pub run_answer : Script → Lines → Due
-run_answer s lines = record {
+-- the answer to a script in a source of these units: what it printed, the report, and the last line
+abbrev pub run_answer : (units : List ℕ) → Script → Lines → Due
+run_answer units s lines = record {
   status = run_status (woven_run s) lines;
-  bytes = (world_of (woven_run s)).output ++ (lines_text lines ++ end_line (end_text (woven_run s)) (steps_taken woven_budget (woven_run s)) (length (world_of (woven_run s)).hooks) (length lines));
+  bytes = (world_of (woven_run s)).output ++ (lines_text units lines
+      ++ end_line (end_text (woven_run s)) (steps_taken woven_budget (woven_run s))
+      (length (world_of (woven_run s)).hooks) (length lines));
   told = (world_of (woven_run s)).hooks;
 }
 
 -- it is the answer to the script, and these are the lines of the report
-pub record IsRunAnswer (s : Script) (lines : Lines) (answer : Status) (bytes : List ℕ) : Type 0 where
+pub record IsRunAnswer (units : List ℕ) (s : Script) (lines : Lines) (answer : Status) (written : List ℕ)
+    : Type 0 where
   pub report : IsReport (places s) (world_of (woven_run s)).hooks lines
-  pub status : answer ≡ (run_answer s lines).status
-  pub bytes_are : bytes ≡ (run_answer s lines).bytes
+  pub status : answer ≡ (run_answer units s lines).status
+  pub bytes_are : written ≡ (run_answer units s lines).bytes
 
--- the most bytes that a script has
-abbrev pub most_bytes : ℕ
-most_bytes = 1048576
+-- what `lint` answers to a source of these units that is accepted as this program
+pub data IsLinted (units : List ℕ) (p : Program Span) : Due → Type 0 where
+  not_yet : script_of p ≡ None → IsLinted units p (refused_only (codes "NotYet"))
+  ran : (s : Script) (lines : Lines) → script_of p ≡ Some s → IsReport (places s) (world_of (woven_run s)).hooks lines
+      → IsLinted units p (run_answer units s lines)
 
--- what `lint` answers to these bytes
-pub data IsLinted (bytes : List ℕ) : Due → Type 0 where
-  too_long : most_bytes < length bytes → IsLinted bytes (line_only status.Refused (codes "refused TooLong"))
-  not_yet : length bytes ≤ most_bytes → ((s : Script) → IsScript bytes s → ⊥) → IsLinted bytes (line_only status.Refused (codes "refused NotYet"))
-  ran : (s : Script) (lines : Lines) → length bytes ≤ most_bytes → IsScript bytes s → IsReport (places s) (world_of (woven_run s)).hooks lines → IsLinted bytes (run_answer s lines)
+-- the line that counts a program's functions
+abbrev pub functions_line : Program Span → Due
+functions_line p = line_only status.Clean (codes "accepted functions=" ++ decimal (length (table p)))
 
--- the texts of borrowed words
-abbrev pub texts : List (Bor (List ℕ)) → List (List ℕ)
-texts words = map (λ word. word.now) words
+-- what `check` answers to it
+pub data IsChecked (p : Program Span) : Due → Type 0 where
+  counted : IsChecked p (functions_line p)
 
--- the words are a command: the one word `lint`
-abbrev pub lint : List (List ℕ)
-lint = codes "lint" ∷ []
+-- what a command answers to a source of these units that is accepted as this program
+abbrev pub Responds : Command → (units : List ℕ) → Program Span → Due → Type 0
+Responds commands.Lint units p due = IsLinted units p due
+Responds commands.Check units p due = IsChecked p due
 
--- What is due to these words, where the source tells that it holds these bytes, or tells nothing. Of a source that holds
--- too many bytes not all are read, and these are the first.
+-- what a command answers to these bytes, which are refused or accepted
+pub data IsAnswered (c : Command) (bytes : List ℕ) : Due → Type 0 where
+  refused : (cause : Refusal) → IsRefused bytes cause → IsAnswered c bytes (refused_only (refusal_words cause))
+  accepted : {due : Due} (p : Program Span) → IsAccepted bytes p → Responds c (units_of bytes) p due
+      → IsAnswered c bytes due
+
+-- What is due to these words, where the source tells that it holds these bytes, or tells nothing. Of a source that
+-- holds too many bytes not all are read, and these are the first.
 pub data IsDue (words : List (List ℕ)) (held : Option (List ℕ)) : Due → Type 0 where
-  bad_words : (words ≡ lint → ⊥) → IsDue words held (line_only status.BadWords (codes "bad words"))
-  linted : {due : Due} (bytes : List ℕ) → words ≡ lint → IfSome held (λ all. all ≡ bytes) → IsLinted bytes due → IsDue words held due
+  bad_words : ((c : Command) → words ≡ words_of c → ⊥)
+      → IsDue words held (line_only status.BadWords (codes "bad words"))
+  answered_to : {due : Due} (c : Command) (bytes : List ℕ) → words ≡ words_of c → IfSome held (λ all. all ≡ bytes)
+      → IsAnswered c bytes due → IsDue words held due

@@ -9,7 +9,9 @@ use Rattle.jl_app.specs.declared.status.Status.TheVariants as status
 use Rattle.jl_app.specs.Sums.{Script}
 use Rattle.jl_app.specs.Places.{places}
 use Rattle.jl_app.specs.Reporting.{Lines, IsReport, lines_text}
-use Rattle.jl_app.specs.Answers.{Due, IsDue, lint, own_run, budget, end_text, end_line, run_status}
+use Rattle.jl_app.specs.declared.command.Command.{Command}
+use Rattle.jl_app.specs.Commands.{words_of}
+use Rattle.jl_app.specs.Answers.{Due, IsDue, own_run, budget, end_text, end_line, run_status}
 
 -- what a call was given, and what it left: its words; the bytes that the source held, where it tells, and its faults
 -- before and after; what the sink was given, where it tells, and its faults, before and after; and the lists of
@@ -25,11 +27,16 @@ pub record Call : Type 1 where
 -- A command ends in one of four ways, each with the statuses that go with it.
 pub data EndsWith (call : Call) : Status → Type 0 where
   -- what is due was written, and the crowd was told of the run
-  answered : (due : Due) → IsDue call.words call.held due → Grows call.written.0 call.written.1 due.bytes → call.knows due.told → EndsWith call due.status
+  answered : (due : Due) → IsDue call.words call.held due → Grows call.written.0 call.written.1 due.bytes
+      → call.knows due.told → EndsWith call due.status
   -- the sink failed, and a proper front of what is due was written
-  write_failed : (due : Due) (n : ℕ) → IsDue call.words call.held due → HasRisen call.write_faults.0 call.write_faults.1 → n < length due.bytes → Grows call.written.0 call.written.1 (take n due.bytes) → call.knows due.told → EndsWith call status.WriteFault
+  write_failed : (due : Due) (n : ℕ) → IsDue call.words call.held due
+      → HasRisen call.write_faults.0 call.write_faults.1 → n < length due.bytes
+      → Grows call.written.0 call.written.1 (take n due.bytes) → call.knows due.told
+      → EndsWith call status.WriteFault
   -- the source failed, and nothing was written
-  read_failed : call.words ≡ lint → HasRisen call.read_faults.0 call.read_faults.1 → call.written.1 ≡ call.written.0 → call.knows [] → EndsWith call status.ReadFault
+  read_failed : (c : Command) → call.words ≡ words_of c → HasRisen call.read_faults.0 call.read_faults.1
+      → call.written.1 ≡ call.written.0 → call.knows [] → EndsWith call status.ReadFault
   -- memory was wanted, and nothing was written
   no_memory : call.written.1 ≡ call.written.0 → EndsWith call status.NoMemory
 
@@ -40,15 +47,18 @@ HasAnswered status.WriteFault = ⊥
 HasAnswered status.NoMemory = ⊥
 HasAnswered _ = Unit {0}
 
--- The answer is about the script's own run: it was written with what that run printed; its lines are those of that
--- run's operations, which the crowd was told of; its end and status are those of that run; and the steps that it counts
--- are no fewer than that run's, and not many more.
-pub record IsAboutOwnRun (call : Call) (s : Script) (answer : Status) : Type 0 where
+-- The answer is about the own run of a script, which stands in a source of these units: it was written with what that
+-- run printed; its lines are those of that run's operations, which the crowd was told of; its end and status are those
+-- of that run; and the steps that it counts are no fewer than that run's, and not many more.
+pub record IsAboutOwnRun (call : Call) (units : List ℕ) (s : Script) (answer : Status) : Type 0 where
   pub lines : Lines
   pub steps : ℕ
   pub report : IsReport (places s) (world_of (own_run s)).operations lines
   pub status : answer ≡ run_status (own_run s) lines
-  pub bytes : Grows call.written.0 call.written.1 ((world_of (own_run s)).output ++ (lines_text lines ++ end_line (end_text (own_run s)) steps (length (world_of (own_run s)).operations) (length lines)))
+  pub written : Grows call.written.0 call.written.1
+      ((world_of (own_run s)).output
+      ++ (lines_text units lines
+      ++ end_line (end_text (own_run s)) steps (length (world_of (own_run s)).operations) (length lines)))
   pub no_fewer : steps_taken budget (own_run s) ≤ steps
   pub not_many_more : steps ≤ 32 * steps_taken budget (own_run s) + 64
   pub told : call.knows (world_of (own_run s)).operations

@@ -10,4 +10,4 @@ sum_places (binary at op a b) = at ∷ (sum_places a ++ sum_places b)
 
 -- the script has two, for its beginning and its end; the call two, for before and after; and the name `print` one
 abbrev pub places : Script → List ℕ
-places s = 0 ∷ 0 ∷ s.at ∷ s.at ∷ s.at ∷ sum_places s.argument
+places s = 0 ∷ 0 ∷ s.at ∷ s.at ∷ s.print_at ∷ sum_places s.argument

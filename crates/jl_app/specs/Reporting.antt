@@ -1,5 +1,6 @@
--- The report of nan-made on a script of one line: how often the rule hit at each place, by rising place.
-use Rattle.std.specs.Prelude.{◌≡◌, ℕ, zero, suc, ◌+◌, Bool, false, ◌==◌, List, [], ◌∷◌, ◌++◌, map, Option, Some, None, slice_get, count_by, sum_by, codes, if◌then◌else◌}
+-- The report of nan-made: how often the rule hit at each place, by rising place.
+use Rattle.std.specs.Prelude.{◌≡◌, ℕ, zero, suc, Bool, false, ◌==◌, List, [], ◌∷◌, ◌++◌, map, Option, Some}
+use Rattle.std.specs.Prelude.{None, slice_get, count_by, sum_by, codes, if◌then◌else◌}
 use Rattle.std.specs.Ordering.{is_eq, nat_cmp}
 use Rattle.std.specs.List.Sorted.{IsStrictlySortedBy}
 use Rattle.std.specs.Map.{lookup}
@@ -7,6 +8,7 @@ use Rattle.std.specs.Fmt.{decimal}
 use Rattle.jl_op.specs.declared.op.OpId.{OpId}
 use Rattle.jl_op.specs.Operations.{Operation}
 use Rattle.jl_op.specs.Summary.{Counts, hits}
+use Rattle.jl_app.specs.Positions.{position, position_text}
 
 -- places, each with a number of hits
 abbrev pub Lines : Type 0
@@ -47,10 +49,12 @@ pub record IsReport (places : List ℕ) (ops : List Operation) (lines : Lines) :
 abbrev pub total_at : (places : List ℕ) → (at : ℕ) → Counts → ℕ
 total_at places at counts = sum_by (λ x. if is_place at (place_of places x.0) then x.1 else 0) counts
 
--- the text of a line: line 1, the column, which counts from 1, the rule and the number
-abbrev pub line_text : ℕ × ℕ → List ℕ
-line_text line = codes "1:" ++ (decimal (line.0 + 1) ++ (codes " nan-made " ++ (decimal line.1 ++ 10 ∷ [])))
+-- In a source of these units:
+module _ (units : List ℕ) where
+  -- the text of a line: the line and the column of the place, the rule and the number
+  abbrev pub line_text : ℕ × ℕ → List ℕ
+  line_text line = position_text (position units line.0) ++ (codes " nan-made " ++ (decimal line.1 ++ 10 ∷ []))
 
-abbrev pub lines_text : Lines → List ℕ
-lines_text [] = []
-lines_text (line ∷ lines) = line_text line ++ lines_text lines
+  abbrev pub lines_text : Lines → List ℕ
+  lines_text [] = []
+  lines_text (line ∷ lines) = line_text line ++ lines_text lines

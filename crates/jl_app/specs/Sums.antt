@@ -8,9 +8,10 @@ pub data Sum : Type 0 where
   number : (at : ℕ) → Number → Sum
   binary : (at : ℕ) → Operator → Sum → Sum → Sum
 
--- where `print` begins, and what it is called with
+-- where the call begins, where the name `print` begins in it, and what it is called with
 pub record Script : Type 0 where
   pub at : ℕ
+  pub print_at : ℕ
   pub argument : Sum
 
 -- how many numbers and operators a sum has

@@ -15,7 +15,7 @@ abbrev pub view : SumTree → Sum
 view = fold-Sum Sum sum_step
 
 abbrev pub view_script : ScriptTree → Script
-view_script s = record { at = s.at; argument = view s.argument }
+view_script s = record { at = s.at; print_at = s.print_at; argument = view s.argument }
 
 abbrev pub woven_step : Woven-F Hooked → Hooked
 woven_step (Woven-F.Literal id n) = hooked_literal id n

@@ -1,31 +1,16 @@
-ghost use Rattle.std.specs.Prelude.{◌≡◌, ◌+◌, ◌^◌, ◌<◌, ◌≤◌, List, [], ◌∷◌, ◌++◌, length, IfOk, OnOk, codes};
-ghost use Rattle.std.specs.String.{string_bytes};
+ghost use Rattle.std.specs.Prelude.{◌≡◌, ◌≤◌, [], ◌∷◌, length, IfOk};
 ghost use Rattle.jl_op.specs.Operations.{Operation};
-ghost use Rattle.jl_meaning.specs.Effects.{world_of};
-ghost use Rattle.jl_app.specs.Answers.{Due, IsLinted, IsRunAnswer, line_only, end_line, woven_run};
-ghost use Rattle.jl_app.specs.Reporting.{Lines};
-ghost use Rattle.jl_app.specs.Sums.{parts};
-ghost use Rattle.jl_app.specs.Texts.{outcome_text, outcome_status};
-ghost use Rattle.jl_app.specs.View.{view_script};
+ghost use Rattle.jl_app.specs.Answers.{Due, IsAnswered, line_only, refused_only};
+ghost use Rattle.jl_app.specs.Refusals.{refusal_words};
 
-use crate::outcome::{Outcome, Run};
-use crate::read::{ReadingRefusal, read};
-use crate::report::{report, text};
-use crate::run::run;
+use crate::accept::{Unaccepted, accept};
+use crate::check::check;
+use crate::command::Command;
+use crate::lint::lint;
+use crate::refusal::Refusal;
 use crate::status::Status;
-use crate::tree::Script;
-use crate::weave::weave;
-use jl_op::{Crowd, Fault, Observer};
+use jl_op::{Crowd, Observer};
 use std::alloc::{AllocError, Global};
-
-/// How many steps a script's own run has.
-const BUDGET: u64 = 1_000_000;
-
-/// How many steps the run of a woven script has.
-const WOVEN_BUDGET: u64 = 32 * BUDGET + 64;
-
-/// The most bytes that a script has.
-pub(crate) const MOST_BYTES: usize = 1_048_576;
 
 /// A status, and the bytes that are written with it.
 #[derive(Drop)]
@@ -46,93 +31,40 @@ pub(crate) fn line_only(alloc: Global, status: Status, text: &str) -> Result<Ans
     })
 }
 
-/// How a run ended, in words.
-fn end_text(outcome: Outcome) -> &'static str
-    ensures { result.now ≡ outcome_text outcome }
+/// The answer to bytes that are refused.
+pub(crate) fn refused(alloc: Global, refusal: &Refusal) -> Result<Answer, AllocError>
+    ensures { IfOk result (λ a. (a.status ≡ (refused_only (refusal_words refusal.now)).status)
+        × (a.bytes.items ≡ (refused_only (refusal_words refusal.now)).bytes)) }
 {
-    match outcome {
-        Outcome::Normal => "normal",
-        Outcome::Fault(Fault::NumberOutside) => "fault NumberOutside",
-        Outcome::Spent => "spent",
-    }
+    let words = refusal.words(alloc)?;
+    let text = format!(in alloc; "refused {words}")?;
+    line_only(alloc, Status::Refused, &text)
 }
 
-/// The last line of an answer with a run.
-fn end_line(alloc: Global, run: &Run, reports: usize) -> Result<String, AllocError>
-    ensures { IfOk result (λ text. string_bytes text
-        ≡ end_line (outcome_text run.now.outcome) run.now.steps run.now.hooks reports) }
-{
-    let end = end_text(run.outcome);
-    let steps = run.steps;
-    let hooks = run.hooks;
-    format!(in alloc; "jlint: {end} steps={steps} hooks={hooks} reports={reports}\n")
-}
-
-/// The status of a run with so many report lines.
-fn run_status(outcome: Outcome, reports: usize) -> Status
-    ensures { result ≡ outcome_status outcome reports }
-{
-    match outcome {
-        Outcome::Normal => {
-            if reports == 0 {
-                Status::Clean
-            } else {
-                Status::Reports
-            }
-        }
-        Outcome::Fault(_) => Status::Fault,
-        Outcome::Spent => Status::Spent,
-    }
-}
-
-/// The output of a run, its report and the last line.
-fn joined(output: Vec<u8>, report: &str, end: &str) -> Result<Vec<u8>, AllocError>
-    ensures { IfOk result (λ bytes. bytes.items ≡ output.items ++ (report.now ++ end.now)) }
-{
-    let mut bytes = output;
-    bytes.extend_from_slice(report.as_bytes())?;
-    bytes.extend_from_slice(end.as_bytes())?;
-    Ok(bytes)
-}
-
-/// Runs a script, and answers what it printed, the report, and the last line.
-fn respond(alloc: Global, script: &Script, crowd: &mut Crowd) -> Result<Answer, AllocError>
-    requires parts { parts (view_script script.now).argument < 2 ^ 31 }
-    requires rules { ⟦<Crowd as Observer>⟧.rules crowd.old ≡ 1 ∷ [] }
-    requires fresh { ⟦<Crowd as Observer>⟧.stands_for crowd.old [] }
-    ensures run { IfOk result (λ a. (lines : Lines) × IsRunAnswer (view_script script.now) lines a.status a.bytes.items) }
-    ensures told { OnOk result (⟦<Crowd as Observer>⟧.stands_for crowd.new (world_of (woven_run (view_script script.now))).hooks) }
-    ensures same_rules { ⟦<Crowd as Observer>⟧.rules crowd.new ≡ ⟦<Crowd as Observer>⟧.rules crowd.old }
-{
-    let mut places = vec![in alloc; 0, 0, script.at, script.at, script.at]?;
-    let woven = weave(alloc, &script.argument, &mut places)?;
-    let run = run(alloc, &woven, WOVEN_BUDGET, crowd)?;
-    let lines = report(alloc, crowd.found(0), &places)?;
-    let reports = lines.len();
-    let status = run_status(run.outcome, reports);
-    let report = text(alloc, &lines)?;
-    let end = end_line(alloc, &run, reports)?;
-    Ok(Answer {
-        status,
-        bytes: joined(run.output, &report, &end)?,
-    })
-}
-
-/// What `lint` answers to these bytes.
-pub(crate) fn lint(alloc: Global, bytes: &[u8], crowd: &mut Crowd) -> Result<Answer, AllocError>
+/// What a command answers to these bytes.
+pub(crate) fn respond(
+    alloc: Global,
+    command: Command,
+    bytes: &[u8],
+    crowd: &mut Crowd,
+) -> Result<Answer, AllocError>
     requires small { length bytes.now ≤ 1048576 }
     requires rules { ⟦<Crowd as Observer>⟧.rules crowd.old ≡ 1 ∷ [] }
     requires fresh { ⟦<Crowd as Observer>⟧.stands_for crowd.old [] }
     ensures due { IfOk result (λ a. (due : Due)
-        × IsLinted bytes.now due
+        × IsAnswered command bytes.now due
         × (a.status ≡ due.status)
         × (a.bytes.items ≡ due.bytes)
         × ⟦<Crowd as Observer>⟧.stands_for crowd.new due.told) }
     ensures same_rules { ⟦<Crowd as Observer>⟧.rules crowd.new ≡ ⟦<Crowd as Observer>⟧.rules crowd.old }
 {
-    match read(alloc, bytes) {
-        Ok(script) => Ok(respond(alloc, &script, crowd)?),
-        Err(ReadingRefusal::NotYet) => Ok(line_only(alloc, Status::Refused, "refused NotYet")?),
-        Err(ReadingRefusal::NoMemory) => Err(AllocError),
+    let accepted = match accept(alloc, bytes) {
+        Ok(accepted) => accepted,
+        Err(Unaccepted::Refused(refusal)) => return refused(alloc, &refusal),
+        Err(Unaccepted::NoMemory) => return Err(AllocError),
+    };
+    match command {
+        Command::Lint => lint(alloc, &accepted, crowd),
+        Command::Check => check(alloc, &accepted.program),
     }
 }

@@ -2,9 +2,20 @@
 
 ghost use Rattle.jl_meaning.specs.Follows.{Simulates};
 ghost use Rattle.jl_app.specs.Meaning.{script};
-ghost use Rattle.jl_app.specs.Reading.{OneReading};
+ghost use Rattle.jl_app.specs.Accepting.{OneReading};
+ghost use Rattle.jl_app.specs.Refusals.{NeverBoth, AcceptedOrRefused};
 ghost use Rattle.jl_app.specs.Sums.{Script};
 ghost use Rattle.jl_app.specs.Weaving.{woven, hooked_script};
+
+/// No bytes are both accepted and refused.
+pub fn never_both()
+    ensures { NeverBoth }
+{}
+
+/// All bytes are accepted or refused.
+pub fn accepted_or_refused()
+    ensures { AcceptedOrRefused }
+{}
 
 /// No bytes are two scripts.
 pub fn one_reading()

@@ -4,6 +4,7 @@ ghost use Rattle.std.specs.BTreeMap.{get, IsOrdered};
 ghost use Rattle.std.specs.String.{string_bytes};
 ghost use Rattle.jl_app.specs.Reporting.{if_any, total_at, place_of, line_text, lines_text};
 
+use crate::source::Source;
 use jl_op::OpId;
 use std::alloc::{AllocError, Global};
 use std::collections::BTreeMap;
@@ -38,21 +39,25 @@ fn place(places: &[u32], id: OpId) -> Option<u32>
 }
 
 /// The text of a report, a line for each place.
-pub fn text(alloc: Global, lines: &BTreeMap<u32, u64>) -> Result<String, AllocError>
-    ensures { IfOk result (λ text. string_bytes text ≡ lines_text lines.now.entries) }
+pub fn text(
+    alloc: Global,
+    source: &Source,
+    lines: &BTreeMap<u32, u64>,
+) -> Result<String, AllocError>
+    ensures { IfOk result (λ text. string_bytes text ≡ lines_text source.now lines.now.entries) }
 {
     let mut text = String::new(alloc);
     for (at, count) in lines {
-        let line = line(alloc, *at, *count)?;
+        let line = line(alloc, source, *at, *count)?;
         text.push_str(&line)?;
     }
     Ok(text)
 }
 
-/// The text of a line: line 1, a column that counts from 1, the rule, and the number of hits.
-fn line(alloc: Global, at: u32, count: u64) -> Result<String, AllocError>
-    ensures { IfOk result (λ text. string_bytes text ≡ line_text (at, count)) }
+/// The text of a line: the place, the rule, and the number of hits.
+fn line(alloc: Global, source: &Source, at: u32, count: u64) -> Result<String, AllocError>
+    ensures { IfOk result (λ text. string_bytes text ≡ line_text source.now (at, count)) }
 {
-    let column = u64::from(at) + 1;
-    format!(in alloc; "1:{column} nan-made {count}\n")
+    let position = source.position(at);
+    format!(in alloc; "{position} nan-made {count}\n")
 }

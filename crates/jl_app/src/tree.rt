@@ -4,12 +4,14 @@ use jl_op::Operator;
 /// A script of the form `print(SUM);`.
 #[derive(Drop)]
 pub struct Script {
-    /// Where `print` begins, in bytes from the script's start.
+    /// Where the call begins, in UTF-16 units from the script's start.
     pub at: u32,
+    /// Where the name `print` begins in it.
+    pub print_at: u32,
     pub argument: Sum,
 }
 
-/// A number, or an operator between two sums, and where it begins, in bytes from the script's start.
+/// A number, or an operator between two sums, and where it begins, in UTF-16 units from the script's start.
 #[derive(Drop)]
 pub enum Sum {
     Number {

@@ -1,35 +1,53 @@
-use Rattle.std.proofs.Common.{◌∙◌, ap, length}
-use Rattle.jl_meaning.specs.Effects.{world_of}
-use Rattle.jl_app.specs.Answers.{woven_run}
-use Rattle.jl_app.specs.Places.{sum_places}
-use Rattle.jl_app.specs.View.{view_script}
-use Rattle.jl_app.specs.Weaving.{woven}
-use Rattle.std.proofs.Common.{◌++◌}
-use Rattle.jl_app.proofs.Answering.{run_of, found_of, few_of, some_found, few_found, answer_is}
+use Rattle.std.proofs.Common.{sym, subst}
+use Rattle.std.proofs.lemmas.Result.{IfOk-weaker}
+use Rattle.jl_ast.specs.View.{view}
+use Rattle.jl_app.specs.Answers.{refused_only, functions_line, counted, refused, accepted, IsAnswered, IsLinted}
+use Rattle.jl_app.specs.Refusals.{refusal_words}
+use Rattle.jl_app.proofs.Scripts.{script_small}
 use Rattle.jl_app.proofs.answer.respond.Goals as goal
 
-pub report-requires-clause-some : goal.report-requires-clause-some
-report-requires-clause-some g c =
-    let s = view_script c.args.script.now in
-    let ops = (world_of (woven_run s)).hooks in
-    let is = run_of s _ (c.in_ok-woven.ensures.woven ∙ ap (λ l. woven s.argument (length l)) c.in_ok-places.ensures.items) (c.in_ok-run.ensures.is c.requires.fresh) in
-    some_found c.found.result.now ops (found_of _ c.found.result.now ops (c.in_ok-run.ensures.rules ∙ c.requires.rules) (c.found.ensures ops is.told))
+pub lint-requires-clause-parts : goal.lint-requires-clause-parts
+lint-requires-clause-parts g c = λ s is. script_small c.args.bytes.now _ s c.in-Ok.ensures.accepted.0 is
 
-pub report-requires-clause-few : goal.report-requires-clause-few
-report-requires-clause-few g c =
-    let s = view_script c.args.script.now in
-    let ops = (world_of (woven_run s)).hooks in
-    let is = run_of s _ (c.in_ok-woven.ensures.woven ∙ ap (λ l. woven s.argument (length l)) c.in_ok-places.ensures.items) (c.in_ok-run.ensures.is c.requires.fresh) in
-    few_found c.found.result.now ops (found_of _ c.found.result.now ops (c.in_ok-run.ensures.rules ∙ c.requires.rules) (c.found.ensures ops is.told)) (few_of ops c.in_ok-run.run' is.hooks c.in_ok-run.ensures.few)
+pub returns-in-Err-Refused-clause-due : goal.returns-in-Err-Refused-clause-due
+returns-in-Err-Refused-clause-due g c =
+    let cause = c.in-Err-Refused.refusal in
+    let why = rw c.in-Err-Refused.field-0-is at c.in-Err-Refused.ensures.refused in
+    let said = rw c.in-Err-Refused.field-0-is at c.refused.ensures in
+    IfOk-weaker c.refused.result _ _
+    (λ a answered. (
+      refused_only (refusal_words cause),
+      refused cause why,
+      answered.0,
+      answered.1,
+      c.requires.fresh,
+    )) said
 
-pub returns-clause-run : goal.returns-clause-run
-returns-clause-run g c =
-    let s = view_script c.args.script.now in
-    let ops = (world_of (woven_run s)).hooks in
-    let is = run_of s _ (c.in_ok-woven.ensures.woven ∙ ap (λ l. woven s.argument (length l)) c.in_ok-places.ensures.items) (c.in_ok-run.ensures.is c.requires.fresh) in
-    let found = found_of _ c.found.result.now ops (c.in_ok-run.ensures.rules ∙ c.requires.rules) (c.found.ensures ops is.told) in
-    let taken = c.deref.ensures.value ∙ c.in_ok-woven.ensures.places ∙ ap (λ l. l ++ sum_places s.argument) c.in_ok-places.ensures.items in (
-      c.in_ok-lines.lines.entries,
-      answer_is s c.found.result.now c.deref.result.now c.in_ok-lines.lines.entries c.len-reports.result c.run_status-status.result c.deref-2.result.now c.deref-3.result.now c.in_ok-joined.field-0.items
-          is c.in_ok-run.ensures.few found taken c.in_ok-lines.ensures.counts c.in_ok-lines.ensures.by_place c.len-reports.ensures.len c.run_status-status.ensures (c.deref-2.ensures ∙ c.in_ok-report.ensures) (c.deref-3.ensures ∙ c.in_ok-end.ensures) c.in_ok-joined.ensures,
-    )
+pub returns-in-Lint-clause-due : goal.returns-in-Lint-clause-due
+returns-in-Lint-clause-due g c =
+    let p = view c.in-Ok.accepted.program in
+    let is = c.in-Ok.ensures.accepted in
+    IfOk-weaker c.lint.result _ _
+    (λ a due. (
+      due.0,
+      subst (λ x. IsAnswered x c.args.bytes.now due.0) (sym c.in-Lint.is)
+          (accepted p is.0 (subst (λ us. IsLinted us p due.0) is.1 due.1)),
+      due.2,
+      due.3,
+      due.4,
+    ))
+    c.lint.ensures.due
+
+pub returns-clause-due : goal.returns-clause-due
+returns-clause-due g c =
+    let p = view c.in-Ok.accepted.program in
+    IfOk-weaker c.check.result _ _
+    (λ a answered. (
+      functions_line p,
+      subst (λ x. IsAnswered x c.args.bytes.now (functions_line p)) (sym c.in-Check.is)
+          (accepted p c.in-Ok.ensures.accepted.0 counted),
+      answered.0,
+      answered.1,
+      c.requires.fresh,
+    ))
+    c.check.ensures

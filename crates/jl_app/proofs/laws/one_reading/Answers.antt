@@ -1,4 +1,4 @@
-use Rattle.jl_app.proofs.ReadingScripts.{one_script}
+use Rattle.jl_app.proofs.Scripts.{one_script}
 use Rattle.jl_app.proofs.laws.one_reading.Goals as goal
 
 pub returns : goal.returns

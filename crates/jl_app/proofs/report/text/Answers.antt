@@ -12,6 +12,7 @@ loop-at-preserved c =
     let before = map deref_pair c.loop-at.yielded in
     c.in_ok-push_str.ensures.bytes
     ∙ ap (λ l. string_bytes c.loop-at.text ++ l) (c.deref.ensures ∙ c.in_ok-line.ensures)
-    ∙ ap (λ l. l ++ line_text x) c.loop-at.invariant
-    ∙ sym (lines_text-push before x)
-    ∙ ap lines_text (sym (map-append deref_pair c.loop-at.yielded ((c.in-Some.at, c.in-Some.count) ∷ [])))
+    ∙ ap (λ l. l ++ line_text c.args.source.now x) c.loop-at.invariant
+    ∙ sym (lines_text-push c.args.source.now before x)
+    ∙ ap (lines_text c.args.source.now)
+    (sym (map-append deref_pair c.loop-at.yielded ((c.in-Some.at, c.in-Some.count) ∷ [])))

@@ -5,4 +5,4 @@ use Rattle.jl_app.specs.Reporting.{lines_text}
 use Rattle.jl_app.proofs.report.text.Given as goal
 
 abbrev pub invariant-loop-at : goal.invariant-loop-at
-invariant-loop-at l = string_bytes l.text ≡ lines_text (map deref_pair l.yielded)
+invariant-loop-at l = string_bytes l.text ≡ lines_text l.source (map deref_pair l.yielded)

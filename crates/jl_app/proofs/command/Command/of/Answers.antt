@@ -1,0 +1,12 @@
+use Rattle.std.specs.Prelude.{codes}
+use Rattle.jl_app.proofs.Endings.{one_word, is_word}
+use Rattle.jl_app.proofs.command.Command.of.Goals as goal
+
+pub returns-then-eq : goal.returns-then-eq
+returns-then-eq c = (is_word _ _ (codes "lint") c.eq.result
+    (one_word c.args.words.now _ c.in-len1.len_at_least c.in-len1.len_below) c.eq.ensures).0 c.if-eq.true
+
+pub returns-then-eq-2 : goal.returns-then-eq-2
+returns-then-eq-2 c =
+    (is_word _ _ (codes "check") c.eq-2.result
+    (one_word c.args.words.now _ c.in-len1.len_at_least c.in-len1.len_below) c.eq-2.ensures).0 c.if-eq-2.true

@@ -1,0 +1,32 @@
+use Rattle.std.proofs.Common.{◌∙◌, refl, ap, Err}
+use Rattle.jl_app.specs.Endings.{read_failed, no_memory}
+use Rattle.jl_app.proofs.Endings.{ends_answered, ends_short}
+use Rattle.jl_app.proofs.Headline.{headline}
+use Rattle.jl_app.proofs.top.jlint.Goals as goal
+
+pub returns-in-Err-ReadFault-clause-ends : goal.returns-in-Err-ReadFault-clause-ends
+returns-in-Err-ReadFault-clause-ends g c =
+    let fault = c.in-Err-ReadFault.ensures.fault (ap Err c.in-Err-ReadFault.field-0-is) in
+    read_failed fault.0.0 fault.0.1 fault.1 refl fault.2
+
+pub returns-in-Err-NoMemory-clause-ends : goal.returns-in-Err-NoMemory-clause-ends
+returns-in-Err-NoMemory-clause-ends g c = no_memory refl
+
+pub returns-in-Ok-write_all-clause-ends : goal.returns-in-Ok-write_all-clause-ends
+returns-in-Ok-write_all-clause-ends g c =
+    let due = c.in-Ok.ensures.due in
+    ends_answered due.0 c.in-Ok.answer.status c.deref.result.now due.2 (c.deref.ensures.value ∙ due.3) due.1
+    c.in-Ok-write_all.ensures.all due.4
+
+pub returns-clause-ends : goal.returns-clause-ends
+returns-clause-ends g c =
+    let due = c.in-Ok.ensures.due in
+    let failed = c.in-Err.ensures in
+    ends_short due.0 c.deref.result.now c.in-Err.field-0.written (c.deref.ensures.value ∙ due.3) due.1
+    failed.fault failed.proper failed.front due.4
+
+pub returns-in-Ok-write_all-clause-headline : goal.returns-in-Ok-write_all-clause-headline
+returns-in-Ok-write_all-clause-headline g c =
+    let due = c.in-Ok.ensures.due in
+    headline (ends_answered due.0 c.in-Ok.answer.status c.deref.result.now due.2 (c.deref.ensures.value ∙ due.3)
+    due.1 c.in-Ok-write_all.ensures.all due.4)

@@ -1,0 +1,130 @@
+ghost use Rattle.std.specs.Prelude.{◌≡◌, ◌≤◌, ◌<◌, ◌^◌, ℕ, List as Items, None, length, IfOk, IfErr, OnOk};
+ghost use Rattle.jl_ast.specs.View.{view};
+ghost use Rattle.jl_grammar.specs.Program.{Reads};
+ghost use Rattle.jl_scope.specs.Breach.{first_breach};
+ghost use Rattle.jl_text.specs.Encoding.{units_of};
+ghost use Rattle.jl_token.specs.Tokens.{Tokens};
+ghost use Rattle.jl_app.specs.Accepting.{IsAccepted, IsText, HasTokens, IsProgram};
+ghost use Rattle.jl_app.specs.Refused.{Refuses};
+ghost use Rattle.jl_app.specs.declared.accept.Unaccepted.TheVariants.{NoMemory};
+
+use crate::refusal::Refusal;
+use crate::source::Source;
+use jl_ast::Program;
+use jl_lex::{LexRefusal, lex};
+use jl_parse::{ParseRefusal, parse};
+use jl_scope::{ScopeRefusal, check};
+use jl_text::{List, Utf8Fault, from_utf8};
+use jl_token::Token;
+use std::alloc::{AllocError, Global};
+
+/// The most bytes that a script has.
+pub(crate) const MOST_BYTES: usize = 1_048_576;
+
+/// The most levels that a program has.
+const MOST_LEVELS: u32 = 200;
+
+/// An accepted script: its text, and the program that it is read as.
+#[derive(Drop)]
+pub(crate) struct Accepted {
+    pub(crate) source: Source,
+    pub(crate) program: Program,
+}
+
+/// Why bytes are not accepted.
+#[derive(Drop)]
+pub(crate) enum Unaccepted {
+    Refused(Refusal),
+    NoMemory,
+}
+
+impl From<AllocError> for Unaccepted {
+    ghost from_gives = { λ _ e. e ≡ NoMemory };
+
+    fn from(_error: AllocError) -> Unaccepted {
+        Unaccepted::NoMemory
+    }
+}
+
+/// The text of these bytes.
+fn decoded(alloc: Global, bytes: &[u8]) -> Result<Source, Unaccepted>
+    requires { length bytes.now ≤ 1048576 }
+    ensures text { IfOk result (λ source. IsText bytes.now × (source ≡ units_of bytes.now)) }
+    ensures refused { IfErr result (Refuses bytes.now) }
+{
+    match from_utf8(alloc, bytes) {
+        Ok(units) => Ok(Source::new(alloc, units)?),
+        Err(Utf8Fault::NotUtf8 { at }) => Err(Unaccepted::Refused(Refusal::NotUtf8 { at })),
+        Err(Utf8Fault::NoMemory) => Err(Unaccepted::NoMemory),
+    }
+}
+
+/// Its tokens.
+fn lexed(alloc: Global, source: &Source) -> Result<List<Token>, Unaccepted>
+    ensures tokens { IfOk result (λ tokens. Tokens source.now tokens) }
+    ensures refused { (bytes : Items ℕ) → IsText bytes → source.now ≡ units_of bytes → IfErr result (Refuses bytes) }
+{
+    match lex(alloc, source.units()) {
+        Ok(tokens) => Ok(tokens),
+        Err(LexRefusal::BadInput { at, kind }) => {
+            let at = source.position(at);
+            Err(Unaccepted::Refused(Refusal::BadInput { kind, at }))
+        }
+        Err(LexRefusal::NoMemory) => Err(Unaccepted::NoMemory),
+    }
+}
+
+/// The program that they read as.
+fn parsed(alloc: Global, source: &Source, tokens: &[Token]) -> Result<Program, Unaccepted>
+    requires { length tokens.now < 2 ^ 32 }
+    ensures read { IfOk result (λ program. Reads tokens.now 200 (view program)) }
+    ensures refused { (bytes : Items ℕ) → HasTokens bytes tokens.now → source.now ≡ units_of bytes
+        → IfErr result (Refuses bytes) }
+{
+    match parse(alloc, tokens, MOST_LEVELS) {
+        Ok(program) => Ok(program),
+        Err(ParseRefusal::Unreadable { at }) => {
+            let at = source.position(at);
+            Err(Unaccepted::Refused(Refusal::Unreadable { at }))
+        }
+        Err(ParseRefusal::NoMemory) => Err(Unaccepted::NoMemory),
+    }
+}
+
+/// Whether it breaks no early rule and uses no name that it must not.
+fn checked(alloc: Global, source: &Source, program: &Program) -> Result<(), Unaccepted>
+    ensures legal { OnOk result (first_breach (view program.now) ≡ None) }
+    ensures refused { (bytes : Items ℕ) → IsProgram bytes (view program.now) → source.now ≡ units_of bytes
+        → IfErr result (Refuses bytes) }
+{
+    match check(alloc, program) {
+        Ok(()) => Ok(()),
+        Err(ScopeRefusal::Early { rule, span }) => {
+            let at = source.position(span.from);
+            Err(Unaccepted::Refused(Refusal::Early { rule, at }))
+        }
+        Err(ScopeRefusal::LeftOut { name, span }) => {
+            let at = source.position(span.from);
+            Err(Unaccepted::Refused(Refusal::LeftOut { name, at }))
+        }
+        Err(ScopeRefusal::ReservedName { span }) => {
+            let at = source.position(span.from);
+            Err(Unaccepted::Refused(Refusal::ReservedName { at }))
+        }
+        Err(ScopeRefusal::NoMemory) => Err(Unaccepted::NoMemory),
+    }
+}
+
+/// The program that these bytes are accepted as, with its text. Its cost is that of the lexer, the parser and the check
+/// of names together; it goes as deep as the program is high.
+pub(crate) fn accept(alloc: Global, bytes: &[u8]) -> Result<Accepted, Unaccepted>
+    requires { length bytes.now ≤ 1048576 }
+    ensures accepted { IfOk result (λ a. IsAccepted bytes.now (view a.program) × (a.source ≡ units_of bytes.now)) }
+    ensures refused { IfErr result (Refuses bytes.now) }
+{
+    let source = decoded(alloc, bytes)?;
+    let tokens = lexed(alloc, &source)?;
+    let program = parsed(alloc, &source, tokens.items())?;
+    checked(alloc, &source, &program)?;
+    Ok(Accepted { source, program })
+}

@@ -1,0 +1,4 @@
+function f() { }
+var g = function () {
+  function h() { }
+};
