@@ -16,3 +16,5 @@ mod Laid
 mod Followers
 mod LexedNumbers
 mod Printed
+mod Writing
+mod Laying

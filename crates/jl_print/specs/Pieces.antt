@@ -29,7 +29,7 @@ is_plain_letter u = (nat_le 65 u && nat_le u 90) || ((nat_le 97 u && nat_le u 12
 abbrev pub is_plain_digit : ℕ → Bool
 is_plain_digit u = nat_le 48 u && nat_le u 57
 
-abbrev are_plain : List ℕ → Bool
+abbrev pub are_plain : List ℕ → Bool
 are_plain [] = true
 are_plain (u ∷ us) = (is_plain_letter u || is_plain_digit u) && are_plain us
 
