@@ -14,7 +14,7 @@ mod Renumbered
 mod ReadFormed
 mod Laid
 mod Followers
-mod LexedNumbers
 mod Printed
+mod LexedNumbers
 mod Writing
 mod Laying

@@ -3,9 +3,11 @@ use Rattle.std.proofs.Common.{◌≡◌, ℕ, Bool, true, false, List, [], ◌�
 use Rattle.std.proofs.Common.{ap, ◌∙◌, Option, Some, None, length, nat_eq, arith}
 use Rattle.std.specs.Prelude.{not, codes, if◌then◌else◌}
 use Rattle.jl_ast.specs.Tree as tree
-use Rattle.jl_ast.specs.Tree.{Ident, Text, Tree, Row}
-use Rattle.jl_ast.specs.View.{view_expression, view_items}
+use Rattle.jl_ast.specs.Tree.{Ident, Text, Tree, Row, Maybe}
+use Rattle.jl_ast.specs.View.{view_branch, view_expression, view_items, view_statements}
 use Rattle.jl_ast.specs.declared.tree.Expr.{Expr}
+use Rattle.jl_ast.specs.declared.tree.Stmt.{Stmt}
+use Rattle.jl_ast.specs.declared.ops.BinOp.{BinOp}
 use Rattle.jl_ast.specs.declared.ops.UnOp.{UnOp}
 use Rattle.jl_ast.specs.declared.ops.UnOp.TheVariants as prefixes
 use Rattle.jl_token.specs.declared.punct.Punct.TheVariants as puncts
@@ -15,11 +17,11 @@ use Rattle.jl_grammar.specs.Signs.{sign_of}
 use Rattle.jl_grammar.specs.Words.{same_text, word_of}
 use Rattle.jl_grammar.specs.declared.sign.Sign.TheVariants as signs
 use Rattle.jl_grammar.specs.declared.word.Word.{Word}
-use Rattle.jl_print.specs.Kinds.{comma_unless}
-use Rattle.jl_print.specs.Pieces.{fitted, name, punct, prefix_operator, update_operator}
+use Rattle.jl_print.specs.Kinds.{after_name, assigning, case_head, comma_unless}
+use Rattle.jl_print.specs.Pieces.{fitted, key, name, punct, prefix_operator, update_operator}
 use Rattle.jl_print.specs.Ranks.{fits, is_in}
 use Rattle.jl_print.specs.Written.{written, written_arguments, further_arguments, written_entries, further}
-use Rattle.jl_print.specs.Written.{written_declarators, begins_otherwise, written_items}
+use Rattle.jl_print.specs.Written.{written_declarators, begins_otherwise, written_items, written_all, colon}
 
 -- what is left to write of a list, of which the next part is the first or not
 abbrev pub arguments_from : {S : Type 0} → Bool → Row S tree.expr → List TokenKind
@@ -76,6 +78,40 @@ pub next_item : (o : List TokenKind) (e : Expr) (l : List (Option Expr)) (left :
 unfolding written
 next_item o e [] left h = rw h (simp append-nil)
 next_item o e (x ∷ l) left h = let q : nat_eq left 0 ≡ false = grind (arith, h) in rw q (simp append_assoc)
+
+-- what a node is written as, by its parts
+pub assign_parts : {S : Type 0} (op : Option BinOp) (g : Tree S tree.target) (a : Tree S tree.expr) (s : S) →
+    written (tree.assign op g a s) ≡ written g ++ (punct (assigning op) ∷ fitted (fits a 13) (written a))
+unfolding written
+assign_parts None g a s = refl
+assign_parts (Some op) g a s = refl
+
+pub case_parts : {S : Type 0} (m : Maybe S tree.expr) (ws : Row S tree.stmt) →
+    written (tree.case m ws) ≡ case_head m ++ written_all ws
+unfolding written
+case_parts tree.absent ws = refl
+case_parts (tree.present a) ws = ap (λ l. name (codes "case") ∷ l) (sym (append_assoc (written a) (colon ∷ []) (written_all ws)))
+
+pub getter_parts : {S : Type 0} (k : Ident S) (f : Tree S tree.func) →
+    written (tree.getter k f) ≡ name (codes "get") ∷ key k.text ∷ after_name f
+unfolding written
+getter_parts k (tree.function n x ps c s) = refl
+
+pub setter_parts : {S : Type 0} (k : Ident S) (f : Tree S tree.func) →
+    written (tree.setter k f) ≡ name (codes "set") ∷ key k.text ∷ after_name f
+unfolding written
+setter_parts k (tree.function n x ps c s) = refl
+
+pub branch_there : (o : Option (List Stmt)) (l : List Stmt) → o ≡ Some l →
+    view_branch o ≡ tree.present (tree.branch_of (view_statements l))
+branch_there o l e = ap view_branch e
+
+pub ruleset nodes_by_parts = (
+  assign_parts,
+  case_parts,
+  getter_parts,
+  setter_parts,
+)
 
 -- a list of tokens that is not empty
 pub record Begins (ks : List TokenKind) : Type 0 where

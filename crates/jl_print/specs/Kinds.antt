@@ -1,13 +1,18 @@
 -- The pieces that the printer collects, as the tokens that they are. A step of the proof: only private contracts
 -- speak of pieces.
 use Rattle.jl_print.specs.Layout.{between}
-use Rattle.std.specs.Prelude.{ℕ, Bool, true, false, List, [], ◌∷◌, codes}
+use Rattle.std.specs.Prelude.{ℕ, Bool, true, false, List, [], ◌∷◌, ◌++◌, codes, Option, Some, None}
 use Rattle.jl_token.specs.declared.punct.Punct.TheVariants as puncts
 use Rattle.jl_token.specs.declared.token.TokenKind.{TokenKind}
 use Rattle.jl_token.specs.declared.token.TokenKind.TheVariants as kinds
 use Rattle.jl_print.specs.declared.piece.Piece.{Piece}
 use Rattle.jl_print.specs.declared.piece.Piece.TheVariants as pieces
-use Rattle.jl_print.specs.Pieces.{name, key, string, punct}
+use Rattle.jl_print.specs.Pieces.{name, key, string, punct, assign_punct, braced}
+use Rattle.jl_print.specs.Written.{written, colon, parameters}
+use Rattle.jl_ast.specs.Tree as tree
+use Rattle.jl_ast.specs.Tree.{Tree, Maybe}
+use Rattle.jl_ast.specs.declared.ops.BinOp.{BinOp}
+use Rattle.jl_token.specs.declared.punct.Punct.{Punct}
 
 abbrev pub kind_of : Piece → TokenKind
 kind_of (pieces.Word w) = name w.now
@@ -27,3 +32,17 @@ comma_unless false = punct puncts.Comma ∷ []
 abbrev pub after : TokenKind → List TokenKind → List ℕ
 after k [] = 10 ∷ []
 after k (l ∷ ks) = between k l
+
+-- `=`, or a compound assignment operator (11.13)
+abbrev pub assigning : Option BinOp → Punct
+assigning None = puncts.Assign
+assigning (Some op) = assign_punct op
+
+-- `case` and its test, or `default` (12.11)
+abbrev pub case_head : {S : Type 0} → Maybe S tree.expr → List TokenKind
+case_head tree.absent = name (codes "default") ∷ colon ∷ []
+case_head (tree.present a) = name (codes "case") ∷ (written a ++ colon ∷ [])
+
+-- what stands after a function's name (clause 13)
+abbrev pub after_name : {S : Type 0} → Tree S tree.func → List TokenKind
+after_name (tree.function n x ps c s) = parameters ps ++ braced (written c)
