@@ -1,26 +1,17 @@
 -- What is written of a tree is read again, as that tree but for its places and numbers.
-use Rattle.std.proofs.Common.{◌≡◌, ℕ, zero, suc, pred, ◌+◌, ◌-◌, ◌≤◌, ◌<◌, Bool, true, false, not, ◌&&◌, ◌||◌, refl, ap, ap₂}
+use Rattle.std.proofs.Common.{◌≡◌, ℕ, suc, Bool, true, false, ◌||◌, refl, ap, ap₂}
 use Rattle.std.proofs.Common.{sym, ◌∙◌, subst, List, [], ◌∷◌, ◌++◌, arith}
-use Rattle.std.specs.Prelude.{Option, Some, None, codes, map, option_map, if◌then◌else◌}
-use Rattle.jl_ast.specs.declared.ops.BinOp.{BinOp}
-use Rattle.jl_ast.specs.declared.ops.BinOp.TheVariants as ops
+use Rattle.std.specs.Prelude.{Some, None, map, if◌then◌else◌}
 use Rattle.jl_ast.specs.Tree.{Ident, Sort, Tree, Row, Maybe, Text}
 use Rattle.jl_ast.specs.Tree as tree
 use Rattle.jl_text.specs.declared.span.Span.{Span}
 use Rattle.jl_token.specs.declared.punct.Punct.TheVariants as puncts
 use Rattle.jl_token.specs.declared.token.Token.{Token}
-use Rattle.jl_token.specs.declared.token.TokenKind.{TokenKind}
 use Rattle.jl_token.specs.declared.token.TokenKind.TheVariants as kinds
-use Rattle.jl_grammar.specs.declared.sign.Sign.{Sign}
-use Rattle.jl_grammar.specs.declared.sign.Sign.TheVariants as signs
-use Rattle.jl_grammar.specs.Next.{open_paren, close_paren, open_bracket, close_bracket, open_brace, close_brace}
-use Rattle.jl_grammar.specs.Next.{semicolon, colon, is_comma, is_colon, is_equals, is_else, is_finally, ends_list}
-use Rattle.jl_grammar.specs.Next.{is_string as is_string_token, is_directive, continues_at, keyword}
-use Rattle.jl_grammar.specs.declared.word.Word.TheVariants as words
-use Rattle.jl_grammar.specs.Laws.{IsAlone}
-use Rattle.jl_grammar.proofs.Directives.{directives_are_alone}
-use Rattle.jl_grammar.specs.Next.{bars_expression, continues_left}
-use Rattle.jl_grammar.specs.Operators.{Joint, plain, both, either, joined, looseness, level, continues, updates}
+use Rattle.jl_grammar.specs.Next.{close_paren, close_bracket, close_brace}
+use Rattle.jl_grammar.specs.Next.{semicolon, is_comma, is_equals, ends_list}
+use Rattle.jl_grammar.specs.Next.{continues_left}
+use Rattle.jl_grammar.specs.Operators.{both, either, continues}
 use Rattle.jl_grammar.specs.Operators.{assign_operator}
 use Rattle.jl_grammar.specs.Reads as reads
 use Rattle.jl_grammar.specs.Reads.{Expr, Exprs, Stmt, Stmts, Code, IsTarget, ReadsPrimary, ReadsUnary, ReadsLeft}
@@ -28,43 +19,45 @@ use Rattle.jl_grammar.specs.Reads.{ReadsArguments, ReadsArgumentList, ReadsItems
 use Rattle.jl_grammar.specs.Reads.{ReadsBody, BeginsLeft, BeginsBinary, ReadsAssignment, ReadsDeclaration}
 use Rattle.jl_grammar.specs.Reads.{ReadsDeclarations, ReadsBlock, ReadsStatement, ReadsStatements, ReadsHead}
 use Rattle.jl_grammar.specs.Reads.{ReadsInit, ReadsMaybe, ReadsClauses, ReadsCatch, ReadsElements, there}
-use Rattle.jl_grammar.proofs.Progress.{expression_goes}
-use Rattle.jl_grammar.specs.Tokens.{At, sign_at, line_at, text_at, number_at, strict_at, span, ident_at, key_ident_at}
+use Rattle.jl_grammar.specs.Tokens.{At, sign_at, text_at, number_at, strict_at, span, ident_at, key_ident_at}
 use Rattle.jl_print.specs.Layout.{ends_line}
-use Rattle.jl_print.specs.Pieces.{name, punct, string, key, operator, prefix_operator, update_operator, assign_punct}
+use Rattle.jl_print.specs.Pieces.{name, punct, string, key, prefix_operator, update_operator, assign_punct}
 use Rattle.jl_print.specs.Pieces.{in_parens, fitted, braced}
-use Rattle.jl_print.specs.Ranks.{rank_of, fits, is_in, operator_rank}
-use Rattle.jl_print.specs.WellFormed.{WellFormed, AllWellFormed, MaybeWellFormed, IsAssigning, AreIdentifiers}
+use Rattle.jl_print.specs.Ranks.{rank_of, fits}
+use Rattle.jl_print.specs.WellFormed.{WellFormed, AllWellFormed, MaybeWellFormed}
 use Rattle.jl_print.specs.WellFormed.{HasOneDefault, AreNamed, IsSome}
 use Rattle.jl_print.specs.Written.{written, written_arguments, further_arguments, written_entries, further}
-use Rattle.jl_print.specs.Written.{written_items, items_after, is_name, parameters, maybe_name, written_all}
-use Rattle.jl_print.specs.Written.{written_maybe, written_after, written_declarators, begins_otherwise, is_string}
-use Rattle.jl_print.proofs.Fronts.{Front, of_left, of_postfix, of_binary, of_assignment, of_expression, to_left}
-use Rattle.jl_print.proofs.Fronts.{to_binary, to_assignment, to_expression, as_loose, Quiet, quiet_zero, quiet_less}
+use Rattle.jl_print.specs.Written.{written_items, items_after, is_name, parameters, written_all}
+use Rattle.jl_print.specs.Written.{written_declarators}
+use Rattle.jl_print.proofs.Fronts.{of_left, of_postfix, of_assignment, of_expression, to_left}
+use Rattle.jl_print.proofs.Fronts.{to_binary, to_assignment, to_expression, as_loose, quiet_zero, quiet_less}
 use Rattle.jl_print.proofs.Fronts.{quiet_stop, stops}
-use Rattle.jl_print.proofs.Following.{goes_on, no_else, no_finally, statements_begin, clauses_begin, first_line}
-use Rattle.jl_print.proofs.Following.{begins_so, no_label, elements_begin}
-use Rattle.jl_print.proofs.Names.{same_name, same_key, back_parameters}
-use Rattle.jl_print.proofs.Operators.{JointToken, binary_token, in_token, and_token, or_token, quiet_joint, joins_at}
+use Rattle.jl_print.proofs.Following.{statements_begin, clauses_begin}
+use Rattle.jl_print.proofs.Following.{elements_begin}
+use Rattle.jl_print.proofs.Names.{same_name, same_key}
+use Rattle.jl_print.proofs.Operators.{and_token, or_token}
 use Rattle.jl_print.proofs.Operators.{prefix_at, update_at, update_is_no_part, assigns_at, assign_is_no_part}
-use Rattle.jl_print.proofs.Places.{Back, up_to, Alone, BackWhole, whole, BackPrimary, enclosed, bracketed, in_place, rank_top}
-use Rattle.jl_print.proofs.Skeleton.{skeleton, skeleton_row, skeleton_maybe, named}
-use Rattle.jl_print.proofs.Spells.{Spelled, Spells, Parts, parts, line_after, line_append, at, identifier, any_name}
-use Rattle.jl_print.proofs.Spells.{any_key, name_text, text_spelled, number_spelled, strict_spelled}
+use Rattle.jl_print.proofs.Places.{Back, up_to, Alone, whole, in_place, rank_top}
+use Rattle.jl_print.proofs.Skeleton.{skeleton, skeleton_row, named}
+use Rattle.jl_print.proofs.Spells.{Spells, parts, line_after, at, identifier, any_name}
+use Rattle.jl_print.proofs.Spells.{any_key, name_text, text_spelled, number_spelled}
 use Rattle.jl_print.proofs.BackParts.{arguments_stop, further_stop, items_stop, BackFurtherEntries}
 use Rattle.jl_print.proofs.BackParts.{BackFurtherDeclarations}
-use Rattle.jl_print.proofs.BackParts.{as_unary, of_unary, of_primary, joint_back, same_binary, Loose, loose_of}
-use Rattle.jl_print.proofs.BackParts.{operands_back, binary_back, callee, BackTarget, BackArguments}
-use Rattle.jl_print.proofs.BackParts.{BackArgumentList, BackItems, BackEntry, BackEntries, BackRest, BackBody}
+use Rattle.jl_print.proofs.BackParts.{as_unary, of_unary, of_primary, joint_back}
+use Rattle.jl_print.proofs.BackParts.{binary_back, callee, BackTarget, BackArguments}
+use Rattle.jl_print.proofs.BackParts.{BackArgumentList, BackItems, BackEntry, BackEntries}
 use Rattle.jl_print.proofs.BackParts.{BodyAlone, rest_back, quiet_question, same_conditional, target_up_to}
-use Rattle.jl_print.proofs.BackParts.{no_names, OneName, one_name, same_setter, BackDeclaration, BackDeclarations}
-use Rattle.jl_print.proofs.BackParts.{BackBlock, BackStatements, no_equals, BackHead, BackInit, BackMaybe}
-use Rattle.jl_print.proofs.BackParts.{BackStatement, BackHandler, BackClauses, BackElements, statement_up_to}
-use Rattle.jl_print.proofs.BackParts.{head_back, same_case, same_when, same_for, same_for_in, same_try}
-use Rattle.jl_print.proofs.BackParts.{expression_statement, StatementsAlone, block_back, same_declaration}
-use Rattle.jl_print.proofs.BackParts.{end_is_no_string, no_directive_at_end, no_directive_at_function, not_both}
-use Rattle.jl_print.proofs.BackParts.{string_in_brackets, no_directive_before, stops_directive, is_strict}
+use Rattle.jl_print.proofs.BackParts.{no_names, one_name, same_setter, BackDeclaration, BackDeclarations}
+use Rattle.jl_print.proofs.BackParts.{BackStatements, no_equals}
+use Rattle.jl_print.proofs.BackParts.{BackClauses, BackElements, statement_up_to}
+use Rattle.jl_print.proofs.BackParts.{same_case}
+use Rattle.jl_print.proofs.BackParts.{expression_statement, block_back, same_declaration}
+use Rattle.jl_print.proofs.BackParts.{no_directive_at_end, no_directive_at_function}
+use Rattle.jl_print.proofs.BackParts.{no_directive_before, stops_directive, is_strict}
 use Rattle.jl_print.proofs.BackParts.{line_of_target}
+use Rattle.jl_print.proofs.Statements.{MaybeAlone, InitAlone, HandlerAlone, StatementAlone}
+use Rattle.jl_print.proofs.Statements.{if_back, if_else_back, do_while_back, while_back, for_back, for_var_in_back, for_in_back}
+use Rattle.jl_print.proofs.Statements.{switch_back, return_back, throw_back, try_catch_back, try_finally_back, try_both_back}
 
 module _ {ts : List Token} where
   mutual
@@ -559,19 +552,17 @@ module _ {ts : List Token} where
           is = reads.more_statements x.is y.is;
         }
 
-    back_maybe : (k : Sign) (t : Maybe Span tree.expr) → MaybeWellFormed t → (i j : ℕ) (line : Bool)
-        → Spells ts i line (written_maybe t) j → At ts j k → stops k ≡ true → is_comma k ≡ false → BackMaybe ts k i t j
-    back_maybe k tree.absent w i j line h c e f = record {
+    back_maybe : (t : Maybe Span tree.expr) → MaybeWellFormed t → MaybeAlone ts t
+    back_maybe tree.absent w k i j line h c e f = record {
       maybe = tree.absent;
       same = refl;
       is = subst (λ n. ReadsMaybe ts k i tree.absent n) h (reads.no_expression (subst (λ n. At ts n k) (sym h) c));
     }
-    back_maybe k (tree.present t) w i j line h c e f =
+    back_maybe (tree.present t) w k i j line h c e f =
         let x = whole t (back t w) false i j line h (ap stops c.is ∙ e) (ap is_comma c.is ∙ f) in
         record { maybe = tree.present x.tree; same = ap tree.present x.same; is = reads.one_expression x.is }
 
-    back_init : (t : Tree Span tree.init) → WellFormed t → (i j : ℕ) (line : Bool) → Spells ts i line (written t) j
-        → At ts j semicolon → BackInit ts i t j
+    back_init : (t : Tree Span tree.init) → WellFormed t → InitAlone ts t
     back_init tree.nothing w i j line h c = record {
       init = tree.nothing;
       same = refl;
@@ -588,8 +579,7 @@ module _ {ts : List Token} where
           is = reads.init_vars (at h.0) x.is;
         }
 
-    back_handler : (t : Tree Span tree.handler) → WellFormed t → (i j : ℕ) (line : Bool) → Spells ts i line (written t) j
-        → BackHandler ts i t j
+    back_handler : (t : Tree Span tree.handler) → WellFormed t → HandlerAlone ts t
     back_handler (tree.catch x ws) w i j line h =
         let y = block_back ws (back_statements ws w.1) (suc (suc (suc (suc i)))) j false h.1.1.1.1 in
         record {
@@ -630,8 +620,7 @@ module _ {ts : List Token} where
         }
     back_clauses false (tree.more (tree.case tree.absent ws) r) o w i j line h c = absurd o
 
-    back_statement : (t : Stmt) → WellFormed t → (i j : ℕ) (line : Bool) → Spells ts i line (written t) j
-        → goes_on (sign_at ts j) ≡ false → BackStatement ts i t j
+    back_statement : (t : Stmt) → WellFormed t → StatementAlone ts t
     back_statement (tree.var ds s) w i j line h q =
         let p = parts ts (suc i) false (written_declarators ds) (punct puncts.Semicolon ∷ []) j h.1 in
         let k = at p.second.0 in
@@ -656,103 +645,19 @@ module _ {ts : List Token} where
           is = reads.a_block x.is;
         }
     back_statement (tree.when a ws tree.absent s) w i j line h q =
-        let p = parts ts (suc i) false (in_parens (written a)) (braced (written_all ws) ++ []) j h.1 in
-        let r = parts ts p.middle (line_after false (in_parens (written a))) (braced (written_all ws)) [] j p.second in
-        let x = head_back a (back a w.0) (suc i) p.middle false p.first in
-        let y = block_back ws (back_statements ws w.1) p.middle r.middle (line_after false (in_parens (written a))) r.first in
-        let e = subst (λ n. is_else (sign_at ts n) ≡ false) (sym r.second) (no_else (sign_at ts j) q) in
-        statement_up_to (record {
-          statement = tree.when x.value y.statements tree.absent (span ts i r.middle);
-          same = ap₂ (λ x y. tree.when x y tree.absent tt) x.same y.same;
-          is = reads.an_if (at h.0) x.is (reads.several y.is) e;
-        }) r.second
+        if_back a (back a w.0) ws (back_statements ws w.1) s i j line h q
     back_statement (tree.when a ws (tree.present (tree.branch_of us)) s) w i j line h q =
-        let p = parts ts (suc i) false (in_parens (written a))
-        (braced (written_all ws) ++ (name (codes "else") ∷ braced (written_all us))) j h.1 in
-        let r = parts ts p.middle (line_after false (in_parens (written a))) (braced (written_all ws))
-        (name (codes "else") ∷ braced (written_all us)) j p.second in
-        let x = head_back a (back a w.0) (suc i) p.middle false p.first in
-        let y = block_back ws (back_statements ws w.1) p.middle r.middle (line_after false (in_parens (written a))) r.first in
-        let z = block_back us (back_statements us w.2) (suc r.middle) j false r.second.1 in
-        record {
-          statement = tree.when x.value y.statements (tree.present (tree.branch_of z.statements)) (span ts i j);
-          same = same_when x.value a y.statements ws z.statements us x.same y.same z.same;
-          is = reads.an_if_else (at h.0) x.is (reads.several y.is) (at r.second.0) (reads.several z.is);
-        }
+        if_else_back a (back a w.0) ws (back_statements ws w.1) us (back_statements us w.2) s i j line h q
     back_statement (tree.do_while ws a s) w i j line h q =
-        let p = parts ts (suc i) false (braced (written_all ws))
-        (name (codes "while") ∷ (in_parens (written a) ++ punct puncts.Semicolon ∷ [])) j h.1 in
-        let r = parts ts (suc p.middle) false (in_parens (written a)) (punct puncts.Semicolon ∷ []) j p.second.1 in
-        let x = block_back ws (back_statements ws w.0) (suc i) p.middle false p.first in
-        let y = head_back a (back a w.1) (suc p.middle) r.middle false r.first in
-        statement_up_to (record {
-          statement = tree.do_while x.statements y.value (span ts i (suc r.middle));
-          same = ap₂ (λ x y. tree.do_while x y tt) x.same y.same;
-          is = reads.a_do_while (at h.0) (reads.several x.is) (at p.second.0) y.is (there (at r.second.0));
-        }) r.second.1
+        do_while_back ws (back_statements ws w.0) a (back a w.1) s i j line h q
     back_statement (tree.while a ws s) w i j line h q =
-        let p = parts ts (suc i) false (in_parens (written a)) (braced (written_all ws)) j h.1 in
-        let x = head_back a (back a w.0) (suc i) p.middle false p.first in
-        let y = block_back ws (back_statements ws w.1) p.middle j (line_after false (in_parens (written a))) p.second in
-        record {
-          statement = tree.while x.value y.statements (span ts i j);
-          same = ap₂ (λ x y. tree.while x y tt) x.same y.same;
-          is = reads.a_while (at h.0) x.is (reads.several y.is);
-        }
+        while_back a (back a w.0) ws (back_statements ws w.1) s i j line h q
     back_statement (tree.for f a b ws s) w i j line h q =
-        let ks = written f ++ (punct puncts.Semicolon ∷ (written_maybe a ++ (punct puncts.Semicolon ∷ written_maybe b))) in
-        let p = parts ts (suc i) false (in_parens ks) (braced (written_all ws)) j h.1 in
-        let r = parts ts (suc (suc i)) false ks (punct puncts.RightParen ∷ []) p.middle p.first.1 in
-        let u = parts ts (suc (suc i)) false (written f)
-        (punct puncts.Semicolon ∷ (written_maybe a ++ (punct puncts.Semicolon ∷ written_maybe b))) r.middle r.first in
-        let v = parts ts (suc u.middle) true (written_maybe a) (punct puncts.Semicolon ∷ written_maybe b) r.middle
-        u.second.1 in
-        let k = at r.second.0 in
-        let x = back_init f w.0 (suc (suc i)) u.middle false u.first (at u.second.0) in
-        let y = back_maybe semicolon a w.1 (suc u.middle) v.middle true v.first (at v.second.0) refl refl in
-        let z = back_maybe close_paren b w.2 (suc v.middle) r.middle true v.second.1 k refl refl in
-        let g = block_back ws (back_statements ws w.3) p.middle j (line_after false (in_parens ks)) p.second in
-        let o = subst (λ n. ReadsBlock ts n g.statements j) (sym r.second.1) g.is in
-        record {
-          statement = tree.for x.init y.maybe z.maybe g.statements (span ts i j);
-          same = same_for x.init f y.maybe a z.maybe b g.statements ws x.same y.same z.same g.same;
-          is = reads.a_for (at h.0) (at p.first.0) x.is (at u.second.0) y.is (at v.second.0) z.is k (reads.several o);
-        }
+        for_back f (back_init f w.0) a b (back_maybe a w.1) (back_maybe b w.2) ws (back_statements ws w.3) s i j line h q
     back_statement (tree.for_in true x a ws s) w i j line h q =
-        let ks = name (codes "var") ∷ name x.text ∷ name (codes "in") ∷ written a in
-        let p = parts ts (suc i) false (in_parens ks) (braced (written_all ws)) j h.1 in
-        let g = p.first.1.1.1.1 in
-        let r = parts ts (suc (suc (suc (suc (suc i))))) false (written a) (punct puncts.RightParen ∷ []) p.middle g in
-        let k = at r.second.0 in
-        let y = whole a (back a w.1) false (suc (suc (suc (suc (suc i))))) r.middle false r.first
-        (ap stops k.is) (ap is_comma k.is) in
-        let z = block_back ws (back_statements ws w.2) p.middle j (line_after false (in_parens ks)) p.second in
-        let o = subst (λ n. ReadsBlock ts n z.statements j) (sym r.second.1) z.is in
-        record {
-          statement = tree.for_in true (ident_at ts (suc (suc (suc i)))) y.tree z.statements (span ts i j);
-          same = same_for_in true (ident_at ts (suc (suc (suc i)))) x y.tree a z.statements ws
-              (same_name x p.first.1.1.0) y.same z.same;
-          is = reads.a_for_var_in (at h.0) (at p.first.0) (at p.first.1.0) (identifier w.0 p.first.1.1.0)
-              (at p.first.1.1.1.0) y.is k (reads.several o);
-        }
+        for_var_in_back x w.0 a (back a w.1) ws (back_statements ws w.2) s i j line h q
     back_statement (tree.for_in false x a ws s) w i j line h q =
-        let ks = name x.text ∷ name (codes "in") ∷ written a in
-        let p = parts ts (suc i) false (in_parens ks) (braced (written_all ws)) j h.1 in
-        let r = parts ts (suc (suc (suc (suc i)))) false (written a) (punct puncts.RightParen ∷ []) p.middle
-        p.first.1.1.1 in
-        let k = at r.second.0 in
-        let y = whole a (back a w.1) false (suc (suc (suc (suc i)))) r.middle false r.first
-        (ap stops k.is) (ap is_comma k.is) in
-        let z = block_back ws (back_statements ws w.2) p.middle j (line_after false (in_parens ks)) p.second in
-        let o = subst (λ n. ReadsBlock ts n z.statements j) (sym r.second.1) z.is in
-        let m = at p.first.1.1.0 in
-        record {
-          statement = tree.for_in false (ident_at ts (suc (suc i))) y.tree z.statements (span ts i j);
-          same = same_for_in false (ident_at ts (suc (suc i))) x y.tree a z.statements ws
-              (same_name x p.first.1.0) y.same z.same;
-          is = reads.a_for_in (at h.0) (at p.first.0) (reads.whole_left (reads.primary
-              (reads.a_name (identifier w.0 p.first.1.0))) (ap (continues_left true) m.is)) m y.is k (reads.several o);
-        }
+        for_in_back x w.0 a (back a w.1) ws (back_statements ws w.2) s i j line h q
     back_statement (tree.continue None s) w i j line h q = statement_up_to (record {
       statement = tree.continue None (span ts i (suc (suc i)));
       same = refl;
@@ -779,15 +684,7 @@ module _ {ts : List Token} where
       is = reads.a_return (at h.0) (there (at h.1.0));
     }) h.1.1
     back_statement (tree.return (tree.present a) s) w i j line h q =
-        let p = parts ts (suc i) false (written a) (punct puncts.Semicolon ∷ []) j h.1 in
-        let k = at p.second.0 in
-        let x = whole a (back a w) false (suc i) p.middle false p.first (ap stops k.is) (ap is_comma k.is) in
-        let e = first_line ts (written a) p.first (expression_goes x.is) in
-        statement_up_to (record {
-          statement = tree.return (tree.present x.tree) (span ts i (suc p.middle));
-          same = ap (λ x. tree.return (tree.present x) tt) x.same;
-          is = reads.a_return_of (at h.0) e x.is (there k);
-        }) p.second.1
+        return_back a (back a w) s i j line h q
     back_statement (tree.labelled x t s) w i j line h q =
         let y = back_statement t w.1 (suc (suc i)) j false h.1.1 q in
         record {
@@ -796,62 +693,16 @@ module _ {ts : List Token} where
           is = reads.a_label (identifier w.0 h.0) (at h.1.0) y.is;
         }
     back_statement (tree.switch a cs s) w i j line h q =
-        let p = parts ts (suc i) false (in_parens (written a)) (braced (written_all cs)) j h.1 in
-        let r = parts ts (suc p.middle) true (written_all cs) (punct puncts.RightBrace ∷ []) j p.second.1 in
-        let k = at r.second.0 in
-        let x = head_back a (back a w.0) (suc i) p.middle false p.first in
-        let y = back_clauses true cs w.1 w.2 (suc p.middle) r.middle true r.first k in
-        statement_up_to (record {
-          statement = tree.switch x.value y.clauses (span ts i (suc r.middle));
-          same = ap₂ (λ x y. tree.switch x y tt) x.same y.same;
-          is = reads.a_switch (at h.0) x.is (at p.second.0) y.is k;
-        }) r.second.1
+        switch_back a (back a w.0) cs (back_clauses true cs w.1 w.2) s i j line h q
     back_statement (tree.throw a s) w i j line h q =
-        let p = parts ts (suc i) false (written a) (punct puncts.Semicolon ∷ []) j h.1 in
-        let k = at p.second.0 in
-        let x = whole a (back a w) false (suc i) p.middle false p.first (ap stops k.is) (ap is_comma k.is) in
-        let e = first_line ts (written a) p.first (expression_goes x.is) in
-        statement_up_to (record {
-          statement = tree.throw x.tree (span ts i (suc p.middle));
-          same = ap (λ x. tree.throw x tt) x.same;
-          is = reads.a_throw (at h.0) e x.is (there k);
-        }) p.second.1
+        throw_back a (back a w) s i j line h q
     back_statement (tree.try ws tree.absent tree.absent s) w i j line h q = absurd w.1
     back_statement (tree.try ws (tree.present c) tree.absent s) w i j line h q =
-        let p = parts ts (suc i) false (braced (written_all ws)) (written c ++ []) j h.1 in
-        let m = line_after false (braced (written_all ws)) in
-        let r = parts ts p.middle m (written c) [] j p.second in
-        let x = block_back ws (back_statements ws w.0) (suc i) p.middle false p.first in
-        let y = back_handler c w.2 p.middle r.middle m r.first in
-        let e = subst (λ n. is_finally (sign_at ts n) ≡ false) (sym r.second) (no_finally (sign_at ts j) q) in
-        statement_up_to (record {
-          statement = tree.try x.statements (tree.present y.handler) tree.absent (span ts i r.middle);
-          same = ap₂ (λ x y. tree.try x (tree.present y) tree.absent tt) x.same y.same;
-          is = reads.a_try_catch (at h.0) x.is y.is e;
-        }) r.second
+        try_catch_back ws (back_statements ws w.0) c (back_handler c w.2) s i j line h q
     back_statement (tree.try ws tree.absent (tree.present (tree.branch_of us)) s) w i j line h q =
-        let p = parts ts (suc i) false (braced (written_all ws)) (name (codes "finally") ∷ braced (written_all us)) j h.1 in
-        let x = block_back ws (back_statements ws w.0) (suc i) p.middle false p.first in
-        let y = block_back us (back_statements us w.3) (suc p.middle) j false p.second.1 in
-        record {
-          statement = tree.try x.statements tree.absent (tree.present (tree.branch_of y.statements)) (span ts i j);
-          same = ap₂ (λ x y. tree.try x tree.absent (tree.present (tree.branch_of y)) tt) x.same y.same;
-          is = reads.a_try_finally (at h.0) x.is (at p.second.0) y.is;
-        }
+        try_finally_back ws (back_statements ws w.0) us (back_statements us w.3) s i j line h q
     back_statement (tree.try ws (tree.present c) (tree.present (tree.branch_of us)) s) w i j line h q =
-        let p = parts ts (suc i) false (braced (written_all ws))
-        (written c ++ (name (codes "finally") ∷ braced (written_all us))) j h.1 in
-        let m = line_after false (braced (written_all ws)) in
-        let r = parts ts p.middle m (written c) (name (codes "finally") ∷ braced (written_all us)) j p.second in
-        let x = block_back ws (back_statements ws w.0) (suc i) p.middle false p.first in
-        let y = back_handler c w.2 p.middle r.middle m r.first in
-        let z = block_back us (back_statements us w.3) (suc r.middle) j false r.second.1 in
-        record {
-          statement = tree.try x.statements (tree.present y.handler) (tree.present (tree.branch_of z.statements))
-              (span ts i j);
-          same = same_try x.statements ws y.handler c z.statements us x.same y.same z.same;
-          is = reads.a_try_both (at h.0) x.is y.is (at r.second.0) z.is;
-        }
+        try_both_back ws (back_statements ws w.0) c (back_handler c w.2) us (back_statements us w.3) s i j line h q
     back_statement (tree.debugger s) w i j line h q = statement_up_to (record {
       statement = tree.debugger (span ts i (suc (suc i)));
       same = refl;

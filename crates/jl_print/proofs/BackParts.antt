@@ -1,7 +1,7 @@
 -- The parts of trees that are read again, and what joins them.
-use Rattle.std.proofs.Common.{◌≡◌, ℕ, zero, suc, pred, ◌+◌, ◌-◌, ◌≤◌, ◌<◌, Bool, true, false, not, ◌&&◌, ◌||◌, refl, ap, ap₂}
+use Rattle.std.proofs.Common.{◌≡◌, ℕ, suc, pred, ◌-◌, ◌≤◌, Bool, true, false, not, ◌&&◌, ◌||◌, refl, ap, ap₂}
 use Rattle.std.proofs.Common.{sym, ◌∙◌, subst, List, [], ◌∷◌, ◌++◌, arith}
-use Rattle.std.specs.Prelude.{Option, Some, None, codes, map, option_map, if◌then◌else◌}
+use Rattle.std.specs.Prelude.{Some, None, codes, map, if◌then◌else◌}
 use Rattle.jl_ast.specs.declared.ops.BinOp.{BinOp}
 use Rattle.jl_ast.specs.declared.ops.BinOp.TheVariants as ops
 use Rattle.jl_ast.specs.Tree.{Ident, Sort, Tree, Row, Maybe, Text}
@@ -10,18 +10,16 @@ use Rattle.jl_text.specs.declared.span.Span.{Span}
 use Rattle.jl_token.specs.declared.punct.Punct.TheVariants as puncts
 use Rattle.jl_token.specs.declared.token.Token.{Token}
 use Rattle.jl_token.specs.declared.token.TokenKind.{TokenKind}
-use Rattle.jl_token.specs.declared.token.TokenKind.TheVariants as kinds
 use Rattle.jl_grammar.specs.declared.sign.Sign.{Sign}
 use Rattle.jl_grammar.specs.declared.sign.Sign.TheVariants as signs
-use Rattle.jl_grammar.specs.Next.{open_paren, close_paren, open_bracket, close_bracket, open_brace, close_brace}
-use Rattle.jl_grammar.specs.Next.{semicolon, colon, is_comma, is_colon, is_equals, is_else, is_finally, ends_list}
+use Rattle.jl_grammar.specs.Next.{open_paren}
+use Rattle.jl_grammar.specs.Next.{semicolon, is_comma, is_colon, is_equals, ends_list}
 use Rattle.jl_grammar.specs.Next.{is_string as is_string_token, is_directive, continues_at, keyword}
 use Rattle.jl_grammar.specs.declared.word.Word.TheVariants as words
 use Rattle.jl_grammar.specs.Laws.{IsAlone}
 use Rattle.jl_grammar.proofs.Directives.{directives_are_alone}
 use Rattle.jl_grammar.specs.Next.{bars_expression, continues_left}
-use Rattle.jl_grammar.specs.Operators.{Joint, plain, both, either, joined, looseness, level, continues, updates}
-use Rattle.jl_grammar.specs.Operators.{assign_operator}
+use Rattle.jl_grammar.specs.Operators.{Joint, plain, joined, looseness, level, continues, updates}
 use Rattle.jl_grammar.specs.Reads as reads
 use Rattle.jl_grammar.specs.Reads.{Expr, Exprs, Stmt, Stmts, Code, IsTarget, ReadsPrimary, ReadsUnary, ReadsLeft}
 use Rattle.jl_grammar.specs.Reads.{ReadsArguments, ReadsArgumentList, ReadsItems, ReadsEntries, ReadsEntry, ReadsRest}
@@ -29,28 +27,25 @@ use Rattle.jl_grammar.specs.Reads.{ReadsBody, BeginsLeft, BeginsBinary, ReadsAss
 use Rattle.jl_grammar.specs.Reads.{ReadsDeclarations, ReadsBlock, ReadsStatement, ReadsStatements, ReadsHead}
 use Rattle.jl_grammar.specs.Reads.{ReadsInit, ReadsMaybe, ReadsClauses, ReadsCatch, ReadsElements, there}
 use Rattle.jl_grammar.proofs.Progress.{expression_goes}
-use Rattle.jl_grammar.specs.Tokens.{At, sign_at, line_at, text_at, number_at, strict_at, span, ident_at, key_ident_at}
+use Rattle.jl_grammar.specs.Tokens.{At, sign_at, line_at, text_at, strict_at, span}
 use Rattle.jl_print.specs.Layout.{ends_line}
-use Rattle.jl_print.specs.Pieces.{name, punct, string, key, operator, prefix_operator, update_operator, assign_punct}
+use Rattle.jl_print.specs.Pieces.{name, punct, string, operator}
 use Rattle.jl_print.specs.Pieces.{in_parens, fitted, braced}
 use Rattle.jl_print.specs.Ranks.{rank_of, fits, is_in, operator_rank}
-use Rattle.jl_print.specs.WellFormed.{WellFormed, AllWellFormed, MaybeWellFormed, IsAssigning, AreIdentifiers}
-use Rattle.jl_print.specs.WellFormed.{HasOneDefault, AreNamed}
-use Rattle.jl_print.specs.Written.{written, written_arguments, further_arguments, written_entries, further}
-use Rattle.jl_print.specs.Written.{written_items, items_after, is_name, parameters, maybe_name, written_all}
-use Rattle.jl_print.specs.Written.{written_maybe, written_after, written_declarators, begins_otherwise, is_string}
-use Rattle.jl_print.proofs.Fronts.{Front, of_left, of_postfix, of_binary, of_assignment, of_expression, to_left}
-use Rattle.jl_print.proofs.Fronts.{to_binary, to_assignment, to_expression, as_loose, Quiet, quiet_zero, quiet_less}
+use Rattle.jl_print.specs.WellFormed.{WellFormed, AreIdentifiers}
+use Rattle.jl_print.specs.Written.{written, further_arguments, further}
+use Rattle.jl_print.specs.Written.{items_after, is_name, parameters, written_all}
+use Rattle.jl_print.specs.Written.{begins_otherwise, is_string}
+use Rattle.jl_print.proofs.Fronts.{Front, of_left, of_binary}
+use Rattle.jl_print.proofs.Fronts.{to_binary, to_expression, as_loose, Quiet, quiet_less}
 use Rattle.jl_print.proofs.Fronts.{quiet_stop, stops}
-use Rattle.jl_print.proofs.Following.{goes_on, no_else, no_finally, statements_begin, clauses_begin, first_line}
 use Rattle.jl_print.proofs.Following.{begins_so, no_label}
-use Rattle.jl_print.proofs.Names.{same_name, same_key, back_parameters}
-use Rattle.jl_print.proofs.Operators.{JointToken, binary_token, in_token, and_token, or_token, quiet_joint, joins_at}
-use Rattle.jl_print.proofs.Operators.{prefix_at, update_at, update_is_no_part, assigns_at, assign_is_no_part}
-use Rattle.jl_print.proofs.Places.{Back, up_to, Alone, BackWhole, whole, BackPrimary, enclosed, bracketed, in_place, rank_top}
+use Rattle.jl_print.proofs.Names.{back_parameters}
+use Rattle.jl_print.proofs.Operators.{JointToken, binary_token, in_token, quiet_joint, joins_at}
+use Rattle.jl_print.proofs.Places.{Back, Alone, BackWhole, whole, BackPrimary, enclosed, bracketed, in_place}
 use Rattle.jl_print.proofs.Skeleton.{skeleton, skeleton_row, skeleton_maybe, named}
-use Rattle.jl_print.proofs.Spells.{Spelled, Spells, Parts, parts, line_after, line_append, at, identifier, any_name}
-use Rattle.jl_print.proofs.Spells.{any_key, name_text, text_spelled, number_spelled, strict_spelled}
+use Rattle.jl_print.proofs.Spells.{Spelled, Spells, parts, line_after, line_append, at, identifier}
+use Rattle.jl_print.proofs.Spells.{name_text, strict_spelled}
 
 pub as_unary : {ts : List Token} {no_in : Bool} {i j : ℕ} {t : Expr} → Front ts no_in i t j 2 → ReadsUnary ts i t j
 as_unary f = of_operand (to_binary 0 (omega arith) f)
@@ -460,6 +455,7 @@ expression_statement {ts} a alone s i j line h = go (begins_otherwise (written a
         }) p.second.1
     go true c e h = in_brackets h
     go false true e h = in_brackets h
+
 -- statements in braces
 abbrev pub StatementsAlone : List Token → Stmts → Type 0
 StatementsAlone ts ws = (i j : ℕ) (line : Bool) → Spells ts i line (written_all ws) j → ends_list (sign_at ts j) ≡ true

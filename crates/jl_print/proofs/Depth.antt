@@ -1,5 +1,5 @@
 -- What is written closes what it opens, and opens no more than twice as many brackets as the tree is high.
-use Rattle.std.proofs.Common.{◌≡◌, ℕ, zero, suc, ◌+◌, ◌-◌, ◌*◌, ◌≤◌, ◌<◌, max, Bool, true, false, not, ◌||◌, refl, ap, ◌∙◌}
+use Rattle.std.proofs.Common.{◌≡◌, ℕ, suc, ◌+◌, ◌-◌, ◌*◌, ◌≤◌, max, Bool, true, false, not, refl, ap, ◌∙◌}
 use Rattle.std.proofs.Common.{List, [], ◌∷◌, ◌++◌, arith}
 use Rattle.std.specs.Prelude.{Option, Some, None, codes, if◌then◌else◌}
 use Rattle.jl_ast.specs.declared.ops.BinOp.{BinOp}
@@ -11,15 +11,13 @@ use Rattle.jl_ast.specs.Tree.{Ident, Sort, Tree, Row, Maybe, Text}
 use Rattle.jl_ast.specs.Tree as tree
 use Rattle.jl_token.specs.declared.punct.Punct.TheVariants as puncts
 use Rattle.jl_token.specs.declared.token.TokenKind.{TokenKind}
-use Rattle.jl_token.specs.declared.token.TokenKind.TheVariants as kinds
-use Rattle.jl_grammar.specs.declared.sign.Sign.{Sign}
 use Rattle.jl_grammar.specs.declared.sign.Sign.TheVariants as signs
 use Rattle.jl_grammar.specs.declared.word.Word.{Word}
 use Rattle.jl_grammar.specs.Brackets.{bracket}
 use Rattle.jl_grammar.specs.Signs.{sign_of, name_sign}
 use Rattle.jl_grammar.specs.Words.{same_text, word_of}
 use Rattle.jl_print.specs.Pieces.{name, punct, string, key, is_bare_key, operator, prefix_operator, update_operator}
-use Rattle.jl_print.specs.Pieces.{assign_punct, in_parens, fitted, braced}
+use Rattle.jl_print.specs.Pieces.{assign_punct, in_parens, fitted}
 use Rattle.jl_print.specs.Ranks.{fits, is_in, operator_rank}
 use Rattle.jl_print.specs.Written.{written, written_all, written_maybe, written_after, written_arguments}
 use Rattle.jl_print.specs.Written.{further_arguments, written_entries, written_declarators, further, written_items}

@@ -1,17 +1,15 @@
 -- What follows a token of the canonical text, and how names, punctuators and white space are found before it.
-use Rattle.std.proofs.Common.{◌≡◌, ℕ, zero, suc, Bool, true, false, ◌&&◌, ◌||◌, ◌==◌, refl, ap, sym, ◌∙◌, subst, List, [], ◌∷◌}
-use Rattle.std.proofs.Common.{◌++◌, Option, Some, None, length, map, arith, ◌≤◌}
-use Rattle.std.specs.Prelude.{if◌then◌else◌, nat_le}
-use Rattle.std.specs.List.{list_any}
+use Rattle.std.proofs.Common.{◌≡◌, ℕ, Bool, true, false, ◌&&◌, ◌==◌, refl, ap, List, [], ◌∷◌}
+use Rattle.std.proofs.Common.{◌++◌, None, length, map, ◌≤◌}
 use Rattle.std.proofs.lemmas.Bool.{le-leb}
 use Rattle.jl_token.specs.Characters.{is_identifier_start, is_identifier_part, is_digit, first_is}
 use Rattle.jl_token.specs.Elements.{Element, White, LineEnd, Word, Many, no_more, one_more, Letter, itself, name_text}
 use Rattle.jl_token.specs.Elements.{is_escaped}
 use Rattle.jl_token.specs.Punctuators.{punctuator_units}
-use Rattle.jl_token.specs.Scanner.{Outcome, found, many_by, many_within, many, letter, name_escape, name_done, name_end}
+use Rattle.jl_token.specs.Scanner.{found, letter, name_escape, name_done}
 use Rattle.jl_token.specs.Scanner.{name_from, strip, or_else, first_punctuator, punctuator_found, scan_word, scan}
-use Rattle.jl_token.specs.Scanner.{piece_found, next_piece, after_line_feed, with_first}
-use Rattle.jl_token.specs.Tokens.{Piece, piece, place, OnePiece}
+use Rattle.jl_token.specs.Scanner.{piece_found, next_piece, after_line_feed}
+use Rattle.jl_token.specs.Tokens.{piece, place, OnePiece}
 use Rattle.jl_token.specs.declared.punct.Punct.{Punct}
 use Rattle.jl_token.specs.declared.punct.Punct.TheVariants as puncts
 use Rattle.jl_token.specs.declared.token.TokenKind.TheVariants as kinds

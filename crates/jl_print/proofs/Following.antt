@@ -1,5 +1,5 @@
 -- What stands first in a statement, and what follows one.
-use Rattle.std.proofs.Common.{◌≡◌, ℕ, zero, suc, ◌+◌, ◌≤◌, ◌<◌, Bool, true, false, not, ◌&&◌, ◌||◌, refl, ap, sym, ◌∙◌, subst}
+use Rattle.std.proofs.Common.{◌≡◌, ℕ, suc, ◌<◌, Bool, true, false, ◌&&◌, ◌||◌, refl, ap, sym, ◌∙◌}
 use Rattle.std.proofs.Common.{List, [], ◌∷◌, arith}
 use Rattle.jl_ast.specs.Tree.{Row}
 use Rattle.jl_ast.specs.Tree as tree
@@ -15,7 +15,7 @@ use Rattle.jl_grammar.specs.Next.{continues_at}
 use Rattle.jl_grammar.specs.Reads as reads
 use Rattle.jl_grammar.specs.Reads.{Expr, Stmt, Stmts, ReadsExpression, ReadsStatement, ReadsStatements, ReadsClauses}
 use Rattle.jl_grammar.specs.Reads.{ReadsElements}
-use Rattle.jl_grammar.specs.Tokens.{At, sign_at, line_at, text_at, span}
+use Rattle.jl_grammar.specs.Tokens.{sign_at, line_at, text_at, span}
 use Rattle.jl_grammar.proofs.Directives.{one_expression, primary_alone}
 use Rattle.jl_grammar.proofs.Starts.{begins_expression, expression_starts, block_starts}
 use Rattle.jl_print.specs.Written.{begins_otherwise}

@@ -1,6 +1,6 @@
 -- What is read is well formed, a line for each production.
-use Rattle.std.proofs.Common.{◌≡◌, ℕ, suc, Bool, true, false, refl, ap, sym, ◌∙◌, subst, List, [], ◌∷◌}
-use Rattle.std.specs.Prelude.{Option, Some, None}
+use Rattle.std.proofs.Common.{◌≡◌, ℕ, Bool, refl, subst, List}
+use Rattle.std.specs.Prelude.{Option, Some}
 use Rattle.std.proofs.lemmas.Option.{same_Some}
 use Rattle.jl_ast.specs.declared.ops.BinOp.{BinOp}
 use Rattle.jl_ast.specs.Tree.{Ident, Tree, Row, Maybe}
@@ -20,7 +20,6 @@ use Rattle.jl_grammar.specs.Reads.{ReadsBinary, ReadsConditional, ReadsAssignmen
 use Rattle.jl_grammar.specs.Reads.{ReadsStatement, ReadsBlock, ReadsStatements, ReadsSub, ReadsHead, ReadsDeclaration}
 use Rattle.jl_grammar.specs.Reads.{ReadsDeclarations, ReadsInit, ReadsMaybe, ReadsClauses, ReadsCatch, ReadsElements}
 use Rattle.jl_grammar.specs.Reads.{ReadsFunction, ReadsBody}
-use Rattle.jl_grammar.specs.Tokens.{sign_at}
 use Rattle.jl_print.specs.WellFormed.{WellFormed, AllWellFormed, MaybeWellFormed, AreIdentifiers, IsAssigning}
 use Rattle.jl_print.specs.WellFormed.{HasOneDefault, IsSome, AreNamed}
 use Rattle.jl_print.proofs.Lexical.{AreLexical, identifier_at, name_at, short_key_at, string_at, literal_at}

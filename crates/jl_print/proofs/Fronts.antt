@@ -1,18 +1,17 @@
 -- Fronts of expressions by their rank, and the tokens that don't go on with them.
 use Rattle.std.proofs.Common.{◌≡◌, ℕ, zero, suc, ◌+◌, ◌-◌, ◌≤◌, ◌<◌, ◌⊎◌, inl, inr, Bool, true, false, ◌&&◌, not, refl, ap}
-use Rattle.std.proofs.Common.{sym, ◌∙◌, subst, List, arith}
+use Rattle.std.proofs.Common.{sym, subst, List, arith}
 use Rattle.std.specs.Prelude.{nat_le}
 use Rattle.std.proofs.lemmas.Bool.Decides.{leb_tells}
 use Rattle.std.proofs.lemmas.Bool.{cases_lt}
-use Rattle.jl_ast.specs.Tree as tree
 use Rattle.jl_token.specs.declared.punct.Punct.TheVariants as puncts
 use Rattle.jl_token.specs.declared.token.Token.{Token}
 use Rattle.jl_grammar.specs.declared.sign.Sign.{Sign}
 use Rattle.jl_grammar.specs.declared.sign.Sign.TheVariants as signs
 use Rattle.jl_grammar.specs.Operators.{joint, looseness_of, continues, assigns, updates}
-use Rattle.jl_grammar.specs.Next.{continues_left, is_question, is_comma, updates_at}
-use Rattle.jl_grammar.specs.Reads.{Expr, BeginsLeft, whole_left, ReadsPostfix, left, ReadsUnary, postfix, BeginsBinary}
-use Rattle.jl_grammar.specs.Reads.{operand, tighter, ReadsBinary, whole_binary, ReadsConditional, operands}
+use Rattle.jl_grammar.specs.Next.{continues_left, is_question, updates_at}
+use Rattle.jl_grammar.specs.Reads.{Expr, BeginsLeft, whole_left, ReadsPostfix, left, postfix, BeginsBinary}
+use Rattle.jl_grammar.specs.Reads.{operand, tighter, ReadsBinary, whole_binary, operands}
 use Rattle.jl_grammar.specs.Reads.{ReadsAssignment, conditional, BeginsExpression, assignment}
 use Rattle.jl_grammar.specs.Tokens.{sign_at, line_at}
 

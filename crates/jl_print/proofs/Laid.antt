@@ -1,5 +1,5 @@
 -- The tokens of a text that is laid out.
-use Rattle.std.specs.Prelude.{ℕ, List, length, false}
+use Rattle.std.specs.Prelude.{List, length, false}
 use Rattle.jl_token.specs.Tokens.{Tokens}
 use Rattle.jl_token.specs.declared.token.Token.{Token}
 use Rattle.jl_token.specs.declared.token.TokenKind.{TokenKind}

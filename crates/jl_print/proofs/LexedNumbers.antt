@@ -1,14 +1,14 @@
 -- The decimal digits of a number are found as that number.
-use Rattle.std.proofs.Common.{◌≡◌, ℕ, zero, suc, ◌+◌, ◌-◌, ◌*◌, ◌/◌, ◌%◌, ◌<◌, ◌≤◌, ◌⊎◌, inl, inr, Bool, true, false, ◌||◌}
-use Rattle.std.proofs.Common.{◌==◌, refl, ap, sym, ◌∙◌, subst, List, [], ◌∷◌, ◌++◌, Some, None, arith, append_assoc}
-use Rattle.std.specs.Prelude.{pos, nat_lt, int_lt, if◌then◌else◌}
+use Rattle.std.proofs.Common.{◌≡◌, ℕ, zero, suc, ◌+◌, ◌-◌, ◌*◌, ◌/◌, ◌%◌, ◌<◌, ◌≤◌, ◌⊎◌, inl, inr, true, false}
+use Rattle.std.proofs.Common.{◌==◌, refl, ap, sym, ◌∙◌, subst, List, [], ◌∷◌, ◌++◌, Some, None, arith}
+use Rattle.std.specs.Prelude.{pos, nat_lt, int_lt}
 use Rattle.std.proofs.lemmas.Bool.{cases_lt}
 use Rattle.std.proofs.lemmas.Bool.Decides.{nat_tests, leb_tells}
-use Rattle.jl_num.specs.Digits.{digit_code, digits_within, digits_of, number_text}
+use Rattle.jl_num.specs.Digits.{digit_code, digits_within, number_text}
 use Rattle.jl_num.proofs.Places.{one_digit, more_digits, last_digit, quotient_less}
-use Rattle.jl_token.specs.Characters.{is_digit, is_identifier_start, decimal_from, first_is}
+use Rattle.jl_token.specs.Characters.{is_digit, decimal_from}
 use Rattle.jl_token.specs.Elements.{Word, Many, no_more, one_more, OneUnit, unit, HasValue}
-use Rattle.jl_token.specs.Scanner.{found, many, one_unit, letter, name_escape, scan, scan_word, numeral, after_zero}
+use Rattle.jl_token.specs.Scanner.{found, one_unit, letter, name_escape, scan, scan_word, numeral, after_zero}
 use Rattle.jl_token.specs.Scanner.{after_whole, from_whole, with_exponent, exponent, number_end, number_of, value_of}
 use Rattle.jl_token.specs.Scanner.{is_some_of}
 use Rattle.jl_token.specs.declared.token.TokenKind.TheVariants as kinds
@@ -160,6 +160,10 @@ valued n ds rest h v f =
     whole_ends ds f ∙ ap (λ m. number_of rest (value_of m 0 0)) v
     ∙ ap (number_of rest) (value_complete n 0 0 n (has_value n h))
 
+zero_digit : is_digit 48 ≡ true
+unfolding is_digit
+zero_digit = refl
+
 decimal_found : (n : ℕ) (us rest : List ℕ) → n ≤ 9007199254740991 → Decimal n us → FollowsNumber rest
     → scan (us ++ rest) ≡ found (Word (kinds.Number (Some (pos n)))) rest
 decimal_found n us rest h d f = ap (λ l. scan (l ++ rest)) d.are ∙ go (cases_lt 0 n)
@@ -180,10 +184,6 @@ decimal_found n us rest h d f = ap (λ l. scan (l ++ rest)) d.are ∙ go (cases_
         let e = sym d.are ∙ d.zero_alone (omega arith) in
         ap (λ l. scan (l ++ rest)) e ∙ digit_begins 48 rest zero_digit ∙ ap number_end (zero_numeral f)
         ∙ valued n (48 ∷ []) rest h (ap (decimal_from 0) (sym e) ∙ value) f
-      where
-        zero_digit : is_digit 48 ≡ true
-        unfolding is_digit
-        zero_digit = refl
 
 no_sign : (n : ℕ) → int_lt (pos n) (pos 0) ≡ false
 no_sign n = let e : nat_lt n 0 ≡ false = grind (arith, nat_tests) in e

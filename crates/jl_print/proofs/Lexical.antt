@@ -1,6 +1,6 @@
 -- What the lexer makes of each token, and so what a token is that the grammar sees.
 use Rattle.std.proofs.Common.{◌≡◌, ℕ, zero, suc, ◌+◌, ◌≤◌, ◌<◌, Bool, true, false, refl, ap, sym, ◌∙◌, subst, List, [], ◌∷◌}
-use Rattle.std.proofs.Common.{length, arith, pow-suc, ◌^◌, ◌*◌, ◌/◌, ◌++◌, ◌⊎◌, inl, inr}
+use Rattle.std.proofs.Common.{length, arith, pow-suc, ◌^◌, ◌*◌, ◌/◌, ◌⊎◌, inl, inr}
 use Rattle.std.specs.Prelude.{Option, Some, None, pos, codes, int_lt, nat_lt, if◌then◌else◌}
 use Rattle.std.proofs.lemmas.Bool.Decides.{nat_tests}
 use Rattle.std.proofs.lemmas.Nat.{div_below}
@@ -11,11 +11,11 @@ use Rattle.jl_num.proofs.Places.{one_digit, more_digits, last_digit}
 use Rattle.jl_ast.specs.Tree.{Text}
 use Rattle.jl_num.specs.Number.{Number}
 use Rattle.jl_token.specs.Elements.{Element, White, LineEnd, Comment, Word, Many, no_more, one_more, Letter, itself}
-use Rattle.jl_token.specs.Elements.{escaped, Name, name, Front, white_space, line_terminator, carriage_return_line_feed}
-use Rattle.jl_token.specs.Elements.{line_comment, block_comment, identifier_name, punctuator, numeric_literal}
+use Rattle.jl_token.specs.Elements.{escaped, Name, name, Front}
+use Rattle.jl_token.specs.Elements.{identifier_name, punctuator, numeric_literal}
 use Rattle.jl_token.specs.Elements.{string_literal, name_text}
-use Rattle.jl_token.specs.Tokens.{Tokens, Piece, piece, OnePiece, one_piece, tokens_among, Begins}
-use Rattle.jl_token.specs.Characters.{is_identifier_start, is_identifier_part}
+use Rattle.jl_token.specs.Tokens.{Tokens, Piece, piece, OnePiece, one_piece, tokens_among}
+use Rattle.jl_token.specs.Characters.{is_identifier_part}
 use Rattle.jl_token.specs.declared.token.Token.{Token}
 use Rattle.jl_token.specs.declared.token.TokenKind.{TokenKind}
 use Rattle.jl_token.specs.declared.token.TokenKind.TheVariants as kinds

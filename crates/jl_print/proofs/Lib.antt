@@ -6,6 +6,7 @@ mod Operators
 mod Names
 mod Following
 mod BackParts
+mod Statements
 mod Back
 mod Depth
 mod Lexical
@@ -14,7 +15,11 @@ mod Renumbered
 mod ReadFormed
 mod Laid
 mod Followers
-mod Printed
 mod LexedNumbers
+mod LexedStrings
+mod Lexed
+mod Clean
+mod Printed
+mod Examples
 mod Writing
 mod Laying

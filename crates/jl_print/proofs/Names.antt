@@ -1,6 +1,6 @@
 -- Names and parameters that are written are read again.
-use Rattle.std.proofs.Common.{◌≡◌, ℕ, suc, Bool, true, false, refl, ap, ap₂, subst, ◌∙◌, sym, List, [], ◌∷◌, ◌++◌}
-use Rattle.std.specs.Prelude.{Option, Some, None, map, option_map}
+use Rattle.std.proofs.Common.{◌≡◌, ℕ, suc, Bool, false, refl, ap, ap₂, subst, List, [], ◌∷◌, ◌++◌}
+use Rattle.std.specs.Prelude.{map}
 use Rattle.jl_ast.specs.Tree.{Ident}
 use Rattle.jl_text.specs.declared.span.Span.{Span}
 use Rattle.jl_token.specs.declared.token.Token.{Token}
@@ -9,7 +9,7 @@ use Rattle.jl_grammar.specs.Reads as reads
 use Rattle.jl_grammar.specs.Tokens.{ident_at, key_ident_at}
 use Rattle.jl_print.specs.Pieces.{name, key}
 use Rattle.jl_print.specs.Written.{further_names, parameters, close_paren}
-use Rattle.jl_print.specs.WellFormed.{IsIdentifier, AreIdentifiers}
+use Rattle.jl_print.specs.WellFormed.{AreIdentifiers}
 use Rattle.jl_print.proofs.Skeleton.{named}
 use Rattle.jl_print.proofs.Spells.{Spelled, Spells, at, identifier, name_text, key_text}
 

@@ -1,6 +1,6 @@
 -- What the grammar sees of the operators that are written.
-use Rattle.std.proofs.Common.{◌≡◌, ℕ, zero, suc, pred, ◌+◌, ◌-◌, ◌≤◌, ◌<◌, Bool, true, false, ◌&&◌, not, refl, ap, sym, ◌∙◌}
-use Rattle.std.proofs.Common.{subst, List, arith}
+use Rattle.std.proofs.Common.{◌≡◌, ℕ, suc, ◌-◌, ◌≤◌, ◌<◌, Bool, true, false, ◌&&◌, not, refl, ap, ◌∙◌}
+use Rattle.std.proofs.Common.{List, arith}
 use Rattle.std.specs.Prelude.{Option, Some, None, nat_le}
 use Rattle.std.proofs.lemmas.Bool.Decides.{leb_tells}
 use Rattle.jl_ast.specs.declared.ops.BinOp.{BinOp}
@@ -10,8 +10,8 @@ use Rattle.jl_ast.specs.declared.ops.UnOp.TheVariants as prefixes
 use Rattle.jl_token.specs.declared.punct.Punct.TheVariants as puncts
 use Rattle.jl_token.specs.declared.token.Token.{Token}
 use Rattle.jl_token.specs.declared.token.TokenKind.{TokenKind}
-use Rattle.jl_grammar.specs.Next.{continues_left, updates_at}
-use Rattle.jl_grammar.specs.Operators.{Joint, joint, plain, both, either, looseness, looseness_of, continues, updates}
+use Rattle.jl_grammar.specs.Next.{continues_left}
+use Rattle.jl_grammar.specs.Operators.{Joint, joint, plain, both, either, looseness, looseness_of, updates}
 use Rattle.jl_grammar.specs.Operators.{assign_operator, unary_operator, update_operator as update_of}
 use Rattle.jl_grammar.specs.Reads.{JoinsAt, AssignsAt, PrefixAt, UpdateAt}
 use Rattle.jl_grammar.specs.Signs.{sign_of}

@@ -1,27 +1,24 @@
 -- An expression in its place: as it is where it fits, and else in brackets.
-use Rattle.std.proofs.Common.{◌≡◌, ℕ, suc, ◌≤◌, ◌+◌, ◌-◌, Bool, true, false, ◌&&◌, not, refl, ap, ◌∙◌, sym, subst, List, []}
-use Rattle.std.proofs.Common.{◌∷◌, ◌++◌, arith}
-use Rattle.std.specs.Prelude.{nat_le, if◌then◌else◌}
+use Rattle.std.proofs.Common.{◌≡◌, ℕ, suc, ◌≤◌, ◌-◌, Bool, true, false, refl, ap, subst, List, []}
+use Rattle.std.proofs.Common.{◌∷◌, arith}
+use Rattle.std.specs.Prelude.{if◌then◌else◌}
 use Rattle.std.proofs.lemmas.Bool.{leb-true}
-use Rattle.std.proofs.lemmas.Bool.Decides.{leb_tells}
 use Rattle.jl_ast.specs.declared.ops.BinOp.{BinOp}
-use Rattle.jl_ast.specs.declared.ops.BinOp.TheVariants as ops
 use Rattle.jl_ast.specs.Tree as tree
 use Rattle.jl_token.specs.declared.punct.Punct.TheVariants as puncts
 use Rattle.jl_token.specs.declared.token.Token.{Token}
 use Rattle.jl_token.specs.declared.token.TokenKind.{TokenKind}
 use Rattle.jl_grammar.specs.Next.{is_comma}
-use Rattle.jl_grammar.specs.Operators.{looseness, plain, level}
+use Rattle.jl_grammar.specs.Operators.{level}
 use Rattle.jl_grammar.specs.Reads as reads
 use Rattle.jl_grammar.specs.Reads.{Expr, ReadsPrimary, ReadsExpression}
-use Rattle.jl_grammar.specs.Tokens.{At, sign_at}
-use Rattle.jl_print.specs.Layout.{ends_line}
+use Rattle.jl_grammar.specs.Tokens.{sign_at}
 use Rattle.jl_print.specs.Pieces.{punct, in_parens, fitted}
 use Rattle.jl_print.specs.Ranks.{rank_of, fits, is_in, operator_rank}
 use Rattle.jl_print.specs.Written.{written}
 use Rattle.jl_print.proofs.Fronts.{Front, of_left, to_expression, as_loose, Quiet, quiet_less, quiet_stop, stops}
 use Rattle.jl_print.proofs.Skeleton.{skeleton}
-use Rattle.jl_print.proofs.Spells.{Spelled, Spells, Parts, parts, line_after, at}
+use Rattle.jl_print.proofs.Spells.{Spells, parts, at}
 
 -- an expression that is read, and is t but for places and numbers
 pub record Back (ts : List Token) (no_in : Bool) (r i : ℕ) (t : Expr) (j : ℕ) : Type 0 where

@@ -1,12 +1,11 @@
 -- The canonical text of a well formed program reads back.
-use Rattle.std.proofs.Common.{◌≡◌, ℕ, zero, suc, ◌+◌, ◌-◌, ◌*◌, ◌≤◌, ◌<◌, ◌⊎◌, inl, inr, max, false, true, refl, ap, sym, ◌∙◌}
-use Rattle.std.proofs.Common.{subst, List, [], ◌∷◌, length, arith}
+use Rattle.std.proofs.Common.{◌≡◌, ℕ, suc, ◌+◌, ◌-◌, ◌*◌, ◌≤◌, ◌<◌, ◌⊎◌, inl, inr, false, refl, ap, sym, ◌∙◌}
+use Rattle.std.proofs.Common.{List, [], ◌∷◌, length, arith}
 use Rattle.std.proofs.lemmas.Bool.{cases_lt}
 use Rattle.jl_ast.specs.Height.{height, program_height}
 use Rattle.jl_ast.specs.Numbering.{numbered, numbered_tree}
 use Rattle.jl_ast.specs.Spans.{bare, map_tree}
-use Rattle.jl_ast.specs.Tree.{Program, Sort, Tree}
-use Rattle.jl_ast.specs.Tree as tree
+use Rattle.jl_ast.specs.Tree.{Program}
 use Rattle.jl_ast.proofs.SameHeight.{moved, renumbered}
 use Rattle.jl_ast.proofs.SameNumbers.{numbered_moved}
 use Rattle.jl_text.specs.declared.span.Span.{Span}
@@ -15,19 +14,21 @@ use Rattle.jl_token.specs.declared.token.TokenKind.{TokenKind}
 use Rattle.jl_grammar.specs.declared.sign.Sign.TheVariants as signs
 use Rattle.jl_grammar.specs.Brackets.{bracket, opened}
 use Rattle.jl_grammar.specs.Next.{ends_list}
-use Rattle.jl_grammar.specs.Program.{Reads, program_of, last_end}
+use Rattle.jl_grammar.specs.Program.{program_of, last_end}
 use Rattle.jl_grammar.specs.Reads.{Code}
 use Rattle.jl_grammar.specs.Signs.{sign_of}
 use Rattle.jl_grammar.specs.Tokens.{At, sign_at}
 use Rattle.jl_grammar.proofs.One.{opened_past}
 use Rattle.jl_grammar.proofs.Opened.{after}
-use Rattle.jl_print.specs.Laws.{ReadsBack}
+use Rattle.jl_print.specs.Laws.{PrintedReadsBack, ReadsBack}
 use Rattle.jl_print.specs.Layout.{ends_line, text_of}
 use Rattle.jl_print.specs.WellFormed.{IsWellFormed}
 use Rattle.jl_print.specs.Written.{written, tokens_of}
 use Rattle.jl_print.proofs.Back.{back_body}
-use Rattle.jl_print.proofs.Depth.{left_open, most_open, tame}
+use Rattle.jl_print.proofs.Depth.{most_open, tame}
 use Rattle.jl_print.proofs.Laid.{Laid}
+use Rattle.jl_print.proofs.Clean.{good}
+use Rattle.jl_print.proofs.Lexed.{laid}
 use Rattle.jl_print.proofs.Skeleton.{skeleton, no_place, same_numbers}
 use Rattle.jl_print.proofs.Spells.{Spells, at}
 
@@ -73,16 +74,16 @@ same_program : (c : Code) (p : Program Span) (s : Span) → skeleton c ≡ skele
     → bare (numbered (record { body = c; at = s })) ≡ bare p
 same_program c p s e n =
     let a = sym (numbered_moved no_place 0 c) ∙ sym (same_numbers 0 c) ∙ ap (numbered_tree 0) e
-        ∙ same_numbers 0 p.body ∙ numbered_moved no_place 0 p.body in
+    ∙ same_numbers 0 p.body ∙ numbered_moved no_place 0 p.body in
     ap (λ b. record { body = b; at = tt }) a ∙ ap bare n
 
 same_height : (c d : Code) → skeleton c ≡ skeleton d → height c ≡ height d
 same_height c d e =
     let h : (t : Code) → height (numbered_tree 0 (skeleton t)) ≡ height t =
-        λ t. ap height (same_numbers 0 t) ∙ renumbered 0 (map_tree no_place t) ∙ moved no_place t in
+    λ t. ap height (same_numbers 0 t) ∙ renumbered 0 (map_tree no_place t) ∙ moved no_place t in
     sym (h c) ∙ ap (λ t. height (numbered_tree 0 t)) e ∙ h d
 
-pub reads_back : (p : Program Span) (limit : ℕ) → IsWellFormed p → program_height p ≤ limit → Laid (tokens_of p)
+reads_back : (p : Program Span) (limit : ℕ) → IsWellFormed p → program_height p ≤ limit → Laid (tokens_of p)
     → ReadsBack (text_of p) limit p
 reads_back p limit w h l =
     let ts = l.tokens in
@@ -106,3 +107,6 @@ reads_back p limit w h l =
       };
       same = same_program b.code p (record { from = 0; to = last_end ts }) b.same w.numbers;
     }
+
+pub printed_reads_back : PrintedReadsBack
+printed_reads_back p limit w h = reads_back p limit w h (laid (tokens_of p) (good p.body w.body).clean)

@@ -1,11 +1,10 @@
 -- Programs that are read are well formed.
-use Rattle.std.proofs.Common.{◌≡◌, ℕ, ◌+◌, Bool, true, false, refl, ap, sym, ◌∙◌, subst, List, [], ◌∷◌}
-use Rattle.std.specs.Prelude.{Option, Some, None}
-use Rattle.jl_ast.specs.Numbering.{functions_in, functions_in_row, functions_in_maybe, numbered, numbered_tree}
+use Rattle.std.proofs.Common.{ℕ, ◌+◌, Bool, true, false, ap, sym, subst, [], ◌∷◌}
+use Rattle.std.specs.Prelude.{Some, None}
+use Rattle.jl_ast.specs.Numbering.{functions_in, numbered_tree}
 use Rattle.jl_ast.specs.Numbering.{numbered_row, numbered_maybe}
 use Rattle.jl_ast.specs.Tree.{Program, Sort, Tree, Row, Maybe}
 use Rattle.jl_ast.specs.Tree as tree
-use Rattle.jl_text.specs.declared.span.Span.{Span}
 use Rattle.jl_grammar.specs.Program.{last_end}
 use Rattle.jl_print.specs.Laws.{ReadIsWellFormed}
 use Rattle.jl_print.specs.WellFormed.{WellFormed, AllWellFormed, MaybeWellFormed, HasOneDefault, IsSome, AreNamed}

@@ -1,7 +1,7 @@
 -- A tree without its places and with no numbers: what the printer writes of it.
 use Rattle.std.proofs.Common.{◌≡◌, ℕ, ◌+◌, refl}
 use Rattle.std.specs.Prelude.{map, option_map}
-use Rattle.jl_ast.specs.Tree.{Program, Sort, Tree, Row, Maybe, Ident, this, name, number, string, boolean, null}
+use Rattle.jl_ast.specs.Tree.{Sort, Tree, Row, Maybe, Ident, this, name, number, string, boolean, null}
 use Rattle.jl_ast.specs.Tree.{array, object, function_expression, dot, index, call, new, unary, update, binary, and}
 use Rattle.jl_ast.specs.Tree.{or, conditional, assign, comma, to_name, to_dot, to_index, hole, filled, value}
 use Rattle.jl_ast.specs.Tree.{getter, setter, function, body, var, empty, expression, block, when, do_while, while}

@@ -1,13 +1,10 @@
 -- Tokens that are of given kinds, one after the other.
-use Rattle.std.proofs.Common.{◌≡◌, ℕ, zero, suc, Bool, true, false, refl, ap, sym, ◌∙◌, List, [], ◌∷◌, ◌++◌}
+use Rattle.std.proofs.Common.{◌≡◌, ℕ, zero, suc, Bool, true, false, refl, ap, ◌∙◌, List, [], ◌∷◌, ◌++◌}
 use Rattle.std.specs.Prelude.{Option, Some, None, codes, if◌then◌else◌}
 use Rattle.std.proofs.lemmas.Option.{same_Some, none-some}
 use Rattle.jl_ast.specs.Tree.{Text}
-use Rattle.jl_num.specs.Number.{Number}
 use Rattle.jl_token.specs.declared.token.Token.{Token}
 use Rattle.jl_token.specs.declared.token.TokenKind.{TokenKind}
-use Rattle.jl_token.specs.declared.token.TokenKind.TheVariants as kinds
-use Rattle.jl_grammar.specs.declared.sign.Sign.{Sign}
 use Rattle.jl_grammar.specs.declared.sign.Sign.TheVariants as signs
 use Rattle.jl_grammar.specs.declared.word.Word.{Word}
 use Rattle.jl_grammar.specs.Next.{is_identifier, is_name, is_key}

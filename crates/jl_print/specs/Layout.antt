@@ -3,7 +3,7 @@ use Rattle.std.specs.Prelude.{ℕ, Bool, true, false, ◌&&◌, ◌||◌, List, 
 use Rattle.jl_ast.specs.Tree.{Program}
 use Rattle.jl_token.specs.declared.punct.Punct.TheVariants as puncts
 use Rattle.jl_token.specs.declared.token.TokenKind.{TokenKind}
-use Rattle.jl_token.specs.declared.token.TokenKind.TheVariants.{Name, Punct, Number, Str}
+use Rattle.jl_token.specs.declared.token.TokenKind.TheVariants.{Punct, Number}
 use Rattle.jl_token.specs.Spelling.{spelled}
 use Rattle.jl_print.specs.Written.{tokens_of}
 

@@ -1,6 +1,5 @@
 -- Which trees have a canonical text that reads back: all that the grammar reads are such.
-use Rattle.std.specs.Prelude.{◌≡◌, ◌≤◌, ◌⊎◌, ℕ, Bool, true, false, ◌&&◌, List, [], ◌∷◌, Option, Some, None, length, pos}
-use Rattle.std.specs.Prelude.{All}
+use Rattle.std.specs.Prelude.{◌≡◌, ◌≤◌, ℕ, Bool, true, false, ◌&&◌, List, [], ◌∷◌, Option, Some, None, length, pos}
 use Rattle.jl_ast.specs.Numbering.{numbered}
 use Rattle.jl_ast.specs.Tree.{Ident, Program, Sort, Tree, Row, Maybe, Text}
 use Rattle.jl_ast.specs.Tree as tree

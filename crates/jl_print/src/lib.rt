@@ -6,6 +6,7 @@ ghost use Rattle.jl_ast.specs.View.{view};
 ghost use Rattle.jl_print.specs.Layout.{text_of};
 
 mod alone;
+pub mod laws;
 mod layout;
 mod piece;
 mod ranks;

@@ -1,0 +1,9 @@
+//! Numbers the functions of a program.
+#![tactic(auto)]
+
+mod numbers;
+
+pub use numbers::number;
+
+#[cfg(test)]
+mod tests;

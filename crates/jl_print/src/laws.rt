@@ -1,0 +1,13 @@
+//! The laws of the canonical text: each is the contract of a function.
+ghost use Rattle.jl_print.specs.Laws.{PrintedReadsBack, ReadIsWellFormed};
+
+/// The canonical text of a well formed program reads back as that program, but for places, within every limit on
+/// nesting that the program keeps.
+pub fn printed_reads_back()
+    ensures { PrintedReadsBack }
+{}
+
+/// Every program that is read of a text is well formed.
+pub fn read_is_well_formed()
+    ensures { ReadIsWellFormed }
+{}

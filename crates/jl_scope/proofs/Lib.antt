@@ -1,0 +1,5 @@
+pub mod NameLists
+pub mod Firsts
+pub mod Examples
+pub mod Order
+pub mod Binding

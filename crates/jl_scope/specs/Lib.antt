@@ -1,0 +1,10 @@
+pub mod Rules
+pub mod Names
+pub mod Hoisting
+pub mod Mentions
+pub mod Kinds
+pub mod Setting
+pub mod Breaches
+pub mod Breach
+pub mod Laws
+pub mod Steps

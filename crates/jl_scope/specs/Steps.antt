@@ -1,0 +1,37 @@
+-- Steps of the proof: what the values of the code stand for. No public contract cites these.
+use Rattle.std.specs.Prelude.{◌≡◌, List, ◌++◌, map}
+use denote.Ref.{Bor}
+use Rattle.jl_ast.specs.Tree.{Text}
+use Rattle.jl_scope.specs.declared.found.Finding.{Finding}
+use Rattle.jl_scope.specs.declared.found.Finding.TheVariants as finding
+use Rattle.jl_scope.specs.declared.setting.Label.{Label}
+use Rattle.jl_scope.specs.declared.setting.Setting.{Setting}
+use Rattle.jl_scope.specs.Kinds.{Breach, early, left_out, reserved_name}
+use Rattle.jl_scope.specs.declared.keys.Keys.{Keys}
+use Rattle.jl_scope.specs.Setting as around
+use Rattle.jl_scope.specs.Breaches as literal
+
+abbrev pub breach_of : Finding → Breach
+breach_of (finding.Early rule at) = early rule at
+breach_of (finding.LeftOut x at) = left_out x.now at
+breach_of (finding.ReservedName at) = reserved_name at
+
+abbrev pub label_of : Label → around.Label
+label_of l = record { name = l.name.now; of_loop = l.of_loop }
+
+abbrev pub setting_of : Setting → around.Setting
+setting_of s = record {
+  strict = s.strict;
+  in_function = s.in_function;
+  in_loop = s.in_loop;
+  can_break = s.can_break;
+  labels = map label_of s.labels.now;
+  bound = map (λ n. n.now) s.bound.now;
+}
+
+abbrev pub keys_of : Keys → literal.Keys
+keys_of keys = record { values = keys.values; getters = keys.getters; setters = keys.setters }
+
+-- what a walk has found grows by these names, in their order
+abbrev pub Adds : List Text → List (Bor Text) → List (Bor Text) → Type 0
+Adds more old new = map (λ n. n.now) new ≡ map (λ n. n.now) old ++ more
