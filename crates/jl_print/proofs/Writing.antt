@@ -1,12 +1,13 @@
 -- How lists are written one part at a time, and what a list of tokens begins with.
 use Rattle.std.proofs.Common.{◌≡◌, ℕ, Bool, true, false, List, [], ◌∷◌, ◌++◌, append_assoc, append-nil, refl, sym}
 use Rattle.std.proofs.Common.{ap, ◌∙◌, Option, Some, None, length, nat_eq, arith}
+use Rattle.std.proofs.Common.{suc, add-one, ◌+◌, ◌<◌, drop, drop-cons, length-drop, get_or, option_map}
 use Rattle.std.specs.Prelude.{not, codes, if◌then◌else◌}
 use Rattle.jl_ast.specs.Tree as tree
 use Rattle.jl_ast.specs.Tree.{Ident, Text, Tree, Row, Maybe}
-use Rattle.jl_ast.specs.View.{view_branch, view_expression, view_items, view_statements}
+use Rattle.jl_ast.specs.View.{item, view_declarators, view_expression, view_ident, view_items, view_maybe}
 use Rattle.jl_ast.specs.declared.tree.Expr.{Expr}
-use Rattle.jl_ast.specs.declared.tree.Stmt.{Stmt}
+use Rattle.jl_ast.specs.declared.tree.Ident as declared
 use Rattle.jl_ast.specs.declared.ops.BinOp.{BinOp}
 use Rattle.jl_ast.specs.declared.ops.UnOp.{UnOp}
 use Rattle.jl_ast.specs.declared.ops.UnOp.TheVariants as prefixes
@@ -17,7 +18,7 @@ use Rattle.jl_grammar.specs.Signs.{sign_of}
 use Rattle.jl_grammar.specs.Words.{same_text, word_of}
 use Rattle.jl_grammar.specs.declared.sign.Sign.TheVariants as signs
 use Rattle.jl_grammar.specs.declared.word.Word.{Word}
-use Rattle.jl_print.specs.Kinds.{after_name, assigning, case_head, comma_unless}
+use Rattle.jl_print.specs.Kinds.{after_name, assigning, case_head, comma_unless, initializer, item_with_comma}
 use Rattle.jl_print.specs.Pieces.{fitted, key, name, punct, prefix_operator, update_operator}
 use Rattle.jl_print.specs.Ranks.{fits, is_in}
 use Rattle.jl_print.specs.Written.{written, written_arguments, further_arguments, written_entries, further}
@@ -49,35 +50,47 @@ unfolding written
 next_entry o true t r = simp (append-nil, append_assoc)
 next_entry o false t r = simp append_assoc
 
--- a declarator with nothing assigned, and one with an expression
-pub next_declared : {S : Type 0} (o : List TokenKind) (first : Bool) (x : Ident S) (r : Row S tree.decl) →
-    ((o ++ comma_unless first) ++ (name x.text ∷ [])) ++ declarators_from false r
-    ≡ o ++ declarators_from first (tree.more (tree.declarator x tree.absent) r)
-unfolding written
-next_declared o true x r = simp (append-nil, append_assoc)
-next_declared o false x r = simp append_assoc
-
-pub next_declarator : {S : Type 0} (o : List TokenKind) (first : Bool) (x : Ident S) (a : Tree S tree.expr)
+pub next_declarator : {S : Type 0} (o : List TokenKind) (first : Bool) (x : Ident S) (m : Maybe S tree.expr)
     (r : Row S tree.decl) →
-    ((((o ++ comma_unless first) ++ (name x.text ∷ [])) ++ (punct puncts.Assign ∷ []))
-    ++ fitted (fits a 13) (written a)) ++ declarators_from false r
-    ≡ o ++ declarators_from first (tree.more (tree.declarator x (tree.present a)) r)
+    ((o ++ comma_unless first) ++ (name x.text ∷ initializer m)) ++ declarators_from false r
+    ≡ o ++ declarators_from first (tree.more (tree.declarator x m) r)
 unfolding written
-next_declarator o true x a r = simp (append-nil, append_assoc)
-next_declarator o false x a r = simp append_assoc
+next_declarator o true x tree.absent r = simp (append-nil, append_assoc)
+next_declarator o true x (tree.present a) r = simp (append-nil, append_assoc)
+next_declarator o false x tree.absent r = simp append_assoc
+next_declarator o false x (tree.present a) r = simp append_assoc
 
-pub next_hole : (o : List TokenKind) (l : List (Option Expr)) →
-    (o ++ (punct puncts.Comma ∷ [])) ++ written_items (view_items l) ≡ o ++ written_items (view_items (None ∷ l))
+next_item : (o : List TokenKind) (e : Option Expr) (l : List (Option Expr)) (left : ℕ) → left ≡ length l →
+    (o ++ item_with_comma (item (option_map view_expression e)) (nat_eq left 0)) ++ written_items (view_items l)
+    ≡ o ++ written_items (view_items (e ∷ l))
 unfolding written
-next_hole o [] = append-nil _
-next_hole o (x ∷ l) = append_assoc o _ _
+next_item o None [] left h = append-nil _
+next_item o None (x ∷ l) left h = append_assoc o _ _
+next_item o (Some e) [] left h = rw h (simp append-nil)
+next_item o (Some e) (x ∷ l) left h =
+    let q : nat_eq left 0 ≡ false = grind (arith, h) in
+    rw q (simp append_assoc)
 
-pub next_item : (o : List TokenKind) (e : Expr) (l : List (Option Expr)) (left : ℕ) → left ≡ length l →
-    ((o ++ fitted (fits (view_expression e) 13) (written (view_expression e))) ++ comma_unless (nat_eq left 0))
-    ++ written_items (view_items l) ≡ o ++ written_items (view_items (Some e ∷ l))
-unfolding written
-next_item o e [] left h = rw h (simp append-nil)
-next_item o e (x ∷ l) left h = let q : nat_eq left 0 ≡ false = grind (arith, h) in rw q (simp append_assoc)
+-- the element e with the number i of a list, of which `left` come after it
+pub item_at : (o : List TokenKind) (l : List (Option Expr)) (i left : ℕ) (e : Option Expr) → e ≡ get_or l i e →
+    left + (i + 1) ≡ length l →
+    (o ++ item_with_comma (item (option_map view_expression e)) (nat_eq left 0))
+    ++ written_items (view_items (drop (i + 1) l)) ≡ o ++ written_items (view_items (drop i l))
+item_at o l i left e w h =
+    rw (add-one i) (next_item o e (drop (suc i) l) left (omega (arith, length-drop (suc i) l, h))
+    ∙ ap (λ x. o ++ written_items (view_items x))
+    (ap (λ y. y ∷ drop (suc i) l) w ∙ sym (drop-cons l i e (omega (arith, h)))))
+
+-- the declarator d with the number i of a list
+pub declarator_at : (o : List TokenKind) (first : Bool) (l : List (declared.Ident × Option Expr)) (i : ℕ)
+    (d : declared.Ident × Option Expr) → d ≡ get_or l i d → i < length l →
+    ((o ++ comma_unless first) ++ (name d.0.text ∷ initializer (view_maybe d.1)))
+    ++ declarators_from false (view_declarators (drop (i + 1) l))
+    ≡ o ++ declarators_from first (view_declarators (drop i l))
+declarator_at o first l i d w h =
+    rw (add-one i) (next_declarator o first (view_ident d.0) (view_maybe d.1) (view_declarators (drop (suc i) l))
+    ∙ ap (λ x. o ++ declarators_from first (view_declarators x))
+    (ap (λ y. y ∷ drop (suc i) l) w ∙ sym (drop-cons l i d h)))
 
 -- what a node is written as, by its parts
 pub assign_parts : {S : Type 0} (op : Option BinOp) (g : Tree S tree.target) (a : Tree S tree.expr) (s : S) →
@@ -101,10 +114,6 @@ pub setter_parts : {S : Type 0} (k : Ident S) (f : Tree S tree.func) →
     written (tree.setter k f) ≡ name (codes "set") ∷ key k.text ∷ after_name f
 unfolding written
 setter_parts k (tree.function n x ps c s) = refl
-
-pub branch_there : (o : Option (List Stmt)) (l : List Stmt) → o ≡ Some l →
-    view_branch o ≡ tree.present (tree.branch_of (view_statements l))
-branch_there o l e = ap view_branch e
 
 pub ruleset nodes_by_parts = (
   assign_parts,

@@ -7,8 +7,9 @@ use Rattle.jl_token.specs.declared.token.TokenKind.{TokenKind}
 use Rattle.jl_token.specs.declared.token.TokenKind.TheVariants as kinds
 use Rattle.jl_print.specs.declared.piece.Piece.{Piece}
 use Rattle.jl_print.specs.declared.piece.Piece.TheVariants as pieces
-use Rattle.jl_print.specs.Pieces.{name, key, string, punct, assign_punct, braced}
-use Rattle.jl_print.specs.Written.{written, colon, parameters}
+use Rattle.jl_print.specs.Pieces.{name, key, string, punct, assign_punct, braced, fitted}
+use Rattle.jl_print.specs.Ranks.{fits}
+use Rattle.jl_print.specs.Written.{written, written_maybe, colon, comma, semicolon, parameters}
 use Rattle.jl_ast.specs.Tree as tree
 use Rattle.jl_ast.specs.Tree.{Tree, Maybe}
 use Rattle.jl_ast.specs.declared.ops.BinOp.{BinOp}
@@ -46,3 +47,17 @@ case_head (tree.present a) = name (codes "case") ∷ (written a ++ colon ∷ [])
 -- what stands after a function's name (clause 13)
 abbrev pub after_name : {S : Type 0} → Tree S tree.func → List TokenKind
 after_name (tree.function n x ps c s) = parameters ps ++ braced (written c)
+
+-- an element of an array literal, with the comma after it (11.1.4)
+abbrev pub item_with_comma : {S : Type 0} → Tree S tree.item → (last : Bool) → List TokenKind
+item_with_comma tree.hole last = comma ∷ []
+item_with_comma (tree.filled a) last = fitted (fits a 13) (written a) ++ comma_unless last
+
+-- what a variable is declared with (12.2)
+abbrev pub initializer : {S : Type 0} → Maybe S tree.expr → List TokenKind
+initializer tree.absent = []
+initializer (tree.present a) = punct puncts.Assign ∷ fitted (fits a 13) (written a)
+
+-- a semicolon in the head of a `for`, and the expression after it (12.6.3)
+abbrev pub for_part : {S : Type 0} → Maybe S tree.expr → List TokenKind
+for_part e = semicolon ∷ written_maybe e

@@ -4,12 +4,12 @@ ghost use Rattle.std.specs.Prelude.{◌≡◌, ◌++◌, ◌∷◌, [], OnOk, ma
 ghost use Rattle.jl_ast.specs.View.{view_ident, view_expression, view_expressions, view_maybe, view_items, view_target, view_entry};
 ghost use Rattle.jl_ast.specs.View.{view_entries, view_function, view_functions, view_body, view_statement, view_statements};
 ghost use Rattle.jl_ast.specs.View.{view_branch, view_catch, view_init, view_declarators, view_declarator, view_case, view_cases, item};
-ghost use Rattle.jl_print.specs.Pieces.{fitted, in_parens, braced, operator, prefix_operator, update_operator, assign_punct, punct};
+ghost use Rattle.jl_print.specs.Pieces.{name, fitted, in_parens, braced, operator, prefix_operator, update_operator, assign_punct, punct};
 ghost use Rattle.jl_print.specs.Ranks.{fits};
 ghost use Rattle.jl_print.specs.Written.{written, written_all, written_maybe, written_after, written_arguments, further_arguments};
 ghost use Rattle.jl_print.specs.Written.{written_entries, written_declarators, further, written_items, parameters, further_names};
 ghost use Rattle.jl_print.specs.Written.{maybe_name, directive};
-ghost use Rattle.jl_print.specs.Kinds.{after_name, assigning, case_head, comma_unless};
+ghost use Rattle.jl_print.specs.Kinds.{after_name, assigning, case_head, comma_unless, for_part, initializer, item_with_comma};
 
 use crate::alone::stands_alone;
 use crate::piece::Pieces;
@@ -323,23 +323,30 @@ fn add_expressions<'a>(expressions: &'a [Expr], out: &mut Pieces<'a>) -> Result<
     Ok(())
 }
 
-/// The elements of an array literal (11.1.4): after the last one a comma stands only where it is left out.
 #[cycle(print)]
-#[tactic(auto, using(jl_ast::proofs::Views::nodes, crate::proofs::Writing::next_hole, crate::proofs::Writing::next_item), unfolding(crate::specs::Written::written))]
 fn add_items<'a>(items: &'a List<Option<Expr>>, out: &mut Pieces<'a>) -> Result<(), NoMemory>
     ensures { OnOk result (out.new ≡ out.old ++ written_items (view_items items.now)) }
 {
     let mut left = items.len();
     for e in items.items() {
         left -= 1;
-        let Some(e) = e else {
-            out.punct(Punct::Comma)?;
-            continue;
-        };
-        add_operand(e, 13, out)?;
-        add_comma_unless(left == 0, out)?;
+        add_item(e, left == 0, out)?;
     }
     Ok(())
+}
+
+/// An element of an array literal (11.1.4): after the last one a comma stands only where it is left out.
+#[cycle(print)]
+fn add_item<'a>(e: &'a Option<Expr>, last: bool, out: &mut Pieces<'a>) -> Result<(), NoMemory>
+    ensures { OnOk result (out.new ≡ out.old ++ item_with_comma (item (option_map view_expression e.now)) last) }
+{
+    match e {
+        Some(e) => {
+            add_operand(e, 13, out)?;
+            add_comma_unless(last, out)
+        }
+        None => out.punct(Punct::Comma),
+    }
 }
 
 #[cycle(print)]
@@ -466,14 +473,7 @@ fn add_statement<'a>(s: &'a Stmt, out: &mut Pieces<'a>) -> Result<(), NoMemory>
             out.word(b"if")?;
             add_fitted(test, false, out)?;
             add_block(body, out)?;
-            match other {
-                Some(other) => {
-                    out.word(b"else")?;
-                    add_block(other, out)?;
-                    Ok(())
-                }
-                None => Ok(()),
-            }
+            add_after(b"else", other, out)
         }
         StmtKind::DoWhile(body, test) => {
             out.word(b"do")?;
@@ -492,10 +492,8 @@ fn add_statement<'a>(s: &'a Stmt, out: &mut Pieces<'a>) -> Result<(), NoMemory>
             out.word(b"for")?;
             out.punct(Punct::LeftParen)?;
             add_init(init, out)?;
-            out.punct(Punct::Semicolon)?;
-            add_maybe(test, out)?;
-            out.punct(Punct::Semicolon)?;
-            add_maybe(step, out)?;
+            add_part(test, out)?;
+            add_part(step, out)?;
             out.punct(Punct::RightParen)?;
             add_block(body, out)?;
             Ok(())
@@ -556,37 +554,53 @@ fn add_statement<'a>(s: &'a Stmt, out: &mut Pieces<'a>) -> Result<(), NoMemory>
         StmtKind::Try { body, catch, finally } => {
             out.word(b"try")?;
             add_block(body, out)?;
-            match catch {
-                Some((name, handler)) => {
-                    out.word(b"catch")?;
-                    out.punct(Punct::LeftParen)?;
-                    out.name(&name.text)?;
-                    out.punct(Punct::RightParen)?;
-                    add_block(handler, out)?;
-                    match finally {
-                        Some(finally) => {
-                            out.word(b"finally")?;
-                            add_block(finally, out)?;
-                            Ok(())
-                        }
-                        None => Ok(()),
-                    }
-                }
-                None => match finally {
-                        Some(finally) => {
-                            out.word(b"finally")?;
-                            add_block(finally, out)?;
-                            Ok(())
-                        }
-                        None => Ok(()),
-                    },
-            }
+            add_catch(catch, out)?;
+            add_after(b"finally", finally, out)
         }
         StmtKind::Debugger => {
             out.word(b"debugger")?;
             out.punct(Punct::Semicolon)
         }
     }
+}
+
+/// A word, and the statements under it, if there are some.
+#[cycle(print)]
+fn add_after<'a>(word: &'a [u8], branch: &'a Option<List<Stmt>>, out: &mut Pieces<'a>) -> Result<(), NoMemory>
+    ensures { OnOk result (out.new ≡ out.old ++ written_after word.now (view_branch branch.now)) }
+{
+    match branch {
+        Some(statements) => {
+            out.word(word)?;
+            add_block(statements, out)
+        }
+        None => Ok(()),
+    }
+}
+
+#[cycle(print)]
+fn add_catch<'a>(catch: &'a Option<(Ident, List<Stmt>)>, out: &mut Pieces<'a>) -> Result<(), NoMemory>
+    ensures { OnOk result (out.new ≡ out.old ++ written_maybe (view_catch catch.now)) }
+{
+    match catch {
+        Some((name, handler)) => {
+            out.word(b"catch")?;
+            out.punct(Punct::LeftParen)?;
+            out.name(&name.text)?;
+            out.punct(Punct::RightParen)?;
+            add_block(handler, out)
+        }
+        None => Ok(()),
+    }
+}
+
+/// A semicolon in the head of a `for`, and the expression after it, if there is one (12.6.3).
+#[cycle(print)]
+fn add_part<'a>(e: &'a Option<Expr>, out: &mut Pieces<'a>) -> Result<(), NoMemory>
+    ensures { OnOk result (out.new ≡ out.old ++ for_part (view_maybe e.now)) }
+{
+    out.punct(Punct::Semicolon)?;
+    add_maybe(e, out)
 }
 
 #[cycle(print)]
@@ -604,22 +618,38 @@ fn add_init<'a>(init: &'a ForInit, out: &mut Pieces<'a>) -> Result<(), NoMemory>
 }
 
 #[cycle(print)]
-#[tactic(auto, using(jl_ast::proofs::Views::nodes, crate::proofs::Writing::next_declared, crate::proofs::Writing::next_declarator), unfolding(crate::specs::Written::written))]
 fn add_declarators<'a>(declarators: &'a List<(Ident, Option<Expr>)>, out: &mut Pieces<'a>) -> Result<(), NoMemory>
     ensures { OnOk result (out.new ≡ out.old ++ written_declarators (view_declarators declarators.now)) }
 {
     let mut first = true;
     for d in declarators.items() {
         add_comma_unless(first, out)?;
+        add_declarator(d, out)?;
         first = false;
-        out.name(&d.0.text)?;
-        let Some(e) = &d.1 else {
-            continue;
-        };
-        out.punct(Punct::Assign)?;
-        add_operand(e, 13, out)?;
     }
     Ok(())
+}
+
+#[cycle(print)]
+fn add_declarator<'a>(d: &'a (Ident, Option<Expr>), out: &mut Pieces<'a>) -> Result<(), NoMemory>
+    ensures { OnOk result (out.new ≡ out.old ++ name d.now.0.text ∷ initializer (view_maybe d.now.1)) }
+{
+    out.name(&d.0.text)?;
+    add_initializer(&d.1, out)
+}
+
+/// What a variable is declared with (12.2).
+#[cycle(print)]
+fn add_initializer<'a>(e: &'a Option<Expr>, out: &mut Pieces<'a>) -> Result<(), NoMemory>
+    ensures { OnOk result (out.new ≡ out.old ++ initializer (view_maybe e.now)) }
+{
+    match e {
+        Some(e) => {
+            out.punct(Punct::Assign)?;
+            add_operand(e, 13, out)
+        }
+        None => Ok(()),
+    }
 }
 
 #[cycle(print)]

@@ -1,12 +1,12 @@
-use Rattle.std.proofs.Common.{rules, append_assoc}
+use Rattle.std.proofs.Common.{◌≡◌, ◌+◌, ◌-◌, ◌++◌, ◌∷◌, ap, ◌∙◌, false, length, drop, get_or, nat_eq}
+use Rattle.std.proofs.Common.{option_map, rules, append_assoc, arith}
 use Rattle.jl_ast.proofs.Views.{nodes}
-use Rattle.jl_ast.specs.declared.tree.ExprKind.{the_lemmas}
-use Rattle.jl_print.specs.Written.{written}
-use Rattle.jl_print.proofs.Writing.{nodes_by_parts, branch_there}
+use Rattle.jl_ast.specs.View.{item, view_declarators, view_expression, view_items, view_maybe}
+use Rattle.jl_print.specs.Kinds.{comma_unless, initializer, item_with_comma}
+use Rattle.jl_print.specs.Pieces.{name}
+use Rattle.jl_print.specs.Written.{written, written_items}
+use Rattle.jl_print.proofs.Writing.{nodes_by_parts, declarators_from, declarator_at, item_at}
 use Rattle.jl_print.proofs.walk.+print.Goals as goal
-
-pub add_declarators-loop-d-preserved : goal.add_declarators-loop-d-preserved
-add_declarators-loop-d-preserved t c = ?
 
 pub add_expression-returns-in_ok-add_items-in-Array : goal.add_expression-returns-in_ok-add_items-in-Array
 unfolding written
@@ -72,12 +72,6 @@ pub add_init-returns-in_ok-word-in-Var : goal.add_init-returns-in_ok-word-in-Var
 unfolding written
 add_init-returns-in_ok-word-in-Var t c = search (rules, append_assoc, nodes)
 
-pub add_items-loop-e-preserved-in_default : goal.add_items-loop-e-preserved-in_default
-add_items-loop-e-preserved-in_default t c = ?
-
-pub add_items-loop-e-preserved : goal.add_items-loop-e-preserved
-add_items-loop-e-preserved t c = ?
-
 pub add_statement-returns-in_ok-add_declarators-in-Var : goal.add_statement-returns-in_ok-add_declarators-in-Var
 unfolding written
 add_statement-returns-in_ok-add_declarators-in-Var t c = search (rules, append_assoc, nodes)
@@ -86,15 +80,6 @@ pub add_statement-returns-in_ok-add_fitted-in-Expr : goal.add_statement-returns-
 unfolding written
 add_statement-returns-in_ok-add_fitted-in-Expr t c = search (rules, append_assoc, nodes)
 
-pub add_statement-returns-in_ok-add_block-in-Some : goal.add_statement-returns-in_ok-add_block-in-Some
-unfolding written
-add_statement-returns-in_ok-add_block-in-Some t c =
-    search (rules, append_assoc, nodes, branch_there c.in-If.other c.in-Some.other c.in-Some.is)
-
-pub add_statement-returns-in-None : goal.add_statement-returns-in-None
-unfolding written
-add_statement-returns-in-None t c = search (rules, append_assoc, nodes)
-
 pub add_statement-returns-in_ok-add_fitted-in-DoWhile : goal.add_statement-returns-in_ok-add_fitted-in-DoWhile
 unfolding written
 add_statement-returns-in_ok-add_fitted-in-DoWhile t c = search (rules, append_assoc, nodes)
@@ -102,10 +87,6 @@ add_statement-returns-in_ok-add_fitted-in-DoWhile t c = search (rules, append_as
 pub add_statement-returns-in_ok-add_block-in-While : goal.add_statement-returns-in_ok-add_block-in-While
 unfolding written
 add_statement-returns-in_ok-add_block-in-While t c = search (rules, append_assoc, nodes)
-
-pub add_statement-returns-in_ok-add_block-in-For : goal.add_statement-returns-in_ok-add_block-in-For
-unfolding written
-add_statement-returns-in_ok-add_block-in-For t c = search (rules, append_assoc, nodes)
 
 pub add_statement-returns-in_ok-add_block-in-ForIn-true-default-default-default : goal.add_statement-returns-in_ok-add_block-in-ForIn-true-default-default-default
 unfolding written
@@ -139,26 +120,9 @@ pub add_statement-returns-in_ok-add_expression-in-Throw : goal.add_statement-ret
 unfolding written
 add_statement-returns-in_ok-add_expression-in-Throw t c = search (rules, append_assoc, nodes)
 
-pub add_statement-returns-in_ok-add_block-in-Some-finally : goal.add_statement-returns-in_ok-add_block-in-Some-finally
-unfolding written
-add_statement-returns-in_ok-add_block-in-Some-finally t c = search (rules, append_assoc, nodes)
-
-pub add_statement-returns-in-None-finally : goal.add_statement-returns-in-None-finally
-unfolding written
-add_statement-returns-in-None-finally t c = search (rules, append_assoc, nodes)
-
-pub add_statement-returns-in_ok-add_block-in-Some-finally-2 : goal.add_statement-returns-in_ok-add_block-in-Some-finally-2
-unfolding written
-add_statement-returns-in_ok-add_block-in-Some-finally-2 t c = search (rules, append_assoc, nodes)
-
-pub add_statement-returns-in-None-finally-2 : goal.add_statement-returns-in-None-finally-2
-unfolding written
-add_statement-returns-in-None-finally-2 t c = search (rules, append_assoc, nodes)
-
 pub add_statement-returns-in_ok-word-in-Debugger : goal.add_statement-returns-in_ok-word-in-Debugger
 unfolding written
 add_statement-returns-in_ok-word-in-Debugger t c = search (rules, append_assoc, nodes)
-
 
 pub add_expression-returns-in_ok-add_operand-in-Assign : goal.add_expression-returns-in_ok-add_operand-in-Assign
 add_expression-returns-in_ok-add_operand-in-Assign t c = search (rules, append_assoc, nodes, nodes_by_parts)
@@ -168,3 +132,42 @@ add_entry-returns-in_ok-key-in-Get t c = search (rules, append_assoc, nodes, nod
 
 pub add_entry-returns-in_ok-key-in-Set : goal.add_entry-returns-in_ok-key-in-Set
 add_entry-returns-in_ok-key-in-Set t c = search (rules, append_assoc, nodes, nodes_by_parts)
+
+pub add_case-returns : goal.add_case-returns
+add_case-returns t c = search (rules, append_assoc, nodes, nodes_by_parts)
+
+pub add_declarators-loop-d-preserved : goal.add_declarators-loop-d-preserved
+add_declarators-loop-d-preserved t c =
+    let l = c.args.declarators.now in
+    let i = c.loop-d.d-index in
+    let s : c.items-d-items.result.now ≡ c.args.declarators.now = c.items-d-items.ensures in
+    let w : c.d-item.result ≡ get_or c.args.declarators.now c.loop-d.d-index c.d-item.result =
+    c.d-item.is ∙ ap (λ x. get_or x c.loop-d.d-index c.d-item.result) s in
+    let b : c.add_comma_unless.new.out ≡ c.loop-d.out ++ comma_unless c.loop-d.first = c.in_ok-add_comma_unless.ensures in
+    let a : c.add_declarator.new.out ≡ c.add_comma_unless.new.out
+    ++ (name c.d-item.result.0.text ∷ initializer (view_maybe c.d-item.result.1)) = c.in_ok-add_declarator.ensures in
+    ap (λ x. x ++ declarators_from false (view_declarators (drop (c.loop-d.d-index + 1) l)))
+    (a ∙ ap (λ x. x ++ (name c.d-item.result.0.text ∷ initializer (view_maybe c.d-item.result.1))) b)
+    ∙ declarator_at c.loop-d.out c.loop-d.first l i c.d-item.result w (omega (arith, c.loop-d-test.true, ap length s))
+    ∙ c.loop-d.invariant
+
+pub add_items-loop-e-preserved : goal.add_items-loop-e-preserved
+add_items-loop-e-preserved t c =
+    let l = c.args.items.now in
+    let i = c.loop-e.e-index in
+    let s : c.items-e-items.result.now ≡ c.args.items.now = c.items-e-items.ensures in
+    let w : c.e-item.result ≡ get_or c.args.items.now c.loop-e.e-index c.e-item.result =
+    c.e-item.is ∙ ap (λ x. get_or x c.loop-e.e-index c.e-item.result) s in
+    let n : (c.loop-e.left - 1) + (c.loop-e.e-index + 1) ≡ length c.args.items.now =
+    omega (arith, c.loop-e.invariant.0, c.loop-e-test.true, ap length s) in
+    let a : c.add_item.new.out ≡ c.loop-e.out
+    ++ item_with_comma (item (option_map view_expression c.e-item.result)) (nat_eq (c.loop-e.left - 1) 0) =
+    c.in_ok-add_item.ensures in (
+      n,
+      ap (λ x. x ++ written_items (view_items (drop (c.loop-e.e-index + 1) l))) a
+      ∙ item_at c.loop-e.out l i (c.loop-e.left - 1) c.e-item.result w n ∙ c.loop-e.invariant.1,
+    )
+
+pub add_statement-returns-in_ok-add_block-in-For : goal.add_statement-returns-in_ok-add_block-in-For
+unfolding written
+add_statement-returns-in_ok-add_block-in-For t c = search (rules, append_assoc, nodes)
