@@ -21,3 +21,5 @@ mod Lexed
 mod Clean
 mod Printed
 mod Examples
+mod Writing
+mod Laying

@@ -1,0 +1,100 @@
+ghost use Rattle.std.specs.Prelude.{◌≡◌, pred};
+ghost use Rattle.jl_ast.specs.View.{view_expression};
+ghost use Rattle.jl_grammar.specs.Operators.{looseness, plain};
+ghost use Rattle.jl_print.specs.Ranks.{fits, is_in, operator_rank, rank_of};
+ghost use Rattle.jl_print.specs.Written.{is_name, is_string};
+
+use jl_ast::{BinOp, Expr, ExprKind};
+
+/// Whether it is `in`, which stands in brackets wherever it is (11.8, 12.6.3).
+pub(crate) fn is_in(op: BinOp) -> bool
+    ensures { result ≡ is_in op }
+{
+    match op {
+        BinOp::In => true,
+        _ => false,
+    }
+}
+
+/// How loosely an operator's left operand may hang together (11.5 to 11.10): its own rank.
+pub(crate) fn operator_rank(op: BinOp) -> u32
+    ensures { result ≡ operator_rank op }
+{
+    match op {
+        BinOp::Mul | BinOp::Div | BinOp::Rem => 3,
+        BinOp::Add | BinOp::Sub => 4,
+        BinOp::Shl | BinOp::Sar | BinOp::Shr => 5,
+        BinOp::Less | BinOp::Greater | BinOp::LessEq | BinOp::GreaterEq => 6,
+        BinOp::InstanceOf | BinOp::In => 6,
+        BinOp::Equal | BinOp::NotEqual | BinOp::StrictEqual | BinOp::StrictNotEqual => 7,
+        BinOp::BitAnd => 8,
+        BinOp::BitXor => 9,
+        BinOp::BitOr => 10,
+    }
+}
+
+/// How loosely an operator's right operand may hang together: one less, since all of them group to the left.
+pub(crate) fn right_rank(op: BinOp) -> u32
+    ensures { result ≡ pred (operator_rank op) }
+{
+    match op {
+        BinOp::Mul | BinOp::Div | BinOp::Rem => 2,
+        BinOp::Add | BinOp::Sub => 3,
+        BinOp::Shl | BinOp::Sar | BinOp::Shr => 4,
+        BinOp::Less | BinOp::Greater | BinOp::LessEq | BinOp::GreaterEq => 5,
+        BinOp::InstanceOf | BinOp::In => 5,
+        BinOp::Equal | BinOp::NotEqual | BinOp::StrictEqual | BinOp::StrictNotEqual => 6,
+        BinOp::BitAnd => 7,
+        BinOp::BitXor => 8,
+        BinOp::BitOr => 9,
+    }
+}
+
+/// How loosely an expression hangs together as it is written (11.1 to 11.14).
+#[tactic(auto, using(jl_ast::proofs::Views::nodes))]
+pub(crate) fn rank_of(e: &Expr) -> u32
+    ensures { result ≡ rank_of (view_expression e.now) }
+{
+    match &e.kind {
+        ExprKind::This | ExprKind::Name(_) | ExprKind::Num(_) | ExprKind::Str(_) => 0,
+        ExprKind::Bool(_) | ExprKind::Null | ExprKind::Array(_) | ExprKind::Object(_) => 0,
+        ExprKind::Function(_) | ExprKind::Dot(_, _) | ExprKind::Index(_, _) => 0,
+        ExprKind::Call(_, _) | ExprKind::New(_, _) => 0,
+        ExprKind::Update { prefix: false, .. } => 1,
+        ExprKind::Update { prefix: true, .. } => 2,
+        ExprKind::Unary(_, _) => 2,
+        ExprKind::Binary(BinOp::In, _, _) => 0,
+        ExprKind::Binary(op, _, _) => operator_rank(*op),
+        ExprKind::And(_, _) => 11,
+        ExprKind::Or(_, _) => 12,
+        ExprKind::Cond(_, _, _) | ExprKind::Assign(_, _, _) => 13,
+        ExprKind::Comma(_, _) => 14,
+    }
+}
+
+/// Whether it needs no brackets where something as loose as `most` may stand.
+pub(crate) fn fits(e: &Expr, most: u32) -> bool
+    ensures { result ≡ fits (view_expression e.now) most }
+{
+    rank_of(e) <= most
+}
+
+#[tactic(auto, using(jl_ast::proofs::Views::nodes))]
+pub(crate) fn is_name(e: &Expr) -> bool
+    ensures { result ≡ is_name (view_expression e.now) }
+{
+    match &e.kind {
+        ExprKind::Name(_) => true,
+        _ => false,
+    }
+}
+
+#[tactic(auto, using(jl_ast::proofs::Views::nodes))]
+pub(crate) fn is_string(e: &Expr) -> bool
+    ensures { result ≡ is_string (view_expression e.now) }
+{
+    match &e.kind {
+        ExprKind::Str(_) => true,
+        _ => false,
+    }
+}
