@@ -1,6 +1,6 @@
 -- What is read with a level less.
 use Rattle.std.proofs.Common.{◌≡◌, ◌≢◌, ℕ, zero, suc, ◌-◌, Bool, refl, arith}
-use Rattle.std.specs.Prelude.{List, Option, None, false}
+use Rattle.std.specs.Prelude.{List, None, false}
 use Rattle.jl_token.specs.declared.token.Token.{Token}
 use Rattle.jl_grammar.specs.Reader.{deeper, expression_at, assignment_at, unary_at, binary_at, left_at, statement_at}
 use Rattle.jl_grammar.specs.Reader.{rest_at}

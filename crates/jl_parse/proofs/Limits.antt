@@ -1,18 +1,18 @@
 -- Brackets of whole lists, and heights and functions of whole programs.
-use Rattle.std.proofs.Common.{◌≡◌, ◌≢◌, ℕ, zero, suc, ◌+◌, ◌-◌, ◌*◌, ◌≤◌, ◌<◌, ◌∙◌, ◌⊎◌, inl, inr, Bool, true, false, ◌&&◌}
-use Rattle.std.proofs.Common.{ap, arith, get_or, length, List, [], ◌∷◌, not, refl, subst, sym}
+use Rattle.std.proofs.Common.{◌≡◌, ◌≢◌, ℕ, zero, suc, ◌+◌, ◌*◌, ◌≤◌, ◌<◌, ◌∙◌, ◌⊎◌, inl, inr, Bool, true, false, ◌&&◌}
+use Rattle.std.proofs.Common.{ap, arith, length, List, refl, subst, sym}
 use Rattle.std.specs.Prelude.{if◌then◌else◌, nat_eq, nat_le, None, Option, Some}
-use Rattle.std.proofs.lemmas.Bool.{cases_lt, eq-eqb, eqb-true, le-leb, lt-leb, leb-true}
+use Rattle.std.proofs.lemmas.Bool.{cases_lt, eq-eqb, le-leb, lt-leb}
 use Rattle.std.proofs.lemmas.Option.{same_Some}
 use Rattle.jl_ast.specs.Height.{height, program_height}
-use Rattle.jl_ast.specs.Numbering.{functions_in, numbered}
+use Rattle.jl_ast.specs.Numbering.{functions_in}
 use Rattle.jl_ast.specs.Tree.{Program}
 use Rattle.jl_ast.proofs.SameHeight.{renumbered}
 use Rattle.jl_text.specs.declared.span.Span.{Span}
 use Rattle.jl_token.specs.declared.token.Token.{Token}
 use Rattle.jl_grammar.specs.Brackets.{bracket, opened}
 use Rattle.jl_grammar.specs.Program.{Reads, last_end, program_of}
-use Rattle.jl_grammar.specs.Reader.{◌>>=◌, body_from, deeper, is_shallow, program_at}
+use Rattle.jl_grammar.specs.Reader.{body_from, deeper, is_shallow, program_at}
 use Rattle.jl_grammar.specs.Reads.{Code}
 use Rattle.jl_grammar.specs.Tokens.{from_at, sign_at}
 use Rattle.jl_grammar.proofs.CountedNodes.{counted}

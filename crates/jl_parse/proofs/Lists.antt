@@ -1,7 +1,7 @@
 -- A turn of each loop that reads a list of parts, in the words of its code.
 use Rattle.std.proofs.Common.{◌≡◌, ◌≢◌, ℕ, zero, suc, ◌-◌, Bool, true, false, ◌&&◌, ◌||◌, refl, arith}
 use Rattle.std.proofs.Common.{ap, ◌∙◌, sym, map, List, [], ◌∷◌, ◌++◌, length, append_assoc as list_assoc}
-use Rattle.std.specs.Prelude.{Option, Some, None, if◌then◌else◌, option_map}
+use Rattle.std.specs.Prelude.{Option, Some, None, if◌then◌else◌}
 use Rattle.jl_text.specs.declared.span.Span.{Span}
 use Rattle.jl_token.specs.declared.token.Token.{Token}
 use Rattle.jl_ast.specs.declared.tree.Case.{Case as CodeCase}
@@ -19,7 +19,7 @@ use Rattle.jl_grammar.specs.Reader.{◌>>=◌, Deeper, Read, body_from, clauses_
 use Rattle.jl_grammar.specs.Reader.{elements_from, entries_from, entry_at, getter_by, is_case, is_close_brace}
 use Rattle.jl_grammar.specs.Reader.{is_close_paren, is_default, is_function, names_from, setter_by, statements_from}
 use Rattle.jl_grammar.specs.Reader.{ends_at, with_directive}
-use Rattle.jl_grammar.specs.Reads.{Code, Expr, Stmt, Stmts}
+use Rattle.jl_grammar.specs.Reads.{Code, Stmt, Stmts}
 use Rattle.jl_grammar.specs.Tokens.{ident_at, key_ident_at, sign_at, span, strict_at}
 use Rattle.jl_parse.specs.Steps.{append, clause_of, declaration_of, with_elements}
 use Rattle.jl_parse.proofs.Rows.{append_assoc, append_end, regroup, with_end, with_row}

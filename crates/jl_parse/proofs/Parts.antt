@@ -1,14 +1,25 @@
 -- What the reader reads of some statements, once their parts are read.
-use Rattle.std.proofs.Common.{◌≡◌, ℕ, suc, Bool, true, false, refl, List}
-use Rattle.std.specs.Prelude.{Option, Some, None}
+use Rattle.std.proofs.Common.{◌≡◌, ℕ, suc, Bool, true, false, refl, List, map, rules}
+use Rattle.std.specs.Prelude.{Some, None}
 use Rattle.jl_text.specs.declared.span.Span.{Span}
+use Rattle.jl_ast.specs.declared.tree.Body.{Body, roll-Body}
+use Rattle.jl_ast.specs.declared.tree.Entry as entry
+use Rattle.jl_ast.specs.declared.tree.Entry.TheViews.{out-roll-Body, out-roll-Function}
+use Rattle.jl_ast.specs.declared.tree.Expr.{Expr as CodeExpr}
+use Rattle.jl_ast.specs.declared.tree.Function.{Function, roll-Function}
+use Rattle.jl_ast.specs.declared.tree.Ident.{Ident as CodeIdent}
+use Rattle.jl_ast.specs.declared.tree.Stmt.{Stmt as CodeStmt, roll-Stmt}
+use Rattle.jl_ast.specs.declared.tree.StmtKind as kind
+use Rattle.jl_ast.specs.View.{view_body, view_entry, view_expression, view_functions, view_ident, view_statement}
+use Rattle.jl_ast.specs.View.{view_statements}
+use Rattle.jl_ast.proofs.Views.{entry_Get, entry_Set, function_is, nodes}
 use Rattle.jl_token.specs.declared.token.Token.{Token}
 use Rattle.jl_ast.specs.Tree.{Ident, Tree}
 use Rattle.jl_ast.specs.Tree as tree
-use Rattle.jl_grammar.specs.Next.{is_catch, is_colon, is_else, is_finally, is_key}
-use Rattle.jl_grammar.specs.Reader.{◌>>=◌, Deeper, Read, accessor_at, block_at, else_from, ends_at, finally_from, head_at}
-use Rattle.jl_grammar.specs.Reader.{if_at, rest_at, return_at, return_by, sub_at, try_at}
-use Rattle.jl_grammar.specs.Reads.{Code, Expr, Stmt, Stmts}
+use Rattle.jl_grammar.specs.Next.{is_colon, is_else, is_finally, is_key}
+use Rattle.jl_grammar.specs.Reader.{Deeper, Read, accessor_at, block_at, else_from, ends_at, finally_from, head_at}
+use Rattle.jl_grammar.specs.Reader.{if_at, is_catch, rest_at, return_at, return_by, sub_at, try_at}
+use Rattle.jl_grammar.specs.Reads.{Code, Expr, Stmts}
 use Rattle.jl_grammar.specs.Tokens.{sign_at, span}
 
 module _ (ts : List Token) (d : Deeper) where
@@ -54,3 +65,51 @@ module _ (ts : List Token) (d : Deeper) where
       → accessor_at ts d by i ≡ by i ps c j
   unfolding accessor_at
   accessor_read by i ps c j e f g = rw (accessor_at, e, f, g) refl
+
+-- what nodes of the code are seen as
+
+pub body_seen : (strict : Bool) (fs : List Function) (ws : List CodeStmt)
+    → view_body (roll-Body record { strict = strict; functions = fs; statements = ws })
+    ≡ tree.body strict (view_functions fs) (view_statements ws)
+body_seen strict fs ws = search (rules, nodes, out-roll-Body)
+
+pub getter_seen : (k : CodeIdent) (ps : List CodeIdent) (b : Body) (s : Span)
+    → view_entry (entry.Get k (roll-Function record { number = 0; name = None; params = ps; body = b; span = s }))
+    ≡ tree.getter (view_ident k) (tree.function 0 None (map view_ident ps) (view_body b) s)
+getter_seen k ps b s = search (rules, entry_Get, function_is, out-roll-Function)
+
+pub setter_seen : (k : CodeIdent) (ps : List CodeIdent) (b : Body) (s : Span)
+    → view_entry (entry.Set k (roll-Function record { number = 0; name = None; params = ps; body = b; span = s }))
+    ≡ tree.setter (view_ident k) (tree.function 0 None (map view_ident ps) (view_body b) s)
+setter_seen k ps b s = search (rules, entry_Set, function_is, out-roll-Function)
+
+pub if_seen : (t : CodeExpr) (ws : List CodeStmt) (s : Span)
+    → view_statement (roll-Stmt record { kind = kind.If t ws None; span = s })
+    ≡ tree.when (view_expression t) (view_statements ws) tree.absent s
+if_seen t ws s = search (rules, nodes)
+
+pub if_else_seen : (t : CodeExpr) (ws us : List CodeStmt) (s : Span)
+    → view_statement (roll-Stmt record { kind = kind.If t ws (Some us); span = s })
+    ≡ tree.when (view_expression t) (view_statements ws) (tree.present (tree.branch_of (view_statements us))) s
+if_else_seen t ws us s = search (rules, nodes)
+
+pub return_seen : (t : CodeExpr) (s : Span)
+    → view_statement (roll-Stmt record { kind = kind.Return (Some t); span = s })
+    ≡ tree.return (tree.present (view_expression t)) s
+return_seen t s = search (rules, nodes)
+
+pub try_catch_seen : (ws : List CodeStmt) (h : CodeIdent × List CodeStmt) (s : Span)
+    → view_statement (roll-Stmt record { kind = kind.Try ws (Some h) None; span = s })
+    ≡ tree.try (view_statements ws) (tree.present (tree.catch (view_ident h.0) (view_statements h.1))) tree.absent s
+try_catch_seen ws h s = search (rules, nodes)
+
+pub try_finally_seen : (ws us : List CodeStmt) (s : Span)
+    → view_statement (roll-Stmt record { kind = kind.Try ws None (Some us); span = s })
+    ≡ tree.try (view_statements ws) tree.absent (tree.present (tree.branch_of (view_statements us))) s
+try_finally_seen ws us s = search (rules, nodes)
+
+pub try_both_seen : (ws : List CodeStmt) (h : CodeIdent × List CodeStmt) (us : List CodeStmt) (s : Span)
+    → view_statement (roll-Stmt record { kind = kind.Try ws (Some h) (Some us); span = s })
+    ≡ tree.try (view_statements ws) (tree.present (tree.catch (view_ident h.0) (view_statements h.1)))
+    (tree.present (tree.branch_of (view_statements us))) s
+try_both_seen ws h us s = search (rules, nodes)

@@ -1,6 +1,6 @@
 -- Rows after rows.
-use Rattle.std.proofs.Common.{◌≡◌, ℕ, ap, refl, sym}
-use Rattle.std.specs.Prelude.{Option, Some, None}
+use Rattle.std.proofs.Common.{◌≡◌, ap, refl, sym}
+use Rattle.std.specs.Prelude.{Some, None}
 use Rattle.jl_text.specs.declared.span.Span.{Span}
 use Rattle.jl_ast.specs.Tree.{Tree, Row}
 use Rattle.jl_ast.specs.Tree as tree

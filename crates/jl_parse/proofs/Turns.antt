@@ -1,8 +1,7 @@
 -- A turn of each loop of the parser, in the words of its code.
-use Rattle.std.proofs.Common.{◌≡◌, ◌≢◌, ℕ, zero, suc, pred, ◌-◌, ◌<◌, ◌≤◌, Bool, true, false, ◌&&◌, not, refl, arith}
-use Rattle.std.proofs.Common.{ap, ◌∙◌, sym, map, List, [], ◌∷◌, ◌++◌, length}
-use Rattle.std.specs.Prelude.{nat_le, Option, Some, None, if◌then◌else◌, option_map}
-use Rattle.std.proofs.lemmas.Option.{same_Some}
+use Rattle.std.proofs.Common.{◌≡◌, ◌≢◌, ℕ, zero, suc, pred, ◌-◌, ◌<◌, ◌≤◌, Bool, true, false, ◌&&◌, refl, arith}
+use Rattle.std.proofs.Common.{ap, ◌∙◌, List, [], ◌∷◌, ◌++◌}
+use Rattle.std.specs.Prelude.{nat_le, Option, Some, None, if◌then◌else◌}
 use Rattle.std.proofs.lemmas.Bool.Decides.{leb_tells}
 use Rattle.std.proofs.lemmas.Bool.{le-leb, lt-leb}
 use Rattle.jl_text.specs.declared.span.Span.{Span}
@@ -15,7 +14,7 @@ use Rattle.jl_ast.specs.View.{view_expression, view_expressions, view_items}
 use Rattle.jl_grammar.specs.declared.sign.Sign.{Sign}
 use Rattle.jl_grammar.specs.declared.sign.Sign.TheVariants as signs
 use Rattle.jl_grammar.specs.Next.{is_comma, is_name, continues_left}
-use Rattle.jl_grammar.specs.Operators.{Joint, plain, both, either, joint, joined, looseness, looseness_of, continues}
+use Rattle.jl_grammar.specs.Operators.{Joint, joint, joined, looseness, looseness_of, continues}
 use Rattle.jl_grammar.specs.Reader.{Read, Deeper, ◌>>=◌, is_close_paren, is_close_bracket, comma_from, binary_from}
 use Rattle.jl_grammar.specs.Reader.{binary_by, left_from, left_by, items_from, arguments_at, arguments_from}
 use Rattle.jl_grammar.specs.Reads.{Expr, Exprs}

@@ -18,8 +18,6 @@ use Rattle.jl_grammar.specs.Reads.{Code, Expr, Stmt, Stmts}
 use Rattle.jl_grammar.specs.Tokens.{ident_at, sign_at, span}
 use Rattle.jl_grammar.specs.declared.sign.Sign.{Sign}
 use Rattle.jl_grammar.specs.declared.sign.Sign.TheVariants as signs
-use Rattle.jl_grammar.specs.declared.word.Word.TheVariants as words
-use Rattle.jl_token.specs.declared.punct.Punct.TheVariants as puncts
 use Rattle.jl_grammar.specs.Operators.{Joint, plain, both, either}
 use Rattle.jl_parse.specs.declared.operators.Joint.{Joint as CodeJoint}
 use Rattle.jl_parse.specs.declared.operators.Joint.TheVariants as joints

@@ -147,7 +147,15 @@ pub fn try_statement(alloc: Global, tokens: &Tokens, depth: u64, at: usize) -> R
 // The `finally` of a `try` with a `catch`, if there is one (12.14).
 #[cycle(parser)]
 #[tactic(auto, using(jl_ast::proofs::Views::nodes), unfolding(jl_grammar::specs::Reader::finally_from))]
-fn finally(alloc: Global, tokens: &Tokens, depth: u64, at: usize, body: List<Stmt>, caught: (Ident, List<Stmt>), end: usize) -> Read<Stmt>
+fn finally(
+    alloc: Global,
+    tokens: &Tokens,
+    depth: u64,
+    at: usize,
+    body: List<Stmt>,
+    caught: (Ident, List<Stmt>),
+    end: usize,
+) -> Read<Stmt>
     ensures { GivesStatement result (finally_from tokens.now (deeper tokens.now depth) at (view_statements body)
         (tree.catch (view_ident caught.0) (view_statements caught.1), end)) }
 {

@@ -14,7 +14,13 @@ use std::alloc::Global;
 // An AssignmentExpression (11.13) one level deeper.
 #[cycle(parser)]
 #[tactic(auto, using(crate::proofs::Levels::levels))]
-pub fn inner_assignment(alloc: Global, tokens: &Tokens, depth: u64, no_in: bool, at: usize) -> Read<Box<Expr>>
+pub fn inner_assignment(
+    alloc: Global,
+    tokens: &Tokens,
+    depth: u64,
+    no_in: bool,
+    at: usize,
+) -> Read<Box<Expr>>
     ensures { GivesExpression result ((deeper tokens.now depth).assignment no_in at) }
 {
     if depth == 0 {
@@ -36,7 +42,14 @@ fn inner_unary(alloc: Global, tokens: &Tokens, depth: u64, at: usize) -> Read<Bo
 
 #[cycle(parser)]
 #[tactic(auto, using(crate::proofs::Levels::levels))]
-fn inner_binary(alloc: Global, tokens: &Tokens, depth: u64, no_in: bool, loosest: u32, at: usize) -> Read<Box<Expr>>
+fn inner_binary(
+    alloc: Global,
+    tokens: &Tokens,
+    depth: u64,
+    no_in: bool,
+    loosest: u32,
+    at: usize,
+) -> Read<Box<Expr>>
     ensures { GivesExpression result ((deeper tokens.now depth).binary no_in loosest at) }
 {
     if depth == 0 {
@@ -95,7 +108,14 @@ fn unary(alloc: Global, tokens: &Tokens, depth: u64, at: usize) -> Read<Box<Expr
 // Operands with joints between them that are no looser than `loosest` (11.5 to 11.11).
 #[cycle(parser)]
 #[tactic(auto, using(jl_ast::proofs::Views::nodes, crate::proofs::Turns::binary_loop), unfolding(jl_grammar::specs::Reader::binary_at))]
-fn binary(alloc: Global, tokens: &Tokens, depth: u64, no_in: bool, loosest: u32, at: usize) -> Read<Box<Expr>>
+fn binary(
+    alloc: Global,
+    tokens: &Tokens,
+    depth: u64,
+    no_in: bool,
+    loosest: u32,
+    at: usize,
+) -> Read<Box<Expr>>
     ensures { GivesExpression result (binary_at tokens.now (deeper tokens.now depth) no_in depth loosest at) }
 {
     let (mut operand, mut end) = unary(alloc, tokens, depth, at)?;
@@ -123,7 +143,13 @@ fn binary(alloc: Global, tokens: &Tokens, depth: u64, no_in: bool, loosest: u32,
 // A ConditionalExpression (11.12).
 #[cycle(parser)]
 #[tactic(auto, using(jl_ast::proofs::Views::nodes), unfolding(jl_grammar::specs::Reader::conditional_at, jl_grammar::specs::Reader::conditional_from))]
-fn conditional(alloc: Global, tokens: &Tokens, depth: u64, no_in: bool, at: usize) -> Read<Box<Expr>>
+fn conditional(
+    alloc: Global,
+    tokens: &Tokens,
+    depth: u64,
+    no_in: bool,
+    at: usize,
+) -> Read<Box<Expr>>
     ensures { GivesExpression result (conditional_at tokens.now (deeper tokens.now depth) no_in depth at) }
 {
     let (test, end) = binary(alloc, tokens, depth, no_in, 10, at)?;
@@ -158,7 +184,13 @@ fn assignment(alloc: Global, tokens: &Tokens, depth: u64, no_in: bool, at: usize
 /// An Expression (11.14) one level deeper.
 #[cycle(parser)]
 #[tactic(auto, using(jl_ast::proofs::Views::nodes, crate::proofs::Levels::levels, crate::proofs::Turns::comma_loop), unfolding(jl_grammar::specs::Reader::expression_at))]
-pub fn expression(alloc: Global, tokens: &Tokens, depth: u64, no_in: bool, at: usize) -> Read<Box<Expr>>
+pub fn expression(
+    alloc: Global,
+    tokens: &Tokens,
+    depth: u64,
+    no_in: bool,
+    at: usize,
+) -> Read<Box<Expr>>
     ensures { GivesExpression result ((deeper tokens.now depth).expression no_in at) }
 {
     if depth == 0 {

@@ -45,7 +45,14 @@ fn until_close(alloc: Global, tokens: &Tokens, depth: u64, at: usize) -> Read<Op
 // A `for` from its first semicolon on.
 #[cycle(parser)]
 #[tactic(auto, using(jl_ast::proofs::Views::nodes), unfolding(jl_grammar::specs::Reader::for_from))]
-fn for_rest(alloc: Global, tokens: &Tokens, depth: u64, at: usize, init: ForInit, end: usize) -> Read<Stmt>
+fn for_rest(
+    alloc: Global,
+    tokens: &Tokens,
+    depth: u64,
+    at: usize,
+    init: ForInit,
+    end: usize,
+) -> Read<Stmt>
     ensures { GivesStatement result (for_from tokens.now (deeper tokens.now depth) at (view_init init, end)) }
 {
     if !is_semicolon(tokens.sign(end)) {
@@ -68,7 +75,15 @@ fn for_rest(alloc: Global, tokens: &Tokens, depth: u64, at: usize, init: ForInit
 // A `for` after its `in`, which stands before `next`.
 #[cycle(parser)]
 #[tactic(auto, using(jl_ast::proofs::Views::nodes), unfolding(jl_grammar::specs::Reader::for_in_from))]
-fn for_in_rest(alloc: Global, tokens: &Tokens, depth: u64, at: usize, is_var: bool, name: Ident, next: usize) -> Read<Stmt>
+fn for_in_rest(
+    alloc: Global,
+    tokens: &Tokens,
+    depth: u64,
+    at: usize,
+    is_var: bool,
+    name: Ident,
+    next: usize,
+) -> Read<Stmt>
     ensures { GivesStatement result (for_in_from tokens.now (deeper tokens.now depth) at is_var (view_ident name) next) }
 {
     let (object, end) = expression(alloc, tokens, depth, false, next)?;
@@ -136,7 +151,14 @@ fn for_expression(alloc: Global, tokens: &Tokens, depth: u64, at: usize, first: 
         let name = name(e, end)?;
         return for_in_rest(alloc, tokens, depth, at, false, name, tokens.after(end));
     }
-    for_rest(alloc, tokens, depth, at, ForInit::Expr(Box::into_inner(e)), end)
+    for_rest(
+        alloc,
+        tokens,
+        depth,
+        at,
+        ForInit::Expr(Box::into_inner(e)),
+        end,
+    )
 }
 
 /// A `for` statement (12.6.3, 12.6.4).

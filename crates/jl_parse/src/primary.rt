@@ -85,7 +85,13 @@ fn items(alloc: Global, tokens: &Tokens, depth: u64, at: usize) -> Read<List<Opt
 // A primary expression (11.1) that begins with a punctuator.
 #[cycle(parser)]
 #[tactic(auto, using(jl_ast::proofs::Views::nodes), unfolding(jl_grammar::specs::Reader::primary_by, jl_grammar::specs::Reader::head_at))]
-fn punct_primary(alloc: Global, tokens: &Tokens, depth: u64, at: usize, punct: Punct) -> Read<Box<Expr>>
+fn punct_primary(
+    alloc: Global,
+    tokens: &Tokens,
+    depth: u64,
+    at: usize,
+    punct: Punct,
+) -> Read<Box<Expr>>
     requires { sign_at tokens.now at ≡ Sign.Punct punct }
     ensures { GivesExpression result (primary_by tokens.now (deeper tokens.now depth) at (Sign.Punct punct)) }
 {
@@ -108,7 +114,13 @@ fn punct_primary(alloc: Global, tokens: &Tokens, depth: u64, at: usize, punct: P
 // A primary expression (11.1) that begins with a reserved word.
 #[cycle(parser)]
 #[tactic(auto, using(jl_ast::proofs::Views::nodes), unfolding(jl_grammar::specs::Reader::primary_by))]
-fn word_primary(alloc: Global, tokens: &Tokens, depth: u64, at: usize, word: Word) -> Read<Box<Expr>>
+fn word_primary(
+    alloc: Global,
+    tokens: &Tokens,
+    depth: u64,
+    at: usize,
+    word: Word,
+) -> Read<Box<Expr>>
     requires { sign_at tokens.now at ≡ Sign.Word word }
     ensures { GivesExpression result (primary_by tokens.now (deeper tokens.now depth) at (Sign.Word word)) }
 {
@@ -229,7 +241,14 @@ fn start(alloc: Global, tokens: &Tokens, depth: u64, at: usize) -> Read<Box<Expr
 // A member or a call of an expression that began at `at` and ends before `end` (11.2); no more where none follows.
 #[cycle(parser)]
 #[tactic(auto, using(jl_ast::proofs::Views::nodes), unfolding(jl_grammar::specs::Reader::left_by))]
-fn longer(alloc: Global, tokens: &Tokens, depth: u64, at: usize, left: Box<Expr>, end: usize) -> Read<Box<Expr>>
+fn longer(
+    alloc: Global,
+    tokens: &Tokens,
+    depth: u64,
+    at: usize,
+    left: Box<Expr>,
+    end: usize,
+) -> Read<Box<Expr>>
     ensures { GivesExpression result (left_by tokens.now (deeper tokens.now depth) true (λ t j. Some (t, j)) at (view_expression left.value) end (sign_at tokens.now end)) }
 {
     match tokens.sign(end) {

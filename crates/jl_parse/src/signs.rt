@@ -20,7 +20,10 @@ pub fn is_name(sign: Sign) -> bool
     ensures is { result ≡ is_name sign }
     ensures there { result ≡ true → is_end sign ≡ false }
 {
-    matches!(sign, Sign::Identifier | Sign::Get | Sign::Set | Sign::Word(_) | Sign::EscapedWord)
+    matches!(
+        sign,
+        Sign::Identifier | Sign::Get | Sign::Set | Sign::Word(_) | Sign::EscapedWord
+    )
 }
 
 /// Whether it is the key of a property (11.1.5).
@@ -28,7 +31,16 @@ pub fn is_key(sign: Sign) -> bool
     ensures is { result ≡ is_key sign }
     ensures there { result ≡ true → is_end sign ≡ false }
 {
-    matches!(sign, Sign::Identifier | Sign::Get | Sign::Set | Sign::Word(_) | Sign::EscapedWord | Sign::Number | Sign::Str)
+    matches!(
+        sign,
+        Sign::Identifier
+            | Sign::Get
+            | Sign::Set
+            | Sign::Word(_)
+            | Sign::EscapedWord
+            | Sign::Number
+            | Sign::Str
+    )
 }
 
 /// Whether it is `(`.
@@ -202,5 +214,11 @@ pub fn ends_statement(sign: Sign) -> bool
 pub fn ends_list(sign: Sign) -> bool
     ensures { result ≡ ends_list sign }
 {
-    matches!(sign, Sign::Punct(Punct::RightBrace) | Sign::End | Sign::Word(Word::Case) | Sign::Word(Word::Default))
+    matches!(
+        sign,
+        Sign::Punct(Punct::RightBrace)
+            | Sign::End
+            | Sign::Word(Word::Case)
+            | Sign::Word(Word::Default)
+    )
 }

@@ -103,7 +103,13 @@ pub fn sub(alloc: Global, tokens: &Tokens, depth: u64, at: usize) -> Read<List<S
 // A variable with its initialiser (12.2).
 #[cycle(parser)]
 #[tactic(auto, unfolding(jl_grammar::specs::Reader::declaration_at))]
-fn declarator(alloc: Global, tokens: &Tokens, depth: u64, no_in: bool, at: usize) -> Read<(Ident, Option<Expr>)>
+fn declarator(
+    alloc: Global,
+    tokens: &Tokens,
+    depth: u64,
+    no_in: bool,
+    at: usize,
+) -> Read<(Ident, Option<Expr>)>
     ensures { Gives (λ x. (view_declarator x.0, x.1)) result (declaration_at tokens.now (deeper tokens.now depth) no_in at) }
 {
     if !is_identifier(tokens.sign(at)) {
@@ -122,7 +128,13 @@ fn declarator(alloc: Global, tokens: &Tokens, depth: u64, no_in: bool, at: usize
 /// The variables of a `var` (12.2).
 #[cycle(parser)]
 #[tactic(auto, using(crate::proofs::Lists::declarations_loop))]
-pub fn declarators(alloc: Global, tokens: &Tokens, depth: u64, no_in: bool, at: usize) -> Read<List<(Ident, Option<Expr>)>>
+pub fn declarators(
+    alloc: Global,
+    tokens: &Tokens,
+    depth: u64,
+    no_in: bool,
+    at: usize,
+) -> Read<List<(Ident, Option<Expr>)>>
     ensures { Gives (λ x. (view_declarators x.0, x.1)) result (declarations_from tokens.now (deeper tokens.now depth) no_in (length tokens.now) at) }
 {
     let mut declarators = List::new(alloc);
@@ -321,7 +333,13 @@ fn throw_statement(alloc: Global, tokens: &Tokens, depth: u64, at: usize) -> Rea
 // A statement with a label (12.12), whose colon stands at `colon`.
 #[cycle(parser)]
 #[tactic(auto, unfolding(jl_grammar::specs::Reader::named_at))]
-fn labelled_statement(alloc: Global, tokens: &Tokens, depth: u64, at: usize, colon: usize) -> Read<Stmt>
+fn labelled_statement(
+    alloc: Global,
+    tokens: &Tokens,
+    depth: u64,
+    at: usize,
+    colon: usize,
+) -> Read<Stmt>
     requires place { colon ≡ suc at }
     requires name { is_end (sign_at tokens.now at) ≡ false }
     requires colon { is_colon (sign_at tokens.now colon) ≡ true }

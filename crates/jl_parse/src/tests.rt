@@ -185,7 +185,12 @@ fn places_of_refusals(rt: HostRuntime) -> Result<(), Fail> {
 #[test]
 fn limits(rt: HostRuntime) -> Result<(), Fail> {
     let alloc = rt.alloc();
-    check(&rt, alloc, 0, &[("", "0 0 0"), (";", "at 0"), ("(", "at 0")])?;
+    check(
+        &rt,
+        alloc,
+        0,
+        &[("", "0 0 0"), (";", "at 0"), ("(", "at 0")],
+    )?;
     check(&rt, alloc, 1, &[("}(((;", "at 3"), ("(((a)))", "at 2")])?;
     check(&rt, alloc, 2, &[("a + b ", "at 5"), ("((((a))))", "0 1 2")])?;
     check(&rt, alloc, 3, &[("a + b", "0 1 3")])?;

@@ -101,9 +101,9 @@ fn unreadable(tokens: &Tokens, at: usize) -> ParseRefusal
 /// The program (clause 14) that the tokens are, if its height is at most `limit` and at no place more than twice as
 /// many brackets are open. Semicolons are inserted where edition 5.1 allows it (7.9). Any other list of tokens is
 /// refused with a place: the first bracket inside too many others; else the first token that can't stand where it does,
-/// or the end of the last one; and that end where the program is too high, or the token at which the levels run out. A tree of height 2^32 - 1 or more, which only
-/// the greatest limit allows, is refused for want of memory. Three passes over the tokens and two over the tree; it
-/// recurses as deep as brackets are open and as the program is high.
+/// or the end of the last one; and that end where the program is too high, or the token at which the levels run out. A
+/// tree of height 2^32 - 1 or more, which only the greatest limit allows, is refused for want of memory. Three passes
+/// over the tokens and two over the tree; it recurses as deep as brackets are open and as the program is high.
 pub fn parse(alloc: Global, tokens: &[Token], limit: u32) -> Result<Program, ParseRefusal>
     requires { length tokens.now < 2 ^ 32 }
     ensures found { IfOk result (λ p. Reads tokens.now limit (view p)) }

@@ -1,4 +1,3 @@
-use Rattle.std.proofs.Common.{◌≡◌}
 use Rattle.jl_parse.proofs.Places.{sign_in, sign_past}
 use Rattle.jl_parse.proofs.tokens.Tokens.sign.Goals as goal
 

@@ -1,5 +1,3 @@
-use Rattle.std.proofs.Common.{◌≡◌}
-use Rattle.jl_grammar.specs.Tokens.{text_at}
 use Rattle.jl_parse.proofs.Places.{text_in, text_past, if_ok_same}
 use Rattle.jl_parse.proofs.tokens.Tokens.text.Goals as goal
 
