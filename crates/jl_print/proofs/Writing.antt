@@ -11,7 +11,6 @@ use Rattle.jl_ast.specs.declared.tree.Ident as declared
 use Rattle.jl_ast.specs.declared.ops.BinOp.{BinOp}
 use Rattle.jl_ast.specs.declared.ops.UnOp.{UnOp}
 use Rattle.jl_ast.specs.declared.ops.UnOp.TheVariants as prefixes
-use Rattle.jl_token.specs.declared.punct.Punct.TheVariants as puncts
 use Rattle.jl_token.specs.declared.token.TokenKind.{TokenKind}
 use Rattle.jl_grammar.specs.Next.{bars_expression}
 use Rattle.jl_grammar.specs.Signs.{sign_of}

@@ -33,10 +33,19 @@ fn sub(alloc: Global, a: ExprKind, b: ExprKind) -> Result<ExprKind, NoMemory> {
 }
 
 // That a program of this one expression has this text.
-fn shows(rt: &impl Abort, alloc: Global, kind: ExprKind, strict: bool, want: &str) -> Result<(), Fail> {
+fn shows(
+    rt: &impl Abort,
+    alloc: Global,
+    kind: ExprKind,
+    strict: bool,
+    want: &str,
+) -> Result<(), Fail> {
     let mut body = body(alloc, strict);
     body.statements.push(Stmt {
-        kind: StmtKind::Expr(Expr { kind, span: NOWHERE }),
+        kind: StmtKind::Expr(Expr {
+            kind,
+            span: NOWHERE,
+        }),
         span: NOWHERE,
     })?;
     let program = Program {
@@ -64,16 +73,34 @@ fn nothing(rt: HostRuntime) -> Result<(), Fail> {
 fn brackets(rt: HostRuntime) -> Result<(), Fail> {
     let alloc = rt.alloc();
     let right = sub(alloc, name(alloc, 98)?, name(alloc, 99)?)?;
-    shows(&rt, alloc, sub(alloc, name(alloc, 97)?, right)?, false, "a -(b - c);\n")?;
+    shows(
+        &rt,
+        alloc,
+        sub(alloc, name(alloc, 97)?, right)?,
+        false,
+        "a -(b - c);\n",
+    )?;
     let left = sub(alloc, name(alloc, 97)?, name(alloc, 98)?)?;
-    shows(&rt, alloc, sub(alloc, left, name(alloc, 99)?)?, true, "\"use strict\";\na - b - c;\n")
+    shows(
+        &rt,
+        alloc,
+        sub(alloc, left, name(alloc, 99)?)?,
+        true,
+        "\"use strict\";\na - b - c;\n",
+    )
 }
 
 #[test]
 fn number_before_dot(rt: HostRuntime) -> Result<(), Fail> {
     let alloc = rt.alloc();
     let five = boxed(alloc, ExprKind::Num(Num::new(5)?))?;
-    shows(&rt, alloc, ExprKind::Dot(five, Text::from_units(alloc, &[120])?), false, "5 .x;\n")
+    shows(
+        &rt,
+        alloc,
+        ExprKind::Dot(five, Text::from_units(alloc, &[120])?),
+        false,
+        "5 .x;\n",
+    )
 }
 
 #[test]
@@ -97,10 +124,19 @@ fn keys(rt: HostRuntime) -> Result<(), Fail> {
             text: Text::from_units(alloc, key)?,
             span: NOWHERE,
         };
-        entries.push(Entry::Value(key, Expr {
-            kind: ExprKind::Num(Num::new(1)?),
-            span: NOWHERE,
-        }))?;
+        entries.push(Entry::Value(
+            key,
+            Expr {
+                kind: ExprKind::Num(Num::new(1)?),
+                span: NOWHERE,
+            },
+        ))?;
     }
-    shows(&rt, alloc, ExprKind::Object(entries), false, "({\nab : 1, \"b \" : 1 }\n);\n")
+    shows(
+        &rt,
+        alloc,
+        ExprKind::Object(entries),
+        false,
+        "({\nab : 1, \"b \" : 1 }\n);\n",
+    )
 }

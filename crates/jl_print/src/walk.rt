@@ -15,7 +15,8 @@ use crate::alone::stands_alone;
 use crate::piece::Pieces;
 use crate::ranks::{fits, is_in, is_name, operator_rank, right_rank};
 use jl_ast::{
-    BinOp, Body, Case, Entry, Expr, ExprKind, ForInit, Function, Ident, Stmt, StmtKind, Target, UnOp,
+    BinOp, Body, Case, Entry, Expr, ExprKind, ForInit, Function, Ident, Stmt, StmtKind, Target,
+    UnOp,
 };
 use jl_text::{List, NoMemory};
 use jl_token::Punct;
@@ -223,11 +224,19 @@ fn add_expression<'a>(e: &'a Expr, out: &mut Pieces<'a>) -> Result<(), NoMemory>
             add_prefix(*op, out)?;
             add_operand(a, 2, out)
         }
-        ExprKind::Update { up, prefix: true, target } => {
+        ExprKind::Update {
+            up,
+            prefix: true,
+            target,
+        } => {
             add_update(*up, out)?;
             add_target(target, out)
         }
-        ExprKind::Update { up, prefix: false, target } => {
+        ExprKind::Update {
+            up,
+            prefix: false,
+            target,
+        } => {
             add_target(target, out)?;
             add_update(*up, out)
         }
@@ -498,7 +507,12 @@ fn add_statement<'a>(s: &'a Stmt, out: &mut Pieces<'a>) -> Result<(), NoMemory>
             add_block(body, out)?;
             Ok(())
         }
-        StmtKind::ForIn { is_var: true, name, object, body } => {
+        StmtKind::ForIn {
+            is_var: true,
+            name,
+            object,
+            body,
+        } => {
             out.word(b"for")?;
             out.punct(Punct::LeftParen)?;
             out.word(b"var")?;
@@ -509,7 +523,12 @@ fn add_statement<'a>(s: &'a Stmt, out: &mut Pieces<'a>) -> Result<(), NoMemory>
             add_block(body, out)?;
             Ok(())
         }
-        StmtKind::ForIn { is_var: false, name, object, body } => {
+        StmtKind::ForIn {
+            is_var: false,
+            name,
+            object,
+            body,
+        } => {
             out.word(b"for")?;
             out.punct(Punct::LeftParen)?;
             out.name(&name.text)?;
@@ -551,7 +570,11 @@ fn add_statement<'a>(s: &'a Stmt, out: &mut Pieces<'a>) -> Result<(), NoMemory>
             add_expression(e, out)?;
             out.punct(Punct::Semicolon)
         }
-        StmtKind::Try { body, catch, finally } => {
+        StmtKind::Try {
+            body,
+            catch,
+            finally,
+        } => {
             out.word(b"try")?;
             add_block(body, out)?;
             add_catch(catch, out)?;
@@ -566,7 +589,11 @@ fn add_statement<'a>(s: &'a Stmt, out: &mut Pieces<'a>) -> Result<(), NoMemory>
 
 /// A word, and the statements under it, if there are some.
 #[cycle(print)]
-fn add_after<'a>(word: &'a [u8], branch: &'a Option<List<Stmt>>, out: &mut Pieces<'a>) -> Result<(), NoMemory>
+fn add_after<'a>(
+    word: &'a [u8],
+    branch: &'a Option<List<Stmt>>,
+    out: &mut Pieces<'a>,
+) -> Result<(), NoMemory>
     ensures { OnOk result (out.new ≡ out.old ++ written_after word.now (view_branch branch.now)) }
 {
     match branch {
@@ -579,7 +606,10 @@ fn add_after<'a>(word: &'a [u8], branch: &'a Option<List<Stmt>>, out: &mut Piece
 }
 
 #[cycle(print)]
-fn add_catch<'a>(catch: &'a Option<(Ident, List<Stmt>)>, out: &mut Pieces<'a>) -> Result<(), NoMemory>
+fn add_catch<'a>(
+    catch: &'a Option<(Ident, List<Stmt>)>,
+    out: &mut Pieces<'a>,
+) -> Result<(), NoMemory>
     ensures { OnOk result (out.new ≡ out.old ++ written_maybe (view_catch catch.now)) }
 {
     match catch {
@@ -618,7 +648,10 @@ fn add_init<'a>(init: &'a ForInit, out: &mut Pieces<'a>) -> Result<(), NoMemory>
 }
 
 #[cycle(print)]
-fn add_declarators<'a>(declarators: &'a List<(Ident, Option<Expr>)>, out: &mut Pieces<'a>) -> Result<(), NoMemory>
+fn add_declarators<'a>(
+    declarators: &'a List<(Ident, Option<Expr>)>,
+    out: &mut Pieces<'a>,
+) -> Result<(), NoMemory>
     ensures { OnOk result (out.new ≡ out.old ++ written_declarators (view_declarators declarators.now)) }
 {
     let mut first = true;

@@ -165,7 +165,7 @@ add_items-loop-e-preserved t c =
     c.in_ok-add_item.ensures in (
       n,
       ap (λ x. x ++ written_items (view_items (drop (c.loop-e.e-index + 1) l))) a
-      ∙ item_at c.loop-e.out l i (c.loop-e.left - 1) c.e-item.result w n ∙ c.loop-e.invariant.1,
+          ∙ item_at c.loop-e.out l i (c.loop-e.left - 1) c.e-item.result w n ∙ c.loop-e.invariant.1,
     )
 
 pub add_statement-returns-in_ok-add_block-in-For : goal.add_statement-returns-in_ok-add_block-in-For
