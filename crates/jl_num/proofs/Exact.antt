@@ -1,4 +1,4 @@
--- The laws of the arithmetic.
+-- The laws of the arithmetic: remainders and quotients.
 use Rattle.std.proofs.Common.{◌≡◌, ◌≢◌, ℕ, zero, suc, ◌*◌, ◌/◌, ◌%◌, ◌<◌, ◌≤◌, ℤ, pos, negsuc, ◌+ℤ◌, ◌-ℤ◌, ◌*ℤ◌, ◌≤ℤ◌, neg_ℤ, Some, None, true, false, refl, sym, ap, ◌∙◌, arith, unsigned_abs, subst, Bool}
 use Rattle.std.proofs.lemmas.Int.{ints, quot-rem, rem_below}
 use Rattle.std.proofs.lemmas.Bool.Decides.{Decides-int_eq}
@@ -7,7 +7,7 @@ use Rattle.std.specs.Ordering.{int_eq}
 use Rattle.std.proofs.Math.Nat.{mul-div_cancel, zero-div, mod-le}
 use Rattle.jl_num.specs.Number.{Number, IsNumber, is_number}
 use Rattle.jl_num.specs.Arithmetic.{number_of, sum_of, difference_of, product_of, quotient_of, remainder_of}
-use Rattle.jl_num.specs.Laws.{ResultsAreNumbers, QuotientsAreExact, IsRemainder, RemaindersAreExact}
+use Rattle.jl_num.specs.Laws.{QuotientsAreExact, IsRemainder, RemaindersAreExact}
 use Rattle.jl_num.proofs.Quotient.{false_from}
 
 -- ---- numbers of a script
@@ -15,7 +15,7 @@ use Rattle.jl_num.proofs.Quotient.{false_from}
 passes : (z : ℤ) → IsNumber (Some z) → is_number z ≡ true
 passes z h = let low = h.0 in let high = h.1 in grind (arith, ints)
 
-is_inside : (z : ℤ) → is_number z ≡ true → IsNumber (Some z)
+pub is_inside : (z : ℤ) → is_number z ≡ true → IsNumber (Some z)
 is_inside z h = (grind (arith, ints), grind (arith, ints))
 
 number_of_inside : (z : ℤ) → IsNumber (Some z) → number_of z ≡ Some (Some z)
@@ -28,28 +28,28 @@ number_of_gives z c e = by_test (is_number z) refl e
     by_test true h e = (cc, is_inside z h)
     by_test false h e = cc
 
-given : (z : ℤ) (c : Number) → number_of z ≡ Some c → IsNumber c
+pub given : (z : ℤ) (c : Number) → number_of z ≡ Some c → IsNumber c
 given z c e = let g = number_of_gives z c e in subst IsNumber (sym g.0) g.1
 
-nan_given : (c : Number) → Some None ≡ Some c → IsNumber c
+pub nan_given : (c : Number) → Some None ≡ Some c → IsNumber c
 nan_given c e = let g : c ≡ None = cc in subst IsNumber (sym g) tt
 
-sum_gives : (a b c : Number) → sum_of a b ≡ Some c → IsNumber c
+pub sum_gives : (a b c : Number) → sum_of a b ≡ Some c → IsNumber c
 sum_gives None b c e = nan_given c e
 sum_gives (Some x) None c e = nan_given c e
 sum_gives (Some x) (Some y) c e = given (x +ℤ y) c e
 
-difference_gives : (a b c : Number) → difference_of a b ≡ Some c → IsNumber c
+pub difference_gives : (a b c : Number) → difference_of a b ≡ Some c → IsNumber c
 difference_gives None b c e = nan_given c e
 difference_gives (Some x) None c e = nan_given c e
 difference_gives (Some x) (Some y) c e = given (x -ℤ y) c e
 
-product_gives : (a b c : Number) → product_of a b ≡ Some c → IsNumber c
+pub product_gives : (a b c : Number) → product_of a b ≡ Some c → IsNumber c
 product_gives None b c e = nan_given c e
 product_gives (Some x) None c e = nan_given c e
 product_gives (Some x) (Some y) c e = given (x *ℤ y) c e
 
-quotient_gives : (a b c : Number) → quotient_of a b ≡ Some c → IsNumber c
+pub quotient_gives : (a b c : Number) → quotient_of a b ≡ Some c → IsNumber c
 quotient_gives None b c e = nan_given c e
 quotient_gives (Some x) None c e = nan_given c e
 quotient_gives (Some x) (Some y) c e = by_tests (int_eq y (pos 0)) (int_eq x (pos 0)) (int_eq (int_div x y *ℤ y) x) e
@@ -77,7 +77,7 @@ left_inside (negsuc a) y h =
     let n0 = n.0 in
     let n1 = n.1 in (omega (arith, ints), omega (arith, ints))
 
-remainder_given : (a b : Number) → IsNumber a → IsNumber (remainder_of a b)
+pub remainder_given : (a b : Number) → IsNumber a → IsNumber (remainder_of a b)
 remainder_given None b h = tt
 remainder_given (Some x) None h = tt
 remainder_given (Some x) (Some y) h = by_test (int_eq y (pos 0))
@@ -85,15 +85,6 @@ remainder_given (Some x) (Some y) h = by_test (int_eq y (pos 0))
     by_test : (s : Bool) → IsNumber (if s then None else Some (int_rem x y))
     by_test true = tt
     by_test false = left_inside x y h
-
-pub results_are_numbers : ResultsAreNumbers
-results_are_numbers a b ha hb = record {
-  sum = sum_gives a b;
-  difference = difference_gives a b;
-  product = product_gives a b;
-  quotient = quotient_gives a b;
-  remainder = remainder_given a b ha;
-}
 
 size_above : (b : ℤ) → b ≢ pos 0 → 0 < unsigned_abs b
 size_above (pos zero) n = absurd (n refl)

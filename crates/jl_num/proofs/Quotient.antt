@@ -25,7 +25,7 @@ false_from {b = false} d n = refl
 apart : (z : ℤ) → (of_z w64 z ≡ 0 → ⊥) → z ≢ pos 0
 apart z h e = h (ap (of_z w64) e)
 
-small_size : (z : ℤ) → IsNumber (Some z) → unsigned_abs z < 2 ^ 53
+pub small_size : (z : ℤ) → IsNumber (Some z) → unsigned_abs z < 2 ^ 53
 small_size (pos n) h = let low = h.0 in let high = h.1 in omega (arith, ints)
 small_size (negsuc n) h = let low = h.0 in let high = h.1 in omega (arith, ints)
 

@@ -1,6 +1,6 @@
--- Arithmetic on the numbers of a script (11.5, 11.6.3). An operation gives a number, or none where its result is outside:
+-- Arithmetic on the numbers of a script (11.4.7, 11.5, 11.6.3). An operation gives a number, or none where its result is outside:
 -- an infinity, a fraction, or a whole number of more than 2^53 - 1 in size. With NaN every operation gives NaN.
-use Rattle.std.specs.Prelude.{ℤ, pos, ◌+ℤ◌, ◌-ℤ◌, ◌*ℤ◌, int_div, int_rem, Option, Some, None, if◌then◌else◌}
+use Rattle.std.specs.Prelude.{ℤ, pos, ◌+ℤ◌, ◌-ℤ◌, ◌*ℤ◌, neg_ℤ, int_div, int_rem, Option, Some, None, if◌then◌else◌}
 use Rattle.std.specs.Ordering.{int_eq}
 use Rattle.jl_num.specs.Number.{Number, is_number}
 
@@ -41,3 +41,8 @@ abbrev pub remainder_of : Number → Number → Number
 remainder_of None _ = None
 remainder_of (Some _) None = None
 remainder_of (Some a) (Some b) = if int_eq b (pos 0) then None else Some (int_rem a b)
+
+-- -a (11.4.7)
+abbrev pub negative_of : Number → Number
+negative_of None = None
+negative_of (Some a) = Some (neg_ℤ a)

@@ -1,8 +1,11 @@
--- What the definitions of the arithmetic and of the digits come to.
-use Rattle.std.specs.Prelude.{◌≡◌, ◌≢◌, ◌↔◌, ℕ, ◌<◌, ◌≤◌, ℤ, pos, ◌+ℤ◌, ◌*ℤ◌, ◌≤ℤ◌, unsigned_abs, Some, slice_index}
+-- What the definitions of the arithmetic, of the bits and of the digits come to.
+use Rattle.std.specs.Prelude.{◌≡◌, ◌≢◌, ◌↔◌, ℕ, ◌+◌, ◌-◌, ◌^◌, ◌<◌, ◌≤◌, ℤ, pos, negsuc, ◌+ℤ◌, ◌*ℤ◌, ◌≤ℤ◌, ◌<ℤ◌, unsigned_abs, Some, slice_index}
+use Rattle.std.specs.Int.{int_pow}
 use Rattle.std.specs.Str.Parse.{digits_value}
 use Rattle.jl_num.specs.Number.{Number, IsNumber}
-use Rattle.jl_num.specs.Arithmetic.{sum_of, difference_of, product_of, quotient_of, remainder_of}
+use Rattle.jl_num.specs.Arithmetic.{sum_of, difference_of, product_of, quotient_of, remainder_of, negative_of}
+use Rattle.jl_num.specs.Power.{power_of}
+use Rattle.jl_num.specs.Bits.{uint32_of, uint16_of, int32_of, left_shift_of, right_shift_of, unsigned_right_shift_of, and_of, or_of, xor_of, complement_of}
 use Rattle.jl_num.specs.Digits.{digits_of}
 
 -- what an operation gives is a number of a script
@@ -12,6 +15,15 @@ pub record GiveNumbers (a b : Number) : Type 0 where
   pub product : (c : Number) → product_of a b ≡ Some c → IsNumber c
   pub quotient : (c : Number) → quotient_of a b ≡ Some c → IsNumber c
   pub remainder : IsNumber (remainder_of a b)
+  pub negative : IsNumber (negative_of a)
+  pub power : (c : Number) → power_of a b ≡ Some c → IsNumber c
+  pub left_shift : IsNumber (left_shift_of a b)
+  pub right_shift : IsNumber (right_shift_of a b)
+  pub unsigned_right_shift : IsNumber (unsigned_right_shift_of a b)
+  pub and : IsNumber (and_of a b)
+  pub or : IsNumber (or_of a b)
+  pub xor : IsNumber (xor_of a b)
+  pub complement : IsNumber (complement_of a)
 
 abbrev pub ResultsAreNumbers : Type 0
 ResultsAreNumbers = (a b : Number) → IsNumber a → IsNumber b → GiveNumbers a b
@@ -31,6 +43,28 @@ pub record IsRemainder (a b r : ℤ) : Type 0 where
 
 abbrev pub RemaindersAreExact : Type 0
 RemaindersAreExact = (a b r : ℤ) → b ≢ pos 0 → remainder_of (Some a) (Some b) ≡ Some r → IsRemainder a b r
+
+-- a power has one factor more than that of the exponent before
+abbrev pub PowersMultiply : Type 0
+PowersMultiply = (a : ℤ) (e : ℕ) → int_pow a (e + 1) ≡ int_pow a e *ℤ a
+
+-- z and w differ by a multiple of m (5.2)
+abbrev pub AreCongruent : ℕ → ℤ → ℤ → Type 0
+AreCongruent m z w = (k : ℤ) × (k *ℤ pos m +ℤ w ≡ z)
+
+-- the integers that a number stands for differ from it by a multiple of 2^32 or of 2^16, and have 32 or 16 bits
+-- (9.5 to 9.7)
+pub record StandFor (z : ℤ) : Type 0 where
+  pub int32 : AreCongruent (2 ^ 32) z (int32_of (Some z))
+  pub int32_from : negsuc (2 ^ 31 - 1) ≤ℤ int32_of (Some z)
+  pub int32_below : int32_of (Some z) <ℤ pos (2 ^ 31)
+  pub uint32 : AreCongruent (2 ^ 32) z (pos (uint32_of (Some z)))
+  pub uint32_below : uint32_of (Some z) < 2 ^ 32
+  pub uint16 : AreCongruent (2 ^ 16) z (pos (uint16_of (Some z)))
+  pub uint16_below : uint16_of (Some z) < 2 ^ 16
+
+abbrev pub IntegersStandForNumbers : Type 0
+IntegersStandForNumbers = (z : ℤ) → StandFor z
 
 -- the digits write the number, and no 0 stands before them
 pub record WriteNumber (radix n : ℕ) : Type 0 where

@@ -1,6 +1,6 @@
 ghost use Rattle.std.specs.Prelude.{◌≡◌};
 ghost use Rattle.std.specs.Result.{result_ok};
-ghost use Rattle.jl_num.specs.Arithmetic.{sum_of, difference_of, product_of, quotient_of, remainder_of};
+ghost use Rattle.jl_num.specs.Arithmetic.{sum_of, difference_of, product_of, quotient_of, remainder_of, negative_of};
 
 use crate::num::{Num, NumberOutside};
 
@@ -70,5 +70,15 @@ pub fn rem(a: Num, b: Num) -> Num
     match (a.value(), b.value()) {
         (Some(x), Some(y)) => { if y == 0 { Num::NAN } else { Num::within(x % y) } }
         _ => Num::NAN,
+    }
+}
+
+/// The number with the other sign (11.4.7), and NaN for NaN.
+pub fn neg(a: Num) -> Num
+    ensures { result ≡ negative_of a }
+{
+    match a.value() {
+        Some(x) => Num::within(-x),
+        None => Num::NAN,
     }
 }

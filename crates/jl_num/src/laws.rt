@@ -1,4 +1,4 @@
-ghost use Rattle.jl_num.specs.Laws.{ResultsAreNumbers, QuotientsAreExact, RemaindersAreExact, DigitsWriteNumbers};
+ghost use Rattle.jl_num.specs.Laws.{ResultsAreNumbers, QuotientsAreExact, RemaindersAreExact, PowersMultiply, IntegersStandForNumbers, DigitsWriteNumbers};
 
 /// What an operation on numbers of a script gives is one.
 pub fn results_are_numbers()
@@ -15,6 +15,18 @@ pub fn quotients_are_exact()
 /// up to the dividend (11.5.3).
 pub fn remainders_are_exact()
     ensures { RemaindersAreExact }
+{}
+
+/// A power has one factor more than that of the exponent before, and so is the product of as many factors as its exponent
+/// says (15.8.2.13).
+pub fn powers_multiply()
+    ensures { PowersMultiply }
+{}
+
+/// What ToInt32, ToUint32 and ToUint16 give has 32 or 16 bits, and differs from the number by a multiple of 2^32 or 2^16
+/// (9.5 to 9.7).
+pub fn integers_stand_for_numbers()
+    ensures { IntegersStandForNumbers }
 {}
 
 /// Read as a numeral, the digits of a number in a radix of 2 to 36 give that number, and no 0 stands before them (9.8.1).

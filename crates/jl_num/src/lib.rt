@@ -1,16 +1,24 @@
-//! The numbers of a script: NaN, and the whole numbers of at most 2^53 - 1 in size, with their arithmetic and their text.
+//! The numbers of a script: NaN, and the whole numbers of at most 2^53 - 1 in size, with their arithmetic, their bits, their
+//! order and their text.
 #![tactic(auto)]
 
 mod arithmetic;
+mod bits;
 mod laws;
 mod num;
+mod order;
+mod power;
 mod text;
 
-pub use arithmetic::{add, div, mul, rem, sub};
+pub use arithmetic::{add, div, mul, neg, rem, sub};
+pub use bits::{and, not, or, sar, shl, shr, to_int32, to_uint16, to_uint32, xor};
 pub use laws::{
-    digits_write_numbers, quotients_are_exact, remainders_are_exact, results_are_numbers,
+    digits_write_numbers, integers_stand_for_numbers, powers_multiply, quotients_are_exact,
+    remainders_are_exact, results_are_numbers,
 };
 pub use num::{Num, NumberOutside};
+pub use order::compare;
+pub use power::pow;
 pub use text::digits;
 
 #[cfg(test)]

@@ -1,4 +1,4 @@
-use Rattle.jl_num.proofs.Exact.{results_are_numbers}
+use Rattle.jl_num.proofs.Results.{results_are_numbers}
 use Rattle.jl_num.proofs.laws.results_are_numbers.Goals as goal
 
 pub returns : goal.returns
