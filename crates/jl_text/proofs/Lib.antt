@@ -2,3 +2,4 @@ pub mod EncodingLemmas
 mod Examples
 pub mod PlacesLemmas
 pub mod SearchLemmas
+pub mod UnitLemmas
