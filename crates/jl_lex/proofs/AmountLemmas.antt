@@ -39,13 +39,13 @@ unfolding scaled
 scaled_is zero c = is (omega arith)
 scaled_is (suc k) c = scaled_step k c (scaled_is k (c * 10)) (nat_le c 9007199254740991) refl
 
-large_itself : (m d : ℕ) → 0 < d → d < 10 → 9007199254740991 < m * 10 + d → Large (m * 10 + d)
+pub large_itself : (m d : ℕ) → 0 < d → d < 10 → 9007199254740991 < m * 10 + d → Large (m * 10 + d)
 large_itself m d h g p = record { digits = m * 10 + d; zeros = 0; is = omega arith; last = λ e. let l = last_digit m d g in omega arith; past = p }
 
-large_more : (m : ℕ) → Large m → Large (m * 10)
+pub large_more : (m : ℕ) → Large m → Large (m * 10)
 large_more m l = record { digits = l.digits; zeros = l.zeros + 1; is = ap (λ n. n * 10) l.is ∙ (assoc l.digits (10 ^ l.zeros) 10 ∙ ap (λ n. l.digits * n) (sym (ten_more l.zeros))); last = l.last; past = l.past }
 
-large_past : (m : ℕ) → Large m → 9007199254740991 < m
+pub large_past : (m : ℕ) → Large m → 9007199254740991 < m
 large_past m l = let a = at_least l.digits l.zeros in let e = l.is in let p = l.past in omega arith
 
 pub none_stands : Stands 0 0 0
@@ -98,7 +98,7 @@ add_digit_stands u c z m d (beyond h g) = by (true_or_false (u == 48)) where
           two e = cc
 
 -- the value of a literal whose digits end in no 0
-whole_value : (a y r l n : ℕ) → (a % 10 ≡ 0 → ⊥) → n * 10 ^ l ≡ (a * 10 ^ y) * 10 ^ r → (l ≤ y + r) × (n ≡ a * 10 ^ ((y + r) - l))
+pub whole_value : (a y r l n : ℕ) → (a % 10 ≡ 0 → ⊥) → n * 10 ^ l ≡ (a * 10 ^ y) * 10 ^ r → (l ≤ y + r) × (n ≡ a * 10 ^ ((y + r) - l))
 whole_value a y r l n h e = by (leb_tells l (y + r)) where
   joined : n * 10 ^ l ≡ a * 10 ^ (y + r)
   joined = e ∙ (assoc a (10 ^ y) (10 ^ r) ∙ ap (λ k. a * k) (sym (pow-add 10 y r)))

@@ -10,6 +10,7 @@ mod numbers;
 mod punctuators;
 mod strings;
 
+pub use characters::{is_digit, is_hex_digit, is_line_terminator, is_white_space};
 pub use lexer::{LexRefusal, lex};
 
 #[cfg(test)]
