@@ -1,0 +1,21 @@
+ghost use Rattle.jl_value.specs.Laws.{SameValuesAreEqual, IndicesAreDigits, OneIndex, OneRow};
+
+/// Two values are the same exactly where they are equal (9.12).
+pub fn same_values_are_equal()
+    ensures { SameValuesAreEqual }
+{}
+
+/// The index of units is n exactly where they are the digits of n and n is below 2^32 - 1 (15.4).
+pub fn indices_are_digits()
+    ensures { IndicesAreDigits }
+{}
+
+/// Units are the digits of one index at most (15.4).
+pub fn one_index()
+    ensures { OneIndex }
+{}
+
+/// A name has one row at most in the table of builtins.
+pub fn one_row()
+    ensures { OneRow }
+{}

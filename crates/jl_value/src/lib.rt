@@ -1,0 +1,25 @@
+//! The values of a running script (clause 8), and how a statement and a run may end.
+#![tactic(auto)]
+
+mod builtin;
+mod ending;
+mod error_kind;
+mod index;
+mod laws;
+mod object;
+mod same;
+mod text;
+mod value;
+
+pub use builtin::Builtin;
+pub use ending::{Completion, Fault, Outcome};
+pub use error_kind::ErrorKind;
+pub use index::array_index;
+pub use jl_text::NoMemory;
+pub use laws::{indices_are_digits, one_index, one_row, same_values_are_equal};
+pub use object::{Class, ObjId};
+pub use same::same_value;
+pub use value::{Seen, Value, share};
+
+#[cfg(test)]
+mod tests;

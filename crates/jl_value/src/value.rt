@@ -1,0 +1,38 @@
+ghost use Rattle.std.specs.Prelude.{◌≡◌, IfOk};
+
+use crate::object::{Class, ObjId};
+use jl_num::Num;
+use jl_text::Text;
+use std::alloc::{AllocError, Global};
+
+/// A value of a running script (8.1 to 8.6).
+#[derive(Drop)]
+pub enum Value {
+    Undefined,
+    Null,
+    Bool(bool),
+    Num(Num),
+    Text(Text),
+    Obj(ObjId),
+}
+
+/// A value as an operation saw it, with the class that it had then, which is `Primitive` for a value that is no object.
+#[derive(Drop)]
+pub struct Seen {
+    pub value: Value,
+    pub class: Class,
+}
+
+/// The same value. It takes no memory but where the units of a text have to be copied.
+pub fn share(alloc: Global, v: &Value) -> Result<Value, AllocError>
+    ensures { IfOk result (λ w. w ≡ v.now) }
+{
+    Ok(match v {
+        Value::Undefined => Value::Undefined,
+        Value::Null => Value::Null,
+        Value::Bool(truth) => Value::Bool(*truth),
+        Value::Num(number) => Value::Num(*number),
+        Value::Text(text) => Value::Text(text.share(alloc)?),
+        Value::Obj(id) => Value::Obj(*id),
+    })
+}
