@@ -1,0 +1,16 @@
+//! What values convert to, and how they compare (clause 9, 11.4.3, 11.8.5, 11.9), as far as no object is converted.
+#![tactic(auto)]
+
+mod comparisons;
+mod conversions;
+mod decimal;
+mod laws;
+mod numerals;
+
+pub use comparisons::{primitive_equal, primitive_less, strict_equal};
+pub use conversions::{primitive_to_num, primitive_to_text, to_boolean, type_name};
+pub use laws::{literals_have_their_value, only_literals_have_one, texts_read_back};
+pub use numerals::text_to_num;
+
+#[cfg(test)]
+mod tests;
