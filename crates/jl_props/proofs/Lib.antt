@@ -1,0 +1,4 @@
+pub mod OneLemmas
+pub mod EntriesLemmas
+pub mod StoreLemmas
+pub mod LawsLemmas

@@ -1,0 +1,10 @@
+use Rattle.std.proofs.Common.{◌∙◌, [], length, arith}
+use Rattle.std.proofs.lemmas.List.{get_or_default}
+use Rattle.jl_props.proofs.StoreLemmas.{item_set-IsWellKept}
+use Rattle.jl_props.proofs.store.Store.set.Goals as goal
+
+pub invariant_of-self : goal.invariant_of-self
+invariant_of-self g c =
+    let e = c.index_mut-entries.ensures.value ∙ get_or_default c.self.inside.lists.items c.args.obj c.index_mut-entries.result.now [] (omega arith) in
+    rw (c.set.ensures, e)
+    (item_set-IsWellKept c.self.inside.lists.items c.args.obj (length c.self.inside.made.items) c.args.name.now c.args.item c.self.invariant)
