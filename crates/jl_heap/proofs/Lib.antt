@@ -1,0 +1,16 @@
+pub mod Seen
+pub mod InsideLemmas
+pub mod StoreSteps
+pub mod Fixed
+pub mod Named
+pub mod Items
+pub mod Puts
+pub mod Plainly
+pub mod Shortened
+pub mod ChainLemmas
+pub mod Pushed
+pub mod HeaderSteps
+pub mod LawsLemmas
+pub mod FixedStays
+pub mod Examples
+pub mod OneByOne

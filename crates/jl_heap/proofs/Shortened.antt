@@ -1,0 +1,211 @@
+-- The loops that shorten an array do what its definition says.
+use Rattle.std.proofs.Common.{◌≡◌, ◌∙◌, ℕ, zero, suc, ◌<◌, ◌≤◌, max, Bool, true, false, cond, not, ◌&&◌, List, [], ◌∷◌, length, get_or, map, refl, ap, sym, subst, arith}
+use Rattle.std.proofs.Math.ListN.{set}
+use Rattle.std.specs.Prelude.{All, IsSome, Some, nat_le, nat_lt, if◌then◌else◌}
+use Rattle.std.specs.List.{filter}
+use Rattle.std.specs.Option.{option_map, option_map_or}
+use Rattle.std.specs.Str.{bytes_eq}
+use Rattle.std.proofs.lemmas.List.{length-set}
+use Rattle.std.proofs.lemmas.Slice.Eq.{bytes_eq-Decides}
+use Rattle.jl_props.specs.Entries.{IsInOrder, name_and_serial, with_item, without}
+use Rattle.jl_props.specs.declared.entries.Entry.{Entry}
+use Rattle.jl_props.proofs.LawsLemmas.{finds_each}
+use Rattle.jl_heap.specs.Define.{cut, index_after, is_between, length_name, reached, shortened, with_count, with_property}
+use Rattle.jl_heap.specs.Objects.{Object, Objects, names_of, object_at, own, with_properties}
+use Rattle.jl_heap.specs.Steps.{reached_over, without_elements}
+use Rattle.jl_heap.specs.declared.property.Defined.TheVariants.{Done, Rejected}
+use Rattle.jl_heap.specs.declared.property.Prop.{Prop}
+use Rattle.jl_heap.proofs.Items.{bytes_eq-same, item_in-filter}
+use Rattle.jl_heap.proofs.Plainly.{length_is_no_index}
+use Rattle.jl_heap.proofs.Puts.{object_at-put, own-put, put_same}
+
+pub reached_over-above : (h : Objects) (k low high : ℕ) (ns : List (List ℕ × ℕ)) → low ≤ reached_over h k low high ns
+reached_over-above h k low high [] = omega arith
+reached_over-above h k low high (n ∷ ns) = omega (arith, reached_over-above h k low high ns)
+
+module _ (h : Objects) (k low high : ℕ) where
+  -- where each entry is found under its name, the names lead as far as the entries do
+  over_names : (es : List (Entry Prop)) → All (λ e. own h k e.name ≡ Some e.item) es →
+      reached_over h k low high (map name_and_serial es) ≡ reached low high es
+  over_names [] found = refl
+  over_names (e ∷ es) found =
+      let here : own h k e.name ≡ Some e.item = found 0 e (omega arith) in
+      let rest = over_names es (λ i d within. found (suc i) d (omega (arith, within))) in
+      ap (λ o. max (option_map_or (index_after low high e.name) o low) (reached_over h k low high (map name_and_serial es))) here
+      ∙ ap (λ m. max (index_after low high e.name e.item) m) rest
+
+  pub reached_over-names : IsInOrder (object_at h k).properties →
+      reached_over h k low high (map name_and_serial (object_at h k).properties) ≡ reached low high (object_at h k).properties
+  reached_over-names ordered =
+      over_names (object_at h k).properties
+      (λ i d within. ap (λ o. option_map (λ (e : Entry Prop). e.item) o) (finds_each (object_at h k).properties ordered i d within))
+
+and_false : (b : Bool) → (b && false) ≡ false
+and_false true = refl
+and_false false = refl
+
+-- a second write of properties is the one that counts
+set_set : {A : Type 0} (xs : List A) (k : ℕ) (x y : A) → set (set xs k x) k y ≡ set xs k y
+set_set [] k x y = refl
+set_set (z ∷ xs) zero x y = refl
+set_set (z ∷ xs) (suc k) x y = ap (λ l. z ∷ l) (set_set xs k x y)
+
+pub with_properties-twice : (h : Objects) (k : ℕ) (es fs : List (Entry Prop)) → k < length h.objects →
+    with_properties (with_properties h k es) k fs ≡ with_properties h k fs
+with_properties-twice h k es fs within =
+    ap (λ (o : Object). record h { objects = set (set h.objects k (record (object_at h k) { properties = es })) k (record o { properties = fs }) })
+    (object_at-put h k es within)
+    ∙ ap (λ l. record h { objects = l }) (set_set h.objects k _ _)
+
+module _ (low high : ℕ) where
+  -- whether an entry of a name stays where the elements of these names are taken out
+  abbrev stays_of : List (List ℕ × ℕ) → List ℕ → Bool
+  stays_of [] x = true
+  stays_of (n ∷ ns) x = cond (is_between low high n.0) (not (bytes_eq x n.0)) true && stays_of ns x
+
+  abbrev after_names : List (List ℕ × ℕ) → List (Entry Prop) → List (Entry Prop)
+  after_names [] es = es
+  after_names (n ∷ ns) es = after_names ns (cond (is_between low high n.0) (without es n.0) es)
+
+  filter_all : (es : List (Entry Prop)) → es ≡ filter (λ e. true) es
+  filter_all [] = refl
+  filter_all (e ∷ es) = ap (λ l. e ∷ l) (filter_all es)
+
+  filter_twice : (p q : List ℕ → Bool) (es : List (Entry Prop)) →
+      filter (λ e. q e.name) (filter (λ e. p e.name) es) ≡ filter (λ e. p e.name && q e.name) es
+  filter_twice p q [] = refl
+  filter_twice p q (e ∷ es) = step (filter_twice p q es) (p e.name) refl (q e.name) refl
+    where
+      step : filter (λ e. q e.name) (filter (λ e. p e.name) es) ≡ filter (λ e. p e.name && q e.name) es →
+          (b : Bool) → p e.name ≡ b → (c : Bool) → q e.name ≡ c →
+          filter (λ e. q e.name) (filter (λ e. p e.name) (e ∷ es)) ≡ filter (λ e. p e.name && q e.name) (e ∷ es)
+      step rest true pe true qe = rw (pe, qe) (ap (λ l. e ∷ l) rest)
+      step rest true pe false qe = rw (pe, qe) rest
+      step rest false pe c qe = rw pe rest
+
+  after_names-filter : (ns : List (List ℕ × ℕ)) (es : List (Entry Prop)) → after_names ns es ≡ filter (λ e. stays_of ns e.name) es
+  after_names-filter [] es = filter_all es
+  after_names-filter (n ∷ ns) es = step (is_between low high n.0) refl (after_names-filter ns)
+    where
+      step : (b : Bool) → is_between low high n.0 ≡ b → ((fs : List (Entry Prop)) → after_names ns fs ≡ filter (λ e. stays_of ns e.name) fs) →
+          after_names (n ∷ ns) es ≡ filter (λ e. stays_of (n ∷ ns) e.name) es
+      step true is rest =
+          rw is (rest (without es n.0) ∙ filter_twice (λ x. not (bytes_eq x n.0)) (stays_of ns) es)
+      step false is rest = rw is (rest es)
+
+  -- a name that is no element in these bounds stays
+  stays_outside : (ns : List (List ℕ × ℕ)) (x : List ℕ) → is_between low high x ≡ false → stays_of ns x ≡ true
+  stays_outside [] x out = refl
+  stays_outside (n ∷ ns) x out = step (is_between low high n.0) refl (bytes_eq x n.0) refl (stays_outside ns x out)
+    where
+      step : (b : Bool) → is_between low high n.0 ≡ b → (s : Bool) → bytes_eq x n.0 ≡ s → stays_of ns x ≡ true → stays_of (n ∷ ns) x ≡ true
+      step false is s same rest = rw (is, rest) refl
+      step true is false same rest = rw (is, same, rest) refl
+      step true is true same rest =
+          let equal : x ≡ n.0 = (bytes_eq-Decides x n.0).0 same in
+          let out2 : is_between low high n.0 ≡ false = subst (λ y. is_between low high y ≡ false) equal out in
+          cc
+
+  -- one that is goes, where it is among the names
+  goes_inside : (es : List (Entry Prop)) (x : List ℕ) (i : ℕ) (d : Entry Prop) → is_between low high x ≡ true → i < length es →
+      x ≡ (get_or es i d).name → stays_of (map name_and_serial es) x ≡ false
+  goes_inside [] x i d is within same = absurd (omega (arith, within))
+  goes_inside (e ∷ es) x zero d is within same =
+      let at : is_between low high e.name ≡ true = subst (λ y. is_between low high y ≡ true) same is in
+      let equal : bytes_eq x e.name ≡ true = subst (λ y. bytes_eq x y ≡ true) same (bytes_eq-same x) in
+      rw (at, equal) refl
+  goes_inside (e ∷ es) x (suc i) d is within same =
+      let rest = goes_inside es x i d is (omega (arith, within)) same in
+      rw rest (and_false (cond (is_between low high e.name) (not (bytes_eq x e.name)) true))
+
+  stays_same : (es : List (Entry Prop)) (i : ℕ) (d : Entry Prop) → i < length es →
+      stays_of (map name_and_serial es) (get_or es i d).name ≡ not (is_between low high (get_or es i d).name)
+  stays_same es i d within = step (is_between low high (get_or es i d).name) refl
+    where
+      step : (b : Bool) → is_between low high (get_or es i d).name ≡ b →
+          stays_of (map name_and_serial es) (get_or es i d).name ≡ not (is_between low high (get_or es i d).name)
+      step true is = rw is (goes_inside es (get_or es i d).name i d is within refl)
+      step false is = rw is (stays_outside (map name_and_serial es) (get_or es i d).name is)
+
+  filter_same : (p q : List ℕ → Bool) (es : List (Entry Prop)) →
+      ((i : ℕ) (d : Entry Prop) → i < length es → p (get_or es i d).name ≡ q (get_or es i d).name) →
+      filter (λ e. p e.name) es ≡ filter (λ e. q e.name) es
+  filter_same p q [] same = refl
+  filter_same p q (e ∷ es) same =
+      let here : p e.name ≡ q e.name = same 0 e (omega arith) in
+      let rest = filter_same p q es (λ i d within. same (suc i) d (omega (arith, within))) in
+      ap (λ b. cond b (e ∷ filter (λ e. p e.name) es) (filter (λ e. p e.name) es)) here
+      ∙ ap (λ l. cond (q e.name) (e ∷ l) l) rest
+
+  after_names-cut : (es : List (Entry Prop)) → after_names (map name_and_serial es) es ≡ cut low high es
+  after_names-cut es =
+      after_names-filter (map name_and_serial es) es
+      ∙ filter_same (stays_of (map name_and_serial es)) (λ x. not (is_between low high x)) es (stays_same es)
+
+  name_by_name : (ns : List (List ℕ × ℕ)) (h : Objects) (k : ℕ) → k < length h.objects →
+      without_elements h k low high ns ≡ with_properties h k (after_names ns (object_at h k).properties)
+  name_by_name [] h k within = sym (put_same h k)
+  name_by_name (n ∷ ns) h k within = step (is_between low high n.0) refl (λ g. name_by_name ns g k)
+    where
+      step : (b : Bool) → is_between low high n.0 ≡ b →
+          ((g : Objects) → k < length g.objects → without_elements g k low high ns ≡ with_properties g k (after_names ns (object_at g k).properties)) →
+          without_elements h k low high (n ∷ ns) ≡ with_properties h k (after_names (n ∷ ns) (object_at h k).properties)
+      step true is rest =
+          let es = (object_at h k).properties in
+          let g : Objects = with_properties h k (without es n.0) in
+          let inside : k < length g.objects = omega (arith, within, length-set h.objects k (record (object_at h k) { properties = without es n.0 })) in
+          rw is (rest g inside
+          ∙ ap (λ (o : Object). with_properties g k (after_names ns o.properties)) (object_at-put h k (without es n.0) within)
+          ∙ with_properties-twice h k (without es n.0) (after_names ns (without es n.0)) within)
+      step false is rest = rw is (rest h within)
+
+  -- deleting the elements of all names in these bounds cuts the properties
+  pub without_elements-cut : (h : Objects) (k : ℕ) → k < length h.objects →
+      without_elements h k low high (map name_and_serial (object_at h k).properties) ≡ with_properties h k (cut low high (object_at h k).properties)
+  without_elements-cut h k within =
+      name_by_name (map name_and_serial (object_at h k).properties) h k within
+      ∙ ap (λ es. with_properties h k es) (after_names-cut (object_at h k).properties)
+
+  length_stays : not (is_between low high length_name) ≡ true
+  length_stays = ap (λ o. not (option_map_or (λ i. nat_le low i && nat_lt i high) o false)) length_is_no_index
+
+  -- `length` is there after it as before
+  pub own-cut : (h : Objects) (k : ℕ) → k < length h.objects →
+      own (with_properties h k (cut low high (object_at h k).properties)) k length_name ≡ own h k length_name
+  own-cut h k within =
+      own-put h k _ length_name within
+      ∙ item_in-filter (λ x. not (is_between low high x)) length_name length_stays (object_at h k).properties
+
+-- what the loops of `shorten` and the write after them come to
+module _ (h g : Objects) (k low high end : ℕ) (within : k < length h.objects) (ordered : IsInOrder (object_at h k).properties)
+    (names : List (List ℕ × ℕ)) (names_are : names ≡ names_of h k)
+    (first : List (List ℕ × ℕ)) (first_is : first ≡ names) (end_is : end ≡ reached_over h k low high first)
+    (second : List (List ℕ × ℕ)) (second_is : second ≡ names) (cut_is : g ≡ without_elements h k end high second) where
+  end_reached : end ≡ reached low high (object_at h k).properties
+  end_reached =
+      end_is ∙ ap (λ l. reached_over h k low high l) (first_is ∙ names_are) ∙ reached_over-names h k low high ordered
+
+  is_cut : g ≡ with_properties h k (cut end high (object_at h k).properties)
+  is_cut =
+      cut_is ∙ ap (λ l. without_elements h k end high l) (second_is ∙ names_are) ∙ without_elements-cut end high h k within
+
+  pub there_after : (n : List ℕ) → n ≡ length_name → IsSome (own h k length_name) → IsSome (own g k n)
+  there_after n n_is there =
+      subst (λ x. IsSome (own g k x)) (sym n_is)
+      (subst (λ o. IsSome (own o k length_name)) (sym is_cut) (subst (λ o. IsSome o) (sym (own-cut end high h k within)) there))
+
+  written : (p : Prop) → with_property g k length_name p ≡ with_properties h k (with_item (cut end high (object_at h k).properties) length_name p)
+  written p =
+      let es = cut end high (object_at h k).properties in
+      ap (λ o. with_property o k length_name p) is_cut
+      ∙ ap (λ (o : Object). with_properties (with_properties h k es) k (with_item o.properties length_name p)) (object_at-put h k es within)
+      ∙ with_properties-twice h k es (with_item es length_name p) within
+
+  pub shortened_is : (f : Objects) (n : List ℕ) (p q : Prop) (stays : Bool) (b : Bool) → n ≡ length_name → q ≡ with_count end stays p →
+      f ≡ with_property g k n q → nat_le end low ≡ b → (f, (if b then Done else Rejected)) ≡ shortened h k p low high stays
+  shortened_is f n p q stays b n_is q_is f_is b_is =
+      let at : f ≡ with_properties h k (with_item (cut end high (object_at h k).properties) length_name (with_count end stays p)) =
+      f_is ∙ ap (λ x. with_property g k x q) n_is ∙ ap (λ x. with_property g k length_name x) q_is ∙ written (with_count end stays p) in
+      ap (λ c. (f, (if c then Done else Rejected))) (sym b_is)
+      ∙ ap (λ o. (o, (if nat_le end low then Done else Rejected))) at
+      ∙ ap (λ e. (with_properties h k (with_item (cut e high (object_at h k).properties) length_name (with_count e stays p)), (if nat_le e low then Done else Rejected))) end_reached

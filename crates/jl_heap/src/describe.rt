@@ -1,0 +1,149 @@
+//! How a value is seen by operations, and the text by which it is told.
+ghost use Rattle.std.specs.Prelude.{◌≡◌, ◌++◌, IfOk, OnOk};
+ghost use Rattle.jl_heap.specs.Describe.{class_name, error_text, escaped};
+
+use crate::heap::Heap;
+use crate::property::Prop;
+use jl_num::digits;
+use jl_text::{NoMemory, Text, quote};
+use jl_value::{Class, ObjId, Seen, Value, share};
+use std::alloc::Global;
+
+impl Heap {
+    ghost use Rattle.jl_heap.specs.Describe.{seen_of, class_of_value, described, described_object, text_found};
+    ghost use Rattle.jl_heap.specs.Objects.{find, object_at};
+
+    /// A value with the class that it has now, which is `Primitive` for a value that is no object.
+    pub fn seen(&self, v: &Value) -> Result<Seen, NoMemory>
+        ensures { IfOk result (λ seen. seen ≡ seen_of self.now v.now) }
+    {
+        let class = match v {
+            Value::Obj(id) => self.class_of(*id),
+            _ => Class::Primitive,
+        };
+        Ok(Seen {
+            value: share(self.alloc, v)?,
+            class,
+        })
+    }
+
+    /// The text by which a value is told: a text between quotes, and any other primitive value as its string (9.8); an
+    /// object of class Error by the texts that its properties `name` and `message` hold, and any other by its class.
+    /// No code of the script is called.
+    pub fn describe(&self, v: &Value) -> Result<Vec<u16>, NoMemory>
+        ensures { IfOk result (λ text. text.items ≡ described self.now v.now) }
+    {
+        let alloc = self.alloc;
+        match v {
+            Value::Undefined => ascii(alloc, b"undefined"),
+            Value::Null => ascii(alloc, b"null"),
+            Value::Bool(true) => ascii(alloc, b"true"),
+            Value::Bool(false) => ascii(alloc, b"false"),
+            Value::Num(number) => ascii(alloc, &digits(alloc, *number, 10)?),
+            Value::Text(text) => quote(alloc, text.units()),
+            Value::Obj(id) => self.describe_object(*id),
+        }
+    }
+
+    fn describe_object(&self, id: ObjId) -> Result<Vec<u16>, NoMemory>
+        ensures { IfOk result (λ text. text.items ≡ described_object self.now id.0 (object_at self.now id.0).class) }
+    {
+        let class = self.class_of(id);
+        if class != Class::Error {
+            let mut text = ascii(self.alloc, b"[")?;
+            push_ascii(&mut text, class_name(class))?;
+            push_ascii(&mut text, b"]")?;
+            return Ok(text);
+        }
+        let name = self.text_found(id, b"name", b"Error")?;
+        let message = self.text_found(id, b"message", b"")?;
+        error_text(self.alloc, &name, &message)
+    }
+
+    // The text that a data property of this name holds, and the other one where none holds a text.
+    fn text_found(&self, id: ObjId, name: &[u8], other: &[u8]) -> Result<Vec<u16>, NoMemory>
+        ensures { IfOk result (λ text. text.items ≡ text_found (find self.now id.0 name.now) other.now) }
+    {
+        let name = ascii_text(self.alloc, name)?;
+        match self.find(id, &name) {
+            Some(
+                (
+                    _,
+                    Prop::Plain {
+                        value: Value::Text(text),
+                        ..
+                    },
+                ),
+            ) => Vec::from_slice(self.alloc, text.units()),
+            _ => ascii(self.alloc, other),
+        }
+    }
+}
+
+fn ascii(alloc: Global, codes: &[u8]) -> Result<Vec<u16>, NoMemory>
+    ensures { IfOk result (λ units. units.items ≡ codes.now) }
+{
+    let mut units = Vec::with_capacity(alloc, codes.len())?;
+    push_ascii(&mut units, codes)?;
+    Ok(units)
+}
+
+fn push_ascii(units: &mut Vec<u16>, codes: &[u8]) -> Result<(), NoMemory>
+    ensures { OnOk result (units.new.items ≡ units.old.items ++ codes.now) }
+{
+    for code in codes {
+        units.push(u16::from(*code))?;
+    }
+    Ok(())
+}
+
+fn ascii_text(alloc: Global, codes: &[u8]) -> Result<Text, NoMemory>
+    ensures { IfOk result (λ text. text ≡ codes.now) }
+{
+    match Text::from_units(alloc, &ascii(alloc, codes)?) {
+        Ok(text) => Ok(text),
+        Err(_) => Err(NoMemory),
+    }
+}
+
+// The name of an error, and its message unless that is empty.
+fn error_text(alloc: Global, name: &[u16], message: &[u16]) -> Result<Vec<u16>, NoMemory>
+    ensures { IfOk result (λ text. text.items ≡ error_text name.now message.now) }
+{
+    let mut text = Vec::new(alloc);
+    push_escaped(alloc, &mut text, name)?;
+    if message.is_empty() {
+        return Ok(text);
+    }
+    push_ascii(&mut text, b": ")?;
+    push_escaped(alloc, &mut text, message)?;
+    Ok(text)
+}
+
+// Units as they are written between quotes.
+fn push_escaped(alloc: Global, text: &mut Vec<u16>, units: &[u16]) -> Result<(), NoMemory>
+    ensures { OnOk result (text.new.items ≡ text.old.items ++ escaped units.now) }
+{
+    let quoted = quote(alloc, units)?;
+    text.extend_from_slice(&quoted[1..quoted.len() - 1])?;
+    Ok(())
+}
+
+// The name of a class.
+#[tactic(auto, unfolding(crate::specs::Describe::class_name))]
+fn class_name(class: Class) -> &'static [u8]
+    ensures { result.now ≡ class_name class }
+{
+    match class {
+        Class::Primitive => b"Primitive",
+        Class::Object => b"Object",
+        Class::Function => b"Function",
+        Class::Array => b"Array",
+        Class::String => b"String",
+        Class::Number => b"Number",
+        Class::Boolean => b"Boolean",
+        Class::Error => b"Error",
+        Class::Arguments => b"Arguments",
+        Class::Math => b"Math",
+    }
+}

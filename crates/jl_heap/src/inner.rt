@@ -1,0 +1,29 @@
+use jl_text::{List, Text};
+use jl_value::{Builtin, ObjId, Value};
+
+/// What an object holds beside its properties (8.6.2, table 9).
+#[derive(Drop)]
+pub enum Inner {
+    Nothing,
+    /// The primitive value that it stands for, its [[PrimitiveValue]].
+    Wrapped(Value),
+    /// A function of the script, by its number, and the environment in which it was made.
+    Script {
+        function: u32,
+        env: usize,
+    },
+    /// A function that is there when a run begins.
+    Native(Builtin),
+    /// What `bind` made of a function (15.3.4.5).
+    Bound {
+        target: ObjId,
+        this: Value,
+        args: List<Value>,
+    },
+    /// The arguments of a call (10.6): the environment with the parameters, and for each index the name of the
+    /// parameter that it is mapped to, if any.
+    Mapped {
+        env: usize,
+        names: List<Option<Text>>,
+    },
+}

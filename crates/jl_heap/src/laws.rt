@@ -1,0 +1,27 @@
+ghost use Rattle.jl_heap.specs.Laws.{ConfinedStays, CutsOneByOne, FixedStays, OthersStay, UnitsStay};
+
+/// A property that can be neither configured nor written stays as it is, whatever is asked of its object (8.6.1).
+pub fn fixed_stays()
+    ensures { FixedStays }
+{}
+
+/// A property that can't be configured is there after any delete (8.12.7).
+pub fn confined_stays()
+    ensures { ConfinedStays }
+{}
+
+/// A change on one object, or a delete, changes no other.
+pub fn others_stay()
+    ensures { OthersStay }
+{}
+
+/// Nothing changes a unit of a String object (15.5.5.2).
+pub fn units_stay()
+    ensures { UnitsStay }
+{}
+
+/// An array is cut as if its elements were deleted one by one, from the greatest index down, until one can't be
+/// (15.4.5.1, step 3.l).
+pub fn cuts_one_by_one()
+    ensures { CutsOneByOne }
+{}
