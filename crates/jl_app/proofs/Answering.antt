@@ -6,14 +6,14 @@ use Rattle.std.specs.Ordering.{nat_cmp}
 use Rattle.std.specs.List.Sorted.{IsStrictlySortedBy}
 use Rattle.jl_op.specs.Operations.{Operation}
 use Rattle.jl_op.specs.Summary.{Counts, hits, summary}
-use Rattle.jl_op.specs.declared.value.Fault.TheVariants.{NumberOutside}
-use Rattle.jl_meaning.specs.Effects.{Ends, Fails, Outcome, Over, Spent, run, nothing_done, world_of, steps_taken}
+use Rattle.jl_meaning.specs.Running.{Ends, Fails, Over, Spent, world_of, steps_taken}
+use Rattle.jl_app.specs.Runs.{Outcome}
 use Rattle.jl_app.specs.declared.outcome.Outcome.{Outcome as Answered}
 use Rattle.jl_app.specs.declared.status.Status.{Status}
 use Rattle.jl_app.specs.Reporting.{Lines, count_at, if_any, total_at, lines_text}
 use Rattle.jl_app.specs.Places.{places}
 use Rattle.jl_app.specs.Sums.{Script}
-use Rattle.jl_app.specs.Weaving.{Hooked, woven, hooked_script}
+use Rattle.jl_app.specs.Weaving.{Hooked, woven, hooked_run}
 use Rattle.jl_app.specs.declared.outcome.Run.{Run}
 use Rattle.jl_app.proofs.Reports.{hits_few, summary_positive, summary_few, summary_total}
 use Rattle.jl_app.specs.Running.{IsRun, end_of}
@@ -34,7 +34,7 @@ status_is r lines o n answer is e m = is ∙ ap (λ x. outcome_status x n) e
 
 text_of_end : {A : Type 0} (r : Outcome A) → outcome_text (end_of r) ≡ end_text r
 text_of_end (Over (Ends a) left w) = refl
-text_of_end (Over (Fails NumberOutside) left w) = refl
+text_of_end (Over (Fails f) left w) = refl
 text_of_end (Spent w) = refl
 
 pub text_is : {A : Type 0} (r : Outcome A) (o : Answered) → o ≡ end_of r → outcome_text o ≡ end_text r
@@ -42,10 +42,10 @@ text_is r o e = ap outcome_text e ∙ text_of_end r
 
 -- the run of the woven script, where the woven sum is the one that is due
 pub run_of : {O : Type 0} {told : O → List Operation → Type 0} {r : Run} {o : O} (s : Script) (h : Hooked)
-    → h ≡ woven s.argument 5 → IsRun told woven_budget (run woven_budget (hooked_script h) nothing_done) r o
+    → h ≡ woven s.argument 5 → IsRun told woven_budget (hooked_run h woven_budget) r o
     → IsRun told woven_budget (woven_run s) r o
 run_of {told = told} {r = r} {o = o} s h e is =
-    subst (λ x. IsRun told woven_budget (run woven_budget (hooked_script x) nothing_done) r o) e is
+    subst (λ x. IsRun told woven_budget (hooked_run x woven_budget) r o) e is
 
 -- the counts of the crowd
 pub found_of : (rules : List ℕ) (found : Counts) (ops : List Operation) → rules ≡ 1 ∷ []

@@ -1,19 +1,29 @@
 -- A run in progress, from one part to the next.
-use Rattle.std.proofs.Common.{◌≡◌, ℕ, zero, suc, ◌+◌, ◌-◌, ◌≤◌, List, [], ◌∷◌, ◌++◌, Result, Ok, Err, sym, ap, ◌∙◌, subst, arith}
+use Rattle.std.proofs.Common.{◌≡◌, ◌⊎◌, ℕ, ◌+◌, ◌-◌, ◌<◌, ◌≤◌, List, [], ◌∷◌, ◌++◌, length, Some, None, Result, Ok, Err, sym, ap, ◌∙◌, subst, ⊎_elim, arith}
+use Rattle.std.specs.Prelude.{IsErrOf, if◌then◌else◌}
+use Rattle.std.proofs.lemmas.Bool.{le-leb, lt-leb}
 use Rattle.jl_num.specs.Number.{Number}
 use Rattle.jl_op.specs.Operations.{Operation}
-use Rattle.jl_meaning.specs.Effects.{Part, End, Fail, Step, Print, Does, Tells, steps, and_then, World, Finish, Ends, Fails, Outcome, Over, run}
-use Rattle.jl_meaning.proofs.Chains.{run_then, run_then_fails, run_then_spent, run_steps}
-use Rattle.jl_op.specs.declared.value.Fault.{Fault}
+use Rattle.jl_meaning.specs.Effects.{End, Print, Tells, steps, and_then}
+use Rattle.jl_meaning.specs.Running.{Finish, Ends, Fails, Over, with_line, with_hook, output_limit}
+use Rattle.jl_meaning.specs.Growing.{HasLeft}
+use Rattle.jl_meaning.proofs.Chains.{run_then, run_then_fails, run_then_spent, run_steps, run_steps_spent}
+use Rattle.jl_meaning.proofs.Growth.{has_left}
+use Rattle.jl_app.specs.Runs.{Part, World, Outcome, no_jobs, run}
+use Rattle.jl_value.specs.declared.ending.Fault.{Fault}
 use Rattle.jl_app.specs.declared.outcome.Outcome.{Outcome as Answered}
 use Rattle.jl_app.specs.declared.outcome.Outcome.TheVariants as answers
 use Rattle.jl_app.specs.declared.run.State.{State}
 use Rattle.jl_app.specs.declared.run.Stop.{Stop}
 use Rattle.jl_app.specs.declared.run.Stop.TheVariants as stops
 use Rattle.jl_op.specs.declared.op.OpId.{OpId}
-use Rattle.jl_op.specs.declared.op.Operator.{Operator}
+use Rattle.jl_app.specs.declared.tree.Operator.{Operator}
+use Rattle.jl_app.specs.Form.{in_tree}
 use Rattle.jl_app.specs.Weaving.{Hooked, hooked_binary, hooked_value, hooked_operation}
-use Rattle.jl_app.specs.Running.{Stands, Comes, IsRun}
+use Rattle.jl_app.specs.Running.{Stands, Comes, IsFull, IsRun}
+use Rattle.jl_app.specs.Meaning.{printed, seen, result_of, or_outside}
+use Rattle.jl_op.specs.declared.op.Op.TheVariants.{Binary}
+use Rattle.jl_value.specs.declared.ending.Fault.TheVariants.{NumberOutside, OutputTooLong}
 
 module _ {O : Type 0} (stands_for : O → List Operation → Type 0) where
   -- only the steps left have changed
@@ -25,20 +35,73 @@ module _ {O : Type 0} (stands_for : O → List Operation → Type 0) where
 
   -- the first part is over
   pub comes_then : {A B : Type 0} (n : ℕ) (p : Part A) (k : A → Part B) (w : World) (a : A) (x : Result B Stop) (o1 o2 : O) (s1 s2 : State) → Comes stands_for (run n p w) (Ok a) o1 s1 → ((v : World) → Stands stands_for o1 s1 v → Comes stands_for (run s1.left (k a) v) x o2 s2) → Comes stands_for (run n (and_then p k) w) x o2 s2
-  comes_then n p k w a x o1 o2 s1 s2 h f = comes_is _ _ x o2 s2 (run_then n p k w a s1.left h.0 h.1) (f h.0 h.2)
+  comes_then n p k w a x o1 o2 s1 s2 h f = comes_is _ _ x o2 s2 (run_then no_jobs k n p w a s1.left h.0 h.1) (f h.0 h.2)
 
   -- the first part gives no value
   pub comes_stop : {A B : Type 0} (n : ℕ) (p : Part A) (k : A → Part B) (w : World) (e : Stop) (x : Result B Stop) (o : O) (s : State) → x ≡ Err e → Comes stands_for (run n p w) (Err e) o s → Comes stands_for (run n (and_then p k) w) x o s
   comes_stop n p k w e x o s is h = subst (λ z. Comes stands_for (run n (and_then p k) w) z o s) (sym is) (stopped e h)
     where
       stopped : (e : Stop) → Comes stands_for (run n p w) (Err e) o s → Comes stands_for (run n (and_then p k) w) (Err e) o s
-      stopped (stops.Fault f) h = (h.0, run_then_fails n p k w f s.left h.0 h.1, h.2)
-      stopped stops.Spent h = (h.0, run_then_spent n p k w h.0 h.1, h.2, h.3)
+      stopped (stops.Fault f) h = (h.0, run_then_fails no_jobs k n p w f s.left h.0 h.1, h.2)
+      stopped stops.Spent h = (h.0, run_then_spent no_jobs k n p w h.0 h.1, h.2, h.3)
       stopped stops.NoMemory h = tt
 
   -- steps are taken
   pub comes_steps : {A : Type 0} (k n m : ℕ) (p : Part A) (w : World) (x : Result A Stop) (o : O) (s : State) → m + k ≡ n → Comes stands_for (run m p w) x o s → Comes stands_for (run n (steps k p) w) x o s
-  comes_steps k n m p w x o s e h = comes_is _ _ x o s (run_steps k n m p w e) h
+  comes_steps k n m p w x o s e h = comes_is _ _ x o s (run_steps no_jobs k n m p w e) h
+
+  -- fewer steps are left
+  pub comes_spent : {A : Type 0} (k n : ℕ) (p : Part A) (w : World) (x : Result A Stop) (e : Stop) (o : O) (s : State) → x ≡ Err e → IsErrOf {T = Unit {0}} (Err e) stops.Spent → n < k → s.left ≡ 0 → Stands stands_for o s w → Comes stands_for (run n (steps k p) w) x o s
+  comes_spent k n p w x e o s is spent few left st =
+      let same : e ≡ stops.Spent = cc in
+      subst (λ y. Comes stands_for (run n (steps k p) w) y o s) (sym (is ∙ ap Err same)) (w, run_steps_spent no_jobs k n p w few, left, st)
+
+  -- a line is printed, where there is room for it
+  module _ (s t : State) (w : World) (o : O) (x : Number) (left : t.left ≡ s.left) (hooks : t.hooks ≡ s.hooks) (st : Stands stands_for o s w) where
+    abbrev line_after : List ℕ → List ℕ
+    line_after out = out ++ printed x ++ 10 ∷ []
+
+    pub prints : t.output.items ≡ line_after s.output.items → length (line_after s.output.items) ≤ output_limit → Comes stands_for (run s.left (Print (printed x) (End (tt {0}))) w) (Ok (tt {0})) o t
+    prints is room =
+        let small : length (line_after w.output) ≤ output_limit = subst (λ out. length (line_after out) ≤ output_limit) (sym st.output) room in (
+          with_line (printed x) w,
+          ap (λ b. if b then Over (Ends (tt {0})) s.left (with_line (printed x) w) else Over (Fails OutputTooLong) s.left w) (le-leb _ output_limit small)
+              ∙ ap (λ n. Over (Ends (tt {0})) n (with_line (printed x) w)) (sym left),
+          record { output = ap line_after st.output ∙ sym is; hooks = st.hooks; count = st.count ∙ sym hooks },
+        )
+
+    pub is_full : (r : Result (Unit {0}) Stop) → IsFull s x t r → Comes stands_for (run s.left (Print (printed x) (End (tt {0}))) w) (Err (stops.Fault OutputTooLong)) o t
+    is_full r f =
+        let large : output_limit < length (line_after w.output) = subst (λ out. output_limit < length (line_after out)) (sym st.output) f.full in (
+          w,
+          ap (λ b. if b then Over (Ends (tt {0})) s.left (with_line (printed x) w) else Over (Fails OutputTooLong) s.left w) (lt-leb _ output_limit large)
+              ∙ ap (λ n. Over (Fails OutputTooLong) n w) (sym left),
+          stands_on o s t w f.same hooks st,
+        )
+
+    pub print_stops : (e : Stop) (r y : Result (Unit {0}) Stop) → y ≡ Err e → r ≡ Err e → (r ≡ Err stops.NoMemory) ⊎ IsFull s x t r → Comes stands_for (run s.left (Print (printed x) (End (tt {0}))) w) y o t
+    print_stops e r y answer is why =
+        ⊎_elim (λ none. stopped stops.NoMemory (answer ∙ sym is ∙ none) tt) (λ full. stopped (stops.Fault OutputTooLong) (answer ∙ sym is ∙ full.fault) (is_full r full)) why
+      where
+        stopped : (f : Stop) → y ≡ Err f → Comes stands_for (run s.left (Print (printed x) (End (tt {0}))) w) (Err f) o t → Comes stands_for (run s.left (Print (printed x) (End (tt {0}))) w) y o t
+        stopped f same h = subst (λ z. Comes stands_for (run s.left (Print (printed x) (End (tt {0}))) w) z o t) (sym same) h
+
+  -- the hook of a binary operation: its step, and the result, if there is one
+  module _ (id : OpId) (op : Operator) (x y : Number) (n m : ℕ) (w : World) (step : m + 1 ≡ n) where
+    abbrev tells : Number → Part Number
+    tells z = Tells (id, Binary (in_tree op) (seen x) (seen y) (seen z)) (End z)
+
+    pub no_result : (r : Result Number Stop) (o : O) (s : State) → result_of op x y ≡ None → r ≡ Err (stops.Fault NumberOutside) → s.left ≡ m → Stands stands_for o s w → Comes stands_for (run n (hooked_operation id op x y) w) r o s
+    no_result r o s none is left st =
+        comes_steps 1 n m (and_then (or_outside (result_of op x y)) tells) w r o s step
+        (subst (λ q. Comes stands_for (run m (and_then (or_outside q) tells) w) r o s) (sym none)
+        (subst (λ e. Comes stands_for (Over (Fails NumberOutside) m w) e o s) (sym is) (w, ap (λ k. Over (Fails NumberOutside) k w) (sym left), st)))
+
+    pub has_result : (z : Number) (o : O) (s : State) → result_of op x y ≡ Some z → s.left ≡ m → Stands stands_for o s (with_hook (id, Binary (in_tree op) (seen x) (seen y) (seen z)) w) → Comes stands_for (run n (hooked_operation id op x y) w) (Ok z) o s
+    has_result z o s some left st =
+        comes_steps 1 n m (and_then (or_outside (result_of op x y)) tells) w (Ok z) o s step
+        (subst (λ q. Comes stands_for (run m (and_then (or_outside q) tells) w) (Ok z) o s) (sym some)
+        (_, ap (λ k. Over (Ends z) k (with_hook (id, Binary (in_tree op) (seen x) (seen y) (seen z)) w)) (sym left), st))
 
   -- A binary operation: its step, its operands, and its hook.
   module _ (id : OpId) (op : Operator) (a b : Hooked) (n m : ℕ) (w : World) (step : m + 1 ≡ n) where
@@ -61,13 +124,7 @@ module _ {O : Type 0} (stands_for : O → List Operation → Type 0) where
 
 -- A run has no more steps left than it began with.
 left_within : {A : Type 0} (n : ℕ) (p : Part A) (w : World) (e : Finish A) (m : ℕ) (v : World) → run n p w ≡ Over e m v → m ≤ n
-left_within n (End a) w e m v is = let same : n ≡ m = cc in omega arith
-left_within n (Fail f) w e m v is = let same : n ≡ m = cc in omega arith
-left_within zero (Step p) w e m v is = cc
-left_within (suc n) (Step p) w e m v is = let h = left_within n p w e m v is in omega arith
-left_within n (Print line p) w e m v is = left_within n p (record w { output = w.output ++ line ++ 10 ∷ [] }) e m v is
-left_within n (Does o p) w e m v is = left_within n p (record w { operations = w.operations ++ o ∷ [] }) e m v is
-left_within n (Tells o p) w e m v is = left_within n p (record w { hooks = w.hooks ++ o ∷ [] }) e m v is
+left_within n p w e m v is = subst (HasLeft n) is (has_left no_jobs n p w)
 
 module _ {O A : Type 0} (stands_for : O → List Operation → Type 0) (n : ℕ) (p : Part A) (w : World) (o : O) (s : State) where
   pub left_ok : (a : A) → Comes stands_for (run n p w) (Ok a) o s → s.left ≤ n

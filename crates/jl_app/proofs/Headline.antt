@@ -3,19 +3,18 @@ use Rattle.std.proofs.Common.{◌≡◌, ℕ, ◌+◌, ◌-◌, ◌*◌, ◌≤�
 use Rattle.std.proofs.Common.{ap, ◌∙◌, subst, arith}
 use Rattle.std.specs.Prelude.{IfSome}
 use Rattle.jl_port.specs.Bytes.{Grows}
-use Rattle.jl_op.specs.declared.value.Fault.TheVariants.{NumberOutside}
-use Rattle.jl_meaning.specs.Effects.{Part, Finish, Ends, Fails, Outcome, Over, Spent, World, nothing_done, run}
-use Rattle.jl_meaning.specs.Effects.{IsOver, world_of, steps_taken}
-use Rattle.jl_meaning.specs.Follows.{SameSeen, Alike, Simulates}
-use Rattle.jl_meaning.proofs.Chains.{run_more}
-use Rattle.jl_meaning.proofs.Runs.{simulates}
+use Rattle.jl_meaning.specs.Running.{Finish, Ends, Fails, Over, Spent, IsOver, world_of, steps_taken}
+use Rattle.jl_meaning.specs.Matching.{SameSeen, Alike, Simulates}
+use Rattle.jl_meaning.proofs.Growth.{run_more}
+use Rattle.jl_meaning.proofs.Simulation.{simulates}
+use Rattle.jl_app.specs.Runs.{Outcome, World, no_jobs, nothing_done}
 use Rattle.jl_app.specs.declared.status.Status.{Status}
 use Rattle.jl_app.specs.Sums.{Script}
 use Rattle.jl_app.specs.Places.{places}
 use Rattle.jl_app.specs.Meaning.{script}
-use Rattle.jl_app.specs.Weaving.{woven, hooked_script}
+use Rattle.jl_app.specs.Weaving.{woven, hooked_script, hooked_run}
 use Rattle.jl_app.specs.Reporting.{Lines, IsReport, lines_text}
-use Rattle.jl_app.specs.Answers.{Due, budget, woven_budget, own_run, woven_run, end_text, end_line, run_status}
+use Rattle.jl_app.specs.Answers.{Due, budget, woven_budget, own_run_of, own_run, woven_run_of, woven_run, end_text, end_line, run_status}
 use Rattle.jl_app.specs.Answers.{run_answer, IsLinted, not_yet, ran, IsAnswered, refused, accepted, bad_words}
 use Rattle.jl_app.specs.Answers.{answered_to}
 use Rattle.jl_ast.specs.Tree.{Program}
@@ -23,17 +22,19 @@ use Rattle.jl_text.specs.Encoding.{units_of}
 use Rattle.jl_text.specs.declared.span.Span.{Span}
 use Rattle.jl_grammar.proofs.OneAccepted.{one_accepted}
 use Rattle.jl_app.specs.declared.command.Command.{Command}
-use Rattle.jl_app.specs.declared.command.Command.TheVariants.{Lint, Check}
+use Rattle.jl_app.specs.declared.command.Command.TheVariants.{Lint, Check, Print}
 use Rattle.jl_app.specs.Accepting.{IsScript, is_legal}
 use Rattle.jl_app.specs.Commands.{words_of}
 use Rattle.jl_app.specs.Form.{script_of}
 use Rattle.jl_app.specs.Endings.{Call, EndsWith, answered, write_failed, read_failed, no_memory, HasAnswered}
 use Rattle.jl_app.specs.Endings.{IsAboutOwnRun}
-use Rattle.jl_app.proofs.Simulation.{script_matches}
+use Rattle.jl_app.proofs.Simulation.{no_pair, script_matches}
 use Rattle.jl_app.proofs.Refusing.{never_both}
 
-pub script_simulates : (s : Script) → Simulates (script s) (hooked_script (woven s.argument 5))
-script_simulates s = simulates (script s) (hooked_script (woven s.argument 5)) (script_matches s)
+pub script_simulates : (s : Script) → Simulates (own_run_of s) (woven_run_of s)
+unfolding own_run_of hooked_run
+script_simulates s =
+    simulates no_pair no_jobs no_jobs (λ i. absurd i) tt (script s) (hooked_script (woven s.argument 5)) (script_matches s)
 
 -- What alike runs share.
 
@@ -55,7 +56,7 @@ same_text {A = A} (Over e m v) (Over f n w) a = ap (λ x. end_text (Over x n w))
   where
     finish_text : (e : Finish A) (m n : ℕ) (v w : World) → end_text (Over e n w) ≡ end_text (Over e m v)
     finish_text (Ends a) m n v w = refl
-    finish_text (Fails NumberOutside) m n v w = refl
+    finish_text (Fails f) m n v w = refl
 same_text (Over e m v) (Spent w) a = absurd a
 same_text (Spent v) r a = absurd a
 
@@ -70,12 +71,13 @@ alike_over (Over e m v) (Spent w) a = absurd a
 alike_over (Spent v) r a = absurd a
 
 -- More steps than a run needs are not taken.
-same_steps : (n d : ℕ) (p : Part (Unit {0})) (own : Outcome (Unit {0})) → run n p nothing_done ≡ own
-    → IsOver own → steps_taken (n + d) (run (n + d) p nothing_done) ≡ steps_taken n own
-same_steps n d p (Over e left v) is over =
-    ap (steps_taken (n + d)) (run_more n (n + d) d p nothing_done e left v refl is)
+same_steps : (n d : ℕ) (s : Script) (own : Outcome (Unit {0})) → own_run_of s n ≡ own
+    → IsOver own → steps_taken (n + d) (own_run_of s (n + d)) ≡ steps_taken n own
+unfolding own_run_of
+same_steps n d s (Over e left v) is over =
+    ap (steps_taken (n + d)) (run_more no_jobs n (n + d) d (script s) nothing_done e left v refl is)
     ∙ (let same : (n + d) - (left + d) ≡ n - left = omega arith in same)
-same_steps n d p (Spent v) is over = absurd over
+same_steps n d s (Spent v) is over = absurd over
 
 module _ (units : List ℕ) (s : Script) (over : IsOver (own_run s)) where
   alike : Alike (own_run s) (woven_run s)
@@ -84,8 +86,8 @@ module _ (units : List ℕ) (s : Script) (over : IsOver (own_run s)) where
   seen : SameSeen (world_of (own_run s)) (world_of (woven_run s))
   seen = same_seen (own_run s) (woven_run s) alike
 
-  taken : steps_taken woven_budget (run woven_budget (script s) nothing_done) ≡ steps_taken budget (own_run s)
-  taken = same_steps budget (31 * budget + 64) (script s) (own_run s) refl over
+  taken : steps_taken woven_budget (own_run_of s woven_budget) ≡ steps_taken budget (own_run s)
+  taken = same_steps budget (31 * budget + 64) s (own_run s) refl over
 
   about : {call : Call} (lines : Lines) → IsReport (places s) (world_of (woven_run s)).hooks lines
       → Grows call.written.0 call.written.1 (run_answer units s lines).bytes
@@ -139,11 +141,10 @@ due_about {call} bytes s due over is (accepted p a responds) grows knows =
     let same : is.program ≡ p = one_accepted is_legal bytes is.program p is.accepted a in
     lint_about (units_of bytes) p s due over (subst (λ q. script_of q ≡ Some s) same is.is) responds grows knows
 
-one_command : (c d : Command) → words_of c ≡ words_of d → c ≡ d
-one_command Lint Lint e = refl
-one_command Lint Check e = absurd (cc)
-one_command Check Lint e = absurd (cc)
-one_command Check Check e = refl
+is_lint : (c : Command) → words_of c ≡ words_of Lint → c ≡ Lint
+is_lint Lint e = refl
+is_lint Check e = absurd (cc)
+is_lint Print e = absurd (cc)
 
 pub headline : {call : Call} {answer : Status} → EndsWith call answer → (bytes : List ℕ) (s : Script)
     → call.held ≡ Some bytes → IsScript bytes s → call.words ≡ words_of Lint → IsOver (own_run s)
@@ -152,7 +153,7 @@ headline {call} (answered due (bad_words other) grows knows) bytes s held is wor
     absurd (other Lint words)
 headline {call} (answered due (answered_to c read words2 told l) grows knows) bytes s held is words over answers =
     let same : bytes ≡ read = subst (λ h. IfSome h (λ all. all ≡ read)) held told in
-    let command : c ≡ Lint = one_command c Lint (sym words2 ∙ words) in
+    let command : c ≡ Lint = is_lint c (sym words2 ∙ words) in
     due_about bytes s due over is
     (subst (λ b. IsAnswered Lint b due) (sym same) (subst (λ d. IsAnswered d read due) command l)) grows
     knows

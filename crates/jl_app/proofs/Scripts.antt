@@ -13,7 +13,7 @@ use Rattle.std.specs.Str.{IsUtf8, bytes_eq, chars}
 use lib.Utf8.{encode, encodes}
 use Rattle.jl_ast.specs.Tree.{Program, Tree, Row, expr, stmt, code, end, more}
 use Rattle.jl_ast.specs.Tree as tree
-use Rattle.jl_op.specs.declared.op.Operator.{Operator}
+use Rattle.jl_app.specs.declared.tree.Operator.{Operator}
 use Rattle.jl_text.specs.Encoding.{encode_utf16_all, units_of}
 use Rattle.jl_text.specs.declared.span.Span.{Span}
 use Rattle.jl_token.proofs.Whole.{few_tokens}

@@ -1,7 +1,7 @@
 -- What contracts see of each node of a tree.
 use Rattle.std.proofs.Common.{◌≡◌, ℕ, length, Box, Global, refl, rules, arith, length-append}
 use Rattle.jl_num.specs.Number.{Number}
-use Rattle.jl_op.specs.declared.op.Operator.{Operator}
+use Rattle.jl_app.specs.declared.tree.Operator.{Operator}
 use Rattle.jl_op.specs.declared.op.OpId.{OpId}
 use Rattle.jl_app.specs.declared.tree.Sum as sum_tree
 use Rattle.jl_app.specs.declared.weave.Woven as woven_tree

@@ -1,15 +1,16 @@
 -- What is due to a list of words, and to a script.
 use Rattle.std.specs.Prelude.{◌≡◌, ℕ, ◌+◌, ◌*◌, List, [], ◌∷◌, ◌++◌, Option, Some, None, IfSome, length, codes}
 use Rattle.std.specs.Fmt.{decimal}
-use Rattle.jl_op.specs.declared.value.Fault.TheVariants.{NumberOutside}
 use Rattle.jl_op.specs.Operations.{Operation}
-use Rattle.jl_meaning.specs.Effects.{Ends, Fails, Outcome, Over, Spent, nothing_done, run, world_of, steps_taken}
+use Rattle.jl_meaning.specs.Running.{Ends, Fails, Over, Spent, world_of, steps_taken}
 use Rattle.jl_app.specs.declared.status.Status.{Status}
 use Rattle.jl_app.specs.declared.status.Status.TheVariants as status
 use Rattle.jl_ast.specs.Table.{table}
 use Rattle.jl_ast.specs.Tree.{Program}
-use Rattle.jl_text.specs.Encoding.{units_of}
+use Rattle.jl_print.specs.Layout.{text_of}
+use Rattle.jl_text.specs.Encoding.{bytes_of, units_of}
 use Rattle.jl_text.specs.declared.span.Span.{Span}
+use Rattle.jl_value.specs.Faults.{fault_text}
 use Rattle.jl_app.specs.declared.command.Command.{Command}
 use Rattle.jl_app.specs.declared.command.Command.TheVariants as commands
 use Rattle.jl_app.specs.declared.refusal.Refusal.{Refusal}
@@ -18,9 +19,10 @@ use Rattle.jl_app.specs.Commands.{words_of}
 use Rattle.jl_app.specs.Form.{script_of}
 use Rattle.jl_app.specs.Refusals.{IsRefused, refusal_words}
 use Rattle.jl_app.specs.Sums.{Script}
+use Rattle.jl_app.specs.Runs.{Outcome, nothing_done, run}
 use Rattle.jl_app.specs.Places.{places}
 use Rattle.jl_app.specs.Meaning.{script}
-use Rattle.jl_app.specs.Weaving.{woven, hooked_script}
+use Rattle.jl_app.specs.Weaving.{woven, hooked_run}
 use Rattle.jl_app.specs.Reporting.{Lines, IsReport, lines_text}
 
 -- a status, the bytes that are written with it, and the operations that the crowd is told of
@@ -44,18 +46,23 @@ budget = 1000000
 abbrev pub woven_budget : ℕ
 woven_budget = 32 * budget + 64
 
--- the script's own run
-abbrev pub own_run : Script → Outcome (Unit {0})
-own_run s = run budget (script s) nothing_done
+-- the script's own run, with so many steps, and the run of the woven script
+unfoldable pub own_run_of : Script → (steps : ℕ) → Outcome (Unit {0})
+own_run_of s n = run n (script s) nothing_done
 
--- the run of the woven script
+abbrev pub woven_run_of : Script → (steps : ℕ) → Outcome (Unit {0})
+woven_run_of s n = hooked_run (woven s.argument 5) n
+
+abbrev pub own_run : Script → Outcome (Unit {0})
+own_run s = own_run_of s budget
+
 abbrev pub woven_run : Script → Outcome (Unit {0})
-woven_run s = run woven_budget (hooked_script (woven s.argument 5)) nothing_done
+woven_run s = woven_run_of s woven_budget
 
 -- how a run ended, in words
 abbrev pub end_text : {A : Type 0} → Outcome A → List ℕ
 end_text (Over (Ends a) left w) = codes "normal"
-end_text (Over (Fails NumberOutside) left w) = codes "fault NumberOutside"
+end_text (Over (Fails f) left w) = codes "fault " ++ fault_text f
 end_text (Spent w) = codes "spent"
 
 -- the last line
@@ -102,10 +109,19 @@ functions_line p = line_only status.Clean (codes "accepted functions=" ++ decima
 pub data IsChecked (p : Program Span) : Due → Type 0 where
   counted : IsChecked p (functions_line p)
 
+-- a program's canonical text, in UTF-8
+abbrev pub canonical_text : Program Span → Due
+canonical_text p = record { status = status.Clean; bytes = bytes_of (text_of p); told = [] }
+
+-- what `print` answers to it
+pub data IsPrinted (p : Program Span) : Due → Type 0 where
+  written : IsPrinted p (canonical_text p)
+
 -- what a command answers to a source of these units that is accepted as this program
 abbrev pub Responds : Command → (units : List ℕ) → Program Span → Due → Type 0
 Responds commands.Lint units p due = IsLinted units p due
 Responds commands.Check units p due = IsChecked p due
+Responds commands.Print units p due = IsPrinted p due
 
 -- what a command answers to these bytes, which are refused or accepted
 pub data IsAnswered (c : Command) (bytes : List ℕ) : Due → Type 0 where

@@ -12,3 +12,4 @@ texts words = map (λ word. word.now) words
 abbrev pub words_of : Command → List (List ℕ)
 words_of commands.Lint = codes "lint" ∷ []
 words_of commands.Check = codes "check" ∷ []
+words_of commands.Print = codes "print" ∷ []

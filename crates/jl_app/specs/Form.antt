@@ -6,8 +6,8 @@ use Rattle.jl_ast.specs.declared.ops.BinOp.{BinOp}
 use Rattle.jl_ast.specs.declared.ops.BinOp.TheVariants as operators
 use Rattle.jl_ast.specs.Tree.{Program, Tree, Row, expr, stmt, code, end, more}
 use Rattle.jl_ast.specs.Tree as tree
-use Rattle.jl_op.specs.declared.op.Operator.{Operator}
-use Rattle.jl_op.specs.declared.op.Operator.TheVariants.{Mul, Div, Rem, Add, Sub}
+use Rattle.jl_app.specs.declared.tree.Operator.{Operator}
+use Rattle.jl_app.specs.declared.tree.Operator.TheVariants.{Mul, Div, Rem, Add, Sub}
 use Rattle.jl_text.specs.declared.span.Span.{Span}
 use Rattle.jl_app.specs.Sums.{Sum, number, binary, Script}
 
@@ -19,6 +19,14 @@ operator_of operators.Rem = Some Rem
 operator_of operators.Add = Some Add
 operator_of operators.Sub = Some Sub
 operator_of _ = None
+
+-- the operator as a program has it
+abbrev pub in_tree : Operator → BinOp
+in_tree Mul = operators.Mul
+in_tree Div = operators.Div
+in_tree Rem = operators.Rem
+in_tree Add = operators.Add
+in_tree Sub = operators.Sub
 
 -- an operator between two sums, if all three are there
 abbrev pub joined : (at : ℕ) → Option Operator → Option Sum → Option Sum → Option Sum

@@ -1,6 +1,7 @@
 pub mod Sums
 pub mod Form
 pub mod Places
+pub mod Runs
 pub mod Meaning
 pub mod Weaving
 pub mod View

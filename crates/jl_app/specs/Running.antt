@@ -1,7 +1,11 @@
 -- How a run in progress stands to what its part does.
-use Rattle.std.specs.Prelude.{◌≡◌, ℕ, List, length, Result, Ok, Err}
+use Rattle.std.specs.Prelude.{◌≡◌, ◌<◌, ℕ, List, [], ◌∷◌, ◌++◌, length, Result, Ok, Err}
 use Rattle.jl_op.specs.Operations.{Operation}
-use Rattle.jl_meaning.specs.Effects.{Part, run, World, Ends, Fails, Outcome, Over, Spent, world_of, steps_taken}
+use Rattle.jl_meaning.specs.Running.{Ends, Fails, Over, Spent, output_limit, world_of, steps_taken}
+use Rattle.jl_num.specs.Number.{Number}
+use Rattle.jl_value.specs.declared.ending.Fault.TheVariants.{OutputTooLong}
+use Rattle.jl_app.specs.Meaning.{printed}
+use Rattle.jl_app.specs.Runs.{Part, World, Outcome, run}
 use Rattle.jl_app.specs.declared.outcome.Outcome.{Outcome as End}
 use Rattle.jl_app.specs.declared.outcome.Outcome.TheVariants as ends
 use Rattle.jl_app.specs.declared.outcome.Run.{Run}
@@ -27,6 +31,12 @@ Comes stands_for r (Err stops.NoMemory) observer state = Unit {0}
 abbrev pub Performs : {O A : Type 0} → (O → List Operation → Type 0) → O → State → Part A → Result A Stop → O → State → Type 0
 Performs stands_for observer state p answer observer' state' =
     (w : World) → Stands stands_for observer state w → Comes stands_for (run state.left p w) answer observer' state'
+
+-- there was no room for a line with the number, and none was printed
+pub record IsFull {A : Type 0} (before : State) (value : Number) (after : State) (answer : Result A Stop) : Type 0 where
+  pub fault : answer ≡ Err (stops.Fault OutputTooLong)
+  pub full : output_limit < length (before.output.items ++ printed value ++ 10 ∷ [])
+  pub same : after.output ≡ before.output
 
 -- how a run ended
 abbrev pub end_of : {A : Type 0} → Outcome A → End

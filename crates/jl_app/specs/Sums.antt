@@ -1,7 +1,7 @@
 -- Scripts of the form `print(SUM);`, with no memory in them.
 use Rattle.std.specs.Prelude.{ℕ, ◌+◌}
 use Rattle.jl_num.specs.Number.{Number}
-use Rattle.jl_op.specs.declared.op.Operator.{Operator}
+use Rattle.jl_app.specs.declared.tree.Operator.{Operator}
 
 -- a number, or an operator between two sums, and where it begins
 pub data Sum : Type 0 where

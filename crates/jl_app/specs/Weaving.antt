@@ -2,13 +2,14 @@
 --     J$.S(1); J$.F(3, J$.R(5, "print", print))(SUM); J$.X(2);
 use Rattle.std.specs.Prelude.{ℕ, ◌+◌}
 use Rattle.jl_num.specs.Number.{Number}
-use Rattle.jl_op.specs.declared.op.Operator.{Operator}
+use Rattle.jl_app.specs.declared.tree.Operator.{Operator}
 use Rattle.jl_op.specs.declared.op.OpId.{OpId}
-use Rattle.jl_op.specs.declared.op.Op.TheVariants.{ScriptEnter, ScriptExit, Literal, Read, Binary, InvokePre, InvokePost}
-use Rattle.jl_op.specs.declared.value.Value.TheVariants.{Undefined}
-use Rattle.jl_meaning.specs.Effects.{Part, End, Step, Print, Tells, steps, ◌>>=◌}
+use Rattle.jl_op.specs.declared.op.Op.TheVariants.{ScriptEnter, ScriptExit, Literal, Binary}
+use Rattle.jl_meaning.specs.Effects.{End, Step, Print, Tells, steps, ◌>>=◌}
+use Rattle.jl_app.specs.Form.{in_tree}
+use Rattle.jl_app.specs.Runs.{Part, Outcome, nothing_done, run}
 use Rattle.jl_app.specs.Sums.{Sum, number, binary, parts}
-use Rattle.jl_app.specs.Meaning.{with_id, seen, result_of, or_outside, printed}
+use Rattle.jl_app.specs.Meaning.{with_id, seen, print_read, print_called, print_returned, result_of, or_outside, printed}
 
 pub data Hooked : Type 0 where
   -- `J$.T(id, n)`
@@ -26,7 +27,7 @@ woven (binary at op a b) before =
 abbrev pub hooked_operation : OpId → Operator → Number → Number → Part Number
 hooked_operation id op x y = Step do
   z ← or_outside (result_of op x y)
-  Tells (id, Binary op (seen x) (seen y) (seen z)) (End z)
+  Tells (id, Binary (in_tree op) (seen x) (seen y) (seen z)) (End z)
 
 -- what a woven sum does to give its value. A call of a hook takes a step, its arguments take theirs, and the hook is
 -- entered with a step.
@@ -44,15 +45,15 @@ hooked_enter = steps 3 (Tells (with_id 0 ScriptEnter) (End tt))
 -- the second statement and its call, the call of `J$.F`, that of `J$.R`, the name `print`, and the two hooks, of which
 -- `J$.F` only gives the callee on
 abbrev pub hooked_callee : Part (Unit {0})
-hooked_callee = steps 6 (Tells (with_id 4 Read) (Step (End tt)))
+hooked_callee = steps 6 (Tells (with_id 4 print_read) (Step (End tt)))
 
 -- the call that `J$.F` prepared does what the call of `print` does by itself: the builtin is entered, and its loop has a
 -- turn for the one argument
 abbrev pub hooked_invoke : Number → Part (Unit {0})
-hooked_invoke x = Tells (with_id 2 (InvokePre (seen x))) (steps 2 (Print (printed x) (End tt)))
+hooked_invoke x = Tells (with_id 2 (print_called x)) (steps 2 (Print (printed x) (End tt)))
 
 abbrev pub hooked_return : Part (Unit {0})
-hooked_return = Tells (with_id 3 (InvokePost (record { value = Undefined }))) (End tt)
+hooked_return = Tells (with_id 3 print_returned) (End tt)
 
 -- `J$.X(2);`
 abbrev pub hooked_end : Part (Unit {0})
@@ -67,3 +68,7 @@ hooked_script argument = do
   _ ← hooked_invoke x
   _ ← hooked_return
   hooked_end
+
+-- the run of the woven script with this argument
+unfoldable pub hooked_run : Hooked → (steps : ℕ) → Outcome (Unit {0})
+hooked_run argument n = run n (hooked_script argument) nothing_done

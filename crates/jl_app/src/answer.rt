@@ -7,6 +7,7 @@ use crate::accept::{Unaccepted, accept};
 use crate::check::check;
 use crate::command::Command;
 use crate::lint::lint;
+use crate::print::print;
 use crate::refusal::Refusal;
 use crate::status::Status;
 use jl_op::{Crowd, Observer};
@@ -66,5 +67,6 @@ pub(crate) fn respond(
     match command {
         Command::Lint => lint(alloc, &accepted, crowd),
         Command::Check => check(alloc, &accepted.program),
+        Command::Print => print(alloc, &accepted.program),
     }
 }

@@ -9,6 +9,8 @@ pub enum Command {
     Lint,
     /// Tells whether a script is accepted.
     Check,
+    /// Writes the canonical text of a script.
+    Print,
 }
 
 impl Command {
@@ -25,6 +27,9 @@ impl Command {
         }
         if *word == "check" {
             return Some(Command::Check);
+        }
+        if *word == "print" {
+            return Some(Command::Print);
         }
         None
     }

@@ -6,14 +6,13 @@ ghost use Rattle.jl_ast.specs.View.{view as view_program, view_body, view_expres
 ghost use Rattle.jl_app.specs.Form.{operator_of, sum_in, script_in_call, script_in_statement, script_of};
 ghost use Rattle.jl_app.specs.View.{view, view_script};
 
-use crate::tree::{Script, Sum};
+use crate::tree::{Operator, Script, Sum};
 use jl_ast::{BinOp, Expr, ExprKind, Program, Stmt, StmtKind};
-use jl_op::Operator;
 use jl_text::Text;
 use std::alloc::{AllocError, Global};
 
 /// The units of the name `print`.
-const PRINT: [u16; 5] = [0x70, 0x72, 0x69, 0x6E, 0x74];
+pub(crate) const PRINT: [u16; 5] = [0x70, 0x72, 0x69, 0x6E, 0x74];
 
 /// The script of the form `print(SUM);` that a program is, if it is one: not strict, with no declared function, and
 /// with one statement.

@@ -10,6 +10,7 @@ pub mod laws;
 mod lint;
 mod outcome;
 mod position;
+mod print;
 mod refusal;
 mod report;
 mod run;

@@ -2,7 +2,7 @@ ghost use Rattle.std.specs.Prelude.{◌≡◌, ◌+◌, ◌^◌, ◌<◌, ℕ, S
 ghost use Rattle.std.specs.String.{string_bytes};
 ghost use Rattle.jl_ast.specs.View.{view};
 ghost use Rattle.jl_op.specs.Operations.{Operation};
-ghost use Rattle.jl_meaning.specs.Effects.{world_of};
+ghost use Rattle.jl_meaning.specs.Running.{world_of};
 ghost use Rattle.jl_app.specs.Answers.{Due, IsLinted, IsRunAnswer, end_line, woven_run};
 ghost use Rattle.jl_app.specs.Form.{script_of};
 ghost use Rattle.jl_app.specs.Reporting.{Lines};
@@ -20,7 +20,7 @@ use crate::source::Source;
 use crate::status::Status;
 use crate::tree::Script;
 use crate::weave::weave;
-use jl_op::{Crowd, Fault, Observer};
+use jl_op::{Crowd, Observer};
 use std::alloc::{AllocError, Global};
 
 /// How many steps a script's own run has.
@@ -30,13 +30,13 @@ const BUDGET: u64 = 1_000_000;
 const WOVEN_BUDGET: u64 = 32 * BUDGET + 64;
 
 /// How a run ended, in words.
-fn end_text(outcome: Outcome) -> &'static str
-    ensures { result.now ≡ outcome_text outcome }
+fn end_text(alloc: Global, outcome: Outcome) -> Result<String, AllocError>
+    ensures { IfOk result (λ text. string_bytes text ≡ outcome_text outcome) }
 {
     match outcome {
-        Outcome::Normal => "normal",
-        Outcome::Fault(Fault::NumberOutside) => "fault NumberOutside",
-        Outcome::Spent => "spent",
+        Outcome::Normal => String::from_str(alloc, "normal"),
+        Outcome::Fault(fault) => format!(in alloc; "fault {fault}"),
+        Outcome::Spent => String::from_str(alloc, "spent"),
     }
 }
 
@@ -45,7 +45,7 @@ fn end_line(alloc: Global, run: &Run, reports: usize) -> Result<String, AllocErr
     ensures { IfOk result (λ text. string_bytes text
         ≡ end_line (outcome_text run.now.outcome) run.now.steps run.now.hooks reports) }
 {
-    let end = end_text(run.outcome);
+    let end = end_text(alloc, run.outcome)?;
     let steps = run.steps;
     let hooks = run.hooks;
     format!(in alloc; "jlint: {end} steps={steps} hooks={hooks} reports={reports}\n")

@@ -1,4 +1,4 @@
-use jl_op::Fault;
+use jl_value::Fault;
 
 /// How a run ended.
 #[derive(Clone, Copy)]

@@ -1,6 +1,9 @@
 ghost use Rattle.std.specs.Prelude.{◌<◌};
 
+mod hoisting;
 mod names;
+mod parsing;
+mod printing;
 
 use crate::top::jlint;
 use jl_op::{Crowd, NanMade};
@@ -178,10 +181,10 @@ fn functions_are_counted(rt: HostRuntime) -> Result<(), Fail> {
     Ok(())
 }
 
-/// What both commands answer to bytes that are refused.
+/// What the commands answer to bytes that are refused.
 fn is_refused(rt: &impl Abort, alloc: Global, script: &[u8], words: &str) -> Result<(), Fail> {
     let line = format!(in alloc; "jlint: refused {words}\n")?;
-    for command in ["lint", "check"] {
+    for command in ["lint", "check", "print"] {
         let (code, written) = answer_to(alloc, command, script)?;
         assert_eq!(rt; code, 3, "at {words}");
         assert_eq!(rt; written.as_str(), line.as_str());

@@ -7,7 +7,7 @@ ghost use Rattle.jl_app.specs.Answers.{Due, IsDue, own_run};
 ghost use Rattle.jl_app.specs.Commands.{texts, words_of};
 ghost use Rattle.jl_app.specs.Endings.{EndsWith, HasAnswered, IsAboutOwnRun};
 ghost use Rattle.jl_app.specs.Sums.{Script};
-ghost use Rattle.jl_meaning.specs.Effects.{IsOver};
+ghost use Rattle.jl_meaning.specs.Running.{IsOver};
 ghost use Rattle.jl_text.specs.Encoding.{units_of};
 ghost use Rattle.jl_app.specs.declared.command.Command.{Command as Named};
 ghost use Rattle.jl_app.specs.declared.top.Unanswered.TheVariants.{NoMemory};
@@ -70,8 +70,8 @@ fn due<S: Source>(
 /// Runs the command that the words name, with the source as the script and the sink for the answer; all bytes of an
 /// answer are made before the first is written.
 ///
-/// `check` tells whether a script is accepted; `lint` runs one of the form `print(SUM);`. The shelf is for a text
-/// between its printing and its reading, and no command uses it yet.
+/// `check` tells whether a script is accepted, `print` writes its canonical text, and `lint` runs one of the form
+/// `print(SUM);`. The shelf is for a text between its printing and its reading, and no command uses it yet.
 pub fn jlint<S: Source, K: Sink, H: Shelf>(
     alloc: Global,
     words: &[&str],

@@ -1,5 +1,33 @@
+ghost use Rattle.std.specs.Prelude.{◌≡◌};
+ghost use Rattle.jl_app.specs.Form.{in_tree};
+
+use jl_ast::BinOp;
 use jl_num::Num;
-use jl_op::Operator;
+
+/// An operator that a sum may have (11.5, 11.6).
+#[derive(Clone, Copy)]
+pub enum Operator {
+    Mul,
+    Div,
+    Rem,
+    Add,
+    Sub,
+}
+
+impl Operator {
+    /// The operator as a program has it.
+    pub fn in_tree(self) -> BinOp
+        ensures { result ≡ in_tree self }
+    {
+        match self {
+            Operator::Mul => BinOp::Mul,
+            Operator::Div => BinOp::Div,
+            Operator::Rem => BinOp::Rem,
+            Operator::Add => BinOp::Add,
+            Operator::Sub => BinOp::Sub,
+        }
+    }
+}
 
 /// A script of the form `print(SUM);`.
 #[derive(Drop)]

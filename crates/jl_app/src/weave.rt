@@ -4,9 +4,9 @@ ghost use Rattle.jl_app.specs.Places.{sum_places};
 ghost use Rattle.jl_app.specs.View.{view, view_woven};
 ghost use Rattle.jl_app.specs.Weaving.{woven};
 
-use crate::tree::Sum;
+use crate::tree::{Operator, Sum};
 use jl_num::Num;
-use jl_op::{OpId, Operator};
+use jl_op::OpId;
 use std::alloc::{AllocError, Global};
 
 /// A sum in which each operation calls a hook with the operation's id.

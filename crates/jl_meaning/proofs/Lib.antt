@@ -1,2 +1,7 @@
+pub mod Growth
 pub mod Chains
-pub mod Runs
+pub mod Follow
+pub mod Match
+pub mod Rows
+pub mod Simulation
+pub mod Examples

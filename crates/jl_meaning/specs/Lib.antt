@@ -1,2 +1,5 @@
 pub mod Effects
-pub mod Follows
+pub mod Running
+pub mod Growing
+pub mod Matching
+pub mod Following

@@ -91,24 +91,26 @@ mod tests {
     use super::*;
     use crate::nan_made::NanMade;
     use crate::observer::Nobody;
-    use crate::op::Operator;
-    use crate::value::{Seen, Value};
+    use jl_ast::BinOp;
     use jl_num::Num;
+    use jl_value::{Class, Seen, Value};
     use std::test::Fail;
+
+    fn seen(number: Num) -> Seen {
+        Seen {
+            value: Value::Num(number),
+            class: Class::Primitive,
+        }
+    }
 
     #[test]
     fn a_crowd_counts_hits(rt: HostRuntime) -> Result<(), Fail> {
-        let zero = Seen {
-            value: Value::Num(Num::new(0).map_err(|_| "zero is a number")?),
-        };
-        let nan = Seen {
-            value: Value::Num(Num::NAN),
-        };
+        let zero = Num::new(0).map_err(|_| "zero is a number")?;
         let divided = Op::Binary {
-            op: Operator::Div,
-            left: zero,
-            right: zero,
-            result: nan,
+            op: BinOp::Div,
+            left: seen(zero),
+            right: seen(zero),
+            result: seen(Num::NAN),
         };
         Nobody.see(OpId(6), &divided)?;
         let mut crowd = Crowd::new();
@@ -117,7 +119,10 @@ mod tests {
             .add(Box::new(rt.alloc(), NanMade::fresh(rt.alloc()))?)
             .map_err(|_| "no memory")?;
         crowd.see(OpId(6), &divided)?;
-        crowd.see(OpId(7), &Op::Literal { value: nan })?;
+        let literal = Op::Literal {
+            value: seen(Num::NAN),
+        };
+        crowd.see(OpId(7), &literal)?;
         assert_eq!(rt; crowd.rule_at(0), 1);
         let found = crowd.found(0);
         assert_eq!(rt; found.len(), 1);

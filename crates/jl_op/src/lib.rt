@@ -2,17 +2,32 @@
 #![tactic(auto)]
 
 mod analysis;
+mod callee;
 mod crowd;
+mod found;
+mod kind;
+mod line;
+mod map;
 mod nan_made;
 mod observer;
 mod op;
+mod sign;
 mod tally;
-mod value;
+mod trace;
 
 pub use analysis::Analysis;
+pub use callee::Callee;
 pub use crowd::{Crowd, CrowdRefusal};
+pub use found::Found;
+pub use jl_text::NoMemory;
+pub use kind::OpKind;
+pub use map::{OpMap, map_text};
 pub use nan_made::NanMade;
 pub use observer::{Nobody, Observer};
-pub use op::{Op, OpId, Operator};
+pub use op::{Op, OpId};
+pub use sign::{UnKind, binary_sign};
 pub use tally::Tally;
-pub use value::{Fault, Seen, Value};
+pub use trace::op_text;
+
+#[cfg(test)]
+mod tests;

@@ -4,7 +4,7 @@ ghost use Rattle.jl_op.specs.Rules.{nan_made, is_nan};
 use crate::analysis::Analysis;
 use crate::op::{Op, OpId};
 use crate::tally::Tally;
-use crate::value::{Seen, Value};
+use jl_value::{Seen, Value};
 use std::alloc::{AllocError, Global};
 
 /// The checker of nan-made, rule 1: an operator makes NaN of operands none of which is NaN.
@@ -59,6 +59,11 @@ fn makes_nan(op: &Op) -> bool
             right,
             result,
         } => is_nan(result) && !is_nan(left) && !is_nan(right),
+        Op::Unary {
+            op: _,
+            operand,
+            result,
+        } => is_nan(result) && !is_nan(operand),
         _ => false,
     }
 }
@@ -67,8 +72,8 @@ fn makes_nan(op: &Op) -> bool
 fn is_nan(seen: &Seen) -> bool
     ensures { result ≡ is_nan seen.now.value }
 {
-    match seen.value {
-        Value::Undefined => false,
+    match &seen.value {
         Value::Num(n) => n.value().is_none(),
+        _ => false,
     }
 }

@@ -16,6 +16,3 @@ mod whole;
 
 pub use refusal::ParseRefusal;
 pub use whole::parse;
-
-#[cfg(test)]
-mod tests;

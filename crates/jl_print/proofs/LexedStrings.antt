@@ -90,7 +90,7 @@ plain_back u h = record {
 less : (u k : ℕ) → nat_lt u k ≡ true → u < k
 less u k h = grind (arith, nat_tests)
 
-hidden_low : (u : ℕ) → is_hidden u ≡ true → u < 65536
+pub hidden_low : (u : ℕ) → is_hidden u ≡ true → u < 0x2030
 hidden_low u h = elim (or_cases _ _ h) [
   | inl a ↦ (let b = less u 32 a in omega arith)
   | inr a ↦ elim (or_cases _ _ a) [
@@ -102,7 +102,7 @@ hidden_low u h = elim (or_cases _ _ h) [
   ]
 ]
 
-lone_low : (before u after : ℕ) → is_lone before u after ≡ true → u < 65536
+pub lone_low : (before u after : ℕ) → is_lone before u after ≡ true → u < 65536
 lone_low before u after h = elim (or_cases (is_high_surrogate u && not (is_low_surrogate after))
     (is_low_surrogate u && not (is_high_surrogate before)) h) [
       | inl a ↦ (let b = and_true (is_high_surrogate u) (not (is_low_surrogate after)) a in
@@ -124,7 +124,7 @@ unit_back before u after = by34 (true_or_false (u == 0x22))
       where
         choose : (x y : Bool) → is_hidden u ≡ x → is_lone before u after ≡ y
             → Written u (if x || y then unicode_escape u else u ∷ [])
-        choose true y h k = unicode_back u (hidden_low u h)
+        choose true y h k = unicode_back u (let low = hidden_low u h in omega arith)
         choose false true h k = unicode_back u (lone_low before u after k)
         choose false false h k =
             let p = or_false (nat_lt u 0x20) _ h in

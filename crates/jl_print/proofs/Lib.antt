@@ -19,6 +19,7 @@ mod LexedNumbers
 mod LexedStrings
 mod Lexed
 mod Clean
+mod Paired
 mod Printed
 mod Examples
 mod Writing

@@ -1,5 +1,6 @@
 -- The laws of the canonical text.
-use Rattle.std.specs.Prelude.{◌≡◌, ◌≤◌, ℕ, List}
+use Rattle.std.specs.Prelude.{◌≡◌, ◌≤◌, ℕ, false, List}
+use Rattle.std.specs.Char.Utf16.{has_unpaired_surrogate}
 use Rattle.jl_ast.specs.Height.{program_height}
 use Rattle.jl_ast.specs.Spans.{bare}
 use Rattle.jl_ast.specs.Tree.{Program}
@@ -27,3 +28,7 @@ PrintedReadsBack =
 abbrev pub ReadIsWellFormed : Type 0
 ReadIsWellFormed = (text : List ℕ) (ts : List Token) (limit : ℕ) (p : Program Span) → Tokens text ts
     → Reads ts limit p → IsWellFormed p
+
+-- each surrogate in the canonical text of a well formed program has its partner
+abbrev pub TextIsPaired : Type 0
+TextIsPaired = (p : Program Span) → IsWellFormed p → has_unpaired_surrogate (text_of p) ≡ false

@@ -1,5 +1,5 @@
 //! The laws of the canonical text: each is the contract of a function.
-ghost use Rattle.jl_print.specs.Laws.{PrintedReadsBack, ReadIsWellFormed};
+ghost use Rattle.jl_print.specs.Laws.{PrintedReadsBack, ReadIsWellFormed, TextIsPaired};
 
 /// The canonical text of a well formed program reads back as that program, but for places, within every limit on
 /// nesting that the program keeps.
@@ -10,4 +10,10 @@ pub fn printed_reads_back()
 /// Every program that is read of a text is well formed.
 pub fn read_is_well_formed()
     ensures { ReadIsWellFormed }
+{}
+
+/// Each surrogate in the canonical text of a well formed program has its partner, so that the text comes back from its
+/// UTF-8.
+pub fn text_is_paired()
+    ensures { TextIsPaired }
 {}

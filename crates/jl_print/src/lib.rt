@@ -29,6 +29,3 @@ pub fn print(alloc: Global, p: &Program) -> Result<Vec<u16>, NoMemory>
     add_body(&p.body, &mut pieces)?;
     lay_out(alloc, pieces.items())
 }
-
-#[cfg(test)]
-mod tests;

@@ -23,6 +23,3 @@ pub use laws::{bind_binds, first_comes_first};
 pub use mentions::mentions_arguments;
 pub use refusal::ScopeRefusal;
 pub use rules::EarlyRule;
-
-#[cfg(test)]
-mod tests;

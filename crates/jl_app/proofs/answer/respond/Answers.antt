@@ -1,7 +1,7 @@
 use Rattle.std.proofs.Common.{sym, subst}
 use Rattle.std.proofs.lemmas.Result.{IfOk-weaker}
 use Rattle.jl_ast.specs.View.{view}
-use Rattle.jl_app.specs.Answers.{refused_only, functions_line, counted, refused, accepted, IsAnswered, IsLinted}
+use Rattle.jl_app.specs.Answers.{refused_only, functions_line, counted, canonical_text, written, refused, accepted, IsAnswered, IsLinted}
 use Rattle.jl_app.specs.Refusals.{refusal_words}
 use Rattle.jl_app.proofs.Scripts.{script_small}
 use Rattle.jl_app.proofs.answer.respond.Goals as goal
@@ -38,8 +38,8 @@ returns-in-Lint-clause-due g c =
     ))
     c.lint.ensures.due
 
-pub returns-clause-due : goal.returns-clause-due
-returns-clause-due g c =
+pub returns-in-Check-clause-due : goal.returns-in-Check-clause-due
+returns-in-Check-clause-due g c =
     let p = view c.in-Ok.accepted.program in
     IfOk-weaker c.check.result _ _
     (λ a answered. (
@@ -51,3 +51,17 @@ returns-clause-due g c =
       c.requires.fresh,
     ))
     c.check.ensures
+
+pub returns-clause-due : goal.returns-clause-due
+returns-clause-due g c =
+    let p = view c.in-Ok.accepted.program in
+    IfOk-weaker c.print.result _ _
+    (λ a answered. (
+      canonical_text p,
+      subst (λ x. IsAnswered x c.args.bytes.now (canonical_text p)) (sym c.in-Print.is)
+          (accepted p c.in-Ok.ensures.accepted.0 written),
+      answered.0,
+      answered.1,
+      c.requires.fresh,
+    ))
+    c.print.ensures

@@ -1,13 +1,14 @@
 use Rattle.std.proofs.Common.{refl, sym, subst, Err}
-use Rattle.jl_meaning.specs.Effects.{nothing_done, run}
+use Rattle.jl_app.specs.Runs.{nothing_done, run}
 use Rattle.jl_app.specs.Running.{Stands, Comes, IsRun}
 use Rattle.jl_app.specs.View.{view_woven}
-use Rattle.jl_app.specs.Weaving.{hooked_script}
+use Rattle.jl_app.specs.Weaving.{hooked_script, hooked_run}
 use Rattle.jl_app.specs.declared.outcome.Outcome.TheVariants as answers
 use Rattle.jl_app.proofs.Comings.{is_ok, is_fault, is_spent}
 use Rattle.jl_app.proofs.run.run.Goals as goal
 
 pub returns-in-Ok-clause-is : goal.returns-in-Ok-clause-is
+unfolding hooked_run
 returns-in-Ok-clause-is g c = λ fresh.
     let told = g.O.Observer.stands_for in
     let p = hooked_script (view_woven c.args.argument.now) in
@@ -16,6 +17,7 @@ returns-in-Ok-clause-is g c = λ fresh.
     (is_ok told c.args.budget p nothing_done c.script.new.observer c.script.new.state _ answers.Normal refl tt refl (c.in-Ok.ensures.comes nothing_done start))
 
 pub returns-in-Err-Fault-clause-is : goal.returns-in-Err-Fault-clause-is
+unfolding hooked_run
 returns-in-Err-Fault-clause-is g c = λ fresh.
     let told = g.O.Observer.stands_for in
     let p = hooked_script (view_woven c.args.argument.now) in
@@ -25,6 +27,7 @@ returns-in-Err-Fault-clause-is g c = λ fresh.
     (is_fault told c.args.budget p nothing_done c.script.new.observer c.script.new.state _ (answers.Fault c.in-Err-Fault.fault) refl c.in-Err-Fault.fault refl comes)
 
 pub returns-in-Err-Spent-clause-is : goal.returns-in-Err-Spent-clause-is
+unfolding hooked_run
 returns-in-Err-Spent-clause-is g c = λ fresh.
     let told = g.O.Observer.stands_for in
     let p = hooked_script (view_woven c.args.argument.now) in

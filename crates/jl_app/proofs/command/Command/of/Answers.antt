@@ -10,3 +10,8 @@ pub returns-then-eq-2 : goal.returns-then-eq-2
 returns-then-eq-2 c =
     (is_word _ _ (codes "check") c.eq-2.result
     (one_word c.args.words.now _ c.in-len1.len_at_least c.in-len1.len_below) c.eq-2.ensures).0 c.if-eq-2.true
+
+pub returns-then-eq-3 : goal.returns-then-eq-3
+returns-then-eq-3 c =
+    (is_word _ _ (codes "print") c.eq-3.result
+    (one_word c.args.words.now _ c.in-len1.len_at_least c.in-len1.len_below) c.eq-3.ensures).0 c.if-eq-3.true

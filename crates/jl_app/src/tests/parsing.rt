@@ -1,14 +1,20 @@
-// The expected facts are counted by hand from edition 5.1, and the expected places are those at which a reader of the
-// text is stuck.
-use crate::{ParseRefusal, parse};
+//! What texts read as: their functions, statements and heights, counted by hand from edition 5.1, and the places at which
+//! a reader of a text is stuck.
+
 use jl_ast::{Program, function_table, height};
 use jl_lex::{LexRefusal, lex};
+use jl_parse::{ParseRefusal, parse};
 use jl_text::from_utf8;
 use std::alloc::Global;
 use std::process::Abort;
 use std::test::Fail;
 
-fn parsed(alloc: Global, source: &str, limit: u32) -> Result<Result<Program, ParseRefusal>, Fail> {
+/// What the text reads as, of at most so many levels.
+pub(super) fn parsed(
+    alloc: Global,
+    source: &str,
+    limit: u32,
+) -> Result<Result<Program, ParseRefusal>, Fail> {
     let units = from_utf8(alloc, source.as_bytes())?;
     if units.len() > 1_000_000 {
         return Err("a long text")?;
@@ -26,7 +32,7 @@ fn parsed(alloc: Global, source: &str, limit: u32) -> Result<Result<Program, Par
     }
 }
 
-// Its functions, statements and height, or the place of a refusal.
+/// Its functions, statements and height, or the place of a refusal.
 fn shown(alloc: Global, source: &str, limit: u32) -> Result<String, Fail> {
     match parsed(alloc, source, limit)? {
         Ok(program) => {
@@ -49,7 +55,7 @@ fn check(rt: &impl Abort, alloc: Global, limit: u32, rows: &[(&str, &str)]) -> R
     Ok(())
 }
 
-// Functions, statements of the program itself, and height.
+/// Functions, statements of the program itself, and height.
 #[test]
 fn statements(rt: HostRuntime) -> Result<(), Fail> {
     let rows = [

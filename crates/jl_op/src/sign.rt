@@ -1,0 +1,72 @@
+ghost use Rattle.std.specs.Prelude.{◌≡◌};
+ghost use Rattle.jl_op.specs.Trace.{binary_sign, unary_sign};
+
+use jl_ast::BinOp;
+
+/// An operator with one operand that is told of (11.3, 11.4).
+#[derive(Clone, Copy, PartialEq, Eq, Debug)]
+pub enum UnKind {
+    /// `-`
+    Minus,
+    /// `+`
+    Plus,
+    /// `!`
+    Not,
+    /// `~`
+    Tilde,
+    /// `typeof`, but of a name
+    Typeof,
+    /// `void`
+    Void,
+    /// `++`
+    Up,
+    /// `--`
+    Down,
+}
+
+impl UnKind {
+    /// How it is written.
+    pub fn sign(self) -> &'static str
+        ensures { result.now ≡ unary_sign self }
+    {
+        match self {
+            UnKind::Minus => "-",
+            UnKind::Plus => "+",
+            UnKind::Not => "!",
+            UnKind::Tilde => "~",
+            UnKind::Typeof => "typeof",
+            UnKind::Void => "void",
+            UnKind::Up => "++",
+            UnKind::Down => "--",
+        }
+    }
+}
+
+/// How an operator between two operands is written (11.5 to 11.10).
+pub fn binary_sign(op: BinOp) -> &'static str
+    ensures { result.now ≡ binary_sign op }
+{
+    match op {
+        BinOp::Mul => "*",
+        BinOp::Div => "/",
+        BinOp::Rem => "%",
+        BinOp::Add => "+",
+        BinOp::Sub => "-",
+        BinOp::Shl => "<<",
+        BinOp::Sar => ">>",
+        BinOp::Shr => ">>>",
+        BinOp::Less => "<",
+        BinOp::Greater => ">",
+        BinOp::LessEq => "<=",
+        BinOp::GreaterEq => ">=",
+        BinOp::InstanceOf => "instanceof",
+        BinOp::In => "in",
+        BinOp::Equal => "==",
+        BinOp::NotEqual => "!=",
+        BinOp::StrictEqual => "===",
+        BinOp::StrictNotEqual => "!==",
+        BinOp::BitAnd => "&",
+        BinOp::BitXor => "^",
+        BinOp::BitOr => "|",
+    }
+}
