@@ -1,0 +1,27 @@
+//! Checkers: what each keeps of the operations that it is told of, by its rule, and a crowd of boxed ones.
+#![tactic(auto)]
+
+mod analysis;
+mod checker;
+mod crowd;
+mod findings;
+mod laws;
+mod names;
+mod rule;
+mod rule_set;
+mod tally;
+pub mod values;
+
+pub use analysis::Analysis;
+pub use checker::Checker;
+pub use crowd::{Crowd, CrowdRefusal};
+pub use findings::Findings;
+pub use jl_text::NoMemory;
+pub use laws::one_name;
+pub use names::{rule_name, rule_named};
+pub use rule::Rule;
+pub use rule_set::RuleSet;
+pub use tally::Tally;
+
+#[cfg(test)]
+mod tests;

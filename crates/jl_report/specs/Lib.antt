@@ -1,0 +1,3 @@
+pub mod Collected
+pub mod Reports
+pub mod Texts

@@ -1,0 +1,3 @@
+pub mod CalledByNew
+pub mod Entered
+pub mod Ways
