@@ -34,9 +34,6 @@ each_changed P (x ∷ xs) (suc k) f d old step (suc j) =
 module _ (a : Inside) (k : ℕ) (f : Header → Header) (class_stays : (h : Header) → (f h).class ≡ h.class)
     (proto_stays : (h : Header) → (f h).proto ≡ h.proto) (hs : List Header)
     (changed : hs ≡ set a.headers k (f (get_or a.headers k no_header))) where
-  same_length : length hs ≡ length a.headers
-  same_length = ap length changed ∙ length-set a.headers k _
-
   pub kept_changed : IsKept a → IsKept (record a { headers = hs })
   kept_changed kept =
       subst (λ l. IsKept (record a { headers = l })) (sym changed)

@@ -1,6 +1,6 @@
 -- What is found under a name after a list of entries changed.
 use Rattle.std.proofs.Common.{◌≡◌, ◌≢◌, ◌∙◌, ℕ, Bool, true, false, List, [], ◌∷◌, refl, ap, sym}
-use Rattle.std.specs.Prelude.{IsSome, Option, Some}
+use Rattle.std.specs.Prelude.{Option}
 use Rattle.std.specs.List.{filter}
 use Rattle.std.specs.Option.{option_map}
 use Rattle.std.specs.Str.{bytes_eq}
@@ -46,15 +46,6 @@ module _ (x n : List ℕ) (p : Prop) where
           item_in x (with_new (e ∷ es) n serial p) ≡ item_in x (e ∷ es)
       step rest true ex = rw ex refl
       step rest false ex = rw ex rest
-
-pub item_in-with_item_same : (n : List ℕ) (p : Prop) (es : List (Entry Prop)) → IsSome (item_in n es) → item_in n (with_item es n p) ≡ Some p
-item_in-with_item_same n p [] there = cc
-item_in-with_item_same n p (e ∷ es) there = step (item_in-with_item_same n p es) (has_name n e) refl
-  where
-    step : (IsSome (item_in n es) → item_in n (with_item es n p) ≡ Some p) → (b : Bool) → has_name n e ≡ b →
-        item_in n (with_item (e ∷ es) n p) ≡ Some p
-    step rest true en = rw (en, en) refl
-    step rest false en = rw (en, en) (rest (rw en at there))
 
 pub item_in-filter : (keeps : List ℕ → Bool) (x : List ℕ) → keeps x ≡ true → (es : List (Entry Prop)) →
     item_in x (filter (λ e. keeps e.name) es) ≡ item_in x es

@@ -78,9 +78,6 @@ adds_nothing low high o true e = both_ways (option_map_or (λ k. nat_le low k &&
 adds_nothing low high o false e = cc
 
 module _ (i : ℕ) (fits : i < 4294967295) where
-  last_name : List ℕ
-  last_name = digits_of 10 i
-
   index_of_last : index_of (digits_of 10 i) ≡ Some i
   index_of_last = index_is (digits_of 10 i) i (record { digits = refl; below = fits })
 

@@ -1,6 +1,6 @@
 -- Defining a property (8.12.9), and what arrays add to it (15.4.5.1).
-use Rattle.std.specs.Prelude.{ℕ, ◌+◌, max, Bool, true, false, not, ◌&&◌, nat_le, nat_lt, IsTrue, pos, List, [], ◌∷◌, Option, None, Some, codes, filter, if◌then◌else◌}
-use Rattle.std.specs.List.{filter}
+use Rattle.std.specs.Prelude.{ℕ, ◌+◌, max, Bool, true, false, not, ◌&&◌, nat_le, nat_lt, IsTrue, pos}
+use Rattle.std.specs.Prelude.{List, [], ◌∷◌, Option, None, Some, codes, filter, if◌then◌else◌}
 use Rattle.std.specs.Option.{option_map, option_map_or, unwrap_or}
 use Rattle.std.specs.Str.{bytes_eq}
 use Rattle.jl_props.specs.declared.entries.Entry.{Entry}
@@ -134,7 +134,8 @@ abbrev pub defined_shorter : Objects → ℕ → Change → ℕ → Option Prop 
 defined_shorter heap place change low None = (heap, Rejected)
 defined_shorter heap place change low (Some length) =
     if is_writable (Some length)
-    then shortened_to heap place low (length_of (Some length)) (unwrap_or change.writable true) (revised length (kept_open change))
+    then shortened_to heap place low (length_of (Some length)) (unwrap_or change.writable true)
+    (revised length (kept_open change))
     else (heap, Rejected)
 
 -- a change on the `length` of an array, which is this (15.4.5.1, step 3)

@@ -1,5 +1,6 @@
 -- What a heap is seen as, and what its parts keep to.
-use Rattle.std.specs.Prelude.{◌≡◌, ℕ, ◌≤◌, Bool, true, false, not, ◌||◌, nat_lt, IsTrue, length, slice_get, Option, None, Some, is_some}
+use Rattle.std.specs.Prelude.{◌≡◌, ℕ, ◌≤◌, Bool, true, false, not, ◌||◌, nat_lt, IsTrue}
+use Rattle.std.specs.Prelude.{length, slice_get, Option, None, Some, is_some}
 use Rattle.std.specs.Option.{option_map_or}
 use Rattle.std.specs.Str.{bytes_eq}
 use Rattle.jl_props.specs.Store.{entries_of}

@@ -1,5 +1,6 @@
 -- What the definitions of defining and deleting come to.
-use Rattle.std.specs.Prelude.{◌≡◌, ◌≢◌, ℕ, zero, suc, ◌+◌, ◌≤◌, Bool, false, not, List, Option, None, Some, if◌then◌else◌}
+use Rattle.std.specs.Prelude.{◌≡◌, ◌≢◌, ℕ, zero, suc, ◌+◌, ◌≤◌, Bool, false, not, List}
+use Rattle.std.specs.Prelude.{Option, None, Some, if◌then◌else◌}
 use Rattle.std.specs.Option.{option_map}
 use Rattle.jl_num.specs.Digits.{digits_of}
 use Rattle.jl_props.specs.Entries.{IsInOrder, entry_named, without}
@@ -15,8 +16,8 @@ use Rattle.jl_heap.specs.declared.property.Prop.TheVariants.{Plain}
 -- a property that can be neither configured nor written is as it was after any change on its object (8.6.1)
 abbrev pub FixedStays : Type 0
 FixedStays =
-    (heap : Objects) (place : ℕ) (name other : Name) (change : Change) (value : Value) (enumerable : Bool) → IsOneKind change →
-    own heap place name ≡ Some (Plain value false enumerable false) →
+    (heap : Objects) (place : ℕ) (name other : Name) (change : Change) (value : Value) (enumerable : Bool) →
+    IsOneKind change → own heap place name ≡ Some (Plain value false enumerable false) →
     own (defined heap place other change).0 place name ≡ Some (Plain value false enumerable false)
 
 -- a property that can't be configured is there after any delete (8.12.7)
@@ -32,9 +33,11 @@ pub record KeepsObject (heap : Objects) (place other : ℕ) (name : Name) (chang
 
 abbrev pub OthersStay : Type 0
 OthersStay =
-    (heap : Objects) (place other : ℕ) (name : Name) (change : Change) → other ≢ place → KeepsObject heap place other name change
+    (heap : Objects) (place other : ℕ) (name : Name) (change : Change) → other ≢ place →
+    KeepsObject heap place other name change
 
--- nothing changes a unit of a String object (15.5.5.2)
+-- a change under the name of a unit of a String object, where no property is stored under it, leaves all objects as
+-- they are (15.5.5.2)
 abbrev pub UnitsStay : Type 0
 UnitsStay =
     (heap : Objects) (place : ℕ) (name : Name) (change : Change) (unit : ℕ) → IsOneKind change →
@@ -45,8 +48,8 @@ abbrev pub is_confined : Option Prop → Bool
 is_confined None = false
 is_confined (Some p) = not (is_configurable p)
 
--- so many elements from an index on are deleted, from the greatest index down, and the first that can't be ends that: the
--- index after it, or the one where all began, and the entries that are left (15.4.5.1, step 3.l)
+-- so many elements from an index on are deleted, from the greatest index down, and the first that can't be ends that:
+-- the index after it, or the one where all began, and the entries that are left (15.4.5.1, step 3.l)
 abbrev pub deleted_down : ℕ → ℕ → List (Entry Prop) → ℕ × List (Entry Prop)
 deleted_down low zero entries = (low, entries)
 deleted_down low (suc more) entries =

@@ -21,8 +21,13 @@ first_length = Plain (value.Num (Some (pos 0))) true false false
 -- all objects and one more, without properties, at the next place
 abbrev pub with_bare_object : Objects → Class → Option ObjId → Inner → Objects
 with_bare_object heap class proto inner = record heap {
-  objects = heap.objects
-      ++ record { class = class; proto = proto_there heap proto; extensible = true; inner = inner; properties = [] } ∷ [];
+  objects = heap.objects ++ record {
+    class = class;
+    proto = proto_there heap proto;
+    extensible = true;
+    inner = inner;
+    properties = [];
+  } ∷ [];
 }
 
 -- the same, where an array has its property `length`

@@ -1,5 +1,6 @@
 -- The objects of a run and their own properties (8.6, 8.12.1, 8.12.2, 8.12.4, 8.12.7).
-use Rattle.std.specs.Prelude.{ℕ, zero, suc, Bool, true, false, ◌&&◌, List, [], ◌∷◌, Option, None, Some, is_some, map, slice_get, slice_index_or, slice_set, if◌then◌else◌}
+use Rattle.std.specs.Prelude.{ℕ, zero, suc, Bool, true, false, ◌&&◌, List, [], ◌∷◌, Option, None, Some, is_some}
+use Rattle.std.specs.Prelude.{map, slice_get, slice_index_or, slice_set, if◌then◌else◌}
 use Rattle.std.specs.Option.{option_and_then, option_map, option_map_or, option_or}
 use Rattle.jl_props.specs.declared.entries.Entry.{Entry}
 use Rattle.jl_props.specs.Entries.{entry_named, name_and_serial, without}

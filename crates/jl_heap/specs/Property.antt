@@ -87,4 +87,6 @@ revised present change =
 -- a new property: what isn't given is undefined or false (step 4)
 abbrev pub made : Change → Prop
 made change =
-    with_fields (if is_accessor change then Accessor None None false false else Plain Undefined false false false) change
+    with_fields
+    (if is_accessor change then Accessor None None false false else Plain Undefined false false false)
+    change

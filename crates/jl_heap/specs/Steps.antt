@@ -16,5 +16,6 @@ abbrev pub without_elements : Objects → ℕ → ℕ → ℕ → List (Name × 
 without_elements heap place low high [] = heap
 without_elements heap place low high (n ∷ ns) =
     without_elements
-    (if is_between low high n.0 then with_properties heap place (without (object_at heap place).properties n.0) else heap)
+    (if is_between low high n.0 then with_properties heap place (without (object_at heap place).properties n.0)
+    else heap)
     place low high ns

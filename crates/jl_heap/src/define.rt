@@ -58,8 +58,8 @@ impl Heap {
         Ok(Defined::Done)
     }
 
-    /// Takes a property out, and answers whether its name is free now (8.12.7). It isn't exactly where there is a property
-    /// that isn't configurable, as a unit of a String object is; then nothing changes. It takes no memory.
+    /// Takes a property out, and answers whether its name is free now (8.12.7). It isn't exactly where there is a
+    /// property that isn't configurable, as a unit of a String object is; then nothing changes. It takes no memory.
     pub fn delete(&mut self, id: ObjId, name: &Text) -> bool
         ensures { (self.new, result) ≡ deleted self.old id.0 name.now }
     {

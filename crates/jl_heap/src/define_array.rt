@@ -11,15 +11,16 @@ use jl_text::{NoMemory, Text};
 use jl_value::{Class, ObjId, array_index};
 
 impl Heap {
-    ghost use Rattle.jl_heap.specs.Define.{FitsLength, IsLength, IsOneKind, defined, defined_element, defined_length, defined_shorter, is_array, length_name};
+    ghost use Rattle.jl_heap.specs.Define.{FitsLength, IsLength, IsOneKind, defined, defined_element, defined_length};
+    ghost use Rattle.jl_heap.specs.Define.{defined_shorter, is_array, length_name};
     ghost use Rattle.jl_heap.specs.Objects.{object_at, own};
     ghost use Rattle.jl_value.specs.Indices.{index_of};
 
-    /// Makes of a property what is asked of it, or rejects that (8.12.9, and 15.4.5.1 on an array). What isn't there is made;
-    /// what is there gets the fields that are given. A rejected change leaves all as it was, but for a smaller `length` of
-    /// an array, which is cut down to the first element from its end that can't be deleted. Where no memory is left, all is
-    /// as before. It looks through the properties of the object. To make an array shorter it looks each of them up, which takes
-    /// their number squared as long as a look-up goes through them all.
+    /// Makes of a property what is asked of it, or rejects that (8.12.9, and 15.4.5.1 on an array). What isn't there is
+    /// made; what is there gets the fields that are given. A rejected change leaves all as it was, but for a smaller
+    /// `length` of an array, which is cut down to the first element from its end that can't be deleted. Where no memory
+    /// is left, all is as before. It looks through the properties of the object. To make an array shorter it looks each
+    /// of them up, which takes their number squared as long as a look-up goes through them all.
     pub fn define(&mut self, id: ObjId, name: &Text, change: Change) -> Result<Defined, NoMemory>
         requires one_kind { IsOneKind change }
         requires length { FitsLength self.old id.0 name.now change }

@@ -1,10 +1,9 @@
 //! How a value is seen by operations, and the text by which it is told.
 ghost use Rattle.std.specs.Prelude.{◌≡◌, ◌++◌, IfOk, OnOk};
-ghost use Rattle.jl_heap.specs.Describe.{class_name, error_text, escaped};
+ghost use Rattle.jl_heap.specs.Describe.{error_text, escaped};
 
 use crate::heap::Heap;
 use crate::property::Prop;
-use jl_num::digits;
 use jl_text::{NoMemory, Text, quote};
 use jl_value::{Class, ObjId, Seen, Value, share};
 use std::alloc::Global;
@@ -33,27 +32,22 @@ impl Heap {
     pub fn describe(&self, v: &Value) -> Result<Vec<u16>, NoMemory>
         ensures { IfOk result (λ text. text.items ≡ described self.now v.now) }
     {
-        let alloc = self.alloc;
         match v {
-            Value::Undefined => ascii(alloc, b"undefined"),
-            Value::Null => ascii(alloc, b"null"),
-            Value::Bool(true) => ascii(alloc, b"true"),
-            Value::Bool(false) => ascii(alloc, b"false"),
-            Value::Num(number) => ascii(alloc, &digits(alloc, *number, 10)?),
-            Value::Text(text) => quote(alloc, text.units()),
             Value::Obj(id) => self.describe_object(*id),
+            _ => self.seen(v)?.text(self.alloc),
         }
     }
 
     fn describe_object(&self, id: ObjId) -> Result<Vec<u16>, NoMemory>
-        ensures { IfOk result (λ text. text.items ≡ described_object self.now id.0 (object_at self.now id.0).class) }
+        ensures { IfOk result (λ text. text.items ≡ described_object self.now id (object_at self.now id.0).class) }
     {
         let class = self.class_of(id);
         if class != Class::Error {
-            let mut text = ascii(self.alloc, b"[")?;
-            push_ascii(&mut text, class_name(class))?;
-            push_ascii(&mut text, b"]")?;
-            return Ok(text);
+            let seen = Seen {
+                value: Value::Obj(id),
+                class,
+            };
+            return seen.text(self.alloc);
         }
         let name = self.text_found(id, b"name", b"Error")?;
         let message = self.text_found(id, b"message", b"")?;
@@ -127,23 +121,4 @@ fn push_escaped(alloc: Global, text: &mut Vec<u16>, units: &[u16]) -> Result<(),
     let quoted = quote(alloc, units)?;
     text.extend_from_slice(&quoted[1..quoted.len() - 1])?;
     Ok(())
-}
-
-// The name of a class.
-#[tactic(auto, unfolding(crate::specs::Describe::class_name))]
-fn class_name(class: Class) -> &'static [u8]
-    ensures { result.now ≡ class_name class }
-{
-    match class {
-        Class::Primitive => b"Primitive",
-        Class::Object => b"Object",
-        Class::Function => b"Function",
-        Class::Array => b"Array",
-        Class::String => b"String",
-        Class::Number => b"Number",
-        Class::Boolean => b"Boolean",
-        Class::Error => b"Error",
-        Class::Arguments => b"Arguments",
-        Class::Math => b"Math",
-    }
 }

@@ -15,7 +15,8 @@ pub fn others_stay()
     ensures { OthersStay }
 {}
 
-/// Nothing changes a unit of a String object (15.5.5.2).
+/// A change under the name of a unit of a String object, where no property is stored under it, leaves all objects as
+/// they are (15.5.5.2).
 pub fn units_stay()
     ensures { UnitsStay }
 {}

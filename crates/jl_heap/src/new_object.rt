@@ -28,8 +28,8 @@ impl Heap {
     ghost use Rattle.jl_heap.specs.NewObject.{first_length, proto_there, with_new_object};
 
     /// Makes an object and answers its place, which is the number of objects before. It is extensible. A prototype that
-    /// isn't there counts as none. An array is made with the property `length`, which is 0 and writable; any other object
-    /// is made without properties. Where no memory is left, all is as before.
+    /// isn't there counts as none. An array is made with the property `length`, which is 0 and writable; any other
+    /// object is made without properties. Where no memory is left, all is as before.
     pub fn new_object(
         &mut self,
         class: Class,

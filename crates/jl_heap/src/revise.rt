@@ -1,7 +1,8 @@
 //! What a change makes of one property.
 ghost use Rattle.std.specs.Prelude.{◌≡◌, ◌&&◌, not, IfOk};
 ghost use Rattle.jl_value.specs.Same.{same_bool, same_value};
-ghost use Rattle.jl_heap.specs.Property.{breaks, is_accessor, is_configurable, is_data, is_enumerable, is_refused, is_same, made, revised, same_function, stays, turned, turns, with_fields};
+ghost use Rattle.jl_heap.specs.Property.{breaks, is_accessor, is_configurable, is_data, is_enumerable, is_refused};
+ghost use Rattle.jl_heap.specs.Property.{is_same, made, revised, same_function, stays, turned, turns, with_fields};
 ghost use Rattle.jl_heap.specs.Objects.{unit_property};
 
 use crate::property::{Change, Prop};
@@ -115,7 +116,8 @@ fn turns(present: &Prop, change: &Change) -> bool
     }
 }
 
-/// Whether a field of its kind is given that a property that isn't configurable can't have (8.12.9, steps 10.a and 11.a).
+/// Whether a field of its kind is given that a property that isn't configurable can't have (8.12.9, steps 10.a and
+/// 11.a).
 fn breaks(present: &Prop, change: &Change) -> bool
     ensures { result ≡ breaks present.now change.now }
 {

@@ -19,7 +19,8 @@ fn is_between(name: &Text, low: u32, high: u64) -> bool
     }
 }
 
-/// The index after that of an element in these bounds that can't be deleted, and the lower bound for any other property.
+/// The index after that of an element in these bounds that can't be deleted, and the lower bound for any other
+/// property.
 fn index_after(name: &Text, property: Option<&Prop>, low: u32, high: u64) -> u32
     ensures { result ≡ option_map_or (index_after low high name.now) (option_copied property.entry) low }
 {

@@ -431,15 +431,18 @@ fn arguments(rt: HostRuntime) -> Result<(), Fail> {
     let mut heap = Heap::new(alloc);
     let mut names = List::new(alloc);
     names.push(Some(text(alloc, "a")?))?;
+    names.push(Some(text(alloc, "b")?))?;
     let id = heap.new_object(Class::Arguments, None, Inner::Mapped { env: 0, names })?;
-    heap.unmap(id, 1);
+    heap.unmap(id, 2);
     heap.unmap(id, 0);
     match heap.inner_of(id) {
-        Inner::Mapped { names, .. } => {
-            for name in names.items() {
-                assert!(rt; name.is_none());
+        Inner::Mapped { names, .. } => match names.items() {
+            [None, Some(name)] => {
+                let bytes = to_utf8(alloc, name.units())?;
+                assert_eq!(rt; bytes.as_slice(), b"b".as_slice());
             }
-        }
+            _ => assert!(rt; false, "not one name of two"),
+        },
         _ => assert!(rt; false, "nothing is mapped"),
     }
     Ok(())

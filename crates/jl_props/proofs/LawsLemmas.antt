@@ -10,7 +10,7 @@ use Rattle.std.proofs.lemmas.Slice.Eq.{bytes_eq-Decides}
 use Rattle.jl_props.specs.declared.entries.Entry.{Entry}
 use Rattle.jl_props.specs.Entries.{has_name, entry_named, with_item, without, IsInOrder}
 use Rattle.jl_props.specs.Store.{Properties}
-use Rattle.jl_props.specs.Laws.{FindChanges, KeepOthers, Leads, stays, makes, sets, removes}
+use Rattle.jl_props.specs.Laws.{FindChanges, KeepOthers, Leads, stays, makes, sets, removes, gives_up}
 use Rattle.jl_props.proofs.OneLemmas.{PassesOnlyAt, find-only}
 use Rattle.jl_props.proofs.EntriesLemmas.{false_unless}
 
@@ -135,3 +135,4 @@ never_falls _ _ (stays s) = omega arith
 never_falls _ _ (makes a b c (obj, name, item, changes) rest) = omega (arith, changes.next_serial, never_falls b c rest)
 never_falls _ _ (sets a b c obj name item changes rest) = omega (arith, changes.next_serial, never_falls b c rest)
 never_falls _ _ (removes a b c obj name changes rest) = omega (arith, changes.next_serial, never_falls b c rest)
+never_falls _ _ (gives_up a b c unchanged rest) = omega (arith, unchanged.next_serial, never_falls b c rest)

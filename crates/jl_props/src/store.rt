@@ -101,7 +101,9 @@ impl<T: Drop> Store<T> {
     /// below this one that had no entry yet.
     pub fn put_new(&mut self, obj: usize, name: Text, item: T) -> Result<(), NoMemory>
         requires { IsNone (item_of self.old obj name) }
-        ensures made { OnOk result (Changes self.old self.new obj (with_new (entries_of self.old obj) name self.old.next item) (self.old.next + 1)) }
+        ensures made { OnOk result
+            (Changes self.old self.new obj (with_new (entries_of self.old obj) name self.old.next item)
+            (self.old.next + 1)) }
         ensures err { OnErr result (IsUnchanged self.old self.new) }
     {
         self.made.reserve(1)?;
