@@ -10,22 +10,22 @@ use Rattle.jl_analysis.specs.UseRules.{shadow_write, mixed_new, object_prototype
 use Rattle.jl_analysis.specs.UseRules.{for_in_array, extra_arguments, wrapper_made, no_radix, global_this}
 
 -- A rule: its name; whether it hits at an operation after others; and what it remembers, at first and after one more.
-pub record Row : Type 0 where
+pub record RuleRow : Type 0 where
   pub name : List ℕ
   pub hits : (before : List Op) → Op → Bool
   pub at_first : Memory
   pub after : Memory → Op → Memory
 
 -- a rule that looks at one operation alone
-abbrev pub looks_at_one : (name : List ℕ) → (Op → Bool) → Row
+abbrev pub looks_at_one : (name : List ℕ) → (Op → Bool) → RuleRow
 looks_at_one name hits =
     record { name = name; hits = λ before. hits; at_first = []; after = λ memory op. memory }
 
-abbrev pub looks_back : (name : List ℕ) → (List Op → Op → Bool) → Memory → (Memory → Op → Memory) → Row
+abbrev pub looks_back : (name : List ℕ) → (List Op → Op → Bool) → Memory → (Memory → Op → Memory) → RuleRow
 looks_back name hits at_first after = record { name = name; hits = hits; at_first = at_first; after = after }
 
 -- the rules in the order of their numbers, which count from 1
-unfoldable pub rules : List Row
+unfoldable pub rules : List RuleRow
 rules =
     looks_at_one (codes "nan-made") nan_made ∷
     looks_at_one (codes "undefined-joined") undefined_joined ∷
@@ -53,7 +53,7 @@ abbrev pub all_rules : List ℕ
 all_rules = 1 ∷ 2 ∷ 3 ∷ 4 ∷ 5 ∷ 6 ∷ 7 ∷ 8 ∷ 9 ∷ 10 ∷ 11 ∷ 12 ∷ 13 ∷ 14 ∷ 15 ∷ 16 ∷ 17 ∷ 18 ∷ 19 ∷ 20 ∷ []
 
 -- the rule with this number, where there is one
-abbrev pub rule_at : ℕ → Option Row
+abbrev pub rule_at : ℕ → Option RuleRow
 rule_at zero = None
 rule_at (suc n) = slice_get rules n
 
@@ -61,7 +61,7 @@ rule_at (suc n) = slice_get rules n
 abbrev pub name_at : ℕ → Option (List ℕ)
 name_at rule = option_map (λ row. row.name) (rule_at rule)
 
-abbrev pub hits_by : Option Row → List Op → Op → Bool
+abbrev pub hits_by : Option RuleRow → List Op → Op → Bool
 hits_by None before op = false
 hits_by (Some row) before op = row.hits before op
 
@@ -69,7 +69,7 @@ hits_by (Some row) before op = row.hits before op
 unfoldable pub hit : (rule : ℕ) → (before : List Op) → Op → Bool
 hit rule before op = hits_by (rule_at rule) before op
 
-abbrev pub remembered_by : Option Row → List Op → Memory
+abbrev pub remembered_by : Option RuleRow → List Op → Memory
 remembered_by None ops = []
 remembered_by (Some row) ops = fold row.after row.at_first ops
 

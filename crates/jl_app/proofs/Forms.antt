@@ -9,7 +9,7 @@ use Rattle.jl_ast.specs.declared.tree.Body.{out-Body}
 use Rattle.jl_ast.specs.declared.tree.Function.{Function}
 use Rattle.jl_ast.specs.declared.tree.Program.{Program as ProgramTree}
 use Rattle.jl_ast.specs.declared.tree.Stmt.{Stmt}
-use Rattle.jl_ast.specs.Tree.{Text, Row}
+use Rattle.jl_ast.specs.Tree.{Text, Forest}
 use Rattle.jl_ast.specs.Tree as tree
 use Rattle.jl_ast.specs.View.{view, view_expression, view_expression_kind, view_expressions, view_functions}
 use Rattle.jl_ast.specs.View.{view_statement, view_statements}
@@ -70,18 +70,18 @@ view_of : (p : ProgramTree)
     (view_statements (out-Body p.body).statements))
 view_of p = ap script_in (body_is p.body)
 
-strict_none : (b : Bool) (fs : Row Span tree.func) (ss : Row Span tree.stmt) → b ≡ true
+strict_none : (b : Bool) (fs : Forest Span tree.func) (ss : Forest Span tree.stmt) → b ≡ true
     → script_in (tree.body b fs ss) ≡ None
 strict_none true fs ss e = refl
 strict_none false fs ss e = absurd (cc)
 
-declaring_none : (b : Bool) (fs : List Function) (ss : Row Span tree.stmt) → (length fs ≡ 0 → ⊥)
+declaring_none : (b : Bool) (fs : List Function) (ss : Forest Span tree.stmt) → (length fs ≡ 0 → ⊥)
     → script_in (tree.body b (view_functions fs) ss) ≡ None
 declaring_none b [] ss h = absurd (h refl)
 declaring_none true (f ∷ fs) ss h = refl
 declaring_none false (f ∷ fs) ss h = refl
 
-statements_alone : (b : Bool) (fs : List Function) (ss : Row Span tree.stmt) → b ≡ false → length fs ≡ 0
+statements_alone : (b : Bool) (fs : List Function) (ss : Forest Span tree.stmt) → b ≡ false → length fs ≡ 0
     → script_in (tree.body b (view_functions fs) ss) ≡ script_in_statements ss
 statements_alone true fs ss e h = absurd (cc)
 statements_alone false [] ss e h = refl

@@ -18,7 +18,7 @@ use Rattle.jl_scope.specs.declared.rules.EarlyRule.{EarlyRule}
 use Rattle.jl_grammar.proofs.One.{one_reading, reader_tells}
 use Rattle.jl_grammar.specs.Program.{Reads, last_end}
 use Rattle.jl_grammar.specs.Reader.{program_at}
-use Rattle.jl_scope.specs.Breach.{Breach, first_breach, early, left_out, reserved_name}
+use Rattle.jl_scope.specs.EarlyError.{EarlyError, first_early_error, early, left_out, reserved_name}
 use Rattle.jl_app.specs.declared.refusal.Refusal.{Refusal}
 use Rattle.jl_app.specs.declared.refusal.Refusal.TheVariants as refusals
 use Rattle.jl_app.specs.declared.position.Position.{Position}
@@ -44,21 +44,21 @@ unreadable_at bytes units ts at place has e none there is =
     (unreadable ts at has none there)
 
 pub early_at : (bytes units : List ℕ) (p : Program Span) (rule : EarlyRule) (s : Span) (place : Position)
-    → IsProgram bytes p → units ≡ units_of bytes → first_breach p ≡ Some (early rule s)
+    → IsProgram bytes p → units ≡ units_of bytes → first_early_error p ≡ Some (early rule s)
     → place ≡ position units s.from → IsRefused bytes (refusals.Early rule place)
 early_at bytes units p rule s place read e broken is =
     subst (λ x. IsRefused bytes (refusals.Early rule x)) (sym (is ∙ ap (λ us. position us s.from) e))
     (early_rule p rule s read broken)
 
 pub left_out_at : (bytes units : List ℕ) (p : Program Span) (name : List ℕ) (s : Span) (place : Position)
-    → IsProgram bytes p → units ≡ units_of bytes → first_breach p ≡ Some (left_out name s)
+    → IsProgram bytes p → units ≡ units_of bytes → first_early_error p ≡ Some (left_out name s)
     → place ≡ position units s.from → IsRefused bytes (refusals.LeftOut name place)
 left_out_at bytes units p name s place read e broken is =
     subst (λ x. IsRefused bytes (refusals.LeftOut name x)) (sym (is ∙ ap (λ us. position us s.from) e))
     (left_out_name p name s read broken)
 
 pub hooks_name_at : (bytes units : List ℕ) (p : Program Span) (s : Span) (place : Position) → IsProgram bytes p
-    → units ≡ units_of bytes → first_breach p ≡ Some (reserved_name s) → place ≡ position units s.from
+    → units ≡ units_of bytes → first_early_error p ≡ Some (reserved_name s) → place ≡ position units s.from
     → IsRefused bytes (refusals.ReservedName place)
 hooks_name_at bytes units p s place read e broken is =
     subst (λ x. IsRefused bytes (refusals.ReservedName x)) (sym (is ∙ ap (λ us. position us s.from) e))
@@ -66,7 +66,7 @@ hooks_name_at bytes units p s place read e broken is =
 
 -- Never both.
 
-pub legal : (p : Program Span) → first_breach p ≡ None → is_legal p ≡ true
+pub legal : (p : Program Span) → first_early_error p ≡ None → is_legal p ≡ true
 legal p e = ap is_none e
 
 -- bytes that are accepted as one program read as no other
@@ -75,14 +75,14 @@ same_program bytes p q a b =
     let e = tokens_are_unique (units_of bytes) a.tokens b.tokens a.lexed b.has.lexed in
     one_reading b.tokens 200 p q (subst (λ ts. Reads ts 200 p) e a.read) b.read
 
-no_breach : (o : Option Breach) (b : Breach) → is_none o ≡ true → o ≡ Some b → ⊥
-no_breach None b e h = cc
-no_breach (Some c) b e h = cc
+no_early_error : (o : Option EarlyError) (b : EarlyError) → is_none o ≡ true → o ≡ Some b → ⊥
+no_early_error None b e h = cc
+no_early_error (Some c) b e h = cc
 
-broken : (bytes : List ℕ) (p q : Program Span) (b : Breach) → IsAccepted bytes p → IsProgram bytes q
-    → first_breach q ≡ Some b → ⊥
+broken : (bytes : List ℕ) (p q : Program Span) (b : EarlyError) → IsAccepted bytes p → IsProgram bytes q
+    → first_early_error q ≡ Some b → ⊥
 broken bytes p q b a read e =
-    no_breach (first_breach p) b a.legal (ap first_breach (same_program bytes p q a read) ∙ e)
+    no_early_error (first_early_error p) b a.legal (ap first_early_error (same_program bytes p q a read) ∙ e)
 
 pub never_both : NeverBoth
 never_both bytes p _ a (too_long long) = omega (arith, a.short)
@@ -99,9 +99,9 @@ never_both bytes p _ a (hooks_name q s read e) = broken bytes p q (reserved_name
 abbrev Answer : List ℕ → Type 0
 Answer bytes = ((p : Program Span) × IsAccepted bytes p) ⊎ ((cause : Refusal) × IsRefused bytes cause)
 
-by_breach : (bytes : List ℕ) (ts : List Token) (p : Program Span) (o : Option Breach) → HasTokens bytes ts
-    → Reads ts 200 p → first_breach p ≡ o → Answer bytes
-by_breach bytes ts p None has read e =
+by_early_error : (bytes : List ℕ) (ts : List Token) (p : Program Span) (o : Option EarlyError) → HasTokens bytes ts
+    → Reads ts 200 p → first_early_error p ≡ o → Answer bytes
+by_early_error bytes ts p None has read e =
     inl (
       p,
       record {
@@ -114,17 +114,17 @@ by_breach bytes ts p None has read e =
         legal = legal p e;
       },
     )
-by_breach bytes ts p (Some (early rule s)) has read e =
+by_early_error bytes ts p (Some (early rule s)) has read e =
     inr (
       refusals.Early rule (position_in bytes s.from),
       early_rule p rule s (record { tokens = ts; has = has; read = read }) e,
     )
-by_breach bytes ts p (Some (left_out name s)) has read e =
+by_early_error bytes ts p (Some (left_out name s)) has read e =
     inr (
       refusals.LeftOut name (position_in bytes s.from),
       left_out_name p name s (record { tokens = ts; has = has; read = read }) e,
     )
-by_breach bytes ts p (Some (reserved_name s)) has read e =
+by_early_error bytes ts p (Some (reserved_name s)) has read e =
     inr (
       refusals.ReservedName (position_in bytes s.from),
       hooks_name p s (record { tokens = ts; has = has; read = read }) e,
@@ -138,7 +138,7 @@ by_program bytes ts None has e =
       unreadable ts (last_end ts) has (λ p read. let both : None ≡ Some p = sym e
           ∙ (reader_tells ts 200 p).1 read in cc) at_end,
     )
-by_program bytes ts (Some p) has e = by_breach bytes ts p (first_breach p) has ((reader_tells ts 200 p).0 e) refl
+by_program bytes ts (Some p) has e = by_early_error bytes ts p (first_early_error p) has ((reader_tells ts 200 p).0 e) refl
 
 by_tokens : (bytes : List ℕ) → IsText bytes → Answer bytes
 by_tokens bytes text =

@@ -11,7 +11,7 @@ use Rattle.std.specs.Char.Escape.{encode_utf16}
 use Rattle.std.specs.Prelude.{codes, if◌then◌else◌}
 use Rattle.std.specs.Str.{IsUtf8, bytes_eq, chars}
 use lib.Utf8.{encode, encodes}
-use Rattle.jl_ast.specs.Tree.{Program, Tree, Row, expr, stmt, code, end, more}
+use Rattle.jl_ast.specs.Tree.{Program, Tree, Forest, expr, stmt, code, end, more}
 use Rattle.jl_ast.specs.Tree as tree
 use Rattle.jl_app.specs.declared.tree.Operator.{Operator}
 use Rattle.jl_text.specs.Encoding.{encode_utf16_all, units_of}
@@ -19,7 +19,7 @@ use Rattle.jl_text.specs.declared.span.Span.{Span}
 use Rattle.jl_token.proofs.Whole.{few_tokens}
 use Rattle.jl_grammar.proofs.FewNodes.{few_nodes}
 use Rattle.jl_grammar.proofs.OneAccepted.{one_accepted}
-use Rattle.jl_grammar.specs.Nodes.{nodes, nodes_row}
+use Rattle.jl_grammar.specs.Nodes.{nodes, nodes_forest}
 use Rattle.jl_app.specs.Accepting.{IsAccepted, OneReading, is_legal}
 use Rattle.jl_app.specs.Form.{operator_of, joined, sum_in, script_in_call, script_in_statement}
 use Rattle.jl_app.specs.Form.{script_in_statements, script_in, script_of}
@@ -102,7 +102,7 @@ statement_small : (t : Tree Span stmt) (s : Script) → script_in_statement t �
 statement_small (tree.expression e p) s is = call_small e s is
 statement_small _ s is = absurd (cc)
 
-statements_small : (r : Row Span stmt) (s : Script) → script_in_statements r ≡ Some s → parts s.argument ≤ nodes_row r
+statements_small : (r : Forest Span stmt) (s : Script) → script_in_statements r ≡ Some s → parts s.argument ≤ nodes_forest r
 statements_small (more w end) s is = omega (arith, statement_small w s is)
 statements_small end s is = absurd (cc)
 statements_small (more w (more v r)) s is = absurd (cc)

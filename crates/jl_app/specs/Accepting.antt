@@ -8,7 +8,7 @@ use Rattle.jl_token.specs.declared.token.Token.{Token}
 use Rattle.jl_token.specs.Tokens.{Tokens}
 use Rattle.jl_grammar.specs.Accepted.{Accepted}
 use Rattle.jl_grammar.specs.Program.{Reads}
-use Rattle.jl_scope.specs.Breach.{first_breach}
+use Rattle.jl_scope.specs.EarlyError.{first_early_error}
 use Rattle.jl_app.specs.Form.{script_of}
 use Rattle.jl_app.specs.Sums.{Script}
 
@@ -22,7 +22,7 @@ most_levels = 200
 
 -- no early rule is broken, no left-out name is used, and no reserved one
 abbrev pub is_legal : Program Span → Bool
-is_legal p = is_none (first_breach p)
+is_legal p = is_none (first_early_error p)
 
 -- the bytes are accepted as the program p
 abbrev pub IsAccepted : List ℕ → Program Span → Type 0

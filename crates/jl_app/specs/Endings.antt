@@ -29,7 +29,7 @@ pub data EndsWith (call : Call) : Status → Type 0 where
   -- what is due was written, and the crowd was told of the run
   answered : (due : Due) → IsDue call.words call.held due → Grows call.written.0 call.written.1 due.bytes
       → call.knows due.told → EndsWith call due.status
-  -- the sink failed, and a proper front of what is due was written
+  -- the sink failed, and a proper prefix of what is due was written
   write_failed : (due : Due) (n : ℕ) → IsDue call.words call.held due
       → HasRisen call.write_faults.0 call.write_faults.1 → n < length due.bytes
       → Grows call.written.0 call.written.1 (take n due.bytes) → call.knows due.told

@@ -4,7 +4,7 @@ use Rattle.std.specs.Prelude.{ℕ, false, Option, Some, None, option_map, codes,
 use Rattle.std.specs.Str.{bytes_eq}
 use Rattle.jl_ast.specs.declared.ops.BinOp.{BinOp}
 use Rattle.jl_ast.specs.declared.ops.BinOp.TheVariants as operators
-use Rattle.jl_ast.specs.Tree.{Program, Tree, Row, expr, stmt, code, end, more}
+use Rattle.jl_ast.specs.Tree.{Program, Tree, Forest, expr, stmt, code, end, more}
 use Rattle.jl_ast.specs.Tree as tree
 use Rattle.jl_app.specs.declared.tree.Operator.{Operator}
 use Rattle.jl_app.specs.declared.tree.Operator.TheVariants.{Mul, Div, Rem, Add, Sub}
@@ -52,7 +52,7 @@ script_in_statement (tree.expression e s) = script_in_call e
 script_in_statement _ = None
 
 -- one statement alone
-abbrev pub script_in_statements : Row Span stmt → Option Script
+abbrev pub script_in_statements : Forest Span stmt → Option Script
 script_in_statements (more w end) = script_in_statement w
 script_in_statements _ = None
 

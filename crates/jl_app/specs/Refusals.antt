@@ -13,7 +13,7 @@ use Rattle.jl_token.specs.Tokens.{BadAt}
 use Rattle.jl_grammar.specs.Program.{Reads}
 use Rattle.jl_parse.specs.Refusals.{IsPlace}
 use Rattle.jl_scope.specs.declared.rules.EarlyRule.{EarlyRule}
-use Rattle.jl_scope.specs.Breach.{first_breach, early, left_out, reserved_name}
+use Rattle.jl_scope.specs.EarlyError.{first_early_error, early, left_out, reserved_name}
 use Rattle.jl_scope.specs.Rules.{rule_name}
 use Rattle.jl_app.specs.declared.position.Position.{Position}
 use Rattle.jl_app.specs.declared.refusal.Refusal.{Refusal}
@@ -28,7 +28,7 @@ position_in bytes at = position (units_of bytes) at
 -- The bytes are refused for this cause. Each cause comes only where none before it is there.
 pub data IsRefused (bytes : List ℕ) : Refusal → Type 0 where
   too_long : most_bytes < length bytes → IsRefused bytes refusals.TooLong
-  -- not UTF-8; the longest front of the bytes that is has so many bytes
+  -- not UTF-8; the longest prefix of the bytes that is has so many bytes
   not_utf8 : length bytes ≤ most_bytes → (IsUtf8 bytes → ⊥)
       → IsRefused bytes (refusals.NotUtf8 (utf8_valid_len bytes))
   -- no tokens: the first input element that can't be formed (clause 7)
@@ -39,13 +39,13 @@ pub data IsRefused (bytes : List ℕ) : Refusal → Type 0 where
       → IsPlace ts at → IsRefused bytes (refusals.Unreadable (position_in bytes at))
   -- an early rule is broken (clause 16)
   early_rule : (p : Program Span) (rule : EarlyRule) (s : Span) → IsProgram bytes p
-      → first_breach p ≡ Some (early rule s) → IsRefused bytes (refusals.Early rule (position_in bytes s.from))
+      → first_early_error p ≡ Some (early rule s) → IsRefused bytes (refusals.Early rule (position_in bytes s.from))
   -- a name that is left out of the language is used freely
   left_out_name : (p : Program Span) (name : List ℕ) (s : Span) → IsProgram bytes p
-      → first_breach p ≡ Some (left_out name s) → IsRefused bytes (refusals.LeftOut name (position_in bytes s.from))
+      → first_early_error p ≡ Some (left_out name s) → IsRefused bytes (refusals.LeftOut name (position_in bytes s.from))
   -- `J$`, the name of the hooks, stands as a name or a label
   hooks_name : (p : Program Span) (s : Span) → IsProgram bytes p
-      → first_breach p ≡ Some (reserved_name s) → IsRefused bytes (refusals.ReservedName (position_in bytes s.from))
+      → first_early_error p ≡ Some (reserved_name s) → IsRefused bytes (refusals.ReservedName (position_in bytes s.from))
 
 abbrev pub kind_word : BadKind → List ℕ
 kind_word kinds.UnclosedText = codes "UnclosedText"

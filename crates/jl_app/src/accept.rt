@@ -1,7 +1,7 @@
 ghost use Rattle.std.specs.Prelude.{◌≡◌, ◌≤◌, ◌<◌, ◌^◌, ℕ, List as Items, None, length, IfOk, IfErr, OnOk};
 ghost use Rattle.jl_ast.specs.View.{view};
 ghost use Rattle.jl_grammar.specs.Program.{Reads};
-ghost use Rattle.jl_scope.specs.Breach.{first_breach};
+ghost use Rattle.jl_scope.specs.EarlyError.{first_early_error};
 ghost use Rattle.jl_text.specs.Encoding.{units_of};
 ghost use Rattle.jl_token.specs.Tokens.{Tokens};
 ghost use Rattle.jl_app.specs.Accepting.{IsAccepted, IsText, HasTokens, IsProgram};
@@ -93,7 +93,7 @@ fn parsed(alloc: Global, source: &Source, tokens: &[Token]) -> Result<Program, U
 
 /// Whether it breaks no early rule and uses no name that it must not.
 fn checked(alloc: Global, source: &Source, program: &Program) -> Result<(), Unaccepted>
-    ensures legal { OnOk result (first_breach (view program.now) ≡ None) }
+    ensures legal { OnOk result (first_early_error (view program.now) ≡ None) }
     ensures refused { (bytes : Items ℕ) → IsProgram bytes (view program.now) → source.now ≡ units_of bytes
         → IfErr result (Refuses bytes) }
 {

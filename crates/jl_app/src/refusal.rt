@@ -13,7 +13,7 @@ use std::alloc::{AllocError, Global};
 pub enum Refusal {
     /// They are more than 1,048,576.
     TooLong,
-    /// They are not UTF-8: the longest front of them that is has this many.
+    /// They are not UTF-8: the longest prefix of them that is has this many.
     NotUtf8 { at: usize },
     /// An input element can't be formed.
     BadInput { kind: BadKind, at: Position },

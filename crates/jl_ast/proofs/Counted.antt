@@ -2,16 +2,16 @@
 use Rattle.std.proofs.Common.{◌≡◌, ℕ, ◌+◌, suc, zero, List, ◌∷◌, ◌++◌, map, refl, ap, arith}
 use Rattle.std.specs.List.{range_with_len}
 use Rattle.std.proofs.lemmas.List.{map-append}
-use Rattle.jl_ast.specs.Tree.{Sort, func, Tree, Row, Maybe, this, name, number, string, boolean, null, array}
+use Rattle.jl_ast.specs.Tree.{Sort, func, Tree, Forest, OptionalTree, this, name, number, string, boolean, null, array}
 use Rattle.jl_ast.specs.Tree.{object, function_expression, dot, index, call, new, unary, update, binary, and, or}
 use Rattle.jl_ast.specs.Tree.{conditional, assign, comma, to_name, to_dot, to_index, hole, filled, value, getter}
-use Rattle.jl_ast.specs.Tree.{setter, function, body, var, empty, expression, block, when, do_while, while, for}
+use Rattle.jl_ast.specs.Tree.{setter, function, body, var, empty, expression, block, if_else, do_while, while, for}
 use Rattle.jl_ast.specs.Tree.{for_in, continue, break, return, labelled, switch, throw, try, debugger, nothing}
 use Rattle.jl_ast.specs.Tree.{init_expression, init_var, declarator, case, branch_of, catch, end, more, absent}
 use Rattle.jl_ast.specs.Tree.{present}
-use Rattle.jl_ast.specs.Numbering.{functions_in, functions_in_row, functions_in_maybe, numbered_tree}
-use Rattle.jl_ast.specs.Numbering.{numbered_row, numbered_maybe}
-use Rattle.jl_ast.specs.Table.{functions_of, functions_of_row, functions_of_maybe, number_of}
+use Rattle.jl_ast.specs.Numbering.{functions_in, functions_in_forest, functions_in_optional, numbered_tree}
+use Rattle.jl_ast.specs.Numbering.{numbered_forest, numbered_optional}
+use Rattle.jl_ast.specs.Table.{functions_of, functions_of_forest, functions_of_optional, number_of}
 
 range-append : (n a b m : ℕ) → n + a ≡ m → range_with_len n a ++ range_with_len m b ≡ range_with_len n (a + b)
 range-append n zero b m e = cc (let h : n ≡ m = omega arith in h, let h : 0 + b ≡ b = omega arith in h)
@@ -40,13 +40,13 @@ mutual
   counted n (string a s) = refl
   counted n (boolean a s) = refl
   counted n (null s) = refl
-  counted n (array a s) = counted_row n a
-  counted n (object a s) = counted_row n a
+  counted n (array a s) = counted_forest n a
+  counted n (object a s) = counted_forest n a
   counted n (function_expression a s) = counted n a
   counted n (dot a b s) = counted n a
   counted n (index a b s) = two _ _ _ _ _ _ (omega arith) (counted n a) (counted (n + functions_in a) b)
-  counted n (call a b s) = two _ _ _ _ _ _ (omega arith) (counted n a) (counted_row (n + functions_in a) b)
-  counted n (new a b s) = two _ _ _ _ _ _ (omega arith) (counted n a) (counted_row (n + functions_in a) b)
+  counted n (call a b s) = two _ _ _ _ _ _ (omega arith) (counted n a) (counted_forest (n + functions_in a) b)
+  counted n (new a b s) = two _ _ _ _ _ _ (omega arith) (counted n a) (counted_forest (n + functions_in a) b)
   counted n (unary a b s) = counted n b
   counted n (update up prefix a s) = counted n a
   counted n (binary a b c s) = two _ _ _ _ _ _ (omega arith) (counted n b) (counted (n + functions_in b) c)
@@ -67,49 +67,49 @@ mutual
   counted n (setter a b) = counted n b
   counted n (function m a params b s) = first (function n a params (numbered_tree (n + 1) b) s) _ n
       (functions_in b) refl (counted (n + 1) b)
-  counted n (body strict a b) = two _ _ _ _ _ _ (omega arith) (counted_row n a)
-      (counted_row (n + functions_in_row a) b)
-  counted n (var a s) = counted_row n a
+  counted n (body strict a b) = two _ _ _ _ _ _ (omega arith) (counted_forest n a)
+      (counted_forest (n + functions_in_forest a) b)
+  counted n (var a s) = counted_forest n a
   counted n (empty s) = refl
   counted n (expression a s) = counted n a
-  counted n (block a s) = counted_row n a
-  counted n (when a b c s) = two _ _ _ _ _ _ (omega arith)
-      (two _ _ _ _ _ _ (omega arith) (counted n a) (counted_row (n + functions_in a) b))
-      (counted_maybe (n + functions_in a + functions_in_row b) c)
-  counted n (do_while a b s) = two _ _ _ _ _ _ (omega arith) (counted_row n a)
-      (counted (n + functions_in_row a) b)
-  counted n (while a b s) = two _ _ _ _ _ _ (omega arith) (counted n a) (counted_row (n + functions_in a) b)
+  counted n (block a s) = counted_forest n a
+  counted n (if_else a b c s) = two _ _ _ _ _ _ (omega arith)
+      (two _ _ _ _ _ _ (omega arith) (counted n a) (counted_forest (n + functions_in a) b))
+      (counted_optional (n + functions_in a + functions_in_forest b) c)
+  counted n (do_while a b s) = two _ _ _ _ _ _ (omega arith) (counted_forest n a)
+      (counted (n + functions_in_forest a) b)
+  counted n (while a b s) = two _ _ _ _ _ _ (omega arith) (counted n a) (counted_forest (n + functions_in a) b)
   counted n (for a b c d s) = two _ _ _ _ _ _ (omega arith)
       (two _ _ _ _ _ _ (omega arith) (two _ _ _ _ _ _ (omega arith) (counted n a)
-      (counted_maybe (n + functions_in a) b)) (counted_maybe (n + functions_in a + functions_in_maybe b) c))
-      (counted_row (n + functions_in a + functions_in_maybe b + functions_in_maybe c) d)
+      (counted_optional (n + functions_in a) b)) (counted_optional (n + functions_in a + functions_in_optional b) c))
+      (counted_forest (n + functions_in a + functions_in_optional b + functions_in_optional c) d)
   counted n (for_in is_var a b c s) = two _ _ _ _ _ _ (omega arith) (counted n b)
-      (counted_row (n + functions_in b) c)
+      (counted_forest (n + functions_in b) c)
   counted n (continue a s) = refl
   counted n (break a s) = refl
-  counted n (return a s) = counted_maybe n a
+  counted n (return a s) = counted_optional n a
   counted n (labelled a b s) = counted n b
-  counted n (switch a b s) = two _ _ _ _ _ _ (omega arith) (counted n a) (counted_row (n + functions_in a) b)
+  counted n (switch a b s) = two _ _ _ _ _ _ (omega arith) (counted n a) (counted_forest (n + functions_in a) b)
   counted n (throw a s) = counted n a
   counted n (try a b c s) = two _ _ _ _ _ _ (omega arith)
-      (two _ _ _ _ _ _ (omega arith) (counted_row n a) (counted_maybe (n + functions_in_row a) b))
-      (counted_maybe (n + functions_in_row a + functions_in_maybe b) c)
+      (two _ _ _ _ _ _ (omega arith) (counted_forest n a) (counted_optional (n + functions_in_forest a) b))
+      (counted_optional (n + functions_in_forest a + functions_in_optional b) c)
   counted n (debugger s) = refl
   counted n nothing = refl
   counted n (init_expression a) = counted n a
-  counted n (init_var a) = counted_row n a
-  counted n (declarator a b) = counted_maybe n b
-  counted n (case a b) = two _ _ _ _ _ _ (omega arith) (counted_maybe n a)
-      (counted_row (n + functions_in_maybe a) b)
-  counted n (branch_of a) = counted_row n a
-  counted n (catch a b) = counted_row n b
+  counted n (init_var a) = counted_forest n a
+  counted n (declarator a b) = counted_optional n b
+  counted n (case a b) = two _ _ _ _ _ _ (omega arith) (counted_optional n a)
+      (counted_forest (n + functions_in_optional a) b)
+  counted n (branch_of a) = counted_forest n a
+  counted n (catch a b) = counted_forest n b
 
-  pub counted_row : {S : Type 0} {x : Sort} (n : ℕ) (t : Row S x) →
-      map number_of (functions_of_row (numbered_row n t)) ≡ range_with_len n (functions_in_row t)
-  counted_row n end = refl
-  counted_row n (more a b) = two _ _ _ _ _ _ (omega arith) (counted n a) (counted_row (n + functions_in a) b)
+  pub counted_forest : {S : Type 0} {x : Sort} (n : ℕ) (t : Forest S x) →
+      map number_of (functions_of_forest (numbered_forest n t)) ≡ range_with_len n (functions_in_forest t)
+  counted_forest n end = refl
+  counted_forest n (more a b) = two _ _ _ _ _ _ (omega arith) (counted n a) (counted_forest (n + functions_in a) b)
 
-  pub counted_maybe : {S : Type 0} {x : Sort} (n : ℕ) (t : Maybe S x) →
-      map number_of (functions_of_maybe (numbered_maybe n t)) ≡ range_with_len n (functions_in_maybe t)
-  counted_maybe n absent = refl
-  counted_maybe n (present a) = counted n a
+  pub counted_optional : {S : Type 0} {x : Sort} (n : ℕ) (t : OptionalTree S x) →
+      map number_of (functions_of_optional (numbered_optional n t)) ≡ range_with_len n (functions_in_optional t)
+  counted_optional n absent = refl
+  counted_optional n (present a) = counted n a

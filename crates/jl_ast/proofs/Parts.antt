@@ -11,7 +11,7 @@ use Rattle.jl_ast.specs.declared.tree.ForInit.{ForInit}
 use Rattle.jl_ast.specs.declared.tree.StmtKind as statement
 use Rattle.jl_ast.specs.declared.tree.ExprKind.{the_lemmas}
 use Rattle.jl_ast.specs.Tree.{present, branch_of}
-use Rattle.jl_ast.specs.Table.{functions_of_maybe, functions_of_row}
+use Rattle.jl_ast.specs.Table.{functions_of_optional, functions_of_forest}
 use Rattle.jl_ast.specs.View.{view_branch, view_catch, view_function, view_statements}
 
 pub then_part : {A : Type 0} (old mid new a b : List A) → mid ≡ old ++ a → new ≡ mid ++ b → new ≡ old ++ (a ++ b)
@@ -31,19 +31,19 @@ branch_there o e i = ap view_branch e ∙ ap (λ l. present (branch_of (view_sta
 
 pub caught_there : (o : Option (Ident × List Stmt)) (x : Ident × List Stmt) (l : List Stmt)
     (mid new now : List Function) → o ≡ Some x → l ≡ x.1 → new ≡ now →
-    map view_function now ≡ map view_function mid ++ functions_of_row (view_statements l) →
-    map view_function new ≡ map view_function mid ++ functions_of_maybe (view_catch o)
+    map view_function now ≡ map view_function mid ++ functions_of_forest (view_statements l) →
+    map view_function new ≡ map view_function mid ++ functions_of_optional (view_catch o)
 caught_there o x l mid new now e i n m =
-    let c : functions_of_maybe (view_catch o) ≡ functions_of_row (view_statements x.1) =
-    ap (λ o. functions_of_maybe (view_catch o)) e in
-    let d : functions_of_row (view_statements l) ≡ functions_of_row (view_statements x.1) =
-    ap (λ l. functions_of_row (view_statements l)) i in
+    let c : functions_of_optional (view_catch o) ≡ functions_of_forest (view_statements x.1) =
+    ap (λ o. functions_of_optional (view_catch o)) e in
+    let d : functions_of_forest (view_statements l) ≡ functions_of_forest (view_statements x.1) =
+    ap (λ l. functions_of_forest (view_statements l)) i in
     ap (map view_function) n ∙ m ∙ ap (λ r. map view_function mid ++ r) (d ∙ sym c)
 
 pub caught_absent : (o : Option (Ident × List Stmt)) (mid new : List Function) → o ≡ None → new ≡ mid →
-    map view_function new ≡ map view_function mid ++ functions_of_maybe (view_catch o)
+    map view_function new ≡ map view_function mid ++ functions_of_optional (view_catch o)
 caught_absent o mid new e n =
-    let c : functions_of_maybe (view_catch o) ≡ [] = ap (λ o. functions_of_maybe (view_catch o)) e in
+    let c : functions_of_optional (view_catch o) ≡ [] = ap (λ o. functions_of_optional (view_catch o)) e in
     ap (map view_function) n ∙ sym (ap (λ l. map view_function mid ++ l) c ∙ append-nil (map view_function mid))
 
 -- the statements of a `for` are not as deep as it

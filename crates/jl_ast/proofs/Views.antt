@@ -24,7 +24,7 @@ use Rattle.jl_ast.specs.declared.tree.ExprKind.{the_lemmas}
 use Rattle.jl_ast.specs.Tree as tree
 use Rattle.jl_ast.specs.Tree.{Text}
 use Rattle.jl_ast.specs.View.{view_ident, view_expression, view_expression_kind, view_statement_kind}
-use Rattle.jl_ast.specs.View.{view_expressions, view_maybe, view_items, view_target, view_entry, view_entries}
+use Rattle.jl_ast.specs.View.{view_expressions, view_optional, view_items, view_target, view_entry, view_entries}
 use Rattle.jl_ast.specs.View.{view_function, view_functions, view_body, view_statement, view_statements}
 use Rattle.jl_ast.specs.View.{view_branch, view_catch, view_init, view_declarators, view_case, view_cases}
 
@@ -161,7 +161,7 @@ pub statement_Block : (l : List Stmt) (s : Span) →
 statement_Block l s = search (rules, the_lemmas)
 
 pub statement_If : (c : Expr) (a : List Stmt) (b : Option (List Stmt)) (s : Span) →
-    view_statement_kind (statement.If c a b) s ≡ tree.when (view_expression c) (view_statements a)
+    view_statement_kind (statement.If c a b) s ≡ tree.if_else (view_expression c) (view_statements a)
     (view_branch b) s
 statement_If c a b s = search (rules, the_lemmas)
 
@@ -174,7 +174,7 @@ pub statement_While : (c : Expr) (l : List Stmt) (s : Span) →
 statement_While c l s = search (rules, the_lemmas)
 
 pub statement_For : (i : ForInit) (c u : Option Expr) (l : List Stmt) (s : Span) →
-    view_statement_kind (statement.For i c u l) s ≡ tree.for (view_init i) (view_maybe c) (view_maybe u)
+    view_statement_kind (statement.For i c u l) s ≡ tree.for (view_init i) (view_optional c) (view_optional u)
     (view_statements l) s
 statement_For i c u l s = search (rules, the_lemmas)
 
@@ -192,7 +192,7 @@ pub statement_Break : (x : Option Ident) (s : Span) →
 statement_Break x s = search (rules, the_lemmas)
 
 pub statement_Return : (e : Option Expr) (s : Span) →
-    view_statement_kind (statement.Return e) s ≡ tree.return (view_maybe e) s
+    view_statement_kind (statement.Return e) s ≡ tree.return (view_optional e) s
 statement_Return e s = search (rules, the_lemmas)
 
 pub statement_Labelled : (x : Ident) (t : Box Stmt Global) (s : Span) →
@@ -226,7 +226,7 @@ init_Expr e = search (rules, the_lemmas)
 pub init_Var : (l : List (Ident × Option Expr)) → view_init (init.Var l) ≡ tree.init_var (view_declarators l)
 init_Var l = search (rules, the_lemmas)
 
-pub case_is : (x : Case) → view_case x ≡ tree.case (view_maybe (out-Case x).test)
+pub case_is : (x : Case) → view_case x ≡ tree.case (view_optional (out-Case x).test)
     (view_statements (out-Case x).body)
 case_is x = search (rules, the_lemmas)
 

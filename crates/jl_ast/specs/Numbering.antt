@@ -1,10 +1,10 @@
 -- The numbers of functions: a function before those inside it, and the function declarations of a body before the
 -- functions of its statements; otherwise in the order of the text.
 use Rattle.std.specs.Prelude.{ℕ, ◌+◌}
-use Rattle.jl_ast.specs.Tree.{Program, Sort, Tree, Row, Maybe, this, name, number, string, boolean, null, array}
+use Rattle.jl_ast.specs.Tree.{Program, Sort, Tree, Forest, OptionalTree, this, name, number, string, boolean, null, array}
 use Rattle.jl_ast.specs.Tree.{object, function_expression, dot, index, call, new, unary, update, binary, and, or}
 use Rattle.jl_ast.specs.Tree.{conditional, assign, comma, to_name, to_dot, to_index, hole, filled, value, getter}
-use Rattle.jl_ast.specs.Tree.{setter, function, body, var, empty, expression, block, when, do_while, while, for}
+use Rattle.jl_ast.specs.Tree.{setter, function, body, var, empty, expression, block, if_else, do_while, while, for}
 use Rattle.jl_ast.specs.Tree.{for_in, continue, break, return, labelled, switch, throw, try, debugger, nothing}
 use Rattle.jl_ast.specs.Tree.{init_expression, init_var, declarator, case, branch_of, catch, end, more, absent}
 use Rattle.jl_ast.specs.Tree.{present}
@@ -18,13 +18,13 @@ abbrev mutual
   functions_in (string a s) = 0
   functions_in (boolean a s) = 0
   functions_in (null s) = 0
-  functions_in (array a s) = functions_in_row a
-  functions_in (object a s) = functions_in_row a
+  functions_in (array a s) = functions_in_forest a
+  functions_in (object a s) = functions_in_forest a
   functions_in (function_expression a s) = functions_in a
   functions_in (dot a b s) = functions_in a
   functions_in (index a b s) = functions_in a + functions_in b
-  functions_in (call a b s) = functions_in a + functions_in_row b
-  functions_in (new a b s) = functions_in a + functions_in_row b
+  functions_in (call a b s) = functions_in a + functions_in_forest b
+  functions_in (new a b s) = functions_in a + functions_in_forest b
   functions_in (unary a b s) = functions_in b
   functions_in (update up prefix a s) = functions_in a
   functions_in (binary a b c s) = functions_in b + functions_in c
@@ -42,39 +42,39 @@ abbrev mutual
   functions_in (getter a b) = functions_in b
   functions_in (setter a b) = functions_in b
   functions_in (function m a params b s) = functions_in b + 1
-  functions_in (body strict a b) = functions_in_row a + functions_in_row b
-  functions_in (var a s) = functions_in_row a
+  functions_in (body strict a b) = functions_in_forest a + functions_in_forest b
+  functions_in (var a s) = functions_in_forest a
   functions_in (empty s) = 0
   functions_in (expression a s) = functions_in a
-  functions_in (block a s) = functions_in_row a
-  functions_in (when a b c s) = functions_in a + functions_in_row b + functions_in_maybe c
-  functions_in (do_while a b s) = functions_in_row a + functions_in b
-  functions_in (while a b s) = functions_in a + functions_in_row b
-  functions_in (for a b c d s) = functions_in a + functions_in_maybe b + functions_in_maybe c + functions_in_row d
-  functions_in (for_in is_var a b c s) = functions_in b + functions_in_row c
+  functions_in (block a s) = functions_in_forest a
+  functions_in (if_else a b c s) = functions_in a + functions_in_forest b + functions_in_optional c
+  functions_in (do_while a b s) = functions_in_forest a + functions_in b
+  functions_in (while a b s) = functions_in a + functions_in_forest b
+  functions_in (for a b c d s) = functions_in a + functions_in_optional b + functions_in_optional c + functions_in_forest d
+  functions_in (for_in is_var a b c s) = functions_in b + functions_in_forest c
   functions_in (continue a s) = 0
   functions_in (break a s) = 0
-  functions_in (return a s) = functions_in_maybe a
+  functions_in (return a s) = functions_in_optional a
   functions_in (labelled a b s) = functions_in b
-  functions_in (switch a b s) = functions_in a + functions_in_row b
+  functions_in (switch a b s) = functions_in a + functions_in_forest b
   functions_in (throw a s) = functions_in a
-  functions_in (try a b c s) = functions_in_row a + functions_in_maybe b + functions_in_maybe c
+  functions_in (try a b c s) = functions_in_forest a + functions_in_optional b + functions_in_optional c
   functions_in (debugger s) = 0
   functions_in nothing = 0
   functions_in (init_expression a) = functions_in a
-  functions_in (init_var a) = functions_in_row a
-  functions_in (declarator a b) = functions_in_maybe b
-  functions_in (case a b) = functions_in_maybe a + functions_in_row b
-  functions_in (branch_of a) = functions_in_row a
-  functions_in (catch a b) = functions_in_row b
+  functions_in (init_var a) = functions_in_forest a
+  functions_in (declarator a b) = functions_in_optional b
+  functions_in (case a b) = functions_in_optional a + functions_in_forest b
+  functions_in (branch_of a) = functions_in_forest a
+  functions_in (catch a b) = functions_in_forest b
 
-  pub functions_in_row : {S : Type 0} {x : Sort} → Row S x → ℕ
-  functions_in_row end = 0
-  functions_in_row (more a b) = functions_in a + functions_in_row b
+  pub functions_in_forest : {S : Type 0} {x : Sort} → Forest S x → ℕ
+  functions_in_forest end = 0
+  functions_in_forest (more a b) = functions_in a + functions_in_forest b
 
-  pub functions_in_maybe : {S : Type 0} {x : Sort} → Maybe S x → ℕ
-  functions_in_maybe absent = 0
-  functions_in_maybe (present a) = functions_in a
+  pub functions_in_optional : {S : Type 0} {x : Sort} → OptionalTree S x → ℕ
+  functions_in_optional absent = 0
+  functions_in_optional (present a) = functions_in a
 
 abbrev mutual
   -- the same tree with its functions numbered from n on
@@ -85,13 +85,13 @@ abbrev mutual
   numbered_tree n (string a s) = string a s
   numbered_tree n (boolean a s) = boolean a s
   numbered_tree n (null s) = null s
-  numbered_tree n (array a s) = array (numbered_row n a) s
-  numbered_tree n (object a s) = object (numbered_row n a) s
+  numbered_tree n (array a s) = array (numbered_forest n a) s
+  numbered_tree n (object a s) = object (numbered_forest n a) s
   numbered_tree n (function_expression a s) = function_expression (numbered_tree n a) s
   numbered_tree n (dot a b s) = dot (numbered_tree n a) b s
   numbered_tree n (index a b s) = index (numbered_tree n a) (numbered_tree (n + functions_in a) b) s
-  numbered_tree n (call a b s) = call (numbered_tree n a) (numbered_row (n + functions_in a) b) s
-  numbered_tree n (new a b s) = new (numbered_tree n a) (numbered_row (n + functions_in a) b) s
+  numbered_tree n (call a b s) = call (numbered_tree n a) (numbered_forest (n + functions_in a) b) s
+  numbered_tree n (new a b s) = new (numbered_tree n a) (numbered_forest (n + functions_in a) b) s
   numbered_tree n (unary a b s) = unary a (numbered_tree n b) s
   numbered_tree n (update up prefix a s) = update up prefix (numbered_tree n a) s
   numbered_tree n (binary a b c s) = binary a (numbered_tree n b) (numbered_tree (n + functions_in b) c) s
@@ -110,44 +110,44 @@ abbrev mutual
   numbered_tree n (getter a b) = getter a (numbered_tree n b)
   numbered_tree n (setter a b) = setter a (numbered_tree n b)
   numbered_tree n (function m a params b s) = function n a params (numbered_tree (n + 1) b) s
-  numbered_tree n (body strict a b) = body strict (numbered_row n a) (numbered_row (n + functions_in_row a) b)
-  numbered_tree n (var a s) = var (numbered_row n a) s
+  numbered_tree n (body strict a b) = body strict (numbered_forest n a) (numbered_forest (n + functions_in_forest a) b)
+  numbered_tree n (var a s) = var (numbered_forest n a) s
   numbered_tree n (empty s) = empty s
   numbered_tree n (expression a s) = expression (numbered_tree n a) s
-  numbered_tree n (block a s) = block (numbered_row n a) s
-  numbered_tree n (when a b c s) = when (numbered_tree n a) (numbered_row (n + functions_in a) b)
-      (numbered_maybe (n + functions_in a + functions_in_row b) c) s
-  numbered_tree n (do_while a b s) = do_while (numbered_row n a) (numbered_tree (n + functions_in_row a) b) s
-  numbered_tree n (while a b s) = while (numbered_tree n a) (numbered_row (n + functions_in a) b) s
-  numbered_tree n (for a b c d s) = for (numbered_tree n a) (numbered_maybe (n + functions_in a) b)
-      (numbered_maybe (n + functions_in a + functions_in_maybe b) c)
-      (numbered_row (n + functions_in a + functions_in_maybe b + functions_in_maybe c) d) s
+  numbered_tree n (block a s) = block (numbered_forest n a) s
+  numbered_tree n (if_else a b c s) = if_else (numbered_tree n a) (numbered_forest (n + functions_in a) b)
+      (numbered_optional (n + functions_in a + functions_in_forest b) c) s
+  numbered_tree n (do_while a b s) = do_while (numbered_forest n a) (numbered_tree (n + functions_in_forest a) b) s
+  numbered_tree n (while a b s) = while (numbered_tree n a) (numbered_forest (n + functions_in a) b) s
+  numbered_tree n (for a b c d s) = for (numbered_tree n a) (numbered_optional (n + functions_in a) b)
+      (numbered_optional (n + functions_in a + functions_in_optional b) c)
+      (numbered_forest (n + functions_in a + functions_in_optional b + functions_in_optional c) d) s
   numbered_tree n (for_in is_var a b c s) =
-      for_in is_var a (numbered_tree n b) (numbered_row (n + functions_in b) c) s
+      for_in is_var a (numbered_tree n b) (numbered_forest (n + functions_in b) c) s
   numbered_tree n (continue a s) = continue a s
   numbered_tree n (break a s) = break a s
-  numbered_tree n (return a s) = return (numbered_maybe n a) s
+  numbered_tree n (return a s) = return (numbered_optional n a) s
   numbered_tree n (labelled a b s) = labelled a (numbered_tree n b) s
-  numbered_tree n (switch a b s) = switch (numbered_tree n a) (numbered_row (n + functions_in a) b) s
+  numbered_tree n (switch a b s) = switch (numbered_tree n a) (numbered_forest (n + functions_in a) b) s
   numbered_tree n (throw a s) = throw (numbered_tree n a) s
-  numbered_tree n (try a b c s) = try (numbered_row n a) (numbered_maybe (n + functions_in_row a) b)
-      (numbered_maybe (n + functions_in_row a + functions_in_maybe b) c) s
+  numbered_tree n (try a b c s) = try (numbered_forest n a) (numbered_optional (n + functions_in_forest a) b)
+      (numbered_optional (n + functions_in_forest a + functions_in_optional b) c) s
   numbered_tree n (debugger s) = debugger s
   numbered_tree n nothing = nothing
   numbered_tree n (init_expression a) = init_expression (numbered_tree n a)
-  numbered_tree n (init_var a) = init_var (numbered_row n a)
-  numbered_tree n (declarator a b) = declarator a (numbered_maybe n b)
-  numbered_tree n (case a b) = case (numbered_maybe n a) (numbered_row (n + functions_in_maybe a) b)
-  numbered_tree n (branch_of a) = branch_of (numbered_row n a)
-  numbered_tree n (catch a b) = catch a (numbered_row n b)
+  numbered_tree n (init_var a) = init_var (numbered_forest n a)
+  numbered_tree n (declarator a b) = declarator a (numbered_optional n b)
+  numbered_tree n (case a b) = case (numbered_optional n a) (numbered_forest (n + functions_in_optional a) b)
+  numbered_tree n (branch_of a) = branch_of (numbered_forest n a)
+  numbered_tree n (catch a b) = catch a (numbered_forest n b)
 
-  pub numbered_row : {S : Type 0} {x : Sort} → ℕ → Row S x → Row S x
-  numbered_row n end = end
-  numbered_row n (more a b) = more (numbered_tree n a) (numbered_row (n + functions_in a) b)
+  pub numbered_forest : {S : Type 0} {x : Sort} → ℕ → Forest S x → Forest S x
+  numbered_forest n end = end
+  numbered_forest n (more a b) = more (numbered_tree n a) (numbered_forest (n + functions_in a) b)
 
-  pub numbered_maybe : {S : Type 0} {x : Sort} → ℕ → Maybe S x → Maybe S x
-  numbered_maybe n absent = absent
-  numbered_maybe n (present a) = present (numbered_tree n a)
+  pub numbered_optional : {S : Type 0} {x : Sort} → ℕ → OptionalTree S x → OptionalTree S x
+  numbered_optional n absent = absent
+  numbered_optional n (present a) = present (numbered_tree n a)
 
 -- the same program with its functions numbered from 0 on
 abbrev pub numbered : {S : Type 0} → Program S → Program S

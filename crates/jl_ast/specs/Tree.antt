@@ -48,14 +48,14 @@ mutual
     string : Text → S → Tree S expr
     boolean : Bool → S → Tree S expr
     null : S → Tree S expr
-    array : Row S item → S → Tree S expr
-    object : Row S entry → S → Tree S expr
+    array : Forest S item → S → Tree S expr
+    object : Forest S entry → S → Tree S expr
     function_expression : Tree S func → S → Tree S expr
     -- members, calls and `new` (11.2)
     dot : Tree S expr → Text → S → Tree S expr
     index : Tree S expr → Tree S expr → S → Tree S expr
-    call : Tree S expr → Row S expr → S → Tree S expr
-    new : Tree S expr → Row S expr → S → Tree S expr
+    call : Tree S expr → Forest S expr → S → Tree S expr
+    new : Tree S expr → Forest S expr → S → Tree S expr
     -- operators with one operand, and `++` and `--` before or after it (11.3, 11.4)
     unary : UnOp → Tree S expr → S → Tree S expr
     update : (up prefix : Bool) → Tree S target → S → Tree S expr
@@ -80,49 +80,49 @@ mutual
     -- functions (clause 13), and what a function or a program holds: whether a directive makes it strict (14.1), its
     -- function declarations in the order of the text, and its statements
     function : (number : ℕ) → Option (Ident S) → (params : List (Ident S)) → Tree S code → S → Tree S func
-    body : (strict : Bool) → Row S func → Row S stmt → Tree S code
-    -- statements (clause 12); a statement under another is a row: that of a block, or the one statement
-    var : Row S decl → S → Tree S stmt
+    body : (strict : Bool) → Forest S func → Forest S stmt → Tree S code
+    -- statements (clause 12); a statement under another is a forest: that of a block, or the one statement
+    var : Forest S decl → S → Tree S stmt
     empty : S → Tree S stmt
     expression : Tree S expr → S → Tree S stmt
-    block : Row S stmt → S → Tree S stmt
-    when : Tree S expr → Row S stmt → Maybe S branch → S → Tree S stmt
-    do_while : Row S stmt → Tree S expr → S → Tree S stmt
-    while : Tree S expr → Row S stmt → S → Tree S stmt
-    for : Tree S init → Maybe S expr → Maybe S expr → Row S stmt → S → Tree S stmt
-    for_in : (is_var : Bool) → Ident S → Tree S expr → Row S stmt → S → Tree S stmt
+    block : Forest S stmt → S → Tree S stmt
+    if_else : Tree S expr → Forest S stmt → OptionalTree S branch → S → Tree S stmt
+    do_while : Forest S stmt → Tree S expr → S → Tree S stmt
+    while : Tree S expr → Forest S stmt → S → Tree S stmt
+    for : Tree S init → OptionalTree S expr → OptionalTree S expr → Forest S stmt → S → Tree S stmt
+    for_in : (is_var : Bool) → Ident S → Tree S expr → Forest S stmt → S → Tree S stmt
     continue : Option (Ident S) → S → Tree S stmt
     break : Option (Ident S) → S → Tree S stmt
-    return : Maybe S expr → S → Tree S stmt
+    return : OptionalTree S expr → S → Tree S stmt
     labelled : Ident S → Tree S stmt → S → Tree S stmt
-    switch : Tree S expr → Row S clause → S → Tree S stmt
+    switch : Tree S expr → Forest S clause → S → Tree S stmt
     throw : Tree S expr → S → Tree S stmt
-    try : Row S stmt → Maybe S handler → Maybe S branch → S → Tree S stmt
+    try : Forest S stmt → OptionalTree S handler → OptionalTree S branch → S → Tree S stmt
     debugger : S → Tree S stmt
     -- the parts of statements
     nothing : Tree S init
     init_expression : Tree S expr → Tree S init
-    init_var : Row S decl → Tree S init
-    declarator : Ident S → Maybe S expr → Tree S decl
-    case : Maybe S expr → Row S stmt → Tree S clause
-    branch_of : Row S stmt → Tree S branch
-    catch : Ident S → Row S stmt → Tree S handler
+    init_var : Forest S decl → Tree S init
+    declarator : Ident S → OptionalTree S expr → Tree S decl
+    case : OptionalTree S expr → Forest S stmt → Tree S clause
+    branch_of : Forest S stmt → Tree S branch
+    catch : Ident S → Forest S stmt → Tree S handler
 
   -- several of one sort
-  pub data Row (S : Type 0) : Sort → Type 0 where
-    end : {x : Sort} → Row S x
-    more : {x : Sort} → Tree S x → Row S x → Row S x
+  pub data Forest (S : Type 0) : Sort → Type 0 where
+    end : {x : Sort} → Forest S x
+    more : {x : Sort} → Tree S x → Forest S x → Forest S x
 
   -- one or none
-  pub data Maybe (S : Type 0) : Sort → Type 0 where
-    absent : {x : Sort} → Maybe S x
-    present : {x : Sort} → Tree S x → Maybe S x
+  pub data OptionalTree (S : Type 0) : Sort → Type 0 where
+    absent : {x : Sort} → OptionalTree S x
+    present : {x : Sort} → Tree S x → OptionalTree S x
 
 pub record Program (S : Type 0) : Type 0 where
   pub body : Tree S code
   pub at : S
 
--- a list as a row
-abbrev pub row : {S : Type 0} {x : Sort} → List (Tree S x) → Row S x
-row [] = end
-row (t ∷ l) = more t (row l)
+-- a list as a forest
+abbrev pub forest : {S : Type 0} {x : Sort} → List (Tree S x) → Forest S x
+forest [] = end
+forest (t ∷ l) = more t (forest l)

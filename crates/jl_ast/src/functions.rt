@@ -1,7 +1,7 @@
 ghost use Rattle.std.specs.Prelude.{◌≡◌, [], ◌∷◌, ◌++◌, map, IfOk, OnOk};
 ghost use Rattle.jl_ast.specs.Found.{Adds};
-ghost use Rattle.jl_ast.specs.Table.{table, functions_of, functions_of_row, functions_of_maybe};
-ghost use Rattle.jl_ast.specs.View.{view, view_expression, view_expressions, view_maybe, view_items};
+ghost use Rattle.jl_ast.specs.Table.{table, functions_of, functions_of_forest, functions_of_optional};
+ghost use Rattle.jl_ast.specs.View.{view, view_expression, view_expressions, view_optional, view_items};
 ghost use Rattle.jl_ast.specs.View.{view_target, view_entry, view_entries, view_function, view_functions};
 ghost use Rattle.jl_ast.specs.View.{view_body, view_statement, view_statements, view_init, view_declarators};
 ghost use Rattle.jl_ast.specs.View.{view_cases};
@@ -39,7 +39,7 @@ impl<'a> Model for Found<'a> {
 
     ghost Value = { List Function };
 
-    ghost coded = { Prim.hlevel (codes, function.the_row.coded) };
+    ghost coded = { Prim.hlevel (codes, function.the_forest.coded) };
 
     ghost view = { λ it. map (λ f. f.now) it.functions.items };
 }
@@ -79,7 +79,7 @@ fn add_body<'a>(b: &'a Body, found: &mut Found<'a>) -> Result<(), NoMemory>
 
 #[cycle(functions)]
 fn add_functions<'a>(functions: &'a [Function], found: &mut Found<'a>) -> Result<(), NoMemory>
-    ensures { OnOk result (Adds (functions_of_row (view_functions functions.now)) found.old found.new) }
+    ensures { OnOk result (Adds (functions_of_forest (view_functions functions.now)) found.old found.new) }
 {
     for f in functions {
         add_function(f, found)?;
@@ -89,7 +89,7 @@ fn add_functions<'a>(functions: &'a [Function], found: &mut Found<'a>) -> Result
 
 #[cycle(functions)]
 fn add_statements<'a>(statements: &'a [Stmt], found: &mut Found<'a>) -> Result<(), NoMemory>
-    ensures { OnOk result (Adds (functions_of_row (view_statements statements.now)) found.old found.new) }
+    ensures { OnOk result (Adds (functions_of_forest (view_statements statements.now)) found.old found.new) }
 {
     for s in statements {
         add_statement(s, found)?;
@@ -172,7 +172,7 @@ fn add_declarators<'a>(
     declarators: &'a [(Ident, Option<Expr>)],
     found: &mut Found<'a>,
 ) -> Result<(), NoMemory>
-    ensures { OnOk result (Adds (functions_of_row (view_declarators declarators.now)) found.old found.new) }
+    ensures { OnOk result (Adds (functions_of_forest (view_declarators declarators.now)) found.old found.new) }
 {
     for d in declarators {
         if let Some(e) = &d.1 {
@@ -184,7 +184,7 @@ fn add_declarators<'a>(
 
 #[cycle(functions)]
 fn add_cases<'a>(cases: &'a [Case], found: &mut Found<'a>) -> Result<(), NoMemory>
-    ensures { OnOk result (Adds (functions_of_row (view_cases cases.now)) found.old found.new) }
+    ensures { OnOk result (Adds (functions_of_forest (view_cases cases.now)) found.old found.new) }
 {
     for c in cases {
         add_held(&c.test, found)?;
@@ -195,7 +195,7 @@ fn add_cases<'a>(cases: &'a [Case], found: &mut Found<'a>) -> Result<(), NoMemor
 
 #[cycle(functions)]
 fn add_held<'a>(e: &'a Option<Expr>, found: &mut Found<'a>) -> Result<(), NoMemory>
-    ensures { OnOk result (Adds (functions_of_maybe (view_maybe e.now)) found.old found.new) }
+    ensures { OnOk result (Adds (functions_of_optional (view_optional e.now)) found.old found.new) }
 {
     match e {
         Some(e) => add_expression(e, found),
@@ -256,7 +256,7 @@ fn add_target<'a>(t: &'a Target, found: &mut Found<'a>) -> Result<(), NoMemory>
 
 #[cycle(functions)]
 fn add_items<'a>(items: &'a [Option<Expr>], found: &mut Found<'a>) -> Result<(), NoMemory>
-    ensures { OnOk result (Adds (functions_of_row (view_items items.now)) found.old found.new) }
+    ensures { OnOk result (Adds (functions_of_forest (view_items items.now)) found.old found.new) }
 {
     for e in items {
         if let Some(e) = e {
@@ -268,7 +268,7 @@ fn add_items<'a>(items: &'a [Option<Expr>], found: &mut Found<'a>) -> Result<(),
 
 #[cycle(functions)]
 fn add_entries<'a>(entries: &'a [Entry], found: &mut Found<'a>) -> Result<(), NoMemory>
-    ensures { OnOk result (Adds (functions_of_row (view_entries entries.now)) found.old found.new) }
+    ensures { OnOk result (Adds (functions_of_forest (view_entries entries.now)) found.old found.new) }
 {
     for entry in entries {
         add_entry(entry, found)?;
@@ -288,7 +288,7 @@ fn add_entry<'a>(entry: &'a Entry, found: &mut Found<'a>) -> Result<(), NoMemory
 
 #[cycle(functions)]
 fn add_expressions<'a>(expressions: &'a [Expr], found: &mut Found<'a>) -> Result<(), NoMemory>
-    ensures { OnOk result (Adds (functions_of_row (view_expressions expressions.now)) found.old found.new) }
+    ensures { OnOk result (Adds (functions_of_forest (view_expressions expressions.now)) found.old found.new) }
 {
     for e in expressions {
         add_expression(e, found)?;

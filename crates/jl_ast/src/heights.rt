@@ -1,9 +1,9 @@
 #![tactic(auto, using(crate::proofs::Views::nodes))]
 
 ghost use Rattle.std.specs.Prelude.{◌≡◌, ◌+◌};
-ghost use Rattle.jl_ast.specs.Height.{height, row_height, maybe_height, program_height};
+ghost use Rattle.jl_ast.specs.Height.{height, forest_height, optional_height, program_height};
 ghost use Rattle.jl_ast.specs.Saturated.{saturated};
-ghost use Rattle.jl_ast.specs.View.{view, view_expression, view_expressions, view_maybe, view_items};
+ghost use Rattle.jl_ast.specs.View.{view, view_expression, view_expressions, view_optional, view_items};
 ghost use Rattle.jl_ast.specs.View.{view_target, view_entries, view_functions, view_body, view_statement};
 ghost use Rattle.jl_ast.specs.View.{view_statements, view_init, view_declarators, view_cases};
 
@@ -36,7 +36,7 @@ fn body_height(b: &Body) -> u32
 
 #[cycle(height)]
 fn functions_height(functions: &[Function]) -> u32
-    ensures { result ≡ saturated (row_height (view_functions functions.now)) }
+    ensures { result ≡ saturated (forest_height (view_functions functions.now)) }
 {
     let mut most = 0;
     for f in functions {
@@ -47,7 +47,7 @@ fn functions_height(functions: &[Function]) -> u32
 
 #[cycle(height)]
 fn statements_height(statements: &[Stmt]) -> u32
-    ensures { result ≡ saturated (row_height (view_statements statements.now)) }
+    ensures { result ≡ saturated (forest_height (view_statements statements.now)) }
 {
     let mut most = 0;
     for s in statements {
@@ -117,7 +117,7 @@ fn init_height(init: &ForInit) -> u32
 
 #[cycle(height)]
 fn declarators_height(declarators: &[(Ident, Option<Expr>)]) -> u32
-    ensures { result ≡ saturated (row_height (view_declarators declarators.now)) }
+    ensures { result ≡ saturated (forest_height (view_declarators declarators.now)) }
 {
     let mut most = 0;
     for d in declarators {
@@ -130,7 +130,7 @@ fn declarators_height(declarators: &[(Ident, Option<Expr>)]) -> u32
 
 #[cycle(height)]
 fn cases_height(cases: &[Case]) -> u32
-    ensures { result ≡ saturated (row_height (view_cases cases.now)) }
+    ensures { result ≡ saturated (forest_height (view_cases cases.now)) }
 {
     let mut most = 0;
     for c in cases {
@@ -141,7 +141,7 @@ fn cases_height(cases: &[Case]) -> u32
 
 #[cycle(height)]
 fn held_height(e: &Option<Expr>) -> u32
-    ensures { result ≡ saturated (maybe_height (view_maybe e.now)) }
+    ensures { result ≡ saturated (optional_height (view_optional e.now)) }
 {
     match e {
         Some(e) => expression_height(e),
@@ -194,7 +194,7 @@ fn target_height(t: &Target) -> u32
 
 #[cycle(height)]
 fn items_height(items: &[Option<Expr>]) -> u32
-    ensures { result ≡ saturated (row_height (view_items items.now)) }
+    ensures { result ≡ saturated (forest_height (view_items items.now)) }
 {
     let mut most = 0;
     for e in items {
@@ -207,7 +207,7 @@ fn items_height(items: &[Option<Expr>]) -> u32
 
 #[cycle(height)]
 fn entries_height(entries: &[Entry]) -> u32
-    ensures { result ≡ saturated (row_height (view_entries entries.now)) }
+    ensures { result ≡ saturated (forest_height (view_entries entries.now)) }
 {
     let mut most = 0;
     for entry in entries {
@@ -223,7 +223,7 @@ fn entries_height(entries: &[Entry]) -> u32
 
 #[cycle(height)]
 fn expressions_height(expressions: &[Expr]) -> u32
-    ensures { result ≡ saturated (row_height (view_expressions expressions.now)) }
+    ensures { result ≡ saturated (forest_height (view_expressions expressions.now)) }
 {
     let mut most = 0;
     for e in expressions {

@@ -1,10 +1,10 @@
 -- What is read closes the brackets that it opens, and up to a closing bracket one more.
 use Rattle.std.proofs.Common.{◌≡◌, ℕ, ◌-◌, Bool, List, refl, arith}
-use Rattle.jl_ast.specs.Tree.{Ident, Tree, Row, Maybe}
+use Rattle.jl_ast.specs.Tree.{Ident, Tree, Forest, OptionalTree}
 use Rattle.jl_ast.specs.Tree as tree
 use Rattle.jl_text.specs.declared.span.Span.{Span}
 use Rattle.jl_token.specs.declared.token.Token.{Token}
-use Rattle.jl_grammar.specs.declared.sign.Sign.{Sign}
+use Rattle.jl_grammar.specs.declared.terminal.Terminal.{Terminal}
 use Rattle.jl_grammar.specs.Reads.{Expr, Stmt, Exprs, Stmts, Code, EndsAt, there, inserted, ReadsNames, last_name}
 use Rattle.jl_grammar.specs.Reads.{more_names, ReadsParameters, no_parameters, parameters, ReadsPrimary, a_this}
 use Rattle.jl_grammar.specs.Reads.{a_name, a_null, a_true, a_false, a_number, a_string, an_array, an_object}
@@ -14,7 +14,7 @@ use Rattle.jl_grammar.specs.Reads.{a_value, a_getter, a_setter, ReadsRest, a_res
 use Rattle.jl_grammar.specs.Reads.{an_index, a_call, a_new, a_bare_new, ReadsLeft, whole_left, ReadsArguments}
 use Rattle.jl_grammar.specs.Reads.{no_arguments, arguments, ReadsArgumentList, last_argument, more_arguments}
 use Rattle.jl_grammar.specs.Reads.{ReadsPostfix, left, a_postfix, ReadsUnary, postfix, a_prefix, an_update}
-use Rattle.jl_grammar.specs.Reads.{BeginsBinary, operand, tighter, a_joint, ReadsBinary, whole_binary}
+use Rattle.jl_grammar.specs.Reads.{BeginsBinary, operand, tighter, an_infix_operator, ReadsBinary, whole_binary}
 use Rattle.jl_grammar.specs.Reads.{ReadsConditional, operands, a_conditional, ReadsAssignment, conditional}
 use Rattle.jl_grammar.specs.Reads.{an_assignment, BeginsExpression, assignment, a_comma, ReadsExpression}
 use Rattle.jl_grammar.specs.Reads.{whole_expression, ReadsStatement, a_block, a_var, an_empty, an_expression}
@@ -24,12 +24,12 @@ use Rattle.jl_grammar.specs.Reads.{a_label, a_throw, a_try_catch, a_try_finally,
 use Rattle.jl_grammar.specs.Reads.{in_braces, ReadsStatements, no_statements, more_statements, ReadsSub, several}
 use Rattle.jl_grammar.specs.Reads.{alone, ReadsHead, a_head, ReadsDeclaration, declared, initialised}
 use Rattle.jl_grammar.specs.Reads.{ReadsDeclarations, last_declaration, more_declarations, ReadsInit, no_init}
-use Rattle.jl_grammar.specs.Reads.{an_init, init_vars, ReadsMaybe, no_expression, one_expression, ReadsClauses}
+use Rattle.jl_grammar.specs.Reads.{an_init, init_vars, ReadsOptional, no_expression, one_expression, ReadsClauses}
 use Rattle.jl_grammar.specs.Reads.{no_clauses, a_case, a_default, ReadsCatch, a_catch, ReadsElements, no_elements}
 use Rattle.jl_grammar.specs.Reads.{a_declaration, a_statement, ReadsFunction, a_declared_function, ReadsBody}
 use Rattle.jl_grammar.specs.Reads.{a_directive, no_directive}
 use Rattle.jl_grammar.specs.Brackets.{opened}
-use Rattle.jl_grammar.proofs.Opened.{after, after_identifier, after_name, after_key, after_joint, after_assign}
+use Rattle.jl_grammar.proofs.Opened.{after, after_identifier, after_name, after_key, after_infix_operator, after_assign}
 use Rattle.jl_grammar.proofs.Opened.{after_prefix, after_update}
 
 pub ends_at_closes : {ts : List Token} {i j : ℕ} → EndsAt ts i j → opened ts j ≡ opened ts i
@@ -65,7 +65,7 @@ mutual
   primary_closes (a_named_function a b c) = let ra = after a in let rb = after_identifier b in
       let rc = rest_closes c in omega arith
 
-  pub items_closes : {ts : List Token} {i : ℕ} {t : Row Span tree.item} {j : ℕ} → ReadsItems ts i t j
+  pub items_closes : {ts : List Token} {i : ℕ} {t : Forest Span tree.item} {j : ℕ} → ReadsItems ts i t j
       → opened ts j ≡ opened ts i - 1
   items_closes (no_items a) = let ra = after a in omega arith
   items_closes (a_hole a b) = let ra = after a in let rb = items_closes b in omega arith
@@ -73,7 +73,7 @@ mutual
   items_closes (more_items a b c) = let ra = assignment_closes a in let rb = after b in let rc = items_closes c in
       omega arith
 
-  pub entries_closes : {ts : List Token} {i : ℕ} {t : Row Span tree.entry} {j : ℕ} → ReadsEntries ts i t j
+  pub entries_closes : {ts : List Token} {i : ℕ} {t : Forest Span tree.entry} {j : ℕ} → ReadsEntries ts i t j
       → opened ts j ≡ opened ts i - 1
   entries_closes (no_entries a) = let ra = after a in omega arith
   entries_closes (last_entry a b) = let ra = entry_closes a in let rb = after b in omega arith
@@ -134,7 +134,7 @@ mutual
       → BeginsBinary ts no_in l i t j → opened ts j ≡ opened ts i
   begins_binary_closes (operand a) = let ra = unary_closes a in omega arith
   begins_binary_closes (tighter a) = let ra = binary_closes a in omega arith
-  begins_binary_closes (a_joint a b c d) = let ra = begins_binary_closes a in let rb = after_joint b in
+  begins_binary_closes (an_infix_operator a b c d) = let ra = begins_binary_closes a in let rb = after_infix_operator b in
       let rd = binary_closes d in omega arith
 
   pub binary_closes : {ts : List Token} {no_in : Bool} {l i : ℕ} {t : Expr} {j : ℕ} → ReadsBinary ts no_in l i t j
@@ -179,7 +179,7 @@ mutual
   statement_closes (a_while a b c) = let ra = after a in let rb = head_closes b in let rc = sub_closes c in
       omega arith
   statement_closes (a_for a b c d e f g h m) = let ra = after a in let rb = after b in let rc = init_closes c in
-      let rd = after d in let re = maybe_closes e in let rf = after f in let rg = maybe_closes g in
+      let rd = after d in let re = optional_closes e in let rf = after f in let rg = optional_closes g in
       let rh = after h in let rm = sub_closes m in omega arith
   statement_closes (a_for_in a b c d e f g) = let ra = after a in let rb = after b in let rc = left_closes c in
       let rd = after d in let re = expression_closes e in let rf = after f in let rg = sub_closes g in omega arith
@@ -230,7 +230,7 @@ mutual
   declaration_closes (initialised a b c) = let ra = after_identifier a in let rb = after b in
       let rc = assignment_closes c in omega arith
 
-  pub declarations_closes : {ts : List Token} {no_in : Bool} {i : ℕ} {t : Row Span tree.decl} {j : ℕ}
+  pub declarations_closes : {ts : List Token} {no_in : Bool} {i : ℕ} {t : Forest Span tree.decl} {j : ℕ}
       → ReadsDeclarations ts no_in i t j → opened ts j ≡ opened ts i
   declarations_closes (last_declaration a b) = let ra = declaration_closes a in omega arith
   declarations_closes (more_declarations a b c) = let ra = declaration_closes a in let rb = after b in
@@ -242,12 +242,12 @@ mutual
   init_closes (an_init a) = let ra = expression_closes a in omega arith
   init_closes (init_vars a b) = let ra = after a in let rb = declarations_closes b in omega arith
 
-  pub maybe_closes : {ts : List Token} {k : Sign} {i : ℕ} {t : Maybe Span tree.expr} {j : ℕ} → ReadsMaybe ts k i t j
+  pub optional_closes : {ts : List Token} {k : Terminal} {i : ℕ} {t : OptionalTree Span tree.expr} {j : ℕ} → ReadsOptional ts k i t j
       → opened ts j ≡ opened ts i
-  maybe_closes (no_expression a) = refl
-  maybe_closes (one_expression a) = let ra = expression_closes a in omega arith
+  optional_closes (no_expression a) = refl
+  optional_closes (one_expression a) = let ra = expression_closes a in omega arith
 
-  pub clauses_closes : {ts : List Token} {fresh : Bool} {i : ℕ} {t : Row Span tree.clause} {j : ℕ}
+  pub clauses_closes : {ts : List Token} {fresh : Bool} {i : ℕ} {t : Forest Span tree.clause} {j : ℕ}
       → ReadsClauses ts fresh i t j → opened ts j ≡ opened ts i
   clauses_closes (no_clauses a) = let ra = after a in omega arith
   clauses_closes (a_case a b c d e) = let ra = after a in let rb = expression_closes b in let rc = after c in
@@ -260,7 +260,7 @@ mutual
   catch_closes (a_catch a b c d e) = let ra = after a in let rb = after b in let rc = after_identifier c in
       let rd = after d in let re = block_closes e in omega arith
 
-  pub elements_closes : {ts : List Token} {i : ℕ} {fs : Row Span tree.func} {ws : Stmts} {j : ℕ}
+  pub elements_closes : {ts : List Token} {i : ℕ} {fs : Forest Span tree.func} {ws : Stmts} {j : ℕ}
       → ReadsElements ts i fs ws j → opened ts j ≡ opened ts i
   elements_closes (no_elements a) = refl
   elements_closes (a_declaration a b) = let ra = function_closes a in let rb = elements_closes b in omega arith

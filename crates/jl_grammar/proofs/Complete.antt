@@ -1,15 +1,15 @@
 -- What is in the grammar is what the reader reads, where it has levels enough.
 use Rattle.std.proofs.Common.{◌≡◌, ℕ, zero, suc, pred, ◌+◌, ◌≤◌, max, Bool, true, false, not, ◌&&◌, ap, refl, ◌∙◌}
 use Rattle.std.proofs.Common.{sym, List, length, Some, None, arith}
-use Rattle.jl_ast.specs.Height.{height, row_height, maybe_height}
+use Rattle.jl_ast.specs.Height.{height, forest_height, optional_height}
 use Rattle.jl_token.specs.declared.punct.Punct.TheVariants as puncts
-use Rattle.jl_grammar.specs.declared.sign.Sign.TheVariants as signs
+use Rattle.jl_grammar.specs.declared.terminal.Terminal.TheVariants as terminals
 use Rattle.jl_grammar.specs.declared.word.Word.TheVariants as words
-use Rattle.jl_ast.specs.Tree.{Ident, Tree, Row, Maybe}
+use Rattle.jl_ast.specs.Tree.{Ident, Tree, Forest, OptionalTree}
 use Rattle.jl_ast.specs.Tree as tree
 use Rattle.jl_text.specs.declared.span.Span.{Span}
 use Rattle.jl_token.specs.declared.token.Token.{Token}
-use Rattle.jl_grammar.specs.declared.sign.Sign.{Sign}
+use Rattle.jl_grammar.specs.declared.terminal.Terminal.{Terminal}
 use Rattle.jl_grammar.specs.Reads.{Expr, Stmt, Exprs, Stmts, Code, EndsAt, there, inserted, ReadsNames, last_name}
 use Rattle.jl_grammar.specs.Reads.{more_names, ReadsParameters, no_parameters, parameters, ReadsPrimary, a_this}
 use Rattle.jl_grammar.specs.Reads.{a_name, a_null, a_true, a_false, a_number, a_string, an_array, an_object}
@@ -19,7 +19,7 @@ use Rattle.jl_grammar.specs.Reads.{a_value, a_getter, a_setter, ReadsRest, a_res
 use Rattle.jl_grammar.specs.Reads.{an_index, a_call, a_new, a_bare_new, ReadsLeft, whole_left, ReadsArguments}
 use Rattle.jl_grammar.specs.Reads.{no_arguments, arguments, ReadsArgumentList, last_argument, more_arguments}
 use Rattle.jl_grammar.specs.Reads.{ReadsPostfix, left, a_postfix, ReadsUnary, postfix, a_prefix, an_update}
-use Rattle.jl_grammar.specs.Reads.{BeginsBinary, operand, tighter, a_joint, ReadsBinary, whole_binary}
+use Rattle.jl_grammar.specs.Reads.{BeginsBinary, operand, tighter, an_infix_operator, ReadsBinary, whole_binary}
 use Rattle.jl_grammar.specs.Reads.{ReadsConditional, operands, a_conditional, ReadsAssignment, conditional}
 use Rattle.jl_grammar.specs.Reads.{an_assignment, BeginsExpression, assignment, a_comma, ReadsExpression}
 use Rattle.jl_grammar.specs.Reads.{whole_expression, ReadsStatement, a_block, a_var, an_empty, an_expression}
@@ -29,31 +29,31 @@ use Rattle.jl_grammar.specs.Reads.{a_label, a_throw, a_try_catch, a_try_finally,
 use Rattle.jl_grammar.specs.Reads.{in_braces, ReadsStatements, no_statements, more_statements, ReadsSub, several}
 use Rattle.jl_grammar.specs.Reads.{alone, ReadsHead, a_head, ReadsDeclaration, declared, initialised}
 use Rattle.jl_grammar.specs.Reads.{ReadsDeclarations, last_declaration, more_declarations, no_init, an_init}
-use Rattle.jl_grammar.specs.Reads.{init_vars, ReadsMaybe, no_expression, one_expression, ReadsClauses, no_clauses}
+use Rattle.jl_grammar.specs.Reads.{init_vars, ReadsOptional, no_expression, one_expression, ReadsClauses, no_clauses}
 use Rattle.jl_grammar.specs.Reads.{a_case, a_default, ReadsCatch, a_catch, ReadsElements, no_elements}
 use Rattle.jl_grammar.specs.Reads.{a_declaration, a_statement, a_declared_function, ReadsBody, a_directive}
 use Rattle.jl_grammar.specs.Reads.{no_directive}
 use Rattle.jl_grammar.specs.Brackets.{opened}
 use Rattle.jl_grammar.specs.Next.{is_identifier, is_open_brace, is_semicolon, is_colon, is_label, bars_expression}
-use Rattle.jl_grammar.specs.Operators.{joined, looseness}
+use Rattle.jl_grammar.specs.Operators.{infix_node, infix_precedence}
 use Rattle.jl_grammar.specs.Reader.{Read, Deeper, deeper, names_from, parameters_at, statements_from, block_at}
 use Rattle.jl_grammar.specs.Reader.{elements_from, body_from, rest_at, items_from, entry_at, entries_from}
 use Rattle.jl_grammar.specs.Reader.{primary_at, arguments_from, arguments_at, left_from, left_at, postfix_at}
 use Rattle.jl_grammar.specs.Reader.{unary_at, binary_from, binary_at, conditional_at, assignment_at, comma_from}
 use Rattle.jl_grammar.specs.Reader.{expression_at, head_at, sub_at, declaration_at, declarations_from, express_at}
-use Rattle.jl_grammar.specs.Reader.{maybe_at, clauses_from, catch_at, statement_by, statement_at, is_close_paren}
+use Rattle.jl_grammar.specs.Reader.{optional_at, clauses_from, catch_at, statement_by, statement_at, is_close_paren}
 use Rattle.jl_grammar.specs.Reader.{is_in}
-use Rattle.jl_grammar.specs.Tokens.{sign_at, line_at, text_at, span, ident_at}
+use Rattle.jl_grammar.specs.Tokens.{terminal_at, line_at, text_at, span, ident_at}
 use Rattle.jl_grammar.proofs.Balanced.{parameters_closes, entry_closes, rest_closes, begins_left_closes, ends_at_closes}
 use Rattle.jl_grammar.proofs.Balanced.{left_closes, begins_binary_closes, binary_closes, assignment_closes}
 use Rattle.jl_grammar.proofs.Balanced.{begins_expression_closes, expression_closes, statement_closes, block_closes}
 use Rattle.jl_grammar.proofs.Balanced.{statements_closes, sub_closes, head_closes, declaration_closes}
-use Rattle.jl_grammar.proofs.Balanced.{declarations_closes, maybe_closes, catch_closes}
+use Rattle.jl_grammar.proofs.Balanced.{declarations_closes, optional_closes, catch_closes}
 use Rattle.jl_grammar.proofs.Expressions as expressions
 use Rattle.jl_grammar.proofs.Levels.{height_pos, statement_pos, joined_height, target_height, left_conditional}
 use Rattle.jl_grammar.proofs.Levels.{left_expression, deeper_expression, deeper_assignment, deeper_unary}
 use Rattle.jl_grammar.proofs.Levels.{deeper_binary, deeper_member, deeper_statement, deeper_rest}
-use Rattle.jl_grammar.proofs.Opened.{after, after_identifier, after_key, after_joint, after_assign, after_prefix}
+use Rattle.jl_grammar.proofs.Opened.{after, after_identifier, after_key, after_infix_operator, after_assign, after_prefix}
 use Rattle.jl_grammar.proofs.Opened.{after_update}
 use Rattle.jl_grammar.proofs.Progress.{names_goes, items_goes, entries_goes, entry_goes, rest_goes, ends_at_goes}
 use Rattle.jl_grammar.proofs.Progress.{argument_list_goes, assignment_goes, expression_goes, statement_goes}
@@ -101,42 +101,42 @@ parameters_complete {ts} {i} (parameters a) =
     expressions.parameters_step ts i (names_start a) ∙ names_complete a (length ts) (omega arith)
 
 ends_at_label : {ts : List Token} {i k : ℕ} → EndsAt ts i k
-    → (is_identifier (sign_at ts i) && not (line_at ts i)) ≡ false
+    → (is_identifier (terminal_at ts i) && not (line_at ts i)) ≡ false
 ends_at_label {ts} {i} (there e) = ap (λ k. is_identifier k && not (line_at ts i)) e.is
-ends_at_label {ts} {i} (inserted e f) = no_label (sign_at ts i) (line_at ts i) f
+ends_at_label {ts} {i} (inserted e f) = no_label (terminal_at ts i) (line_at ts i) f
 
 -- a statement that begins neither with a label nor with what bars one is an expression
-expresses : (ts : List Token) (d : Deeper) (i : ℕ) (k : Sign) → begins_expression k ≡ true → bars_expression k ≡ false
+expresses : (ts : List Token) (d : Deeper) (i : ℕ) (k : Terminal) → begins_expression k ≡ true → bars_expression k ≡ false
     → is_identifier k ≡ false → statement_by ts d i k ≡ express_at ts d i
 unfolding statement_by
-expresses ts d i (signs.Punct puncts.LeftBrace) b h e = cc
-expresses ts d i (signs.Punct puncts.Semicolon) b h e = cc
-expresses ts d i (signs.Word words.Var) b h e = cc
-expresses ts d i (signs.Word words.If) b h e = cc
-expresses ts d i (signs.Word words.Do) b h e = cc
-expresses ts d i (signs.Word words.While) b h e = cc
-expresses ts d i (signs.Word words.For) b h e = cc
-expresses ts d i (signs.Word words.Continue) b h e = cc
-expresses ts d i (signs.Word words.Break) b h e = cc
-expresses ts d i (signs.Word words.Return) b h e = cc
-expresses ts d i (signs.Word words.Switch) b h e = cc
-expresses ts d i (signs.Word words.Throw) b h e = cc
-expresses ts d i (signs.Word words.Try) b h e = cc
-expresses ts d i (signs.Word words.Debugger) b h e = cc
-expresses ts d i (signs.Word words.Function) b h e = cc
-expresses ts d i signs.Identifier b h e = cc
-expresses ts d i signs.Get b h e = cc
-expresses ts d i signs.Set b h e = cc
+expresses ts d i (terminals.Punct puncts.LeftBrace) b h e = cc
+expresses ts d i (terminals.Punct puncts.Semicolon) b h e = cc
+expresses ts d i (terminals.Word words.Var) b h e = cc
+expresses ts d i (terminals.Word words.If) b h e = cc
+expresses ts d i (terminals.Word words.Do) b h e = cc
+expresses ts d i (terminals.Word words.While) b h e = cc
+expresses ts d i (terminals.Word words.For) b h e = cc
+expresses ts d i (terminals.Word words.Continue) b h e = cc
+expresses ts d i (terminals.Word words.Break) b h e = cc
+expresses ts d i (terminals.Word words.Return) b h e = cc
+expresses ts d i (terminals.Word words.Switch) b h e = cc
+expresses ts d i (terminals.Word words.Throw) b h e = cc
+expresses ts d i (terminals.Word words.Try) b h e = cc
+expresses ts d i (terminals.Word words.Debugger) b h e = cc
+expresses ts d i (terminals.Word words.Function) b h e = cc
+expresses ts d i terminals.Identifier b h e = cc
+expresses ts d i terminals.Get b h e = cc
+expresses ts d i terminals.Set b h e = cc
 expresses ts d i _ b h e = refl
 
-express_begins : (ts : List Token) (d : Deeper) (i : ℕ) (b : Bool) → is_identifier (sign_at ts i) ≡ b
-    → begins_expression (sign_at ts i) ≡ true → bars_expression (sign_at ts i) ≡ false → is_label ts i ≡ false
+express_begins : (ts : List Token) (d : Deeper) (i : ℕ) (b : Bool) → is_identifier (terminal_at ts i) ≡ b
+    → begins_expression (terminal_at ts i) ≡ true → bars_expression (terminal_at ts i) ≡ false → is_label ts i ≡ false
     → statement_at ts d i ≡ express_at ts d i
 unfolding statement_at
 express_begins ts d i true e b h l =
-    let q : is_colon (sign_at ts (suc i)) ≡ false = sym (ap (λ x. x && is_colon (sign_at ts (suc i))) e) ∙ l in
+    let q : is_colon (terminal_at ts (suc i)) ≡ false = sym (ap (λ x. x && is_colon (terminal_at ts (suc i))) e) ∙ l in
     statements.named_expression_step ts d i (record { is = e }) q
-express_begins ts d i false e b h l = expresses ts d i (sign_at ts i) b h e
+express_begins ts d i false e b h l = expresses ts d i (terminal_at ts i) b h e
 
 and_no : (a : Bool) (b : Bool) → b ≡ false → (a && b) ≡ false
 and_no true b h = h
@@ -173,8 +173,8 @@ module _ (ts : List Token) (cap : ℕ) (wide : (i : ℕ) → opened ts i ≤ cap
         let p = after a in let q = after_identifier b in
         expressions.named_function_step ts (deeper ts f) i j ps x a b (rest_complete c f (omega arith))
 
-    items_complete : {i j : ℕ} {t : Row Span tree.item} → ReadsItems ts i t j → (f : ℕ)
-        → row_height t + cap ≤ f + opened ts i → (n : ℕ) → j ≤ n + i → items_from ts (deeper ts f) n i ≡ Some (t, j)
+    items_complete : {i j : ℕ} {t : Forest Span tree.item} → ReadsItems ts i t j → (f : ℕ)
+        → forest_height t + cap ≤ f + opened ts i → (n : ℕ) → j ≤ n + i → items_from ts (deeper ts f) n i ≡ Some (t, j)
     items_complete {i} (no_items a) f m n l = expressions.no_items_step ts (deeper ts f) n i a
     items_complete (a_hole a b) f m zero l = let g = items_goes b in absurd (omega arith)
     items_complete {i} {j} (a_hole {xs = xs} a b) f m (suc n) l =
@@ -183,20 +183,20 @@ module _ (ts : List Token) (cap : ℕ) (wide : (i : ℕ) → opened ts i ≤ cap
     items_complete (last_item a b) f m zero l = let g = assignment_goes a in absurd (omega arith)
     items_complete {i} (last_item {j = j} {t = t} a b) f m (suc n) l =
         let w = wide i in let p = height_pos t in let s = assignment_starts a in
-        expressions.last_item_step ts (deeper ts f) n i j t (no_close_bracket (sign_at ts i) s)
-        (no_comma (sign_at ts i) s) (deeper_assignment ts f false i (Some (t, j)) (omega arith)
+        expressions.last_item_step ts (deeper ts f) n i j t (no_close_bracket (terminal_at ts i) s)
+        (no_comma (terminal_at ts i) s) (deeper_assignment ts f false i (Some (t, j)) (omega arith)
         (λ h z. assignment_complete a h (omega arith))) b
     items_complete (more_items a b c) f m zero l = let g = assignment_goes a in let h = items_goes c in
         absurd (omega arith)
     items_complete {i} (more_items {j = j} {k = k} {t = t} {xs = xs} a b c) f m (suc n) l =
         let w = wide i in let p = height_pos t in let s = assignment_starts a in let g = assignment_goes a in
         let q = assignment_closes a in let u = after b in
-        expressions.more_items_step ts (deeper ts f) n i j k t xs (no_close_bracket (sign_at ts i) s)
-        (no_comma (sign_at ts i) s) (deeper_assignment ts f false i (Some (t, j)) (omega arith)
+        expressions.more_items_step ts (deeper ts f) n i j k t xs (no_close_bracket (terminal_at ts i) s)
+        (no_comma (terminal_at ts i) s) (deeper_assignment ts f false i (Some (t, j)) (omega arith)
         (λ h z. assignment_complete a h (omega arith))) b (items_complete c f (omega arith) n (omega arith))
 
-    entries_complete : {i j : ℕ} {t : Row Span tree.entry} → ReadsEntries ts i t j → (f : ℕ)
-        → row_height t + cap ≤ f + opened ts i → (n : ℕ) → j ≤ n + i → entries_from ts (deeper ts f) n i ≡ Some (t, j)
+    entries_complete : {i j : ℕ} {t : Forest Span tree.entry} → ReadsEntries ts i t j → (f : ℕ)
+        → forest_height t + cap ≤ f + opened ts i → (n : ℕ) → j ≤ n + i → entries_from ts (deeper ts f) n i ≡ Some (t, j)
     entries_complete {i} (no_entries a) f m n l = expressions.no_entries_step ts (deeper ts f) n i a
     entries_complete (last_entry a b) f m zero l = let g = entry_goes a in absurd (omega arith)
     entries_complete {i} (last_entry {j = j} {t = t} a b) f m (suc n) l =
@@ -217,11 +217,11 @@ module _ (ts : List Token) (cap : ℕ) (wide : (i : ℕ) → opened ts i ≤ cap
         (λ h z. assignment_complete c h (omega arith)))
     entry_complete {i} {j} (a_getter {c = x} a b c) f m =
         let p = after a in let q = after_key b in
-        expressions.getter_step ts (deeper ts f) i j x a (key_is_no_colon (sign_at ts (suc i)) b.is) b
+        expressions.getter_step ts (deeper ts f) i j x a (key_is_no_colon (terminal_at ts (suc i)) b.is) b
         (rest_complete c f (omega arith))
     entry_complete {i} {j} (a_setter {p = y} {c = x} a b c) f m =
         let p = after a in let q = after_key b in
-        expressions.setter_step ts (deeper ts f) i j y x a (key_is_no_colon (sign_at ts (suc i)) b.is) b
+        expressions.setter_step ts (deeper ts f) i j y x a (key_is_no_colon (terminal_at ts (suc i)) b.is) b
         (rest_complete c f (omega arith))
 
     rest_complete : {i j : ℕ} {ps : List (Ident Span)} {c : Code} → ReadsRest ts i ps c j → (f : ℕ)
@@ -239,7 +239,7 @@ module _ (ts : List Token) (cap : ℕ) (wide : (i : ℕ) → opened ts i ≤ cap
         record {
           parts = f;
           is = expressions.left_step ts (deeper ts f) calls f i j t
-              (expressions.primary_start_step ts (deeper ts f) i (primary_is_not_new (sign_at ts i) (primary_starts a))
+              (expressions.primary_start_step ts (deeper ts f) i (primary_is_not_new (terminal_at ts i) (primary_starts a))
               ∙ primary_complete a f m);
           enough = omega arith;
         }
@@ -287,7 +287,7 @@ module _ (ts : List Token) (cap : ℕ) (wide : (i : ℕ) → opened ts i ≤ cap
         c.is ∙ expressions.left_stop ts (deeper ts f) calls c.parts i j t b
 
     arguments_complete : {i j : ℕ} {t : Exprs} → ReadsArguments ts i t j → (f : ℕ)
-        → row_height t + cap ≤ f + opened ts i → arguments_at ts (deeper ts f) i ≡ Some (t, j)
+        → forest_height t + cap ≤ f + opened ts i → arguments_at ts (deeper ts f) i ≡ Some (t, j)
     arguments_complete {i} (no_arguments a) f m = expressions.no_arguments_step ts (deeper ts f) i a
     arguments_complete {i} (arguments a) f m =
         let w = argument_list_within a in
@@ -295,7 +295,7 @@ module _ (ts : List Token) (cap : ℕ) (wide : (i : ℕ) → opened ts i ≤ cap
         ∙ argument_list_complete a f m (length ts) (omega arith)
 
     argument_list_complete : {i j : ℕ} {t : Exprs} → ReadsArgumentList ts i t j → (f : ℕ)
-        → row_height t + cap ≤ f + opened ts i → (n : ℕ) → j ≤ n + i
+        → forest_height t + cap ≤ f + opened ts i → (n : ℕ) → j ≤ n + i
         → arguments_from ts (deeper ts f) n i ≡ Some (t, j)
     argument_list_complete (last_argument a b) f m zero l = let g = assignment_goes a in absurd (omega arith)
     argument_list_complete {i} (last_argument {j = j} {t = t} a b) f m (suc n) l =
@@ -325,15 +325,15 @@ module _ (ts : List Token) (cap : ℕ) (wide : (i : ℕ) → opened ts i ≤ cap
         → unary_at ts (deeper ts f) f i ≡ Some (t, j)
     unary_complete {i} {j} {t} (postfix a) f m =
         let s = postfix_starts a in
-        expressions.no_prefix_step ts (deeper ts f) f i j t (left_is_no_prefix (sign_at ts i) s)
-        (left_is_no_update (sign_at ts i) s) (postfix_complete a f m)
+        expressions.no_prefix_step ts (deeper ts f) f i j t (left_is_no_prefix (terminal_at ts i) s)
+        (left_is_no_update (terminal_at ts i) s) (postfix_complete a f m)
     unary_complete {i} {j} (a_prefix {t = t} {op = op} a b) f m =
         let w = wide i in let p = height_pos t in let q = after_prefix a in
         expressions.prefix_step ts (deeper ts f) f i j t op a
         (deeper_unary ts f (suc i) (Some (t, j)) (omega arith) (λ h z. unary_complete b h (omega arith)))
     unary_complete {i} {j} (an_update {t = t} {g = g} {up = up} a b c) f m =
         let p = target_height t g c in let q = after_update a in
-        expressions.update_step ts (deeper ts f) f i j t g up (update_is_no_prefix (sign_at ts i) up a.is) a
+        expressions.update_step ts (deeper ts f) f i j t g up (update_is_no_prefix (terminal_at ts i) up a.is) a
         (left_complete b f (omega arith)) c
 
     -- from any looseness that is no less, the reader comes to what is read
@@ -348,14 +348,14 @@ module _ (ts : List Token) (cap : ℕ) (wide : (i : ℕ) → opened ts i ≤ cap
           enough = omega arith;
         }
     begins_binary_complete (tighter (whole_binary a e)) x f b m = begins_binary_complete a x f (omega arith) m
-    begins_binary_complete {no_in} {i = i} (a_joint {l = l} {j = j} {k = k} {a = u} {b = v} {op = op} a e s c) x f b
+    begins_binary_complete {no_in} {i = i} (an_infix_operator {l = l} {j = j} {k = k} {a = u} {b = v} {op = op} a e s c) x f b
         m =
-        let w = wide i in let p = height_pos v in let q = after_joint e in let y = begins_binary_closes a in
+        let w = wide i in let p = height_pos v in let q = after_infix_operator e in let y = begins_binary_closes a in
         let g = joined_height op u v (span ts i k) in
-        goes_on f u (joined op u v (span ts i k)) _ _ _ (begins_binary_complete a x f b (omega arith)) (omega arith)
+        goes_on f u (infix_node op u v (span ts i k)) _ _ _ (begins_binary_complete a x f b (omega arith)) (omega arith)
         (omega arith)
-        (λ n. expressions.joint_step ts (deeper ts f) no_in n x i j k u v op e (omega arith)
-        (deeper_binary ts f no_in (pred (looseness op)) (suc j) (Some (v, k)) (omega arith)
+        (λ n. expressions.infix_operator_step ts (deeper ts f) no_in n x i j k u v op e (omega arith)
+        (deeper_binary ts f no_in (pred (infix_precedence op)) (suc j) (Some (v, k)) (omega arith)
         (λ h z. ap (λ y. binary_at ts (deeper ts h) no_in h (pred y) (suc j)) s
         ∙ binary_complete c h (omega arith))))
 
@@ -423,7 +423,7 @@ module _ (ts : List Token) (cap : ℕ) (wide : (i : ℕ) → opened ts i ≤ cap
         (deeper_expression ts f false (suc i) (Some (t, j)) (omega arith)
         (λ h z. expression_complete b h (omega arith))) c
 
-    block_complete : {i j : ℕ} {t : Stmts} → ReadsBlock ts i t j → (f : ℕ) → row_height t + cap ≤ f + opened ts i
+    block_complete : {i j : ℕ} {t : Stmts} → ReadsBlock ts i t j → (f : ℕ) → forest_height t + cap ≤ f + opened ts i
         → block_at ts (deeper ts f) i ≡ Some (t, j)
     block_complete {i} (in_braces {j = j} {ws = ws} a b c) f m =
         let p = after a in let w = statements_within b in
@@ -431,7 +431,7 @@ module _ (ts : List Token) (cap : ℕ) (wide : (i : ℕ) → opened ts i ≤ cap
         (statements_complete b f (omega arith) (length ts) (omega arith)) c
 
     statements_complete : {i j : ℕ} {t : Stmts} → ReadsStatements ts i t j → (f : ℕ)
-        → row_height t + cap ≤ f + opened ts i → (n : ℕ) → j ≤ n + i
+        → forest_height t + cap ≤ f + opened ts i → (n : ℕ) → j ≤ n + i
         → statements_from ts (deeper ts f) n i ≡ Some (t, j)
     statements_complete {i} (no_statements a) f m n l = statements.no_statements_step ts (deeper ts f) n i a
     statements_complete (more_statements a b) f m zero l = let g = statement_goes a in let h = statements_goes b in
@@ -443,7 +443,7 @@ module _ (ts : List Token) (cap : ℕ) (wide : (i : ℕ) → opened ts i ≤ cap
         (deeper_statement ts f i (Some (x, j)) (omega arith) (λ h z. statement_complete a h (omega arith)))
         (statements_complete b f (omega arith) n (omega arith))
 
-    sub_complete : {i j : ℕ} {t : Stmts} → ReadsSub ts i t j → (f : ℕ) → row_height t + cap ≤ f + opened ts i
+    sub_complete : {i j : ℕ} {t : Stmts} → ReadsSub ts i t j → (f : ℕ) → forest_height t + cap ≤ f + opened ts i
         → sub_at ts (deeper ts f) i ≡ Some (t, j)
     sub_complete {i} {j} {t} (several a) f m =
         let e = block_starts a in
@@ -462,8 +462,8 @@ module _ (ts : List Token) (cap : ℕ) (wide : (i : ℕ) → opened ts i ≤ cap
         (deeper_assignment ts f no_in (suc (suc i)) (Some (t, j)) (omega arith)
         (λ h z. assignment_complete c h (omega arith)))
 
-    declarations_complete : {no_in : Bool} {i j : ℕ} {t : Row Span tree.decl} → ReadsDeclarations ts no_in i t j
-        → (f : ℕ) → row_height t + cap ≤ f + opened ts i → (n : ℕ) → j ≤ n + i
+    declarations_complete : {no_in : Bool} {i j : ℕ} {t : Forest Span tree.decl} → ReadsDeclarations ts no_in i t j
+        → (f : ℕ) → forest_height t + cap ≤ f + opened ts i → (n : ℕ) → j ≤ n + i
         → declarations_from ts (deeper ts f) no_in n i ≡ Some (t, j)
     declarations_complete (last_declaration a b) f m zero l = let g = declaration_goes a in absurd (omega arith)
     declarations_complete {no_in} {i} {j} (last_declaration {d = x} a b) f m (suc n) l =
@@ -475,19 +475,19 @@ module _ (ts : List Token) (cap : ℕ) (wide : (i : ℕ) → opened ts i ≤ cap
         statements.more_declarations_step ts (deeper ts f) no_in n i j k x xs
         (declaration_complete a f (omega arith)) b (declarations_complete c f (omega arith) n (omega arith))
 
-    maybe_complete : {k : Sign} {i j : ℕ} {t : Maybe Span tree.expr} → ReadsMaybe ts k i t j → (ends : Sign → Bool)
-        → ends k ≡ true → ((s : Sign) → begins_expression s ≡ true → ends s ≡ false) → (f : ℕ)
-        → maybe_height t + cap ≤ f + opened ts i → maybe_at ts (deeper ts f) ends i ≡ Some (t, j)
-    maybe_complete {i = i} (no_expression a) ends e stays f m =
+    optional_complete : {k : Terminal} {i j : ℕ} {t : OptionalTree Span tree.expr} → ReadsOptional ts k i t j → (ends : Terminal → Bool)
+        → ends k ≡ true → ((s : Terminal) → begins_expression s ≡ true → ends s ≡ false) → (f : ℕ)
+        → optional_height t + cap ≤ f + opened ts i → optional_at ts (deeper ts f) ends i ≡ Some (t, j)
+    optional_complete {i = i} (no_expression a) ends e stays f m =
         statements.absent_step ts (deeper ts f) ends i (ap ends a.is ∙ e)
-    maybe_complete {i = i} {j = j} (one_expression {t = t} a) ends e stays f m =
+    optional_complete {i = i} {j = j} (one_expression {t = t} a) ends e stays f m =
         let w = wide i in let p = height_pos t in
-        statements.present_step ts (deeper ts f) ends i j t (stays (sign_at ts i) (expression_starts a))
+        statements.present_step ts (deeper ts f) ends i j t (stays (terminal_at ts i) (expression_starts a))
         (deeper_expression ts f false i (Some (t, j)) (omega arith)
         (λ h z. expression_complete a h (omega arith)))
 
-    clauses_complete : {fresh : Bool} {i j : ℕ} {t : Row Span tree.clause} → ReadsClauses ts fresh i t j → (f : ℕ)
-        → row_height t + cap ≤ f + opened ts i → (n : ℕ) → j ≤ n + i
+    clauses_complete : {fresh : Bool} {i j : ℕ} {t : Forest Span tree.clause} → ReadsClauses ts fresh i t j → (f : ℕ)
+        → forest_height t + cap ≤ f + opened ts i → (n : ℕ) → j ≤ n + i
         → clauses_from ts (deeper ts f) n fresh i ≡ Some (t, j)
     clauses_complete {fresh} {i} (no_clauses a) f m n l = statements.no_clauses_step ts (deeper ts f) n i fresh a
     clauses_complete (a_case a b c d e) f m zero l = let g = expression_goes b in let h = statements_goes d in
@@ -517,8 +517,8 @@ module _ (ts : List Token) (cap : ℕ) (wide : (i : ℕ) → opened ts i ≤ cap
         let p = after a in let q = after b in let u = after_identifier c in let v = after d in
         statements.catch_step ts (deeper ts f) i j ws b c d (block_complete e f (omega arith))
 
-    elements_complete : {i j : ℕ} {fs : Row Span tree.func} {ws : Stmts} → ReadsElements ts i fs ws j → (f : ℕ)
-        → max (row_height fs) (row_height ws) + cap ≤ f + opened ts i → (n : ℕ) → j ≤ n + i
+    elements_complete : {i j : ℕ} {fs : Forest Span tree.func} {ws : Stmts} → ReadsElements ts i fs ws j → (f : ℕ)
+        → max (forest_height fs) (forest_height ws) + cap ≤ f + opened ts i → (n : ℕ) → j ≤ n + i
         → elements_from ts (deeper ts f) n i ≡ Some ((fs, ws), j)
     elements_complete {i} (no_elements a) f m n l = statements.no_elements_step ts (deeper ts f) n i a
     elements_complete (a_declaration a b) f m zero l = let g = function_goes a in let h = elements_goes b in
@@ -564,7 +564,7 @@ module _ (ts : List Token) (cap : ℕ) (wide : (i : ℕ) → opened ts i ≤ cap
     statement_complete {i} (an_empty a) f m = statements.empty_step ts (deeper ts f) i a
     statement_complete {i} {j = k} (an_expression {j = j} {t = t} a b c d) f m =
         let w = wide i in let p = height_pos t in
-        express_begins ts (deeper ts f) i (is_identifier (sign_at ts i)) refl (expression_starts c) a b
+        express_begins ts (deeper ts f) i (is_identifier (terminal_at ts i)) refl (expression_starts c) a b
         ∙ statements.express_step ts (deeper ts f) i j k t
         (deeper_expression ts f false i (Some (t, j)) (omega arith)
         (λ h z. expression_complete c h (omega arith))) (statements.ends_step ts j k d)
@@ -585,41 +585,41 @@ module _ (ts : List Token) (cap : ℕ) (wide : (i : ℕ) → opened ts i ≤ cap
         statements.while_step ts (deeper ts f) i j k t ws a (head_complete b f (omega arith))
         (sub_complete c f (omega arith))
     statement_complete {i} {j = n} (a_for {k = k} {m = o} {b = y} {c = z} {ws = ws} a b (no_init c) d e g h q r) f m =
-        let pa = after a in let pb = after b in let pd = after d in let pe = maybe_closes e in let pg = after g in
-        let ph = maybe_closes h in let pq = after q in
+        let pa = after a in let pb = after b in let pd = after d in let pe = optional_closes e in let pg = after g in
+        let ph = optional_closes h in let pq = after q in
         statements.for_nothing_step ts (deeper ts f) i a b c
         ∙ statements.for_from_step ts (deeper ts f) i (suc (suc i)) k o n tree.nothing y z ws d
-        (maybe_complete e is_semicolon refl no_semicolon f (omega arith)) g
-        (maybe_complete h is_close_paren refl no_close_paren f (omega arith)) q (sub_complete r f (omega arith))
+        (optional_complete e is_semicolon refl no_semicolon f (omega arith)) g
+        (optional_complete h is_close_paren refl no_close_paren f (omega arith)) q (sub_complete r f (omega arith))
     statement_complete {i} {j = n} (a_for {j = j} {k = k} {m = o} {b = y} {c = z} {ws = ws} a b
         (an_init {t = t} c) d e g h q r) f m =
         let w = wide (suc (suc i)) in let p = height_pos t in let s = expression_starts c in
         let pa = after a in let pb = after b in let pc = expression_closes c in let pd = after d in
-        let pe = maybe_closes e in let pg = after g in let ph = maybe_closes h in let pq = after q in
-        statements.for_expression_step ts (deeper ts f) i j t a b (no_semicolon (sign_at ts (suc (suc i))) s)
-        (no_var (sign_at ts (suc (suc i))) s) (deeper_expression ts f true (suc (suc i)) (Some (t, j))
+        let pe = optional_closes e in let pg = after g in let ph = optional_closes h in let pq = after q in
+        statements.for_expression_step ts (deeper ts f) i j t a b (no_semicolon (terminal_at ts (suc (suc i))) s)
+        (no_var (terminal_at ts (suc (suc i))) s) (deeper_expression ts f true (suc (suc i)) (Some (t, j))
         (omega arith) (λ h z. expression_complete c h (omega arith))) (ap is_in d.is)
         ∙ statements.for_from_step ts (deeper ts f) i j k o n (tree.init_expression t) y z ws d
-        (maybe_complete e is_semicolon refl no_semicolon f (omega arith)) g
-        (maybe_complete h is_close_paren refl no_close_paren f (omega arith)) q (sub_complete r f (omega arith))
+        (optional_complete e is_semicolon refl no_semicolon f (omega arith)) g
+        (optional_complete h is_close_paren refl no_close_paren f (omega arith)) q (sub_complete r f (omega arith))
     statement_complete {i} {j = n} (a_for {j = j} {k = k} {m = o} {b = y} {c = z} {ws = ws} a b
         (init_vars {ds = xs} v c) d e g h q r) f m =
         let w = declarations_within c in let pv = after v in
         let pa = after a in let pb = after b in let pc = declarations_closes c in let pd = after d in
-        let pe = maybe_closes e in let pg = after g in let ph = maybe_closes h in let pq = after q in
+        let pe = optional_closes e in let pg = after g in let ph = optional_closes h in let pq = after q in
         statements.for_vars_step ts (deeper ts f) i j xs a b v
-        (and_no (is_identifier (sign_at ts (suc (suc (suc i))))) _ (no_in_follows c d))
+        (and_no (is_identifier (terminal_at ts (suc (suc (suc i))))) _ (no_in_follows c d))
         (declarations_complete c f (omega arith) (length ts) (omega arith))
         ∙ statements.for_from_step ts (deeper ts f) i j k o n (tree.init_var xs) y z ws d
-        (maybe_complete e is_semicolon refl no_semicolon f (omega arith)) g
-        (maybe_complete h is_close_paren refl no_close_paren f (omega arith)) q (sub_complete r f (omega arith))
+        (optional_complete e is_semicolon refl no_semicolon f (omega arith)) g
+        (optional_complete h is_close_paren refl no_close_paren f (omega arith)) q (sub_complete r f (omega arith))
     statement_complete {i} {j = o} (a_for_in {j = j} {k = k} {x = x} {s = s} {t = t} {ws = ws} a b c d e g h) f m =
         let w = wide (suc (suc i)) in let p = height_pos t in
-        let y = left_begins_expression (sign_at ts (suc (suc i))) (left_starts c) in
+        let y = left_begins_expression (terminal_at ts (suc (suc i))) (left_starts c) in
         let pa = after a in let pb = after b in let pc = left_closes c in let pd = after d in
         let pe = expression_closes e in let pg = after g in
         statements.for_in_step ts (deeper ts f) i j (tree.name x s) (record { text = x; at = s }) a b
-        (no_semicolon (sign_at ts (suc (suc i))) y) (no_var (sign_at ts (suc (suc i))) y)
+        (no_semicolon (terminal_at ts (suc (suc i))) y) (no_var (terminal_at ts (suc (suc i))) y)
         (deeper_expression ts f true (suc (suc i)) (Some (tree.name x s, j)) (omega arith)
         (λ u z. left_expression ts (deeper ts u) u (suc (suc i)) j (tree.name x s) (left_starts c)
         (left_complete c u (omega arith)) d)) d refl
@@ -652,8 +652,8 @@ module _ (ts : List Token) (cap : ℕ) (wide : (i : ℕ) → opened ts i ≤ cap
     statement_complete {i} {j = k} (a_return_of {j = j} {t = t} a b c d) f m =
         let w = wide (suc i) in let p = height_pos t in let q = after a in let s = expression_starts c in
         statements.return_of_step ts (deeper ts f) i j k t a
-        (statements.no_end_step ts (suc i) (no_semicolon (sign_at ts (suc i)) s)
-        (no_statement_end (sign_at ts (suc i)) s) b)
+        (statements.no_end_step ts (suc i) (no_semicolon (terminal_at ts (suc i)) s)
+        (no_statement_end (terminal_at ts (suc i)) s) b)
         (deeper_expression ts f false (suc i) (Some (t, j)) (omega arith)
         (λ h z. expression_complete c h (omega arith))) (statements.ends_step ts j k d)
     statement_complete {i} (a_switch {j = j} {k = k} {t = t} {cs = cs} a b c d e) f m =

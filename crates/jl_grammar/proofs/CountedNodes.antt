@@ -1,15 +1,15 @@
 -- A tree has no fewer nodes than functions, and as many nodes however its functions are numbered.
 use Rattle.std.proofs.Common.{◌≡◌, ℕ, ◌+◌, ◌≤◌, refl, arith}
-use Rattle.jl_ast.specs.Tree.{Sort, Tree, Row, Maybe, this, name, number, string, boolean, null, array}
+use Rattle.jl_ast.specs.Tree.{Sort, Tree, Forest, OptionalTree, this, name, number, string, boolean, null, array}
 use Rattle.jl_ast.specs.Tree.{object, function_expression, dot, index, call, new, unary, update, binary, and, or}
 use Rattle.jl_ast.specs.Tree.{conditional, assign, comma, to_name, to_dot, to_index, hole, filled, value, getter}
-use Rattle.jl_ast.specs.Tree.{setter, function, body, var, empty, expression, block, when, do_while, while, for}
+use Rattle.jl_ast.specs.Tree.{setter, function, body, var, empty, expression, block, if_else, do_while, while, for}
 use Rattle.jl_ast.specs.Tree.{for_in, continue, break, return, labelled, switch, throw, try, debugger, nothing}
 use Rattle.jl_ast.specs.Tree.{init_expression, init_var, declarator, case, branch_of, catch, end, more, absent}
 use Rattle.jl_ast.specs.Tree.{present}
-use Rattle.jl_ast.specs.Numbering.{functions_in, functions_in_row, functions_in_maybe, numbered_tree}
-use Rattle.jl_ast.specs.Numbering.{numbered_row, numbered_maybe}
-use Rattle.jl_grammar.specs.Nodes.{nodes, nodes_row, nodes_maybe}
+use Rattle.jl_ast.specs.Numbering.{functions_in, functions_in_forest, functions_in_optional, numbered_tree}
+use Rattle.jl_ast.specs.Numbering.{numbered_forest, numbered_optional}
+use Rattle.jl_grammar.specs.Nodes.{nodes, nodes_forest, nodes_optional}
 
 mutual
   pub counted : {S : Type 0} {x : Sort} (t : Tree S x) → functions_in t ≤ nodes t
@@ -19,13 +19,13 @@ mutual
   counted (string a s) = omega arith
   counted (boolean a s) = omega arith
   counted (null s) = omega arith
-  counted (array a s) = omega (arith, counted_row a)
-  counted (object a s) = omega (arith, counted_row a)
+  counted (array a s) = omega (arith, counted_forest a)
+  counted (object a s) = omega (arith, counted_forest a)
   counted (function_expression a s) = omega (arith, counted a)
   counted (dot a b s) = omega (arith, counted a)
   counted (index a b s) = omega (arith, counted a, counted b)
-  counted (call a b s) = omega (arith, counted a, counted_row b)
-  counted (new a b s) = omega (arith, counted a, counted_row b)
+  counted (call a b s) = omega (arith, counted a, counted_forest b)
+  counted (new a b s) = omega (arith, counted a, counted_forest b)
   counted (unary a b s) = omega (arith, counted b)
   counted (update up prefix a s) = omega (arith, counted a)
   counted (binary a b c s) = omega (arith, counted b, counted c)
@@ -43,39 +43,39 @@ mutual
   counted (getter a b) = omega (arith, counted b)
   counted (setter a b) = omega (arith, counted b)
   counted (function m a params b s) = omega (arith, counted b)
-  counted (body strict a b) = omega (arith, counted_row a, counted_row b)
-  counted (var a s) = omega (arith, counted_row a)
+  counted (body strict a b) = omega (arith, counted_forest a, counted_forest b)
+  counted (var a s) = omega (arith, counted_forest a)
   counted (empty s) = omega arith
   counted (expression a s) = omega (arith, counted a)
-  counted (block a s) = omega (arith, counted_row a)
-  counted (when a b c s) = omega (arith, counted a, counted_row b, counted_maybe c)
-  counted (do_while a b s) = omega (arith, counted_row a, counted b)
-  counted (while a b s) = omega (arith, counted a, counted_row b)
-  counted (for a b c d s) = omega (arith, counted a, counted_maybe b, counted_maybe c, counted_row d)
-  counted (for_in is_var a b c s) = omega (arith, counted b, counted_row c)
+  counted (block a s) = omega (arith, counted_forest a)
+  counted (if_else a b c s) = omega (arith, counted a, counted_forest b, counted_optional c)
+  counted (do_while a b s) = omega (arith, counted_forest a, counted b)
+  counted (while a b s) = omega (arith, counted a, counted_forest b)
+  counted (for a b c d s) = omega (arith, counted a, counted_optional b, counted_optional c, counted_forest d)
+  counted (for_in is_var a b c s) = omega (arith, counted b, counted_forest c)
   counted (continue a s) = omega arith
   counted (break a s) = omega arith
-  counted (return a s) = omega (arith, counted_maybe a)
+  counted (return a s) = omega (arith, counted_optional a)
   counted (labelled a b s) = omega (arith, counted b)
-  counted (switch a b s) = omega (arith, counted a, counted_row b)
+  counted (switch a b s) = omega (arith, counted a, counted_forest b)
   counted (throw a s) = omega (arith, counted a)
-  counted (try a b c s) = omega (arith, counted_row a, counted_maybe b, counted_maybe c)
+  counted (try a b c s) = omega (arith, counted_forest a, counted_optional b, counted_optional c)
   counted (debugger s) = omega arith
   counted nothing = omega arith
   counted (init_expression a) = omega (arith, counted a)
-  counted (init_var a) = omega (arith, counted_row a)
-  counted (declarator a b) = omega (arith, counted_maybe b)
-  counted (case a b) = omega (arith, counted_maybe a, counted_row b)
-  counted (branch_of a) = omega (arith, counted_row a)
-  counted (catch a b) = omega (arith, counted_row b)
+  counted (init_var a) = omega (arith, counted_forest a)
+  counted (declarator a b) = omega (arith, counted_optional b)
+  counted (case a b) = omega (arith, counted_optional a, counted_forest b)
+  counted (branch_of a) = omega (arith, counted_forest a)
+  counted (catch a b) = omega (arith, counted_forest b)
 
-  pub counted_row : {S : Type 0} {x : Sort} (t : Row S x) → functions_in_row t ≤ nodes_row t
-  counted_row end = omega arith
-  counted_row (more a b) = omega (arith, counted a, counted_row b)
+  pub counted_forest : {S : Type 0} {x : Sort} (t : Forest S x) → functions_in_forest t ≤ nodes_forest t
+  counted_forest end = omega arith
+  counted_forest (more a b) = omega (arith, counted a, counted_forest b)
 
-  pub counted_maybe : {S : Type 0} {x : Sort} (t : Maybe S x) → functions_in_maybe t ≤ nodes_maybe t
-  counted_maybe absent = omega arith
-  counted_maybe (present a) = omega (arith, counted a)
+  pub counted_optional : {S : Type 0} {x : Sort} (t : OptionalTree S x) → functions_in_optional t ≤ nodes_optional t
+  counted_optional absent = omega arith
+  counted_optional (present a) = omega (arith, counted a)
 
 mutual
   pub renumbered : {S : Type 0} {x : Sort} (n : ℕ) (t : Tree S x) → nodes (numbered_tree n t) ≡ nodes t
@@ -85,13 +85,13 @@ mutual
   renumbered n (string a s) = refl
   renumbered n (boolean a s) = refl
   renumbered n (null s) = refl
-  renumbered n (array a s) = cc (renumbered_row n a)
-  renumbered n (object a s) = cc (renumbered_row n a)
+  renumbered n (array a s) = cc (renumbered_forest n a)
+  renumbered n (object a s) = cc (renumbered_forest n a)
   renumbered n (function_expression a s) = cc (renumbered n a)
   renumbered n (dot a b s) = cc (renumbered n a)
   renumbered n (index a b s) = cc (renumbered n a, renumbered (n + functions_in a) b)
-  renumbered n (call a b s) = cc (renumbered n a, renumbered_row (n + functions_in a) b)
-  renumbered n (new a b s) = cc (renumbered n a, renumbered_row (n + functions_in a) b)
+  renumbered n (call a b s) = cc (renumbered n a, renumbered_forest (n + functions_in a) b)
+  renumbered n (new a b s) = cc (renumbered n a, renumbered_forest (n + functions_in a) b)
   renumbered n (unary a b s) = cc (renumbered n b)
   renumbered n (update up prefix a s) = cc (renumbered n a)
   renumbered n (binary a b c s) = cc (renumbered n b, renumbered (n + functions_in b) c)
@@ -113,50 +113,50 @@ mutual
   renumbered n (getter a b) = cc (renumbered n b)
   renumbered n (setter a b) = cc (renumbered n b)
   renumbered n (function m a params b s) = cc (renumbered (n + 1) b)
-  renumbered n (body strict a b) = cc (renumbered_row n a, renumbered_row (n + functions_in_row a) b)
-  renumbered n (var a s) = cc (renumbered_row n a)
+  renumbered n (body strict a b) = cc (renumbered_forest n a, renumbered_forest (n + functions_in_forest a) b)
+  renumbered n (var a s) = cc (renumbered_forest n a)
   renumbered n (empty s) = refl
   renumbered n (expression a s) = cc (renumbered n a)
-  renumbered n (block a s) = cc (renumbered_row n a)
-  renumbered n (when a b c s) = cc (
+  renumbered n (block a s) = cc (renumbered_forest n a)
+  renumbered n (if_else a b c s) = cc (
     renumbered n a,
-    renumbered_row (n + functions_in a) b,
-    renumbered_maybe (n + functions_in a + functions_in_row b) c,
+    renumbered_forest (n + functions_in a) b,
+    renumbered_optional (n + functions_in a + functions_in_forest b) c,
   )
-  renumbered n (do_while a b s) = cc (renumbered_row n a, renumbered (n + functions_in_row a) b)
-  renumbered n (while a b s) = cc (renumbered n a, renumbered_row (n + functions_in a) b)
+  renumbered n (do_while a b s) = cc (renumbered_forest n a, renumbered (n + functions_in_forest a) b)
+  renumbered n (while a b s) = cc (renumbered n a, renumbered_forest (n + functions_in a) b)
   renumbered n (for a b c d s) = cc (
     renumbered n a,
-    renumbered_maybe (n + functions_in a) b,
-    renumbered_maybe (n + functions_in a + functions_in_maybe b) c,
-    renumbered_row (n + functions_in a + functions_in_maybe b + functions_in_maybe c) d,
+    renumbered_optional (n + functions_in a) b,
+    renumbered_optional (n + functions_in a + functions_in_optional b) c,
+    renumbered_forest (n + functions_in a + functions_in_optional b + functions_in_optional c) d,
   )
-  renumbered n (for_in is_var a b c s) = cc (renumbered n b, renumbered_row (n + functions_in b) c)
+  renumbered n (for_in is_var a b c s) = cc (renumbered n b, renumbered_forest (n + functions_in b) c)
   renumbered n (continue a s) = refl
   renumbered n (break a s) = refl
-  renumbered n (return a s) = cc (renumbered_maybe n a)
+  renumbered n (return a s) = cc (renumbered_optional n a)
   renumbered n (labelled a b s) = cc (renumbered n b)
-  renumbered n (switch a b s) = cc (renumbered n a, renumbered_row (n + functions_in a) b)
+  renumbered n (switch a b s) = cc (renumbered n a, renumbered_forest (n + functions_in a) b)
   renumbered n (throw a s) = cc (renumbered n a)
   renumbered n (try a b c s) = cc (
-    renumbered_row n a,
-    renumbered_maybe (n + functions_in_row a) b,
-    renumbered_maybe (n + functions_in_row a + functions_in_maybe b) c,
+    renumbered_forest n a,
+    renumbered_optional (n + functions_in_forest a) b,
+    renumbered_optional (n + functions_in_forest a + functions_in_optional b) c,
   )
   renumbered n (debugger s) = refl
   renumbered n nothing = refl
   renumbered n (init_expression a) = cc (renumbered n a)
-  renumbered n (init_var a) = cc (renumbered_row n a)
-  renumbered n (declarator a b) = cc (renumbered_maybe n b)
-  renumbered n (case a b) = cc (renumbered_maybe n a, renumbered_row (n + functions_in_maybe a) b)
-  renumbered n (branch_of a) = cc (renumbered_row n a)
-  renumbered n (catch a b) = cc (renumbered_row n b)
+  renumbered n (init_var a) = cc (renumbered_forest n a)
+  renumbered n (declarator a b) = cc (renumbered_optional n b)
+  renumbered n (case a b) = cc (renumbered_optional n a, renumbered_forest (n + functions_in_optional a) b)
+  renumbered n (branch_of a) = cc (renumbered_forest n a)
+  renumbered n (catch a b) = cc (renumbered_forest n b)
 
-  pub renumbered_row : {S : Type 0} {x : Sort} (n : ℕ) (t : Row S x) → nodes_row (numbered_row n t) ≡ nodes_row t
-  renumbered_row n end = refl
-  renumbered_row n (more a b) = cc (renumbered n a, renumbered_row (n + functions_in a) b)
+  pub renumbered_forest : {S : Type 0} {x : Sort} (n : ℕ) (t : Forest S x) → nodes_forest (numbered_forest n t) ≡ nodes_forest t
+  renumbered_forest n end = refl
+  renumbered_forest n (more a b) = cc (renumbered n a, renumbered_forest (n + functions_in a) b)
 
-  pub renumbered_maybe : {S : Type 0} {x : Sort} (n : ℕ) (t : Maybe S x) →
-      nodes_maybe (numbered_maybe n t) ≡ nodes_maybe t
-  renumbered_maybe n absent = refl
-  renumbered_maybe n (present a) = cc (renumbered n a)
+  pub renumbered_optional : {S : Type 0} {x : Sort} (n : ℕ) (t : OptionalTree S x) →
+      nodes_optional (numbered_optional n t) ≡ nodes_optional t
+  renumbered_optional n absent = refl
+  renumbered_optional n (present a) = cc (renumbered n a)

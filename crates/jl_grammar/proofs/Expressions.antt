@@ -6,21 +6,21 @@ use Rattle.std.specs.Prelude.{◌-◌, List, Option, Some, None, nat_le, is_some
 use Rattle.jl_ast.specs.declared.ops.BinOp.{BinOp}
 use Rattle.jl_ast.specs.declared.ops.BinOp.TheVariants as ops
 use Rattle.jl_ast.specs.declared.ops.UnOp.{UnOp}
-use Rattle.jl_ast.specs.Tree.{Ident, Tree, Row, Maybe}
+use Rattle.jl_ast.specs.Tree.{Ident, Tree, Forest, OptionalTree}
 use Rattle.jl_ast.specs.Tree as tree
 use Rattle.jl_text.specs.declared.span.Span.{Span}
 use Rattle.jl_token.specs.declared.punct.Punct.TheVariants as puncts
 use Rattle.jl_token.specs.declared.token.Token.{Token}
-use Rattle.jl_grammar.specs.declared.sign.Sign.{Sign}
-use Rattle.jl_grammar.specs.declared.sign.Sign.TheVariants as signs
+use Rattle.jl_grammar.specs.declared.terminal.Terminal.{Terminal}
+use Rattle.jl_grammar.specs.declared.terminal.Terminal.TheVariants as terminals
 use Rattle.jl_grammar.specs.declared.word.Word.TheVariants as words
 use Rattle.jl_grammar.specs.Next.{open_paren, close_paren, open_bracket, close_bracket, open_brace, close_brace}
-use Rattle.jl_grammar.specs.Next.{dot_sign, comma, colon, question, keyword, is_identifier, is_name, is_key}
+use Rattle.jl_grammar.specs.Next.{dot_terminal, comma, colon, question, keyword, is_identifier, is_name, is_key}
 use Rattle.jl_grammar.specs.Next.{is_open_paren, is_comma, is_colon, is_question, continues_left, updates_at}
-use Rattle.jl_grammar.specs.Operators.{Joint, plain, both, either, level, joint, joined, looseness, looseness_of}
+use Rattle.jl_grammar.specs.Operators.{InfixOperator, plain, both, either, level, infix_operator, infix_node, infix_precedence, infix_precedence_of}
 use Rattle.jl_grammar.specs.Operators.{continues, assign_operator, assigns, unary_operator, update_operator}
 use Rattle.jl_grammar.specs.Reads.{Expr, Exprs, Code, JoinsAt, AssignsAt, PrefixAt, UpdateAt, IsTarget}
-use Rattle.jl_grammar.specs.Tokens.{At, Is, sign_at, line_at, text_at, number_at, span, ident_at, key_ident_at}
+use Rattle.jl_grammar.specs.Tokens.{At, Is, terminal_at, line_at, text_at, number_at, span, ident_at, key_ident_at}
 use Rattle.jl_grammar.specs.Reader.{is_close_paren, is_close_bracket, is_close_brace, is_new, names_from}
 use Rattle.jl_grammar.specs.Reader.{parameters_at, closed, body_from, rest_at, function_at, items_from, value_at}
 use Rattle.jl_grammar.specs.Reader.{getter_by, setter_by, accessor_at, entry_by, entry_at, entries_from, primary_by}
@@ -29,8 +29,8 @@ use Rattle.jl_grammar.specs.Reader.{left_at, postfix_by, postfix_at, unary_by, u
 use Rattle.jl_grammar.specs.Reader.{binary_at, conditional_from, conditional_at, assignment_by, assignment_at}
 use Rattle.jl_grammar.specs.Reader.{comma_from, expression_at, Read, Deeper}
 
--- a joint has a looseness, and so at least 1
-pub some_looseness : (o : Option Joint) → nat_le 1 (looseness_of o) ≡ is_some o
+-- a infix operator has a looseness, and so at least 1
+pub some_looseness : (o : Option InfixOperator) → nat_le 1 (infix_precedence_of o) ≡ is_some o
 some_looseness None = refl
 some_looseness (Some (plain op)) = plain_looseness op
   where
@@ -55,7 +55,7 @@ module _ (ts : List Token) where
   unfolding parameters_at
   no_parameters_step i e = rw (e.is, parameters_at)
 
-  pub parameters_step : (i : ℕ) → is_close_paren (sign_at ts i) ≡ false
+  pub parameters_step : (i : ℕ) → is_close_paren (terminal_at ts i) ≡ false
       → parameters_at ts i ≡ names_from ts (length ts) i
   unfolding parameters_at
   parameters_step i e = rw (e, parameters_at)
@@ -66,18 +66,18 @@ module _ (ts : List Token) (d : Deeper) where
   unfolding primary_at primary_by
   this_step i e = rw (e.is, primary_at)
 
-  name_by : (i : ℕ) (k : Sign) → is_identifier k ≡ true
+  name_by : (i : ℕ) (k : Terminal) → is_identifier k ≡ true
       → primary_by ts d i k ≡ Some (tree.name (text_at ts i) (span ts i (suc i)), suc i)
   unfolding primary_by
-  name_by i signs.Identifier h = refl
-  name_by i signs.Get h = refl
-  name_by i signs.Set h = refl
+  name_by i terminals.Identifier h = refl
+  name_by i terminals.Get h = refl
+  name_by i terminals.Set h = refl
   name_by i _ h = cc
 
   pub name_step : (i : ℕ) → Is is_identifier ts i
       → primary_at ts d i ≡ Some (tree.name (text_at ts i) (span ts i (suc i)), suc i)
   unfolding primary_at
-  name_step i e = name_by i (sign_at ts i) e.is
+  name_step i e = name_by i (terminal_at ts i) e.is
 
   pub null_step : (i : ℕ) → At ts i (keyword words.Null)
       → primary_at ts d i ≡ Some (tree.null (span ts i (suc i)), suc i)
@@ -94,22 +94,22 @@ module _ (ts : List Token) (d : Deeper) where
   unfolding primary_at primary_by
   false_step i e = rw (e.is, primary_at)
 
-  pub number_step : (i : ℕ) → At ts i signs.Number
+  pub number_step : (i : ℕ) → At ts i terminals.Number
       → primary_at ts d i ≡ Some (tree.number (number_at ts i) (span ts i (suc i)), suc i)
   unfolding primary_at primary_by
   number_step i e = rw (e.is, primary_at)
 
-  pub string_step : (i : ℕ) → At ts i signs.Str
+  pub string_step : (i : ℕ) → At ts i terminals.Str
       → primary_at ts d i ≡ Some (tree.string (text_at ts i) (span ts i (suc i)), suc i)
   unfolding primary_at primary_by
   string_step i e = rw (e.is, primary_at)
 
-  pub array_step : (i j : ℕ) (xs : Row Span tree.item) → At ts i open_bracket
+  pub array_step : (i j : ℕ) (xs : Forest Span tree.item) → At ts i open_bracket
       → items_from ts d (length ts) (suc i) ≡ Some (xs, j) → primary_at ts d i ≡ Some (tree.array xs (span ts i j), j)
   unfolding primary_at primary_by
   array_step i j xs e h = rw (e.is, h, primary_at)
 
-  pub object_step : (i j : ℕ) (xs : Row Span tree.entry) → At ts i open_brace
+  pub object_step : (i j : ℕ) (xs : Forest Span tree.entry) → At ts i open_brace
       → entries_from ts d (length ts) (suc i) ≡ Some (xs, j)
       → primary_at ts d i ≡ Some (tree.object xs (span ts i j), j)
   unfolding primary_at primary_by
@@ -121,7 +121,7 @@ module _ (ts : List Token) (d : Deeper) where
   parens_step i j t e h f = rw (e.is, h, f.is, primary_at)
 
   pub function_step : (i j : ℕ) (ps : List (Ident Span)) (c : Code) → At ts i (keyword words.Function)
-      → is_identifier (sign_at ts (suc i)) ≡ false → rest_at ts d (suc i) ≡ Some ((ps, c), j)
+      → is_identifier (terminal_at ts (suc i)) ≡ false → rest_at ts d (suc i) ≡ Some ((ps, c), j)
       → primary_at ts d i ≡ Some (tree.function_expression (tree.function 0 None ps c (span ts i j)) (span ts i j), j)
   unfolding primary_at primary_by function_at
   function_step i j ps c e f h = rw (e.is, primary_at) (rw (f, h, function_at))
@@ -141,19 +141,19 @@ module _ (ts : List Token) (d : Deeper) where
   no_items_step zero i e = rw (e.is, items_from)
   no_items_step (suc n) i e = rw (e.is, items_from)
 
-  pub hole_step : (n i j : ℕ) (xs : Row Span tree.item) → At ts i comma → items_from ts d n (suc i) ≡ Some (xs, j)
+  pub hole_step : (n i j : ℕ) (xs : Forest Span tree.item) → At ts i comma → items_from ts d n (suc i) ≡ Some (xs, j)
       → items_from ts d (suc n) i ≡ Some (tree.more tree.hole xs, j)
   unfolding items_from
   hole_step n i j xs e h = rw (e.is, h, items_from)
 
-  pub last_item_step : (n i j : ℕ) (t : Expr) → is_close_bracket (sign_at ts i) ≡ false
-      → is_comma (sign_at ts i) ≡ false → d.assignment false i ≡ Some (t, j) → At ts j close_bracket
+  pub last_item_step : (n i j : ℕ) (t : Expr) → is_close_bracket (terminal_at ts i) ≡ false
+      → is_comma (terminal_at ts i) ≡ false → d.assignment false i ≡ Some (t, j) → At ts j close_bracket
       → items_from ts d (suc n) i ≡ Some (tree.more (tree.filled t) tree.end, suc j)
   unfolding items_from
   last_item_step n i j t a b h e = rw (a, b, h, e.is, items_from)
 
-  pub more_items_step : (n i j k : ℕ) (t : Expr) (xs : Row Span tree.item) → is_close_bracket (sign_at ts i) ≡ false
-      → is_comma (sign_at ts i) ≡ false → d.assignment false i ≡ Some (t, j) → At ts j comma
+  pub more_items_step : (n i j k : ℕ) (t : Expr) (xs : Forest Span tree.item) → is_close_bracket (terminal_at ts i) ≡ false
+      → is_comma (terminal_at ts i) ≡ false → d.assignment false i ≡ Some (t, j) → At ts j comma
       → items_from ts d n (suc j) ≡ Some (xs, k) → items_from ts d (suc n) i ≡ Some (tree.more (tree.filled t) xs, k)
   unfolding items_from
   more_items_step n i j k t xs a b h e g = rw (a, b, h, e.is, g, items_from)
@@ -163,36 +163,36 @@ module _ (ts : List Token) (d : Deeper) where
   no_entries_step zero i e = rw (e.is, entries_from)
   no_entries_step (suc n) i e = rw (e.is, entries_from)
 
-  pub last_entry_step : (n i j : ℕ) (t : Tree Span tree.entry) → is_close_brace (sign_at ts i) ≡ false
+  pub last_entry_step : (n i j : ℕ) (t : Tree Span tree.entry) → is_close_brace (terminal_at ts i) ≡ false
       → entry_at ts d i ≡ Some (t, j) → At ts j close_brace
       → entries_from ts d (suc n) i ≡ Some (tree.more t tree.end, suc j)
   unfolding entries_from
   last_entry_step n i j t a h e = rw (a, h, e.is, entries_from)
 
-  pub more_entries_step : (n i j k : ℕ) (t : Tree Span tree.entry) (xs : Row Span tree.entry)
-      → is_close_brace (sign_at ts i) ≡ false → entry_at ts d i ≡ Some (t, j) → At ts j comma
+  pub more_entries_step : (n i j k : ℕ) (t : Tree Span tree.entry) (xs : Forest Span tree.entry)
+      → is_close_brace (terminal_at ts i) ≡ false → entry_at ts d i ≡ Some (t, j) → At ts j comma
       → entries_from ts d n (suc j) ≡ Some (xs, k) → entries_from ts d (suc n) i ≡ Some (tree.more t xs, k)
   unfolding entries_from
   more_entries_step n i j k t xs a h e g = rw (a, h, e.is, g, entries_from)
 
-  value_by : (i : ℕ) (k : Sign) → is_colon (sign_at ts (suc i)) ≡ true → entry_by ts d i k ≡ value_at ts d i
+  value_by : (i : ℕ) (k : Terminal) → is_colon (terminal_at ts (suc i)) ≡ true → entry_by ts d i k ≡ value_at ts d i
   unfolding entry_by accessor_at
-  value_by i signs.Get h = rw (h, entry_by)
-  value_by i signs.Set h = rw (h, entry_by)
+  value_by i terminals.Get h = rw (h, entry_by)
+  value_by i terminals.Set h = rw (h, entry_by)
   value_by i _ h = refl
 
   pub value_step : (i j : ℕ) (t : Expr) → Is is_key ts i → At ts (suc i) colon
       → d.assignment false (suc (suc i)) ≡ Some (t, j) → entry_at ts d i ≡ Some (tree.value (key_ident_at ts i) t, j)
   unfolding entry_at value_at
-  value_step i j t e f h = value_by i (sign_at ts i) (ap is_colon f.is) ∙ rw (e.is, f.is, h, value_at)
+  value_step i j t e f h = value_by i (terminal_at ts i) (ap is_colon f.is) ∙ rw (e.is, f.is, h, value_at)
 
-  pub getter_step : (i j : ℕ) (c : Code) → At ts i signs.Get → is_colon (sign_at ts (suc i)) ≡ false
+  pub getter_step : (i j : ℕ) (c : Code) → At ts i terminals.Get → is_colon (terminal_at ts (suc i)) ≡ false
       → Is is_key ts (suc i) → rest_at ts d (suc (suc i)) ≡ Some (([], c), j)
       → entry_at ts d i ≡ Some (tree.getter (key_ident_at ts (suc i)) (tree.function 0 None [] c (span ts i j)), j)
   unfolding entry_at entry_by accessor_at getter_by
   getter_step i j c e a f h = rw (e.is, entry_at) (rw (a, f.is, h, accessor_at))
 
-  pub setter_step : (i j : ℕ) (p : Ident Span) (c : Code) → At ts i signs.Set → is_colon (sign_at ts (suc i)) ≡ false
+  pub setter_step : (i j : ℕ) (p : Ident Span) (c : Code) → At ts i terminals.Set → is_colon (terminal_at ts (suc i)) ≡ false
       → Is is_key ts (suc i) → rest_at ts d (suc (suc i)) ≡ Some ((p ∷ [], c), j)
       → entry_at ts d i ≡ Some (
         tree.setter (key_ident_at ts (suc i)) (tree.function 0 None (p ∷ []) c (span ts i j)),
@@ -215,11 +215,11 @@ module _ (ts : List Token) (d : Deeper) where
   new_start_step i j k t us e h f g = rw (e.is, start_at) (rw (h, f.is, g, new_at))
 
   pub bare_new_start_step : (i j : ℕ) (t : Expr) → At ts i (keyword words.New) → d.member (suc i) ≡ Some (t, j)
-      → is_open_paren (sign_at ts j) ≡ false → start_at ts d i ≡ Some (tree.new t tree.end (span ts i j), j)
+      → is_open_paren (terminal_at ts j) ≡ false → start_at ts d i ≡ Some (tree.new t tree.end (span ts i j), j)
   unfolding start_at new_at
   bare_new_start_step i j t e h f = rw (e.is, start_at) (rw (h, f, new_at))
 
-  pub primary_start_step : (i : ℕ) → is_new (sign_at ts i) ≡ false → start_at ts d i ≡ primary_at ts d i
+  pub primary_start_step : (i : ℕ) → is_new (terminal_at ts i) ≡ false → start_at ts d i ≡ primary_at ts d i
   unfolding start_at
   primary_start_step i h = rw (h, start_at)
 
@@ -228,7 +228,7 @@ module _ (ts : List Token) (d : Deeper) where
   unfolding left_at
   left_step calls n i j t h = rw (h, left_at)
 
-  pub dot_step : (calls : Bool) (n i j : ℕ) (t : Expr) → At ts j dot_sign → Is is_name ts (suc j)
+  pub dot_step : (calls : Bool) (n i j : ℕ) (t : Expr) → At ts j dot_terminal → Is is_name ts (suc j)
       → left_from ts d calls (suc n) i t j ≡ left_from ts d calls n i
       (tree.dot t (text_at ts (suc j)) (span ts i (suc (suc j)))) (suc (suc j))
   unfolding left_from left_by
@@ -248,27 +248,27 @@ module _ (ts : List Token) (d : Deeper) where
   unfolding left_from left_by
   call_step n i j k t us e h = rw (e.is, h, left_from)
 
-  left_by_stop : (calls : Bool) (go : Expr → ℕ → Read Expr) (i j : ℕ) (t : Expr) (k : Sign)
+  left_by_stop : (calls : Bool) (go : Expr → ℕ → Read Expr) (i j : ℕ) (t : Expr) (k : Terminal)
       → continues_left calls k ≡ false → left_by ts d calls go i t j k ≡ Some (t, j)
   unfolding left_by
-  left_by_stop true go i j t (signs.Punct puncts.Dot) h = cc
-  left_by_stop true go i j t (signs.Punct puncts.LeftBracket) h = cc
-  left_by_stop true go i j t (signs.Punct puncts.LeftParen) h = cc
-  left_by_stop false go i j t (signs.Punct puncts.Dot) h = cc
-  left_by_stop false go i j t (signs.Punct puncts.LeftBracket) h = cc
+  left_by_stop true go i j t (terminals.Punct puncts.Dot) h = cc
+  left_by_stop true go i j t (terminals.Punct puncts.LeftBracket) h = cc
+  left_by_stop true go i j t (terminals.Punct puncts.LeftParen) h = cc
+  left_by_stop false go i j t (terminals.Punct puncts.Dot) h = cc
+  left_by_stop false go i j t (terminals.Punct puncts.LeftBracket) h = cc
   left_by_stop _ go i j t _ h = refl
 
-  pub left_stop : (calls : Bool) (n i j : ℕ) (t : Expr) → continues_left calls (sign_at ts j) ≡ false
+  pub left_stop : (calls : Bool) (n i j : ℕ) (t : Expr) → continues_left calls (terminal_at ts j) ≡ false
       → left_from ts d calls n i t j ≡ Some (t, j)
   unfolding left_from
   left_stop calls zero i j t h = rw (h, left_from)
-  left_stop calls (suc n) i j t h = left_by_stop calls (left_from ts d calls n i) i j t (sign_at ts j) h
+  left_stop calls (suc n) i j t h = left_by_stop calls (left_from ts d calls n i) i j t (terminal_at ts j) h
 
   pub no_arguments_step : (i : ℕ) → At ts i close_paren → arguments_at ts d i ≡ Some (tree.end, suc i)
   unfolding arguments_at
   no_arguments_step i e = rw (e.is, arguments_at)
 
-  pub arguments_step : (i : ℕ) → is_close_paren (sign_at ts i) ≡ false
+  pub arguments_step : (i : ℕ) → is_close_paren (terminal_at ts i) ≡ false
       → arguments_at ts d i ≡ arguments_from ts d (length ts) i
   unfolding arguments_at
   arguments_step i e = rw (e, arguments_at)
@@ -294,7 +294,7 @@ module _ (ts : List Token) (d : Deeper) where
       → postfix_at ts d n i ≡ Some (t, j)
   unfolding postfix_at
   no_postfix_step n i j t h e = rw (h, postfix_at)
-      (no_postfix_by i j t (update_operator (sign_at ts j)) (line_at ts j) e)
+      (no_postfix_by i j t (update_operator (terminal_at ts j)) (line_at ts j) e)
 
   pub postfix_step : (n i j : ℕ) (t : Expr) (g : Tree Span tree.target) (up : Bool)
       → left_at ts d true n i ≡ Some (t, j) → IsTarget t g → UpdateAt ts j up → line_at ts j ≡ false
@@ -302,8 +302,8 @@ module _ (ts : List Token) (d : Deeper) where
   unfolding postfix_at postfix_by
   postfix_step n i j t g up h q e f = rw (h, e.is, f, q.is, postfix_at)
 
-  pub no_prefix_step : (n i j : ℕ) (t : Expr) → unary_operator (sign_at ts i) ≡ None
-      → update_operator (sign_at ts i) ≡ None → postfix_at ts d n i ≡ Some (t, j) → unary_at ts d n i ≡ Some (t, j)
+  pub no_prefix_step : (n i j : ℕ) (t : Expr) → unary_operator (terminal_at ts i) ≡ None
+      → update_operator (terminal_at ts i) ≡ None → postfix_at ts d n i ≡ Some (t, j) → unary_at ts d n i ≡ Some (t, j)
   unfolding unary_at unary_by
   no_prefix_step n i j t e f h = rw (e, f, h, unary_at)
 
@@ -313,7 +313,7 @@ module _ (ts : List Token) (d : Deeper) where
   prefix_step n i j t op e h = rw (e.is, h, unary_at)
 
   pub update_step : (n i j : ℕ) (t : Expr) (g : Tree Span tree.target) (up : Bool)
-      → unary_operator (sign_at ts i) ≡ None → UpdateAt ts i up → left_at ts d true n (suc i) ≡ Some (t, j)
+      → unary_operator (terminal_at ts i) ≡ None → UpdateAt ts i up → left_at ts d true n (suc i) ≡ Some (t, j)
       → IsTarget t g → unary_at ts d n i ≡ Some (tree.update up true g (span ts i j), j)
   unfolding unary_at unary_by
   update_step n i j t g up a e h q = rw (a, e.is, h, q.is, unary_at)
@@ -323,33 +323,33 @@ module _ (ts : List Token) (d : Deeper) where
   unfolding binary_at
   binary_step no_in n m i j t h = rw (h, binary_at)
 
-  pub joint_step : (no_in : Bool) (n m i j k : ℕ) (a b : Expr) (op : Joint) → JoinsAt ts no_in j op → looseness op ≤ m
-      → d.binary no_in (pred (looseness op)) (suc j) ≡ Some (b, k)
-      → binary_from ts d no_in (suc n) m i a j ≡ binary_from ts d no_in n m i (joined op a b (span ts i k)) k
+  pub infix_operator_step : (no_in : Bool) (n m i j k : ℕ) (a b : Expr) (op : InfixOperator) → JoinsAt ts no_in j op → infix_precedence op ≤ m
+      → d.binary no_in (pred (infix_precedence op)) (suc j) ≡ Some (b, k)
+      → binary_from ts d no_in (suc n) m i a j ≡ binary_from ts d no_in n m i (infix_node op a b (span ts i k)) k
   unfolding binary_from binary_by
-  joint_step no_in n m i j k a b op e l h = rw (e.is, le-leb _ _ l, h, binary_from)
+  infix_operator_step no_in n m i j k a b op e l h = rw (e.is, le-leb _ _ l, h, binary_from)
 
-  binary_by_stop : (no_in : Bool) (go : Expr → ℕ → Read Expr) (m i j : ℕ) (t : Expr) (o : Option Joint)
-      → (nat_le 1 (looseness_of o) && nat_le (looseness_of o) m) ≡ false → nat_le 1 (looseness_of o) ≡ is_some o
+  binary_by_stop : (no_in : Bool) (go : Expr → ℕ → Read Expr) (m i j : ℕ) (t : Expr) (o : Option InfixOperator)
+      → (nat_le 1 (infix_precedence_of o) && nat_le (infix_precedence_of o) m) ≡ false → nat_le 1 (infix_precedence_of o) ≡ is_some o
       → binary_by ts d no_in go m i t j o ≡ Some (t, j)
   unfolding binary_by
   binary_by_stop no_in go m i j t None h q = refl
   binary_by_stop no_in go m i j t (Some op) h q =
-      rw (binary_by_false (nat_le 1 (looseness op)) (nat_le (looseness op) m) h q, binary_by)
+      rw (binary_by_false (nat_le 1 (infix_precedence op)) (nat_le (infix_precedence op) m) h q, binary_by)
     where
       binary_by_false : (a b : Bool) → (a && b) ≡ false → a ≡ true → b ≡ false
       binary_by_false true b h q = h
       binary_by_false false b h q = cc
 
-  pub binary_stop : (no_in : Bool) (n m i j : ℕ) (t : Expr) → continues no_in m (sign_at ts j) ≡ false
+  pub binary_stop : (no_in : Bool) (n m i j : ℕ) (t : Expr) → continues no_in m (terminal_at ts j) ≡ false
       → binary_from ts d no_in n m i t j ≡ Some (t, j)
   unfolding binary_from
   binary_stop no_in zero m i j t h = rw (h, binary_from)
   binary_stop no_in (suc n) m i j t h = binary_by_stop no_in (binary_from ts d no_in n m i) m i j t
-      (joint no_in (sign_at ts j)) h (some_looseness (joint no_in (sign_at ts j)))
+      (infix_operator no_in (terminal_at ts j)) h (some_looseness (infix_operator no_in (terminal_at ts j)))
 
   pub no_question_step : (no_in : Bool) (n i j : ℕ) (t : Expr) → binary_at ts d no_in n 10 i ≡ Some (t, j)
-      → is_question (sign_at ts j) ≡ false → conditional_at ts d no_in n i ≡ Some (t, j)
+      → is_question (terminal_at ts j) ≡ false → conditional_at ts d no_in n i ≡ Some (t, j)
   unfolding conditional_at conditional_from
   no_question_step no_in n i j t h e = rw (h, e, conditional_at)
 
@@ -367,10 +367,10 @@ module _ (ts : List Token) (d : Deeper) where
   no_assignment_by no_in i j t (Some op) h = cc
 
   pub no_assign_step : (no_in : Bool) (n i j : ℕ) (t : Expr) → conditional_at ts d no_in n i ≡ Some (t, j)
-      → assigns (sign_at ts j) ≡ false → assignment_at ts d no_in n i ≡ Some (t, j)
+      → assigns (terminal_at ts j) ≡ false → assignment_at ts d no_in n i ≡ Some (t, j)
   unfolding assignment_at
   no_assign_step no_in n i j t h e = rw (h, assignment_at)
-      (no_assignment_by no_in i j t (assign_operator (sign_at ts j)) e)
+      (no_assignment_by no_in i j t (assign_operator (terminal_at ts j)) e)
 
   pub assign_step : (no_in : Bool) (n i j k : ℕ) (t v : Expr) (g : Tree Span tree.target) (op : Option BinOp)
       → conditional_at ts d no_in n i ≡ Some (t, j) → IsTarget t g → AssignsAt ts j op
@@ -390,7 +390,7 @@ module _ (ts : List Token) (d : Deeper) where
   unfolding comma_from
   comma_step no_in n i j k a b e h = rw (e.is, h, comma_from)
 
-  pub comma_stop : (no_in : Bool) (n i j : ℕ) (t : Expr) → is_comma (sign_at ts j) ≡ false
+  pub comma_stop : (no_in : Bool) (n i j : ℕ) (t : Expr) → is_comma (terminal_at ts j) ≡ false
       → comma_from ts d no_in n i t j ≡ Some (t, j)
   unfolding comma_from
   comma_stop no_in zero i j t h = rw (h, comma_from)

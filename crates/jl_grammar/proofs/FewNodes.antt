@@ -1,10 +1,10 @@
 -- What is read has no more nodes than tokens.
 use Rattle.std.proofs.Common.{◌≡◌, ℕ, ◌+◌, ◌≤◌, Bool, List, Some, refl, ap, ◌∙◌, arith}
-use Rattle.jl_ast.specs.Tree.{Ident, Program, Tree, Row, Maybe}
+use Rattle.jl_ast.specs.Tree.{Ident, Program, Tree, Forest, OptionalTree}
 use Rattle.jl_ast.specs.Tree as tree
 use Rattle.jl_text.specs.declared.span.Span.{Span}
 use Rattle.jl_token.specs.declared.token.Token.{Token}
-use Rattle.jl_grammar.specs.declared.sign.Sign.{Sign}
+use Rattle.jl_grammar.specs.declared.terminal.Terminal.{Terminal}
 use Rattle.jl_grammar.specs.Reads.{Expr, Stmt, Exprs, Stmts, Code, IsTarget, ReadsPrimary, a_this}
 use Rattle.jl_grammar.specs.Reads.{a_name, a_null, a_true, a_false, a_number, a_string, an_array, an_object}
 use Rattle.jl_grammar.specs.Reads.{in_parens, a_function, a_named_function, ReadsItems, no_items, a_hole, last_item}
@@ -13,7 +13,7 @@ use Rattle.jl_grammar.specs.Reads.{a_value, a_getter, a_setter, ReadsRest, a_res
 use Rattle.jl_grammar.specs.Reads.{an_index, a_call, a_new, a_bare_new, ReadsLeft, whole_left, ReadsArguments}
 use Rattle.jl_grammar.specs.Reads.{no_arguments, arguments, ReadsArgumentList, last_argument, more_arguments}
 use Rattle.jl_grammar.specs.Reads.{ReadsPostfix, left, a_postfix, ReadsUnary, postfix, a_prefix, an_update}
-use Rattle.jl_grammar.specs.Reads.{BeginsBinary, operand, tighter, a_joint, ReadsBinary, whole_binary}
+use Rattle.jl_grammar.specs.Reads.{BeginsBinary, operand, tighter, an_infix_operator, ReadsBinary, whole_binary}
 use Rattle.jl_grammar.specs.Reads.{ReadsConditional, operands, a_conditional, ReadsAssignment, conditional}
 use Rattle.jl_grammar.specs.Reads.{an_assignment, BeginsExpression, assignment, a_comma, ReadsExpression}
 use Rattle.jl_grammar.specs.Reads.{whole_expression, ReadsStatement, a_block, a_var, an_empty, an_expression}
@@ -23,19 +23,19 @@ use Rattle.jl_grammar.specs.Reads.{a_label, a_throw, a_try_catch, a_try_finally,
 use Rattle.jl_grammar.specs.Reads.{in_braces, ReadsStatements, no_statements, more_statements, ReadsSub, several}
 use Rattle.jl_grammar.specs.Reads.{alone, ReadsHead, a_head, ReadsDeclaration, declared, initialised}
 use Rattle.jl_grammar.specs.Reads.{ReadsDeclarations, last_declaration, more_declarations, ReadsInit, no_init}
-use Rattle.jl_grammar.specs.Reads.{an_init, init_vars, ReadsMaybe, no_expression, one_expression, ReadsClauses}
+use Rattle.jl_grammar.specs.Reads.{an_init, init_vars, ReadsOptional, no_expression, one_expression, ReadsClauses}
 use Rattle.jl_grammar.specs.Reads.{no_clauses, a_case, a_default, ReadsCatch, a_catch, ReadsElements, no_elements}
 use Rattle.jl_grammar.specs.Reads.{a_declaration, a_statement, ReadsFunction, a_declared_function, ReadsBody}
 use Rattle.jl_grammar.specs.Reads.{a_directive, no_directive}
 use Rattle.jl_grammar.specs.Laws.{FewNodes, FunctionsAreNodes}
 use Rattle.jl_grammar.specs.Next.{target_of}
-use Rattle.jl_grammar.specs.Nodes.{nodes, nodes_row, nodes_maybe}
-use Rattle.jl_grammar.specs.Operators.{Joint, joined, plain, both, either}
+use Rattle.jl_grammar.specs.Nodes.{nodes, nodes_forest, nodes_optional}
+use Rattle.jl_grammar.specs.Operators.{InfixOperator, infix_node, plain, both, either}
 use Rattle.jl_grammar.specs.Tokens.{span}
 use Rattle.jl_grammar.proofs.CountedNodes.{counted, renumbered}
 use Rattle.jl_grammar.proofs.Progress.{ends_at_goes, parameters_goes}
 
-joined_nodes : (op : Joint) (a b : Expr) (s : Span) → nodes (joined op a b s) ≡ nodes a + nodes b + 1
+joined_nodes : (op : InfixOperator) (a b : Expr) (s : Span) → nodes (infix_node op a b s) ≡ nodes a + nodes b + 1
 joined_nodes (plain op) a b s = refl
 joined_nodes both a b s = refl
 joined_nodes either a b s = refl
@@ -67,15 +67,15 @@ mutual
   primary_few (a_function a b) = let rb = rest_few b in omega arith
   primary_few (a_named_function a b c) = let rc = rest_few c in omega arith
 
-  pub items_few : {ts : List Token} {i : ℕ} {t : Row Span tree.item} {j : ℕ}
-      → ReadsItems ts i t j → nodes_row t + i ≤ j
+  pub items_few : {ts : List Token} {i : ℕ} {t : Forest Span tree.item} {j : ℕ}
+      → ReadsItems ts i t j → nodes_forest t + i ≤ j
   items_few (no_items a) = omega arith
   items_few (a_hole a b) = let rb = items_few b in omega arith
   items_few (last_item a b) = let ra = assignment_few a in omega arith
   items_few (more_items a b c) = let ra = assignment_few a in let rc = items_few c in omega arith
 
-  pub entries_few : {ts : List Token} {i : ℕ} {t : Row Span tree.entry} {j : ℕ}
-      → ReadsEntries ts i t j → nodes_row t + i ≤ j
+  pub entries_few : {ts : List Token} {i : ℕ} {t : Forest Span tree.entry} {j : ℕ}
+      → ReadsEntries ts i t j → nodes_forest t + i ≤ j
   entries_few (no_entries a) = omega arith
   entries_few (last_entry a b) = let ra = entry_few a in omega arith
   entries_few (more_entries a b c) = let ra = entry_few a in let rc = entries_few c in omega arith
@@ -104,12 +104,12 @@ mutual
   left_few (whole_left a b) = let ra = begins_left_few a in omega arith
 
   pub arguments_few : {ts : List Token} {i : ℕ} {t : Exprs} {j : ℕ}
-      → ReadsArguments ts i t j → nodes_row t + i ≤ j
+      → ReadsArguments ts i t j → nodes_forest t + i ≤ j
   arguments_few (no_arguments a) = omega arith
   arguments_few (arguments a) = let ra = argument_list_few a in omega arith
 
   pub argument_list_few : {ts : List Token} {i : ℕ} {t : Exprs} {j : ℕ}
-      → ReadsArgumentList ts i t j → nodes_row t + i ≤ j
+      → ReadsArgumentList ts i t j → nodes_forest t + i ≤ j
   argument_list_few (last_argument a b) = let ra = assignment_few a in omega arith
   argument_list_few (more_arguments a b c) = let ra = assignment_few a in let rc = argument_list_few c in
       omega arith
@@ -127,7 +127,7 @@ mutual
       → BeginsBinary ts no_in l i t j → nodes t + i ≤ j
   begins_binary_few (operand a) = let ra = unary_few a in omega arith
   begins_binary_few (tighter a) = let ra = binary_few a in omega arith
-  begins_binary_few {ts} {i} {j = k} (a_joint {a = x} {b = y} {op} a b c d) = let ra = begins_binary_few a in
+  begins_binary_few {ts} {i} {j = k} (an_infix_operator {a = x} {b = y} {op} a b c d) = let ra = begins_binary_few a in
       let rd = binary_few d in let e = joined_nodes op x y (span ts i k) in omega arith
 
   pub binary_few : {ts : List Token} {no_in : Bool} {l i : ℕ} {t : Expr} {j : ℕ}
@@ -167,7 +167,7 @@ mutual
   statement_few (a_do_while a b c d e) = let rb = sub_few b in let rd = head_few d in let re = ends_at_goes e in
       omega arith
   statement_few (a_while a b c) = let rb = head_few b in let rc = sub_few c in omega arith
-  statement_few (a_for a b c d e f g h m) = let rc = init_few c in let re = maybe_few e in let rg = maybe_few g in
+  statement_few (a_for a b c d e f g h m) = let rc = init_few c in let re = optional_few e in let rg = optional_few g in
       let rm = sub_few m in omega arith
   statement_few (a_for_in a b c d e f g) = let rc = left_few c in let re = expression_few e in
       let rg = sub_few g in omega arith
@@ -187,15 +187,15 @@ mutual
       omega arith
   statement_few (a_debugger a b) = let rb = ends_at_goes b in omega arith
 
-  pub block_few : {ts : List Token} {i : ℕ} {t : Stmts} {j : ℕ} → ReadsBlock ts i t j → nodes_row t + i ≤ j
+  pub block_few : {ts : List Token} {i : ℕ} {t : Stmts} {j : ℕ} → ReadsBlock ts i t j → nodes_forest t + i ≤ j
   block_few (in_braces a b c) = let rb = statements_few b in omega arith
 
   pub statements_few : {ts : List Token} {i : ℕ} {t : Stmts} {j : ℕ}
-      → ReadsStatements ts i t j → nodes_row t + i ≤ j
+      → ReadsStatements ts i t j → nodes_forest t + i ≤ j
   statements_few (no_statements a) = omega arith
   statements_few (more_statements a b) = let ra = statement_few a in let rb = statements_few b in omega arith
 
-  pub sub_few : {ts : List Token} {i : ℕ} {t : Stmts} {j : ℕ} → ReadsSub ts i t j → nodes_row t + i ≤ j
+  pub sub_few : {ts : List Token} {i : ℕ} {t : Stmts} {j : ℕ} → ReadsSub ts i t j → nodes_forest t + i ≤ j
   sub_few (several a) = let ra = block_few a in omega arith
   sub_few (alone a b) = let rb = statement_few b in omega arith
 
@@ -207,8 +207,8 @@ mutual
   declaration_few (declared a b) = omega arith
   declaration_few (initialised a b c) = let rc = assignment_few c in omega arith
 
-  pub declarations_few : {ts : List Token} {no_in : Bool} {i : ℕ} {t : Row Span tree.decl} {j : ℕ}
-      → ReadsDeclarations ts no_in i t j → nodes_row t + i ≤ j
+  pub declarations_few : {ts : List Token} {no_in : Bool} {i : ℕ} {t : Forest Span tree.decl} {j : ℕ}
+      → ReadsDeclarations ts no_in i t j → nodes_forest t + i ≤ j
   declarations_few (last_declaration a b) = let ra = declaration_few a in omega arith
   declarations_few (more_declarations a b c) = let ra = declaration_few a in let rc = declarations_few c in
       omega arith
@@ -219,13 +219,13 @@ mutual
   init_few (an_init a) = let ra = expression_few a in omega arith
   init_few (init_vars a b) = let rb = declarations_few b in omega arith
 
-  pub maybe_few : {ts : List Token} {k : Sign} {i : ℕ} {t : Maybe Span tree.expr} {j : ℕ}
-      → ReadsMaybe ts k i t j → nodes_maybe t + i ≤ j
-  maybe_few (no_expression a) = omega arith
-  maybe_few (one_expression a) = let ra = expression_few a in omega arith
+  pub optional_few : {ts : List Token} {k : Terminal} {i : ℕ} {t : OptionalTree Span tree.expr} {j : ℕ}
+      → ReadsOptional ts k i t j → nodes_optional t + i ≤ j
+  optional_few (no_expression a) = omega arith
+  optional_few (one_expression a) = let ra = expression_few a in omega arith
 
-  pub clauses_few : {ts : List Token} {fresh : Bool} {i : ℕ} {t : Row Span tree.clause} {j : ℕ}
-      → ReadsClauses ts fresh i t j → nodes_row t + i ≤ j
+  pub clauses_few : {ts : List Token} {fresh : Bool} {i : ℕ} {t : Forest Span tree.clause} {j : ℕ}
+      → ReadsClauses ts fresh i t j → nodes_forest t + i ≤ j
   clauses_few (no_clauses a) = omega arith
   clauses_few (a_case a b c d e) = let rb = expression_few b in let rd = statements_few d in
       let re = clauses_few e in omega arith
@@ -235,8 +235,8 @@ mutual
       → ReadsCatch ts i t j → nodes t + i ≤ j
   catch_few (a_catch a b c d e) = let re = block_few e in omega arith
 
-  pub elements_few : {ts : List Token} {i : ℕ} {fs : Row Span tree.func} {ws : Stmts} {j : ℕ}
-      → ReadsElements ts i fs ws j → nodes_row fs + nodes_row ws + i ≤ j
+  pub elements_few : {ts : List Token} {i : ℕ} {fs : Forest Span tree.func} {ws : Stmts} {j : ℕ}
+      → ReadsElements ts i fs ws j → nodes_forest fs + nodes_forest ws + i ≤ j
   elements_few (no_elements a) = omega arith
   elements_few (a_declaration a b) = let ra = function_few a in let rb = elements_few b in omega arith
   elements_few (a_statement a b) = let ra = statement_few a in let rb = elements_few b in omega arith

@@ -2,9 +2,9 @@
 use Rattle.std.proofs.Common.{◌≡◌, Bool, true, false, not, ◌&&◌, refl}
 use Rattle.std.specs.Prelude.{Option, Some, None, IfSome, option_and_then, if◌then◌else◌}
 use Rattle.jl_token.specs.declared.punct.Punct.TheVariants as puncts
-use Rattle.jl_grammar.specs.declared.sign.Sign.TheVariants as signs
+use Rattle.jl_grammar.specs.declared.terminal.Terminal.TheVariants as terminals
 use Rattle.jl_grammar.specs.declared.word.Word.TheVariants as words
-use Rattle.jl_grammar.specs.declared.sign.Sign.{Sign}
+use Rattle.jl_grammar.specs.declared.terminal.Terminal.{Terminal}
 use Rattle.jl_grammar.specs.Next.{is_open_paren, is_open_brace, is_semicolon, is_comma, is_colon, is_question}
 use Rattle.jl_grammar.specs.Next.{is_equals, is_else, is_finally, is_string}
 use Rattle.jl_grammar.specs.Reader.{is_close_paren, is_close_bracket, is_close_brace, is_function, is_new, is_while}
@@ -59,86 +59,86 @@ pub told : {A : Type 0} (o : Option A) → Holds o (λ x. o ≡ Some x)
 told None = nothing
 told (Some x) = just refl
 
-pub close_paren_sign : (k : Sign) → is_close_paren k ≡ true → k ≡ signs.Punct puncts.RightParen
-close_paren_sign (signs.Punct puncts.RightParen) h = refl
-close_paren_sign _ h = cc
+pub close_paren_terminal : (k : Terminal) → is_close_paren k ≡ true → k ≡ terminals.Punct puncts.RightParen
+close_paren_terminal (terminals.Punct puncts.RightParen) h = refl
+close_paren_terminal _ h = cc
 
-pub close_bracket_sign : (k : Sign) → is_close_bracket k ≡ true → k ≡ signs.Punct puncts.RightBracket
-close_bracket_sign (signs.Punct puncts.RightBracket) h = refl
-close_bracket_sign _ h = cc
+pub close_bracket_terminal : (k : Terminal) → is_close_bracket k ≡ true → k ≡ terminals.Punct puncts.RightBracket
+close_bracket_terminal (terminals.Punct puncts.RightBracket) h = refl
+close_bracket_terminal _ h = cc
 
-pub close_brace_sign : (k : Sign) → is_close_brace k ≡ true → k ≡ signs.Punct puncts.RightBrace
-close_brace_sign (signs.Punct puncts.RightBrace) h = refl
-close_brace_sign _ h = cc
+pub close_brace_terminal : (k : Terminal) → is_close_brace k ≡ true → k ≡ terminals.Punct puncts.RightBrace
+close_brace_terminal (terminals.Punct puncts.RightBrace) h = refl
+close_brace_terminal _ h = cc
 
-pub open_paren_sign : (k : Sign) → is_open_paren k ≡ true → k ≡ signs.Punct puncts.LeftParen
-open_paren_sign (signs.Punct puncts.LeftParen) h = refl
-open_paren_sign _ h = cc
+pub open_paren_terminal : (k : Terminal) → is_open_paren k ≡ true → k ≡ terminals.Punct puncts.LeftParen
+open_paren_terminal (terminals.Punct puncts.LeftParen) h = refl
+open_paren_terminal _ h = cc
 
-pub open_brace_sign : (k : Sign) → is_open_brace k ≡ true → k ≡ signs.Punct puncts.LeftBrace
-open_brace_sign (signs.Punct puncts.LeftBrace) h = refl
-open_brace_sign _ h = cc
+pub open_brace_terminal : (k : Terminal) → is_open_brace k ≡ true → k ≡ terminals.Punct puncts.LeftBrace
+open_brace_terminal (terminals.Punct puncts.LeftBrace) h = refl
+open_brace_terminal _ h = cc
 
-pub semicolon_sign : (k : Sign) → is_semicolon k ≡ true → k ≡ signs.Punct puncts.Semicolon
-semicolon_sign (signs.Punct puncts.Semicolon) h = refl
-semicolon_sign _ h = cc
+pub semicolon_terminal : (k : Terminal) → is_semicolon k ≡ true → k ≡ terminals.Punct puncts.Semicolon
+semicolon_terminal (terminals.Punct puncts.Semicolon) h = refl
+semicolon_terminal _ h = cc
 
-pub comma_sign : (k : Sign) → is_comma k ≡ true → k ≡ signs.Punct puncts.Comma
-comma_sign (signs.Punct puncts.Comma) h = refl
-comma_sign _ h = cc
+pub comma_terminal : (k : Terminal) → is_comma k ≡ true → k ≡ terminals.Punct puncts.Comma
+comma_terminal (terminals.Punct puncts.Comma) h = refl
+comma_terminal _ h = cc
 
-pub colon_sign : (k : Sign) → is_colon k ≡ true → k ≡ signs.Punct puncts.Colon
-colon_sign (signs.Punct puncts.Colon) h = refl
-colon_sign _ h = cc
+pub colon_terminal : (k : Terminal) → is_colon k ≡ true → k ≡ terminals.Punct puncts.Colon
+colon_terminal (terminals.Punct puncts.Colon) h = refl
+colon_terminal _ h = cc
 
-pub question_sign : (k : Sign) → is_question k ≡ true → k ≡ signs.Punct puncts.Question
-question_sign (signs.Punct puncts.Question) h = refl
-question_sign _ h = cc
+pub question_terminal : (k : Terminal) → is_question k ≡ true → k ≡ terminals.Punct puncts.Question
+question_terminal (terminals.Punct puncts.Question) h = refl
+question_terminal _ h = cc
 
-pub equals_sign : (k : Sign) → is_equals k ≡ true → k ≡ signs.Punct puncts.Assign
-equals_sign (signs.Punct puncts.Assign) h = refl
-equals_sign _ h = cc
+pub equals_terminal : (k : Terminal) → is_equals k ≡ true → k ≡ terminals.Punct puncts.Assign
+equals_terminal (terminals.Punct puncts.Assign) h = refl
+equals_terminal _ h = cc
 
-pub else_sign : (k : Sign) → is_else k ≡ true → k ≡ signs.Word words.Else
-else_sign (signs.Word words.Else) h = refl
-else_sign _ h = cc
+pub else_terminal : (k : Terminal) → is_else k ≡ true → k ≡ terminals.Word words.Else
+else_terminal (terminals.Word words.Else) h = refl
+else_terminal _ h = cc
 
-pub finally_sign : (k : Sign) → is_finally k ≡ true → k ≡ signs.Word words.Finally
-finally_sign (signs.Word words.Finally) h = refl
-finally_sign _ h = cc
+pub finally_terminal : (k : Terminal) → is_finally k ≡ true → k ≡ terminals.Word words.Finally
+finally_terminal (terminals.Word words.Finally) h = refl
+finally_terminal _ h = cc
 
-pub string_sign : (k : Sign) → is_string k ≡ true → k ≡ signs.Str
-string_sign signs.Str h = refl
-string_sign _ h = cc
+pub string_terminal : (k : Terminal) → is_string k ≡ true → k ≡ terminals.Str
+string_terminal terminals.Str h = refl
+string_terminal _ h = cc
 
-pub function_sign : (k : Sign) → is_function k ≡ true → k ≡ signs.Word words.Function
-function_sign (signs.Word words.Function) h = refl
-function_sign _ h = cc
+pub function_terminal : (k : Terminal) → is_function k ≡ true → k ≡ terminals.Word words.Function
+function_terminal (terminals.Word words.Function) h = refl
+function_terminal _ h = cc
 
-pub new_sign : (k : Sign) → is_new k ≡ true → k ≡ signs.Word words.New
-new_sign (signs.Word words.New) h = refl
-new_sign _ h = cc
+pub new_terminal : (k : Terminal) → is_new k ≡ true → k ≡ terminals.Word words.New
+new_terminal (terminals.Word words.New) h = refl
+new_terminal _ h = cc
 
-pub while_sign : (k : Sign) → is_while k ≡ true → k ≡ signs.Word words.While
-while_sign (signs.Word words.While) h = refl
-while_sign _ h = cc
+pub while_terminal : (k : Terminal) → is_while k ≡ true → k ≡ terminals.Word words.While
+while_terminal (terminals.Word words.While) h = refl
+while_terminal _ h = cc
 
-pub in_sign : (k : Sign) → is_in k ≡ true → k ≡ signs.Word words.In
-in_sign (signs.Word words.In) h = refl
-in_sign _ h = cc
+pub in_terminal : (k : Terminal) → is_in k ≡ true → k ≡ terminals.Word words.In
+in_terminal (terminals.Word words.In) h = refl
+in_terminal _ h = cc
 
-pub var_sign : (k : Sign) → is_var k ≡ true → k ≡ signs.Word words.Var
-var_sign (signs.Word words.Var) h = refl
-var_sign _ h = cc
+pub var_terminal : (k : Terminal) → is_var k ≡ true → k ≡ terminals.Word words.Var
+var_terminal (terminals.Word words.Var) h = refl
+var_terminal _ h = cc
 
-pub case_sign : (k : Sign) → is_case k ≡ true → k ≡ signs.Word words.Case
-case_sign (signs.Word words.Case) h = refl
-case_sign _ h = cc
+pub case_terminal : (k : Terminal) → is_case k ≡ true → k ≡ terminals.Word words.Case
+case_terminal (terminals.Word words.Case) h = refl
+case_terminal _ h = cc
 
-pub default_sign : (k : Sign) → is_default k ≡ true → k ≡ signs.Word words.Default
-default_sign (signs.Word words.Default) h = refl
-default_sign _ h = cc
+pub default_terminal : (k : Terminal) → is_default k ≡ true → k ≡ terminals.Word words.Default
+default_terminal (terminals.Word words.Default) h = refl
+default_terminal _ h = cc
 
-pub catch_sign : (k : Sign) → is_catch k ≡ true → k ≡ signs.Word words.Catch
-catch_sign (signs.Word words.Catch) h = refl
-catch_sign _ h = cc
+pub catch_terminal : (k : Terminal) → is_catch k ≡ true → k ≡ terminals.Word words.Catch
+catch_terminal (terminals.Word words.Catch) h = refl
+catch_terminal _ h = cc

@@ -10,11 +10,11 @@ use Rattle.jl_text.specs.declared.span.Span.{Span}
 use Rattle.jl_token.specs.declared.token.Token.{Token}
 use Rattle.jl_grammar.specs.declared.word.Word.TheVariants as words
 use Rattle.jl_grammar.specs.Next.{keyword, is_question, is_comma, updates_at, target_of}
-use Rattle.jl_grammar.specs.Operators.{Joint, plain, both, either, joined, continues, assigns, updates}
+use Rattle.jl_grammar.specs.Operators.{InfixOperator, plain, both, either, infix_node, continues, assigns, updates}
 use Rattle.jl_grammar.specs.Reads.{Expr, Stmt, Code, AssignsAt, IsTarget}
 use Rattle.jl_grammar.specs.Reader.{Read, Deeper, deeper, expression_at, assignment_at, unary_at, binary_at}
 use Rattle.jl_grammar.specs.Reader.{conditional_at, left_at, statement_at, rest_at}
-use Rattle.jl_grammar.specs.Tokens.{At, sign_at, line_at}
+use Rattle.jl_grammar.specs.Tokens.{At, terminal_at, line_at}
 use Rattle.jl_grammar.proofs.Expressions.{no_postfix_step, no_prefix_step, binary_step, binary_stop}
 use Rattle.jl_grammar.proofs.Expressions.{no_question_step, no_assign_step, expression_step, comma_stop}
 use Rattle.jl_grammar.proofs.Starts.{begins_left, left_is_no_prefix, left_is_no_update, assign_updates_not}
@@ -32,7 +32,7 @@ pub statement_pos : (t : Stmt) → 1 ≤ height t
 statement_pos (tree.empty s) = omega arith
 statement_pos _ = omega arith
 
-pub joined_height : (op : Joint) (a b : Expr) (s : Span) → height (joined op a b s) ≡ max (height a) (height b) + 1
+pub joined_height : (op : InfixOperator) (a b : Expr) (s : Span) → height (infix_node op a b s) ≡ max (height a) (height b) + 1
 joined_height (plain op) a b s = refl
 joined_height both a b s = refl
 joined_height either a b s = refl
@@ -52,22 +52,22 @@ target_height t g h = of_target t g h.is
 
 -- a left-hand side before an assignment operator is a whole conditional expression
 pub left_conditional : (ts : List Token) (d : Deeper) (no_in : Bool) (n i j : ℕ) (t : Expr) (op : Option BinOp)
-    → begins_left (sign_at ts i) ≡ true → left_at ts d true n i ≡ Some (t, j) → AssignsAt ts j op
+    → begins_left (terminal_at ts i) ≡ true → left_at ts d true n i ≡ Some (t, j) → AssignsAt ts j op
     → conditional_at ts d no_in n i ≡ Some (t, j)
 left_conditional ts d no_in n i j t op b h e =
-    let u : updates_at ts j ≡ false = ap (λ x. x && not (line_at ts j)) (assign_updates_not (sign_at ts j) op e.is) in
-    let p = no_prefix_step ts d n i j t (left_is_no_prefix (sign_at ts i) b) (left_is_no_update (sign_at ts i) b)
+    let u : updates_at ts j ≡ false = ap (λ x. x && not (line_at ts j)) (assign_updates_not (terminal_at ts j) op e.is) in
+    let p = no_prefix_step ts d n i j t (left_is_no_prefix (terminal_at ts i) b) (left_is_no_update (terminal_at ts i) b)
     (no_postfix_step ts d n i j t h u) in
     no_question_step ts d no_in n i j t (binary_step ts d no_in n 10 i j t p
-    ∙ binary_stop ts d no_in n 10 i j t (assign_joins_not no_in (sign_at ts j) op e.is))
-    (assign_is_no_question (sign_at ts j) op e.is)
+    ∙ binary_stop ts d no_in n 10 i j t (assign_joins_not no_in (terminal_at ts j) op e.is))
+    (assign_is_no_question (terminal_at ts j) op e.is)
 
 -- a left-hand side before an `in` that is no operator is a whole expression
-pub left_expression : (ts : List Token) (d : Deeper) (n i j : ℕ) (t : Expr) → begins_left (sign_at ts i) ≡ true
+pub left_expression : (ts : List Token) (d : Deeper) (n i j : ℕ) (t : Expr) → begins_left (terminal_at ts i) ≡ true
     → left_at ts d true n i ≡ Some (t, j) → At ts j (keyword words.In) → expression_at ts d true n i ≡ Some (t, j)
 left_expression ts d n i j t b h e =
     let u : updates_at ts j ≡ false = ap (λ k. updates k && not (line_at ts j)) e.is in
-    let p = no_prefix_step ts d n i j t (left_is_no_prefix (sign_at ts i) b) (left_is_no_update (sign_at ts i) b)
+    let p = no_prefix_step ts d n i j t (left_is_no_prefix (terminal_at ts i) b) (left_is_no_update (terminal_at ts i) b)
     (no_postfix_step ts d n i j t h u) in
     let q = no_question_step ts d true n i j t (binary_step ts d true n 10 i j t p
     ∙ binary_stop ts d true n 10 i j t (ap (continues true 10) e.is)) (ap is_question e.is) in

@@ -8,13 +8,13 @@ use Rattle.jl_ast.specs.Height.{height, program_height}
 use Rattle.jl_ast.specs.Tree.{Program}
 use Rattle.jl_text.specs.declared.span.Span.{Span}
 use Rattle.jl_token.specs.declared.token.Token.{Token}
-use Rattle.jl_grammar.specs.declared.sign.Sign.TheVariants as signs
+use Rattle.jl_grammar.specs.declared.terminal.Terminal.TheVariants as terminals
 use Rattle.jl_grammar.specs.Brackets.{bracket, opened}
 use Rattle.jl_grammar.specs.Laws.{OneReading, LimitsAgree, ReaderTells}
 use Rattle.jl_grammar.specs.Program.{Reads, program_of}
 use Rattle.jl_grammar.specs.Reader.{body_from, deeper, is_shallow, program_at}
 use Rattle.jl_grammar.specs.Reads.{Code, ReadsBody}
-use Rattle.jl_grammar.specs.Tokens.{sign_at}
+use Rattle.jl_grammar.specs.Tokens.{terminal_at}
 use Rattle.jl_grammar.proofs.Holds.{both_true}
 use Rattle.jl_grammar.proofs.Complete.{body_complete}
 use Rattle.jl_ast.proofs.SameHeight.{renumbered}
@@ -67,7 +67,7 @@ shallow_up_to ts most (suc n) h i l =
     up_to (inl k) a f = f (omega arith)
     up_to (inr k) a f = let e : i ≡ suc n = omega arith in let q = ap (opened ts) e in omega arith
 
-end_past : (ts : List Token) (i : ℕ) → length ts ≤ i → sign_at ts i ≡ signs.End
+end_past : (ts : List Token) (i : ℕ) → length ts ≤ i → terminal_at ts i ≡ terminals.End
 end_past [] i h = refl
 end_past (t ∷ ts) zero h = absurd (omega arith)
 end_past (t ∷ ts) (suc i) h = end_past ts i (omega arith)

@@ -1,10 +1,10 @@
 -- What is read has a token, and what may be nothing does not go back.
 use Rattle.std.proofs.Common.{ℕ, ◌<◌, ◌≤◌, Bool, List, arith}
-use Rattle.jl_ast.specs.Tree.{Ident, Tree, Row, Maybe}
+use Rattle.jl_ast.specs.Tree.{Ident, Tree, Forest, OptionalTree}
 use Rattle.jl_ast.specs.Tree as tree
 use Rattle.jl_text.specs.declared.span.Span.{Span}
 use Rattle.jl_token.specs.declared.token.Token.{Token}
-use Rattle.jl_grammar.specs.declared.sign.Sign.{Sign}
+use Rattle.jl_grammar.specs.declared.terminal.Terminal.{Terminal}
 use Rattle.jl_grammar.specs.Reads.{Expr, Stmt, Exprs, Stmts, Code, EndsAt, there, inserted, ReadsNames, last_name}
 use Rattle.jl_grammar.specs.Reads.{more_names, ReadsParameters, no_parameters, parameters, ReadsPrimary, a_this}
 use Rattle.jl_grammar.specs.Reads.{a_name, a_null, a_true, a_false, a_number, a_string, an_array, an_object}
@@ -14,7 +14,7 @@ use Rattle.jl_grammar.specs.Reads.{a_value, a_getter, a_setter, ReadsRest, a_res
 use Rattle.jl_grammar.specs.Reads.{an_index, a_call, a_new, a_bare_new, ReadsLeft, whole_left, ReadsArguments}
 use Rattle.jl_grammar.specs.Reads.{no_arguments, arguments, ReadsArgumentList, last_argument, more_arguments}
 use Rattle.jl_grammar.specs.Reads.{ReadsPostfix, left, a_postfix, ReadsUnary, postfix, a_prefix, an_update}
-use Rattle.jl_grammar.specs.Reads.{BeginsBinary, operand, tighter, a_joint, ReadsBinary, whole_binary}
+use Rattle.jl_grammar.specs.Reads.{BeginsBinary, operand, tighter, an_infix_operator, ReadsBinary, whole_binary}
 use Rattle.jl_grammar.specs.Reads.{ReadsConditional, operands, a_conditional, ReadsAssignment, conditional}
 use Rattle.jl_grammar.specs.Reads.{an_assignment, BeginsExpression, assignment, a_comma, ReadsExpression}
 use Rattle.jl_grammar.specs.Reads.{whole_expression, ReadsStatement, a_block, a_var, an_empty, an_expression}
@@ -24,7 +24,7 @@ use Rattle.jl_grammar.specs.Reads.{a_label, a_throw, a_try_catch, a_try_finally,
 use Rattle.jl_grammar.specs.Reads.{in_braces, ReadsStatements, no_statements, more_statements, ReadsSub, several}
 use Rattle.jl_grammar.specs.Reads.{alone, ReadsHead, a_head, ReadsDeclaration, declared, initialised}
 use Rattle.jl_grammar.specs.Reads.{ReadsDeclarations, last_declaration, more_declarations, ReadsInit, no_init}
-use Rattle.jl_grammar.specs.Reads.{an_init, init_vars, ReadsMaybe, no_expression, one_expression, ReadsClauses}
+use Rattle.jl_grammar.specs.Reads.{an_init, init_vars, ReadsOptional, no_expression, one_expression, ReadsClauses}
 use Rattle.jl_grammar.specs.Reads.{no_clauses, a_case, a_default, ReadsCatch, a_catch, ReadsElements, no_elements}
 use Rattle.jl_grammar.specs.Reads.{a_declaration, a_statement, ReadsFunction, a_declared_function, ReadsBody}
 use Rattle.jl_grammar.specs.Reads.{a_directive, no_directive}
@@ -56,13 +56,13 @@ mutual
   primary_goes (a_function a b) = let rb = rest_goes b in omega arith
   primary_goes (a_named_function a b c) = let rc = rest_goes c in omega arith
 
-  pub items_goes : {ts : List Token} {i : ℕ} {t : Row Span tree.item} {j : ℕ} → ReadsItems ts i t j → i < j
+  pub items_goes : {ts : List Token} {i : ℕ} {t : Forest Span tree.item} {j : ℕ} → ReadsItems ts i t j → i < j
   items_goes (no_items a) = omega arith
   items_goes (a_hole a b) = let rb = items_goes b in omega arith
   items_goes (last_item a b) = let ra = assignment_goes a in omega arith
   items_goes (more_items a b c) = let ra = assignment_goes a in let rc = items_goes c in omega arith
 
-  pub entries_goes : {ts : List Token} {i : ℕ} {t : Row Span tree.entry} {j : ℕ} → ReadsEntries ts i t j → i < j
+  pub entries_goes : {ts : List Token} {i : ℕ} {t : Forest Span tree.entry} {j : ℕ} → ReadsEntries ts i t j → i < j
   entries_goes (no_entries a) = omega arith
   entries_goes (last_entry a b) = let ra = entry_goes a in omega arith
   entries_goes (more_entries a b c) = let ra = entry_goes a in let rc = entries_goes c in omega arith
@@ -110,7 +110,7 @@ mutual
       → BeginsBinary ts no_in l i t j → i < j
   begins_binary_goes (operand a) = unary_goes a
   begins_binary_goes (tighter a) = binary_goes a
-  begins_binary_goes (a_joint a b c d) = let ra = begins_binary_goes a in let rd = binary_goes d in omega arith
+  begins_binary_goes (an_infix_operator a b c d) = let ra = begins_binary_goes a in let rd = binary_goes d in omega arith
 
   pub binary_goes : {ts : List Token} {no_in : Bool} {l i : ℕ} {t : Expr} {j : ℕ} → ReadsBinary ts no_in l i t j
       → i < j
@@ -148,7 +148,7 @@ mutual
   statement_goes (a_do_while a b c d e) = let rb = sub_goes b in let rd = head_goes d in let re = ends_at_goes e in
       omega arith
   statement_goes (a_while a b c) = let rb = head_goes b in let rc = sub_goes c in omega arith
-  statement_goes (a_for a b c d e f g h m) = let rc = init_goes c in let re = maybe_goes e in let rg = maybe_goes g in
+  statement_goes (a_for a b c d e f g h m) = let rc = init_goes c in let re = optional_goes e in let rg = optional_goes g in
       let rm = sub_goes m in omega arith
   statement_goes (a_for_in a b c d e f g) = let rc = left_goes c in let re = expression_goes e in
       let rg = sub_goes g in omega arith
@@ -187,7 +187,7 @@ mutual
   declaration_goes (declared a b) = omega arith
   declaration_goes (initialised a b c) = let rc = assignment_goes c in omega arith
 
-  pub declarations_goes : {ts : List Token} {no_in : Bool} {i : ℕ} {t : Row Span tree.decl} {j : ℕ}
+  pub declarations_goes : {ts : List Token} {no_in : Bool} {i : ℕ} {t : Forest Span tree.decl} {j : ℕ}
       → ReadsDeclarations ts no_in i t j → i < j
   declarations_goes (last_declaration a b) = declaration_goes a
   declarations_goes (more_declarations a b c) = let ra = declaration_goes a in let rc = declarations_goes c in
@@ -198,12 +198,12 @@ mutual
   init_goes (an_init a) = let ra = expression_goes a in omega arith
   init_goes (init_vars a b) = let rb = declarations_goes b in omega arith
 
-  pub maybe_goes : {ts : List Token} {k : Sign} {i : ℕ} {t : Maybe Span tree.expr} {j : ℕ} → ReadsMaybe ts k i t j
+  pub optional_goes : {ts : List Token} {k : Terminal} {i : ℕ} {t : OptionalTree Span tree.expr} {j : ℕ} → ReadsOptional ts k i t j
       → i ≤ j
-  maybe_goes (no_expression a) = omega arith
-  maybe_goes (one_expression a) = let ra = expression_goes a in omega arith
+  optional_goes (no_expression a) = omega arith
+  optional_goes (one_expression a) = let ra = expression_goes a in omega arith
 
-  pub clauses_goes : {ts : List Token} {fresh : Bool} {i : ℕ} {t : Row Span tree.clause} {j : ℕ}
+  pub clauses_goes : {ts : List Token} {fresh : Bool} {i : ℕ} {t : Forest Span tree.clause} {j : ℕ}
       → ReadsClauses ts fresh i t j → i ≤ j
   clauses_goes (no_clauses a) = omega arith
   clauses_goes (a_case a b c d e) = let rb = expression_goes b in let rd = statements_goes d in
@@ -213,7 +213,7 @@ mutual
   pub catch_goes : {ts : List Token} {i : ℕ} {t : Tree Span tree.handler} {j : ℕ} → ReadsCatch ts i t j → i < j
   catch_goes (a_catch a b c d e) = let re = block_goes e in omega arith
 
-  pub elements_goes : {ts : List Token} {i : ℕ} {fs : Row Span tree.func} {ws : Stmts} {j : ℕ}
+  pub elements_goes : {ts : List Token} {i : ℕ} {fs : Forest Span tree.func} {ws : Stmts} {j : ℕ}
       → ReadsElements ts i fs ws j → i ≤ j
   elements_goes (no_elements a) = omega arith
   elements_goes (a_declaration a b) = let ra = function_goes a in let rb = elements_goes b in omega arith

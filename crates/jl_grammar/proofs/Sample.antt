@@ -1,6 +1,6 @@
 -- Small texts as tokens, and what they read as without places.
 use Rattle.std.proofs.Common.{ℕ, ◌+◌, Bool, true, false, List, [], ◌∷◌, Option, Some, None, is_some, codes, pos}
-use Rattle.jl_ast.specs.Spans.{bare}
+use Rattle.jl_ast.specs.Spans.{without_spans}
 use Rattle.jl_ast.specs.Tree.{Ident, Program, Text, Tree, code}
 use Rattle.jl_text.specs.declared.span.Span.{Span}
 use Rattle.jl_token.specs.declared.punct.Punct.{Punct}
@@ -29,8 +29,8 @@ string t = (kinds.Str t true, false)
 abbrev pub odd_string : Text → Placeless
 odd_string t = (kinds.Str t false, false)
 
-abbrev pub sign : Punct → Placeless
-sign p = (kinds.Punct p, false)
+abbrev pub terminal : Punct → Placeless
+terminal p = (kinds.Punct p, false)
 
 abbrev pub below : Placeless → Placeless
 below t = (t.0, true)
@@ -43,7 +43,7 @@ placed n (t ∷ ts) = record { kind = t.0; span = record { from = n; to = n + 1 
 
 abbrev without_places : Option (Program Span) → Option (Program (Unit {0}))
 without_places None = None
-without_places (Some p) = Some (bare p)
+without_places (Some p) = Some (without_spans p)
 
 abbrev pub read : List Placeless → Option (Program (Unit {0}))
 read ts = without_places (program_at (placed 0 ts) 10)

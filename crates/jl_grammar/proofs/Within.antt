@@ -1,12 +1,12 @@
 -- What is read stands within the tokens.
 use Rattle.std.proofs.Common.{◌≡◌, ℕ, zero, suc, ◌<◌, ◌≤◌, max, Bool, true, false, ap, refl, ◌∙◌, List, [], ◌∷◌}
 use Rattle.std.proofs.Common.{length, Some, arith}
-use Rattle.jl_grammar.specs.declared.sign.Sign.TheVariants as signs
-use Rattle.jl_ast.specs.Tree.{Ident, Tree, Row, Maybe}
+use Rattle.jl_grammar.specs.declared.terminal.Terminal.TheVariants as terminals
+use Rattle.jl_ast.specs.Tree.{Ident, Tree, Forest, OptionalTree}
 use Rattle.jl_ast.specs.Tree as tree
 use Rattle.jl_text.specs.declared.span.Span.{Span}
 use Rattle.jl_token.specs.declared.token.Token.{Token}
-use Rattle.jl_grammar.specs.declared.sign.Sign.{Sign}
+use Rattle.jl_grammar.specs.declared.terminal.Terminal.{Terminal}
 use Rattle.jl_grammar.specs.Reads.{Expr, Stmt, Exprs, Stmts, Code, UpdateAt, EndsAt, there, inserted, ReadsNames}
 use Rattle.jl_grammar.specs.Reads.{last_name, more_names, ReadsParameters, no_parameters, parameters, ReadsPrimary}
 use Rattle.jl_grammar.specs.Reads.{a_this, a_name, a_null, a_true, a_false, a_number, a_string, an_array, an_object}
@@ -16,7 +16,7 @@ use Rattle.jl_grammar.specs.Reads.{a_value, a_getter, a_setter, ReadsRest, a_res
 use Rattle.jl_grammar.specs.Reads.{an_index, a_call, a_new, a_bare_new, ReadsLeft, whole_left, ReadsArguments}
 use Rattle.jl_grammar.specs.Reads.{no_arguments, arguments, ReadsArgumentList, last_argument, more_arguments}
 use Rattle.jl_grammar.specs.Reads.{ReadsPostfix, left, a_postfix, ReadsUnary, postfix, a_prefix, an_update}
-use Rattle.jl_grammar.specs.Reads.{BeginsBinary, operand, tighter, a_joint, ReadsBinary, whole_binary}
+use Rattle.jl_grammar.specs.Reads.{BeginsBinary, operand, tighter, an_infix_operator, ReadsBinary, whole_binary}
 use Rattle.jl_grammar.specs.Reads.{ReadsConditional, operands, a_conditional, ReadsAssignment, conditional}
 use Rattle.jl_grammar.specs.Reads.{an_assignment, BeginsExpression, assignment, a_comma, ReadsExpression}
 use Rattle.jl_grammar.specs.Reads.{whole_expression, ReadsStatement, a_block, a_var, an_empty, an_expression}
@@ -26,61 +26,61 @@ use Rattle.jl_grammar.specs.Reads.{a_label, a_throw, a_try_catch, a_try_finally,
 use Rattle.jl_grammar.specs.Reads.{in_braces, ReadsStatements, no_statements, more_statements, ReadsSub, several}
 use Rattle.jl_grammar.specs.Reads.{alone, ReadsHead, a_head, ReadsDeclaration, declared, initialised}
 use Rattle.jl_grammar.specs.Reads.{ReadsDeclarations, last_declaration, more_declarations, ReadsInit, no_init}
-use Rattle.jl_grammar.specs.Reads.{an_init, init_vars, ReadsMaybe, no_expression, one_expression, ReadsClauses}
+use Rattle.jl_grammar.specs.Reads.{an_init, init_vars, ReadsOptional, no_expression, one_expression, ReadsClauses}
 use Rattle.jl_grammar.specs.Reads.{no_clauses, a_case, a_default, ReadsCatch, a_catch, ReadsElements, no_elements}
 use Rattle.jl_grammar.specs.Reads.{a_declaration, a_statement, ReadsFunction, a_declared_function, ReadsBody}
 use Rattle.jl_grammar.specs.Reads.{a_directive, no_directive}
 use Rattle.jl_grammar.specs.Next.{is_identifier, is_name, is_key}
 use Rattle.jl_grammar.specs.Operators.{update_operator}
-use Rattle.jl_grammar.specs.Tokens.{At, Is, sign_at}
+use Rattle.jl_grammar.specs.Tokens.{At, Is, terminal_at}
 use Rattle.jl_grammar.proofs.Progress.{ends_at_goes, names_goes, parameters_goes, items_goes, entries_goes}
 use Rattle.jl_grammar.proofs.Progress.{entry_goes, rest_goes, begins_left_goes, left_goes, arguments_goes}
 use Rattle.jl_grammar.proofs.Progress.{argument_list_goes, unary_goes, begins_binary_goes, binary_goes}
 use Rattle.jl_grammar.proofs.Progress.{assignment_goes, begins_expression_goes, expression_goes, statement_goes}
 use Rattle.jl_grammar.proofs.Progress.{block_goes, statements_goes, sub_goes, head_goes, declaration_goes}
-use Rattle.jl_grammar.proofs.Progress.{declarations_goes, init_goes, maybe_goes, clauses_goes, catch_goes}
+use Rattle.jl_grammar.proofs.Progress.{declarations_goes, init_goes, optional_goes, clauses_goes, catch_goes}
 use Rattle.jl_grammar.proofs.Progress.{elements_goes, function_goes, body_goes}
 
-abbrev is_token : Sign → Bool
-is_token signs.End = false
+abbrev is_token : Terminal → Bool
+is_token terminals.End = false
 is_token _ = true
 
 -- a token that is there stands within the list
-token_within : (ts : List Token) (i : ℕ) → is_token (sign_at ts i) ≡ true → i < length ts
+token_within : (ts : List Token) (i : ℕ) → is_token (terminal_at ts i) ≡ true → i < length ts
 token_within [] i h = cc
 token_within (t ∷ ts) zero h = omega arith
 token_within (t ∷ ts) (suc i) h = let g = token_within ts i h in omega arith
 
-pub at_within : {ts : List Token} {i : ℕ} {k : Sign} → At ts i k → is_token k ≡ true → i < length ts
+pub at_within : {ts : List Token} {i : ℕ} {k : Terminal} → At ts i k → is_token k ≡ true → i < length ts
 at_within {ts} {i} e h = token_within ts i (ap is_token e.is ∙ h)
 
-identifier_is : (k : Sign) → is_identifier k ≡ true → is_token k ≡ true
-identifier_is signs.End h = cc
+identifier_is : (k : Terminal) → is_identifier k ≡ true → is_token k ≡ true
+identifier_is terminals.End h = cc
 identifier_is _ h = refl
 
 identifier_within : {ts : List Token} {i : ℕ} → Is is_identifier ts i → i < length ts
-identifier_within {ts} {i} e = token_within ts i (identifier_is (sign_at ts i) e.is)
+identifier_within {ts} {i} e = token_within ts i (identifier_is (terminal_at ts i) e.is)
 
-name_is : (k : Sign) → is_name k ≡ true → is_token k ≡ true
-name_is signs.End h = cc
+name_is : (k : Terminal) → is_name k ≡ true → is_token k ≡ true
+name_is terminals.End h = cc
 name_is _ h = refl
 
 name_within : {ts : List Token} {i : ℕ} → Is is_name ts i → i < length ts
-name_within {ts} {i} e = token_within ts i (name_is (sign_at ts i) e.is)
+name_within {ts} {i} e = token_within ts i (name_is (terminal_at ts i) e.is)
 
 key_within : {ts : List Token} {i : ℕ} → Is is_key ts i → i < length ts
-key_within {ts} {i} e = token_within ts i (key_is (sign_at ts i) e.is)
+key_within {ts} {i} e = token_within ts i (key_is (terminal_at ts i) e.is)
   where
-    key_is : (k : Sign) → is_key k ≡ true → is_token k ≡ true
-    key_is signs.End h = cc
+    key_is : (k : Terminal) → is_key k ≡ true → is_token k ≡ true
+    key_is terminals.End h = cc
     key_is _ h = refl
 
-update_is : (k : Sign) (up : Bool) → update_operator k ≡ Some up → is_token k ≡ true
-update_is signs.End up h = cc
+update_is : (k : Terminal) (up : Bool) → update_operator k ≡ Some up → is_token k ≡ true
+update_is terminals.End up h = cc
 update_is _ up h = refl
 
 update_within : {ts : List Token} {i : ℕ} {up : Bool} → UpdateAt ts i up → i < length ts
-update_within {ts} {i} {up} e = token_within ts i (update_is (sign_at ts i) up e.is)
+update_within {ts} {i} {up} e = token_within ts i (update_is (terminal_at ts i) up e.is)
 
 pub ends_at_within : {ts : List Token} {i j : ℕ} → EndsAt ts i j → j ≤ max i (length ts)
 ends_at_within (there a) = let ra = at_within a refl in omega arith
@@ -117,7 +117,7 @@ mutual
   primary_within (a_named_function a b c) = let ra = at_within a refl in let rb = identifier_within b in
       let rc = rest_within c in let sc = rest_goes c in omega arith
 
-  pub items_within : {ts : List Token} {i : ℕ} {t : Row Span tree.item} {j : ℕ} → ReadsItems ts i t j
+  pub items_within : {ts : List Token} {i : ℕ} {t : Forest Span tree.item} {j : ℕ} → ReadsItems ts i t j
       → j ≤ max i (length ts)
   items_within (no_items a) = let ra = at_within a refl in omega arith
   items_within (a_hole a b) = let ra = at_within a refl in let rb = items_within b in let sb = items_goes b in
@@ -127,7 +127,7 @@ mutual
   items_within (more_items a b c) = let ra = assignment_within a in let sa = assignment_goes a in
       let rb = at_within b refl in let rc = items_within c in let sc = items_goes c in omega arith
 
-  pub entries_within : {ts : List Token} {i : ℕ} {t : Row Span tree.entry} {j : ℕ} → ReadsEntries ts i t j
+  pub entries_within : {ts : List Token} {i : ℕ} {t : Forest Span tree.entry} {j : ℕ} → ReadsEntries ts i t j
       → j ≤ max i (length ts)
   entries_within (no_entries a) = let ra = at_within a refl in omega arith
   entries_within (last_entry a b) = let ra = entry_within a in let sa = entry_goes a in let rb = at_within b refl in
@@ -196,7 +196,7 @@ mutual
       → BeginsBinary ts no_in l i t j → j ≤ max i (length ts)
   begins_binary_within (operand a) = unary_within a
   begins_binary_within (tighter a) = binary_within a
-  begins_binary_within (a_joint a b c d) = let ra = begins_binary_within a in let sa = begins_binary_goes a in
+  begins_binary_within (an_infix_operator a b c d) = let ra = begins_binary_within a in let sa = begins_binary_goes a in
       let rd = binary_within d in let sd = binary_goes d in omega arith
 
   pub binary_within : {ts : List Token} {no_in : Bool} {l i : ℕ} {t : Expr} {j : ℕ} → ReadsBinary ts no_in l i t j
@@ -246,8 +246,8 @@ mutual
   statement_within (a_while a b c) = let ra = at_within a refl in let rb = head_within b in let sb = head_goes b in
       let rc = sub_within c in let sc = sub_goes c in omega arith
   statement_within (a_for a b c d e f g h m) = let ra = at_within a refl in let rb = at_within b refl in
-      let rc = init_within c in let sc = init_goes c in let rd = at_within d refl in let re = maybe_within e in
-      let se = maybe_goes e in let rf = at_within f refl in let rg = maybe_within g in let sg = maybe_goes g in
+      let rc = init_within c in let sc = init_goes c in let rd = at_within d refl in let re = optional_within e in
+      let se = optional_goes e in let rf = at_within f refl in let rg = optional_within g in let sg = optional_goes g in
       let rh = at_within h refl in let rm = sub_within m in let sm = sub_goes m in omega arith
   statement_within (a_for_in a b c d e f g) = let ra = at_within a refl in let rb = at_within b refl in
       let rc = left_within c in let sc = left_goes c in let rd = at_within d refl in let re = expression_within e in
@@ -311,7 +311,7 @@ mutual
   declaration_within (initialised a b c) = let ra = identifier_within a in let rb = at_within b refl in
       let rc = assignment_within c in let sc = assignment_goes c in omega arith
 
-  pub declarations_within : {ts : List Token} {no_in : Bool} {i : ℕ} {t : Row Span tree.decl} {j : ℕ}
+  pub declarations_within : {ts : List Token} {no_in : Bool} {i : ℕ} {t : Forest Span tree.decl} {j : ℕ}
       → ReadsDeclarations ts no_in i t j → j ≤ max i (length ts)
   declarations_within (last_declaration a b) = declaration_within a
   declarations_within (more_declarations a b c) = let ra = declaration_within a in let sa = declaration_goes a in
@@ -324,12 +324,12 @@ mutual
   init_within (init_vars a b) = let ra = at_within a refl in let rb = declarations_within b in
       let sb = declarations_goes b in omega arith
 
-  pub maybe_within : {ts : List Token} {k : Sign} {i : ℕ} {t : Maybe Span tree.expr} {j : ℕ} → ReadsMaybe ts k i t j
+  pub optional_within : {ts : List Token} {k : Terminal} {i : ℕ} {t : OptionalTree Span tree.expr} {j : ℕ} → ReadsOptional ts k i t j
       → j ≤ max i (length ts)
-  maybe_within (no_expression a) = omega arith
-  maybe_within (one_expression a) = expression_within a
+  optional_within (no_expression a) = omega arith
+  optional_within (one_expression a) = expression_within a
 
-  pub clauses_within : {ts : List Token} {fresh : Bool} {i : ℕ} {t : Row Span tree.clause} {j : ℕ}
+  pub clauses_within : {ts : List Token} {fresh : Bool} {i : ℕ} {t : Forest Span tree.clause} {j : ℕ}
       → ReadsClauses ts fresh i t j → j ≤ max i (length ts)
   clauses_within (no_clauses a) = let ra = at_within a refl in omega arith
   clauses_within (a_case a b c d e) = let ra = at_within a refl in let rb = expression_within b in
@@ -345,7 +345,7 @@ mutual
       let rc = identifier_within c in let rd = at_within d refl in let re = block_within e in let se = block_goes e in
       omega arith
 
-  pub elements_within : {ts : List Token} {i : ℕ} {fs : Row Span tree.func} {ws : Stmts} {j : ℕ}
+  pub elements_within : {ts : List Token} {i : ℕ} {fs : Forest Span tree.func} {ws : Stmts} {j : ℕ}
       → ReadsElements ts i fs ws j → j ≤ max i (length ts)
   elements_within (no_elements a) = omega arith
   elements_within (a_declaration a b) = let ra = function_within a in let sa = function_goes a in

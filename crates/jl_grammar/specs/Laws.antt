@@ -5,7 +5,7 @@ use Rattle.jl_ast.specs.Tree.{Program}
 use Rattle.jl_ast.specs.Tree as tree
 use Rattle.jl_text.specs.declared.span.Span.{Span}
 use Rattle.jl_token.specs.declared.token.Token.{Token}
-use Rattle.jl_grammar.specs.declared.sign.Sign.TheVariants as signs
+use Rattle.jl_grammar.specs.declared.terminal.Terminal.TheVariants as terminals
 use Rattle.jl_grammar.specs.Next.{is_directive}
 use Rattle.jl_grammar.specs.Nodes.{nodes}
 use Rattle.jl_grammar.specs.Program.{Reads}
@@ -27,7 +27,7 @@ ReaderTells = (ts : List Token) (limit : ℕ) (p : Program Span) → (program_at
 
 -- the statement w, from place i to j, is the one string token at i and a semicolon that is there or is inserted
 pub record IsAlone (ts : List Token) (i : ℕ) (w : Stmt) (j : ℕ) : Type 0 where
-  pub string : At ts i signs.Str
+  pub string : At ts i terminals.Str
   pub expression : ReadsExpression ts false i (tree.string (text_at ts i) (span ts i (suc i))) (suc i)
   pub end : EndsAt ts (suc i) j
   pub is : w ≡ tree.expression (tree.string (text_at ts i) (span ts i (suc i))) (span ts i j)

@@ -1,5 +1,5 @@
 pub mod Words
-pub mod Signs
+pub mod Terminals
 pub mod Operators
 pub mod Tokens
 pub mod Next

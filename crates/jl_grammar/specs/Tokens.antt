@@ -7,24 +7,24 @@ use Rattle.jl_text.specs.declared.span.Span.{Span}
 use Rattle.jl_token.specs.declared.token.Token.{Token}
 use Rattle.jl_token.specs.declared.token.TokenKind.{TokenKind}
 use Rattle.jl_token.specs.declared.token.TokenKind.TheVariants as kinds
-use Rattle.jl_grammar.specs.declared.sign.Sign.{Sign}
-use Rattle.jl_grammar.specs.declared.sign.Sign.TheVariants as signs
-use Rattle.jl_grammar.specs.Signs.{sign_of}
+use Rattle.jl_grammar.specs.declared.terminal.Terminal.{Terminal}
+use Rattle.jl_grammar.specs.declared.terminal.Terminal.TheVariants as terminals
+use Rattle.jl_grammar.specs.Terminals.{terminal_of}
 use Rattle.jl_grammar.specs.Words.{same_text}
 
--- what the i-th token is, and the sign of the end past the last one
-abbrev pub sign_at : List Token → ℕ → Sign
-sign_at [] i = signs.End
-sign_at (t ∷ ts) zero = sign_of t.kind
-sign_at (t ∷ ts) (suc i) = sign_at ts i
+-- what the i-th token is, and the terminal of the end past the last one
+abbrev pub terminal_at : List Token → ℕ → Terminal
+terminal_at [] i = terminals.End
+terminal_at (t ∷ ts) zero = terminal_of t.kind
+terminal_at (t ∷ ts) (suc i) = terminal_at ts i
 
 -- the i-th token is such a one
-pub record At (ts : List Token) (i : ℕ) (k : Sign) : Type 0 where
-  pub is : sign_at ts i ≡ k
+pub record At (ts : List Token) (i : ℕ) (k : Terminal) : Type 0 where
+  pub is : terminal_at ts i ≡ k
 
 -- the i-th token passes the test
-pub record Is (test : Sign → Bool) (ts : List Token) (i : ℕ) : Type 0 where
-  pub is : test (sign_at ts i) ≡ true
+pub record Is (test : Terminal → Bool) (ts : List Token) (i : ℕ) : Type 0 where
+  pub is : test (terminal_at ts i) ≡ true
 
 -- a line ends between the i-th token, or the end, and the token before it
 abbrev pub line_at : List Token → ℕ → Bool

@@ -3,9 +3,9 @@
 
 pub mod laws;
 mod operators;
-mod sign;
+mod terminal;
 mod word;
 
 pub use operators::{assign_op, binary_op, level};
-pub use sign::{Sign, sign_of};
+pub use terminal::{Terminal, terminal_of};
 pub use word::{Word, is_reserved, reserved_word};

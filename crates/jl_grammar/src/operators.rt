@@ -1,27 +1,27 @@
 ghost use Rattle.jl_grammar.specs.Operators.{assign_operator, binary_operator, level as level_in};
-ghost use Rattle.jl_grammar.specs.Signs.{sign_of};
-ghost use Rattle.jl_grammar.specs.declared.sign.Sign.TheVariants as Sign;
+ghost use Rattle.jl_grammar.specs.Terminals.{terminal_of};
+ghost use Rattle.jl_grammar.specs.declared.terminal.Terminal.TheVariants as Terminal;
 ghost use Rattle.std.specs.Prelude.{◌≡◌};
 
-use crate::sign::{Sign, sign_of};
+use crate::terminal::{Terminal, terminal_of};
 use crate::word::Word;
 use jl_ast::BinOp;
 use jl_token::{Punct, TokenKind};
 
 /// The operator between two operands (11.5 to 11.10) that a token is; None where it is none. `&&` and `||` are none.
 pub fn binary_op(kind: &TokenKind) -> Option<BinOp>
-    ensures { result ≡ binary_operator (sign_of kind.now) }
+    ensures { result ≡ binary_operator (terminal_of kind.now) }
 {
-    match sign_of(kind) {
-        Sign::Punct(punct) => binary_punct(punct),
-        Sign::Word(Word::InstanceOf) => Some(BinOp::InstanceOf),
-        Sign::Word(Word::In) => Some(BinOp::In),
+    match terminal_of(kind) {
+        Terminal::Punct(punct) => binary_punct(punct),
+        Terminal::Word(Word::InstanceOf) => Some(BinOp::InstanceOf),
+        Terminal::Word(Word::In) => Some(BinOp::In),
         _ => None,
     }
 }
 
 fn binary_punct(punct: Punct) -> Option<BinOp>
-    ensures { result ≡ binary_operator (Sign.Punct punct) }
+    ensures { result ≡ binary_operator (Terminal.Punct punct) }
 {
     match punct {
         Punct::Star => Some(BinOp::Mul),
@@ -50,21 +50,21 @@ fn binary_punct(punct: Punct) -> Option<BinOp>
 /// The assignment operator (11.13) that a token is, by the operation that it does: `Some(None)` is `=`. None where it
 /// is no assignment operator.
 pub fn assign_op(kind: &TokenKind) -> Option<Option<BinOp>>
-    ensures { result ≡ assign_operator (sign_of kind.now) }
+    ensures { result ≡ assign_operator (terminal_of kind.now) }
 {
-    match sign_of(kind) {
-        Sign::Punct(Punct::Assign) => Some(None),
-        Sign::Punct(Punct::StarAssign) => Some(Some(BinOp::Mul)),
-        Sign::Punct(Punct::SlashAssign) => Some(Some(BinOp::Div)),
-        Sign::Punct(Punct::PercentAssign) => Some(Some(BinOp::Rem)),
-        Sign::Punct(Punct::PlusAssign) => Some(Some(BinOp::Add)),
-        Sign::Punct(Punct::MinusAssign) => Some(Some(BinOp::Sub)),
-        Sign::Punct(Punct::ShiftLeftAssign) => Some(Some(BinOp::Shl)),
-        Sign::Punct(Punct::ShiftRightAssign) => Some(Some(BinOp::Sar)),
-        Sign::Punct(Punct::ShiftRightUnsignedAssign) => Some(Some(BinOp::Shr)),
-        Sign::Punct(Punct::AndAssign) => Some(Some(BinOp::BitAnd)),
-        Sign::Punct(Punct::CaretAssign) => Some(Some(BinOp::BitXor)),
-        Sign::Punct(Punct::OrAssign) => Some(Some(BinOp::BitOr)),
+    match terminal_of(kind) {
+        Terminal::Punct(Punct::Assign) => Some(None),
+        Terminal::Punct(Punct::StarAssign) => Some(Some(BinOp::Mul)),
+        Terminal::Punct(Punct::SlashAssign) => Some(Some(BinOp::Div)),
+        Terminal::Punct(Punct::PercentAssign) => Some(Some(BinOp::Rem)),
+        Terminal::Punct(Punct::PlusAssign) => Some(Some(BinOp::Add)),
+        Terminal::Punct(Punct::MinusAssign) => Some(Some(BinOp::Sub)),
+        Terminal::Punct(Punct::ShiftLeftAssign) => Some(Some(BinOp::Shl)),
+        Terminal::Punct(Punct::ShiftRightAssign) => Some(Some(BinOp::Sar)),
+        Terminal::Punct(Punct::ShiftRightUnsignedAssign) => Some(Some(BinOp::Shr)),
+        Terminal::Punct(Punct::AndAssign) => Some(Some(BinOp::BitAnd)),
+        Terminal::Punct(Punct::CaretAssign) => Some(Some(BinOp::BitXor)),
+        Terminal::Punct(Punct::OrAssign) => Some(Some(BinOp::BitOr)),
         _ => None,
     }
 }

@@ -5,7 +5,7 @@ use Rattle.jl_value.specs.declared.object.Class.TheVariants as class
 use Rattle.jl_value.specs.declared.value.Value.{Value}
 use Rattle.jl_value.specs.declared.value.Value.TheVariants as value
 use Rattle.jl_value.specs.Indices.{index_of}
-use Rattle.jl_heap.specs.Define.{defined, length_name}
+use Rattle.jl_heap.specs.Define.{define_own_property, length_name}
 use Rattle.jl_heap.specs.NewObject.{with_new_object}
 use Rattle.jl_heap.specs.Objects.{Objects, names_of, own}
 use Rattle.jl_heap.specs.Property.{made, revised}
@@ -61,10 +61,10 @@ abbrev element : Change
 element = record { value = Some (number 5); writable = Some true; get = None; set = None; enumerable = Some true; configurable = Some true }
 
 abbrev one : Objects
-one = (defined empty 0 (codes "0") element).0
+one = (define_own_property empty 0 (codes "0") element).0
 
 abbrev two : Objects
-two = (defined one 0 (codes "2") element).0
+two = (define_own_property one 0 (codes "2") element).0
 
 names_two : names_of two 0 ≡ ((codes "length", 0) ∷ (codes "0", 1) ∷ (codes "2", 2) ∷ [])
 unfolding length_name index_of
@@ -76,20 +76,20 @@ length_two = refl
 
 -- a smaller length deletes the element past it
 abbrev shorter : Objects × Defined
-shorter = defined two 0 (codes "length") (record nothing { value = Some (number 1) })
+shorter = define_own_property two 0 (codes "length") (record nothing { value = Some (number 1) })
 
 names_shorter : names_of shorter.0 0 ≡ ((codes "length", 0) ∷ (codes "0", 1) ∷ [])
 unfolding length_name index_of
 names_shorter = refl
 
 -- one that can't be deleted stops it, and what was asked is rejected
-abbrev fixed : Objects × Defined
-fixed = defined (defined two 0 (codes "0") (record nothing { configurable = Some false })).0 0 (codes "length") (record nothing { value = Some (number 0) })
+abbrev read_only : Objects × Defined
+read_only = define_own_property (define_own_property two 0 (codes "0") (record nothing { configurable = Some false })).0 0 (codes "length") (record nothing { value = Some (number 0) })
 
-stops : fixed.1 ≡ Rejected
+stops : read_only.1 ≡ Rejected
 unfolding length_name index_of
 stops = refl
 
-length_stops : own fixed.0 0 (codes "length") ≡ Some (plain 1 true false false)
+length_stops : own read_only.0 0 (codes "length") ≡ Some (plain 1 true false false)
 unfolding length_name index_of
 length_stops = refl

@@ -9,7 +9,7 @@ use Rattle.jl_props.specs.declared.entries.Entry.{Entry}
 use Rattle.jl_value.specs.declared.object.Class.TheVariants as class
 use Rattle.jl_heap.specs.Define.{is_array}
 use Rattle.jl_heap.specs.Inside.{IsKept, is_array_header, is_in_order, is_older, objects_inside}
-use Rattle.jl_heap.specs.Objects.{Object, Objects, nobody, object_at, with_object}
+use Rattle.jl_heap.specs.Objects.{Object, Objects, absent_object, object_at, with_object}
 use Rattle.jl_heap.specs.View.{object_of, objects_of}
 use Rattle.jl_heap.specs.declared.header.Header.{Header}
 use Rattle.jl_heap.specs.declared.heap.Heap.TheInside.{Inside}
@@ -48,11 +48,11 @@ module _ (a : Inside) (k : ℕ) (f : Header → Header) (class_stays : (h : Head
 
   objects_changed : (F : Object → Object) (p : ℕ → List (Entry Prop)) → ((h : Header) (es : List (Entry Prop)) → F (object_of h es) ≡ object_of (f h) es) →
       Within a.headers k →
-      objects_of (set a.headers k (f (get_or a.headers k no_header))) p ≡ set (objects_of a.headers p) k (F (get_or (objects_of a.headers p) k nobody))
+      objects_of (set a.headers k (f (get_or a.headers k no_header))) p ≡ set (objects_of a.headers p) k (F (get_or (objects_of a.headers p) k absent_object))
   objects_changed F p same (inside i) =
       objects_of-set a.headers p k _
       ∙ ap (λ o. set (objects_of a.headers p) k o)
-      (sym (same (get_or a.headers k no_header) (p k)) ∙ ap F (sym (objects_of-at a.headers p k nobody no_header i)))
+      (sym (same (get_or a.headers k no_header) (p k)) ∙ ap F (sym (objects_of-at a.headers p k absent_object no_header i)))
   objects_changed F p same (past i) =
       ap (λ l. objects_of l p) (set_past a.headers k _ i)
       ∙ sym (set_past (objects_of a.headers p) k _ (subst (λ n. n ≤ k) (sym (length-objects_of a.headers p)) i))

@@ -8,7 +8,7 @@ use Rattle.std.proofs.lemmas.Option.{get_or_from_slice_get, slice_get_within}
 use Rattle.jl_props.specs.declared.entries.Entry.{Entry}
 use Rattle.jl_props.specs.Store.{Changes, Properties, entries_of, item_of}
 use Rattle.jl_heap.specs.Inside.{objects_inside, IsKept}
-use Rattle.jl_heap.specs.Objects.{Object, Objects, object_at, own, nobody, with_properties}
+use Rattle.jl_heap.specs.Objects.{Object, Objects, object_at, own, absent_object, with_properties}
 use Rattle.jl_heap.specs.View.{object_of, HasHeader}
 use Rattle.jl_heap.specs.declared.header.Header.{Header}
 use Rattle.jl_heap.specs.declared.heap.Heap.TheInside.{Inside}
@@ -25,11 +25,11 @@ slice_get-None (x ∷ xs) (suc k) e = let i = slice_get-None xs k e in omega ari
 pub object_at-there : (a : Inside) (k : ℕ) (h : Header) → slice_get a.headers k ≡ Some h →
     object_at (objects_inside a) k ≡ object_of h (entries_of a.properties k)
 object_at-there a k h e =
-    objects_of-at a.headers (entries_of a.properties) k nobody h (slice_get_within a.headers k h e)
+    objects_of-at a.headers (entries_of a.properties) k absent_object h (slice_get_within a.headers k h e)
     ∙ ap (λ i. object_of i (entries_of a.properties k)) (get_or_from_slice_get a.headers k h h e)
 
-pub object_at-past : (a : Inside) (k : ℕ) → slice_get a.headers k ≡ None → object_at (objects_inside a) k ≡ nobody
-object_at-past a k e = objects_of-past a.headers (entries_of a.properties) k nobody (slice_get-None a.headers k e)
+pub object_at-past : (a : Inside) (k : ℕ) → slice_get a.headers k ≡ None → object_at (objects_inside a) k ≡ absent_object
+object_at-past a k e = objects_of-past a.headers (entries_of a.properties) k absent_object (slice_get-None a.headers k e)
 
 pub no_entries : (es : List (Entry Prop)) → length es ≡ 0 → es ≡ []
 no_entries [] e = refl
@@ -68,7 +68,7 @@ header_is a heap k found seen e =
 pub seen_put : (a : Inside) (p : Properties Prop) (k : ℕ) (es : List (Entry Prop)) (next : ℕ) → Changes a.properties p k es next →
     objects_inside (record a { properties = p }) ≡ with_properties (record (objects_inside a) { next = next }) k es
 seen_put a p k es next changes =
-    let put = objects_of-put a.headers (entries_of a.properties) (entries_of p) k nobody changes.others in
+    let put = objects_of-put a.headers (entries_of a.properties) (entries_of p) k absent_object changes.others in
     let here = changes.here in
     let next_is = changes.next_serial in
     cc

@@ -10,16 +10,16 @@ use Rattle.jl_value.specs.Indices.{index_of}
 use Rattle.jl_value.specs.declared.object.Class.{Class}
 use Rattle.jl_value.specs.declared.object.Class.TheVariants as class
 use Rattle.jl_value.specs.declared.value.Value.{Value}
-use Rattle.jl_heap.specs.Define.{IsOneKind, counted, count_of, defined, defined_at, defined_length, defined_on, defined_plainly, defined_shorter, is_array, is_writable, kept_open, length_name, length_of, shortened_to, stored, with_length}
+use Rattle.jl_heap.specs.Define.{IsOneKind, counted, count_of, define_own_property, defined_at, define_array_length, define_on, define_ordinary, defined_shorter, is_array, is_writable, kept_open, length_name, length_of, shortened_to, store_property, with_length}
 use Rattle.jl_heap.specs.Laws.{KeepsObject}
-use Rattle.jl_heap.specs.Objects.{Objects, deleted, deleted_if, object_at, own, own_or_unit, unit_at, unit_property, units_of, with_properties}
+use Rattle.jl_heap.specs.Objects.{Objects, delete_property, deleted_if, object_at, own, own_or_unit, unit_at, unit_property, units_of, with_properties}
 use Rattle.jl_heap.specs.Property.{is_configurable, is_same, revised}
 use Rattle.jl_heap.specs.declared.inner.Inner.{Inner}
 use Rattle.jl_heap.specs.declared.property.Change.{Change}
 use Rattle.jl_heap.specs.declared.property.Defined.{Defined}
 use Rattle.jl_heap.specs.declared.property.Defined.TheVariants.{Done, Rejected}
 use Rattle.jl_heap.specs.declared.property.Prop.{Prop}
-use Rattle.jl_heap.proofs.Fixed.{defined_plainly-unit, unit_is}
+use Rattle.jl_heap.proofs.ReadOnly.{define_ordinary-unit, unit_is}
 use Rattle.jl_heap.proofs.Items.{bytes_eq-other, item_in-filter}
 use Rattle.jl_heap.proofs.Plainly.{by_plainly}
 use Rattle.jl_heap.proofs.Puts.{Within, inside, past, object_at-other, own-put, put_past, within_or_past}
@@ -45,7 +45,7 @@ same_or_other x y = by (bytes_eq x y) refl
 -- a fact that no write to the properties of one object ends holds after every change on it
 module _ (h : Objects) (k : ℕ) (P : Objects → Type 0) (stays : P h) (next : P (record h { next = h.next + 1 }))
     (put : (g : Objects) (es : List (Entry Prop)) → P g → P (with_properties g k es)) where
-  plainly : (n : List ℕ) (c : Change) → P (defined_plainly h k n c).0
+  plainly : (n : List ℕ) (c : Change) → P (define_ordinary h k n c).0
   plainly n c = by_plainly h k n P stays (λ p. put _ _ next) (λ p. put h _ stays) c
 
   lengthened : (g : Objects) (i : ℕ) (l : Option Prop) → P g → P (with_length g k i l)
@@ -57,9 +57,9 @@ module _ (h : Objects) (k : ℕ) (P : Objects → Type 0) (stays : P h) (next : 
   counted_so i l g Done true e p = rw e (lengthened g (i + 1) l p)
   counted_so i l g Done false e p = rw e p
 
-  element_if : (b : Bool) (n : List ℕ) (i : ℕ) (c : Change) (l : Option Prop) → P (pick b (h, Rejected) (counted k i l (defined_plainly h k n c))).0
+  element_if : (b : Bool) (n : List ℕ) (i : ℕ) (c : Change) (l : Option Prop) → P (pick b (h, Rejected) (counted k i l (define_ordinary h k n c))).0
   element_if true n i c l = stays
-  element_if false n i c l = counted_so i l (defined_plainly h k n c).0 (defined_plainly h k n c).1 (nat_le (length_of l) i) refl (plainly n c)
+  element_if false n i c l = counted_so i l (define_ordinary h k n c).0 (define_ordinary h k n c).1 (nat_le (length_of l) i) refl (plainly n c)
 
   shorter_to : (low high : ℕ) (w : Bool) (q : Option Prop) → P (shortened_to h k low high w q).0
   shorter_to low high w None = stays
@@ -74,11 +74,11 @@ module _ (h : Objects) (k : ℕ) (P : Objects → Type 0) (stays : P h) (next : 
   shorter c low (Some p) =
       shorter_if (is_writable (Some p)) low (length_of (Some p)) (unwrap_or c.writable true) (revised p (kept_open c))
 
-  length_if : (b : Bool) (c : Change) (low : ℕ) (l : Option Prop) → P (pick b (defined_plainly h k length_name c) (defined_shorter h k c low l)).0
+  length_if : (b : Bool) (c : Change) (low : ℕ) (l : Option Prop) → P (pick b (define_ordinary h k length_name c) (defined_shorter h k c low l)).0
   length_if true c low l = plainly length_name c
   length_if false c low l = shorter c low l
 
-  of_length : (c : Change) (v : Option Value) (l : Option Prop) → P (defined_length h k c v l).0
+  of_length : (c : Change) (v : Option Value) (l : Option Prop) → P (define_array_length h k c v l).0
   of_length c None l = plainly length_name c
   of_length c (Some v) l = length_if (nat_le (length_of l) (count_of v)) c (count_of v) l
 
@@ -87,16 +87,16 @@ module _ (h : Objects) (k : ℕ) (P : Objects → Type 0) (stays : P h) (next : 
   at n c (Some i) =
       element_if (nat_le (length_of (own h k length_name)) i && not (is_writable (own h k length_name))) n i c (own h k length_name)
 
-  named_if : (b : Bool) (n : List ℕ) (c : Change) → P (pick b (defined_length h k c c.value (own h k length_name)) (defined_at h k n c (index_of n))).0
+  named_if : (b : Bool) (n : List ℕ) (c : Change) → P (pick b (define_array_length h k c c.value (own h k length_name)) (defined_at h k n c (index_of n))).0
   named_if true n c = of_length c c.value (own h k length_name)
   named_if false n c = at n c (index_of n)
 
   array_if : (b : Bool) (n : List ℕ) (c : Change) →
-      P (pick b (pick (bytes_eq n length_name) (defined_length h k c c.value (own h k length_name)) (defined_at h k n c (index_of n))) (defined_plainly h k n c)).0
+      P (pick b (pick (bytes_eq n length_name) (define_array_length h k c c.value (own h k length_name)) (defined_at h k n c (index_of n))) (define_ordinary h k n c)).0
   array_if true n c = named_if (bytes_eq n length_name) n c
   array_if false n c = plainly n c
 
-  any_change : (n : List ℕ) (c : Change) → P (defined h k n c).0
+  any_change : (n : List ℕ) (c : Change) → P (define_own_property h k n c).0
   any_change n c = array_if (is_array (object_at h k).class) n c
 
   delete_if : (b : Bool) (n : List ℕ) → P (let answer : Objects × Bool = if b then (with_properties h k (without (object_at h k).properties n), true) else (h, false) in answer.0)
@@ -107,7 +107,7 @@ module _ (h : Objects) (k : ℕ) (P : Objects → Type 0) (stays : P h) (next : 
   delete_on n None = stays
   delete_on n (Some p) = delete_if (is_configurable p) n
 
-  any_delete : (n : List ℕ) → P (deleted h k n).0
+  any_delete : (n : List ℕ) → P (delete_property h k n).0
   any_delete n = delete_on n (own_or_unit h k n)
 
 pub keeps_object : (h : Objects) (k j : ℕ) (n : List ℕ) (c : Change) → j ≢ k → KeepsObject h k j n c
@@ -117,7 +117,7 @@ keeps_object h k j n c ne =
     record { defined_there = any_change h k P refl refl put n c; deleted_there = any_delete h k P refl refl put n }
 
 -- a delete leaves what can't be configured
-module _ (h : Objects) (k : ℕ) (x : List ℕ) (p : Prop) (confined : is_configurable p ≡ false) (here : own h k x ≡ Some p) where
+module _ (h : Objects) (k : ℕ) (x : List ℕ) (p : Prop) (non_configurable : is_configurable p ≡ false) (here : own h k x ≡ Some p) where
   without_other : (n : List ℕ) → x ≢ n → Within h.objects k → own (with_properties h k (without (object_at h k).properties n)) k x ≡ Some p
   without_other n ne (inside i) =
       own-put h k _ x i
@@ -134,17 +134,17 @@ module _ (h : Objects) (k : ℕ) (x : List ℕ) (p : Prop) (confined : is_config
   deleted_other n ne None = here
   deleted_other n ne (Some q) = deleted_pick (is_configurable q) n ne
 
-  deleted_by : (n : List ℕ) → Same x n → own (deleted h k n).0 k x ≡ Some p
+  deleted_by : (n : List ℕ) → Same x n → own (delete_property h k n).0 k x ≡ Some p
   deleted_by n (other ne) = deleted_other n ne (own_or_unit h k n)
   deleted_by n (same e) =
       let there : own_or_unit h k n ≡ Some p =
       ap (λ o. option_or o (option_map unit_property (unit_at h k n))) (ap (own h k) (sym e) ∙ here) in
       ap (λ q. own (deleted_if h k n q).0 k x) there
-      ∙ ap (λ (b : Bool). own (let answer : Objects × Bool = if b then (with_properties h k (without (object_at h k).properties n), true) else (h, false) in answer.0) k x) confined
+      ∙ ap (λ (b : Bool). own (let answer : Objects × Bool = if b then (with_properties h k (without (object_at h k).properties n), true) else (h, false) in answer.0) k x) non_configurable
       ∙ here
 
-pub confined_is : (h : Objects) (k : ℕ) (x n : List ℕ) (p : Prop) → is_configurable p ≡ false → own h k x ≡ Some p → own (deleted h k n).0 k x ≡ Some p
-confined_is h k x n p confined here = deleted_by h k x p confined here n (same_or_other x n)
+pub non_configurable_is : (h : Objects) (k : ℕ) (x n : List ℕ) (p : Prop) → is_configurable p ≡ false → own h k x ≡ Some p → own (delete_property h k n).0 k x ≡ Some p
+non_configurable_is h k x n p non_configurable here = deleted_by h k x p non_configurable here n (same_or_other x n)
 
 -- an object with units is no array
 no_array : (c : Class) (inner : Inner) (index : Option ℕ) (unit : ℕ) → option_and_then (λ i. slice_get (units_of c inner) i) index ≡ Some unit → is_array c ≡ false
@@ -153,14 +153,14 @@ no_array class.Array inner (Some i) unit e = cc
 no_array _ inner index unit e = refl
 
 pub units_are : (h : Objects) (k : ℕ) (n : List ℕ) (c : Change) (unit : ℕ) → IsOneKind c → unit_at h k n ≡ Some unit → own h k n ≡ None →
-    (defined h k n c).0 ≡ h
+    (define_own_property h k n c).0 ≡ h
 units_are h k n c unit one there absent =
     let plain = no_array (object_at h k).class (object_at h k).inner (index_of n) unit there in
-    let at = λ (b : Bool). (pick b (pick (bytes_eq n length_name) (defined_length h k c c.value (own h k length_name)) (defined_at h k n c (index_of n))) (defined_plainly h k n c)).0 in
+    let at = λ (b : Bool). (pick b (pick (bytes_eq n length_name) (define_array_length h k c c.value (own h k length_name)) (defined_at h k n c (index_of n))) (define_ordinary h k n c)).0 in
     ap at plain ∙ on_unit (is_same (unit_property unit) c) refl
   where
-    on_unit : (b : Bool) → is_same (unit_property unit) c ≡ b → (defined_plainly h k n c).0 ≡ h
+    on_unit : (b : Bool) → is_same (unit_property unit) c ≡ b → (define_ordinary h k n c).0 ≡ h
     on_unit true e =
-        ap (λ o. (defined_on h k n c o).0) (unit_is h k n unit absent there)
-        ∙ ap (λ b. (pick b (h, Done) (stored h k n (revised (unit_property unit) c))).0) e
-    on_unit false e = ap (λ (a : Answer). a.0) (defined_plainly-unit h k n c unit one absent there e)
+        ap (λ o. (define_on h k n c o).0) (unit_is h k n unit absent there)
+        ∙ ap (λ b. (pick b (h, Done) (store_property h k n (revised (unit_property unit) c))).0) e
+    on_unit false e = ap (λ (a : Answer). a.0) (define_ordinary-unit h k n c unit one absent there e)

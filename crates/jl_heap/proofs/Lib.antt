@@ -1,7 +1,7 @@
 pub mod Seen
 pub mod InsideLemmas
 pub mod StoreSteps
-pub mod Fixed
+pub mod ReadOnly
 pub mod Named
 pub mod Items
 pub mod Puts
@@ -11,6 +11,6 @@ pub mod ChainLemmas
 pub mod Pushed
 pub mod HeaderSteps
 pub mod LawsLemmas
-pub mod FixedStays
+pub mod ReadOnlyStays
 pub mod Examples
 pub mod OneByOne

@@ -4,7 +4,7 @@ use Rattle.std.specs.Prelude.{IsSome, IsTrue, Option, None, Some, if◌then◌el
 use Rattle.std.specs.Option.{option_map}
 use Rattle.jl_value.specs.Indices.{index_of}
 use Rattle.jl_value.proofs.Numerals.{index_of_is}
-use Rattle.jl_heap.specs.Define.{is_array, length_name, defined_on, defined_plainly, stored, with_new_property, with_property}
+use Rattle.jl_heap.specs.Define.{is_array, length_name, define_on, define_ordinary, store_property, with_new_property, with_property}
 use Rattle.jl_heap.specs.Objects.{Objects, object_at, own, own_or_unit}
 use Rattle.jl_heap.specs.Property.{is_same, made, revised}
 use Rattle.jl_heap.specs.declared.property.Change.{Change}
@@ -19,7 +19,7 @@ pick b x y = if b then x else y
 -- a fact of the objects before and after a change holds if it holds where nothing, a new property or a stored one comes
 module _ (h : Objects) (k : ℕ) (n : List ℕ) (P : Objects → Type 0) (same : P h)
     (added : (p : Prop) → P (with_new_property h k n p)) (put : (p : Prop) → P (with_property h k n p)) where
-  by_stored : (o : Option Prop) → P (stored h k n o).0
+  by_stored : (o : Option Prop) → P (store_property h k n o).0
   by_stored None = same
   by_stored (Some p) = put p
 
@@ -27,36 +27,36 @@ module _ (h : Objects) (k : ℕ) (n : List ℕ) (P : Objects → Type 0) (same :
   by_new true p = added p
   by_new false p = same
 
-  by_same : (b : Bool) (o : Option Prop) → P (pick b (h, Done) (stored h k n o)).0
+  by_same : (b : Bool) (o : Option Prop) → P (pick b (h, Done) (store_property h k n o)).0
   by_same true o = same
   by_same false o = by_stored o
 
-  by_present : (c : Change) (o : Option Prop) → P (defined_on h k n c o).0
+  by_present : (c : Change) (o : Option Prop) → P (define_on h k n c o).0
   by_present c None = by_new (object_at h k).extensible (made c)
   by_present c (Some p) = by_same (is_same p c) (revised p c)
 
-  pub by_plainly : (c : Change) → P (defined_plainly h k n c).0
+  pub by_plainly : (c : Change) → P (define_ordinary h k n c).0
   by_plainly c = by_present c (own_or_unit h k n)
 
 -- properties of other names stay
-pub own-defined_plainly : (h : Objects) (k : ℕ) (n x : List ℕ) (c : Change) → x ≢ n →
-    own (defined_plainly h k n c).0 k x ≡ own h k x
-own-defined_plainly h k n x c ne =
+pub own-define_ordinary : (h : Objects) (k : ℕ) (n x : List ℕ) (c : Change) → x ≢ n →
+    own (define_ordinary h k n c).0 k x ≡ own h k x
+own-define_ordinary h k n x c ne =
     by_plainly h k n (λ g. own g k x ≡ own h k x) refl (λ p. own-with_new_property h k n x p ne) (λ p. own-with_property h k n x p ne) c
 
 -- and so does the class of each object
-pub class-defined_plainly : (h : Objects) (k j : ℕ) (n : List ℕ) (c : Change) →
-    (object_at (defined_plainly h k n c).0 j).class ≡ (object_at h j).class
-class-defined_plainly h k j n c =
+pub class-define_ordinary : (h : Objects) (k j : ℕ) (n : List ℕ) (c : Change) →
+    (object_at (define_ordinary h k n c).0 j).class ≡ (object_at h j).class
+class-define_ordinary h k j n c =
     by_plainly h k n (λ g. (object_at g j).class ≡ (object_at h j).class) refl (λ p. class-put (record h { next = h.next + 1 }) k j _) (λ p. class-put h k j _) c
 
 -- an array stays one
-pub array-defined_plainly : (h g : Objects) (k : ℕ) (n : List ℕ) (c : Change) (d : Defined) → (g, d) ≡ defined_plainly h k n c →
+pub array-define_ordinary : (h g : Objects) (k : ℕ) (n : List ℕ) (c : Change) (d : Defined) → (g, d) ≡ define_ordinary h k n c →
     IsTrue (is_array (object_at h k).class) → IsTrue (is_array (object_at g k).class)
-array-defined_plainly h g k n c d e array =
-    let after : g ≡ (defined_plainly h k n c).0 = ap (λ (p : Objects × Defined). p.0) e in
+array-define_ordinary h g k n c d e array =
+    let after : g ≡ (define_ordinary h k n c).0 = ap (λ (p : Objects × Defined). p.0) e in
     subst (λ o. IsTrue (is_array (object_at o k).class)) (sym after)
-    (subst (λ o. IsTrue (is_array o)) (sym (class-defined_plainly h k k n c)) array)
+    (subst (λ o. IsTrue (is_array o)) (sym (class-define_ordinary h k k n c)) array)
 
 pub length_is_no_index : index_of length_name ≡ None
 unfolding length_name index_of
@@ -66,12 +66,12 @@ pub index_is_not_length : (n : List ℕ) (i : ℕ) → index_of n ≡ Some i →
 index_is_not_length n i e same = let f : index_of length_name ≡ index_of n = ap index_of same in let g = length_is_no_index in cc
 
 -- and its `length` stays there where an element is defined
-pub there-defined_plainly : (h g : Objects) (k : ℕ) (n : List ℕ) (c : Change) (d : Defined) (i : ℕ) → (g, d) ≡ defined_plainly h k n c →
+pub there-define_ordinary : (h g : Objects) (k : ℕ) (n : List ℕ) (c : Change) (d : Defined) (i : ℕ) → (g, d) ≡ define_ordinary h k n c →
     index_of n ≡ Some i → IsSome (own h k length_name) → IsSome (own g k length_name)
-there-defined_plainly h g k n c d i e index there =
-    let after : g ≡ (defined_plainly h k n c).0 = ap (λ (p : Objects × Defined). p.0) e in
+there-define_ordinary h g k n c d i e index there =
+    let after : g ≡ (define_ordinary h k n c).0 = ap (λ (p : Objects × Defined). p.0) e in
     subst (λ o. IsSome (own o k length_name)) (sym after)
-    (subst (λ o. IsSome o) (sym (own-defined_plainly h k n length_name c (index_is_not_length n i index))) there)
+    (subst (λ o. IsSome o) (sym (own-define_ordinary h k n length_name c (index_is_not_length n i index))) there)
 
 -- an index is below 2^32 - 1
 pub index_below : (n : List ℕ) (i : ℕ) → index_of n ≡ Some i → i < 4294967295

@@ -7,7 +7,7 @@ use Rattle.jl_props.specs.Store.{Changes, IsUnchanged, Properties, entries_of}
 use Rattle.jl_props.specs.declared.entries.Entry.{Entry}
 use Rattle.jl_heap.specs.Define.{is_array, length_name, with_new_property}
 use Rattle.jl_heap.specs.Inside.{IsKept, is_array_header, is_in_order, is_older, objects_inside}
-use Rattle.jl_heap.specs.Objects.{Object, Objects, nobody, with_properties}
+use Rattle.jl_heap.specs.Objects.{Object, Objects, absent_object, with_properties}
 use Rattle.jl_heap.specs.View.{object_of, objects_of}
 use Rattle.jl_heap.specs.declared.header.Header.{Header}
 use Rattle.jl_heap.specs.declared.heap.Heap.TheInside.{Inside}
@@ -95,7 +95,7 @@ module _ (a : Inside) (h : Header) (kept : IsKept a) (heap : Objects) (seen : ob
   seen_pushed (Ok x) hs e = ap (λ l. objects_inside (record a { headers = l })) e ∙ seen_plain
   seen_pushed (Err x) hs e = tt
 
-  last_object : (os : List Object) (o : Object) → get_or (os ++ o ∷ []) (length os) nobody ≡ o
+  last_object : (os : List Object) (o : Object) → get_or (os ++ o ∷ []) (length os) absent_object ≡ o
   last_object [] o = refl
   last_object (p ∷ os) o = last_object os o
 
@@ -117,9 +117,9 @@ module _ (a : Inside) (h : Header) (kept : IsKept a) (heap : Objects) (seen : ob
       ∙ ap (λ (o : Object). wider (record heap { objects = heap.objects ++ object_of h [] ∷ [] }) o.properties heap.next)
       (sym (last_object heap.objects (object_of h [])))
       ∙ ap (λ j. with_properties (record heap { objects = heap.objects ++ object_of h [] ∷ []; next = heap.next + 1 }) k
-      (with_new (get_or (heap.objects ++ object_of h [] ∷ []) (length heap.objects) nobody).properties j heap.next item)) n_is
+      (with_new (get_or (heap.objects ++ object_of h [] ∷ []) (length heap.objects) absent_object).properties j heap.next item)) n_is
       ∙ ap (λ j. with_properties (record heap { objects = heap.objects ++ object_of h [] ∷ []; next = heap.next + 1 }) j
-      (with_new (get_or (heap.objects ++ object_of h [] ∷ []) (length heap.objects) nobody).properties length_name heap.next item)) (sym places)
+      (with_new (get_or (heap.objects ++ object_of h [] ∷ []) (length heap.objects) absent_object).properties length_name heap.next item)) (sym places)
 
 -- a header that was added and taken off, and a store that stayed, are seen as before
 pub seen_back : (a : Inside) (heap : Objects) (hs : List Header) (p : Properties Prop) → objects_inside a ≡ heap → hs ≡ a.headers → IsUnchanged a.properties p →

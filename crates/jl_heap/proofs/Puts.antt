@@ -5,7 +5,7 @@ use Rattle.std.proofs.lemmas.Bool.{eqb-true, eqb-false, false≢true}
 use Rattle.std.proofs.lemmas.List.{get_or_past, set-get_or, set_past}
 use Rattle.jl_props.specs.declared.entries.Entry.{Entry}
 use Rattle.jl_heap.specs.Define.{is_array, with_new_property, with_property}
-use Rattle.jl_heap.specs.Objects.{Object, Objects, nobody, object_at, own, with_properties}
+use Rattle.jl_heap.specs.Objects.{Object, Objects, absent_object, object_at, own, with_properties}
 use Rattle.jl_heap.specs.declared.property.Prop.{Prop}
 use Rattle.jl_heap.proofs.Items.{item_in, item_in-with_item, item_in-with_new}
 
@@ -27,14 +27,14 @@ pub put_past : (h : Objects) (k : ℕ) (es : List (Entry Prop)) → length h.obj
 put_past h k es p = ap (λ l. record h { objects = l }) (set_past h.objects k (record (object_at h k) { properties = es }) p)
 
 pub put_same : (h : Objects) (k : ℕ) → with_properties h k (object_at h k).properties ≡ h
-put_same h k = ap (λ l. record h { objects = l }) (set-get_or h.objects k nobody)
+put_same h k = ap (λ l. record h { objects = l }) (set-get_or h.objects k absent_object)
 
 pub object_at-put : (h : Objects) (k : ℕ) (es : List (Entry Prop)) → k < length h.objects →
     object_at (with_properties h k es) k ≡ record (object_at h k) { properties = es }
-object_at-put h k es p = get_or-set_same h.objects k _ nobody p
+object_at-put h k es p = get_or-set_same h.objects k _ absent_object p
 
 pub object_at-other : (h : Objects) (k j : ℕ) (es : List (Entry Prop)) → j ≢ k → object_at (with_properties h k es) j ≡ object_at h j
-object_at-other h k j es ne = get_or-set_other h.objects k j _ nobody ne
+object_at-other h k j es ne = get_or-set_other h.objects k j _ absent_object ne
 
 class_here : (h : Objects) (k : ℕ) (es : List (Entry Prop)) → Within h.objects k →
     (object_at (with_properties h k es) k).class ≡ (object_at h k).class
@@ -56,7 +56,7 @@ own-put h k es x p = ap (λ (o : Object). item_in x o.properties) (object_at-put
 array_if : (h : Objects) (k : ℕ) → IsTrue (is_array (object_at h k).class) → Within h.objects k → k < length h.objects
 array_if h k array (inside p) = p
 array_if h k array (past p) =
-    let none : object_at h k ≡ nobody = get_or_past h.objects k nobody p in
+    let none : object_at h k ≡ absent_object = get_or_past h.objects k absent_object p in
     absurd (false≢true (subst (λ (o : Object). IsTrue (is_array o.class)) none array))
 
 pub array_within : (h : Objects) (k : ℕ) → IsTrue (is_array (object_at h k).class) → k < length h.objects

@@ -10,7 +10,7 @@ use Rattle.std.proofs.lemmas.Slice.Eq.{bytes_eq-Decides}
 use Rattle.jl_props.specs.Entries.{IsInOrder, name_and_serial, with_item, without}
 use Rattle.jl_props.specs.declared.entries.Entry.{Entry}
 use Rattle.jl_props.proofs.LawsLemmas.{finds_each}
-use Rattle.jl_heap.specs.Define.{cut, index_after, is_between, length_name, reached, shortened, with_count, with_property}
+use Rattle.jl_heap.specs.Define.{entries_outside, index_after, is_between, length_name, reachable_length, shorten_array, with_count, with_property}
 use Rattle.jl_heap.specs.Objects.{Object, Objects, names_of, object_at, own, with_properties}
 use Rattle.jl_heap.specs.Steps.{reached_over, without_elements}
 use Rattle.jl_heap.specs.declared.property.Defined.TheVariants.{Done, Rejected}
@@ -26,7 +26,7 @@ reached_over-above h k low high (n ∷ ns) = omega (arith, reached_over-above h 
 module _ (h : Objects) (k low high : ℕ) where
   -- where each entry is found under its name, the names lead as far as the entries do
   over_names : (es : List (Entry Prop)) → All (λ e. own h k e.name ≡ Some e.item) es →
-      reached_over h k low high (map name_and_serial es) ≡ reached low high es
+      reached_over h k low high (map name_and_serial es) ≡ reachable_length low high es
   over_names [] found = refl
   over_names (e ∷ es) found =
       let here : own h k e.name ≡ Some e.item = found 0 e (omega arith) in
@@ -35,7 +35,7 @@ module _ (h : Objects) (k low high : ℕ) where
       ∙ ap (λ m. max (index_after low high e.name e.item) m) rest
 
   pub reached_over-names : IsInOrder (object_at h k).properties →
-      reached_over h k low high (map name_and_serial (object_at h k).properties) ≡ reached low high (object_at h k).properties
+      reached_over h k low high (map name_and_serial (object_at h k).properties) ≡ reachable_length low high (object_at h k).properties
   reached_over-names ordered =
       over_names (object_at h k).properties
       (λ i d within. ap (λ o. option_map (λ (e : Entry Prop). e.item) o) (finds_each (object_at h k).properties ordered i d within))
@@ -137,8 +137,8 @@ module _ (low high : ℕ) where
       ap (λ b. cond b (e ∷ filter (λ e. p e.name) es) (filter (λ e. p e.name) es)) here
       ∙ ap (λ l. cond (q e.name) (e ∷ l) l) rest
 
-  after_names-cut : (es : List (Entry Prop)) → after_names (map name_and_serial es) es ≡ cut low high es
-  after_names-cut es =
+  after_names-entries_outside : (es : List (Entry Prop)) → after_names (map name_and_serial es) es ≡ entries_outside low high es
+  after_names-entries_outside es =
       after_names-filter (map name_and_serial es) es
       ∙ filter_same (stays_of (map name_and_serial es)) (λ x. not (is_between low high x)) es (stays_same es)
 
@@ -160,19 +160,19 @@ module _ (low high : ℕ) where
       step false is rest = rw is (rest h within)
 
   -- deleting the elements of all names in these bounds cuts the properties
-  pub without_elements-cut : (h : Objects) (k : ℕ) → k < length h.objects →
-      without_elements h k low high (map name_and_serial (object_at h k).properties) ≡ with_properties h k (cut low high (object_at h k).properties)
-  without_elements-cut h k within =
+  pub without_elements-entries_outside : (h : Objects) (k : ℕ) → k < length h.objects →
+      without_elements h k low high (map name_and_serial (object_at h k).properties) ≡ with_properties h k (entries_outside low high (object_at h k).properties)
+  without_elements-entries_outside h k within =
       name_by_name (map name_and_serial (object_at h k).properties) h k within
-      ∙ ap (λ es. with_properties h k es) (after_names-cut (object_at h k).properties)
+      ∙ ap (λ es. with_properties h k es) (after_names-entries_outside (object_at h k).properties)
 
   length_stays : not (is_between low high length_name) ≡ true
   length_stays = ap (λ o. not (option_map_or (λ i. nat_le low i && nat_lt i high) o false)) length_is_no_index
 
   -- `length` is there after it as before
-  pub own-cut : (h : Objects) (k : ℕ) → k < length h.objects →
-      own (with_properties h k (cut low high (object_at h k).properties)) k length_name ≡ own h k length_name
-  own-cut h k within =
+  pub own-entries_outside : (h : Objects) (k : ℕ) → k < length h.objects →
+      own (with_properties h k (entries_outside low high (object_at h k).properties)) k length_name ≡ own h k length_name
+  own-entries_outside h k within =
       own-put h k _ length_name within
       ∙ item_in-filter (λ x. not (is_between low high x)) length_name length_stays (object_at h k).properties
 
@@ -181,31 +181,31 @@ module _ (h g : Objects) (k low high end : ℕ) (within : k < length h.objects) 
     (names : List (List ℕ × ℕ)) (names_are : names ≡ names_of h k)
     (first : List (List ℕ × ℕ)) (first_is : first ≡ names) (end_is : end ≡ reached_over h k low high first)
     (second : List (List ℕ × ℕ)) (second_is : second ≡ names) (cut_is : g ≡ without_elements h k end high second) where
-  end_reached : end ≡ reached low high (object_at h k).properties
+  end_reached : end ≡ reachable_length low high (object_at h k).properties
   end_reached =
       end_is ∙ ap (λ l. reached_over h k low high l) (first_is ∙ names_are) ∙ reached_over-names h k low high ordered
 
-  is_cut : g ≡ with_properties h k (cut end high (object_at h k).properties)
+  is_cut : g ≡ with_properties h k (entries_outside end high (object_at h k).properties)
   is_cut =
-      cut_is ∙ ap (λ l. without_elements h k end high l) (second_is ∙ names_are) ∙ without_elements-cut end high h k within
+      cut_is ∙ ap (λ l. without_elements h k end high l) (second_is ∙ names_are) ∙ without_elements-entries_outside end high h k within
 
   pub there_after : (n : List ℕ) → n ≡ length_name → IsSome (own h k length_name) → IsSome (own g k n)
   there_after n n_is there =
       subst (λ x. IsSome (own g k x)) (sym n_is)
-      (subst (λ o. IsSome (own o k length_name)) (sym is_cut) (subst (λ o. IsSome o) (sym (own-cut end high h k within)) there))
+      (subst (λ o. IsSome (own o k length_name)) (sym is_cut) (subst (λ o. IsSome o) (sym (own-entries_outside end high h k within)) there))
 
-  written : (p : Prop) → with_property g k length_name p ≡ with_properties h k (with_item (cut end high (object_at h k).properties) length_name p)
+  written : (p : Prop) → with_property g k length_name p ≡ with_properties h k (with_item (entries_outside end high (object_at h k).properties) length_name p)
   written p =
-      let es = cut end high (object_at h k).properties in
+      let es = entries_outside end high (object_at h k).properties in
       ap (λ o. with_property o k length_name p) is_cut
       ∙ ap (λ (o : Object). with_properties (with_properties h k es) k (with_item o.properties length_name p)) (object_at-put h k es within)
       ∙ with_properties-twice h k es (with_item es length_name p) within
 
   pub shortened_is : (f : Objects) (n : List ℕ) (p q : Prop) (stays : Bool) (b : Bool) → n ≡ length_name → q ≡ with_count end stays p →
-      f ≡ with_property g k n q → nat_le end low ≡ b → (f, (if b then Done else Rejected)) ≡ shortened h k p low high stays
+      f ≡ with_property g k n q → nat_le end low ≡ b → (f, (if b then Done else Rejected)) ≡ shorten_array h k p low high stays
   shortened_is f n p q stays b n_is q_is f_is b_is =
-      let at : f ≡ with_properties h k (with_item (cut end high (object_at h k).properties) length_name (with_count end stays p)) =
+      let at : f ≡ with_properties h k (with_item (entries_outside end high (object_at h k).properties) length_name (with_count end stays p)) =
       f_is ∙ ap (λ x. with_property g k x q) n_is ∙ ap (λ x. with_property g k length_name x) q_is ∙ written (with_count end stays p) in
       ap (λ c. (f, (if c then Done else Rejected))) (sym b_is)
       ∙ ap (λ o. (o, (if nat_le end low then Done else Rejected))) at
-      ∙ ap (λ e. (with_properties h k (with_item (cut e high (object_at h k).properties) length_name (with_count e stays p)), (if nat_le e low then Done else Rejected))) end_reached
+      ∙ ap (λ e. (with_properties h k (with_item (entries_outside e high (object_at h k).properties) length_name (with_count e stays p)), (if nat_le e low then Done else Rejected))) end_reached

@@ -30,21 +30,21 @@ with_new_property heap place name property =
     (with_new (object_at heap place).properties name heap.next property)
 
 -- what becomes of a property is stored, and where nothing does the change is rejected
-abbrev pub stored : Objects → ℕ → Name → Option Prop → Objects × Defined
-stored heap place name None = (heap, Rejected)
-stored heap place name (Some p) = (with_property heap place name p, Done)
+abbrev pub store_property : Objects → ℕ → Name → Option Prop → Objects × Defined
+store_property heap place name None = (heap, Rejected)
+store_property heap place name (Some p) = (with_property heap place name p, Done)
 
 -- a change where this property, or none, is present (8.12.9, from step 3 on)
-abbrev pub defined_on : Objects → ℕ → Name → Change → Option Prop → Objects × Defined
-defined_on heap place name change None =
+abbrev pub define_on : Objects → ℕ → Name → Change → Option Prop → Objects × Defined
+define_on heap place name change None =
     if (object_at heap place).extensible then (with_new_property heap place name (made change), Done)
     else (heap, Rejected)
-defined_on heap place name change (Some present) =
-    if is_same present change then (heap, Done) else stored heap place name (revised present change)
+define_on heap place name change (Some present) =
+    if is_same present change then (heap, Done) else store_property heap place name (revised present change)
 
 -- a change on an object that is no array (8.12.9)
-abbrev pub defined_plainly : Objects → ℕ → Name → Change → Objects × Defined
-defined_plainly heap place name change = defined_on heap place name change (own_or_unit heap place name)
+abbrev pub define_ordinary : Objects → ℕ → Name → Change → Objects × Defined
+define_ordinary heap place name change = define_on heap place name change (own_or_unit heap place name)
 
 abbrev pub is_array : Class → Bool
 is_array class.Array = true
@@ -85,10 +85,10 @@ counted place index length (heap, Done) =
     ((if nat_le (length_of length) index then with_length heap place (index + 1) length else heap), Done)
 
 -- a change on the element of an array at an index, where `length` is this (15.4.5.1, step 4)
-abbrev pub defined_element : Objects → ℕ → Name → ℕ → Change → Option Prop → Objects × Defined
-defined_element heap place name index change length =
+abbrev pub define_array_element : Objects → ℕ → Name → ℕ → Change → Option Prop → Objects × Defined
+define_array_element heap place name index change length =
     if nat_le (length_of length) index && not (is_writable length) then (heap, Rejected)
-    else counted place index length (defined_plainly heap place name change)
+    else counted place index length (define_ordinary heap place name change)
 
 -- whether an entry is an element from one index to below another
 abbrev pub is_between : ℕ → ℕ → Name → Bool
@@ -103,20 +103,20 @@ index_after low high name property =
 
 -- down to which index elements are deleted, from the greatest below `high` to `low`, where the first that can't be
 -- deleted ends it (15.4.5.1, step 3.l): to the one after the greatest that can't
-abbrev pub reached : ℕ → ℕ → List (Entry Prop) → ℕ
-reached low high [] = low
-reached low high (e ∷ es) = max (index_after low high e.name e.item) (reached low high es)
+abbrev pub reachable_length : ℕ → ℕ → List (Entry Prop) → ℕ
+reachable_length low high [] = low
+reachable_length low high (e ∷ es) = max (index_after low high e.name e.item) (reachable_length low high es)
 
 -- the entries without the elements in these bounds
-abbrev pub cut : ℕ → ℕ → List (Entry Prop) → List (Entry Prop)
-cut low high entries = filter (λ e. not (is_between low high e.name)) entries
+abbrev pub entries_outside : ℕ → ℕ → List (Entry Prop) → List (Entry Prop)
+entries_outside low high entries = filter (λ e. not (is_between low high e.name)) entries
 
 -- an array whose length was `high`, cut down as far as `low`, where its property `length` would become this one
-abbrev pub shortened : Objects → ℕ → Prop → ℕ → ℕ → Bool → Objects × Defined
-shortened heap place length low high stays_writable =
+abbrev pub shorten_array : Objects → ℕ → Prop → ℕ → ℕ → Bool → Objects × Defined
+shorten_array heap place length low high stays_writable =
     let entries = (object_at heap place).properties in
-    let end = reached low high entries in (
-      with_properties heap place (with_item (cut end high entries) length_name (with_count end stays_writable length)),
+    let end = reachable_length low high entries in (
+      with_properties heap place (with_item (entries_outside end high entries) length_name (with_count end stays_writable length)),
       (if nat_le end low then Done else Rejected),
     )
 
@@ -127,7 +127,7 @@ kept_open change = record change { writable = option_map (λ _. true) change.wri
 -- where `length` would become this, elements are deleted; where it can't, the change is rejected
 abbrev pub shortened_to : Objects → ℕ → ℕ → ℕ → Bool → Option Prop → Objects × Defined
 shortened_to heap place low high stays_writable None = (heap, Rejected)
-shortened_to heap place low high stays_writable (Some length) = shortened heap place length low high stays_writable
+shortened_to heap place low high stays_writable (Some length) = shorten_array heap place length low high stays_writable
 
 -- `length` is given a smaller count (15.4.5.1, from step 3.g on)
 abbrev pub defined_shorter : Objects → ℕ → Change → ℕ → Option Prop → Objects × Defined
@@ -139,26 +139,26 @@ defined_shorter heap place change low (Some length) =
     else (heap, Rejected)
 
 -- a change on the `length` of an array, which is this (15.4.5.1, step 3)
-abbrev pub defined_length : Objects → ℕ → Change → Option Value → Option Prop → Objects × Defined
-defined_length heap place change None length = defined_plainly heap place length_name change
-defined_length heap place change (Some v) length =
-    if nat_le (length_of length) (count_of v) then defined_plainly heap place length_name change
+abbrev pub define_array_length : Objects → ℕ → Change → Option Value → Option Prop → Objects × Defined
+define_array_length heap place change None length = define_ordinary heap place length_name change
+define_array_length heap place change (Some v) length =
+    if nat_le (length_of length) (count_of v) then define_ordinary heap place length_name change
     else defined_shorter heap place change (count_of v) length
 
 -- a change on a property of an array whose name is this index, or none (15.4.5.1, steps 4 and 5)
 abbrev pub defined_at : Objects → ℕ → Name → Change → Option ℕ → Objects × Defined
-defined_at heap place name change None = defined_plainly heap place name change
+defined_at heap place name change None = define_ordinary heap place name change
 defined_at heap place name change (Some index) =
-    defined_element heap place name index change (own heap place length_name)
+    define_array_element heap place name index change (own heap place length_name)
 
 -- a change on any object: the objects after it, and whether it is done
-abbrev pub defined : Objects → ℕ → Name → Change → Objects × Defined
-defined heap place name change =
+abbrev pub define_own_property : Objects → ℕ → Name → Change → Objects × Defined
+define_own_property heap place name change =
     if is_array (object_at heap place).class
     then (if bytes_eq name length_name
-    then defined_length heap place change change.value (own heap place length_name)
+    then define_array_length heap place change change.value (own heap place length_name)
     else defined_at heap place name change (index_of name))
-    else defined_plainly heap place name change
+    else define_ordinary heap place name change
 
 -- a change isn't data and accessor at once (8.10.5)
 abbrev pub IsOneKind : Change → Type 0

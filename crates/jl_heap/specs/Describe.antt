@@ -42,6 +42,6 @@ described_object heap id class.Error =
 described_object heap id class = value_text (value.Obj id) class
 
 -- a primitive value by its text
-abbrev pub described : Objects → Value → List ℕ
-described heap (value.Obj id) = described_object heap id (object_at heap id.0).class
-described heap v = value_text v class.Primitive
+abbrev pub description_of : Objects → Value → List ℕ
+description_of heap (value.Obj id) = described_object heap id (object_at heap id.0).class
+description_of heap v = value_text v class.Primitive

@@ -13,7 +13,7 @@ abbrev pub unmapped_inside : Inner → ℕ → Inner
 unmapped_inside (Mapped env names) index = Mapped env (slice_set names index None)
 unmapped_inside inner index = inner
 
-abbrev pub unmapped : Objects → ℕ → ℕ → Objects
-unmapped heap place index =
+abbrev pub unmap_argument : Objects → ℕ → ℕ → Objects
+unmap_argument heap place index =
     with_object heap place
     (record (object_at heap place) { inner = unmapped_inside (object_at heap place).inner index })

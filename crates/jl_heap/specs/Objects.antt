@@ -33,11 +33,11 @@ pub record Objects : Type 0 where
   pub next : ℕ
 
 -- what stands at a place where no object is
-abbrev pub nobody : Object
-nobody = record { class = class.Object; proto = None; extensible = false; inner = Nothing; properties = [] }
+abbrev pub absent_object : Object
+absent_object = record { class = class.Object; proto = None; extensible = false; inner = Nothing; properties = [] }
 
 abbrev pub object_at : Objects → ℕ → Object
-object_at heap place = slice_index_or heap.objects place nobody
+object_at heap place = slice_index_or heap.objects place absent_object
 
 -- an object in place of the one at a place, if there is one
 abbrev pub with_object : Objects → ℕ → Object → Objects
@@ -112,8 +112,8 @@ deleted_if heap place name (Some present) =
     else (heap, false)
 
 -- a delete (8.12.7)
-abbrev pub deleted : Objects → ℕ → Name → Objects × Bool
-deleted heap place name = deleted_if heap place name (own_or_unit heap place name)
+abbrev pub delete_property : Objects → ℕ → Name → Objects × Bool
+delete_property heap place name = deleted_if heap place name (own_or_unit heap place name)
 
 -- the names of the stored properties with their serials, in the order in which they were made
 abbrev pub names_of : Objects → ℕ → List (Name × ℕ)

@@ -1,7 +1,7 @@
 -- How the parts of a heap are seen as its objects.
 use Rattle.std.specs.Prelude.{◌≡◌, ℕ, suc, List, [], ◌∷◌, Option, None, Some}
 use Rattle.jl_props.specs.declared.entries.Entry.{Entry}
-use Rattle.jl_heap.specs.Objects.{Object, nobody}
+use Rattle.jl_heap.specs.Objects.{Object, absent_object}
 use Rattle.jl_heap.specs.declared.header.Header.{Header}
 use Rattle.jl_heap.specs.declared.property.Prop.{Prop}
 
@@ -22,5 +22,5 @@ objects_of (h ∷ hs) properties = object_of h (properties 0) ∷ objects_of hs 
 
 -- an object has this header, or is nobody where there is none
 abbrev pub HasHeader : Object → Option Header → Type 0
-HasHeader object None = object ≡ nobody
+HasHeader object None = object ≡ absent_object
 HasHeader object (Some header) = object ≡ object_of header object.properties

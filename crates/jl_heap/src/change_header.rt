@@ -8,7 +8,7 @@ use crate::inner::Inner;
 use jl_value::ObjId;
 
 impl Heap {
-    ghost use Rattle.jl_heap.specs.Headers.{unmapped, without_extensions};
+    ghost use Rattle.jl_heap.specs.Headers.{unmap_argument, without_extensions};
 
     /// No property can be added to an object from now on (8.6.2). It takes no memory.
     pub fn prevent_extensions(&mut self, id: ObjId)
@@ -20,7 +20,7 @@ impl Heap {
     /// An index of an arguments object is mapped to no parameter from now on (10.6). Nothing changes where it is mapped
     /// to none, and on any other object. It takes no memory.
     pub fn unmap(&mut self, id: ObjId, index: u32)
-        ensures { self.new ≡ unmapped self.old id.0 index }
+        ensures { self.new ≡ unmap_argument self.old id.0 index }
     {
         unmap_at(self.headers.items_mut(), id.0, index as usize);
     }

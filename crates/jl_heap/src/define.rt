@@ -8,8 +8,8 @@ use jl_text::{NoMemory, Text};
 use jl_value::ObjId;
 
 impl Heap {
-    ghost use Rattle.jl_heap.specs.Define.{IsOneKind, defined_plainly};
-    ghost use Rattle.jl_heap.specs.Objects.{deleted, own};
+    ghost use Rattle.jl_heap.specs.Define.{IsOneKind, define_ordinary};
+    ghost use Rattle.jl_heap.specs.Objects.{delete_property, own};
 
     /// Changes a property as on an object that is no array (8.12.9).
     pub(crate) fn define_plainly(
@@ -19,7 +19,7 @@ impl Heap {
         change: Change,
     ) -> Result<Defined, NoMemory>
         requires { IsOneKind change }
-        ensures ok { IfOk result (λ d. (self.new, d) ≡ defined_plainly self.old id.0 name.now change) }
+        ensures ok { IfOk result (λ d. (self.new, d) ≡ define_ordinary self.old id.0 name.now change) }
         ensures err { OnErr result (self.new ≡ self.old) }
     {
         let alloc = self.alloc;
@@ -42,7 +42,7 @@ impl Heap {
     fn define_absent(&mut self, id: ObjId, name: &Text, change: Change) -> Result<Defined, NoMemory>
         requires one_kind { IsOneKind change }
         requires absent { IsNone (own self.old id.0 name.now) }
-        ensures ok { IfOk result (λ d. (self.new, d) ≡ defined_plainly self.old id.0 name.now change) }
+        ensures ok { IfOk result (λ d. (self.new, d) ≡ define_ordinary self.old id.0 name.now change) }
         ensures err { OnErr result (self.new ≡ self.old) }
     {
         if let Some(unit) = self.unit_at(id, name) {
@@ -61,7 +61,7 @@ impl Heap {
     /// Takes a property out, and answers whether its name is free now (8.12.7). It isn't exactly where there is a
     /// property that isn't configurable, as a unit of a String object is; then nothing changes. It takes no memory.
     pub fn delete(&mut self, id: ObjId, name: &Text) -> bool
-        ensures { (self.new, result) ≡ deleted self.old id.0 name.now }
+        ensures { (self.new, result) ≡ delete_property self.old id.0 name.now }
     {
         match self.own(id, name) {
             None => self.unit_at(id, name).is_none(),

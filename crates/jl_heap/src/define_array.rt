@@ -11,7 +11,7 @@ use jl_text::{NoMemory, Text};
 use jl_value::{Class, ObjId, array_index};
 
 impl Heap {
-    ghost use Rattle.jl_heap.specs.Define.{FitsLength, IsLength, IsOneKind, defined, defined_element, defined_length};
+    ghost use Rattle.jl_heap.specs.Define.{FitsLength, IsLength, IsOneKind, define_own_property, define_array_element, define_array_length};
     ghost use Rattle.jl_heap.specs.Define.{defined_shorter, is_array, length_name};
     ghost use Rattle.jl_heap.specs.Objects.{object_at, own};
     ghost use Rattle.jl_value.specs.Indices.{index_of};
@@ -24,7 +24,7 @@ impl Heap {
     pub fn define(&mut self, id: ObjId, name: &Text, change: Change) -> Result<Defined, NoMemory>
         requires one_kind { IsOneKind change }
         requires length { FitsLength self.old id.0 name.now change }
-        ensures ok { IfOk result (λ d. (self.new, d) ≡ defined self.old id.0 name.now change) }
+        ensures ok { IfOk result (λ d. (self.new, d) ≡ define_own_property self.old id.0 name.now change) }
         ensures err { OnErr result (self.new ≡ self.old) }
     {
         match self.class_of(id) {
@@ -43,7 +43,7 @@ impl Heap {
         requires array { IsTrue (is_array (object_at self.old id.0).class) }
         requires one_kind { IsOneKind change }
         requires length { FitsLength self.old id.0 name.now change }
-        ensures ok { IfOk result (λ d. (self.new, d) ≡ defined self.old id.0 name.now change) }
+        ensures ok { IfOk result (λ d. (self.new, d) ≡ define_own_property self.old id.0 name.now change) }
         ensures err { OnErr result (self.new ≡ self.old) }
     {
         if is_length_name(name) {
@@ -67,7 +67,7 @@ impl Heap {
         requires element { index_of name.now ≡ Some index }
         requires one_kind { IsOneKind change }
         ensures ok { IfOk result (λ d. (self.new, d)
-            ≡ defined_element self.old id.0 name.now index change (own self.old id.0 length_name)) }
+            ≡ define_array_element self.old id.0 name.now index change (own self.old id.0 length_name)) }
         ensures err { OnErr result (self.new ≡ self.old) }
     {
         let length = self.length(id);
@@ -90,7 +90,7 @@ impl Heap {
         requires one_kind { IsOneKind change }
         requires length { IsLength change.value }
         ensures ok { IfOk result (λ d. (self.new, d)
-            ≡ defined_length self.old id.0 change change.value (own self.old id.0 length_name)) }
+            ≡ define_array_length self.old id.0 change change.value (own self.old id.0 length_name)) }
         ensures err { OnErr result (self.new ≡ self.old) }
     {
         let high = length_of(self.own(id, name));

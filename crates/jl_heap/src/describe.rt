@@ -9,7 +9,7 @@ use jl_value::{Class, ObjId, Seen, Value, share};
 use std::alloc::Global;
 
 impl Heap {
-    ghost use Rattle.jl_heap.specs.Describe.{seen_of, class_of_value, described, described_object, text_found};
+    ghost use Rattle.jl_heap.specs.Describe.{seen_of, class_of_value, description_of, described_object, text_found};
     ghost use Rattle.jl_heap.specs.Objects.{find, object_at};
 
     /// A value with the class that it has now, which is `Primitive` for a value that is no object.
@@ -30,7 +30,7 @@ impl Heap {
     /// object of class Error by the texts that its properties `name` and `message` hold, and any other by its class.
     /// No code of the script is called.
     pub fn describe(&self, v: &Value) -> Result<Vec<u16>, NoMemory>
-        ensures { IfOk result (λ text. text.items ≡ described self.now v.now) }
+        ensures { IfOk result (λ text. text.items ≡ description_of self.now v.now) }
     {
         match v {
             Value::Obj(id) => self.describe_object(*id),

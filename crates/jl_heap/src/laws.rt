@@ -1,13 +1,13 @@
-ghost use Rattle.jl_heap.specs.Laws.{ConfinedStays, CutsOneByOne, FixedStays, OthersStay, UnitsStay};
+ghost use Rattle.jl_heap.specs.Laws.{NonConfigurableStays, CutsOneByOne, ReadOnlyStays, OthersStay, UnitsStay};
 
 /// A property that can be neither configured nor written stays as it is, whatever is asked of its object (8.6.1).
-pub fn fixed_stays()
-    ensures { FixedStays }
+pub fn read_only_stays()
+    ensures { ReadOnlyStays }
 {}
 
 /// A property that can't be configured is there after any delete (8.12.7).
-pub fn confined_stays()
-    ensures { ConfinedStays }
+pub fn non_configurable_stays()
+    ensures { NonConfigurableStays }
 {}
 
 /// A change on one object, or a delete, changes no other.

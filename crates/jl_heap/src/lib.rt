@@ -21,7 +21,7 @@ mod shorten;
 pub use find::find_follows_prototypes;
 pub use heap::Heap;
 pub use inner::Inner;
-pub use laws::{confined_stays, cuts_one_by_one, fixed_stays, others_stay, units_stay};
+pub use laws::{cuts_one_by_one, non_configurable_stays, others_stay, read_only_stays, units_stay};
 pub use property::{Change, Defined, Prop};
 
 #[cfg(test)]

@@ -36,7 +36,7 @@ fn index_after(name: &Text, property: Option<&Prop>, low: u32, high: u64) -> u32
 }
 
 impl Heap {
-    ghost use Rattle.jl_heap.specs.Define.{is_array, length_name, shortened};
+    ghost use Rattle.jl_heap.specs.Define.{is_array, length_name, shorten_array};
     ghost use Rattle.jl_heap.specs.Objects.{object_at, own};
     ghost use Rattle.jl_heap.specs.Steps.{reached_over, without_elements};
 
@@ -54,12 +54,12 @@ impl Heap {
         requires array { IsTrue (is_array (object_at self.old id.0).class) }
         requires named { name.now ≡ length_name }
         requires there { IsSome (own self.old id.0 length_name) }
-        ensures ok { IfOk result (λ d. (self.new, d) ≡ shortened self.old id.0 length.now low high stays_writable) }
+        ensures ok { IfOk result (λ d. (self.new, d) ≡ shorten_array self.old id.0 length.now low high stays_writable) }
         ensures err { OnErr result (self.new ≡ self.old) }
     {
         let names = self.names(id)?;
-        let end = self.reached(id, names.items(), low, high);
-        self.cut(id, names.items(), end, high);
+        let end = self.reachable_length(id, names.items(), low, high);
+        self.entries_outside(id, names.items(), end, high);
         self.replace(id, name, with_count(end, stays_writable, length));
         if end <= low {
             Ok(Defined::Done)
@@ -69,7 +69,7 @@ impl Heap {
     }
 
     /// Down to which index the elements of these names are deleted.
-    fn reached(&self, id: ObjId, mut names: &[(Text, u64)], low: u32, high: u64) -> u32
+    fn reachable_length(&self, id: ObjId, mut names: &[(Text, u64)], low: u32, high: u64) -> u32
         ensures { result ≡ reached_over self.now id.0 low high names.entry.now }
     {
         let mut end = low;
@@ -81,7 +81,7 @@ impl Heap {
     }
 
     /// Deletes the elements of these names that are in these bounds.
-    fn cut(&mut self, id: ObjId, mut names: &[(Text, u64)], low: u32, high: u64)
+    fn entries_outside(&mut self, id: ObjId, mut names: &[(Text, u64)], low: u32, high: u64)
         ensures { self.new ≡ without_elements self.old id.0 low high names.entry.now }
     {
         while let [(name, _), rest @ ..] = names {

@@ -13,7 +13,7 @@ use Rattle.jl_ast.specs.declared.tree.Ident.{Ident}
 use Rattle.jl_ast.specs.declared.tree.Stmt.{Stmt}
 use Rattle.jl_ast.specs.declared.tree.StmtKind as statement
 use Rattle.jl_ast.specs.declared.tree.Target.{Target}
-use Rattle.jl_ast.specs.Numbering.{functions_in, numbered_row, numbered_tree}
+use Rattle.jl_ast.specs.Numbering.{functions_in, numbered_forest, numbered_tree}
 use Rattle.jl_ast.specs.Tree.{Sort, Text, Tree}
 use Rattle.jl_ast.specs.View.{view_expression, view_expressions, view_function, view_statement, view_target}
 use Rattle.jl_ast.proofs.Views.{expression_placed, statement_placed, statement_Labelled}
@@ -39,9 +39,9 @@ boxed {A} view o p c b n m i e f g =
     }
 
 -- the expressions r that were numbered, which are the list l
-pub listed : (l r b : List Expr) (n : ℕ) → r ≡ l → view_expressions b ≡ numbered_row n (view_expressions r) →
-    view_expressions b ≡ numbered_row n (view_expressions l)
-listed l r b n i e = e ∙ ap (λ d. numbered_row n (view_expressions d)) i
+pub listed : (l r b : List Expr) (n : ℕ) → r ≡ l → view_expressions b ≡ numbered_forest n (view_expressions r) →
+    view_expressions b ≡ numbered_forest n (view_expressions l)
+listed l r b n i e = e ∙ ap (λ d. numbered_forest n (view_expressions d)) i
 
 pub function_numbered : (e e' : Expr) (f : Box Function Global) (f' : Function) (n m : ℕ) →
     e.kind ≡ expression.Function f → e'.kind ≡ expression.Function (with_value f f') → e'.span ≡ e.span →
@@ -84,7 +84,7 @@ index_numbered e e' a b a' b' n m p i j s w x = cc (
 
 pub call_numbered : (e e' : Expr) (f : Box Expr Global) (l : List Expr) (f' : Expr) (l' : List Expr) (n m : ℕ) →
     e.kind ≡ expression.Call f l → e'.kind ≡ expression.Call (with_value f f') l' → e'.span ≡ e.span →
-    Walked view_expression f.value f' n m → view_expressions l' ≡ numbered_row m (view_expressions l) →
+    Walked view_expression f.value f' n m → view_expressions l' ≡ numbered_forest m (view_expressions l) →
     view_expression e' ≡ numbered_tree n (view_expression e)
 call_numbered e e' f l f' l' n m i j s w x = cc (
   expression_placed e,
@@ -97,7 +97,7 @@ call_numbered e e' f l f' l' n m i j s w x = cc (
 
 pub new_numbered : (e e' : Expr) (f : Box Expr Global) (l : List Expr) (f' : Expr) (l' : List Expr) (n m : ℕ) →
     e.kind ≡ expression.New f l → e'.kind ≡ expression.New (with_value f f') l' → e'.span ≡ e.span →
-    Walked view_expression f.value f' n m → view_expressions l' ≡ numbered_row m (view_expressions l) →
+    Walked view_expression f.value f' n m → view_expressions l' ≡ numbered_forest m (view_expressions l) →
     view_expression e' ≡ numbered_tree n (view_expression e)
 new_numbered e e' f l f' l' n m i j s w x = cc (
   expression_placed e,

@@ -5,13 +5,13 @@ use Rattle.std.proofs.Common.{drop-cons, add-one, get_or-set_other, length-set}
 use Rattle.std.specs.List.{refill}
 use Rattle.std.proofs.lemmas.List.{take_more_set, drop-set-lt, drop_all, take-append-le}
 use Rattle.std.proofs.Math.Seq.{take-length}
-use Rattle.jl_ast.specs.Tree.{Sort, Tree, Row, more, end}
-use Rattle.jl_ast.specs.Numbering.{functions_in, functions_in_row, numbered_tree, numbered_row}
+use Rattle.jl_ast.specs.Tree.{Sort, Tree, Forest, more, end}
+use Rattle.jl_ast.specs.Numbering.{functions_in, functions_in_forest, numbered_tree, numbered_forest}
 
--- how items are seen: one of them as a tree, and a list of them as a row
+-- how items are seen: one of them as a tree, and a list of them as a forest
 pub record Seen (S : Type 0) (x : Sort) (A : Type 0) : Type 0 where
   pub one : A → Tree S x
-  pub all : List A → Row S x
+  pub all : List A → Forest S x
   pub none : all [] ≡ end
   pub next : (a : A) (l : List A) → all (a ∷ l) ≡ more (one a) (all l)
 
@@ -20,18 +20,18 @@ pub record SameFrom {A : Type 0} (k : ℕ) (old now : List A) : Type 0 where
   pub as_long : length now ≡ length old
   pub same : (i : ℕ) (d : A) → k ≤ i → get_or now i d ≡ get_or old i d
 
--- the trees of these items, and after them a row
-abbrev pub before : {S A : Type 0} {x : Sort} → (A → Tree S x) → List A → Row S x → Row S x
+-- the trees of these items, and after them a forest
+abbrev pub before : {S A : Type 0} {x : Sort} → (A → Tree S x) → List A → Forest S x → Forest S x
 before f [] r = r
 before f (a ∷ l) r = more (f a) (before f l r)
 
 -- the first k items of `now` are numbered, and the others come from `next` on
 pub record Halfway {S A : Type 0} {x : Sort} (seen : Seen S x A) (old now : List A) (k from next : ℕ) : Type 0 where
-  pub numbered : before seen.one (take k now) (numbered_row next (seen.all (drop k now))) ≡ numbered_row from
+  pub numbered : before seen.one (take k now) (numbered_forest next (seen.all (drop k now))) ≡ numbered_forest from
       (seen.all old)
-  pub counted : next + functions_in_row (seen.all (drop k now)) ≡ from + functions_in_row (seen.all old)
+  pub counted : next + functions_in_forest (seen.all (drop k now)) ≡ from + functions_in_forest (seen.all old)
 
-before-append : {S A : Type 0} {x : Sort} (f : A → Tree S x) (l m : List A) (r : Row S x) →
+before-append : {S A : Type 0} {x : Sort} (f : A → Tree S x) (l m : List A) (r : Forest S x) →
     before f (l ++ m) r ≡ before f l (before f m r)
 before-append f [] m r = refl
 before-append f (a ∷ l) m r = ap (more (f a)) (before-append f l m r)
@@ -62,10 +62,10 @@ module _ {S A : Type 0} {x : Sort} (seen : Seen S x A) where
   part now k d h = ap seen.all (drop-cons now k d h) ∙ seen.next (get_or now k d) (drop (suc k) now)
 
   pub item_fits : (old now : List A) (k from next : ℕ) (d : A) → Halfway seen old now k from next →
-      k < length now → from + functions_in_row (seen.all old) < 2 ^ 32 →
+      k < length now → from + functions_in_forest (seen.all old) < 2 ^ 32 →
       next + functions_in (seen.one (get_or now k d)) < 2 ^ 32
   item_fits old now k from next d w h f =
-      let p = ap functions_in_row (part now k d h) in let c = w.counted in omega arith
+      let p = ap functions_in_forest (part now k d h) in let c = w.counted in omega arith
 
   pub one_more : (old now : List A) (k from next : ℕ) (d b : A) (later : ℕ) → Halfway seen old now k from next →
       k < length now → seen.one b ≡ numbered_tree next (seen.one (get_or now k d)) →
@@ -77,24 +77,24 @@ module _ {S A : Type 0} {x : Sort} (seen : Seen S x A) where
       let r = seen.all (drop (suc k) now) in
       let tail = ap seen.all rest in
       let p = part now k d h in
-      let m : numbered_row next (seen.all (drop k now)) ≡ more (seen.one b) (numbered_row later r) =
-      ap (numbered_row next) p ∙ ap (λ i. more (numbered_tree next (seen.one a)) (numbered_row i r)) (sym c)
-      ∙ ap (λ t. more t (numbered_row later r)) (sym n) in
-      let q = ap functions_in_row p in let s = ap functions_in_row tail in let e = w.counted in
+      let m : numbered_forest next (seen.all (drop k now)) ≡ more (seen.one b) (numbered_forest later r) =
+      ap (numbered_forest next) p ∙ ap (λ i. more (numbered_tree next (seen.one a)) (numbered_forest i r)) (sym c)
+      ∙ ap (λ t. more t (numbered_forest later r)) (sym n) in
+      let q = ap functions_in_forest p in let s = ap functions_in_forest tail in let e = w.counted in
       record {
         numbered =
-            ap (λ l. before seen.one l (numbered_row later (seen.all (drop (k + 1) (set now k b)))))
+            ap (λ l. before seen.one l (numbered_forest later (seen.all (drop (k + 1) (set now k b)))))
             (take_more_set now k b h)
             ∙ before-append seen.one (take k now) (b ∷ []) _
-            ∙ ap (λ l. before seen.one (take k now) (more (seen.one b) (numbered_row later l))) tail
+            ∙ ap (λ l. before seen.one (take k now) (more (seen.one b) (numbered_forest later l))) tail
             ∙ sym (ap (before seen.one (take k now)) m) ∙ w.numbered;
         counted = omega arith;
       }
 
   pub all_numbered : (old now : List A) (k from next : ℕ) → Halfway seen old now k from next → SameFrom k old now →
-      k ≡ length now → seen.all (refill (length old) old now) ≡ numbered_row from (seen.all old)
+      k ≡ length now → seen.all (refill (length old) old now) ≡ numbered_forest from (seen.all old)
   all_numbered old now k from next w s e =
       let rest : seen.all (drop k now) ≡ end = ap seen.all (drop_all k now (omega arith)) ∙ seen.none in
       ap seen.all (refilled old now s.as_long) ∙ sym (before-all seen now)
       ∙ ap (λ l. before seen.one l end) (sym (ap (λ i. take i now) e ∙ take-length now))
-      ∙ sym (ap (λ r. before seen.one (take k now) (numbered_row next r)) rest) ∙ w.numbered
+      ∙ sym (ap (λ r. before seen.one (take k now) (numbered_forest next r)) rest) ∙ w.numbered

@@ -1,9 +1,9 @@
 #![tactic(auto, using(jl_ast::proofs::Views::nodes))]
 
 ghost use Rattle.std.specs.Prelude.{◌≡◌, ◌+◌, ◌^◌, ◌<◌};
-ghost use Rattle.jl_ast.specs.Numbering.{functions_in, functions_in_row, functions_in_maybe, numbered};
-ghost use Rattle.jl_ast.specs.Numbering.{numbered_tree, numbered_row, numbered_maybe};
-ghost use Rattle.jl_ast.specs.View.{view, view_expression, view_expressions, view_maybe, view_items};
+ghost use Rattle.jl_ast.specs.Numbering.{functions_in, functions_in_forest, functions_in_optional, numbered};
+ghost use Rattle.jl_ast.specs.Numbering.{numbered_tree, numbered_forest, numbered_optional};
+ghost use Rattle.jl_ast.specs.View.{view, view_expression, view_expressions, view_optional, view_items};
 ghost use Rattle.jl_ast.specs.View.{view_target, view_entry, view_entries, view_function, view_functions};
 ghost use Rattle.jl_ast.specs.View.{view_body, view_statement, view_statements, view_branch, view_catch};
 ghost use Rattle.jl_ast.specs.View.{view_init, view_declarators, view_case, view_cases};
@@ -47,9 +47,9 @@ fn number_body(b: &mut Body, next: u32) -> u32
 
 #[cycle(numbering)]
 fn number_functions(functions: &mut List<Function>, next: u32) -> u32
-    requires few { next + functions_in_row (view_functions functions.old) < 2 ^ 32 }
-    ensures numbered { view_functions functions.new ≡ numbered_row next (view_functions functions.old) }
-    ensures counted { result ≡ next + functions_in_row (view_functions functions.old) }
+    requires few { next + functions_in_forest (view_functions functions.old) < 2 ^ 32 }
+    ensures numbered { view_functions functions.new ≡ numbered_forest next (view_functions functions.old) }
+    ensures counted { result ≡ next + functions_in_forest (view_functions functions.old) }
 {
     let mut after = next;
     for f in functions.items_mut().iter_mut() {
@@ -60,9 +60,9 @@ fn number_functions(functions: &mut List<Function>, next: u32) -> u32
 
 #[cycle(numbering)]
 fn number_statements(statements: &mut List<Stmt>, next: u32) -> u32
-    requires few { next + functions_in_row (view_statements statements.old) < 2 ^ 32 }
-    ensures numbered { view_statements statements.new ≡ numbered_row next (view_statements statements.old) }
-    ensures counted { result ≡ next + functions_in_row (view_statements statements.old) }
+    requires few { next + functions_in_forest (view_statements statements.old) < 2 ^ 32 }
+    ensures numbered { view_statements statements.new ≡ numbered_forest next (view_statements statements.old) }
+    ensures counted { result ≡ next + functions_in_forest (view_statements statements.old) }
 {
     let mut after = next;
     for s in statements.items_mut().iter_mut() {
@@ -126,9 +126,9 @@ fn number_statement(s: &mut Stmt, next: u32) -> u32
 
 #[cycle(numbering)]
 fn number_branch(branch: &mut Option<List<Stmt>>, next: u32) -> u32
-    requires few { next + functions_in_maybe (view_branch branch.old) < 2 ^ 32 }
-    ensures numbered { view_branch branch.new ≡ numbered_maybe next (view_branch branch.old) }
-    ensures counted { result ≡ next + functions_in_maybe (view_branch branch.old) }
+    requires few { next + functions_in_optional (view_branch branch.old) < 2 ^ 32 }
+    ensures numbered { view_branch branch.new ≡ numbered_optional next (view_branch branch.old) }
+    ensures counted { result ≡ next + functions_in_optional (view_branch branch.old) }
 {
     match branch {
         Some(body) => number_statements(body, next),
@@ -138,9 +138,9 @@ fn number_branch(branch: &mut Option<List<Stmt>>, next: u32) -> u32
 
 #[cycle(numbering)]
 fn number_catch(catch: &mut Option<(Ident, List<Stmt>)>, next: u32) -> u32
-    requires few { next + functions_in_maybe (view_catch catch.old) < 2 ^ 32 }
-    ensures numbered { view_catch catch.new ≡ numbered_maybe next (view_catch catch.old) }
-    ensures counted { result ≡ next + functions_in_maybe (view_catch catch.old) }
+    requires few { next + functions_in_optional (view_catch catch.old) < 2 ^ 32 }
+    ensures numbered { view_catch catch.new ≡ numbered_optional next (view_catch catch.old) }
+    ensures counted { result ≡ next + functions_in_optional (view_catch catch.old) }
 {
     match catch {
         Some((_, body)) => number_statements(body, next),
@@ -163,9 +163,9 @@ fn number_init(init: &mut ForInit, next: u32) -> u32
 
 #[cycle(numbering)]
 fn number_declarators(declarators: &mut List<(Ident, Option<Expr>)>, next: u32) -> u32
-    requires few { next + functions_in_row (view_declarators declarators.old) < 2 ^ 32 }
-    ensures numbered { view_declarators declarators.new ≡ numbered_row next (view_declarators declarators.old) }
-    ensures counted { result ≡ next + functions_in_row (view_declarators declarators.old) }
+    requires few { next + functions_in_forest (view_declarators declarators.old) < 2 ^ 32 }
+    ensures numbered { view_declarators declarators.new ≡ numbered_forest next (view_declarators declarators.old) }
+    ensures counted { result ≡ next + functions_in_forest (view_declarators declarators.old) }
 {
     let mut after = next;
     for d in declarators.items_mut().iter_mut() {
@@ -176,9 +176,9 @@ fn number_declarators(declarators: &mut List<(Ident, Option<Expr>)>, next: u32) 
 
 #[cycle(numbering)]
 fn number_cases(cases: &mut List<Case>, next: u32) -> u32
-    requires few { next + functions_in_row (view_cases cases.old) < 2 ^ 32 }
-    ensures numbered { view_cases cases.new ≡ numbered_row next (view_cases cases.old) }
-    ensures counted { result ≡ next + functions_in_row (view_cases cases.old) }
+    requires few { next + functions_in_forest (view_cases cases.old) < 2 ^ 32 }
+    ensures numbered { view_cases cases.new ≡ numbered_forest next (view_cases cases.old) }
+    ensures counted { result ≡ next + functions_in_forest (view_cases cases.old) }
 {
     let mut after = next;
     for c in cases.items_mut().iter_mut() {
@@ -199,9 +199,9 @@ fn number_case(c: &mut Case, next: u32) -> u32
 
 #[cycle(numbering)]
 fn number_held(e: &mut Option<Expr>, next: u32) -> u32
-    requires few { next + functions_in_maybe (view_maybe e.old) < 2 ^ 32 }
-    ensures numbered { view_maybe e.new ≡ numbered_maybe next (view_maybe e.old) }
-    ensures counted { result ≡ next + functions_in_maybe (view_maybe e.old) }
+    requires few { next + functions_in_optional (view_optional e.old) < 2 ^ 32 }
+    ensures numbered { view_optional e.new ≡ numbered_optional next (view_optional e.old) }
+    ensures counted { result ≡ next + functions_in_optional (view_optional e.old) }
 {
     match e {
         Some(e) => number_expression(e, next),
@@ -282,9 +282,9 @@ fn number_target(t: &mut Target, next: u32) -> u32
 
 #[cycle(numbering)]
 fn number_items(items: &mut List<Option<Expr>>, next: u32) -> u32
-    requires few { next + functions_in_row (view_items items.old) < 2 ^ 32 }
-    ensures numbered { view_items items.new ≡ numbered_row next (view_items items.old) }
-    ensures counted { result ≡ next + functions_in_row (view_items items.old) }
+    requires few { next + functions_in_forest (view_items items.old) < 2 ^ 32 }
+    ensures numbered { view_items items.new ≡ numbered_forest next (view_items items.old) }
+    ensures counted { result ≡ next + functions_in_forest (view_items items.old) }
 {
     let mut after = next;
     for e in items.items_mut().iter_mut() {
@@ -295,9 +295,9 @@ fn number_items(items: &mut List<Option<Expr>>, next: u32) -> u32
 
 #[cycle(numbering)]
 fn number_entries(entries: &mut List<Entry>, next: u32) -> u32
-    requires few { next + functions_in_row (view_entries entries.old) < 2 ^ 32 }
-    ensures numbered { view_entries entries.new ≡ numbered_row next (view_entries entries.old) }
-    ensures counted { result ≡ next + functions_in_row (view_entries entries.old) }
+    requires few { next + functions_in_forest (view_entries entries.old) < 2 ^ 32 }
+    ensures numbered { view_entries entries.new ≡ numbered_forest next (view_entries entries.old) }
+    ensures counted { result ≡ next + functions_in_forest (view_entries entries.old) }
 {
     let mut after = next;
     for entry in entries.items_mut().iter_mut() {
@@ -321,9 +321,9 @@ fn number_entry(entry: &mut Entry, next: u32) -> u32
 
 #[cycle(numbering)]
 fn number_expressions(expressions: &mut List<Expr>, next: u32) -> u32
-    requires few { next + functions_in_row (view_expressions expressions.old) < 2 ^ 32 }
-    ensures numbered { view_expressions expressions.new ≡ numbered_row next (view_expressions expressions.old) }
-    ensures counted { result ≡ next + functions_in_row (view_expressions expressions.old) }
+    requires few { next + functions_in_forest (view_expressions expressions.old) < 2 ^ 32 }
+    ensures numbered { view_expressions expressions.new ≡ numbered_forest next (view_expressions expressions.old) }
+    ensures counted { result ≡ next + functions_in_forest (view_expressions expressions.old) }
 {
     let mut after = next;
     for e in expressions.items_mut().iter_mut() {

@@ -2,7 +2,7 @@
 #![tactic(auto, using(jl_ast::proofs::Views::nodes))]
 
 ghost use Rattle.std.specs.Prelude.{◌≡◌, ◌+◌, [], ◌∷◌, IfOk};
-ghost use Rattle.jl_ast.specs.Numbering.{functions_in, functions_in_row};
+ghost use Rattle.jl_ast.specs.Numbering.{functions_in, functions_in_forest};
 ghost use Rattle.jl_ast.specs.View.{view, view_body, view_function, view_functions, view_statement, view_statements};
 
 use super::*;
@@ -39,7 +39,7 @@ fn function(alloc: Global, place: u32, body: Body) -> Function
 
 fn body(functions: List<Function>, statements: List<Stmt>) -> Body
     ensures { functions_in (view_body result)
-        ≡ functions_in_row (view_functions functions) + functions_in_row (view_statements statements) }
+        ≡ functions_in_forest (view_functions functions) + functions_in_forest (view_statements statements) }
 {
     Body {
         strict: false,

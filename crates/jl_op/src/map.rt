@@ -17,9 +17,9 @@ pub struct OpMap {
 
 impl Model for OpMap {
     ghost use Rattle.std.specs.Prelude.{List, ◌<◌, ◌^◌, length};
-    ghost use Rattle.jl_op.specs.Map.{Row};
+    ghost use Rattle.jl_op.specs.Map.{MapRow};
 
-    ghost Value = { List Row };
+    ghost Value = { List MapRow };
 
     ghost view = { λ m. m.rows.items };
 

@@ -14,7 +14,7 @@ use Rattle.jl_grammar.specs.Brackets.{bracket, opened}
 use Rattle.jl_grammar.specs.Program.{Reads, last_end, program_of}
 use Rattle.jl_grammar.specs.Reader.{body_from, deeper, is_shallow, program_at}
 use Rattle.jl_grammar.specs.Reads.{Code}
-use Rattle.jl_grammar.specs.Tokens.{from_at, sign_at}
+use Rattle.jl_grammar.specs.Tokens.{from_at, terminal_at}
 use Rattle.jl_grammar.proofs.CountedNodes.{counted}
 use Rattle.jl_grammar.proofs.FewNodes.{body_few}
 use Rattle.jl_grammar.proofs.One.{read, reader_tells}
@@ -24,18 +24,18 @@ pub opened_none : (ts : List Token) → opened ts 0 ≡ 0
 unfolding opened
 opened_none ts = refl
 
-pub opened_more : (ts : List Token) (i : ℕ) → opened ts (i + 1) ≡ bracket (sign_at ts i) (opened ts i)
+pub opened_more : (ts : List Token) (i : ℕ) → opened ts (i + 1) ≡ bracket (terminal_at ts i) (opened ts i)
 unfolding opened
 opened_more ts i = let e : i + 1 ≡ suc i = omega arith in ap (opened ts) e
 
 pub shallow_more : (ts : List Token) (most i : ℕ) → is_shallow ts most i ≡ true
-    → bracket (sign_at ts i) (opened ts i) ≤ most → is_shallow ts most (i + 1) ≡ true
+    → bracket (terminal_at ts i) (opened ts i) ≤ most → is_shallow ts most (i + 1) ≡ true
 unfolding opened
 shallow_more ts most i h l =
     let e : i + 1 ≡ suc i = omega arith in
     ap (is_shallow ts most) e ∙ ap (λ b. b && is_shallow ts most i) (le-leb _ _ l) ∙ h
 
-deep_here : (ts : List Token) (most i : ℕ) → most < bracket (sign_at ts i) (opened ts i)
+deep_here : (ts : List Token) (most i : ℕ) → most < bracket (terminal_at ts i) (opened ts i)
     → is_shallow ts most (suc i) ≡ false
 unfolding opened
 deep_here ts most i l = ap (λ b. b && is_shallow ts most i) (lt-leb _ _ l)
@@ -44,7 +44,7 @@ and_false : (b : Bool) → (b && false) ≡ false
 and_false true = refl
 and_false false = refl
 
-pub deep_later : (ts : List Token) (most i n : ℕ) → i < n → most < bracket (sign_at ts i) (opened ts i)
+pub deep_later : (ts : List Token) (most i n : ℕ) → i < n → most < bracket (terminal_at ts i) (opened ts i)
     → is_shallow ts most n ≡ false
 deep_later ts most i zero l h = absurd (omega arith)
 deep_later ts most i (suc n) l h = by_place (cases_lt i n) (λ k. deep_later ts most i n k h)

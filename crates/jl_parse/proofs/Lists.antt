@@ -10,7 +10,7 @@ use Rattle.jl_ast.specs.declared.tree.Expr.{Expr as CodeExpr}
 use Rattle.jl_ast.specs.declared.tree.Function.{Function as CodeFunction}
 use Rattle.jl_ast.specs.declared.tree.Ident.{Ident as CodeIdent}
 use Rattle.jl_ast.specs.declared.tree.Stmt.{Stmt as CodeStmt}
-use Rattle.jl_ast.specs.Tree.{Ident, Tree, Row}
+use Rattle.jl_ast.specs.Tree.{Ident, Tree, Forest}
 use Rattle.jl_ast.specs.Tree as tree
 use Rattle.jl_ast.specs.View.{view_case, view_cases, view_declarator, view_declarators, view_entries, view_entry}
 use Rattle.jl_ast.specs.View.{view_function, view_functions, view_ident, view_statement, view_statements}
@@ -20,9 +20,9 @@ use Rattle.jl_grammar.specs.Reader.{elements_from, entries_from, entry_at, gette
 use Rattle.jl_grammar.specs.Reader.{is_close_paren, is_default, is_function, names_from, setter_by, statements_from}
 use Rattle.jl_grammar.specs.Reader.{ends_at, with_directive}
 use Rattle.jl_grammar.specs.Reads.{Code, Stmt, Stmts}
-use Rattle.jl_grammar.specs.Tokens.{ident_at, key_ident_at, sign_at, span, strict_at}
+use Rattle.jl_grammar.specs.Tokens.{ident_at, key_ident_at, terminal_at, span, strict_at}
 use Rattle.jl_parse.specs.Steps.{append, clause_of, declaration_of, with_elements}
-use Rattle.jl_parse.proofs.Rows.{append_assoc, append_end, regroup, with_end, with_row}
+use Rattle.jl_parse.proofs.Rows.{append_assoc, append_end, regroup, with_end, with_forest}
 
 pub statements_push : (l : List CodeStmt) (e : CodeStmt)
     → view_statements (l ++ (e ∷ [])) ≡ append (view_statements l) (tree.more (view_statement e) tree.end)
@@ -98,23 +98,23 @@ then_if : {A B C D : Type 0} (o : Read D) (b : ℕ → Bool) (s : ℕ → Read A
 then_if None b s f go = refl
 then_if (Some t) b s f go = if_then (b t.1) (s t.1) (f t.0) go
 
-append_ends : (strict : Bool) (fs : Row Span tree.func) (ws : Stmts)
+append_ends : (strict : Bool) (fs : Forest Span tree.func) (ws : Stmts)
     → tree.body strict (append fs tree.end) (append ws tree.end) ≡ tree.body strict fs ws
 append_ends strict fs ws =
-    ap (λ (a : Row Span tree.func). tree.body strict a (append ws tree.end)) (append_end fs)
+    ap (λ (a : Forest Span tree.func). tree.body strict a (append ws tree.end)) (append_end fs)
     ∙ ap (λ (a : Stmts). tree.body strict fs a) (append_end ws)
 
-after_function : (strict : Bool) (fs : Row Span tree.func) (ws : Stmts) (f : Tree Span tree.func)
-    (o : Read (Row Span tree.func × Stmts))
+after_function : (strict : Bool) (fs : Forest Span tree.func) (ws : Stmts) (f : Tree Span tree.func)
+    (o : Read (Forest Span tree.func × Stmts))
     → with_elements strict fs ws (o >>= λ r. Some ((tree.more f r.0.0, r.0.1), r.1))
     ≡ with_elements strict (append fs (tree.more f tree.end)) ws o
 after_function strict fs ws f None = refl
 after_function strict fs ws f (Some r) =
-    ap (λ (a : Row Span tree.func). Some (tree.body strict a (append ws r.0.1), r.1))
+    ap (λ (a : Forest Span tree.func). Some (tree.body strict a (append ws r.0.1), r.1))
     (sym (append_assoc fs (tree.more f tree.end) r.0.0))
 
-after_statement : (strict : Bool) (fs : Row Span tree.func) (ws : Stmts) (w : Stmt)
-    (o : Read (Row Span tree.func × Stmts))
+after_statement : (strict : Bool) (fs : Forest Span tree.func) (ws : Stmts) (w : Stmt)
+    (o : Read (Forest Span tree.func × Stmts))
     → with_elements strict fs ws (o >>= λ r. Some ((r.0.0, tree.more w r.0.1), r.1))
     ≡ with_elements strict fs (append ws (tree.more w tree.end)) o
 after_statement strict fs ws w None = refl
@@ -139,7 +139,7 @@ or_false : (s : Bool) → (s || false) ≡ s
 or_false true = refl
 or_false false = refl
 
-no_directives : (s : Bool) (o : Read (Row Span tree.func × Stmts))
+no_directives : (s : Bool) (o : Read (Forest Span tree.func × Stmts))
     → with_body s (o >>= λ x. Some (tree.body false x.0.0 x.0.1, x.1)) ≡ with_elements s tree.end tree.end o
 no_directives s None = refl
 no_directives s (Some r) = ap (λ (b : Bool). Some (tree.body b r.0.0 r.0.1, r.1)) (or_false s)
@@ -147,28 +147,28 @@ no_directives s (Some r) = ap (λ (b : Bool). Some (tree.body b r.0.0 r.0.1, r.1
 module _ (ts : List Token) (d : Deeper) where
   -- statements
 
-  pub statements_stop : (ls : Stmts) (n i : ℕ) → ends_list (sign_at ts i) ≡ true
-      → with_row ls (statements_from ts d n i) ≡ Some (ls, i)
+  pub statements_stop : (ls : Stmts) (n i : ℕ) → ends_list (terminal_at ts i) ≡ true
+      → with_forest ls (statements_from ts d n i) ≡ Some (ls, i)
   unfolding statements_from
   statements_stop ls zero i e = rw (e, statements_from) (ap (λ (a : Stmts). Some (a, i)) (append_end ls))
   statements_stop ls (suc n) i e = rw (e, statements_from) (ap (λ (a : Stmts). Some (a, i)) (append_end ls))
 
-  pub statements_none : (ls : Stmts) (n i : ℕ) → n ≡ 0 → ends_list (sign_at ts i) ≡ false
-      → with_row ls (statements_from ts d n i) ≡ None
+  pub statements_none : (ls : Stmts) (n i : ℕ) → n ≡ 0 → ends_list (terminal_at ts i) ≡ false
+      → with_forest ls (statements_from ts d n i) ≡ None
   unfolding statements_from
   statements_none ls zero i q e = rw (e, statements_from)
   statements_none ls (suc n) i q e = absurd (omega arith)
 
-  pub statements_fails : (ls : Stmts) (n i : ℕ) → ends_list (sign_at ts i) ≡ false → d.statement i ≡ None
-      → with_row ls (statements_from ts d n i) ≡ None
+  pub statements_fails : (ls : Stmts) (n i : ℕ) → ends_list (terminal_at ts i) ≡ false → d.statement i ≡ None
+      → with_forest ls (statements_from ts d n i) ≡ None
   unfolding statements_from
   statements_fails ls zero i e q = rw (e, statements_from)
   statements_fails ls (suc n) i e q = rw (e, q, statements_from)
 
-  pub statements_more : (ls : Stmts) (n i : ℕ) (w : Stmt) (j : ℕ) → n ≢ 0 → ends_list (sign_at ts i) ≡ false
+  pub statements_more : (ls : Stmts) (n i : ℕ) (w : Stmt) (j : ℕ) → n ≢ 0 → ends_list (terminal_at ts i) ≡ false
       → d.statement i ≡ Some (w, j)
-      → with_row ls (statements_from ts d n i)
-      ≡ with_row (append ls (tree.more w tree.end)) (statements_from ts d (n - 1) j)
+      → with_forest ls (statements_from ts d n i)
+      ≡ with_forest (append ls (tree.more w tree.end)) (statements_from ts d (n - 1) j)
   unfolding statements_from
   statements_more ls zero i w j h e q = absurd (h refl)
   statements_more ls (suc n) i w j h e q =
@@ -176,29 +176,29 @@ module _ (ts : List Token) (d : Deeper) where
 
   -- variables
 
-  pub declarations_none : (no_in : Bool) (ls : Row Span tree.decl) (n i : ℕ) → n ≡ 0
-      → with_row ls (declarations_from ts d no_in n i) ≡ None
+  pub declarations_none : (no_in : Bool) (ls : Forest Span tree.decl) (n i : ℕ) → n ≡ 0
+      → with_forest ls (declarations_from ts d no_in n i) ≡ None
   unfolding declarations_from
   declarations_none no_in ls zero i q = refl
   declarations_none no_in ls (suc n) i q = absurd (omega arith)
 
-  pub declarations_fails : (no_in : Bool) (ls : Row Span tree.decl) (n i : ℕ) → declaration_at ts d no_in i ≡ None
-      → with_row ls (declarations_from ts d no_in n i) ≡ None
+  pub declarations_fails : (no_in : Bool) (ls : Forest Span tree.decl) (n i : ℕ) → declaration_at ts d no_in i ≡ None
+      → with_forest ls (declarations_from ts d no_in n i) ≡ None
   unfolding declarations_from
   declarations_fails no_in ls zero i q = refl
   declarations_fails no_in ls (suc n) i q = rw (q, declarations_from)
 
-  pub declarations_last : (no_in : Bool) (ls : Row Span tree.decl) (n i : ℕ) (t : Tree Span tree.decl) (j : ℕ) → n ≢ 0
-      → declaration_at ts d no_in i ≡ Some (t, j) → is_comma (sign_at ts j) ≡ false
-      → with_row ls (declarations_from ts d no_in n i) ≡ Some (append ls (tree.more t tree.end), j)
+  pub declarations_last : (no_in : Bool) (ls : Forest Span tree.decl) (n i : ℕ) (t : Tree Span tree.decl) (j : ℕ) → n ≢ 0
+      → declaration_at ts d no_in i ≡ Some (t, j) → is_comma (terminal_at ts j) ≡ false
+      → with_forest ls (declarations_from ts d no_in n i) ≡ Some (append ls (tree.more t tree.end), j)
   unfolding declarations_from
   declarations_last no_in ls zero i t j h q e = absurd (h refl)
   declarations_last no_in ls (suc n) i t j h q e = rw (q, e, declarations_from)
 
-  pub declarations_more : (no_in : Bool) (ls : Row Span tree.decl) (n i : ℕ) (t : Tree Span tree.decl) (j : ℕ) → n ≢ 0
-      → declaration_at ts d no_in i ≡ Some (t, j) → is_comma (sign_at ts j) ≡ true
-      → with_row ls (declarations_from ts d no_in n i)
-      ≡ with_row (append ls (tree.more t tree.end)) (declarations_from ts d no_in (n - 1) (suc j))
+  pub declarations_more : (no_in : Bool) (ls : Forest Span tree.decl) (n i : ℕ) (t : Tree Span tree.decl) (j : ℕ) → n ≢ 0
+      → declaration_at ts d no_in i ≡ Some (t, j) → is_comma (terminal_at ts j) ≡ true
+      → with_forest ls (declarations_from ts d no_in n i)
+      ≡ with_forest (append ls (tree.more t tree.end)) (declarations_from ts d no_in (n - 1) (suc j))
   unfolding declarations_from
   declarations_more no_in ls zero i t j h q e = absurd (h refl)
   declarations_more no_in ls (suc n) i t j h q e =
@@ -207,139 +207,139 @@ module _ (ts : List Token) (d : Deeper) where
 
   -- the clauses of a switch
 
-  abbrev after_clause : ℕ → Bool → Tree Span tree.clause → ℕ → Read (Row Span tree.clause)
+  abbrev after_clause : ℕ → Bool → Tree Span tree.clause → ℕ → Read (Forest Span tree.clause)
   after_clause n fresh c j = clauses_from ts d n fresh j >>= λ r. Some (tree.more c r.0, r.1)
 
-  clauses_turn : (n : ℕ) (fresh : Bool) (i : ℕ) → is_close_brace (sign_at ts i) ≡ false
+  clauses_turn : (n : ℕ) (fresh : Bool) (i : ℕ) → is_close_brace (terminal_at ts i) ≡ false
       → clauses_from ts d (suc n) fresh i
-      ≡ then_on (clause_of ts d fresh i) (after_clause n (fresh && is_case (sign_at ts i)))
+      ≡ then_on (clause_of ts d fresh i) (after_clause n (fresh && is_case (terminal_at ts i)))
   unfolding clauses_from clause_of
-  clauses_turn n fresh i h = turn fresh (is_case (sign_at ts i)) refl
+  clauses_turn n fresh i h = turn fresh (is_case (terminal_at ts i)) refl
     where
-      turn : (fresh : Bool) (b : Bool) → is_case (sign_at ts i) ≡ b → clauses_from ts d (suc n) fresh i
-          ≡ then_on (clause_of ts d fresh i) (after_clause n (fresh && is_case (sign_at ts i)))
+      turn : (fresh : Bool) (b : Bool) → is_case (terminal_at ts i) ≡ b → clauses_from ts d (suc n) fresh i
+          ≡ then_on (clause_of ts d fresh i) (after_clause n (fresh && is_case (terminal_at ts i)))
       turn false true e =
-          rw (h, e, clauses_from, clause_of) (then_if (d.expression false (suc i)) (λ j. is_colon (sign_at ts j))
+          rw (h, e, clauses_from, clause_of) (then_if (d.expression false (suc i)) (λ j. is_colon (terminal_at ts j))
           (λ j. statements_from ts d (length ts) (suc j)) (λ t x j. tree.case (tree.present t) x) (after_clause n false))
       turn true true e =
-          rw (h, e, clauses_from, clause_of) (then_if (d.expression false (suc i)) (λ j. is_colon (sign_at ts j))
+          rw (h, e, clauses_from, clause_of) (then_if (d.expression false (suc i)) (λ j. is_colon (terminal_at ts j))
           (λ j. statements_from ts d (length ts) (suc j)) (λ t x j. tree.case (tree.present t) x) (after_clause n true))
       turn false false e =
-          rw (h, e, clauses_from, clause_of) (if_then (is_default (sign_at ts i) && (false && is_colon (sign_at ts (suc i))))
+          rw (h, e, clauses_from, clause_of) (if_then (is_default (terminal_at ts i) && (false && is_colon (terminal_at ts (suc i))))
           (statements_from ts d (length ts) (suc (suc i))) (λ x j. tree.case tree.absent x) (after_clause n false))
       turn true false e =
-          rw (h, e, clauses_from, clause_of) (if_then (is_default (sign_at ts i) && (true && is_colon (sign_at ts (suc i))))
+          rw (h, e, clauses_from, clause_of) (if_then (is_default (terminal_at ts i) && (true && is_colon (terminal_at ts (suc i))))
           (statements_from ts d (length ts) (suc (suc i))) (λ x j. tree.case tree.absent x) (after_clause n false))
 
-  pub clauses_stop : (ls : Row Span tree.clause) (n : ℕ) (fresh : Bool) (i : ℕ) → is_close_brace (sign_at ts i) ≡ true
-      → with_row ls (clauses_from ts d n fresh i) ≡ Some (ls, i)
+  pub clauses_stop : (ls : Forest Span tree.clause) (n : ℕ) (fresh : Bool) (i : ℕ) → is_close_brace (terminal_at ts i) ≡ true
+      → with_forest ls (clauses_from ts d n fresh i) ≡ Some (ls, i)
   unfolding clauses_from
-  clauses_stop ls zero fresh i e = rw (e, clauses_from) (ap (λ (a : Row Span tree.clause). Some (a, i)) (append_end ls))
-  clauses_stop ls (suc n) fresh i e = rw (e, clauses_from) (ap (λ (a : Row Span tree.clause). Some (a, i)) (append_end ls))
+  clauses_stop ls zero fresh i e = rw (e, clauses_from) (ap (λ (a : Forest Span tree.clause). Some (a, i)) (append_end ls))
+  clauses_stop ls (suc n) fresh i e = rw (e, clauses_from) (ap (λ (a : Forest Span tree.clause). Some (a, i)) (append_end ls))
 
-  pub clauses_none : (ls : Row Span tree.clause) (n : ℕ) (fresh : Bool) (i : ℕ) → n ≡ 0
-      → is_close_brace (sign_at ts i) ≡ false → with_row ls (clauses_from ts d n fresh i) ≡ None
+  pub clauses_none : (ls : Forest Span tree.clause) (n : ℕ) (fresh : Bool) (i : ℕ) → n ≡ 0
+      → is_close_brace (terminal_at ts i) ≡ false → with_forest ls (clauses_from ts d n fresh i) ≡ None
   unfolding clauses_from
   clauses_none ls zero fresh i q e = rw (e, clauses_from)
   clauses_none ls (suc n) fresh i q e = absurd (omega arith)
 
-  pub clauses_fails : (ls : Row Span tree.clause) (n : ℕ) (fresh : Bool) (i : ℕ) → n ≢ 0
-      → is_close_brace (sign_at ts i) ≡ false → clause_of ts d fresh i ≡ None
-      → with_row ls (clauses_from ts d n fresh i) ≡ None
+  pub clauses_fails : (ls : Forest Span tree.clause) (n : ℕ) (fresh : Bool) (i : ℕ) → n ≢ 0
+      → is_close_brace (terminal_at ts i) ≡ false → clause_of ts d fresh i ≡ None
+      → with_forest ls (clauses_from ts d n fresh i) ≡ None
   clauses_fails ls zero fresh i h e q = absurd (h refl)
   clauses_fails ls (suc n) fresh i h e q =
-      ap (with_row ls) (clauses_turn n fresh i e
-      ∙ ap (λ o. then_on o (after_clause n (fresh && is_case (sign_at ts i)))) q)
+      ap (with_forest ls) (clauses_turn n fresh i e
+      ∙ ap (λ o. then_on o (after_clause n (fresh && is_case (terminal_at ts i)))) q)
 
-  pub clauses_more : (ls : Row Span tree.clause) (n : ℕ) (fresh : Bool) (i : ℕ) (c : Tree Span tree.clause) (j : ℕ)
-      → n ≢ 0 → is_close_brace (sign_at ts i) ≡ false → clause_of ts d fresh i ≡ Some (c, j)
-      → with_row ls (clauses_from ts d n fresh i)
-      ≡ with_row (append ls (tree.more c tree.end)) (clauses_from ts d (n - 1) (fresh && is_case (sign_at ts i)) j)
+  pub clauses_more : (ls : Forest Span tree.clause) (n : ℕ) (fresh : Bool) (i : ℕ) (c : Tree Span tree.clause) (j : ℕ)
+      → n ≢ 0 → is_close_brace (terminal_at ts i) ≡ false → clause_of ts d fresh i ≡ Some (c, j)
+      → with_forest ls (clauses_from ts d n fresh i)
+      ≡ with_forest (append ls (tree.more c tree.end)) (clauses_from ts d (n - 1) (fresh && is_case (terminal_at ts i)) j)
   clauses_more ls zero fresh i c j h e q = absurd (h refl)
   clauses_more ls (suc n) fresh i c j h e q =
       let g : suc n - 1 ≡ n = omega arith in
-      rw g (ap (with_row ls) (clauses_turn n fresh i e
-      ∙ ap (λ o. then_on o (after_clause n (fresh && is_case (sign_at ts i)))) q)
-      ∙ regroup ls c (clauses_from ts d n (fresh && is_case (sign_at ts i)) j))
+      rw g (ap (with_forest ls) (clauses_turn n fresh i e
+      ∙ ap (λ o. then_on o (after_clause n (fresh && is_case (terminal_at ts i)))) q)
+      ∙ regroup ls c (clauses_from ts d n (fresh && is_case (terminal_at ts i)) j))
 
   -- the properties of an object
 
-  pub entries_close : (ls : Row Span tree.entry) (n i : ℕ) → is_close_brace (sign_at ts i) ≡ true
-      → with_row ls (entries_from ts d n i) ≡ Some (ls, suc i)
+  pub entries_close : (ls : Forest Span tree.entry) (n i : ℕ) → is_close_brace (terminal_at ts i) ≡ true
+      → with_forest ls (entries_from ts d n i) ≡ Some (ls, suc i)
   unfolding entries_from
-  entries_close ls zero i e = rw (e, entries_from) (ap (λ (a : Row Span tree.entry). Some (a, suc i)) (append_end ls))
-  entries_close ls (suc n) i e = rw (e, entries_from) (ap (λ (a : Row Span tree.entry). Some (a, suc i)) (append_end ls))
+  entries_close ls zero i e = rw (e, entries_from) (ap (λ (a : Forest Span tree.entry). Some (a, suc i)) (append_end ls))
+  entries_close ls (suc n) i e = rw (e, entries_from) (ap (λ (a : Forest Span tree.entry). Some (a, suc i)) (append_end ls))
 
-  pub entries_none : (ls : Row Span tree.entry) (n i : ℕ) → n ≡ 0 → is_close_brace (sign_at ts i) ≡ false
-      → with_row ls (entries_from ts d n i) ≡ None
+  pub entries_none : (ls : Forest Span tree.entry) (n i : ℕ) → n ≡ 0 → is_close_brace (terminal_at ts i) ≡ false
+      → with_forest ls (entries_from ts d n i) ≡ None
   unfolding entries_from
   entries_none ls zero i q e = rw (e, entries_from)
   entries_none ls (suc n) i q e = absurd (omega arith)
 
-  pub entries_fails : (ls : Row Span tree.entry) (n i : ℕ) → is_close_brace (sign_at ts i) ≡ false
-      → entry_at ts d i ≡ None → with_row ls (entries_from ts d n i) ≡ None
+  pub entries_fails : (ls : Forest Span tree.entry) (n i : ℕ) → is_close_brace (terminal_at ts i) ≡ false
+      → entry_at ts d i ≡ None → with_forest ls (entries_from ts d n i) ≡ None
   unfolding entries_from
   entries_fails ls zero i f q = rw (f, entries_from)
   entries_fails ls (suc n) i f q = rw (f, q, entries_from)
 
-  pub entries_last : (ls : Row Span tree.entry) (n i : ℕ) (t : Tree Span tree.entry) (j : ℕ) → n ≢ 0
-      → is_close_brace (sign_at ts i) ≡ false → entry_at ts d i ≡ Some (t, j) → is_close_brace (sign_at ts j) ≡ true
-      → with_row ls (entries_from ts d n i) ≡ Some (append ls (tree.more t tree.end), suc j)
+  pub entries_last : (ls : Forest Span tree.entry) (n i : ℕ) (t : Tree Span tree.entry) (j : ℕ) → n ≢ 0
+      → is_close_brace (terminal_at ts i) ≡ false → entry_at ts d i ≡ Some (t, j) → is_close_brace (terminal_at ts j) ≡ true
+      → with_forest ls (entries_from ts d n i) ≡ Some (append ls (tree.more t tree.end), suc j)
   unfolding entries_from
   entries_last ls zero i t j h f q g = absurd (h refl)
   entries_last ls (suc n) i t j h f q g = rw (f, q, g, entries_from)
 
-  pub entries_more : (ls : Row Span tree.entry) (n i : ℕ) (t : Tree Span tree.entry) (j : ℕ) → n ≢ 0
-      → is_close_brace (sign_at ts i) ≡ false → entry_at ts d i ≡ Some (t, j) → is_close_brace (sign_at ts j) ≡ false
-      → is_comma (sign_at ts j) ≡ true
-      → with_row ls (entries_from ts d n i)
-      ≡ with_row (append ls (tree.more t tree.end)) (entries_from ts d (n - 1) (suc j))
+  pub entries_more : (ls : Forest Span tree.entry) (n i : ℕ) (t : Tree Span tree.entry) (j : ℕ) → n ≢ 0
+      → is_close_brace (terminal_at ts i) ≡ false → entry_at ts d i ≡ Some (t, j) → is_close_brace (terminal_at ts j) ≡ false
+      → is_comma (terminal_at ts j) ≡ true
+      → with_forest ls (entries_from ts d n i)
+      ≡ with_forest (append ls (tree.more t tree.end)) (entries_from ts d (n - 1) (suc j))
   unfolding entries_from
   entries_more ls zero i t j h f q c k = absurd (h refl)
   entries_more ls (suc n) i t j h f q c k =
       let g : suc n - 1 ≡ n = omega arith in
       rw (g, f, q, c, k, entries_from) (regroup ls t (entries_from ts d n (suc j)))
 
-  pub entries_end : (ls : Row Span tree.entry) (n i : ℕ) (t : Tree Span tree.entry) (j : ℕ)
-      → is_close_brace (sign_at ts i) ≡ false → entry_at ts d i ≡ Some (t, j) → is_close_brace (sign_at ts j) ≡ false
-      → is_comma (sign_at ts j) ≡ false → with_row ls (entries_from ts d n i) ≡ None
+  pub entries_end : (ls : Forest Span tree.entry) (n i : ℕ) (t : Tree Span tree.entry) (j : ℕ)
+      → is_close_brace (terminal_at ts i) ≡ false → entry_at ts d i ≡ Some (t, j) → is_close_brace (terminal_at ts j) ≡ false
+      → is_comma (terminal_at ts j) ≡ false → with_forest ls (entries_from ts d n i) ≡ None
   unfolding entries_from
   entries_end ls zero i t j f q c k = rw (f, entries_from)
   entries_end ls (suc n) i t j f q c k = rw (f, q, c, k, entries_from)
 
   -- the elements of a body
 
-  pub elements_stop : (s : Bool) (fs : Row Span tree.func) (ws : Stmts) (n i : ℕ) → ends_list (sign_at ts i) ≡ true
+  pub elements_stop : (s : Bool) (fs : Forest Span tree.func) (ws : Stmts) (n i : ℕ) → ends_list (terminal_at ts i) ≡ true
       → with_elements s fs ws (elements_from ts d n i) ≡ Some (tree.body s fs ws, i)
   unfolding elements_from
   elements_stop s fs ws zero i e = rw (e, elements_from) (ap (λ (c : Code). Some (c, i)) (append_ends s fs ws))
   elements_stop s fs ws (suc n) i e = rw (e, elements_from) (ap (λ (c : Code). Some (c, i)) (append_ends s fs ws))
 
-  pub elements_none : (s : Bool) (fs : Row Span tree.func) (ws : Stmts) (n i : ℕ) → n ≡ 0
-      → ends_list (sign_at ts i) ≡ false → with_elements s fs ws (elements_from ts d n i) ≡ None
+  pub elements_none : (s : Bool) (fs : Forest Span tree.func) (ws : Stmts) (n i : ℕ) → n ≡ 0
+      → ends_list (terminal_at ts i) ≡ false → with_elements s fs ws (elements_from ts d n i) ≡ None
   unfolding elements_from
   elements_none s fs ws zero i q e = rw (e, elements_from)
   elements_none s fs ws (suc n) i q e = absurd (omega arith)
 
-  abbrev after_declaration : ℕ → Tree Span tree.func → ℕ → Read (Row Span tree.func × Stmts)
+  abbrev after_declaration : ℕ → Tree Span tree.func → ℕ → Read (Forest Span tree.func × Stmts)
   after_declaration n f j = elements_from ts d n j >>= λ r. Some ((tree.more f r.0.0, r.0.1), r.1)
 
-  function_turn : (n i : ℕ) → ends_list (sign_at ts i) ≡ false → is_function (sign_at ts i) ≡ true
+  function_turn : (n i : ℕ) → ends_list (terminal_at ts i) ≡ false → is_function (terminal_at ts i) ≡ true
       → elements_from ts d (suc n) i ≡ then_on (declaration_of ts d i) (after_declaration n)
   unfolding elements_from
   function_turn n i h e =
-      rw (h, e, elements_from) (if_then (is_identifier (sign_at ts (suc i))) (d.rest (suc (suc i)))
+      rw (h, e, elements_from) (if_then (is_identifier (terminal_at ts (suc i))) (d.rest (suc (suc i)))
       (λ x j. tree.function 0 (Some (ident_at ts (suc i))) x.0 x.1 (span ts i j)) (after_declaration n))
 
-  pub elements_no_function : (s : Bool) (fs : Row Span tree.func) (ws : Stmts) (n i : ℕ) → n ≢ 0
-      → ends_list (sign_at ts i) ≡ false → is_function (sign_at ts i) ≡ true → declaration_of ts d i ≡ None
+  pub elements_no_function : (s : Bool) (fs : Forest Span tree.func) (ws : Stmts) (n i : ℕ) → n ≢ 0
+      → ends_list (terminal_at ts i) ≡ false → is_function (terminal_at ts i) ≡ true → declaration_of ts d i ≡ None
       → with_elements s fs ws (elements_from ts d n i) ≡ None
   elements_no_function s fs ws zero i h e f q = absurd (h refl)
   elements_no_function s fs ws (suc n) i h e f q =
       ap (with_elements s fs ws) (function_turn n i e f ∙ ap (λ o. then_on o (after_declaration n)) q)
 
-  pub elements_function : (s : Bool) (fs : Row Span tree.func) (ws : Stmts) (n i : ℕ) (t : Tree Span tree.func) (j : ℕ)
-      → n ≢ 0 → ends_list (sign_at ts i) ≡ false → is_function (sign_at ts i) ≡ true
+  pub elements_function : (s : Bool) (fs : Forest Span tree.func) (ws : Stmts) (n i : ℕ) (t : Tree Span tree.func) (j : ℕ)
+      → n ≢ 0 → ends_list (terminal_at ts i) ≡ false → is_function (terminal_at ts i) ≡ true
       → declaration_of ts d i ≡ Some (t, j)
       → with_elements s fs ws (elements_from ts d n i)
       ≡ with_elements s (append fs (tree.more t tree.end)) ws (elements_from ts d (n - 1) j)
@@ -349,15 +349,15 @@ module _ (ts : List Token) (d : Deeper) where
       rw g (ap (with_elements s fs ws) (function_turn n i e f ∙ ap (λ o. then_on o (after_declaration n)) q)
       ∙ after_function s fs ws t (elements_from ts d n j))
 
-  pub elements_no_statement : (s : Bool) (fs : Row Span tree.func) (ws : Stmts) (n i : ℕ)
-      → ends_list (sign_at ts i) ≡ false → is_function (sign_at ts i) ≡ false → d.statement i ≡ None
+  pub elements_no_statement : (s : Bool) (fs : Forest Span tree.func) (ws : Stmts) (n i : ℕ)
+      → ends_list (terminal_at ts i) ≡ false → is_function (terminal_at ts i) ≡ false → d.statement i ≡ None
       → with_elements s fs ws (elements_from ts d n i) ≡ None
   unfolding elements_from
   elements_no_statement s fs ws zero i e f q = rw (e, elements_from)
   elements_no_statement s fs ws (suc n) i e f q = rw (e, f, q, elements_from)
 
-  pub elements_statement : (s : Bool) (fs : Row Span tree.func) (ws : Stmts) (n i : ℕ) (w : Stmt) (j : ℕ) → n ≢ 0
-      → ends_list (sign_at ts i) ≡ false → is_function (sign_at ts i) ≡ false → d.statement i ≡ Some (w, j)
+  pub elements_statement : (s : Bool) (fs : Forest Span tree.func) (ws : Stmts) (n i : ℕ) (w : Stmt) (j : ℕ) → n ≢ 0
+      → ends_list (terminal_at ts i) ≡ false → is_function (terminal_at ts i) ≡ false → d.statement i ≡ Some (w, j)
       → with_elements s fs ws (elements_from ts d n i)
       ≡ with_elements s fs (append ws (tree.more w tree.end)) (elements_from ts d (n - 1) j)
   unfolding elements_from
@@ -431,21 +431,21 @@ module _ (ts : List Token) where
   names_none xs zero i e = refl
   names_none xs (suc n) i e = absurd (omega arith)
 
-  pub names_other : (xs : List (Ident Span)) (n i : ℕ) → is_identifier (sign_at ts i) ≡ false
+  pub names_other : (xs : List (Ident Span)) (n i : ℕ) → is_identifier (terminal_at ts i) ≡ false
       → with_list xs (names_from ts n i) ≡ None
   unfolding names_from
   names_other xs zero i e = refl
   names_other xs (suc n) i e = rw (e, names_from)
 
-  pub names_last : (xs : List (Ident Span)) (n i : ℕ) → n ≢ 0 → is_identifier (sign_at ts i) ≡ true
-      → is_close_paren (sign_at ts (suc i)) ≡ true
+  pub names_last : (xs : List (Ident Span)) (n i : ℕ) → n ≢ 0 → is_identifier (terminal_at ts i) ≡ true
+      → is_close_paren (terminal_at ts (suc i)) ≡ true
       → with_list xs (names_from ts n i) ≡ Some (xs ++ (ident_at ts i ∷ []), suc (suc i))
   unfolding names_from
   names_last xs zero i h e c = absurd (h refl)
   names_last xs (suc n) i h e c = rw (e, c, names_from)
 
-  pub names_more : (xs : List (Ident Span)) (n i : ℕ) → n ≢ 0 → is_identifier (sign_at ts i) ≡ true
-      → is_close_paren (sign_at ts (suc i)) ≡ false → is_comma (sign_at ts (suc i)) ≡ true
+  pub names_more : (xs : List (Ident Span)) (n i : ℕ) → n ≢ 0 → is_identifier (terminal_at ts i) ≡ true
+      → is_close_paren (terminal_at ts (suc i)) ≡ false → is_comma (terminal_at ts (suc i)) ≡ true
       → with_list xs (names_from ts n i)
       ≡ with_list (xs ++ (ident_at ts i ∷ [])) (names_from ts (n - 1) (suc (suc i)))
   unfolding names_from
@@ -454,8 +454,8 @@ module _ (ts : List Token) where
       let g : suc n - 1 ≡ n = omega arith in
       rw (g, e, c, k, names_from) (relist xs (ident_at ts i) (names_from ts n (suc (suc i))))
 
-  pub names_stuck : (xs : List (Ident Span)) (n i : ℕ) → is_identifier (sign_at ts i) ≡ true
-      → is_close_paren (sign_at ts (suc i)) ≡ false → is_comma (sign_at ts (suc i)) ≡ false
+  pub names_stuck : (xs : List (Ident Span)) (n i : ℕ) → is_identifier (terminal_at ts i) ≡ true
+      → is_close_paren (terminal_at ts (suc i)) ≡ false → is_comma (terminal_at ts (suc i)) ≡ false
       → with_list xs (names_from ts n i) ≡ None
   unfolding names_from
   names_stuck xs zero i e c k = refl

@@ -20,19 +20,19 @@ use Rattle.jl_grammar.specs.Next.{is_colon, is_else, is_finally, is_key}
 use Rattle.jl_grammar.specs.Reader.{Deeper, Read, accessor_at, block_at, else_from, ends_at, finally_from, head_at}
 use Rattle.jl_grammar.specs.Reader.{if_at, is_catch, rest_at, return_at, return_by, sub_at, try_at}
 use Rattle.jl_grammar.specs.Reads.{Code, Expr, Stmts}
-use Rattle.jl_grammar.specs.Tokens.{sign_at, span}
+use Rattle.jl_grammar.specs.Tokens.{terminal_at, span}
 
 module _ (ts : List Token) (d : Deeper) where
   pub if_else_read : (i : ℕ) (t : Expr) (j : ℕ) (ws : Stmts) (k : ℕ) (us : Stmts) (m : ℕ)
-      → head_at ts d (suc i) ≡ Some (t, j) → sub_at ts d j ≡ Some (ws, k) → is_else (sign_at ts k) ≡ true
+      → head_at ts d (suc i) ≡ Some (t, j) → sub_at ts d j ≡ Some (ws, k) → is_else (terminal_at ts k) ≡ true
       → sub_at ts d (suc k) ≡ Some (us, m)
-      → if_at ts d i ≡ Some (tree.when t ws (tree.present (tree.branch_of us)) (span ts i m), m)
+      → if_at ts d i ≡ Some (tree.if_else t ws (tree.present (tree.branch_of us)) (span ts i m), m)
   unfolding if_at else_from
   if_else_read i t j ws k us m h s e q = rw (if_at, h, s, else_from, e, q) refl
 
   pub if_read : (i : ℕ) (t : Expr) (j : ℕ) (ws : Stmts) (k : ℕ)
-      → head_at ts d (suc i) ≡ Some (t, j) → sub_at ts d j ≡ Some (ws, k) → is_else (sign_at ts k) ≡ false
-      → if_at ts d i ≡ Some (tree.when t ws tree.absent (span ts i k), k)
+      → head_at ts d (suc i) ≡ Some (t, j) → sub_at ts d j ≡ Some (ws, k) → is_else (terminal_at ts k) ≡ false
+      → if_at ts d i ≡ Some (tree.if_else t ws tree.absent (span ts i k), k)
   unfolding if_at else_from
   if_read i t j ws k h s e = rw (if_at, h, s, else_from, e) refl
 
@@ -42,26 +42,26 @@ module _ (ts : List Token) (d : Deeper) where
   return_read i t j k e h g = rw (return_at, e, return_by, h, g) refl
 
   pub finally_read : (i : ℕ) (ws : Stmts) (h : Tree Span tree.handler) (j : ℕ) (us : Stmts) (k : ℕ)
-      → is_finally (sign_at ts j) ≡ true → block_at ts d (suc j) ≡ Some (us, k)
+      → is_finally (terminal_at ts j) ≡ true → block_at ts d (suc j) ≡ Some (us, k)
       → finally_from ts d i ws (h, j)
       ≡ Some (tree.try ws (tree.present h) (tree.present (tree.branch_of us)) (span ts i k), k)
   unfolding finally_from
   finally_read i ws h j us k e q = rw (finally_from, e, q) refl
 
-  pub no_finally_read : (i : ℕ) (ws : Stmts) (h : Tree Span tree.handler) (j : ℕ) → is_finally (sign_at ts j) ≡ false
+  pub no_finally_read : (i : ℕ) (ws : Stmts) (h : Tree Span tree.handler) (j : ℕ) → is_finally (terminal_at ts j) ≡ false
       → finally_from ts d i ws (h, j) ≡ Some (tree.try ws (tree.present h) tree.absent (span ts i j), j)
   unfolding finally_from
   no_finally_read i ws h j e = rw (finally_from, e) refl
 
   pub try_finally_read : (i : ℕ) (ws : Stmts) (j : ℕ) (us : Stmts) (k : ℕ) → block_at ts d (suc i) ≡ Some (ws, j)
-      → is_catch (sign_at ts j) ≡ false → is_finally (sign_at ts j) ≡ true → block_at ts d (suc j) ≡ Some (us, k)
+      → is_catch (terminal_at ts j) ≡ false → is_finally (terminal_at ts j) ≡ true → block_at ts d (suc j) ≡ Some (us, k)
       → try_at ts d i ≡ Some (tree.try ws tree.absent (tree.present (tree.branch_of us)) (span ts i k), k)
   unfolding try_at
   try_finally_read i ws j us k b c e q = rw (try_at, b, c, e, q) refl
 
   pub accessor_read : (by : ℕ → List (Ident Span) → Code → ℕ → Read (Tree Span tree.entry)) (i : ℕ)
-      (ps : List (Ident Span)) (c : Code) (j : ℕ) → is_colon (sign_at ts (suc i)) ≡ false
-      → is_key (sign_at ts (suc i)) ≡ true → rest_at ts d (suc (suc i)) ≡ Some ((ps, c), j)
+      (ps : List (Ident Span)) (c : Code) (j : ℕ) → is_colon (terminal_at ts (suc i)) ≡ false
+      → is_key (terminal_at ts (suc i)) ≡ true → rest_at ts d (suc (suc i)) ≡ Some ((ps, c), j)
       → accessor_at ts d by i ≡ by i ps c j
   unfolding accessor_at
   accessor_read by i ps c j e f g = rw (accessor_at, e, f, g) refl
@@ -85,12 +85,12 @@ setter_seen k ps b s = search (rules, entry_Set, function_is, out-roll-Function)
 
 pub if_seen : (t : CodeExpr) (ws : List CodeStmt) (s : Span)
     → view_statement (roll-Stmt record { kind = kind.If t ws None; span = s })
-    ≡ tree.when (view_expression t) (view_statements ws) tree.absent s
+    ≡ tree.if_else (view_expression t) (view_statements ws) tree.absent s
 if_seen t ws s = search (rules, nodes)
 
 pub if_else_seen : (t : CodeExpr) (ws us : List CodeStmt) (s : Span)
     → view_statement (roll-Stmt record { kind = kind.If t ws (Some us); span = s })
-    ≡ tree.when (view_expression t) (view_statements ws) (tree.present (tree.branch_of (view_statements us))) s
+    ≡ tree.if_else (view_expression t) (view_statements ws) (tree.present (tree.branch_of (view_statements us))) s
 if_else_seen t ws us s = search (rules, nodes)
 
 pub return_seen : (t : CodeExpr) (s : Span)

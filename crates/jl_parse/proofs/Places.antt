@@ -4,39 +4,39 @@ use Rattle.std.proofs.Common.{◌∙◌, Bool, true, false, ◌&&◌, arith}
 use Rattle.std.proofs.Common.{subst}
 use Rattle.std.specs.Prelude.{None, option_map, Result, IfOk}
 use Rattle.jl_token.specs.declared.token.Token.{Token}
-use Rattle.jl_grammar.specs.declared.sign.Sign.{Sign}
-use Rattle.jl_grammar.specs.declared.sign.Sign.TheVariants as signs
+use Rattle.jl_grammar.specs.declared.terminal.Terminal.{Terminal}
+use Rattle.jl_grammar.specs.declared.terminal.Terminal.TheVariants as terminals
 use Rattle.jl_grammar.specs.declared.word.Word.TheVariants as words
-use Rattle.jl_grammar.specs.Operators.{joint, plain, binary_operator}
+use Rattle.jl_grammar.specs.Operators.{infix_operator, plain, binary_operator}
 use Rattle.jl_grammar.specs.Program.{last_end}
 use Rattle.jl_grammar.specs.Reader.{is_in}
-use Rattle.jl_grammar.specs.Signs.{sign_of}
-use Rattle.jl_grammar.specs.Tokens.{sign_at, line_at, text_at, number_at, key_at, strict_at, from_at, to_at, span}
+use Rattle.jl_grammar.specs.Terminals.{terminal_of}
+use Rattle.jl_grammar.specs.Tokens.{terminal_at, line_at, text_at, number_at, key_at, strict_at, from_at, to_at, span}
 use Rattle.jl_token.specs.declared.punct.Punct.TheVariants as puncts
 use Rattle.jl_parse.specs.Steps.{is_end}
 
-sign_there : (ts : List Token) (i : ℕ) (t : Sign) → i < length ts
-    → t ≡ get_or (map (λ (u : Token). sign_of u.kind) ts) i t → t ≡ sign_at ts i
-sign_there [] i t h e = absurd (omega arith)
-sign_there (u ∷ ts) zero t h e = cc
-sign_there (u ∷ ts) (suc i) t h e = sign_there ts i t (omega arith) e
+terminal_there : (ts : List Token) (i : ℕ) (t : Terminal) → i < length ts
+    → t ≡ get_or (map (λ (u : Token). terminal_of u.kind) ts) i t → t ≡ terminal_at ts i
+terminal_there [] i t h e = absurd (omega arith)
+terminal_there (u ∷ ts) zero t h e = cc
+terminal_there (u ∷ ts) (suc i) t h e = terminal_there ts i t (omega arith) e
 
-signs_long : (ts : List Token) → length (map (λ (u : Token). sign_of u.kind) ts) ≡ length ts
-signs_long [] = refl
-signs_long (u ∷ ts) = ap suc (signs_long ts)
+terminals_long : (ts : List Token) → length (map (λ (u : Token). terminal_of u.kind) ts) ≡ length ts
+terminals_long [] = refl
+terminals_long (u ∷ ts) = ap suc (terminals_long ts)
 
-pub sign_in : (ts : List Token) (ss : List Sign) (i : ℕ) (t : Sign) → ss ≡ map (λ (u : Token). sign_of u.kind) ts
-    → i < length ss → t ≡ get_or ss i t → t ≡ sign_at ts i
-sign_in ts ss i t s h e =
-    let l = signs_long ts in let k = ap (λ (r : List Sign). length r) s in
-    sign_there ts i t (omega arith) (e ∙ ap (λ (r : List Sign). get_or r i t) s)
+pub terminal_in : (ts : List Token) (ss : List Terminal) (i : ℕ) (t : Terminal) → ss ≡ map (λ (u : Token). terminal_of u.kind) ts
+    → i < length ss → t ≡ get_or ss i t → t ≡ terminal_at ts i
+terminal_in ts ss i t s h e =
+    let l = terminals_long ts in let k = ap (λ (r : List Terminal). length r) s in
+    terminal_there ts i t (omega arith) (e ∙ ap (λ (r : List Terminal). get_or r i t) s)
 
-pub sign_past : (ts : List Token) (ss : List Sign) (i : ℕ) → ss ≡ map (λ (u : Token). sign_of u.kind) ts
-    → length ss ≤ i → signs.End ≡ sign_at ts i
-sign_past ts ss i s h =
-    let l = signs_long ts in let k = ap (λ (r : List Sign). length r) s in past ts i (omega arith)
+pub terminal_past : (ts : List Token) (ss : List Terminal) (i : ℕ) → ss ≡ map (λ (u : Token). terminal_of u.kind) ts
+    → length ss ≤ i → terminals.End ≡ terminal_at ts i
+terminal_past ts ss i s h =
+    let l = terminals_long ts in let k = ap (λ (r : List Terminal). length r) s in past ts i (omega arith)
   where
-    past : (ts : List Token) (i : ℕ) → length ts ≤ i → signs.End ≡ sign_at ts i
+    past : (ts : List Token) (i : ℕ) → length ts ≤ i → terminals.End ≡ terminal_at ts i
     past [] i h = refl
     past (u ∷ ts) zero h = absurd (omega arith)
     past (u ∷ ts) (suc i) h = past ts i (omega arith)
@@ -72,7 +72,7 @@ to_past (u ∷ ts) zero h = absurd (omega arith)
 to_past (u ∷ ts) (suc i) h = to_past ts i (omega arith)
 
 -- a token that is there stands within the list
-pub within : (ts : List Token) (i : ℕ) → is_end (sign_at ts i) ≡ false → i < length ts
+pub within : (ts : List Token) (i : ℕ) → is_end (terminal_at ts i) ≡ false → i < length ts
 within [] i h = cc
 within (t ∷ ts) zero h = omega arith
 within (t ∷ ts) (suc i) h = let g = within ts i h in omega arith
@@ -132,26 +132,26 @@ key_past [] i h = refl
 key_past (u ∷ ts) zero h = absurd (omega arith)
 key_past (u ∷ ts) (suc i) h = key_past ts i (omega arith)
 
-pub kind_in : (ts : List Token) (i : ℕ) (t : Token) → i < length ts → t ≡ get_or ts i t → sign_of t.kind ≡ sign_at ts i
+pub kind_in : (ts : List Token) (i : ℕ) (t : Token) → i < length ts → t ≡ get_or ts i t → terminal_of t.kind ≡ terminal_at ts i
 kind_in [] i t h e = absurd (omega arith)
-kind_in (u ∷ ts) zero t h e = ap (λ (v : Token). sign_of v.kind) e
+kind_in (u ∷ ts) zero t h e = ap (λ (v : Token). terminal_of v.kind) e
 kind_in (u ∷ ts) (suc i) t h e = kind_in ts i t (omega arith) e
 
-pub kind_past : (ts : List Token) (i : ℕ) → length ts ≤ i → signs.End ≡ sign_at ts i
+pub kind_past : (ts : List Token) (i : ℕ) → length ts ≤ i → terminals.End ≡ terminal_at ts i
 kind_past [] i h = refl
 kind_past (u ∷ ts) zero h = absurd (omega arith)
 kind_past (u ∷ ts) (suc i) h = kind_past ts i (omega arith)
 
--- a joint other than a logical one is an operator
-pub joint_other : (no_in : Bool) (k : Sign) → (k ≡ signs.Punct puncts.AndAnd → ⊥) → (k ≡ signs.Punct puncts.OrOr → ⊥)
-    → (no_in && is_in k) ≡ false → joint no_in k ≡ option_map plain (binary_operator k)
-joint_other no_in (signs.Punct puncts.AndAnd) a b h = absurd (a refl)
-joint_other no_in (signs.Punct puncts.OrOr) a b h = absurd (b refl)
-joint_other true (signs.Word words.In) a b h = cc
-joint_other true (signs.Punct _) a b h = refl
-joint_other true _ a b h = refl
-joint_other false (signs.Word words.In) a b h = refl
-joint_other false _ a b h = refl
+-- a infix operator other than a logical one is an operator
+pub infix_operator_other : (no_in : Bool) (k : Terminal) → (k ≡ terminals.Punct puncts.AndAnd → ⊥) → (k ≡ terminals.Punct puncts.OrOr → ⊥)
+    → (no_in && is_in k) ≡ false → infix_operator no_in k ≡ option_map plain (binary_operator k)
+infix_operator_other no_in (terminals.Punct puncts.AndAnd) a b h = absurd (a refl)
+infix_operator_other no_in (terminals.Punct puncts.OrOr) a b h = absurd (b refl)
+infix_operator_other true (terminals.Word words.In) a b h = cc
+infix_operator_other true (terminals.Punct _) a b h = refl
+infix_operator_other true _ a b h = refl
+infix_operator_other false (terminals.Word words.In) a b h = refl
+infix_operator_other false _ a b h = refl
 
 -- an answer that is a value is any value that is the same
 pub if_ok_same : {A E : Type 0} (r : Result A E) (x y : A) → x ≡ y → IfOk r (λ t. t ≡ x) → IfOk r (λ t. t ≡ y)

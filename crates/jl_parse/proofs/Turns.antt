@@ -8,19 +8,19 @@ use Rattle.jl_text.specs.declared.span.Span.{Span}
 use Rattle.jl_token.specs.declared.token.Token.{Token}
 use Rattle.jl_token.specs.declared.punct.Punct.TheVariants as puncts
 use Rattle.jl_ast.specs.declared.tree.Expr.{Expr as CodeExpr}
-use Rattle.jl_ast.specs.Tree.{Tree, Row}
+use Rattle.jl_ast.specs.Tree.{Tree, Forest}
 use Rattle.jl_ast.specs.Tree as tree
 use Rattle.jl_ast.specs.View.{view_expression, view_expressions, view_items}
-use Rattle.jl_grammar.specs.declared.sign.Sign.{Sign}
-use Rattle.jl_grammar.specs.declared.sign.Sign.TheVariants as signs
+use Rattle.jl_grammar.specs.declared.terminal.Terminal.{Terminal}
+use Rattle.jl_grammar.specs.declared.terminal.Terminal.TheVariants as terminals
 use Rattle.jl_grammar.specs.Next.{is_comma, is_name, continues_left}
-use Rattle.jl_grammar.specs.Operators.{Joint, joint, joined, looseness, looseness_of, continues}
+use Rattle.jl_grammar.specs.Operators.{InfixOperator, infix_operator, infix_node, infix_precedence, infix_precedence_of, continues}
 use Rattle.jl_grammar.specs.Reader.{Read, Deeper, ◌>>=◌, is_close_paren, is_close_bracket, comma_from, binary_from}
 use Rattle.jl_grammar.specs.Reader.{binary_by, left_from, left_by, items_from, arguments_at, arguments_from}
 use Rattle.jl_grammar.specs.Reads.{Expr, Exprs}
-use Rattle.jl_grammar.specs.Tokens.{sign_at, text_at, span}
+use Rattle.jl_grammar.specs.Tokens.{terminal_at, text_at, span}
 use Rattle.jl_parse.specs.Steps.{append}
-use Rattle.jl_parse.proofs.Rows.{with_row, append_end, with_end, regroup}
+use Rattle.jl_parse.proofs.Rows.{with_forest, append_end, with_end, regroup}
 
 pub expressions_push : (l : List CodeExpr) (e : CodeExpr)
     → view_expressions (l ++ (e ∷ [])) ≡ append (view_expressions l) (tree.more (view_expression e) tree.end)
@@ -66,12 +66,12 @@ beyond s x l = grind (arith, leb_tells)
 tight : (s x : ℕ) → 1 ≤ s → s ≤ x → (nat_le 1 s && nat_le s x) ≡ true
 tight s x p l = grind (arith, leb_tells)
 
-too_loose : (no_in : Bool) (k : Sign) (m : ℕ) (op : Joint) → joint no_in k ≡ Some op → m < looseness op
+too_loose : (no_in : Bool) (k : Terminal) (m : ℕ) (op : InfixOperator) → infix_operator no_in k ≡ Some op → m < infix_precedence op
     → continues no_in m k ≡ false
-too_loose no_in k m op h l = let e = ap looseness_of h in beyond (looseness_of (joint no_in k)) m (omega arith)
+too_loose no_in k m op h l = let e = ap infix_precedence_of h in beyond (infix_precedence_of (infix_operator no_in k)) m (omega arith)
 
-no_joint : (no_in : Bool) (k : Sign) (m : ℕ) → joint no_in k ≡ None → continues no_in m k ≡ false
-no_joint no_in k m h = beyond_none (looseness_of (joint no_in k)) m (ap looseness_of h)
+no_infix_operator : (no_in : Bool) (k : Terminal) (m : ℕ) → infix_operator no_in k ≡ None → continues no_in m k ≡ false
+no_infix_operator no_in k m h = beyond_none (infix_precedence_of (infix_operator no_in k)) m (ap infix_precedence_of h)
   where
     beyond_none : (s x : ℕ) → s ≡ 0 → (nat_le 1 s && nat_le s x) ≡ false
     beyond_none s x l = grind (arith, leb_tells)
@@ -79,147 +79,147 @@ no_joint no_in k m h = beyond_none (looseness_of (joint no_in k)) m (ap loosenes
 module _ (ts : List Token) (d : Deeper) where
   -- commas
 
-  pub comma_ends : (no_in : Bool) (n i : ℕ) (t : Expr) (j : ℕ) → is_comma (sign_at ts j) ≡ false
+  pub comma_ends : (no_in : Bool) (n i : ℕ) (t : Expr) (j : ℕ) → is_comma (terminal_at ts j) ≡ false
       → comma_from ts d no_in n i t j ≡ Some (t, j)
   unfolding comma_from
   comma_ends no_in zero i t j h = rw (h, comma_from)
   comma_ends no_in (suc n) i t j h = rw (h, comma_from)
 
-  pub comma_none : (no_in : Bool) (n i : ℕ) (t : Expr) (j : ℕ) → n ≡ 0 → is_comma (sign_at ts j) ≡ true
+  pub comma_none : (no_in : Bool) (n i : ℕ) (t : Expr) (j : ℕ) → n ≡ 0 → is_comma (terminal_at ts j) ≡ true
       → comma_from ts d no_in n i t j ≡ None
   unfolding comma_from
   comma_none no_in zero i t j e h = rw (h, comma_from)
   comma_none no_in (suc n) i t j e h = absurd (omega arith)
 
-  pub comma_fails : (no_in : Bool) (n i : ℕ) (t : Expr) (j : ℕ) → n ≢ 0 → is_comma (sign_at ts j) ≡ true
+  pub comma_fails : (no_in : Bool) (n i : ℕ) (t : Expr) (j : ℕ) → n ≢ 0 → is_comma (terminal_at ts j) ≡ true
       → d.assignment no_in (suc j) ≡ None → comma_from ts d no_in n i t j ≡ None
   unfolding comma_from
   comma_fails no_in zero i t j e h q = absurd (e refl)
   comma_fails no_in (suc n) i t j e h q = rw (h, q, comma_from)
 
   pub comma_more : (no_in : Bool) (n i : ℕ) (t : Expr) (j : ℕ) (b : Expr) (k : ℕ) → n ≢ 0
-      → is_comma (sign_at ts j) ≡ true → d.assignment no_in (suc j) ≡ Some (b, k)
+      → is_comma (terminal_at ts j) ≡ true → d.assignment no_in (suc j) ≡ Some (b, k)
       → comma_from ts d no_in n i t j ≡ comma_from ts d no_in (n - 1) i (tree.comma t b (span ts i k)) k
   unfolding comma_from
   comma_more no_in zero i t j b k h e q = absurd (h refl)
   comma_more no_in (suc n) i t j b k h e q = let m : suc n - 1 ≡ n = omega arith in rw (m, e, q, comma_from)
 
-  -- joints
+  -- infix operators
 
-  pub binary_ends : (no_in : Bool) (n m i : ℕ) (t : Expr) (j : ℕ) → joint no_in (sign_at ts j) ≡ None
+  pub binary_ends : (no_in : Bool) (n m i : ℕ) (t : Expr) (j : ℕ) → infix_operator no_in (terminal_at ts j) ≡ None
       → binary_from ts d no_in n m i t j ≡ Some (t, j)
   unfolding binary_from binary_by
-  binary_ends no_in zero m i t j h = rw (no_joint no_in (sign_at ts j) m h, binary_from)
+  binary_ends no_in zero m i t j h = rw (no_infix_operator no_in (terminal_at ts j) m h, binary_from)
   binary_ends no_in (suc n) m i t j h = rw (h, binary_from)
 
-  pub binary_none : (no_in : Bool) (n m i : ℕ) (t : Expr) (j : ℕ) (op : Joint) → n ≡ 0
-      → joint no_in (sign_at ts j) ≡ Some op → 1 ≤ looseness op → looseness op ≤ m
+  pub binary_none : (no_in : Bool) (n m i : ℕ) (t : Expr) (j : ℕ) (op : InfixOperator) → n ≡ 0
+      → infix_operator no_in (terminal_at ts j) ≡ Some op → 1 ≤ infix_precedence op → infix_precedence op ≤ m
       → binary_from ts d no_in n m i t j ≡ None
   unfolding binary_from
   binary_none no_in zero m i t j op e h p l =
-      let q = ap looseness_of h in
-      rw (tight (looseness_of (joint no_in (sign_at ts j))) m (omega arith) (omega arith), binary_from)
+      let q = ap infix_precedence_of h in
+      rw (tight (infix_precedence_of (infix_operator no_in (terminal_at ts j))) m (omega arith) (omega arith), binary_from)
   binary_none no_in (suc n) m i t j op e h p l = absurd (omega arith)
 
-  pub binary_looser : (no_in : Bool) (n m i : ℕ) (t : Expr) (j : ℕ) (op : Joint) → joint no_in (sign_at ts j) ≡ Some op
-      → m < looseness op → binary_from ts d no_in n m i t j ≡ Some (t, j)
+  pub binary_looser : (no_in : Bool) (n m i : ℕ) (t : Expr) (j : ℕ) (op : InfixOperator) → infix_operator no_in (terminal_at ts j) ≡ Some op
+      → m < infix_precedence op → binary_from ts d no_in n m i t j ≡ Some (t, j)
   unfolding binary_from binary_by
-  binary_looser no_in zero m i t j op h l = rw (too_loose no_in (sign_at ts j) m op h l, binary_from)
-  binary_looser no_in (suc n) m i t j op h l = rw (h, lt-leb (looseness op) m l, binary_from)
+  binary_looser no_in zero m i t j op h l = rw (too_loose no_in (terminal_at ts j) m op h l, binary_from)
+  binary_looser no_in (suc n) m i t j op h l = rw (h, lt-leb (infix_precedence op) m l, binary_from)
 
-  pub binary_fails : (no_in : Bool) (n m i : ℕ) (t : Expr) (j : ℕ) (op : Joint) → n ≢ 0
-      → joint no_in (sign_at ts j) ≡ Some op → looseness op ≤ m → d.binary no_in (looseness op - 1) (suc j) ≡ None
+  pub binary_fails : (no_in : Bool) (n m i : ℕ) (t : Expr) (j : ℕ) (op : InfixOperator) → n ≢ 0
+      → infix_operator no_in (terminal_at ts j) ≡ Some op → infix_precedence op ≤ m → d.binary no_in (infix_precedence op - 1) (suc j) ≡ None
       → binary_from ts d no_in n m i t j ≡ None
   unfolding binary_from binary_by
   binary_fails no_in zero m i t j op h e l q = absurd (h refl)
   binary_fails no_in (suc n) m i t j op h e l q =
-      let g : pred (looseness op) ≡ looseness op - 1 = omega arith in
-      rw (e, le-leb (looseness op) m l, g, q, binary_from)
+      let g : pred (infix_precedence op) ≡ infix_precedence op - 1 = omega arith in
+      rw (e, le-leb (infix_precedence op) m l, g, q, binary_from)
 
-  pub binary_more : (no_in : Bool) (n m i : ℕ) (t : Expr) (j : ℕ) (op : Joint) (b : Expr) (k : ℕ) → n ≢ 0
-      → joint no_in (sign_at ts j) ≡ Some op → looseness op ≤ m
-      → d.binary no_in (looseness op - 1) (suc j) ≡ Some (b, k)
-      → binary_from ts d no_in n m i t j ≡ binary_from ts d no_in (n - 1) m i (joined op t b (span ts i k)) k
+  pub binary_more : (no_in : Bool) (n m i : ℕ) (t : Expr) (j : ℕ) (op : InfixOperator) (b : Expr) (k : ℕ) → n ≢ 0
+      → infix_operator no_in (terminal_at ts j) ≡ Some op → infix_precedence op ≤ m
+      → d.binary no_in (infix_precedence op - 1) (suc j) ≡ Some (b, k)
+      → binary_from ts d no_in n m i t j ≡ binary_from ts d no_in (n - 1) m i (infix_node op t b (span ts i k)) k
   unfolding binary_from binary_by
   binary_more no_in zero m i t j op b k h e l q = absurd (h refl)
   binary_more no_in (suc n) m i t j op b k h e l q =
-      let g : suc n - 1 ≡ n = omega arith in let p : pred (looseness op) ≡ looseness op - 1 = omega arith in
-      rw (g, e, le-leb (looseness op) m l, p, q, binary_from)
+      let g : suc n - 1 ≡ n = omega arith in let p : pred (infix_precedence op) ≡ infix_precedence op - 1 = omega arith in
+      rw (g, e, le-leb (infix_precedence op) m l, p, q, binary_from)
 
   -- members and calls
 
-  ends_left : (calls : Bool) (go : Expr → ℕ → Read Expr) (i : ℕ) (t : Expr) (j : ℕ) (k : Sign)
+  ends_left : (calls : Bool) (go : Expr → ℕ → Read Expr) (i : ℕ) (t : Expr) (j : ℕ) (k : Terminal)
       → continues_left calls k ≡ false → left_by ts d calls go i t j k ≡ Some (t, j)
   unfolding left_by
-  ends_left calls go i t j (signs.Punct puncts.Dot) h = cc
-  ends_left calls go i t j (signs.Punct puncts.LeftBracket) h = cc
-  ends_left true go i t j (signs.Punct puncts.LeftParen) h = cc
-  ends_left false go i t j (signs.Punct puncts.LeftParen) h = refl
+  ends_left calls go i t j (terminals.Punct puncts.Dot) h = cc
+  ends_left calls go i t j (terminals.Punct puncts.LeftBracket) h = cc
+  ends_left true go i t j (terminals.Punct puncts.LeftParen) h = cc
+  ends_left false go i t j (terminals.Punct puncts.LeftParen) h = refl
   ends_left true go i t j _ h = refl
   ends_left false go i t j _ h = refl
 
-  pub left_ends : (calls : Bool) (n i : ℕ) (t : Expr) (j : ℕ) → continues_left calls (sign_at ts j) ≡ false
+  pub left_ends : (calls : Bool) (n i : ℕ) (t : Expr) (j : ℕ) → continues_left calls (terminal_at ts j) ≡ false
       → left_from ts d calls n i t j ≡ Some (t, j)
   unfolding left_from
   left_ends calls zero i t j h = rw (h, left_from)
-  left_ends calls (suc n) i t j h = ends_left calls (left_from ts d calls n i) i t j (sign_at ts j) h
+  left_ends calls (suc n) i t j h = ends_left calls (left_from ts d calls n i) i t j (terminal_at ts j) h
 
-  pub left_none : (calls : Bool) (n i : ℕ) (t : Expr) (j : ℕ) → n ≡ 0 → continues_left calls (sign_at ts j) ≡ true
+  pub left_none : (calls : Bool) (n i : ℕ) (t : Expr) (j : ℕ) → n ≡ 0 → continues_left calls (terminal_at ts j) ≡ true
       → left_from ts d calls n i t j ≡ None
   unfolding left_from
   left_none calls zero i t j e h = rw (h, left_from)
   left_none calls (suc n) i t j e h = absurd (omega arith)
 
-  stepwise : (calls : Bool) (go : Expr → ℕ → Read Expr) (i : ℕ) (t : Expr) (j : ℕ) (k : Sign)
+  stepwise : (calls : Bool) (go : Expr → ℕ → Read Expr) (i : ℕ) (t : Expr) (j : ℕ) (k : Terminal)
       → continues_left calls k ≡ true
       → left_by ts d calls go i t j k ≡ then_on (left_by ts d true (λ t j. Some (t, j)) i t j k) go
   unfolding left_by
-  stepwise calls go i t j (signs.Punct puncts.Dot) h =
-      if_bind (is_name (sign_at ts (suc j))) (tree.dot t (text_at ts (suc j)) (span ts i (suc (suc j))))
+  stepwise calls go i t j (terminals.Punct puncts.Dot) h =
+      if_bind (is_name (terminal_at ts (suc j))) (tree.dot t (text_at ts (suc j)) (span ts i (suc (suc j))))
       (suc (suc j)) go
-  stepwise calls go i t j (signs.Punct puncts.LeftBracket) h =
-      bind_test (d.expression false (suc j)) (λ x. is_close_bracket (sign_at ts x.1))
+  stepwise calls go i t j (terminals.Punct puncts.LeftBracket) h =
+      bind_test (d.expression false (suc j)) (λ x. is_close_bracket (terminal_at ts x.1))
       (λ x. tree.index t x.0 (span ts i (suc x.1))) (λ x. suc x.1) go
-  stepwise true go i t j (signs.Punct puncts.LeftParen) h =
+  stepwise true go i t j (terminals.Punct puncts.LeftParen) h =
       bind_bind (arguments_at ts d (suc j)) (λ x. tree.call t x.0 (span ts i x.1)) (λ x. x.1) go
-  stepwise false go i t j (signs.Punct puncts.LeftParen) h = cc
+  stepwise false go i t j (terminals.Punct puncts.LeftParen) h = cc
   stepwise true go i t j _ h = cc
   stepwise false go i t j _ h = cc
 
   pub left_more : (calls : Bool) (n i : ℕ) (t : Expr) (j : ℕ) (u : Expr) (k : ℕ) → n ≢ 0
-      → continues_left calls (sign_at ts j) ≡ true
-      → left_by ts d true (λ t j. Some (t, j)) i t j (sign_at ts j) ≡ Some (u, k)
+      → continues_left calls (terminal_at ts j) ≡ true
+      → left_by ts d true (λ t j. Some (t, j)) i t j (terminal_at ts j) ≡ Some (u, k)
       → left_from ts d calls n i t j ≡ left_from ts d calls (n - 1) i u k
   unfolding left_from
   left_more calls zero i t j u k h e q = absurd (h refl)
   left_more calls (suc n) i t j u k h e q =
       let m : suc n - 1 ≡ n = omega arith in
-      rw m (stepwise calls (left_from ts d calls n i) i t j (sign_at ts j) e
+      rw m (stepwise calls (left_from ts d calls n i) i t j (terminal_at ts j) e
       ∙ ap (λ o. then_on o (left_from ts d calls n i)) q)
 
   pub left_fails : (calls : Bool) (n i : ℕ) (t : Expr) (j : ℕ) → n ≢ 0
-      → continues_left calls (sign_at ts j) ≡ true
-      → left_by ts d true (λ t j. Some (t, j)) i t j (sign_at ts j) ≡ None
+      → continues_left calls (terminal_at ts j) ≡ true
+      → left_by ts d true (λ t j. Some (t, j)) i t j (terminal_at ts j) ≡ None
       → left_from ts d calls n i t j ≡ None
   unfolding left_from
   left_fails calls zero i t j h e q = absurd (h refl)
   left_fails calls (suc n) i t j h e q =
-      stepwise calls (left_from ts d calls n i) i t j (sign_at ts j) e
+      stepwise calls (left_from ts d calls n i) i t j (terminal_at ts j) e
       ∙ ap (λ o. then_on o (left_from ts d calls n i)) q
 
   -- the arguments of a call
 
   pub arguments_close : (ls : Exprs) (n i : ℕ) (t : Expr) (j : ℕ) → n ≢ 0 → d.assignment false i ≡ Some (t, j)
-      → is_close_paren (sign_at ts j) ≡ true
-      → with_row ls (arguments_from ts d n i) ≡ Some (append ls (tree.more t tree.end), suc j)
+      → is_close_paren (terminal_at ts j) ≡ true
+      → with_forest ls (arguments_from ts d n i) ≡ Some (append ls (tree.more t tree.end), suc j)
   unfolding arguments_from
   arguments_close ls zero i t j h q e = absurd (h refl)
   arguments_close ls (suc n) i t j h q e = rw (q, e, arguments_from)
 
   pub arguments_more : (ls : Exprs) (n i : ℕ) (t : Expr) (j : ℕ) → n ≢ 0 → d.assignment false i ≡ Some (t, j)
-      → is_close_paren (sign_at ts j) ≡ false → is_comma (sign_at ts j) ≡ true
-      → with_row ls (arguments_from ts d n i)
-      ≡ with_row (append ls (tree.more t tree.end)) (arguments_from ts d (n - 1) (suc j))
+      → is_close_paren (terminal_at ts j) ≡ false → is_comma (terminal_at ts j) ≡ true
+      → with_forest ls (arguments_from ts d n i)
+      ≡ with_forest (append ls (tree.more t tree.end)) (arguments_from ts d (n - 1) (suc j))
   unfolding arguments_from
   arguments_more ls zero i t j h q f e = absurd (h refl)
   arguments_more ls (suc n) i t j h q f e =
@@ -227,76 +227,76 @@ module _ (ts : List Token) (d : Deeper) where
       rw (g, q, f, e, arguments_from) (regroup ls t (arguments_from ts d n (suc j)))
 
   pub arguments_end : (ls : Exprs) (n i : ℕ) (t : Expr) (j : ℕ) → d.assignment false i ≡ Some (t, j)
-      → is_close_paren (sign_at ts j) ≡ false → is_comma (sign_at ts j) ≡ false
-      → with_row ls (arguments_from ts d n i) ≡ None
+      → is_close_paren (terminal_at ts j) ≡ false → is_comma (terminal_at ts j) ≡ false
+      → with_forest ls (arguments_from ts d n i) ≡ None
   unfolding arguments_from
   arguments_end ls zero i t j q h g = refl
   arguments_end ls (suc n) i t j q h g = rw (q, h, g, arguments_from)
 
   pub arguments_fails : (ls : Exprs) (n i : ℕ) → d.assignment false i ≡ None
-      → with_row ls (arguments_from ts d n i) ≡ None
+      → with_forest ls (arguments_from ts d n i) ≡ None
   unfolding arguments_from
   arguments_fails ls zero i q = refl
   arguments_fails ls (suc n) i q = rw (q, arguments_from)
 
-  pub arguments_none : (ls : Exprs) (n i : ℕ) → n ≡ 0 → with_row ls (arguments_from ts d n i) ≡ None
+  pub arguments_none : (ls : Exprs) (n i : ℕ) → n ≡ 0 → with_forest ls (arguments_from ts d n i) ≡ None
   unfolding arguments_from
   arguments_none ls zero i q = refl
   arguments_none ls (suc n) i q = absurd (omega arith)
 
   -- the items of an array
 
-  pub items_close : (ls : Row Span tree.item) (n i : ℕ) → is_close_bracket (sign_at ts i) ≡ true
-      → with_row ls (items_from ts d n i) ≡ Some (ls, suc i)
+  pub items_close : (ls : Forest Span tree.item) (n i : ℕ) → is_close_bracket (terminal_at ts i) ≡ true
+      → with_forest ls (items_from ts d n i) ≡ Some (ls, suc i)
   unfolding items_from
-  items_close ls zero i e = rw (e, items_from) (ap (λ (a : Row Span tree.item). Some (a, suc i)) (append_end ls))
-  items_close ls (suc n) i e = rw (e, items_from) (ap (λ (a : Row Span tree.item). Some (a, suc i)) (append_end ls))
+  items_close ls zero i e = rw (e, items_from) (ap (λ (a : Forest Span tree.item). Some (a, suc i)) (append_end ls))
+  items_close ls (suc n) i e = rw (e, items_from) (ap (λ (a : Forest Span tree.item). Some (a, suc i)) (append_end ls))
 
-  pub items_none : (ls : Row Span tree.item) (n i : ℕ) → n ≡ 0 → is_close_bracket (sign_at ts i) ≡ false
-      → with_row ls (items_from ts d n i) ≡ None
+  pub items_none : (ls : Forest Span tree.item) (n i : ℕ) → n ≡ 0 → is_close_bracket (terminal_at ts i) ≡ false
+      → with_forest ls (items_from ts d n i) ≡ None
   unfolding items_from
   items_none ls zero i q e = rw (e, items_from)
   items_none ls (suc n) i q e = absurd (omega arith)
 
-  pub items_hole : (ls : Row Span tree.item) (n i : ℕ) → n ≢ 0 → is_close_bracket (sign_at ts i) ≡ false
-      → is_comma (sign_at ts i) ≡ true
-      → with_row ls (items_from ts d n i)
-      ≡ with_row (append ls (tree.more tree.hole tree.end)) (items_from ts d (n - 1) (suc i))
+  pub items_hole : (ls : Forest Span tree.item) (n i : ℕ) → n ≢ 0 → is_close_bracket (terminal_at ts i) ≡ false
+      → is_comma (terminal_at ts i) ≡ true
+      → with_forest ls (items_from ts d n i)
+      ≡ with_forest (append ls (tree.more tree.hole tree.end)) (items_from ts d (n - 1) (suc i))
   unfolding items_from
   items_hole ls zero i h f e = absurd (h refl)
   items_hole ls (suc n) i h f e =
       let g : suc n - 1 ≡ n = omega arith in
       rw (g, f, e, items_from) (regroup ls tree.hole (items_from ts d n (suc i)))
 
-  pub items_fails : (ls : Row Span tree.item) (n i : ℕ) → is_close_bracket (sign_at ts i) ≡ false
-      → is_comma (sign_at ts i) ≡ false → d.assignment false i ≡ None → with_row ls (items_from ts d n i) ≡ None
+  pub items_fails : (ls : Forest Span tree.item) (n i : ℕ) → is_close_bracket (terminal_at ts i) ≡ false
+      → is_comma (terminal_at ts i) ≡ false → d.assignment false i ≡ None → with_forest ls (items_from ts d n i) ≡ None
   unfolding items_from
   items_fails ls zero i f e q = rw (f, items_from)
   items_fails ls (suc n) i f e q = rw (f, e, q, items_from)
 
-  pub items_last : (ls : Row Span tree.item) (n i : ℕ) (t : Expr) (j : ℕ) → n ≢ 0
-      → is_close_bracket (sign_at ts i) ≡ false → is_comma (sign_at ts i) ≡ false
-      → d.assignment false i ≡ Some (t, j) → is_close_bracket (sign_at ts j) ≡ true
-      → with_row ls (items_from ts d n i) ≡ Some (append ls (tree.more (tree.filled t) tree.end), suc j)
+  pub items_last : (ls : Forest Span tree.item) (n i : ℕ) (t : Expr) (j : ℕ) → n ≢ 0
+      → is_close_bracket (terminal_at ts i) ≡ false → is_comma (terminal_at ts i) ≡ false
+      → d.assignment false i ≡ Some (t, j) → is_close_bracket (terminal_at ts j) ≡ true
+      → with_forest ls (items_from ts d n i) ≡ Some (append ls (tree.more (tree.filled t) tree.end), suc j)
   unfolding items_from
   items_last ls zero i t j h f e q g = absurd (h refl)
   items_last ls (suc n) i t j h f e q g = rw (f, e, q, g, items_from)
 
-  pub items_more : (ls : Row Span tree.item) (n i : ℕ) (t : Expr) (j : ℕ) → n ≢ 0
-      → is_close_bracket (sign_at ts i) ≡ false → is_comma (sign_at ts i) ≡ false
-      → d.assignment false i ≡ Some (t, j) → is_close_bracket (sign_at ts j) ≡ false → is_comma (sign_at ts j) ≡ true
-      → with_row ls (items_from ts d n i)
-      ≡ with_row (append ls (tree.more (tree.filled t) tree.end)) (items_from ts d (n - 1) (suc j))
+  pub items_more : (ls : Forest Span tree.item) (n i : ℕ) (t : Expr) (j : ℕ) → n ≢ 0
+      → is_close_bracket (terminal_at ts i) ≡ false → is_comma (terminal_at ts i) ≡ false
+      → d.assignment false i ≡ Some (t, j) → is_close_bracket (terminal_at ts j) ≡ false → is_comma (terminal_at ts j) ≡ true
+      → with_forest ls (items_from ts d n i)
+      ≡ with_forest (append ls (tree.more (tree.filled t) tree.end)) (items_from ts d (n - 1) (suc j))
   unfolding items_from
   items_more ls zero i t j h f e q c k = absurd (h refl)
   items_more ls (suc n) i t j h f e q c k =
       let g : suc n - 1 ≡ n = omega arith in
       rw (g, f, e, q, c, k, items_from) (regroup ls (tree.filled t) (items_from ts d n (suc j)))
 
-  pub items_end : (ls : Row Span tree.item) (n i : ℕ) (t : Expr) (j : ℕ)
-      → is_close_bracket (sign_at ts i) ≡ false → is_comma (sign_at ts i) ≡ false
-      → d.assignment false i ≡ Some (t, j) → is_close_bracket (sign_at ts j) ≡ false → is_comma (sign_at ts j) ≡ false
-      → with_row ls (items_from ts d n i) ≡ None
+  pub items_end : (ls : Forest Span tree.item) (n i : ℕ) (t : Expr) (j : ℕ)
+      → is_close_bracket (terminal_at ts i) ≡ false → is_comma (terminal_at ts i) ≡ false
+      → d.assignment false i ≡ Some (t, j) → is_close_bracket (terminal_at ts j) ≡ false → is_comma (terminal_at ts j) ≡ false
+      → with_forest ls (items_from ts d n i) ≡ None
   unfolding items_from
   items_end ls zero i t j f e q c k = rw (f, items_from)
   items_end ls (suc n) i t j f e q c k = rw (f, e, q, c, k, items_from)

@@ -6,7 +6,7 @@ use Rattle.std.specs.declared.boxed.Box.{Box}
 use Rattle.jl_text.specs.declared.span.Span.{Span}
 use Rattle.jl_token.specs.declared.token.Token.{Token}
 use Rattle.jl_ast.specs.Tree as tree
-use Rattle.jl_ast.specs.Tree.{Tree, Row, Ident}
+use Rattle.jl_ast.specs.Tree.{Tree, Forest, Ident}
 use Rattle.jl_ast.specs.View.{view_body, view_expression, view_ident, view_statement}
 use Rattle.jl_ast.specs.declared.tree.Body.{Body as CodeBody}
 use Rattle.jl_ast.specs.declared.tree.Expr.{Expr as CodeExpr}
@@ -15,17 +15,17 @@ use Rattle.jl_ast.specs.declared.tree.Stmt.{Stmt as CodeStmt}
 use Rattle.jl_grammar.specs.Next.{is_colon, is_identifier}
 use Rattle.jl_grammar.specs.Reader.{◌>>=◌, Deeper, Read, is_case, is_default, statements_from}
 use Rattle.jl_grammar.specs.Reads.{Code, Expr, Stmt, Stmts}
-use Rattle.jl_grammar.specs.Tokens.{ident_at, sign_at, span}
-use Rattle.jl_grammar.specs.declared.sign.Sign.{Sign}
-use Rattle.jl_grammar.specs.declared.sign.Sign.TheVariants as signs
-use Rattle.jl_grammar.specs.Operators.{Joint, plain, both, either}
-use Rattle.jl_parse.specs.declared.operators.Joint.{Joint as CodeJoint}
-use Rattle.jl_parse.specs.declared.operators.Joint.TheVariants as joints
+use Rattle.jl_grammar.specs.Tokens.{ident_at, terminal_at, span}
+use Rattle.jl_grammar.specs.declared.terminal.Terminal.{Terminal}
+use Rattle.jl_grammar.specs.declared.terminal.Terminal.TheVariants as terminals
+use Rattle.jl_grammar.specs.Operators.{InfixOperator, plain, both, either}
+use Rattle.jl_parse.specs.declared.operators.InfixOperator.{InfixOperator as CodeInfixOperator}
+use Rattle.jl_parse.specs.declared.operators.InfixOperator.TheVariants as infix_operators
 use Rattle.jl_parse.specs.declared.refusal.Stop.{Stop}
 use Rattle.jl_parse.specs.declared.refusal.Stop.TheVariants as stops
 
-abbrev pub is_end : Sign → Bool
-is_end signs.End = true
+abbrev pub is_end : Terminal → Bool
+is_end terminals.End = true
 is_end _ = false
 
 -- why there is no answer: nothing is read, or memory ran out
@@ -50,37 +50,37 @@ GivesStatement result read = Gives (λ x. (view_statement x.0, x.1)) result read
 abbrev pub GivesRest : Result ((List CodeIdent × CodeBody) × ℕ) Stop → Read (List (Ident Span) × Code) → Type 0
 GivesRest result read = Gives (λ x. ((map view_ident x.0.0, view_body x.0.1), x.1)) result read
 
--- one row after another
-abbrev pub append : {x : tree.Sort} → Row Span x → Row Span x → Row Span x
+-- one forest after another
+abbrev pub append : {x : tree.Sort} → Forest Span x → Forest Span x → Forest Span x
 append tree.end b = b
 append (tree.more t a) b = tree.more t (append a b)
 
 -- a function declaration (clause 13)
 abbrev pub declaration_of : List Token → Deeper → ℕ → Read (Tree Span tree.func)
 declaration_of ts d i =
-    if is_identifier (sign_at ts (suc i))
+    if is_identifier (terminal_at ts (suc i))
     then (d.rest (suc (suc i)) >>= λ x.
     Some (tree.function 0 (Some (ident_at ts (suc i))) x.0.0 x.0.1 (span ts i x.1), x.1))
     else None
 
 -- what is read of a body after these declarations and statements
-abbrev pub with_elements : Bool → Row Span tree.func → Stmts → Read (Row Span tree.func × Stmts) → Read Code
+abbrev pub with_elements : Bool → Forest Span tree.func → Stmts → Read (Forest Span tree.func × Stmts) → Read Code
 with_elements strict fs ws None = None
 with_elements strict fs ws (Some r) = Some (tree.body strict (append fs r.0.0) (append ws r.0.1), r.1)
 
 -- a clause of a `switch` (12.11); a default one only where fresh
 unfoldable pub clause_of : List Token → Deeper → Bool → ℕ → Read (Tree Span tree.clause)
 clause_of ts d fresh i =
-    if is_case (sign_at ts i)
-    then (d.expression false (suc i) >>= λ t. if is_colon (sign_at ts t.1)
+    if is_case (terminal_at ts i)
+    then (d.expression false (suc i) >>= λ t. if is_colon (terminal_at ts t.1)
     then (statements_from ts d (length ts) (suc t.1) >>= λ x. Some (tree.case (tree.present t.0) x.0, x.1))
     else None)
-    else (if is_default (sign_at ts i) && (fresh && is_colon (sign_at ts (suc i)))
+    else (if is_default (terminal_at ts i) && (fresh && is_colon (terminal_at ts (suc i)))
     then (statements_from ts d (length ts) (suc (suc i)) >>= λ x. Some (tree.case tree.absent x.0, x.1))
     else None)
 
--- the joint that the code's is
-abbrev pub joint_of : CodeJoint → Joint
-joint_of (joints.Plain op) = plain op
-joint_of joints.And = both
-joint_of joints.Or = either
+-- the infix operator that the code's is
+abbrev pub infix_operator_of : CodeInfixOperator → InfixOperator
+infix_operator_of (infix_operators.Plain op) = plain op
+infix_operator_of infix_operators.And = both
+infix_operator_of infix_operators.Or = either

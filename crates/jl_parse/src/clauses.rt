@@ -5,17 +5,17 @@ ghost use Rattle.std.specs.Prelude.{◌≡◌, false, length, true};
 ghost use Rattle.jl_ast.specs.Tree as tree;
 ghost use Rattle.jl_ast.specs.View.{view_case, view_cases, view_ident, view_statements};
 ghost use Rattle.jl_grammar.specs.Reader.{catch_at, clauses_from, deeper, finally_from, switch_at, try_at};
-ghost use Rattle.jl_grammar.specs.Tokens.{sign_at};
+ghost use Rattle.jl_grammar.specs.Tokens.{terminal_at};
 ghost use Rattle.jl_parse.specs.Steps.{Gives, GivesStatement, clause_of, is_end};
 
 use crate::expressions::expression;
 use crate::primary::head;
 use crate::refusal::{Read, Stop};
-use crate::signs::{
+use crate::statements::{block, statements};
+use crate::terminals::{
     is_case, is_catch, is_close_brace, is_close_paren, is_colon, is_default, is_finally,
     is_identifier, is_open_brace, is_open_paren,
 };
-use crate::statements::{block, statements};
 use crate::tokens::Tokens;
 use jl_ast::{Case, Ident, Stmt, StmtKind};
 use jl_text::List;
@@ -27,21 +27,21 @@ use std::alloc::Global;
 fn clause(alloc: Global, tokens: &Tokens, depth: u64, fresh: bool, at: usize) -> Read<Case>
     ensures { Gives (λ x. (view_case x.0, x.1)) result (clause_of tokens.now (deeper tokens.now depth) fresh at) }
 {
-    let sign = tokens.sign(at);
-    if is_case(sign) {
+    let terminal = tokens.terminal(at);
+    if is_case(terminal) {
         let (test, end) = expression(alloc, tokens, depth, false, tokens.after(at))?;
-        if !is_colon(tokens.sign(end)) {
+        if !is_colon(tokens.terminal(end)) {
             return Err(Stop::At(end));
         }
         let (body, end) = statements(alloc, tokens, depth, tokens.after(end))?;
         let test = Some(Box::into_inner(test));
         return Ok((Case { test, body }, end));
     }
-    if !is_default(sign) || !fresh {
+    if !is_default(terminal) || !fresh {
         return Err(Stop::At(at));
     }
     let colon = tokens.after(at);
-    if !is_colon(tokens.sign(colon)) {
+    if !is_colon(tokens.terminal(colon)) {
         return Err(Stop::At(colon));
     }
     let (body, end) = statements(alloc, tokens, depth, tokens.after(colon))?;
@@ -59,8 +59,8 @@ fn clauses(alloc: Global, tokens: &Tokens, depth: u64, at: usize) -> Read<List<C
     let mut next = at;
     let mut room = tokens.len();
     'parts: loop {
-        let sign = tokens.sign(next);
-        if is_close_brace(sign) {
+        let terminal = tokens.terminal(next);
+        if is_close_brace(terminal) {
             return Ok((clauses, next));
         }
         if room == 0 {
@@ -69,7 +69,7 @@ fn clauses(alloc: Global, tokens: &Tokens, depth: u64, at: usize) -> Read<List<C
         room -= 1;
         let (c, end) = clause(alloc, tokens, depth, fresh, next)?;
         clauses.push(c)?;
-        fresh = fresh && is_case(sign);
+        fresh = fresh && is_case(terminal);
         next = end;
     }
 }
@@ -78,15 +78,15 @@ fn clauses(alloc: Global, tokens: &Tokens, depth: u64, at: usize) -> Read<List<C
 #[cycle(parser)]
 #[tactic(auto, using(jl_ast::proofs::Views::nodes), unfolding(jl_grammar::specs::Reader::switch_at))]
 pub fn switch_statement(alloc: Global, tokens: &Tokens, depth: u64, at: usize) -> Read<Stmt>
-    requires { is_end (sign_at tokens.now at) ≡ false }
+    requires { is_end (terminal_at tokens.now at) ≡ false }
     ensures { GivesStatement result (switch_at tokens.now (deeper tokens.now depth) at) }
 {
     let (e, end) = head(alloc, tokens, depth, tokens.after(at))?;
-    if !is_open_brace(tokens.sign(end)) {
+    if !is_open_brace(tokens.terminal(end)) {
         return Err(Stop::At(end));
     }
     let (clauses, end) = clauses(alloc, tokens, depth, tokens.after(end))?;
-    if !is_close_brace(tokens.sign(end)) {
+    if !is_close_brace(tokens.terminal(end)) {
         return Err(Stop::At(end));
     }
     let end = tokens.after(end);
@@ -99,19 +99,19 @@ pub fn switch_statement(alloc: Global, tokens: &Tokens, depth: u64, at: usize) -
 #[cycle(parser)]
 #[tactic(auto, unfolding(jl_grammar::specs::Reader::catch_at))]
 fn catch(alloc: Global, tokens: &Tokens, depth: u64, at: usize) -> Read<(Ident, List<Stmt>)>
-    requires { is_end (sign_at tokens.now at) ≡ false }
+    requires { is_end (terminal_at tokens.now at) ≡ false }
     ensures { Gives (λ x. (tree.catch (view_ident x.0.0) (view_statements x.0.1), x.1)) result (catch_at tokens.now (deeper tokens.now depth) at) }
 {
     let open = tokens.after(at);
-    if !is_open_paren(tokens.sign(open)) {
+    if !is_open_paren(tokens.terminal(open)) {
         return Err(Stop::At(open));
     }
     let name = tokens.after(open);
-    if !is_identifier(tokens.sign(name)) {
+    if !is_identifier(tokens.terminal(name)) {
         return Err(Stop::At(name));
     }
     let close = tokens.after(name);
-    if !is_close_paren(tokens.sign(close)) {
+    if !is_close_paren(tokens.terminal(close)) {
         return Err(Stop::At(close));
     }
     let (body, end) = block(alloc, tokens, depth, tokens.after(close))?;
@@ -122,16 +122,16 @@ fn catch(alloc: Global, tokens: &Tokens, depth: u64, at: usize) -> Read<(Ident, 
 #[cycle(parser)]
 #[tactic(auto, using(jl_ast::proofs::Views::nodes), unfolding(jl_grammar::specs::Reader::try_at, jl_grammar::specs::Reader::finally_from))]
 pub fn try_statement(alloc: Global, tokens: &Tokens, depth: u64, at: usize) -> Read<Stmt>
-    requires { is_end (sign_at tokens.now at) ≡ false }
+    requires { is_end (terminal_at tokens.now at) ≡ false }
     ensures { GivesStatement result (try_at tokens.now (deeper tokens.now depth) at) }
 {
     let (body, end) = block(alloc, tokens, depth, tokens.after(at))?;
-    let sign = tokens.sign(end);
-    if is_catch(sign) {
+    let terminal = tokens.terminal(end);
+    if is_catch(terminal) {
         let (caught, end) = catch(alloc, tokens, depth, end)?;
         return finally(alloc, tokens, depth, at, body, caught, end);
     }
-    if !is_finally(sign) {
+    if !is_finally(terminal) {
         return Err(Stop::At(end));
     }
     let (last, end) = block(alloc, tokens, depth, tokens.after(end))?;
@@ -159,7 +159,7 @@ fn finally(
     ensures { GivesStatement result (finally_from tokens.now (deeper tokens.now depth) at (view_statements body)
         (tree.catch (view_ident caught.0) (view_statements caught.1), end)) }
 {
-    if is_finally(tokens.sign(end)) {
+    if is_finally(tokens.terminal(end)) {
         let (last, end) = block(alloc, tokens, depth, tokens.after(end))?;
         let kind = StmtKind::Try {
             body,

@@ -6,7 +6,7 @@ use crate::nodes::{node, target};
 use crate::operators::{unary_op, update_op};
 use crate::primary::left;
 use crate::refusal::{Read, Stop};
-use crate::signs::{is_colon, is_comma, is_question};
+use crate::terminals::{is_colon, is_comma, is_question};
 use crate::tokens::Tokens;
 use jl_ast::{Expr, ExprKind};
 use std::alloc::Global;
@@ -65,7 +65,7 @@ fn postfix(alloc: Global, tokens: &Tokens, depth: u64, at: usize) -> Read<Box<Ex
     ensures { GivesExpression result (postfix_at tokens.now (deeper tokens.now depth) depth at) }
 {
     let (operand, end) = left(alloc, tokens, depth, true, at)?;
-    let Some(up) = update_op(tokens.sign(end)) else {
+    let Some(up) = update_op(tokens.terminal(end)) else {
         return Ok((operand, end));
     };
     if tokens.line_before(end) {
@@ -87,13 +87,13 @@ fn postfix(alloc: Global, tokens: &Tokens, depth: u64, at: usize) -> Read<Box<Ex
 fn unary(alloc: Global, tokens: &Tokens, depth: u64, at: usize) -> Read<Box<Expr>>
     ensures { GivesExpression result (unary_at tokens.now (deeper tokens.now depth) depth at) }
 {
-    let sign = tokens.sign(at);
-    if let Some(op) = unary_op(sign) {
+    let terminal = tokens.terminal(at);
+    if let Some(op) = unary_op(terminal) {
         let (operand, end) = inner_unary(alloc, tokens, depth, tokens.after(at))?;
         let kind = ExprKind::Unary(op, operand);
         return Ok((node(alloc, kind, tokens.span(at, end))?, end));
     }
-    let Some(up) = update_op(sign) else {
+    let Some(up) = update_op(terminal) else {
         return postfix(alloc, tokens, depth, at);
     };
     let (operand, end) = left(alloc, tokens, depth, true, tokens.after(at))?;
@@ -105,7 +105,7 @@ fn unary(alloc: Global, tokens: &Tokens, depth: u64, at: usize) -> Read<Box<Expr
     Ok((node(alloc, kind, tokens.span(at, end))?, end))
 }
 
-// Operands with joints between them that are no looser than `loosest` (11.5 to 11.11).
+// Operands with infix operators between them that are no looser than `loosest` (11.5 to 11.11).
 #[cycle(parser)]
 #[tactic(auto, using(jl_ast::proofs::Views::nodes, crate::proofs::Turns::binary_loop), unfolding(jl_grammar::specs::Reader::binary_at))]
 fn binary(
@@ -121,11 +121,11 @@ fn binary(
     let (mut operand, mut end) = unary(alloc, tokens, depth, at)?;
     let mut room = depth;
     'parts: loop {
-        let Some(joint) = tokens.joint(end, no_in) else {
+        let Some(infix_operator) = tokens.infix_operator(end, no_in) else {
             return Ok((operand, end));
         };
-        let looseness = joint.looseness();
-        if looseness > loosest {
+        let infix_precedence = infix_operator.infix_precedence();
+        if infix_precedence > loosest {
             return Ok((operand, end));
         }
         if room == 0 {
@@ -133,8 +133,8 @@ fn binary(
         }
         room -= 1;
         let next = tokens.after(end);
-        let (other, next) = inner_binary(alloc, tokens, depth, no_in, looseness - 1, next)?;
-        let kind = joint.join(operand, other);
+        let (other, next) = inner_binary(alloc, tokens, depth, no_in, infix_precedence - 1, next)?;
+        let kind = infix_operator.join(operand, other);
         operand = node(alloc, kind, tokens.span(at, next))?;
         end = next;
     }
@@ -153,11 +153,11 @@ fn conditional(
     ensures { GivesExpression result (conditional_at tokens.now (deeper tokens.now depth) no_in depth at) }
 {
     let (test, end) = binary(alloc, tokens, depth, no_in, 10, at)?;
-    if !is_question(tokens.sign(end)) {
+    if !is_question(tokens.terminal(end)) {
         return Ok((test, end));
     }
     let (first, end) = inner_assignment(alloc, tokens, depth, false, tokens.after(end))?;
-    if !is_colon(tokens.sign(end)) {
+    if !is_colon(tokens.terminal(end)) {
         return Err(Stop::At(end));
     }
     let (second, end) = inner_assignment(alloc, tokens, depth, no_in, tokens.after(end))?;
@@ -200,7 +200,7 @@ pub fn expression(
     let (mut left, mut end) = assignment(alloc, tokens, levels, no_in, at)?;
     let mut room = levels;
     'parts: loop {
-        if !is_comma(tokens.sign(end)) {
+        if !is_comma(tokens.terminal(end)) {
             return Ok((left, end));
         }
         if room == 0 {

@@ -3,20 +3,20 @@ ghost use Rattle.std.specs.Prelude.{◌≡◌, false, length, map, IfOk};
 ghost use Rattle.jl_ast.specs.Tree as tree;
 ghost use Rattle.jl_ast.specs.View.{view_body, view_entries, view_entry, view_expression, view_function, view_ident};
 ghost use Rattle.jl_grammar.specs.Reader.{deeper, accessor_at, body_from, elements_from, entries_from, entry_at, function_at, getter_by, parameters_at, rest_at, setter_by, value_at};
-ghost use Rattle.jl_grammar.specs.Tokens.{sign_at};
+ghost use Rattle.jl_grammar.specs.Tokens.{terminal_at};
 ghost use Rattle.jl_parse.specs.Steps.{Gives, GivesExpression, GivesRest, is_end, declaration_of, with_elements};
 
 use crate::expressions::inner_assignment;
 use crate::nodes::node;
 use crate::refusal::{Read, Stop};
-use crate::signs::{
+use crate::statements::{ends, statement};
+use crate::terminals::{
     ends_list, is_close_brace, is_close_paren, is_colon, is_comma, is_function, is_identifier,
     is_key, is_open_brace, is_open_paren,
 };
-use crate::statements::{ends, statement};
 use crate::tokens::Tokens;
 use jl_ast::{Body, Entry, Expr, ExprKind, Function, Ident};
-use jl_grammar::Sign;
+use jl_grammar::Terminal;
 use jl_text::{List, Span};
 use std::alloc::{AllocError, Global};
 
@@ -26,23 +26,23 @@ fn parameters(alloc: Global, tokens: &Tokens, at: usize) -> Read<List<Ident>>
     ensures { Gives (λ x. (map view_ident x.0, x.1)) result (parameters_at tokens.now at) }
 {
     let mut parameters = List::new(alloc);
-    if is_close_paren(tokens.sign(at)) {
+    if is_close_paren(tokens.terminal(at)) {
         return Ok((parameters, tokens.after(at)));
     }
     let mut next = at;
     let mut room = tokens.len();
     'parts: loop {
-        if room == 0 || !is_identifier(tokens.sign(next)) {
+        if room == 0 || !is_identifier(tokens.terminal(next)) {
             return Err(Stop::At(next));
         }
         room -= 1;
         parameters.push(tokens.ident(alloc, next)?)?;
         let end = tokens.after(next);
-        let sign = tokens.sign(end);
-        if is_close_paren(sign) {
+        let terminal = tokens.terminal(end);
+        if is_close_paren(terminal) {
             return Ok((parameters, tokens.after(end)));
         }
-        if !is_comma(sign) {
+        if !is_comma(terminal) {
             return Err(Stop::At(end));
         }
         next = tokens.after(end);
@@ -55,15 +55,15 @@ fn parameters(alloc: Global, tokens: &Tokens, at: usize) -> Read<List<Ident>>
 fn rest(alloc: Global, tokens: &Tokens, depth: u64, at: usize) -> Read<(List<Ident>, Body)>
     ensures { GivesRest result (rest_at tokens.now (deeper tokens.now depth) at) }
 {
-    if !is_open_paren(tokens.sign(at)) {
+    if !is_open_paren(tokens.terminal(at)) {
         return Err(Stop::At(at));
     }
     let (parameters, end) = parameters(alloc, tokens, tokens.after(at))?;
-    if !is_open_brace(tokens.sign(end)) {
+    if !is_open_brace(tokens.terminal(end)) {
         return Err(Stop::At(end));
     }
     let (body, end) = body(alloc, tokens, depth, tokens.after(end))?;
-    if is_close_brace(tokens.sign(end)) {
+    if is_close_brace(tokens.terminal(end)) {
         Ok(((parameters, body), tokens.after(end)))
     } else {
         Err(Stop::At(end))
@@ -93,11 +93,11 @@ fn function_node(alloc: Global, function: Function, span: Span) -> Result<Box<Ex
 #[cycle(parser)]
 #[tactic(auto, using(jl_ast::proofs::Views::nodes), unfolding(jl_grammar::specs::Reader::function_at))]
 pub fn function_expression(alloc: Global, tokens: &Tokens, depth: u64, at: usize) -> Read<Box<Expr>>
-    requires { is_end (sign_at tokens.now at) ≡ false }
+    requires { is_end (terminal_at tokens.now at) ≡ false }
     ensures { GivesExpression result (function_at tokens.now (deeper tokens.now depth) at) }
 {
     let name = tokens.after(at);
-    if is_identifier(tokens.sign(name)) {
+    if is_identifier(tokens.terminal(name)) {
         let ((params, body), end) = rest(alloc, tokens, depth, tokens.after(name))?;
         let span = tokens.span(at, end);
         let function = Function {
@@ -126,11 +126,11 @@ pub fn function_expression(alloc: Global, tokens: &Tokens, depth: u64, at: usize
 #[cycle(parser)]
 #[tactic(auto, using(jl_ast::proofs::Views::nodes))]
 fn declaration(alloc: Global, tokens: &Tokens, depth: u64, at: usize) -> Read<Function>
-    requires { is_end (sign_at tokens.now at) ≡ false }
+    requires { is_end (terminal_at tokens.now at) ≡ false }
     ensures { Gives (λ x. (view_function x.0, x.1)) result (declaration_of tokens.now (deeper tokens.now depth) at) }
 {
     let name = tokens.after(at);
-    if !is_identifier(tokens.sign(name)) {
+    if !is_identifier(tokens.terminal(name)) {
         return Err(Stop::At(name));
     }
     let ((params, body), end) = inner_rest(alloc, tokens, depth, tokens.after(name))?;
@@ -156,8 +156,8 @@ fn elements(alloc: Global, tokens: &Tokens, depth: u64, at: usize, strict: bool)
     let mut next = at;
     let mut room = tokens.len();
     'parts: loop {
-        let sign = tokens.sign(next);
-        if ends_list(sign) {
+        let terminal = tokens.terminal(next);
+        if ends_list(terminal) {
             let body = Body {
                 strict,
                 functions,
@@ -169,7 +169,7 @@ fn elements(alloc: Global, tokens: &Tokens, depth: u64, at: usize, strict: bool)
             return Err(Stop::At(next));
         }
         room -= 1;
-        if is_function(sign) {
+        if is_function(terminal) {
             let (f, end) = declaration(alloc, tokens, depth, next)?;
             functions.push(f)?;
             next = end;
@@ -213,11 +213,11 @@ pub fn body(alloc: Global, tokens: &Tokens, depth: u64, at: usize) -> Read<Body>
 fn value(alloc: Global, tokens: &Tokens, depth: u64, at: usize) -> Read<Entry>
     ensures { Gives (λ x. (view_entry x.0, x.1)) result (value_at tokens.now (deeper tokens.now depth) at) }
 {
-    if !is_key(tokens.sign(at)) {
+    if !is_key(tokens.terminal(at)) {
         return Err(Stop::At(at));
     }
     let colon = tokens.after(at);
-    if !is_colon(tokens.sign(colon)) {
+    if !is_colon(tokens.terminal(colon)) {
         return Err(Stop::At(colon));
     }
     let (e, end) = inner_assignment(alloc, tokens, depth, false, tokens.after(colon))?;
@@ -229,15 +229,15 @@ fn value(alloc: Global, tokens: &Tokens, depth: u64, at: usize) -> Read<Entry>
 #[cycle(parser)]
 #[tactic(auto, using(jl_ast::proofs::Views::nodes, crate::proofs::Lists::getters), unfolding(jl_grammar::specs::Reader::accessor_at))]
 fn getter(alloc: Global, tokens: &Tokens, depth: u64, at: usize) -> Read<Entry>
-    requires { is_end (sign_at tokens.now at) ≡ false }
+    requires { is_end (terminal_at tokens.now at) ≡ false }
     ensures { Gives (λ x. (view_entry x.0, x.1)) result (accessor_at tokens.now (deeper tokens.now depth)
         (getter_by tokens.now (deeper tokens.now depth)) at) }
 {
     let name = tokens.after(at);
-    if is_colon(tokens.sign(name)) {
+    if is_colon(tokens.terminal(name)) {
         return value(alloc, tokens, depth, at);
     }
-    if !is_key(tokens.sign(name)) {
+    if !is_key(tokens.terminal(name)) {
         return Err(Stop::At(name));
     }
     let open = tokens.after(name);
@@ -259,15 +259,15 @@ fn getter(alloc: Global, tokens: &Tokens, depth: u64, at: usize) -> Read<Entry>
 #[cycle(parser)]
 #[tactic(auto, using(jl_ast::proofs::Views::nodes, crate::proofs::Lists::setters), unfolding(jl_grammar::specs::Reader::accessor_at))]
 fn setter(alloc: Global, tokens: &Tokens, depth: u64, at: usize) -> Read<Entry>
-    requires { is_end (sign_at tokens.now at) ≡ false }
+    requires { is_end (terminal_at tokens.now at) ≡ false }
     ensures { Gives (λ x. (view_entry x.0, x.1)) result (accessor_at tokens.now (deeper tokens.now depth)
         (setter_by tokens.now (deeper tokens.now depth)) at) }
 {
     let name = tokens.after(at);
-    if is_colon(tokens.sign(name)) {
+    if is_colon(tokens.terminal(name)) {
         return value(alloc, tokens, depth, at);
     }
-    if !is_key(tokens.sign(name)) {
+    if !is_key(tokens.terminal(name)) {
         return Err(Stop::At(name));
     }
     let open = tokens.after(name);
@@ -290,9 +290,9 @@ fn setter(alloc: Global, tokens: &Tokens, depth: u64, at: usize) -> Read<Entry>
 fn entry(alloc: Global, tokens: &Tokens, depth: u64, at: usize) -> Read<Entry>
     ensures { Gives (λ x. (view_entry x.0, x.1)) result (entry_at tokens.now (deeper tokens.now depth) at) }
 {
-    match tokens.sign(at) {
-        Sign::Get => getter(alloc, tokens, depth, at),
-        Sign::Set => setter(alloc, tokens, depth, at),
+    match tokens.terminal(at) {
+        Terminal::Get => getter(alloc, tokens, depth, at),
+        Terminal::Set => setter(alloc, tokens, depth, at),
         _ => value(alloc, tokens, depth, at),
     }
 }
@@ -307,7 +307,7 @@ pub fn entries(alloc: Global, tokens: &Tokens, depth: u64, at: usize) -> Read<Li
     let mut next = at;
     let mut room = tokens.len();
     'parts: loop {
-        if is_close_brace(tokens.sign(next)) {
+        if is_close_brace(tokens.terminal(next)) {
             return Ok((entries, tokens.after(next)));
         }
         if room == 0 {
@@ -316,11 +316,11 @@ pub fn entries(alloc: Global, tokens: &Tokens, depth: u64, at: usize) -> Read<Li
         room -= 1;
         let (e, end) = entry(alloc, tokens, depth, next)?;
         entries.push(e)?;
-        let sign = tokens.sign(end);
-        if is_close_brace(sign) {
+        let terminal = tokens.terminal(end);
+        if is_close_brace(terminal) {
             return Ok((entries, tokens.after(end)));
         }
-        if !is_comma(sign) {
+        if !is_comma(terminal) {
             return Err(Stop::At(end));
         }
         next = tokens.after(end);

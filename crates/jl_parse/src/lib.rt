@@ -9,8 +9,8 @@ mod nodes;
 mod operators;
 mod primary;
 mod refusal;
-mod signs;
 mod statements;
+mod terminals;
 mod tokens;
 mod whole;
 

@@ -2,27 +2,27 @@
 #![tactic(auto, using(jl_ast::proofs::Views::nodes))]
 
 ghost use Rattle.std.specs.Prelude.{◌≡◌, ◌&&◌, false, suc, true};
-ghost use Rattle.jl_ast.specs.View.{view_expression, view_ident, view_init, view_maybe};
+ghost use Rattle.jl_ast.specs.View.{view_expression, view_ident, view_init, view_optional};
 ghost use Rattle.jl_grammar.specs.Next.{is_identifier, is_semicolon};
-ghost use Rattle.jl_grammar.specs.Reader.{deeper, for_at, for_expression_at, for_from, for_in_from, for_var_at, is_close_paren, is_in, maybe_at, name_of};
-ghost use Rattle.jl_grammar.specs.Tokens.{sign_at};
+ghost use Rattle.jl_grammar.specs.Reader.{deeper, for_at, for_expression_at, for_from, for_in_from, for_var_at, is_close_paren, is_in, optional_at, name_of};
+ghost use Rattle.jl_grammar.specs.Tokens.{terminal_at};
 ghost use Rattle.jl_parse.specs.Steps.{Gives, GivesStatement, is_end};
 
 use crate::expressions::expression;
 use crate::refusal::{Read, Stop};
-use crate::signs::{is_close_paren, is_identifier, is_in, is_open_paren, is_semicolon, is_var};
 use crate::statements::{declarators, sub};
+use crate::terminals::{is_close_paren, is_identifier, is_in, is_open_paren, is_semicolon, is_var};
 use crate::tokens::Tokens;
 use jl_ast::{Expr, ExprKind, ForInit, Ident, Stmt, StmtKind};
 use std::alloc::Global;
 
 // An expression, or none before a semicolon.
 #[cycle(parser)]
-#[tactic(auto, unfolding(jl_grammar::specs::Reader::maybe_at))]
+#[tactic(auto, unfolding(jl_grammar::specs::Reader::optional_at))]
 fn until_semicolon(alloc: Global, tokens: &Tokens, depth: u64, at: usize) -> Read<Option<Expr>>
-    ensures { Gives (λ x. (view_maybe x.0, x.1)) result (maybe_at tokens.now (deeper tokens.now depth) is_semicolon at) }
+    ensures { Gives (λ x. (view_optional x.0, x.1)) result (optional_at tokens.now (deeper tokens.now depth) is_semicolon at) }
 {
-    if is_semicolon(tokens.sign(at)) {
+    if is_semicolon(tokens.terminal(at)) {
         return Ok((None, at));
     }
     let (e, end) = expression(alloc, tokens, depth, false, at)?;
@@ -31,11 +31,11 @@ fn until_semicolon(alloc: Global, tokens: &Tokens, depth: u64, at: usize) -> Rea
 
 // An expression, or none before a `)`.
 #[cycle(parser)]
-#[tactic(auto, unfolding(jl_grammar::specs::Reader::maybe_at))]
+#[tactic(auto, unfolding(jl_grammar::specs::Reader::optional_at))]
 fn until_close(alloc: Global, tokens: &Tokens, depth: u64, at: usize) -> Read<Option<Expr>>
-    ensures { Gives (λ x. (view_maybe x.0, x.1)) result (maybe_at tokens.now (deeper tokens.now depth) is_close_paren at) }
+    ensures { Gives (λ x. (view_optional x.0, x.1)) result (optional_at tokens.now (deeper tokens.now depth) is_close_paren at) }
 {
-    if is_close_paren(tokens.sign(at)) {
+    if is_close_paren(tokens.terminal(at)) {
         return Ok((None, at));
     }
     let (e, end) = expression(alloc, tokens, depth, false, at)?;
@@ -55,15 +55,15 @@ fn for_rest(
 ) -> Read<Stmt>
     ensures { GivesStatement result (for_from tokens.now (deeper tokens.now depth) at (view_init init, end)) }
 {
-    if !is_semicolon(tokens.sign(end)) {
+    if !is_semicolon(tokens.terminal(end)) {
         return Err(Stop::At(end));
     }
     let (test, end) = until_semicolon(alloc, tokens, depth, tokens.after(end))?;
-    if !is_semicolon(tokens.sign(end)) {
+    if !is_semicolon(tokens.terminal(end)) {
         return Err(Stop::At(end));
     }
     let (step, end) = until_close(alloc, tokens, depth, tokens.after(end))?;
-    if !is_close_paren(tokens.sign(end)) {
+    if !is_close_paren(tokens.terminal(end)) {
         return Err(Stop::At(end));
     }
     let (body, end) = sub(alloc, tokens, depth, tokens.after(end))?;
@@ -87,7 +87,7 @@ fn for_in_rest(
     ensures { GivesStatement result (for_in_from tokens.now (deeper tokens.now depth) at is_var (view_ident name) next) }
 {
     let (object, end) = expression(alloc, tokens, depth, false, next)?;
-    if !is_close_paren(tokens.sign(end)) {
+    if !is_close_paren(tokens.terminal(end)) {
         return Err(Stop::At(end));
     }
     let (body, end) = sub(alloc, tokens, depth, tokens.after(end))?;
@@ -103,11 +103,11 @@ fn for_in_rest(
 
 // Whether a name and an `in` stand there.
 fn is_name_in(tokens: &Tokens, at: usize) -> bool
-    ensures is { result ≡ (is_identifier (sign_at tokens.now at) && is_in (sign_at tokens.now (suc at))) }
-    ensures first { result ≡ true → is_end (sign_at tokens.now at) ≡ false }
-    ensures second { result ≡ true → is_end (sign_at tokens.now (suc at)) ≡ false }
+    ensures is { result ≡ (is_identifier (terminal_at tokens.now at) && is_in (terminal_at tokens.now (suc at))) }
+    ensures first { result ≡ true → is_end (terminal_at tokens.now at) ≡ false }
+    ensures second { result ≡ true → is_end (terminal_at tokens.now (suc at)) ≡ false }
 {
-    is_identifier(tokens.sign(at)) && is_in(tokens.sign(tokens.after(at)))
+    is_identifier(tokens.terminal(at)) && is_in(tokens.terminal(tokens.after(at)))
 }
 
 // A `for` whose head begins with a `var`, which stands at `var`.
@@ -115,7 +115,7 @@ fn is_name_in(tokens: &Tokens, at: usize) -> bool
 #[tactic(auto, using(jl_ast::proofs::Views::nodes), unfolding(jl_grammar::specs::Reader::for_var_at))]
 fn for_var(alloc: Global, tokens: &Tokens, depth: u64, at: usize, var: usize) -> Read<Stmt>
     requires place { var ≡ suc (suc at) }
-    requires there { is_end (sign_at tokens.now var) ≡ false }
+    requires there { is_end (terminal_at tokens.now var) ≡ false }
     ensures { GivesStatement result (for_var_at tokens.now (deeper tokens.now depth) at) }
 {
     let first = tokens.after(var);
@@ -147,7 +147,7 @@ fn for_expression(alloc: Global, tokens: &Tokens, depth: u64, at: usize, first: 
     ensures { GivesStatement result (for_expression_at tokens.now (deeper tokens.now depth) at) }
 {
     let (e, end) = expression(alloc, tokens, depth, true, first)?;
-    if is_in(tokens.sign(end)) {
+    if is_in(tokens.terminal(end)) {
         let name = name(e, end)?;
         return for_in_rest(alloc, tokens, depth, at, false, name, tokens.after(end));
     }
@@ -165,19 +165,19 @@ fn for_expression(alloc: Global, tokens: &Tokens, depth: u64, at: usize, first: 
 #[cycle(parser)]
 #[tactic(auto, using(jl_ast::proofs::Views::nodes), unfolding(jl_grammar::specs::Reader::for_at))]
 pub fn for_statement(alloc: Global, tokens: &Tokens, depth: u64, at: usize) -> Read<Stmt>
-    requires { is_end (sign_at tokens.now at) ≡ false }
+    requires { is_end (terminal_at tokens.now at) ≡ false }
     ensures { GivesStatement result (for_at tokens.now (deeper tokens.now depth) at) }
 {
     let open = tokens.after(at);
-    if !is_open_paren(tokens.sign(open)) {
+    if !is_open_paren(tokens.terminal(open)) {
         return Err(Stop::At(open));
     }
     let first = tokens.after(open);
-    let sign = tokens.sign(first);
-    if is_semicolon(sign) {
+    let terminal = tokens.terminal(first);
+    if is_semicolon(terminal) {
         return for_rest(alloc, tokens, depth, at, ForInit::Nothing, first);
     }
-    if is_var(sign) {
+    if is_var(terminal) {
         return for_var(alloc, tokens, depth, at, first);
     }
     for_expression(alloc, tokens, depth, at, first)

@@ -2,8 +2,8 @@
 ghost use Rattle.std.specs.Prelude.{◌≡◌, suc, false, true, length, Some};
 ghost use Rattle.jl_ast.specs.View.{view_expression, view_expression_kind, view_expressions, view_items};
 ghost use Rattle.jl_grammar.specs.Reader.{deeper, head_at, primary_at, primary_by, items_from, arguments_at, arguments_from, new_at, start_at, left_at, left_by};
-ghost use Rattle.jl_grammar.specs.Tokens.{sign_at, span};
-ghost use Rattle.jl_grammar.specs.declared.sign.Sign.TheVariants as Sign;
+ghost use Rattle.jl_grammar.specs.Tokens.{terminal_at, span};
+ghost use Rattle.jl_grammar.specs.declared.terminal.Terminal.TheVariants as Terminal;
 ghost use Rattle.jl_parse.specs.Steps.{Gives, GivesExpression, is_end};
 
 use crate::expressions::{expression, inner_assignment};
@@ -11,10 +11,12 @@ use crate::functions::{entries, function_expression};
 use crate::nodes::node;
 use crate::operators::continues_left;
 use crate::refusal::{Read, Stop};
-use crate::signs::{is_close_bracket, is_close_paren, is_comma, is_name, is_new, is_open_paren};
+use crate::terminals::{
+    is_close_bracket, is_close_paren, is_comma, is_name, is_new, is_open_paren,
+};
 use crate::tokens::Tokens;
 use jl_ast::{Expr, ExprKind};
-use jl_grammar::{Sign, Word};
+use jl_grammar::{Terminal, Word};
 use jl_text::List;
 use jl_token::Punct;
 use std::alloc::Global;
@@ -25,11 +27,11 @@ use std::alloc::Global;
 pub fn head(alloc: Global, tokens: &Tokens, depth: u64, at: usize) -> Read<Box<Expr>>
     ensures { GivesExpression result (head_at tokens.now (deeper tokens.now depth) at) }
 {
-    if !is_open_paren(tokens.sign(at)) {
+    if !is_open_paren(tokens.terminal(at)) {
         return Err(Stop::At(at));
     }
     let (e, end) = expression(alloc, tokens, depth, false, tokens.after(at))?;
-    if is_close_paren(tokens.sign(end)) {
+    if is_close_paren(tokens.terminal(end)) {
         Ok((e, tokens.after(end)))
     } else {
         Err(Stop::At(end))
@@ -39,7 +41,7 @@ pub fn head(alloc: Global, tokens: &Tokens, depth: u64, at: usize) -> Read<Box<E
 // An expression that is one token.
 #[tactic(auto, using(jl_ast::proofs::Views::nodes))]
 fn token(alloc: Global, tokens: &Tokens, at: usize, kind: ExprKind) -> Read<Box<Expr>>
-    requires { is_end (sign_at tokens.now at) ≡ false }
+    requires { is_end (terminal_at tokens.now at) ≡ false }
     ensures { GivesExpression result (Some (view_expression_kind kind (span tokens.now at (suc at)), suc at)) }
 {
     let next = tokens.after(at);
@@ -56,25 +58,25 @@ fn items(alloc: Global, tokens: &Tokens, depth: u64, at: usize) -> Read<List<Opt
     let mut next = at;
     let mut room = tokens.len();
     'parts: loop {
-        let sign = tokens.sign(next);
-        if is_close_bracket(sign) {
+        let terminal = tokens.terminal(next);
+        if is_close_bracket(terminal) {
             return Ok((items, tokens.after(next)));
         }
         if room == 0 {
             return Err(Stop::At(next));
         }
         room -= 1;
-        if is_comma(sign) {
+        if is_comma(terminal) {
             items.push(None)?;
             next = tokens.after(next);
         } else {
             let (e, end) = inner_assignment(alloc, tokens, depth, false, next)?;
             items.push(Some(Box::into_inner(e)))?;
-            let sign = tokens.sign(end);
-            if is_close_bracket(sign) {
+            let terminal = tokens.terminal(end);
+            if is_close_bracket(terminal) {
                 return Ok((items, tokens.after(end)));
             }
-            if !is_comma(sign) {
+            if !is_comma(terminal) {
                 return Err(Stop::At(end));
             }
             next = tokens.after(end);
@@ -92,8 +94,8 @@ fn punct_primary(
     at: usize,
     punct: Punct,
 ) -> Read<Box<Expr>>
-    requires { sign_at tokens.now at ≡ Sign.Punct punct }
-    ensures { GivesExpression result (primary_by tokens.now (deeper tokens.now depth) at (Sign.Punct punct)) }
+    requires { terminal_at tokens.now at ≡ Terminal.Punct punct }
+    ensures { GivesExpression result (primary_by tokens.now (deeper tokens.now depth) at (Terminal.Punct punct)) }
 {
     match punct {
         Punct::LeftParen => head(alloc, tokens, depth, at),
@@ -121,8 +123,8 @@ fn word_primary(
     at: usize,
     word: Word,
 ) -> Read<Box<Expr>>
-    requires { sign_at tokens.now at ≡ Sign.Word word }
-    ensures { GivesExpression result (primary_by tokens.now (deeper tokens.now depth) at (Sign.Word word)) }
+    requires { terminal_at tokens.now at ≡ Terminal.Word word }
+    ensures { GivesExpression result (primary_by tokens.now (deeper tokens.now depth) at (Terminal.Word word)) }
 {
     match word {
         Word::This => token(alloc, tokens, at, ExprKind::This),
@@ -140,19 +142,19 @@ fn word_primary(
 fn primary(alloc: Global, tokens: &Tokens, depth: u64, at: usize) -> Read<Box<Expr>>
     ensures { GivesExpression result (primary_at tokens.now (deeper tokens.now depth) at) }
 {
-    match tokens.sign(at) {
-        Sign::Punct(punct) => punct_primary(alloc, tokens, depth, at, punct),
-        Sign::Word(word) => word_primary(alloc, tokens, depth, at, word),
-        Sign::Identifier | Sign::Get | Sign::Set => {
+    match tokens.terminal(at) {
+        Terminal::Punct(punct) => punct_primary(alloc, tokens, depth, at, punct),
+        Terminal::Word(word) => word_primary(alloc, tokens, depth, at, word),
+        Terminal::Identifier | Terminal::Get | Terminal::Set => {
             let name = tokens.text(alloc, at)?;
             token(alloc, tokens, at, ExprKind::Name(name))
         }
-        Sign::Number => token(alloc, tokens, at, ExprKind::Num(tokens.number(at))),
-        Sign::Str => {
+        Terminal::Number => token(alloc, tokens, at, ExprKind::Num(tokens.number(at))),
+        Terminal::Str => {
             let text = tokens.text(alloc, at)?;
             token(alloc, tokens, at, ExprKind::Str(text))
         }
-        Sign::EscapedWord | Sign::End => Err(Stop::At(at)),
+        Terminal::EscapedWord | Terminal::End => Err(Stop::At(at)),
     }
 }
 
@@ -172,11 +174,11 @@ fn some_arguments(alloc: Global, tokens: &Tokens, depth: u64, at: usize) -> Read
         room -= 1;
         let (e, end) = inner_assignment(alloc, tokens, depth, false, next)?;
         arguments.push(Box::into_inner(e))?;
-        let sign = tokens.sign(end);
-        if is_close_paren(sign) {
+        let terminal = tokens.terminal(end);
+        if is_close_paren(terminal) {
             return Ok((arguments, tokens.after(end)));
         }
-        if !is_comma(sign) {
+        if !is_comma(terminal) {
             return Err(Stop::At(end));
         }
         next = tokens.after(end);
@@ -189,7 +191,7 @@ fn some_arguments(alloc: Global, tokens: &Tokens, depth: u64, at: usize) -> Read
 fn arguments(alloc: Global, tokens: &Tokens, depth: u64, at: usize) -> Read<List<Expr>>
     ensures { Gives (λ x. (view_expressions x.0, x.1)) result (arguments_at tokens.now (deeper tokens.now depth) at) }
 {
-    if is_close_paren(tokens.sign(at)) {
+    if is_close_paren(tokens.terminal(at)) {
         Ok((List::new(alloc), tokens.after(at)))
     } else {
         some_arguments(alloc, tokens, depth, at)
@@ -200,11 +202,11 @@ fn arguments(alloc: Global, tokens: &Tokens, depth: u64, at: usize) -> Read<List
 #[cycle(parser)]
 #[tactic(auto, using(jl_ast::proofs::Views::nodes), unfolding(jl_grammar::specs::Reader::new_at))]
 fn new_expression(alloc: Global, tokens: &Tokens, depth: u64, at: usize) -> Read<Box<Expr>>
-    requires { is_end (sign_at tokens.now at) ≡ false }
+    requires { is_end (terminal_at tokens.now at) ≡ false }
     ensures { GivesExpression result (new_at tokens.now (deeper tokens.now depth) at) }
 {
     let (callee, end) = member(alloc, tokens, depth, tokens.after(at))?;
-    if is_open_paren(tokens.sign(end)) {
+    if is_open_paren(tokens.terminal(end)) {
         let (arguments, end) = arguments(alloc, tokens, depth, tokens.after(end))?;
         let kind = ExprKind::New(callee, arguments);
         Ok((node(alloc, kind, tokens.span(at, end))?, end))
@@ -231,7 +233,7 @@ fn member(alloc: Global, tokens: &Tokens, depth: u64, at: usize) -> Read<Box<Exp
 fn start(alloc: Global, tokens: &Tokens, depth: u64, at: usize) -> Read<Box<Expr>>
     ensures { GivesExpression result (start_at tokens.now (deeper tokens.now depth) at) }
 {
-    if is_new(tokens.sign(at)) {
+    if is_new(tokens.terminal(at)) {
         new_expression(alloc, tokens, depth, at)
     } else {
         primary(alloc, tokens, depth, at)
@@ -249,28 +251,28 @@ fn longer(
     left: Box<Expr>,
     end: usize,
 ) -> Read<Box<Expr>>
-    ensures { GivesExpression result (left_by tokens.now (deeper tokens.now depth) true (λ t j. Some (t, j)) at (view_expression left.value) end (sign_at tokens.now end)) }
+    ensures { GivesExpression result (left_by tokens.now (deeper tokens.now depth) true (λ t j. Some (t, j)) at (view_expression left.value) end (terminal_at tokens.now end)) }
 {
-    match tokens.sign(end) {
-        Sign::Punct(Punct::Dot) => {
+    match tokens.terminal(end) {
+        Terminal::Punct(Punct::Dot) => {
             let name = tokens.after(end);
-            if !is_name(tokens.sign(name)) {
+            if !is_name(tokens.terminal(name)) {
                 return Err(Stop::At(name));
             }
             let next = tokens.after(name);
             let kind = ExprKind::Dot(left, tokens.text(alloc, name)?);
             Ok((node(alloc, kind, tokens.span(at, next))?, next))
         }
-        Sign::Punct(Punct::LeftBracket) => {
+        Terminal::Punct(Punct::LeftBracket) => {
             let (key, end) = expression(alloc, tokens, depth, false, tokens.after(end))?;
-            if !is_close_bracket(tokens.sign(end)) {
+            if !is_close_bracket(tokens.terminal(end)) {
                 return Err(Stop::At(end));
             }
             let next = tokens.after(end);
             let kind = ExprKind::Index(left, key);
             Ok((node(alloc, kind, tokens.span(at, next))?, next))
         }
-        Sign::Punct(Punct::LeftParen) => {
+        Terminal::Punct(Punct::LeftParen) => {
             let (arguments, next) = arguments(alloc, tokens, depth, tokens.after(end))?;
             let kind = ExprKind::Call(left, arguments);
             Ok((node(alloc, kind, tokens.span(at, next))?, next))
@@ -288,8 +290,8 @@ pub fn left(alloc: Global, tokens: &Tokens, depth: u64, calls: bool, at: usize) 
     let (mut left, mut end) = start(alloc, tokens, depth, at)?;
     let mut room = depth;
     'parts: loop {
-        let sign = tokens.sign(end);
-        if !continues_left(sign, calls) {
+        let terminal = tokens.terminal(end);
+        if !continues_left(terminal, calls) {
             return Ok((left, end));
         }
         if room == 0 {

@@ -6,8 +6,8 @@ ghost use Rattle.jl_ast.specs.Tree as tree;
 ghost use Rattle.jl_ast.specs.View.{view_declarator, view_declarators, view_ident, view_statement, view_statements};
 ghost use Rattle.jl_grammar.specs.Next.{is_colon};
 ghost use Rattle.jl_grammar.specs.Reader.{Deeper, block_at, break_at, continue_at, declaration_at, declarations_from, deeper, do_at, ends_at, express_at, if_at, label_at, named_at, return_at, statement_by, statements_from, sub_at, throw_at, var_at, while_at};
-ghost use Rattle.jl_grammar.specs.Tokens.{sign_at, span};
-ghost use Rattle.jl_grammar.specs.declared.sign.Sign.TheVariants as Sign;
+ghost use Rattle.jl_grammar.specs.Tokens.{terminal_at, span};
+ghost use Rattle.jl_grammar.specs.declared.terminal.Terminal.TheVariants as Terminal;
 ghost use Rattle.jl_grammar.specs.declared.word.Word.TheVariants as Word;
 ghost use Rattle.jl_token.specs.declared.punct.Punct.TheVariants as Punct;
 ghost use Rattle.jl_parse.specs.Steps.{Gives, GivesStatement, is_end};
@@ -18,13 +18,13 @@ use crate::loops::for_statement;
 use crate::nodes::labelled;
 use crate::primary::head;
 use crate::refusal::{Read, Stop};
-use crate::signs::{
+use crate::terminals::{
     ends_list, ends_statement, is_close_brace, is_colon, is_comma, is_else, is_equals,
     is_identifier, is_open_brace, is_semicolon, is_while,
 };
 use crate::tokens::Tokens;
 use jl_ast::{Expr, Ident, Stmt, StmtKind};
-use jl_grammar::{Sign, Word};
+use jl_grammar::{Terminal, Word};
 use jl_text::List;
 use jl_token::Punct;
 use std::alloc::Global;
@@ -34,11 +34,11 @@ use std::alloc::Global;
 pub fn ends(tokens: &Tokens, at: usize) -> Option<usize>
     ensures { result ≡ ends_at tokens.now at }
 {
-    let sign = tokens.sign(at);
-    if is_semicolon(sign) {
+    let terminal = tokens.terminal(at);
+    if is_semicolon(terminal) {
         return Some(tokens.after(at));
     }
-    if ends_statement(sign) || tokens.line_before(at) {
+    if ends_statement(terminal) || tokens.line_before(at) {
         Some(at)
     } else {
         None
@@ -55,7 +55,7 @@ pub fn statements(alloc: Global, tokens: &Tokens, depth: u64, at: usize) -> Read
     let mut next = at;
     let mut room = tokens.len();
     'parts: loop {
-        if ends_list(tokens.sign(next)) {
+        if ends_list(tokens.terminal(next)) {
             return Ok((statements, next));
         }
         if room == 0 {
@@ -74,11 +74,11 @@ pub fn statements(alloc: Global, tokens: &Tokens, depth: u64, at: usize) -> Read
 pub fn block(alloc: Global, tokens: &Tokens, depth: u64, at: usize) -> Read<List<Stmt>>
     ensures { Gives (λ x. (view_statements x.0, x.1)) result (block_at tokens.now (deeper tokens.now depth) at) }
 {
-    if !is_open_brace(tokens.sign(at)) {
+    if !is_open_brace(tokens.terminal(at)) {
         return Err(Stop::At(at));
     }
     let (body, end) = statements(alloc, tokens, depth, tokens.after(at))?;
-    if is_close_brace(tokens.sign(end)) {
+    if is_close_brace(tokens.terminal(end)) {
         Ok((body, tokens.after(end)))
     } else {
         Err(Stop::At(end))
@@ -91,7 +91,7 @@ pub fn block(alloc: Global, tokens: &Tokens, depth: u64, at: usize) -> Read<List
 pub fn sub(alloc: Global, tokens: &Tokens, depth: u64, at: usize) -> Read<List<Stmt>>
     ensures { Gives (λ x. (view_statements x.0, x.1)) result (sub_at tokens.now (deeper tokens.now depth) at) }
 {
-    if is_open_brace(tokens.sign(at)) {
+    if is_open_brace(tokens.terminal(at)) {
         return block(alloc, tokens, depth, at);
     }
     let (s, end) = statement(alloc, tokens, depth, at)?;
@@ -112,12 +112,12 @@ fn declarator(
 ) -> Read<(Ident, Option<Expr>)>
     ensures { Gives (λ x. (view_declarator x.0, x.1)) result (declaration_at tokens.now (deeper tokens.now depth) no_in at) }
 {
-    if !is_identifier(tokens.sign(at)) {
+    if !is_identifier(tokens.terminal(at)) {
         return Err(Stop::At(at));
     }
     let name = tokens.ident(alloc, at)?;
     let end = tokens.after(at);
-    if is_equals(tokens.sign(end)) {
+    if is_equals(tokens.terminal(end)) {
         let (e, end) = inner_assignment(alloc, tokens, depth, no_in, tokens.after(end))?;
         Ok(((name, Some(Box::into_inner(e))), end))
     } else {
@@ -147,7 +147,7 @@ pub fn declarators(
         room -= 1;
         let (d, end) = declarator(alloc, tokens, depth, no_in, next)?;
         declarators.push(d)?;
-        if !is_comma(tokens.sign(end)) {
+        if !is_comma(tokens.terminal(end)) {
             return Ok((declarators, end));
         }
         next = tokens.after(end);
@@ -158,7 +158,7 @@ pub fn declarators(
 #[cycle(parser)]
 #[tactic(auto, using(jl_ast::proofs::Views::nodes), unfolding(jl_grammar::specs::Reader::var_at))]
 fn var_statement(alloc: Global, tokens: &Tokens, depth: u64, at: usize) -> Read<Stmt>
-    requires { is_end (sign_at tokens.now at) ≡ false }
+    requires { is_end (terminal_at tokens.now at) ≡ false }
     ensures { GivesStatement result (var_at tokens.now (deeper tokens.now depth) at) }
 {
     let (declarators, end) = declarators(alloc, tokens, depth, false, tokens.after(at))?;
@@ -189,12 +189,12 @@ fn expression_statement(alloc: Global, tokens: &Tokens, depth: u64, at: usize) -
 #[cycle(parser)]
 #[tactic(auto, using(jl_ast::proofs::Views::nodes), unfolding(jl_grammar::specs::Reader::if_at, jl_grammar::specs::Reader::else_from))]
 fn if_statement(alloc: Global, tokens: &Tokens, depth: u64, at: usize) -> Read<Stmt>
-    requires { is_end (sign_at tokens.now at) ≡ false }
+    requires { is_end (terminal_at tokens.now at) ≡ false }
     ensures { GivesStatement result (if_at tokens.now (deeper tokens.now depth) at) }
 {
     let (test, end) = head(alloc, tokens, depth, tokens.after(at))?;
     let (body, end) = sub(alloc, tokens, depth, end)?;
-    if is_else(tokens.sign(end)) {
+    if is_else(tokens.terminal(end)) {
         let (other, end) = sub(alloc, tokens, depth, tokens.after(end))?;
         let kind = StmtKind::If(Box::into_inner(test), body, Some(other));
         let span = tokens.span(at, end);
@@ -210,11 +210,11 @@ fn if_statement(alloc: Global, tokens: &Tokens, depth: u64, at: usize) -> Read<S
 #[cycle(parser)]
 #[tactic(auto, using(jl_ast::proofs::Views::nodes), unfolding(jl_grammar::specs::Reader::do_at))]
 fn do_statement(alloc: Global, tokens: &Tokens, depth: u64, at: usize) -> Read<Stmt>
-    requires { is_end (sign_at tokens.now at) ≡ false }
+    requires { is_end (terminal_at tokens.now at) ≡ false }
     ensures { GivesStatement result (do_at tokens.now (deeper tokens.now depth) at) }
 {
     let (body, end) = sub(alloc, tokens, depth, tokens.after(at))?;
-    if !is_while(tokens.sign(end)) {
+    if !is_while(tokens.terminal(end)) {
         return Err(Stop::At(end));
     }
     let (test, end) = head(alloc, tokens, depth, tokens.after(end))?;
@@ -230,7 +230,7 @@ fn do_statement(alloc: Global, tokens: &Tokens, depth: u64, at: usize) -> Read<S
 #[cycle(parser)]
 #[tactic(auto, using(jl_ast::proofs::Views::nodes), unfolding(jl_grammar::specs::Reader::while_at))]
 fn while_statement(alloc: Global, tokens: &Tokens, depth: u64, at: usize) -> Read<Stmt>
-    requires { is_end (sign_at tokens.now at) ≡ false }
+    requires { is_end (terminal_at tokens.now at) ≡ false }
     ensures { GivesStatement result (while_at tokens.now (deeper tokens.now depth) at) }
 {
     let (test, end) = head(alloc, tokens, depth, tokens.after(at))?;
@@ -245,7 +245,7 @@ fn while_statement(alloc: Global, tokens: &Tokens, depth: u64, at: usize) -> Rea
 fn label(alloc: Global, tokens: &Tokens, at: usize) -> Read<Option<Ident>>
     ensures { Gives (λ x. (option_map view_ident x.0, x.1)) result (label_at tokens.now at) }
 {
-    if is_identifier(tokens.sign(at)) && !tokens.line_before(at) {
+    if is_identifier(tokens.terminal(at)) && !tokens.line_before(at) {
         let end = tokens.after(at);
         let Some(next) = ends(tokens, end) else {
             return Err(Stop::At(end));
@@ -262,7 +262,7 @@ fn label(alloc: Global, tokens: &Tokens, at: usize) -> Read<Option<Ident>>
 // A `continue` statement (12.7).
 #[tactic(auto, using(jl_ast::proofs::Views::nodes), unfolding(jl_grammar::specs::Reader::continue_at))]
 fn continue_statement(alloc: Global, tokens: &Tokens, at: usize) -> Read<Stmt>
-    requires { is_end (sign_at tokens.now at) ≡ false }
+    requires { is_end (terminal_at tokens.now at) ≡ false }
     ensures { (d : Deeper) → GivesStatement result (continue_at tokens.now d at) }
 {
     let (label, end) = label(alloc, tokens, tokens.after(at))?;
@@ -274,7 +274,7 @@ fn continue_statement(alloc: Global, tokens: &Tokens, at: usize) -> Read<Stmt>
 // A `break` statement (12.8).
 #[tactic(auto, using(jl_ast::proofs::Views::nodes), unfolding(jl_grammar::specs::Reader::break_at))]
 fn break_statement(alloc: Global, tokens: &Tokens, at: usize) -> Read<Stmt>
-    requires { is_end (sign_at tokens.now at) ≡ false }
+    requires { is_end (terminal_at tokens.now at) ≡ false }
     ensures { (d : Deeper) → GivesStatement result (break_at tokens.now d at) }
 {
     let (label, end) = label(alloc, tokens, tokens.after(at))?;
@@ -287,7 +287,7 @@ fn break_statement(alloc: Global, tokens: &Tokens, at: usize) -> Read<Stmt>
 #[cycle(parser)]
 #[tactic(auto, using(jl_ast::proofs::Views::nodes), unfolding(jl_grammar::specs::Reader::return_at, jl_grammar::specs::Reader::return_by))]
 fn return_statement(alloc: Global, tokens: &Tokens, depth: u64, at: usize) -> Read<Stmt>
-    requires { is_end (sign_at tokens.now at) ≡ false }
+    requires { is_end (terminal_at tokens.now at) ≡ false }
     ensures { GivesStatement result (return_at tokens.now (deeper tokens.now depth) at) }
 {
     let inside = tokens.after(at);
@@ -314,7 +314,7 @@ fn return_statement(alloc: Global, tokens: &Tokens, depth: u64, at: usize) -> Re
 #[cycle(parser)]
 #[tactic(auto, using(jl_ast::proofs::Views::nodes), unfolding(jl_grammar::specs::Reader::throw_at))]
 fn throw_statement(alloc: Global, tokens: &Tokens, depth: u64, at: usize) -> Read<Stmt>
-    requires { is_end (sign_at tokens.now at) ≡ false }
+    requires { is_end (terminal_at tokens.now at) ≡ false }
     ensures { GivesStatement result (throw_at tokens.now (deeper tokens.now depth) at) }
 {
     let inside = tokens.after(at);
@@ -341,9 +341,9 @@ fn labelled_statement(
     colon: usize,
 ) -> Read<Stmt>
     requires place { colon ≡ suc at }
-    requires name { is_end (sign_at tokens.now at) ≡ false }
-    requires colon { is_colon (sign_at tokens.now colon) ≡ true }
-    requires there { is_end (sign_at tokens.now colon) ≡ false }
+    requires name { is_end (terminal_at tokens.now at) ≡ false }
+    requires colon { is_colon (terminal_at tokens.now colon) ≡ true }
+    requires there { is_end (terminal_at tokens.now colon) ≡ false }
     ensures { GivesStatement result (named_at tokens.now (deeper tokens.now depth) at) }
 {
     let label = tokens.ident(alloc, at)?;
@@ -356,11 +356,11 @@ fn labelled_statement(
 #[cycle(parser)]
 #[tactic(auto, unfolding(jl_grammar::specs::Reader::named_at))]
 fn named_statement(alloc: Global, tokens: &Tokens, depth: u64, at: usize) -> Read<Stmt>
-    requires { is_end (sign_at tokens.now at) ≡ false }
+    requires { is_end (terminal_at tokens.now at) ≡ false }
     ensures { GivesStatement result (named_at tokens.now (deeper tokens.now depth) at) }
 {
     let colon = tokens.after(at);
-    if is_colon(tokens.sign(colon)) {
+    if is_colon(tokens.terminal(colon)) {
         labelled_statement(alloc, tokens, depth, at, colon)
     } else {
         expression_statement(alloc, tokens, depth, at)
@@ -371,7 +371,7 @@ fn named_statement(alloc: Global, tokens: &Tokens, depth: u64, at: usize) -> Rea
 #[cycle(parser)]
 #[tactic(auto, using(jl_ast::proofs::Views::nodes), unfolding(jl_grammar::specs::Reader::statement_by))]
 fn block_statement(alloc: Global, tokens: &Tokens, depth: u64, at: usize) -> Read<Stmt>
-    ensures { GivesStatement result (statement_by tokens.now (deeper tokens.now depth) at (Sign.Punct Punct.LeftBrace)) }
+    ensures { GivesStatement result (statement_by tokens.now (deeper tokens.now depth) at (Terminal.Punct Punct.LeftBrace)) }
 {
     let (body, end) = block(alloc, tokens, depth, at)?;
     let kind = StmtKind::Block(body);
@@ -381,7 +381,7 @@ fn block_statement(alloc: Global, tokens: &Tokens, depth: u64, at: usize) -> Rea
 
 // The empty statement (12.3).
 fn empty_statement(tokens: &Tokens, at: usize) -> (Stmt, usize)
-    requires { is_end (sign_at tokens.now at) ≡ false }
+    requires { is_end (terminal_at tokens.now at) ≡ false }
     ensures place { result.1 ≡ suc at }
     ensures is { view_statement result.0 ≡ tree.empty (span tokens.now at (suc at)) }
 {
@@ -399,8 +399,8 @@ fn empty_statement(tokens: &Tokens, at: usize) -> (Stmt, usize)
 // A `debugger` statement (12.15).
 #[tactic(auto, using(jl_ast::proofs::Views::nodes), unfolding(jl_grammar::specs::Reader::statement_by))]
 fn debugger_statement(tokens: &Tokens, at: usize) -> Read<Stmt>
-    requires { is_end (sign_at tokens.now at) ≡ false }
-    ensures { (d : Deeper) → GivesStatement result (statement_by tokens.now d at (Sign.Word Word.Debugger)) }
+    requires { is_end (terminal_at tokens.now at) ≡ false }
+    ensures { (d : Deeper) → GivesStatement result (statement_by tokens.now d at (Terminal.Word Word.Debugger)) }
 {
     let end = tokens.after(at);
     let Some(next) = ends(tokens, end) else {
@@ -421,11 +421,13 @@ pub fn statement(alloc: Global, tokens: &Tokens, depth: u64, at: usize) -> Read<
         return Err(Stop::At(at));
     }
     let levels = depth - 1;
-    match tokens.sign(at) {
-        Sign::Punct(Punct::LeftBrace) => block_statement(alloc, tokens, levels, at),
-        Sign::Punct(Punct::Semicolon) => Ok(empty_statement(tokens, at)),
-        Sign::Identifier | Sign::Get | Sign::Set => named_statement(alloc, tokens, levels, at),
-        Sign::Word(word) => word_statement(alloc, tokens, levels, at, word),
+    match tokens.terminal(at) {
+        Terminal::Punct(Punct::LeftBrace) => block_statement(alloc, tokens, levels, at),
+        Terminal::Punct(Punct::Semicolon) => Ok(empty_statement(tokens, at)),
+        Terminal::Identifier | Terminal::Get | Terminal::Set => named_statement(
+            alloc, tokens, levels, at,
+        ),
+        Terminal::Word(word) => word_statement(alloc, tokens, levels, at, word),
         _ => expression_statement(alloc, tokens, levels, at),
     }
 }
@@ -434,8 +436,8 @@ pub fn statement(alloc: Global, tokens: &Tokens, depth: u64, at: usize) -> Read<
 #[cycle(parser)]
 #[tactic(auto, unfolding(jl_grammar::specs::Reader::statement_by))]
 fn word_statement(alloc: Global, tokens: &Tokens, depth: u64, at: usize, word: Word) -> Read<Stmt>
-    requires { sign_at tokens.now at ≡ Sign.Word word }
-    ensures { GivesStatement result (statement_by tokens.now (deeper tokens.now depth) at (Sign.Word word)) }
+    requires { terminal_at tokens.now at ≡ Terminal.Word word }
+    ensures { GivesStatement result (statement_by tokens.now (deeper tokens.now depth) at (Terminal.Word word)) }
 {
     match word {
         Word::Var => var_statement(alloc, tokens, depth, at),

@@ -1,17 +1,17 @@
 //! The tokens at the places of a list, counted from 0.
 ghost use Rattle.std.specs.Prelude.{◌≡◌, ◌≤◌, [], ◌∷◌, length, IfOk, suc, false, true, option_map};
 ghost use Rattle.jl_ast.specs.View.{view_ident};
-ghost use Rattle.jl_grammar.specs.Tokens.{sign_at, line_at, text_at, number_at, key_at, strict_at, from_at, to_at, span, ident_at, key_ident_at};
+ghost use Rattle.jl_grammar.specs.Tokens.{terminal_at, line_at, text_at, number_at, key_at, strict_at, from_at, to_at, span, ident_at, key_ident_at};
 ghost use Rattle.jl_grammar.specs.Words.{same_text};
 ghost use Rattle.jl_grammar.specs.Program.{last_end};
 ghost use Rattle.jl_grammar.specs.Next.{continues_at, is_directive};
-ghost use Rattle.jl_grammar.specs.Operators.{joint, binary_operator, assign_operator};
-ghost use Rattle.jl_parse.specs.Steps.{is_end, joint_of};
+ghost use Rattle.jl_grammar.specs.Operators.{infix_operator, binary_operator, assign_operator};
+ghost use Rattle.jl_parse.specs.Steps.{is_end, infix_operator_of};
 
-use crate::operators::{Joint, continues_left, update_op};
-use crate::signs::{is_comma, is_in, is_question};
+use crate::operators::{InfixOperator, continues_left, update_op};
+use crate::terminals::{is_comma, is_in, is_question};
 use jl_ast::{BinOp, Ident};
-use jl_grammar::{Sign, assign_op, binary_op, sign_of};
+use jl_grammar::{Terminal, assign_op, binary_op, terminal_of};
 use jl_num::{Num, digits};
 use jl_text::{Span, Text, TextFault};
 use jl_token::{Punct, Token, TokenKind};
@@ -22,19 +22,19 @@ use std::marker::Model;
 #[derive(Drop)]
 pub struct Tokens<'a> {
     tokens: &'a [Token],
-    signs: Vec<Sign>,
+    terminals: Vec<Terminal>,
 }
 
 impl<'a> Model for Tokens<'a> {
     ghost use Rattle.std.specs.Prelude.{◌≡◌, List, map};
-    ghost use Rattle.jl_grammar.specs.Signs.{sign_of};
+    ghost use Rattle.jl_grammar.specs.Terminals.{terminal_of};
     ghost use Rattle.jl_token.specs.declared.token.Token.{Token};
 
     ghost Value = { List Token };
 
     ghost view = { λ it. it.tokens.now };
 
-    ghost invariant = { λ it. it.signs.items ≡ map (λ t. sign_of t.kind) it.tokens.now };
+    ghost invariant = { λ it. it.terminals.items ≡ map (λ t. terminal_of t.kind) it.tokens.now };
 }
 
 impl<'a> Tokens<'a> {
@@ -42,11 +42,11 @@ impl<'a> Tokens<'a> {
     pub fn new(alloc: Global, tokens: &'a [Token]) -> Result<Tokens<'a>, AllocError>
         ensures { IfOk result (λ r. r ≡ tokens.now) }
     {
-        let mut signs = Vec::with_capacity(alloc, tokens.len())?;
+        let mut terminals = Vec::with_capacity(alloc, tokens.len())?;
         for token in tokens {
-            signs.push(sign_of(&token.kind))?;
+            terminals.push(terminal_of(&token.kind))?;
         }
-        Ok(Tokens { tokens, signs })
+        Ok(Tokens { tokens, terminals })
     }
 
     /// How many tokens there are.
@@ -57,18 +57,18 @@ impl<'a> Tokens<'a> {
     }
 
     /// What the token there is; past the last one the end.
-    pub fn sign(&self, at: usize) -> Sign
-        ensures { result ≡ sign_at self.now at }
+    pub fn terminal(&self, at: usize) -> Terminal
+        ensures { result ≡ terminal_at self.now at }
     {
-        match self.signs.get(at) {
-            Some(sign) => *sign,
-            None => Sign::End,
+        match self.terminals.get(at) {
+            Some(terminal) => *terminal,
+            None => Terminal::End,
         }
     }
 
     /// The place after a token that is there.
     pub fn after(&self, at: usize) -> usize
-        requires { is_end (sign_at self.now at) ≡ false }
+        requires { is_end (terminal_at self.now at) ≡ false }
         ensures { result ≡ suc at }
     {
         let _length = self.tokens.len();
@@ -153,7 +153,7 @@ impl<'a> Tokens<'a> {
 
     /// The name that the token there is.
     pub fn ident(&self, alloc: Global, at: usize) -> Result<Ident, AllocError>
-        requires { is_end (sign_at self.now at) ≡ false }
+        requires { is_end (terminal_at self.now at) ≡ false }
         ensures { IfOk result (λ x. view_ident x ≡ ident_at self.now at) }
     {
         let span = self.span(at, self.after(at));
@@ -165,7 +165,7 @@ impl<'a> Tokens<'a> {
 
     /// The key that the token there is (11.1.5): a number stands for its digits.
     pub fn key(&self, alloc: Global, at: usize) -> Result<Ident, AllocError>
-        requires { is_end (sign_at self.now at) ≡ false }
+        requires { is_end (terminal_at self.now at) ≡ false }
         ensures { IfOk result (λ x. view_ident x ≡ key_ident_at self.now at) }
     {
         let span = self.span(at, self.after(at));
@@ -195,23 +195,23 @@ impl<'a> Tokens<'a> {
     }
 
     /// What the token there is between two operands; `in` is nothing where the grammar says NoIn (11.8).
-    pub fn joint(&self, at: usize, no_in: bool) -> Option<Joint>
-        ensures { option_map joint_of result ≡ joint no_in (sign_at self.now at) }
+    pub fn infix_operator(&self, at: usize, no_in: bool) -> Option<InfixOperator>
+        ensures { option_map infix_operator_of result ≡ infix_operator no_in (terminal_at self.now at) }
     {
-        let sign = self.sign(at);
-        if no_in && is_in(sign) {
+        let terminal = self.terminal(at);
+        if no_in && is_in(terminal) {
             return None;
         }
-        match sign {
-            Sign::Punct(Punct::AndAnd) => Some(Joint::And),
-            Sign::Punct(Punct::OrOr) => Some(Joint::Or),
-            _ => self.binary_op(at).map(Joint::Plain),
+        match terminal {
+            Terminal::Punct(Punct::AndAnd) => Some(InfixOperator::And),
+            Terminal::Punct(Punct::OrOr) => Some(InfixOperator::Or),
+            _ => self.binary_op(at).map(InfixOperator::Plain),
         }
     }
 
     /// The operator between two operands that the token there is.
     fn binary_op(&self, at: usize) -> Option<BinOp>
-        ensures { result ≡ binary_operator (sign_at self.now at) }
+        ensures { result ≡ binary_operator (terminal_at self.now at) }
     {
         match self.tokens.get(at) {
             Some(token) => binary_op(&token.kind),
@@ -221,7 +221,7 @@ impl<'a> Tokens<'a> {
 
     /// The assignment operator that the token there is.
     pub fn assign_op(&self, at: usize) -> Option<Option<BinOp>>
-        ensures { result ≡ assign_operator (sign_at self.now at) }
+        ensures { result ≡ assign_operator (terminal_at self.now at) }
     {
         match self.tokens.get(at) {
             Some(token) => assign_op(&token.kind),
@@ -233,22 +233,22 @@ impl<'a> Tokens<'a> {
     fn continues(&self, at: usize) -> bool
         ensures { result ≡ continues_at self.now at }
     {
-        let sign = self.sign(at);
-        continues_left(sign, true)
-            || (update_op(sign).is_some() && !self.line_before(at))
-            || self.joint(at, false).is_some()
-            || is_question(sign)
+        let terminal = self.terminal(at);
+        continues_left(terminal, true)
+            || (update_op(terminal).is_some() && !self.line_before(at))
+            || self.infix_operator(at, false).is_some()
+            || is_question(terminal)
             || self.assign_op(at).is_some()
-            || is_comma(sign)
+            || is_comma(terminal)
     }
 
     /// Whether a directive (14.1) begins there.
     pub fn is_directive(&self, at: usize) -> bool
         ensures is { result ≡ is_directive self.now at }
-        ensures there { result ≡ true → is_end (sign_at self.now at) ≡ false }
+        ensures there { result ≡ true → is_end (terminal_at self.now at) ≡ false }
     {
-        match self.sign(at) {
-            Sign::Str => !self.continues(self.after(at)),
+        match self.terminal(at) {
+            Terminal::Str => !self.continues(self.after(at)),
             _ => false,
         }
     }

@@ -15,20 +15,20 @@ use crate::functions::body;
 use crate::refusal::{ParseRefusal, Stop};
 use crate::tokens::Tokens;
 use jl_ast::{Program, height};
-use jl_grammar::Sign;
+use jl_grammar::Terminal;
 use jl_numbering::number;
 use jl_text::Span;
 use jl_token::{Punct, Token};
 use std::alloc::Global;
 
 // How many brackets are open after a token, before which there are so many.
-fn bracket(sign: Sign, before: u64) -> u64
+fn bracket(terminal: Terminal, before: u64) -> u64
     requires { before < 2 ^ 63 }
-    ensures { result ≡ bracket sign before }
+    ensures { result ≡ bracket terminal before }
 {
-    match sign {
-        Sign::Punct(Punct::LeftParen | Punct::LeftBracket | Punct::LeftBrace) => before + 1,
-        Sign::Punct(Punct::RightParen | Punct::RightBracket | Punct::RightBrace) => {
+    match terminal {
+        Terminal::Punct(Punct::LeftParen | Punct::LeftBracket | Punct::LeftBrace) => before + 1,
+        Terminal::Punct(Punct::RightParen | Punct::RightBracket | Punct::RightBrace) => {
             before.saturating_sub(1)
         }
         _ => before,
@@ -43,7 +43,7 @@ fn deep_bracket(tokens: &Tokens, most: u64) -> Option<usize>
 {
     let mut opened = 0;
     for at in 0..tokens.len() {
-        opened = bracket(tokens.sign(at), opened);
+        opened = bracket(tokens.terminal(at), opened);
         if opened > most {
             return Some(at);
         }

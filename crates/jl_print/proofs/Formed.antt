@@ -3,24 +3,24 @@ use Rattle.std.proofs.Common.{◌≡◌, ℕ, Bool, refl, subst, List}
 use Rattle.std.specs.Prelude.{Option, Some}
 use Rattle.std.proofs.lemmas.Option.{same_Some}
 use Rattle.jl_ast.specs.declared.ops.BinOp.{BinOp}
-use Rattle.jl_ast.specs.Tree.{Ident, Tree, Row, Maybe}
+use Rattle.jl_ast.specs.Tree.{Ident, Tree, Forest, OptionalTree}
 use Rattle.jl_ast.specs.Tree as tree
 use Rattle.jl_text.specs.declared.span.Span.{Span}
 use Rattle.jl_token.specs.declared.punct.Punct.TheVariants as puncts
 use Rattle.jl_token.specs.declared.token.Token.{Token}
-use Rattle.jl_grammar.specs.declared.sign.Sign.{Sign}
-use Rattle.jl_grammar.specs.declared.sign.Sign.TheVariants as signs
+use Rattle.jl_grammar.specs.declared.terminal.Terminal.{Terminal}
+use Rattle.jl_grammar.specs.declared.terminal.Terminal.TheVariants as terminals
 use Rattle.jl_grammar.specs.Next.{target_of}
-use Rattle.jl_grammar.specs.Operators.{Joint, plain, both, either, joined, assign_operator}
+use Rattle.jl_grammar.specs.Operators.{InfixOperator, plain, both, either, infix_node, assign_operator}
 use Rattle.jl_grammar.specs.Reads as reads
 use Rattle.jl_grammar.specs.Reads.{Expr, Exprs, Stmt, Stmts, Code, IsTarget, AssignsAt, ReadsNames, ReadsParameters}
 use Rattle.jl_grammar.specs.Reads.{ReadsPrimary, ReadsItems, ReadsEntries, ReadsEntry, ReadsRest, BeginsLeft, ReadsLeft}
 use Rattle.jl_grammar.specs.Reads.{ReadsArguments, ReadsArgumentList, ReadsPostfix, ReadsUnary, BeginsBinary}
 use Rattle.jl_grammar.specs.Reads.{ReadsBinary, ReadsConditional, ReadsAssignment, BeginsExpression, ReadsExpression}
 use Rattle.jl_grammar.specs.Reads.{ReadsStatement, ReadsBlock, ReadsStatements, ReadsSub, ReadsHead, ReadsDeclaration}
-use Rattle.jl_grammar.specs.Reads.{ReadsDeclarations, ReadsInit, ReadsMaybe, ReadsClauses, ReadsCatch, ReadsElements}
+use Rattle.jl_grammar.specs.Reads.{ReadsDeclarations, ReadsInit, ReadsOptional, ReadsClauses, ReadsCatch, ReadsElements}
 use Rattle.jl_grammar.specs.Reads.{ReadsFunction, ReadsBody}
-use Rattle.jl_print.specs.WellFormed.{WellFormed, AllWellFormed, MaybeWellFormed, AreIdentifiers, IsAssigning}
+use Rattle.jl_print.specs.WellFormed.{WellFormed, AllWellFormed, OptionalWellFormed, AreIdentifiers, IsAssigning}
 use Rattle.jl_print.specs.WellFormed.{HasOneDefault, IsSome, AreNamed}
 use Rattle.jl_print.proofs.Lexical.{AreLexical, identifier_at, name_at, short_key_at, string_at, literal_at}
 
@@ -30,24 +30,24 @@ target_formed (tree.dot a x s) g e w = subst (λ g. WellFormed g) (same_Some _ _
 target_formed (tree.index a b s) g e w = subst (λ g. WellFormed g) (same_Some _ _ e) w
 target_formed _ g e w = absurd (cc)
 
-joined_formed : (op : Joint) (a b : Expr) (s : Span) → WellFormed a → WellFormed b → WellFormed (joined op a b s)
+joined_formed : (op : InfixOperator) (a b : Expr) (s : Span) → WellFormed a → WellFormed b → WellFormed (infix_node op a b s)
 joined_formed (plain op) a b s w v = (w, v)
 joined_formed both a b s w v = (w, v)
 joined_formed either a b s w v = (w, v)
 
-assigning : (k : Sign) (op : Option BinOp) → assign_operator k ≡ Some op → IsAssigning op
-assigning (signs.Punct puncts.Assign) op e = subst IsAssigning (same_Some _ _ e) tt
-assigning (signs.Punct puncts.StarAssign) op e = subst IsAssigning (same_Some _ _ e) refl
-assigning (signs.Punct puncts.SlashAssign) op e = subst IsAssigning (same_Some _ _ e) refl
-assigning (signs.Punct puncts.PercentAssign) op e = subst IsAssigning (same_Some _ _ e) refl
-assigning (signs.Punct puncts.PlusAssign) op e = subst IsAssigning (same_Some _ _ e) refl
-assigning (signs.Punct puncts.MinusAssign) op e = subst IsAssigning (same_Some _ _ e) refl
-assigning (signs.Punct puncts.ShiftLeftAssign) op e = subst IsAssigning (same_Some _ _ e) refl
-assigning (signs.Punct puncts.ShiftRightAssign) op e = subst IsAssigning (same_Some _ _ e) refl
-assigning (signs.Punct puncts.ShiftRightUnsignedAssign) op e = subst IsAssigning (same_Some _ _ e) refl
-assigning (signs.Punct puncts.AndAssign) op e = subst IsAssigning (same_Some _ _ e) refl
-assigning (signs.Punct puncts.CaretAssign) op e = subst IsAssigning (same_Some _ _ e) refl
-assigning (signs.Punct puncts.OrAssign) op e = subst IsAssigning (same_Some _ _ e) refl
+assigning : (k : Terminal) (op : Option BinOp) → assign_operator k ≡ Some op → IsAssigning op
+assigning (terminals.Punct puncts.Assign) op e = subst IsAssigning (same_Some _ _ e) tt
+assigning (terminals.Punct puncts.StarAssign) op e = subst IsAssigning (same_Some _ _ e) refl
+assigning (terminals.Punct puncts.SlashAssign) op e = subst IsAssigning (same_Some _ _ e) refl
+assigning (terminals.Punct puncts.PercentAssign) op e = subst IsAssigning (same_Some _ _ e) refl
+assigning (terminals.Punct puncts.PlusAssign) op e = subst IsAssigning (same_Some _ _ e) refl
+assigning (terminals.Punct puncts.MinusAssign) op e = subst IsAssigning (same_Some _ _ e) refl
+assigning (terminals.Punct puncts.ShiftLeftAssign) op e = subst IsAssigning (same_Some _ _ e) refl
+assigning (terminals.Punct puncts.ShiftRightAssign) op e = subst IsAssigning (same_Some _ _ e) refl
+assigning (terminals.Punct puncts.ShiftRightUnsignedAssign) op e = subst IsAssigning (same_Some _ _ e) refl
+assigning (terminals.Punct puncts.AndAssign) op e = subst IsAssigning (same_Some _ _ e) refl
+assigning (terminals.Punct puncts.CaretAssign) op e = subst IsAssigning (same_Some _ _ e) refl
+assigning (terminals.Punct puncts.OrAssign) op e = subst IsAssigning (same_Some _ _ e) refl
 assigning _ op e = absurd (cc)
 
 module _ {ts : List Token} (w : AreLexical ts) where
@@ -74,13 +74,13 @@ module _ {ts : List Token} (w : AreLexical ts) where
     primary_formed (reads.a_function a b) = let r = rest_formed b in (tt, r.0, r.1)
     primary_formed (reads.a_named_function a b c) = let r = rest_formed c in (identifier_at w b, r.0, r.1)
 
-    items_formed : {i j : ℕ} {t : Row Span tree.item} → ReadsItems ts i t j → AllWellFormed t
+    items_formed : {i j : ℕ} {t : Forest Span tree.item} → ReadsItems ts i t j → AllWellFormed t
     items_formed (reads.no_items a) = tt
     items_formed (reads.a_hole a b) = (tt, items_formed b)
     items_formed (reads.last_item a b) = (assignment_formed a, tt)
     items_formed (reads.more_items a b c) = (assignment_formed a, items_formed c)
 
-    entries_formed : {i j : ℕ} {t : Row Span tree.entry} → ReadsEntries ts i t j → AllWellFormed t
+    entries_formed : {i j : ℕ} {t : Forest Span tree.entry} → ReadsEntries ts i t j → AllWellFormed t
     entries_formed (reads.no_entries a) = tt
     entries_formed (reads.last_entry a b) = (entry_formed a, tt)
     entries_formed (reads.more_entries a b c) = (entry_formed a, entries_formed c)
@@ -125,7 +125,7 @@ module _ {ts : List Token} (w : AreLexical ts) where
     begins_binary_formed : {no_in : Bool} {l i j : ℕ} {t : Expr} → BeginsBinary ts no_in l i t j → WellFormed t
     begins_binary_formed (reads.operand a) = unary_formed a
     begins_binary_formed (reads.tighter a) = binary_formed a
-    begins_binary_formed (reads.a_joint {a = x} {b = y} {op = op} a b c d) =
+    begins_binary_formed (reads.an_infix_operator {a = x} {b = y} {op = op} a b c d) =
         joined_formed op x y _ (begins_binary_formed a) (binary_formed d)
 
     binary_formed : {no_in : Bool} {l i j : ℕ} {t : Expr} → ReadsBinary ts no_in l i t j → WellFormed t
@@ -157,7 +157,7 @@ module _ {ts : List Token} (w : AreLexical ts) where
     statement_formed (reads.a_do_while a b c d e) = (sub_formed b, head_formed d)
     statement_formed (reads.a_while a b c) = (head_formed b, sub_formed c)
     statement_formed (reads.a_for a b c d e f g h m) =
-        (init_formed c, maybe_formed e, maybe_formed g, sub_formed m)
+        (init_formed c, optional_formed e, optional_formed g, sub_formed m)
     statement_formed (reads.a_for_in a b c d e f g) = (left_formed c, expression_formed e, sub_formed g)
     statement_formed (reads.a_for_var_in a b c d e f g h) = (identifier_at w d, expression_formed f, sub_formed h)
     statement_formed (reads.a_continue a b) = tt
@@ -193,7 +193,7 @@ module _ {ts : List Token} (w : AreLexical ts) where
     declaration_formed (reads.declared a b) = (identifier_at w a, tt)
     declaration_formed (reads.initialised a b c) = (identifier_at w a, assignment_formed c)
 
-    declarations_formed : {no_in : Bool} {i j : ℕ} {t : Row Span tree.decl} → ReadsDeclarations ts no_in i t j
+    declarations_formed : {no_in : Bool} {i j : ℕ} {t : Forest Span tree.decl} → ReadsDeclarations ts no_in i t j
         → IsSome t × AllWellFormed t
     declarations_formed (reads.last_declaration a b) = (tt, (declaration_formed a, tt))
     declarations_formed (reads.more_declarations a b c) =
@@ -204,11 +204,11 @@ module _ {ts : List Token} (w : AreLexical ts) where
     init_formed (reads.an_init a) = expression_formed a
     init_formed (reads.init_vars a b) = declarations_formed b
 
-    maybe_formed : {k : Sign} {i j : ℕ} {t : Maybe Span tree.expr} → ReadsMaybe ts k i t j → MaybeWellFormed t
-    maybe_formed (reads.no_expression a) = tt
-    maybe_formed (reads.one_expression a) = expression_formed a
+    optional_formed : {k : Terminal} {i j : ℕ} {t : OptionalTree Span tree.expr} → ReadsOptional ts k i t j → OptionalWellFormed t
+    optional_formed (reads.no_expression a) = tt
+    optional_formed (reads.one_expression a) = expression_formed a
 
-    clauses_formed : {fresh : Bool} {i j : ℕ} {t : Row Span tree.clause} → ReadsClauses ts fresh i t j
+    clauses_formed : {fresh : Bool} {i j : ℕ} {t : Forest Span tree.clause} → ReadsClauses ts fresh i t j
         → HasOneDefault fresh t × AllWellFormed t
     clauses_formed (reads.no_clauses a) = (tt, tt)
     clauses_formed (reads.a_case a b c d e) =
@@ -219,7 +219,7 @@ module _ {ts : List Token} (w : AreLexical ts) where
     catch_formed : {i j : ℕ} {t : Tree Span tree.handler} → ReadsCatch ts i t j → WellFormed t
     catch_formed (reads.a_catch a b c d e) = (identifier_at w c, block_formed e)
 
-    elements_formed : {i j : ℕ} {fs : Row Span tree.func} {ws : Stmts} → ReadsElements ts i fs ws j
+    elements_formed : {i j : ℕ} {fs : Forest Span tree.func} {ws : Stmts} → ReadsElements ts i fs ws j
         → AreNamed fs × AllWellFormed fs × AllWellFormed ws
     elements_formed (reads.no_elements a) = (tt, tt, tt)
     elements_formed (reads.a_declaration (reads.a_declared_function a b c) d) =

@@ -6,16 +6,16 @@ use Rattle.std.proofs.lemmas.Bool.Decides.{leb_tells}
 use Rattle.std.proofs.lemmas.Bool.{cases_lt}
 use Rattle.jl_token.specs.declared.punct.Punct.TheVariants as puncts
 use Rattle.jl_token.specs.declared.token.Token.{Token}
-use Rattle.jl_grammar.specs.declared.sign.Sign.{Sign}
-use Rattle.jl_grammar.specs.declared.sign.Sign.TheVariants as signs
-use Rattle.jl_grammar.specs.Operators.{joint, looseness_of, continues, assigns, updates}
+use Rattle.jl_grammar.specs.declared.terminal.Terminal.{Terminal}
+use Rattle.jl_grammar.specs.declared.terminal.Terminal.TheVariants as terminals
+use Rattle.jl_grammar.specs.Operators.{infix_operator, infix_precedence_of, continues, assigns, updates}
 use Rattle.jl_grammar.specs.Next.{continues_left, is_question, updates_at}
 use Rattle.jl_grammar.specs.Reads.{Expr, BeginsLeft, whole_left, ReadsPostfix, left, postfix, BeginsBinary}
 use Rattle.jl_grammar.specs.Reads.{operand, tighter, ReadsBinary, whole_binary, operands}
 use Rattle.jl_grammar.specs.Reads.{ReadsAssignment, conditional, BeginsExpression, assignment}
-use Rattle.jl_grammar.specs.Tokens.{sign_at, line_at}
+use Rattle.jl_grammar.specs.Tokens.{terminal_at, line_at}
 
--- from i to j the tokens read as a front of an expression of this rank
+-- from i to j the tokens read as a prefix of an expression of this rank
 pub data Front (ts : List Token) (no_in : Bool) (i : ℕ) (t : Expr) (j : ℕ) : ℕ → Type 0 where
   of_left : BeginsLeft ts true i t j → Front ts no_in i t j 0
   of_postfix : ReadsPostfix ts i t j → Front ts no_in i t j 1
@@ -42,11 +42,11 @@ module _ {ts : List Token} {no_in : Bool} {i : ℕ} {t : Expr} {j : ℕ} where
 
 -- The j-th token does not go on with an expression of rank r.
 pub record Quiet (no_in : Bool) (r : ℕ) (ts : List Token) (j : ℕ) : Type 0 where
-  pub left : 1 ≤ r → continues_left true (sign_at ts j) ≡ false
+  pub left : 1 ≤ r → continues_left true (terminal_at ts j) ≡ false
   pub update : 1 ≤ r → updates_at ts j ≡ false
-  pub operator : continues no_in (r - 3) (sign_at ts j) ≡ false
-  pub question : 13 ≤ r → is_question (sign_at ts j) ≡ false
-  pub assigns : 13 ≤ r → assigns (sign_at ts j) ≡ false
+  pub operator : continues no_in (r - 3) (terminal_at ts j) ≡ false
+  pub question : 13 ≤ r → is_question (terminal_at ts j) ≡ false
+  pub assigns : 13 ≤ r → assigns (terminal_at ts j) ≡ false
 
 tighter_stops : (s x y : ℕ) → x ≤ y → (nat_le 1 s && nat_le s y) ≡ false → (nat_le 1 s && nat_le s x) ≡ false
 tighter_stops s x y l h = grind (arith, leb_tells)
@@ -61,7 +61,7 @@ pub quiet_zero : (no_in : Bool) (ts : List Token) (j : ℕ) → Quiet no_in 0 ts
 quiet_zero no_in ts j = record {
   left = λ h. absurd (omega arith);
   update = λ h. absurd (omega arith);
-  operator = no_tighter (looseness_of (joint no_in (sign_at ts j)));
+  operator = no_tighter (infix_precedence_of (infix_operator no_in (terminal_at ts j)));
   question = λ h. absurd (omega arith);
   assigns = λ h. absurd (omega arith);
 }
@@ -70,50 +70,50 @@ pub quiet_less : {no_in : Bool} {ts : List Token} {j : ℕ} (r s : ℕ) → r �
 quiet_less {no_in} {ts} {j} r s h q = record {
   left = λ g. q.left (omega arith);
   update = λ g. q.update (omega arith);
-  operator = tighter_stops (looseness_of (joint no_in (sign_at ts j))) (r - 3) (s - 3) (omega arith) q.operator;
+  operator = tighter_stops (infix_precedence_of (infix_operator no_in (terminal_at ts j))) (r - 3) (s - 3) (omega arith) q.operator;
   question = λ g. q.question (omega arith);
   assigns = λ g. q.assigns (omega arith);
 }
 
 -- the tokens that end an expression, whatever it is
-abbrev pub stops : Sign → Bool
-stops (signs.Punct puncts.RightParen) = true
-stops (signs.Punct puncts.RightBracket) = true
-stops (signs.Punct puncts.RightBrace) = true
-stops (signs.Punct puncts.Comma) = true
-stops (signs.Punct puncts.Colon) = true
-stops (signs.Punct puncts.Semicolon) = true
-stops signs.End = true
+abbrev pub stops : Terminal → Bool
+stops (terminals.Punct puncts.RightParen) = true
+stops (terminals.Punct puncts.RightBracket) = true
+stops (terminals.Punct puncts.RightBrace) = true
+stops (terminals.Punct puncts.Comma) = true
+stops (terminals.Punct puncts.Colon) = true
+stops (terminals.Punct puncts.Semicolon) = true
+stops terminals.End = true
 stops _ = false
 
 -- what such a token is not
-record Stopping (no_in : Bool) (k : Sign) : Type 0 where
+record Stopping (no_in : Bool) (k : Terminal) : Type 0 where
   left : continues_left true k ≡ false
   update : updates k ≡ false
-  loose : looseness_of (joint no_in k) ≡ 0
+  loose : infix_precedence_of (infix_operator no_in k) ≡ 0
   question : is_question k ≡ false
   assigns : assigns k ≡ false
 
-stopping : (no_in : Bool) (k : Sign) → stops k ≡ true → Stopping no_in k
-stopping no_in (signs.Punct puncts.RightParen) h = record { left = refl; update = refl; loose = refl; question = refl; assigns = refl }
-stopping no_in (signs.Punct puncts.RightBracket) h = record { left = refl; update = refl; loose = refl; question = refl; assigns = refl }
-stopping no_in (signs.Punct puncts.RightBrace) h = record { left = refl; update = refl; loose = refl; question = refl; assigns = refl }
-stopping no_in (signs.Punct puncts.Comma) h = record { left = refl; update = refl; loose = refl; question = refl; assigns = refl }
-stopping no_in (signs.Punct puncts.Colon) h = record { left = refl; update = refl; loose = refl; question = refl; assigns = refl }
-stopping no_in (signs.Punct puncts.Semicolon) h = record { left = refl; update = refl; loose = refl; question = refl; assigns = refl }
-stopping no_in signs.End h = record { left = refl; update = refl; loose = refl; question = refl; assigns = refl }
+stopping : (no_in : Bool) (k : Terminal) → stops k ≡ true → Stopping no_in k
+stopping no_in (terminals.Punct puncts.RightParen) h = record { left = refl; update = refl; loose = refl; question = refl; assigns = refl }
+stopping no_in (terminals.Punct puncts.RightBracket) h = record { left = refl; update = refl; loose = refl; question = refl; assigns = refl }
+stopping no_in (terminals.Punct puncts.RightBrace) h = record { left = refl; update = refl; loose = refl; question = refl; assigns = refl }
+stopping no_in (terminals.Punct puncts.Comma) h = record { left = refl; update = refl; loose = refl; question = refl; assigns = refl }
+stopping no_in (terminals.Punct puncts.Colon) h = record { left = refl; update = refl; loose = refl; question = refl; assigns = refl }
+stopping no_in (terminals.Punct puncts.Semicolon) h = record { left = refl; update = refl; loose = refl; question = refl; assigns = refl }
+stopping no_in terminals.End h = record { left = refl; update = refl; loose = refl; question = refl; assigns = refl }
 stopping no_in _ h = cc
 
 none_loose : (s x : ℕ) → s ≡ 0 → (nat_le 1 s && nat_le s x) ≡ false
 none_loose s x h = grind (arith, leb_tells)
 
-pub quiet_stop : {ts : List Token} {j : ℕ} (no_in : Bool) (r : ℕ) → stops (sign_at ts j) ≡ true → Quiet no_in r ts j
+pub quiet_stop : {ts : List Token} {j : ℕ} (no_in : Bool) (r : ℕ) → stops (terminal_at ts j) ≡ true → Quiet no_in r ts j
 quiet_stop {ts} {j} no_in r h =
-    let p = stopping no_in (sign_at ts j) h in
+    let p = stopping no_in (terminal_at ts j) h in
     record {
       left = λ g. p.left;
       update = λ g. ap (λ b. b && not (line_at ts j)) p.update;
-      operator = none_loose (looseness_of (joint no_in (sign_at ts j))) (r - 3) p.loose;
+      operator = none_loose (infix_precedence_of (infix_operator no_in (terminal_at ts j))) (r - 3) p.loose;
       question = λ g. p.question;
       assigns = λ g. p.assigns;
     }
@@ -128,7 +128,7 @@ looser ts no_in i t j r h (of_binary {l = l} g f) q = go (cases_lt l 10)
     same = omega arith
 
     whole : ReadsBinary ts no_in l i t j
-    whole = whole_binary f (subst (λ n. continues no_in n (sign_at ts j) ≡ false) same q.operator)
+    whole = whole_binary f (subst (λ n. continues no_in n (terminal_at ts j) ≡ false) same q.operator)
 
     go : (l < 10) ⊎ (10 ≤ l) → Front ts no_in i t j (suc (suc (suc l)))
     go (inl p) = of_binary (omega arith) (tighter whole)
@@ -148,7 +148,7 @@ loosest ts no_in i t j (suc n) r h f q =
     subst (λ x. Front ts no_in i t j x) (sym e) (looser ts no_in i t j (n + r) (omega arith)
     (loosest ts no_in i t j n r (omega arith) f (quiet_less (n + r) (suc (n + r)) (omega arith) p)) p)
 
--- a front is also a looser one, where nothing goes on with that
+-- a prefix is also a looser one, where nothing goes on with that
 pub as_loose : {ts : List Token} {no_in : Bool} {i : ℕ} {t : Expr} {j : ℕ} (r s : ℕ) → r ≤ s → s ≤ 14
     → Front ts no_in i t j r → Quiet no_in s ts j → Front ts no_in i t j s
 as_loose {ts} {no_in} {i} {t} {j} r s h g f q =

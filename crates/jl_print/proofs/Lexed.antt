@@ -17,7 +17,7 @@ use Rattle.jl_token.specs.declared.token.TokenKind.{TokenKind}
 use Rattle.jl_token.specs.declared.token.TokenKind.TheVariants as kinds
 use Rattle.jl_token.proofs.Tests.{and_true}
 use Rattle.jl_token.proofs.Units.{units, starts}
-use Rattle.jl_print.specs.Layout.{ends_line, is_number, is_dot, joins_right, joins_left, between, laid_out}
+use Rattle.jl_print.specs.Layout.{ends_line, is_number, is_dot, joins_right, joins_left, between, layout_of}
 use Rattle.jl_print.specs.WellFormed.{IsName, IsLiteral, IsShort}
 use Rattle.jl_print.proofs.Followers.{Follows, line_feed, space, left_paren, right_paren, comma, dot, semicolon}
 use Rattle.jl_print.proofs.Followers.{left_bracket, right_bracket, one_found, line_feed_found, space_found, name_found}
@@ -206,20 +206,20 @@ last_line text line = record {
 }
 
 split : (text : List ℕ) (after_dot line : Bool) (ks : List TokenKind) → CleanFrom after_dot ks
-    → Split text (laid_out ks) line ks
+    → Split text (layout_of ks) line ks
 split text d line [] w = record { pieces = []; splits = no_more; spelled = refl }
 split text d line (k ∷ []) w = with_kind text line k (10 ∷ []) [] w.0 (fits_last k) (last_line text (ends_line k))
 split text d line (k ∷ l ∷ []) w =
-    with_kind text line k (between k l ++ laid_out (l ∷ [])) (l ∷ []) w.0 (fitting k l (10 ∷ []) w.2.0 w.2.1)
-    (separated text k l (laid_out (l ∷ [])) (l ∷ []) (split text (is_dot k) (ends_line k) (l ∷ []) w.2))
+    with_kind text line k (between k l ++ layout_of (l ∷ [])) (l ∷ []) w.0 (fitting k l (10 ∷ []) w.2.0 w.2.1)
+    (separated text k l (layout_of (l ∷ [])) (l ∷ []) (split text (is_dot k) (ends_line k) (l ∷ []) w.2))
 split text d line (k ∷ l ∷ m ∷ ks) w =
-    with_kind text line k (between k l ++ laid_out (l ∷ m ∷ ks)) (l ∷ m ∷ ks) w.0
-    (fitting k l (between l m ++ laid_out (m ∷ ks)) w.2.0 w.2.1)
-    (separated text k l (laid_out (l ∷ m ∷ ks)) (l ∷ m ∷ ks) (split text (is_dot k) (ends_line k) (l ∷ m ∷ ks) w.2))
+    with_kind text line k (between k l ++ layout_of (l ∷ m ∷ ks)) (l ∷ m ∷ ks) w.0
+    (fitting k l (between l m ++ layout_of (m ∷ ks)) w.2.0 w.2.1)
+    (separated text k l (layout_of (l ∷ m ∷ ks)) (l ∷ m ∷ ks) (split text (is_dot k) (ends_line k) (l ∷ m ∷ ks) w.2))
 
 pub laid : (ks : List TokenKind) → CleanFrom false ks → Laid ks
 laid ks w =
-    let s = split (laid_out ks) false false ks w in
+    let s = split (layout_of ks) false false ks w in
     record {
       tokens = tokens_among false s.pieces;
       lexed = record { pieces = s.pieces; splits = s.splits; are = refl };

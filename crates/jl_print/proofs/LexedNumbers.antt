@@ -185,11 +185,11 @@ decimal_found n us rest h d f = ap (λ l. scan (l ++ rest)) d.are ∙ go (cases_
         ap (λ l. scan (l ++ rest)) e ∙ digit_begins 48 rest zero_digit ∙ ap number_end (zero_numeral f)
         ∙ valued n (48 ∷ []) rest h (ap (decimal_from 0) (sym e) ∙ value) f
 
-no_sign : (n : ℕ) → int_lt (pos n) (pos 0) ≡ false
-no_sign n = let e : nat_lt n 0 ≡ false = grind (arith, nat_tests) in e
+no_terminal : (n : ℕ) → int_lt (pos n) (pos 0) ≡ false
+no_terminal n = let e : nat_lt n 0 ≡ false = grind (arith, nat_tests) in e
 
 pub number_found : (n : ℕ) (rest : List ℕ) → n ≤ 9007199254740991 → FollowsNumber rest
     → scan (number_text (Some (pos n)) 10 ++ rest) ≡ found (Word (kinds.Number (Some (pos n)))) rest
 number_found n rest h f =
-    let e : number_text (Some (pos n)) 10 ≡ digits_within 10 (n + 1) n = rw (no_sign n) refl in
+    let e : number_text (Some (pos n)) 10 ≡ digits_within 10 (n + 1) n = rw (no_terminal n) refl in
     ap (λ l. scan (l ++ rest)) e ∙ decimal_found n _ rest h (is_decimal (n + 1) n (omega arith)) f

@@ -37,13 +37,13 @@ hex_back d h = go (cases_lt d 10)
         (rw e (grind (arith, leb_tells)), rw e (grind (arith, leb_tells)))
 
 -- how a unit is written, and which character of a string that is
-record Written (u : ℕ) (ks : List ℕ) : Type 0 where
+record CanonicalTokens (u : ℕ) (ks : List ℕ) : Type 0 where
   itself : Bool
   stands : (us : List ℕ) → Character 34 (ks ++ us) (u ∷ [], itself) us
   same : itself ≡ true → ks ≡ u ∷ []
   longer : itself ≡ false → 1 < length ks
 
-unicode_back : (u : ℕ) → u < 65536 → Written u (unicode_escape u)
+unicode_back : (u : ℕ) → u < 65536 → CanonicalTokens u (unicode_escape u)
 unfolding are_hex_digits hex_number
 unicode_back u h =
     let a = hex_back (u / 0x1000) (omega arith) in
@@ -64,7 +64,7 @@ unicode_back u h =
     differ : false ≡ true → ⊥
     differ e = cc
 
-single_back : (u letter : ℕ) → single_escape letter ≡ Some u → Written u (92 ∷ letter ∷ [])
+single_back : (u letter : ℕ) → single_escape letter ≡ Some u → CanonicalTokens u (92 ∷ letter ∷ [])
 single_back u letter e = record {
   itself = false;
   stands = λ us. single e;
@@ -75,7 +75,7 @@ single_back u letter e = record {
     differ : false ≡ true → ⊥
     differ e = cc
 
-plain_back : (u : ℕ) → (u == 34 || u == 92 || is_line_terminator u) ≡ false → Written u (u ∷ [])
+plain_back : (u : ℕ) → (u == 34 || u == 92 || is_line_terminator u) ≡ false → CanonicalTokens u (u ∷ [])
 plain_back u h = record {
   itself = true;
   stands = λ us. plain h;
@@ -111,19 +111,19 @@ lone_low before u after h = elim (or_cases (is_high_surrogate u && not (is_low_s
           let c = less u 0xE000 (and_true (nat_le 0xDC00 u) (nat_lt u 0xE000) b.0).1 in omega arith)
     ]
 
-unit_back : (before u after : ℕ) → Written u (quoted_unit before u after)
+unit_back : (before u after : ℕ) → CanonicalTokens u (quoted_unit before u after)
 unfolding single_escape is_line_terminator
 unit_back before u after = by34 (true_or_false (u == 0x22))
   where
-    at : (k : ℕ) → (u == k) ≡ true → Written k (quoted_unit before k after) → Written u (quoted_unit before u after)
-    at k e w = subst (λ v. Written v (quoted_unit before v after)) (sym (is_unit u k e)) w
+    at : (k : ℕ) → (u == k) ≡ true → CanonicalTokens k (quoted_unit before k after) → CanonicalTokens u (quoted_unit before u after)
+    at k e w = subst (λ v. CanonicalTokens v (quoted_unit before v after)) (sym (is_unit u k e)) w
 
     other : (u == 0x22) ≡ false → (u == 0x5C) ≡ false → (u == 0x0A) ≡ false → (u == 0x0D) ≡ false → (u == 0x09) ≡ false
-        → (u == 0x08) ≡ false → (u == 0x0C) ≡ false → Written u (quoted_unit before u after)
+        → (u == 0x08) ≡ false → (u == 0x0C) ≡ false → CanonicalTokens u (quoted_unit before u after)
     other a b c d e f g = rw (a, b, c, d, e, f, g) (choose (is_hidden u) (is_lone before u after) refl refl)
       where
         choose : (x y : Bool) → is_hidden u ≡ x → is_lone before u after ≡ y
-            → Written u (if x || y then unicode_escape u else u ∷ [])
+            → CanonicalTokens u (if x || y then unicode_escape u else u ∷ [])
         choose true y h k = unicode_back u (let low = hidden_low u h in omega arith)
         choose false true h k = unicode_back u (lone_low before u after k)
         choose false false h k =
@@ -133,35 +133,35 @@ unit_back before u after = by34 (true_or_false (u == 0x22))
             plain_back u (rw (a, b, c, d, r.0, r.1) refl)
 
     by12 : (u == 0x22) ≡ false → (u == 0x5C) ≡ false → (u == 0x0A) ≡ false → (u == 0x0D) ≡ false → (u == 0x09) ≡ false
-        → (u == 0x08) ≡ false → ((u == 0x0C) ≡ true) ⊎ ((u == 0x0C) ≡ false) → Written u (quoted_unit before u after)
+        → (u == 0x08) ≡ false → ((u == 0x0C) ≡ true) ⊎ ((u == 0x0C) ≡ false) → CanonicalTokens u (quoted_unit before u after)
     by12 a b c d e f (inl h) = at 0x0C h (single_back 0x0C 0x66 refl)
     by12 a b c d e f (inr h) = other a b c d e f h
 
     by8 : (u == 0x22) ≡ false → (u == 0x5C) ≡ false → (u == 0x0A) ≡ false → (u == 0x0D) ≡ false → (u == 0x09) ≡ false
-        → ((u == 0x08) ≡ true) ⊎ ((u == 0x08) ≡ false) → Written u (quoted_unit before u after)
+        → ((u == 0x08) ≡ true) ⊎ ((u == 0x08) ≡ false) → CanonicalTokens u (quoted_unit before u after)
     by8 a b c d e (inl h) = at 0x08 h (single_back 0x08 0x62 refl)
     by8 a b c d e (inr h) = by12 a b c d e h (true_or_false (u == 0x0C))
 
     by9 : (u == 0x22) ≡ false → (u == 0x5C) ≡ false → (u == 0x0A) ≡ false → (u == 0x0D) ≡ false
-        → ((u == 0x09) ≡ true) ⊎ ((u == 0x09) ≡ false) → Written u (quoted_unit before u after)
+        → ((u == 0x09) ≡ true) ⊎ ((u == 0x09) ≡ false) → CanonicalTokens u (quoted_unit before u after)
     by9 a b c d (inl h) = at 0x09 h (single_back 0x09 0x74 refl)
     by9 a b c d (inr h) = by8 a b c d h (true_or_false (u == 0x08))
 
     by13 : (u == 0x22) ≡ false → (u == 0x5C) ≡ false → (u == 0x0A) ≡ false
-        → ((u == 0x0D) ≡ true) ⊎ ((u == 0x0D) ≡ false) → Written u (quoted_unit before u after)
+        → ((u == 0x0D) ≡ true) ⊎ ((u == 0x0D) ≡ false) → CanonicalTokens u (quoted_unit before u after)
     by13 a b c (inl h) = at 0x0D h (single_back 0x0D 0x72 refl)
     by13 a b c (inr h) = by9 a b c h (true_or_false (u == 0x09))
 
     by10 : (u == 0x22) ≡ false → (u == 0x5C) ≡ false → ((u == 0x0A) ≡ true) ⊎ ((u == 0x0A) ≡ false)
-        → Written u (quoted_unit before u after)
+        → CanonicalTokens u (quoted_unit before u after)
     by10 a b (inl h) = at 0x0A h (single_back 0x0A 0x6E refl)
     by10 a b (inr h) = by13 a b h (true_or_false (u == 0x0D))
 
-    by92 : (u == 0x22) ≡ false → ((u == 0x5C) ≡ true) ⊎ ((u == 0x5C) ≡ false) → Written u (quoted_unit before u after)
+    by92 : (u == 0x22) ≡ false → ((u == 0x5C) ≡ true) ⊎ ((u == 0x5C) ≡ false) → CanonicalTokens u (quoted_unit before u after)
     by92 a (inl h) = at 0x5C h (single_back 0x5C 0x5C refl)
     by92 a (inr h) = by10 a h (true_or_false (u == 0x0A))
 
-    by34 : ((u == 0x22) ≡ true) ⊎ ((u == 0x22) ≡ false) → Written u (quoted_unit before u after)
+    by34 : ((u == 0x22) ≡ true) ⊎ ((u == 0x22) ≡ false) → CanonicalTokens u (quoted_unit before u after)
     by34 (inl h) = at 0x22 h (single_back 0x22 0x22 refl)
     by34 (inr h) = by92 h (true_or_false (u == 0x5C))
 
@@ -185,7 +185,7 @@ quotes_back before [] = record {
 }
 quotes_back before (u ∷ us) = with_unit (unit_back before u (slice_index us 0)) (quotes_back u us)
   where
-    with_unit : Written u (quoted_unit before u (slice_index us 0)) → Quotes u us → Quotes before (u ∷ us)
+    with_unit : CanonicalTokens u (quoted_unit before u (slice_index us 0)) → Quotes u us → Quotes before (u ∷ us)
     with_unit w q =
         let ks = quoted_unit before u (slice_index us 0) in
         let l = length-append ks (quoted_after u us) in

@@ -19,12 +19,12 @@ use Rattle.jl_token.specs.Characters.{is_identifier_part}
 use Rattle.jl_token.specs.declared.token.Token.{Token}
 use Rattle.jl_token.specs.declared.token.TokenKind.{TokenKind}
 use Rattle.jl_token.specs.declared.token.TokenKind.TheVariants as kinds
-use Rattle.jl_grammar.specs.declared.sign.Sign.{Sign}
-use Rattle.jl_grammar.specs.declared.sign.Sign.TheVariants as signs
+use Rattle.jl_grammar.specs.declared.terminal.Terminal.{Terminal}
+use Rattle.jl_grammar.specs.declared.terminal.Terminal.TheVariants as terminals
 use Rattle.jl_grammar.specs.declared.word.Word.{Word as ReservedWord}
 use Rattle.jl_grammar.specs.Next.{is_identifier, is_name, is_key, is_string}
-use Rattle.jl_grammar.specs.Signs.{sign_of, name_sign}
-use Rattle.jl_grammar.specs.Tokens.{At, Is, sign_at, text_at, number_at, key_at}
+use Rattle.jl_grammar.specs.Terminals.{terminal_of, name_terminal}
+use Rattle.jl_grammar.specs.Tokens.{At, Is, terminal_at, text_at, number_at, key_at}
 use Rattle.jl_grammar.specs.Words.{same_text, word_of}
 use Rattle.jl_print.specs.WellFormed.{is_identifier_name, are_parts, IsName, IsIdentifier, IsLiteral, IsShort}
 
@@ -92,13 +92,13 @@ few_digits : (p m n : ℕ) → n < 10 ^ suc m → length (digits_within 10 p n) 
 few_digits zero m n h = omega arith
 few_digits (suc p) m n h = one_more_digit p n (λ m. few_digits p m (n / 10)) (cases_lt n 10) m h
 
-no_sign : (n : ℕ) → int_lt (pos n) (pos 0) ≡ false
-no_sign n = let e : nat_lt n 0 ≡ false = grind (arith, nat_tests) in e
+no_terminal : (n : ℕ) → int_lt (pos n) (pos 0) ≡ false
+no_terminal n = let e : nat_lt n 0 ≡ false = grind (arith, nat_tests) in e
 
 short_digits : (n : Number) → IsLiteral n → IsShort (number_text n 10)
 short_digits n w =
     let h = few_digits (w.value + 1) 15 w.value (omega (arith, w.inside)) in
-    let e : number_text (Some (pos w.value)) 10 ≡ digits_within 10 (w.value + 1) w.value = rw (no_sign w.value) refl in
+    let e : number_text (Some (pos w.value)) 10 ≡ digits_within 10 (w.value + 1) w.value = rw (no_terminal w.value) refl in
     let l = ap length e in
     subst (λ n. IsShort (number_text n 10)) (sym w.is) (omega arith)
 
@@ -106,30 +106,30 @@ short_digits n w =
 abbrev only : TokenKind → List Token
 only k = record { kind = k; span = record { from = 0; to = 0 }; line_before = false } ∷ []
 
-identifier_of : (k : TokenKind) → IsLexical k → is_identifier (sign_of k) ≡ true → IsIdentifier (text_at (only k) 0)
+identifier_of : (k : TokenKind) → IsLexical k → is_identifier (terminal_of k) ≡ true → IsIdentifier (text_at (only k) 0)
 identifier_of (kinds.Name t e) w h = record { name = w; free = go (word_of t) e refl h }
   where
-    go : (o : Option ReservedWord) (e : Bool) → word_of t ≡ o → is_identifier (name_sign t e) ≡ true → word_of t ≡ None
+    go : (o : Option ReservedWord) (e : Bool) → word_of t ≡ o → is_identifier (name_terminal t e) ≡ true → word_of t ≡ None
     go (Some k) true q h = absurd (no_word (sym (rw q refl) ∙ h))
       where
-        no_word : is_identifier signs.EscapedWord ≡ true → ⊥
+        no_word : is_identifier terminals.EscapedWord ≡ true → ⊥
         no_word e = cc
     go (Some k) false q h = absurd (no_word (sym (rw q refl) ∙ h))
       where
-        no_word : is_identifier (signs.Word k) ≡ true → ⊥
+        no_word : is_identifier (terminals.Word k) ≡ true → ⊥
         no_word e = cc
     go None e q h = q
 identifier_of (kinds.Punct p) w h = absurd (cc)
 identifier_of (kinds.Number n) w h = absurd (cc)
 identifier_of (kinds.Str t e) w h = absurd (cc)
 
-name_of : (k : TokenKind) → IsLexical k → is_name (sign_of k) ≡ true → IsName (text_at (only k) 0)
+name_of : (k : TokenKind) → IsLexical k → is_name (terminal_of k) ≡ true → IsName (text_at (only k) 0)
 name_of (kinds.Name t e) w h = w
 name_of (kinds.Punct p) w h = absurd (cc)
 name_of (kinds.Number n) w h = absurd (cc)
 name_of (kinds.Str t e) w h = absurd (cc)
 
-key_of : (k : TokenKind) → IsLexical k → is_key (sign_of k) ≡ true → IsShort (key_at (only k) 0)
+key_of : (k : TokenKind) → IsLexical k → is_key (terminal_of k) ≡ true → IsShort (key_at (only k) 0)
 key_of (kinds.Name t e) w h = w.short
 key_of (kinds.Punct p) w h = absurd (cc)
 key_of (kinds.Number n) w h = short_digits n w
@@ -138,36 +138,36 @@ key_of (kinds.Str t e) w h = w
 no_bool : false ≡ true → ⊥
 no_bool e = cc
 
-abbrev is_number : Sign → Bool
-is_number signs.Number = true
+abbrev is_number : Terminal → Bool
+is_number terminals.Number = true
 is_number _ = false
 
 -- a name is no string and no number
 unreserved_is_neither : (a b : Bool)
-    → (is_string (if a then signs.Get else if b then signs.Set else signs.Identifier) ≡ false)
-    × (is_number (if a then signs.Get else if b then signs.Set else signs.Identifier) ≡ false)
+    → (is_string (if a then terminals.Get else if b then terminals.Set else terminals.Identifier) ≡ false)
+    × (is_number (if a then terminals.Get else if b then terminals.Set else terminals.Identifier) ≡ false)
 unreserved_is_neither true b = (refl, refl)
 unreserved_is_neither false true = (refl, refl)
 unreserved_is_neither false false = (refl, refl)
 
-name_is_neither : (t : Text) (e : Bool) → (is_string (name_sign t e) ≡ false) × (is_number (name_sign t e) ≡ false)
+name_is_neither : (t : Text) (e : Bool) → (is_string (name_terminal t e) ≡ false) × (is_number (name_terminal t e) ≡ false)
 name_is_neither t e = go (word_of t) e refl
   where
     go : (o : Option ReservedWord) (e : Bool) → word_of t ≡ o
-        → (is_string (name_sign t e) ≡ false) × (is_number (name_sign t e) ≡ false)
+        → (is_string (name_terminal t e) ≡ false) × (is_number (name_terminal t e) ≡ false)
     go (Some k) true q = (rw q refl, rw q refl)
     go (Some k) false q = (rw q refl, rw q refl)
     go None true q = (rw q refl, rw q refl)
     go None false q =
         let n = unreserved_is_neither (same_text (codes "get") t) (same_text (codes "set") t) in (rw q n.0, rw q n.1)
 
-string_of : (k : TokenKind) → IsLexical k → is_string (sign_of k) ≡ true → IsShort (text_at (only k) 0)
+string_of : (k : TokenKind) → IsLexical k → is_string (terminal_of k) ≡ true → IsShort (text_at (only k) 0)
 string_of (kinds.Name t e) w h = absurd (no_bool (sym (name_is_neither t e).0 ∙ h))
 string_of (kinds.Punct p) w h = absurd (cc)
 string_of (kinds.Number n) w h = absurd (cc)
 string_of (kinds.Str t e) w h = w
 
-number_of : (k : TokenKind) → IsLexical k → is_number (sign_of k) ≡ true → IsLiteral (number_at (only k) 0)
+number_of : (k : TokenKind) → IsLexical k → is_number (terminal_of k) ≡ true → IsLiteral (number_at (only k) 0)
 number_of (kinds.Name t e) w h = absurd (no_bool (sym (name_is_neither t e).1 ∙ h))
 number_of (kinds.Punct p) w h = absurd (cc)
 number_of (kinds.Number n) w h = w
@@ -178,7 +178,7 @@ module _ {ts : List Token} where
   pub identifier_at : AreLexical ts → {i : ℕ} → Is is_identifier ts i → IsIdentifier (text_at ts i)
   identifier_at w {i} e = go ts w i e.is
     where
-      go : (ts : List Token) → AreLexical ts → (i : ℕ) → is_identifier (sign_at ts i) ≡ true
+      go : (ts : List Token) → AreLexical ts → (i : ℕ) → is_identifier (terminal_at ts i) ≡ true
           → IsIdentifier (text_at ts i)
       go [] w i h = absurd (cc)
       go (t ∷ ts) w zero h = identifier_of t.kind w.0 h
@@ -187,7 +187,7 @@ module _ {ts : List Token} where
   pub name_at : AreLexical ts → {i : ℕ} → Is is_name ts i → IsName (text_at ts i)
   name_at w {i} e = go ts w i e.is
     where
-      go : (ts : List Token) → AreLexical ts → (i : ℕ) → is_name (sign_at ts i) ≡ true → IsName (text_at ts i)
+      go : (ts : List Token) → AreLexical ts → (i : ℕ) → is_name (terminal_at ts i) ≡ true → IsName (text_at ts i)
       go [] w i h = absurd (cc)
       go (t ∷ ts) w zero h = name_of t.kind w.0 h
       go (t ∷ ts) w (suc i) h = go ts w.1 i h
@@ -195,23 +195,23 @@ module _ {ts : List Token} where
   pub short_key_at : AreLexical ts → {i : ℕ} → Is is_key ts i → IsShort (key_at ts i)
   short_key_at w {i} e = go ts w i e.is
     where
-      go : (ts : List Token) → AreLexical ts → (i : ℕ) → is_key (sign_at ts i) ≡ true → IsShort (key_at ts i)
+      go : (ts : List Token) → AreLexical ts → (i : ℕ) → is_key (terminal_at ts i) ≡ true → IsShort (key_at ts i)
       go [] w i h = absurd (cc)
       go (t ∷ ts) w zero h = key_of t.kind w.0 h
       go (t ∷ ts) w (suc i) h = go ts w.1 i h
 
-  pub string_at : AreLexical ts → {i : ℕ} → At ts i signs.Str → IsShort (text_at ts i)
+  pub string_at : AreLexical ts → {i : ℕ} → At ts i terminals.Str → IsShort (text_at ts i)
   string_at w {i} e = go ts w i (ap is_string e.is)
     where
-      go : (ts : List Token) → AreLexical ts → (i : ℕ) → is_string (sign_at ts i) ≡ true → IsShort (text_at ts i)
+      go : (ts : List Token) → AreLexical ts → (i : ℕ) → is_string (terminal_at ts i) ≡ true → IsShort (text_at ts i)
       go [] w i h = absurd (cc)
       go (t ∷ ts) w zero h = string_of t.kind w.0 h
       go (t ∷ ts) w (suc i) h = go ts w.1 i h
 
-  pub literal_at : AreLexical ts → {i : ℕ} → At ts i signs.Number → IsLiteral (number_at ts i)
+  pub literal_at : AreLexical ts → {i : ℕ} → At ts i terminals.Number → IsLiteral (number_at ts i)
   literal_at w {i} e = go ts w i (ap is_number e.is)
     where
-      go : (ts : List Token) → AreLexical ts → (i : ℕ) → is_number (sign_at ts i) ≡ true → IsLiteral (number_at ts i)
+      go : (ts : List Token) → AreLexical ts → (i : ℕ) → is_number (terminal_at ts i) ≡ true → IsLiteral (number_at ts i)
       go [] w i h = absurd (cc)
       go (t ∷ ts) w zero h = number_of t.kind w.0 h
       go (t ∷ ts) w (suc i) h = go ts w.1 i h

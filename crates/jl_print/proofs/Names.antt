@@ -8,7 +8,7 @@ use Rattle.jl_grammar.specs.Reads.{ReadsNames, last_name, more_names, ReadsParam
 use Rattle.jl_grammar.specs.Reads as reads
 use Rattle.jl_grammar.specs.Tokens.{ident_at, key_ident_at}
 use Rattle.jl_print.specs.Pieces.{name, key}
-use Rattle.jl_print.specs.Written.{further_names, parameters, close_paren}
+use Rattle.jl_print.specs.CanonicalTokens.{further_names, parameters, close_paren}
 use Rattle.jl_print.specs.WellFormed.{AreIdentifiers}
 use Rattle.jl_print.proofs.Skeleton.{named}
 use Rattle.jl_print.proofs.Spells.{Spelled, Spells, at, identifier, name_text, key_text}

@@ -19,10 +19,10 @@ use Rattle.jl_token.specs.declared.punct.Punct.TheVariants as puncts
 use Rattle.jl_token.specs.declared.token.TokenKind.{TokenKind}
 use Rattle.jl_token.specs.declared.token.TokenKind.TheVariants as kinds
 use Rattle.jl_token.proofs.Tests.{and_true, not_true, true_or_false, other_unit, never_both}
-use Rattle.jl_print.specs.Layout.{ends_line, is_number, is_dot, joins_right, joins_left, between, laid_out, text_of}
+use Rattle.jl_print.specs.Layout.{ends_line, is_number, is_dot, joins_right, joins_left, between, layout_of, text_of}
 use Rattle.jl_print.specs.Laws.{TextIsPaired}
 use Rattle.jl_print.specs.WellFormed.{is_identifier_name, are_parts}
-use Rattle.jl_print.specs.Written.{tokens_of}
+use Rattle.jl_print.specs.CanonicalTokens.{tokens_of}
 use Rattle.jl_print.proofs.Clean.{good}
 use Rattle.jl_print.proofs.Lexed.{IsClean, CleanFrom}
 use Rattle.jl_print.proofs.LexedStrings.{hidden_low, lone_low}
@@ -34,8 +34,8 @@ record Paired (us : List ℕ) : Type 0 where
 none : Paired []
 none = record { before = λ v. refl }
 
-joined : {a b : List ℕ} → Paired a → Paired b → Paired (a ++ b)
-joined {a} {b} p q =
+infix_node : {a b : List ℕ} → Paired a → Paired b → Paired (a ++ b)
+infix_node {a} {b} p q =
     record { before = λ v. ap has_unpaired_surrogate (append_assoc a b v) ∙ p.before (b ++ v) ∙ q.before v }
 
 -- u is no surrogate
@@ -119,7 +119,7 @@ digit_paired d h =
 digits_more : (p n : ℕ) (b : Bool) → nat_lt n 10 ≡ b → Paired (digits_within 10 p (n / 10))
     → Paired (elim b [ true ↦ digit_code n ∷ [] | false ↦ digits_within 10 p (n / 10) ++ digit_code (n % 10) ∷ [] ])
 digits_more p n true e front = digit_paired n (ltb-true n 10 e)
-digits_more p n false e front = joined front (digit_paired (n % 10) (omega arith))
+digits_more p n false e front = infix_node front (digit_paired (n % 10) (omega arith))
 
 digits_paired : (p n : ℕ) → Paired (digits_within 10 p n)
 digits_paired zero n = none
@@ -256,7 +256,7 @@ quoted_paired : (before : ℕ) (us : List ℕ) → (is_high_surrogate before ≡
     → Paired (quoted_after before us)
 quoted_paired before [] h = none
 quoted_paired before (u ∷ []) h =
-    joined (unit_paired before u 0 (record { first = and_false (is_high_surrogate u); second = h })) none
+    infix_node (unit_paired before u 0 (record { first = and_false (is_high_surrogate u); second = h })) none
 quoted_paired before (u ∷ v ∷ us) h = elim (true_or_false (is_high_surrogate u && is_low_surrogate v)) [
   | inl e ↦ (let both = and_true (is_high_surrogate u) (is_low_surrogate v) e in
       let parts = pair_is before u v (slice_index us 0) both.0 both.1 in
@@ -264,15 +264,15 @@ quoted_paired before (u ∷ v ∷ us) h = elim (true_or_false (is_high_surrogate
       let b = low_bounds v both.1 in
       rw (parts.0, parts.1) (pair (a.0, a.1, b.0, b.1)
       (quoted_paired v us (λ f. let c = high_bounds v f in absurd (omega arith)))))
-  | inr e ↦ joined (unit_paired before u v (record { first = e; second = h }))
+  | inr e ↦ infix_node (unit_paired before u v (record { first = e; second = h }))
       (quoted_paired u (v ∷ us) (λ f. no_pair (is_high_surrogate u) (is_low_surrogate v) f e))
 ]
 
 string_paired : (t : List ℕ) → Paired (quoted t)
-string_paired t = whole (inl (omega arith)) (joined (quoted_paired 0 t (λ e. absurd (cc))) (whole (inl (omega arith)) none))
+string_paired t = whole (inl (omega arith)) (infix_node (quoted_paired 0 t (λ e. absurd (cc))) (whole (inl (omega arith)) none))
 
 number_paired : (n : ℕ) → Paired (number_text (Some (pos n)) 10)
-number_paired n = joined (choice _ (45 ∷ []) [] (whole (inl (omega arith)) none) none) (digits_paired (n + 1) n)
+number_paired n = infix_node (choice _ (45 ∷ []) [] (whole (inl (omega arith)) none) none) (digits_paired (n + 1) n)
 
 punct_paired : (p : Punct) → Paired (punctuator_units p)
 punct_paired p = ascii (punctuator_units p) (punct_ascii p)
@@ -290,11 +290,11 @@ between_paired k l =
     (choice (is_number k && is_dot l) _ _ (ascii (32 ∷ []) refl)
     (choice (joins_right k || joins_left l) _ _ none (ascii (32 ∷ []) refl)))
 
-laid_paired : (after_dot : Bool) (ks : List TokenKind) → CleanFrom after_dot ks → Paired (laid_out ks)
+laid_paired : (after_dot : Bool) (ks : List TokenKind) → CleanFrom after_dot ks → Paired (layout_of ks)
 laid_paired after_dot [] w = none
-laid_paired after_dot (k ∷ []) w = joined (spelled_paired k w.0) (ascii (10 ∷ []) refl)
+laid_paired after_dot (k ∷ []) w = infix_node (spelled_paired k w.0) (ascii (10 ∷ []) refl)
 laid_paired after_dot (k ∷ l ∷ ks) w =
-    joined (spelled_paired k w.0) (joined (between_paired k l) (laid_paired (is_dot k) (l ∷ ks) w.2))
+    infix_node (spelled_paired k w.0) (infix_node (between_paired k l) (laid_paired (is_dot k) (l ∷ ks) w.2))
 
 pub text_is_paired : TextIsPaired
 text_is_paired p w =

@@ -12,10 +12,10 @@ use Rattle.jl_grammar.specs.Next.{is_comma}
 use Rattle.jl_grammar.specs.Operators.{level}
 use Rattle.jl_grammar.specs.Reads as reads
 use Rattle.jl_grammar.specs.Reads.{Expr, ReadsPrimary, ReadsExpression}
-use Rattle.jl_grammar.specs.Tokens.{sign_at}
-use Rattle.jl_print.specs.Pieces.{punct, in_parens, fitted}
-use Rattle.jl_print.specs.Ranks.{rank_of, fits, is_in, operator_rank}
-use Rattle.jl_print.specs.Written.{written}
+use Rattle.jl_grammar.specs.Tokens.{terminal_at}
+use Rattle.jl_print.specs.Pieces.{punct, in_parens, in_parens_unless}
+use Rattle.jl_print.specs.Precedence.{precedence_of, fits, is_in, operator_precedence}
+use Rattle.jl_print.specs.CanonicalTokens.{tokens_of_node}
 use Rattle.jl_print.proofs.Fronts.{Front, of_left, to_expression, as_loose, Quiet, quiet_less, quiet_stop, stops}
 use Rattle.jl_print.proofs.Skeleton.{skeleton}
 use Rattle.jl_print.proofs.Spells.{Spells, parts, at}
@@ -31,16 +31,16 @@ pub up_to : {ts : List Token} {no_in : Bool} {r i m j : ℕ} {t : Expr} → Back
     → Back ts no_in r i t j
 up_to {ts} {no_in} {r} {i} {m} {j} {t} b e = subst (λ x. Back ts no_in r i t x) e b
 
-operator_low : (op : BinOp) → operator_rank op ≤ 14
+operator_low : (op : BinOp) → operator_precedence op ≤ 14
 operator_low op = let h = low (level op) in omega arith
   where
     low : (n : ℕ) → 9 - n ≤ 9
     low n = omega arith
 
-pub rank_top : (t : Expr) → rank_of t ≤ 14
+pub rank_top : (t : Expr) → precedence_of t ≤ 14
 rank_top (tree.binary op a b s) = go (is_in op)
   where
-    go : (x : Bool) → (if x then 0 else operator_rank op) ≤ 14
+    go : (x : Bool) → (if x then 0 else operator_precedence op) ≤ 14
     go true = omega arith
     go false = operator_low op
 rank_top (tree.update up true g s) = omega arith
@@ -49,8 +49,8 @@ rank_top _ = omega arith
 
 -- how an expression is read where it is written alone
 abbrev pub Alone : List Token → Expr → Type 0
-Alone ts t = (no_in : Bool) (i j : ℕ) (line : Bool) → Spells ts i line (written t) j → Quiet no_in (rank_of t) ts j
-    → Back ts no_in (rank_of t) i t j
+Alone ts t = (no_in : Bool) (i j : ℕ) (line : Bool) → Spells ts i line (tokens_of_node t) j → Quiet no_in (precedence_of t) ts j
+    → Back ts no_in (precedence_of t) i t j
 
 -- a whole expression, up to a token that ends it
 pub record BackWhole (ts : List Token) (no_in : Bool) (i : ℕ) (t : Expr) (j : ℕ) : Type 0 where
@@ -59,11 +59,11 @@ pub record BackWhole (ts : List Token) (no_in : Bool) (i : ℕ) (t : Expr) (j : 
   pub is : ReadsExpression ts no_in i tree j
 
 pub whole : {ts : List Token} (t : Expr) → Alone ts t → (no_in : Bool) (i j : ℕ) (line : Bool)
-    → Spells ts i line (written t) j → stops (sign_at ts j) ≡ true → is_comma (sign_at ts j) ≡ false
+    → Spells ts i line (tokens_of_node t) j → stops (terminal_at ts j) ≡ true → is_comma (terminal_at ts j) ≡ false
     → BackWhole ts no_in i t j
 whole {ts} t alone no_in i j line s h c =
-    let a = alone no_in i j line s (quiet_stop no_in (rank_of t) h) in
-    let f = as_loose (rank_of t) 14 (rank_top t) (omega arith) a.is (quiet_stop no_in 14 h) in
+    let a = alone no_in i j line s (quiet_stop no_in (precedence_of t) h) in
+    let f = as_loose (precedence_of t) 14 (rank_top t) (omega arith) a.is (quiet_stop no_in 14 h) in
     record { tree = a.tree; same = a.same; is = reads.whole_expression (to_expression f) c }
 
 -- in brackets
@@ -73,7 +73,7 @@ pub record BackPrimary (ts : List Token) (i : ℕ) (t : Expr) (j : ℕ) : Type 0
   pub is : ReadsPrimary ts i tree j
 
 pub enclosed : {ts : List Token} (t : Expr) (ks : List TokenKind) → ((i j : ℕ) (line : Bool)
-    → Spells ts i line ks j → stops (sign_at ts j) ≡ true → is_comma (sign_at ts j) ≡ false
+    → Spells ts i line ks j → stops (terminal_at ts j) ≡ true → is_comma (terminal_at ts j) ≡ false
     → BackWhole ts false i t j) → (i j : ℕ) (line : Bool) → Spells ts i line (in_parens ks) j → BackPrimary ts i t j
 enclosed {ts} t ks inside i j line s =
     let p = parts ts (suc i) false ks (punct puncts.RightParen ∷ []) j s.1 in
@@ -86,20 +86,20 @@ enclosed {ts} t ks inside i j line s =
     }
 
 pub bracketed : {ts : List Token} (t : Expr) → Alone ts t → (i j : ℕ) (line : Bool)
-    → Spells ts i line (in_parens (written t)) j → BackPrimary ts i t j
-bracketed t alone = enclosed t (written t) (λ i j line. whole t alone false i j line)
+    → Spells ts i line (in_parens (tokens_of_node t)) j → BackPrimary ts i t j
+bracketed t alone = enclosed t (tokens_of_node t) (λ i j line. whole t alone false i j line)
 
 -- what is written in its place, from what is written alone
 pub in_place : {ts : List Token} (t : Expr) (r : ℕ) → r ≤ 14 → Alone ts t → (no_in : Bool) (i j : ℕ) (line : Bool)
-    → Spells ts i line (fitted (fits t r) (written t)) j → Quiet no_in r ts j → Back ts no_in r i t j
+    → Spells ts i line (in_parens_unless (fits t r) (tokens_of_node t)) j → Quiet no_in r ts j → Back ts no_in r i t j
 in_place {ts} t r top alone no_in i j line = go (fits t r) refl
   where
-    go : (b : Bool) → fits t r ≡ b → Spells ts i line (fitted b (written t)) j → Quiet no_in r ts j
+    go : (b : Bool) → fits t r ≡ b → Spells ts i line (in_parens_unless b (tokens_of_node t)) j → Quiet no_in r ts j
         → Back ts no_in r i t j
     go true e s q =
         let h = leb-true _ _ e in
-        let a = alone no_in i j line s (quiet_less (rank_of t) r h q) in
-        record { tree = a.tree; same = a.same; is = as_loose (rank_of t) r h top a.is q }
+        let a = alone no_in i j line s (quiet_less (precedence_of t) r h q) in
+        record { tree = a.tree; same = a.same; is = as_loose (precedence_of t) r h top a.is q }
     go false e s q =
         let a = bracketed t alone i j line s in
         record { tree = a.tree; same = a.same; is = as_loose 0 r (omega arith) top (of_left (reads.primary a.is)) q }

@@ -4,26 +4,26 @@ use Rattle.std.proofs.Common.{List, [], ◌∷◌, length, arith}
 use Rattle.std.proofs.lemmas.Bool.{cases_lt}
 use Rattle.jl_ast.specs.Height.{height, program_height}
 use Rattle.jl_ast.specs.Numbering.{numbered, numbered_tree}
-use Rattle.jl_ast.specs.Spans.{bare, map_tree}
+use Rattle.jl_ast.specs.Spans.{without_spans, map_tree}
 use Rattle.jl_ast.specs.Tree.{Program}
 use Rattle.jl_ast.proofs.SameHeight.{moved, renumbered}
 use Rattle.jl_ast.proofs.SameNumbers.{numbered_moved}
 use Rattle.jl_text.specs.declared.span.Span.{Span}
 use Rattle.jl_token.specs.declared.token.Token.{Token}
 use Rattle.jl_token.specs.declared.token.TokenKind.{TokenKind}
-use Rattle.jl_grammar.specs.declared.sign.Sign.TheVariants as signs
+use Rattle.jl_grammar.specs.declared.terminal.Terminal.TheVariants as terminals
 use Rattle.jl_grammar.specs.Brackets.{bracket, opened}
 use Rattle.jl_grammar.specs.Next.{ends_list}
 use Rattle.jl_grammar.specs.Program.{program_of, last_end}
 use Rattle.jl_grammar.specs.Reads.{Code}
-use Rattle.jl_grammar.specs.Signs.{sign_of}
-use Rattle.jl_grammar.specs.Tokens.{At, sign_at}
+use Rattle.jl_grammar.specs.Terminals.{terminal_of}
+use Rattle.jl_grammar.specs.Tokens.{At, terminal_at}
 use Rattle.jl_grammar.proofs.One.{opened_past}
 use Rattle.jl_grammar.proofs.Opened.{after}
 use Rattle.jl_print.specs.Laws.{PrintedReadsBack, ReadsBack}
 use Rattle.jl_print.specs.Layout.{ends_line, text_of}
 use Rattle.jl_print.specs.WellFormed.{IsWellFormed}
-use Rattle.jl_print.specs.Written.{written, tokens_of}
+use Rattle.jl_print.specs.CanonicalTokens.{tokens_of_node, tokens_of}
 use Rattle.jl_print.proofs.Back.{back_body}
 use Rattle.jl_print.proofs.Depth.{most_open, tame}
 use Rattle.jl_print.proofs.Laid.{Laid}
@@ -32,7 +32,7 @@ use Rattle.jl_print.proofs.Lexed.{laid}
 use Rattle.jl_print.proofs.Skeleton.{skeleton, no_place, same_numbers}
 use Rattle.jl_print.proofs.Spells.{Spells, at}
 
-end_past : (ts : List Token) → sign_at ts (length ts) ≡ signs.End
+end_past : (ts : List Token) → terminal_at ts (length ts) ≡ terminals.End
 end_past [] = refl
 end_past (t ∷ ts) = end_past ts
 
@@ -44,11 +44,11 @@ opened_most ts i line [] j h k a b =
 opened_most ts i line (c ∷ ks) j h k a b =
     step (at h.0) (λ p. opened_most ts (suc i) (ends_line c) ks j h.1 k p b) (cases_lt i k)
   where
-    step : At ts i (sign_of c) → (suc i ≤ k → opened ts k ≤ most_open (opened ts (suc i)) ks) → (i < k) ⊎ (k ≤ i)
+    step : At ts i (terminal_of c) → (suc i ≤ k → opened ts k ≤ most_open (opened ts (suc i)) ks) → (i < k) ⊎ (k ≤ i)
         → opened ts k ≤ most_open (opened ts i) (c ∷ ks)
     step e rest (inl p) =
         let g = rest (omega arith) in
-        let f : most_open (opened ts (suc i)) ks ≡ most_open (bracket (sign_of c) (opened ts i)) ks =
+        let f : most_open (opened ts (suc i)) ks ≡ most_open (bracket (terminal_of c) (opened ts i)) ks =
         ap (λ x. most_open x ks) (after e) in omega arith
     step e rest (inr p) =
         let q : k ≡ i = omega arith in let g : opened ts k ≡ opened ts i = ap (opened ts) q in omega arith
@@ -71,11 +71,11 @@ everywhere ts most h i = go (cases_lt i (length ts))
 
 -- trees that differ in places and numbers alone are the same program
 same_program : (c : Code) (p : Program Span) (s : Span) → skeleton c ≡ skeleton p.body → numbered p ≡ p
-    → bare (numbered (record { body = c; at = s })) ≡ bare p
+    → without_spans (numbered (record { body = c; at = s })) ≡ without_spans p
 same_program c p s e n =
     let a = sym (numbered_moved no_place 0 c) ∙ sym (same_numbers 0 c) ∙ ap (numbered_tree 0) e
     ∙ same_numbers 0 p.body ∙ numbered_moved no_place 0 p.body in
-    ap (λ b. record { body = b; at = tt }) a ∙ ap bare n
+    ap (λ b. record { body = b; at = tt }) a ∙ ap without_spans n
 
 same_height : (c d : Code) → skeleton c ≡ skeleton d → height c ≡ height d
 same_height c d e =
@@ -91,8 +91,8 @@ reads_back p limit w h l =
     let e = same_height b.code p.body b.same in
     let f = renumbered 0 b.code in
     let m = (tame p.body).most 0 in
-    let z : most_open (opened ts 0) (written p.body) ≡ most_open 0 (written p.body) =
-    ap (λ x. most_open x (written p.body)) (opened_none ts) in
+    let z : most_open (opened ts 0) (tokens_of_node p.body) ≡ most_open 0 (tokens_of_node p.body) =
+    ap (λ x. most_open x (tokens_of_node p.body)) (opened_none ts) in
     record {
       tokens = ts;
       lexed = l.lexed;
@@ -103,7 +103,7 @@ reads_back p limit w h l =
         is = refl;
         low = omega arith;
         shallow = everywhere ts (2 * limit) (λ k g.
-            let o = opened_most ts 0 false (written p.body) (length ts) l.spelled k (omega arith) g in omega arith);
+            let o = opened_most ts 0 false (tokens_of_node p.body) (length ts) l.spelled k (omega arith) g in omega arith);
       };
       same = same_program b.code p (record { from = 0; to = last_end ts }) b.same w.numbers;
     }

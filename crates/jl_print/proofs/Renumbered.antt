@@ -1,14 +1,14 @@
 -- Numbering a numbered tree changes nothing but the numbers that it begins with.
 use Rattle.std.proofs.Common.{◌≡◌, ℕ, ◌+◌, refl}
-use Rattle.jl_ast.specs.Tree.{Sort, Tree, Row, Maybe, this, name, number, string, boolean, null, array}
+use Rattle.jl_ast.specs.Tree.{Sort, Tree, Forest, OptionalTree, this, name, number, string, boolean, null, array}
 use Rattle.jl_ast.specs.Tree.{object, function_expression, dot, index, call, new, unary, update, binary, and, or}
 use Rattle.jl_ast.specs.Tree.{conditional, assign, comma, to_name, to_dot, to_index, hole, filled, value, getter}
-use Rattle.jl_ast.specs.Tree.{setter, function, body, var, empty, expression, block, when, do_while, while, for}
+use Rattle.jl_ast.specs.Tree.{setter, function, body, var, empty, expression, block, if_else, do_while, while, for}
 use Rattle.jl_ast.specs.Tree.{for_in, continue, break, return, labelled, switch, throw, try, debugger, nothing}
 use Rattle.jl_ast.specs.Tree.{init_expression, init_var, declarator, case, branch_of, catch, end, more, absent}
 use Rattle.jl_ast.specs.Tree.{present}
-use Rattle.jl_ast.specs.Numbering.{functions_in, functions_in_row, functions_in_maybe, numbered_tree, numbered_row}
-use Rattle.jl_ast.specs.Numbering.{numbered_maybe}
+use Rattle.jl_ast.specs.Numbering.{functions_in, functions_in_forest, functions_in_optional, numbered_tree, numbered_forest}
+use Rattle.jl_ast.specs.Numbering.{numbered_optional}
 
 module _ {S : Type 0} where
   mutual
@@ -19,13 +19,13 @@ module _ {S : Type 0} where
     as_many_numbered n (string a s) = refl
     as_many_numbered n (boolean a s) = refl
     as_many_numbered n (null s) = refl
-    as_many_numbered n (array a s) = cc (as_many_numbered_row n a)
-    as_many_numbered n (object a s) = cc (as_many_numbered_row n a)
+    as_many_numbered n (array a s) = cc (as_many_numbered_forest n a)
+    as_many_numbered n (object a s) = cc (as_many_numbered_forest n a)
     as_many_numbered n (function_expression a s) = cc (as_many_numbered n a)
     as_many_numbered n (dot a b s) = cc (as_many_numbered n a)
     as_many_numbered n (index a b s) = cc (as_many_numbered n a, as_many_numbered (n + functions_in a) b)
-    as_many_numbered n (call a b s) = cc (as_many_numbered n a, as_many_numbered_row (n + functions_in a) b)
-    as_many_numbered n (new a b s) = cc (as_many_numbered n a, as_many_numbered_row (n + functions_in a) b)
+    as_many_numbered n (call a b s) = cc (as_many_numbered n a, as_many_numbered_forest (n + functions_in a) b)
+    as_many_numbered n (new a b s) = cc (as_many_numbered n a, as_many_numbered_forest (n + functions_in a) b)
     as_many_numbered n (unary a b s) = cc (as_many_numbered n b)
     as_many_numbered n (update up prefix a s) = cc (as_many_numbered n a)
     as_many_numbered n (binary a b c s) = cc (as_many_numbered n b, as_many_numbered (n + functions_in b) c)
@@ -48,59 +48,59 @@ module _ {S : Type 0} where
     as_many_numbered n (setter a b) = cc (as_many_numbered n b)
     as_many_numbered n (function k a params b s) = cc (as_many_numbered (n + 1) b)
     as_many_numbered n (body strict a b) = cc (
-      as_many_numbered_row n a,
-      as_many_numbered_row (n + functions_in_row a) b,
+      as_many_numbered_forest n a,
+      as_many_numbered_forest (n + functions_in_forest a) b,
     )
-    as_many_numbered n (var a s) = cc (as_many_numbered_row n a)
+    as_many_numbered n (var a s) = cc (as_many_numbered_forest n a)
     as_many_numbered n (empty s) = refl
     as_many_numbered n (expression a s) = cc (as_many_numbered n a)
-    as_many_numbered n (block a s) = cc (as_many_numbered_row n a)
-    as_many_numbered n (when a b c s) = cc (
+    as_many_numbered n (block a s) = cc (as_many_numbered_forest n a)
+    as_many_numbered n (if_else a b c s) = cc (
       as_many_numbered n a,
-      as_many_numbered_row (n + functions_in a) b,
-      as_many_numbered_maybe (n + functions_in a + functions_in_row b) c,
+      as_many_numbered_forest (n + functions_in a) b,
+      as_many_numbered_optional (n + functions_in a + functions_in_forest b) c,
     )
-    as_many_numbered n (do_while a b s) = cc (as_many_numbered_row n a, as_many_numbered (n + functions_in_row a) b)
-    as_many_numbered n (while a b s) = cc (as_many_numbered n a, as_many_numbered_row (n + functions_in a) b)
+    as_many_numbered n (do_while a b s) = cc (as_many_numbered_forest n a, as_many_numbered (n + functions_in_forest a) b)
+    as_many_numbered n (while a b s) = cc (as_many_numbered n a, as_many_numbered_forest (n + functions_in a) b)
     as_many_numbered n (for a b c d s) = cc (
       as_many_numbered n a,
-      as_many_numbered_maybe (n + functions_in a) b,
-      as_many_numbered_maybe (n + functions_in a + functions_in_maybe b) c,
-      as_many_numbered_row (n + functions_in a + functions_in_maybe b + functions_in_maybe c) d,
+      as_many_numbered_optional (n + functions_in a) b,
+      as_many_numbered_optional (n + functions_in a + functions_in_optional b) c,
+      as_many_numbered_forest (n + functions_in a + functions_in_optional b + functions_in_optional c) d,
     )
     as_many_numbered n (for_in is_var a b c s) = cc (
       as_many_numbered n b,
-      as_many_numbered_row (n + functions_in b) c,
+      as_many_numbered_forest (n + functions_in b) c,
     )
     as_many_numbered n (continue a s) = refl
     as_many_numbered n (break a s) = refl
-    as_many_numbered n (return a s) = cc (as_many_numbered_maybe n a)
+    as_many_numbered n (return a s) = cc (as_many_numbered_optional n a)
     as_many_numbered n (labelled a b s) = cc (as_many_numbered n b)
-    as_many_numbered n (switch a b s) = cc (as_many_numbered n a, as_many_numbered_row (n + functions_in a) b)
+    as_many_numbered n (switch a b s) = cc (as_many_numbered n a, as_many_numbered_forest (n + functions_in a) b)
     as_many_numbered n (throw a s) = cc (as_many_numbered n a)
     as_many_numbered n (try a b c s) = cc (
-      as_many_numbered_row n a,
-      as_many_numbered_maybe (n + functions_in_row a) b,
-      as_many_numbered_maybe (n + functions_in_row a + functions_in_maybe b) c,
+      as_many_numbered_forest n a,
+      as_many_numbered_optional (n + functions_in_forest a) b,
+      as_many_numbered_optional (n + functions_in_forest a + functions_in_optional b) c,
     )
     as_many_numbered n (debugger s) = refl
     as_many_numbered n nothing = refl
     as_many_numbered n (init_expression a) = cc (as_many_numbered n a)
-    as_many_numbered n (init_var a) = cc (as_many_numbered_row n a)
-    as_many_numbered n (declarator a b) = cc (as_many_numbered_maybe n b)
-    as_many_numbered n (case a b) = cc (as_many_numbered_maybe n a, as_many_numbered_row (n + functions_in_maybe a) b)
-    as_many_numbered n (branch_of a) = cc (as_many_numbered_row n a)
-    as_many_numbered n (catch a b) = cc (as_many_numbered_row n b)
+    as_many_numbered n (init_var a) = cc (as_many_numbered_forest n a)
+    as_many_numbered n (declarator a b) = cc (as_many_numbered_optional n b)
+    as_many_numbered n (case a b) = cc (as_many_numbered_optional n a, as_many_numbered_forest (n + functions_in_optional a) b)
+    as_many_numbered n (branch_of a) = cc (as_many_numbered_forest n a)
+    as_many_numbered n (catch a b) = cc (as_many_numbered_forest n b)
 
-    as_many_numbered_row : {x : Sort} (n : ℕ) (t : Row S x)
-        → functions_in_row (numbered_row n t) ≡ functions_in_row t
-    as_many_numbered_row n end = refl
-    as_many_numbered_row n (more a b) = cc (as_many_numbered n a, as_many_numbered_row (n + functions_in a) b)
+    as_many_numbered_forest : {x : Sort} (n : ℕ) (t : Forest S x)
+        → functions_in_forest (numbered_forest n t) ≡ functions_in_forest t
+    as_many_numbered_forest n end = refl
+    as_many_numbered_forest n (more a b) = cc (as_many_numbered n a, as_many_numbered_forest (n + functions_in a) b)
 
-    as_many_numbered_maybe : {x : Sort} (n : ℕ) (t : Maybe S x)
-        → functions_in_maybe (numbered_maybe n t) ≡ functions_in_maybe t
-    as_many_numbered_maybe n absent = refl
-    as_many_numbered_maybe n (present a) = cc (as_many_numbered n a)
+    as_many_numbered_optional : {x : Sort} (n : ℕ) (t : OptionalTree S x)
+        → functions_in_optional (numbered_optional n t) ≡ functions_in_optional t
+    as_many_numbered_optional n absent = refl
+    as_many_numbered_optional n (present a) = cc (as_many_numbered n a)
 
   mutual
     pub again : {x : Sort} (m n : ℕ) (t : Tree S x) → numbered_tree m (numbered_tree n t) ≡ numbered_tree m t
@@ -110,8 +110,8 @@ module _ {S : Type 0} where
     again m n (string a s) = refl
     again m n (boolean a s) = refl
     again m n (null s) = refl
-    again m n (array a s) = cc (again_row m n a)
-    again m n (object a s) = cc (again_row m n a)
+    again m n (array a s) = cc (again_forest m n a)
+    again m n (object a s) = cc (again_forest m n a)
     again m n (function_expression a s) = cc (again m n a)
     again m n (dot a b s) = cc (again m n a)
     again m n (index a b s) = cc (
@@ -121,12 +121,12 @@ module _ {S : Type 0} where
     )
     again m n (call a b s) = cc (
       again m n a,
-      again_row (m + functions_in a) (n + functions_in a) b,
+      again_forest (m + functions_in a) (n + functions_in a) b,
       as_many_numbered n a,
     )
     again m n (new a b s) = cc (
       again m n a,
-      again_row (m + functions_in a) (n + functions_in a) b,
+      again_forest (m + functions_in a) (n + functions_in a) b,
       as_many_numbered n a,
     )
     again m n (unary a b s) = cc (again m n b)
@@ -169,83 +169,83 @@ module _ {S : Type 0} where
     again m n (setter a b) = cc (again m n b)
     again m n (function k a params b s) = cc (again (m + 1) (n + 1) b)
     again m n (body strict a b) = cc (
-      again_row m n a,
-      again_row (m + functions_in_row a) (n + functions_in_row a) b,
-      as_many_numbered_row n a,
+      again_forest m n a,
+      again_forest (m + functions_in_forest a) (n + functions_in_forest a) b,
+      as_many_numbered_forest n a,
     )
-    again m n (var a s) = cc (again_row m n a)
+    again m n (var a s) = cc (again_forest m n a)
     again m n (empty s) = refl
     again m n (expression a s) = cc (again m n a)
-    again m n (block a s) = cc (again_row m n a)
-    again m n (when a b c s) = cc (
+    again m n (block a s) = cc (again_forest m n a)
+    again m n (if_else a b c s) = cc (
       again m n a,
-      again_row (m + functions_in a) (n + functions_in a) b,
-      again_maybe (m + functions_in a + functions_in_row b) (n + functions_in a + functions_in_row b) c,
+      again_forest (m + functions_in a) (n + functions_in a) b,
+      again_optional (m + functions_in a + functions_in_forest b) (n + functions_in a + functions_in_forest b) c,
       as_many_numbered n a,
-      as_many_numbered_row (n + functions_in a) b,
+      as_many_numbered_forest (n + functions_in a) b,
     )
     again m n (do_while a b s) = cc (
-      again_row m n a,
-      again (m + functions_in_row a) (n + functions_in_row a) b,
-      as_many_numbered_row n a,
+      again_forest m n a,
+      again (m + functions_in_forest a) (n + functions_in_forest a) b,
+      as_many_numbered_forest n a,
     )
     again m n (while a b s) = cc (
       again m n a,
-      again_row (m + functions_in a) (n + functions_in a) b,
+      again_forest (m + functions_in a) (n + functions_in a) b,
       as_many_numbered n a,
     )
     again m n (for a b c d s) = cc (
       again m n a,
-      again_maybe (m + functions_in a) (n + functions_in a) b,
-      again_maybe (m + functions_in a + functions_in_maybe b) (n + functions_in a + functions_in_maybe b) c,
-      again_row (m + functions_in a + functions_in_maybe b + functions_in_maybe c) (n + functions_in a + functions_in_maybe b + functions_in_maybe c) d,
+      again_optional (m + functions_in a) (n + functions_in a) b,
+      again_optional (m + functions_in a + functions_in_optional b) (n + functions_in a + functions_in_optional b) c,
+      again_forest (m + functions_in a + functions_in_optional b + functions_in_optional c) (n + functions_in a + functions_in_optional b + functions_in_optional c) d,
       as_many_numbered n a,
-      as_many_numbered_maybe (n + functions_in a) b,
-      as_many_numbered_maybe (n + functions_in a + functions_in_maybe b) c,
+      as_many_numbered_optional (n + functions_in a) b,
+      as_many_numbered_optional (n + functions_in a + functions_in_optional b) c,
     )
     again m n (for_in is_var a b c s) = cc (
       again m n b,
-      again_row (m + functions_in b) (n + functions_in b) c,
+      again_forest (m + functions_in b) (n + functions_in b) c,
       as_many_numbered n b,
     )
     again m n (continue a s) = refl
     again m n (break a s) = refl
-    again m n (return a s) = cc (again_maybe m n a)
+    again m n (return a s) = cc (again_optional m n a)
     again m n (labelled a b s) = cc (again m n b)
     again m n (switch a b s) = cc (
       again m n a,
-      again_row (m + functions_in a) (n + functions_in a) b,
+      again_forest (m + functions_in a) (n + functions_in a) b,
       as_many_numbered n a,
     )
     again m n (throw a s) = cc (again m n a)
     again m n (try a b c s) = cc (
-      again_row m n a,
-      again_maybe (m + functions_in_row a) (n + functions_in_row a) b,
-      again_maybe (m + functions_in_row a + functions_in_maybe b) (n + functions_in_row a + functions_in_maybe b) c,
-      as_many_numbered_row n a,
-      as_many_numbered_maybe (n + functions_in_row a) b,
+      again_forest m n a,
+      again_optional (m + functions_in_forest a) (n + functions_in_forest a) b,
+      again_optional (m + functions_in_forest a + functions_in_optional b) (n + functions_in_forest a + functions_in_optional b) c,
+      as_many_numbered_forest n a,
+      as_many_numbered_optional (n + functions_in_forest a) b,
     )
     again m n (debugger s) = refl
     again m n nothing = refl
     again m n (init_expression a) = cc (again m n a)
-    again m n (init_var a) = cc (again_row m n a)
-    again m n (declarator a b) = cc (again_maybe m n b)
+    again m n (init_var a) = cc (again_forest m n a)
+    again m n (declarator a b) = cc (again_optional m n b)
     again m n (case a b) = cc (
-      again_maybe m n a,
-      again_row (m + functions_in_maybe a) (n + functions_in_maybe a) b,
-      as_many_numbered_maybe n a,
+      again_optional m n a,
+      again_forest (m + functions_in_optional a) (n + functions_in_optional a) b,
+      as_many_numbered_optional n a,
     )
-    again m n (branch_of a) = cc (again_row m n a)
-    again m n (catch a b) = cc (again_row m n b)
+    again m n (branch_of a) = cc (again_forest m n a)
+    again m n (catch a b) = cc (again_forest m n b)
 
-    pub again_row : {x : Sort} (m n : ℕ) (t : Row S x) → numbered_row m (numbered_row n t) ≡ numbered_row m t
-    again_row m n end = refl
-    again_row m n (more a b) = cc (
+    pub again_forest : {x : Sort} (m n : ℕ) (t : Forest S x) → numbered_forest m (numbered_forest n t) ≡ numbered_forest m t
+    again_forest m n end = refl
+    again_forest m n (more a b) = cc (
       again m n a,
-      again_row (m + functions_in a) (n + functions_in a) b,
+      again_forest (m + functions_in a) (n + functions_in a) b,
       as_many_numbered n a,
     )
 
-    pub again_maybe : {x : Sort} (m n : ℕ) (t : Maybe S x) → numbered_maybe m (numbered_maybe n t) ≡ numbered_maybe m t
-    again_maybe m n absent = refl
-    again_maybe m n (present a) = cc (again m n a)
+    pub again_optional : {x : Sort} (m n : ℕ) (t : OptionalTree S x) → numbered_optional m (numbered_optional n t) ≡ numbered_optional m t
+    again_optional m n absent = refl
+    again_optional m n (present a) = cc (again m n a)

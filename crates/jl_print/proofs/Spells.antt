@@ -5,12 +5,12 @@ use Rattle.std.proofs.lemmas.Option.{same_Some, none-some}
 use Rattle.jl_ast.specs.Tree.{Text}
 use Rattle.jl_token.specs.declared.token.Token.{Token}
 use Rattle.jl_token.specs.declared.token.TokenKind.{TokenKind}
-use Rattle.jl_grammar.specs.declared.sign.Sign.TheVariants as signs
+use Rattle.jl_grammar.specs.declared.terminal.Terminal.TheVariants as terminals
 use Rattle.jl_grammar.specs.declared.word.Word.{Word}
 use Rattle.jl_grammar.specs.Next.{is_identifier, is_name, is_key}
-use Rattle.jl_grammar.specs.Signs.{sign_of, name_sign}
+use Rattle.jl_grammar.specs.Terminals.{terminal_of, name_terminal}
 use Rattle.jl_grammar.specs.Words.{same_text, word_of}
-use Rattle.jl_grammar.specs.Tokens.{At, Is, sign_at, line_at, text_at, number_at, key_at, strict_at}
+use Rattle.jl_grammar.specs.Tokens.{At, Is, terminal_at, line_at, text_at, number_at, key_at, strict_at}
 use Rattle.jl_print.specs.Layout.{ends_line}
 use Rattle.jl_print.specs.Pieces.{name, string, key, is_bare_key}
 use Rattle.jl_print.specs.WellFormed.{IsIdentifier}
@@ -54,10 +54,10 @@ parts ts i line (k ∷ a) b j h =
     record { middle = p.middle; first = (h.0, p.first); second = p.second }
 
 -- what the grammar sees of such a token
-pub sign_spelled : (ts : List Token) (i : ℕ) (k : TokenKind) → kind_at ts i ≡ Some k → sign_at ts i ≡ sign_of k
-sign_spelled [] i k e = absurd (none-some _ e)
-sign_spelled (t ∷ ts) zero k e = ap sign_of (same_Some _ _ e)
-sign_spelled (t ∷ ts) (suc i) k e = sign_spelled ts i k e
+pub terminal_spelled : (ts : List Token) (i : ℕ) (k : TokenKind) → kind_at ts i ≡ Some k → terminal_at ts i ≡ terminal_of k
+terminal_spelled [] i k e = absurd (none-some _ e)
+terminal_spelled (t ∷ ts) zero k e = ap terminal_of (same_Some _ _ e)
+terminal_spelled (t ∷ ts) (suc i) k e = terminal_spelled ts i k e
 
 -- one token of a kind
 abbrev pub only : TokenKind → List Token
@@ -84,42 +84,42 @@ strict_spelled [] i k e = absurd (none-some _ e)
 strict_spelled (t ∷ ts) zero k e = ap (λ k. strict_at (only k) 0) (same_Some _ _ e)
 strict_spelled (t ∷ ts) (suc i) k e = strict_spelled ts i k e
 
-unreserved_is : (a b : Bool) → is_identifier (if a then signs.Get else if b then signs.Set else signs.Identifier) ≡ true
+unreserved_is : (a b : Bool) → is_identifier (if a then terminals.Get else if b then terminals.Set else terminals.Identifier) ≡ true
 unreserved_is true b = refl
 unreserved_is false true = refl
 unreserved_is false false = refl
 
-identifier_sign : (t : Text) → word_of t ≡ None → is_identifier (name_sign t false) ≡ true
-identifier_sign t e = rw e (unreserved_is (same_text (codes "get") t) (same_text (codes "set") t))
+identifier_terminal : (t : Text) → word_of t ≡ None → is_identifier (name_terminal t false) ≡ true
+identifier_terminal t e = rw e (unreserved_is (same_text (codes "get") t) (same_text (codes "set") t))
 
-unreserved_named : (a b : Bool) → is_name (if a then signs.Get else if b then signs.Set else signs.Identifier) ≡ true
+unreserved_named : (a b : Bool) → is_name (if a then terminals.Get else if b then terminals.Set else terminals.Identifier) ≡ true
 unreserved_named true b = refl
 unreserved_named false true = refl
 unreserved_named false false = refl
 
-name_is : (t : Text) → is_name (name_sign t false) ≡ true
+name_is : (t : Text) → is_name (name_terminal t false) ≡ true
 name_is t = go (word_of t) refl
   where
-    go : (o : Option Word) → word_of t ≡ o → is_name (name_sign t false) ≡ true
+    go : (o : Option Word) → word_of t ≡ o → is_name (name_terminal t false) ≡ true
     go (Some w) e = rw e refl
     go None e = rw e (unreserved_named (same_text (codes "get") t) (same_text (codes "set") t))
 
-unreserved_key : (a b : Bool) → is_key (if a then signs.Get else if b then signs.Set else signs.Identifier) ≡ true
+unreserved_key : (a b : Bool) → is_key (if a then terminals.Get else if b then terminals.Set else terminals.Identifier) ≡ true
 unreserved_key true b = refl
 unreserved_key false true = refl
 unreserved_key false false = refl
 
-name_is_key : (t : Text) → is_key (name_sign t false) ≡ true
+name_is_key : (t : Text) → is_key (name_terminal t false) ≡ true
 name_is_key t = go (word_of t) refl
   where
-    go : (o : Option Word) → word_of t ≡ o → is_key (name_sign t false) ≡ true
+    go : (o : Option Word) → word_of t ≡ o → is_key (name_terminal t false) ≡ true
     go (Some w) e = rw e refl
     go None e = rw e (unreserved_key (same_text (codes "get") t) (same_text (codes "set") t))
 
-key_is : (t : Text) → is_key (sign_of (key t)) ≡ true
+key_is : (t : Text) → is_key (terminal_of (key t)) ≡ true
 key_is t = go (is_bare_key t)
   where
-    go : (b : Bool) → is_key (sign_of (if b then name t else string t)) ≡ true
+    go : (b : Bool) → is_key (terminal_of (if b then name t else string t)) ≡ true
     go true = name_is_key t
     go false = refl
 
@@ -132,17 +132,17 @@ key_of_key t = go (is_bare_key t)
 
 -- A token of a kind, as the productions ask for it.
 module _ {ts : List Token} {i : ℕ} {below : Bool} where
-  pub at : {k : TokenKind} → Spelled ts i below k → At ts i (sign_of k)
-  at {k} s = record { is = sign_spelled ts i k s.kind }
+  pub at : {k : TokenKind} → Spelled ts i below k → At ts i (terminal_of k)
+  at {k} s = record { is = terminal_spelled ts i k s.kind }
 
   pub identifier : {t : Text} → IsIdentifier t → Spelled ts i below (name t) → Is is_identifier ts i
-  identifier {t} w s = record { is = ap is_identifier (sign_spelled ts i (name t) s.kind) ∙ identifier_sign t w.free }
+  identifier {t} w s = record { is = ap is_identifier (terminal_spelled ts i (name t) s.kind) ∙ identifier_terminal t w.free }
 
   pub any_name : {t : Text} → Spelled ts i below (name t) → Is is_name ts i
-  any_name {t} s = record { is = ap is_name (sign_spelled ts i (name t) s.kind) ∙ name_is t }
+  any_name {t} s = record { is = ap is_name (terminal_spelled ts i (name t) s.kind) ∙ name_is t }
 
   pub any_key : (t : Text) → Spelled ts i below (key t) → Is is_key ts i
-  any_key t s = record { is = ap is_key (sign_spelled ts i (key t) s.kind) ∙ key_is t }
+  any_key t s = record { is = ap is_key (terminal_spelled ts i (key t) s.kind) ∙ key_is t }
 
   pub name_text : {t : Text} → Spelled ts i below (name t) → text_at ts i ≡ t
   name_text {t} s = text_spelled ts i (name t) s.kind

@@ -2,12 +2,12 @@
 use Rattle.std.proofs.Common.{◌≡◌, ℕ, suc, Bool, true, false, refl, ap, ap₂}
 use Rattle.std.proofs.Common.{sym, subst, List, [], ◌∷◌, ◌++◌}
 use Rattle.std.specs.Prelude.{codes}
-use Rattle.jl_ast.specs.Tree.{Ident, Sort, Tree, Row, Maybe, Text}
+use Rattle.jl_ast.specs.Tree.{Ident, Sort, Tree, Forest, OptionalTree, Text}
 use Rattle.jl_ast.specs.Tree as tree
 use Rattle.jl_text.specs.declared.span.Span.{Span}
 use Rattle.jl_token.specs.declared.punct.Punct.TheVariants as puncts
 use Rattle.jl_token.specs.declared.token.Token.{Token}
-use Rattle.jl_grammar.specs.declared.sign.Sign.{Sign}
+use Rattle.jl_grammar.specs.declared.terminal.Terminal.{Terminal}
 use Rattle.jl_grammar.specs.Next.{close_paren, close_brace}
 use Rattle.jl_grammar.specs.Next.{semicolon, is_comma, is_else, is_finally}
 use Rattle.jl_grammar.specs.Next.{continues_left}
@@ -16,20 +16,20 @@ use Rattle.jl_grammar.specs.Reads.{Expr, Exprs, Stmt, Stmts, Code, IsTarget, Rea
 use Rattle.jl_grammar.specs.Reads.{ReadsArguments, ReadsArgumentList, ReadsItems, ReadsEntries, ReadsEntry, ReadsRest}
 use Rattle.jl_grammar.specs.Reads.{ReadsBody, BeginsLeft, BeginsBinary, ReadsAssignment, ReadsDeclaration}
 use Rattle.jl_grammar.specs.Reads.{ReadsDeclarations, ReadsBlock, ReadsStatement, ReadsStatements, ReadsHead}
-use Rattle.jl_grammar.specs.Reads.{ReadsInit, ReadsMaybe, ReadsClauses, ReadsCatch, ReadsElements, there}
+use Rattle.jl_grammar.specs.Reads.{ReadsInit, ReadsOptional, ReadsClauses, ReadsCatch, ReadsElements, there}
 use Rattle.jl_grammar.proofs.Progress.{expression_goes}
-use Rattle.jl_grammar.specs.Tokens.{At, sign_at, span, ident_at}
+use Rattle.jl_grammar.specs.Tokens.{At, terminal_at, span, ident_at}
 use Rattle.jl_print.specs.Pieces.{name, punct}
-use Rattle.jl_print.specs.Pieces.{in_parens, braced}
-use Rattle.jl_print.specs.Written.{written}
-use Rattle.jl_print.specs.Written.{written_all}
-use Rattle.jl_print.specs.Written.{written_maybe}
+use Rattle.jl_print.specs.Pieces.{in_parens, within_braces}
+use Rattle.jl_print.specs.CanonicalTokens.{tokens_of_node}
+use Rattle.jl_print.specs.CanonicalTokens.{tokens_of_all}
+use Rattle.jl_print.specs.CanonicalTokens.{tokens_of_optional}
 use Rattle.jl_print.proofs.Fronts.{stops}
 use Rattle.jl_print.proofs.Following.{goes_on, no_else, no_finally, first_line}
 use Rattle.jl_print.proofs.Names.{same_name}
 use Rattle.jl_print.proofs.Places.{Alone, whole}
 use Rattle.jl_print.proofs.Spells.{Spells, parts, line_after, at, identifier}
-use Rattle.jl_print.proofs.BackParts.{BackInit, BackMaybe}
+use Rattle.jl_print.proofs.BackParts.{BackInit, BackOptional}
 use Rattle.jl_print.proofs.BackParts.{BackStatement, BackHandler, BackClauses, statement_up_to}
 use Rattle.jl_print.proofs.BackParts.{head_back, same_when, same_for, same_for_in, same_try}
 use Rattle.jl_print.proofs.BackParts.{block_back}
@@ -37,65 +37,65 @@ use Rattle.jl_print.proofs.BackParts.{StatementsAlone, BackClauses}
 use Rattle.jl_print.specs.WellFormed.{IsIdentifier}
 
 -- how the parts are read where they are written
-abbrev pub MaybeAlone : List Token → Maybe Span tree.expr → Type 0
-MaybeAlone ts t =
-    (k : Sign) (i j : ℕ) (line : Bool) → Spells ts i line (written_maybe t) j → At ts j k → stops k ≡ true
-    → is_comma k ≡ false → BackMaybe ts k i t j
+abbrev pub OptionalAlone : List Token → OptionalTree Span tree.expr → Type 0
+OptionalAlone ts t =
+    (k : Terminal) (i j : ℕ) (line : Bool) → Spells ts i line (tokens_of_optional t) j → At ts j k → stops k ≡ true
+    → is_comma k ≡ false → BackOptional ts k i t j
 
 abbrev pub InitAlone : List Token → Tree Span tree.init → Type 0
 InitAlone ts t =
-    (i j : ℕ) (line : Bool) → Spells ts i line (written t) j → At ts j semicolon → BackInit ts i t j
+    (i j : ℕ) (line : Bool) → Spells ts i line (tokens_of_node t) j → At ts j semicolon → BackInit ts i t j
 
 abbrev pub HandlerAlone : List Token → Tree Span tree.handler → Type 0
-HandlerAlone ts t = (i j : ℕ) (line : Bool) → Spells ts i line (written t) j → BackHandler ts i t j
+HandlerAlone ts t = (i j : ℕ) (line : Bool) → Spells ts i line (tokens_of_node t) j → BackHandler ts i t j
 
-abbrev pub ClausesAlone : List Token → Row Span tree.clause → Type 0
+abbrev pub ClausesAlone : List Token → Forest Span tree.clause → Type 0
 ClausesAlone ts cs =
-    (i j : ℕ) (line : Bool) → Spells ts i line (written_all cs) j → At ts j close_brace → BackClauses ts true i cs j
+    (i j : ℕ) (line : Bool) → Spells ts i line (tokens_of_all cs) j → At ts j close_brace → BackClauses ts true i cs j
 
 abbrev pub StatementAlone : List Token → Stmt → Type 0
 StatementAlone ts t =
-    (i j : ℕ) (line : Bool) → Spells ts i line (written t) j → goes_on (sign_at ts j) ≡ false → BackStatement ts i t j
+    (i j : ℕ) (line : Bool) → Spells ts i line (tokens_of_node t) j → goes_on (terminal_at ts j) ≡ false → BackStatement ts i t j
 
 pub if_back : {ts : List Token} (a : Expr) → Alone ts a → (ws : Stmts) → StatementsAlone ts ws → (s : Span)
-    → StatementAlone ts (tree.when a ws tree.absent s)
-unfolding written
+    → StatementAlone ts (tree.if_else a ws tree.absent s)
+unfolding tokens_of_node
 if_back {ts} a alone ws inner s i j line h q =
-    let p = parts ts (suc i) false (in_parens (written a)) (braced (written_all ws) ++ []) j h.1 in
-    let r = parts ts p.middle (line_after false (in_parens (written a))) (braced (written_all ws)) [] j p.second in
+    let p = parts ts (suc i) false (in_parens (tokens_of_node a)) (within_braces (tokens_of_all ws) ++ []) j h.1 in
+    let r = parts ts p.middle (line_after false (in_parens (tokens_of_node a))) (within_braces (tokens_of_all ws)) [] j p.second in
     let x = head_back a alone (suc i) p.middle false p.first in
-    let y = block_back ws inner p.middle r.middle (line_after false (in_parens (written a))) r.first in
-    let e = subst (λ n. is_else (sign_at ts n) ≡ false) (sym r.second) (no_else (sign_at ts j) q) in
+    let y = block_back ws inner p.middle r.middle (line_after false (in_parens (tokens_of_node a))) r.first in
+    let e = subst (λ n. is_else (terminal_at ts n) ≡ false) (sym r.second) (no_else (terminal_at ts j) q) in
     statement_up_to (record {
-      statement = tree.when x.value y.statements tree.absent (span ts i r.middle);
-      same = ap₂ (λ x y. tree.when x y tree.absent tt) x.same y.same;
+      statement = tree.if_else x.value y.statements tree.absent (span ts i r.middle);
+      same = ap₂ (λ x y. tree.if_else x y tree.absent tt) x.same y.same;
       is = reads.an_if (at h.0) x.is (reads.several y.is) e;
     }) r.second
 
 pub if_else_back : {ts : List Token} (a : Expr) → Alone ts a → (ws : Stmts) → StatementsAlone ts ws → (us : Stmts) → StatementsAlone ts us → (s : Span)
-    → StatementAlone ts (tree.when a ws (tree.present (tree.branch_of us)) s)
-unfolding written
+    → StatementAlone ts (tree.if_else a ws (tree.present (tree.branch_of us)) s)
+unfolding tokens_of_node
 if_else_back {ts} a alone ws inner us other s i j line h q =
-    let p = parts ts (suc i) false (in_parens (written a))
-    (braced (written_all ws) ++ (name (codes "else") ∷ braced (written_all us))) j h.1 in
-    let r = parts ts p.middle (line_after false (in_parens (written a))) (braced (written_all ws))
-    (name (codes "else") ∷ braced (written_all us)) j p.second in
+    let p = parts ts (suc i) false (in_parens (tokens_of_node a))
+    (within_braces (tokens_of_all ws) ++ (name (codes "else") ∷ within_braces (tokens_of_all us))) j h.1 in
+    let r = parts ts p.middle (line_after false (in_parens (tokens_of_node a))) (within_braces (tokens_of_all ws))
+    (name (codes "else") ∷ within_braces (tokens_of_all us)) j p.second in
     let x = head_back a alone (suc i) p.middle false p.first in
-    let y = block_back ws inner p.middle r.middle (line_after false (in_parens (written a))) r.first in
+    let y = block_back ws inner p.middle r.middle (line_after false (in_parens (tokens_of_node a))) r.first in
     let z = block_back us other (suc r.middle) j false r.second.1 in
     record {
-      statement = tree.when x.value y.statements (tree.present (tree.branch_of z.statements)) (span ts i j);
+      statement = tree.if_else x.value y.statements (tree.present (tree.branch_of z.statements)) (span ts i j);
       same = same_when x.value a y.statements ws z.statements us x.same y.same z.same;
       is = reads.an_if_else (at h.0) x.is (reads.several y.is) (at r.second.0) (reads.several z.is);
     }
 
 pub do_while_back : {ts : List Token} (ws : Stmts) → StatementsAlone ts ws → (a : Expr) → Alone ts a → (s : Span)
     → StatementAlone ts (tree.do_while ws a s)
-unfolding written
+unfolding tokens_of_node
 do_while_back {ts} ws inner a alone s i j line h q =
-    let p = parts ts (suc i) false (braced (written_all ws))
-    (name (codes "while") ∷ (in_parens (written a) ++ punct puncts.Semicolon ∷ [])) j h.1 in
-    let r = parts ts (suc p.middle) false (in_parens (written a)) (punct puncts.Semicolon ∷ []) j p.second.1 in
+    let p = parts ts (suc i) false (within_braces (tokens_of_all ws))
+    (name (codes "while") ∷ (in_parens (tokens_of_node a) ++ punct puncts.Semicolon ∷ [])) j h.1 in
+    let r = parts ts (suc p.middle) false (in_parens (tokens_of_node a)) (punct puncts.Semicolon ∷ []) j p.second.1 in
     let x = block_back ws inner (suc i) p.middle false p.first in
     let y = head_back a alone (suc p.middle) r.middle false r.first in
     statement_up_to (record {
@@ -106,27 +106,27 @@ do_while_back {ts} ws inner a alone s i j line h q =
 
 pub while_back : {ts : List Token} (a : Expr) → Alone ts a → (ws : Stmts) → StatementsAlone ts ws → (s : Span)
     → StatementAlone ts (tree.while a ws s)
-unfolding written
+unfolding tokens_of_node
 while_back {ts} a alone ws inner s i j line h q =
-    let p = parts ts (suc i) false (in_parens (written a)) (braced (written_all ws)) j h.1 in
+    let p = parts ts (suc i) false (in_parens (tokens_of_node a)) (within_braces (tokens_of_all ws)) j h.1 in
     let x = head_back a alone (suc i) p.middle false p.first in
-    let y = block_back ws inner p.middle j (line_after false (in_parens (written a))) p.second in
+    let y = block_back ws inner p.middle j (line_after false (in_parens (tokens_of_node a))) p.second in
     record {
       statement = tree.while x.value y.statements (span ts i j);
       same = ap₂ (λ x y. tree.while x y tt) x.same y.same;
       is = reads.a_while (at h.0) x.is (reads.several y.is);
     }
 
-pub for_back : {ts : List Token} (f : Tree Span tree.init) → InitAlone ts f → (a b : Maybe Span tree.expr) → MaybeAlone ts a → MaybeAlone ts b → (ws : Stmts) → StatementsAlone ts ws → (s : Span)
+pub for_back : {ts : List Token} (f : Tree Span tree.init) → InitAlone ts f → (a b : OptionalTree Span tree.expr) → OptionalAlone ts a → OptionalAlone ts b → (ws : Stmts) → StatementsAlone ts ws → (s : Span)
     → StatementAlone ts (tree.for f a b ws s)
-unfolding written
+unfolding tokens_of_node
 for_back {ts} f first a b test step ws inner s i j line h q =
-    let ks = written f ++ (punct puncts.Semicolon ∷ (written_maybe a ++ (punct puncts.Semicolon ∷ written_maybe b))) in
-    let p = parts ts (suc i) false (in_parens ks) (braced (written_all ws)) j h.1 in
+    let ks = tokens_of_node f ++ (punct puncts.Semicolon ∷ (tokens_of_optional a ++ (punct puncts.Semicolon ∷ tokens_of_optional b))) in
+    let p = parts ts (suc i) false (in_parens ks) (within_braces (tokens_of_all ws)) j h.1 in
     let r = parts ts (suc (suc i)) false ks (punct puncts.RightParen ∷ []) p.middle p.first.1 in
-    let u = parts ts (suc (suc i)) false (written f)
-    (punct puncts.Semicolon ∷ (written_maybe a ++ (punct puncts.Semicolon ∷ written_maybe b))) r.middle r.first in
-    let v = parts ts (suc u.middle) true (written_maybe a) (punct puncts.Semicolon ∷ written_maybe b) r.middle
+    let u = parts ts (suc (suc i)) false (tokens_of_node f)
+    (punct puncts.Semicolon ∷ (tokens_of_optional a ++ (punct puncts.Semicolon ∷ tokens_of_optional b))) r.middle r.first in
+    let v = parts ts (suc u.middle) true (tokens_of_optional a) (punct puncts.Semicolon ∷ tokens_of_optional b) r.middle
     u.second.1 in
     let k = at r.second.0 in
     let x = first (suc (suc i)) u.middle false u.first (at u.second.0) in
@@ -135,19 +135,19 @@ for_back {ts} f first a b test step ws inner s i j line h q =
     let g = block_back ws inner p.middle j (line_after false (in_parens ks)) p.second in
     let o = subst (λ n. ReadsBlock ts n g.statements j) (sym r.second.1) g.is in
     record {
-      statement = tree.for x.init y.maybe z.maybe g.statements (span ts i j);
-      same = same_for x.init f y.maybe a z.maybe b g.statements ws x.same y.same z.same g.same;
+      statement = tree.for x.init y.optional z.optional g.statements (span ts i j);
+      same = same_for x.init f y.optional a z.optional b g.statements ws x.same y.same z.same g.same;
       is = reads.a_for (at h.0) (at p.first.0) x.is (at u.second.0) y.is (at v.second.0) z.is k (reads.several o);
     }
 
 pub for_var_in_back : {ts : List Token} (x : Ident Span) → IsIdentifier x.text → (a : Expr) → Alone ts a → (ws : Stmts) → StatementsAlone ts ws → (s : Span)
     → StatementAlone ts (tree.for_in true x a ws s)
-unfolding written
+unfolding tokens_of_node
 for_var_in_back {ts} x free a alone ws inner s i j line h q =
-    let ks = name (codes "var") ∷ name x.text ∷ name (codes "in") ∷ written a in
-    let p = parts ts (suc i) false (in_parens ks) (braced (written_all ws)) j h.1 in
+    let ks = name (codes "var") ∷ name x.text ∷ name (codes "in") ∷ tokens_of_node a in
+    let p = parts ts (suc i) false (in_parens ks) (within_braces (tokens_of_all ws)) j h.1 in
     let g = p.first.1.1.1.1 in
-    let r = parts ts (suc (suc (suc (suc (suc i))))) false (written a) (punct puncts.RightParen ∷ []) p.middle g in
+    let r = parts ts (suc (suc (suc (suc (suc i))))) false (tokens_of_node a) (punct puncts.RightParen ∷ []) p.middle g in
     let k = at r.second.0 in
     let y = whole a alone false (suc (suc (suc (suc (suc i))))) r.middle false r.first
     (ap stops k.is) (ap is_comma k.is) in
@@ -163,11 +163,11 @@ for_var_in_back {ts} x free a alone ws inner s i j line h q =
 
 pub for_in_back : {ts : List Token} (x : Ident Span) → IsIdentifier x.text → (a : Expr) → Alone ts a → (ws : Stmts) → StatementsAlone ts ws → (s : Span)
     → StatementAlone ts (tree.for_in false x a ws s)
-unfolding written
+unfolding tokens_of_node
 for_in_back {ts} x free a alone ws inner s i j line h q =
-    let ks = name x.text ∷ name (codes "in") ∷ written a in
-    let p = parts ts (suc i) false (in_parens ks) (braced (written_all ws)) j h.1 in
-    let r = parts ts (suc (suc (suc (suc i)))) false (written a) (punct puncts.RightParen ∷ []) p.middle
+    let ks = name x.text ∷ name (codes "in") ∷ tokens_of_node a in
+    let p = parts ts (suc i) false (in_parens ks) (within_braces (tokens_of_all ws)) j h.1 in
+    let r = parts ts (suc (suc (suc (suc i)))) false (tokens_of_node a) (punct puncts.RightParen ∷ []) p.middle
     p.first.1.1.1 in
     let k = at r.second.0 in
     let y = whole a alone false (suc (suc (suc (suc i)))) r.middle false r.first
@@ -183,12 +183,12 @@ for_in_back {ts} x free a alone ws inner s i j line h q =
           (reads.a_name (identifier free p.first.1.0))) (ap (continues_left true) m.is)) m y.is k (reads.several o);
     }
 
-pub switch_back : {ts : List Token} (a : Expr) → Alone ts a → (cs : Row Span tree.clause) → ClausesAlone ts cs → (s : Span)
+pub switch_back : {ts : List Token} (a : Expr) → Alone ts a → (cs : Forest Span tree.clause) → ClausesAlone ts cs → (s : Span)
     → StatementAlone ts (tree.switch a cs s)
-unfolding written
+unfolding tokens_of_node
 switch_back {ts} a alone cs inner s i j line h q =
-    let p = parts ts (suc i) false (in_parens (written a)) (braced (written_all cs)) j h.1 in
-    let r = parts ts (suc p.middle) true (written_all cs) (punct puncts.RightBrace ∷ []) j p.second.1 in
+    let p = parts ts (suc i) false (in_parens (tokens_of_node a)) (within_braces (tokens_of_all cs)) j h.1 in
+    let r = parts ts (suc p.middle) true (tokens_of_all cs) (punct puncts.RightBrace ∷ []) j p.second.1 in
     let k = at r.second.0 in
     let x = head_back a alone (suc i) p.middle false p.first in
     let y = inner (suc p.middle) r.middle true r.first k in
@@ -200,12 +200,12 @@ switch_back {ts} a alone cs inner s i j line h q =
 
 pub return_back : {ts : List Token} (a : Expr) → Alone ts a → (s : Span)
     → StatementAlone ts (tree.return (tree.present a) s)
-unfolding written
+unfolding tokens_of_node
 return_back {ts} a alone s i j line h q =
-    let p = parts ts (suc i) false (written a) (punct puncts.Semicolon ∷ []) j h.1 in
+    let p = parts ts (suc i) false (tokens_of_node a) (punct puncts.Semicolon ∷ []) j h.1 in
     let k = at p.second.0 in
     let x = whole a alone false (suc i) p.middle false p.first (ap stops k.is) (ap is_comma k.is) in
-    let e = first_line ts (written a) p.first (expression_goes x.is) in
+    let e = first_line ts (tokens_of_node a) p.first (expression_goes x.is) in
     statement_up_to (record {
       statement = tree.return (tree.present x.tree) (span ts i (suc p.middle));
       same = ap (λ x. tree.return (tree.present x) tt) x.same;
@@ -214,12 +214,12 @@ return_back {ts} a alone s i j line h q =
 
 pub throw_back : {ts : List Token} (a : Expr) → Alone ts a → (s : Span)
     → StatementAlone ts (tree.throw a s)
-unfolding written
+unfolding tokens_of_node
 throw_back {ts} a alone s i j line h q =
-    let p = parts ts (suc i) false (written a) (punct puncts.Semicolon ∷ []) j h.1 in
+    let p = parts ts (suc i) false (tokens_of_node a) (punct puncts.Semicolon ∷ []) j h.1 in
     let k = at p.second.0 in
     let x = whole a alone false (suc i) p.middle false p.first (ap stops k.is) (ap is_comma k.is) in
-    let e = first_line ts (written a) p.first (expression_goes x.is) in
+    let e = first_line ts (tokens_of_node a) p.first (expression_goes x.is) in
     statement_up_to (record {
       statement = tree.throw x.tree (span ts i (suc p.middle));
       same = ap (λ x. tree.throw x tt) x.same;
@@ -228,14 +228,14 @@ throw_back {ts} a alone s i j line h q =
 
 pub try_catch_back : {ts : List Token} (ws : Stmts) → StatementsAlone ts ws → (c : Tree Span tree.handler) → HandlerAlone ts c → (s : Span)
     → StatementAlone ts (tree.try ws (tree.present c) tree.absent s)
-unfolding written
+unfolding tokens_of_node
 try_catch_back {ts} ws inner c handler s i j line h q =
-    let p = parts ts (suc i) false (braced (written_all ws)) (written c ++ []) j h.1 in
-    let m = line_after false (braced (written_all ws)) in
-    let r = parts ts p.middle m (written c) [] j p.second in
+    let p = parts ts (suc i) false (within_braces (tokens_of_all ws)) (tokens_of_node c ++ []) j h.1 in
+    let m = line_after false (within_braces (tokens_of_all ws)) in
+    let r = parts ts p.middle m (tokens_of_node c) [] j p.second in
     let x = block_back ws inner (suc i) p.middle false p.first in
     let y = handler p.middle r.middle m r.first in
-    let e = subst (λ n. is_finally (sign_at ts n) ≡ false) (sym r.second) (no_finally (sign_at ts j) q) in
+    let e = subst (λ n. is_finally (terminal_at ts n) ≡ false) (sym r.second) (no_finally (terminal_at ts j) q) in
     statement_up_to (record {
       statement = tree.try x.statements (tree.present y.handler) tree.absent (span ts i r.middle);
       same = ap₂ (λ x y. tree.try x (tree.present y) tree.absent tt) x.same y.same;
@@ -244,9 +244,9 @@ try_catch_back {ts} ws inner c handler s i j line h q =
 
 pub try_finally_back : {ts : List Token} (ws : Stmts) → StatementsAlone ts ws → (us : Stmts) → StatementsAlone ts us → (s : Span)
     → StatementAlone ts (tree.try ws tree.absent (tree.present (tree.branch_of us)) s)
-unfolding written
+unfolding tokens_of_node
 try_finally_back {ts} ws inner us other s i j line h q =
-    let p = parts ts (suc i) false (braced (written_all ws)) (name (codes "finally") ∷ braced (written_all us)) j h.1 in
+    let p = parts ts (suc i) false (within_braces (tokens_of_all ws)) (name (codes "finally") ∷ within_braces (tokens_of_all us)) j h.1 in
     let x = block_back ws inner (suc i) p.middle false p.first in
     let y = block_back us other (suc p.middle) j false p.second.1 in
     record {
@@ -257,12 +257,12 @@ try_finally_back {ts} ws inner us other s i j line h q =
 
 pub try_both_back : {ts : List Token} (ws : Stmts) → StatementsAlone ts ws → (c : Tree Span tree.handler) → HandlerAlone ts c → (us : Stmts) → StatementsAlone ts us → (s : Span)
     → StatementAlone ts (tree.try ws (tree.present c) (tree.present (tree.branch_of us)) s)
-unfolding written
+unfolding tokens_of_node
 try_both_back {ts} ws inner c handler us other s i j line h q =
-    let p = parts ts (suc i) false (braced (written_all ws))
-    (written c ++ (name (codes "finally") ∷ braced (written_all us))) j h.1 in
-    let m = line_after false (braced (written_all ws)) in
-    let r = parts ts p.middle m (written c) (name (codes "finally") ∷ braced (written_all us)) j p.second in
+    let p = parts ts (suc i) false (within_braces (tokens_of_all ws))
+    (tokens_of_node c ++ (name (codes "finally") ∷ within_braces (tokens_of_all us))) j h.1 in
+    let m = line_after false (within_braces (tokens_of_all ws)) in
+    let r = parts ts p.middle m (tokens_of_node c) (name (codes "finally") ∷ within_braces (tokens_of_all us)) j p.second in
     let x = block_back ws inner (suc i) p.middle false p.first in
     let y = handler p.middle r.middle m r.first in
     let z = block_back us other (suc r.middle) j false r.second.1 in

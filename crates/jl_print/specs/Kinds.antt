@@ -7,11 +7,11 @@ use Rattle.jl_token.specs.declared.token.TokenKind.{TokenKind}
 use Rattle.jl_token.specs.declared.token.TokenKind.TheVariants as kinds
 use Rattle.jl_print.specs.declared.piece.Piece.{Piece}
 use Rattle.jl_print.specs.declared.piece.Piece.TheVariants as pieces
-use Rattle.jl_print.specs.Pieces.{name, key, string, punct, assign_punct, braced, fitted}
-use Rattle.jl_print.specs.Ranks.{fits}
-use Rattle.jl_print.specs.Written.{written, written_maybe, colon, comma, semicolon, parameters}
+use Rattle.jl_print.specs.Pieces.{name, key, string, punct, assign_punct, within_braces, in_parens_unless}
+use Rattle.jl_print.specs.Precedence.{fits}
+use Rattle.jl_print.specs.CanonicalTokens.{tokens_of_node, tokens_of_optional, colon, comma, semicolon, parameters}
 use Rattle.jl_ast.specs.Tree as tree
-use Rattle.jl_ast.specs.Tree.{Tree, Maybe}
+use Rattle.jl_ast.specs.Tree.{Tree, OptionalTree}
 use Rattle.jl_ast.specs.declared.ops.BinOp.{BinOp}
 use Rattle.jl_token.specs.declared.punct.Punct.{Punct}
 
@@ -40,24 +40,24 @@ assigning None = puncts.Assign
 assigning (Some op) = assign_punct op
 
 -- `case` and its test, or `default` (12.11)
-abbrev pub case_head : {S : Type 0} → Maybe S tree.expr → List TokenKind
+abbrev pub case_head : {S : Type 0} → OptionalTree S tree.expr → List TokenKind
 case_head tree.absent = name (codes "default") ∷ colon ∷ []
-case_head (tree.present a) = name (codes "case") ∷ (written a ++ colon ∷ [])
+case_head (tree.present a) = name (codes "case") ∷ (tokens_of_node a ++ colon ∷ [])
 
 -- what stands after a function's name (clause 13)
 abbrev pub after_name : {S : Type 0} → Tree S tree.func → List TokenKind
-after_name (tree.function n x ps c s) = parameters ps ++ braced (written c)
+after_name (tree.function n x ps c s) = parameters ps ++ within_braces (tokens_of_node c)
 
 -- an element of an array literal, with the comma after it (11.1.4)
 abbrev pub item_with_comma : {S : Type 0} → Tree S tree.item → (last : Bool) → List TokenKind
 item_with_comma tree.hole last = comma ∷ []
-item_with_comma (tree.filled a) last = fitted (fits a 13) (written a) ++ comma_unless last
+item_with_comma (tree.filled a) last = in_parens_unless (fits a 13) (tokens_of_node a) ++ comma_unless last
 
 -- what a variable is declared with (12.2)
-abbrev pub initializer : {S : Type 0} → Maybe S tree.expr → List TokenKind
+abbrev pub initializer : {S : Type 0} → OptionalTree S tree.expr → List TokenKind
 initializer tree.absent = []
-initializer (tree.present a) = punct puncts.Assign ∷ fitted (fits a 13) (written a)
+initializer (tree.present a) = punct puncts.Assign ∷ in_parens_unless (fits a 13) (tokens_of_node a)
 
 -- a semicolon in the head of a `for`, and the expression after it (12.6.3)
-abbrev pub for_part : {S : Type 0} → Maybe S tree.expr → List TokenKind
-for_part e = semicolon ∷ written_maybe e
+abbrev pub for_part : {S : Type 0} → OptionalTree S tree.expr → List TokenKind
+for_part e = semicolon ∷ tokens_of_optional e

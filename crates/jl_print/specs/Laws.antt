@@ -2,7 +2,7 @@
 use Rattle.std.specs.Prelude.{◌≡◌, ◌≤◌, ℕ, false, List}
 use Rattle.std.specs.Char.Utf16.{has_unpaired_surrogate}
 use Rattle.jl_ast.specs.Height.{program_height}
-use Rattle.jl_ast.specs.Spans.{bare}
+use Rattle.jl_ast.specs.Spans.{without_spans}
 use Rattle.jl_ast.specs.Tree.{Program}
 use Rattle.jl_grammar.specs.Program.{Reads}
 use Rattle.jl_text.specs.declared.span.Span.{Span}
@@ -17,7 +17,7 @@ pub record ReadsBack (text : List ℕ) (limit : ℕ) (p : Program Span) : Type 0
   pub lexed : Tokens text tokens
   pub program : Program Span
   pub read : Reads tokens limit program
-  pub same : bare program ≡ bare p
+  pub same : without_spans program ≡ without_spans p
 
 -- the canonical text of a well formed program reads back, within any limit that the program keeps
 abbrev pub PrintedReadsBack : Type 0

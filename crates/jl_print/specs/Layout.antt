@@ -5,7 +5,7 @@ use Rattle.jl_token.specs.declared.punct.Punct.TheVariants as puncts
 use Rattle.jl_token.specs.declared.token.TokenKind.{TokenKind}
 use Rattle.jl_token.specs.declared.token.TokenKind.TheVariants.{Punct, Number}
 use Rattle.jl_token.specs.Spelling.{spelled}
-use Rattle.jl_print.specs.Written.{tokens_of}
+use Rattle.jl_print.specs.CanonicalTokens.{tokens_of}
 
 -- `;`, `{` and `}`
 abbrev pub ends_line : TokenKind → Bool
@@ -50,11 +50,11 @@ between left right =
     else 32 ∷ []))
 
 -- tokens one after the other; after the last one stands LF
-abbrev pub laid_out : List TokenKind → List ℕ
-laid_out [] = []
-laid_out (k ∷ []) = spelled k ++ 10 ∷ []
-laid_out (k ∷ l ∷ ks) = spelled k ++ (between k l ++ laid_out (l ∷ ks))
+abbrev pub layout_of : List TokenKind → List ℕ
+layout_of [] = []
+layout_of (k ∷ []) = spelled k ++ 10 ∷ []
+layout_of (k ∷ l ∷ ks) = spelled k ++ (between k l ++ layout_of (l ∷ ks))
 
 -- the canonical text of a program
 abbrev pub text_of : {S : Type 0} → Program S → List ℕ
-text_of p = laid_out (tokens_of p)
+text_of p = layout_of (tokens_of p)

@@ -1,6 +1,6 @@
 pub mod Pieces
-pub mod Ranks
-pub mod Written
+pub mod Precedence
+pub mod CanonicalTokens
 pub mod Layout
 pub mod Kinds
 pub mod WellFormed

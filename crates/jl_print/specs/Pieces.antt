@@ -100,10 +100,10 @@ abbrev pub in_parens : List TokenKind → List TokenKind
 in_parens ks = punct puncts.LeftParen ∷ (ks ++ punct puncts.RightParen ∷ [])
 
 -- as it is where it fits, and else in brackets
-abbrev pub fitted : Bool → List TokenKind → List TokenKind
-fitted true ks = ks
-fitted false ks = in_parens ks
+abbrev pub in_parens_unless : Bool → List TokenKind → List TokenKind
+in_parens_unless true ks = ks
+in_parens_unless false ks = in_parens ks
 
 -- in braces
-abbrev pub braced : List TokenKind → List TokenKind
-braced ks = punct puncts.LeftBrace ∷ (ks ++ punct puncts.RightBrace ∷ [])
+abbrev pub within_braces : List TokenKind → List TokenKind
+within_braces ks = punct puncts.LeftBrace ∷ (ks ++ punct puncts.RightBrace ∷ [])

@@ -1,7 +1,7 @@
 -- Which trees have a canonical text that reads back: all that the grammar reads are such.
 use Rattle.std.specs.Prelude.{◌≡◌, ◌≤◌, ℕ, Bool, true, false, ◌&&◌, List, [], ◌∷◌, Option, Some, None, length, pos}
 use Rattle.jl_ast.specs.Numbering.{numbered}
-use Rattle.jl_ast.specs.Tree.{Ident, Program, Sort, Tree, Row, Maybe, Text}
+use Rattle.jl_ast.specs.Tree.{Ident, Program, Sort, Tree, Forest, OptionalTree, Text}
 use Rattle.jl_ast.specs.Tree as tree
 use Rattle.jl_ast.specs.declared.ops.BinOp.{BinOp}
 use Rattle.jl_ast.specs.declared.ops.BinOp.TheVariants as ops
@@ -32,7 +32,7 @@ pub record IsIdentifier (t : Text) : Type 0 where
   pub name : IsName t
   pub free : word_of t ≡ None
 
--- a numeric literal has no sign (7.8.3)
+-- a numeric literal has no terminal (7.8.3)
 pub record IsLiteral (n : Number) : Type 0 where
   pub value : ℕ
   pub is : n ≡ Some (pos value)
@@ -57,33 +57,33 @@ abbrev pub IsAssigning : Option BinOp → Type 0
 IsAssigning None = Unit {0}
 IsAssigning (Some op) = is_compound op ≡ true
 
-abbrev pub IsMaybeIdentifier : {S : Type 0} → Option (Ident S) → Type 0
-IsMaybeIdentifier None = Unit {0}
-IsMaybeIdentifier (Some x) = IsIdentifier x.text
+abbrev pub IsOptionalIdentifier : {S : Type 0} → Option (Ident S) → Type 0
+IsOptionalIdentifier None = Unit {0}
+IsOptionalIdentifier (Some x) = IsIdentifier x.text
 
 abbrev pub AreIdentifiers : {S : Type 0} → List (Ident S) → Type 0
 AreIdentifiers [] = Unit {0}
 AreIdentifiers (x ∷ xs) = IsIdentifier x.text × AreIdentifiers xs
 
 -- a list with something in it
-abbrev pub IsSome : {S : Type 0} {x : Sort} → Row S x → Type 0
+abbrev pub IsSome : {S : Type 0} {x : Sort} → Forest S x → Type 0
 IsSome tree.end = ⊥
 IsSome (tree.more t r) = Unit {0}
 
 -- one of the two is there
-abbrev pub IsEither : {S : Type 0} {x y : Sort} → Maybe S x → Maybe S y → Type 0
+abbrev pub IsEither : {S : Type 0} {x y : Sort} → OptionalTree S x → OptionalTree S y → Type 0
 IsEither tree.absent tree.absent = ⊥
 IsEither _ _ = Unit {0}
 
 -- clauses of a `switch` with one default at most (12.11); with false there was one before
-abbrev pub HasOneDefault : {S : Type 0} → (fresh : Bool) → Row S tree.clause → Type 0
+abbrev pub HasOneDefault : {S : Type 0} → (fresh : Bool) → Forest S tree.clause → Type 0
 HasOneDefault fresh tree.end = Unit {0}
 HasOneDefault fresh (tree.more (tree.case (tree.present a) ws) r) = HasOneDefault fresh r
 HasOneDefault true (tree.more (tree.case tree.absent ws) r) = HasOneDefault false r
 HasOneDefault false (tree.more (tree.case tree.absent ws) r) = ⊥
 
 -- function declarations have names (clause 13)
-abbrev pub AreNamed : {S : Type 0} → Row S tree.func → Type 0
+abbrev pub AreNamed : {S : Type 0} → Forest S tree.func → Type 0
 AreNamed tree.end = Unit {0}
 AreNamed (tree.more (tree.function n None ps c s) r) = ⊥
 AreNamed (tree.more (tree.function n (Some x) ps c s) r) = AreNamed r
@@ -128,40 +128,40 @@ abbrev mutual
   WellFormed (tree.value k a) = IsShort k.text × WellFormed a
   WellFormed (tree.getter k f) = IsShort k.text × IsGetter f × WellFormed f
   WellFormed (tree.setter k f) = IsShort k.text × IsSetter f × WellFormed f
-  WellFormed (tree.function n x ps c s) = IsMaybeIdentifier x × AreIdentifiers ps × WellFormed c
+  WellFormed (tree.function n x ps c s) = IsOptionalIdentifier x × AreIdentifiers ps × WellFormed c
   WellFormed (tree.body strict fs ws) = AreNamed fs × AllWellFormed fs × AllWellFormed ws
   WellFormed (tree.var ds s) = IsSome ds × AllWellFormed ds
   WellFormed (tree.empty s) = Unit {0}
   WellFormed (tree.expression a s) = WellFormed a
   WellFormed (tree.block ws s) = AllWellFormed ws
-  WellFormed (tree.when a ws b s) = WellFormed a × AllWellFormed ws × MaybeWellFormed b
+  WellFormed (tree.if_else a ws b s) = WellFormed a × AllWellFormed ws × OptionalWellFormed b
   WellFormed (tree.do_while ws a s) = AllWellFormed ws × WellFormed a
   WellFormed (tree.while a ws s) = WellFormed a × AllWellFormed ws
-  WellFormed (tree.for i a b ws s) = WellFormed i × MaybeWellFormed a × MaybeWellFormed b × AllWellFormed ws
+  WellFormed (tree.for i a b ws s) = WellFormed i × OptionalWellFormed a × OptionalWellFormed b × AllWellFormed ws
   WellFormed (tree.for_in is_var x a ws s) = IsIdentifier x.text × WellFormed a × AllWellFormed ws
-  WellFormed (tree.continue x s) = IsMaybeIdentifier x
-  WellFormed (tree.break x s) = IsMaybeIdentifier x
-  WellFormed (tree.return a s) = MaybeWellFormed a
+  WellFormed (tree.continue x s) = IsOptionalIdentifier x
+  WellFormed (tree.break x s) = IsOptionalIdentifier x
+  WellFormed (tree.return a s) = OptionalWellFormed a
   WellFormed (tree.labelled x w s) = IsIdentifier x.text × WellFormed w
   WellFormed (tree.switch a cs s) = WellFormed a × HasOneDefault true cs × AllWellFormed cs
   WellFormed (tree.throw a s) = WellFormed a
-  WellFormed (tree.try ws h b s) = AllWellFormed ws × IsEither h b × MaybeWellFormed h × MaybeWellFormed b
+  WellFormed (tree.try ws h b s) = AllWellFormed ws × IsEither h b × OptionalWellFormed h × OptionalWellFormed b
   WellFormed (tree.debugger s) = Unit {0}
   WellFormed tree.nothing = Unit {0}
   WellFormed (tree.init_expression a) = WellFormed a
   WellFormed (tree.init_var ds) = IsSome ds × AllWellFormed ds
-  WellFormed (tree.declarator x a) = IsIdentifier x.text × MaybeWellFormed a
-  WellFormed (tree.case a ws) = MaybeWellFormed a × AllWellFormed ws
+  WellFormed (tree.declarator x a) = IsIdentifier x.text × OptionalWellFormed a
+  WellFormed (tree.case a ws) = OptionalWellFormed a × AllWellFormed ws
   WellFormed (tree.branch_of ws) = AllWellFormed ws
   WellFormed (tree.catch x ws) = IsIdentifier x.text × AllWellFormed ws
 
-  pub AllWellFormed : {S : Type 0} {x : Sort} → Row S x → Type 0
+  pub AllWellFormed : {S : Type 0} {x : Sort} → Forest S x → Type 0
   AllWellFormed tree.end = Unit {0}
   AllWellFormed (tree.more t r) = WellFormed t × AllWellFormed r
 
-  pub MaybeWellFormed : {S : Type 0} {x : Sort} → Maybe S x → Type 0
-  MaybeWellFormed tree.absent = Unit {0}
-  MaybeWellFormed (tree.present t) = WellFormed t
+  pub OptionalWellFormed : {S : Type 0} {x : Sort} → OptionalTree S x → Type 0
+  OptionalWellFormed tree.absent = Unit {0}
+  OptionalWellFormed (tree.present t) = WellFormed t
 
 -- a well formed program with its functions numbered
 pub record IsWellFormed {S : Type 0} (p : Program S) : Type 0 where

@@ -2,7 +2,7 @@
 
 ghost use Rattle.std.specs.Prelude.{◌≡◌, ◌++◌, map, IfOk, OnOk};
 ghost use Rattle.jl_print.specs.Kinds.{after, kind_of};
-ghost use Rattle.jl_print.specs.Layout.{between, ends_line, is_dot, is_number, joins_left, joins_right, laid_out};
+ghost use Rattle.jl_print.specs.Layout.{between, ends_line, is_dot, is_number, joins_left, joins_right, layout_of};
 ghost use Rattle.jl_print.specs.Pieces.{are_plain, is_bare_key, is_plain_digit, is_plain_letter};
 ghost use Rattle.jl_text.specs.Quoted.{quoted};
 ghost use Rattle.jl_token.specs.Spelling.{spelled};
@@ -15,7 +15,7 @@ use std::alloc::Global;
 
 /// The text of these tokens, with what stands between them.
 pub(crate) fn lay_out<'a>(alloc: Global, pieces: &[Piece<'a>]) -> Result<Vec<u16>, NoMemory>
-    ensures { IfOk result (λ text. text.items ≡ laid_out (map kind_of pieces.now)) }
+    ensures { IfOk result (λ text. text.items ≡ layout_of (map kind_of pieces.now)) }
 {
     let mut text = Vec::new(alloc);
     for (at, piece) in pieces.iter().enumerate() {

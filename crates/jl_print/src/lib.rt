@@ -9,7 +9,7 @@ mod alone;
 pub mod laws;
 mod layout;
 mod piece;
-mod ranks;
+mod precedence;
 mod walk;
 
 use crate::layout::lay_out;

@@ -1,19 +1,19 @@
-#![tactic(auto, using(jl_ast::proofs::Views::nodes), unfolding(crate::specs::Written::written))]
+#![tactic(auto, using(jl_ast::proofs::Views::nodes), unfolding(crate::specs::CanonicalTokens::tokens_of_node))]
 
 ghost use Rattle.std.specs.Prelude.{◌≡◌, ◌++◌, ◌∷◌, [], OnOk, map, Some, None, codes, option_map, if◌then◌else◌};
-ghost use Rattle.jl_ast.specs.View.{view_ident, view_expression, view_expressions, view_maybe, view_items, view_target, view_entry};
+ghost use Rattle.jl_ast.specs.View.{view_ident, view_expression, view_expressions, view_optional, view_items, view_target, view_entry};
 ghost use Rattle.jl_ast.specs.View.{view_entries, view_function, view_functions, view_body, view_statement, view_statements};
 ghost use Rattle.jl_ast.specs.View.{view_branch, view_catch, view_init, view_declarators, view_declarator, view_case, view_cases, item};
-ghost use Rattle.jl_print.specs.Pieces.{name, fitted, in_parens, braced, operator, prefix_operator, update_operator, assign_punct, punct};
-ghost use Rattle.jl_print.specs.Ranks.{fits};
-ghost use Rattle.jl_print.specs.Written.{written, written_all, written_maybe, written_after, written_arguments, further_arguments};
-ghost use Rattle.jl_print.specs.Written.{written_entries, written_declarators, further, written_items, parameters, further_names};
-ghost use Rattle.jl_print.specs.Written.{maybe_name, directive};
+ghost use Rattle.jl_print.specs.Pieces.{name, in_parens_unless, in_parens, within_braces, operator, prefix_operator, update_operator, assign_punct, punct};
+ghost use Rattle.jl_print.specs.Precedence.{fits};
+ghost use Rattle.jl_print.specs.CanonicalTokens.{tokens_of_node, tokens_of_all, tokens_of_optional, tokens_after, tokens_of_arguments, further_arguments};
+ghost use Rattle.jl_print.specs.CanonicalTokens.{tokens_of_entries, tokens_of_declarators, further, tokens_of_items, parameters, further_names};
+ghost use Rattle.jl_print.specs.CanonicalTokens.{optional_name, directive};
 ghost use Rattle.jl_print.specs.Kinds.{after_name, assigning, case_head, comma_unless, for_part, initializer, item_with_comma};
 
 use crate::alone::stands_alone;
 use crate::piece::Pieces;
-use crate::ranks::{fits, is_in, is_name, operator_rank, right_rank};
+use crate::precedence::{fits, is_in, is_name, operator_precedence, right_precedence};
 use jl_ast::{
     BinOp, Body, Case, Entry, Expr, ExprKind, ForInit, Function, Ident, Stmt, StmtKind, Target,
     UnOp,
@@ -133,8 +133,8 @@ fn add_further_names<'a>(names: &'a [Ident], out: &mut Pieces<'a>) -> Result<(),
     Ok(())
 }
 
-fn add_maybe_name<'a>(name: &'a Option<Ident>, out: &mut Pieces<'a>) -> Result<(), NoMemory>
-    ensures { OnOk result (out.new ≡ out.old ++ maybe_name (option_map view_ident name.now)) }
+fn add_optional_name<'a>(name: &'a Option<Ident>, out: &mut Pieces<'a>) -> Result<(), NoMemory>
+    ensures { OnOk result (out.new ≡ out.old ++ optional_name (option_map view_ident name.now)) }
 {
     match name {
         Some(name) => out.name(&name.text),
@@ -156,15 +156,15 @@ fn add_directive<'a>(strict: bool, out: &mut Pieces<'a>) -> Result<(), NoMemory>
 /// An expression where something as loose as `most` may stand.
 #[cycle(print)]
 fn add_operand<'a>(e: &'a Expr, most: u32, out: &mut Pieces<'a>) -> Result<(), NoMemory>
-    ensures { OnOk result (out.new ≡ out.old ++ fitted (fits (view_expression e.now) most) (written (view_expression e.now))) }
+    ensures { OnOk result (out.new ≡ out.old ++ in_parens_unless (fits (view_expression e.now) most) (tokens_of_node (view_expression e.now))) }
 {
-    add_fitted(e, fits(e, most), out)
+    add_in_parens_unless(e, fits(e, most), out)
 }
 
 /// An expression, in brackets unless it fits.
 #[cycle(print)]
-fn add_fitted<'a>(e: &'a Expr, fits: bool, out: &mut Pieces<'a>) -> Result<(), NoMemory>
-    ensures { OnOk result (out.new ≡ out.old ++ fitted fits (written (view_expression e.now))) }
+fn add_in_parens_unless<'a>(e: &'a Expr, fits: bool, out: &mut Pieces<'a>) -> Result<(), NoMemory>
+    ensures { OnOk result (out.new ≡ out.old ++ in_parens_unless fits (tokens_of_node (view_expression e.now))) }
 {
     if fits {
         add_expression(e, out)
@@ -177,7 +177,7 @@ fn add_fitted<'a>(e: &'a Expr, fits: bool, out: &mut Pieces<'a>) -> Result<(), N
 
 #[cycle(print)]
 fn add_expression<'a>(e: &'a Expr, out: &mut Pieces<'a>) -> Result<(), NoMemory>
-    ensures { OnOk result (out.new ≡ out.old ++ written (view_expression e.now)) }
+    ensures { OnOk result (out.new ≡ out.old ++ tokens_of_node (view_expression e.now)) }
 {
     match &e.kind {
         ExprKind::This => out.word(b"this"),
@@ -216,7 +216,7 @@ fn add_expression<'a>(e: &'a Expr, out: &mut Pieces<'a>) -> Result<(), NoMemory>
         }
         ExprKind::New(f, arguments) => {
             out.word(b"new")?;
-            add_fitted(f, is_name(f), out)?;
+            add_in_parens_unless(f, is_name(f), out)?;
             add_arguments(arguments, out)?;
             Ok(())
         }
@@ -243,14 +243,14 @@ fn add_expression<'a>(e: &'a Expr, out: &mut Pieces<'a>) -> Result<(), NoMemory>
         ExprKind::Binary(op, a, b) => {
             if is_in(*op) {
                 out.punct(Punct::LeftParen)?;
-                add_operand(a, operator_rank(*op), out)?;
+                add_operand(a, operator_precedence(*op), out)?;
                 add_operator(*op, out)?;
-                add_operand(b, right_rank(*op), out)?;
+                add_operand(b, right_precedence(*op), out)?;
                 out.punct(Punct::RightParen)
             } else {
-                add_operand(a, operator_rank(*op), out)?;
+                add_operand(a, operator_precedence(*op), out)?;
                 add_operator(*op, out)?;
-                add_operand(b, right_rank(*op), out)?;
+                add_operand(b, right_precedence(*op), out)?;
                 Ok(())
             }
         }
@@ -291,7 +291,7 @@ fn add_expression<'a>(e: &'a Expr, out: &mut Pieces<'a>) -> Result<(), NoMemory>
 
 #[cycle(print)]
 fn add_target<'a>(target: &'a Target, out: &mut Pieces<'a>) -> Result<(), NoMemory>
-    ensures { OnOk result (out.new ≡ out.old ++ written (view_target target.now)) }
+    ensures { OnOk result (out.new ≡ out.old ++ tokens_of_node (view_target target.now)) }
 {
     match target {
         Target::Name(name) => out.name(&name.text),
@@ -312,7 +312,7 @@ fn add_target<'a>(target: &'a Target, out: &mut Pieces<'a>) -> Result<(), NoMemo
 /// What is called with, in its brackets (11.2.4).
 #[cycle(print)]
 fn add_arguments<'a>(arguments: &'a List<Expr>, out: &mut Pieces<'a>) -> Result<(), NoMemory>
-    ensures { OnOk result (out.new ≡ out.old ++ in_parens (written_arguments (view_expressions arguments.now))) }
+    ensures { OnOk result (out.new ≡ out.old ++ in_parens (tokens_of_arguments (view_expressions arguments.now))) }
 {
     out.punct(Punct::LeftParen)?;
     add_expressions(arguments.items(), out)?;
@@ -321,7 +321,7 @@ fn add_arguments<'a>(arguments: &'a List<Expr>, out: &mut Pieces<'a>) -> Result<
 
 #[cycle(print)]
 fn add_expressions<'a>(expressions: &'a [Expr], out: &mut Pieces<'a>) -> Result<(), NoMemory>
-    ensures { OnOk result (out.new ≡ out.old ++ written_arguments (view_expressions expressions.now)) }
+    ensures { OnOk result (out.new ≡ out.old ++ tokens_of_arguments (view_expressions expressions.now)) }
 {
     let mut first = true;
     for e in expressions {
@@ -334,7 +334,7 @@ fn add_expressions<'a>(expressions: &'a [Expr], out: &mut Pieces<'a>) -> Result<
 
 #[cycle(print)]
 fn add_items<'a>(items: &'a List<Option<Expr>>, out: &mut Pieces<'a>) -> Result<(), NoMemory>
-    ensures { OnOk result (out.new ≡ out.old ++ written_items (view_items items.now)) }
+    ensures { OnOk result (out.new ≡ out.old ++ tokens_of_items (view_items items.now)) }
 {
     let mut left = items.len();
     for e in items.items() {
@@ -360,7 +360,7 @@ fn add_item<'a>(e: &'a Option<Expr>, last: bool, out: &mut Pieces<'a>) -> Result
 
 #[cycle(print)]
 fn add_entries<'a>(entries: &'a List<Entry>, out: &mut Pieces<'a>) -> Result<(), NoMemory>
-    ensures { OnOk result (out.new ≡ out.old ++ written_entries (view_entries entries.now)) }
+    ensures { OnOk result (out.new ≡ out.old ++ tokens_of_entries (view_entries entries.now)) }
 {
     let mut first = true;
     for entry in entries.items() {
@@ -373,7 +373,7 @@ fn add_entries<'a>(entries: &'a List<Entry>, out: &mut Pieces<'a>) -> Result<(),
 
 #[cycle(print)]
 fn add_entry<'a>(entry: &'a Entry, out: &mut Pieces<'a>) -> Result<(), NoMemory>
-    ensures { OnOk result (out.new ≡ out.old ++ written (view_entry entry.now)) }
+    ensures { OnOk result (out.new ≡ out.old ++ tokens_of_node (view_entry entry.now)) }
 {
     match entry {
         Entry::Value(key, e) => {
@@ -396,10 +396,10 @@ fn add_entry<'a>(entry: &'a Entry, out: &mut Pieces<'a>) -> Result<(), NoMemory>
 
 #[cycle(print)]
 fn add_function<'a>(f: &'a Function, out: &mut Pieces<'a>) -> Result<(), NoMemory>
-    ensures { OnOk result (out.new ≡ out.old ++ written (view_function f.now)) }
+    ensures { OnOk result (out.new ≡ out.old ++ tokens_of_node (view_function f.now)) }
 {
     out.word(b"function")?;
-    add_maybe_name(&f.name, out)?;
+    add_optional_name(&f.name, out)?;
     add_parameters(&f.params, out)?;
     add_code(&f.body, out)
 }
@@ -416,7 +416,7 @@ fn add_rest<'a>(f: &'a Function, out: &mut Pieces<'a>) -> Result<(), NoMemory>
 /// What a function holds, in its braces.
 #[cycle(print)]
 fn add_code<'a>(body: &'a Body, out: &mut Pieces<'a>) -> Result<(), NoMemory>
-    ensures { OnOk result (out.new ≡ out.old ++ braced (written (view_body body.now))) }
+    ensures { OnOk result (out.new ≡ out.old ++ within_braces (tokens_of_node (view_body body.now))) }
 {
     out.punct(Punct::LeftBrace)?;
     add_body(body, out)?;
@@ -425,7 +425,7 @@ fn add_code<'a>(body: &'a Body, out: &mut Pieces<'a>) -> Result<(), NoMemory>
 
 #[cycle(print)]
 pub(crate) fn add_body<'a>(body: &'a Body, out: &mut Pieces<'a>) -> Result<(), NoMemory>
-    ensures { OnOk result (out.new ≡ out.old ++ written (view_body body.now)) }
+    ensures { OnOk result (out.new ≡ out.old ++ tokens_of_node (view_body body.now)) }
 {
     add_directive(body.strict, out)?;
     add_functions(&body.functions, out)?;
@@ -435,7 +435,7 @@ pub(crate) fn add_body<'a>(body: &'a Body, out: &mut Pieces<'a>) -> Result<(), N
 
 #[cycle(print)]
 fn add_functions<'a>(functions: &'a List<Function>, out: &mut Pieces<'a>) -> Result<(), NoMemory>
-    ensures { OnOk result (out.new ≡ out.old ++ written_all (view_functions functions.now)) }
+    ensures { OnOk result (out.new ≡ out.old ++ tokens_of_all (view_functions functions.now)) }
 {
     for f in functions.items() {
         add_function(f, out)?;
@@ -445,7 +445,7 @@ fn add_functions<'a>(functions: &'a List<Function>, out: &mut Pieces<'a>) -> Res
 
 #[cycle(print)]
 fn add_statements<'a>(statements: &'a List<Stmt>, out: &mut Pieces<'a>) -> Result<(), NoMemory>
-    ensures { OnOk result (out.new ≡ out.old ++ written_all (view_statements statements.now)) }
+    ensures { OnOk result (out.new ≡ out.old ++ tokens_of_all (view_statements statements.now)) }
 {
     for s in statements.items() {
         add_statement(s, out)?;
@@ -455,7 +455,7 @@ fn add_statements<'a>(statements: &'a List<Stmt>, out: &mut Pieces<'a>) -> Resul
 
 #[cycle(print)]
 fn add_block<'a>(statements: &'a List<Stmt>, out: &mut Pieces<'a>) -> Result<(), NoMemory>
-    ensures { OnOk result (out.new ≡ out.old ++ braced (written_all (view_statements statements.now))) }
+    ensures { OnOk result (out.new ≡ out.old ++ within_braces (tokens_of_all (view_statements statements.now))) }
 {
     out.punct(Punct::LeftBrace)?;
     add_statements(statements, out)?;
@@ -464,7 +464,7 @@ fn add_block<'a>(statements: &'a List<Stmt>, out: &mut Pieces<'a>) -> Result<(),
 
 #[cycle(print)]
 fn add_statement<'a>(s: &'a Stmt, out: &mut Pieces<'a>) -> Result<(), NoMemory>
-    ensures { OnOk result (out.new ≡ out.old ++ written (view_statement s.now)) }
+    ensures { OnOk result (out.new ≡ out.old ++ tokens_of_node (view_statement s.now)) }
 {
     match &s.kind {
         StmtKind::Var(declarators) => {
@@ -474,13 +474,13 @@ fn add_statement<'a>(s: &'a Stmt, out: &mut Pieces<'a>) -> Result<(), NoMemory>
         }
         StmtKind::Empty => out.punct(Punct::Semicolon),
         StmtKind::Expr(e) => {
-            add_fitted(e, stands_alone(e), out)?;
+            add_in_parens_unless(e, stands_alone(e), out)?;
             out.punct(Punct::Semicolon)
         }
         StmtKind::Block(body) => add_block(body, out),
         StmtKind::If(test, body, other) => {
             out.word(b"if")?;
-            add_fitted(test, false, out)?;
+            add_in_parens_unless(test, false, out)?;
             add_block(body, out)?;
             add_after(b"else", other, out)
         }
@@ -488,12 +488,12 @@ fn add_statement<'a>(s: &'a Stmt, out: &mut Pieces<'a>) -> Result<(), NoMemory>
             out.word(b"do")?;
             add_block(body, out)?;
             out.word(b"while")?;
-            add_fitted(test, false, out)?;
+            add_in_parens_unless(test, false, out)?;
             out.punct(Punct::Semicolon)
         }
         StmtKind::While(test, body) => {
             out.word(b"while")?;
-            add_fitted(test, false, out)?;
+            add_in_parens_unless(test, false, out)?;
             add_block(body, out)?;
             Ok(())
         }
@@ -540,17 +540,17 @@ fn add_statement<'a>(s: &'a Stmt, out: &mut Pieces<'a>) -> Result<(), NoMemory>
         }
         StmtKind::Continue(label) => {
             out.word(b"continue")?;
-            add_maybe_name(label, out)?;
+            add_optional_name(label, out)?;
             out.punct(Punct::Semicolon)
         }
         StmtKind::Break(label) => {
             out.word(b"break")?;
-            add_maybe_name(label, out)?;
+            add_optional_name(label, out)?;
             out.punct(Punct::Semicolon)
         }
         StmtKind::Return(e) => {
             out.word(b"return")?;
-            add_maybe(e, out)?;
+            add_optional(e, out)?;
             out.punct(Punct::Semicolon)
         }
         StmtKind::Labelled(label, s) => {
@@ -560,7 +560,7 @@ fn add_statement<'a>(s: &'a Stmt, out: &mut Pieces<'a>) -> Result<(), NoMemory>
         }
         StmtKind::Switch(e, cases) => {
             out.word(b"switch")?;
-            add_fitted(e, false, out)?;
+            add_in_parens_unless(e, false, out)?;
             out.punct(Punct::LeftBrace)?;
             add_cases(cases, out)?;
             out.punct(Punct::RightBrace)
@@ -594,7 +594,7 @@ fn add_after<'a>(
     branch: &'a Option<List<Stmt>>,
     out: &mut Pieces<'a>,
 ) -> Result<(), NoMemory>
-    ensures { OnOk result (out.new ≡ out.old ++ written_after word.now (view_branch branch.now)) }
+    ensures { OnOk result (out.new ≡ out.old ++ tokens_after word.now (view_branch branch.now)) }
 {
     match branch {
         Some(statements) => {
@@ -610,7 +610,7 @@ fn add_catch<'a>(
     catch: &'a Option<(Ident, List<Stmt>)>,
     out: &mut Pieces<'a>,
 ) -> Result<(), NoMemory>
-    ensures { OnOk result (out.new ≡ out.old ++ written_maybe (view_catch catch.now)) }
+    ensures { OnOk result (out.new ≡ out.old ++ tokens_of_optional (view_catch catch.now)) }
 {
     match catch {
         Some((name, handler)) => {
@@ -627,15 +627,15 @@ fn add_catch<'a>(
 /// A semicolon in the head of a `for`, and the expression after it, if there is one (12.6.3).
 #[cycle(print)]
 fn add_part<'a>(e: &'a Option<Expr>, out: &mut Pieces<'a>) -> Result<(), NoMemory>
-    ensures { OnOk result (out.new ≡ out.old ++ for_part (view_maybe e.now)) }
+    ensures { OnOk result (out.new ≡ out.old ++ for_part (view_optional e.now)) }
 {
     out.punct(Punct::Semicolon)?;
-    add_maybe(e, out)
+    add_optional(e, out)
 }
 
 #[cycle(print)]
 fn add_init<'a>(init: &'a ForInit, out: &mut Pieces<'a>) -> Result<(), NoMemory>
-    ensures { OnOk result (out.new ≡ out.old ++ written (view_init init.now)) }
+    ensures { OnOk result (out.new ≡ out.old ++ tokens_of_node (view_init init.now)) }
 {
     match init {
         ForInit::Nothing => Ok(()),
@@ -652,7 +652,7 @@ fn add_declarators<'a>(
     declarators: &'a List<(Ident, Option<Expr>)>,
     out: &mut Pieces<'a>,
 ) -> Result<(), NoMemory>
-    ensures { OnOk result (out.new ≡ out.old ++ written_declarators (view_declarators declarators.now)) }
+    ensures { OnOk result (out.new ≡ out.old ++ tokens_of_declarators (view_declarators declarators.now)) }
 {
     let mut first = true;
     for d in declarators.items() {
@@ -665,7 +665,7 @@ fn add_declarators<'a>(
 
 #[cycle(print)]
 fn add_declarator<'a>(d: &'a (Ident, Option<Expr>), out: &mut Pieces<'a>) -> Result<(), NoMemory>
-    ensures { OnOk result (out.new ≡ out.old ++ name d.now.0.text ∷ initializer (view_maybe d.now.1)) }
+    ensures { OnOk result (out.new ≡ out.old ++ name d.now.0.text ∷ initializer (view_optional d.now.1)) }
 {
     out.name(&d.0.text)?;
     add_initializer(&d.1, out)
@@ -674,7 +674,7 @@ fn add_declarator<'a>(d: &'a (Ident, Option<Expr>), out: &mut Pieces<'a>) -> Res
 /// What a variable is declared with (12.2).
 #[cycle(print)]
 fn add_initializer<'a>(e: &'a Option<Expr>, out: &mut Pieces<'a>) -> Result<(), NoMemory>
-    ensures { OnOk result (out.new ≡ out.old ++ initializer (view_maybe e.now)) }
+    ensures { OnOk result (out.new ≡ out.old ++ initializer (view_optional e.now)) }
 {
     match e {
         Some(e) => {
@@ -687,7 +687,7 @@ fn add_initializer<'a>(e: &'a Option<Expr>, out: &mut Pieces<'a>) -> Result<(), 
 
 #[cycle(print)]
 fn add_cases<'a>(cases: &'a List<Case>, out: &mut Pieces<'a>) -> Result<(), NoMemory>
-    ensures { OnOk result (out.new ≡ out.old ++ written_all (view_cases cases.now)) }
+    ensures { OnOk result (out.new ≡ out.old ++ tokens_of_all (view_cases cases.now)) }
 {
     for c in cases.items() {
         add_case(c, out)?;
@@ -697,7 +697,7 @@ fn add_cases<'a>(cases: &'a List<Case>, out: &mut Pieces<'a>) -> Result<(), NoMe
 
 #[cycle(print)]
 fn add_case<'a>(c: &'a Case, out: &mut Pieces<'a>) -> Result<(), NoMemory>
-    ensures { OnOk result (out.new ≡ out.old ++ written (view_case c.now)) }
+    ensures { OnOk result (out.new ≡ out.old ++ tokens_of_node (view_case c.now)) }
 {
     add_test(&c.test, out)?;
     add_statements(&c.body, out)?;
@@ -707,7 +707,7 @@ fn add_case<'a>(c: &'a Case, out: &mut Pieces<'a>) -> Result<(), NoMemory>
 /// `case` and its test, or `default`.
 #[cycle(print)]
 fn add_test<'a>(test: &'a Option<Expr>, out: &mut Pieces<'a>) -> Result<(), NoMemory>
-    ensures { OnOk result (out.new ≡ out.old ++ case_head (view_maybe test.now)) }
+    ensures { OnOk result (out.new ≡ out.old ++ case_head (view_optional test.now)) }
 {
     match test {
         Some(test) => {
@@ -723,8 +723,8 @@ fn add_test<'a>(test: &'a Option<Expr>, out: &mut Pieces<'a>) -> Result<(), NoMe
 }
 
 #[cycle(print)]
-fn add_maybe<'a>(e: &'a Option<Expr>, out: &mut Pieces<'a>) -> Result<(), NoMemory>
-    ensures { OnOk result (out.new ≡ out.old ++ written_maybe (view_maybe e.now)) }
+fn add_optional<'a>(e: &'a Option<Expr>, out: &mut Pieces<'a>) -> Result<(), NoMemory>
+    ensures { OnOk result (out.new ≡ out.old ++ tokens_of_optional (view_optional e.now)) }
 {
     match e {
         Some(e) => add_expression(e, out),

@@ -31,7 +31,7 @@ total_at_small places at (x ∷ c) =
       part_small (is_place at (place_of places x.0)) x.1,
     )
 
--- a front and one more are no more than all
+-- a prefix and one more are no more than all
 pub sum_front : (c : Counts) (i : ℕ) (d : OpId × ℕ) → i < length c
     → sum_by number (take i c) + (get_or c i d).1 ≤ sum_by number c
 sum_front [] i d h = absurd (omega arith)

@@ -6,7 +6,7 @@ use Rattle.std.specs.Ordering.{nat_cmp, ordering_then}
 use Rattle.std.specs.declared.cmp.Ordering.{Ordering}
 use Rattle.std.specs.List.Sorted.{IsStrictlySortedBy}
 use Rattle.jl_op.specs.declared.op.OpId.{OpId}
-use Rattle.jl_op.specs.Map.{Row}
+use Rattle.jl_op.specs.Map.{MapRow}
 use Rattle.jl_op.specs.Operations.{Operation}
 use Rattle.jl_text.specs.Places.{LineTable, line_col}
 use Rattle.jl_analysis.specs.Summary.{Counts, hits}
@@ -26,7 +26,7 @@ abbrev pub place_of : (places : List Place) → OpId → Option Place
 place_of places id = nth places id.0
 
 -- the places where the parts of a map begin, by the lines of the source
-abbrev pub places_of : LineTable → List Row → List Place
+abbrev pub places_of : LineTable → List MapRow → List Place
 places_of lines rows = map (λ row. line_col lines row.1.from) rows
 
 -- it is this place

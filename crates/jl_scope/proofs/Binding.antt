@@ -5,7 +5,7 @@ use Rattle.std.proofs.lemmas.List.Folds.{list_any-append}
 use Rattle.std.proofs.lemmas.Slice.Eq.{bytes_eq-Decides}
 use Rattle.jl_ast.specs.Tree.{Text}
 use Rattle.jl_scope.specs.Names.{same_text, among, with_name}
-use Rattle.jl_scope.specs.Setting.{bind_name, is_left_out}
+use Rattle.jl_scope.specs.Scope.{bind_name, is_left_out}
 use Rattle.jl_scope.specs.Laws.{BindBinds}
 
 or_false : (a : Bool) → (a || false) ≡ a

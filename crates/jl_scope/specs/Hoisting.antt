@@ -1,7 +1,7 @@
 -- What a body declares (10.5): its variables, and its functions. Functions inside it declare nothing for it.
 use Rattle.std.specs.Prelude.{Bool, ◌||◌, List, [], ◌∷◌, ◌++◌, map, Option, Some, None, if◌then◌else◌}
 use Rattle.jl_text.specs.declared.span.Span.{Span}
-use Rattle.jl_ast.specs.Tree.{Text, Ident, Sort, Tree, Row, Maybe, func, code, function, body, var, block, when}
+use Rattle.jl_ast.specs.Tree.{Text, Ident, Sort, Tree, Forest, OptionalTree, func, code, function, body, var, block, if_else}
 use Rattle.jl_ast.specs.Tree.{do_while, while, for, for_in, labelled, switch, try, init_var, declarator, case}
 use Rattle.jl_ast.specs.Tree.{branch_of, catch, end, more, absent, present}
 use Rattle.jl_scope.specs.Names.{with_names}
@@ -9,31 +9,31 @@ use Rattle.jl_scope.specs.Names.{with_names}
 -- the names of the variables that are declared, in the order of the text (12.2, 12.6)
 abbrev mutual
   pub declared_in : {x : Sort} → Tree Span x → List Text
-  declared_in (body strict fs l) = declared_in_row l
-  declared_in (var l at) = declared_in_row l
-  declared_in (block l at) = declared_in_row l
-  declared_in (when c a b at) = declared_in_row a ++ declared_in_maybe b
-  declared_in (do_while l c at) = declared_in_row l
-  declared_in (while c l at) = declared_in_row l
-  declared_in (for i c u l at) = declared_in i ++ declared_in_row l
-  declared_in (for_in is_var x o l at) = (if is_var then x.text ∷ [] else []) ++ declared_in_row l
+  declared_in (body strict fs l) = declared_in_forest l
+  declared_in (var l at) = declared_in_forest l
+  declared_in (block l at) = declared_in_forest l
+  declared_in (if_else c a b at) = declared_in_forest a ++ declared_in_optional b
+  declared_in (do_while l c at) = declared_in_forest l
+  declared_in (while c l at) = declared_in_forest l
+  declared_in (for i c u l at) = declared_in i ++ declared_in_forest l
+  declared_in (for_in is_var x o l at) = (if is_var then x.text ∷ [] else []) ++ declared_in_forest l
   declared_in (labelled x t at) = declared_in t
-  declared_in (switch e l at) = declared_in_row l
-  declared_in (try l h f at) = declared_in_row l ++ declared_in_maybe h ++ declared_in_maybe f
-  declared_in (init_var l) = declared_in_row l
+  declared_in (switch e l at) = declared_in_forest l
+  declared_in (try l h f at) = declared_in_forest l ++ declared_in_optional h ++ declared_in_optional f
+  declared_in (init_var l) = declared_in_forest l
   declared_in (declarator x e) = x.text ∷ []
-  declared_in (case e l) = declared_in_row l
-  declared_in (branch_of l) = declared_in_row l
-  declared_in (catch x l) = declared_in_row l
+  declared_in (case e l) = declared_in_forest l
+  declared_in (branch_of l) = declared_in_forest l
+  declared_in (catch x l) = declared_in_forest l
   declared_in _ = []
 
-  pub declared_in_row : {x : Sort} → Row Span x → List Text
-  declared_in_row end = []
-  declared_in_row (more t l) = declared_in t ++ declared_in_row l
+  pub declared_in_forest : {x : Sort} → Forest Span x → List Text
+  declared_in_forest end = []
+  declared_in_forest (more t l) = declared_in t ++ declared_in_forest l
 
-  pub declared_in_maybe : {x : Sort} → Maybe Span x → List Text
-  declared_in_maybe absent = []
-  declared_in_maybe (present t) = declared_in t
+  pub declared_in_optional : {x : Sort} → OptionalTree Span x → List Text
+  declared_in_optional absent = []
+  declared_in_optional (present t) = declared_in t
 
 -- the variables of a body in the order of their first declarations, each once
 abbrev pub variables : Tree Span code → List Text
@@ -44,13 +44,13 @@ name_texts None = []
 name_texts (Some x) = x.text ∷ []
 
 -- the names of declared functions
-abbrev pub function_names : Row Span func → List Text
+abbrev pub function_names : Forest Span func → List Text
 function_names end = []
 function_names (more (function number name params b at) l) = name_texts name ++ function_names l
 
 -- what a body binds: its functions and its variables
 abbrev pub bound_by_body : Tree Span code → List Text
-bound_by_body (body strict fs l) = function_names fs ++ declared_in_row l
+bound_by_body (body strict fs l) = function_names fs ++ declared_in_forest l
 
 -- what a function binds: its name, its parameters, and what its body does. That it binds `arguments` too is left out,
 -- since only names of the global object are looked for.

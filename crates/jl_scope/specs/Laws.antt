@@ -1,25 +1,25 @@
 -- What the definitions come to.
 use Rattle.std.specs.Prelude.{◌≡◌, ◌⊎◌, ◌||◌, true, false, List, [], ◌∷◌, Option, None, Some}
 use Rattle.jl_ast.specs.Tree.{Text}
-use Rattle.jl_scope.specs.Kinds.{Breach, comes_before, first}
+use Rattle.jl_scope.specs.Kinds.{EarlyError, comes_before, first}
 use Rattle.jl_scope.specs.Names.{among}
-use Rattle.jl_scope.specs.Setting.{bind, is_left_out}
+use Rattle.jl_scope.specs.Scope.{bind, is_left_out}
 
-abbrev pub IsOneOf : Breach → List Breach → Type 0
+abbrev pub IsOneOf : EarlyError → List EarlyError → Type 0
 IsOneOf b [] = ⊥
 IsOneOf b (c ∷ l) = (b ≡ c) ⊎ IsOneOf b l
 
-abbrev pub NoneComesBefore : Breach → List Breach → Type 0
+abbrev pub NoneComesBefore : EarlyError → List EarlyError → Type 0
 NoneComesBefore b [] = Unit {0}
 NoneComesBefore b (c ∷ l) = (comes_before c b ≡ false) × NoneComesBefore b l
 
-abbrev pub IsFirst : List Breach → Option Breach → Type 0
+abbrev pub IsFirst : List EarlyError → Option EarlyError → Type 0
 IsFirst l None = l ≡ []
 IsFirst l (Some b) = IsOneOf b l × NoneComesBefore b l
 
 -- the first of a list is one of it, and none of it comes before
 abbrev pub FirstComesFirst : Type 0
-FirstComesFirst = (l : List Breach) → IsFirst l (first l)
+FirstComesFirst = (l : List EarlyError) → IsFirst l (first l)
 
 -- a left-out name is bound where it was bound already, or is one of the names that are bound as well
 abbrev pub BindBinds : Type 0

@@ -3,8 +3,8 @@ pub mod Names
 pub mod Hoisting
 pub mod Mentions
 pub mod Kinds
-pub mod Setting
-pub mod Breaches
-pub mod Breach
+pub mod Scope
+pub mod EarlyErrors
+pub mod EarlyError
 pub mod Laws
 pub mod Steps

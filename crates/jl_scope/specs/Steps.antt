@@ -4,23 +4,23 @@ use denote.Ref.{Bor}
 use Rattle.jl_ast.specs.Tree.{Text}
 use Rattle.jl_scope.specs.declared.found.Finding.{Finding}
 use Rattle.jl_scope.specs.declared.found.Finding.TheVariants as finding
-use Rattle.jl_scope.specs.declared.setting.Label.{Label}
-use Rattle.jl_scope.specs.declared.setting.Setting.{Setting}
-use Rattle.jl_scope.specs.Kinds.{Breach, early, left_out, reserved_name}
+use Rattle.jl_scope.specs.declared.scope.Label.{Label}
+use Rattle.jl_scope.specs.declared.scope.Scope.{Scope}
+use Rattle.jl_scope.specs.Kinds.{EarlyError, early, left_out, reserved_name}
 use Rattle.jl_scope.specs.declared.keys.Keys.{Keys}
-use Rattle.jl_scope.specs.Setting as around
-use Rattle.jl_scope.specs.Breaches as literal
+use Rattle.jl_scope.specs.Scope as around
+use Rattle.jl_scope.specs.EarlyErrors as literal
 
-abbrev pub breach_of : Finding → Breach
-breach_of (finding.Early rule at) = early rule at
-breach_of (finding.LeftOut x at) = left_out x.now at
-breach_of (finding.ReservedName at) = reserved_name at
+abbrev pub early_error_of : Finding → EarlyError
+early_error_of (finding.Early rule at) = early rule at
+early_error_of (finding.LeftOut x at) = left_out x.now at
+early_error_of (finding.ReservedName at) = reserved_name at
 
 abbrev pub label_of : Label → around.Label
 label_of l = record { name = l.name.now; of_loop = l.of_loop }
 
-abbrev pub setting_of : Setting → around.Setting
-setting_of s = record {
+abbrev pub scope_of : Scope → around.Scope
+scope_of s = record {
   strict = s.strict;
   in_function = s.in_function;
   in_loop = s.in_loop;

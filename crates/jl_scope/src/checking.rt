@@ -2,12 +2,12 @@
 
 ghost use Rattle.std.specs.Prelude.{◌≡◌, IfOk, option_map};
 ghost use Rattle.jl_ast.specs.View.{view};
-ghost use Rattle.jl_scope.specs.Breach.{first_breach, Tells};
-ghost use Rattle.jl_scope.specs.Steps.{breach_of};
+ghost use Rattle.jl_scope.specs.EarlyError.{first_early_error, Tells};
+ghost use Rattle.jl_scope.specs.Steps.{early_error_of};
 
 use crate::found::{Finding, Found};
 use crate::refusal::ScopeRefusal;
-use crate::setting::{Setting, bound_in_program};
+use crate::scope::{Scope, bound_in_program};
 use crate::walk::walk_body;
 use jl_ast::Program;
 use jl_text::NoMemory;
@@ -19,7 +19,7 @@ use std::alloc::Global;
 /// names of labels and of what is bound round a part, of which there are few, and recurses as deep as the program is
 /// high.
 pub fn check(alloc: Global, p: &Program) -> Result<(), ScopeRefusal>
-    ensures { Tells result (first_breach (view p.now)) }
+    ensures { Tells result (first_early_error (view p.now)) }
 {
     match first_finding(alloc, p)? {
         None => Ok(()),
@@ -33,10 +33,10 @@ pub fn check(alloc: Global, p: &Program) -> Result<(), ScopeRefusal>
 }
 
 fn first_finding<'a>(alloc: Global, p: &'a Program) -> Result<Option<Finding<'a>>, NoMemory>
-    ensures { IfOk result (λ finding. option_map breach_of finding ≡ first_breach (view p.now)) }
+    ensures { IfOk result (λ finding. option_map early_error_of finding ≡ first_early_error (view p.now)) }
 {
     let bound = bound_in_program(alloc, &p.body)?;
-    let s = Setting {
+    let s = Scope {
         alloc,
         strict: p.body.strict,
         in_function: false,

@@ -1,7 +1,7 @@
 ghost use Rattle.std.specs.Prelude.{◌≡◌, None, option_map};
 ghost use Rattle.jl_scope.specs.Kinds.{comes_before, first_from, sooner};
-ghost use Rattle.jl_scope.specs.Steps.{breach_of};
-ghost use Rattle.jl_scope.specs.Breaches.{broken_if};
+ghost use Rattle.jl_scope.specs.Steps.{early_error_of};
+ghost use Rattle.jl_scope.specs.EarlyErrors.{broken_if};
 
 use crate::rules::EarlyRule;
 use jl_text::{Span, Text};
@@ -17,7 +17,7 @@ pub(crate) enum Finding<'a> {
 
 impl<'a> Finding<'a> {
     fn comes_before(self, other: Finding<'a>) -> bool
-        ensures { result ≡ comes_before (breach_of self.entry) (breach_of other.entry) }
+        ensures { result ≡ comes_before (early_error_of self.entry) (early_error_of other.entry) }
     {
         match (self, other) {
             (Finding::Early(r, s), Finding::Early(q, t)) => {
@@ -33,7 +33,7 @@ impl<'a> Finding<'a> {
     }
 }
 
-/// The first thing that a walk found to be wrong. Contracts see it as an optional breach.
+/// The first thing that a walk found to be wrong. Contracts see it as an optional early error.
 #[derive(Drop)]
 pub(crate) struct Found<'a> {
     first: Option<Finding<'a>>,
@@ -41,12 +41,12 @@ pub(crate) struct Found<'a> {
 
 impl<'a> Model for Found<'a> {
     ghost use Rattle.std.specs.Prelude.{Option, option_map};
-    ghost use Rattle.jl_scope.specs.Kinds.{Breach};
-    ghost use Rattle.jl_scope.specs.Steps.{breach_of};
+    ghost use Rattle.jl_scope.specs.Kinds.{EarlyError};
+    ghost use Rattle.jl_scope.specs.Steps.{early_error_of};
 
-    ghost Value = { Option Breach };
+    ghost Value = { Option EarlyError };
 
-    ghost view = { λ f. option_map breach_of f.first };
+    ghost view = { λ f. option_map early_error_of f.first };
 }
 
 impl<'a> Found<'a> {
@@ -58,7 +58,7 @@ impl<'a> Found<'a> {
 
     /// Takes note of a finding, if it comes before what was found.
     pub(crate) fn offer(&mut self, finding: Finding<'a>)
-        ensures { self.new ≡ sooner self.old (breach_of finding.entry) }
+        ensures { self.new ≡ sooner self.old (early_error_of finding.entry) }
     {
         let earlier = match self.first {
             Some(held) => finding.comes_before(held),
@@ -80,7 +80,7 @@ impl<'a> Found<'a> {
 
     /// What was found first.
     pub(crate) fn into_first(self) -> Option<Finding<'a>>
-        ensures { option_map breach_of result ≡ self.entry }
+        ensures { option_map early_error_of result ≡ self.entry }
     {
         self.first
     }

@@ -1,8 +1,8 @@
 #![tactic(auto, using(jl_ast::proofs::Views::nodes))]
 
 ghost use Rattle.std.specs.Prelude.{◌≡◌, [], ◌++◌, map, option_map, IfOk, OnOk};
-ghost use Rattle.jl_scope.specs.Hoisting.{variables, strict_in, declared_in, declared_in_row, bound_by_function};
-ghost use Rattle.jl_scope.specs.Hoisting.{name_texts, function_names, bound_by_body, declared_in_maybe};
+ghost use Rattle.jl_scope.specs.Hoisting.{variables, strict_in, declared_in, declared_in_forest, bound_by_function};
+ghost use Rattle.jl_scope.specs.Hoisting.{name_texts, function_names, bound_by_body, declared_in_optional};
 ghost use Rattle.jl_scope.specs.Names.{with_names};
 ghost use Rattle.jl_scope.specs.Steps.{Adds};
 ghost use Rattle.jl_ast.specs.View.{view_body, view_statement, view_statements, view_init, view_declarators};
@@ -99,7 +99,7 @@ fn add_functions<'a>(functions: &'a [Function], names: &mut Vec<&'a Text>) -> Re
 
 #[cycle(hoisting)]
 fn add_statements<'a>(statements: &'a [Stmt], names: &mut Vec<&'a Text>) -> Result<(), NoMemory>
-    ensures { OnOk result (Adds (declared_in_row (view_statements statements.now)) names.old.items names.new.items) }
+    ensures { OnOk result (Adds (declared_in_forest (view_statements statements.now)) names.old.items names.new.items) }
 {
     for s in statements {
         add_statement(s, names)?;
@@ -173,7 +173,7 @@ fn add_declarators<'a>(
     declarators: &'a [(Ident, Option<Expr>)],
     names: &mut Vec<&'a Text>,
 ) -> Result<(), NoMemory>
-    ensures { OnOk result (Adds (declared_in_row (view_declarators declarators.now)) names.old.items names.new.items) }
+    ensures { OnOk result (Adds (declared_in_forest (view_declarators declarators.now)) names.old.items names.new.items) }
 {
     for d in declarators {
         names.push(&d.0.text)?;
@@ -183,7 +183,7 @@ fn add_declarators<'a>(
 
 #[cycle(hoisting)]
 fn add_cases<'a>(cases: &'a [Case], names: &mut Vec<&'a Text>) -> Result<(), NoMemory>
-    ensures { OnOk result (Adds (declared_in_row (view_cases cases.now)) names.old.items names.new.items) }
+    ensures { OnOk result (Adds (declared_in_forest (view_cases cases.now)) names.old.items names.new.items) }
 {
     for c in cases {
         add_statements(c.body.items(), names)?;

@@ -3,13 +3,13 @@
 ghost use Rattle.std.specs.Prelude.{◌≡◌, OnOk};
 ghost use Rattle.jl_ast.specs.View.{view_entry, view_entries};
 ghost use Rattle.jl_scope.specs.Kinds.{first_from};
-ghost use Rattle.jl_scope.specs.Steps.{setting_of, keys_of};
-ghost use Rattle.jl_scope.specs.Breaches.{key_breaches, literal_breaches, no_keys, with_key};
+ghost use Rattle.jl_scope.specs.Steps.{scope_of, keys_of};
+ghost use Rattle.jl_scope.specs.EarlyErrors.{key_early_errors, literal_early_errors, no_keys, with_key};
 
 use crate::found::Found;
 use crate::name_set::NameSet;
 use crate::rules::EarlyRule;
-use crate::setting::Setting;
+use crate::scope::Scope;
 use jl_ast::Entry;
 use jl_text::NoMemory;
 
@@ -24,11 +24,11 @@ pub(crate) struct Keys<'a> {
 /// What is wrong with the keys of an object literal (11.1.5). It takes constant time a key on average.
 pub(crate) fn offer_keys(
     entries: &[Entry],
-    s: &Setting<'_>,
+    s: &Scope<'_>,
     found: &mut Found<'_>,
 ) -> Result<(), NoMemory>
     ensures { OnOk result (found.new
-        ≡ first_from found.old (literal_breaches (setting_of s.now) no_keys (view_entries entries.now))) }
+        ≡ first_from found.old (literal_early_errors (scope_of s.now) no_keys (view_entries entries.now))) }
 {
     let mut keys = Keys {
         values: NameSet::new(s.alloc),
@@ -44,12 +44,12 @@ pub(crate) fn offer_keys(
 fn offer_key<'a>(
     entry: &'a Entry,
     keys: &mut Keys<'a>,
-    s: &Setting<'_>,
+    s: &Scope<'_>,
     found: &mut Found<'_>,
 ) -> Result<(), NoMemory>
     ensures keys { OnOk result (keys_of keys.new ≡ with_key (keys_of keys.old) (view_entry entry.now)) }
     ensures found { OnOk result (found.new
-        ≡ first_from found.old (key_breaches (setting_of s.now) (keys_of keys.old) (view_entry entry.now))) }
+        ≡ first_from found.old (key_early_errors (scope_of s.now) (keys_of keys.old) (view_entry entry.now))) }
 {
     match entry {
         Entry::Value(key, _) => {

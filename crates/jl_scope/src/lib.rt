@@ -14,7 +14,7 @@ mod names;
 mod offers;
 mod refusal;
 mod rules;
-mod setting;
+mod scope;
 mod walk;
 
 pub use checking::check;

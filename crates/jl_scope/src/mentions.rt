@@ -2,10 +2,10 @@
 
 ghost use Rattle.std.specs.Prelude.{◌≡◌};
 ghost use Rattle.jl_ast.specs.View.{view_body, view_functions, view_statement, view_statements, view_init};
-ghost use Rattle.jl_ast.specs.View.{view_declarators, view_cases, view_maybe, view_expression, view_expressions};
+ghost use Rattle.jl_ast.specs.View.{view_declarators, view_cases, view_optional, view_expression, view_expressions};
 ghost use Rattle.jl_ast.specs.View.{view_target, view_items, view_entries};
 ghost use Rattle.jl_scope.specs.Hoisting.{function_names};
-ghost use Rattle.jl_scope.specs.Mentions.{mentions, row_mentions, maybe_mentions};
+ghost use Rattle.jl_scope.specs.Mentions.{mentions, forest_mentions, optional_mentions};
 ghost use Rattle.jl_scope.specs.Names.{among, arguments_name};
 
 use crate::names::is_arguments;
@@ -35,7 +35,7 @@ fn declares_arguments(functions: &[Function]) -> bool
 
 #[cycle(statements)]
 fn statements_mention(statements: &[Stmt]) -> bool
-    ensures { result ≡ row_mentions arguments_name (view_statements statements.now) }
+    ensures { result ≡ forest_mentions arguments_name (view_statements statements.now) }
 {
     for s in statements {
         if statement_mentions(s) {
@@ -116,7 +116,7 @@ fn init_mentions(init: &ForInit) -> bool
 }
 
 fn declarators_mention(declarators: &[(Ident, Option<Expr>)]) -> bool
-    ensures { result ≡ row_mentions arguments_name (view_declarators declarators.now) }
+    ensures { result ≡ forest_mentions arguments_name (view_declarators declarators.now) }
 {
     for d in declarators {
         if is_arguments(d.0.text.units()) || held_mentions(&d.1) {
@@ -128,7 +128,7 @@ fn declarators_mention(declarators: &[(Ident, Option<Expr>)]) -> bool
 
 #[cycle(statements)]
 fn cases_mention(cases: &[Case]) -> bool
-    ensures { result ≡ row_mentions arguments_name (view_cases cases.now) }
+    ensures { result ≡ forest_mentions arguments_name (view_cases cases.now) }
 {
     for c in cases {
         if held_mentions(&c.test) || statements_mention(c.body.items()) {
@@ -139,7 +139,7 @@ fn cases_mention(cases: &[Case]) -> bool
 }
 
 fn held_mentions(e: &Option<Expr>) -> bool
-    ensures { result ≡ maybe_mentions arguments_name (view_maybe e.now) }
+    ensures { result ≡ optional_mentions arguments_name (view_optional e.now) }
 {
     match e {
         Some(e) => expression_mentions(e),
@@ -187,7 +187,7 @@ fn target_mentions(t: &Target) -> bool
 
 #[cycle(expressions)]
 fn items_mention(items: &[Option<Expr>]) -> bool
-    ensures { result ≡ row_mentions arguments_name (view_items items.now) }
+    ensures { result ≡ forest_mentions arguments_name (view_items items.now) }
 {
     for e in items {
         if let Some(e) = e {
@@ -201,7 +201,7 @@ fn items_mention(items: &[Option<Expr>]) -> bool
 
 #[cycle(expressions)]
 fn entries_mention(entries: &[Entry]) -> bool
-    ensures { result ≡ row_mentions arguments_name (view_entries entries.now) }
+    ensures { result ≡ forest_mentions arguments_name (view_entries entries.now) }
 {
     for entry in entries {
         if let Entry::Value(_, e) = entry {
@@ -215,7 +215,7 @@ fn entries_mention(entries: &[Entry]) -> bool
 
 #[cycle(expressions)]
 fn expressions_mention(expressions: &[Expr]) -> bool
-    ensures { result ≡ row_mentions arguments_name (view_expressions expressions.now) }
+    ensures { result ≡ forest_mentions arguments_name (view_expressions expressions.now) }
 {
     for e in expressions {
         if expression_mentions(e) {

@@ -1,7 +1,7 @@
 ghost use Rattle.std.specs.Prelude.{◌≡◌, map};
 ghost use Rattle.jl_scope.specs.Names.{same_text, among, strict_words, strict_names, hooks_name, arguments_name};
 ghost use Rattle.jl_scope.specs.Names.{left_out_names};
-ghost use Rattle.jl_scope.specs.Setting.{is_left_out};
+ghost use Rattle.jl_scope.specs.Scope.{is_left_out};
 
 const LEFT_OUT_NAMES: [&[u8]; 12] = [
     b"eval",
@@ -82,7 +82,7 @@ fn is_one_of(name: &[u16], mut table: &[&[u8]]) -> bool
 }
 
 /// Whether it is a property of the global object that scripts here don't have.
-#[tactic(auto, unfolding(crate::specs::Setting::is_left_out, crate::specs::Names::left_out_names))]
+#[tactic(auto, unfolding(crate::specs::Scope::is_left_out, crate::specs::Names::left_out_names))]
 pub(crate) fn is_left_out(name: &[u16]) -> bool
     ensures { result ≡ is_left_out name.now }
 {

@@ -4,23 +4,23 @@
 ghost use Rattle.std.specs.Prelude.{◌≡◌, option_map};
 ghost use Rattle.jl_ast.specs.View.{view_ident, view_expression};
 ghost use Rattle.jl_scope.specs.Kinds.{first_from};
-ghost use Rattle.jl_scope.specs.Steps.{setting_of};
-ghost use Rattle.jl_scope.specs.Breaches.{identifier_breaches, written_breaches, free_breaches, read_breaches};
-ghost use Rattle.jl_scope.specs.Breaches.{target_breaches, label_breaches, break_breaches, continue_breaches};
-ghost use Rattle.jl_scope.specs.Breaches.{return_breaches, delete_breaches, is_name, is_delete, for_in_breaches};
+ghost use Rattle.jl_scope.specs.Steps.{scope_of};
+ghost use Rattle.jl_scope.specs.EarlyErrors.{identifier_early_errors, written_early_errors, free_early_errors, read_early_errors};
+ghost use Rattle.jl_scope.specs.EarlyErrors.{target_early_errors, label_early_errors, break_early_errors, continue_early_errors};
+ghost use Rattle.jl_scope.specs.EarlyErrors.{return_early_errors, delete_early_errors, is_name, is_delete, for_in_early_errors};
 
 use crate::found::{Finding, Found};
 use crate::names::{is_among, is_hooks_name, is_left_out, is_strict_name, is_strict_word};
 use crate::rules::EarlyRule;
-use crate::setting::{Setting, has_label, has_loop_label};
+use crate::scope::{Scope, has_label, has_loop_label};
 use jl_ast::{Expr, ExprKind, Ident, UnOp};
 use jl_text::{Span, Text};
 
 impl<'a> Found<'a> {
     /// An identifier, or a label.
-    #[tactic(auto, using(crate::proofs::Firsts::lists), unfolding(crate::specs::Breaches::identifier_breaches))]
-    pub(crate) fn identifier(&mut self, name: &Text, at: Span, s: &Setting<'_>)
-        ensures { self.new ≡ first_from self.old (identifier_breaches (setting_of s.now) name.now at) }
+    #[tactic(auto, using(crate::proofs::Firsts::lists), unfolding(crate::specs::EarlyErrors::identifier_early_errors))]
+    pub(crate) fn identifier(&mut self, name: &Text, at: Span, s: &Scope<'_>)
+        ensures { self.new ≡ first_from self.old (identifier_early_errors (scope_of s.now) name.now at) }
     {
         let word = s.strict && is_strict_word(name.units());
         self.offer_if(word, EarlyRule::StrictWord, at);
@@ -30,18 +30,18 @@ impl<'a> Found<'a> {
     }
 
     /// A name that is bound, assigned or updated.
-    #[tactic(auto, using(crate::proofs::Firsts::lists), unfolding(crate::specs::Breaches::written_breaches))]
-    pub(crate) fn written(&mut self, name: &Text, at: Span, s: &Setting<'_>)
-        ensures { self.new ≡ first_from self.old (written_breaches (setting_of s.now) name.now at) }
+    #[tactic(auto, using(crate::proofs::Firsts::lists), unfolding(crate::specs::EarlyErrors::written_early_errors))]
+    pub(crate) fn written(&mut self, name: &Text, at: Span, s: &Scope<'_>)
+        ensures { self.new ≡ first_from self.old (written_early_errors (scope_of s.now) name.now at) }
     {
         let barred = s.strict && is_strict_name(name.units());
         self.offer_if(barred, EarlyRule::StrictName, at);
         self.identifier(name, at, s);
     }
 
-    #[tactic(auto, using(crate::proofs::Firsts::lists), unfolding(crate::specs::Breaches::free_breaches))]
-    fn free(&mut self, name: &'a Text, at: Span, s: &Setting<'_>)
-        ensures { self.new ≡ first_from self.old (free_breaches (setting_of s.now) name.now at) }
+    #[tactic(auto, using(crate::proofs::Firsts::lists), unfolding(crate::specs::EarlyErrors::free_early_errors))]
+    fn free(&mut self, name: &'a Text, at: Span, s: &Scope<'_>)
+        ensures { self.new ≡ first_from self.old (free_early_errors (scope_of s.now) name.now at) }
     {
         if is_left_out(name.units()) && !is_among(name.units(), s.bound) {
             self.offer(Finding::LeftOut(name, at));
@@ -49,26 +49,26 @@ impl<'a> Found<'a> {
     }
 
     /// A name as an expression.
-    #[tactic(auto, using(crate::proofs::Firsts::lists), unfolding(crate::specs::Breaches::read_breaches))]
-    pub(crate) fn read(&mut self, name: &'a Text, at: Span, s: &Setting<'_>)
-        ensures { self.new ≡ first_from self.old (read_breaches (setting_of s.now) name.now at) }
+    #[tactic(auto, using(crate::proofs::Firsts::lists), unfolding(crate::specs::EarlyErrors::read_early_errors))]
+    pub(crate) fn read(&mut self, name: &'a Text, at: Span, s: &Scope<'_>)
+        ensures { self.new ≡ first_from self.old (read_early_errors (scope_of s.now) name.now at) }
     {
         self.free(name, at, s);
         self.identifier(name, at, s);
     }
 
     /// A name that is assigned to, and need not be declared.
-    #[tactic(auto, using(crate::proofs::Firsts::lists), unfolding(crate::specs::Breaches::target_breaches))]
-    pub(crate) fn target(&mut self, name: &'a Text, at: Span, s: &Setting<'_>)
-        ensures { self.new ≡ first_from self.old (target_breaches (setting_of s.now) name.now at) }
+    #[tactic(auto, using(crate::proofs::Firsts::lists), unfolding(crate::specs::EarlyErrors::target_early_errors))]
+    pub(crate) fn target(&mut self, name: &'a Text, at: Span, s: &Scope<'_>)
+        ensures { self.new ≡ first_from self.old (target_early_errors (scope_of s.now) name.now at) }
     {
         self.free(name, at, s);
         self.written(name, at, s);
     }
 
     /// The name in the head of a `for-in` (12.6.4).
-    pub(crate) fn for_in_name(&mut self, is_var: bool, name: &'a Text, at: Span, s: &Setting<'_>)
-        ensures { self.new ≡ first_from self.old (for_in_breaches (setting_of s.now) is_var name.now at) }
+    pub(crate) fn for_in_name(&mut self, is_var: bool, name: &'a Text, at: Span, s: &Scope<'_>)
+        ensures { self.new ≡ first_from self.old (for_in_early_errors (scope_of s.now) is_var name.now at) }
     {
         if is_var {
             self.written(name, at, s);
@@ -78,9 +78,9 @@ impl<'a> Found<'a> {
     }
 
     /// The label of a statement.
-    #[tactic(auto, using(crate::proofs::Firsts::lists), unfolding(crate::specs::Breaches::label_breaches))]
-    pub(crate) fn label(&mut self, name: &Text, at: Span, s: &Setting<'_>)
-        ensures { self.new ≡ first_from self.old (label_breaches (setting_of s.now) name.now at) }
+    #[tactic(auto, using(crate::proofs::Firsts::lists), unfolding(crate::specs::EarlyErrors::label_early_errors))]
+    pub(crate) fn label(&mut self, name: &Text, at: Span, s: &Scope<'_>)
+        ensures { self.new ≡ first_from self.old (label_early_errors (scope_of s.now) name.now at) }
     {
         let twice = has_label(name.units(), s.labels);
         self.offer_if(twice, EarlyRule::LabelTwice, at);
@@ -88,9 +88,9 @@ impl<'a> Found<'a> {
     }
 
     /// A `break` with its label.
-    #[tactic(auto, using(crate::proofs::Firsts::lists), unfolding(crate::specs::Breaches::break_breaches))]
-    pub(crate) fn break_to(&mut self, label: &Option<Ident>, at: Span, s: &Setting<'_>)
-        ensures { self.new ≡ first_from self.old (break_breaches (setting_of s.now) (option_map view_ident label.now) at) }
+    #[tactic(auto, using(crate::proofs::Firsts::lists), unfolding(crate::specs::EarlyErrors::break_early_errors))]
+    pub(crate) fn break_to(&mut self, label: &Option<Ident>, at: Span, s: &Scope<'_>)
+        ensures { self.new ≡ first_from self.old (break_early_errors (scope_of s.now) (option_map view_ident label.now) at) }
     {
         match label {
             None => self.offer_if(!s.can_break, EarlyRule::BreakOutside, at),
@@ -103,9 +103,9 @@ impl<'a> Found<'a> {
     }
 
     /// A `continue` with its label.
-    #[tactic(auto, using(crate::proofs::Firsts::lists), unfolding(crate::specs::Breaches::continue_breaches))]
-    pub(crate) fn continue_to(&mut self, label: &Option<Ident>, at: Span, s: &Setting<'_>)
-        ensures { self.new ≡ first_from self.old (continue_breaches (setting_of s.now) (option_map view_ident label.now) at) }
+    #[tactic(auto, using(crate::proofs::Firsts::lists), unfolding(crate::specs::EarlyErrors::continue_early_errors))]
+    pub(crate) fn continue_to(&mut self, label: &Option<Ident>, at: Span, s: &Scope<'_>)
+        ensures { self.new ≡ first_from self.old (continue_early_errors (scope_of s.now) (option_map view_ident label.now) at) }
     {
         match label {
             None => self.offer_if(!s.in_loop, EarlyRule::ContinueOutside, at),
@@ -118,17 +118,17 @@ impl<'a> Found<'a> {
     }
 
     /// A `return`.
-    #[tactic(auto, using(crate::proofs::Firsts::lists), unfolding(crate::specs::Breaches::return_breaches))]
-    pub(crate) fn return_at(&mut self, at: Span, s: &Setting<'_>)
-        ensures { self.new ≡ first_from self.old (return_breaches (setting_of s.now) at) }
+    #[tactic(auto, using(crate::proofs::Firsts::lists), unfolding(crate::specs::EarlyErrors::return_early_errors))]
+    pub(crate) fn return_at(&mut self, at: Span, s: &Scope<'_>)
+        ensures { self.new ≡ first_from self.old (return_early_errors (scope_of s.now) at) }
     {
         self.offer_if(!s.in_function, EarlyRule::ReturnOutside, at);
     }
 
     /// A prefix operator with its operand.
-    #[tactic(auto, using(crate::proofs::Firsts::lists), unfolding(crate::specs::Breaches::delete_breaches))]
-    pub(crate) fn delete(&mut self, op: UnOp, operand: &Expr, at: Span, s: &Setting<'_>)
-        ensures { self.new ≡ first_from self.old (delete_breaches (setting_of s.now) op (view_expression operand.now) at) }
+    #[tactic(auto, using(crate::proofs::Firsts::lists), unfolding(crate::specs::EarlyErrors::delete_early_errors))]
+    pub(crate) fn delete(&mut self, op: UnOp, operand: &Expr, at: Span, s: &Scope<'_>)
+        ensures { self.new ≡ first_from self.old (delete_early_errors (scope_of s.now) op (view_expression operand.now) at) }
     {
         let deletes = s.strict && is_delete(op) && is_name(operand);
         self.offer_if(deletes, EarlyRule::StrictDelete, at);

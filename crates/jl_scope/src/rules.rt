@@ -1,7 +1,7 @@
 ghost use Rattle.std.specs.Prelude.{◌≡◌};
 ghost use Rattle.jl_scope.specs.Rules.{rule_name, rule_number};
 
-/// A rule of edition 5.1 whose breach is an error before a program runs (clause 16).
+/// A rule of edition 5.1 whose early error is an error before a program runs (clause 16).
 #[derive(Clone, Copy, PartialEq, Eq, Debug)]
 pub enum EarlyRule {
     /// A `return` outside any function (12.9).

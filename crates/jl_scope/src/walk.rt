@@ -2,28 +2,28 @@
 
 ghost use Rattle.std.specs.Prelude.{◌≡◌, ◌++◌, OnOk};
 ghost use Rattle.jl_ast.specs.View.{view_body, view_function, view_functions, view_statement, view_statements};
-ghost use Rattle.jl_ast.specs.View.{view_init, view_declarators, view_cases, view_maybe, view_expression};
+ghost use Rattle.jl_ast.specs.View.{view_init, view_declarators, view_cases, view_optional, view_expression};
 ghost use Rattle.jl_ast.specs.View.{view_expressions, view_target, view_items, view_entry, view_entries};
-ghost use Rattle.jl_scope.specs.Breaches.{breaches, row_breaches, maybe_breaches, label_breaches, written_breaches};
-ghost use Rattle.jl_scope.specs.Setting.{is_loop, under_label, in_catch};
+ghost use Rattle.jl_scope.specs.EarlyErrors.{early_errors, forest_early_errors, optional_early_errors, label_early_errors, written_early_errors};
+ghost use Rattle.jl_scope.specs.Scope.{is_loop, under_label, in_catch};
 ghost use Rattle.jl_scope.specs.Kinds.{first_from};
-ghost use Rattle.jl_scope.specs.Steps.{setting_of};
+ghost use Rattle.jl_scope.specs.Steps.{scope_of};
 
 use crate::found::Found;
 use crate::heads::offer_head;
 use crate::hoisting::is_strict;
 use crate::keys::offer_keys;
-use crate::setting::{Label, Setting, bind, bound_in_function, is_loop, with_label};
+use crate::scope::{Label, Scope, bind, bound_in_function, is_loop, with_label};
 use jl_ast::{Body, Case, Entry, Expr, ExprKind, ForInit, Function, Ident, Stmt, StmtKind, Target};
 use jl_text::NoMemory;
 
 #[cycle(walk)]
 pub(crate) fn walk_body<'a>(
     b: &'a Body,
-    s: &Setting<'_>,
+    s: &Scope<'_>,
     found: &mut Found<'a>,
 ) -> Result<(), NoMemory>
-    ensures { OnOk result (found.new ≡ first_from found.old (breaches (setting_of s.now) (view_body b.now))) }
+    ensures { OnOk result (found.new ≡ first_from found.old (early_errors (scope_of s.now) (view_body b.now))) }
 {
     walk_functions(b.functions.items(), s, found)?;
     walk_statements(b.statements.items(), s, found)
@@ -32,11 +32,11 @@ pub(crate) fn walk_body<'a>(
 #[cycle(walk)]
 fn walk_functions<'a>(
     functions: &'a [Function],
-    s: &Setting<'_>,
+    s: &Scope<'_>,
     found: &mut Found<'a>,
 ) -> Result<(), NoMemory>
     ensures { OnOk result (found.new
-        ≡ first_from found.old (row_breaches (setting_of s.now) (view_functions functions.now))) }
+        ≡ first_from found.old (forest_early_errors (scope_of s.now) (view_functions functions.now))) }
 {
     for f in functions {
         walk_function(f, s, found)?;
@@ -45,16 +45,12 @@ fn walk_functions<'a>(
 }
 
 #[cycle(walk)]
-fn walk_function<'a>(
-    f: &'a Function,
-    s: &Setting<'_>,
-    found: &mut Found<'a>,
-) -> Result<(), NoMemory>
-    ensures { OnOk result (found.new ≡ first_from found.old (breaches (setting_of s.now) (view_function f.now))) }
+fn walk_function<'a>(f: &'a Function, s: &Scope<'_>, found: &mut Found<'a>) -> Result<(), NoMemory>
+    ensures { OnOk result (found.new ≡ first_from found.old (early_errors (scope_of s.now) (view_function f.now))) }
 {
     let params = f.params.items();
     let bound = bound_in_function(s.alloc, &f.name, params, &f.body, s.bound)?;
-    let inner = Setting {
+    let inner = Scope {
         alloc: s.alloc,
         strict: is_strict(s.strict, &f.body),
         in_function: true,
@@ -70,11 +66,11 @@ fn walk_function<'a>(
 #[cycle(walk)]
 fn walk_statements<'a>(
     statements: &'a [Stmt],
-    s: &Setting<'_>,
+    s: &Scope<'_>,
     found: &mut Found<'a>,
 ) -> Result<(), NoMemory>
     ensures { OnOk result (found.new
-        ≡ first_from found.old (row_breaches (setting_of s.now) (view_statements statements.now))) }
+        ≡ first_from found.old (forest_early_errors (scope_of s.now) (view_statements statements.now))) }
 {
     for statement in statements {
         walk_statement(statement, s, found)?;
@@ -85,11 +81,11 @@ fn walk_statements<'a>(
 #[cycle(walk)]
 fn walk_statement<'a>(
     statement: &'a Stmt,
-    s: &Setting<'_>,
+    s: &Scope<'_>,
     found: &mut Found<'a>,
 ) -> Result<(), NoMemory>
     ensures { OnOk result (found.new
-        ≡ first_from found.old (breaches (setting_of s.now) (view_statement statement.now))) }
+        ≡ first_from found.old (early_errors (scope_of s.now) (view_statement statement.now))) }
 {
     match &statement.kind {
         StmtKind::Empty | StmtKind::Debugger => Ok(()),
@@ -167,11 +163,11 @@ fn walk_statement<'a>(
 fn walk_labelled<'a>(
     name: &'a Ident,
     labelled: &'a Stmt,
-    s: &Setting<'_>,
+    s: &Scope<'_>,
     found: &mut Found<'a>,
 ) -> Result<(), NoMemory>
-    ensures { OnOk result (found.new ≡ first_from found.old (label_breaches (setting_of s.now) name.now.text name.now.span
-        ++ breaches (under_label (setting_of s.now) name.now.text (is_loop (view_statement labelled.now)))
+    ensures { OnOk result (found.new ≡ first_from found.old (label_early_errors (scope_of s.now) name.now.text name.now.span
+        ++ early_errors (under_label (scope_of s.now) name.now.text (is_loop (view_statement labelled.now)))
         (view_statement labelled.now))) }
 {
     found.label(&name.text, name.span, s);
@@ -180,7 +176,7 @@ fn walk_labelled<'a>(
         of_loop: is_loop(labelled),
     };
     let labels = with_label(s.alloc, label, s.labels)?;
-    let inner = Setting {
+    let inner = Scope {
         labels: labels.as_slice(),
         ..*s
     };
@@ -191,15 +187,15 @@ fn walk_labelled<'a>(
 fn walk_catch<'a>(
     name: &'a Ident,
     body: &'a [Stmt],
-    s: &Setting<'_>,
+    s: &Scope<'_>,
     found: &mut Found<'a>,
 ) -> Result<(), NoMemory>
-    ensures { OnOk result (found.new ≡ first_from found.old (written_breaches (setting_of s.now) name.now.text name.now.span
-        ++ row_breaches (in_catch (setting_of s.now) name.now.text) (view_statements body.now))) }
+    ensures { OnOk result (found.new ≡ first_from found.old (written_early_errors (scope_of s.now) name.now.text name.now.span
+        ++ forest_early_errors (in_catch (scope_of s.now) name.now.text) (view_statements body.now))) }
 {
     found.written(&name.text, name.span, s);
     let bound = bind(s.alloc, s.bound, &[&name.text])?;
-    let inner = Setting {
+    let inner = Scope {
         bound: bound.as_slice(),
         ..*s
     };
@@ -207,8 +203,8 @@ fn walk_catch<'a>(
 }
 
 #[cycle(walk)]
-fn walk_init<'a>(init: &'a ForInit, s: &Setting<'_>, found: &mut Found<'a>) -> Result<(), NoMemory>
-    ensures { OnOk result (found.new ≡ first_from found.old (breaches (setting_of s.now) (view_init init.now))) }
+fn walk_init<'a>(init: &'a ForInit, s: &Scope<'_>, found: &mut Found<'a>) -> Result<(), NoMemory>
+    ensures { OnOk result (found.new ≡ first_from found.old (early_errors (scope_of s.now) (view_init init.now))) }
 {
     match init {
         ForInit::Nothing => Ok(()),
@@ -220,11 +216,11 @@ fn walk_init<'a>(init: &'a ForInit, s: &Setting<'_>, found: &mut Found<'a>) -> R
 #[cycle(walk)]
 fn walk_declarators<'a>(
     declarators: &'a [(Ident, Option<Expr>)],
-    s: &Setting<'_>,
+    s: &Scope<'_>,
     found: &mut Found<'a>,
 ) -> Result<(), NoMemory>
     ensures { OnOk result (found.new
-        ≡ first_from found.old (row_breaches (setting_of s.now) (view_declarators declarators.now))) }
+        ≡ first_from found.old (forest_early_errors (scope_of s.now) (view_declarators declarators.now))) }
 {
     for d in declarators {
         found.written(&d.0.text, d.0.span, s);
@@ -237,9 +233,9 @@ fn walk_declarators<'a>(
 }
 
 #[cycle(walk)]
-fn walk_cases<'a>(cases: &'a [Case], s: &Setting<'_>, found: &mut Found<'a>) -> Result<(), NoMemory>
+fn walk_cases<'a>(cases: &'a [Case], s: &Scope<'_>, found: &mut Found<'a>) -> Result<(), NoMemory>
     ensures { OnOk result (found.new
-        ≡ first_from found.old (row_breaches (setting_of s.now) (view_cases cases.now))) }
+        ≡ first_from found.old (forest_early_errors (scope_of s.now) (view_cases cases.now))) }
 {
     for c in cases {
         walk_held(&c.test, s, found)?;
@@ -249,13 +245,9 @@ fn walk_cases<'a>(cases: &'a [Case], s: &Setting<'_>, found: &mut Found<'a>) -> 
 }
 
 #[cycle(walk)]
-fn walk_held<'a>(
-    e: &'a Option<Expr>,
-    s: &Setting<'_>,
-    found: &mut Found<'a>,
-) -> Result<(), NoMemory>
+fn walk_held<'a>(e: &'a Option<Expr>, s: &Scope<'_>, found: &mut Found<'a>) -> Result<(), NoMemory>
     ensures { OnOk result (found.new
-        ≡ first_from found.old (maybe_breaches (setting_of s.now) (view_maybe e.now))) }
+        ≡ first_from found.old (optional_early_errors (scope_of s.now) (view_optional e.now))) }
 {
     match e {
         Some(e) => walk_expression(e, s, found),
@@ -264,9 +256,9 @@ fn walk_held<'a>(
 }
 
 #[cycle(walk)]
-fn walk_expression<'a>(e: &'a Expr, s: &Setting<'_>, found: &mut Found<'a>) -> Result<(), NoMemory>
+fn walk_expression<'a>(e: &'a Expr, s: &Scope<'_>, found: &mut Found<'a>) -> Result<(), NoMemory>
     ensures { OnOk result (found.new
-        ≡ first_from found.old (breaches (setting_of s.now) (view_expression e.now))) }
+        ≡ first_from found.old (early_errors (scope_of s.now) (view_expression e.now))) }
 {
     match &e.kind {
         ExprKind::This | ExprKind::Num(_) | ExprKind::Str(_) => Ok(()),
@@ -312,8 +304,8 @@ fn walk_expression<'a>(e: &'a Expr, s: &Setting<'_>, found: &mut Found<'a>) -> R
 }
 
 #[cycle(walk)]
-fn walk_target<'a>(t: &'a Target, s: &Setting<'_>, found: &mut Found<'a>) -> Result<(), NoMemory>
-    ensures { OnOk result (found.new ≡ first_from found.old (breaches (setting_of s.now) (view_target t.now))) }
+fn walk_target<'a>(t: &'a Target, s: &Scope<'_>, found: &mut Found<'a>) -> Result<(), NoMemory>
+    ensures { OnOk result (found.new ≡ first_from found.old (early_errors (scope_of s.now) (view_target t.now))) }
 {
     match t {
         Target::Name(name) => {
@@ -331,11 +323,11 @@ fn walk_target<'a>(t: &'a Target, s: &Setting<'_>, found: &mut Found<'a>) -> Res
 #[cycle(walk)]
 fn walk_items<'a>(
     items: &'a [Option<Expr>],
-    s: &Setting<'_>,
+    s: &Scope<'_>,
     found: &mut Found<'a>,
 ) -> Result<(), NoMemory>
     ensures { OnOk result (found.new
-        ≡ first_from found.old (row_breaches (setting_of s.now) (view_items items.now))) }
+        ≡ first_from found.old (forest_early_errors (scope_of s.now) (view_items items.now))) }
 {
     for e in items {
         match e {
@@ -349,11 +341,11 @@ fn walk_items<'a>(
 #[cycle(walk)]
 fn walk_entries<'a>(
     entries: &'a [Entry],
-    s: &Setting<'_>,
+    s: &Scope<'_>,
     found: &mut Found<'a>,
 ) -> Result<(), NoMemory>
     ensures { OnOk result (found.new
-        ≡ first_from found.old (row_breaches (setting_of s.now) (view_entries entries.now))) }
+        ≡ first_from found.old (forest_early_errors (scope_of s.now) (view_entries entries.now))) }
 {
     for entry in entries {
         walk_entry(entry, s, found)?;
@@ -362,8 +354,8 @@ fn walk_entries<'a>(
 }
 
 #[cycle(walk)]
-fn walk_entry<'a>(entry: &'a Entry, s: &Setting<'_>, found: &mut Found<'a>) -> Result<(), NoMemory>
-    ensures { OnOk result (found.new ≡ first_from found.old (breaches (setting_of s.now) (view_entry entry.now))) }
+fn walk_entry<'a>(entry: &'a Entry, s: &Scope<'_>, found: &mut Found<'a>) -> Result<(), NoMemory>
+    ensures { OnOk result (found.new ≡ first_from found.old (early_errors (scope_of s.now) (view_entry entry.now))) }
 {
     match entry {
         Entry::Value(_, e) => walk_expression(e, s, found),
@@ -374,11 +366,11 @@ fn walk_entry<'a>(entry: &'a Entry, s: &Setting<'_>, found: &mut Found<'a>) -> R
 #[cycle(walk)]
 fn walk_expressions<'a>(
     expressions: &'a [Expr],
-    s: &Setting<'_>,
+    s: &Scope<'_>,
     found: &mut Found<'a>,
 ) -> Result<(), NoMemory>
     ensures { OnOk result (found.new
-        ≡ first_from found.old (row_breaches (setting_of s.now) (view_expressions expressions.now))) }
+        ≡ first_from found.old (forest_early_errors (scope_of s.now) (view_expressions expressions.now))) }
 {
     for e in expressions {
         walk_expression(e, s, found)?;

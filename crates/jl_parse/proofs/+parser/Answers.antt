@@ -7,9 +7,9 @@ use Rattle.jl_grammar.specs.Next.{ends_list, is_colon, is_comma, is_directive, i
 use Rattle.jl_grammar.specs.Reader.{block_at, declaration_at, deeper, ends_at, getter_by, head_at, is_case, is_catch}
 use Rattle.jl_grammar.specs.Reader.{is_close_brace, is_close_paren, rest_at, sub_at}
 use Rattle.jl_grammar.specs.Reader.{setter_by, statement_by}
-use Rattle.jl_grammar.specs.Tokens.{key_ident_at, sign_at, span, strict_at}
-use Rattle.jl_grammar.specs.declared.sign.Sign.TheVariants as signs
-use Rattle.jl_parse.specs.Steps.{GivesStatement, append, clause_of, joint_of}
+use Rattle.jl_grammar.specs.Tokens.{key_ident_at, terminal_at, span, strict_at}
+use Rattle.jl_grammar.specs.declared.terminal.Terminal.TheVariants as terminals
+use Rattle.jl_parse.specs.Steps.{GivesStatement, append, clause_of, infix_operator_of}
 use Rattle.jl_parse.proofs.Lists.{body_more, cases_push, clauses_more, declarations_more, declarators_push}
 use Rattle.jl_parse.proofs.Lists.{elements_stop, getter_one, setter_one}
 use Rattle.jl_parse.proofs.Parts.{accessor_read, finally_read, if_else_read, if_read, no_finally_read, return_read}
@@ -24,8 +24,8 @@ pub expressions::binary-returns-then-room-eq0 : goal.expressions::binary-returns
 expressions::binary-returns-then-room-eq0 t c =
     let ts = c.args.tokens.now in
     c.parts.invariant ∙ binary_none ts (deeper ts c.args.depth) c.args.no_in c.parts.room c.args.loosest c.args.at
-    (view_expression c.parts.operand.value) c.parts.end (joint_of c.in-Some.joint) c.if-room-eq0.true
-    (sym c.joint.ensures ∙ ap (option_map joint_of) c.in-Some.is) (omega arith) (omega arith)
+    (view_expression c.parts.operand.value) c.parts.end (infix_operator_of c.in-Some.infix_operator) c.if-room-eq0.true
+    (sym c.infix_operator.ensures ∙ ap (option_map infix_operator_of) c.in-Some.is) (omega arith) (omega arith)
 
 pub clauses::clauses-parts-preserved : goal.clauses::clauses-parts-preserved
 clauses::clauses-parts-preserved t c =
@@ -33,11 +33,11 @@ clauses::clauses-parts-preserved t c =
     let d = deeper ts c.args.depth in
     let p : view_cases c.push.new.self ≡ append (view_cases c.parts.clauses) (tree.more (view_case c.in_ok-c.c) tree.end) =
     search (rules, cases_push) in
-    let f : c.if-fresh.fresh ≡ (c.parts.fresh && is_case (sign_at ts c.parts.next)) = elim c.if-fresh.branch [
+    let f : c.if-fresh.fresh ≡ (c.parts.fresh && is_case (terminal_at ts c.parts.next)) = elim c.if-fresh.branch [
       | clauses::clauses-then-fresh w ↦ search rules
       | clauses::clauses-else-fresh w ↦ search rules
     ] in
-    let e : is_close_brace (sign_at ts c.parts.next) ≡ false = search rules in
+    let e : is_close_brace (terminal_at ts c.parts.next) ≡ false = search rules in
     let o : clause_of ts d c.parts.fresh c.parts.next ≡ Some (view_case c.in_ok-c.c, c.in_ok-c.end) = search rules in
     let m = clauses_more ts d (view_cases c.parts.clauses) c.parts.room c.parts.fresh c.parts.next (view_case c.in_ok-c.c)
     c.in_ok-c.end (search rules) e o in
@@ -51,7 +51,7 @@ clauses::finally-returns-in_ok-last t c =
     let h = tree.catch (view_ident c.args.caught.0) (view_statements c.args.caught.1) in
     let us = view_statements c.in_ok-last.last in
     let k = c.in_ok-last.end in
-    let e : is_finally (sign_at ts c.args.end) ≡ true = search rules in
+    let e : is_finally (terminal_at ts c.args.end) ≡ true = search rules in
     let b : block_at ts d (suc c.args.end) ≡ Some (us, k) = search rules in
     let p : c.span-span.result ≡ span ts c.args.at k = search rules in
     finally_read ts d c.args.at ws h c.args.end us k e b
@@ -64,7 +64,7 @@ clauses::finally-returns-else-is_finally t c =
     let d = deeper ts c.args.depth in
     let ws = view_statements c.args.body in
     let h = tree.catch (view_ident c.args.caught.0) (view_statements c.args.caught.1) in
-    let e : is_finally (sign_at ts c.args.end) ≡ false = search rules in
+    let e : is_finally (terminal_at ts c.args.end) ≡ false = search rules in
     let p : c.span-span-else-is_finally.result ≡ span ts c.args.at c.args.end = search rules in
     no_finally_read ts d c.args.at ws h c.args.end e
     ∙ ap (λ w. Some (w, c.args.end)) (sym (try_catch_seen c.args.body c.args.caught c.span-span-else-is_finally.result
@@ -79,8 +79,8 @@ clauses::try_statement-returns t c =
     let us = view_statements c.in_ok-last.last in
     let k = c.in_ok-last.end in
     let b : block_at ts d (suc c.args.at) ≡ Some (ws, j) = search rules in
-    let n : is_catch (sign_at ts j) ≡ false = search rules in
-    let e : is_finally (sign_at ts j) ≡ true = search rules in
+    let n : is_catch (terminal_at ts j) ≡ false = search rules in
+    let e : is_finally (terminal_at ts j) ≡ true = search rules in
     let f : block_at ts d (suc j) ≡ Some (us, k) = search rules in
     let p : c.span-span.result ≡ span ts c.args.at k = search rules in
     try_finally_read ts d c.args.at ws j us k b n e f
@@ -104,7 +104,7 @@ pub functions::elements-returns-then-ends_list : goal.functions::elements-return
 functions::elements-returns-then-ends_list t c =
     let ts = c.args.tokens.now in
     let d = deeper ts c.args.depth in
-    let e : ends_list (sign_at ts c.parts.next) ≡ true = search rules in
+    let e : ends_list (terminal_at ts c.parts.next) ≡ true = search rules in
     sym c.parts.invariant
     ∙ elements_stop ts d c.args.strict (view_functions c.parts.functions) (view_statements c.parts.statements)
     c.parts.room c.parts.next e
@@ -117,8 +117,8 @@ functions::getter-returns t c =
     let ps = c.in_ok-params.params in
     let b = view_body c.in_ok-params.body in
     let j = c.in_ok-params.end in
-    let e : is_colon (sign_at ts (suc c.args.at)) ≡ false = search rules in
-    let f : is_key (sign_at ts (suc c.args.at)) ≡ true = search rules in
+    let e : is_colon (terminal_at ts (suc c.args.at)) ≡ false = search rules in
+    let f : is_key (terminal_at ts (suc c.args.at)) ≡ true = search rules in
     let r : rest_at ts d (suc (suc c.args.at)) ≡ Some ((map view_ident ps, b), j) = search rules in
     let n : length ps ≡ 0 = search rules in
     let k : view_ident c.in_ok-key.field-0 ≡ key_ident_at ts (suc c.args.at) = search rules in
@@ -135,8 +135,8 @@ functions::setter-returns t c =
     let ps = c.in_ok-params.params in
     let b = view_body c.in_ok-params.body in
     let j = c.in_ok-params.end in
-    let e : is_colon (sign_at ts (suc c.args.at)) ≡ false = search rules in
-    let f : is_key (sign_at ts (suc c.args.at)) ≡ true = search rules in
+    let e : is_colon (terminal_at ts (suc c.args.at)) ≡ false = search rules in
+    let f : is_key (terminal_at ts (suc c.args.at)) ≡ true = search rules in
     let r : rest_at ts d (suc (suc c.args.at)) ≡ Some ((map view_ident ps, b), j) = search rules in
     let n : length ps ≡ 1 = search rules in
     let k : view_ident c.in_ok-key.field-0 ≡ key_ident_at ts (suc c.args.at) = search rules in
@@ -155,8 +155,8 @@ primary::some_arguments-parts-preserved t c =
     ≡ append (view_expressions c.parts.arguments) (tree.more (view_expression x) tree.end) =
     search (rules, expressions_push) in
     let o : d.assignment false c.parts.next ≡ Some (view_expression x, c.in_ok-e.end) = search rules in
-    let e : is_close_paren (sign_at ts c.in_ok-e.end) ≡ false = search rules in
-    let f : is_comma (sign_at ts c.in_ok-e.end) ≡ true = search rules in
+    let e : is_close_paren (terminal_at ts c.in_ok-e.end) ≡ false = search rules in
+    let f : is_comma (terminal_at ts c.in_ok-e.end) ≡ true = search rules in
     let a : c.after-next.result ≡ suc c.in_ok-e.end = search rules in
     let m = arguments_more ts d (view_expressions c.parts.arguments) c.parts.room c.parts.next (view_expression x)
     c.in_ok-e.end (search rules) o e f in
@@ -171,7 +171,7 @@ statements::declarators-parts-preserved t c =
     ≡ append (view_declarators c.parts.declarators) (tree.more (view_declarator x) tree.end) =
     search (rules, declarators_push) in
     let o : declaration_at ts d c.args.no_in c.parts.next ≡ Some (view_declarator x, c.in_ok-d.end) = search rules in
-    let f : is_comma (sign_at ts c.in_ok-d.end) ≡ true = search rules in
+    let f : is_comma (terminal_at ts c.in_ok-d.end) ≡ true = search rules in
     let a : c.after-next.result ≡ suc c.in_ok-d.end = search rules in
     let m = declarations_more ts d c.args.no_in (view_declarators c.parts.declarators) c.parts.room c.parts.next
     (view_declarator x) c.in_ok-d.end (search rules) o f in
@@ -189,13 +189,13 @@ statements::if_statement-returns-in_ok-other t c =
     let m = c.in_ok-other.end in
     let h : head_at ts d (suc c.args.at) ≡ Some (a, j) = search rules in
     let b : sub_at ts d j ≡ Some (ws, k) = search rules in
-    let e : is_else (sign_at ts k) ≡ true = search rules in
+    let e : is_else (terminal_at ts k) ≡ true = search rules in
     let o : sub_at ts d (suc k) ≡ Some (us, m) = search rules in
     let v : c.into_inner.result ≡ c.in_ok-test.test.value = search rules in
     let p : c.span-span.result ≡ span ts c.args.at m = search rules in
     if_else_read ts d c.args.at a j ws k us m h b e o
     ∙ ap (λ w. Some (w, m)) (sym (if_else_seen c.into_inner.result c.in_ok-body.body c.in_ok-other.other c.span-span.result
-    ∙ ap₂ (λ x y. tree.when (view_expression x) ws (tree.present (tree.branch_of us)) y) v p))
+    ∙ ap₂ (λ x y. tree.if_else (view_expression x) ws (tree.present (tree.branch_of us)) y) v p))
 
 pub statements::if_statement-returns-else-is_else : goal.statements::if_statement-returns-else-is_else
 statements::if_statement-returns-else-is_else t c =
@@ -207,12 +207,12 @@ statements::if_statement-returns-else-is_else t c =
     let k = c.in_ok-body.end in
     let h : head_at ts d (suc c.args.at) ≡ Some (a, j) = search rules in
     let b : sub_at ts d j ≡ Some (ws, k) = search rules in
-    let e : is_else (sign_at ts k) ≡ false = search rules in
+    let e : is_else (terminal_at ts k) ≡ false = search rules in
     let v : c.into_inner-else-is_else.result ≡ c.in_ok-test.test.value = search rules in
     let p : c.span-span-else-is_else.result ≡ span ts c.args.at k = search rules in
     if_read ts d c.args.at a j ws k h b e
     ∙ ap (λ w. Some (w, k)) (sym (if_seen c.into_inner-else-is_else.result c.in_ok-body.body c.span-span-else-is_else.result
-    ∙ ap₂ (λ x y. tree.when (view_expression x) ws tree.absent y) v p))
+    ∙ ap₂ (λ x y. tree.if_else (view_expression x) ws tree.absent y) v p))
 
 pub statements::return_statement-returns : goal.statements::return_statement-returns
 statements::return_statement-returns t c =
@@ -234,5 +234,5 @@ pub statements::word_statement-returns-in-Debugger : goal.statements::word_state
 statements::word_statement-returns-in-Debugger t c =
     let ts = c.args.tokens.now in
     let d = deeper ts c.args.depth in
-    subst (λ w. GivesStatement c.debugger_statement.result (statement_by ts d c.args.at (signs.Word w)))
+    subst (λ w. GivesStatement c.debugger_statement.result (statement_by ts d c.args.at (terminals.Word w)))
     (sym c.in-Debugger.is) (c.debugger_statement.ensures d)

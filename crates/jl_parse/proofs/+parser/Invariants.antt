@@ -7,7 +7,7 @@ use Rattle.jl_grammar.specs.Reader.{comma_from, declarations_from, deeper, eleme
 use Rattle.jl_grammar.specs.Reader.{left_at, left_from, statements_from}
 use Rattle.jl_parse.specs.Steps.{with_elements}
 use Rattle.jl_parse.proofs.Lists.{with_body}
-use Rattle.jl_parse.proofs.Rows.{with_row}
+use Rattle.jl_parse.proofs.Rows.{with_forest}
 use Rattle.jl_parse.proofs.+parser.Given as goal
 
 abbrev pub decreases-expressions::inner_assignment : goal.decreases-expressions::inner_assignment
@@ -222,7 +222,7 @@ decreases-primary::left-parts l = l.room
 
 abbrev pub invariant-primary::some_arguments-parts : goal.invariant-primary::some_arguments-parts
 invariant-primary::some_arguments-parts l =
-    with_row (view_expressions l.arguments) (arguments_from l.tokens (deeper l.tokens l.depth) l.room l.next)
+    with_forest (view_expressions l.arguments) (arguments_from l.tokens (deeper l.tokens l.depth) l.room l.next)
     ≡ arguments_from l.tokens (deeper l.tokens l.depth) (length l.tokens) l.at
 
 abbrev pub decreases-primary::some_arguments-parts : goal.decreases-primary::some_arguments-parts
@@ -230,7 +230,7 @@ decreases-primary::some_arguments-parts l = l.room
 
 abbrev pub invariant-primary::items-parts : goal.invariant-primary::items-parts
 invariant-primary::items-parts l =
-    with_row (view_items l.items) (items_from l.tokens (deeper l.tokens l.depth) l.room l.next)
+    with_forest (view_items l.items) (items_from l.tokens (deeper l.tokens l.depth) l.room l.next)
     ≡ items_from l.tokens (deeper l.tokens l.depth) (length l.tokens) l.at
 
 abbrev pub decreases-primary::items-parts : goal.decreases-primary::items-parts
@@ -256,7 +256,7 @@ decreases-functions::body-parts l = l.room
 
 abbrev pub invariant-functions::entries-parts : goal.invariant-functions::entries-parts
 invariant-functions::entries-parts l =
-    with_row (view_entries l.entries) (entries_from l.tokens (deeper l.tokens l.depth) l.room l.next)
+    with_forest (view_entries l.entries) (entries_from l.tokens (deeper l.tokens l.depth) l.room l.next)
     ≡ entries_from l.tokens (deeper l.tokens l.depth) (length l.tokens) l.at
 
 abbrev pub decreases-functions::entries-parts : goal.decreases-functions::entries-parts
@@ -264,7 +264,7 @@ decreases-functions::entries-parts l = l.room
 
 abbrev pub invariant-statements::statements-parts : goal.invariant-statements::statements-parts
 invariant-statements::statements-parts l =
-    with_row (view_statements l.statements) (statements_from l.tokens (deeper l.tokens l.depth) l.room l.next)
+    with_forest (view_statements l.statements) (statements_from l.tokens (deeper l.tokens l.depth) l.room l.next)
     ≡ statements_from l.tokens (deeper l.tokens l.depth) (length l.tokens) l.at
 
 abbrev pub decreases-statements::statements-parts : goal.decreases-statements::statements-parts
@@ -272,7 +272,7 @@ decreases-statements::statements-parts l = l.room
 
 abbrev pub invariant-statements::declarators-parts : goal.invariant-statements::declarators-parts
 invariant-statements::declarators-parts l =
-    with_row (view_declarators l.declarators) (declarations_from l.tokens (deeper l.tokens l.depth) l.no_in l.room l.next)
+    with_forest (view_declarators l.declarators) (declarations_from l.tokens (deeper l.tokens l.depth) l.no_in l.room l.next)
     ≡ declarations_from l.tokens (deeper l.tokens l.depth) l.no_in (length l.tokens) l.at
 
 abbrev pub decreases-statements::declarators-parts : goal.decreases-statements::declarators-parts
@@ -280,7 +280,7 @@ decreases-statements::declarators-parts l = l.room
 
 abbrev pub invariant-clauses::clauses-parts : goal.invariant-clauses::clauses-parts
 invariant-clauses::clauses-parts l =
-    with_row (view_cases l.clauses) (clauses_from l.tokens (deeper l.tokens l.depth) l.room l.fresh l.next)
+    with_forest (view_cases l.clauses) (clauses_from l.tokens (deeper l.tokens l.depth) l.room l.fresh l.next)
     ≡ clauses_from l.tokens (deeper l.tokens l.depth) (length l.tokens) true l.at
 
 abbrev pub decreases-clauses::clauses-parts : goal.decreases-clauses::clauses-parts

@@ -1,7 +1,7 @@
 use Rattle.std.proofs.Common.{◌≡◌, ℕ, ◌+◌, ◌*◌, ◌<◌, ◌++◌, map, ap, subst}
 use Rattle.jl_ast.specs.Tree as tree
-use Rattle.jl_ast.specs.Table.{functions_of, functions_of_maybe}
-use Rattle.jl_ast.specs.View.{view_ident, view_function, view_expression, view_maybe, view_statement}
+use Rattle.jl_ast.specs.Table.{functions_of, functions_of_optional}
+use Rattle.jl_ast.specs.View.{view_ident, view_function, view_expression, view_optional, view_statement}
 use Rattle.jl_ast.specs.View.{view_statements, view_init, view_cases, view_branch, view_catch}
 use Rattle.jl_ast.specs.declared.tree.StmtKind as statement
 use Rattle.jl_ast.specs.declared.tree.Stmt.{size-Stmt}
@@ -44,7 +44,7 @@ add_statement-returns-in_ok-add_expression-in-While t c =
 pub add_statement-returns-in_ok-add_held-in-For-2 : goal.add_statement-returns-in_ok-add_held-in-For-2
 add_statement-returns-in_ok-add_held-in-For-2 t c =
     let h = c.in-For in
-    let v : view_statement c.args.s.now ≡ tree.for (view_init h.init) (view_maybe h.test) (view_maybe h.step)
+    let v : view_statement c.args.s.now ≡ tree.for (view_init h.init) (view_optional h.test) (view_optional h.step)
     (view_statements c.items-in-For.result.now) c.args.s.now.span =
     cc (statement_placed c.args.s.now, statement_For h.init h.test h.step h.body c.args.s.now.span) in
     let m = then_part _ _ _ _ _
@@ -74,7 +74,7 @@ add_statement-returns-in-Some t c =
     let h = c.in-If in
     let b : view_branch h.other ≡ tree.present (tree.branch_of (view_statements c.items-in-Some.result.now)) =
     branch_there h.other c.in-Some.is c.items-in-Some.ensures in
-    let v : view_statement c.args.s.now ≡ tree.when (view_expression h.test)
+    let v : view_statement c.args.s.now ≡ tree.if_else (view_expression h.test)
     (view_statements c.items-in-If.result.now)
     (tree.present (tree.branch_of (view_statements c.items-in-Some.result.now))) c.args.s.now.span =
     cc (b, statement_placed c.args.s.now, statement_If h.test h.body h.other c.args.s.now.span) in
@@ -86,7 +86,7 @@ pub add_statement-returns-in-None : goal.add_statement-returns-in-None
 add_statement-returns-in-None t c =
     let h = c.in-If in
     let b : view_branch h.other ≡ tree.absent = ap view_branch c.in-None.is in
-    let v : view_statement c.args.s.now ≡ tree.when (view_expression h.test)
+    let v : view_statement c.args.s.now ≡ tree.if_else (view_expression h.test)
     (view_statements c.items-in-If.result.now) tree.absent c.args.s.now.span =
     cc (b, statement_placed c.args.s.now, statement_If h.test h.body h.other c.args.s.now.span) in
     no_last_part _ _ _ _ (ap functions_of v)
@@ -96,7 +96,7 @@ pub add_statement-returns-in-Some-finally : goal.add_statement-returns-in-Some-f
 add_statement-returns-in-Some-finally t c =
     let h = c.in-Try in
     let caught : map view_function c.match-catch.found
-    ≡ map view_function c.add_statements-in-Try.new.found ++ functions_of_maybe (view_catch h.catch) =
+    ≡ map view_function c.add_statements-in-Try.new.found ++ functions_of_optional (view_catch h.catch) =
     elim c.match-catch.branch [
       | add_statement-in-Some-catch+in_ok-add_statements-in-Some-catch w ↦
           caught_there h.catch _ _ _ _ _ w.in-Some-catch.is w.items-in-Some-catch.ensures w.found-is
@@ -117,7 +117,7 @@ pub add_statement-returns-in-None-finally : goal.add_statement-returns-in-None-f
 add_statement-returns-in-None-finally t c =
     let h = c.in-Try in
     let caught : map view_function c.match-catch.found
-    ≡ map view_function c.add_statements-in-Try.new.found ++ functions_of_maybe (view_catch h.catch) =
+    ≡ map view_function c.add_statements-in-Try.new.found ++ functions_of_optional (view_catch h.catch) =
     elim c.match-catch.branch [
       | add_statement-in-Some-catch+in_ok-add_statements-in-Some-catch w ↦
           caught_there h.catch _ _ _ _ _ w.in-Some-catch.is w.items-in-Some-catch.ensures w.found-is

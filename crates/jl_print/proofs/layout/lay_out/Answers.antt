@@ -1,6 +1,6 @@
 use Rattle.std.proofs.Common.{◌≡◌, ◌+◌, ◌++◌, ap, ◌∙◌, drop, map, arith}
 use Rattle.jl_print.specs.Kinds.{after, kind_of}
-use Rattle.jl_print.specs.Layout.{laid_out}
+use Rattle.jl_print.specs.Layout.{layout_of}
 use Rattle.jl_token.specs.Spelling.{spelled}
 use Rattle.jl_print.proofs.Laying.{next_piece, rest_is}
 use Rattle.jl_print.proofs.layout.lay_out.Goals as goal
@@ -15,6 +15,6 @@ loop-at-preserved c =
     ++ after (kind_of c.index-pieces-at.result) (map kind_of (drop (c.loop-at.at + 1) c.args.pieces.now)) =
     c.in_ok-add_after.ensures ∙ ap (λ q. c.add_spelling.new.text.items ++ after k (map kind_of q))
     (rest_is (c.loop-at.at + 1) c.args.pieces.now) in
-    ap (λ t. t ++ laid_out rest) (a ∙ ap (λ t. t ++ after k rest) s)
+    ap (λ t. t ++ layout_of rest) (a ∙ ap (λ t. t ++ after k rest) s)
     ∙ next_piece c.loop-at.text.items c.args.pieces.now c.loop-at.at c.index-pieces-at.result (omega arith)
     c.index-pieces-at.is ∙ c.loop-at.invariant

@@ -1,127 +1,127 @@
 use Rattle.std.proofs.Common.{◌≡◌, ◌+◌, ◌-◌, ◌++◌, ◌∷◌, ap, ◌∙◌, false, length, drop, get_or, nat_eq}
 use Rattle.std.proofs.Common.{option_map, rules, append_assoc, arith}
 use Rattle.jl_ast.proofs.Views.{nodes}
-use Rattle.jl_ast.specs.View.{item, view_declarators, view_expression, view_items, view_maybe}
+use Rattle.jl_ast.specs.View.{item, view_declarators, view_expression, view_items, view_optional}
 use Rattle.jl_print.specs.Kinds.{comma_unless, initializer, item_with_comma}
 use Rattle.jl_print.specs.Pieces.{name}
-use Rattle.jl_print.specs.Written.{written, written_items}
+use Rattle.jl_print.specs.CanonicalTokens.{tokens_of_node, tokens_of_items}
 use Rattle.jl_print.proofs.Writing.{nodes_by_parts, declarators_from, declarator_at, item_at}
 use Rattle.jl_print.proofs.walk.+print.Goals as goal
 
 pub add_expression-returns-in_ok-add_items-in-Array : goal.add_expression-returns-in_ok-add_items-in-Array
-unfolding written
+unfolding tokens_of_node
 add_expression-returns-in_ok-add_items-in-Array t c = search (rules, append_assoc, nodes)
 
 pub add_expression-returns-in_ok-add_entries-in-Object : goal.add_expression-returns-in_ok-add_entries-in-Object
-unfolding written
+unfolding tokens_of_node
 add_expression-returns-in_ok-add_entries-in-Object t c = search (rules, append_assoc, nodes)
 
 pub add_expression-returns-in_ok-punct-in-Dot : goal.add_expression-returns-in_ok-punct-in-Dot
-unfolding written
+unfolding tokens_of_node
 add_expression-returns-in_ok-punct-in-Dot t c = search (rules, append_assoc, nodes)
 
 pub add_expression-returns-in_ok-add_expression-in-Index : goal.add_expression-returns-in_ok-add_expression-in-Index
-unfolding written
+unfolding tokens_of_node
 add_expression-returns-in_ok-add_expression-in-Index t c = search (rules, append_assoc, nodes)
 
 pub add_expression-returns-in_ok-add_arguments-in-Call : goal.add_expression-returns-in_ok-add_arguments-in-Call
-unfolding written
+unfolding tokens_of_node
 add_expression-returns-in_ok-add_arguments-in-Call t c = search (rules, append_assoc, nodes)
 
 pub add_expression-returns-in_ok-add_arguments-in-New : goal.add_expression-returns-in_ok-add_arguments-in-New
-unfolding written
+unfolding tokens_of_node
 add_expression-returns-in_ok-add_arguments-in-New t c = search (rules, append_assoc, nodes)
 
 pub add_expression-returns-in_ok-add_prefix-in-Unary : goal.add_expression-returns-in_ok-add_prefix-in-Unary
-unfolding written
+unfolding tokens_of_node
 add_expression-returns-in_ok-add_prefix-in-Unary t c = search (rules, append_assoc, nodes)
 
 pub add_expression-returns-in_ok-add_update-in-Update-default-true-default : goal.add_expression-returns-in_ok-add_update-in-Update-default-true-default
-unfolding written
+unfolding tokens_of_node
 add_expression-returns-in_ok-add_update-in-Update-default-true-default t c = search (rules, append_assoc, nodes)
 
 pub add_expression-returns-in_ok-add_target-in-Update-default-false-default : goal.add_expression-returns-in_ok-add_target-in-Update-default-false-default
-unfolding written
+unfolding tokens_of_node
 add_expression-returns-in_ok-add_target-in-Update-default-false-default t c = search (rules, append_assoc, nodes)
 
 pub add_expression-returns-in_ok-add_operand-in-Binary-2 : goal.add_expression-returns-in_ok-add_operand-in-Binary-2
-unfolding written
+unfolding tokens_of_node
 add_expression-returns-in_ok-add_operand-in-Binary-2 t c = search (rules, append_assoc, nodes)
 
 pub add_expression-returns-in_ok-add_operand-in-Binary-4 : goal.add_expression-returns-in_ok-add_operand-in-Binary-4
-unfolding written
+unfolding tokens_of_node
 add_expression-returns-in_ok-add_operand-in-Binary-4 t c = search (rules, append_assoc, nodes)
 
 pub add_expression-returns-in_ok-add_operand-in-And-2 : goal.add_expression-returns-in_ok-add_operand-in-And-2
-unfolding written
+unfolding tokens_of_node
 add_expression-returns-in_ok-add_operand-in-And-2 t c = search (rules, append_assoc, nodes)
 
 pub add_expression-returns-in_ok-add_operand-in-Or-2 : goal.add_expression-returns-in_ok-add_operand-in-Or-2
-unfolding written
+unfolding tokens_of_node
 add_expression-returns-in_ok-add_operand-in-Or-2 t c = search (rules, append_assoc, nodes)
 
 pub add_expression-returns-in_ok-add_operand-in-Cond-3 : goal.add_expression-returns-in_ok-add_operand-in-Cond-3
-unfolding written
+unfolding tokens_of_node
 add_expression-returns-in_ok-add_operand-in-Cond-3 t c = search (rules, append_assoc, nodes)
 
 pub add_expression-returns-in_ok-add_operand-in-Comma : goal.add_expression-returns-in_ok-add_operand-in-Comma
-unfolding written
+unfolding tokens_of_node
 add_expression-returns-in_ok-add_operand-in-Comma t c = search (rules, append_assoc, nodes)
 
 pub add_init-returns-in_ok-word-in-Var : goal.add_init-returns-in_ok-word-in-Var
-unfolding written
+unfolding tokens_of_node
 add_init-returns-in_ok-word-in-Var t c = search (rules, append_assoc, nodes)
 
 pub add_statement-returns-in_ok-add_declarators-in-Var : goal.add_statement-returns-in_ok-add_declarators-in-Var
-unfolding written
+unfolding tokens_of_node
 add_statement-returns-in_ok-add_declarators-in-Var t c = search (rules, append_assoc, nodes)
 
-pub add_statement-returns-in_ok-add_fitted-in-Expr : goal.add_statement-returns-in_ok-add_fitted-in-Expr
-unfolding written
-add_statement-returns-in_ok-add_fitted-in-Expr t c = search (rules, append_assoc, nodes)
+pub add_statement-returns-in_ok-add_in_parens_unless-in-Expr : goal.add_statement-returns-in_ok-add_in_parens_unless-in-Expr
+unfolding tokens_of_node
+add_statement-returns-in_ok-add_in_parens_unless-in-Expr t c = search (rules, append_assoc, nodes)
 
-pub add_statement-returns-in_ok-add_fitted-in-DoWhile : goal.add_statement-returns-in_ok-add_fitted-in-DoWhile
-unfolding written
-add_statement-returns-in_ok-add_fitted-in-DoWhile t c = search (rules, append_assoc, nodes)
+pub add_statement-returns-in_ok-add_in_parens_unless-in-DoWhile : goal.add_statement-returns-in_ok-add_in_parens_unless-in-DoWhile
+unfolding tokens_of_node
+add_statement-returns-in_ok-add_in_parens_unless-in-DoWhile t c = search (rules, append_assoc, nodes)
 
 pub add_statement-returns-in_ok-add_block-in-While : goal.add_statement-returns-in_ok-add_block-in-While
-unfolding written
+unfolding tokens_of_node
 add_statement-returns-in_ok-add_block-in-While t c = search (rules, append_assoc, nodes)
 
 pub add_statement-returns-in_ok-add_block-in-ForIn-true-default-default-default : goal.add_statement-returns-in_ok-add_block-in-ForIn-true-default-default-default
-unfolding written
+unfolding tokens_of_node
 add_statement-returns-in_ok-add_block-in-ForIn-true-default-default-default t c = search (rules, append_assoc, nodes)
 
 pub add_statement-returns-in_ok-add_block-in-ForIn-false-default-default-default : goal.add_statement-returns-in_ok-add_block-in-ForIn-false-default-default-default
-unfolding written
+unfolding tokens_of_node
 add_statement-returns-in_ok-add_block-in-ForIn-false-default-default-default t c = search (rules, append_assoc, nodes)
 
-pub add_statement-returns-in_ok-add_maybe_name-in-Continue : goal.add_statement-returns-in_ok-add_maybe_name-in-Continue
-unfolding written
-add_statement-returns-in_ok-add_maybe_name-in-Continue t c = search (rules, append_assoc, nodes)
+pub add_statement-returns-in_ok-add_optional_name-in-Continue : goal.add_statement-returns-in_ok-add_optional_name-in-Continue
+unfolding tokens_of_node
+add_statement-returns-in_ok-add_optional_name-in-Continue t c = search (rules, append_assoc, nodes)
 
-pub add_statement-returns-in_ok-add_maybe_name-in-Break : goal.add_statement-returns-in_ok-add_maybe_name-in-Break
-unfolding written
-add_statement-returns-in_ok-add_maybe_name-in-Break t c = search (rules, append_assoc, nodes)
+pub add_statement-returns-in_ok-add_optional_name-in-Break : goal.add_statement-returns-in_ok-add_optional_name-in-Break
+unfolding tokens_of_node
+add_statement-returns-in_ok-add_optional_name-in-Break t c = search (rules, append_assoc, nodes)
 
-pub add_statement-returns-in_ok-add_maybe-in-Return : goal.add_statement-returns-in_ok-add_maybe-in-Return
-unfolding written
-add_statement-returns-in_ok-add_maybe-in-Return t c = search (rules, append_assoc, nodes)
+pub add_statement-returns-in_ok-add_optional-in-Return : goal.add_statement-returns-in_ok-add_optional-in-Return
+unfolding tokens_of_node
+add_statement-returns-in_ok-add_optional-in-Return t c = search (rules, append_assoc, nodes)
 
 pub add_statement-returns-in_ok-punct-in-Labelled : goal.add_statement-returns-in_ok-punct-in-Labelled
-unfolding written
+unfolding tokens_of_node
 add_statement-returns-in_ok-punct-in-Labelled t c = search (rules, append_assoc, nodes)
 
 pub add_statement-returns-in_ok-add_cases-in-Switch : goal.add_statement-returns-in_ok-add_cases-in-Switch
-unfolding written
+unfolding tokens_of_node
 add_statement-returns-in_ok-add_cases-in-Switch t c = search (rules, append_assoc, nodes)
 
 pub add_statement-returns-in_ok-add_expression-in-Throw : goal.add_statement-returns-in_ok-add_expression-in-Throw
-unfolding written
+unfolding tokens_of_node
 add_statement-returns-in_ok-add_expression-in-Throw t c = search (rules, append_assoc, nodes)
 
 pub add_statement-returns-in_ok-word-in-Debugger : goal.add_statement-returns-in_ok-word-in-Debugger
-unfolding written
+unfolding tokens_of_node
 add_statement-returns-in_ok-word-in-Debugger t c = search (rules, append_assoc, nodes)
 
 pub add_expression-returns-in_ok-add_operand-in-Assign : goal.add_expression-returns-in_ok-add_operand-in-Assign
@@ -145,9 +145,9 @@ add_declarators-loop-d-preserved t c =
     c.d-item.is ∙ ap (λ x. get_or x c.loop-d.d-index c.d-item.result) s in
     let b : c.add_comma_unless.new.out ≡ c.loop-d.out ++ comma_unless c.loop-d.first = c.in_ok-add_comma_unless.ensures in
     let a : c.add_declarator.new.out ≡ c.add_comma_unless.new.out
-    ++ (name c.d-item.result.0.text ∷ initializer (view_maybe c.d-item.result.1)) = c.in_ok-add_declarator.ensures in
+    ++ (name c.d-item.result.0.text ∷ initializer (view_optional c.d-item.result.1)) = c.in_ok-add_declarator.ensures in
     ap (λ x. x ++ declarators_from false (view_declarators (drop (c.loop-d.d-index + 1) l)))
-    (a ∙ ap (λ x. x ++ (name c.d-item.result.0.text ∷ initializer (view_maybe c.d-item.result.1))) b)
+    (a ∙ ap (λ x. x ++ (name c.d-item.result.0.text ∷ initializer (view_optional c.d-item.result.1))) b)
     ∙ declarator_at c.loop-d.out c.loop-d.first l i c.d-item.result w (omega (arith, c.loop-d-test.true, ap length s))
     ∙ c.loop-d.invariant
 
@@ -164,10 +164,10 @@ add_items-loop-e-preserved t c =
     ++ item_with_comma (item (option_map view_expression c.e-item.result)) (nat_eq (c.loop-e.left - 1) 0) =
     c.in_ok-add_item.ensures in (
       n,
-      ap (λ x. x ++ written_items (view_items (drop (c.loop-e.e-index + 1) l))) a
+      ap (λ x. x ++ tokens_of_items (view_items (drop (c.loop-e.e-index + 1) l))) a
           ∙ item_at c.loop-e.out l i (c.loop-e.left - 1) c.e-item.result w n ∙ c.loop-e.invariant.1,
     )
 
 pub add_statement-returns-in_ok-add_block-in-For : goal.add_statement-returns-in_ok-add_block-in-For
-unfolding written
+unfolding tokens_of_node
 add_statement-returns-in_ok-add_block-in-For t c = search (rules, append_assoc, nodes)

@@ -1,45 +1,45 @@
 use Rattle.std.proofs.Common.{◌≡◌, ◌+◌, ◌*◌, ◌++◌, drop, length}
 use Rattle.jl_ast.specs.View.{view_functions, view_statements, view_declarators, view_cases, view_items}
 use Rattle.jl_ast.specs.View.{view_entries, view_expressions}
-use Rattle.jl_print.specs.Written.{written_all, written_arguments, written_entries, written_declarators, written_items}
+use Rattle.jl_print.specs.CanonicalTokens.{tokens_of_all, tokens_of_arguments, tokens_of_entries, tokens_of_declarators, tokens_of_items}
 use Rattle.jl_print.proofs.Writing.{arguments_from, entries_from, declarators_from}
 use Rattle.jl_print.proofs.walk.+print.Given as goal
 
 abbrev pub invariant-add_functions-loop-f : goal.invariant-add_functions-loop-f
 invariant-add_functions-loop-f l =
-    l.out ++ written_all (view_functions (drop l.f-index l.functions))
-    ≡ l.initial.out ++ written_all (view_functions l.functions)
+    l.out ++ tokens_of_all (view_functions (drop l.f-index l.functions))
+    ≡ l.initial.out ++ tokens_of_all (view_functions l.functions)
 
 abbrev pub invariant-add_statements-loop-s : goal.invariant-add_statements-loop-s
 invariant-add_statements-loop-s l =
-    l.out ++ written_all (view_statements (drop l.s-index l.statements))
-    ≡ l.initial.out ++ written_all (view_statements l.statements)
+    l.out ++ tokens_of_all (view_statements (drop l.s-index l.statements))
+    ≡ l.initial.out ++ tokens_of_all (view_statements l.statements)
 
 abbrev pub invariant-add_cases-loop-c : goal.invariant-add_cases-loop-c
 invariant-add_cases-loop-c l =
-    l.out ++ written_all (view_cases (drop l.c-index l.cases))
-    ≡ l.initial.out ++ written_all (view_cases l.cases)
+    l.out ++ tokens_of_all (view_cases (drop l.c-index l.cases))
+    ≡ l.initial.out ++ tokens_of_all (view_cases l.cases)
 
 abbrev pub invariant-add_expressions-loop-e : goal.invariant-add_expressions-loop-e
 invariant-add_expressions-loop-e l =
     l.out ++ arguments_from l.first (view_expressions (drop l.e-index l.expressions))
-    ≡ l.initial.out ++ written_arguments (view_expressions l.expressions)
+    ≡ l.initial.out ++ tokens_of_arguments (view_expressions l.expressions)
 
 abbrev pub invariant-add_entries-loop-entry : goal.invariant-add_entries-loop-entry
 invariant-add_entries-loop-entry l =
     l.out ++ entries_from l.first (view_entries (drop l.entry-index l.entries))
-    ≡ l.initial.out ++ written_entries (view_entries l.entries)
+    ≡ l.initial.out ++ tokens_of_entries (view_entries l.entries)
 
 abbrev pub invariant-add_declarators-loop-d : goal.invariant-add_declarators-loop-d
 invariant-add_declarators-loop-d l =
     l.out ++ declarators_from l.first (view_declarators (drop l.d-index l.declarators))
-    ≡ l.initial.out ++ written_declarators (view_declarators l.declarators)
+    ≡ l.initial.out ++ tokens_of_declarators (view_declarators l.declarators)
 
 abbrev pub invariant-add_items-loop-e : goal.invariant-add_items-loop-e
 invariant-add_items-loop-e l =
     (l.left + l.e-index ≡ length l.items) ×
-    (l.out ++ written_items (view_items (drop l.e-index l.items))
-    ≡ l.initial.out ++ written_items (view_items l.items))
+    (l.out ++ tokens_of_items (view_items (drop l.e-index l.items))
+    ≡ l.initial.out ++ tokens_of_items (view_items l.items))
 
 -- What is as large as its part is above it: a list or an option above what it holds, the operand above the
 -- expression.
@@ -47,8 +47,8 @@ invariant-add_items-loop-e l =
 abbrev pub decreases-add_expression : goal.decreases-add_expression
 decreases-add_expression l = 6 * goal.size-add_expression l
 
-abbrev pub decreases-add_fitted : goal.decreases-add_fitted
-decreases-add_fitted l = 6 * goal.size-add_fitted l + 1
+abbrev pub decreases-add_in_parens_unless : goal.decreases-add_in_parens_unless
+decreases-add_in_parens_unless l = 6 * goal.size-add_in_parens_unless l + 1
 
 abbrev pub decreases-add_operand : goal.decreases-add_operand
 decreases-add_operand l = 6 * goal.size-add_operand l + 2
@@ -128,5 +128,5 @@ decreases-add_case l = 6 * goal.size-add_case l
 abbrev pub decreases-add_test : goal.decreases-add_test
 decreases-add_test l = 6 * goal.size-add_test l + 1
 
-abbrev pub decreases-add_maybe : goal.decreases-add_maybe
-decreases-add_maybe l = 6 * goal.size-add_maybe l + 1
+abbrev pub decreases-add_optional : goal.decreases-add_optional
+decreases-add_optional l = 6 * goal.size-add_optional l + 1

@@ -1,5 +1,5 @@
 use Rattle.std.proofs.Common.{◌∙◌, sym}
-use Rattle.jl_heap.proofs.Fixed.{rejected-unit}
+use Rattle.jl_heap.proofs.ReadOnly.{rejected-unit}
 use Rattle.jl_heap.proofs.heap.Heap.define_absent.Goals as goal
 
 pub returns-in-Some-clause-ok : goal.returns-in-Some-clause-ok

@@ -3,8 +3,8 @@
 ghost use Rattle.std.specs.Prelude.{◌≡◌, [], ◌∷◌, map, IfOk, option_map};
 ghost use Rattle.jl_ast.specs.View.{view_ident, view_body, view_statement};
 ghost use Rattle.jl_scope.specs.Hoisting.{bound_by_body, bound_by_function};
-ghost use Rattle.jl_scope.specs.Setting.{bind, has_label, has_loop_label, is_loop, in_a_loop, in_a_switch};
-ghost use Rattle.jl_scope.specs.Steps.{setting_of, label_of};
+ghost use Rattle.jl_scope.specs.Scope.{bind, has_label, has_loop_label, is_loop, in_a_loop, in_a_switch};
+ghost use Rattle.jl_scope.specs.Steps.{scope_of, label_of};
 
 use crate::hoisting::{add_body, add_function};
 use crate::names::{is_among, is_left_out, same_text};
@@ -21,7 +21,7 @@ pub(crate) struct Label<'s> {
 
 /// What stands round a part of a program, with the allocator for what is walked under it.
 #[derive(Clone, Copy)]
-pub(crate) struct Setting<'s> {
+pub(crate) struct Scope<'s> {
     pub(crate) alloc: Global,
     pub(crate) strict: bool,
     pub(crate) in_function: bool,
@@ -35,21 +35,21 @@ pub(crate) struct Setting<'s> {
     pub(crate) bound: &'s [&'s [u16]],
 }
 
-impl<'s> Setting<'s> {
-    pub(crate) fn in_a_loop(&self) -> Setting<'s>
-        ensures { setting_of result ≡ in_a_loop (setting_of self.now) }
+impl<'s> Scope<'s> {
+    pub(crate) fn in_a_loop(&self) -> Scope<'s>
+        ensures { scope_of result ≡ in_a_loop (scope_of self.now) }
     {
-        Setting {
+        Scope {
             in_loop: true,
             can_break: true,
             ..*self
         }
     }
 
-    pub(crate) fn in_a_switch(&self) -> Setting<'s>
-        ensures { setting_of result ≡ in_a_switch (setting_of self.now) }
+    pub(crate) fn in_a_switch(&self) -> Scope<'s>
+        ensures { scope_of result ≡ in_a_switch (scope_of self.now) }
     {
-        Setting {
+        Scope {
             can_break: true,
             ..*self
         }

@@ -1,7 +1,7 @@
 use Rattle.std.proofs.Common.{◌≡◌, map, length}
-use Rattle.jl_scope.specs.Setting.{has_label}
+use Rattle.jl_scope.specs.Scope.{has_label}
 use Rattle.jl_scope.specs.Steps.{label_of}
-use Rattle.jl_scope.proofs.setting.has_label.Given as goal
+use Rattle.jl_scope.proofs.scope.has_label.Given as goal
 
 abbrev pub invariant-loop-labels : goal.invariant-loop-labels
 invariant-loop-labels l = has_label l.name (map label_of l.labels) ≡ has_label l.name (map label_of l.fn.labels)

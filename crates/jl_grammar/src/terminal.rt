@@ -1,4 +1,4 @@
-ghost use Rattle.jl_grammar.specs.Signs.{name_sign, sign_of};
+ghost use Rattle.jl_grammar.specs.Terminals.{name_terminal, terminal_of};
 ghost use Rattle.std.specs.Prelude.{◌≡◌};
 
 use crate::word::{Word, is_spelled, reserved_word};
@@ -6,7 +6,7 @@ use jl_token::{Punct, TokenKind};
 
 /// What the grammar sees of a token.
 #[derive(Clone, Copy, PartialEq, Eq, Debug)]
-pub enum Sign {
+pub enum Terminal {
     /// Nothing: the place past the last token.
     End,
     /// A punctuator (7.7).
@@ -28,26 +28,26 @@ pub enum Sign {
 }
 
 /// What the grammar sees of a token of this kind.
-pub fn sign_of(kind: &TokenKind) -> Sign
-    ensures { result ≡ sign_of kind.now }
+pub fn terminal_of(kind: &TokenKind) -> Terminal
+    ensures { result ≡ terminal_of kind.now }
 {
     match kind {
-        TokenKind::Name { text, escaped } => name_sign(text.units(), *escaped),
-        TokenKind::Punct(punct) => Sign::Punct(*punct),
-        TokenKind::Number(_) => Sign::Number,
-        TokenKind::Str { .. } => Sign::Str,
+        TokenKind::Name { text, escaped } => name_terminal(text.units(), *escaped),
+        TokenKind::Punct(punct) => Terminal::Punct(*punct),
+        TokenKind::Number(_) => Terminal::Number,
+        TokenKind::Str { .. } => Terminal::Str,
     }
 }
 
-fn name_sign(units: &[u16], escaped: bool) -> Sign
-    ensures { result ≡ name_sign units.now escaped }
+fn name_terminal(units: &[u16], escaped: bool) -> Terminal
+    ensures { result ≡ name_terminal units.now escaped }
 {
     match reserved_word(units) {
-        Some(_) if escaped => Sign::EscapedWord,
-        Some(word) => Sign::Word(word),
-        None if escaped => Sign::Identifier,
-        None if is_spelled(units, b"get") => Sign::Get,
-        None if is_spelled(units, b"set") => Sign::Set,
-        None => Sign::Identifier,
+        Some(_) if escaped => Terminal::EscapedWord,
+        Some(word) => Terminal::Word(word),
+        None if escaped => Terminal::Identifier,
+        None if is_spelled(units, b"get") => Terminal::Get,
+        None if is_spelled(units, b"set") => Terminal::Set,
+        None => Terminal::Identifier,
     }
 }

@@ -1,8 +1,8 @@
 ghost use Rattle.std.specs.Prelude.{◌≡◌, pred};
 ghost use Rattle.jl_ast.specs.View.{view_expression};
-ghost use Rattle.jl_grammar.specs.Operators.{looseness, plain};
-ghost use Rattle.jl_print.specs.Ranks.{fits, is_in, operator_rank, rank_of};
-ghost use Rattle.jl_print.specs.Written.{is_name, is_string};
+ghost use Rattle.jl_grammar.specs.Operators.{infix_precedence, plain};
+ghost use Rattle.jl_print.specs.Precedence.{fits, is_in, operator_precedence, precedence_of};
+ghost use Rattle.jl_print.specs.CanonicalTokens.{is_name, is_string};
 
 use jl_ast::{BinOp, Expr, ExprKind};
 
@@ -17,8 +17,8 @@ pub(crate) fn is_in(op: BinOp) -> bool
 }
 
 /// How loosely an operator's left operand may hang together (11.5 to 11.10): its own rank.
-pub(crate) fn operator_rank(op: BinOp) -> u32
-    ensures { result ≡ operator_rank op }
+pub(crate) fn operator_precedence(op: BinOp) -> u32
+    ensures { result ≡ operator_precedence op }
 {
     match op {
         BinOp::Mul | BinOp::Div | BinOp::Rem => 3,
@@ -34,8 +34,8 @@ pub(crate) fn operator_rank(op: BinOp) -> u32
 }
 
 /// How loosely an operator's right operand may hang together: one less, since all of them group to the left.
-pub(crate) fn right_rank(op: BinOp) -> u32
-    ensures { result ≡ pred (operator_rank op) }
+pub(crate) fn right_precedence(op: BinOp) -> u32
+    ensures { result ≡ pred (operator_precedence op) }
 {
     match op {
         BinOp::Mul | BinOp::Div | BinOp::Rem => 2,
@@ -52,8 +52,8 @@ pub(crate) fn right_rank(op: BinOp) -> u32
 
 /// How loosely an expression hangs together as it is written (11.1 to 11.14).
 #[tactic(auto, using(jl_ast::proofs::Views::nodes))]
-pub(crate) fn rank_of(e: &Expr) -> u32
-    ensures { result ≡ rank_of (view_expression e.now) }
+pub(crate) fn precedence_of(e: &Expr) -> u32
+    ensures { result ≡ precedence_of (view_expression e.now) }
 {
     match &e.kind {
         ExprKind::This | ExprKind::Name(_) | ExprKind::Num(_) | ExprKind::Str(_) => 0,
@@ -64,7 +64,7 @@ pub(crate) fn rank_of(e: &Expr) -> u32
         ExprKind::Update { prefix: true, .. } => 2,
         ExprKind::Unary(_, _) => 2,
         ExprKind::Binary(BinOp::In, _, _) => 0,
-        ExprKind::Binary(op, _, _) => operator_rank(*op),
+        ExprKind::Binary(op, _, _) => operator_precedence(*op),
         ExprKind::And(_, _) => 11,
         ExprKind::Or(_, _) => 12,
         ExprKind::Cond(_, _, _) | ExprKind::Assign(_, _, _) => 13,
@@ -76,7 +76,7 @@ pub(crate) fn rank_of(e: &Expr) -> u32
 pub(crate) fn fits(e: &Expr, most: u32) -> bool
     ensures { result ≡ fits (view_expression e.now) most }
 {
-    rank_of(e) <= most
+    precedence_of(e) <= most
 }
 
 #[tactic(auto, using(jl_ast::proofs::Views::nodes))]

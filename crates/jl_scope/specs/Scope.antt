@@ -11,7 +11,7 @@ pub record Label : Type 0 where
   pub name : Text
   pub of_loop : Bool
 
-pub record Setting : Type 0 where
+pub record Scope : Type 0 where
   pub strict : Bool
   pub in_function : Bool
   -- within a loop of the innermost function or the program
@@ -50,7 +50,7 @@ is_loop (for_in is_var x o l at) = true
 is_loop _ = false
 
 -- the parts of a program
-abbrev pub in_program : Tree Span code → Setting
+abbrev pub in_program : Tree Span code → Scope
 in_program b = record {
   strict = strict_in false b;
   in_function = false;
@@ -61,7 +61,7 @@ in_program b = record {
 }
 
 -- the name, the parameters and the body of a function
-abbrev pub in_function_of : Setting → Option (Ident Span) → List (Ident Span) → Tree Span code → Setting
+abbrev pub in_function_of : Scope → Option (Ident Span) → List (Ident Span) → Tree Span code → Scope
 in_function_of s name params b = record {
   strict = strict_in s.strict b;
   in_function = true;
@@ -71,16 +71,16 @@ in_function_of s name params b = record {
   bound = bind s.bound (bound_by_function name params b);
 }
 
-abbrev pub in_a_loop : Setting → Setting
+abbrev pub in_a_loop : Scope → Scope
 in_a_loop s = record s { in_loop = true; can_break = true }
 
-abbrev pub in_a_switch : Setting → Setting
+abbrev pub in_a_switch : Scope → Scope
 in_a_switch s = record s { can_break = true }
 
 -- the statement that has this label
-abbrev pub under_label : Setting → Text → Bool → Setting
+abbrev pub under_label : Scope → Text → Bool → Scope
 under_label s x of_loop = record s { labels = record { name = x; of_loop = of_loop } ∷ s.labels }
 
 -- the block of a `catch` with this parameter
-abbrev pub in_catch : Setting → Text → Setting
+abbrev pub in_catch : Scope → Text → Scope
 in_catch s x = record s { bound = bind_name s.bound x }

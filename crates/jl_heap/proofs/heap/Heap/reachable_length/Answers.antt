@@ -1,6 +1,6 @@
 use Rattle.std.proofs.Common.{arith}
 use Rattle.jl_heap.proofs.Shortened.{reached_over-above}
-use Rattle.jl_heap.proofs.heap.Heap.reached.Goals as goal
+use Rattle.jl_heap.proofs.heap.Heap.reachable_length.Goals as goal
 
 pub loop-names-init : goal.loop-names-init
 loop-names-init c = record {

@@ -1,6 +1,6 @@
 use Rattle.std.proofs.Common.{◌≡◌, drop, map}
-use Rattle.jl_scope.specs.Setting.{bind}
-use Rattle.jl_scope.proofs.setting.bind.Given as goal
+use Rattle.jl_scope.specs.Scope.{bind}
+use Rattle.jl_scope.proofs.scope.bind.Given as goal
 
 abbrev pub invariant-loop-name : goal.invariant-loop-name
 invariant-loop-name l =

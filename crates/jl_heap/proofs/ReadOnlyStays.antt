@@ -8,7 +8,7 @@ use Rattle.jl_props.specs.Entries.{has_name}
 use Rattle.jl_props.specs.declared.entries.Entry.{Entry}
 use Rattle.jl_value.specs.Indices.{index_of}
 use Rattle.jl_value.specs.declared.value.Value.{Value}
-use Rattle.jl_heap.specs.Define.{IsOneKind, counted, count_of, cut, defined, defined_at, defined_length, defined_on, defined_plainly, defined_shorter, index_after, is_array, is_between, is_writable, kept_open, length_name, length_of, reached, shortened, shortened_to, stored, with_count, with_length}
+use Rattle.jl_heap.specs.Define.{IsOneKind, counted, count_of, entries_outside, define_own_property, defined_at, define_array_length, define_on, define_ordinary, defined_shorter, index_after, is_array, is_between, is_writable, kept_open, length_name, length_of, reachable_length, shorten_array, shortened_to, store_property, with_count, with_length}
 use Rattle.jl_heap.specs.Objects.{Objects, object_at, own, own_or_unit, unit_at, unit_property}
 use Rattle.jl_heap.specs.Property.{is_same, revised}
 use Rattle.jl_heap.specs.declared.property.Change.{Change}
@@ -16,19 +16,19 @@ use Rattle.jl_heap.specs.declared.property.Defined.{Defined}
 use Rattle.jl_heap.specs.declared.property.Defined.TheVariants.{Done, Rejected}
 use Rattle.jl_heap.specs.declared.property.Prop.{Prop}
 use Rattle.jl_heap.specs.declared.property.Prop.TheVariants.{Plain}
-use Rattle.jl_heap.proofs.Fixed.{revised-fixed}
+use Rattle.jl_heap.proofs.ReadOnly.{revised-read_only}
 use Rattle.jl_heap.proofs.Items.{item_in, item_in-filter, item_in-with_item, named_so}
 use Rattle.jl_heap.proofs.LawsLemmas.{Same, other, pick, same, same_or_other}
-use Rattle.jl_heap.proofs.Plainly.{own-defined_plainly}
+use Rattle.jl_heap.proofs.Plainly.{own-define_ordinary}
 use Rattle.jl_heap.proofs.Puts.{Within, inside, past, own-put, own-with_property, put_past, within_or_past}
 
 -- an element that is found under its name counts in how far elements are deleted
-pub reached-item : (low high : ℕ) (x : List ℕ) (p : Prop) (es : List (Entry Prop)) → item_in x es ≡ Some p → index_after low high x p ≤ reached low high es
-reached-item low high x p [] found = cc
-reached-item low high x p (e ∷ es) found = step (has_name x e) refl (reached-item low high x p es)
+pub reachable_length-item : (low high : ℕ) (x : List ℕ) (p : Prop) (es : List (Entry Prop)) → item_in x es ≡ Some p → index_after low high x p ≤ reachable_length low high es
+reachable_length-item low high x p [] found = cc
+reachable_length-item low high x p (e ∷ es) found = step (has_name x e) refl (reachable_length-item low high x p es)
   where
-    step : (b : Bool) → has_name x e ≡ b → (item_in x es ≡ Some p → index_after low high x p ≤ reached low high es) →
-        index_after low high x p ≤ reached low high (e ∷ es)
+    step : (b : Bool) → has_name x e ≡ b → (item_in x es ≡ Some p → index_after low high x p ≤ reachable_length low high es) →
+        index_after low high x p ≤ reachable_length low high (e ∷ es)
     step true is rest =
         let named = named_so x e is in
         let item : e.item ≡ p = (let f : Some e.item ≡ Some p = (rw is at found) in cc) in
@@ -36,9 +36,9 @@ reached-item low high x p (e ∷ es) found = step (has_name x e) refl (reached-i
         omega (arith, here)
     step false is rest = omega (arith, rest (rw is at found))
 
-pub reached-low : (low high : ℕ) (es : List (Entry Prop)) → low ≤ reached low high es
-reached-low low high [] = omega arith
-reached-low low high (e ∷ es) = omega (arith, reached-low low high es)
+pub reachable_length-low : (low high : ℕ) (es : List (Entry Prop)) → low ≤ reachable_length low high es
+reachable_length-low low high [] = omega arith
+reachable_length-low low high (e ∷ es) = omega (arith, reachable_length-low low high es)
 
 -- one that can't be deleted lies below where deleting ends
 below_end : (index : Option ℕ) (low high end : ℕ) → low ≤ end →
@@ -48,21 +48,21 @@ below_end None low high end above after = refl
 below_end (Some i) low high end above after = grind (arith, nat_tests)
 
 module _ (h : Objects) (k : ℕ) (x : List ℕ) (v : Value) (e : Bool) (c : Change) (one : IsOneKind c) (here : own h k x ≡ Some (Plain v false e false)) where
-  fixed : Prop
-  fixed = Plain v false e false
+  read_only : Prop
+  read_only = Plain v false e false
 
-  on_fixed : (b : Bool) → is_same (Plain v false e false) c ≡ b → (n : List ℕ) → (defined_on h k n c (Some (Plain v false e false))).0 ≡ h
-  on_fixed true s n = ap (λ b. (pick b (h, Done) (stored h k n (revised (Plain v false e false) c))).0) s
-  on_fixed false s n =
-      ap (λ b. (pick b (h, Done) (stored h k n (revised (Plain v false e false) c))).0) s
-      ∙ ap (λ o. (stored h k n o).0) (revised-fixed v e c one s)
+  on_read_only : (b : Bool) → is_same (Plain v false e false) c ≡ b → (n : List ℕ) → (define_on h k n c (Some (Plain v false e false))).0 ≡ h
+  on_read_only true s n = ap (λ b. (pick b (h, Done) (store_property h k n (revised (Plain v false e false) c))).0) s
+  on_read_only false s n =
+      ap (λ b. (pick b (h, Done) (store_property h k n (revised (Plain v false e false) c))).0) s
+      ∙ ap (λ o. (store_property h k n o).0) (revised-read_only v e c one s)
 
-  plainly : (n : List ℕ) → Same x n → own (defined_plainly h k n c).0 k x ≡ Some (Plain v false e false)
-  plainly n (other ne) = own-defined_plainly h k n x c ne ∙ here
+  plainly : (n : List ℕ) → Same x n → own (define_ordinary h k n c).0 k x ≡ Some (Plain v false e false)
+  plainly n (other ne) = own-define_ordinary h k n x c ne ∙ here
   plainly n (same equal) =
       let there : own_or_unit h k n ≡ Some (Plain v false e false) =
       ap (λ o. option_or o (option_map unit_property (unit_at h k n))) (ap (own h k) (sym equal) ∙ here) in
-      ap (λ g. own g k x) (ap (λ o. (defined_on h k n c o).0) there ∙ on_fixed (is_same (Plain v false e false) c) refl n) ∙ here
+      ap (λ g. own g k x) (ap (λ o. (define_on h k n c o).0) there ∙ on_read_only (is_same (Plain v false e false) c) refl n) ∙ here
 
   -- the property isn't `length` where that can be written
   not_length : (l : Option Prop) → own h k length_name ≡ l → is_writable l ≡ true → x ≢ length_name
@@ -83,23 +83,23 @@ module _ (h : Objects) (k : ℕ) (x : List ℕ) (v : Value) (e : Bool) (c : Chan
   counted_so i l g Done false is ne there = rw is there
 
   element_if : (n : List ℕ) (i : ℕ) (l : Option Prop) → own h k length_name ≡ l → (b w : Bool) → nat_le (length_of l) i ≡ b → is_writable l ≡ w →
-      own (pick (b && not w) (h, Rejected) (counted k i l (defined_plainly h k n c))).0 k x ≡ Some (Plain v false e false)
+      own (pick (b && not w) (h, Rejected) (counted k i l (define_ordinary h k n c))).0 k x ≡ Some (Plain v false e false)
   element_if n i l l_is true false b_is w_is = here
   element_if n i l l_is true true b_is w_is =
-      counted_so i l (defined_plainly h k n c).0 (defined_plainly h k n c).1 true b_is (λ _. not_length l l_is w_is) (plainly n (same_or_other x n))
+      counted_so i l (define_ordinary h k n c).0 (define_ordinary h k n c).1 true b_is (λ _. not_length l l_is w_is) (plainly n (same_or_other x n))
   element_if n i l l_is false w b_is w_is =
-      counted_so i l (defined_plainly h k n c).0 (defined_plainly h k n c).1 false b_is (λ absurd_so. let f : false ≡ true = absurd_so in cc) (plainly n (same_or_other x n))
+      counted_so i l (define_ordinary h k n c).0 (define_ordinary h k n c).1 false b_is (λ absurd_so. let f : false ≡ true = absurd_so in cc) (plainly n (same_or_other x n))
 
-  kept_in : (low high : ℕ) → not (is_between (reached low high (object_at h k).properties) high x) ≡ true
+  kept_in : (low high : ℕ) → not (is_between (reachable_length low high (object_at h k).properties) high x) ≡ true
   kept_in low high =
-      ap not (below_end (index_of x) low high (reached low high (object_at h k).properties) (reached-low low high (object_at h k).properties)
-      (reached-item low high x (Plain v false e false) (object_at h k).properties here))
+      ap not (below_end (index_of x) low high (reachable_length low high (object_at h k).properties) (reachable_length-low low high (object_at h k).properties)
+      (reachable_length-item low high x (Plain v false e false) (object_at h k).properties here))
 
-  shortened_so : (low high : ℕ) (w : Bool) (q : Prop) → x ≢ length_name → Within h.objects k → own (shortened h k q low high w).0 k x ≡ Some (Plain v false e false)
+  shortened_so : (low high : ℕ) (w : Bool) (q : Prop) → x ≢ length_name → Within h.objects k → own (shorten_array h k q low high w).0 k x ≡ Some (Plain v false e false)
   shortened_so low high w q ne (inside i) =
-      let end = reached low high (object_at h k).properties in
+      let end = reachable_length low high (object_at h k).properties in
       own-put h k _ x i
-      ∙ item_in-with_item x length_name (with_count end w q) ne (cut end high (object_at h k).properties)
+      ∙ item_in-with_item x length_name (with_count end w q) ne (entries_outside end high (object_at h k).properties)
       ∙ item_in-filter (λ y. not (is_between end high y)) x (kept_in low high) (object_at h k).properties
       ∙ here
   shortened_so low high w q ne (past i) = ap (λ g. own g k x) (put_past h k _ i) ∙ here
@@ -119,11 +119,11 @@ module _ (h : Objects) (k : ℕ) (x : List ℕ) (v : Value) (e : Bool) (c : Chan
   shorter low (Some p) l_is = shorter_if (is_writable (Some p)) p low l_is refl
 
   length_if : (b : Bool) (low : ℕ) (l : Option Prop) → own h k length_name ≡ l →
-      own (pick b (defined_plainly h k length_name c) (defined_shorter h k c low l)).0 k x ≡ Some (Plain v false e false)
+      own (pick b (define_ordinary h k length_name c) (defined_shorter h k c low l)).0 k x ≡ Some (Plain v false e false)
   length_if true low l l_is = plainly length_name (same_or_other x length_name)
   length_if false low l l_is = shorter low l l_is
 
-  of_length : (u : Option Value) (l : Option Prop) → own h k length_name ≡ l → own (defined_length h k c u l).0 k x ≡ Some (Plain v false e false)
+  of_length : (u : Option Value) (l : Option Prop) → own h k length_name ≡ l → own (define_array_length h k c u l).0 k x ≡ Some (Plain v false e false)
   of_length None l l_is = plainly length_name (same_or_other x length_name)
   of_length (Some u) l l_is = length_if (nat_le (length_of l) (count_of u)) (count_of u) l l_is
 
@@ -133,16 +133,16 @@ module _ (h : Objects) (k : ℕ) (x : List ℕ) (v : Value) (e : Bool) (c : Chan
       element_if n i (own h k length_name) refl (nat_le (length_of (own h k length_name)) i) (is_writable (own h k length_name)) refl refl
 
   named_if : (b : Bool) (n : List ℕ) →
-      own (pick b (defined_length h k c c.value (own h k length_name)) (defined_at h k n c (index_of n))).0 k x ≡ Some (Plain v false e false)
+      own (pick b (define_array_length h k c c.value (own h k length_name)) (defined_at h k n c (index_of n))).0 k x ≡ Some (Plain v false e false)
   named_if true n = of_length c.value (own h k length_name) refl
   named_if false n = at n (index_of n)
 
   array_if : (b : Bool) (n : List ℕ) →
-      own (pick b (pick (bytes_eq n length_name) (defined_length h k c c.value (own h k length_name)) (defined_at h k n c (index_of n))) (defined_plainly h k n c)).0 k x
+      own (pick b (pick (bytes_eq n length_name) (define_array_length h k c c.value (own h k length_name)) (defined_at h k n c (index_of n))) (define_ordinary h k n c)).0 k x
       ≡ Some (Plain v false e false)
   array_if true n = named_if (bytes_eq n length_name) n
   array_if false n = plainly n (same_or_other x n)
 
-pub fixed_stays : (h : Objects) (k : ℕ) (x n : List ℕ) (c : Change) (v : Value) (e : Bool) → IsOneKind c →
-    own h k x ≡ Some (Plain v false e false) → own (defined h k n c).0 k x ≡ Some (Plain v false e false)
-fixed_stays h k x n c v e one here = array_if h k x v e c one here (is_array (object_at h k).class) n
+pub read_only_stays : (h : Objects) (k : ℕ) (x n : List ℕ) (c : Change) (v : Value) (e : Bool) → IsOneKind c →
+    own h k x ≡ Some (Plain v false e false) → own (define_own_property h k n c).0 k x ≡ Some (Plain v false e false)
+read_only_stays h k x n c v e one here = array_if h k x v e c one here (is_array (object_at h k).class) n

@@ -1,6 +1,6 @@
 use Rattle.std.proofs.Common.{◌≡◌, ◌≤◌, length, max}
 use Rattle.jl_heap.specs.Steps.{reached_over}
-use Rattle.jl_heap.proofs.heap.Heap.reached.Given as goal
+use Rattle.jl_heap.proofs.heap.Heap.reachable_length.Given as goal
 
 abbrev pub invariant-loop-names : goal.invariant-loop-names
 invariant-loop-names l = record {
