@@ -93,6 +93,20 @@ module _ {S C F J R O A B : Type 0} (l : Language S C F) (r : Recorded O) (jobs 
       → run l r jobs n (and_then p k) w ≡ Spent v
   run_then_spent n p w v e = run-and_then n p w ∙ ap on e
 
+-- what comes after a part makes no difference where it only ends with what the part ended with, as an operation that
+-- is not recorded
+module _ {S C F J R O A : Type 0} (l : Language S C F) (r : Recorded O) (jobs : J → Part S C F J R O R)
+    (k : A → Part S C F J R O A)
+    (nothing : (a : A) (m : ℕ) (v : RunState S O) → run l r jobs m (k a) v ≡ Over (Ends a) m v) where
+  ends_so : (x : Outcome S F O A) → outcome_then x (λ a m v. run l r jobs m (k a) v) ≡ x
+  ends_so (Over (Ends a) m v) = nothing a m v
+  ends_so (Over (Fails f) m v) = refl
+  ends_so (Spent v) = refl
+
+  pub run_then_nothing : (n : ℕ) (p : Part S C F J R O A) (w : RunState S O)
+      → run l r jobs n (and_then p k) w ≡ run l r jobs n p w
+  run_then_nothing n p w = run-and_then l r jobs k n p w ∙ ends_so (run l r jobs n p w)
+
 -- Several steps.
 module _ {S C F J R O A : Type 0} (l : Language S C F) (r : Recorded O) (jobs : J → Part S C F J R O R) where
   pub run_steps : (k n m : ℕ) (p : Part S C F J R O A) (w : RunState S O) → m + k ≡ n

@@ -1,11 +1,13 @@
 -- Small parts and their runs, computed.
 use Rattle.std.proofs.Common.{◌≡◌, ℕ, zero, suc, ◌+◌, ◌-◌, List, [], ◌∷◌, Bool, refl, arith}
 use Rattle.std.specs.Prelude.{nat_eq}
-use Rattle.jl_effects.specs.Effects.{Part, End, Fail, Step, Look, Change, Begin, Print, Perform, Emit, ◌>>=◌, job, Row, row}
+use Rattle.jl_effects.specs.Effects.{Part, End, Fail, Step, Look, Change, Begin, Print, Perform, Emit, ◌>>=◌, job}
+use Rattle.jl_effects.specs.Effects.{Row, row}
 use Rattle.jl_effects.specs.Running.{Language, RunState, nothing_done, Ends, Fails, Over, Spent, run}
 use Rattle.jl_effects.specs.Running.{any, everything, keeping, quietly}
 use Rattle.jl_effects.specs.Matching.{Matches, ends, both, extra, told, silent, own, spare}
 use Rattle.jl_effects.specs.Matching.{JobsMatch, ArePaired, Simulates}
+use Rattle.jl_effects.proofs.Chains.{run_then_nothing}
 use Rattle.jl_effects.proofs.Match.{row_matches}
 use Rattle.jl_effects.proofs.Simulation.{simulates}
 
@@ -64,8 +66,8 @@ fails_here : run counter everything turn 4 (Step (Fail broken) >>= (λ n. Step (
     ≡ Over (Fails broken) 3 (at 2 [] [] [])
 fails_here = refl
 
--- An expression performs the operation 7. In the rewritten script it is a call of a hook, which takes two steps more and
--- emits it.
+-- An expression performs the operation 7. In the rewritten script it is a call of a hook, which takes two steps more
+-- and emits it.
 abbrev own_part : Counting ℕ
 own_part = Step (Perform 7 (End 1))
 
@@ -85,6 +87,13 @@ hooked_keeps = refl
 -- a quiet run does not see what the script performs
 own_quietly : run counter (quietly any) turn 4 own_part (nothing_done 2) ≡ Over (Ends 1) 3 (at 2 [] [] [])
 own_quietly = refl
+
+-- so there an operation after a part makes no difference
+noted_after : (n : ℕ) (p : Counting ℕ) (w : RunState ℕ ℕ)
+    → run counter (quietly any) turn n (p >>= (λ a. Look (λ s. Perform (s + a) (End a)))) w
+    ≡ run counter (quietly any) turn n p w
+noted_after n p w =
+    run_then_nothing counter (quietly any) turn (λ a. Look (λ s. Perform (s + a) (End a))) (λ a m v. refl) n p w
 
 no_pair : Unit {0} → Unit {0} → Type 0
 no_pair i j = ⊥

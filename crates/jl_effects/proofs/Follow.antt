@@ -73,7 +73,8 @@ module _ {S F O A : Type 0} (kept : O → Bool) (IsPart : RunState S O → RunSt
   own_at c n o second (Spent v) f = λ own b. f (own ++ o ∷ []) b
 
   -- a test that goes the same way for both
-  pub test_at : (c n : ℕ) (t : Bool) (r r' : Outcome S F O A) (second second' : Runs S F O A) → Follows kept IsPart c n r second
+  pub test_at : (c n : ℕ) (t : Bool) (r r' : Outcome S F O A) (second second' : Runs S F O A)
+      → Follows kept IsPart c n r second
       → Follows kept IsPart c n r' second'
       → Follows kept IsPart c n (if t then r else r') (λ own b. if t then second own b else second' own b)
   test_at c n true r r' second second' f g = f
@@ -95,14 +96,17 @@ module _ {S F O A : Type 0} (kept : O → Bool) (IsPart : RunState S O → RunSt
 
 -- Steps.
 module _ {S C F J R O A : Type 0} (l : Language S C F) (kept : O → Bool)
-    (IsPart : RunState S O → RunState S O → Type 0) (prefixed : IsPrefixed kept IsPart) (second : J → Part S C F J R O R) where
-  later : (e : Finish F A) (v : RunState S O) (s b : ℕ) (r : Outcome S F O A) → IsEnd kept e v s b r → IsEnd kept e v (suc s) (suc b) r
+    (IsPart : RunState S O → RunState S O → Type 0) (prefixed : IsPrefixed kept IsPart) (second : J
+    → Part S C F J R O R) where
+  later : (e : Finish F A) (v : RunState S O) (s b : ℕ) (r : Outcome S F O A) → IsEnd kept e v s b r
+      → IsEnd kept e v (suc s) (suc b) r
   later e v s b _ (is_end h) = is_end (omega arith)
 
   module _ (v0 : RunState S O) (q : Part S C F J R O A) where
     step_over : (e : Finish F A) (v : RunState S O) (s : ℕ)
         → ((own : List O) (b : ℕ) → s ≤ b → IsEnd kept e v s b (run l (keeping kept) second b q (retold kept v0 own)))
-        → (own : List O) (b : ℕ) → suc s ≤ b → IsEnd kept e v (suc s) b (step l (keeping kept) second b q (retold kept v0 own))
+        → (own : List O) (b : ℕ) → suc s ≤ b
+        → IsEnd kept e v (suc s) b (step l (keeping kept) second b q (retold kept v0 own))
     step_over e v s f own zero le = absurd (omega arith)
     step_over e v s f own (suc b) le = later e v s b _ (f own b (omega arith))
 
@@ -147,7 +151,8 @@ module _ {S C F J R O A : Type 0} (l : Language S C F) (kept : O → Bool)
     extra_at c n (Spent v) g f = step_cut v n n (omega arith) g f
 
     -- no step is left to both
-    pub none_at : (c : ℕ) → Follows kept IsPart c 0 (Spent v0) (λ own b. step l (keeping kept) second b q (retold kept v0 own))
+    pub none_at : (c : ℕ)
+        → Follows kept IsPart c 0 (Spent v0) (λ own b. step l (keeping kept) second b q (retold kept v0 own))
     none_at c = λ own b le. none own b le
       where
         none : (own : List O) (b : ℕ) → b ≤ 0 → IsCut IsPart v0 (step l (keeping kept) second b q (retold kept v0 own))
@@ -156,7 +161,8 @@ module _ {S C F J R O A : Type 0} (l : Language S C F) (kept : O → Bool)
 
 -- One part after another.
 
-later_by : {S F O B : Type 0} (kept : O → Bool) (s t b left : ℕ) (e : Finish F B) (v : RunState S O) → s + left ≡ b → (r : Outcome S F O B)
+later_by : {S F O B : Type 0} (kept : O → Bool) (s t b left : ℕ) (e : Finish F B) (v : RunState S O)
+    → s + left ≡ b → (r : Outcome S F O B)
     → IsEnd kept e v t left r → IsEnd kept e v (s + t) b r
 later_by kept s t b left e v h _ (is_end k) = is_end (omega arith)
 
@@ -181,10 +187,12 @@ module _ {S F O A B : Type 0} (kept : O → Bool) (IsPart : RunState S O → Run
 
     cut_then : (v : RunState S O) (t : ℕ)
         → ((own : List O) (b : ℕ) → b < t → IsCut IsPart v (g a b (retold kept u own))) → (b : ℕ)
-        → b < f.steps + t → (r : Outcome S F O A) → IsEnd kept (Ends a) u f.steps b r → IsCut IsPart v (outcome_then r g)
+        → b < f.steps + t → (r : Outcome S F O A) → IsEnd kept (Ends a) u f.steps b r
+        → IsCut IsPart v (outcome_then r g)
     cut_then v t short b lt _ (is_end {own = own} {left = left} h) = short own left (omega arith)
 
-    after_at : (r : Outcome S F O B) → GoesOn u (state_of r) → Follows kept IsPart 0 m r (λ own b. g a b (retold kept u own))
+    after_at : (r : Outcome S F O B) → GoesOn u (state_of r)
+        → Follows kept IsPart 0 m r (λ own b. g a b (retold kept u own))
         → Follows kept IsPart c n r (λ own b. outcome_then (q own b) g)
     after_at (Over e left v) go s = record {
       steps = f.steps + s.steps;

@@ -29,7 +29,8 @@ prefix_on a b c p q = (p.0 ++ q.0, sym (append_assoc a p.0 q.0) ∙ ap (λ x. x 
 prefix_line : (a line : List ℕ) → IsPrefix a (a ++ line ++ 10 ∷ [])
 prefix_line a line = (line ++ 10 ∷ [], sym (append_assoc a line (10 ∷ [])))
 
-prefix_trace : {O : Type 0} (recorded : O → Bool) (o : O) (trace : List O) → IsPrefix trace (trace_with recorded o trace)
+prefix_trace : {O : Type 0} (recorded : O → Bool) (o : O) (trace : List O)
+    → IsPrefix trace (trace_with recorded o trace)
 prefix_trace recorded o trace =
     either_way (IsPrefix trace) (recorded o) _ _ (prefix_more trace (o ∷ [])) (prefix_same trace)
 

@@ -9,7 +9,8 @@ use Rattle.jl_effects.specs.Matching.{changes, begins, prints, told, silent, unk
 use Rattle.jl_effects.specs.Following.{Runs, runs, retold, Follows}
 use Rattle.jl_effects.proofs.Growth.{runs_go_on}
 use Rattle.jl_effects.proofs.Traces.{kept_trace}
-use Rattle.jl_effects.proofs.Follow.{within_prefixed, over_at, spare_at, own_at, test_at, same_at, both_at, extra_at, none_at}
+use Rattle.jl_effects.proofs.Follow.{within_prefixed, over_at, spare_at, own_at, test_at, same_at, both_at}
+use Rattle.jl_effects.proofs.Follow.{extra_at, none_at}
 use Rattle.jl_effects.proofs.Match.{matches_more, matches_then}
 
 abbrev at : {S O : Type 0} → S → List ℕ → List O → List O → RunState S O

@@ -2,8 +2,8 @@
 use Rattle.std.proofs.Common.{◌≡◌, ℕ, ◌+◌, ◌-◌, ◌*◌, ◌≤◌, Bool, List, [], refl, ⊎_elim, subst, arith}
 use Rattle.std.proofs.lemmas.Bool.{cases_lt}
 use Rattle.jl_effects.specs.Effects.{Part}
-use Rattle.jl_effects.specs.Running.{Language, RunState, nothing_done, everything, keeping, Finish, Outcome, Over, Spent}
-use Rattle.jl_effects.specs.Running.{run, IsOver, state_of, steps_taken}
+use Rattle.jl_effects.specs.Running.{Language, RunState, nothing_done, everything, keeping, Finish, Outcome}
+use Rattle.jl_effects.specs.Running.{Over, Spent, run, IsOver, state_of, steps_taken}
 use Rattle.jl_effects.specs.Matching.{Matches, JobsMatch, Alike, IsWithin, Simulates, bound}
 use Rattle.jl_effects.specs.Following.{Runs, runs, retold, IsEnd, is_end, IsCut, is_cut, Follows}
 use Rattle.jl_effects.proofs.MatchRuns.{follows}
@@ -13,7 +13,8 @@ data Beside {S F O A : Type 0} (kept : O → Bool) (m : ℕ) : Outcome S F O A �
   both_over : {e : Finish F A} {v : RunState S O} {left left' : ℕ} {own : List O}
       → m - left ≤ m - left' → m - left' ≤ bound (m - left)
       → Beside kept m (Over e left v) (Over e left' (retold kept v own))
-  second_cut : {e : Finish F A} {left : ℕ} {v w : RunState S O} → IsWithin kept v w → Beside kept m (Over e left v) (Spent w)
+  second_cut : {e : Finish F A} {left : ℕ} {v w : RunState S O} → IsWithin kept v w
+      → Beside kept m (Over e left v) (Spent w)
   both_cut : {v w : RunState S O} → IsWithin kept v w → Beside kept m (Spent v) (Spent w)
 
 module _ {S F O A : Type 0} (kept : O → Bool) (m : ℕ) where
@@ -28,7 +29,8 @@ module _ {S F O A : Type 0} (kept : O → Bool) (m : ℕ) where
   spent_beside : (v : RunState S O) (q : Outcome S F O A) → IsCut (IsWithin kept) v q → Beside kept m (Spent v) q
   spent_beside v _ (is_cut h) = both_cut h
 
-  beside : (second : Runs S F O A) (r : Outcome S F O A) → Follows kept (IsWithin kept) 64 m r second → Beside kept m r (second [] m)
+  beside : (second : Runs S F O A) (r : Outcome S F O A) → Follows kept (IsWithin kept) 64 m r second
+      → Beside kept m r (second [] m)
   beside second (Over e left v) f =
       ⊎_elim (λ lt. cut_beside e left v (second [] m) (f.short [] m lt))
       (λ le. end_beside e v left f.steps (second [] m) f.takes f.no_fewer f.not_many_more (f.over [] m le))
@@ -55,12 +57,14 @@ module _ {S F O A : Type 0} (kept : O → Bool) (m : ℕ) where
   within w (second_cut {v = v} {w = u} h) is = let same : u ≡ w = cc in subst (IsWithin kept v) same h
   within w (both_cut {v = v} {w = u} h) is = let same : u ≡ w = cc in subst (IsWithin kept v) same h
 
-alike_end : {S F O A : Type 0} (kept : O → Bool) (e : Finish F A) (v : RunState S O) (left s b : ℕ) (r : Outcome S F O A) → IsEnd kept e v s b r
+alike_end : {S F O A : Type 0} (kept : O
+    → Bool) (e : Finish F A) (v : RunState S O) (left s b : ℕ) (r : Outcome S F O A) → IsEnd kept e v s b r
     → Alike kept (Over e left v) r
 alike_end kept e v left s b _ (is_end h) = (refl, record { store = refl; output = refl; hooks = refl })
 
 -- with steps enough the second run is over where the first is
-follows_over : {S F O A : Type 0} (kept : O → Bool) (second : Runs S F O A) (n : ℕ) (r : Outcome S F O A) → Follows kept (IsWithin kept) 64 n r second
+follows_over : {S F O A : Type 0} (kept : O → Bool) (second : Runs S F O A) (n : ℕ) (r : Outcome S F O A)
+    → Follows kept (IsWithin kept) 64 n r second
     → IsOver r → Alike kept r (second [] (bound n))
 follows_over kept second n (Over e left v) f over =
     let high = f.not_many_more in

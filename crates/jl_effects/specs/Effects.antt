@@ -11,8 +11,8 @@
 --     Perform   the script performs an operation
 --     Emit      a hook emits an operation: it tells that the script performs it
 --
--- What these are about is left open: S is what a store is, C a change of it, F a fault, J a job, R what a job ends with,
--- and O an operation.
+-- What these are about is left open: S is what a store is, C a change of it, F a fault, J a job, R what a job ends
+-- with, and O an operation.
 use Rattle.std.specs.Prelude.{ℕ, zero, suc, List}
 
 -- a part of a program that ends with an A
@@ -53,8 +53,8 @@ steps (suc n) p = Step (steps n p)
 abbrev pub job : {S C F J R O : Type 0} → J → Part S C F J R O R
 job j = Begin j End
 
--- A row: a part that performs no operation and emits none, as what a builtin does. Its jobs are calls, K, and its faults
--- are of a type of their own, E.
+-- A row: a part that performs no operation and emits none, as what a builtin does. Its jobs are calls, K, and its
+-- faults are of a type of their own, E.
 abbrev pub Row : (S C E K R A : Type 0) → Type 0
 Row S C E K R A = Part S C E K R ⊥ A
 

@@ -81,7 +81,8 @@ pub data Outcome (S F O A : Type 0) : Type 0 where
 
 -- The run of a part, where the part of a job is found in this table. A job may begin others without end, so the
 -- recursion is on the steps that are left, and on the part up to its next step.
-module _ {S C F J R O : Type 0} (language : Language S C F) (recorded : Recorded O) (jobs : J → Part S C F J R O R) where
+module _ {S C F J R O : Type 0} (language : Language S C F) (recorded : Recorded O)
+    (jobs : J → Part S C F J R O R) where
   -- with n steps left up to the next step, from which `next` goes on
   abbrev pub run_to : {A : Type 0} → (next : Part S C F J R O A → RunState S O → Outcome S F O A) → ℕ
       → Part S C F J R O A → RunState S O → Outcome S F O A

@@ -1,6 +1,6 @@
-//! Laws over the definitions; each is the contract of a function that does nothing. S is what a store is, C a change of
-//! it, F a fault, J a job, R what a job ends with, O an operation, and A what a part ends with; of a row E is a fault and
-//! K a call.
+//! Laws over the definitions; each is the contract of a function that does nothing. S is what a store is, C a change
+//! of it, F a fault, J a job, R what a job ends with, O an operation, and A what a part ends with; of a row E is a
+//! fault and K a call.
 ghost use Rattle.std.specs.Prelude.{◌≡◌, ℕ, ◌+◌, Bool};
 ghost use Rattle.jl_effects.specs.Effects.{Part, End, and_then, Row, row};
 ghost use Rattle.jl_effects.specs.Running.{Language, Recorded, RunState, nothing_done, state_of, outcome_then, run};
@@ -47,7 +47,8 @@ pub fn parts_associate<S, C, F, J, R, O, A, B, D>()
     ensures end { (p : Part S C F J R O A) → and_then p End ≡ p }
 {}
 
-/// Only the hooks of a run depend on which of them are kept: they are the kept ones of those of the run that records all.
+/// Only the hooks of a run depend on what is kept of them: they are the kept ones of those that the run has which
+/// records everything.
 pub fn kept_hooks<S, C, F, J, R, O, A>()
     ensures { (l : Language S C F) (kept : O → Bool) (jobs : J → Part S C F J R O R) (n : ℕ)
         (p : Part S C F J R O A) (w : RunState S O)
@@ -90,10 +91,10 @@ pub fn rows_match_themselves<S, C, E, F, K, J, R, O, A, T>()
         → Matches apply kept (ArePaired i j) s credit credit (row call fault p) (row call fault p) }
 {}
 
-/// Where calls follow, so do rows: a row comes to the same with one table of jobs as with the other, in no fewer steps
-/// and at most 32 times as many, and is spent where steps are wanting. If besides, where the steps are spent, output and
-/// hooks of the calls are prefixes of the output and of the kept operations that they have with the first table, so are
-/// those of the rows.
+/// Where calls follow, so do rows: a row comes to the same with the second table of jobs as with the first, in no fewer
+/// steps and at most 32 times as many, with the kept operations of the first as its hooks, and is spent with fewer or
+/// where the first is. If besides, where the second is spent, output and hooks of the calls are prefixes of the output
+/// and of the kept operations of the first, so are those of the rows.
 pub fn rows_follow_calls<S, C, E, F, K, J, R, O, A>()
     ensures follows { (l : Language S C F) (kept : O → Bool) (call : K → J) (fault : E → F)
         (first second : J → Part S C F J R O R)
