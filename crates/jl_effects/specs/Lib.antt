@@ -1,0 +1,5 @@
+pub mod Effects
+pub mod Running
+pub mod Growing
+pub mod Matching
+pub mod Following
