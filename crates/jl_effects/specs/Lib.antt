@@ -1,5 +1,6 @@
 pub mod Effects
 pub mod Running
+pub mod Traces
 pub mod Growing
 pub mod Matching
 pub mod Following

@@ -4,7 +4,8 @@
 ghost use Rattle.std.specs.Prelude.{◌≡◌, ℕ, ◌+◌, Bool};
 ghost use Rattle.jl_effects.specs.Effects.{Part, End, and_then, Row, row};
 ghost use Rattle.jl_effects.specs.Running.{Language, Recorded, RunState, nothing_done, state_of, outcome_then, run};
-ghost use Rattle.jl_effects.specs.Running.{everything, keeping, quietly, with_state, keep_hooks, without_operations};
+ghost use Rattle.jl_effects.specs.Running.{everything, keeping};
+ghost use Rattle.jl_effects.specs.Traces.{quietly, with_state, keep_hooks, without_operations};
 ghost use Rattle.jl_effects.specs.Growing.{GoesOn, HasLeft, IsLonger, IsOneOf};
 ghost use Rattle.jl_effects.specs.Matching.{Matches, JobsMatch, ArePaired, IsWithin, Simulates};
 ghost use Rattle.jl_effects.specs.Following.{runs, Follows, IsAny, PartFollows, CallsFollow};
