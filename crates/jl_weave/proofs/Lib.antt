@@ -1,0 +1,10 @@
+mod Relation
+mod HookNames
+mod HookCalls
+mod Operators
+mod Members
+mod Literals
+mod Names
+mod Numbers
+mod Updates
+mod Calls
