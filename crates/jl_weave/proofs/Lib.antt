@@ -1,4 +1,5 @@
 mod Relation
+mod Chosen
 mod HookNames
 mod HookCalls
 mod Operators
@@ -8,3 +9,7 @@ mod Names
 mod Numbers
 mod Updates
 mod Calls
+mod Shapes
+mod MadeFunctions
+mod HookedNames
+mod Expressions
