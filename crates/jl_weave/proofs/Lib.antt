@@ -13,3 +13,6 @@ mod Shapes
 mod MadeFunctions
 mod HookedNames
 mod Expressions
+mod Completions
+mod Simple
+mod Try
