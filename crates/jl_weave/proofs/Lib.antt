@@ -16,3 +16,5 @@ mod Expressions
 mod Completions
 mod Simple
 mod Try
+mod Loops
+mod Statements
