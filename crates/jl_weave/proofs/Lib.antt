@@ -18,3 +18,4 @@ mod Simple
 mod Try
 mod Loops
 mod Statements
+mod Mentions
