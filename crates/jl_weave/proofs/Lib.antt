@@ -19,3 +19,5 @@ mod Try
 mod Loops
 mod Statements
 mod Mentions
+mod Declarations
+mod Tables
