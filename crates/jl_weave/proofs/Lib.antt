@@ -21,3 +21,9 @@ mod Statements
 mod Mentions
 mod Declarations
 mod Tables
+mod Turns
+mod Functions
+mod Jobs
+mod Fitting
+mod Recording
+mod Programs
