@@ -4,3 +4,6 @@ pub mod Operations
 pub mod Rules
 pub mod Summary
 pub mod Trace
+pub mod Chosen
+pub mod Ids
+pub mod IdMap
