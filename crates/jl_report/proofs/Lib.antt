@@ -6,3 +6,4 @@ pub mod Keys
 pub mod Listing
 pub mod OfRules
 pub mod Totals
+pub mod Switching

@@ -5,8 +5,9 @@ ghost use Rattle.jl_report.specs.Reports.{AreFew};
 use super::*;
 use crate::reports::{add, listed};
 use jl_analysis::{Crowd, Findings, RuleSet};
+use jl_lex::comments;
 use jl_op::{OpId, OpKind, OpMap};
-use jl_text::{Lines, Span};
+use jl_text::{Lines, Span, from_utf8};
 use std::alloc::Global;
 use std::collections::BTreeMap;
 use std::test::Fail;
@@ -63,5 +64,43 @@ fn a_crowd_that_was_told_nothing_has_an_empty_report(rt: HostRuntime) -> Result<
     let crowd = Crowd::new(rt.alloc());
     let lines = reported(rt.alloc(), &crowd, RuleSet::all())?;
     assert_eq!(rt; lines.len(), 0);
+    Ok(())
+}
+
+/// What the comments of a source switch off.
+fn off_of(alloc: Global, source: &str) -> Result<Off, Fail> {
+    let units = from_utf8(alloc, source.as_bytes())?;
+    if units.len() > 1000 {
+        return Err("a long text")?;
+    }
+    let found = comments(alloc, units.as_slice())?;
+    let lines = Lines::new(alloc, units.as_slice())?;
+    Ok(off(alloc, units.as_slice(), &found, &lines)?)
+}
+
+#[test]
+fn comments_switch_rules_off(rt: HostRuntime) -> Result<(), Fail> {
+    for (source, line, rule, want) in [
+        ("a // jlint-off nan-made", 1, 1, true),
+        ("a // jlint-off nan-made", 1, 2, false),
+        ("a // jlint-off nan-made\nb", 2, 1, false),
+        ("\r\n\n// jlint-off global-this\n", 3, 20, true),
+        ("// jlint-off-next nan-made,loose-equal  ", 2, 7, true),
+        ("// jlint-off-next nan-made\nb", 1, 1, false),
+        ("// jlint-off nan-made,nan-made", 1, 1, true),
+        ("/* jlint-off nan-made */", 1, 1, false),
+        ("'// jlint-off nan-made'", 1, 1, false),
+        ("//jlint-off nan-made", 1, 1, false),
+        ("//  jlint-off nan-made", 1, 1, false),
+        ("// jlint-off  nan-made", 1, 1, false),
+        ("// jlint-off nan-made\t", 1, 1, false),
+        ("// jlint-off nan", 1, 1, false),
+        ("// jlint-off nan-made,", 1, 1, false),
+        ("// jlint-off nan-made ,loose-equal", 1, 1, false),
+        ("// jlint-off ", 1, 1, false),
+    ] {
+        let off = off_of(rt.alloc(), source)?;
+        assert_eq!(rt; off.has(line, rule), want, "in {source:?}");
+    }
     Ok(())
 }
