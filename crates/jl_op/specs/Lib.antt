@@ -1,6 +1,6 @@
+pub mod KindSets
 pub mod Kinds
+pub mod Laws
 pub mod Map
 pub mod Operations
-pub mod Rules
-pub mod Summary
 pub mod Trace
