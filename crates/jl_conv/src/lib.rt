@@ -4,12 +4,11 @@
 mod comparisons;
 mod conversions;
 mod decimal;
-mod laws;
+pub mod laws;
 mod numerals;
 
 pub use comparisons::{primitive_equal, primitive_less, strict_equal};
 pub use conversions::{primitive_to_num, primitive_to_text, to_boolean, type_name};
-pub use laws::{literals_have_their_value, only_literals_have_one, texts_read_back};
 pub use numerals::text_to_num;
 
 #[cfg(test)]

@@ -115,13 +115,13 @@ infix_node (plain op) a b s = binary op a b s
 infix_node both a b s = and a b s
 infix_node either a b s = or a b s
 
--- how loosely a infix operator binds: products have 1, `|` has 8, `&&` has 9 and `||` has 10
+-- the precedence of an infix operator, tightest first: products have 1, `|` has 8, `&&` has 9 and `||` has 10
 abbrev pub infix_precedence : InfixOperator → ℕ
 infix_precedence (plain op) = 9 - level op
 infix_precedence both = 9
 infix_precedence either = 10
 
--- how loosely the infix operator binds that a token is, and 0 where it is none
+-- the precedence of the infix operator that a token is, and 0 where it is none
 abbrev pub infix_precedence_of : Option InfixOperator → ℕ
 infix_precedence_of None = 0
 infix_precedence_of (Some o) = infix_precedence o

@@ -1,7 +1,6 @@
 //! What is found along prototypes.
 ghost use Rattle.std.specs.Prelude.{◌≡◌};
 ghost use Rattle.std.specs.Option.{option_map};
-ghost use Rattle.jl_heap.specs.Chain.{FindFollowsPrototypes};
 
 use crate::heap::Heap;
 use crate::inner::Inner;
@@ -64,11 +63,6 @@ impl Heap {
         }
     }
 }
-
-/// What is found under a name is the own property, or else what is found under it on the prototype (8.12.2).
-pub fn find_follows_prototypes()
-    ensures { FindFollowsPrototypes }
-{}
 
 impl Prop {
     ghost use Rattle.jl_heap.specs.Objects.{takes_value};

@@ -1,3 +1,4 @@
+ghost use Rattle.jl_heap.specs.Chain.{FindFollowsPrototypes};
 ghost use Rattle.jl_heap.specs.Laws.{NonConfigurableStays, CutsOneByOne, ReadOnlyStays, OthersStay, UnitsStay};
 
 /// A property that can be neither configured nor written stays as it is, whatever is asked of its object (8.6.1).
@@ -25,4 +26,9 @@ pub fn units_stay()
 /// (15.4.5.1, step 3.l).
 pub fn cuts_one_by_one()
     ensures { CutsOneByOne }
+{}
+
+/// What is found under a name is the own property, or else what is found under it on the prototype (8.12.2).
+pub fn find_follows_prototypes()
+    ensures { FindFollowsPrototypes }
 {}

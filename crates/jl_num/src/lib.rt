@@ -4,7 +4,7 @@
 
 mod arithmetic;
 mod bits;
-mod laws;
+pub mod laws;
 mod num;
 mod order;
 mod power;
@@ -12,10 +12,6 @@ mod text;
 
 pub use arithmetic::{add, div, mul, neg, rem, sub};
 pub use bits::{and, not, or, sar, shl, shr, to_int32, to_uint16, to_uint32, xor};
-pub use laws::{
-    digits_write_numbers, integers_stand_for_numbers, powers_multiply, quotients_are_exact,
-    remainders_are_exact, results_are_numbers,
-};
 pub use num::{Num, NumberOutside};
 pub use order::compare;
 pub use power::pow;

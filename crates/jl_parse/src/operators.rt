@@ -19,7 +19,7 @@ pub enum InfixOperator {
 }
 
 impl InfixOperator {
-    /// How loosely it binds, from 1 for products to 10 for `||`.
+    /// Its precedence, from 1 for products to 10 for `||`.
     pub fn infix_precedence(self) -> u32
         ensures is { result ≡ infix_precedence (infix_operator_of self) }
         ensures some { 1 ≤ result }

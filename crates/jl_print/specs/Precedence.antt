@@ -1,6 +1,6 @@
--- How loosely an expression hangs together (11.1 to 11.14): 0 for what may stand left of a dot, 1 for a postfix and 2
--- for a unary expression, 3 to 10 for the operators between two operands, 11 for `&&` and 12 for `||`, 13 for a
--- conditional expression and an assignment, and 14 for a comma.
+-- The precedence of an expression (11.1 to 11.14), tightest first: 0 for what may stand left of a dot, 1 for a
+-- postfix and 2 for a unary expression, 3 to 10 for the operators between two operands, 11 for `&&` and 12 for `||`,
+-- 13 for a conditional expression and an assignment, and 14 for a comma.
 use Rattle.std.specs.Prelude.{ℕ, ◌+◌, Bool, true, false, nat_le, if◌then◌else◌}
 use Rattle.jl_ast.specs.declared.ops.BinOp.{BinOp}
 use Rattle.jl_ast.specs.declared.ops.BinOp.TheVariants as ops

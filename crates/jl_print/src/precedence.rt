@@ -16,7 +16,7 @@ pub(crate) fn is_in(op: BinOp) -> bool
     }
 }
 
-/// How loosely an operator's left operand may hang together (11.5 to 11.10): its own rank.
+/// The precedence of an operator, and so the loosest that its left operand may have (11.5 to 11.10).
 pub(crate) fn operator_precedence(op: BinOp) -> u32
     ensures { result ≡ operator_precedence op }
 {
@@ -33,7 +33,7 @@ pub(crate) fn operator_precedence(op: BinOp) -> u32
     }
 }
 
-/// How loosely an operator's right operand may hang together: one less, since all of them group to the left.
+/// The loosest precedence of an operator's right operand: one less, since all of them group to the left.
 pub(crate) fn right_precedence(op: BinOp) -> u32
     ensures { result ≡ pred (operator_precedence op) }
 {
@@ -50,7 +50,7 @@ pub(crate) fn right_precedence(op: BinOp) -> u32
     }
 }
 
-/// How loosely an expression hangs together as it is written (11.1 to 11.14).
+/// The precedence of an expression as it is printed (11.1 to 11.14), tightest first.
 #[tactic(auto, using(jl_ast::proofs::Views::nodes))]
 pub(crate) fn precedence_of(e: &Expr) -> u32
     ensures { result ≡ precedence_of (view_expression e.now) }

@@ -2,11 +2,10 @@
 #![tactic(auto)]
 
 mod entries;
-mod laws;
+pub mod laws;
 mod store;
 
 pub use entries::Entry;
-pub use laws::{changes_are_found, each_is_found, others_stay, serials_are_given_once};
 pub use store::Store;
 
 #[cfg(test)]

@@ -7,7 +7,7 @@ mod found;
 mod heads;
 mod hoisting;
 mod keys;
-mod laws;
+pub mod laws;
 mod mentions;
 mod name_set;
 mod names;
@@ -19,7 +19,6 @@ mod walk;
 
 pub use checking::check;
 pub use hoisting::{is_strict, vars};
-pub use laws::{bind_binds, first_comes_first};
 pub use mentions::mentions_arguments;
 pub use refusal::ScopeRefusal;
 pub use rules::EarlyRule;

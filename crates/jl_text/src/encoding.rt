@@ -3,7 +3,7 @@ ghost use Rattle.std.specs.Prelude.{◌≡◌, ◌↔◌, ℕ, IfOk};
 ghost use Rattle.std.specs.Str.{IsUtf8};
 ghost use Rattle.std.specs.Str.Lossy.{utf8_valid_len};
 ghost use Rattle.jl_text.specs.declared.encoding.Utf8Fault.TheVariants.{NoMemory};
-ghost use Rattle.jl_text.specs.Encoding.{units_of, bytes_of, Utf8ComesBack, UnitsComeBack, IsNotUtf8At};
+ghost use Rattle.jl_text.specs.Encoding.{units_of, bytes_of, IsNotUtf8At};
 
 use std::alloc::{AllocError, AllocFailed, Global};
 use std::str;
@@ -11,7 +11,7 @@ use std::str;
 /// Why bytes gave no units.
 #[derive(Debug, Drop)]
 pub enum Utf8Fault {
-    /// The bytes are not UTF-8: the longest front of them that is has this many bytes.
+    /// The bytes are not UTF-8: the longest prefix of them that is has this many bytes.
     NotUtf8 { at: usize },
     /// No memory was left.
     NoMemory,
@@ -63,13 +63,3 @@ pub fn to_utf8(alloc: Global, units: &[u16]) -> Result<Vec<u8>, AllocError>
     let text = String::from_utf16_lossy(alloc, units)?;
     Ok(text.into_bytes())
 }
-
-/// The law that the units of a text in UTF-8 give its bytes back.
-pub fn utf8_comes_back()
-    ensures { Utf8ComesBack }
-{}
-
-/// The law that the bytes of units give these back, where each surrogate has its partner.
-pub fn units_come_back()
-    ensures { UnitsComeBack }
-{}

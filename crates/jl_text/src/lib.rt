@@ -2,6 +2,7 @@
 #![tactic(auto)]
 
 mod encoding;
+pub mod laws;
 mod lines;
 mod list;
 mod quoting;
@@ -9,7 +10,7 @@ mod search;
 mod span;
 mod text;
 
-pub use encoding::{Utf8Fault, from_utf8, to_utf8, units_come_back, utf8_comes_back};
+pub use encoding::{Utf8Fault, from_utf8, to_utf8};
 pub use lines::Lines;
 pub use list::List;
 pub use quoting::quote;

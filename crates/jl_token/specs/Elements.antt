@@ -1,5 +1,5 @@
 -- The input elements of a script (clause 7): with which of them a row of units begins, and which units are left.
--- The relations here speak of any front of the units; that the longest front is taken is said in `Tokens`.
+-- The relations here speak of any prefix of the units; that the longest prefix is taken is said in `Tokens`.
 -- Units stand here by their numbers: 10 LF, 13 CR, 42 `*`, 43 `+`, 45 `-`, 46 `.`, 47 `/`, 48 `0`, 92 a backslash, 117 `u`,
 -- 69 and 101 `E` and `e`, 88 and 120 `X` and `x`.
 use Rattle.std.specs.Prelude.{◌≡◌, ◌≤◌, ℕ, ◌+◌, ◌*◌, ◌^◌, Bool, true, false, ◌==◌, ◌&&◌, ◌||◌, List, [], ◌∷◌, ◌++◌, length, map, Some, pos}
@@ -56,7 +56,7 @@ pub data Exponent : List ℕ → ℕ → ℕ → List ℕ → Type 0 where
   minus : {e : ℕ} {us ds rest : List ℕ} → (e == 101 || e == 69) ≡ true → Digits is_digit us ds rest →
       Exponent (e ∷ 45 ∷ us) 0 (decimal_from 0 ds) rest
 
--- NumericLiteral: a front that writes the number m · 10 ^ r / 10 ^ l
+-- NumericLiteral: a prefix that writes the number m · 10 ^ r / 10 ^ l
 pub data Numeral : List ℕ → ℕ → ℕ → ℕ → List ℕ → Type 0 where
   whole : {us mid ds rest : List ℕ} {r l : ℕ} → WholeDigits us ds mid → Exponent mid r l rest →
       Numeral us (decimal_from 0 ds) r l rest

@@ -1,6 +1,6 @@
 -- The law is proved over the definitions alone.
 use Rattle.jl_text.proofs.EncodingLemmas.{comes_back}
-use Rattle.jl_text.proofs.encoding.utf8_comes_back.Goals as goal
+use Rattle.jl_text.proofs.laws.utf8_comes_back.Goals as goal
 
 pub returns : goal.returns
 returns c = comes_back
