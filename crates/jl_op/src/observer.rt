@@ -1,4 +1,4 @@
-ghost use Rattle.std.specs.Prelude.{◌≡◌, Bool, false, true, List, [], ◌∷◌, ◌++◌, OnOk, OnErr, IsOk};
+ghost use Rattle.std.specs.Prelude.{◌≡◌, ℕ, Bool, false, true, List, [], ◌∷◌, ◌++◌, OnOk, OnErr, IsOk};
 ghost use Rattle.jl_op.specs.Operations.{Operation};
 
 use crate::op::{Op, OpId};
@@ -12,9 +12,13 @@ pub trait Observer {
     /// Whether it has refused an operation.
     ghost has_refused: { Self → Bool };
 
+    /// What of it no operation changes, as numbers.
+    ghost fixed: { Self → List ℕ } = { λ _. [] };
+
     /// Tells of one more operation. The error is that no memory was left: the observer may then have taken notice of
     /// the operation or not, and it refuses each later one.
     fn see(&mut self, id: OpId, op: &Op) -> Result<(), AllocError>
+        ensures same { fixed self.new ≡ fixed self.old }
         ensures heard { OnOk result ((has_refused self.old ≡ false) × (has_refused self.new ≡ false)) }
         ensures told { OnOk result ((told : List Operation) → stands_for self.old told
             → stands_for self.new (told ++ (id, op.now) ∷ [])) }
