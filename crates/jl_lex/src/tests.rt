@@ -45,6 +45,28 @@ fn lexed(alloc: Global, source: &str) -> Result<String, Fail> {
     }
 }
 
+// The comments of a source: their spans, after `/` where they go to the end of their line, and after `*` where not.
+fn comments_shown(alloc: Global, source: &str) -> Result<String, Fail> {
+    let units = from_utf8(alloc, source.as_bytes())?;
+    if units.len() > 1000 {
+        return Err("a long text")?;
+    }
+    match comments(alloc, units.as_slice()) {
+        Ok(found) => {
+            let mut all = String::new(alloc);
+            for comment in &found {
+                let mark = if comment.to_line_end { "/" } else { "*" };
+                let from = comment.span.from;
+                let to = comment.span.to;
+                all.push_str(format!(in alloc; "{mark}{from}-{to} ")?.as_str())?;
+            }
+            Ok(all)
+        }
+        Err(LexRefusal::BadInput { at, .. }) => Ok(format!(in alloc; "bad at {at}")?),
+        Err(LexRefusal::NoMemory) => Err("no memory")?,
+    }
+}
+
 fn check(rt: &impl Abort, alloc: Global, rows: &[(&str, &str)]) -> Result<(), Fail> {
     for (source, want) in rows {
         let found = lexed(alloc, source)?;
@@ -74,6 +96,26 @@ fn elements(rt: HostRuntime) -> Result<(), Fail> {
         ("''\"\"", "\"\"@0-2 \"\"@2-4"),
     ];
     check(&rt, rt.alloc(), &rows)
+}
+
+#[test]
+fn comments_are_listed(rt: HostRuntime) -> Result<(), Fail> {
+    for (source, want) in [
+        ("", ""),
+        ("a // b\nc", "/2-6 "),
+        ("// a\r\n// b", "/0-4 /6-10 "),
+        ("/* a\n*/ //", "*0-7 /8-10 "),
+        ("'// no' /**/", "*8-12 "),
+        ("a //\u{2028}b", "/2-4 "),
+        ("// \u{1F600}", "/0-5 "),
+        ("/* // */ a", "*0-8 "),
+        ("/ /* a", "bad at 2"),
+        ("// '\n'", "bad at 5"),
+    ] {
+        let got = comments_shown(rt.alloc(), source)?;
+        assert_eq!(rt; got.as_str(), want);
+    }
+    Ok(())
 }
 
 #[test]

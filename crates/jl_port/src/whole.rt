@@ -53,7 +53,7 @@ pub struct WriteFault {
 /// All bytes of the source up to the end of its input, if there are at most `limit`.
 ///
 /// It is `TooLong` where `limit` + 1 bytes were read, and `ReadFault` only where a fault of the source
-/// came in this call. A read asks for 4,096 bytes, or for as many as `limit` + 1 still lacks where
+/// came in this call and at most `limit` bytes were read before. A read asks for 4,096 bytes, or for as many as `limit` + 1 still lacks where
 /// these are fewer, and there are at most `limit` + 1 reads. Whatever the answer, the source has lost
 /// what was read from it.
 pub fn read_all<S: Source>(
@@ -70,6 +70,8 @@ pub fn read_all<S: Source>(
         → TakesCount (S.left source.old) (S.left source.new) (limit + 1) }
     ensures fault { IsErrOf result ReadRefusal.ReadFault
         → HasRisen (S.faults source.old) (S.faults source.new) }
+    ensures fault_within { IsErrOf result ReadRefusal.ReadFault
+        → TakesAtMost (S.left source.old) (S.left source.new) limit }
 
     // Where the source tells its bytes, they are what it held, or it held too many.
     ensures told { IfOk result (λ bytes. IfSome (S.left source.old) (λ held. bytes.items ≡ held)) }

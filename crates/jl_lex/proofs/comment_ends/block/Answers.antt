@@ -1,8 +1,8 @@
 use Rattle.std.proofs.Common.{◌≡◌, drop, ◌+◌, ◌||◌, sym, ap, ◌∙◌, subst, arith}
 use Rattle.jl_token.specs.Characters.{is_line_terminator}
 use Rattle.jl_lex.proofs.Loops.{Inside, inside_more, inside_closed, inside_open}
-use Rattle.jl_lex.proofs.comments.block.Goals as goal
-use Rattle.jl_lex.proofs.comments.block.Goals.{then-is_line_terminator, else-is_line_terminator}
+use Rattle.jl_lex.proofs.comment_ends.block.Goals as goal
+use Rattle.jl_lex.proofs.comment_ends.block.Goals.{then-is_line_terminator, else-is_line_terminator}
 
 pub returns-then-closes_at-clause-found : goal.returns-then-closes_at-clause-found
 returns-then-closes_at-clause-found c = inside_closed c.loop-unit.lines c.args.units.now c.loop-unit.end (drop c.args.at c.args.units.now) c.in-Some.unit c.in-Some.ensures.0 (cc) c.loop-unit.invariant.inside

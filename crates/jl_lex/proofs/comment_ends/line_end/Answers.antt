@@ -1,6 +1,6 @@
 use Rattle.std.proofs.Common.{drop, ◌+◌, sym, ◌∙◌, arith}
 use Rattle.jl_lex.proofs.Loops.{line_more, line_stop, line_last}
-use Rattle.jl_lex.proofs.comments.line_end.Goals as goal
+use Rattle.jl_lex.proofs.comment_ends.line_end.Goals as goal
 
 pub loop-unit-preserved : goal.loop-unit-preserved
 loop-unit-preserved c =
