@@ -1,6 +1,7 @@
 //! The report: for each place and rule the number of hits, as lines.
 #![tactic(auto)]
 
+pub mod laws;
 mod line;
 mod off_comments;
 mod off_list;
