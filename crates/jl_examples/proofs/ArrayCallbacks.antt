@@ -4,15 +4,128 @@ use Rattle.jl_ast.specs.declared.ops.BinOp.TheVariants as binary
 use Rattle.jl_ast.specs.declared.ops.UnOp.TheVariants as un
 use Rattle.jl_ast.specs.Tree.{Program}
 use Rattle.jl_examples.proofs.Computing as computing
-use Rattle.jl_examples.proofs.Running.{runs}
-use Rattle.jl_examples.proofs.Trees.{script, function_of, name, number, string, array, hole, filled}
-use Rattle.jl_examples.proofs.Trees.{function_expression, dot, index, call, unary, operator, assign, compute, to_name}
-use Rattle.jl_examples.proofs.Trees.{to_index, declarator, var, expression, if_else, return}
+use Rattle.jl_examples.proofs.Running.{runs, prints}
+use Rattle.jl_examples.proofs.Trees.{script, function_of, this, name, number, string, array, hole, filled, object}
+use Rattle.jl_examples.proofs.Trees.{value, function_expression, dot, index, call, unary, operator, assign, compute}
+use Rattle.jl_examples.proofs.Trees.{to_name, to_index, declarator, var, expression, if_else, return, catch, try}
+
+-- every and some stop at the first answer that decides, and pass over holes (15.4.4.16, 15.4.4.17)
+--
+--     var s = "";
+--     function f(x, i, a) { s += x + "" + i + a.length + this.t + ";"; return x > 1; }
+--     var o = { t: "T" };
+--     print([2, , 3, 1, 4].every(f, o), [1, , 0].some(f, o), [].every(f), [].some(f), [1, 5, 6].some(f, o));
+--     print(s);
+abbrev every_and_some : Program (Unit {0})
+every_and_some =
+    script false
+    (function_of 0 (Some (codes "f")) (codes "x" ∷ codes "i" ∷ codes "a" ∷ []) false []
+    (expression
+    (compute binary.Add (to_name (codes "s"))
+    (operator binary.Add
+    (operator binary.Add
+    (operator binary.Add
+    (operator binary.Add
+    (operator binary.Add (name (codes "x")) (string []))
+    (name (codes "i")))
+    (dot (name (codes "a")) (codes "length")))
+    (dot this (codes "t")))
+    (string (codes ";"))))
+    ∷ return (Some (operator binary.Greater (name (codes "x")) (number 1)))
+    ∷ [])
+    ∷ [])
+    (var (declarator (codes "s") (Some (string [])) ∷ [])
+    ∷ var (declarator (codes "o") (Some (object (value (codes "t") (string (codes "T")) ∷ []))) ∷ [])
+    ∷ expression
+    (call (name (codes "print"))
+    (call
+    (dot
+    (array
+    (filled (number 2)
+    ∷ hole
+    ∷ filled (number 3)
+    ∷ filled (number 1)
+    ∷ filled (number 4)
+    ∷ []))
+    (codes "every"))
+    (name (codes "f") ∷ name (codes "o") ∷ [])
+    ∷ call
+    (dot (array (filled (number 1) ∷ hole ∷ filled (number 0) ∷ [])) (codes "some"))
+    (name (codes "f") ∷ name (codes "o") ∷ [])
+    ∷ call (dot (array []) (codes "every")) (name (codes "f") ∷ [])
+    ∷ call (dot (array []) (codes "some")) (name (codes "f") ∷ [])
+    ∷ call
+    (dot
+    (array (filled (number 1) ∷ filled (number 5) ∷ filled (number 6) ∷ []))
+    (codes "some"))
+    (name (codes "f") ∷ name (codes "o") ∷ [])
+    ∷ []))
+    ∷ expression (call (name (codes "print")) (name (codes "s") ∷ []))
+    ∷ [])
+
+every_and_some_holds : prints every_and_some
+    (codes "false false true false true"
+    ∷ codes "205T;325T;135T;103T;023T;103T;513T;"
+    ∷ codes "jlint: normal"
+    ∷ [])
+    ≡ true
+unfolding computing.run
+every_and_some_holds = refl
+
+-- reduce and reduceRight take the first element that is there, without a call (15.4.4.21, 15.4.4.22)
+--
+--     function f(a, b, i) { return a + "(" + b + i + ")"; }
+--     print([, 1, , 2].reduce(f), [1, , 2, , ].reduceRight(f), [3].reduceRight(f), [1, 2].reduceRight(f, "s"),
+--       [].reduce(f, "none"));
+--     try { [, ].reduceRight(f); } catch (e) { print(e.name); }
+abbrev reduce_right : Program (Unit {0})
+reduce_right =
+    script false
+    (function_of 0 (Some (codes "f")) (codes "a" ∷ codes "b" ∷ codes "i" ∷ []) false []
+    (return
+    (Some
+    (operator binary.Add
+    (operator binary.Add
+    (operator binary.Add
+    (operator binary.Add (name (codes "a")) (string (codes "(")))
+    (name (codes "b")))
+    (name (codes "i")))
+    (string (codes ")"))))
+    ∷ [])
+    ∷ [])
+    (expression
+    (call (name (codes "print"))
+    (call
+    (dot (array (hole ∷ filled (number 1) ∷ hole ∷ filled (number 2) ∷ [])) (codes "reduce"))
+    (name (codes "f") ∷ [])
+    ∷ call
+    (dot
+    (array (filled (number 1) ∷ hole ∷ filled (number 2) ∷ hole ∷ []))
+    (codes "reduceRight"))
+    (name (codes "f") ∷ [])
+    ∷ call (dot (array (filled (number 3) ∷ [])) (codes "reduceRight")) (name (codes "f") ∷ [])
+    ∷ call
+    (dot (array (filled (number 1) ∷ filled (number 2) ∷ [])) (codes "reduceRight"))
+    (name (codes "f") ∷ string (codes "s") ∷ [])
+    ∷ call (dot (array []) (codes "reduce")) (name (codes "f") ∷ string (codes "none") ∷ [])
+    ∷ []))
+    ∷ try
+    (expression (call (dot (array (hole ∷ [])) (codes "reduceRight")) (name (codes "f") ∷ [])) ∷ [])
+    (catch (codes "e")
+    (expression (call (name (codes "print")) (dot (name (codes "e")) (codes "name") ∷ [])) ∷ []))
+    None
+    ∷ [])
+
+reduce_right_holds : prints reduce_right
+    (codes "1(23) 2(10) 3 s(21)(10) none" ∷ codes "TypeError" ∷ codes "jlint: normal" ∷ [])
+    ≡ true
+unfolding computing.run
+reduce_right_holds = refl
 
 --     print([1, 2, 3].map(function (x) { return x * x; }).join("-"), [].map(function () { }).length, [].map.length);
 --     var r = [1, , 3, ,].map(function (x, i) { return i; }); print(r.length, 1 in r, r, Array.isArray(r));
-abbrev map_1 : Program (Unit {0})
-map_1 =
+abbrev map_2 : Program (Unit {0})
+map_2 =
     script false []
     (expression
     (call (name (codes "print"))
@@ -59,18 +172,18 @@ map_1 =
     ∷ []))
     ∷ [])
 
-map_1_holds : runs map_1
+map_2_holds : runs map_2
     (codes "1-4-9 0 1" ∷ codes "4 false 0,,2, true" ∷ codes "jlint: normal steps=85" ∷ [])
     ≡ true
 unfolding computing.run
-map_1_holds = refl
+map_2_holds = refl
 
 -- changes while it runs
 --
 --     var a = [1, 2, 3]; a.forEach(function (x, i) { a.push(x * 10); if (i === 0) { a[1] = "c"; delete a[2]; }
 --       print(x); }); print(a.length);
-abbrev forEach_2 : Program (Unit {0})
-forEach_2 =
+abbrev for_each : Program (Unit {0})
+for_each =
     script false []
     (var
     (declarator (codes "a")
@@ -97,26 +210,24 @@ forEach_2 =
     ∷ expression (call (name (codes "print")) (dot (name (codes "a")) (codes "length") ∷ []))
     ∷ [])
 
-forEach_2_holds : runs forEach_2 (codes "1" ∷ codes "c" ∷ codes "5" ∷ codes "jlint: normal steps=67" ∷ []) ≡ true
+for_each_holds : runs for_each (codes "1" ∷ codes "c" ∷ codes "5" ∷ codes "jlint: normal steps=67" ∷ []) ≡ true
 unfolding computing.run
-forEach_2_holds = refl
+for_each_holds = refl
 
 -- errors
 --
 --     [].reduce(function () { });
-abbrev reduce_3 : Program (Unit {0})
-reduce_3 =
+abbrev reduce : Program (Unit {0})
+reduce =
     script false []
     (expression
     (call (dot (array []) (codes "reduce"))
     (function_expression (function_of 0 None [] false [] []) ∷ []))
     ∷ [])
 
-reduce_3_holds : runs reduce_3
-    (codes "uncaught TypeError: empty array" ∷ codes "jlint: thrown steps=5" ∷ [])
-    ≡ true
+reduce_holds : runs reduce (codes "uncaught TypeError: empty array" ∷ codes "jlint: thrown steps=5" ∷ []) ≡ true
 unfolding computing.run
-reduce_3_holds = refl
+reduce_holds = refl
 
 -- the element as it was
 --
@@ -147,8 +258,8 @@ filter_2_holds = refl
 
 --     var s = 0; print([1, 2, 3].forEach(function (x) { s += x; }), s, [].forEach.length); [, 1, ,].forEach(function
 --       (x, i) { print(i, x); });
-abbrev forEach_1 : Program (Unit {0})
-forEach_1 =
+abbrev for_each_2 : Program (Unit {0})
+for_each_2 =
     script false []
     (var (declarator (codes "s") (Some (number 0)) ∷ [])
     ∷ expression
@@ -176,6 +287,8 @@ forEach_1 =
     ∷ []))
     ∷ [])
 
-forEach_1_holds : runs forEach_1 (codes "undefined 6 1" ∷ codes "1 1" ∷ codes "jlint: normal steps=53" ∷ []) ≡ true
+for_each_2_holds : runs for_each_2
+    (codes "undefined 6 1" ∷ codes "1 1" ∷ codes "jlint: normal steps=53" ∷ [])
+    ≡ true
 unfolding computing.run
-forEach_1_holds = refl
+for_each_2_holds = refl

@@ -9,14 +9,12 @@ use Rattle.jl_examples.proofs.Trees.{script, function_of, name, number, string, 
 use Rattle.jl_examples.proofs.Trees.{object, value, function_expression, dot, index, call, new, unary, operator}
 use Rattle.jl_examples.proofs.Trees.{assign, to_dot, to_index, declarator, var, expression, return, catch, try}
 
--- of the papers
---
 --     print([3, 1, 2, 10].sort());
 --     var a = [1, 2, 3]; a.length = 1; a[3] = 4; print(a, a.length);
 --     print([1, 2, 3].map(function (x) { return x * x; }).join("-"));
 --     print([1, , 3].indexOf(undefined));
-abbrev rows_1 : Program (Unit {0})
-rows_1 =
+abbrev sort : Program (Unit {0})
+sort =
     script false []
     (expression
     (call (name (codes "print"))
@@ -66,15 +64,15 @@ rows_1 =
     ∷ []))
     ∷ [])
 
-rows_1_holds : runs rows_1
+sort_holds : runs sort
     (codes "1,10,2,3" ∷ codes "1,,,4 4" ∷ codes "1-4-9" ∷ codes "-1" ∷ codes "jlint: normal steps=102" ∷ [])
     ≡ true
 unfolding computing.run
-rows_1_holds = refl
+sort_holds = refl
 
 --     try { new [].push(1); } catch (e) { print(e); } try { new Array.isArray([]); } catch (e) { print(e); }
-abbrev not_constructors : Program (Unit {0})
-not_constructors =
+abbrev push : Program (Unit {0})
+push =
     script false []
     (try
     (expression (new (dot (array []) (codes "push")) (number 1 ∷ [])) ∷ [])
@@ -86,14 +84,14 @@ not_constructors =
     None
     ∷ [])
 
-not_constructors_holds : runs not_constructors
+push_holds : runs push
     (codes "TypeError: not a constructor"
     ∷ codes "TypeError: not a constructor"
     ∷ codes "jlint: normal steps=26"
     ∷ [])
     ≡ true
 unfolding computing.run
-not_constructors_holds = refl
+push_holds = refl
 
 -- generic this
 --
@@ -102,8 +100,8 @@ not_constructors_holds = refl
 --     print(r.length, r[0] === o, r[1], r[2]);
 --     Boolean.prototype.concat = [].concat; var b = true.concat(3); print(typeof b[0], b[1], b.length);
 --     try { var c = [].concat; c(1); } catch (e) { print(e); }
-abbrev concat_3 : Program (Unit {0})
-concat_3 =
+abbrev concat : Program (Unit {0})
+concat =
     script false []
     (var
     (declarator (codes "o")
@@ -146,7 +144,7 @@ concat_3 =
     None
     ∷ [])
 
-concat_3_holds : runs concat_3
+concat_holds : runs concat
     (codes "3 true 1 2"
     ∷ codes "object 3 2"
     ∷ codes "TypeError: no property of undefined"
@@ -154,24 +152,24 @@ concat_3_holds : runs concat_3
     ∷ [])
     ≡ true
 unfolding computing.run
-concat_3_holds = refl
+concat_holds = refl
 
 -- a comparator that is no function is Unsupported too, before anything else
 --
 --     [2, 1].sort(null);
-abbrev sort_6 : Program (Unit {0})
-sort_6 =
+abbrev sort_2 : Program (Unit {0})
+sort_2 =
     script false []
     (expression (call (dot (array (filled (number 2) ∷ filled (number 1) ∷ [])) (codes "sort")) (null ∷ []))
     ∷ [])
 
-sort_6_holds : runs sort_6 (codes "jlint: fault Unsupported Array.prototype.sort steps=7" ∷ []) ≡ true
+sort_2_holds : runs sort_2 (codes "jlint: fault Unsupported Array.prototype.sort steps=7" ∷ []) ≡ true
 unfolding computing.run
-sort_6_holds = refl
+sort_2_holds = refl
 
 --     var a = [1, 2, 3]; print(a.pop(), a.length, a, a.pop(), a.pop(), a.pop(), a.length, a.pop.length);
-abbrev pop_1 : Program (Unit {0})
-pop_1 =
+abbrev pop : Program (Unit {0})
+pop =
     script false []
     (var
     (declarator (codes "a")
@@ -190,13 +188,13 @@ pop_1 =
     ∷ []))
     ∷ [])
 
-pop_1_holds : runs pop_1 (codes "3 2  2 1 undefined 0 0" ∷ codes "jlint: normal steps=39" ∷ []) ≡ true
+pop_holds : runs pop (codes "3 2  2 1 undefined 0 0" ∷ codes "jlint: normal steps=39" ∷ []) ≡ true
 unfolding computing.run
-pop_1_holds = refl
+pop_holds = refl
 
 --     var a = [3]; print(a.unshift(1, 2), a, a.unshift(), a.length, [].unshift(1), a.unshift.length);
-abbrev unshift_1 : Program (Unit {0})
-unshift_1 =
+abbrev unshift : Program (Unit {0})
+unshift =
     script false []
     (var (declarator (codes "a") (Some (array (filled (number 3) ∷ []))) ∷ [])
     ∷ expression
@@ -210,13 +208,13 @@ unshift_1 =
     ∷ []))
     ∷ [])
 
-unshift_1_holds : runs unshift_1 (codes "3 1,2,3 3 3 1 1" ∷ codes "jlint: normal steps=42" ∷ []) ≡ true
+unshift_holds : runs unshift (codes "3 1,2,3 3 3 1 1" ∷ codes "jlint: normal steps=42" ∷ []) ≡ true
 unfolding computing.run
-unshift_1_holds = refl
+unshift_holds = refl
 
 --     var a = [1, 2, 3]; print(a.shift(), a, a.length, a.shift(), a.shift(), a.shift(), a.length, a.shift.length);
-abbrev shift_1 : Program (Unit {0})
-shift_1 =
+abbrev shift : Program (Unit {0})
+shift =
     script false []
     (var
     (declarator (codes "a")
@@ -235,14 +233,14 @@ shift_1 =
     ∷ []))
     ∷ [])
 
-shift_1_holds : runs shift_1 (codes "1  2 2 3 undefined 0 0" ∷ codes "jlint: normal steps=42" ∷ []) ≡ true
+shift_holds : runs shift (codes "1  2 2 3 undefined 0 0" ∷ codes "jlint: normal steps=42" ∷ []) ≡ true
 unfolding computing.run
-shift_1_holds = refl
+shift_holds = refl
 
 --     var a = [1, 2, 3, 4, 5]; print(a.splice(1, 2), a, a.splice(1, 0, "x", "y"), a, a.splice(-1, 1, "z"), a,
 --       a.splice.length);
-abbrev splice_1 : Program (Unit {0})
-splice_1 =
+abbrev splice : Program (Unit {0})
+splice =
     script false []
     (var
     (declarator (codes "a")
@@ -269,17 +267,17 @@ splice_1 =
     ∷ []))
     ∷ [])
 
-splice_1_holds : runs splice_1
+splice_holds : runs splice
     (codes "2,3 1,x,y,4,z  1,x,y,4,z 5 1,x,y,4,z 2" ∷ codes "jlint: normal steps=80" ∷ [])
     ≡ true
 unfolding computing.run
-splice_1_holds = refl
+splice_holds = refl
 
 -- inherited and holes
 --
 --     Array.prototype[2] = "in"; var a = [1, , ,]; print(a.length, a.pop(), a.length, a.pop(), a.length, a[2]);
-abbrev pop_4 : Program (Unit {0})
-pop_4 =
+abbrev array_calls : Program (Unit {0})
+array_calls =
     script false []
     (expression
     (assign (to_index (dot (name (codes "Array")) (codes "prototype")) (number 2)) (string (codes "in")))
@@ -295,14 +293,14 @@ pop_4 =
     ∷ []))
     ∷ [])
 
-pop_4_holds : runs pop_4 (codes "3 in 2 undefined 1 in" ∷ codes "jlint: normal steps=34" ∷ []) ≡ true
+array_calls_holds : runs array_calls (codes "3 in 2 undefined 1 in" ∷ codes "jlint: normal steps=34" ∷ []) ≡ true
 unfolding computing.run
-pop_4_holds = refl
+array_calls_holds = refl
 
 --     var a = [1, 2, 3, 4], b = a.reverse(); print(a, a === b, [1, 2, 3].reverse(), [1].reverse(),
 --       [].reverse().length, a.reverse.length);
-abbrev reverse_1 : Program (Unit {0})
-reverse_1 =
+abbrev reverse : Program (Unit {0})
+reverse =
     script false []
     (var
     (declarator (codes "a")
@@ -326,17 +324,17 @@ reverse_1 =
     ∷ []))
     ∷ [])
 
-reverse_1_holds : runs reverse_1 (codes "4,3,2,1 true 3,2,1 1 0 0" ∷ codes "jlint: normal steps=54" ∷ []) ≡ true
+reverse_holds : runs reverse (codes "4,3,2,1 true 3,2,1 1 0 0" ∷ codes "jlint: normal steps=54" ∷ []) ≡ true
 unfolding computing.run
-reverse_1_holds = refl
+reverse_holds = refl
 
 -- errors
 --
 --     String.prototype.shift = [].shift; try { "ab".shift(); } catch (e) { print(e); }
 --     try { "".shift(); } catch (e) { print(e); }
 --     var s = [].shift; s();
-abbrev shift_4 : Program (Unit {0})
-shift_4 =
+abbrev shift_2 : Program (Unit {0})
+shift_2 =
     script false []
     (expression
     (assign
@@ -354,7 +352,7 @@ shift_4 =
     ∷ expression (call (name (codes "s")) [])
     ∷ [])
 
-shift_4_holds : runs shift_4
+shift_2_holds : runs shift_2
     (codes "TypeError: cannot write"
     ∷ codes "TypeError: cannot write"
     ∷ codes "uncaught TypeError: no property of undefined"
@@ -362,4 +360,4 @@ shift_4_holds : runs shift_4
     ∷ [])
     ≡ true
 unfolding computing.run
-shift_4_holds = refl
+shift_2_holds = refl

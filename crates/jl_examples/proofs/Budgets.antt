@@ -1,10 +1,12 @@
 -- Runs with few steps: where they are spent.
-use Rattle.std.specs.Prelude.{◌≡◌, refl, ◌∷◌, [], codes, true, false}
+use Rattle.std.specs.Prelude.{◌≡◌, refl, ◌∷◌, [], codes, true, false, None}
 use Rattle.jl_ast.specs.declared.ops.BinOp.TheVariants as binary
+use Rattle.jl_ast.specs.declared.ops.UnOp.TheVariants as un
 use Rattle.jl_ast.specs.Tree.{Program}
 use Rattle.jl_examples.proofs.Computing as computing
 use Rattle.jl_examples.proofs.Running.{answers, executes}
-use Rattle.jl_examples.proofs.Trees.{script, name, number, string, dot, call, operator, expression}
+use Rattle.jl_examples.proofs.Trees.{script, function_of, name, number, string, null, array, object, value}
+use Rattle.jl_examples.proofs.Trees.{function_expression, dot, call, unary, operator, expression}
 
 --     print(0 / 0);
 abbrev quotient_0 : Program (Unit {0})
@@ -215,3 +217,61 @@ hooks_23_holds : executes 23 hooks_23
     ≡ true
 unfolding computing.run
 hooks_23_holds = refl
+
+--     [].forEach.call({ length: 4294967295 }, function () { });
+abbrev long_for_each : Program (Unit {0})
+long_for_each =
+    script false []
+    (expression
+    (call
+    (dot (dot (array []) (codes "forEach")) (codes "call"))
+    (object (value (codes "length") (number 4294967295) ∷ [])
+    ∷ function_expression (function_of 0 None [] false [] [])
+    ∷ []))
+    ∷ [])
+
+long_for_each_holds : answers 60 long_for_each (codes "jlint: spent steps=60" ∷ []) ≡ true
+unfolding computing.run
+long_for_each_holds = refl
+
+--     [].join.call({ length: -1 });
+abbrev long_join : Program (Unit {0})
+long_join =
+    script false []
+    (expression
+    (call
+    (dot (dot (array []) (codes "join")) (codes "call"))
+    (object (value (codes "length") (unary un.Minus (number 1)) ∷ []) ∷ []))
+    ∷ [])
+
+long_join_holds : answers 60 long_join (codes "jlint: spent steps=60" ∷ []) ≡ true
+unfolding computing.run
+long_join_holds = refl
+
+--     print.apply(null, { length: 4294967295 });
+abbrev long_apply : Program (Unit {0})
+long_apply =
+    script false []
+    (expression
+    (call
+    (dot (name (codes "print")) (codes "apply"))
+    (null ∷ object (value (codes "length") (number 4294967295) ∷ []) ∷ []))
+    ∷ [])
+
+long_apply_holds : answers 60 long_apply (codes "jlint: spent steps=60" ∷ []) ≡ true
+unfolding computing.run
+long_apply_holds = refl
+
+--     [].sort.call({ length: 4294967294 });
+abbrev long_sort : Program (Unit {0})
+long_sort =
+    script false []
+    (expression
+    (call
+    (dot (dot (array []) (codes "sort")) (codes "call"))
+    (object (value (codes "length") (number 4294967294) ∷ []) ∷ []))
+    ∷ [])
+
+long_sort_holds : answers 60 long_sort (codes "jlint: spent steps=60" ∷ []) ≡ true
+unfolding computing.run
+long_sort_holds = refl

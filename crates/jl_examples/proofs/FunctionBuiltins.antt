@@ -9,8 +9,8 @@ use Rattle.jl_examples.proofs.Trees.{function_expression, dot, call, new, operat
 use Rattle.jl_examples.proofs.Trees.{return, catch, try}
 
 --     print(function f() { }, function () { }, print, Object.prototype.hasOwnProperty, Function.prototype, Math.max);
-abbrev functionbuiltins_s7 : Program (Unit {0})
-functionbuiltins_s7 =
+abbrev function_calls : Program (Unit {0})
+function_calls =
     script false []
     (expression
     (call (name (codes "print"))
@@ -23,17 +23,17 @@ functionbuiltins_s7 =
     ∷ []))
     ∷ [])
 
-functionbuiltins_s7_holds : runs functionbuiltins_s7
+function_calls_holds : runs function_calls
     (codes "function f() { [code] } function () { [code] } function print() { [code] } function hasOwnProperty() { [code] } function prototype() { [code] } function max() { [code] }"
     ∷ codes "jlint: normal steps=26"
     ∷ [])
     ≡ true
 unfolding computing.run
-functionbuiltins_s7_holds = refl
+function_calls_holds = refl
 
 --     print.apply(null, [1, 2, 3]); print(Math.max.apply(Math, [3, 9, 4]));
-abbrev functionbuiltins_s20 : Program (Unit {0})
-functionbuiltins_s20 =
+abbrev apply : Program (Unit {0})
+apply =
     script false []
     (expression
     (call
@@ -49,15 +49,13 @@ functionbuiltins_s20 =
     ∷ []))
     ∷ [])
 
-functionbuiltins_s20_holds : runs functionbuiltins_s20
-    (codes "1 2 3" ∷ codes "9" ∷ codes "jlint: normal steps=37" ∷ [])
-    ≡ true
+apply_holds : runs apply (codes "1 2 3" ∷ codes "9" ∷ codes "jlint: normal steps=37" ∷ []) ≡ true
 unfolding computing.run
-functionbuiltins_s20_holds = refl
+apply_holds = refl
 
 --     function f() { "use strict"; return this; } var g = f.bind(1); print(g.call(2), g.apply(3), g.bind(4)());
-abbrev functionbuiltins_s38 : Program (Unit {0})
-functionbuiltins_s38 =
+abbrev bind : Program (Unit {0})
+bind =
     script false
     (function_of 0 (Some (codes "f")) [] true [] (return (Some this) ∷ []) ∷ [])
     (var (declarator (codes "g") (Some (call (dot (name (codes "f")) (codes "bind")) (number 1 ∷ []))) ∷ [])
@@ -69,14 +67,14 @@ functionbuiltins_s38 =
     ∷ []))
     ∷ [])
 
-functionbuiltins_s38_holds : runs functionbuiltins_s38 (codes "1 1 1" ∷ codes "jlint: normal steps=38" ∷ []) ≡ true
+bind_holds : runs bind (codes "1 1 1" ∷ codes "jlint: normal steps=38" ∷ []) ≡ true
 unfolding computing.run
-functionbuiltins_s38_holds = refl
+bind_holds = refl
 
 --     var g = print.bind(null); try { new g; } catch (e) { print(e); } var E = Error.bind(null, "m"); var e = new E;
 --       print(e, e instanceof Error, E.length);
-abbrev functionbuiltins_s36 : Program (Unit {0})
-functionbuiltins_s36 =
+abbrev error_calls : Program (Unit {0})
+error_calls =
     script false []
     (var (declarator (codes "g") (Some (call (dot (name (codes "print")) (codes "bind")) (null ∷ []))) ∷ [])
     ∷ try
@@ -96,15 +94,15 @@ functionbuiltins_s36 =
     ∷ []))
     ∷ [])
 
-functionbuiltins_s36_holds : runs functionbuiltins_s36
+error_calls_holds : runs error_calls
     (codes "TypeError: not a constructor" ∷ codes "Error: m true 0" ∷ codes "jlint: normal steps=42" ∷ [])
     ≡ true
 unfolding computing.run
-functionbuiltins_s36_holds = refl
+error_calls_holds = refl
 
 --     "use strict"; function f() { return Object.getOwnPropertyDescriptor(arguments, "callee").get; } print(f());
-abbrev functionbuiltins_s11 : Program (Unit {0})
-functionbuiltins_s11 =
+abbrev get_own_property_descriptor : Program (Unit {0})
+get_own_property_descriptor =
     script true
     (function_of 0 (Some (codes "f")) [] false []
     (return
@@ -118,8 +116,8 @@ functionbuiltins_s11 =
     ∷ [])
     (expression (call (name (codes "print")) (call (name (codes "f")) [] ∷ [])) ∷ [])
 
-functionbuiltins_s11_holds : runs functionbuiltins_s11
+get_own_property_descriptor_holds : runs get_own_property_descriptor
     (codes "function thrower() { [code] }" ∷ codes "jlint: normal steps=16" ∷ [])
     ≡ true
 unfolding computing.run
-functionbuiltins_s11_holds = refl
+get_own_property_descriptor_holds = refl

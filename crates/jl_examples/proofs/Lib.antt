@@ -12,10 +12,10 @@ mod Expressions
 mod Control
 mod Functions
 mod Properties
+mod ArrayCallbacks
 mod Numbers
 mod Objects
 mod Strings
 mod Arrays
-mod ArrayCallbacks
 mod FunctionBuiltins
 mod ChosenKinds

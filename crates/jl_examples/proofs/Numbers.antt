@@ -13,8 +13,8 @@ use Rattle.jl_examples.proofs.Trees.{to_name, declarator, var, expression, init_
 --       { var e = new l[i]("m"); print(e.name, e instanceof l[i], e instanceof Error, Object.getPrototypeOf(e) ===
 --       l[i].prototype, l[i].prototype.message === "", l[i].length, Object.getPrototypeOf(l[i]) ===
 --       Function.prototype); }
-abbrev numbers_s56 : Program (Unit {0})
-numbers_s56 =
+abbrev eval_error : Program (Unit {0})
+eval_error =
     script false []
     (var
     (declarator (codes "l")
@@ -62,7 +62,7 @@ numbers_s56 =
     ∷ [])
     ∷ [])
 
-numbers_s56_holds : runs numbers_s56
+eval_error_holds : runs eval_error
     (codes "EvalError true true true true 1 true"
     ∷ codes "RangeError true true true true 1 true"
     ∷ codes "ReferenceError true true true true 1 true"
@@ -73,12 +73,12 @@ numbers_s56_holds : runs numbers_s56
     ∷ [])
     ≡ true
 unfolding computing.run
-numbers_s56_holds = refl
+eval_error_holds = refl
 
 --     print(new RangeError("x"), new EvalError("a"), ReferenceError("b"), SyntaxError(), TypeError("c"), new
 --       URIError(5));
-abbrev numbers_s55 : Program (Unit {0})
-numbers_s55 =
+abbrev range_error : Program (Unit {0})
+range_error =
     script false []
     (expression
     (call (name (codes "print"))
@@ -91,18 +91,18 @@ numbers_s55 =
     ∷ []))
     ∷ [])
 
-numbers_s55_holds : runs numbers_s55
+range_error_holds : runs range_error
     (codes "RangeError: x EvalError: a ReferenceError: b SyntaxError TypeError: c URIError: 5"
     ∷ codes "jlint: normal steps=39"
     ∷ [])
     ≡ true
 unfolding computing.run
-numbers_s55_holds = refl
+range_error_holds = refl
 
 --     Math.floor({ valueOf: function () { print("v"); return {}; }, toString: function () { return "4"; } });
 --       print(Math.round({ valueOf: function () { return 3; } }));
-abbrev numbers_s74 : Program (Unit {0})
-numbers_s74 =
+abbrev floor : Program (Unit {0})
+floor =
     script false []
     (expression
     (call
@@ -132,14 +132,14 @@ numbers_s74 =
     ∷ []))
     ∷ [])
 
-numbers_s74_holds : runs numbers_s74 (codes "v" ∷ codes "3" ∷ codes "jlint: normal steps=32" ∷ []) ≡ true
+floor_holds : runs floor (codes "v" ∷ codes "3" ∷ codes "jlint: normal steps=32" ∷ []) ≡ true
 unfolding computing.run
-numbers_s74_holds = refl
+floor_holds = refl
 
 --     print(Math.ceil(-5), Math.ceil("6"), Math.ceil(), Math.ceil(null), Math.ceil.length, Math.floor(7),
 --       Math.floor(""), Math.floor(), Math.round(-3), Math.round(true), Math.round("x"));
-abbrev numbers_s70 : Program (Unit {0})
-numbers_s70 =
+abbrev ceil : Program (Unit {0})
+ceil =
     script false []
     (expression
     (call (name (codes "print"))
@@ -157,16 +157,14 @@ numbers_s70 =
     ∷ []))
     ∷ [])
 
-numbers_s70_holds : runs numbers_s70
-    (codes "-5 6 NaN 0 1 7 0 NaN -3 1 NaN" ∷ codes "jlint: normal steps=58" ∷ [])
-    ≡ true
+ceil_holds : runs ceil (codes "-5 6 NaN 0 1 7 0 NaN -3 1 NaN" ∷ codes "jlint: normal steps=58" ∷ []) ≡ true
 unfolding computing.run
-numbers_s70_holds = refl
+ceil_holds = refl
 
 --     try { Boolean.prototype.toString.call(1); } catch (e) { print(e); } try { Boolean.prototype.toString.call(new
 --       Number(1)); } catch (e) { print(e); } Boolean.prototype.toString.call();
-abbrev numbers_s45 : Program (Unit {0})
-numbers_s45 =
+abbrev boolean_calls : Program (Unit {0})
+boolean_calls =
     script false []
     (try
     (expression
@@ -194,7 +192,7 @@ numbers_s45 =
     [])
     ∷ [])
 
-numbers_s45_holds : runs numbers_s45
+boolean_calls_holds : runs boolean_calls
     (codes "TypeError: wrong receiver"
     ∷ codes "TypeError: wrong receiver"
     ∷ codes "uncaught TypeError: wrong receiver"
@@ -202,104 +200,104 @@ numbers_s45_holds : runs numbers_s45
     ∷ [])
     ≡ true
 unfolding computing.run
-numbers_s45_holds = refl
+boolean_calls_holds = refl
 
 --     Math.min();
-abbrev numbers_s81 : Program (Unit {0})
-numbers_s81 =
+abbrev min : Program (Unit {0})
+min =
     script false [] (expression (call (dot (name (codes "Math")) (codes "min")) []) ∷ [])
 
-numbers_s81_holds : runs numbers_s81 (codes "jlint: fault NumberOutside steps=4" ∷ []) ≡ true
+min_holds : runs min (codes "jlint: fault NumberOutside steps=4" ∷ []) ≡ true
 unfolding computing.run
-numbers_s81_holds = refl
+min_holds = refl
 
 --     isNaN("1.5");
-abbrev numbers_s17 : Program (Unit {0})
-numbers_s17 =
+abbrev is_nan : Program (Unit {0})
+is_nan =
     script false [] (expression (call (name (codes "isNaN")) (string (codes "1.5") ∷ [])) ∷ [])
 
-numbers_s17_holds : runs numbers_s17 (codes "jlint: fault NumberOutside steps=5" ∷ []) ≡ true
+is_nan_holds : runs is_nan (codes "jlint: fault NumberOutside steps=5" ∷ []) ≡ true
 unfolding computing.run
-numbers_s17_holds = refl
+is_nan_holds = refl
 
 --     Math.abs("1.5");
-abbrev numbers_s68 : Program (Unit {0})
-numbers_s68 =
+abbrev abs : Program (Unit {0})
+abs =
     script false [] (expression (call (dot (name (codes "Math")) (codes "abs")) (string (codes "1.5") ∷ [])) ∷ [])
 
-numbers_s68_holds : runs numbers_s68 (codes "jlint: fault NumberOutside steps=5" ∷ []) ≡ true
+abs_holds : runs abs (codes "jlint: fault NumberOutside steps=5" ∷ []) ≡ true
 unfolding computing.run
-numbers_s68_holds = refl
+abs_holds = refl
 
 --     Math.pow(2, -1);
-abbrev numbers_s84 : Program (Unit {0})
-numbers_s84 =
+abbrev pow : Program (Unit {0})
+pow =
     script false []
     (expression (call (dot (name (codes "Math")) (codes "pow")) (number 2 ∷ unary un.Minus (number 1) ∷ []))
     ∷ [])
 
-numbers_s84_holds : runs numbers_s84 (codes "jlint: fault NumberOutside steps=7" ∷ []) ≡ true
+pow_holds : runs pow (codes "jlint: fault NumberOutside steps=7" ∷ []) ≡ true
 unfolding computing.run
-numbers_s84_holds = refl
+pow_holds = refl
 
 --     Math.pow(2, 53);
-abbrev numbers_s85 : Program (Unit {0})
-numbers_s85 =
+abbrev pow_2 : Program (Unit {0})
+pow_2 =
     script false [] (expression (call (dot (name (codes "Math")) (codes "pow")) (number 2 ∷ number 53 ∷ [])) ∷ [])
 
-numbers_s85_holds : runs numbers_s85 (codes "jlint: fault NumberOutside steps=6" ∷ []) ≡ true
+pow_2_holds : runs pow_2 (codes "jlint: fault NumberOutside steps=6" ∷ []) ≡ true
 unfolding computing.run
-numbers_s85_holds = refl
+pow_2_holds = refl
 
 --     Math.ceil("0.5");
-abbrev numbers_s71 : Program (Unit {0})
-numbers_s71 =
+abbrev ceil_2 : Program (Unit {0})
+ceil_2 =
     script false [] (expression (call (dot (name (codes "Math")) (codes "ceil")) (string (codes "0.5") ∷ [])) ∷ [])
 
-numbers_s71_holds : runs numbers_s71 (codes "jlint: fault NumberOutside steps=5" ∷ []) ≡ true
+ceil_2_holds : runs ceil_2 (codes "jlint: fault NumberOutside steps=5" ∷ []) ≡ true
 unfolding computing.run
-numbers_s71_holds = refl
+ceil_2_holds = refl
 
 --     isNaN("Infinity");
-abbrev numbers_s18 : Program (Unit {0})
-numbers_s18 =
+abbrev is_nan_2 : Program (Unit {0})
+is_nan_2 =
     script false [] (expression (call (name (codes "isNaN")) (string (codes "Infinity") ∷ [])) ∷ [])
 
-numbers_s18_holds : runs numbers_s18 (codes "jlint: fault NumberOutside steps=5" ∷ []) ≡ true
+is_nan_2_holds : runs is_nan_2 (codes "jlint: fault NumberOutside steps=5" ∷ []) ≡ true
 unfolding computing.run
-numbers_s18_holds = refl
+is_nan_2_holds = refl
 
 --     parseInt("5", "0.5");
-abbrev numbers_s13 : Program (Unit {0})
-numbers_s13 =
+abbrev parse_int : Program (Unit {0})
+parse_int =
     script false []
     (expression (call (name (codes "parseInt")) (string (codes "5") ∷ string (codes "0.5") ∷ [])) ∷ [])
 
-numbers_s13_holds : runs numbers_s13 (codes "jlint: fault NumberOutside steps=6" ∷ []) ≡ true
+parse_int_holds : runs parse_int (codes "jlint: fault NumberOutside steps=6" ∷ []) ≡ true
 unfolding computing.run
-numbers_s13_holds = refl
+parse_int_holds = refl
 
 --     isFinite("-Infinity");
-abbrev numbers_s20 : Program (Unit {0})
-numbers_s20 =
+abbrev is_finite : Program (Unit {0})
+is_finite =
     script false [] (expression (call (name (codes "isFinite")) (string (codes "-Infinity") ∷ [])) ∷ [])
 
-numbers_s20_holds : runs numbers_s20 (codes "jlint: fault NumberOutside steps=5" ∷ []) ≡ true
+is_finite_holds : runs is_finite (codes "jlint: fault NumberOutside steps=5" ∷ []) ≡ true
 unfolding computing.run
-numbers_s20_holds = refl
+is_finite_holds = refl
 
 --     parseInt("9007199254740992");
-abbrev numbers_s10 : Program (Unit {0})
-numbers_s10 =
+abbrev parse_int_2 : Program (Unit {0})
+parse_int_2 =
     script false [] (expression (call (name (codes "parseInt")) (string (codes "9007199254740992") ∷ [])) ∷ [])
 
-numbers_s10_holds : runs numbers_s10 (codes "jlint: fault NumberOutside steps=5" ∷ []) ≡ true
+parse_int_2_holds : runs parse_int_2 (codes "jlint: fault NumberOutside steps=5" ∷ []) ≡ true
 unfolding computing.run
-numbers_s10_holds = refl
+parse_int_2_holds = refl
 
 --     Math.abs({ valueOf: function () { print("v"); throw 0; } });
-abbrev numbers_s69 : Program (Unit {0})
-numbers_s69 =
+abbrev value_of : Program (Unit {0})
+value_of =
     script false []
     (expression
     (call (dot (name (codes "Math")) (codes "abs"))
@@ -314,13 +312,13 @@ numbers_s69 =
     ∷ []))
     ∷ [])
 
-numbers_s69_holds : runs numbers_s69 (codes "v" ∷ codes "uncaught 0" ∷ codes "jlint: thrown steps=15" ∷ []) ≡ true
+value_of_holds : runs value_of (codes "v" ∷ codes "uncaught 0" ∷ codes "jlint: thrown steps=15" ∷ []) ≡ true
 unfolding computing.run
-numbers_s69_holds = refl
+value_of_holds = refl
 
 --     Math.min({ valueOf: function () { print("v"); return 9; } }, NaN, 3); print(Math.min(1, 2, 3, 4));
-abbrev numbers_s82 : Program (Unit {0})
-numbers_s82 =
+abbrev min_2 : Program (Unit {0})
+min_2 =
     script false []
     (expression
     (call (dot (name (codes "Math")) (codes "min"))
@@ -342,13 +340,13 @@ numbers_s82 =
     ∷ []))
     ∷ [])
 
-numbers_s82_holds : runs numbers_s82 (codes "v" ∷ codes "1" ∷ codes "jlint: normal steps=36" ∷ []) ≡ true
+min_2_holds : runs min_2 (codes "v" ∷ codes "1" ∷ codes "jlint: normal steps=36" ∷ []) ≡ true
 unfolding computing.run
-numbers_s82_holds = refl
+min_2_holds = refl
 
 --     print(isFinite(NaN), isFinite(5), isFinite(), isFinite("x"), isFinite("12"), isFinite(null), isFinite.length);
-abbrev numbers_s19 : Program (Unit {0})
-numbers_s19 =
+abbrev is_finite_2 : Program (Unit {0})
+is_finite_2 =
     script false []
     (expression
     (call (name (codes "print"))
@@ -362,8 +360,8 @@ numbers_s19 =
     ∷ []))
     ∷ [])
 
-numbers_s19_holds : runs numbers_s19
+is_finite_2_holds : runs is_finite_2
     (codes "false true false false true true 1" ∷ codes "jlint: normal steps=36" ∷ [])
     ≡ true
 unfolding computing.run
-numbers_s19_holds = refl
+is_finite_2_holds = refl

@@ -10,8 +10,8 @@ use Rattle.jl_examples.proofs.Trees.{value, function_expression, dot, index, cal
 use Rattle.jl_examples.proofs.Trees.{declarator, var, expression, return, catch, try}
 
 --     print(Object.prototype.isPrototypeOf.call(3, Object.create(Number.prototype)));
-abbrev objects_s102 : Program (Unit {0})
-objects_s102 =
+abbrev is_prototype_of : Program (Unit {0})
+is_prototype_of =
     script false []
     (expression
     (call (name (codes "print"))
@@ -27,14 +27,14 @@ objects_s102 =
     ∷ []))
     ∷ [])
 
-objects_s102_holds : runs objects_s102 (codes "false" ∷ codes "jlint: normal steps=17" ∷ []) ≡ true
+is_prototype_of_holds : runs is_prototype_of (codes "false" ∷ codes "jlint: normal steps=17" ∷ []) ≡ true
 unfolding computing.run
-objects_s102_holds = refl
+is_prototype_of_holds = refl
 
 --     var o = Object.seal({ a: 1 }); o.a = 2; o.b = 3; print(o.a, o.b, delete o.a, Object.isSealed(o),
 --       Object.isFrozen(o), Object.isExtensible(o));
-abbrev objects_s55 : Program (Unit {0})
-objects_s55 =
+abbrev seal : Program (Unit {0})
+seal =
     script false []
     (var
     (declarator (codes "o")
@@ -56,16 +56,14 @@ objects_s55 =
     ∷ []))
     ∷ [])
 
-objects_s55_holds : runs objects_s55
-    (codes "2 undefined false true false false" ∷ codes "jlint: normal steps=45" ∷ [])
-    ≡ true
+seal_holds : runs seal (codes "2 undefined false true false false" ∷ codes "jlint: normal steps=45" ∷ []) ≡ true
 unfolding computing.run
-objects_s55_holds = refl
+seal_holds = refl
 
 --     print(Object.isFrozen({}), Object.isFrozen(Object.preventExtensions({})), Object.isFrozen(Object.seal({ a: 1
 --       })), Object.isFrozen(Object.freeze({ a: 1 })));
-abbrev objects_s73 : Program (Unit {0})
-objects_s73 =
+abbrev is_frozen : Program (Unit {0})
+is_frozen =
     script false []
     (expression
     (call (name (codes "print"))
@@ -88,13 +86,13 @@ objects_s73 =
     ∷ []))
     ∷ [])
 
-objects_s73_holds : runs objects_s73 (codes "false true false true" ∷ codes "jlint: normal steps=39" ∷ []) ≡ true
+is_frozen_holds : runs is_frozen (codes "false true false true" ∷ codes "jlint: normal steps=39" ∷ []) ≡ true
 unfolding computing.run
-objects_s73_holds = refl
+is_frozen_holds = refl
 
 --     var p = { a: 1 }; var o = Object.create(p); print(o.a, o.hasOwnProperty("a"), Object.getPrototypeOf(o) === p);
-abbrev objects_s23 : Program (Unit {0})
-objects_s23 =
+abbrev has_own_property : Program (Unit {0})
+has_own_property =
     script false []
     (var (declarator (codes "p") (Some (object (value (codes "a") (number 1) ∷ []))) ∷ [])
     ∷ var
@@ -111,14 +109,14 @@ objects_s23 =
     ∷ []))
     ∷ [])
 
-objects_s23_holds : runs objects_s23 (codes "1 false true" ∷ codes "jlint: normal steps=27" ∷ []) ≡ true
+has_own_property_holds : runs has_own_property (codes "1 false true" ∷ codes "jlint: normal steps=27" ∷ []) ≡ true
 unfolding computing.run
-objects_s23_holds = refl
+has_own_property_holds = refl
 
 --     var a = Object.getOwnPropertyNames(Object.defineProperty({}, "h", { value: 1 })); print(a.length, a[0],
 --       Object.getOwnPropertyDescriptor(a, 0).writable);
-abbrev objects_s22 : Program (Unit {0})
-objects_s22 =
+abbrev get_own_property_names : Program (Unit {0})
+get_own_property_names =
     script false []
     (var
     (declarator (codes "a")
@@ -145,13 +143,15 @@ objects_s22 =
     ∷ []))
     ∷ [])
 
-objects_s22_holds : runs objects_s22 (codes "1 h true" ∷ codes "jlint: normal steps=30" ∷ []) ≡ true
+get_own_property_names_holds : runs get_own_property_names
+    (codes "1 h true" ∷ codes "jlint: normal steps=30" ∷ [])
+    ≡ true
 unfolding computing.run
-objects_s22_holds = refl
+get_own_property_names_holds = refl
 
 --     try { Object.defineProperty(Object.freeze({ a: 1 }), "a", { value: 2 }); } catch (e) { print(e); }
-abbrev objects_s65 : Program (Unit {0})
-objects_s65 =
+abbrev define_property : Program (Unit {0})
+define_property =
     script false []
     (try
     (expression
@@ -168,16 +168,16 @@ objects_s65 =
     None
     ∷ [])
 
-objects_s65_holds : runs objects_s65
+define_property_holds : runs define_property
     (codes "TypeError: cannot define" ∷ codes "jlint: normal steps=21" ∷ [])
     ≡ true
 unfolding computing.run
-objects_s65_holds = refl
+define_property_holds = refl
 
 --     var o = { a: 1 }; print(Object.preventExtensions(o) === o, Object.isExtensible(o)); o.b = 1; o.a = 2;
 --       print(o.b, o.a, delete o.a, "a" in o);
-abbrev objects_s66 : Program (Unit {0})
-objects_s66 =
+abbrev prevent_extensions : Program (Unit {0})
+prevent_extensions =
     script false []
     (var (declarator (codes "o") (Some (object (value (codes "a") (number 1) ∷ []))) ∷ [])
     ∷ expression
@@ -198,61 +198,59 @@ objects_s66 =
     ∷ []))
     ∷ [])
 
-objects_s66_holds : runs objects_s66
+prevent_extensions_holds : runs prevent_extensions
     (codes "true false" ∷ codes "undefined 2 true false" ∷ codes "jlint: normal steps=44" ∷ [])
     ≡ true
 unfolding computing.run
-objects_s66_holds = refl
+prevent_extensions_holds = refl
 
 --     Object.keys("ab");
-abbrev objects_s83 : Program (Unit {0})
-objects_s83 =
+abbrev keys : Program (Unit {0})
+keys =
     script false [] (expression (call (dot (name (codes "Object")) (codes "keys")) (string (codes "ab") ∷ [])) ∷ [])
 
-objects_s83_holds : runs objects_s83
-    (codes "uncaught TypeError: not an object" ∷ codes "jlint: thrown steps=5" ∷ [])
-    ≡ true
+keys_holds : runs keys (codes "uncaught TypeError: not an object" ∷ codes "jlint: thrown steps=5" ∷ []) ≡ true
 unfolding computing.run
-objects_s83_holds = refl
+keys_holds = refl
 
 --     Object.isSealed(undefined);
-abbrev objects_s72 : Program (Unit {0})
-objects_s72 =
+abbrev is_sealed : Program (Unit {0})
+is_sealed =
     script false []
     (expression (call (dot (name (codes "Object")) (codes "isSealed")) (name (codes "undefined") ∷ [])) ∷ [])
 
-objects_s72_holds : runs objects_s72
+is_sealed_holds : runs is_sealed
     (codes "uncaught TypeError: not an object" ∷ codes "jlint: thrown steps=5" ∷ [])
     ≡ true
 unfolding computing.run
-objects_s72_holds = refl
+is_sealed_holds = refl
 
 --     Object.defineProperties(3, {});
-abbrev objects_s50 : Program (Unit {0})
-objects_s50 =
+abbrev define_properties : Program (Unit {0})
+define_properties =
     script false []
     (expression (call (dot (name (codes "Object")) (codes "defineProperties")) (number 3 ∷ object [] ∷ [])) ∷ [])
 
-objects_s50_holds : runs objects_s50
+define_properties_holds : runs define_properties
     (codes "uncaught TypeError: not an object" ∷ codes "jlint: thrown steps=6" ∷ [])
     ≡ true
 unfolding computing.run
-objects_s50_holds = refl
+define_properties_holds = refl
 
 --     Object.getOwnPropertyNames(null);
-abbrev objects_s20 : Program (Unit {0})
-objects_s20 =
+abbrev object_calls : Program (Unit {0})
+object_calls =
     script false [] (expression (call (dot (name (codes "Object")) (codes "getOwnPropertyNames")) (null ∷ [])) ∷ [])
 
-objects_s20_holds : runs objects_s20
+object_calls_holds : runs object_calls
     (codes "uncaught TypeError: not an object" ∷ codes "jlint: thrown steps=5" ∷ [])
     ≡ true
 unfolding computing.run
-objects_s20_holds = refl
+object_calls_holds = refl
 
 --     Object.defineProperties({}, undefined);
-abbrev objects_s49 : Program (Unit {0})
-objects_s49 =
+abbrev define_properties_2 : Program (Unit {0})
+define_properties_2 =
     script false []
     (expression
     (call
@@ -260,15 +258,15 @@ objects_s49 =
     (object [] ∷ name (codes "undefined") ∷ []))
     ∷ [])
 
-objects_s49_holds : runs objects_s49
+define_properties_2_holds : runs define_properties_2
     (codes "uncaught TypeError: no property of undefined" ∷ codes "jlint: thrown steps=6" ∷ [])
     ≡ true
 unfolding computing.run
-objects_s49_holds = refl
+define_properties_2_holds = refl
 
 --     Object.prototype.isPrototypeOf.call(undefined, {});
-abbrev objects_s101 : Program (Unit {0})
-objects_s101 =
+abbrev is_prototype_of_2 : Program (Unit {0})
+is_prototype_of_2 =
     script false []
     (expression
     (call
@@ -278,15 +276,15 @@ objects_s101 =
     (name (codes "undefined") ∷ object [] ∷ []))
     ∷ [])
 
-objects_s101_holds : runs objects_s101
+is_prototype_of_2_holds : runs is_prototype_of_2
     (codes "uncaught TypeError: no property of undefined" ∷ codes "jlint: thrown steps=9" ∷ [])
     ≡ true
 unfolding computing.run
-objects_s101_holds = refl
+is_prototype_of_2_holds = refl
 
 --     var k = Object.keys([5, , 7]); print(k.length, k[0], k[1]);
-abbrev objects_s82 : Program (Unit {0})
-objects_s82 =
+abbrev keys_2 : Program (Unit {0})
+keys_2 =
     script false []
     (var
     (declarator (codes "k")
@@ -303,14 +301,14 @@ objects_s82 =
     ∷ []))
     ∷ [])
 
-objects_s82_holds : runs objects_s82 (codes "2 0 2" ∷ codes "jlint: normal steps=24" ∷ []) ≡ true
+keys_2_holds : runs keys_2 (codes "2 0 2" ∷ codes "jlint: normal steps=24" ∷ []) ≡ true
 unfolding computing.run
-objects_s82_holds = refl
+keys_2_holds = refl
 
 --     function f(a) { return arguments.propertyIsEnumerable("0"); } print(f(1), f(), Object.create({ z: 1
 --       }).propertyIsEnumerable("z"));
-abbrev objects_s105 : Program (Unit {0})
-objects_s105 =
+abbrev property_is_enumerable : Program (Unit {0})
+property_is_enumerable =
     script false
     (function_of 0 (Some (codes "f")) (codes "a" ∷ []) false []
     (return
@@ -334,14 +332,16 @@ objects_s105 =
     ∷ []))
     ∷ [])
 
-objects_s105_holds : runs objects_s105 (codes "true false false" ∷ codes "jlint: normal steps=32" ∷ []) ≡ true
+property_is_enumerable_holds : runs property_is_enumerable
+    (codes "true false false" ∷ codes "jlint: normal steps=32" ∷ [])
+    ≡ true
 unfolding computing.run
-objects_s105_holds = refl
+property_is_enumerable_holds = refl
 
 --     var k = { toString: function () { print("k"); return "a"; } }; try {
 --       Object.prototype.propertyIsEnumerable.call(undefined, k); } catch (e) { print(e); }
-abbrev objects_s104 : Program (Unit {0})
-objects_s104 =
+abbrev property_is_enumerable_2 : Program (Unit {0})
+property_is_enumerable_2 =
     script false []
     (var
     (declarator (codes "k")
@@ -370,8 +370,8 @@ objects_s104 =
     None
     ∷ [])
 
-objects_s104_holds : runs objects_s104
+property_is_enumerable_2_holds : runs property_is_enumerable_2
     (codes "k" ∷ codes "TypeError: no property of undefined" ∷ codes "jlint: normal steps=29" ∷ [])
     ≡ true
 unfolding computing.run
-objects_s104_holds = refl
+property_is_enumerable_2_holds = refl

@@ -10,8 +10,8 @@ use Rattle.jl_examples.proofs.Trees.{var, expression, init_var, for, return, thr
 
 --     String.prototype.charAt.call({ toString: function () { print("s"); return "xy"; } }, { valueOf: function () {
 --       print("p"); throw 1; } });
-abbrev strings_s19 : Program (Unit {0})
-strings_s19 =
+abbrev char_at : Program (Unit {0})
+char_at =
     script false []
     (expression
     (call
@@ -35,15 +35,15 @@ strings_s19 =
     ∷ []))
     ∷ [])
 
-strings_s19_holds : runs strings_s19
+char_at_holds : runs char_at
     (codes "s" ∷ codes "p" ∷ codes "uncaught 1" ∷ codes "jlint: thrown steps=29" ∷ [])
     ≡ true
 unfolding computing.run
-strings_s19_holds = refl
+char_at_holds = refl
 
 --     String.prototype.trim.call(null);
-abbrev strings_s76 : Program (Unit {0})
-strings_s76 =
+abbrev trim : Program (Unit {0})
+trim =
     script false []
     (expression
     (call
@@ -51,55 +51,55 @@ strings_s76 =
     (null ∷ []))
     ∷ [])
 
-strings_s76_holds : runs strings_s76
+trim_holds : runs trim
     (codes "uncaught TypeError: no property of null" ∷ codes "jlint: thrown steps=8" ∷ [])
     ≡ true
 unfolding computing.run
-strings_s76_holds = refl
+trim_holds = refl
 
 --     "".split();
-abbrev strings_s56 : Program (Unit {0})
-strings_s56 =
+abbrev split : Program (Unit {0})
+split =
     script false [] (expression (call (dot (string []) (codes "split")) []) ∷ [])
 
-strings_s56_holds : runs strings_s56 (codes "jlint: normal steps=5" ∷ []) ≡ true
+split_holds : runs split (codes "jlint: normal steps=5" ∷ []) ≡ true
 unfolding computing.run
-strings_s56_holds = refl
+split_holds = refl
 
 --     "".split("");
-abbrev strings_s57 : Program (Unit {0})
-strings_s57 =
+abbrev split_2 : Program (Unit {0})
+split_2 =
     script false [] (expression (call (dot (string []) (codes "split")) (string [] ∷ [])) ∷ [])
 
-strings_s57_holds : runs strings_s57 (codes "jlint: normal steps=5" ∷ []) ≡ true
+split_2_holds : runs split_2 (codes "jlint: normal steps=5" ∷ []) ≡ true
 unfolding computing.run
-strings_s57_holds = refl
+split_2_holds = refl
 
 --     "\u00c4".toLowerCase();
-abbrev strings_s68 : Program (Unit {0})
-strings_s68 =
+abbrev to_lower_case : Program (Unit {0})
+to_lower_case =
     script false [] (expression (call (dot (string (196 ∷ [])) (codes "toLowerCase")) []) ∷ [])
 
-strings_s68_holds : runs strings_s68
+to_lower_case_holds : runs to_lower_case
     (codes "jlint: fault Unsupported String.prototype.toLowerCase steps=4" ∷ [])
     ≡ true
 unfolding computing.run
-strings_s68_holds = refl
+to_lower_case_holds = refl
 
 --     "\u00e4".toUpperCase();
-abbrev strings_s72 : Program (Unit {0})
-strings_s72 =
+abbrev to_upper_case : Program (Unit {0})
+to_upper_case =
     script false [] (expression (call (dot (string (228 ∷ [])) (codes "toUpperCase")) []) ∷ [])
 
-strings_s72_holds : runs strings_s72
+to_upper_case_holds : runs to_upper_case
     (codes "jlint: fault Unsupported String.prototype.toUpperCase steps=4" ∷ [])
     ≡ true
 unfolding computing.run
-strings_s72_holds = refl
+to_upper_case_holds = refl
 
 --     String.prototype.charAt.call(null, 1);
-abbrev strings_s18 : Program (Unit {0})
-strings_s18 =
+abbrev string_calls : Program (Unit {0})
+string_calls =
     script false []
     (expression
     (call
@@ -107,15 +107,15 @@ strings_s18 =
     (null ∷ number 1 ∷ []))
     ∷ [])
 
-strings_s18_holds : runs strings_s18
+string_calls_holds : runs string_calls
     (codes "uncaught TypeError: no property of null" ∷ codes "jlint: thrown steps=9" ∷ [])
     ≡ true
 unfolding computing.run
-strings_s18_holds = refl
+string_calls_holds = refl
 
 --     String.prototype.substring.call(null);
-abbrev strings_s65 : Program (Unit {0})
-strings_s65 =
+abbrev substring : Program (Unit {0})
+substring =
     script false []
     (expression
     (call
@@ -123,15 +123,15 @@ strings_s65 =
     (null ∷ []))
     ∷ [])
 
-strings_s65_holds : runs strings_s65
+substring_holds : runs substring
     (codes "uncaught TypeError: no property of null" ∷ codes "jlint: thrown steps=8" ∷ [])
     ≡ true
 unfolding computing.run
-strings_s65_holds = refl
+substring_holds = refl
 
 --     String.prototype.lastIndexOf.call(null);
-abbrev strings_s36 : Program (Unit {0})
-strings_s36 =
+abbrev last_index_of : Program (Unit {0})
+last_index_of =
     script false []
     (expression
     (call
@@ -141,15 +141,15 @@ strings_s36 =
     (null ∷ []))
     ∷ [])
 
-strings_s36_holds : runs strings_s36
+last_index_of_holds : runs last_index_of
     (codes "uncaught TypeError: no property of null" ∷ codes "jlint: thrown steps=8" ∷ [])
     ≡ true
 unfolding computing.run
-strings_s36_holds = refl
+last_index_of_holds = refl
 
 --     String.prototype.toLowerCase.call(null);
-abbrev strings_s69 : Program (Unit {0})
-strings_s69 =
+abbrev call_calls : Program (Unit {0})
+call_calls =
     script false []
     (expression
     (call
@@ -159,15 +159,15 @@ strings_s69 =
     (null ∷ []))
     ∷ [])
 
-strings_s69_holds : runs strings_s69
+call_calls_holds : runs call_calls
     (codes "uncaught TypeError: no property of null" ∷ codes "jlint: thrown steps=8" ∷ [])
     ≡ true
 unfolding computing.run
-strings_s69_holds = refl
+call_calls_holds = refl
 
 --     String.prototype.slice.call(undefined, 1);
-abbrev strings_s49 : Program (Unit {0})
-strings_s49 =
+abbrev slice : Program (Unit {0})
+slice =
     script false []
     (expression
     (call
@@ -175,15 +175,15 @@ strings_s49 =
     (name (codes "undefined") ∷ number 1 ∷ []))
     ∷ [])
 
-strings_s49_holds : runs strings_s49
+slice_holds : runs slice
     (codes "uncaught TypeError: no property of undefined" ∷ codes "jlint: thrown steps=9" ∷ [])
     ≡ true
 unfolding computing.run
-strings_s49_holds = refl
+slice_holds = refl
 
 --     String.prototype.charCodeAt.call(undefined);
-abbrev strings_s23 : Program (Unit {0})
-strings_s23 =
+abbrev char_code_at : Program (Unit {0})
+char_code_at =
     script false []
     (expression
     (call
@@ -191,15 +191,15 @@ strings_s23 =
     (name (codes "undefined") ∷ []))
     ∷ [])
 
-strings_s23_holds : runs strings_s23
+char_code_at_holds : runs char_code_at
     (codes "uncaught TypeError: no property of undefined" ∷ codes "jlint: thrown steps=8" ∷ [])
     ≡ true
 unfolding computing.run
-strings_s23_holds = refl
+char_code_at_holds = refl
 
 --     String.prototype.toUpperCase.call(undefined);
-abbrev strings_s73 : Program (Unit {0})
-strings_s73 =
+abbrev to_upper_case_2 : Program (Unit {0})
+to_upper_case_2 =
     script false []
     (expression
     (call
@@ -209,15 +209,15 @@ strings_s73 =
     (name (codes "undefined") ∷ []))
     ∷ [])
 
-strings_s73_holds : runs strings_s73
+to_upper_case_2_holds : runs to_upper_case_2
     (codes "uncaught TypeError: no property of undefined" ∷ codes "jlint: thrown steps=8" ∷ [])
     ≡ true
 unfolding computing.run
-strings_s73_holds = refl
+to_upper_case_2_holds = refl
 
 --     print(String.fromCharCode(228, 8364, 55357, 56832, 55357));
-abbrev strings_s9 : Program (Unit {0})
-strings_s9 =
+abbrev from_char_code : Program (Unit {0})
+from_char_code =
     script false []
     (expression
     (call (name (codes "print"))
@@ -227,17 +227,17 @@ strings_s9 =
     ∷ []))
     ∷ [])
 
-strings_s9_holds : runs strings_s9
+from_char_code_holds : runs from_char_code
     ((195 ∷ 164 ∷ 226 ∷ 130 ∷ 172 ∷ 240 ∷ 159 ∷ 152 ∷ 128 ∷ 239 ∷ 191 ∷ 189 ∷ [])
     ∷ codes "jlint: normal steps=18"
     ∷ [])
     ≡ true
 unfolding computing.run
-strings_s9_holds = refl
+from_char_code_holds = refl
 
 --     var s = "ab"; for (var i = 0; i < 4; i++) s = s.concat(s); print(s, s.length);
-abbrev strings_s27 : Program (Unit {0})
-strings_s27 =
+abbrev concat : Program (Unit {0})
+concat =
     script false []
     (var (declarator (codes "s") (Some (string (codes "ab"))) ∷ [])
     ∷ for
@@ -252,15 +252,15 @@ strings_s27 =
     (call (name (codes "print")) (name (codes "s") ∷ dot (name (codes "s")) (codes "length") ∷ []))
     ∷ [])
 
-strings_s27_holds : runs strings_s27
+concat_holds : runs concat
     (codes "abababababababababababababababab 32" ∷ codes "jlint: normal steps=65" ∷ [])
     ≡ true
 unfolding computing.run
-strings_s27_holds = refl
+concat_holds = refl
 
 --     String.prototype.indexOf.call(undefined, { toString: function () { print("no"); } });
-abbrev strings_s32 : Program (Unit {0})
-strings_s32 =
+abbrev index_of : Program (Unit {0})
+index_of =
     script false []
     (expression
     (call
@@ -276,15 +276,15 @@ strings_s32 =
     ∷ []))
     ∷ [])
 
-strings_s32_holds : runs strings_s32
+index_of_holds : runs index_of
     (codes "uncaught TypeError: no property of undefined" ∷ codes "jlint: thrown steps=10" ∷ [])
     ≡ true
 unfolding computing.run
-strings_s32_holds = refl
+index_of_holds = refl
 
 --     print(String.prototype.charCodeAt.call(7, 0), String.prototype.charCodeAt.length, "ab".charCodeAt(true));
-abbrev strings_s22 : Program (Unit {0})
-strings_s22 =
+abbrev char_code_at_2 : Program (Unit {0})
+char_code_at_2 =
     script false []
     (expression
     (call (name (codes "print"))
@@ -300,13 +300,13 @@ strings_s22 =
     ∷ []))
     ∷ [])
 
-strings_s22_holds : runs strings_s22 (codes "55 1 98" ∷ codes "jlint: normal steps=23" ∷ []) ≡ true
+char_code_at_2_holds : runs char_code_at_2 (codes "55 1 98" ∷ codes "jlint: normal steps=23" ∷ []) ≡ true
 unfolding computing.run
-strings_s22_holds = refl
+char_code_at_2_holds = refl
 
 --     String.fromCharCode(1, { valueOf: function () { throw "x"; } }, { valueOf: function () { print("no"); } });
-abbrev strings_s8 : Program (Unit {0})
-strings_s8 =
+abbrev from_char_code_2 : Program (Unit {0})
+from_char_code_2 =
     script false []
     (expression
     (call
@@ -327,14 +327,14 @@ strings_s8 =
     ∷ []))
     ∷ [])
 
-strings_s8_holds : runs strings_s8 (codes "uncaught 'x'" ∷ codes "jlint: thrown steps=14" ∷ []) ≡ true
+from_char_code_2_holds : runs from_char_code_2 (codes "uncaught 'x'" ∷ codes "jlint: thrown steps=14" ∷ []) ≡ true
 unfolding computing.run
-strings_s8_holds = refl
+from_char_code_2_holds = refl
 
 --     print(String.prototype.trim.call(5) + 1, String.prototype.trim.call({ toString: function () { print("s");
 --       return " q "; } }) + "|");
-abbrev strings_s75 : Program (Unit {0})
-strings_s75 =
+abbrev to_string : Program (Unit {0})
+to_string =
     script false []
     (expression
     (call (name (codes "print"))
@@ -365,14 +365,14 @@ strings_s75 =
     ∷ []))
     ∷ [])
 
-strings_s75_holds : runs strings_s75 (codes "s" ∷ codes "51 q|" ∷ codes "jlint: normal steps=34" ∷ []) ≡ true
+to_string_holds : runs to_string (codes "s" ∷ codes "51 q|" ∷ codes "jlint: normal steps=34" ∷ []) ≡ true
 unfolding computing.run
-strings_s75_holds = refl
+to_string_holds = refl
 
 --     print(String.prototype.substring.call(12345, 1, 3), "abc".substring(9, 1), "abc".substring(1, null),
 --       String.prototype.substring.length, "abc".substring("2", "1"));
-abbrev strings_s64 : Program (Unit {0})
-strings_s64 =
+abbrev substring_2 : Program (Unit {0})
+substring_2 =
     script false []
     (expression
     (call (name (codes "print"))
@@ -392,6 +392,6 @@ strings_s64 =
     ∷ []))
     ∷ [])
 
-strings_s64_holds : runs strings_s64 (codes "23 bc a 2 b" ∷ codes "jlint: normal steps=37" ∷ []) ≡ true
+substring_2_holds : runs substring_2 (codes "23 bc a 2 b" ∷ codes "jlint: normal steps=37" ∷ []) ≡ true
 unfolding computing.run
-strings_s64_holds = refl
+substring_2_holds = refl
