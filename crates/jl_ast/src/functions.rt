@@ -39,7 +39,7 @@ impl<'a> Model for Found<'a> {
 
     ghost Value = { List Function };
 
-    ghost coded = { Prim.hlevel (codes, function.the_forest.coded) };
+    ghost coded = { Prim.hlevel (codes, function.the_row.coded) };
 
     ghost view = { λ it. map (λ f. f.now) it.functions.items };
 }

@@ -4,7 +4,8 @@ use Rattle.std.specs.Prelude.{nat_eq}
 use Rattle.jl_effects.specs.Effects.{Part, End, Fail, Step, Look, Change, Begin, Print, Perform, Emit, ◌>>=◌, job}
 use Rattle.jl_effects.specs.Effects.{Row, row}
 use Rattle.jl_effects.specs.Running.{Language, RunState, nothing_done, Ends, Fails, Over, Spent, run}
-use Rattle.jl_effects.specs.Running.{any, everything, keeping, quietly}
+use Rattle.jl_effects.specs.Running.{any, everything, keeping}
+use Rattle.jl_effects.specs.Traces.{quietly}
 use Rattle.jl_effects.specs.Matching.{Matches, ends, both, extra, told, silent, own, spare}
 use Rattle.jl_effects.specs.Matching.{JobsMatch, ArePaired, Simulates}
 use Rattle.jl_effects.proofs.Chains.{run_then_nothing}

@@ -5,7 +5,8 @@ use Rattle.std.specs.Prelude.{if◌then◌else◌}
 use Rattle.std.proofs.lemmas.List.Elements.{filter-append}
 use Rattle.jl_effects.specs.Effects.{Part, End, Fail, Step, Look, Change, Begin, Print, Perform, Emit, and_then}
 use Rattle.jl_effects.specs.Running.{Language, Recorded, RunState, with_store, with_line, with_operation, with_hook}
-use Rattle.jl_effects.specs.Running.{any, everything, keeping, quietly, keep_hooks, without_operations, with_state}
+use Rattle.jl_effects.specs.Running.{any, everything, keeping}
+use Rattle.jl_effects.specs.Traces.{quietly, keep_hooks, without_operations, with_state}
 use Rattle.jl_effects.specs.Running.{trace_with, has_room, Outcome, run_to, step, run}
 use Rattle.jl_effects.proofs.Growth.{both_ways}
 

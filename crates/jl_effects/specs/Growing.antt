@@ -6,10 +6,6 @@ use Rattle.jl_effects.specs.Running.{RunState, Outcome, Over, Spent, state_of}
 abbrev pub IsPrefix : {A : Type 0} → List A → List A → Type 0
 IsPrefix {A} a b = (more : List A) × (a ++ more ≡ b)
 
--- one of the stores that a T names
-abbrev pub IsOneOf : {T S : Type 0} → (stores : T → S) → S → Type 0
-IsOneOf {T} stores s = (t : T) × (stores t ≡ s)
-
 -- the second state has all that was printed, performed and emitted in the first
 pub record GoesOn {S O : Type 0} (v w : RunState S O) : Type 0 where
   pub output : IsPrefix v.output w.output

@@ -1,5 +1,5 @@
 -- The interpreter of trees of effects, and what it gives.
-use Rattle.std.specs.Prelude.{ℕ, zero, suc, ◌-◌, List, [], ◌∷◌, ◌++◌, Bool, true, false, length, filter, nat_le}
+use Rattle.std.specs.Prelude.{ℕ, zero, suc, ◌-◌, List, [], ◌∷◌, ◌++◌, Bool, true, length, nat_le}
 use Rattle.std.specs.Prelude.{if◌then◌else◌}
 use Rattle.jl_effects.specs.Effects.{Part, End, Fail, Step, Look, Change, Begin, Print, Perform, Emit, and_then}
 
@@ -20,9 +20,6 @@ pub record Recorded (O : Type 0) : Type 0 where
 abbrev pub any : {O : Type 0} → O → Bool
 any o = true
 
-abbrev pub none : {O : Type 0} → O → Bool
-none o = false
-
 -- all that the script performs, and of what hooks emit what is kept
 abbrev pub keeping : {O : Type 0} → (kept : O → Bool) → Recorded O
 keeping kept = record { performed = any; emitted = kept }
@@ -30,10 +27,6 @@ keeping kept = record { performed = any; emitted = kept }
 -- all
 abbrev pub everything : {O : Type 0} → Recorded O
 everything = keeping any
-
--- nothing that the script performs: what is seen of a run that is seen by its hooks alone
-abbrev pub quietly : {O : Type 0} → (kept : O → Bool) → Recorded O
-quietly kept = record { performed = none; emitted = kept }
 
 -- what a run has come to: the store, the bytes of its output, and the traces, of the operations that the script has
 -- performed and of those that hooks have emitted
@@ -127,16 +120,3 @@ abbrev pub outcome_then : {S F O A B : Type 0} → Outcome S F O A → (A → (l
 outcome_then (Over (Ends a) left w) k = k a left w
 outcome_then (Over (Fails f) left w) k = Over (Fails f) left w
 outcome_then (Spent w) k = Spent w
-
--- the same outcome, but for what is made of the state
-abbrev pub with_state : {S F O A : Type 0} → (RunState S O → RunState S O) → Outcome S F O A → Outcome S F O A
-with_state f (Over e left w) = Over e left (f w)
-with_state f (Spent w) = Spent (f w)
-
--- the state, where hooks have emitted the kept operations alone
-abbrev pub keep_hooks : {S O : Type 0} → (kept : O → Bool) → RunState S O → RunState S O
-keep_hooks kept w = record w { hooks = filter kept w.hooks }
-
--- the state, where the script has performed nothing
-abbrev pub without_operations : {S O : Type 0} → RunState S O → RunState S O
-without_operations w = record w { operations = [] }

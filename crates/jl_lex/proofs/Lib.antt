@@ -4,3 +4,4 @@ pub mod Powers
 pub mod AmountLemmas
 pub mod NumberLoops
 pub mod LexLoops
+pub mod Reading

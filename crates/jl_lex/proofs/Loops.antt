@@ -7,7 +7,7 @@ use Rattle.jl_lex.specs.declared.element.Stop.TheVariants as stops
 use Rattle.std.proofs.lemmas.List.{drop-drop, drop_more, drop_all, append-nil}
 use Rattle.std.specs.List.{list_any}
 use Rattle.jl_token.specs.Characters.{is_line_terminator, is_on_line, is_identifier_start, is_identifier_part, first_is}
-use Rattle.jl_token.specs.Elements.{Comment, Word, name_text, is_escaped}
+use Rattle.jl_token.specs.Elements.{BlockComment, Word, name_text, is_escaped}
 use Rattle.jl_token.specs.Scanner.{Outcome, found, bad, with_first, many, one_unit, before_close, block_end, strip, or_else, first_punctuator, name_escape, letter, name_done, name_from}
 use Rattle.jl_token.specs.Characters.{is_hex_digit, hex_digit_value, are_hex_digits, hex_number}
 use Rattle.jl_lex.specs.Parts.{hex_first, four_of, four_at, LetterFrom}
@@ -84,7 +84,7 @@ inside_more lines units i all u e h n =
     let m = close_more (drop i units) (drop (i + 1) units) u e (ap (λ b. b && first_is (λ v. v == 47) (drop (i + 1) units)) (sym (first_test u 42 (drop i units) (drop (i + 1) units) e)) ∙ h) in
     record { rest = sym (ap (λ (x : List ℕ × List ℕ). x.1) m) ∙ n.rest; holds = or_turned (is_line_terminator u) lines _ ∙ (ap (λ (x : List ℕ × List ℕ). lines || list_any is_line_terminator x.0) (sym m) ∙ n.holds) }
 
-block_found : (y : List ℕ × List ℕ) (lines : Bool) (u v : ℕ) (rest : List ℕ) → y.1 ≡ u ∷ v ∷ rest → lines ≡ list_any is_line_terminator y.0 → block_end y ≡ found (Comment lines) rest
+block_found : (y : List ℕ × List ℕ) (lines : Bool) (u v : ℕ) (rest : List ℕ) → y.1 ≡ u ∷ v ∷ rest → lines ≡ list_any is_line_terminator y.0 → block_end y ≡ found (BlockComment lines) rest
 unfolding block_end
 block_found (cs, all) lines u v rest e h = rw (e, sym h) refl
 
@@ -100,7 +100,7 @@ second : (mid : List ℕ) → first_is (λ v. v == 47) mid ≡ true → (v : ℕ
 second [] h = absurd cc
 second (v ∷ mid) h = (v, refl)
 
-pub inside_closed : (lines : Bool) (units : List ℕ) (i : ℕ) (all : List ℕ) (u : ℕ) → drop i units ≡ u ∷ drop (i + 1) units → (first_is (λ v. v == 42) (drop i units) && first_is (λ v. v == 47) (drop (i + 1) units)) ≡ true → Inside lines (drop i units) all → block_end (many before_close all) ≡ found (Comment lines) (drop (i + 2) units)
+pub inside_closed : (lines : Bool) (units : List ℕ) (i : ℕ) (all : List ℕ) (u : ℕ) → drop i units ≡ u ∷ drop (i + 1) units → (first_is (λ v. v == 42) (drop i units) && first_is (λ v. v == 47) (drop (i + 1) units)) ≡ true → Inside lines (drop i units) all → block_end (many before_close all) ≡ found (BlockComment lines) (drop (i + 2) units)
 inside_closed lines units i all u e h n =
     let s = second (drop (i + 1) units) (second_true (first_is (λ v. v == 42) (drop i units)) (first_is (λ v. v == 47) (drop (i + 1) units)) h) in
     let m = close_stop (drop i units) (drop (i + 1) units) u e (ap (λ b. b && first_is (λ v. v == 47) (drop (i + 1) units)) (sym (first_test u 42 (drop i units) (drop (i + 1) units) e)) ∙ h) in

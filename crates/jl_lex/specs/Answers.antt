@@ -1,6 +1,6 @@
 -- What a function of the lexer answers, in the words of the plain scanner. No public clause stands on it.
 use Rattle.std.specs.Prelude.{◌≡◌, ◌<◌, ◌≤◌, ℕ, List, drop, length, Result, Ok, Err}
-use Rattle.jl_token.specs.Elements.{Element, White, LineEnd, Comment, Word}
+use Rattle.jl_token.specs.Elements.{Element, White, LineEnd, LineComment, BlockComment, Word}
 use Rattle.jl_token.specs.Scanner.{Outcome, found, bad}
 use Rattle.jl_lex.specs.declared.element.Element.{Element as Read}
 use Rattle.jl_lex.specs.declared.element.Element.TheVariants as read
@@ -11,7 +11,8 @@ use Rattle.jl_lex.specs.declared.element.Stop.TheVariants as stops
 abbrev pub element_of : Read → Element
 element_of read.White = White
 element_of read.LineEnd = LineEnd
-element_of (read.Comment l) = Comment l
+element_of read.LineComment = LineComment
+element_of (read.BlockComment l) = BlockComment l
 element_of (read.Word k) = Word k
 
 -- an element and the place after it, or the fault, that the scanner finds

@@ -12,7 +12,7 @@ use crate::characters::{
     BACKSLASH, is_at, is_digit, is_digit_at, is_identifier_start, is_line_terminator, is_quote,
     is_white_space, line_terminator_end, unit_at,
 };
-use crate::comments::{block, line_end};
+use crate::comment_ends::{block, line_end};
 use crate::element::{Element, Stop};
 use crate::names::name;
 use crate::numbers::number;
@@ -22,7 +22,7 @@ use jl_text::{List, Span};
 use jl_token::{BadKind, Token, TokenKind};
 use std::alloc::{AllocError, AllocFailed, Global};
 
-/// Why there are no tokens.
+/// Why there are no tokens, and no list of comments.
 #[derive(Debug, Drop)]
 pub enum LexRefusal {
     /// The first input element that can't be formed begins at this unit, and this is why.
@@ -88,8 +88,13 @@ fn word_at(alloc: Global, units: &[u16], at: usize, unit: u16) -> Result<(Elemen
     }
 }
 
-// The input element whose first unit stands at a place.
-fn element_at(alloc: Global, units: &[u16], at: usize, unit: u16) -> Result<(Element, usize), Stop>
+/// The input element whose first unit stands at a place, and the place after it.
+pub(crate) fn element_at(
+    alloc: Global,
+    units: &[u16],
+    at: usize,
+    unit: u16,
+) -> Result<(Element, usize), Stop>
     requires unit { drop at units.now ≡ unit ∷ drop (at + 1) units.now }
     requires within { at < length units.now }
     requires short { length units.now < 2 ^ 32 }
@@ -102,11 +107,11 @@ fn element_at(alloc: Global, units: &[u16], at: usize, unit: u16) -> Result<(Ele
         return Ok((Element::LineEnd, line_terminator_end(units, at + 1, unit)));
     }
     if are_units(units, at + 1, unit, 47, 47) {
-        return Ok((Element::Comment(false), line_end(units, at + 2)));
+        return Ok((Element::LineComment, line_end(units, at + 2)));
     }
     if are_units(units, at + 1, unit, 47, 42) {
         return match block(units, at + 2) {
-            Some((lines, end)) => Ok((Element::Comment(lines), end)),
+            Some((lines, end)) => Ok((Element::BlockComment(lines), end)),
             None => Err(Stop::Bad(BadKind::UnclosedComment)),
         };
     }
@@ -128,9 +133,9 @@ fn add(
         → tokens.new ++ tokens_among l ps ≡ tokens.old ++ tokens_among line (piece (element_of element) from to ∷ ps)) }
 {
     match element {
-        Element::White => Ok(line),
+        Element::White | Element::LineComment => Ok(line),
         Element::LineEnd => Ok(true),
-        Element::Comment(lines) => Ok(line || lines),
+        Element::BlockComment(lines) => Ok(line || lines),
         Element::Word(kind) => {
             let span = Span {
                 from: from as u32,
@@ -146,7 +151,8 @@ fn add(
     }
 }
 
-fn refusal(stop: Stop, at: usize) -> LexRefusal
+/// The refusal for an element that begins at a place.
+pub(crate) fn refusal(stop: Stop, at: usize) -> LexRefusal
     requires { at < 2 ^ 32 }
     ensures { result ≡ refusal_at stop at }
 {

@@ -1,8 +1,9 @@
-//! The lexer (clause 7): the tokens of a text, or its first input element that can't be formed.
+//! The lexer (clause 7): the tokens or the comments of a text, or its first input element that can't be formed.
 #![tactic(auto)]
 
 mod characters;
-mod comments;
+mod comment_ends;
+mod comment_list;
 mod element;
 mod lexer;
 mod names;
@@ -11,7 +12,6 @@ mod punctuators;
 mod strings;
 
 pub use characters::{is_digit, is_hex_digit, is_line_terminator, is_white_space};
+pub use comment_list::comments;
+pub use jl_token::Comment;
 pub use lexer::{LexRefusal, lex};
-
-#[cfg(test)]
-mod tests;

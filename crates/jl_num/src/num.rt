@@ -4,6 +4,7 @@ ghost use Rattle.jl_num.specs.Number.{IsNumber};
 ghost use Rattle.jl_num.specs.Arithmetic.{number_of};
 
 use std::marker::Model;
+use thiserror::Error;
 
 /// The largest number: 2^53 - 1.
 pub const LARGEST: i64 = 9_007_199_254_740_991;
@@ -30,7 +31,8 @@ impl Model for Num {
 }
 
 /// The exact result is no number of a script.
-#[derive(Clone, Copy, PartialEq, Eq, Debug)]
+#[derive(Clone, Copy, PartialEq, Eq, Debug, Error)]
+#[error("the result is neither NaN nor a whole number of at most 2^53 - 1 in size")]
 pub struct NumberOutside;
 
 impl Num {

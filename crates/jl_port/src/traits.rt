@@ -2,8 +2,11 @@ ghost use Rattle.std.specs.Prelude.{◌≡◌, ℕ, ◌+◌, ◌<◌, ◌≤◌,
 ghost use Rattle.jl_port.specs.Bytes.{Takes, Grows, IsAtEnd};
 ghost use Rattle.jl_port.specs.Count.{HasRisen};
 
+use thiserror::Error;
+
 /// A read or a write that failed. The count of faults of its source or sink has risen.
-#[derive(Clone, Copy, PartialEq, Eq, Debug)]
+#[derive(Clone, Copy, PartialEq, Eq, Debug, Error)]
+#[error("a read or a write failed")]
 pub struct Failed;
 
 /// What bytes are read from.

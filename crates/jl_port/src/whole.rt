@@ -5,18 +5,22 @@ ghost use Rattle.jl_port.specs.Count.{HasRisen};
 
 use super::traits::{Failed, Sink, Source};
 use std::alloc::{AllocError, AllocFailed, Global};
+use thiserror::Error;
 
 /// How many bytes one read of `read_all` asks for, at most.
 const CHUNK: usize = 4096;
 
 /// Why not all bytes of a source were given.
-#[derive(Clone, Copy, PartialEq, Eq, Debug)]
+#[derive(Clone, Copy, PartialEq, Eq, Debug, Error)]
 pub enum ReadRefusal {
     /// There are more bytes than the limit.
+    #[error("more bytes than the limit")]
     TooLong,
     /// A read failed.
+    #[error("a read failed")]
     ReadFault,
     /// No memory was left.
+    #[error("out of memory")]
     NoMemory,
 }
 
@@ -45,7 +49,8 @@ impl<T: Drop> From<AllocFailed<T>> for ReadRefusal {
 }
 
 /// A write failed after this many of the bytes were written.
-#[derive(Clone, Copy, PartialEq, Eq, Debug)]
+#[derive(Clone, Copy, PartialEq, Eq, Debug, Error)]
+#[error("a write failed after {written} bytes")]
 pub struct WriteFault {
     pub written: usize,
 }
@@ -53,8 +58,8 @@ pub struct WriteFault {
 /// All bytes of the source up to the end of its input, if there are at most `limit`.
 ///
 /// It is `TooLong` where `limit` + 1 bytes were read, and `ReadFault` only where a fault of the source
-/// came in this call. A read asks for 4,096 bytes, or for as many as `limit` + 1 still lacks where
-/// these are fewer, and there are at most `limit` + 1 reads. Whatever the answer, the source has lost
+/// came in this call and at most `limit` bytes were read before. A read asks for 4,096 bytes, or for
+/// as many as `limit` + 1 still lacks where these are fewer, and there are at most `limit` + 1 reads. Whatever the answer, the source has lost
 /// what was read from it.
 pub fn read_all<S: Source>(
     alloc: Global,
@@ -70,6 +75,8 @@ pub fn read_all<S: Source>(
         → TakesCount (S.left source.old) (S.left source.new) (limit + 1) }
     ensures fault { IsErrOf result ReadRefusal.ReadFault
         → HasRisen (S.faults source.old) (S.faults source.new) }
+    ensures fault_within { IsErrOf result ReadRefusal.ReadFault
+        → TakesAtMost (S.left source.old) (S.left source.new) limit }
 
     // Where the source tells its bytes, they are what it held, or it held too many.
     ensures told { IfOk result (λ bytes. IfSome (S.left source.old) (λ held. bytes.items ≡ held)) }

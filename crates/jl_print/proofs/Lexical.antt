@@ -10,7 +10,7 @@ use Rattle.jl_num.specs.Digits.{digits_within, number_text}
 use Rattle.jl_num.proofs.Places.{one_digit, more_digits, last_digit}
 use Rattle.jl_ast.specs.Tree.{Text}
 use Rattle.jl_num.specs.Number.{Number}
-use Rattle.jl_token.specs.Elements.{Element, White, LineEnd, Comment, Word, Many, no_more, one_more, Letter, itself}
+use Rattle.jl_token.specs.Elements.{Element, White, LineEnd, LineComment, BlockComment, Word, Many, no_more, one_more, Letter, itself}
 use Rattle.jl_token.specs.Elements.{escaped, Name, name, Front}
 use Rattle.jl_token.specs.Elements.{identifier_name, punctuator, numeric_literal}
 use Rattle.jl_token.specs.Elements.{string_literal, name_text}
@@ -70,7 +70,8 @@ among_lexical : (text : List ℕ) (line : Bool) {us rest : List ℕ} (ps : List 
 among_lexical text line [] h = tt
 among_lexical text line (piece White i j ∷ ps) (one_more a b) = among_lexical text line ps b
 among_lexical text line (piece LineEnd i j ∷ ps) (one_more a b) = among_lexical text true ps b
-among_lexical text line (piece (Comment l) i j ∷ ps) (one_more a b) = among_lexical text _ ps b
+among_lexical text line (piece LineComment i j ∷ ps) (one_more a b) = among_lexical text line ps b
+among_lexical text line (piece (BlockComment l) i j ∷ ps) (one_more a b) = among_lexical text _ ps b
 among_lexical text line (piece (Word k) i j ∷ ps) (one_more a b) =
     (front_lexical (formed a), among_lexical text false ps b)
 

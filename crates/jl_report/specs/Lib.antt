@@ -1,3 +1,4 @@
 pub mod Collected
+pub mod Off
 pub mod Reports
 pub mod Texts

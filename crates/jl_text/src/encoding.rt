@@ -7,13 +7,16 @@ ghost use Rattle.jl_text.specs.Encoding.{units_of, bytes_of, IsNotUtf8At};
 
 use std::alloc::{AllocError, AllocFailed, Global};
 use std::str;
+use thiserror::Error;
 
 /// Why bytes gave no units.
-#[derive(Debug, Drop)]
+#[derive(Debug, Drop, Error)]
 pub enum Utf8Fault {
     /// The bytes are not UTF-8: the longest prefix of them that is has this many bytes.
+    #[error("not UTF-8 at byte {at}")]
     NotUtf8 { at: usize },
     /// No memory was left.
+    #[error("out of memory")]
     NoMemory,
 }
 

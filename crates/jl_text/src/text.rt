@@ -9,6 +9,7 @@ use std::alloc::{AllocError, AllocFailed, Global};
 use std::cmp::Ordering;
 use std::marker::Model;
 use std::rc::Rc;
+use thiserror::Error;
 
 /// The greatest number of UTF-16 units in a `Text`.
 pub const MOST_UNITS: usize = 1_048_576;
@@ -30,11 +31,13 @@ impl Model for Text {
 }
 
 /// Why no text was made.
-#[derive(Debug, Drop)]
+#[derive(Debug, Drop, Error)]
 pub enum TextFault {
     /// The text would have more than `MOST_UNITS` units.
+    #[error("a text of more than 1,048,576 units")]
     TooLong,
     /// No memory was left.
+    #[error("out of memory")]
     NoMemory,
 }
 

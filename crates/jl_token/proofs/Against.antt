@@ -4,7 +4,7 @@ use Rattle.std.proofs.lemmas.Bool.{le-leb}
 use Rattle.std.specs.List.{list_any}
 use Rattle.jl_token.specs.Characters.{is_white_space, is_line_terminator, is_on_line, is_identifier_start, is_identifier_part, is_digit, is_quote, first_is}
 use Rattle.jl_token.specs.Punctuators.{punctuator_units, all_punctuators}
-use Rattle.jl_token.specs.Elements.{Element, LineEnd, Comment, Word, Many, OneUnit, Letter, Name, name, BeforeClose, Numeral, HasValue, Character, StringLiteral, string, name_text, is_escaped, string_text, is_plain, Front, white_space, line_terminator, carriage_return_line_feed, line_comment, block_comment, identifier_name, punctuator, numeric_literal, string_literal}
+use Rattle.jl_token.specs.Elements.{Element, LineEnd, LineComment, BlockComment, Word, Many, OneUnit, Letter, Name, name, BeforeClose, Numeral, HasValue, Character, StringLiteral, string, name_text, is_escaped, string_text, is_plain, Front, white_space, line_terminator, carriage_return_line_feed, line_comment, block_comment, identifier_name, punctuator, numeric_literal, string_literal}
 use Rattle.jl_token.specs.Scanner.{Outcome, found, bad, many, one_unit, letter, name_from, name_done, name_end, before_close, block_end, numeral, number_end, number_of, value_of, is_some_of, after_fraction, after_line_feed, string_done, string_stop, character, first_punctuator, punctuator_found, after_first, scan_word, scan}
 use Rattle.jl_token.specs.declared.token.TokenKind.TheVariants as kinds
 use Rattle.jl_token.specs.declared.token.BadKind.{BadKind}
@@ -42,10 +42,10 @@ pub close_stops : (us : List ℕ) → before_close (42 ∷ 47 ∷ us) ≡ None
 unfolding before_close
 close_stops us = refl
 
-line_comment_covers : {us cs rest : List ℕ} → Many (OneUnit is_on_line) us cs rest → Covers (scan (47 ∷ 47 ∷ us)) (Comment false) rest
+line_comment_covers : {us cs rest : List ℕ} → Many (OneUnit is_on_line) us cs rest → Covers (scan (47 ∷ 47 ∷ us)) LineComment rest
 line_comment_covers {us} m = rw (scan_line_comment us) (elim (against is_on_line m) [ longer h l ↦ a_longer l | same e ↦ rw e the_same ])
 
-block_covers : {us cs rest : List ℕ} → Many BeforeClose us cs (42 ∷ 47 ∷ rest) → Covers (scan (47 ∷ 42 ∷ us)) (Comment (list_any is_line_terminator cs)) rest
+block_covers : {us cs rest : List ℕ} → Many BeforeClose us cs (42 ∷ 47 ∷ rest) → Covers (scan (47 ∷ 42 ∷ us)) (BlockComment (list_any is_line_terminator cs)) rest
 unfolding block_end
 block_covers {us} {cs} {rest} m = rw (scan_block_comment us, many_whole BeforeClose before_close reads_before_close m (close_stops rest)) the_same
 

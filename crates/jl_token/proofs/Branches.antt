@@ -1,7 +1,7 @@
 -- Which branch of the scanner an element takes.
-use Rattle.std.proofs.Common.{◌≡◌, refl, sym, subst, ℕ, ◌⊎◌, inl, inr, Bool, true, false, ◌&&◌, ◌==◌, List, [], ◌∷◌, if◌then◌else◌}
+use Rattle.std.proofs.Common.{◌≡◌, refl, sym, subst, ℕ, ◌⊎◌, inl, inr, Bool, true, ◌&&◌, ◌==◌, List, [], ◌∷◌, if◌then◌else◌}
 use Rattle.jl_token.specs.Characters.{is_white_space, is_line_terminator, is_on_line, is_identifier_start, is_digit, is_quote, first_is}
-use Rattle.jl_token.specs.Elements.{White, LineEnd, Comment, Letter, itself, escaped}
+use Rattle.jl_token.specs.Elements.{White, LineEnd, LineComment, Letter, itself, escaped}
 use Rattle.jl_token.specs.Scanner.{found, many, one_unit, letter, name_from, before_close, block_end, number_end, after_line_feed, string_end, character, scan_word, scan}
 use Rattle.jl_token.proofs.Tests.{or_cases, and_true, is_unit}
 use Rattle.jl_token.proofs.Units.{units, starts, lines, quotes, digits}
@@ -15,7 +15,7 @@ pub scan_line : (u : ℕ) (us : List ℕ) → is_line_terminator u ≡ true → 
 unfolding scan scan_word
 scan_line u us h = rw ((lines u h).white, h) refl
 
-pub scan_line_comment : (us : List ℕ) → scan (47 ∷ 47 ∷ us) ≡ found (Comment false) (many (one_unit is_on_line) us).1
+pub scan_line_comment : (us : List ℕ) → scan (47 ∷ 47 ∷ us) ≡ found LineComment (many (one_unit is_on_line) us).1
 unfolding scan scan_word units
 scan_line_comment us = refl
 

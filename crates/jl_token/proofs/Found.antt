@@ -4,7 +4,7 @@ use Rattle.std.proofs.lemmas.Bool.{leb-true, le-leb}
 use Rattle.std.proofs.lemmas.Bool.Decides.{nat_tests}
 use Rattle.jl_token.specs.Characters.{is_white_space, is_line_terminator, is_on_line, is_identifier_start, is_identifier_part, is_digit, is_quote, first_is}
 use Rattle.jl_token.specs.Punctuators.{punctuator_units, all_punctuators}
-use Rattle.jl_token.specs.Elements.{Element, LineEnd, Comment, Many, Letter, itself, escaped, Name, name, BeforeClose, Character, string, name_text, string_text, is_plain, Front, white_space, line_terminator, carriage_return_line_feed, line_comment, block_comment, identifier_name, punctuator, numeric_literal, string_literal}
+use Rattle.jl_token.specs.Elements.{Element, LineEnd, LineComment, Many, Letter, itself, escaped, Name, name, BeforeClose, Character, string, name_text, string_text, is_plain, Front, white_space, line_terminator, carriage_return_line_feed, line_comment, block_comment, identifier_name, punctuator, numeric_literal, string_literal}
 use Rattle.jl_token.specs.Faults.{at_end, at_last_backslash, at_line_terminator, LongestNumeral, Fault, unclosed_string, unclosed_comment, string_escape, name_escape, first_escape, digit_follows, name_follows, no_number, long_name, long_string, no_element}
 use Rattle.jl_token.specs.Scanner.{Outcome, found, bad, many, one_unit, letter, name_from, name_done, name_end, before_close, block_end, numeral, number_end, number_of, value_of, is_some_of, after_line_feed, string_done, string_end, string_stop, character, first_punctuator, punctuator_found, after_first, scan_word, scan}
 use Rattle.jl_token.specs.declared.token.BadKind.{BadKind}
@@ -42,11 +42,11 @@ line_right u us h = choose (λ x. Right (u ∷ us) (found LineEnd x)) (u == 13) 
     (λ e. right_element (line_terminator h))
 
 -- comments
-line_comment_right : (u : ℕ) (us : List ℕ) → (u == 47 && first_is (λ v. v == 47) us) ≡ true → Right (u ∷ us) (found (Comment false) (many (one_unit is_on_line) (after_first us)).1)
+line_comment_right : (u : ℕ) (us : List ℕ) → (u == 47 && first_is (λ v. v == 47) us) ≡ true → Right (u ∷ us) (found LineComment (many (one_unit is_on_line) (after_first us)).1)
 line_comment_right u [] h = absurd (never_both (first_is (λ v. v == 47) []) (and_true (u == 47) false h).1 refl)
 line_comment_right u (v ∷ us) h = let a = and_true (u == 47) (v == 47) h in
-    subst (λ x. Right (x ∷ v ∷ us) (found (Comment false) (many (one_unit is_on_line) us).1)) (sym (is_unit u 47 a.0))
-    (subst (λ x. Right (47 ∷ x ∷ us) (found (Comment false) (many (one_unit is_on_line) us).1)) (sym (is_unit v 47 a.1))
+    subst (λ x. Right (x ∷ v ∷ us) (found LineComment (many (one_unit is_on_line) us).1)) (sym (is_unit u 47 a.0))
+    (subst (λ x. Right (47 ∷ x ∷ us) (found LineComment (many (one_unit is_on_line) us).1)) (sym (is_unit v 47 a.1))
     (right_element (line_comment (units_row is_on_line us))))
 
 pub close_here : (u v : ℕ) (rest : List ℕ) → before_close (u ∷ v ∷ rest) ≡ None → (u ≡ 42) × (v ≡ 47)

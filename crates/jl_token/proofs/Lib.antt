@@ -11,4 +11,5 @@ pub mod Found
 pub mod Against
 pub mod Blamed
 pub mod Whole
+pub mod CommentLaws
 pub mod Examples

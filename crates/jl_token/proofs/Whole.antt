@@ -2,7 +2,7 @@
 use Rattle.std.proofs.Common.{◌≡◌, refl, sym, ap, ◌∙◌, subst, ℕ, ◌+◌, ◌<◌, ◌≤◌, ◌⊎◌, inl, inr, Bool, true, false, ◌||◌, List, [], ◌∷◌, length, Some, None, arith, length-append}
 use Rattle.jl_token.specs.Characters.{is_digit, is_hex_digit, is_on_line}
 use Rattle.jl_token.specs.Punctuators.{punctuator_units}
-use Rattle.jl_token.specs.Elements.{Element, White, LineEnd, Comment, Word, Many, no_more, one_more, OneUnit, Name, name, Digits, digits, WholeDigits, zero_digit, nonzero, Exponent, no_exponent, no_sign, plus, minus, Numeral, whole, with_point, from_point, hex, StringLiteral, string, Front, white_space, line_terminator, carriage_return_line_feed, line_comment, block_comment, identifier_name, punctuator, numeric_literal, string_literal}
+use Rattle.jl_token.specs.Elements.{Element, White, LineEnd, LineComment, BlockComment, Word, Many, no_more, one_more, OneUnit, Name, name, Digits, digits, WholeDigits, zero_digit, nonzero, Exponent, no_exponent, no_sign, plus, minus, Numeral, whole, with_point, from_point, hex, StringLiteral, string, Front, white_space, line_terminator, carriage_return_line_feed, line_comment, block_comment, identifier_name, punctuator, numeric_literal, string_literal}
 use Rattle.jl_token.specs.Faults.{Fault, unclosed_string, unclosed_comment, string_escape, name_escape, first_escape, digit_follows, name_follows, no_number, long_name, long_string, no_element}
 use Rattle.jl_token.specs.Tokens.{Begins, Piece, piece, place, OnePiece, one_piece, tokens_among, Tokens, BadAt, InOrder, TokensAreUnique, BadPlaceIsUnique, TokensOrBad, NeverBoth, SpansAreInOrder, FewTokens}
 use Rattle.jl_token.specs.Scanner.{Outcome, found, bad, many, scan_word, scan, piece_found, next_piece}
@@ -54,7 +54,7 @@ nonempty p [] e = let h = subst (λ w. goes_well w ≡ true) e (each_goes_well p
   absurd_by h = cc
 nonempty p (w ∷ ws) e = omega arith
 
-front_shorter : {us rest : List ℕ} {e : Element} → Front us e rest → length rest < length us
+pub front_shorter : {us rest : List ℕ} {e : Element} → Front us e rest → length rest < length us
 front_shorter (white_space h) = omega arith
 front_shorter (line_terminator h) = omega arith
 front_shorter carriage_return_line_feed = omega arith
@@ -158,13 +158,16 @@ no_fault_at_end {us} q (long_string {rest = rest} s h) = empty_end us rest (stri
 no_fault_at_end q (no_element f) = cc
 
 -- the laws
+pub pieces_found : {text : List ℕ} {ps : List Piece} → Many (OnePiece text) text ps [] → many (next_piece text) text ≡ (ps, [])
+pieces_found {text} splits = many_whole (OnePiece text) (next_piece text) (reads_piece text) splits (nothing_at_end (OnePiece text) (next_piece text) (reads_piece text))
+
 tokens_found : {text : List ℕ} {ts : List Token} (t : Tokens text ts) → many (next_piece text) text ≡ (t.pieces, [])
-tokens_found {text} t = many_whole (OnePiece text) (next_piece text) (reads_piece text) t.splits (nothing_at_end (OnePiece text) (next_piece text) (reads_piece text))
+tokens_found t = pieces_found t.splits
 
 bad_found : {text : List ℕ} {i : ℕ} {k : BadKind} (b : BadAt text i k) → many (next_piece text) text ≡ (b.pieces, b.left)
 bad_found {text} {i} {k} b = many_whole (OnePiece text) (next_piece text) (reads_piece text) b.splits (fault_stops text b.left k b.fault)
 
-same_first : {A B : Type 0} {a b : A} {x y : B} → ◌≡◌ {A = A × B} (a, x) (b, y) → a ≡ b
+pub same_first : {A B : Type 0} {a b : A} {x y : B} → ◌≡◌ {A = A × B} (a, x) (b, y) → a ≡ b
 same_first {A} {B} e = ap (λ (z : A × B). z.0) e
 
 same_second : {A B : Type 0} {a b : A} {x y : B} → ◌≡◌ {A = A × B} (a, x) (b, y) → x ≡ y
@@ -184,8 +187,11 @@ pub never_both : NeverBoth
 never_both text ts i k t b = no_fault_at_end (same_second (sym (bad_found b) ∙ tokens_found t)) b.fault
 
 -- a text by what is left where the pieces end
+pub split_whole : (text : List ℕ) (x : List Piece × List ℕ) → Found (OnePiece text) (next_piece text) (reads_piece text) text x → x.1 ≡ [] → Many (OnePiece text) text x.0 []
+split_whole text (ps, left) f e = subst (λ w. Many (OnePiece text) text ps w) e f.row
+
 pub ended : (text : List ℕ) (x : List Piece × List ℕ) → Found (OnePiece text) (next_piece text) (reads_piece text) text x → x.1 ≡ [] → Tokens text (tokens_among false x.0)
-ended text (ps, left) f e = record { pieces = ps; splits = subst (λ w. Many (OnePiece text) text ps w) e f.row; are = refl }
+ended text x f e = record { pieces = x.0; splits = split_whole text x f e; are = refl }
 
 pub stopped : (text : List ℕ) (ps : List Piece) (left : List ℕ) (k : BadKind) → Many (OnePiece text) text ps left → Fault left k → BadAt text (place text left) k
 stopped text ps left k m f = record { pieces = ps; left = left; splits = m; there = refl; fault = f }
@@ -210,7 +216,8 @@ in_order : (text us rest : List ℕ) (ps : List Piece) (line : Bool) (i : ℕ) �
 in_order text us rest ps line i no_more h g = omega arith
 in_order text us rest ps line i (one_more {mid} {xs} (one_piece {e = White} b) m) h g = let s = front_shorter b.formed in in_order text mid rest xs line i m (omega arith) (omega arith)
 in_order text us rest ps line i (one_more {mid} {xs} (one_piece {e = LineEnd} b) m) h g = let s = front_shorter b.formed in in_order text mid rest xs true i m (omega arith) (omega arith)
-in_order text us rest ps line i (one_more {mid} {xs} (one_piece {e = Comment l} b) m) h g = let s = front_shorter b.formed in in_order text mid rest xs (line || l) i m (omega arith) (omega arith)
+in_order text us rest ps line i (one_more {mid} {xs} (one_piece {e = LineComment} b) m) h g = let s = front_shorter b.formed in in_order text mid rest xs line i m (omega arith) (omega arith)
+in_order text us rest ps line i (one_more {mid} {xs} (one_piece {e = BlockComment l} b) m) h g = let s = front_shorter b.formed in in_order text mid rest xs (line || l) i m (omega arith) (omega arith)
 in_order text us rest ps line i (one_more {mid} {xs} (one_piece {e = Word k} b) m) h g = let s = front_shorter b.formed in (g, omega arith, in_order text mid rest xs false (place text mid) m (omega arith) (omega arith))
 
 pub spans_are_in_order : SpansAreInOrder

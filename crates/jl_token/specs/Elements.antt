@@ -108,12 +108,13 @@ string_text cs = flat_map (λ c. c.0) cs
 abbrev pub is_plain : List (List ℕ × Bool) → Bool
 is_plain cs = list_all (λ c. c.1) cs
 
--- An input element (7, without the regular expressions of 7.8.5): a comment by whether it holds a line terminator, a
--- token by its kind.
+-- An input element (7, without the regular expressions of 7.8.5): a comment that goes to the end of its line, one
+-- between `/*` and `*/` by whether it holds a line terminator, a token by its kind.
 pub data Element : Type 0 where
   White : Element
   LineEnd : Element
-  Comment : Bool → Element
+  LineComment : Element
+  BlockComment : Bool → Element
   Word : TokenKind → Element
 
 -- The units begin with an input element.
@@ -122,9 +123,9 @@ pub data Front : List ℕ → Element → List ℕ → Type 0 where
   line_terminator : {u : ℕ} {us : List ℕ} → is_line_terminator u ≡ true → Front (u ∷ us) LineEnd us
   carriage_return_line_feed : {us : List ℕ} → Front (13 ∷ 10 ∷ us) LineEnd us
   line_comment : {us cs rest : List ℕ} → Many (OneUnit is_on_line) us cs rest →
-      Front (47 ∷ 47 ∷ us) (Comment false) rest
+      Front (47 ∷ 47 ∷ us) LineComment rest
   block_comment : {us cs rest : List ℕ} → Many BeforeClose us cs (42 ∷ 47 ∷ rest) →
-      Front (47 ∷ 42 ∷ us) (Comment (list_any is_line_terminator cs)) rest
+      Front (47 ∷ 42 ∷ us) (BlockComment (list_any is_line_terminator cs)) rest
   identifier_name : {us rest : List ℕ} {xs : List (ℕ × Bool)} → Name us xs rest → length (name_text xs) ≤ 1048576 →
       Front us (Word (kinds.Name (name_text xs) (is_escaped xs))) rest
   punctuator : {us rest : List ℕ} (p : Punct) → us ≡ punctuator_units p ++ rest → Front us (Word (kinds.Punct p)) rest

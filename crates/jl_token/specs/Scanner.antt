@@ -4,7 +4,7 @@ use Rattle.std.specs.Prelude.{ℕ, zero, suc, ◌+◌, ◌*◌, ◌/◌, ◌%◌
 use Rattle.std.specs.List.{list_any}
 use Rattle.jl_token.specs.Characters.{is_white_space, is_line_terminator, is_on_line, is_identifier_start, is_identifier_part, is_digit, is_hex_digit, decimal_from, hex_from, are_hex_digits, hex_number, is_quote, single_escape, first_is}
 use Rattle.jl_token.specs.Punctuators.{punctuator_units, all_punctuators}
-use Rattle.jl_token.specs.Elements.{Element, White, LineEnd, Comment, Word, name_text, is_escaped, string_text, is_plain}
+use Rattle.jl_token.specs.Elements.{Element, White, LineEnd, LineComment, BlockComment, Word, name_text, is_escaped, string_text, is_plain}
 use Rattle.jl_token.specs.Tokens.{Piece, piece, place}
 use Rattle.jl_token.specs.declared.punct.Punct.{Punct}
 use Rattle.jl_token.specs.declared.token.TokenKind.TheVariants as kinds
@@ -66,7 +66,7 @@ before_close [] = None
 before_close (u ∷ us) = if u == 42 && first_is (λ v. v == 47) us then None else Some (u, us)
 
 unfoldable pub block_end : List ℕ × List ℕ → Outcome
-block_end (cs, (u ∷ v ∷ rest)) = found (Comment (list_any is_line_terminator cs)) rest
+block_end (cs, (u ∷ v ∷ rest)) = found (BlockComment (list_any is_line_terminator cs)) rest
 block_end (cs, _) = bad faults.UnclosedComment
 
 -- numbers
@@ -234,7 +234,7 @@ scan [] = bad faults.BadCharacter
 scan (u ∷ us) =
     if is_white_space u then found White us else
     (if is_line_terminator u then found LineEnd (if u == 13 then after_line_feed us else us) else
-    (if u == 47 && first_is (λ v. v == 47) us then found (Comment false) (many (one_unit is_on_line) (after_first us)).1 else
+    (if u == 47 && first_is (λ v. v == 47) us then found LineComment (many (one_unit is_on_line) (after_first us)).1 else
     (if u == 47 && first_is (λ v. v == 42) us then block_end (many before_close (after_first us)) else
     scan_word u us)))
 

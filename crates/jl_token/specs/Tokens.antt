@@ -1,9 +1,10 @@
--- The tokens of a text (clause 7): the text is split into input elements, each the longest that can be formed at its
--- place; the tokens are those that are neither white space, line terminator nor comment.
-use Rattle.std.specs.Prelude.{◌≡◌, ◌<◌, ◌≤◌, ℕ, ◌-◌, Bool, true, false, ◌||◌, ◌⊎◌, List, [], ◌∷◌, length}
-use Rattle.jl_token.specs.Elements.{Element, White, LineEnd, Comment, Word, Front, Many}
+-- The tokens and the comments of a text (clause 7): the text is split into input elements, each the longest that can be
+-- formed at its place; the tokens are those that are neither white space, line terminator nor comment.
+use Rattle.std.specs.Prelude.{◌≡◌, ◌<◌, ◌≤◌, ◌↔◌, ℕ, ◌+◌, ◌-◌, Bool, true, false, ◌||◌, ◌⊎◌, List, [], ◌∷◌, length}
+use Rattle.jl_token.specs.Elements.{Element, White, LineEnd, LineComment, BlockComment, Word, Front, Many}
 use Rattle.jl_token.specs.Faults.{Fault}
 use Rattle.jl_token.specs.declared.token.Token.{Token}
+use Rattle.jl_token.specs.declared.token.Comment.{Comment}
 use Rattle.jl_token.specs.declared.token.BadKind.{BadKind}
 
 -- the units begin with this element: no fault stands there, and no longer element can be formed
@@ -29,7 +30,8 @@ abbrev pub tokens_among : Bool → List Piece → List Token
 tokens_among line [] = []
 tokens_among line (piece White i j ∷ ps) = tokens_among line ps
 tokens_among line (piece LineEnd i j ∷ ps) = tokens_among true ps
-tokens_among line (piece (Comment l) i j ∷ ps) = tokens_among (line || l) ps
+tokens_among line (piece LineComment i j ∷ ps) = tokens_among line ps
+tokens_among line (piece (BlockComment l) i j ∷ ps) = tokens_among (line || l) ps
 tokens_among line (piece (Word k) i j ∷ ps) =
     record { kind = k; span = record { from = i; to = j }; line_before = line } ∷ tokens_among false ps
 
@@ -38,6 +40,23 @@ pub record Tokens (text : List ℕ) (ts : List Token) : Type 0 where
   pub pieces : List Piece
   pub splits : Many (OnePiece text) text pieces []
   pub are : ts ≡ tokens_among false pieces
+
+-- the comments among the pieces
+abbrev pub comments_among : List Piece → List Comment
+comments_among [] = []
+comments_among (piece White i j ∷ ps) = comments_among ps
+comments_among (piece LineEnd i j ∷ ps) = comments_among ps
+comments_among (piece LineComment i j ∷ ps) =
+    record { span = record { from = i; to = j }; to_line_end = true } ∷ comments_among ps
+comments_among (piece (BlockComment l) i j ∷ ps) =
+    record { span = record { from = i; to = j }; to_line_end = false } ∷ comments_among ps
+comments_among (piece (Word k) i j ∷ ps) = comments_among ps
+
+-- these are the comments of the text
+pub record Comments (text : List ℕ) (cs : List Comment) : Type 0 where
+  pub pieces : List Piece
+  pub splits : Many (OnePiece text) text pieces []
+  pub are : cs ≡ comments_among pieces
 
 -- the text has no tokens: here is the first input element that can't be formed, for this cause
 pub record BadAt (text : List ℕ) (at : ℕ) (kind : BadKind) : Type 0 where
@@ -51,6 +70,11 @@ pub record BadAt (text : List ℕ) (at : ℕ) (kind : BadKind) : Type 0 where
 abbrev pub InOrder : ℕ → ℕ → List Token → Type 0
 InOrder i j [] = i ≤ j
 InOrder i j (t ∷ ts) = (i ≤ t.span.from) × (t.span.from < t.span.to) × InOrder t.span.to j ts
+
+-- the comments stand one after the other between two places, and each has two units at least
+abbrev pub CommentsInOrder : ℕ → ℕ → List Comment → Type 0
+CommentsInOrder i j [] = i ≤ j
+CommentsInOrder i j (c ∷ cs) = (i ≤ c.span.from) × (c.span.from + 2 ≤ c.span.to) × CommentsInOrder c.span.to j cs
 
 -- a text has one list of tokens at most
 abbrev pub TokensAreUnique : Type 0
@@ -75,3 +99,15 @@ SpansAreInOrder = (text : List ℕ) (ts : List Token) → Tokens text ts → InO
 -- a text has no more tokens than units
 abbrev pub FewTokens : Type 0
 FewTokens = (text : List ℕ) (ts : List Token) → Tokens text ts → length ts ≤ length text
+
+-- a text has one list of comments at most
+abbrev pub CommentsAreUnique : Type 0
+CommentsAreUnique = (text : List ℕ) (cs ds : List Comment) → Comments text cs → Comments text ds → cs ≡ ds
+
+-- a text has a list of comments exactly where it has one of tokens
+abbrev pub CommentsWhereTokens : Type 0
+CommentsWhereTokens = (text : List ℕ) → ((cs : List Comment) × Comments text cs) ↔ ((ts : List Token) × Tokens text ts)
+
+-- spans of comments rise, don't overlap and lie in the text
+abbrev pub CommentsAreInOrder : Type 0
+CommentsAreInOrder = (text : List ℕ) (cs : List Comment) → Comments text cs → CommentsInOrder 0 (length text) cs

@@ -1,7 +1,8 @@
-//! What holds of the tokens of each text.
+//! What holds of the tokens and the comments of each text.
 #![tactic(auto)]
 
 ghost use Rattle.jl_token.specs.Tokens.{TokensAreUnique, BadPlaceIsUnique, TokensOrBad, NeverBoth, SpansAreInOrder, FewTokens};
+ghost use Rattle.jl_token.specs.Tokens.{CommentsAreUnique, CommentsWhereTokens, CommentsAreInOrder};
 
 /// A text has one list of tokens at most.
 pub fn tokens_are_unique()
@@ -31,4 +32,19 @@ pub fn spans_are_in_order()
 /// A text has no more tokens than units.
 pub fn few_tokens()
     ensures { FewTokens }
+{}
+
+/// A text has one list of comments at most.
+pub fn comments_are_unique()
+    ensures { CommentsAreUnique }
+{}
+
+/// A text has a list of comments, which may be empty, exactly where it has one of tokens.
+pub fn comments_where_tokens()
+    ensures { CommentsWhereTokens }
+{}
+
+/// The spans of the comments rise, don't overlap, hold two units at least, and lie in the text.
+pub fn comments_are_in_order()
+    ensures { CommentsAreInOrder }
 {}

@@ -8,4 +8,4 @@ mod token;
 
 pub use printed::spelling;
 pub use punct::Punct;
-pub use token::{BadKind, Token, TokenKind};
+pub use token::{BadKind, Comment, Token, TokenKind};

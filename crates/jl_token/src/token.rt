@@ -24,6 +24,14 @@ pub enum TokenKind {
     Str { text: Text, plain: bool },
 }
 
+/// A comment of a script (7.4), and where it stands. One that goes to the end of its line begins with `//` and ends before
+/// the line terminator; any other one stands between `/*` and `*/`.
+#[derive(Clone, Copy, PartialEq, Eq, Debug)]
+pub struct Comment {
+    pub span: Span,
+    pub to_line_end: bool,
+}
+
 /// Why an input element can't be formed.
 #[derive(Clone, Copy, PartialEq, Eq, Debug)]
 pub enum BadKind {

@@ -1,4 +1,4 @@
-use Rattle.jl_effects.specs.Growing.{IsOneOf}
+use Rattle.jl_effects.specs.Keeping.{IsOneOf}
 use Rattle.jl_effects.proofs.Changes.{run_keeps}
 use Rattle.jl_effects.proofs.laws.changes_keep.Goals as goal
 
