@@ -1,4 +1,4 @@
-//! Calls of jl_lex, and what jl_parse, jl_ast and jl_numbering make of a source.
+//! Calls of jl_lex.
 use crate::fault::Fault;
 use crate::words::{repeated, shown_units, shown_words, units_of};
 use jl_lex::{LexRefusal, comments, lex};
