@@ -1,4 +1,2 @@
-//! What scripts mean: trees of effects, their runs, and laws about these.
+//! What scripts mean: the definitions of the language stand in `specs/`.
 #![tactic(auto)]
-
-pub mod laws;
