@@ -1,2 +1,4 @@
-//! What scripts mean: the definitions of the language stand in `specs/`.
+//! What scripts mean. The definitions of the language stand in `specs/`; here are laws about them.
 #![tactic(auto)]
+
+pub mod laws;
