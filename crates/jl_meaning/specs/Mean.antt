@@ -61,8 +61,8 @@ run_of chosen p n =
     running.run language (running.keeping (is_kept chosen)) (job (function_table p)) n (script p)
     (running.nothing_done realm)
 
--- the run of a program
-abbrev pub mean : Kinds → Program (Unit {0}) → (steps : ℕ) → Run
+-- the run of a program, which doesn't depend on where its nodes stand
+abbrev pub mean : {S : Type 0} → Kinds → Program S → (steps : ℕ) → Run
 mean chosen p n = run_of chosen (program_with_ids p) n
 
 -- a fault that is no misuse of hooks
