@@ -5,3 +5,6 @@ pub mod Match
 pub mod Rows
 pub mod Simulation
 pub mod Examples
+pub mod SameTable
+pub mod KeptHooks
+pub mod Places

@@ -1,12 +1,19 @@
 //! Laws over the definitions; each is the contract of a function that does nothing. S is what a store is, J a job, R
 //! what a job ends with, O an operation, and A what a part ends with.
-ghost use Rattle.std.specs.Prelude.{◌≡◌, ℕ, ◌+◌};
+ghost use Rattle.std.specs.Prelude.{◌≡◌, ℕ, ◌+◌, map};
 ghost use Rattle.jl_op.specs.Operations.{Operation};
 ghost use Rattle.jl_meaning.specs.Effects.{Part, End, and_then, Row, row};
 ghost use Rattle.jl_meaning.specs.Running.{World, nothing_done, world_of, outcome_then, run};
 ghost use Rattle.jl_meaning.specs.Growing.{GoesOn, HasLeft, IsLonger};
 ghost use Rattle.jl_meaning.specs.Matching.{Matches, JobsMatch, ArePaired, IsWithin, Simulates};
 ghost use Rattle.jl_meaning.specs.Following.{runs, Follows, IsAny, PartFollows, CallsFollow};
+ghost use Rattle.jl_ast.specs.Spans.{without_spans};
+ghost use Rattle.jl_ast.specs.Table.{table};
+ghost use Rattle.jl_ast.specs.Tree.{Program};
+ghost use Rattle.jl_effects.specs.Traces.{keep_hooks, with_state};
+ghost use Rattle.jl_op.specs.Chosen.{every_kind, is_kept, Kinds};
+ghost use Rattle.jl_meaning.specs.FunctionTable.{function_table};
+ghost use Rattle.jl_meaning.specs.Mean.{mean};
 
 /// What a run has printed, done and told it never takes back, and it ends with no more steps left than it had.
 pub fn nothing_is_taken_back<S, J, R, A>()
@@ -69,4 +76,21 @@ pub fn rows_follow_calls<S, C, J, R, A>()
     ensures within { (call : C → J) (first second : J → Part S J R Operation R)
         → CallsFollow IsWithin call first second → (p : Row S C R A)
         → PartFollows IsWithin first second (row call p) }
+{}
+
+/// Of a run for chosen kinds the hooks are the chosen ones of all, and all else is the same.
+pub fn kept_hooks<S>()
+    ensures { (kinds : Kinds) (p : Program S) (n : ℕ)
+        → mean kinds p n ≡ with_state (keep_hooks (is_kept kinds)) (mean every_kind p n) }
+{}
+
+/// What a program means doesn't depend on where its nodes stand.
+pub fn spans_do_not_matter<S>()
+    ensures { (kinds : Kinds) (p q : Program S) → without_spans p ≡ without_spans q → (n : ℕ)
+        → mean kinds p n ≡ mean kinds q n }
+{}
+
+/// The functions by number are those of the program's table.
+pub fn functions_are_the_table()
+    ensures { (p : Program ℕ) → map (λ f. f.func) (function_table p) ≡ table p }
 {}
