@@ -1,7 +1,8 @@
 //! Laws over the definitions; each is the contract of a function that does nothing.
-ghost use Rattle.std.specs.Prelude.{◌≡◌, ℕ, ◌+◌};
-ghost use Rattle.jl_ast.specs.Tree.{Program};
+ghost use Rattle.std.specs.Prelude.{◌≡◌, ℕ, ◌+◌, map};
 ghost use Rattle.jl_ast.specs.Spans.{without_spans};
+ghost use Rattle.jl_ast.specs.Table.{table};
+ghost use Rattle.jl_ast.specs.Tree.{Program};
 ghost use Rattle.jl_effects.specs.Effects.{job};
 ghost use Rattle.jl_effects.specs.Growing.{IsLonger};
 ghost use Rattle.jl_effects.specs.Keeping.{FailsAllowed};
@@ -9,31 +10,35 @@ ghost use Rattle.jl_effects.specs.Matching.{IsWithin};
 ghost use Rattle.jl_effects.specs.Following.{IsAny, CallsFollow, PartFollows};
 ghost use Rattle.jl_effects.specs.Running.{Recorded, RunState, run};
 ghost use Rattle.jl_effects.specs.Traces.{keep_hooks, with_state};
+ghost use Rattle.jl_meaning.specs.FunctionTable.{function_table};
 ghost use Rattle.jl_meaning.specs.Mean.{IsNoMisuse, language, mean};
 ghost use Rattle.jl_meaning.specs.Parts.{Algorithm, Call, CallOf, Job, lift, Part};
 ghost use Rattle.jl_meaning.specs.Store.{Store};
-ghost use Rattle.jl_op.specs.Chosen.{all_kinds, is_kept, Kinds};
+ghost use Rattle.jl_op.specs.Chosen.{every_kind, is_kept, Kinds};
 ghost use Rattle.jl_op.specs.Operations.{Operation};
-ghost use Rattle.jl_text.specs.declared.span.Span.{Span};
 ghost use Rattle.jl_value.specs.declared.ending.Completion.{Completion};
 
 /// A run that is over is the same with more steps, but that more are left; and what one that is spent has printed,
 /// performed and emitted are prefixes of what it has with more steps.
-pub fn more_budget()
-    ensures { (chosen : Kinds) (p : Program (Unit {0})) (n d : ℕ)
-        → IsLonger d (mean chosen p n) (mean chosen p (n + d)) }
+pub fn more_budget<S>()
+    ensures { (chosen : Kinds) (p : Program S) (n d : ℕ) → IsLonger d (mean chosen p n) (mean chosen p (n + d)) }
 {}
 
 /// Only the hooks of a run depend on the chosen kinds: they are those of the run for all kinds that are of chosen ones.
-pub fn kept_hooks()
-    ensures { (chosen : Kinds) (p : Program (Unit {0})) (n : ℕ)
-        → mean chosen p n ≡ with_state (keep_hooks (is_kept chosen)) (mean all_kinds p n) }
+pub fn kept_hooks<S>()
+    ensures { (kinds : Kinds) (p : Program S) (n : ℕ)
+        → mean kinds p n ≡ with_state (keep_hooks (is_kept kinds)) (mean every_kind p n) }
 {}
 
-/// Programs that differ in positions alone mean the same.
-pub fn spans_do_not_matter()
-    ensures { (p q : Program Span) → without_spans p ≡ without_spans q
-        → (chosen : Kinds) (n : ℕ) → mean chosen (without_spans p) n ≡ mean chosen (without_spans q) n }
+/// What a program means doesn't depend on where its nodes stand.
+pub fn spans_do_not_matter<S>()
+    ensures { (kinds : Kinds) (p q : Program S) → without_spans p ≡ without_spans q → (n : ℕ)
+        → mean kinds p n ≡ mean kinds q n }
+{}
+
+/// The functions by number are those of the program's table.
+pub fn functions_are_the_table()
+    ensures { (p : Program ℕ) → map (λ f. f.func) (function_table p) ≡ table p }
 {}
 
 /// Where calls follow, so do builtins and all algorithms of the standard: they come to the same with the second meaning

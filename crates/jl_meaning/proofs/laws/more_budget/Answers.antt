@@ -9,6 +9,6 @@ use Rattle.jl_meaning.specs.Realm.{realm}
 use Rattle.jl_meaning.proofs.laws.more_budget.Goals as goal
 
 pub returns : goal.returns
-returns c = λ chosen p n d.
+returns g c = λ chosen p n d.
     let q = program_with_ids p in
     more_steps language (keeping (is_kept chosen)) (job (function_table q)) n d (script q) (nothing_done realm)

@@ -1,0 +1,3 @@
+mod SameTable
+mod KeptHooks
+mod Places
