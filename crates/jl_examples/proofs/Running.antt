@@ -11,7 +11,7 @@ use Rattle.jl_ast.specs.Tree.{Program}
 use Rattle.jl_value.specs.Faults.{fault_text}
 use Rattle.jl_value.specs.declared.ending.Completion.TheVariants as completion
 use Rattle.jl_heap.specs.Describe.{description_of}
-use Rattle.jl_op.specs.Chosen.{all_kinds, is_kept, Kinds}
+use Rattle.jl_op.specs.Chosen.{every_kind, is_kept, Kinds}
 use Rattle.jl_op.specs.IdMap.{id_map}
 use Rattle.jl_op.specs.Kinds.{kind_of, kind_name}
 use Rattle.jl_op.specs.Operations.{Operation}
@@ -84,7 +84,7 @@ abbrev pub budget : ℕ
 budget = 5000
 
 abbrev pub own_run : Program (Unit {0}) → Run
-own_run p = mean all_kinds p budget
+own_run p = mean every_kind p budget
 
 abbrev pub woven_run : Kinds → Program (Unit {0}) → Run
 woven_run chosen p = mean chosen (woven_program chosen p) (bound budget)
@@ -94,18 +94,18 @@ abbrev pub runs : Program (Unit {0}) → List (List ℕ) → Bool
 runs p text =
     let own = own_run p in
     bytes_eq (answer own (with_steps budget own (ending own))) (text_of text)
-    && are_alike all_kinds p own (woven_run all_kinds p)
+    && are_alike every_kind p own (woven_run every_kind p)
 
 -- the same, but for the number of steps
 abbrev pub prints : Program (Unit {0}) → List (List ℕ) → Bool
 prints p text =
     let own = own_run p in
-    bytes_eq (answer own (ending own)) (text_of text) && are_alike all_kinds p own (woven_run all_kinds p)
+    bytes_eq (answer own (ending own)) (text_of text) && are_alike every_kind p own (woven_run every_kind p)
 
 -- with so many steps the script's own run answers this
 abbrev pub answers : (steps : ℕ) → Program (Unit {0}) → List (List ℕ) → Bool
 answers n p text =
-    let own = mean all_kinds p n in bytes_eq (answer own (with_steps n own (ending own))) (text_of text)
+    let own = mean every_kind p n in bytes_eq (answer own (with_steps n own (ending own))) (text_of text)
 
 -- what a run with so many steps answers, with the number of its hooks
 abbrev pub hooked_answer : (steps : ℕ) → Run → List ℕ
@@ -123,11 +123,11 @@ trace_of n r = trace_lines (state_of r).hooks ++ uncaught_line r ++ line (with_h
 
 -- the hooks of the woven script emit this
 abbrev pub traces : Program (Unit {0}) → List (List ℕ) → Bool
-traces p text = bytes_eq (trace_of (bound budget) (woven_run all_kinds p)) (text_of text)
+traces p text = bytes_eq (trace_of (bound budget) (woven_run every_kind p)) (text_of text)
 
 -- the hooks of a script that calls them by itself emit this, with so many steps
 abbrev pub executes : (steps : ℕ) → Program (Unit {0}) → List (List ℕ) → Bool
-executes n p text = bytes_eq (trace_of n (mean all_kinds p n)) (text_of text)
+executes n p text = bytes_eq (trace_of n (mean every_kind p n)) (text_of text)
 
 -- the last line of its run
 abbrev pub ends_with : Program (Unit {0}) → List (List ℕ) → Bool

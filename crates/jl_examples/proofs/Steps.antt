@@ -3,7 +3,7 @@ use Rattle.std.specs.Prelude.{◌≡◌, refl, ◌∷◌, [], codes, true, false
 use Rattle.jl_ast.specs.declared.ops.BinOp.TheVariants as binary
 use Rattle.jl_ast.specs.declared.ops.UnOp.TheVariants as un
 use Rattle.jl_ast.specs.Tree.{Program}
-use Rattle.jl_op.specs.Chosen.{all_kinds}
+use Rattle.jl_op.specs.Chosen.{every_kind}
 use Rattle.jl_examples.proofs.Computing as computing
 use Rattle.jl_examples.proofs.Running.{runs, weaves}
 use Rattle.jl_examples.proofs.Trees.{script, function_of, name, number, string, boolean, call, unary, update}
@@ -85,6 +85,6 @@ soak_least =
     ∷ expression (call (name (codes "print")) (name (codes "total") ∷ []))
     ∷ [])
 
-soak_least_holds : weaves all_kinds soak_least (codes "0" ∷ codes "jlint: normal steps=24 hooks=8" ∷ []) ≡ true
+soak_least_holds : weaves every_kind soak_least (codes "0" ∷ codes "jlint: normal steps=24 hooks=8" ∷ []) ≡ true
 unfolding computing.run
 soak_least_holds = refl

@@ -3,7 +3,7 @@ use Rattle.std.specs.Prelude.{◌≡◌, refl, ◌∷◌, [], codes, true, false
 use Rattle.jl_ast.specs.declared.ops.BinOp.TheVariants as binary
 use Rattle.jl_ast.specs.declared.ops.UnOp.TheVariants as un
 use Rattle.jl_ast.specs.Tree.{Program}
-use Rattle.jl_op.specs.Chosen.{all_kinds}
+use Rattle.jl_op.specs.Chosen.{every_kind}
 use Rattle.jl_examples.proofs.Computing as computing
 use Rattle.jl_examples.proofs.Running.{weaves}
 use Rattle.jl_examples.proofs.Trees.{script, function_of, name, number, string, boolean, null, dot, call, unary}
@@ -15,7 +15,7 @@ abbrev quotient : Program (Unit {0})
 quotient =
     script false [] (expression (call (name (codes "print")) (operator binary.Div (number 0) (number 0) ∷ [])) ∷ [])
 
-quotient_holds : weaves all_kinds quotient (codes "NaN" ∷ codes "jlint: normal steps=23 hooks=8" ∷ []) ≡ true
+quotient_holds : weaves every_kind quotient (codes "NaN" ∷ codes "jlint: normal steps=23 hooks=8" ∷ []) ≡ true
 unfolding computing.run
 quotient_holds = refl
 
@@ -24,7 +24,7 @@ abbrev empty_2 : Program (Unit {0})
 empty_2 =
     script false [] []
 
-empty_2_holds : weaves all_kinds empty_2 (codes "jlint: normal steps=6 hooks=2" ∷ []) ≡ true
+empty_2_holds : weaves every_kind empty_2 (codes "jlint: normal steps=6 hooks=2" ∷ []) ≡ true
 unfolding computing.run
 empty_2_holds = refl
 
@@ -33,7 +33,7 @@ abbrev fraction : Program (Unit {0})
 fraction =
     script false [] (expression (call (name (codes "print")) (operator binary.Div (number 7) (number 2) ∷ [])) ∷ [])
 
-fraction_holds : weaves all_kinds fraction (codes "jlint: fault NumberOutside steps=18 hooks=4" ∷ []) ≡ true
+fraction_holds : weaves every_kind fraction (codes "jlint: fault NumberOutside steps=18 hooks=4" ∷ []) ≡ true
 unfolding computing.run
 fraction_holds = refl
 
@@ -44,7 +44,7 @@ past_the_range =
     (expression (call (name (codes "print")) (operator binary.Add (number 9007199254740991) (number 1) ∷ []))
     ∷ [])
 
-past_the_range_holds : weaves all_kinds past_the_range
+past_the_range_holds : weaves every_kind past_the_range
     (codes "jlint: fault NumberOutside steps=18 hooks=4" ∷ [])
     ≡ true
 unfolding computing.run
@@ -64,7 +64,7 @@ null_member =
     None
     ∷ [])
 
-null_member_holds : weaves all_kinds null_member
+null_member_holds : weaves every_kind null_member
     (codes "TypeError" ∷ codes "jlint: normal steps=34 hooks=9" ∷ [])
     ≡ true
 unfolding computing.run
@@ -80,7 +80,7 @@ typeof_update =
     (unary un.Typeof (update true false (to_name (codes "x"))) ∷ name (codes "x") ∷ []))
     ∷ [])
 
-typeof_update_holds : weaves all_kinds typeof_update
+typeof_update_holds : weaves every_kind typeof_update
     (codes "number 6" ∷ codes "jlint: normal steps=37 hooks=12" ∷ [])
     ≡ true
 unfolding computing.run
@@ -100,7 +100,7 @@ break_in_finally =
     ∷ [])
     (expression (call (name (codes "print")) (call (name (codes "f")) [] ∷ [])) ∷ [])
 
-break_in_finally_holds : weaves all_kinds break_in_finally
+break_in_finally_holds : weaves every_kind break_in_finally
     (codes "2" ∷ codes "jlint: normal steps=51 hooks=16" ∷ [])
     ≡ true
 unfolding computing.run
@@ -111,7 +111,7 @@ abbrev uncaught : Program (Unit {0})
 uncaught =
     script false [] (throw (string (97 ∷ 10 ∷ 98 ∷ [])) ∷ [])
 
-uncaught_holds : weaves all_kinds uncaught
+uncaught_holds : weaves every_kind uncaught
     ((117 ∷ 110 ∷ 99 ∷ 97 ∷ 117 ∷ 103 ∷ 104 ∷ 116 ∷ 32 ∷ 34 ∷ 97 ∷ 92 ∷ 110 ∷ 98 ∷ 34 ∷ [])
     ∷ codes "jlint: thrown steps=9 hooks=3"
     ∷ [])
@@ -127,7 +127,7 @@ unsupported =
     (call (dot (string (codes "a")) (codes "replace")) (string (codes "a") ∷ string (codes "b") ∷ []))
     ∷ [])
 
-unsupported_holds : weaves all_kinds unsupported
+unsupported_holds : weaves every_kind unsupported
     (codes "jlint: fault Unsupported String.prototype.replace steps=18 hooks=6" ∷ [])
     ≡ true
 unfolding computing.run
@@ -142,7 +142,7 @@ typeof_compared =
     (operator binary.StrictEqual (unary un.Typeof (number 1)) (string (codes "nubmer")) ∷ []))
     ∷ [])
 
-typeof_compared_holds : weaves all_kinds typeof_compared
+typeof_compared_holds : weaves every_kind typeof_compared
     (codes "false" ∷ codes "jlint: normal steps=25 hooks=9" ∷ [])
     ≡ true
 unfolding computing.run
@@ -160,7 +160,7 @@ two_quotients =
     ∷ []))
     ∷ [])
 
-two_quotients_holds : weaves all_kinds two_quotients
+two_quotients_holds : weaves every_kind two_quotients
     (codes "NaN" ∷ codes "jlint: normal steps=33 hooks=12" ∷ [])
     ≡ true
 unfolding computing.run
@@ -175,7 +175,7 @@ product =
     (operator binary.Add (number 1) (operator binary.Mul (number 2) (number 3)) ∷ []))
     ∷ [])
 
-product_holds : weaves all_kinds product (codes "7" ∷ codes "jlint: normal steps=28 hooks=10" ∷ []) ≡ true
+product_holds : weaves every_kind product (codes "7" ∷ codes "jlint: normal steps=28 hooks=10" ∷ []) ≡ true
 unfolding computing.run
 product_holds = refl
 
@@ -184,7 +184,7 @@ abbrev difference : Program (Unit {0})
 difference =
     script false [] (expression (call (name (codes "print")) (operator binary.Sub (number 5) (number 7) ∷ [])) ∷ [])
 
-difference_holds : weaves all_kinds difference (codes "-2" ∷ codes "jlint: normal steps=23 hooks=8" ∷ []) ≡ true
+difference_holds : weaves every_kind difference (codes "-2" ∷ codes "jlint: normal steps=23 hooks=8" ∷ []) ≡ true
 unfolding computing.run
 difference_holds = refl
 
@@ -197,7 +197,7 @@ two_arguments =
     (string (codes "// jlint-off nan-made") ∷ operator binary.Div (number 0) (number 0) ∷ []))
     ∷ [])
 
-two_arguments_holds : weaves all_kinds two_arguments
+two_arguments_holds : weaves every_kind two_arguments
     (codes "// jlint-off nan-made NaN" ∷ codes "jlint: normal steps=27 hooks=9" ∷ [])
     ≡ true
 unfolding computing.run

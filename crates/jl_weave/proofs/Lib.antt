@@ -1,0 +1,15 @@
+mod Relation
+mod Chosen
+mod HookNames
+mod HookCalls
+mod Operators
+mod Members
+mod Literals
+mod Names
+mod Numbers
+mod Updates
+mod Calls
+mod Shapes
+mod MadeFunctions
+mod HookedNames
+mod Expressions
