@@ -13,3 +13,9 @@ mod Shapes
 mod MadeFunctions
 mod HookedNames
 mod Expressions
+mod Completions
+mod Simple
+mod Try
+mod Loops
+mod Statements
+mod Mentions
