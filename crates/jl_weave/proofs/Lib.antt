@@ -19,3 +19,11 @@ mod Try
 mod Loops
 mod Statements
 mod Mentions
+mod Declarations
+mod Tables
+mod Turns
+mod Functions
+mod Jobs
+mod Fitting
+mod Recording
+mod Programs
