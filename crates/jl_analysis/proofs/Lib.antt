@@ -1,4 +1,6 @@
 pub mod Boxes
 pub mod Counting
 pub mod Crowds
+pub mod Needed
+pub mod KindsAdded
 pub mod RuleNames

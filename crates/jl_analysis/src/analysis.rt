@@ -1,5 +1,6 @@
 ghost use Rattle.std.specs.Prelude.{◌≡◌, ◌≤◌, ℕ, Bool, true, false, List, [], ◌∷◌, ◌++◌, All, OnOk, OnErr};
 ghost use Rattle.jl_op.specs.Operations.{Operation};
+ghost use Rattle.jl_analysis.specs.Rules.{IsRule};
 ghost use Rattle.jl_analysis.specs.Summary.{Kept, summary};
 
 use jl_op::{Op, OpId};
@@ -13,15 +14,15 @@ pub trait Analysis: Drop {
     /// What it has kept.
     ghost kept: { Self → Kept };
 
-    /// Whether it once wanted memory, so that what it kept may lack an operation.
+    /// Whether it has refused an operation, so that what it kept may lack one.
     ghost has_refused: { Self → Bool };
 
-    /// The number of the rule, from 1 to 20.
+    /// The number of the rule.
     fn rule(&self) -> u32
         ensures same { result ≡ rule_of self.now }
-        ensures listed { (1 ≤ result) × (result ≤ 20) };
+        ensures listed { IsRule result };
 
-    /// Tells of one more operation. The error is that memory is wanting; once it was, every call answers so.
+    /// Tells of one more operation. The error is that no memory was left; after it, every call answers so.
     fn hook(&mut self, id: OpId, op: &Op) -> Result<(), AllocError>
         ensures same_rule { rule_of self.new ≡ rule_of self.old }
         ensures heard { OnOk result ((has_refused self.old ≡ false) × (has_refused self.new ≡ false)) }

@@ -1,8 +1,14 @@
-ghost use Rattle.std.specs.Prelude.{◌≡◌, ◌<◌, ◌≤◌, ◌≢◌, ℕ, Some, IfNone, IfSome, length, map, slice_get};
-ghost use Rattle.jl_analysis.specs.Rules.{name_at};
+ghost use Rattle.std.specs.Prelude.{◌≡◌, ◌<◌, ◌≢◌, ℕ, Some, IfNone, IfSome, length, map, slice_get};
+ghost use Rattle.jl_analysis.specs.Rules.{IsRule, name_at};
 
-// The names of the rules, in the order of their numbers, which count from 1.
-const NAMES: [&str; 20] = [
+/// How many rules there are. Their numbers count from 1.
+pub const RULE_COUNT: u32 = 20;
+
+/// The same as a length.
+pub(crate) const RULES: usize = RULE_COUNT as usize;
+
+// The names of the rules, in the order of their numbers.
+const NAMES: [&str; RULES] = [
     "nan-made",
     "undefined-joined",
     "object-joined",
@@ -25,21 +31,21 @@ const NAMES: [&str; 20] = [
     "global-this",
 ];
 
-/// The name of the rule with this number, from 1 to 20.
+/// The name of the rule with this number.
 pub fn rule_name(rule: u32) -> &'static str
-    requires { (1 ≤ rule) × (rule ≤ 20) }
+    requires { IsRule rule }
     ensures { Some result.now ≡ name_at rule }
 {
     entry(&NAMES, rule as usize - 1)
 }
 
-/// The number of the rule with this name, from 1 to 20, or `None` where no rule has the name.
+/// The number of the rule with this name, or `None` where no rule has the name.
 pub fn rule_named(name: &str) -> Option<u32>
     ensures found { IfSome result (λ rule. name_at rule ≡ Some name.now) }
-    ensures listed { IfSome result (λ rule. (1 ≤ rule) × (rule ≤ 20)) }
+    ensures listed { IfSome result (λ rule. IsRule rule) }
     ensures none { IfNone result ((rule : ℕ) → name_at rule ≢ Some name.now) }
 {
-    for rule in 1..=20 {
+    for rule in 1..=RULE_COUNT {
         if rule_name(rule) == name {
             return Some(rule);
         }

@@ -1,9 +1,12 @@
-ghost use Rattle.std.specs.Prelude.{◌≡◌, ◌≢◌, ◌≤◌, ℕ, true, false};
+ghost use Rattle.std.specs.Prelude.{◌≡◌, ◌≢◌, ℕ, true, false};
+ghost use Rattle.jl_analysis.specs.Rules.{IsRule};
 
-/// A choice among the twenty rules.
+use crate::names::RULES;
+
+/// A choice among the rules.
 #[derive(Clone, Copy)]
 pub struct RuleSet {
-    chosen: [bool; 20],
+    chosen: [bool; RULES],
 }
 
 impl RuleSet {
@@ -11,9 +14,11 @@ impl RuleSet {
 
     /// The choice of all rules.
     pub fn all() -> RuleSet
-        ensures { (rule : ℕ) → 1 ≤ rule → rule ≤ 20 → is_chosen result rule ≡ true }
+        ensures { (rule : ℕ) → IsRule rule → is_chosen result rule ≡ true }
     {
-        RuleSet { chosen: [true; 20] }
+        RuleSet {
+            chosen: [true; RULES],
+        }
     }
 
     /// The choice of no rule.
@@ -21,13 +26,13 @@ impl RuleSet {
         ensures { (rule : ℕ) → is_chosen result rule ≡ false }
     {
         RuleSet {
-            chosen: [false; 20],
+            chosen: [false; RULES],
         }
     }
 
-    /// This choice with one more rule, by its number from 1 to 20. A rule that was chosen stays so.
+    /// This choice with one more rule, by its number. A rule that was chosen stays so.
     pub fn with(self, rule: u32) -> RuleSet
-        requires { (1 ≤ rule) × (rule ≤ 20) }
+        requires { IsRule rule }
         ensures chosen { is_chosen result rule ≡ true }
         ensures others { (other : ℕ) → other ≢ rule → is_chosen result other ≡ is_chosen self other }
     {
@@ -36,9 +41,9 @@ impl RuleSet {
         RuleSet { chosen }
     }
 
-    /// Whether the rule with this number, from 1 to 20, is chosen.
+    /// Whether the rule with this number is chosen.
     pub fn has(self, rule: u32) -> bool
-        requires { (1 ≤ rule) × (rule ≤ 20) }
+        requires { IsRule rule }
         ensures { result ≡ is_chosen self rule }
     {
         self.chosen[rule as usize - 1]

@@ -36,7 +36,7 @@ impl Tally {
     }
 
     /// Adds one hit, in constant time on average. A number of hits stands still at its type's end. The error is that
-    /// memory is wanting; the tally is then as it was.
+    /// no memory was left; the tally is then as it was.
     #[tactic(auto, using(crate::proofs::Counting::counting))]
     pub fn hit(&mut self, id: OpId) -> Result<(), AllocError>
         ensures ok { OnOk result (self.new ≡ counted self.old id) }

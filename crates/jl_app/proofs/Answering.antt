@@ -6,7 +6,7 @@ use Rattle.std.specs.Ordering.{nat_cmp}
 use Rattle.std.specs.List.Sorted.{IsStrictlySortedBy}
 use Rattle.jl_op.specs.Operations.{Operation}
 use Rattle.jl_op.specs.Summary.{Counts, hits, summary}
-use Rattle.jl_meaning.specs.Running.{Ends, Fails, Over, Spent, world_of, steps_taken}
+use Rattle.jl_effects.specs.Running.{Ends, Fails, Over, Spent, state_of as world_of, steps_taken}
 use Rattle.jl_app.specs.Runs.{Outcome}
 use Rattle.jl_app.specs.declared.outcome.Outcome.{Outcome as Answered}
 use Rattle.jl_app.specs.declared.status.Status.{Status}

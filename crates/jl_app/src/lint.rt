@@ -2,7 +2,7 @@ ghost use Rattle.std.specs.Prelude.{◌≡◌, ◌+◌, ◌^◌, ◌<◌, ℕ, S
 ghost use Rattle.std.specs.String.{string_bytes};
 ghost use Rattle.jl_ast.specs.View.{view};
 ghost use Rattle.jl_op.specs.Operations.{Operation};
-ghost use Rattle.jl_meaning.specs.Running.{world_of};
+ghost use Rattle.jl_effects.specs.Running.{state_of as world_of};
 ghost use Rattle.jl_app.specs.Answers.{Due, IsLinted, IsRunAnswer, end_line, woven_run};
 ghost use Rattle.jl_app.specs.Form.{script_of};
 ghost use Rattle.jl_app.specs.Reporting.{Lines};

@@ -7,10 +7,14 @@ use Rattle.jl_effects.specs.Running.{Language, RunState, nothing_done, Ends, Fai
 use Rattle.jl_effects.specs.Running.{any, everything, keeping}
 use Rattle.jl_effects.specs.Traces.{quietly}
 use Rattle.jl_effects.specs.Matching.{Matches, ends, both, extra, told, silent, own, spare}
-use Rattle.jl_effects.specs.Matching.{JobsMatch, ArePaired, Simulates}
+use Rattle.jl_effects.specs.Matching.{begins, JobsMatch, ArePaired, IsWithin, Simulates}
+use Rattle.jl_effects.specs.Following.{CallsFollow, PartFollows}
 use Rattle.jl_effects.proofs.Chains.{run_then_nothing}
 use Rattle.jl_effects.proofs.Match.{row_matches}
 use Rattle.jl_effects.proofs.Simulation.{simulates}
+use Rattle.jl_effects.proofs.Follow.{within_prefixed}
+use Rattle.jl_effects.proofs.MatchRuns.{follows}
+use Rattle.jl_effects.proofs.Rows.{row_follows}
 
 -- A counter: the store is its number, and a change is one up or one down. There is room for six bytes.
 data Count : Type 0 where
@@ -126,9 +130,9 @@ row_runs : run counter everything own_call 4 (row (λ c. c) of_row adds_one) (no
     ≡ Over (Ends 2) 2 (at 3 [] (7 ∷ []) [])
 row_runs = refl
 
-row_follows : run counter everything hooked_call 4 (row (λ c. c) of_row adds_one) (nothing_done 2)
+row_runs_hooked : run counter everything hooked_call 4 (row (λ c. c) of_row adds_one) (nothing_done 2)
     ≡ Over (Ends 2) 0 (at 3 [] [] (7 ∷ []))
-row_follows = refl
+row_runs_hooked = refl
 
 abbrev fails_after_a_step : Row ℕ Count (Unit {0}) (Unit {0}) ℕ ℕ
 fails_after_a_step = Step (Fail tt)
@@ -148,3 +152,20 @@ row_simulates s =
     simulates counter any (ArePaired (λ u. u) (λ u. u)) own_call hooked_call calls_match s _ _
     (spare (omega arith) (row_matches counted any (ArePaired (λ u. u) (λ u. u)) (λ c. c) of_row (λ c. (c, refl, refl))
     adds_one s 0))
+
+-- and it follows, since the calls do
+abbrev job_of : Unit {0} → Counting ℕ
+job_of u = job u
+
+calls_follow : CallsFollow counter any (IsWithin any) (λ c. c) own_call hooked_call
+calls_follow k v n =
+    follows counter any (ArePaired (λ u. u) (λ u. u)) own_call hooked_call calls_match n (calls_begin k v.store) v.output
+    v.operations v.hooks
+  where
+    calls_begin : (k : Unit {0}) (s : ℕ)
+        → Matches counted any (ArePaired (λ u. u) (λ u. u)) s 0 0 (job_of k) (job_of k)
+    calls_begin k s = begins (k, refl, refl) (λ end t. ends (omega arith))
+
+row_follows_calls : PartFollows counter any (IsWithin any) own_call hooked_call (row (λ c. c) of_row adds_one)
+row_follows_calls =
+    row_follows counter any (IsWithin any) (within_prefixed any) (λ c. c) of_row own_call hooked_call calls_follow adds_one

@@ -4,7 +4,8 @@ use Rattle.jl_effects.specs.Effects.{Part, End, Fail, Step, Look, Change, Begin,
 use Rattle.jl_effects.specs.Effects.{Row, row}
 use Rattle.jl_effects.specs.Running.{Language, Recorded, RunState, with_store, with_line, with_operation, with_hook}
 use Rattle.jl_effects.specs.Running.{has_room, Outcome, run_to, step, run}
-use Rattle.jl_effects.specs.inner.Steady.{IsSteady, FailsAllowed}
+use Rattle.jl_effects.specs.Keeping.{FailsAllowed}
+use Rattle.jl_effects.specs.inner.Steady.{IsSteady}
 use Rattle.jl_effects.proofs.Growth.{either_way}
 
 module _ {S C F J R I : Type 0} (apply : C → S → S) (Keeps : S → S → Type 0) (IsAllowed : F → Type 0) (job_of : I → J)

@@ -6,8 +6,8 @@ use Rattle.jl_effects.specs.Running.{Outcome, Over, Spent, Ends, Fails}
 abbrev pub IsOneOf : {T X : Type 0} → (named : T → X) → X → Type 0
 IsOneOf {T} named x = (t : T) × (named t ≡ x)
 
--- if a fault has ended the run, it is one of these
-abbrev pub FailsByOneOf : {S F O A T : Type 0} → (faults : T → F) → Outcome S F O A → Type 0
-FailsByOneOf faults (Over (Ends a) left w) = Unit {0}
-FailsByOneOf faults (Over (Fails f) left w) = IsOneOf faults f
-FailsByOneOf faults (Spent w) = Unit {0}
+-- if a fault has ended the run, it is allowed
+abbrev pub FailsAllowed : {S F O A : Type 0} → (IsAllowed : F → Type 0) → Outcome S F O A → Type 0
+FailsAllowed IsAllowed (Over (Ends a) left w) = Unit {0}
+FailsAllowed IsAllowed (Over (Fails f) left w) = IsAllowed f
+FailsAllowed IsAllowed (Spent w) = Unit {0}

@@ -7,7 +7,7 @@ ghost use Rattle.jl_effects.specs.Running.{Language, Recorded, RunState, nothing
 ghost use Rattle.jl_effects.specs.Running.{everything, keeping};
 ghost use Rattle.jl_effects.specs.Traces.{quietly, with_state, keep_hooks, without_operations};
 ghost use Rattle.jl_effects.specs.Growing.{GoesOn, HasLeft, IsLonger};
-ghost use Rattle.jl_effects.specs.Keeping.{IsOneOf, FailsByOneOf};
+ghost use Rattle.jl_effects.specs.Keeping.{IsOneOf, FailsAllowed};
 ghost use Rattle.jl_effects.specs.Matching.{Matches, JobsMatch, ArePaired, IsWithin, Simulates};
 ghost use Rattle.jl_effects.specs.Following.{runs, Follows, IsAny, PartFollows, CallsFollow};
 
@@ -108,12 +108,12 @@ pub fn rows_follow_calls<S, C, E, F, K, J, R, O, A>()
         → PartFollows l kept (IsWithin kept) first second (row call fault p) }
 {}
 
-/// A row ends a run by no fault but those of its own type, that of a full output, and those of its calls: where these are
-/// all among the faults that a T names, so is each fault that ends a run of the row.
+/// A row ends a run by no fault but those of its own type, that of a full output, and those of its calls: where these
+/// are all among the faults that a T names, so is each fault that ends a run of the row.
 pub fn rows_add_no_faults<S, C, E, F, K, J, R, O, A, T>()
     ensures { (l : Language S C F) (k : Recorded O) (jobs : J → Part S C F J R O R) (call : K → J) (fault : E → F)
         (faults : T → F) → IsOneOf faults l.full → ((e : E) → IsOneOf faults (fault e))
-        → ((c : K) (n : ℕ) (w : RunState S O) → FailsByOneOf faults (run l k jobs n (job (call c)) w))
+        → ((c : K) (n : ℕ) (w : RunState S O) → FailsAllowed (IsOneOf faults) (run l k jobs n (job (call c)) w))
         → (p : Row S C E K R A) (n : ℕ) (w : RunState S O)
-        → FailsByOneOf faults (run l k jobs n (row call fault p) w) }
+        → FailsAllowed (IsOneOf faults) (run l k jobs n (row call fault p) w) }
 {}

@@ -19,7 +19,6 @@ use Rattle.jl_heap.specs.declared.property.Defined.TheVariants.{Done, Rejected}
 use Rattle.jl_meaning.specs.Changes.{DefineProperty, SetBinding, UnmapIndex}
 use Rattle.jl_meaning.specs.Conversions.{to_number, to_uint32}
 use Rattle.jl_meaning.specs.Errors.{throw_error}
-use Rattle.jl_meaning.specs.Getting.{get}
 use Rattle.jl_meaning.specs.Parts.{change_store, give, look, ◌>>=◌, Algorithm}
 use Rattle.jl_meaning.specs.Properties.{mapped_parameter}
 

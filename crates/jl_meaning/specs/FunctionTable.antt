@@ -2,7 +2,7 @@
 use Rattle.std.specs.Prelude.{[], false, ◌++◌, ◌∷◌, Bool, List, ℕ}
 use Rattle.jl_ast.specs.Tree.{absent, and, array, assign, binary, block, body, boolean, branch_of, break, call, case}
 use Rattle.jl_ast.specs.Tree.{catch, comma, conditional, continue, debugger, declarator, do_while, dot, empty, end}
-use Rattle.jl_ast.specs.Tree.{expression, filled, for, for_in, func, function, function_expression, getter, hole}
+use Rattle.jl_ast.specs.Tree.{expression, filled, for, for_in, function, function_expression, getter, hole}
 use Rattle.jl_ast.specs.Tree.{if_else, index, init_expression, init_var, labelled, more, name, new, nothing, null}
 use Rattle.jl_ast.specs.Tree.{number, object, or, present, return, setter, string, switch, this, throw, to_dot}
 use Rattle.jl_ast.specs.Tree.{to_index, to_name, try, unary, update, value, var, while, Forest, OptionalTree, Program}

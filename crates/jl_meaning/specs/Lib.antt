@@ -1,8 +1,3 @@
-pub mod Effects
-pub mod Running
-pub mod Growing
-pub mod Matching
-pub mod Following
 pub mod Store
 pub mod Changes
 pub mod Parts

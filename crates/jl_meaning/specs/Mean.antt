@@ -1,5 +1,5 @@
 -- What a program means: the run of what it does, from the realm.
-use Rattle.std.specs.Prelude.{false, ◌+◌, None, ℕ}
+use Rattle.std.specs.Prelude.{false, ◌≡◌, ◌+◌, None, ℕ}
 use Rattle.jl_ast.specs.Tree.{Program}
 use Rattle.jl_scope.specs.Hoisting.{strict_in}
 use Rattle.jl_value.specs.declared.ending.Completion.{Completion}
@@ -19,7 +19,7 @@ use Rattle.jl_meaning.specs.DeclarationBinding.{declare_program}
 use Rattle.jl_meaning.specs.FunctionTable.{function_table}
 use Rattle.jl_meaning.specs.Jobs.{job}
 use Rattle.jl_meaning.specs.Noting.{note, performs}
-use Rattle.jl_meaning.specs.Parts.{call, lift, Context, Part}
+use Rattle.jl_meaning.specs.Parts.{lift, Context, Part}
 use Rattle.jl_meaning.specs.Realm.{realm}
 use Rattle.jl_meaning.specs.Store.{Store}
 use Rattle.jl_meaning.specs.forms.Functions.{run_body}
@@ -61,6 +61,10 @@ run_of chosen p n =
     running.run language (running.keeping (is_kept chosen)) (job (function_table p)) n (script p)
     (running.nothing_done realm)
 
--- the run of a program
-abbrev pub mean : Kinds → Program (Unit {0}) → (steps : ℕ) → Run
+-- the run of a program, which doesn't depend on where its nodes stand
+abbrev pub mean : {S : Type 0} → Kinds → Program S → (steps : ℕ) → Run
 mean chosen p n = run_of chosen (program_with_ids p) n
+
+-- a fault that is no misuse of hooks
+abbrev pub IsNoMisuse : Fault → Type 0
+IsNoMisuse f = f ≡ Misuse → ⊥

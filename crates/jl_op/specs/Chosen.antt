@@ -7,8 +7,8 @@ use Rattle.jl_op.specs.declared.kind.OpKind.{OpKind}
 abbrev pub Kinds : Type 0
 Kinds = OpKind → Bool
 
-abbrev pub all_kinds : Kinds
-all_kinds k = true
+abbrev pub every_kind : Kinds
+every_kind k = true
 
 -- the operation is of a chosen kind
 unfoldable pub is_kept : Kinds → Operation → Bool

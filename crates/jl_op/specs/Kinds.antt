@@ -1,5 +1,5 @@
 -- The kinds of operations.
-use Rattle.std.specs.Prelude.{ℕ, List, codes}
+use Rattle.std.specs.Prelude.{ℕ, List, [], ◌∷◌, codes}
 use Rattle.jl_op.specs.declared.kind.OpKind.{OpKind}
 use Rattle.jl_op.specs.declared.kind.OpKind.TheVariants as kinds
 use Rattle.jl_op.specs.declared.op.Op.{Op}
@@ -55,3 +55,38 @@ kind_name kinds.ForIn = codes "ForIn"
 kind_name kinds.Return = codes "Return"
 kind_name kinds.Throw = codes "Throw"
 kind_name kinds.Catch = codes "Catch"
+
+-- all kinds, each once
+abbrev pub all_kinds : List OpKind
+all_kinds =
+    kinds.ScriptEnter ∷ kinds.ScriptExit ∷ kinds.FunctionEnter ∷ kinds.FunctionExit ∷ kinds.Literal ∷
+    kinds.ArrayLiteral ∷ kinds.ObjectLiteral ∷ kinds.FunctionLiteral ∷ kinds.Read ∷ kinds.Write ∷
+    kinds.TypeofName ∷ kinds.GetField ∷ kinds.PutField ∷ kinds.DeleteField ∷ kinds.InvokePre ∷
+    kinds.InvokePost ∷ kinds.Binary ∷ kinds.Unary ∷ kinds.Conditional ∷ kinds.ForIn ∷ kinds.Return ∷
+    kinds.Throw ∷ kinds.Catch ∷ []
+
+-- the index of a kind in the list of all kinds
+abbrev pub number_of : OpKind → ℕ
+number_of kinds.ScriptEnter = 0
+number_of kinds.ScriptExit = 1
+number_of kinds.FunctionEnter = 2
+number_of kinds.FunctionExit = 3
+number_of kinds.Literal = 4
+number_of kinds.ArrayLiteral = 5
+number_of kinds.ObjectLiteral = 6
+number_of kinds.FunctionLiteral = 7
+number_of kinds.Read = 8
+number_of kinds.Write = 9
+number_of kinds.TypeofName = 10
+number_of kinds.GetField = 11
+number_of kinds.PutField = 12
+number_of kinds.DeleteField = 13
+number_of kinds.InvokePre = 14
+number_of kinds.InvokePost = 15
+number_of kinds.Binary = 16
+number_of kinds.Unary = 17
+number_of kinds.Conditional = 18
+number_of kinds.ForIn = 19
+number_of kinds.Return = 20
+number_of kinds.Throw = 21
+number_of kinds.Catch = 22

@@ -1,8 +1,8 @@
+pub mod KindSets
 pub mod Kinds
+pub mod Laws
 pub mod Map
 pub mod Operations
-pub mod Rules
-pub mod Summary
 pub mod Trace
 pub mod Chosen
 pub mod Ids

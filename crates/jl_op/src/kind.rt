@@ -65,6 +65,33 @@ impl Op {
 }
 
 impl OpKind {
+    /// All kinds, each once, in the order of the variants.
+    pub const ALL: [OpKind; 23] = [
+        OpKind::ScriptEnter,
+        OpKind::ScriptExit,
+        OpKind::FunctionEnter,
+        OpKind::FunctionExit,
+        OpKind::Literal,
+        OpKind::ArrayLiteral,
+        OpKind::ObjectLiteral,
+        OpKind::FunctionLiteral,
+        OpKind::Read,
+        OpKind::Write,
+        OpKind::TypeofName,
+        OpKind::GetField,
+        OpKind::PutField,
+        OpKind::DeleteField,
+        OpKind::InvokePre,
+        OpKind::InvokePost,
+        OpKind::Binary,
+        OpKind::Unary,
+        OpKind::Conditional,
+        OpKind::ForIn,
+        OpKind::Return,
+        OpKind::Throw,
+        OpKind::Catch,
+    ];
+
     /// How it is written.
     pub fn name(self) -> &'static str
         ensures { result.now ≡ kind_name self }

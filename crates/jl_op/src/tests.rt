@@ -264,19 +264,16 @@ fn ids_count_from_one(rt: HostRuntime) -> Result<(), Fail> {
 }
 
 #[test]
-fn nan_of_one_operand(rt: HostRuntime) -> Result<(), Fail> {
-    let negated = |operand: Seen| Op::Unary {
-        op: UnKind::Minus,
-        operand,
-        result: nan(),
-    };
-    let mut checker = NanMade::fresh(rt.alloc());
-    checker.hook(OpId(3), &negated(undefined()))?;
-    checker.hook(OpId(4), &negated(nan()))?;
-    checker.hook(OpId(5), &Op::Literal { value: nan() })?;
-    checker.hook(OpId(6), &divided()?)?;
-    let ids = checker.found();
-    assert_eq!(rt; ids.len(), 2);
-    assert_eq!(rt; (ids[0].0.0, ids[1].0.0), (3, 6));
-    Ok(())
+fn sets_of_kinds(rt: HostRuntime) {
+    let few = KindSet::none()
+        .with(OpKind::ScriptEnter)
+        .with(OpKind::Catch);
+    for kind in OpKind::ALL {
+        let wanted = matches!(kind, OpKind::ScriptEnter | OpKind::Catch);
+        assert_eq!(rt; few.has(kind), wanted, "at {kind:?}");
+        assert!(rt;
+            KindSet::all().has(kind) && !KindSet::none().has(kind),
+            "at {kind:?}"
+        );
+    }
 }

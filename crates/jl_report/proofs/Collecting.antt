@@ -1,22 +1,23 @@
 -- The numbers grow by what each checker of a chosen rule found, and are in the end those of the report.
 use Rattle.std.proofs.Common.{◌≡◌, ℕ, ◌+◌, ◌<◌, ◌≤◌, ◌^◌, Bool, true, false, nat_eq, ◌==◌, List, length, take}
 use Rattle.std.proofs.Common.{get_or, map}
-use Rattle.std.proofs.Common.{Option, None, Some, Result, Ok, Err, IfOk, Vec, Global, sum_by, slice_get, option_map}
+use Rattle.std.proofs.Common.{Option, None, Some, Result, Ok, Err, IfOk, Vec, Global, slice_get, option_map}
 use Rattle.std.proofs.Common.{refl, sym, ap, ◌∙◌, subst, arith, inl, inr}
 use Rattle.std.proofs.Math.Seq.{take-length}
 use Rattle.std.proofs.lemmas.Option.{slice_get_within, slice_get_cases}
 use Rattle.std.specs.BTreeMap.{IsOrdered}
-use Rattle.std.specs.Prelude.{if◌then◌else◌}
+use Rattle.std.specs.Prelude.{if◌then◌else◌, filter, not}
 use Rattle.jl_analysis.specs.Rules.{all_rules}
 use Rattle.jl_analysis.specs.Summary.{Counts, summary}
 use Rattle.jl_op.specs.Operations.{Operation}
 use Rattle.jl_report.specs.declared.line.Line.{Line}
 use Rattle.jl_report.specs.Collected.{Collected, number_in, HasHits}
-use Rattle.jl_report.specs.Reports.{Key, Place, Findings, key, by_place, total_at, found_at, found_by, AreLines}
-use Rattle.jl_report.specs.Reports.{IsReport, if_any}
-use Rattle.jl_report.proofs.Hits.{findings_of, all_total}
+use Rattle.jl_report.specs.Off.{Pair, is_off}
+use Rattle.jl_report.specs.Reports.{Key, Place, Findings, key, by_place, total_at, found_at, capped, is_shown}
+use Rattle.jl_report.specs.Reports.{IsReport, IsReportOfFindings, if_any}
+use Rattle.jl_report.proofs.Hits.{findings_of, all_total, hits_capped}
 use Rattle.jl_report.proofs.Listing.{lists}
-use Rattle.jl_report.proofs.Totals.{number, found_at-next, front_small}
+use Rattle.jl_report.proofs.Totals.{found_at-next}
 
 -- what a pair is whose parts are known
 pub pair_at : (o : Option (ℕ × Counts)) (rule : ℕ) (found : Counts) → option_map (λ x. x.0) o ≡ Some rule
@@ -45,22 +46,10 @@ get_or_at fs i x e = elim ((slice_get_cases fs i).1) [
     none_some : {b : ℕ × Counts} → None ≡ Some b → ⊥
     none_some e = cc
 
-less : (b : Bool) (n s total number most : ℕ) → number ≡ (if b then n else 0) → n + s ≤ total → total < most
-    → number + s < most
-less true n s total number most e f g = omega arith
-less false n s total number most e f g = omega arith
-
--- the numbers stay small enough to be counted
-pub few_here : (places : List Place) (fs : Findings) (i rule : ℕ) (found : Counts) (at : Place) (chosen : Bool)
-    (n most : ℕ)
-    → slice_get fs i ≡ Some (rule, found) → n ≡ (if chosen then found_at places (take i fs) rule at else 0)
-    → found_by fs rule < most → n + sum_by number found < most
-few_here places fs i rule found at chosen n most here is few =
-    let front : found_at places (take i fs) rule at + sum_by number found ≤ found_by fs rule =
-    subst (λ x. found_at places (take i fs) x.0 at + sum_by number x.1 ≤ found_by fs x.0)
-    (get_or_at fs i (rule, found) here)
-    (front_small places fs i (rule, found) at (slice_get_within fs i (rule, found) here)) in
-    less chosen (found_at places (take i fs) rule at) (sum_by number found) (found_by fs rule) n most is front few
+-- the numbers that are collected fit their type
+pub few_here : (chosen : Bool) (n number : ℕ) → number ≡ (if chosen then capped n else 0) → number < 2 ^ 64
+few_here true n number is = omega arith
+few_here false n number is = omega arith
 
 -- one checker more
 next : (places : List Place) (fs : Findings) (i rule : ℕ) (found : Counts) (other : ℕ) (at : Place)
@@ -72,14 +61,20 @@ next places fs i rule found other at here =
     ∙ ap (λ x. found_at places (take i fs) other at + (if x.0 == other then total_at places x.1 at else 0))
     (get_or_at fs i (rule, found) here)
 
-taken_by : (chosen same : Bool) (n t old new : ℕ) → (same ≡ true → chosen ≡ true) → old ≡ (if chosen then n else 0)
-    → new ≡ old + (if same then t else 0) → new ≡ (if chosen then n + (if same then t else 0) else 0)
-taken_by true same n t old new h e f = f ∙ ap (λ x. x + (if same then t else 0)) e
+capped_twice : (n m : ℕ) → capped (capped n + m) ≡ capped (n + m)
+capped_twice n m = omega arith
+
+taken_by : (chosen same : Bool) (n t old new : ℕ) → (same ≡ true → chosen ≡ true)
+    → old ≡ (if chosen then capped n else 0)
+    → new ≡ capped (old + (if same then t else 0)) → new ≡ (if chosen then capped (n + (if same then t else 0)) else 0)
+taken_by true same n t old new h e f =
+    f ∙ ap (λ x. capped (x + (if same then t else 0))) e ∙ capped_twice n (if same then t else 0)
 taken_by false true n t old new h e f = let no : false ≡ true = h refl in absurd (cc)
 taken_by false false n t old new h e f = omega arith
 
-passed_by : (chosen same : Bool) (n t old : ℕ) → (same ≡ true → chosen ≡ false) → old ≡ (if chosen then n else 0)
-    → old ≡ (if chosen then n + (if same then t else 0) else 0)
+passed_by : (chosen same : Bool) (n t old : ℕ) → (same ≡ true → chosen ≡ false)
+    → old ≡ (if chosen then capped n else 0)
+    → old ≡ (if chosen then capped (n + (if same then t else 0)) else 0)
 passed_by false same n t old h e = e
 passed_by true true n t old h e = let no : true ≡ false = h refl in absurd (cc)
 passed_by true false n t old h e = omega arith
@@ -91,45 +86,48 @@ same_number a b e = grind arith
 pub taken : (places : List Place) (fs : Findings) (i rule : ℕ) (found : Counts) (chosen : ℕ
     → Bool) (k : Key) (old new : ℕ)
     → slice_get fs i ≡ Some (rule, found) → chosen rule ≡ true
-    → old ≡ (if chosen k.2 then found_at places (take i fs) k.2 (k.0, k.1) else 0)
-    → new ≡ old + (if rule == k.2 then total_at places found (k.0, k.1) else 0)
-    → new ≡ (if chosen k.2 then found_at places (take (i + 1) fs) k.2 (k.0, k.1) else 0)
+    → old ≡ (if chosen k.2 then capped (found_at places (take i fs) k.2 (k.0, k.1)) else 0)
+    → new ≡ capped (old + (if rule == k.2 then total_at places found (k.0, k.1) else 0))
+    → new ≡ (if chosen k.2 then capped (found_at places (take (i + 1) fs) k.2 (k.0, k.1)) else 0)
 taken places fs i rule found chosen k old new here is e f =
     taken_by (chosen k.2) (rule == k.2) _ _ old new (λ s. ap chosen (sym (same_number rule k.2 s)) ∙ is) e f
-    ∙ ap (λ n. if chosen k.2 then n else 0) (sym (next places fs i rule found k.2 (k.0, k.1) here))
+    ∙ ap (λ n. if chosen k.2 then capped n else 0) (sym (next places fs i rule found k.2 (k.0, k.1) here))
 
 -- and of any other passed over
 pub passed : (places : List Place) (fs : Findings) (i rule : ℕ) (found : Counts) (chosen : ℕ → Bool) (k : Key) (old : ℕ)
     → slice_get fs i ≡ Some (rule, found) → chosen rule ≡ false
-    → old ≡ (if chosen k.2 then found_at places (take i fs) k.2 (k.0, k.1) else 0)
-    → old ≡ (if chosen k.2 then found_at places (take (i + 1) fs) k.2 (k.0, k.1) else 0)
+    → old ≡ (if chosen k.2 then capped (found_at places (take i fs) k.2 (k.0, k.1)) else 0)
+    → old ≡ (if chosen k.2 then capped (found_at places (take (i + 1) fs) k.2 (k.0, k.1)) else 0)
 passed places fs i rule found chosen k old here is e =
     passed_by (chosen k.2) (rule == k.2) _ (total_at places found (k.0, k.1)) old
     (λ s. ap chosen (sym (same_number rule k.2 s)) ∙ is) e
-    ∙ ap (λ n. if chosen k.2 then n else 0) (sym (next places fs i rule found k.2 (k.0, k.1) here))
+    ∙ ap (λ n. if chosen k.2 then capped n else 0) (sym (next places fs i rule found k.2 (k.0, k.1) here))
 
 -- the report of all that was found
-pub all_listed : (chosen : ℕ → Bool) (places : List Place) (fs : Findings) (i : ℕ) (hits : Collected)
+pub all_listed : (chosen : ℕ → Bool) (off : List Pair) (places : List Place) (fs : Findings) (i : ℕ) (hits : Collected)
     (lines : List Line)
-    → i ≡ length fs → map (λ x. (key x, x.count)) lines ≡ hits.entries → IsOrdered by_place hits → HasHits hits
-    → ((k : Key) → number_in hits k ≡ (if chosen k.2 then found_at places (take i fs) k.2 (k.0, k.1) else 0))
-    → AreLines chosen (found_at places fs) lines
-all_listed chosen places fs i hits lines e listed ordered some numbers =
-    lists chosen (found_at places fs) hits lines listed ordered some
-    (λ k. numbers k ∙ ap (λ l. if chosen k.2 then found_at places l k.2 (k.0, k.1) else 0) (ap (λ j. take j fs) e
-    ∙ take-length fs))
+    → i ≡ length fs
+    → map (λ x. (key x, x.count)) lines ≡ filter (λ e. not (is_off off e.0.0 e.0.2)) hits.entries
+    → IsOrdered by_place hits → HasHits hits
+    → ((k : Key) → number_in hits k ≡ (if chosen k.2 then capped (found_at places (take i fs) k.2 (k.0, k.1)) else 0))
+    → IsReportOfFindings chosen off places fs lines
+all_listed chosen off places fs i hits lines e listed ordered some numbers =
+    lists chosen off (λ rule at. capped (found_at places fs rule at)) hits lines listed ordered some
+    (λ k. numbers k ∙ ap (λ l. if chosen k.2 then capped (found_at places l k.2 (k.0, k.1)) else 0)
+    (ap (λ j. take j fs) e ∙ take-length fs))
 
 -- is the report of the operations that checkers of all rules were told of
-pub is_done : (chosen : ℕ → Bool) (places : List Place) (fs : Findings) (rules : List ℕ) (told : List Operation)
-    (lines : List Line)
-    → AreLines chosen (found_at places fs) lines → rules ≡ all_rules
+pub is_done : (chosen : ℕ → Bool) (off : List Pair) (places : List Place) (fs : Findings) (rules : List ℕ)
+    (told : List Operation) (lines : List Line)
+    → IsReportOfFindings chosen off places fs lines → rules ≡ all_rules
     → fs ≡ map (λ rule. (rule, (summary rule told).counts)) rules → length told < 2 ^ 64
-    → IsReport chosen places told lines
-is_done chosen places fs rules told lines are r f h = record {
+    → IsReport chosen off places told lines
+is_done chosen off places fs rules told lines are r f h = record {
   in_order = are.in_order;
   counts = λ rule at. are.counts rule at
-      ∙ ap (λ n. if chosen rule then if_any n else None)
-      (ap (λ x. found_at places x rule at) (f ∙ ap (λ l. findings_of l told) r) ∙ all_total rule places at told h);
+      ∙ ap (λ n. if is_shown chosen off rule at then if_any n else None)
+      (ap (λ x. capped (found_at places x rule at)) (f ∙ ap (λ l. findings_of l told) r)
+      ∙ ap capped (all_total rule places at told h) ∙ hits_capped places told rule at h);
 }
 
 -- what holds of lines that are made

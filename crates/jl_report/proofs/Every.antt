@@ -1,10 +1,11 @@
 -- The report of all rules: a number that is no rule's has no hits.
-use Rattle.std.proofs.Common.{◌≡◌, ℕ, zero, suc, ◌≤◌, Bool, true, false, nat_lt, List, [], None, if◌then◌else◌}
+use Rattle.std.proofs.Common.{◌≡◌, ℕ, zero, suc, ◌≤◌, Bool, true, false, ◌&&◌, not, nat_lt, List, [], None, if◌then◌else◌}
 use Rattle.std.proofs.Common.{◌⊎◌, inl, inr, refl, sym, ap, ◌∙◌, arith, count_by}
 use Rattle.std.proofs.lemmas.Option.{slice_get_past}
-use Rattle.jl_analysis.specs.Rules.{rule_at, rules}
+use Rattle.jl_analysis.specs.Rules.{IsRule, rule_at, rules}
 use Rattle.jl_op.specs.Operations.{Operation}
 use Rattle.jl_report.specs.declared.line.Line.{Line}
+use Rattle.jl_report.specs.Off.{Pair, is_off}
 use Rattle.jl_report.specs.Reports.{Place, is_place, place_of, if_any, hits_at, IsReport}
 use Rattle.jl_report.proofs.Hits.{no_hits_after}
 
@@ -15,12 +16,12 @@ great : (k : ℕ) → nat_lt k 20 ≡ false → 20 ≤ k
 great k e = grind arith
 
 -- each number is that of a rule, or of none
-rule_or_none : (rule : ℕ) → ((1 ≤ rule) × (rule ≤ 20)) ⊎ (rule_at rule ≡ None)
+rule_or_none : (rule : ℕ) → IsRule rule ⊎ (rule_at rule ≡ None)
 unfolding rules
 rule_or_none zero = inr refl
 rule_or_none (suc k) = by_size (nat_lt k 20) refl
   where
-    by_size : (b : Bool) → nat_lt k 20 ≡ b → ((1 ≤ suc k) × (suc k ≤ 20)) ⊎ (rule_at (suc k) ≡ None)
+    by_size : (b : Bool) → nat_lt k 20 ≡ b → IsRule (suc k) ⊎ (rule_at (suc k) ≡ None)
     by_size true e = inl (omega arith, small k e)
     by_size false e = inr (slice_get_past rules k (omega (arith, great k e)))
 
@@ -28,18 +29,22 @@ none_at : (places : List Place) (ops : List Operation) (rule : ℕ) (at : Place)
     → hits_at places ops rule at ≡ 0
 none_at places ops rule at e = ap (count_by (λ id. is_place at (place_of places id))) (no_hits_after rule [] ops e)
 
-no_line : (b : Bool) (n : ℕ) → n ≡ 0 → (if b then if_any n else None) ≡ if_any n
-no_line true n e = refl
-no_line false n e = sym (ap if_any e)
+no_line : (b on : Bool) (n : ℕ) → n ≡ 0
+    → (if b && on then if_any n else None) ≡ (if true && on then if_any n else None)
+no_line true on n e = refl
+no_line false true n e = sym (ap if_any e)
+no_line false false n e = refl
 
 -- where all rules are chosen, no number has to be asked for
-pub of_every_rule : (chosen : ℕ → Bool) (places : List Place) (ops : List Operation) (lines : List Line)
-    → ((rule : ℕ) → 1 ≤ rule → rule ≤ 20 → chosen rule ≡ true) → IsReport chosen places ops lines
-    → IsReport (λ rule. true) places ops lines
-of_every_rule chosen places ops lines all is = record {
+pub of_every_rule : (chosen : ℕ → Bool) (off : List Pair) (places : List Place) (ops : List Operation) (lines : List Line)
+    → ((rule : ℕ) → IsRule rule → chosen rule ≡ true) → IsReport chosen off places ops lines
+    → IsReport (λ rule. true) off places ops lines
+of_every_rule chosen off places ops lines all is = record {
   in_order = is.in_order;
   counts = λ rule at. is.counts rule at ∙ (elim (rule_or_none rule) [
-    | inl listed ↦ ap (λ b. if b then if_any (hits_at places ops rule at) else None) (all rule listed.0 listed.1)
-    | inr none ↦ no_line (chosen rule) (hits_at places ops rule at) (none_at places ops rule at none)
+    | inl listed ↦ ap (λ b. if b && not (is_off off at.0 rule) then if_any (hits_at places ops rule at) else None)
+        (all rule listed)
+    | inr none ↦ no_line (chosen rule) (not (is_off off at.0 rule)) (hits_at places ops rule at)
+        (none_at places ops rule at none)
   ]);
 }

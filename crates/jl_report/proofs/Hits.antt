@@ -2,7 +2,7 @@
 use Rattle.std.proofs.Common.{◌≡◌, ℕ, zero, suc, ◌+◌, ◌^◌, ◌<◌, ◌≤◌, Bool, true, false, nat_eq, nat_lt, ◌==◌, List}
 use Rattle.std.proofs.Common.{[], ◌∷◌, ◌++◌, length, map}
 use Rattle.std.proofs.Common.{sum_by, refl, sym, ap, subst, ◌∙◌, arith, inl, inr}
-use Rattle.std.proofs.lemmas.List.Sums.{sum_by-cons}
+use Rattle.std.proofs.lemmas.List.Sums.{sum_by-cons, count_by-le-length}
 use Rattle.std.proofs.lemmas.Option.{slice_get_past}
 use Rattle.std.specs.Prelude.{if◌then◌else◌, count_by, fold, None, ◌⊎◌}
 use Rattle.jl_op.specs.declared.op.Op.{Op}
@@ -11,8 +11,7 @@ use Rattle.jl_op.specs.Operations.{Operation}
 use Rattle.jl_analysis.specs.Memories.{one_more}
 use Rattle.jl_analysis.specs.Rules.{hit, hits_by, rule_at, all_rules, rules}
 use Rattle.jl_analysis.specs.Summary.{Counts, counted, hits_after, hits, summary}
-use Rattle.jl_report.specs.Reports.{Place, Findings, AreFew, nth, is_place, place_of, total_at, found_at, found_by}
-use Rattle.jl_report.specs.Reports.{hits_at}
+use Rattle.jl_report.specs.Reports.{Place, Findings, capped, nth, is_place, place_of, total_at, found_at, hits_at}
 use Rattle.jl_report.proofs.Totals.{number, here}
 
 -- One more hit.
@@ -110,14 +109,6 @@ summary_total rule places at ops h =
     let e = fold_total places at (hits rule ops) [] (omega arith) in
     omega arith
 
-pub summary_few : (rule : ℕ) (ops : List Operation) → length ops < 2 ^ 64
-    → sum_by number (summary rule ops).counts ≤ length ops
-summary_few rule ops h =
-    let few = hits_few rule ops h in
-    let w = hits_within rule [] ops in
-    let e = fold_sum (hits rule ops) [] (omega arith) in
-    omega arith
-
 -- what the checkers of these rules find that were told of the operations
 abbrev pub findings_of : (rules : List ℕ) → List Operation → Findings
 findings_of rules ops = map (λ rule. (rule, (summary rule ops).counts)) rules
@@ -144,21 +135,6 @@ findings_total (r ∷ rules) rule places at ops h =
         let same : r ≡ rule = grind arith in
         summary_total r places at ops h ∙ ap (λ x. hits_at places ops x at) same
     one false e = refl
-
-findings_few : (rules : List ℕ) (rule : ℕ) (ops : List Operation) → length ops < 2 ^ 64
-    → found_by (findings_of rules ops) rule ≤ amount rule (length ops) rules
-findings_few [] rule ops h = omega arith
-findings_few (r ∷ rules) rule ops h =
-    few (nat_eq r rule) (findings_few rules rule ops h) (summary_few r ops h)
-    (sum_by-cons (λ f. if f.0 == rule then sum_by number f.1 else 0) (r, (summary r ops).counts)
-    (findings_of rules ops))
-    (sum_by-cons (λ other. if other == rule then length ops else 0) r rules)
-  where
-    few : (b : Bool) → {total all more most : ℕ} → total ≤ all → sum_by number (summary r ops).counts ≤ length ops
-        → more ≡ (if b then sum_by number (summary r ops).counts else 0) + total
-        → most ≡ (if b then length ops else 0) + all → more ≤ most
-    few true f g e m = omega (arith, f, g, e, m)
-    few false f g e m = omega (arith, f, e, m)
 
 -- so many numbers from a on
 abbrev from : (a k : ℕ) → List ℕ
@@ -235,14 +211,10 @@ all_total rule places at ops h = findings_total all_rules rule places at ops h
       | inr none ↦ none.0 ∙ sym (ap (count_by (λ id. is_place at (place_of places id))) (no_hits_after rule [] ops none.1))
     ])
 
-pub all_few : (ops : List Operation) → length ops < 2 ^ 64 → AreFew (findings_of all_rules ops)
-all_few ops h rule = elim (once rule (length ops)) [
-  | inl one ↦ omega (arith, findings_few all_rules rule ops h, one)
-  | inr none ↦ omega (arith, findings_few all_rules rule ops h, none.0)
-]
-
--- so the hits of each rule can be counted
-pub few_of_all : (fs : Findings) (numbers : List ℕ) (ops : List Operation)
-    → fs ≡ findings_of numbers ops → numbers ≡ all_rules → length ops < 2 ^ 64 → AreFew fs
-few_of_all fs numbers ops f r h =
-    subst (λ l. AreFew l) (sym (f ∙ ap (λ l. findings_of l ops) r)) (all_few ops h)
+-- so few hits are not capped
+pub hits_capped : (places : List Place) (ops : List Operation) (rule : ℕ) (at : Place) → length ops < 2 ^ 64
+    → capped (hits_at places ops rule at) ≡ hits_at places ops rule at
+hits_capped places ops rule at h =
+    let few = hits_few rule ops h in
+    let within = count_by-le-length (λ id. is_place at (place_of places id)) (hits rule ops) in
+    omega arith

@@ -4,5 +4,7 @@ pub mod Every
 pub mod Hits
 pub mod Keys
 pub mod Listing
+pub mod OneReport
 pub mod OfRules
 pub mod Totals
+pub mod Switching

@@ -1,6 +1,7 @@
 -- The numbers of hits, as a report collects them: a map from places and rules.
-use Rattle.std.specs.Prelude.{ℕ, ◌≤◌, ◌≢◌, All, Some, unwrap_or}
+use Rattle.std.specs.Prelude.{ℕ, ◌≢◌, All, Some, unwrap_or}
 use Rattle.std.specs.BTreeMap.{BTreeMap, get, keys}
+use Rattle.jl_analysis.specs.Rules.{IsRule}
 use Rattle.jl_report.specs.Reports.{Key, by_place}
 
 abbrev pub Collected : Type 0
@@ -13,10 +14,6 @@ number_in hits k = unwrap_or (get by_place hits k) 0
 -- there is no entry without a hit
 abbrev pub HasHits : Collected → Type 0
 HasHits hits = (k : Key) → get by_place hits k ≢ Some 0
-
--- it is the number of a rule
-abbrev pub IsRule : ℕ → Type 0
-IsRule rule = (1 ≤ rule) × (rule ≤ 20)
 
 -- each number is of a rule
 abbrev pub AreOfRules : Collected → Type 0

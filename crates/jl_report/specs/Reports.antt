@@ -1,7 +1,6 @@
 -- The report: how often each rule hit at each place.
-use Rattle.std.specs.Prelude.{◌≡◌, ℕ, zero, suc, ◌^◌, ◌<◌, Bool, false, ◌&&◌, ◌==◌, List, [], ◌∷◌, map, Option}
-use Rattle.std.specs.Prelude.{None, Some}
-use Rattle.std.specs.Prelude.{slice_get, count_by, sum_by, if◌then◌else◌}
+use Rattle.std.specs.Prelude.{◌≡◌, ℕ, zero, suc, ◌^◌, ◌-◌, min, Bool, false, not, ◌&&◌, ◌==◌, List, [], ◌∷◌, map, Option}
+use Rattle.std.specs.Prelude.{None, Some, slice_get, count_by, sum_by, if◌then◌else◌}
 use Rattle.std.specs.Ordering.{nat_cmp, ordering_then}
 use Rattle.std.specs.declared.cmp.Ordering.{Ordering}
 use Rattle.std.specs.List.Sorted.{IsStrictlySortedBy}
@@ -10,6 +9,7 @@ use Rattle.jl_op.specs.Map.{MapRow}
 use Rattle.jl_op.specs.Operations.{Operation}
 use Rattle.jl_text.specs.Places.{LineTable, line_col}
 use Rattle.jl_analysis.specs.Summary.{Counts, hits}
+use Rattle.jl_report.specs.Off.{Pair, is_off}
 use Rattle.jl_report.specs.declared.line.Line.{Line}
 
 -- a line and a column
@@ -46,17 +46,13 @@ total_at places counts at = sum_by (λ x. if is_place at (place_of places x.0) t
 abbrev pub Findings : Type 0
 Findings = List (ℕ × Counts)
 
--- how many hits of the rule they found
-abbrev pub found_by : Findings → (rule : ℕ) → ℕ
-found_by findings rule = sum_by (λ f. if f.0 == rule then sum_by (λ x. x.1) f.1 else 0) findings
-
--- the hits of each rule can be counted
-abbrev pub AreFew : Findings → Type 0
-AreFew findings = (rule : ℕ) → found_by findings rule < 2 ^ 64
-
 -- how many hits of the rule they found at this place
 abbrev pub found_at : (places : List Place) → Findings → (rule : ℕ) → (at : Place) → ℕ
 found_at places findings rule at = sum_by (λ f. if f.0 == rule then total_at places f.1 at else 0) findings
+
+-- a number that stands still at the end of its type
+abbrev pub capped : ℕ → ℕ
+capped n = min n (2 ^ 64 - 1)
 
 -- a line stands only where there is a hit
 abbrev pub if_any : ℕ → Option ℕ
@@ -79,17 +75,23 @@ key x = (x.line, x.column, x.rule)
 abbrev pub by_place : Key → Key → Ordering
 by_place a b = ordering_then (ordering_then (nat_cmp a.0 b.0) (nat_cmp a.1 b.1)) (nat_cmp a.2 b.2)
 
--- These are the lines, where the numbers of hits are given: each chosen rule has one at each place at which it hits,
--- with the number of its hits there, and there are no others.
-pub record AreLines (chosen : ℕ → Bool) (number : (rule : ℕ) → Place → ℕ) (lines : List Line) : Type 0 where
+-- These are the lines, where it is given which may stand and how many hits there are: each rule has one at each place
+-- where it may stand and the rule hits, with the number of hits there, and there are no others.
+pub record AreLines (shown : (rule : ℕ) → Place → Bool) (number : (rule : ℕ) → Place → ℕ) (lines : List Line)
+    : Type 0 where
   pub in_order : IsStrictlySortedBy by_place (map key lines)
   pub counts : (rule : ℕ) (at : Place)
-      → count_of lines rule at ≡ (if chosen rule then if_any (number rule at) else None)
+      → count_of lines rule at ≡ (if shown rule at then if_any (number rule at) else None)
+
+-- a line may stand for a chosen rule, unless the rule is switched off for that line of the source
+abbrev pub is_shown : (chosen : ℕ → Bool) → (off : List Pair) → (rule : ℕ) → Place → Bool
+is_shown chosen off rule at = chosen rule && not (is_off off at.0 rule)
 
 -- the report of these operations
-abbrev pub IsReport : (chosen : ℕ → Bool) → List Place → List Operation → List Line → Type 0
-IsReport chosen places operations = AreLines chosen (hits_at places operations)
+abbrev pub IsReport : (chosen : ℕ → Bool) → (off : List Pair) → List Place → List Operation → List Line → Type 0
+IsReport chosen off places operations = AreLines (is_shown chosen off) (hits_at places operations)
 
 -- the report of what checkers found
-abbrev pub IsReportOfFindings : (chosen : ℕ → Bool) → List Place → Findings → List Line → Type 0
-IsReportOfFindings chosen places findings = AreLines chosen (found_at places findings)
+abbrev pub IsReportOfFindings : (chosen : ℕ → Bool) → (off : List Pair) → List Place → Findings → List Line → Type 0
+IsReportOfFindings chosen off places findings =
+    AreLines (is_shown chosen off) (λ rule at. capped (found_at places findings rule at))

@@ -1,4 +1,5 @@
-ghost use Rattle.std.specs.Prelude.{◌≡◌, ◌≤◌, IfOk};
+ghost use Rattle.std.specs.Prelude.{◌≡◌, IfOk};
+ghost use Rattle.jl_analysis.specs.Rules.{IsRule};
 ghost use Rattle.jl_report.specs.Texts.{line_bytes};
 
 use jl_analysis::rule_name;
@@ -15,7 +16,7 @@ pub struct Line {
 
 /// The text of a line, `LINE:COLUMN RULE COUNT`, without a line terminator.
 pub fn line_text(alloc: Global, line: &Line) -> Result<Vec<u8>, AllocError>
-    requires { (1 ≤ line.now.rule) × (line.now.rule ≤ 20) }
+    requires { IsRule line.now.rule }
     ensures { IfOk result (λ text. text.items ≡ line_bytes line.now) }
 {
     let place = line.line;

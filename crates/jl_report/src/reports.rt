@@ -1,15 +1,17 @@
-ghost use Rattle.std.specs.Prelude.{◌≡◌, ◌<◌, ◌+◌, ◌^◌, ◌==◌, ℕ, List, if◌then◌else◌, sum_by, map, length, All};
+ghost use Rattle.std.specs.Prelude.{◌≡◌, ◌<◌, ◌+◌, ◌^◌, ◌==◌, List, if◌then◌else◌, filter, map, not, length, All};
 ghost use Rattle.std.specs.Prelude.{IfOk, OnOk};
 ghost use Rattle.std.specs.BTreeMap.{IsOrdered};
 ghost use Rattle.jl_analysis.specs.Chosen.{is_chosen};
-ghost use Rattle.jl_analysis.specs.Rules.{all_rules};
+ghost use Rattle.jl_analysis.specs.Rules.{IsRule, all_rules};
 ghost use Rattle.jl_op.specs.Map.{BeginsIn};
 ghost use Rattle.jl_op.specs.Operations.{Operation};
-ghost use Rattle.jl_report.specs.Collected.{number_in, HasHits, IsRule, AreOfRules};
-ghost use Rattle.jl_report.specs.Reports.{Place, Key as Keyed, by_place, key, place_of, places_of, total_at};
-ghost use Rattle.jl_report.specs.Reports.{AreFew, IsReport, IsReportOfFindings};
+ghost use Rattle.jl_report.specs.Collected.{number_in, HasHits, AreOfRules};
+ghost use Rattle.jl_report.specs.Off.{is_off};
+ghost use Rattle.jl_report.specs.Reports.{Key as Keyed, by_place, key, place_of, places_of, total_at, capped};
+ghost use Rattle.jl_report.specs.Reports.{IsReport, IsReportOfFindings};
 
 use crate::line::Line;
+use crate::off_list::Off;
 use jl_analysis::{Crowd, Findings, RuleSet};
 use jl_op::{Observer, OpId, OpMap};
 use jl_text::Lines;
@@ -19,24 +21,24 @@ use std::collections::BTreeMap;
 /// A line, a column and a rule, by which a report is ordered.
 type Key = (u32, u32, u32);
 
-/// The report of what the checkers of the chosen rules found: a line for each place and rule with a hit, by line,
-/// column and rule. `places` has the line and the column of each id, from the id 1 on; a hit at any other id is in no
-/// line.
+/// The report of what the checkers of the chosen rules found: a line for each place and rule with a hit, but where the
+/// rule is switched off for that line of the source, by line, column and rule. `places` has the line and the column of
+/// each id, from the id 1 on; a hit at any other id is in no line. A number of hits stands still at its type's end.
 ///
-/// The hits of each rule have to be fewer than 2^64. For checkers of all rules that were told of the same operations,
-/// the report is that of these operations.
+/// For checkers of all rules that were told of the same operations, fewer than 2^64, the report is that of these
+/// operations.
 pub fn report_at(
     alloc: Global,
     crowd: &Crowd,
     places: &[(u32, u32)],
     chosen: RuleSet,
+    off: &Off,
 ) -> Result<Vec<Line>, AllocError>
-    requires few { AreFew (⟦<Crowd as Findings>⟧.findings crowd.now) }
-    ensures found { IfOk result (λ lines.
-        IsReportOfFindings (is_chosen chosen) places.now (⟦<Crowd as Findings>⟧.findings crowd.now) lines.items) }
+    ensures found { IfOk result (λ lines. IsReportOfFindings (is_chosen chosen) off.now places.now
+        (⟦<Crowd as Findings>⟧.findings crowd.now) lines.items) }
     ensures done { IfOk result (λ lines. (told : List Operation)
-        → ⟦<Crowd as Observer>⟧.rules crowd.now ≡ all_rules → ⟦<Crowd as Observer>⟧.stands_for crowd.now told
-        → length told < 2 ^ 64 → IsReport (is_chosen chosen) places.now told lines.items) }
+        → ⟦<Crowd as Findings>⟧.rules crowd.now ≡ all_rules → ⟦<Crowd as Observer>⟧.stands_for crowd.now told
+        → length told < 2 ^ 64 → IsReport (is_chosen chosen) off.now places.now told lines.items) }
     ensures rules { IfOk result (λ lines. All (λ x. IsRule x.rule) lines.items) }
 {
     let mut hits = BTreeMap::new(alloc);
@@ -46,7 +48,7 @@ pub fn report_at(
             add(&mut hits, rule, crowd.found(place), places)?;
         }
     }
-    listed(alloc, &hits)
+    listed(alloc, &hits, off)
 }
 
 /// The report of what the checkers of the chosen rules found, where `map` has the part of the source for each id, and
@@ -57,18 +59,19 @@ pub fn report(
     map: &OpMap,
     lines: &Lines,
     chosen: RuleSet,
+    off: &Off,
 ) -> Result<Vec<Line>, AllocError>
-    requires few { AreFew (⟦<Crowd as Findings>⟧.findings crowd.now) }
-    requires places { All (BeginsIn lines.now) map.now }
-    ensures found { IfOk result (λ found. IsReportOfFindings (is_chosen chosen) (places_of lines.now map.now)
+    requires { All (BeginsIn lines.now) map.now }
+    ensures found { IfOk result (λ found. IsReportOfFindings (is_chosen chosen) off.now (places_of lines.now map.now)
         (⟦<Crowd as Findings>⟧.findings crowd.now) found.items) }
     ensures done { IfOk result (λ found. (told : List Operation)
-        → ⟦<Crowd as Observer>⟧.rules crowd.now ≡ all_rules → ⟦<Crowd as Observer>⟧.stands_for crowd.now told
-        → length told < 2 ^ 64 → IsReport (is_chosen chosen) (places_of lines.now map.now) told found.items) }
+        → ⟦<Crowd as Findings>⟧.rules crowd.now ≡ all_rules → ⟦<Crowd as Observer>⟧.stands_for crowd.now told
+        → length told < 2 ^ 64
+        → IsReport (is_chosen chosen) off.now (places_of lines.now map.now) told found.items) }
     ensures rules { IfOk result (λ found. All (λ x. IsRule x.rule) found.items) }
 {
     let places = begins(alloc, map, lines)?;
-    report_at(alloc, crowd, &places, chosen)
+    report_at(alloc, crowd, &places, chosen, off)
 }
 
 /// The lines and the columns where the parts of a map begin.
@@ -85,20 +88,20 @@ fn begins(alloc: Global, map: &OpMap, lines: &Lines) -> Result<Vec<(u32, u32)>, 
 }
 
 /// Adds what the checker of a rule found.
-pub(crate) fn add(
+fn add(
     hits: &mut BTreeMap<Key, u64>,
     rule: u32,
     found: &[(OpId, u64)],
     places: &[(u32, u32)],
 ) -> Result<(), AllocError>
-    requires few { (at : Place) → number_in hits.old (at.0, at.1, rule) + sum_by (λ x. x.1) found.now < 2 ^ 64 }
+    requires few { (k : Keyed) → number_in hits.old k < 2 ^ 64 }
     requires some { HasHits hits.old }
     requires rule { IsRule rule }
     requires rules { AreOfRules hits.old }
     ensures some { OnOk result (HasHits hits.new) }
     ensures rules { OnOk result (AreOfRules hits.new) }
     ensures numbers { OnOk result ((k : Keyed) → number_in hits.new k
-        ≡ number_in hits.old k + (if rule == k.2 then total_at places.now found.now (k.0, k.1) else 0)) }
+        ≡ capped (number_in hits.old k + (if rule == k.2 then total_at places.now found.now (k.0, k.1) else 0))) }
 {
     for (id, count) in found {
         if *count == 0 {
@@ -107,7 +110,7 @@ pub(crate) fn add(
         if let Some((line, column)) = place(places, *id) {
             let key = (line, column, rule);
             let before = hits.get(&key).copied().unwrap_or(0);
-            hits.insert(key, before + *count)?;
+            hits.insert(key, before.saturating_add(*count))?;
         }
     }
     Ok(())
@@ -121,13 +124,17 @@ fn place(places: &[(u32, u32)], id: OpId) -> Option<(u32, u32)>
     places.get(index as usize).copied()
 }
 
-/// The lines with these numbers of hits, in their order.
-pub(crate) fn listed(alloc: Global, hits: &BTreeMap<Key, u64>) -> Result<Vec<Line>, AllocError>
-    ensures listed { IfOk result (λ lines. map (λ x. (key x, x.count)) lines.items ≡ hits.now.entries) }
+/// The lines with these numbers of hits, in their order, but those that are switched off.
+fn listed(alloc: Global, hits: &BTreeMap<Key, u64>, off: &Off) -> Result<Vec<Line>, AllocError>
+    ensures listed { IfOk result (λ lines. map (λ x. (key x, x.count)) lines.items
+        ≡ filter (λ e. not (is_off off.now e.0.0 e.0.2)) hits.now.entries) }
     ensures in_order { IsOrdered by_place hits.now }
 {
     let mut lines = Vec::new(alloc);
     for ((line, column, rule), count) in hits {
+        if off.has(*line, *rule) {
+            continue;
+        }
         lines.push(Line {
             line: *line,
             column: *column,

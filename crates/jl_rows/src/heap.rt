@@ -216,33 +216,30 @@ fn flag(flags: &str, at: usize) -> Option<bool> {
     }
 }
 
-/// A change that asks for these flags alone: `y` and `n` for writable, enumerable and configurable, `-` for what isn't
-/// given.
-fn flagged(flags: &str) -> Change
-    ensures one_kind { IsOneKind result }
-    ensures length { IsLength result.value }
+/// A change to a count, if one is given, and of flags: `y` and `n` for writable, enumerable and configurable, `-` for what
+/// isn't given.
+fn counting(count: &str, flags: &str) -> Result<Change, Fault>
+    ensures one_kind { IfOk result IsOneKind }
+    ensures length { IfOk result (λ c. IsLength c.value) }
 {
-    Change {
-        value: None,
+    Ok(Change {
+        value: count_of(count)?,
         writable: flag(flags, 0),
         get: None,
         set: None,
         enumerable: flag(flags, 1),
         configurable: flag(flags, 2),
-    }
+    })
 }
 
-/// A change to a count, or of flags alone.
-fn counting(count: &str, flags: &str) -> Result<Change, Fault>
-    ensures one_kind { IfOk result IsOneKind }
-    ensures length { IfOk result (λ c. IsLength c.value) }
+fn count_of(word: &str) -> Result<Option<Value>, Fault>
+    ensures { IfOk result IsLength }
 {
-    let mut change = flagged(flags);
-    if count != "-" {
-        let count = count.parse::<u32>().ok().ok_or(Fault::Unreadable)?;
-        change.value = Some(Value::Num(Num::new(i64::from(count)).unwrap()));
+    if word == "-" {
+        return Ok(None);
     }
-    Ok(change)
+    let count = word.parse::<u32>().ok().ok_or(Fault::Unreadable)?;
+    Ok(Some(Value::Num(Num::new(i64::from(count)).unwrap())))
 }
 
 /// A change to a getter and a setter, each an object, `none` or not given.

@@ -108,13 +108,19 @@ fn shown(alloc: Global, token: &Token) -> Result<String, Fault> {
 /// The height of the program, and the names of its functions by their numbers.
 fn read(alloc: Global, units: &[u16]) -> Result<String, Fault> {
     match tokens(alloc, units)? {
-        Ok(tokens) if tokens.len() > 1_000_000 => Err(Fault::Unreadable),
-        Ok(tokens) => match parse(alloc, tokens.items(), LIMIT) {
-            Ok(program) => shown_program(alloc, &program),
-            Err(ParseRefusal::Unreadable { at }) => Ok(format!(in alloc; "at {at}")?),
-            Err(ParseRefusal::NoMemory) => Err(Fault::NoMemory),
-        },
+        Ok(tokens) => parsed(alloc, tokens.items()),
         Err(refusal) => Ok(refusal),
+    }
+}
+
+fn parsed(alloc: Global, tokens: &[Token]) -> Result<String, Fault> {
+    if tokens.len() > 1_000_000 {
+        return Err(Fault::Unreadable);
+    }
+    match parse(alloc, tokens, LIMIT) {
+        Ok(program) => shown_program(alloc, &program),
+        Err(ParseRefusal::Unreadable { at }) => Ok(format!(in alloc; "at {at}")?),
+        Err(ParseRefusal::NoMemory) => Err(Fault::NoMemory),
     }
 }
 

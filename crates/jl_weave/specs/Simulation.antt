@@ -6,6 +6,6 @@ use Rattle.jl_meaning.specs.Mean.{mean}
 use Rattle.jl_weave.specs.Weaving.{woven_program}
 
 -- the script and its woven one, as they run for the chosen kinds
-abbrev pub WovenSimulates : Kinds → Program (Unit {0}) → Type 0
+abbrev pub WovenSimulates : {S : Type 0} → Kinds → Program S → Type 0
 WovenSimulates chosen p =
     Simulates (is_kept chosen) (λ n. mean chosen p n) (λ n. mean chosen (woven_program chosen p) n)

@@ -1,10 +1,9 @@
 -- Parts that fail by allowed faults alone, whatever their jobs do: for proofs that some fault never comes.
 use Rattle.std.specs.Prelude.{◌≡◌}
 use Rattle.jl_effects.specs.Effects.{Part, End, Fail, Step, Look, Change, Begin, Print, Perform, Emit}
-use Rattle.jl_effects.specs.Running.{Outcome, Over, Spent, Ends, Fails}
 
--- From a store on, the part fails by allowed faults alone, ends with what IsEnd allows there, and begins jobs alone that
--- an I names, each of which ends with what IsJobEnd allows, and at a store that Keeps what held of the one before.
+-- From a store on, the part fails by allowed faults alone, ends with what IsEnd allows there, and begins jobs alone
+-- that an I names, each of which ends with what IsJobEnd allows, and at a store that Keeps what held of the one before.
 module _ {S C F J R I : Type 0} (apply : C → S → S) (Keeps : S → S → Type 0) (IsAllowed : F → Type 0) (job_of : I → J)
     (IsJobEnd : I → R → Type 0) where
   abbrev pub IsSteady : {O A : Type 0} → S → (IsEnd : A → S → Type 0) → Part S C F J R O A → Type 0
@@ -18,9 +17,3 @@ module _ {S C F J R I : Type 0} (apply : C → S → S) (Keeps : S → S → Typ
   IsSteady s IsEnd (Print line p) = IsSteady s IsEnd p
   IsSteady s IsEnd (Perform o p) = IsSteady s IsEnd p
   IsSteady s IsEnd (Emit o p) = IsSteady s IsEnd p
-
--- if a fault has ended the run, it is allowed
-abbrev pub FailsAllowed : {S F O A : Type 0} → (IsAllowed : F → Type 0) → Outcome S F O A → Type 0
-FailsAllowed IsAllowed (Over (Ends a) left w) = Unit {0}
-FailsAllowed IsAllowed (Over (Fails f) left w) = IsAllowed f
-FailsAllowed IsAllowed (Spent w) = Unit {0}

@@ -1,5 +1,5 @@
 -- Literals: primitive values, arrays, objects and functions (7.8, 11.1.3 to 11.1.5, clause 13).
-use Rattle.std.specs.Prelude.{length, true, Bool, None, Option, Some, ℕ}
+use Rattle.std.specs.Prelude.{true, Bool, None, Option, Some, ℕ}
 use Rattle.jl_num.specs.Digits.{digits_of}
 use Rattle.jl_value.specs.declared.object.Class.{Class}
 use Rattle.jl_value.specs.declared.object.Class.TheVariants as class

@@ -3,29 +3,19 @@ use Rattle.std.specs.BTreeMap.{get}
 use Rattle.std.specs.Option.{unwrap_or}
 use Rattle.std.specs.Prelude.{if◌then◌else◌, cond, Some}
 use Rattle.jl_report.specs.Collected.{number_in, AreOfRules}
-use Rattle.jl_report.specs.Reports.{Key, by_place, total_at, place_of}
+use Rattle.jl_report.specs.Reports.{Key, by_place, capped, total_at, place_of}
 use Rattle.jl_report.proofs.OfRules.{of_rules_after}
-use Rattle.jl_report.proofs.Keys.{same_key, same_is, is_same, written, not_zero, grows}
-use Rattle.jl_report.proofs.Totals.{here, here-some, here-none, plus_none, total_at_small, sum_front, total_at-next}
-use Rattle.jl_report.proofs.Totals.{if_same}
+use Rattle.jl_report.proofs.Keys.{same_key, same_is, is_same, written, not_zero, grows, starts}
+use Rattle.jl_report.proofs.Totals.{here, here-some, here-none, plus_none, total_at-next}
 use Rattle.jl_report.proofs.reports.add.Goals as goal
 use Rattle.jl_report.proofs.reports.add.Goals.{in-Some+in_ok-insert, in_default}
 
-pub overflow_add-before : goal.overflow_add-before
-overflow_add-before c =
-    let front = take c.loop-id.id-index c.args.found.now in
-    let k : Key = (c.in-Some.line, c.in-Some.column, c.args.rule) in
-    let before : c.unwrap_or-before.result ≡ number_in c.loop-id.hits k =
-    c.unwrap_or-before.ensures ∙ ap (λ o. unwrap_or o 0) (c.copied.ensures ∙ c.get.ensures.value) in
-    let so_far : number_in c.loop-id.hits k
-    ≡ number_in c.args.hits.now k + total_at c.args.places.now front (k.0, k.1) =
-    c.loop-id.invariant.numbers k ∙ ap (λ n. number_in c.args.hits.now k + n) (if_same c.args.rule _) in
-    let small = total_at_small c.args.places.now (k.0, k.1) front in
-    omega (
-      arith,
-      sum_front c.args.found.now c.loop-id.id-index (record { 0 = 0 }, 0) c.loop-id-test.true,
-      c.requires.few (k.0, k.1),
-    )
+pub loop-id-init : goal.loop-id-init
+loop-id-init c = record {
+  some = c.requires.some;
+  rules = c.requires.rules;
+  numbers = λ k. starts (c.args.rule == k.2) (number_in c.args.hits.now k) (c.requires.few k);
+}
 
 pub loop-id-preserved : goal.loop-id-preserved
 loop-id-preserved c =
@@ -39,7 +29,8 @@ loop-id-preserved c =
     elim c.match-place.branch [
       | in-Some+in_ok-insert w ↦
           let k0 : Key = (w.in-Some.line, w.in-Some.column, c.args.rule) in
-          let v = w.unwrap_or-before.result + entry.1 in
+          let v = w.saturating_add.result in
+          let sum : v ≡ capped (w.unwrap_or-before.result + entry.1) = omega arith in
           let got : (k : Key) → get by_place c.match-place.hits k ≡ cond (is_same k0 k) (Some v)
           (get by_place c.loop-id.hits k) =
           λ k. ap (λ h. get by_place h k) w.hits-is ∙ w.in_ok-insert.ensures.updates.0 k
@@ -59,12 +50,13 @@ loop-id-preserved c =
                 (number_in c.args.hits.now k)
                 (total k) (number_in c.loop-id.hits k) w.unwrap_or-before.result (number_in c.match-place.hits k)
                 entry.1
-                (ap (λ o. unwrap_or o 0) (got k) ∙ written (is_same k0 k) v (get by_place c.loop-id.hits k))
+                (ap (λ o. unwrap_or o 0) (got k) ∙ written (is_same k0 k) v (get by_place c.loop-id.hits k)
+                ∙ ap (λ n. if is_same k0 k then n else number_in c.loop-id.hits k) sum)
                 (λ e. before ∙ ap (number_in c.loop-id.hits) (same_is k0 k e))
                 (c.loop-id.invariant.numbers k)
-                ∙ ap (λ n. number_in c.args.hits.now k + (if c.args.rule == k.2 then total k + n else 0))
+                ∙ ap (λ n. capped (number_in c.args.hits.now k + (if c.args.rule == k.2 then total k + n else 0)))
                 (sym (here-some places (k.0, k.1) (w.in-Some.line, w.in-Some.column) entry at))
-                ∙ ap (λ n. number_in c.args.hits.now k + (if c.args.rule == k.2 then n else 0)) (sym (next k));
+                ∙ ap (λ n. capped (number_in c.args.hits.now k + (if c.args.rule == k.2 then n else 0))) (sym (next k));
           }
       | in_default w ↦
           record {
@@ -72,7 +64,7 @@ loop-id-preserved c =
             some = λ k e. c.loop-id.invariant.some k (ap (λ h. get by_place h k) (sym w.hits-is) ∙ e);
             numbers = λ k.
                 ap (λ h. number_in h k) w.hits-is ∙ c.loop-id.invariant.numbers k
-                ∙ ap (λ n. number_in c.args.hits.now k + (if c.args.rule == k.2 then n else 0))
+                ∙ ap (λ n. capped (number_in c.args.hits.now k + (if c.args.rule == k.2 then n else 0)))
                 (plus_none (total k) _ (here-none places (k.0, k.1) entry (sym c.place.ensures ∙ w.in_default.is))
                 ∙ sym (next k));
           }
