@@ -11,6 +11,7 @@ mod Updates
 mod Calls
 mod Shapes
 mod MadeFunctions
+mod Entries
 mod HookedNames
 mod Expressions
 mod Completions
@@ -27,3 +28,4 @@ mod Jobs
 mod Fitting
 mod Recording
 mod Programs
+mod Accepted

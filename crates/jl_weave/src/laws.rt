@@ -1,6 +1,10 @@
-//! The law of the definitions, as the contract of a function that does nothing.
+//! Laws over the definitions; each is the contract of a function that does nothing.
+ghost use Rattle.std.specs.Prelude.{◌≡◌, []};
 ghost use Rattle.jl_ast.specs.Tree.{Program};
 ghost use Rattle.jl_op.specs.Chosen.{Kinds};
+ghost use Rattle.jl_scope.specs.EarlyErrors.{early_errors_of};
+ghost use Rattle.jl_text.specs.declared.span.Span.{Span};
+ghost use Rattle.jl_weave.specs.CompoundAssignments.{AssignsByOperators};
 ghost use Rattle.jl_weave.specs.Plain.{HasFewIds, IsPlain};
 ghost use Rattle.jl_weave.specs.Simulation.{WovenSimulates};
 
@@ -11,4 +15,9 @@ ghost use Rattle.jl_weave.specs.Simulation.{WovenSimulates};
 /// it has printed and emitted are prefixes of what the script has printed and performed with as many steps.
 pub fn woven_scripts_simulate<S>()
     ensures { (chosen : Kinds) (p : Program S) → IsPlain p.body → HasFewIds p → WovenSimulates chosen p }
+{}
+
+/// A script without early errors is plain, where its compound assignments have operators of 11.13: it doesn't name `J$`.
+pub fn scripts_without_early_errors_are_plain()
+    ensures { (p : Program Span) → early_errors_of p ≡ [] → AssignsByOperators p.body → IsPlain p.body }
 {}
