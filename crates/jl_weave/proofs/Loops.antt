@@ -12,7 +12,8 @@ use Rattle.jl_meaning.specs.Conversions.{to_object}
 use Rattle.jl_meaning.specs.Parts.{for_in_loop, Context, Loop, Part, Stmts, Visit}
 use Rattle.jl_meaning.specs.Relations.{is_nothing}
 use Rattle.jl_meaning.specs.Store.{Store}
-use Rattle.jl_meaning.specs.forms.Loops.{after_body, begin_loop, visit_all, visit_first, visit_next, visits_left, visits_of}
+use Rattle.jl_meaning.specs.forms.Loops.{after_body, begin_loop, visit_all, visit_first, visit_next, visits_left}
+use Rattle.jl_meaning.specs.forms.Loops.{visits_of}
 use Rattle.jl_meaning.specs.forms.Names.{is_hooks}
 use Rattle.jl_weave.specs.Weaving.{woven_forest}
 use Rattle.jl_weave.specs.inner.Fit.{AllFit, LoopFits}

@@ -17,7 +17,8 @@ use Rattle.jl_meaning.specs.Store.{Store}
 use Rattle.jl_meaning.specs.forms.HookCalls.{deletes, gets}
 use Rattle.jl_meaning.specs.forms.Hooks.{enter_hook}
 use Rattle.jl_meaning.specs.forms.Literals.{literal}
-use Rattle.jl_meaning.specs.forms.Members.{assign_member, delete_member, get_member, member_name, put_member, read_member}
+use Rattle.jl_meaning.specs.forms.Members.{assign_member, delete_member, get_member, member_name, put_member}
+use Rattle.jl_meaning.specs.forms.Members.{read_member}
 use Rattle.jl_meaning.specs.forms.Members.{update_expression, update_member}
 use Rattle.jl_weave.proofs.Operators.{operate_silent, update_silent}
 use Rattle.jl_weave.proofs.Relation.{Matched, done, bind, algorithm, lifted, quiet, fewer, ExpressionMatch}

@@ -15,7 +15,8 @@ use Rattle.jl_effects.specs.Effects.{Step}
 use Rattle.jl_effects.specs.Matching.{fails, both, extra, looks, peeks, told, own, spare, plus}
 use Rattle.jl_meaning.specs.Conversions.{to_number}
 use Rattle.jl_meaning.specs.Noting.{performs, emits, note, Noting}
-use Rattle.jl_meaning.specs.Operators.{binary_result, give_next, give_number, is_script_number, next_number, unary_result}
+use Rattle.jl_meaning.specs.Operators.{binary_result, give_next, give_number, is_script_number, next_number}
+use Rattle.jl_meaning.specs.Operators.{unary_result}
 use Rattle.jl_meaning.specs.Parts.{Context, Part, Answer, ◌>>=◌, give, lift}
 use Rattle.jl_meaning.specs.Store.{Store}
 use Rattle.jl_meaning.specs.forms.HookCalls.{binary_of, tests, unary_of}

@@ -1,5 +1,6 @@
 -- Statements: each is matched by its woven form.
-use Rattle.std.proofs.Common.{◌≡◌, ℕ, zero, suc, ◌+◌, ◌<◌, List, [], ◌∷◌, Bool, Option, Some, None, codes, refl, sym, ap, ◌∙◌, subst, subst₂, arith}
+use Rattle.std.proofs.Common.{◌≡◌, ℕ, zero, suc, ◌+◌, ◌<◌, List, [], ◌∷◌, Bool, Option, Some, None, codes, refl, sym}
+use Rattle.std.proofs.Common.{ap, ◌∙◌, subst, subst₂, arith}
 use Rattle.std.specs.Prelude.{if◌then◌else◌}
 use Rattle.std.specs.Option.{option_map, option_or}
 use mathlib.Core.Path.{fun_ext}
@@ -35,7 +36,8 @@ use Rattle.jl_meaning.specs.forms.Simple.{begin_for, declare_all}
 use Rattle.jl_meaning.specs.forms.Switch.{after_switch, default_of}
 use Rattle.jl_meaning.specs.forms.Try.{unless_abrupt}
 use Rattle.jl_weave.specs.HookCalls as weaving
-use Rattle.jl_weave.specs.HookCalls.{catch_and_go_on, hook_1, hook_of_1, hook_statement, name_of, test, without_id, write}
+use Rattle.jl_weave.specs.HookCalls.{catch_and_go_on, hook_1, hook_of_1, hook_statement, name_of, test, without_id}
+use Rattle.jl_weave.specs.HookCalls.{write}
 use Rattle.jl_weave.specs.Plain.{id_limit}
 use Rattle.jl_weave.specs.Weaving as weave
 use Rattle.jl_weave.specs.Weaving.{woven, woven_forest, woven_optional}

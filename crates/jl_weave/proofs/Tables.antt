@@ -1,5 +1,6 @@
 -- The functions of the woven program are the woven functions of the program, in the same order.
-use Rattle.std.proofs.Common.{◌≡◌, codes, ℕ, zero, suc, ◌+◌, Bool, true, false, ◌||◌, [], ◌∷◌, ◌++◌, length, Some, None, slice_get, refl, sym, ap₂, subst}
+use Rattle.std.proofs.Common.{◌≡◌, codes, ℕ, zero, suc, ◌+◌, Bool, true, false, ◌||◌, [], ◌∷◌, ◌++◌, length, Some}
+use Rattle.std.proofs.Common.{None, slice_get, refl, sym, ap₂, subst}
 use Rattle.std.specs.Prelude.{if◌then◌else◌}
 use Rattle.jl_ast.specs.Tree as tree
 use Rattle.jl_ast.specs.Tree.{Forest, OptionalTree, Sort, Text, Tree}

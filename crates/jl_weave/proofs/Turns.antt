@@ -25,7 +25,8 @@ use Rattle.jl_weave.proofs.Completions.{valued}
 use Rattle.jl_weave.proofs.Expressions.{evaluate_match}
 use Rattle.jl_weave.proofs.Loops.{body_match, visit_match}
 use Rattle.jl_weave.proofs.Names.{no_hooks}
-use Rattle.jl_weave.proofs.Relation.{algorithm, done, even, fewer, followed, pick, turn_with, turns, woven_loop, AreJobs}
+use Rattle.jl_weave.proofs.Relation.{algorithm, done, even, fewer, followed, pick, turn_with, turns, woven_loop}
+use Rattle.jl_weave.proofs.Relation.{AreJobs}
 use Rattle.jl_weave.proofs.Relation.{Matched, StatementMatch}
 use Rattle.jl_weave.proofs.Statements.{execute_all_match, tested_match}
 

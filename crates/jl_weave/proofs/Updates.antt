@@ -1,5 +1,6 @@
 -- `++` and `--` by hooks: the new value, and for a postfix the number that it was, which is had back by it.
-use Rattle.std.proofs.Common.{◌≡◌, ℕ, suc, ◌+◌, ◌≤◌, [], ◌∷◌, Bool, true, false, Option, Some, None, refl, sym, subst, subst₂, arith}
+use Rattle.std.proofs.Common.{◌≡◌, ℕ, suc, ◌+◌, ◌≤◌, [], ◌∷◌, Bool, true, false, Option, Some, None, refl, sym, subst}
+use Rattle.std.proofs.Common.{subst₂, arith}
 use Rattle.std.specs.Prelude.{if◌then◌else◌}
 use Rattle.jl_num.specs.Arithmetic.{difference_of, sum_of}
 use Rattle.jl_num.specs.Number.{is_number, Number}
