@@ -13,3 +13,5 @@ mod Shapes
 mod MadeFunctions
 mod HookedNames
 mod Expressions
+mod FewNodes
+mod FewIds
