@@ -132,10 +132,11 @@ def measured(folder, words, log, with_edits):
             while started.poll() is None:
                 gate.look()
                 time.sleep(PAUSE)
-        finally:
-            if started.poll() is None:
-                started.send_signal(signal.SIGINT)
-                started.wait()
+        except KeyboardInterrupt:
+            # What was seen so far is still worth its lines.
+            print("broken off")
+            started.send_signal(signal.SIGINT)
+            started.wait()
     usage = resource.getrusage(resource.RUSAGE_CHILDREN)
     lines = table(gate.rows(), usage.ru_utime + usage.ru_stime, time.monotonic() - began)
     return started.returncode, (gate.edits(folder) if with_edits else []) + lines

@@ -1,7 +1,13 @@
--- Where none of several kinds is chosen.
+-- By whether kinds are chosen, and where none of several is.
 use Rattle.std.proofs.Common.{◌≡◌, Bool, true, false, refl}
 use Rattle.std.specs.Prelude.{◌||◌}
 
+-- either way
+pub split : (b : Bool) (P : Bool → Type 0) → P true → (b ≡ false → P false) → P b
+split true P x y = x
+split false P x y = y refl
+
+-- of two
 pub first_not : (a b : Bool) → (a || b) ≡ false → a ≡ false
 first_not true b e = cc
 first_not false b e = refl

@@ -39,7 +39,7 @@ use Rattle.jl_weave.specs.inner.Fit.{AllFit, Fits, FollowsMember, UnaryFits}
 use Rattle.jl_weave.proofs.Calls.{assign_dot_told, assign_index_told, call_silent, call_told, method_dot_silent}
 use Rattle.jl_weave.proofs.Calls.{method_dot_told, method_index_silent, method_index_told, new_silent, new_told}
 use Rattle.jl_weave.proofs.Calls.{put_dot_told, put_index_told}
-use Rattle.jl_weave.proofs.Chosen.{first_not, none_of, second_not, NoneOf}
+use Rattle.jl_weave.proofs.Chosen.{first_not, none_of, second_not, split, NoneOf}
 use Rattle.jl_weave.proofs.HookCalls.{hook_plain_1, hook_plain_2, hook_worded_1, hook_worded_2, opener_plain_1}
 use Rattle.jl_weave.proofs.HookCalls.{opener_plain_2, opener_worded_2}
 use Rattle.jl_weave.proofs.HookNames.{asks_assign, asks_binary, asks_unary, asks_update, form_A, form_B, form_C, form_F}
@@ -67,10 +67,6 @@ use Rattle.jl_weave.proofs.Updates.{update_index_prefix, update_postfix_told, up
 
 pub less : (id : ℕ) → id + 2 < id_limit → id < id_limit
 less id h = omega arith
-
-split : (b : Bool) (P : Bool → Type 0) → P true → (b ≡ false → P false) → P b
-split true P x y = x
-split false P x y = y refl
 
 module _ {chosen : Kinds} where
   -- by what the second part is, or both are

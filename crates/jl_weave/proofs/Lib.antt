@@ -15,3 +15,17 @@ mod HookedNames
 mod Expressions
 mod FewNodes
 mod FewIds
+mod Completions
+mod Simple
+mod Try
+mod Loops
+mod Statements
+mod Mentions
+mod Declarations
+mod Tables
+mod Turns
+mod Functions
+mod Jobs
+mod Fitting
+mod Recording
+mod Programs

@@ -178,6 +178,18 @@ module _ (chosen : Kinds) where
       at (tree.index o k s) h = absurd h
       at _ h = refl
 
+  -- the ids of a call of what is no member
+  pub call_with_ids : (f : Expr) → IsNoMember f → (j : ℕ) (l : weaving.Exprs)
+      → with_ids j (tree.call (woven chosen f) l tt)
+      ≡ tree.call (with_ids (j + 2) (woven chosen f)) (forest_with_ids (j + 2 + id_count (woven chosen f)) l) j
+  call_with_ids f h j l = at (woven chosen f) (woven_no_member f h)
+    where
+      at : (g : weaving.Expr) → IsNoMember g
+          → with_ids j (tree.call g l tt) ≡ tree.call (with_ids (j + 2) g) (forest_with_ids (j + 2 + id_count g) l) j
+      at (tree.dot o k s) h = absurd h
+      at (tree.index o k s) h = absurd h
+      at _ h = refl
+
 -- CALLEES
 -- a member of what is no name is no hook, and neither is what is no member
 form_of_no_name : (e : Expr) → IsNoName e → (k : Text) → form_of_member e k ≡ no_hook
