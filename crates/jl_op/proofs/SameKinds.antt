@@ -14,7 +14,7 @@ use Rattle.jl_ast.specs.Tree.{init_expression, init_var, declarator, case, branc
 use Rattle.jl_ast.specs.Tree.{present}
 use Rattle.jl_op.specs.declared.kind.OpKind.{OpKind}
 use Rattle.jl_op.specs.declared.kind.OpKind.TheVariants as kind
-use Rattle.jl_op.proofs.IdOrder.{no_deletion, no_member, no_name_type}
+use Rattle.jl_op.proofs.NumberedCalls.{no_deletion, no_member, no_name_type}
 use Rattle.jl_op.specs.Ids.{id_count, forest_id_count, optional_id_count, with_ids, forest_with_ids}
 use Rattle.jl_op.specs.Ids.{optional_with_ids, assignment_id_count, one_if_present}
 use Rattle.jl_op.specs.IdMap.{MapEntries, kinds_in, id_of, place_of, entries, forest_entries, optional_entries}
