@@ -7,3 +7,4 @@ pub mod Listing
 pub mod OneReport
 pub mod OfRules
 pub mod Totals
+pub mod Switching

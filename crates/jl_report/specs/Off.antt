@@ -1,9 +1,9 @@
 -- Comments of a source that switch rules off: `// jlint-off NAMES` does so for the line on which the comment begins, and
 -- `// jlint-off-next NAMES` for the line after it. NAMES are names of rules with commas between them; spaces may follow.
 -- Units stand here by their numbers: 32 is a space, 44 a comma.
-use Rattle.std.specs.Prelude.{ℕ, ◌+◌, Bool, true, false, ◌&&◌, ◌==◌, nat_eq, List, [], ◌∷◌, Option, None, Some}
-use Rattle.std.specs.Prelude.{map, fold, length, drop, codes, if◌then◌else◌}
-use Rattle.std.specs.List.{list_all, list_any, starts_with, slice_split, slice_range, flat_map, position_from}
+use Rattle.std.specs.Prelude.{ℕ, ◌+◌, Bool, ◌&&◌, ◌==◌, List, [], ◌∷◌, ◌++◌, Option, None, Some}
+use Rattle.std.specs.Prelude.{map, fold, codes, if◌then◌else◌}
+use Rattle.std.specs.List.{list_all, list_any, slice_split, slice_range, flat_map, position_from}
 use Rattle.std.specs.Str.{bytes_eq}
 use Rattle.std.specs.Ordering.{nat_cmp, ordering_then}
 use Rattle.std.specs.declared.cmp.Ordering.{Ordering}
@@ -24,9 +24,9 @@ is_off pairs line rule = list_any (λ pair. pair.0 == line && pair.1 == rule) pa
 abbrev pub by_line : Pair → Pair → Ordering
 by_line a b = ordering_then (nat_cmp a.0 b.0) (nat_cmp a.1 b.1)
 
--- these pairs in order, each once
-abbrev pub in_order : List Pair → List Pair
-in_order pairs = fold (insert_key by_line) [] pairs
+-- pairs that are in order, and more of them, each once
+abbrev pub with_pairs : List Pair → (more : List Pair) → List Pair
+with_pairs pairs more = fold (insert_key by_line) pairs more
 
 -- a text without the spaces at its end
 abbrev pub without_last_spaces : List ℕ → List ℕ
@@ -52,23 +52,27 @@ rules_with (name ∷ names) = with_rule (rule_with name) (rules_with names)
 abbrev pub rules_in : List ℕ → Option (List ℕ)
 rules_in us = rules_with (slice_split (λ u. u == 44) (without_last_spaces us))
 
--- what the text of a comment begins with that switches rules off for its own line, or for the next
-abbrev pub for_its_line : List ℕ
-for_its_line = codes " jlint-off "
+-- what follows a word, where a text begins with it
+abbrev pub after : (word : List ℕ) → List ℕ → Option (List ℕ)
+after [] us = Some us
+after (w ∷ ws) [] = None
+after (w ∷ ws) (u ∷ us) = if u == w then after ws us else None
 
-abbrev pub for_next_line : List ℕ
-for_next_line = codes " jlint-off-next "
-
--- pairs of a line with rules; none where no rules are named
+-- pairs of a line with rules, where there are some
 abbrev pub pairs_with : (line : ℕ) → Option (List ℕ) → List Pair
 pairs_with line None = []
 pairs_with line (Some named) = map (λ rule. (line, rule)) named
 
--- the pairs that a comment that begins on a line gives, by its text, which is what follows its `//`
+-- pairs of a line with the rules that a text names, where there is one
+abbrev pub pairs_named : (line : ℕ) → Option (List ℕ) → List Pair
+pairs_named line None = []
+pairs_named line (Some us) = pairs_with line (rules_in us)
+
+-- the pairs that a comment gives which begins on a line, by its text, which is what follows its `//`; no text begins with
+-- both words
 abbrev pub pairs_of_text : (line : ℕ) → List ℕ → List Pair
 pairs_of_text line us =
-    if starts_with nat_eq us for_its_line then pairs_with line (rules_in (drop (length for_its_line) us)) else
-    (if starts_with nat_eq us for_next_line then pairs_with (line + 1) (rules_in (drop (length for_next_line) us)) else [])
+    pairs_named line (after (codes " jlint-off ") us) ++ pairs_named (line + 1) (after (codes " jlint-off-next ") us)
 
 -- the pairs that a comment of a source gives; one between `/*` and `*/` gives none
 abbrev pub pairs_of : (source : List ℕ) → Comment → List Pair
@@ -79,4 +83,4 @@ pairs_of source c =
 
 -- what the comments of a source switch off
 abbrev pub off_by : (source : List ℕ) → List Comment → List Pair
-off_by source comments = in_order (flat_map (pairs_of source) comments)
+off_by source comments = with_pairs [] (flat_map (pairs_of source) comments)
