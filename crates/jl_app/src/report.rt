@@ -34,11 +34,7 @@ pub(crate) fn report(
 }
 
 /// The lines and the columns of places.
-fn positions(
-    alloc: Global,
-    source: &Source,
-    places: &[u32],
-) -> Result<Vec<(u32, u32)>, AllocError>
+fn positions(alloc: Global, source: &Source, places: &[u32]) -> Result<Vec<(u32, u32)>, AllocError>
     ensures { IfOk result (λ found. found.items ≡ positions source.now places.now) }
 {
     let mut positions = Vec::new(alloc);

@@ -1,7 +1,8 @@
-use Rattle.std.proofs.Common.{◌∙◌, ◌++◌, ap, length, arith}
+use Rattle.std.proofs.Common.{◌∙◌, ◌++◌, sym, ap, length}
 use Rattle.jl_meaning.specs.Running.{world_of}
 use Rattle.jl_app.specs.Answers.{woven_run}
 use Rattle.jl_app.specs.Places.{sum_places}
+use Rattle.jl_app.specs.Reporting.{lines_text}
 use Rattle.jl_app.specs.View.{view_script}
 use Rattle.jl_app.specs.Weaving.{woven}
 use Rattle.jl_app.proofs.Answering.{run_of, few_of, answer_is}
@@ -22,6 +23,6 @@ returns-clause-run g c =
           c.in_ok-joined.field-0.items
           is taken (c.in_ok-lines.ensures.report ops is.told (few_of ops c.in_ok-run.run' is.hooks
           c.in_ok-run.ensures.few))
-          c.len-reports.ensures c.run_status-status.ensures (c.deref-3.ensures ∙ c.in_ok-report.ensures)
+          (c.len-reports.ensures ∙ sym c.deref-2.ensures.len ∙ ap length c.deref-2.ensures.value) c.run_status-status.ensures (c.deref-3.ensures.value ∙ c.in_ok-report.ensures ∙ ap lines_text c.deref-2.ensures.value)
           (c.deref-4.ensures ∙ c.in_ok-end.ensures) c.in_ok-joined.ensures,
     )
