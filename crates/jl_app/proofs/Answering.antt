@@ -2,7 +2,7 @@
 use Rattle.std.proofs.Common.{◌≡◌, ℕ, ◌<◌, ◌^◌, ◌++◌, List, [], ◌∷◌, length, refl, ap, ◌∙◌, subst, arith}
 use Rattle.std.specs.Prelude.{Result, Ok, Err, IfOk, OnOk}
 use Rattle.jl_op.specs.Operations.{Operation}
-use Rattle.jl_meaning.specs.Running.{Ends, Fails, Over, Spent, world_of, steps_taken}
+use Rattle.jl_effects.specs.Running.{Ends, Fails, Over, Spent, state_of as world_of, steps_taken}
 use Rattle.jl_app.specs.Runs.{Outcome}
 use Rattle.jl_app.specs.declared.outcome.Outcome.{Outcome as Answered}
 use Rattle.jl_app.specs.declared.status.Status.{Status}

@@ -4,12 +4,12 @@ use Rattle.std.specs.Prelude.{IsErrOf, if◌then◌else◌}
 use Rattle.std.proofs.lemmas.Bool.{le-leb, lt-leb}
 use Rattle.jl_num.specs.Number.{Number}
 use Rattle.jl_op.specs.Operations.{Operation}
-use Rattle.jl_meaning.specs.Effects.{End, Print, Tells, steps, and_then}
-use Rattle.jl_meaning.specs.Running.{Finish, Ends, Fails, Over, with_line, with_hook, output_limit}
-use Rattle.jl_meaning.specs.Growing.{HasLeft}
-use Rattle.jl_meaning.proofs.Chains.{run_then, run_then_fails, run_then_spent, run_steps, run_steps_spent}
-use Rattle.jl_meaning.proofs.Growth.{has_left}
-use Rattle.jl_app.specs.Runs.{Part, World, Outcome, no_jobs, run}
+use Rattle.jl_effects.specs.Effects.{End, Print, Emit, steps, and_then}
+use Rattle.jl_effects.specs.Running.{everything, Finish, Ends, Fails, Over, with_line}
+use Rattle.jl_effects.specs.Growing.{HasLeft}
+use Rattle.jl_effects.proofs.Chains.{run_then, run_then_fails, run_then_spent, run_steps, run_steps_spent}
+use Rattle.jl_effects.proofs.Growth.{has_left}
+use Rattle.jl_app.specs.Runs.{language, Part, World, Outcome, no_jobs, run, with_hook, output_limit}
 use Rattle.jl_value.specs.declared.ending.Fault.{Fault}
 use Rattle.jl_app.specs.declared.outcome.Outcome.{Outcome as Answered}
 use Rattle.jl_app.specs.declared.outcome.Outcome.TheVariants as answers
@@ -35,26 +35,26 @@ module _ {O : Type 0} (stands_for : O → List Operation → Type 0) where
 
   -- the first part is over
   pub comes_then : {A B : Type 0} (n : ℕ) (p : Part A) (k : A → Part B) (w : World) (a : A) (x : Result B Stop) (o1 o2 : O) (s1 s2 : State) → Comes stands_for (run n p w) (Ok a) o1 s1 → ((v : World) → Stands stands_for o1 s1 v → Comes stands_for (run s1.left (k a) v) x o2 s2) → Comes stands_for (run n (and_then p k) w) x o2 s2
-  comes_then n p k w a x o1 o2 s1 s2 h f = comes_is _ _ x o2 s2 (run_then no_jobs k n p w a s1.left h.0 h.1) (f h.0 h.2)
+  comes_then n p k w a x o1 o2 s1 s2 h f = comes_is _ _ x o2 s2 (run_then language everything no_jobs k n p w a s1.left h.0 h.1) (f h.0 h.2)
 
   -- the first part gives no value
   pub comes_stop : {A B : Type 0} (n : ℕ) (p : Part A) (k : A → Part B) (w : World) (e : Stop) (x : Result B Stop) (o : O) (s : State) → x ≡ Err e → Comes stands_for (run n p w) (Err e) o s → Comes stands_for (run n (and_then p k) w) x o s
   comes_stop n p k w e x o s is h = subst (λ z. Comes stands_for (run n (and_then p k) w) z o s) (sym is) (stopped e h)
     where
       stopped : (e : Stop) → Comes stands_for (run n p w) (Err e) o s → Comes stands_for (run n (and_then p k) w) (Err e) o s
-      stopped (stops.Fault f) h = (h.0, run_then_fails no_jobs k n p w f s.left h.0 h.1, h.2)
-      stopped stops.Spent h = (h.0, run_then_spent no_jobs k n p w h.0 h.1, h.2, h.3)
+      stopped (stops.Fault f) h = (h.0, run_then_fails language everything no_jobs k n p w f s.left h.0 h.1, h.2)
+      stopped stops.Spent h = (h.0, run_then_spent language everything no_jobs k n p w h.0 h.1, h.2, h.3)
       stopped stops.NoMemory h = tt
 
   -- steps are taken
   pub comes_steps : {A : Type 0} (k n m : ℕ) (p : Part A) (w : World) (x : Result A Stop) (o : O) (s : State) → m + k ≡ n → Comes stands_for (run m p w) x o s → Comes stands_for (run n (steps k p) w) x o s
-  comes_steps k n m p w x o s e h = comes_is _ _ x o s (run_steps no_jobs k n m p w e) h
+  comes_steps k n m p w x o s e h = comes_is _ _ x o s (run_steps language everything no_jobs k n m p w e) h
 
   -- fewer steps are left
   pub comes_spent : {A : Type 0} (k n : ℕ) (p : Part A) (w : World) (x : Result A Stop) (e : Stop) (o : O) (s : State) → x ≡ Err e → IsErrOf {T = Unit {0}} (Err e) stops.Spent → n < k → s.left ≡ 0 → Stands stands_for o s w → Comes stands_for (run n (steps k p) w) x o s
   comes_spent k n p w x e o s is spent few left st =
       let same : e ≡ stops.Spent = cc in
-      subst (λ y. Comes stands_for (run n (steps k p) w) y o s) (sym (is ∙ ap Err same)) (w, run_steps_spent no_jobs k n p w few, left, st)
+      subst (λ y. Comes stands_for (run n (steps k p) w) y o s) (sym (is ∙ ap Err same)) (w, run_steps_spent language everything no_jobs k n p w few, left, st)
 
   -- a line is printed, where there is room for it
   module _ (s t : State) (w : World) (o : O) (x : Number) (left : t.left ≡ s.left) (hooks : t.hooks ≡ s.hooks) (st : Stands stands_for o s w) where
@@ -89,7 +89,7 @@ module _ {O : Type 0} (stands_for : O → List Operation → Type 0) where
   -- the hook of a binary operation: its step, and the result, if there is one
   module _ (id : OpId) (op : Operator) (x y : Number) (n m : ℕ) (w : World) (step : m + 1 ≡ n) where
     abbrev tells : Number → Part Number
-    tells z = Tells (id, Binary (in_tree op) (seen x) (seen y) (seen z)) (End z)
+    tells z = Emit (id, Binary (in_tree op) (seen x) (seen y) (seen z)) (End z)
 
     pub no_result : (r : Result Number Stop) (o : O) (s : State) → result_of op x y ≡ None → r ≡ Err (stops.Fault NumberOutside) → s.left ≡ m → Stands stands_for o s w → Comes stands_for (run n (hooked_operation id op x y) w) r o s
     no_result r o s none is left st =
@@ -123,8 +123,8 @@ module _ {O : Type 0} (stands_for : O → List Operation → Type 0) where
         (λ v st. comes_then s1.left (hooked_value b) (hooked_operation id op u) v y x o2 o3 s2 s3 (f v st) g))
 
 -- A run has no more steps left than it began with.
-left_within : {A : Type 0} (n : ℕ) (p : Part A) (w : World) (e : Finish A) (m : ℕ) (v : World) → run n p w ≡ Over e m v → m ≤ n
-left_within n p w e m v is = subst (HasLeft n) is (has_left no_jobs n p w)
+left_within : {A : Type 0} (n : ℕ) (p : Part A) (w : World) (e : Finish Fault A) (m : ℕ) (v : World) → run n p w ≡ Over e m v → m ≤ n
+left_within n p w e m v is = subst (HasLeft n) is (has_left language everything no_jobs n p w)
 
 module _ {O A : Type 0} (stands_for : O → List Operation → Type 0) (n : ℕ) (p : Part A) (w : World) (o : O) (s : State) where
   pub left_ok : (a : A) → Comes stands_for (run n p w) (Ok a) o s → s.left ≤ n

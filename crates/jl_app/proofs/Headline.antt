@@ -3,11 +3,13 @@ use Rattle.std.proofs.Common.{◌≡◌, ℕ, ◌+◌, ◌-◌, ◌*◌, ◌≤�
 use Rattle.std.proofs.Common.{ap, ◌∙◌, subst, arith}
 use Rattle.std.specs.Prelude.{IfSome}
 use Rattle.jl_port.specs.Bytes.{Grows}
-use Rattle.jl_meaning.specs.Running.{Finish, Ends, Fails, Over, Spent, IsOver, world_of, steps_taken}
-use Rattle.jl_meaning.specs.Matching.{SameSeen, Alike, Simulates}
-use Rattle.jl_meaning.proofs.Growth.{run_more}
-use Rattle.jl_meaning.proofs.Simulation.{simulates}
-use Rattle.jl_app.specs.Runs.{Outcome, World, no_jobs, nothing_done}
+use Rattle.jl_effects.specs.Running.{any, everything, Finish, Ends, Fails, Over, Spent, IsOver, state_of as world_of, steps_taken}
+use Rattle.jl_effects.specs.Matching.{SameSeen, Alike, Simulates}
+use Rattle.jl_effects.proofs.Growth.{run_more}
+use Rattle.jl_effects.proofs.Traces.{filter_any}
+use Rattle.jl_effects.proofs.Simulation.{simulates}
+use Rattle.jl_value.specs.declared.ending.Fault.{Fault}
+use Rattle.jl_app.specs.Runs.{language, Outcome, World, no_jobs, nothing_done}
 use Rattle.jl_app.specs.declared.status.Status.{Status}
 use Rattle.jl_app.specs.Sums.{Script}
 use Rattle.jl_app.specs.Places.{places}
@@ -31,19 +33,19 @@ use Rattle.jl_app.specs.Endings.{IsAboutOwnRun}
 use Rattle.jl_app.proofs.Simulation.{no_pair, script_matches}
 use Rattle.jl_app.proofs.Refusing.{never_both}
 
-pub script_simulates : (s : Script) → Simulates (own_run_of s) (woven_run_of s)
+pub script_simulates : (s : Script) → Simulates any (own_run_of s) (woven_run_of s)
 unfolding own_run_of hooked_run
 script_simulates s =
-    simulates no_pair no_jobs no_jobs (λ i. absurd i) tt (script s) (hooked_script (woven s.argument 5)) (script_matches s)
+    simulates language any no_pair no_jobs no_jobs (λ i. absurd i) tt (script s) (hooked_script (woven s.argument 5)) (script_matches s)
 
 -- What alike runs share.
 
-same_status : {A : Type 0} (own woven : Outcome A) (lines : Lines) → Alike own woven
+same_status : {A : Type 0} (own woven : Outcome A) (lines : Lines) → Alike any own woven
     → run_status woven lines ≡ run_status own lines
 same_status {A = A} (Over e m v) (Over f n w) lines a = ap (λ x. run_status (Over x n w) lines) a.0
     ∙ finish_status e m n v w lines
   where
-    finish_status : (e : Finish A) (m n : ℕ) (v w : World) (lines : Lines)
+    finish_status : (e : Finish Fault A) (m n : ℕ) (v w : World) (lines : Lines)
         → run_status (Over e n w) lines ≡ run_status (Over e m v) lines
     finish_status (Ends a) m n v w [] = refl
     finish_status (Ends a) m n v w (line ∷ lines) = refl
@@ -51,21 +53,21 @@ same_status {A = A} (Over e m v) (Over f n w) lines a = ap (λ x. run_status (Ov
 same_status (Over e m v) (Spent w) lines a = absurd a
 same_status (Spent v) r lines a = absurd a
 
-same_text : {A : Type 0} (own woven : Outcome A) → Alike own woven → end_text woven ≡ end_text own
+same_text : {A : Type 0} (own woven : Outcome A) → Alike any own woven → end_text woven ≡ end_text own
 same_text {A = A} (Over e m v) (Over f n w) a = ap (λ x. end_text (Over x n w)) a.0 ∙ finish_text e m n v w
   where
-    finish_text : (e : Finish A) (m n : ℕ) (v w : World) → end_text (Over e n w) ≡ end_text (Over e m v)
+    finish_text : (e : Finish Fault A) (m n : ℕ) (v w : World) → end_text (Over e n w) ≡ end_text (Over e m v)
     finish_text (Ends a) m n v w = refl
     finish_text (Fails f) m n v w = refl
 same_text (Over e m v) (Spent w) a = absurd a
 same_text (Spent v) r a = absurd a
 
-same_seen : {A : Type 0} (own woven : Outcome A) → Alike own woven → SameSeen (world_of own) (world_of woven)
+same_seen : {A : Type 0} (own woven : Outcome A) → Alike any own woven → SameSeen any (world_of own) (world_of woven)
 same_seen (Over e m v) (Over f n w) a = a.1
 same_seen (Over e m v) (Spent w) a = absurd a
 same_seen (Spent v) r a = absurd a
 
-alike_over : {A : Type 0} (own woven : Outcome A) → Alike own woven → IsOver woven
+alike_over : {A : Type 0} (own woven : Outcome A) → Alike any own woven → IsOver woven
 alike_over (Over e m v) (Over f n w) a = tt
 alike_over (Over e m v) (Spent w) a = absurd a
 alike_over (Spent v) r a = absurd a
@@ -75,15 +77,15 @@ same_steps : (n d : ℕ) (s : Script) (own : Outcome (Unit {0})) → own_run_of 
     → IsOver own → steps_taken (n + d) (own_run_of s (n + d)) ≡ steps_taken n own
 unfolding own_run_of
 same_steps n d s (Over e left v) is over =
-    ap (steps_taken (n + d)) (run_more no_jobs n (n + d) d (script s) nothing_done e left v refl is)
+    ap (steps_taken (n + d)) (run_more language everything no_jobs n (n + d) d (script s) nothing_done e left v refl is)
     ∙ (let same : (n + d) - (left + d) ≡ n - left = omega arith in same)
 same_steps n d s (Spent v) is over = absurd over
 
 module _ (units : List ℕ) (s : Script) (over : IsOver (own_run s)) where
-  alike : Alike (own_run s) (woven_run s)
+  alike : Alike any (own_run s) (woven_run s)
   alike = (script_simulates s).follows budget over
 
-  seen : SameSeen (world_of (own_run s)) (world_of (woven_run s))
+  seen : SameSeen any (world_of (own_run s)) (world_of (woven_run s))
   seen = same_seen (own_run s) (woven_run s) alike
 
   taken : steps_taken woven_budget (own_run_of s woven_budget) ≡ steps_taken budget (own_run s)
@@ -94,7 +96,8 @@ module _ (units : List ℕ) (s : Script) (over : IsOver (own_run s)) where
       → call.knows (run_answer s lines).told
       → IsAboutOwnRun call units s (run_answer s lines).status
   about {call} lines report grows knows =
-      let hooks : (world_of (woven_run s)).hooks ≡ (world_of (own_run s)).operations = seen.hooks in
+      let hooks : (world_of (woven_run s)).hooks ≡ (world_of (own_run s)).operations =
+      seen.hooks ∙ filter_any (world_of (own_run s)).operations in
       let steps = steps_taken woven_budget (woven_run s) in
       let ended = alike_over (own_run s) (woven_run s) alike in
       record {

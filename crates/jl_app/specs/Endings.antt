@@ -3,7 +3,7 @@ use Rattle.std.specs.Prelude.{◌≡◌, ℕ, ◌<◌, ◌≤◌, ◌*◌, ◌+�
 use Rattle.jl_op.specs.Operations.{Operation}
 use Rattle.jl_port.specs.Bytes.{Grows}
 use Rattle.jl_port.specs.Count.{HasRisen}
-use Rattle.jl_meaning.specs.Running.{world_of, steps_taken}
+use Rattle.jl_effects.specs.Running.{state_of as world_of, steps_taken}
 use Rattle.jl_app.specs.declared.status.Status.{Status}
 use Rattle.jl_app.specs.declared.status.Status.TheVariants as status
 use Rattle.jl_app.specs.Sums.{Script}

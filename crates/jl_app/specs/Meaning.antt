@@ -16,7 +16,7 @@ use Rattle.jl_value.specs.declared.object.ObjId.{ObjId}
 use Rattle.jl_value.specs.declared.value.Seen.{Seen}
 use Rattle.jl_value.specs.declared.value.Value.TheVariants.{Undefined, Num, Obj}
 use Rattle.jl_value.specs.BuiltinPlaces.{print_row, place_of_builtin}
-use Rattle.jl_meaning.specs.Effects.{End, Fail, Step, Print, Does, steps, ◌>>=◌}
+use Rattle.jl_effects.specs.Effects.{End, Fail, Step, Print, Perform, steps, ◌>>=◌}
 use Rattle.jl_app.specs.Form.{in_tree}
 use Rattle.jl_app.specs.Runs.{Part}
 use Rattle.jl_app.specs.Sums.{Sum, number, binary, Script, parts}
@@ -73,22 +73,22 @@ printed n = number_text n 10
 -- what a sum does to give its value, where `before` ids are taken before its own: both operands are evaluated, from left
 -- to right, and then the operator is applied (11.5, 11.6)
 abbrev pub value_of : Sum → (before : ℕ) → Part Number
-value_of (number at n) before = Step (Does (with_id before (Literal (seen n))) (End n))
+value_of (number at n) before = Step (Perform (with_id before (Literal (seen n))) (End n))
 value_of (binary at op a b) before = Step do
   x ← value_of a (before + 1)
   y ← value_of b (before + 1 + parts a)
   z ← or_outside (result_of op x y)
-  Does (with_id before (Binary (in_tree op) (seen x) (seen y) (seen z))) (End z)
+  Perform (with_id before (Binary (in_tree op) (seen x) (seen y) (seen z))) (End z)
 
 -- what the call of `print` does, once its argument is evaluated: it is known to be callable, the builtin is entered, its
 -- loop has a turn for the one argument, and it returns
 abbrev pub print_call : Number → Part (Unit {0})
-print_call x = Does (with_id 2 (print_called x)) (steps 2 (Print (printed x) (
-    Does (with_id 3 print_returned) (End tt))))
+print_call x = Perform (with_id 2 (print_called x)) (steps 2 (Print (printed x) (
+    Perform (with_id 3 print_returned) (End tt))))
 
 -- up to the argument: the script's one statement, the call in it, and the name `print`
 abbrev pub script_begin : Part (Unit {0})
-script_begin = Does (with_id 0 ScriptEnter) (steps 3 (Does (with_id 4 print_read) (End tt)))
+script_begin = Perform (with_id 0 ScriptEnter) (steps 3 (Perform (with_id 4 print_read) (End tt)))
 
 -- what a script does
 abbrev pub script : Script → Part (Unit {0})
@@ -96,4 +96,4 @@ script s = do
   _ ← script_begin
   x ← value_of s.argument 5
   _ ← print_call x
-  Does (with_id 1 ScriptExit) (End tt)
+  Perform (with_id 1 ScriptExit) (End tt)

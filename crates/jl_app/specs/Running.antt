@@ -1,11 +1,11 @@
 -- How a run in progress stands to what its part does.
 use Rattle.std.specs.Prelude.{◌≡◌, ◌<◌, ℕ, List, [], ◌∷◌, ◌++◌, length, Result, Ok, Err}
 use Rattle.jl_op.specs.Operations.{Operation}
-use Rattle.jl_meaning.specs.Running.{Ends, Fails, Over, Spent, output_limit, world_of, steps_taken}
+use Rattle.jl_effects.specs.Running.{Ends, Fails, Over, Spent, state_of as world_of, steps_taken}
 use Rattle.jl_num.specs.Number.{Number}
 use Rattle.jl_value.specs.declared.ending.Fault.TheVariants.{OutputTooLong}
 use Rattle.jl_app.specs.Meaning.{printed}
-use Rattle.jl_app.specs.Runs.{Part, World, Outcome, run}
+use Rattle.jl_app.specs.Runs.{Part, World, Outcome, run, output_limit}
 use Rattle.jl_app.specs.declared.outcome.Outcome.{Outcome as End}
 use Rattle.jl_app.specs.declared.outcome.Outcome.TheVariants as ends
 use Rattle.jl_app.specs.declared.outcome.Run.{Run}

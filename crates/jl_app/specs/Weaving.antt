@@ -5,7 +5,7 @@ use Rattle.jl_num.specs.Number.{Number}
 use Rattle.jl_app.specs.declared.tree.Operator.{Operator}
 use Rattle.jl_op.specs.declared.op.OpId.{OpId}
 use Rattle.jl_op.specs.declared.op.Op.TheVariants.{ScriptEnter, ScriptExit, Literal, Binary}
-use Rattle.jl_meaning.specs.Effects.{End, Step, Print, Tells, steps, ◌>>=◌}
+use Rattle.jl_effects.specs.Effects.{End, Step, Print, Emit, steps, ◌>>=◌}
 use Rattle.jl_app.specs.Form.{in_tree}
 use Rattle.jl_app.specs.Runs.{Part, Outcome, nothing_done, run}
 use Rattle.jl_app.specs.Sums.{Sum, number, binary, parts}
@@ -27,12 +27,12 @@ woven (binary at op a b) before =
 abbrev pub hooked_operation : OpId → Operator → Number → Number → Part Number
 hooked_operation id op x y = Step do
   z ← or_outside (result_of op x y)
-  Tells (id, Binary (in_tree op) (seen x) (seen y) (seen z)) (End z)
+  Emit (id, Binary (in_tree op) (seen x) (seen y) (seen z)) (End z)
 
 -- what a woven sum does to give its value. A call of a hook takes a step, its arguments take theirs, and the hook is
 -- entered with a step.
 abbrev pub hooked_value : Hooked → Part Number
-hooked_value (hooked_literal id n) = steps 3 (Tells (id, Literal (seen n)) (End n))
+hooked_value (hooked_literal id n) = steps 3 (Emit (id, Literal (seen n)) (End n))
 hooked_value (hooked_binary id op a b) = Step do
   x ← hooked_value a
   y ← hooked_value b
@@ -40,24 +40,24 @@ hooked_value (hooked_binary id op a b) = Step do
 
 -- `J$.S(1);` is a statement, a call and a hook
 abbrev pub hooked_enter : Part (Unit {0})
-hooked_enter = steps 3 (Tells (with_id 0 ScriptEnter) (End tt))
+hooked_enter = steps 3 (Emit (with_id 0 ScriptEnter) (End tt))
 
 -- the second statement and its call, the call of `J$.F`, that of `J$.R`, the name `print`, and the two hooks, of which
 -- `J$.F` only gives the callee on
 abbrev pub hooked_callee : Part (Unit {0})
-hooked_callee = steps 6 (Tells (with_id 4 print_read) (Step (End tt)))
+hooked_callee = steps 6 (Emit (with_id 4 print_read) (Step (End tt)))
 
 -- the call that `J$.F` prepared does what the call of `print` does by itself: the builtin is entered, and its loop has a
 -- turn for the one argument
 abbrev pub hooked_invoke : Number → Part (Unit {0})
-hooked_invoke x = Tells (with_id 2 (print_called x)) (steps 2 (Print (printed x) (End tt)))
+hooked_invoke x = Emit (with_id 2 (print_called x)) (steps 2 (Print (printed x) (End tt)))
 
 abbrev pub hooked_return : Part (Unit {0})
-hooked_return = Tells (with_id 3 print_returned) (End tt)
+hooked_return = Emit (with_id 3 print_returned) (End tt)
 
 -- `J$.X(2);`
 abbrev pub hooked_end : Part (Unit {0})
-hooked_end = steps 3 (Tells (with_id 1 ScriptExit) (End tt))
+hooked_end = steps 3 (Emit (with_id 1 ScriptExit) (End tt))
 
 -- what a woven script does
 abbrev pub hooked_script : Hooked → Part (Unit {0})

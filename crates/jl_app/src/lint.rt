@@ -4,7 +4,7 @@ ghost use Rattle.jl_ast.specs.View.{view};
 ghost use Rattle.jl_analysis.specs.Rules.{all_rules};
 ghost use Rattle.jl_token.specs.Tokens.{Tokens};
 ghost use Rattle.jl_token.specs.declared.token.Token.{Token as OneToken};
-ghost use Rattle.jl_meaning.specs.Running.{world_of};
+ghost use Rattle.jl_effects.specs.Running.{state_of as world_of};
 ghost use Rattle.jl_app.specs.Answers.{Due, IsLinted, IsRunAnswer, end_line, woven_run};
 ghost use Rattle.jl_app.specs.Form.{script_of};
 ghost use Rattle.jl_app.specs.Reporting.{Lines};

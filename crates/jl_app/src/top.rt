@@ -8,7 +8,7 @@ ghost use Rattle.jl_app.specs.Answers.{Due, IsDue, own_run};
 ghost use Rattle.jl_app.specs.Commands.{texts, words_of};
 ghost use Rattle.jl_app.specs.Endings.{EndsWith, HasAnswered, IsAboutOwnRun};
 ghost use Rattle.jl_app.specs.Sums.{Script};
-ghost use Rattle.jl_meaning.specs.Running.{IsOver};
+ghost use Rattle.jl_effects.specs.Running.{IsOver};
 ghost use Rattle.jl_text.specs.Encoding.{units_of};
 ghost use Rattle.jl_app.specs.declared.command.Command.{Command as Named};
 ghost use Rattle.jl_app.specs.declared.top.Unanswered.TheVariants.{NoMemory};

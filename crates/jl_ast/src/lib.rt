@@ -13,6 +13,3 @@ pub use ops::{BinOp, UnOp};
 pub use tree::{
     Body, Case, Entry, Expr, ExprKind, ForInit, Function, Ident, Program, Stmt, StmtKind, Target,
 };
-
-#[cfg(test)]
-mod tests;

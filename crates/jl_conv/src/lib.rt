@@ -10,6 +10,3 @@ mod numerals;
 pub use comparisons::{primitive_equal, primitive_less, strict_equal};
 pub use conversions::{primitive_to_num, primitive_to_text, to_boolean, type_name};
 pub use numerals::text_to_num;
-
-#[cfg(test)]
-mod tests;

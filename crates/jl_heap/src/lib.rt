@@ -21,6 +21,3 @@ mod shorten;
 pub use heap::Heap;
 pub use inner::Inner;
 pub use property::{Change, Defined, Prop};
-
-#[cfg(test)]
-mod tests;

@@ -15,6 +15,3 @@ pub use characters::{is_digit, is_hex_digit, is_line_terminator, is_white_space}
 pub use comment_list::comments;
 pub use jl_token::Comment;
 pub use lexer::{LexRefusal, lex};
-
-#[cfg(test)]
-mod tests;

@@ -1,7 +1,3 @@
-pub mod Growth
-pub mod Chains
-pub mod Follow
-pub mod Match
-pub mod Rows
-pub mod Simulation
-pub mod Examples
+mod SameTable
+mod KeptHooks
+mod Places

@@ -1,4 +1,4 @@
-//! What scripts mean: trees of effects, their runs, and laws about these.
+//! What scripts mean. The definitions of the language stand in `specs/`; here are laws about them.
 #![tactic(auto)]
 
 pub mod laws;

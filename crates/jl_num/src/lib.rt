@@ -16,6 +16,3 @@ pub use num::{Num, NumberOutside};
 pub use order::compare;
 pub use power::pow;
 pub use text::digits;
-
-#[cfg(test)]
-mod tests;

@@ -4,6 +4,3 @@
 mod numbers;
 
 pub use numbers::number;
-
-#[cfg(test)]
-mod tests;

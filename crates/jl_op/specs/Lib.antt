@@ -4,3 +4,6 @@ pub mod Laws
 pub mod Map
 pub mod Operations
 pub mod Trace
+pub mod Chosen
+pub mod Ids
+pub mod IdMap

@@ -7,6 +7,3 @@ mod store;
 
 pub use entries::Entry;
 pub use store::Store;
-
-#[cfg(test)]
-mod tests;

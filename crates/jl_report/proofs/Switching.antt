@@ -13,7 +13,7 @@ use Rattle.std.proofs.lemmas.Option.{slice_get_within, get_or_from_slice_get}
 use Rattle.jl_text.specs.Places.{ends_line, position_from as walked, position_of}
 use Rattle.jl_token.specs.declared.token.Comment.{Comment}
 use Rattle.jl_token.specs.Tokens.{CommentsInOrder}
-use Rattle.jl_analysis.specs.Rules.{rules, name_at}
+use Rattle.jl_analysis.specs.Rules.{rules, rule_count, name_at}
 use Rattle.jl_analysis.proofs.RuleNames.{rule_names, named}
 use Rattle.jl_report.specs.Off.{Pair, with_pairs, without_last_spaces, with_rule}
 use Rattle.jl_report.specs.Off.{after, pairs_of}
@@ -49,7 +49,7 @@ rule_turn name x rule h e =
     ∙ ap (λ y. y ∷ drop (suc (rule - 1)) rule_names) (get_or_from_slice_get rule_names (rule - 1) x x at))
     ∙ ap (λ n. cond (bytes_eq name x) (Some rule) (position_from (bytes_eq name) (rule + 1) (drop n rule_names))) next
 
-pub rule_end : (name : List ℕ) (n : ℕ) → position_from (bytes_eq name) n (drop 20 rule_names) ≡ None
+pub rule_end : (name : List ℕ) (n : ℕ) → position_from (bytes_eq name) n (drop rule_count rule_names) ≡ None
 unfolding rules
 rule_end name n = refl
 

@@ -10,7 +10,7 @@ ghost use Rattle.jl_report.specs.Off.{without_last_spaces, rule_with, rules_in, 
 ghost use Rattle.jl_report.specs.Off.{with_pairs, pairs_named, pairs_of, off_by};
 
 use crate::off_list::Off;
-use jl_analysis::rule_name;
+use jl_analysis::{RULE_COUNT, rule_name};
 use jl_lex::Comment;
 use jl_text::Lines;
 use std::alloc::{AllocError, Global};
@@ -133,7 +133,7 @@ fn first_comma(text: &[u16]) -> Option<usize>
 fn rule_with(name: &[u16]) -> Option<u32>
     ensures { result ≡ rule_with name.now }
 {
-    for rule in 1..=20 {
+    for rule in 1..=RULE_COUNT {
         if is_spelled(name, rule_name(rule)) {
             return Some(rule);
         }

@@ -24,14 +24,14 @@ same : (x y : Text) → same_text x y ≡ true → x ≡ y
 same x y e = (bytes_eq-Decides x y).0 e
 
 -- a name that is there already adds nothing
-there_already : (x y : Text) (l : List Text) → among y l ≡ true → among x l ≡ (among x l || same_text x y)
+pub there_already : (x y : Text) (l : List Text) → among y l ≡ true → among x l ≡ (among x l || same_text x y)
 there_already x y l p = by (same_text x y) refl
   where
     by : (t : Bool) → same_text x y ≡ t → among x l ≡ (among x l || t)
     by true e = ap (λ z. among z l) (same x y e) ∙ p ∙ sym (or_true (among x l))
     by false e = sym (or_false (among x l))
 
-with_one : (x y : Text) (l : List Text) → among x (with_name l y) ≡ (among x l || same_text x y)
+pub with_one : (x y : Text) (l : List Text) → among x (with_name l y) ≡ (among x l || same_text x y)
 with_one x y l = by (among y l) refl
   where
     by : (t : Bool) → among y l ≡ t → among x (with_name l y) ≡ (among x l || same_text x y)

@@ -7,6 +7,7 @@ use Rattle.jl_text.specs.declared.span.Span.{Span}
 use Rattle.jl_ast.specs.declared.tree.Expr.{Expr}
 use Rattle.jl_ast.specs.declared.tree.Ident.{Ident}
 use Rattle.jl_ast.specs.Tree.{Sort, Tree, Forest, more, Text}
+use Rattle.jl_ast.specs.Tree as ident
 use Rattle.jl_ast.specs.View.{view_ident, view_expression, view_optional, item}
 use Rattle.jl_scope.specs.declared.rules.EarlyRule.TheVariants.{StrictParam}
 use Rattle.jl_scope.specs.Names.{among, with_name}
@@ -14,6 +15,8 @@ use Rattle.jl_scope.specs.EarlyErrors.{early_errors, forest_early_errors, option
 use Rattle.jl_scope.specs.EarlyErrors.{parameter_early_errors}
 use Rattle.jl_scope.specs.Kinds.{EarlyError, first_from, sooner}
 use Rattle.jl_scope.specs.Scope.{Scope}
+use Rattle.jl_scope.specs.inner.NameSets.{SameNames}
+use Rattle.jl_scope.proofs.NameLists.{with_name_same}
 
 -- the first of two lists is found in the one and then in the other
 pub first_from-append : (a : Option EarlyError) (l m : List EarlyError) → first_from a (l ++ m) ≡ first_from (first_from a l) m
@@ -67,17 +70,27 @@ turn V h each s xs i a f g r item below before now =
     ∙ sym (first_from-append f (early_errors s (h a)) (forest_early_errors s (V rest)))
     ∙ ap (λ l. first_from f l) (sym all) ∙ before
 
+-- what is wrong with parameters after others depends on the names of these alone
+parameters_same : (s : Scope) (l : List (ident.Ident Span)) (a b : List Text) → SameNames a b →
+    parameter_early_errors s a l ≡ parameter_early_errors s b l
+parameters_same s [] a b same = refl
+parameters_same s (x ∷ l) a b same =
+    ap (λ t. broken_if (s.strict && t) StrictParam x.at ++ written_early_errors s x.text x.at
+    ++ parameter_early_errors s (with_name a x.text) l) (same x.text)
+    ∙ ap (λ m. broken_if (s.strict && among x.text b) StrictParam x.at ++ written_early_errors s x.text x.at ++ m)
+    (parameters_same s l (with_name a x.text) (with_name b x.text) (with_name_same x.text a b same))
+
 -- a turn of a loop over parameters
 pub parameter_turn : (s : Scope) (xs : List Ident) (i : ℕ) (a : Ident) (f g r : Option EarlyError)
     (before after : List Text) → a ≡ get_or xs i a → i < length xs →
     first_from f (parameter_early_errors s before (map view_ident (drop i xs))) ≡ r →
     g ≡ first_from f (broken_if (s.strict && among a.text before) StrictParam a.span
-    ++ written_early_errors s a.text a.span) → after ≡ with_name before a.text →
+    ++ written_early_errors s a.text a.span) → SameNames after (with_name before a.text) →
     first_from g (parameter_early_errors s after (map view_ident (drop (i + 1) xs))) ≡ r
 parameter_turn s xs i a f g r before after item below was now next =
     let rest = map view_ident (drop (i + 1) xs) in
     let here = broken_if (s.strict && among a.text before) StrictParam a.span ++ written_early_errors s a.text a.span in
     ap (λ b. first_from b (parameter_early_errors s after rest)) now
-    ∙ ap (λ b. first_from (first_from f here) (parameter_early_errors s b rest)) next
+    ∙ ap (λ l. first_from (first_from f here) l) (parameters_same s rest after (with_name before a.text) next)
     ∙ sym (first_from-append f here (parameter_early_errors s (with_name before a.text) rest))
     ∙ ap (λ l. first_from f (parameter_early_errors s before (map view_ident l))) (sym (front xs i a item below)) ∙ was

@@ -2,7 +2,6 @@
 -- variable, a function or the parameter of a `catch` is declared. Keys, names after a dot and labels are no mentions,
 -- and what functions hold is not looked at.
 use Rattle.std.specs.Prelude.{Bool, false, ◌||◌}
-use Rattle.jl_text.specs.declared.span.Span.{Span}
 use Rattle.jl_ast.specs.Tree.{Text, Sort, Tree, Forest, OptionalTree, name, array, object, dot, index, call, new, unary}
 use Rattle.jl_ast.specs.Tree.{update, binary, and, or, conditional, assign, comma, to_name, to_dot, to_index, filled}
 use Rattle.jl_ast.specs.Tree.{value, body, var, expression, block, if_else, do_while, while, for, for_in, return}
@@ -12,7 +11,7 @@ use Rattle.jl_scope.specs.Names.{same_text, among}
 use Rattle.jl_scope.specs.Hoisting.{function_names}
 
 abbrev mutual
-  pub mentions : Text → {x : Sort} → Tree Span x → Bool
+  pub mentions : {S : Type 0} → Text → {x : Sort} → Tree S x → Bool
   mentions x (name y at) = same_text x y
   mentions x (array l at) = forest_mentions x l
   mentions x (object l at) = forest_mentions x l
@@ -55,10 +54,10 @@ abbrev mutual
   mentions x (catch y l) = same_text x y.text || forest_mentions x l
   mentions x _ = false
 
-  pub forest_mentions : Text → {x : Sort} → Forest Span x → Bool
+  pub forest_mentions : {S : Type 0} → Text → {x : Sort} → Forest S x → Bool
   forest_mentions x end = false
   forest_mentions x (more t l) = mentions x t || forest_mentions x l
 
-  pub optional_mentions : Text → {x : Sort} → OptionalTree Span x → Bool
+  pub optional_mentions : {S : Type 0} → Text → {x : Sort} → OptionalTree S x → Bool
   optional_mentions x absent = false
   optional_mentions x (present t) = mentions x t

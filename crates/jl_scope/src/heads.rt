@@ -5,6 +5,7 @@ ghost use Rattle.jl_ast.specs.View.{view_ident};
 ghost use Rattle.jl_scope.specs.Kinds.{first_from};
 ghost use Rattle.jl_scope.specs.Names.{among, with_name};
 ghost use Rattle.jl_scope.specs.Steps.{scope_of};
+ghost use Rattle.jl_scope.specs.inner.NameSets.{SameNames};
 ghost use Rattle.jl_scope.specs.EarlyErrors.{head_early_errors, parameter_early_errors, broken_if, written_early_errors};
 
 use crate::found::Found;
@@ -47,7 +48,7 @@ fn offer_parameter<'a>(
     s: &Scope<'_>,
     found: &mut Found<'_>,
 ) -> Result<(), NoMemory>
-    ensures before { OnOk result (before.new ≡ with_name before.old p.now.text) }
+    ensures before { OnOk result (SameNames before.new (with_name before.old p.now.text)) }
     ensures found { OnOk result (found.new ≡ first_from found.old
         (broken_if (s.now.strict && among p.now.text before.old) EarlyRule.StrictParam p.now.span
         ++ written_early_errors (scope_of s.now) p.now.text p.now.span)) }

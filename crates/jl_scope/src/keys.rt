@@ -4,6 +4,7 @@ ghost use Rattle.std.specs.Prelude.{◌≡◌, OnOk};
 ghost use Rattle.jl_ast.specs.View.{view_entry, view_entries};
 ghost use Rattle.jl_scope.specs.Kinds.{first_from};
 ghost use Rattle.jl_scope.specs.Steps.{scope_of, keys_of};
+ghost use Rattle.jl_scope.specs.inner.NameSets.{SameKeys};
 ghost use Rattle.jl_scope.specs.EarlyErrors.{key_early_errors, literal_early_errors, no_keys, with_key};
 
 use crate::found::Found;
@@ -21,7 +22,8 @@ pub(crate) struct Keys<'a> {
     setters: NameSet<'a>,
 }
 
-/// What is wrong with the keys of an object literal (11.1.5). It takes constant time a key on average.
+/// What is wrong with the keys of an object literal (11.1.5). It takes the logarithm of their number for each, whatever
+/// the keys.
 pub(crate) fn offer_keys(
     entries: &[Entry],
     s: &Scope<'_>,
@@ -47,7 +49,7 @@ fn offer_key<'a>(
     s: &Scope<'_>,
     found: &mut Found<'_>,
 ) -> Result<(), NoMemory>
-    ensures keys { OnOk result (keys_of keys.new ≡ with_key (keys_of keys.old) (view_entry entry.now)) }
+    ensures keys { OnOk result (SameKeys (keys_of keys.new) (with_key (keys_of keys.old) (view_entry entry.now))) }
     ensures found { OnOk result (found.new
         ≡ first_from found.old (key_early_errors (scope_of s.now) (keys_of keys.old) (view_entry entry.now))) }
 {

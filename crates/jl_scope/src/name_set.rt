@@ -1,15 +1,17 @@
-ghost use Rattle.std.specs.Prelude.{◌≡◌, [], map, not, IfOk, OnOk};
+ghost use Rattle.std.specs.Prelude.{◌≡◌, [], not, IfOk, OnOk};
 ghost use Rattle.jl_scope.specs.Names.{among, with_name};
+ghost use Rattle.jl_scope.specs.inner.NameSets.{SameNames};
 
-use indexmap::IndexSet;
 use jl_text::NoMemory;
 use std::alloc::Global;
+use std::collections::BTreeSet;
 use std::marker::Model;
 
-/// Names, each once, in the order in which they came. Contracts see them as a list of texts.
+/// Names, each once. They are kept in order and not hashed, so whoever chooses the names can't make a call take longer
+/// than the logarithm of their number. Contracts see them as a list of texts.
 #[derive(Drop)]
 pub(crate) struct NameSet<'a> {
-    names: IndexSet<&'a [u16]>,
+    names: BTreeSet<&'a [u16]>,
 }
 
 impl<'a> Model for NameSet<'a> {
@@ -25,29 +27,23 @@ impl<'a> NameSet<'a> {
         ensures { result ≡ [] }
     {
         NameSet {
-            names: IndexSet::new(alloc),
+            names: BTreeSet::new(alloc),
         }
     }
 
-    /// Whether a name is there; in constant time on average.
+    /// Whether a name is there.
     pub(crate) fn contains(&self, name: &[u16]) -> bool
         ensures { result ≡ among name.now self.now }
     {
         self.names.contains(name)
     }
 
-    /// Adds a name, and tells whether it is new; in constant time on average.
+    /// Adds a name, and tells whether it is new.
     pub(crate) fn insert(&mut self, name: &'a [u16]) -> Result<bool, NoMemory>
         ensures added { IfOk result (λ added. added ≡ not (among name.now self.old)) }
-        ensures names { OnOk result (self.new ≡ with_name self.old name.now) }
+        ensures names { OnOk result (SameNames self.new (with_name self.old name.now)) }
     {
-        let (_, added) = self.names.insert_full(name)?;
+        let added = self.names.insert(name)?;
         Ok(added)
-    }
-
-    pub(crate) fn names(&self) -> &[&'a [u16]]
-        ensures { map (λ n. n.now) result.now ≡ self.now }
-    {
-        self.names.as_slice()
     }
 }

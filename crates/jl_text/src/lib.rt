@@ -17,6 +17,3 @@ pub use quoting::quote;
 pub use span::Span;
 pub use std::alloc::AllocError as NoMemory;
 pub use text::{MOST_UNITS, Text, TextFault};
-
-#[cfg(test)]
-mod tests;

@@ -19,6 +19,3 @@ pub use jl_text::NoMemory;
 pub use object::{Class, ObjId};
 pub use same::same_value;
 pub use value::{Seen, Value, share};
-
-#[cfg(test)]
-mod tests;

@@ -1,5 +1,5 @@
 use Rattle.std.proofs.Common.{◌∙◌, ◌++◌, sym, ap, length}
-use Rattle.jl_meaning.specs.Running.{world_of}
+use Rattle.jl_effects.specs.Running.{state_of as world_of}
 use Rattle.jl_app.specs.Answers.{woven_run}
 use Rattle.jl_app.specs.Places.{sum_places}
 use Rattle.jl_app.specs.Reporting.{lines_text}

@@ -1,10 +1,10 @@
 use Rattle.std.proofs.Common.{◌≡◌, ap, ◌∙◌, sym, subst, Ok, Err}
 use Rattle.std.proofs.lemmas.Result.{err_from_is_err_and}
 use Rattle.jl_op.specs.declared.op.Op.TheVariants.{Literal}
-use Rattle.jl_meaning.specs.Effects.{End, Tells}
-use Rattle.jl_meaning.specs.Running.{Ends, Over, with_hook}
+use Rattle.jl_effects.specs.Effects.{End, Emit}
+use Rattle.jl_effects.specs.Running.{Ends, Over}
 use Rattle.jl_app.specs.Meaning.{seen}
-use Rattle.jl_app.specs.Runs.{run}
+use Rattle.jl_app.specs.Runs.{run, with_hook}
 use Rattle.jl_app.specs.Running.{Comes, Stands}
 use Rattle.jl_app.specs.View.{view_woven}
 use Rattle.jl_app.specs.Weaving.{hooked_value, hooked_literal, hooked_binary}
@@ -46,7 +46,7 @@ returns-in_err-spend-in-Literal-clause-comes g t c = λ w st.
     let why = err_from_is_err_and c.from_residual.result c.from_residual.ensures.1 in
     let spent = c.in_err-spend-in-Literal.ensures in
     subst (λ p. Comes told (run c.args.state.now.left (hooked_value p) w) c.from_residual.result c.args.observer.now c.spend.new.self) (sym is)
-    (comes_spent told 3 _ (Tells (literal.id, Literal (seen literal.value)) (End literal.value)) w _ _ _ _ (why.1 ∙ ap Err why.2) spent.why spent.spent.0 spent.spent.1 (stands_on told _ _ _ w spent.output spent.hooks st))
+    (comes_spent told 3 _ (Emit (literal.id, Literal (seen literal.value)) (End literal.value)) w _ _ _ _ (why.1 ∙ ap Err why.2) spent.why spent.spent.0 spent.spent.1 (stands_on told _ _ _ w spent.output spent.hooks st))
 
 pub returns-in_ok-tell-in-Literal-clause-comes : goal.returns-in_ok-tell-in-Literal-clause-comes
 returns-in_ok-tell-in-Literal-clause-comes g t c = λ w st.
@@ -58,5 +58,5 @@ returns-in_ok-tell-in-Literal-clause-comes g t c = λ w st.
     let done : Stands told c.tell.new.observer c.tell.new.state v =
     subst (λ a. Stands told c.tell.new.observer c.tell.new.state (with_hook (literal.id, Literal a) w)) c.seen.ensures (c.in_ok-tell-in-Literal.ensures.told w (stands_on told _ _ _ w spent.output spent.hooks st)) in
     subst (λ p. Comes told (run c.args.state.now.left (hooked_value p) w) (Ok literal.value) c.tell.new.observer c.tell.new.state) (sym is)
-    (comes_steps told 3 _ _ (Tells (literal.id, Literal (seen literal.value)) (End literal.value)) w (Ok literal.value) _ _ spent.taken.1
+    (comes_steps told 3 _ _ (Emit (literal.id, Literal (seen literal.value)) (End literal.value)) w (Ok literal.value) _ _ spent.taken.1
     (v, ap (λ n. Over (Ends literal.value) n v) (sym c.in_ok-tell-in-Literal.ensures.left), done))

@@ -1,8 +1,7 @@
 use Rattle.std.proofs.Common.{◌∙◌, ap, refl, subst, arith, Ok, Err}
 use Rattle.std.proofs.lemmas.Result.{err_from_is_err_and}
-use Rattle.jl_meaning.specs.Effects.{End, Print}
-use Rattle.jl_meaning.specs.Running.{with_hook}
-use Rattle.jl_app.specs.Runs.{World}
+use Rattle.jl_effects.specs.Effects.{End, Print}
+use Rattle.jl_app.specs.Runs.{World, with_hook}
 use Rattle.jl_app.specs.Meaning.{with_id, print_called, printed}
 use Rattle.jl_app.specs.Running.{Stands}
 use Rattle.jl_app.proofs.Comings.{stands_on, comes_steps, comes_spent, prints, print_stops}

@@ -1,7 +1,7 @@
 use Rattle.std.proofs.Common.{◌∙◌, ap, refl, sym, subst, Err}
 use Rattle.std.proofs.lemmas.Result.{err_from_is_err_and}
 use Rattle.jl_op.specs.declared.op.Op.TheVariants.{Binary}
-use Rattle.jl_meaning.specs.Running.{with_hook}
+use Rattle.jl_app.specs.Runs.{with_hook}
 use Rattle.jl_app.specs.Meaning.{seen}
 use Rattle.jl_app.specs.Running.{Stands}
 use Rattle.jl_app.proofs.Comings.{stands_on, no_result, has_result}

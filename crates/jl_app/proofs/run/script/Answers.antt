@@ -1,7 +1,7 @@
 use Rattle.std.proofs.Common.{◌∙◌, ap, Err}
 use Rattle.std.proofs.lemmas.Result.{err_from_is_err_and}
 use Rattle.jl_num.specs.Number.{Number}
-use Rattle.jl_meaning.specs.Effects.{and_then}
+use Rattle.jl_effects.specs.Effects.{and_then}
 use Rattle.jl_app.specs.Runs.{Part}
 use Rattle.jl_app.specs.View.{view_woven}
 use Rattle.jl_app.specs.Weaving.{Hooked, hooked_enter, hooked_callee, hooked_value, hooked_invoke, hooked_return, hooked_end}

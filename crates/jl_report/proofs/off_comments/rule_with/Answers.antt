@@ -1,6 +1,7 @@
 use Rattle.std.proofs.Common.{◌≡◌, ◌+◌, ◌-◌, cond, drop, Some, ap, sym, ◌∙◌, arith}
 use Rattle.std.specs.List.{position_from}
 use Rattle.std.specs.Str.{bytes_eq}
+use Rattle.jl_analysis.specs.Rules.{rule_count}
 use Rattle.jl_analysis.proofs.RuleNames.{rule_names}
 use Rattle.jl_report.proofs.Switching.{rule_turn, rule_end}
 use Rattle.jl_report.proofs.off_comments.rule_with.Goals as goal
@@ -26,6 +27,6 @@ loop-rule-preserved c =
 pub returns : goal.returns
 returns c =
     let name = c.args.name.now in
-    let last : c.loop-rule.rule ≡ 21 = omega arith in
-    sym (rule_end name 21) ∙ ap (λ r. position_from (bytes_eq name) r (drop (r - 1) rule_names)) (sym last)
+    let last : c.loop-rule.rule ≡ rule_count + 1 = omega arith in
+    sym (rule_end name (rule_count + 1)) ∙ ap (λ r. position_from (bytes_eq name) r (drop (r - 1) rule_names)) (sym last)
     ∙ c.loop-rule.invariant

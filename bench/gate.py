@@ -1,0 +1,175 @@
+#!/usr/bin/env python3
+"""What the gate costs: runs it from nothing, and prints the processor seconds of each crate.
+
+  bench/gate.py                 clones the last commit, runs `rt ci --anew` there, and removes the clone
+  bench/gate.py NAME..          the same for these crates of this checkout and those below them (`rt ci` copies them)
+  bench/gate.py --kept NAME..   takes of those below, and of these, what earlier runs of `rt ci` kept
+  --log FILE                    what `rt ci` says (otherwise a file among the temporary ones, which is named)
+  --edits                       also each edit, the dearest first
+
+A row is a crate: its proof, its tests (which prove the crate once more, with the tests), and its edits that must fail
+(with the two checks of the whole crate that they begin and end with). The last column is their sum. Other work is what
+is run, linked and laid out, and what ended between two looks. The status is that of `rt ci`.
+"""
+import os
+import resource
+import signal
+import subprocess
+import sys
+import tempfile
+import time
+
+PAUSE = 0.25
+KINDS = ("proof", "tests", "edits")
+TICKS = os.sysconf("SC_CLK_TCK")
+
+
+def processes():
+    """Yields each process: its number and start, its parent, and the seconds that it took itself."""
+    for name in os.listdir("/proc"):
+        if not name.isdigit():
+            continue
+        try:
+            with open(f"/proc/{name}/stat", encoding="utf-8", errors="replace") as it:
+                fields = it.read().rpartition(")")[2].split()
+        except OSError:
+            continue
+        yield (int(name), fields[19]), int(fields[1]), (int(fields[11]) + int(fields[12])) / TICKS
+
+
+def kind_of(number):
+    """Returns the crate, the kind of work and which of its edits a process of rattle is for, or None."""
+    try:
+        with open(f"/proc/{number}/cmdline", encoding="utf-8", errors="replace") as it:
+            words = it.read().split("\0")
+        folder = os.readlink(f"/proc/{number}/cwd")
+    except OSError:
+        return None
+    if os.path.basename(words[0]) != "rattle" or "--crate-name" not in words:
+        return None
+    crate = words[words.index("--crate-name") + 1]
+    if os.path.basename(folder).startswith("rt-edit"):
+        # Each is tried over a copy of its own of what the first check kept, in a folder named by the edit's number.
+        kept = words[words.index("--incremental") + 1] if "--incremental" in words else ""
+        edit = os.path.basename(kept)
+        return crate, "edits", int(edit) if edit.isdigit() else None
+    return crate, "tests" if "--test" in words else "proof", None
+
+
+class Gate:
+    """The processes that a run of rt started, and the seconds that each had taken when it was last seen.
+
+    Not all of them are waited for, so the sum that the kernel keeps of ended children lacks some."""
+
+    def __init__(self, rt):
+        self.rt, self.kinds, self.taken = rt, {}, {}
+
+    def look(self):
+        children = {}
+        for key, parent, seconds in processes():
+            children.setdefault(parent, []).append((key, seconds))
+        for key, seconds in children.get(self.rt, ()):
+            # It may be about to become rattle, so it is asked until it is.
+            kind = self.kinds.get(key) or kind_of(key[0])
+            self.note(children, key, seconds, kind)
+
+    def note(self, children, key, seconds, kind):
+        kind = self.kinds.get(key) or kind
+        self.taken[key] = seconds
+        if kind:
+            self.kinds[key] = kind
+        for child, its_seconds in children.get(key[0], ()):
+            self.note(children, child, its_seconds, kind)
+
+    def rows(self):
+        rows = {}
+        for key, seconds in self.taken.items():
+            crate, kind, _edit = self.kinds.get(key, (None, None, None))
+            if crate:
+                rows.setdefault(crate, dict.fromkeys(KINDS, 0))[kind] += seconds
+        return rows
+
+    def edits(self, top):
+        """Returns the lines of the edits, the dearest first. They are numbered in the order of their names."""
+        of_edit = {}
+        for key, seconds in self.taken.items():
+            crate, _kind, edit = self.kinds.get(key, (None, None, None))
+            if edit is not None:
+                of_edit[crate, edit] = of_edit.get((crate, edit), 0) + seconds
+        lines = []
+        for (crate, edit), seconds in sorted(of_edit.items(), key=lambda it: -it[1]):
+            names = sorted(it for it in os.listdir(f"{top}/crates/{crate}/must-fail") if it.endswith(".edit"))
+            lines.append(f"{seconds:8.0f}  {crate}/{names[edit] if edit < len(names) else edit}")
+        return lines
+
+
+def table(rows, whole, elapsed):
+    """Returns the table's lines: the crates by their sums, and the sums of all."""
+    line = "{:<16}" + "{:>9}" * 4
+    lines = [line.format("crate", *KINDS, "sum")]
+    of_kind = dict.fromkeys(KINDS, 0)
+    for crate, row in sorted(rows.items(), key=lambda it: -sum(it[1].values())):
+        lines.append(line.format(crate, *(round(row[it]) for it in KINDS), round(sum(row.values()))))
+        for kind in KINDS:
+            of_kind[kind] += row[kind]
+    counted = sum(of_kind.values())
+    whole = max(whole, counted)
+    lines.append(line.format("all crates", *(round(of_kind[it]) for it in KINDS), round(counted)))
+    lines.append(f"other work: {whole - counted:.0f} s; all: {whole:.0f} s = {whole / 60:.1f} processor minutes")
+    lines.append(f"from start to end: {elapsed / 60:.1f} minutes on {len(os.sched_getaffinity(0))} processors")
+    return lines
+
+
+def measured(folder, words, log, with_edits):
+    """Runs rt there, and returns its status and the lines to print."""
+    began = time.monotonic()
+    with open(log, "w", encoding="utf-8") as out:
+        started = subprocess.Popen(
+            ["rt", "ci", *words], cwd=folder, stdin=subprocess.DEVNULL, stdout=out, stderr=subprocess.STDOUT
+        )
+        gate = Gate(started.pid)
+        try:
+            while started.poll() is None:
+                gate.look()
+                time.sleep(PAUSE)
+        except KeyboardInterrupt:
+            # What was seen so far is still worth its lines.
+            print("broken off")
+            started.send_signal(signal.SIGINT)
+            started.wait()
+    usage = resource.getrusage(resource.RUSAGE_CHILDREN)
+    lines = table(gate.rows(), usage.ru_utime + usage.ru_stime, time.monotonic() - began)
+    return started.returncode, (gate.edits(folder) if with_edits else []) + lines
+
+
+def main(words):
+    top = os.path.dirname(os.path.dirname(os.path.realpath(__file__)))
+    log = None
+    if "--log" in words:
+        at = words.index("--log")
+        log = os.path.realpath(words[at + 1])
+        words = words[:at] + words[at + 2 :]
+    names = [it for it in words if not it.startswith("-")]
+    if "-h" in words or "--help" in words or set(words) - {"--kept", "--edits", *names} or "--kept" in words and not names:
+        print(__doc__)
+        return 2
+    if log is None:
+        log = tempfile.mkstemp(prefix="gate-", suffix=".log")[1]
+    print(f"rt ci writes to {log}", flush=True)
+    with_edits = "--edits" in words
+    words = names if "--kept" in words else ["--anew", *names]
+    if names:
+        status, lines = measured(top, words, log, with_edits)
+    else:
+        with tempfile.TemporaryDirectory(prefix="gate-") as room:
+            subprocess.run(["git", "clone", "-q", "--no-hardlinks", top, f"{room}/clone"], check=True)
+            # (the clone itself is no part of what the gate costs)
+            status, lines = measured(f"{room}/clone", words, log, with_edits)
+    print("\n".join(lines))
+    with open(log, encoding="utf-8", errors="replace") as it:
+        print(it.read().rstrip().rpartition("\n")[2])
+    return status
+
+
+if __name__ == "__main__":
+    sys.exit(main(sys.argv[1:]))

@@ -1,0 +1,16 @@
+pub mod Arguments
+pub mod Turns
+pub mod Elements
+pub mod Descriptors
+pub mod Object
+pub mod Function
+pub mod Array
+pub mod ArrayChanges
+pub mod ArrayCallbacks
+pub mod String
+pub mod Global
+pub mod Number
+pub mod Boolean
+pub mod Error
+pub mod Math
+pub mod Table

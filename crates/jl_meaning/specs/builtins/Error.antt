@@ -1,0 +1,70 @@
+-- Error and the native errors (15.11).
+use Rattle.std.specs.Prelude.{[], codes, false, true, ◌++◌, ◌∷◌, List, None, Option, Some, ℕ}
+use Rattle.jl_value.specs.declared.object.Class.TheVariants as class
+use Rattle.jl_value.specs.declared.object.ObjId.{ObjId}
+use Rattle.jl_value.specs.declared.value.Value.{Value}
+use Rattle.jl_value.specs.declared.value.Value.TheVariants as value
+use Rattle.jl_heap.specs.declared.inner.Inner.TheVariants as inner
+use Rattle.jl_heap.specs.declared.property.Prop.TheVariants.{Plain}
+use Rattle.jl_meaning.specs.Conversions.{to_string}
+use Rattle.jl_meaning.specs.Errors.{string_within}
+use Rattle.jl_meaning.specs.Getting.{get}
+use Rattle.jl_meaning.specs.Intrinsics.{error_prototype, native_error_prototype}
+use Rattle.jl_meaning.specs.Parts.{add_property, give, new_object, ◌>>=◌, Algorithm, Call}
+use Rattle.jl_meaning.specs.builtins.Arguments.{argument, give_object, give_string, need_object, unless_undefined}
+
+-- the message of a new error, where there is one
+abbrev pub add_message : ObjId → Option (List ℕ) → Algorithm (Unit {0})
+add_message id None = give tt
+add_message id (Some units) = add_property id (codes "message") (Plain (value.Text units) true false true)
+
+abbrev pub new_error : (proto : ObjId) → Option (List ℕ) → Algorithm ObjId
+new_error proto message = do
+  id ← new_object class.Error (Some proto) inner.Nothing
+  _ ← add_message id message
+  give id
+
+-- the string of a message that is given
+abbrev pub message_given : Value → Algorithm (Option (List ℕ))
+message_given v = unless_undefined None (λ v. do
+  units ← to_string v
+  give (Some units)) v
+
+-- Error(message), NativeError(message), and the same with `new` (15.11.1.1, 15.11.2.1, 15.11.7.2, 15.11.7.4)
+abbrev pub error_constructor : (proto : ObjId) → Call → Algorithm Value
+error_constructor proto c = do
+  message ← message_given (argument c 0)
+  id ← new_error proto message
+  give_object id
+
+abbrev pub native_error : ℕ → Call → Algorithm Value
+native_error n c = error_constructor (native_error_prototype n) c
+
+-- a name and a message, where neither is empty (15.11.4.4, steps 8 to 10)
+abbrev pub name_and_message : (name message : List ℕ) → Algorithm Value
+name_and_message [] message = give_string message
+name_and_message (u ∷ us) [] = give_string (u ∷ us)
+name_and_message (u ∷ us) (v ∷ vs) = do
+  units ← string_within ((u ∷ us) ++ codes ": " ++ v ∷ vs)
+  give_string units
+
+-- the string of a property, or this one where it is undefined (steps 3 to 7)
+abbrev pub string_or : List ℕ → Value → Algorithm (List ℕ)
+string_or other v = unless_undefined other to_string v
+
+-- Error.prototype.toString() (15.11.4.4)
+abbrev pub error_to_string : Call → Algorithm Value
+error_to_string c = do
+  id ← need_object c.this
+  v ← get (value.Obj id) (codes "name")
+  name ← string_or (codes "Error") v
+  w ← get (value.Obj id) (codes "message")
+  message ← string_or [] w
+  name_and_message name message
+
+-- `Error` and the native errors, in the order of the table
+abbrev pub error_rows : List (Call → Algorithm Value)
+error_rows =
+    error_constructor error_prototype ∷ native_error 0 ∷ native_error 1 ∷ native_error 2 ∷ native_error 3
+    ∷ native_error 4
+    ∷ native_error 5 ∷ error_to_string ∷ []

@@ -1,0 +1,222 @@
+-- String (15.5): the constructor, `fromCharCode`, and the functions of the prototype.
+use Rattle.std.specs.List.{list_any, starts_with}
+use Rattle.std.specs.Option.{option_map_or}
+use Rattle.std.specs.Prelude.{[], false, if◌then◌else◌, length, map, max, min, nat_eq, nat_le, nat_lt, negsuc, pos}
+use Rattle.std.specs.Prelude.{slice_get, slice_range, suc, take, true, zero, ◌&&◌, ◌++◌, ◌+◌, ◌-◌, ◌∷◌, Bool, List}
+use Rattle.std.specs.Prelude.{None, Option, Some, ℕ, ℤ}
+use Rattle.jl_num.specs.Bits.{uint16_of}
+use Rattle.jl_num.specs.Number.{Number}
+use Rattle.jl_text.specs.Search.{first_place, last_place}
+use Rattle.jl_value.specs.declared.object.Class.{Class}
+use Rattle.jl_value.specs.declared.object.Class.TheVariants as class
+use Rattle.jl_value.specs.declared.value.Value.{Value}
+use Rattle.jl_value.specs.declared.value.Value.TheVariants as value
+use Rattle.jl_conv.specs.Numerals.{trimmed}
+use Rattle.jl_heap.specs.Objects.{object_at, Objects}
+use Rattle.jl_heap.specs.declared.inner.Inner.{Inner}
+use Rattle.jl_heap.specs.declared.inner.Inner.TheVariants as inner
+use Rattle.jl_effects.specs.Effects.{Fail, Step}
+use Rattle.jl_meaning.specs.Conversions.{new_string_object, to_integer, to_number, to_string, to_uint32}
+use Rattle.jl_meaning.specs.Errors.{string_within}
+use Rattle.jl_meaning.specs.FunctionObjects.{whole}
+use Rattle.jl_meaning.specs.Parts.{give, look, ◌>>=◌, Algorithm, Call, Unsupported}
+use Rattle.jl_meaning.specs.builtins.Arguments.{argument, give_object, give_string, need_receiver, string_of_this}
+use Rattle.jl_meaning.specs.builtins.Arguments.{unless_undefined, unsupported}
+use Rattle.jl_meaning.specs.builtins.Elements.{add_in_turns, clamped, index_or_none, relative_index, to_end}
+use Rattle.jl_meaning.specs.forms.Literals.{new_array}
+
+-- the string of an argument, where there is one
+abbrev pub string_given : List Value → Algorithm (List ℕ)
+string_given [] = give []
+string_given (v ∷ vs) = to_string v
+
+abbrev pub string_or_object : (by_new : Bool) → List ℕ → Algorithm Value
+string_or_object false units = give_string units
+string_or_object true units = do
+  id ← new_string_object units
+  give_object id
+
+-- String(value) and new String(value) (15.5.1.1, 15.5.2.1)
+abbrev pub string_constructor : Call → Algorithm Value
+string_constructor c = do
+  units ← string_given c.args
+  string_or_object c.by_new units
+
+-- the units of these numbers after those so far, one turn for each
+abbrev pub units_from : (so_far : List ℕ) → List Value → Algorithm (List ℕ)
+units_from so_far [] = give so_far
+units_from so_far (v ∷ vs) = Step do
+  n ← to_number v
+  units_from (so_far ++ uint16_of n ∷ []) vs
+
+-- String.fromCharCode(char0, ..) (15.5.3.2)
+abbrev pub string_from_char_code : Call → Algorithm Value
+string_from_char_code c = do
+  units ← units_from [] c.args
+  within ← string_within units
+  give_string within
+
+-- the string that a String object stands for
+abbrev pub string_inside : Class → Inner → Option (List ℕ)
+string_inside class.String (inner.Wrapped (value.Text units)) = Some units
+string_inside _ i = None
+
+abbrev pub string_of_receiver : Objects → Value → Option (List ℕ)
+string_of_receiver heap (value.Text units) = Some units
+string_of_receiver heap (value.Obj id) = string_inside (object_at heap id.0).class (object_at heap id.0).inner
+string_of_receiver heap v = None
+
+-- String.prototype.toString() and valueOf() (15.5.4.2, 15.5.4.3)
+abbrev pub string_value : Call → Algorithm Value
+string_value c = do
+  store ← look
+  units ← need_receiver (string_of_receiver store.heap c.this)
+  give_string units
+
+-- the unit at a position, if there is one
+abbrev pub unit_at_position : List ℕ → ℤ → Option ℕ
+unit_at_position units (pos n) = slice_get units n
+unit_at_position units (negsuc n) = None
+
+-- `this` as a string, and the unit of it that an argument says (15.5.4.4, 15.5.4.5)
+abbrev pub unit_said : Call → Algorithm (Option ℕ)
+unit_said c = do
+  units ← string_of_this c
+  position ← to_integer (argument c 0)
+  give (unit_at_position units position)
+
+-- String.prototype.charAt(pos) (15.5.4.4)
+abbrev pub string_char_at : Call → Algorithm Value
+string_char_at c = do
+  unit ← unit_said c
+  give_string (option_map_or (λ u. u ∷ []) unit [])
+
+-- String.prototype.charCodeAt(pos) (15.5.4.5)
+abbrev pub string_char_code_at : Call → Algorithm Value
+string_char_code_at c = do
+  unit ← unit_said c
+  give (option_map_or whole unit (value.Num None))
+
+-- these as strings after what is there so far, one turn for each (15.5.4.6, step 5)
+abbrev pub concat_all : (so_far : List ℕ) → List Value → Algorithm (List ℕ)
+concat_all so_far [] = give so_far
+concat_all so_far (v ∷ vs) = Step do
+  units ← to_string v
+  more ← string_within (so_far ++ units)
+  concat_all more vs
+
+-- String.prototype.concat(string1, ..) (15.5.4.6)
+abbrev pub string_concat : Call → Algorithm Value
+string_concat c = do
+  units ← string_of_this c
+  all ← concat_all units c.args
+  give_string all
+
+-- String.prototype.indexOf(searchString, position) (15.5.4.7)
+abbrev pub string_index_of : Call → Algorithm Value
+string_index_of c = do
+  units ← string_of_this c
+  part ← to_string (argument c 0)
+  position ← to_integer (argument c 1)
+  give (index_or_none (first_place units part (clamped position (length units))))
+
+-- where a search for the last place begins: NaN stands for an infinity (15.5.4.8, steps 5 to 7)
+abbrev pub last_start : Number → (length : ℕ) → ℕ
+last_start None length = length
+last_start (Some z) length = clamped z length
+
+-- String.prototype.lastIndexOf(searchString, position) (15.5.4.8)
+abbrev pub string_last_index_of : Call → Algorithm Value
+string_last_index_of c = do
+  units ← string_of_this c
+  part ← to_string (argument c 0)
+  n ← to_number (argument c 1)
+  give (index_or_none (last_place units part (last_start n (length units))))
+
+-- String.prototype.slice(start, end) (15.5.4.13)
+abbrev pub string_slice : Call → Algorithm Value
+string_slice c = do
+  units ← string_of_this c
+  start ← to_integer (argument c 0)
+  end ← to_end (argument c 1) (length units)
+  give_string (slice_range units (relative_index start (length units)) (relative_index end (length units)))
+
+-- the units from the smaller of two places up to the greater
+abbrev pub between : List ℕ → (a b : ℕ) → List ℕ
+between units a b = slice_range units (min a b) (max a b)
+
+-- String.prototype.substring(start, end) (15.5.4.15)
+abbrev pub string_substring : Call → Algorithm Value
+string_substring c = do
+  units ← string_of_this c
+  start ← to_integer (argument c 0)
+  end ← to_end (argument c 1) (length units)
+  give_string (between units (clamped start (length units)) (clamped end (length units)))
+
+-- the pieces between the places of a separator that isn't empty (15.5.4.14, steps 12 to 14): `piece` has the units
+-- since the last place, and `left` units of a place are still to be passed
+abbrev pub pieces_from : (separator : List ℕ) → (left : ℕ) → (piece : List ℕ) → List ℕ → List (List ℕ)
+pieces_from separator left piece [] = piece ∷ []
+pieces_from separator (suc left) piece (u ∷ us) = pieces_from separator left piece us
+pieces_from separator zero piece (u ∷ us) =
+    if starts_with nat_eq (u ∷ us) separator then piece ∷ pieces_from separator (length separator - 1) [] us
+    else pieces_from separator zero (piece ++ u ∷ []) us
+
+-- an empty separator stands between any two units
+abbrev pub pieces : (separator units : List ℕ) → List (List ℕ)
+pieces [] units = map (λ u. u ∷ []) units
+pieces (u ∷ us) units = pieces_from (u ∷ us) 0 [] units
+
+-- the pieces of a string, which is the one piece where the separator is undefined (step 10)
+abbrev pub pieces_between : Value → List ℕ → Algorithm (List (List ℕ))
+pieces_between v units = unless_undefined (units ∷ []) (λ v. do
+  separator ← to_string v
+  give (pieces separator units)) v
+
+-- String.prototype.split(separator, limit) (15.5.4.14), one turn for each piece
+abbrev pub string_split : Call → Algorithm Value
+string_split c = do
+  units ← string_of_this c
+  array ← new_array
+  limit ← unless_undefined 4294967295 to_uint32 (argument c 1)
+  parts ← pieces_between (argument c 0) units
+  _ ← add_in_turns array 0 (map (λ part. value.Text part) (take limit parts))
+  give_object array
+
+abbrev pub is_past_ascii : ℕ → Bool
+is_past_ascii u = nat_lt 127 u
+
+-- the string with each unit in the other case, where all units are in ASCII
+abbrev pub in_case : (row : ℕ) → (ℕ → ℕ) → Call → Algorithm Value
+in_case row f c = do
+  units ← string_of_this c
+  if list_any is_past_ascii units then Fail (Unsupported row) else give_string (map f units)
+
+abbrev pub lower : ℕ → ℕ
+lower u = if nat_le 65 u && nat_le u 90 then u + 32 else u
+
+abbrev pub upper : ℕ → ℕ
+upper u = if nat_le 97 u && nat_le u 122 then u - 32 else u
+
+-- String.prototype.toLowerCase() (15.5.4.16)
+abbrev pub string_to_lower_case : Call → Algorithm Value
+string_to_lower_case c = in_case 63 lower c
+
+-- String.prototype.toUpperCase() (15.5.4.18)
+abbrev pub string_to_upper_case : Call → Algorithm Value
+string_to_upper_case c = in_case 64 upper c
+
+-- String.prototype.trim() (15.5.4.20)
+abbrev pub string_trim : Call → Algorithm Value
+string_trim c = do
+  units ← string_of_this c
+  give_string (trimmed units)
+
+-- these, in the order of the table
+abbrev pub string_rows : List (Call → Algorithm Value)
+string_rows =
+    string_constructor ∷ string_from_char_code ∷ string_value ∷ string_value ∷ string_char_at ∷ string_char_code_at
+    ∷ string_concat ∷ string_index_of
+    ∷ string_last_index_of ∷ string_slice ∷ string_split ∷ string_substring ∷ string_to_lower_case
+    ∷ string_to_upper_case ∷ string_trim
+    ∷ unsupported 66 ∷ unsupported 67 ∷ unsupported 68 ∷ unsupported 69 ∷ unsupported 70 ∷ unsupported 71 ∷ []

@@ -1,0 +1,13 @@
+pub mod Names
+pub mod Literals
+pub mod Operators
+pub mod Members
+pub mod Calls
+pub mod HookCalls
+pub mod Hooks
+pub mod Simple
+pub mod Loops
+pub mod Jumps
+pub mod Switch
+pub mod Try
+pub mod Functions

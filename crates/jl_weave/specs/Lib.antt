@@ -1,0 +1,5 @@
+pub mod HookCalls
+pub mod Weaving
+pub mod Plain
+pub mod inner
+pub mod Simulation
