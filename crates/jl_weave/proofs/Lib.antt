@@ -13,6 +13,8 @@ mod Shapes
 mod MadeFunctions
 mod HookedNames
 mod Expressions
+mod FewNodes
+mod FewIds
 mod Completions
 mod Simple
 mod Try
