@@ -1,5 +1,5 @@
 -- What statements make of how their parts end.
-use Rattle.std.proofs.Common.{◌≡◌, ℕ, suc, ◌≤◌, ◌∷◌, [], Bool, false, Some, None, refl, sym, ap, ◌∙◌, subst, arith}
+use Rattle.std.proofs.Common.{◌≡◌, ℕ, suc, ◌≤◌, Bool, false, refl, sym, ap, ◌∙◌, subst, arith}
 use mathlib.Core.Path.{fun_ext}
 use Rattle.jl_value.specs.declared.ending.Completion.{Completion}
 use Rattle.jl_value.specs.declared.ending.Completion.TheVariants as completion
@@ -12,14 +12,14 @@ use Rattle.jl_op.specs.declared.op.Op.{Op}
 use Rattle.jl_effects.specs.Effects.{End, Step, and_then}
 use Rattle.jl_effects.specs.Matching.{ends, both, extra, looks, peeks, told, own, spare, plus}
 use Rattle.jl_effects.proofs.Chains.{and_then-assoc}
-use Rattle.jl_meaning.specs.Completions.{ends_as, if_normal, normal, on_given, then_do}
+use Rattle.jl_meaning.specs.Completions.{ends_as, if_normal, on_given, then_do}
 use Rattle.jl_meaning.specs.Noting.{emits, note_value, performs}
 use Rattle.jl_meaning.specs.Parts.{gives, throws, given, ◌>>=◌, give, Answer, Context, Part}
 use Rattle.jl_meaning.specs.Store.{Store}
 use Rattle.jl_meaning.specs.forms.Hooks.{enter_hook}
 use Rattle.jl_meaning.specs.forms.Operators.{decide, decide_by}
 use Rattle.jl_weave.proofs.Operators.{tell_test}
-use Rattle.jl_weave.proofs.Relation.{Matched, done, followed, quiet, bind, bind2, fewer, ExpressionMatch, EvenMatch}
+use Rattle.jl_weave.proofs.Relation.{Matched, done, followed, quiet, bind, bind2, ExpressionMatch, EvenMatch}
 use Rattle.jl_weave.proofs.Relation.{StatementMatch}
 
 -- a test, and what is done by it
@@ -67,7 +67,7 @@ module _ {chosen : Kinds} where
       → ((v : Value) → tell v ≡ Step (note_value emits id f v >>= (λ _. give v)))
       → ((v : Value) → StatementMatch chosen (k v) (k' v))
       → StatementMatch chosen (Step (and_then d (on_given (noted id f k))))
-        (Step (and_then (Step (d' >>= tell)) (on_given (noted id' f k'))))
+      (Step (and_then (Step (d' >>= tell)) (on_given (noted id' f k'))))
   noted_told tell id id' f {k} {k'} x is y = record {
     at = λ s c. both (spare {c = suc c} (omega arith) (told_value (noted id' f k') tell x (λ v t.
         subst (λ p. Matched chosen t (plus 4 c) c (noted id f k v) (and_then p (on_given (noted id' f k'))))
@@ -78,7 +78,7 @@ module _ {chosen : Kinds} where
       → ((v : Seen) → chosen (kind_of (f v)) ≡ false) → ExpressionMatch chosen d d'
       → ((v : Value) → StatementMatch chosen (k v) (k' v))
       → StatementMatch chosen (Step (and_then d (on_given (noted id f k))))
-        (Step (and_then d' (on_given (noted id' f k'))))
+      (Step (and_then d' (on_given (noted id' f k'))))
   noted_silent id id' f e x y = record {
     at = λ s c. both (valued (omega arith) (x.at s _) (λ v t.
         looks (peeks (quiet (e _) (own (spare (omega arith) ((y v).at t c)))))));

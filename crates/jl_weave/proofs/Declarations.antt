@@ -1,5 +1,5 @@
 -- What is declared: woven bodies bind what the bodies do, and a woven function is entered like the function.
-use Rattle.std.proofs.Common.{◌≡◌, ℕ, ◌+◌, Bool, true, false, not, ◌&&◌, List, [], ◌∷◌, Some, None, bytes_eq, refl, sym, ap, ap₂, ◌∙◌}
+use Rattle.std.proofs.Common.{◌≡◌, ℕ, ◌+◌, Bool, false, not, ◌&&◌, List, Some, None, bytes_eq, refl, sym, ap, ap₂, ◌∙◌}
 use Rattle.std.specs.Prelude.{if◌then◌else◌}
 use mathlib.Core.Path.{fun_ext}
 use Rattle.jl_ast.specs.Tree as tree
@@ -16,7 +16,7 @@ use Rattle.jl_meaning.specs.Changes.{NewEnvironment}
 use Rattle.jl_meaning.specs.DeclarationBinding.{bind_arguments, bind_parameters, declare_body, declare_function}
 use Rattle.jl_meaning.specs.DeclarationBinding.{declare_functions, declare_global_function, declare_global_functions}
 use Rattle.jl_meaning.specs.DeclarationBinding.{declare_global_variables, declare_program, declare_variables}
-use Rattle.jl_meaning.specs.FunctionObjects.{function_name, function_params, make_function, ScriptFunction}
+use Rattle.jl_meaning.specs.FunctionObjects.{function_name, function_params, ScriptFunction}
 use Rattle.jl_meaning.specs.Parts.{change_store, give, look, ◌>>=◌, Algorithm, Call, Code, Context, Func}
 use Rattle.jl_meaning.specs.Store.{has_binding, next_environment}
 use Rattle.jl_meaning.specs.forms.Functions.{enter_function, function_context}
@@ -59,10 +59,10 @@ module _ (chosen : Kinds) where
     _ ← bind_parameters c.env params args
     _ ← functions
     _ ← (do
-        store ← look
-        if mentioned && not (has_binding store c.env arguments_name)
-            then bind_arguments strict callee c.env params args
-            else give tt)
+      store ← look
+      if mentioned && not (has_binding store c.env arguments_name)
+          then bind_arguments strict callee c.env params args
+          else give tt)
     declare_variables c.env names
 
   body_declared : (b : Code) (id n : ℕ) (strict : Bool) (callee : ObjId) (params : List Name) (args : List Value)
@@ -86,9 +86,9 @@ module _ (chosen : Kinds) where
       let f : ScriptFunction = function_of (tree.function m x ps b s) strict in
       let inside : ℕ → Context = λ at. function_context f at this call in
       let entering : Code → List Name → Algorithm Context = λ b names.
-        (look >>= (λ store. (change_store (NewEnvironment env) >>= (λ _.
-        (declare_body b strict call.callee names call.args (inside (next_environment store)) >>= (λ _.
-        give (inside (next_environment store)))))))) in
+      (look >>= (λ store. (change_store (NewEnvironment env) >>= (λ _.
+      (declare_body b strict call.callee names call.args (inside (next_environment store)) >>= (λ _.
+      give (inside (next_environment store)))))))) in
       let names : List Name = function_params (with_ids n (woven chosen (tree.function m x ps b s))) in
       ap (entering b) (params_same n ps)
       ∙ ap (λ k. look >>= k) (fun_ext (λ store.

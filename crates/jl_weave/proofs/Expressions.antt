@@ -1,9 +1,8 @@
 -- Expressions: each is matched by its woven form.
-use Rattle.std.proofs.Common.{◌≡◌, ℕ, ◌+◌, ◌<◌, List, [], ◌∷◌, Bool, true, false, Option, Some, None, codes, refl, sym, ap, ◌∙◌, subst, subst₂, arith}
+use Rattle.std.proofs.Common.{◌≡◌, ℕ, ◌+◌, ◌<◌, List, [], Bool, true, false, Some, None, codes, refl, sym, ap, ◌∙◌, subst, subst₂, arith}
 use Rattle.std.specs.Prelude.{if◌then◌else◌}
 use Rattle.jl_ast.specs.Tree as tree
 use Rattle.jl_ast.specs.Tree.{Forest, Text, Tree}
-use Rattle.jl_ast.specs.declared.ops.BinOp.{BinOp}
 use Rattle.jl_ast.specs.declared.ops.UnOp.TheVariants as un
 use Rattle.jl_value.specs.declared.object.ObjId.{ObjId}
 use Rattle.jl_value.specs.declared.value.Value.{Value}
@@ -12,13 +11,12 @@ use Rattle.jl_heap.specs.declared.inner.Inner.{Inner}
 use Rattle.jl_op.specs.Chosen.{Kinds}
 use Rattle.jl_op.specs.Ids.{forest_with_ids, id_count, with_ids}
 use Rattle.jl_op.specs.Trace.{binary_sign, unary_sign}
-use Rattle.jl_op.specs.declared.kind.OpKind.{OpKind}
 use Rattle.jl_op.specs.declared.kind.OpKind.TheVariants as kind
 use Rattle.jl_op.specs.declared.sign.UnKind.TheVariants as unary
 use Rattle.jl_effects.specs.Effects.{Step}
 use Rattle.jl_effects.specs.Matching.{ends, both, spare, plus}
 use Rattle.jl_meaning.specs.Defining.{define_own_property, plain_change}
-use Rattle.jl_meaning.specs.Expressions.{equip, evaluate, evaluate_all, fill, this_of}
+use Rattle.jl_meaning.specs.Expressions.{equip, evaluate, evaluate_all, fill}
 use Rattle.jl_meaning.specs.FunctionObjects.{callee_of, make_function, make_function_expression, FunctionTable}
 use Rattle.jl_meaning.specs.Parts.{Answer, Context, Expr, Exprs, Func, Part, ◌>>=◌, give, lift}
 use Rattle.jl_meaning.specs.Store.{Store}
@@ -58,7 +56,7 @@ use Rattle.jl_weave.proofs.Names.{delete_name_match, name_silent, name_told, typ
 use Rattle.jl_weave.proofs.Names.{update_name_silent}
 use Rattle.jl_weave.proofs.Operators.{binary_silent, binary_told, comma_match, decide_silent, decide_told, unary_silent}
 use Rattle.jl_weave.proofs.Operators.{unary_told}
-use Rattle.jl_weave.proofs.Relation.{Matched, algorithm, bind, bind_both, done, even, lifted, pick, EvenMatch}
+use Rattle.jl_weave.proofs.Relation.{Matched, algorithm, bind, bind_both, done, even, pick, EvenMatch}
 use Rattle.jl_weave.proofs.Relation.{ExpressionMatch}
 use Rattle.jl_weave.proofs.Shapes.{called_as_is, callee_no_hook, delete_as_is, member_no_hook, typeof_as_is}
 use Rattle.jl_weave.proofs.Shapes.{woven_member_no_hook, woven_no_first, woven_no_member, IsNoMember}
@@ -80,9 +78,9 @@ module _ {chosen : Kinds} where
   -- the accessors of an object literal
   getter_to : (n : ℕ) (c : Context) (object : ObjId) (k : Text) (f : Func) (s : Store) (d : ℕ)
       → Matched chosen s d d
-        (lift (make_function c.strict c.env f) >>= (λ g. define_entry object k (accessor_change (Some (Some g)) None)))
-        (lift (make_function c.strict c.env (with_ids n (woven chosen f)))
-        >>= (λ g. define_entry object k (accessor_change (Some (Some g)) None)))
+      (lift (make_function c.strict c.env f) >>= (λ g. define_entry object k (accessor_change (Some (Some g)) None)))
+      (lift (make_function c.strict c.env (with_ids n (woven chosen f)))
+      >>= (λ g. define_entry object k (accessor_change (Some (Some g)) None)))
   unfolding define_entry
   getter_to n c object k f s d =
       subst (λ p. Matched chosen s d d
@@ -94,9 +92,9 @@ module _ {chosen : Kinds} where
 
   setter_to : (n : ℕ) (c : Context) (object : ObjId) (k : Text) (f : Func) (s : Store) (d : ℕ)
       → Matched chosen s d d
-        (lift (make_function c.strict c.env f) >>= (λ g. define_entry object k (accessor_change None (Some (Some g)))))
-        (lift (make_function c.strict c.env (with_ids n (woven chosen f)))
-        >>= (λ g. define_entry object k (accessor_change None (Some (Some g)))))
+      (lift (make_function c.strict c.env f) >>= (λ g. define_entry object k (accessor_change None (Some (Some g)))))
+      (lift (make_function c.strict c.env (with_ids n (woven chosen f)))
+      >>= (λ g. define_entry object k (accessor_change None (Some (Some g)))))
   unfolding define_entry
   setter_to n c object k f s d =
       subst (λ p. Matched chosen s d d
@@ -145,8 +143,8 @@ module _ (chosen : Kinds) (table table' : FunctionTable)
       → ((j : ℕ) → EvenMatch chosen (evaluate_all table 0 [] l c)
       (evaluate_all table' 0 [] (forest_with_ids j (woven_forest chosen l)) c))
       → ExpressionMatch chosen (Step (call_value table id (evaluate table f c) (evaluate_all table 0 [] l c)))
-        (evaluate table' (with_ids j (tree.call
-        (if weave.calls chosen then hook_1 (codes "F") id (woven chosen f) else woven chosen f) (woven_forest chosen l) tt)) c)
+      (evaluate table' (with_ids j (tree.call
+      (if weave.calls chosen then hook_1 (codes "F") id (woven chosen f) else woven chosen f) (woven_forest chosen l) tt)) c)
   value_called f p h l id small j c itself args =
       split (weave.calls chosen) (λ which. ExpressionMatch chosen
       (Step (call_value table id (evaluate table f c) (evaluate_all table 0 [] l c)))
@@ -284,10 +282,10 @@ module _ (chosen : Kinds) (table table' : FunctionTable)
     evaluate_match (tree.and a b s) p j c =
         let f : Bool → Value → Part (Answer Value) = λ truth v. if truth then evaluate table b c else give v in
         let g : ℕ → Bool → Value → Part (Answer Value) = λ m truth v.
-          if truth then evaluate table' (with_ids m (woven chosen b)) c else give v in
+        if truth then evaluate table' (with_ids m (woven chosen b)) c else give v in
         let on : (m : ℕ) (truth : Bool) (v : Value) (s : Store) (d : ℕ)
-            → Matched chosen s (plus 4 d) (plus 4 d) (f truth v) (g m truth v) =
-          λ m truth v s d. pick truth (spare (omega arith) ((evaluate_match b p.1 m c).at s d)) done in
+        → Matched chosen s (plus 4 d) (plus 4 d) (f truth v) (g m truth v) =
+        λ m truth v s d. pick truth (spare (omega arith) ((evaluate_match b p.1 m c).at s d)) done in
         split (chosen kind.Conditional) (λ which. ExpressionMatch chosen (evaluate table (tree.and a b s) c)
         (evaluate table' (with_ids j
         (tree.and (if which then test s (woven chosen a) else woven chosen a) (woven chosen b) tt)) c))
@@ -301,10 +299,10 @@ module _ (chosen : Kinds) (table table' : FunctionTable)
     evaluate_match (tree.or a b s) p j c =
         let f : Bool → Value → Part (Answer Value) = λ truth v. if truth then give v else evaluate table b c in
         let g : ℕ → Bool → Value → Part (Answer Value) = λ m truth v.
-          if truth then give v else evaluate table' (with_ids m (woven chosen b)) c in
+        if truth then give v else evaluate table' (with_ids m (woven chosen b)) c in
         let on : (m : ℕ) (truth : Bool) (v : Value) (s : Store) (d : ℕ)
-            → Matched chosen s (plus 4 d) (plus 4 d) (f truth v) (g m truth v) =
-          λ m truth v s d. pick truth done (spare (omega arith) ((evaluate_match b p.1 m c).at s d)) in
+        → Matched chosen s (plus 4 d) (plus 4 d) (f truth v) (g m truth v) =
+        λ m truth v s d. pick truth done (spare (omega arith) ((evaluate_match b p.1 m c).at s d)) in
         split (chosen kind.Conditional) (λ which. ExpressionMatch chosen (evaluate table (tree.or a b s) c)
         (evaluate table' (with_ids j
         (tree.or (if which then test s (woven chosen a) else woven chosen a) (woven chosen b) tt)) c))
@@ -318,12 +316,12 @@ module _ (chosen : Kinds) (table table' : FunctionTable)
     evaluate_match (tree.conditional a b d s) p j c =
         let f : Bool → Value → Part (Answer Value) = λ truth v. if truth then evaluate table b c else evaluate table d c in
         let g : ℕ → Bool → Value → Part (Answer Value) = λ m truth v.
-          if truth then evaluate table' (with_ids m (woven chosen b)) c
-            else evaluate table' (with_ids (m + id_count (woven chosen b)) (woven chosen d)) c in
+        if truth then evaluate table' (with_ids m (woven chosen b)) c
+        else evaluate table' (with_ids (m + id_count (woven chosen b)) (woven chosen d)) c in
         let on : (m : ℕ) (truth : Bool) (v : Value) (s : Store) (e : ℕ)
-            → Matched chosen s (plus 4 e) (plus 4 e) (f truth v) (g m truth v) =
-          λ m truth v s e. pick truth (spare (omega arith) ((evaluate_match b p.1 m c).at s e))
-            (spare (omega arith) ((evaluate_match d p.2 (m + id_count (woven chosen b)) c).at s e)) in
+        → Matched chosen s (plus 4 e) (plus 4 e) (f truth v) (g m truth v) =
+        λ m truth v s e. pick truth (spare (omega arith) ((evaluate_match b p.1 m c).at s e))
+        (spare (omega arith) ((evaluate_match d p.2 (m + id_count (woven chosen b)) c).at s e)) in
         split (chosen kind.Conditional) (λ which. ExpressionMatch chosen (evaluate table (tree.conditional a b d s) c)
         (evaluate table' (with_ids j
         (tree.conditional (if which then test s (woven chosen a) else woven chosen a) (woven chosen b) (woven chosen d) tt)) c))
@@ -386,13 +384,13 @@ module _ (chosen : Kinds) (table table' : FunctionTable)
         → Woven (tree.call f l id) c j
     callee_match (tree.dot o k s) p l id small h j c itself args =
         let first : evaluate table (tree.call (tree.dot o k s) l id) c
-              ≡ Step (evaluate table o c >>= (λ base.
-              call_member table s (s + 1) base (value.Text k) (evaluate_all table 0 [] l c))) =
-          ap (λ form. Step (call_by_form form l c (λ literals. evaluate_all table literals [] l c)
-          (evaluate table o c >>= (λ base. call_member table s id base (value.Text k) (evaluate_all table 0 [] l c)))))
-          (member_no_hook o p.0 k)
-          ∙ ap (λ i. Step (evaluate table o c >>= (λ base.
-          call_member table s i base (value.Text k) (evaluate_all table 0 [] l c)))) (sym h) in
+        ≡ Step (evaluate table o c >>= (λ base.
+        call_member table s (s + 1) base (value.Text k) (evaluate_all table 0 [] l c))) =
+        ap (λ form. Step (call_by_form form l c (λ literals. evaluate_all table literals [] l c)
+        (evaluate table o c >>= (λ base. call_member table s id base (value.Text k) (evaluate_all table 0 [] l c)))))
+        (member_no_hook o p.0 k)
+        ∙ ap (λ i. Step (evaluate table o c >>= (λ base.
+        call_member table s i base (value.Text k) (evaluate_all table 0 [] l c)))) (sym h) in
         split (weave.calls_member chosen) (λ which. ExpressionMatch chosen (evaluate table (tree.call (tree.dot o k s) l id) c)
         (evaluate table' (with_ids j (tree.call
         (if which then hook_2 (codes "M") s (woven chosen o) (quoted k) else tree.dot (woven chosen o) k tt)
@@ -412,10 +410,10 @@ module _ (chosen : Kinds) (table table' : FunctionTable)
         (evaluate_match o p.0 (j + 3) c) (args m)))
     callee_match (tree.index o k s) p l id small h j c itself args =
         let first : evaluate table (tree.call (tree.index o k s) l id) c
-              ≡ Step (evaluate table o c >>= (λ base. (evaluate table k c >>= (λ key.
-              call_member table s (s + 1) base key (evaluate_all table 0 [] l c))))) =
-          ap (λ i. Step (evaluate table o c >>= (λ base. (evaluate table k c >>= (λ key.
-          call_member table s i base key (evaluate_all table 0 [] l c)))))) (sym h) in
+        ≡ Step (evaluate table o c >>= (λ base. (evaluate table k c >>= (λ key.
+        call_member table s (s + 1) base key (evaluate_all table 0 [] l c))))) =
+        ap (λ i. Step (evaluate table o c >>= (λ base. (evaluate table k c >>= (λ key.
+        call_member table s i base key (evaluate_all table 0 [] l c)))))) (sym h) in
         split (weave.calls_member chosen) (λ which. ExpressionMatch chosen (evaluate table (tree.call (tree.index o k s) l id) c)
         (evaluate table' (with_ids j (tree.call
         (if which then hook_2 (codes "M") s (woven chosen o) (woven chosen k) else tree.index (woven chosen o) (woven chosen k) tt)
@@ -453,7 +451,7 @@ module _ (chosen : Kinds) (table table' : FunctionTable)
     -- arguments, elements and properties
     pub values_match : (l : Exprs) → AllFit l → (so_far : List Value) (j : ℕ) (c : Context)
         → EvenMatch chosen (evaluate_all table 0 so_far l c)
-          (evaluate_all table' 0 so_far (forest_with_ids j (woven_forest chosen l)) c)
+        (evaluate_all table' 0 so_far (forest_with_ids j (woven_forest chosen l)) c)
     values_match tree.end p so_far j c = record { at = λ s d. done }
     values_match (tree.more e l) p so_far j c = record {
       at = λ s d. bind (omega arith) ((even (evaluate_match e p.0 _ c)).at s d)
@@ -462,7 +460,7 @@ module _ (chosen : Kinds) (table table' : FunctionTable)
 
     fill_match : (l : Forest ℕ tree.item) → AllFit l → (array : ObjId) (k j : ℕ) → (c : Context)
         → EvenMatch chosen (fill table l array k c)
-          (fill table' (forest_with_ids j (woven_forest chosen l)) array k c)
+        (fill table' (forest_with_ids j (woven_forest chosen l)) array k c)
     fill_match tree.end p array k j c = record { at = λ s d. done }
     fill_match (tree.more tree.hole l) p array k j c = fill_match l p.1 array (k + 1) (j + 0) c
     fill_match (tree.more (tree.filled e) l) p array k j c = record {
@@ -473,7 +471,7 @@ module _ (chosen : Kinds) (table table' : FunctionTable)
 
     equip_match : (l : Forest ℕ tree.entry) → AllFit l → (object : ObjId) (j : ℕ) → (c : Context)
         → EvenMatch chosen (equip table l object c)
-          (equip table' (forest_with_ids j (woven_forest chosen l)) object c)
+        (equip table' (forest_with_ids j (woven_forest chosen l)) object c)
     equip_match tree.end p object j c = record { at = λ s d. done }
     equip_match (tree.more (tree.value k e) l) p object j c = record {
       at = λ s d. bind (omega arith) (bind (omega arith) ((even (evaluate_match e p.0 _ c)).at s d)

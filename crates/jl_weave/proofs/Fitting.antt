@@ -101,9 +101,13 @@ mutual
       (fits e p.0 (n + 1) (omega arith), forests_fit a p.1 (n + 1 + id_count e) (omega arith), optionals_fit b p.2 (n + 1 + id_count e + forest_id_count a) (omega arith), omega arith)
   fits (tree.do_while l e s) p n few = (forests_fit l p.0 (n + 1) (omega arith), fits e p.1 (n + 1 + forest_id_count l) (omega arith), omega arith)
   fits (tree.while e l s) p n few = (fits e p.0 (n + 1) (omega arith), forests_fit l p.1 (n + 1 + id_count e) (omega arith), omega arith)
-  fits (tree.for i e u l s) p n few =
-      (fits i p.0 (n + one_if_present e) (omega arith), optionals_fit e p.1 (n + one_if_present e + id_count i) (omega arith), optionals_fit u p.2 (n + one_if_present e + id_count i + optional_id_count e) (omega arith),
-      forests_fit l p.3 (n + one_if_present e + id_count i + optional_id_count e + optional_id_count u) (omega arith), id_fits e (n + one_if_present e + id_count i) n (omega arith))
+  fits (tree.for i e u l s) p n few = (
+    fits i p.0 (n + one_if_present e) (omega arith),
+    optionals_fit e p.1 (n + one_if_present e + id_count i) (omega arith),
+    optionals_fit u p.2 (n + one_if_present e + id_count i + optional_id_count e) (omega arith),
+    forests_fit l p.3 (n + one_if_present e + id_count i + optional_id_count e + optional_id_count u) (omega arith),
+    id_fits e (n + one_if_present e + id_count i) n (omega arith),
+  )
   fits (tree.for_in is_var x o l s) p n few = (p.0, fits o p.1 (n + 1) (omega arith), forests_fit l p.2 (n + 1 + id_count o) (omega arith), omega arith)
   fits (tree.continue x s) p n few = tt
   fits (tree.break x s) p n few = tt

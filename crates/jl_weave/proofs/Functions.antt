@@ -1,5 +1,5 @@
 -- Calls of functions match calls of the woven functions.
-use Rattle.std.proofs.Common.{◌≡◌, ℕ, suc, ◌+◌, ◌<◌, List, [], length, Bool, true, false, Option, Some, codes, refl, sym, ap, ap₂, ◌∙◌, subst, subst₂, arith}
+use Rattle.std.proofs.Common.{◌≡◌, ℕ, ◌+◌, ◌<◌, List, [], length, Bool, false, Option, Some, codes, refl, sym, ap, ap₂, ◌∙◌, subst, arith}
 use Rattle.std.specs.Prelude.{if◌then◌else◌, ◌||◌}
 use mathlib.Core.Path.{fun_ext}
 use Rattle.jl_ast.specs.Tree as tree
@@ -8,13 +8,12 @@ use Rattle.jl_value.specs.declared.ending.Completion.{Completion}
 use Rattle.jl_value.specs.declared.ending.Completion.TheVariants as completion
 use Rattle.jl_value.specs.declared.value.Value.{Value}
 use Rattle.jl_heap.specs.Describe.{seen_of}
-use Rattle.jl_heap.specs.Objects.{Name}
 use Rattle.jl_heap.specs.declared.inner.Inner.{Inner}
 use Rattle.jl_op.specs.Chosen.{Kinds}
 use Rattle.jl_op.specs.Ids.{forest_id_count, forest_with_ids, id_count, with_ids}
 use Rattle.jl_op.specs.declared.kind.OpKind.TheVariants as kind
 use Rattle.jl_op.specs.declared.op.Op.TheVariants as op
-use Rattle.jl_effects.specs.Effects.{and_then, End, Step, row}
+use Rattle.jl_effects.specs.Effects.{and_then, End, Step}
 use Rattle.jl_effects.specs.Matching.{changes, ends, extra, fails, looks, own, peeks, plus, told}
 use Rattle.jl_effects.proofs.Chains.{and_then-assoc, row-and_then}
 use Rattle.jl_meaning.specs.Changes.{apply, NewEnvironment}
@@ -114,8 +113,8 @@ module _ {chosen : Kinds} where
   running_told : (id id' id2 id3 env : ℕ) (strict : Bool) (r : Running) {p p' : Part Completion}
       → StatementMatch chosen p p' → (s : Store)
       → Matched chosen s 31 0 (running id id' r p)
-        (running id2 id3 r (woven_function (Step (Step (enter_hook (in_call env strict r) id enters_function [])))
-        (Step (Step (enter_hook (in_call env strict r) id' exits_function []))) p'))
+      (running id2 id3 r (woven_function (Step (Step (enter_hook (in_call env strict r) id enters_function [])))
+      (Step (Step (enter_hook (in_call env strict r) id' exits_function []))) p'))
   unfolding enter_hook
   running_told id id' id2 id3 env strict r {p} {p'} x s =
       looks (peeks (own (extra (extra (extra (extra (peeks (told
@@ -136,11 +135,11 @@ module _ (chosen : Kinds) (table table' : FunctionTable)
   run_match : (m : ℕ) (x : Option (Ident ℕ)) (ps : List (Ident ℕ)) (st : Bool) (fs : Forest ℕ tree.func) (l : Stmts)
       (id : ℕ) → AllFit l → id + 1 < id_limit → (j : ℕ) (strict : Bool) (env : ℕ) (this : Value) (call : Call) (s : Store)
       → Matched chosen s 31 0
-        (run_function table (function_of (tree.function m x ps (tree.body st fs l) id) strict) this call
-        (function_context (function_of (tree.function m x ps (tree.body st fs l) id) strict) env this call))
-        (run_function table'
-        (function_of (with_ids j (woven chosen (tree.function m x ps (tree.body st fs l) id))) strict) this call
-        (function_context (function_of (tree.function m x ps (tree.body st fs l) id) strict) env this call))
+      (run_function table (function_of (tree.function m x ps (tree.body st fs l) id) strict) this call
+      (function_context (function_of (tree.function m x ps (tree.body st fs l) id) strict) env this call))
+      (run_function table'
+      (function_of (with_ids j (woven chosen (tree.function m x ps (tree.body st fs l) id))) strict) this call
+      (function_context (function_of (tree.function m x ps (tree.body st fs l) id) strict) env this call))
   run_match m x ps st fs l id p small j strict env this call s =
       let r : Running = record { function = m; this = this; args = length call.args; by_new = call.by_new } in
       let c : Context = in_call env strict r in
@@ -166,7 +165,7 @@ module _ (chosen : Kinds) (table table' : FunctionTable)
 
   call_match : (f : Func) → Fits f → (j : ℕ) (strict : Bool) (env : ℕ) (call : Call) (s : Store)
       → Matched chosen s 31 0 (call_script table (function_of f strict) env call)
-        (call_script table' (function_of (with_ids j (woven chosen f)) strict) env call)
+      (call_script table' (function_of (with_ids j (woven chosen f)) strict) env call)
   unfolding enter_function
   call_match (tree.function m x ps (tree.body st fs l) id) p j strict env call s =
       let f : ScriptFunction = function_of (tree.function m x ps (tree.body st fs l) id) strict in
@@ -176,8 +175,8 @@ module _ (chosen : Kinds) (table table' : FunctionTable)
       lifted (this_within strict call.this) (omega arith) (λ this t.
       let inside : Context = function_context f (next_environment t) this call in
       let declared : Algorithm (Unit {0}) =
-        declare_body (tree.body st fs l) strict call.callee
-        (function_params (tree.function m x ps (tree.body st fs l) id)) call.args inside in
+      declare_body (tree.body st fs l) strict call.callee
+      (function_params (tree.function m x ps (tree.body st fs l) id)) call.args inside in
       subst (λ p. Matched chosen t 31 0 (lift (enter_function f env this call) >>= k this) (lift p >>= k' this))
       (enter_same chosen (tree.function m x ps (tree.body st fs l) id) strict j env this call)
       (looks (peeks (changes (subst (λ p. Matched chosen (apply (NewEnvironment env) t) 31 0 (p >>= k this) (p >>= k' this))
@@ -187,13 +186,13 @@ module _ (chosen : Kinds) (table table' : FunctionTable)
 
   construct_match : (f : Func) → Fits f → (j : ℕ) (strict : Bool) (env : ℕ) (call : Call) (s : Store)
       → Matched chosen s 31 0 (construct_script table (function_of f strict) env call)
-        (construct_script table' (function_of (with_ids j (woven chosen f)) strict) env call)
+      (construct_script table' (function_of (with_ids j (woven chosen f)) strict) env call)
   construct_match f p j strict env call s =
       lifted (new_instance call.callee) (omega arith) (λ object t.
       bind (omega arith) (call_match f p j strict env (record call { this = object }) t) (λ v t. ends (omega arith)))
 
   pub begin_match : (f : Func) → Fits f → (j : ℕ) (strict : Bool) (env : ℕ) (call : Call) (s : Store)
       → Matched chosen s 31 0 (begin_script table (function_of f strict) env call)
-        (begin_script table' (function_of (with_ids j (woven chosen f)) strict) env call)
+      (begin_script table' (function_of (with_ids j (woven chosen f)) strict) env call)
   begin_match f p j strict env call s =
       pick call.by_new (construct_match f p j strict env call s) (call_match f p j strict env call s)

@@ -1,5 +1,5 @@
 -- What the woven assignments and updates of names come to: calls of hooks in calls of hooks.
-use Rattle.std.proofs.Common.{◌≡◌, ℕ, ◌+◌, ◌<◌, ◌∷◌, [], Bool, true, false, Option, Some, codes, refl, ap, ◌∙◌, arith}
+use Rattle.std.proofs.Common.{◌≡◌, ℕ, ◌+◌, ◌<◌, Bool, true, false, codes, refl, ap, ◌∙◌, arith}
 use Rattle.jl_ast.specs.Tree.{Text}
 use Rattle.jl_ast.specs.declared.ops.BinOp.{BinOp}
 use Rattle.jl_op.specs.Ids.{id_count, with_ids}
@@ -16,7 +16,7 @@ use Rattle.jl_weave.specs.HookCalls.{name_of}
 use Rattle.jl_weave.specs.Plain.{id_limit}
 use Rattle.jl_weave.proofs.HookCalls.{hook_worded_1, hook_worded_2}
 use Rattle.jl_weave.proofs.HookNames.{asks_binary, asks_unary, form_B, form_R, form_U, form_W, word_B, word_U}
-use Rattle.jl_weave.proofs.Names.{computed_by_hook, read_by_hook, tell_binary, tell_read, tell_write}
+use Rattle.jl_weave.proofs.Names.{computed_by_hook, read_by_hook, tell_binary, tell_write}
 use Rattle.jl_weave.proofs.Updates.{one_back, tell_update, updated_by_hook}
 
 module _ (table : FunctionTable) (c : Context) where
@@ -31,7 +31,7 @@ module _ (table : FunctionTable) (c : Context) where
       >>= tell_write (id + 2) c x)
   computed_hook x o id small e j =
       let e' : Part (Answer Value) =
-        evaluate table (with_ids (j + 3 + 1 + 1 + 1 + 3 + 1 + 1 + 1 + id_count (weaving.read id x)) e) c in
+      evaluate table (with_ids (j + 3 + 1 + 1 + 1 + 3 + 1 + 1 + 1 + id_count (weaving.read id x)) e) c in
       hook_worded_1 table c (codes "W") _ form_W (id + 2) (omega arith) x (writes x) refl
       (weaving.binary_hook (id + 1) o (weaving.read id x) e) j
       ∙ ap (λ q. Step (q >>= tell_write (id + 2) c x))

@@ -1,12 +1,12 @@
 -- Jobs that match have parts that match.
-use Rattle.std.proofs.Common.{◌≡◌, ℕ, zero, suc, slice_get, subst, arith}
+use Rattle.std.proofs.Common.{ℕ, zero, suc, slice_get, subst, arith}
 use Rattle.jl_heap.specs.Objects.{object_at}
 use Rattle.jl_heap.specs.declared.inner.Inner.{Inner}
 use Rattle.jl_heap.specs.declared.inner.Inner.TheVariants as inner
 use Rattle.jl_op.specs.Chosen.{is_kept, Kinds}
 use Rattle.jl_effects.specs.Matching.{ends, looks, peeks, JobsMatch}
 use Rattle.jl_meaning.specs.Changes.{apply}
-use Rattle.jl_meaning.specs.FunctionObjects.{callee_of, FunctionTable}
+use Rattle.jl_meaning.specs.FunctionObjects.{FunctionTable}
 use Rattle.jl_meaning.specs.Jobs.{begin_known, call_inside, job}
 use Rattle.jl_meaning.specs.Parts.{lift, Call}
 use Rattle.jl_meaning.specs.Store.{Store}
@@ -20,7 +20,7 @@ use Rattle.jl_weave.proofs.Turns.{turn_match}
 module _ (chosen : Kinds) (table table' : FunctionTable) (all : TableMatch chosen table table') where
   known_match : {l m : FunctionTable} → TableMatch chosen l m → (k env : ℕ) (call : Call) (s : Store)
       → Matched chosen s 31 0 (begin_known table (slice_get l k) env call)
-        (begin_known table' (slice_get m k) env call)
+      (begin_known table' (slice_get m k) env call)
   known_match none k env call s = ends (omega arith)
   known_match (one f p j strict x) zero env call s =
       begin_match chosen table table' (callees_same all) f p j strict env call s

@@ -1,5 +1,5 @@
 -- Literals: primitive values, arrays, objects and functions.
-use Rattle.std.proofs.Common.{◌≡◌, ℕ, suc, ◌≤◌, [], ◌∷◌, Bool, true, false, Option, Some, None, refl, sym, subst, arith}
+use Rattle.std.proofs.Common.{◌≡◌, ℕ, suc, ◌≤◌, [], ◌∷◌, false, Option, Some, None, refl, sym, subst, arith}
 use Rattle.jl_value.specs.declared.object.ObjId.{ObjId}
 use Rattle.jl_value.specs.declared.value.Seen.{Seen}
 use Rattle.jl_value.specs.declared.value.Value.{Value}
@@ -16,7 +16,7 @@ use Rattle.jl_effects.specs.Matching.{ends, fails, both, extra, looks, peeks, to
 use Rattle.jl_meaning.specs.Defining.{define_own_property, value_change}
 use Rattle.jl_meaning.specs.FunctionObjects.{whole}
 use Rattle.jl_meaning.specs.Noting.{performs, emits, note_or_misuse}
-use Rattle.jl_meaning.specs.Parts.{Algorithm, Context, Part, Answer, ◌>>=◌, give, lift}
+use Rattle.jl_meaning.specs.Parts.{Algorithm, Context, Part, Answer, ◌>>=◌, lift}
 use Rattle.jl_meaning.specs.Store.{Store}
 use Rattle.jl_meaning.specs.forms.HookCalls.{makes}
 use Rattle.jl_meaning.specs.forms.Hooks.{enter_hook}
@@ -70,14 +70,14 @@ module _ {chosen : Kinds} where
   unfolding literal enter_hook
   literal_to id id' k v {s} {c} {d} le =
       let at : (o : Option Op) → literal_op s.heap v ≡ o
-          → Matched chosen s c d (note_or_misuse performs id v o) (note_or_misuse performs id' v o >>= tell_literal id k) =
-        λ o. elim o as (λ o. literal_op s.heap v ≡ o
-        → Matched chosen s c d (note_or_misuse performs id v o) (note_or_misuse performs id' v o >>= tell_literal id k)) [
-          | None ↦ λ e. fails
-          | Some o ↦ λ e. own (spare {c = suc d} le (extra (peeks
-          (subst (λ q. Matched chosen s d d (note_or_misuse performs id v (Some o)) (note_or_misuse emits id v q)) (sym e)
-          (told done)))))
-        ] in
+      → Matched chosen s c d (note_or_misuse performs id v o) (note_or_misuse performs id' v o >>= tell_literal id k) =
+      λ o. elim o as (λ o. literal_op s.heap v ≡ o
+      → Matched chosen s c d (note_or_misuse performs id v o) (note_or_misuse performs id' v o >>= tell_literal id k)) [
+        | None ↦ λ e. fails
+        | Some o ↦ λ e. own (spare {c = suc d} le (extra (peeks
+            (subst (λ q. Matched chosen s d d (note_or_misuse performs id v (Some o)) (note_or_misuse emits id v q)) (sym e)
+            (told done)))))
+      ] in
       looks (peeks (at (literal_op s.heap v) refl))
 
   pub literal_told : (k : Context) (v : Value) (id id' : ℕ)
@@ -100,14 +100,14 @@ module _ {chosen : Kinds} where
   unfolding literal_of literal enter_hook
   form_to form is id id' k v {s} {c} {d} le =
       let at : (o : Option Op) → form (literal_op s.heap v) ≡ o
-          → Matched chosen s c d (note_or_misuse performs id v o) (note_or_misuse performs id' v o >>= tell_literal id k) =
-        λ o. elim o as (λ o. form (literal_op s.heap v) ≡ o
-        → Matched chosen s c d (note_or_misuse performs id v o) (note_or_misuse performs id' v o >>= tell_literal id k)) [
-          | None ↦ λ e. fails
-          | Some o ↦ λ e. own (spare {c = suc d} le (extra (peeks
-          (subst (λ q. Matched chosen s d d (note_or_misuse performs id v (Some o)) (note_or_misuse emits id v q))
-          (sym (is (literal_op s.heap v) o e)) (told done)))))
-        ] in
+      → Matched chosen s c d (note_or_misuse performs id v o) (note_or_misuse performs id' v o >>= tell_literal id k) =
+      λ o. elim o as (λ o. form (literal_op s.heap v) ≡ o
+      → Matched chosen s c d (note_or_misuse performs id v o) (note_or_misuse performs id' v o >>= tell_literal id k)) [
+        | None ↦ λ e. fails
+        | Some o ↦ λ e. own (spare {c = suc d} le (extra (peeks
+            (subst (λ q. Matched chosen s d d (note_or_misuse performs id v (Some o)) (note_or_misuse emits id v q))
+            (sym (is (literal_op s.heap v) o e)) (told done)))))
+      ] in
       looks (peeks (at (form (literal_op s.heap v)) refl))
 
   form_silent : (form : Option Op → Option Op) → Silent chosen form → (id id' : ℕ) (v : Value) {s : Store} {c d : ℕ}
@@ -115,18 +115,18 @@ module _ {chosen : Kinds} where
   unfolding literal_of
   form_silent form is id id' v {s} {c} {d} le =
       let at : (o : Option Op) → form (literal_op s.heap v) ≡ o
-          → Matched chosen s c d (note_or_misuse performs id v o) (note_or_misuse performs id' v o) =
-        λ o. elim o as (λ o. form (literal_op s.heap v) ≡ o
-        → Matched chosen s c d (note_or_misuse performs id v o) (note_or_misuse performs id' v o)) [
-          | None ↦ λ e. fails
-          | Some o ↦ λ e. quiet (is (literal_op s.heap v) o e) (own (ends le))
-        ] in
+      → Matched chosen s c d (note_or_misuse performs id v o) (note_or_misuse performs id' v o) =
+      λ o. elim o as (λ o. form (literal_op s.heap v) ≡ o
+      → Matched chosen s c d (note_or_misuse performs id v o) (note_or_misuse performs id' v o)) [
+        | None ↦ λ e. fails
+        | Some o ↦ λ e. quiet (is (literal_op s.heap v) o e) (own (ends le))
+      ] in
       looks (peeks (at (form (literal_op s.heap v)) refl))
 
   pub array_told : (k : Context) {f f' : ObjId → Part (Answer ℕ)} (id id' : ℕ)
       → ((a : ObjId) → EvenMatch chosen (f a) (f' a))
       → ExpressionMatch chosen (Step (lift new_array >>= (λ a. (f a >>= (λ n. end_array id a n)))))
-        (Step (Step (lift new_array >>= (λ a. (f' a >>= (λ n. end_array id' a n)))) >>= tell_literal id k))
+      (Step (Step (lift new_array >>= (λ a. (f' a >>= (λ n. end_array id' a n)))) >>= tell_literal id k))
   unfolding end_array
   array_told k {f' = f'} id id' x = record {
     at = λ s c. both (extra (bind2 (λ a. (f' a >>= (λ n. end_array id' a n))) (tell_literal id k) (omega arith)
@@ -140,7 +140,7 @@ module _ {chosen : Kinds} where
   pub array_as_is : {f f' : ObjId → Part (Answer ℕ)} (id id' : ℕ) → chosen kind.ArrayLiteral ≡ false
       → ((a : ObjId) → EvenMatch chosen (f a) (f' a))
       → ExpressionMatch chosen (Step (lift new_array >>= (λ a. (f a >>= (λ n. end_array id a n)))))
-        (Step (lift new_array >>= (λ a. (f' a >>= (λ n. end_array id' a n)))))
+      (Step (lift new_array >>= (λ a. (f' a >>= (λ n. end_array id' a n)))))
   unfolding end_array
   array_as_is id id' e x = record {
     at = λ s c. both (lifted new_array (omega arith) (λ a t. bind (omega arith) ((x a).at t _)
@@ -151,9 +151,9 @@ module _ {chosen : Kinds} where
   pub object_told : (k : Context) {f f' : ObjId → Part (Answer (Unit {0}))} (id id' : ℕ)
       → ((a : ObjId) → EvenMatch chosen (f a) (f' a))
       → ExpressionMatch chosen
-        (Step (lift new_plain_object >>= (λ a. (f a >>= (λ _. literal_of of_object id (value.Obj a))))))
-        (Step (Step (lift new_plain_object >>= (λ a. (f' a >>= (λ _. literal_of of_object id' (value.Obj a)))))
-        >>= tell_literal id k))
+      (Step (lift new_plain_object >>= (λ a. (f a >>= (λ _. literal_of of_object id (value.Obj a))))))
+      (Step (Step (lift new_plain_object >>= (λ a. (f' a >>= (λ _. literal_of of_object id' (value.Obj a)))))
+      >>= tell_literal id k))
   object_told k {f' = f'} id id' x = record {
     at = λ s c. both (extra (bind2 (λ a. (f' a >>= (λ _. literal_of of_object id' (value.Obj a)))) (tell_literal id k)
         (omega arith) (algorithm new_plain_object)
@@ -164,8 +164,8 @@ module _ {chosen : Kinds} where
   pub object_as_is : {f f' : ObjId → Part (Answer (Unit {0}))} (id id' : ℕ) → chosen kind.ObjectLiteral ≡ false
       → ((a : ObjId) → EvenMatch chosen (f a) (f' a))
       → ExpressionMatch chosen
-        (Step (lift new_plain_object >>= (λ a. (f a >>= (λ _. literal_of of_object id (value.Obj a))))))
-        (Step (lift new_plain_object >>= (λ a. (f' a >>= (λ _. literal_of of_object id' (value.Obj a))))))
+      (Step (lift new_plain_object >>= (λ a. (f a >>= (λ _. literal_of of_object id (value.Obj a))))))
+      (Step (lift new_plain_object >>= (λ a. (f' a >>= (λ _. literal_of of_object id' (value.Obj a))))))
   object_as_is id id' e x = record {
     at = λ s c. both (lifted new_plain_object (omega arith) (λ a t. bind (omega arith) ((x a).at t _)
         (λ n t. form_silent of_object (object_silent chosen e) id id' (value.Obj a) (omega arith))));
@@ -173,7 +173,7 @@ module _ {chosen : Kinds} where
 
   pub function_told : (k : Context) (p p' : Algorithm ObjId) (id id' : ℕ) → p ≡ p'
       → ExpressionMatch chosen (Step (lift p >>= (λ f. literal_of of_function id (value.Obj f))))
-        (Step (Step (lift p' >>= (λ f. literal_of of_function id' (value.Obj f))) >>= tell_literal id k))
+      (Step (Step (lift p' >>= (λ f. literal_of of_function id' (value.Obj f))) >>= tell_literal id k))
   function_told k p p' id id' e =
       subst (λ p'. ExpressionMatch chosen (Step (lift p >>= (λ f. literal_of of_function id (value.Obj f))))
       (Step (Step (lift p' >>= (λ f. literal_of of_function id' (value.Obj f))) >>= tell_literal id k))) e
@@ -184,7 +184,7 @@ module _ {chosen : Kinds} where
 
   pub function_as_is : (p p' : Algorithm ObjId) (id id' : ℕ) → chosen kind.FunctionLiteral ≡ false → p ≡ p'
       → ExpressionMatch chosen (Step (lift p >>= (λ f. literal_of of_function id (value.Obj f))))
-        (Step (lift p' >>= (λ f. literal_of of_function id' (value.Obj f))))
+      (Step (lift p' >>= (λ f. literal_of of_function id' (value.Obj f))))
   function_as_is p p' id id' e is =
       subst (λ p'. ExpressionMatch chosen (Step (lift p >>= (λ f. literal_of of_function id (value.Obj f))))
       (Step (lift p' >>= (λ f. literal_of of_function id' (value.Obj f))))) is

@@ -1,5 +1,5 @@
 -- Loops: how they begin, what follows their body, and the properties that a `for-in` visits.
-use Rattle.std.proofs.Common.{◌≡◌, ℕ, ◌≤◌, List, [], ◌∷◌, Bool, false, Some, None, refl, arith}
+use Rattle.std.proofs.Common.{◌≡◌, ℕ, ◌≤◌, List, [], ◌∷◌, false, Some, None, arith}
 use Rattle.jl_ast.specs.Tree.{Text}
 use Rattle.jl_scope.specs.Names.{among}
 use Rattle.jl_value.specs.declared.ending.Completion.{Completion}
@@ -42,19 +42,19 @@ module _ (chosen : Kinds) (x : Text) (plain : is_hooks x ≡ false) (l : Stmts) 
     (labels : List Text) (id id' j : ℕ) where
   pub visit_match : (visits : List Visit)
       → StatementMatch chosen (visit_next x l c labels id visits)
-        (visit_next x (forest_with_ids j (woven_forest chosen l)) c labels id' visits)
+      (visit_next x (forest_with_ids j (woven_forest chosen l)) c labels id' visits)
   unfolding visit_next
   visit_match visits = record { at = λ s d. looks (peeks (on (visits_left s.heap visits) s d)) }
     where
       on : (rest : List Visit) (s : Store) (d : ℕ)
           → Matched chosen s d d (visit_first x l c labels id rest)
-            (visit_first x (forest_with_ids j (woven_forest chosen l)) c labels id' rest)
+          (visit_first x (forest_with_ids j (woven_forest chosen l)) c labels id' rest)
       on [] s d = done
       on (v ∷ rest) s d = (loop_match (for_in_loop x v.name rest l) c labels id (plain, fits) id' j 0 0).at s d
 
   pub visit_all_match : (v : Value)
       → StatementMatch chosen (visit_all x l c labels id v)
-        (visit_all x (forest_with_ids j (woven_forest chosen l)) c labels id' v)
+      (visit_all x (forest_with_ids j (woven_forest chosen l)) c labels id' v)
   unfolding visit_all
   visit_all_match v = record {
     at = λ s d. pick (is_nothing v) done (valued (omega arith) (algorithm (to_object v))

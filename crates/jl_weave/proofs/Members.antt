@@ -1,7 +1,5 @@
 -- Members: got, put, deleted, assigned and updated.
-use Rattle.std.proofs.Common.{◌≡◌, ℕ, suc, ◌+◌, ◌≤◌, [], ◌∷◌, List, Bool, true, false, Option, Some, None, arith}
-use Rattle.std.specs.Prelude.{if◌then◌else◌}
-use Rattle.jl_num.specs.Number.{Number}
+use Rattle.std.proofs.Common.{◌≡◌, ℕ, ◌+◌, ◌≤◌, [], ◌∷◌, Bool, true, false, Some, None, arith}
 use Rattle.jl_ast.specs.Tree.{Text}
 use Rattle.jl_ast.specs.declared.ops.BinOp.{BinOp}
 use Rattle.jl_value.specs.declared.value.Value.{Value}
@@ -10,18 +8,17 @@ use Rattle.jl_heap.specs.Objects.{Name}
 use Rattle.jl_op.specs.Chosen.{Kinds}
 use Rattle.jl_op.specs.declared.kind.OpKind.TheVariants as kind
 use Rattle.jl_effects.specs.Effects.{Step}
-use Rattle.jl_effects.specs.Matching.{ends, both, extra, looks, peeks, told, own, spare}
+use Rattle.jl_effects.specs.Matching.{ends, both, extra, looks, peeks, told, own}
 use Rattle.jl_meaning.specs.Getting.{get}
 use Rattle.jl_meaning.specs.Putting.{delete, put}
 use Rattle.jl_meaning.specs.Noting.{performs, emits}
-use Rattle.jl_meaning.specs.Parts.{Context, Part, Answer, ◌>>=◌, give, lift}
+use Rattle.jl_meaning.specs.Parts.{Context, Part, Answer, ◌>>=◌, give}
 use Rattle.jl_meaning.specs.Store.{Store}
 use Rattle.jl_meaning.specs.forms.HookCalls.{deletes, gets}
 use Rattle.jl_meaning.specs.forms.Hooks.{enter_hook}
 use Rattle.jl_meaning.specs.forms.Literals.{literal}
 use Rattle.jl_meaning.specs.forms.Members.{assign_member, delete_member, get_member, member_name, put_member, read_member}
 use Rattle.jl_meaning.specs.forms.Members.{update_expression, update_member}
-use Rattle.jl_meaning.specs.forms.Operators.{update_kind}
 use Rattle.jl_weave.proofs.Operators.{operate_silent, update_silent}
 use Rattle.jl_weave.proofs.Relation.{Matched, done, bind, algorithm, lifted, quiet, fewer, ExpressionMatch}
 
@@ -83,7 +80,7 @@ module _ {chosen : Kinds} where
 
   pub dot_told : (k : Context) {o o' : Part (Answer Value)} (key : Text) (id id' : ℕ) → ExpressionMatch chosen o o'
       → ExpressionMatch chosen (Step (o >>= (λ base. read_member id base (value.Text key))))
-        (Step (o' >>= (λ v. (key_argument id' key >>= (λ w. Step (enter_hook k id gets (v ∷ w ∷ [])))))))
+      (Step (o' >>= (λ v. (key_argument id' key >>= (λ w. Step (enter_hook k id gets (v ∷ w ∷ [])))))))
   unfolding literal
   dot_told k key id id' x = record {
     at = λ s c. both (bind (omega arith) (x.at s _) (λ base t.
@@ -93,7 +90,7 @@ module _ {chosen : Kinds} where
   pub index_told : (k : Context) {o o' e e' : Part (Answer Value)} (id : ℕ) → ExpressionMatch chosen o o'
       → ExpressionMatch chosen e e'
       → ExpressionMatch chosen (Step (o >>= (λ base. (e >>= (λ key. read_member id base key)))))
-        (Step (o' >>= (λ v. (e' >>= (λ w. Step (enter_hook k id gets (v ∷ w ∷ [])))))))
+      (Step (o' >>= (λ v. (e' >>= (λ w. Step (enter_hook k id gets (v ∷ w ∷ [])))))))
   index_told k id x y = record {
     at = λ s c. both (bind (omega arith) (x.at s _) (λ base t. bind (omega arith) (y.at t _) (λ key t.
         extra (read_told k id base key (omega arith)))));
@@ -102,7 +99,7 @@ module _ {chosen : Kinds} where
   pub dot_silent : {o o' : Part (Answer Value)} (key : Text) (id id' : ℕ) → chosen kind.GetField ≡ false
       → ExpressionMatch chosen o o'
       → ExpressionMatch chosen (Step (o >>= (λ base. read_member id base (value.Text key))))
-        (Step (o' >>= (λ base. read_member id' base (value.Text key))))
+      (Step (o' >>= (λ base. read_member id' base (value.Text key))))
   dot_silent key id id' e x = record {
     at = λ s c. both (bind (omega arith) (x.at s _) (λ base t. read_silent id id' base (value.Text key) e (omega arith)));
   }
@@ -110,7 +107,7 @@ module _ {chosen : Kinds} where
   pub index_silent : {o o' i i' : Part (Answer Value)} (id id' : ℕ) → chosen kind.GetField ≡ false
       → ExpressionMatch chosen o o' → ExpressionMatch chosen i i'
       → ExpressionMatch chosen (Step (o >>= (λ base. (i >>= (λ key. read_member id base key)))))
-        (Step (o' >>= (λ base. (i' >>= (λ key. read_member id' base key)))))
+      (Step (o' >>= (λ base. (i' >>= (λ key. read_member id' base key)))))
   index_silent id id' e x y = record {
     at = λ s c. both (bind (omega arith) (x.at s _) (λ base t. bind (omega arith) (y.at t _) (λ key t.
         read_silent id id' base key e (omega arith))));
@@ -120,7 +117,7 @@ module _ {chosen : Kinds} where
   pub delete_dot_told : (k : Context) {o o' : Part (Answer Value)} (key : Text) (id id' : ℕ)
       → ExpressionMatch chosen o o'
       → ExpressionMatch chosen (Step (o >>= (λ base. delete_member performs id k.strict base (value.Text key))))
-        (Step (o' >>= (λ v. (key_argument id' key >>= (λ w. Step (enter_hook k id deletes (v ∷ w ∷ [])))))))
+      (Step (o' >>= (λ v. (key_argument id' key >>= (λ w. Step (enter_hook k id deletes (v ∷ w ∷ [])))))))
   unfolding literal enter_hook
   delete_dot_told k key id id' x = record {
     at = λ s c. both (bind (omega arith) (x.at s _) (λ base t. extra (peeks (own
@@ -130,7 +127,7 @@ module _ {chosen : Kinds} where
   pub delete_index_told : (k : Context) {o o' e e' : Part (Answer Value)} (id : ℕ) → ExpressionMatch chosen o o'
       → ExpressionMatch chosen e e'
       → ExpressionMatch chosen (Step (o >>= (λ base. (e >>= (λ key. delete_member performs id k.strict base key)))))
-        (Step (o' >>= (λ v. (e' >>= (λ w. Step (enter_hook k id deletes (v ∷ w ∷ [])))))))
+      (Step (o' >>= (λ v. (e' >>= (λ w. Step (enter_hook k id deletes (v ∷ w ∷ [])))))))
   unfolding enter_hook
   delete_index_told k id x y = record {
     at = λ s c. both (bind (omega arith) (x.at s _) (λ base t. bind (omega arith) (y.at t _) (λ key t.
@@ -140,7 +137,7 @@ module _ {chosen : Kinds} where
   pub delete_dot_silent : (k : Context) {o o' : Part (Answer Value)} (key : Text) (id id' : ℕ)
       → chosen kind.DeleteField ≡ false → ExpressionMatch chosen o o'
       → ExpressionMatch chosen (Step (o >>= (λ base. delete_member performs id k.strict base (value.Text key))))
-        (Step (o' >>= (λ base. delete_member performs id' k.strict base (value.Text key))))
+      (Step (o' >>= (λ base. delete_member performs id' k.strict base (value.Text key))))
   delete_dot_silent k key id id' e x = record {
     at = λ s c. both (bind (omega arith) (x.at s _) (λ base t.
         fewer (omega arith) (delete_silent id id' k.strict base (value.Text key) e)));
@@ -149,7 +146,7 @@ module _ {chosen : Kinds} where
   pub delete_index_silent : (k : Context) {o o' i i' : Part (Answer Value)} (id id' : ℕ)
       → chosen kind.DeleteField ≡ false → ExpressionMatch chosen o o' → ExpressionMatch chosen i i'
       → ExpressionMatch chosen (Step (o >>= (λ base. (i >>= (λ key. delete_member performs id k.strict base key)))))
-        (Step (o' >>= (λ base. (i' >>= (λ key. delete_member performs id' k.strict base key)))))
+      (Step (o' >>= (λ base. (i' >>= (λ key. delete_member performs id' k.strict base key)))))
   delete_index_silent k id id' e x y = record {
     at = λ s c. both (bind (omega arith) (x.at s _) (λ base t. bind (omega arith) (y.at t _) (λ key t.
         fewer (omega arith) (delete_silent id id' k.strict base key e))));
@@ -180,7 +177,7 @@ module _ {chosen : Kinds} where
   pub put_dot_silent : (k : Context) (key : Text) (id id' : ℕ) → chosen kind.PutField ≡ false
       → {o o' a a' : Part (Answer Value)} → ExpressionMatch chosen o o' → ExpressionMatch chosen a a'
       → ExpressionMatch chosen (Step (o >>= (λ base. assign_member id k base (value.Text key) None a)))
-        (Step (o' >>= (λ base. assign_member id' k base (value.Text key) None a')))
+      (Step (o' >>= (λ base. assign_member id' k base (value.Text key) None a')))
   put_dot_silent k key id id' e x y = record {
     at = λ s c. both (bind (omega arith) (x.at s _) (λ base t.
         put_as_is k base (value.Text key) id id' e y (omega arith)));
@@ -190,7 +187,7 @@ module _ {chosen : Kinds} where
       → {o o' i i' a a' : Part (Answer Value)} → ExpressionMatch chosen o o' → ExpressionMatch chosen i i'
       → ExpressionMatch chosen a a'
       → ExpressionMatch chosen (Step (o >>= (λ base. (i >>= (λ key. assign_member id k base key None a)))))
-        (Step (o' >>= (λ base. (i' >>= (λ key. assign_member id' k base key None a')))))
+      (Step (o' >>= (λ base. (i' >>= (λ key. assign_member id' k base key None a')))))
   put_index_silent k id id' e x z y = record {
     at = λ s c. both (bind (omega arith) (x.at s _) (λ base t. bind (omega arith) (z.at t _) (λ key t.
         put_as_is k base key id id' e y (omega arith))));
@@ -200,7 +197,7 @@ module _ {chosen : Kinds} where
       → chosen kind.Binary ≡ false → chosen kind.PutField ≡ false → {b b' a a' : Part (Answer Value)}
       → ExpressionMatch chosen b b' → ExpressionMatch chosen a a'
       → ExpressionMatch chosen (Step (b >>= (λ base. assign_member id k base (value.Text key) (Some o) a)))
-        (Step (b' >>= (λ base. assign_member id' k base (value.Text key) (Some o) a')))
+      (Step (b' >>= (λ base. assign_member id' k base (value.Text key) (Some o) a')))
   compute_dot_silent k o key id id' e g h x y = record {
     at = λ s c. both (bind (omega arith) (x.at s _) (λ base t.
         compute_as_is k base (value.Text key) o id id' e g h y (omega arith)));
@@ -210,7 +207,7 @@ module _ {chosen : Kinds} where
       → chosen kind.Binary ≡ false → chosen kind.PutField ≡ false → {b b' i i' a a' : Part (Answer Value)}
       → ExpressionMatch chosen b b' → ExpressionMatch chosen i i' → ExpressionMatch chosen a a'
       → ExpressionMatch chosen (Step (b >>= (λ base. (i >>= (λ key. assign_member id k base key (Some o) a)))))
-        (Step (b' >>= (λ base. (i' >>= (λ key. assign_member id' k base key (Some o) a')))))
+      (Step (b' >>= (λ base. (i' >>= (λ key. assign_member id' k base key (Some o) a')))))
   compute_index_silent k o id id' e g h x z y = record {
     at = λ s c. both (bind (omega arith) (x.at s _) (λ base t. bind (omega arith) (z.at t _) (λ key t.
         compute_as_is k base key o id id' e g h y (omega arith))));
@@ -229,7 +226,7 @@ module _ {chosen : Kinds} where
       → chosen kind.Unary ≡ false → chosen kind.PutField ≡ false → {o o' : Part (Answer Value)}
       → ExpressionMatch chosen o o'
       → ExpressionMatch chosen (Step (o >>= (λ base. update_expression id k base (value.Text key) up prefix)))
-        (Step (o' >>= (λ base. update_expression id' k base (value.Text key) up prefix)))
+      (Step (o' >>= (λ base. update_expression id' k base (value.Text key) up prefix)))
   update_dot_silent k key up prefix id id' e g h x = record {
     at = λ s c. both (bind (omega arith) (x.at s _) (λ base t.
         update_as_is k base (value.Text key) up prefix id id' e g h (omega arith)));
@@ -239,7 +236,7 @@ module _ {chosen : Kinds} where
       → chosen kind.Unary ≡ false → chosen kind.PutField ≡ false → {o o' i i' : Part (Answer Value)}
       → ExpressionMatch chosen o o' → ExpressionMatch chosen i i'
       → ExpressionMatch chosen (Step (o >>= (λ base. (i >>= (λ key. update_expression id k base key up prefix)))))
-        (Step (o' >>= (λ base. (i' >>= (λ key. update_expression id' k base key up prefix)))))
+      (Step (o' >>= (λ base. (i' >>= (λ key. update_expression id' k base key up prefix)))))
   update_index_silent k up prefix id id' e g h x y = record {
     at = λ s c. both (bind (omega arith) (x.at s _) (λ base t. bind (omega arith) (y.at t _) (λ key t.
         update_as_is k base key up prefix id id' e g h (omega arith))));

@@ -313,7 +313,7 @@ module _ (chosen : Kinds) where
             ≡ mentions x (tree.body strict fs l)
         at true =
             let k : ℕ = n + forest_id_count (woven_forest chosen fs) + 0
-                  + id_count (hook_statement (hook (codes "E") id tree.end)) in
+            + id_count (hook_statement (hook (codes "E") id tree.end)) in
             ap₂ ◌||◌ (ap (among x) (names_same fs n))
             (or_false _ ∙ ap₂ ◌||◌ (or_false _
             ∙ ap (λ b. b || forest_mentions x (forest_with_ids k (woven_forest chosen l))) (ap (λ h. h || false) other)

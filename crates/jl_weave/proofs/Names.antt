@@ -1,5 +1,5 @@
 -- Names: read, under `typeof` and `delete`, and assigned to.
-use Rattle.std.proofs.Common.{◌≡◌, ℕ, suc, ◌+◌, ◌≤◌, [], ◌∷◌, Bool, true, false, refl, sym, ap, subst, subst₂, arith}
+use Rattle.std.proofs.Common.{◌≡◌, ℕ, suc, ◌+◌, ◌≤◌, [], ◌∷◌, Bool, true, false, sym, ap, subst, subst₂, arith}
 use Rattle.std.specs.Prelude.{if◌then◌else◌}
 use Rattle.jl_ast.specs.declared.ops.BinOp.{BinOp}
 use Rattle.jl_value.specs.declared.ending.Fault.TheVariants.{Misuse}
@@ -12,7 +12,7 @@ use Rattle.jl_op.specs.declared.op.Op.TheVariants as op
 use Rattle.jl_effects.specs.Effects.{Fail, Step}
 use Rattle.jl_effects.specs.Matching.{ends, fails, both, extra, looks, peeks, told, own, spare, plus}
 use Rattle.jl_meaning.specs.Noting.{note, note_value, performs}
-use Rattle.jl_meaning.specs.Parts.{Algorithm, Context, Part, Answer, ◌>>=◌, give, lift}
+use Rattle.jl_meaning.specs.Parts.{Context, Part, Answer, ◌>>=◌, give, lift}
 use Rattle.jl_meaning.specs.References.{delete_name, get_name, get_value, identifier_reference, put_value, resolve}
 use Rattle.jl_meaning.specs.References.{type_of_name, Reference}
 use Rattle.jl_meaning.specs.Store.{Store}
@@ -22,7 +22,7 @@ use Rattle.jl_meaning.specs.forms.Names.{assign_name, compute_name, delete_ident
 use Rattle.jl_meaning.specs.forms.Names.{read_reference, typeof_name, unless_hooks, update_name, write_name}
 use Rattle.jl_meaning.specs.forms.Operators.{operate, update_kind}
 use Rattle.jl_weave.proofs.Operators.{operate_silent, operate_told, update_silent}
-use Rattle.jl_weave.proofs.Relation.{Matched, done, bind, algorithm, lifted, bind2, bind3, quiet, fewer, assoc}
+use Rattle.jl_weave.proofs.Relation.{Matched, done, bind, algorithm, lifted, bind2, bind3, quiet, fewer}
 use Rattle.jl_weave.proofs.Relation.{ExpressionMatch}
 
 -- a name that is not that of the hooks
@@ -183,7 +183,7 @@ module _ {chosen : Kinds} where
   -- what R gives
   pub read_to : (x : Name) (k : Context) (id id' : ℕ) → is_hooks x ≡ false → (s : Store) (c : ℕ)
       → Matched chosen s (suc (suc (suc c))) c (read_reference id x (identifier_reference s k.env x))
-        (read_by_hook id id' k x)
+      (read_by_hook id id' k x)
   unfolding enter_hook get_name
   read_to x k id id' e s c =
       let reference : Reference = identifier_reference s k.env x in
@@ -205,7 +205,7 @@ module _ {chosen : Kinds} where
   compute_to : (x : Name) (k : Context) (o : BinOp) (id id' id2 : ℕ) → is_hooks x ≡ false → {e e' : Part (Answer Value)}
       → ExpressionMatch chosen e e' → (s : Store) (c : ℕ)
       → Matched chosen s (plus 8 c) c (computing id k x o e)
-        (assigning id2 k x (Step (computed_by_hook id id' k x o e' >>= tell_write (id + 2) k x)))
+      (assigning id2 k x (Step (computed_by_hook id id' k x o e' >>= tell_write (id + 2) k x)))
   unfolding enter_hook
   compute_to x k o id id' id2 h {e} {e'} y s c =
       let reference : Reference = identifier_reference s k.env x in
@@ -219,7 +219,7 @@ module _ {chosen : Kinds} where
   pub compute_name_told : (x : Name) (k : Context) (o : BinOp) (id id' id2 : ℕ) → is_hooks x ≡ false
       → {e e' : Part (Answer Value)} → ExpressionMatch chosen e e'
       → ExpressionMatch chosen (Step (compute_name id k x o e))
-        (Step (assign_name id2 k x (Step (computed_by_hook id id' k x o e' >>= tell_write (id + 2) k x))))
+      (Step (assign_name id2 k x (Step (computed_by_hook id id' k x o e' >>= tell_write (id + 2) k x))))
   compute_name_told x k o id id' id2 h {e} {e'} y =
       subst₂ (λ p q. ExpressionMatch chosen (Step p) (Step q)) (sym (no_hooks x h (computing id k x o e)))
       (sym (no_hooks x h (assigning id2 k x (Step (computed_by_hook id id' k x o e' >>= tell_write (id + 2) k x)))))
@@ -237,7 +237,7 @@ module _ {chosen : Kinds} where
       looks (peeks (bind (omega arith) (lifted (get_value x reference) (omega arith) (λ v t. looks (peeks (quiet f (own done)))))
       (λ held t. bind (omega arith) (y.at t _) (λ w t. bind (omega arith) (operate_silent (id + 1) (id' + 1) o held w g)
       (λ v t. looks (peeks (quiet h (own
-      (bind (omega arith) (algorithm (put_value k.strict x v reference)) (λ u t. ends (omega arith)))))))))))) 
+      (bind (omega arith) (algorithm (put_value k.strict x v reference)) (λ u t. ends (omega arith))))))))))))
 
   -- `++` and `--` as they stand
   pub update_name_silent : (x : Name) (k : Context) (up prefix : Bool) (id id' : ℕ) → chosen kind.Read ≡ false
@@ -250,4 +250,4 @@ module _ {chosen : Kinds} where
       looks (peeks (bind (omega arith) (lifted (get_value x reference) (omega arith) (λ v t. looks (peeks (quiet f (own done)))))
       (λ held t. bind (omega arith) (update_silent (id + 1) (id' + 1) (update_kind up) held g)
       (λ v t. looks (peeks (quiet h (own
-      (bind (omega arith) (algorithm (put_value k.strict x v.1 reference)) (λ u t. ends (omega arith))))))))))) 
+      (bind (omega arith) (algorithm (put_value k.strict x v.1 reference)) (λ u t. ends (omega arith)))))))))))

@@ -1,5 +1,5 @@
 -- Operators, tests, and parts in a row: each is matched by its woven form, by the call of a hook or as it stands.
-use Rattle.std.proofs.Common.{◌≡◌, ℕ, suc, ◌+◌, ◌≤◌, [], ◌∷◌, Bool, true, false, Option, Some, None, refl, sym, subst, arith}
+use Rattle.std.proofs.Common.{◌≡◌, ℕ, ◌≤◌, [], ◌∷◌, Bool, false, Option, Some, None, refl, sym, subst, arith}
 use Rattle.std.specs.Prelude.{if◌then◌else◌}
 use Rattle.jl_num.specs.Number.{Number}
 use Rattle.jl_ast.specs.declared.ops.BinOp.{BinOp}
@@ -12,9 +12,9 @@ use Rattle.jl_op.specs.declared.kind.OpKind.TheVariants as kind
 use Rattle.jl_op.specs.declared.op.Op.TheVariants as op
 use Rattle.jl_op.specs.declared.sign.UnKind.{UnKind}
 use Rattle.jl_effects.specs.Effects.{Step}
-use Rattle.jl_effects.specs.Matching.{ends, fails, both, extra, looks, peeks, told, own, spare, plus}
+use Rattle.jl_effects.specs.Matching.{fails, both, extra, looks, peeks, told, own, spare, plus}
 use Rattle.jl_meaning.specs.Conversions.{to_number}
-use Rattle.jl_meaning.specs.Noting.{performs, emits, note, note_value, Noting}
+use Rattle.jl_meaning.specs.Noting.{performs, emits, note, Noting}
 use Rattle.jl_meaning.specs.Operators.{binary_result, give_next, give_number, is_script_number, next_number, unary_result}
 use Rattle.jl_meaning.specs.Parts.{Context, Part, Answer, ◌>>=◌, give, lift}
 use Rattle.jl_meaning.specs.Store.{Store}
@@ -73,15 +73,15 @@ module _ {chosen : Kinds} where
   unfolding update
   update_told o id a {A} k l {s} {c} {d} le f =
       let made_of : Noting → Number → Option Number → Part (Answer (Number × Value)) = λ how n r.
-        (lift (give_number r) >>= (λ v.
-        (note how id (λ heap. op.Unary o (seen_of heap a) (seen_of heap v)) >>= (λ _. give (n, v))))) in
+      (lift (give_number r) >>= (λ v.
+      (note how id (λ heap. op.Unary o (seen_of heap a) (seen_of heap v)) >>= (λ _. give (n, v))))) in
       let at : (n : Number) (r : Option Number) → updated_number o n ≡ r → (t : Store)
-          → Matched chosen t c d (made_of performs n r >>= k) (made_of emits n r >>= l) = λ n r.
-        elim r as (λ r. updated_number o n ≡ r → (t : Store)
-        → Matched chosen t c d (made_of performs n r >>= k) (made_of emits n r >>= l)) [
-          | None ↦ λ e t. fails
-          | Some m ↦ λ e t. looks (peeks (told (f n m e t)))
-        ] in
+      → Matched chosen t c d (made_of performs n r >>= k) (made_of emits n r >>= l) = λ n r.
+      elim r as (λ r. updated_number o n ≡ r → (t : Store)
+      → Matched chosen t c d (made_of performs n r >>= k) (made_of emits n r >>= l)) [
+        | None ↦ λ e t. fails
+        | Some m ↦ λ e t. looks (peeks (told (f n m e t)))
+      ] in
       bind_both (λ n. made_of performs n (updated_number o n)) k (λ n. made_of emits n (updated_number o n)) l le
       (algorithm (to_number a)) (λ n t. at n (updated_number o n) refl t)
 
@@ -89,7 +89,7 @@ module _ {chosen : Kinds} where
   pub unary_told : (k : Context) {e e' : Part (Answer Value)} (o : UnKind) (id : ℕ) → ExpressionMatch chosen e e'
       → ((v : Value) → hooked_unary id o v ≡ operate_on emits id o v)
       → ExpressionMatch chosen (Step (e >>= (λ v. operate_on performs id o v)))
-        (Step (e' >>= (λ v. Step (enter_hook k id (unary_of o) (v ∷ [])))))
+      (Step (e' >>= (λ v. Step (enter_hook k id (unary_of o) (v ∷ [])))))
   unfolding enter_hook
   unary_told k o id x is = record {
     at = λ s c. both (bind (omega arith) (x.at s _) (λ v t. extra
@@ -100,7 +100,7 @@ module _ {chosen : Kinds} where
   pub unary_silent : {e e' : Part (Answer Value)} (o : UnKind) (id id' : ℕ) → chosen kind.Unary ≡ false
       → ExpressionMatch chosen e e'
       → ExpressionMatch chosen (Step (e >>= (λ v. operate_on performs id o v)))
-        (Step (e' >>= (λ v. operate_on performs id' o v)))
+      (Step (e' >>= (λ v. operate_on performs id' o v)))
   unary_silent o id id' e x = record {
     at = λ s c. both (bind (omega arith) (x.at s _) (λ v t. fewer (omega arith) (operate_on_silent id id' o v e)));
   }
@@ -108,7 +108,7 @@ module _ {chosen : Kinds} where
   pub binary_told : (k : Context) {a a' b b' : Part (Answer Value)} (o : BinOp) (id : ℕ) → ExpressionMatch chosen a a'
       → ExpressionMatch chosen b b'
       → ExpressionMatch chosen (Step (a >>= (λ x. (b >>= (λ y. operate performs id o x y)))))
-        (Step (a' >>= (λ v. (b' >>= (λ w. Step (enter_hook k id (binary_of o) (v ∷ w ∷ [])))))))
+      (Step (a' >>= (λ v. (b' >>= (λ w. Step (enter_hook k id (binary_of o) (v ∷ w ∷ [])))))))
   unfolding enter_hook
   binary_told k o id x y = record {
     at = λ s c. both (bind (omega arith) (x.at s _) (λ v t. bind (omega arith) (y.at t _) (λ w t.
@@ -118,7 +118,7 @@ module _ {chosen : Kinds} where
   pub binary_silent : {a a' b b' : Part (Answer Value)} (o : BinOp) (id id' : ℕ) → chosen kind.Binary ≡ false
       → ExpressionMatch chosen a a' → ExpressionMatch chosen b b'
       → ExpressionMatch chosen (Step (a >>= (λ x. (b >>= (λ y. operate performs id o x y)))))
-        (Step (a' >>= (λ x. (b' >>= (λ y. operate performs id' o x y)))))
+      (Step (a' >>= (λ x. (b' >>= (λ y. operate performs id' o x y)))))
   binary_silent o id id' e x y = record {
     at = λ s c. both (bind (omega arith) (x.at s _) (λ v t. bind (omega arith) (y.at t _) (λ w t.
         fewer (omega arith) (operate_silent id id' o v w e))));
@@ -135,7 +135,7 @@ module _ {chosen : Kinds} where
       → ExpressionMatch chosen a a'
       → ((b : Bool) (v : Value) → (s : Store) (c : ℕ) → Matched chosen s (plus 4 c) (plus 4 c) (f b v) (g b v))
       → ExpressionMatch chosen (Step (a >>= (λ v. (decide id v >>= (λ truth. f truth v)))))
-        (Step (Step (a' >>= tell_test id k) >>= (λ v. (decide id' v >>= (λ truth. g truth v)))))
+      (Step (Step (a' >>= tell_test id k) >>= (λ v. (decide id' v >>= (λ truth. g truth v)))))
   unfolding enter_hook decide
   decide_told k {f = f} {g = g} id id' x y = record {
     at = λ s c. both (extra (bind2 (tell_test id k) (λ v. (decide id' v >>= (λ truth. g truth v))) (omega arith)
@@ -147,7 +147,7 @@ module _ {chosen : Kinds} where
       → chosen kind.Conditional ≡ false → ExpressionMatch chosen a a'
       → ((b : Bool) (v : Value) → (s : Store) (c : ℕ) → Matched chosen s (plus 4 c) (plus 4 c) (f b v) (g b v))
       → ExpressionMatch chosen (Step (a >>= (λ v. (decide id v >>= (λ truth. f truth v)))))
-        (Step (a' >>= (λ v. (decide id' v >>= (λ truth. g truth v)))))
+      (Step (a' >>= (λ v. (decide id' v >>= (λ truth. g truth v)))))
   unfolding decide
   decide_silent id id' e x y = record {
     at = λ s c. both (bind (omega arith) (x.at s _) (λ v t.

@@ -1,9 +1,9 @@
 -- The woven program simulates the program.
-use Rattle.std.proofs.Common.{◌≡◌, ℕ, ◌+◌, ◌<◌, Bool, true, false, [], ◌++◌, codes, refl, sym, ap, ◌∙◌, subst, subst₂, arith}
+use Rattle.std.proofs.Common.{◌≡◌, ℕ, ◌+◌, Bool, false, [], ◌++◌, codes, refl, sym, ap, ◌∙◌, subst, subst₂, arith}
 use Rattle.std.specs.Prelude.{if◌then◌else◌, ◌||◌}
 use Rattle.jl_ast.specs.Tree as tree
 use Rattle.jl_ast.specs.Tree.{Forest, Program}
-use Rattle.jl_scope.specs.Hoisting.{declared_in, declared_in_forest, variables}
+use Rattle.jl_scope.specs.Hoisting.{declared_in, declared_in_forest}
 use Rattle.jl_scope.specs.Names.{with_names}
 use Rattle.jl_value.specs.declared.ending.Completion.{Completion}
 use Rattle.jl_value.specs.declared.ending.Completion.TheVariants as completion
@@ -15,7 +15,6 @@ use Rattle.jl_op.specs.declared.kind.OpKind.TheVariants as kind
 use Rattle.jl_op.specs.declared.op.Op.TheVariants as op
 use Rattle.jl_effects.specs.Effects.{and_then, End, Step}
 use Rattle.jl_effects.specs.Matching.{ends, extra, fails, looks, own, peeks, told, Simulates}
-use Rattle.jl_effects.specs.Running.{everything, nothing_done, run}
 use Rattle.jl_effects.proofs.Chains.{and_then-assoc}
 use Rattle.jl_effects.proofs.Simulation.{simulates}
 use Rattle.jl_meaning.specs.Completions.{if_normal, normal, on_given, then_do}
@@ -35,7 +34,7 @@ use Rattle.jl_weave.specs.HookCalls as weaving
 use Rattle.jl_weave.specs.HookCalls.{and_last, begin_and_end, hook, hook_statement}
 use Rattle.jl_weave.specs.Plain.{HasFewIds, IsPlain}
 use Rattle.jl_weave.specs.Simulation.{WovenSimulates}
-use Rattle.jl_weave.specs.Weaving.{woven, woven_code, woven_forest, woven_of, woven_program}
+use Rattle.jl_weave.specs.Weaving.{woven, woven_forest, woven_of, woven_program}
 use Rattle.jl_weave.specs.inner.Fit.{AllFit, Fits}
 use Rattle.jl_weave.proofs.Chosen.{first_not, second_not, split}
 use Rattle.jl_weave.proofs.Completions.{valued}
@@ -130,13 +129,13 @@ module _ (chosen : Kinds) where
       → ((j : ℕ) (t : Store) → Matched chosen t d 0 p (execute_all table' (forest_with_ids j (tree.more last tree.end)) c))
       → (s : Store)
       → Matched chosen s d 0 (then_do (execute_all table l c) p)
-        (execute_all table' (forest_with_ids j (and_last (woven_forest chosen l) last)) c)
+      (execute_all table' (forest_with_ids j (and_last (woven_forest chosen l) last)) c)
   last_to table table' same tree.end h last j c p d f s = f j s
   last_to table table' same (tree.more a l) h last j c p d f s =
       let m : ℕ = j + id_count (woven chosen a) in
       let r : (t : Store) → Matched chosen t d 0 (then_do (execute_all table l c) p)
-            (execute_all table' (forest_with_ids m (and_last (woven_forest chosen l) last)) c) =
-        last_to table table' same l h.1 last m c p d f in
+      (execute_all table' (forest_with_ids m (and_last (woven_forest chosen l) last)) c) =
+      last_to table table' same l h.1 last m c p d f in
       subst (λ q. Matched chosen s d 0 q
       (execute_all table' (forest_with_ids j (and_last (woven_forest chosen (tree.more a l)) last)) c))
       (sym (and_then-assoc (execute table a [] c) (if_normal (execute_all table l c)) (if_normal p)))
@@ -172,12 +171,12 @@ module _ (chosen : Kinds) where
       let fs' : Forest ℕ tree.func = forest_with_ids 3 (woven_forest chosen fs) in
       let all : weaving.Stmts = and_last (woven_forest chosen l) statement_X in
       let one_first : Part (Answer Value) → Part Completion = λ q.
-        then_do (Step (and_then q (on_given (λ _. normal)))) (execute_all table' (forest_with_ids j all) c) in
+      then_do (Step (and_then q (on_given (λ _. normal)))) (execute_all table' (forest_with_ids j all) c) in
       let exit_told : (j : ℕ) (t : Store)
-          → Matched chosen t 61 0 exits (execute_all table' (forest_with_ids j (tree.more statement_X tree.end)) c) =
-        λ j t. subst (λ q. Matched chosen t 61 0 exits (then_do (Step (and_then q (on_given (λ _. normal)))) normal))
-          (sym (hook_plain_0 table' c (codes "X") exits_script form_X 2 (omega arith) j))
-          (looks (extra (extra (extra (told (ends (omega arith))))))) in
+      → Matched chosen t 61 0 exits (execute_all table' (forest_with_ids j (tree.more statement_X tree.end)) c) =
+      λ j t. subst (λ q. Matched chosen t 61 0 exits (then_do (Step (and_then q (on_given (λ _. normal)))) normal))
+      (sym (hook_plain_0 table' c (codes "X") exits_script form_X 2 (omega arith) j))
+      (looks (extra (extra (extra (told (ends (omega arith))))))) in
       split tells_script (λ which. Matched chosen s 64 0 (script (program_of b))
       (woven_script (declare_program (tree.body st fs' (forest_with_ids n (all_of which l))) c)
       (execute_all table' (forest_with_ids n (all_of which l)) c)))

@@ -1,7 +1,7 @@
 -- What simulates a run simulates it whatever the run records of hooks of its own.
 use Rattle.std.proofs.Common.{◌≡◌, ℕ, ◌≤◌, Bool, refl, sym, subst}
 use Rattle.jl_effects.specs.Effects.{Part}
-use Rattle.jl_effects.specs.Matching.{bound, Alike, IsWithin, SameSeen, Simulates}
+use Rattle.jl_effects.specs.Matching.{bound, Alike, IsWithin, Simulates}
 use Rattle.jl_effects.specs.Running.{everything, keeping, nothing_done, run, state_of, steps_taken, IsOver, Language}
 use Rattle.jl_effects.specs.Running.{Outcome, Over, RunState, Spent}
 use Rattle.jl_effects.specs.Traces.{keep_hooks, with_state}

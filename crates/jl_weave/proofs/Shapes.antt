@@ -26,7 +26,7 @@ use Rattle.jl_weave.specs.HookCalls as weaving
 use Rattle.jl_weave.specs.Weaving as weave
 use Rattle.jl_weave.specs.Weaving.{woven, woven_callee}
 use Rattle.jl_weave.specs.inner.Fit.{Fits}
-use Rattle.jl_weave.proofs.HookNames.{hook_form, form_B, form_G, form_I, form_R, form_T, form_U, form_Y, form_Z}
+use Rattle.jl_weave.proofs.HookNames.{hook_form, form_B, form_I, form_R, form_T, form_U, form_Y, form_Z}
 
 abbrev pub IsNoName : {S : Type 0} → Tree S tree.expr → Type 0
 IsNoName (tree.name x s) = ⊥

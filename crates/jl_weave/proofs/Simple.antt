@@ -1,5 +1,5 @@
 -- Declarators of variables.
-use Rattle.std.proofs.Common.{◌≡◌, ℕ, suc, Bool, false, sym, subst₂, arith}
+use Rattle.std.proofs.Common.{◌≡◌, ℕ, suc, false, sym, subst₂, arith}
 use Rattle.jl_value.specs.declared.ending.Completion.{Completion}
 use Rattle.jl_value.specs.declared.value.Value.{Value}
 use Rattle.jl_heap.specs.Objects.{Name}

@@ -1,5 +1,5 @@
 -- Statements: each is matched by its woven form.
-use Rattle.std.proofs.Common.{◌≡◌, ℕ, zero, suc, ◌+◌, ◌<◌, List, [], ◌∷◌, Bool, true, false, Option, Some, None, codes, refl, sym, ap, ◌∙◌, subst, subst₂, arith}
+use Rattle.std.proofs.Common.{◌≡◌, ℕ, zero, suc, ◌+◌, ◌<◌, List, [], ◌∷◌, Bool, Option, Some, None, codes, refl, sym, ap, ◌∙◌, subst, subst₂, arith}
 use Rattle.std.specs.Prelude.{if◌then◌else◌}
 use Rattle.std.specs.Option.{option_map, option_or}
 use mathlib.Core.Path.{fun_ext}
@@ -17,20 +17,19 @@ use Rattle.jl_op.specs.declared.kind.OpKind.{OpKind}
 use Rattle.jl_op.specs.declared.kind.OpKind.TheVariants as kind
 use Rattle.jl_op.specs.declared.op.Op.{Op}
 use Rattle.jl_op.specs.declared.op.Op.TheVariants as op
-use Rattle.jl_effects.specs.Effects.{and_then, End, Step}
+use Rattle.jl_effects.specs.Effects.{and_then, Step}
 use Rattle.jl_effects.specs.Matching.{both, plus, spare}
 use Rattle.jl_meaning.specs.Completions.{ends_as, normal, on_given, then_do}
 use Rattle.jl_meaning.specs.Expressions.{evaluate}
 use Rattle.jl_meaning.specs.FunctionObjects.{callee_of, FunctionTable}
 use Rattle.jl_meaning.specs.Noting.{emits, note_value}
-use Rattle.jl_meaning.specs.Parts.{do_loop, for_loop, while_loop, Answer, Context, Expr, Part, Stmt, Stmts, ◌>>=◌, give}
+use Rattle.jl_meaning.specs.Parts.{do_loop, for_loop, while_loop, Context, Expr, Part, Stmt, Stmts, ◌>>=◌, give}
 use Rattle.jl_meaning.specs.Statements.{execute, execute_all, execute_branch, execute_from, handle, select}
 use Rattle.jl_meaning.specs.Store.{Store}
 use Rattle.jl_meaning.specs.forms.HookCalls.{catches, hook, plain, returns, tests, throws_value, visits, writes, Hook}
 use Rattle.jl_meaning.specs.forms.Hooks.{enter_hook}
 use Rattle.jl_meaning.specs.forms.Jumps.{after_labelled, return_value, throw_value}
-use Rattle.jl_meaning.specs.forms.Loops.{visit_all}
-use Rattle.jl_meaning.specs.forms.Names.{assign_name, is_hooks}
+use Rattle.jl_meaning.specs.forms.Names.{assign_name}
 use Rattle.jl_meaning.specs.forms.Operators.{decide_by}
 use Rattle.jl_meaning.specs.forms.Simple.{begin_for, declare_all}
 use Rattle.jl_meaning.specs.forms.Switch.{after_switch, default_of}
@@ -107,7 +106,7 @@ module _ (chosen : Kinds) (table table' : FunctionTable)
   -- a test
   pub tested_match : (e : Expr) → Fits e → (id : ℕ) → id < id_limit → (id' j : ℕ) (c : Context) (s : Store) (n : ℕ)
       → Matched chosen s (suc n) (plus 3 n) (decide_by id (evaluate table e c))
-        (decide_by id' (evaluate table' (with_ids j (weave.tested chosen id (woven chosen e))) c))
+      (decide_by id' (evaluate table' (with_ids j (weave.tested chosen id (woven chosen e))) c))
   tested_match e p id small id' j c s n =
       split (chosen kind.Conditional) (λ which. Matched chosen s (suc n) (plus 3 n) (decide_by id (evaluate table e c))
       (decide_by id' (evaluate table' (with_ids j (if which then test id (woven chosen e) else woven chosen e)) c)))
@@ -120,8 +119,8 @@ module _ (chosen : Kinds) (table table' : FunctionTable)
   tested_then : (e : Expr) → Fits e → (id : ℕ) → id < id_limit → (id' j : ℕ) (c : Context) (f g : Bool → Part Completion)
       → ((truth : Bool) → StatementMatch chosen (f truth) (g truth))
       → StatementMatch chosen (Step (and_then (decide_by id (evaluate table e c)) (on_given f)))
-        (Step (and_then (decide_by id' (evaluate table' (with_ids j (weave.tested chosen id (woven chosen e))) c))
-        (on_given g)))
+      (Step (and_then (decide_by id' (evaluate table' (with_ids j (weave.tested chosen id (woven chosen e))) c))
+      (on_given g)))
   tested_then e p id small id' j c f g y = record {
     at = λ s d. both (spare {c = suc d} (omega arith) (valued (omega arith) (tested_match e p id small id' j c s d)
         (λ truth t. spare (omega arith) ((y truth).at t d))));
@@ -133,8 +132,8 @@ module _ (chosen : Kinds) (table table' : FunctionTable)
       → ((v : Seen) → chosen (kind_of (f v)) ≡ chosen k) → (e : Expr) → Fits e → (id : ℕ) → id < id_limit → (id' j : ℕ)
       (c : Context) {g g' : Value → Part Completion} → ((v : Value) → StatementMatch chosen (g v) (g' v))
       → StatementMatch chosen (Step (and_then (evaluate table e c) (on_given (noted id f g))))
-        (Step (and_then (evaluate table' (with_ids j (weave.hooked_if chosen k (hook_1 name id) (woven chosen e))) c)
-        (on_given (noted id' f g'))))
+      (Step (and_then (evaluate table' (with_ids j (weave.hooked_if chosen k (hook_1 name id) (woven chosen e))) c)
+      (on_given (noted id' f g'))))
   noted_match k name h form f emitted of e p id small id' j c {g} {g'} y =
       split (chosen k) (λ which. StatementMatch chosen (Step (and_then (evaluate table e c) (on_given (noted id f g))))
       (Step (and_then (evaluate table' (with_ids j (if which then hook_1 name id (woven chosen e) else woven chosen e)) c)
@@ -148,7 +147,7 @@ module _ (chosen : Kinds) (table table' : FunctionTable)
 
   declare_all_match : (l : Forest ℕ tree.decl) → AllFit l → (j : ℕ) (c : Context)
       → DeclarationMatch chosen (declare_all table l c)
-        (declare_all table' (forest_with_ids j (woven_forest chosen l)) c)
+      (declare_all table' (forest_with_ids j (woven_forest chosen l)) c)
   declare_all_match tree.end p j c = nothing_declared
   declare_all_match (tree.more (tree.declarator x tree.absent) l) p j c =
       declared_then nothing_declared (declare_all_match l p.1 (j + 0) c)
@@ -186,6 +185,7 @@ module _ (chosen : Kinds) (table table' : FunctionTable)
 
   mutual
     unfolding enter_hook return_value throw_value
+
     pub execute_match : (a : Stmt) → Fits a → (labels : List Text) (j : ℕ) (c : Context)
         → StatementMatch chosen (execute table a labels c) (execute table' (with_ids j (woven chosen a)) labels c)
     execute_match (tree.var l s) p labels j c = declared_first (declare_all_match l p j c) end_match
@@ -197,9 +197,9 @@ module _ (chosen : Kinds) (table table' : FunctionTable)
         let m : ℕ = j + 1 + id_count (weave.tested chosen s (woven chosen e)) in
         let f : Bool → Part Completion = λ truth. if truth then execute_all table a c else execute_branch table b c in
         let g : Bool → Part Completion = λ truth.
-          if truth then execute_all table' (forest_with_ids m (woven_forest chosen a)) c
-            else execute_branch table'
-            (optional_with_ids (m + forest_id_count (woven_forest chosen a)) (woven_optional chosen b)) c in
+        if truth then execute_all table' (forest_with_ids m (woven_forest chosen a)) c
+        else execute_branch table'
+        (optional_with_ids (m + forest_id_count (woven_forest chosen a)) (woven_optional chosen b)) c in
         subst₂ (λ p q. StatementMatch chosen (Step p) (Step q)) (test_is (evaluate table e c) s f)
         (test_is (evaluate table' (with_ids (j + 1) (weave.tested chosen s (woven chosen e))) c) j g)
         (tested_then e p.0 s p.3 j (j + 1) c f g (λ truth. record {
@@ -269,20 +269,20 @@ module _ (chosen : Kinds) (table table' : FunctionTable)
 
     pub execute_all_match : (l : Stmts) → AllFit l → (j : ℕ) (c : Context)
         → StatementMatch chosen (execute_all table l c)
-          (execute_all table' (forest_with_ids j (woven_forest chosen l)) c)
+        (execute_all table' (forest_with_ids j (woven_forest chosen l)) c)
     execute_all_match tree.end p j c = end_match
     execute_all_match (tree.more t l) p j c =
         sequence (execute_match t p.0 [] _ c) (execute_all_match l p.1 _ c)
 
     branch_match : (m : OptionalTree ℕ tree.branch) → FitsIfPresent m → (j : ℕ) (c : Context)
         → StatementMatch chosen (execute_branch table m c)
-          (execute_branch table' (optional_with_ids j (woven_optional chosen m)) c)
+        (execute_branch table' (optional_with_ids j (woven_optional chosen m)) c)
     branch_match tree.absent p j c = end_match
     branch_match (tree.present (tree.branch_of l)) p j c = execute_all_match l p j c
 
     from_match : (k : Option ℕ) (l : Forest ℕ tree.clause) → AllFit l → (j : ℕ) (c : Context)
         → StatementMatch chosen (execute_from table k l c)
-          (execute_from table' k (forest_with_ids j (woven_forest chosen l)) c)
+        (execute_from table' k (forest_with_ids j (woven_forest chosen l)) c)
     from_match None tree.end p j c = end_match
     from_match None (tree.more t l) p j c = end_match
     from_match (Some k) tree.end p j c = end_match

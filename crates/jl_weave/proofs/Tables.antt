@@ -1,14 +1,13 @@
 -- The functions of the woven program are the woven functions of the program, in the same order.
-use Rattle.std.proofs.Common.{◌≡◌, codes, ℕ, zero, suc, ◌+◌, Bool, true, false, ◌||◌, List, [], ◌∷◌, ◌++◌, length, Some, None, slice_get, refl, sym, ap, ap₂, subst}
-use Rattle.std.specs.Prelude.{if◌then◌else◌, Option}
+use Rattle.std.proofs.Common.{◌≡◌, codes, ℕ, zero, suc, ◌+◌, Bool, true, false, ◌||◌, [], ◌∷◌, ◌++◌, length, Some, None, slice_get, refl, sym, ap₂, subst}
+use Rattle.std.specs.Prelude.{if◌then◌else◌}
 use Rattle.jl_ast.specs.Tree as tree
 use Rattle.jl_ast.specs.Tree.{Forest, OptionalTree, Sort, Text, Tree}
-use Rattle.jl_ast.specs.declared.ops.BinOp.{BinOp}
 use Rattle.jl_ast.specs.declared.ops.UnOp.TheVariants as un
 use Rattle.jl_heap.specs.declared.inner.Inner.{Inner}
 use Rattle.jl_heap.specs.declared.inner.Inner.TheVariants as inner
 use Rattle.jl_op.specs.Chosen.{Kinds}
-use Rattle.jl_op.specs.Ids.{forest_with_ids, id_count, optional_with_ids, with_ids}
+use Rattle.jl_op.specs.Ids.{forest_with_ids, optional_with_ids, with_ids}
 use Rattle.jl_op.specs.declared.callee.Callee.TheVariants as callee
 use Rattle.jl_op.specs.declared.kind.OpKind.{OpKind}
 use Rattle.jl_op.specs.declared.kind.OpKind.TheVariants as kind
@@ -92,7 +91,7 @@ module _ (chosen : Kinds) (strict : Bool) where
   typeof_table : (e : Expr) (id : ℕ) → UnaryFits un.Typeof e (Fits e) id → (j : ℕ)
       → (Fits e → (j : ℕ) → TableMatch chosen (functions_in strict e) (functions_in strict (with_ids j (woven chosen e))))
       → TableMatch chosen (functions_in strict e)
-        (functions_in strict (with_ids j (woven_typeof chosen id e (woven chosen e))))
+      (functions_in strict (with_ids j (woven_typeof chosen id e (woven chosen e))))
   typeof_table (tree.name x s) id p j itself = way (chosen kind.TypeofName) _ _ j none none
   typeof_table _ id p j itself =
       way (chosen kind.Unary) _ _ j (table_end (itself p.0 (j + 3 + 1 + 1 + 1))) (itself p.0 (j + 1))
@@ -273,8 +272,8 @@ module _ (chosen : Kinds) where
         → ((j : ℕ) → TableMatch chosen (forest_functions strict l)
         (forest_functions strict (forest_with_ids j (woven_forest chosen l))))
         → TableMatch chosen (functions_in strict f ++ forest_functions strict l)
-          (functions_in strict (with_ids j
-          (tree.call (woven_callee chosen f (woven chosen f) id) (woven_forest chosen l) tt)))
+        (functions_in strict (with_ids j
+        (tree.call (woven_callee chosen f (woven chosen f) id) (woven_forest chosen l) tt)))
     callee_table strict (tree.dot o k s) p id l j itself rest =
         by_callee chosen strict (weave.calls_member chosen) _ _ l j
         (table_append (table_end (functions_match strict o p.0 _)) (rest _))
@@ -293,7 +292,7 @@ module _ (chosen : Kinds) where
         → (Fits e → (j : ℕ)
         → TableMatch chosen (functions_in strict e) (functions_in strict (with_ids j (woven chosen e))))
         → TableMatch chosen (functions_in strict e)
-          (functions_in strict (with_ids j (woven_delete chosen e (woven chosen e) id)))
+        (functions_in strict (with_ids j (woven_delete chosen e (woven chosen e) id)))
     delete_table strict (tree.name x s) id p j itself = none
     delete_table strict (tree.dot o k s) id p j itself =
         way chosen strict (chosen kind.DeleteField) _ _ j (table_end (functions_match strict o p.0.0 _))
@@ -313,13 +312,13 @@ module _ (chosen : Kinds) where
 
     pub forests_match : {x : Sort} (strict : Bool) (l : Forest ℕ x) → AllFit l → (j : ℕ)
         → TableMatch chosen (forest_functions strict l)
-          (forest_functions strict (forest_with_ids j (woven_forest chosen l)))
+        (forest_functions strict (forest_with_ids j (woven_forest chosen l)))
     forests_match strict tree.end p j = none
     forests_match strict (tree.more t l) p j =
         table_append (functions_match strict t p.0 _) (forests_match strict l p.1 _)
 
     optionals_match : {x : Sort} (strict : Bool) (m : OptionalTree ℕ x) → FitsIfPresent m → (j : ℕ)
         → TableMatch chosen (optional_functions strict m)
-          (optional_functions strict (optional_with_ids j (woven_optional chosen m)))
+        (optional_functions strict (optional_with_ids j (woven_optional chosen m)))
     optionals_match strict tree.absent p j = none
     optionals_match strict (tree.present t) p j = functions_match strict t p j

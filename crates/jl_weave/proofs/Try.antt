@@ -1,5 +1,5 @@
 -- `try`: a `catch` begins with the hook that tells what it has caught, or as it stands.
-use Rattle.std.proofs.Common.{◌≡◌, ℕ, zero, suc, List, [], ◌∷◌, ◌++◌, length, Bool, true, false, Some, None, refl, sym, ap, ◌∙◌, subst, arith}
+use Rattle.std.proofs.Common.{◌≡◌, ℕ, zero, suc, List, [], ◌∷◌, ◌++◌, length, true, false, Some, None, refl, sym, ap, ◌∙◌, subst, arith}
 use Rattle.std.specs.Prelude.{if◌then◌else◌, is_some, slice_index_or, slice_set}
 use Rattle.std.specs.Option.{option_map_or}
 use Rattle.std.specs.Str.{bytes_eq}
@@ -17,7 +17,7 @@ use Rattle.jl_effects.specs.Matching.{ends, both, changes, extra, looks, peeks, 
 use Rattle.jl_meaning.specs.Changes.{apply, outer_there, NewBinding, NewEnvironment}
 use Rattle.jl_meaning.specs.Completions.{if_normal, normal, on_given, then_do}
 use Rattle.jl_meaning.specs.Noting.{note_value, performs}
-use Rattle.jl_meaning.specs.Parts.{Answer, Context, Part, ◌>>=◌, give, gives, lift}
+use Rattle.jl_meaning.specs.Parts.{Answer, Context, Part, ◌>>=◌, give, lift}
 use Rattle.jl_meaning.specs.References.{binding_value, get_name, get_value, global_reference, identifier_reference}
 use Rattle.jl_meaning.specs.References.{in_environment, reference_within}
 use Rattle.jl_meaning.specs.Store.{binding_named, binding_of, environment_at, has_binding, next_environment}
@@ -26,8 +26,8 @@ use Rattle.jl_meaning.specs.forms.HookCalls.{catches}
 use Rattle.jl_meaning.specs.forms.Hooks.{enter_hook}
 use Rattle.jl_meaning.specs.forms.Names.{is_hooks, read_name}
 use Rattle.jl_meaning.specs.forms.Try.{begin_catch}
-use Rattle.jl_weave.proofs.Names.{read_is, reading}
-use Rattle.jl_weave.proofs.Relation.{Matched, done, followed, quiet, StatementMatch}
+use Rattle.jl_weave.proofs.Names.{read_is}
+use Rattle.jl_weave.proofs.Relation.{Matched, followed, quiet, StatementMatch}
 
 -- the last of a list
 at_end : {A : Type 0} (l : List A) (a d : A) → slice_index_or (l ++ a ∷ []) (length l) d ≡ a
@@ -111,7 +111,7 @@ module _ {chosen : Kinds} where
       let one : Part Completion = and_then (note_value performs id (op.Catch x) v) (on_given (λ _. h env)) in
       let reads : Value → Part (Answer Value) = λ v. (note_value performs id3 (op.Read x) v >>= (λ _. give v)) in
       let two : Part (Answer Value) → Part Completion = λ p.
-        and_then (and_then ((p >>= reads) >>= tell_catch id inside x) (on_given (λ _. normal))) (if_normal (h' env)) in
+      and_then (and_then ((p >>= reads) >>= tell_catch id inside x) (on_given (λ _. normal))) (if_normal (h' env)) in
       looks (peeks (changes (changes (peeks (own (extra (extra (subst
       (λ q. Matched chosen t (suc (suc c)) c
       (and_then (note_value performs id (op.Catch x) v >>= (λ _. give env)) (on_given h))
@@ -149,7 +149,7 @@ module _ {chosen : Kinds} where
       → {p p' : Part Completion} → StatementMatch chosen p p' → ((env : ℕ) → StatementMatch chosen (h env) (h' env))
       → {f f' : Completion → Part Completion} → ((z : Completion) → StatementMatch chosen (f z) (f' z))
       → TryMatch chosen (and_then p (λ z. and_then (if_thrown (λ v. catching id k x v h) z) f))
-        (and_then p' (λ z. and_then (if_thrown (λ v. catching id2 k x v (told_first id id3 k x h')) z) f'))
+      (and_then p' (λ z. and_then (if_thrown (λ v. catching id2 k x v (told_first id id3 k x h')) z) f'))
   catch_told_match id id2 id3 k x h h' plain p y g =
       thrown_match p (λ v s c. catch_told id id2 id3 k x v h h' plain y s c) g
 
@@ -158,7 +158,7 @@ module _ {chosen : Kinds} where
       → ((env : ℕ) → StatementMatch chosen (h env) (h' env)) → {f f' : Completion → Part Completion}
       → ((z : Completion) → StatementMatch chosen (f z) (f' z))
       → TryMatch chosen (and_then p (λ z. and_then (if_thrown (λ v. catching id k x v h) z) f))
-        (and_then p' (λ z. and_then (if_thrown (λ v. catching id' k x v h') z) f'))
+      (and_then p' (λ z. and_then (if_thrown (λ v. catching id' k x v h') z) f'))
   catch_silent_match id id' k x h h' e p y g =
       thrown_match p (λ v s c. catch_silent id id' k x v h h' e y s c) g
 

@@ -1,6 +1,5 @@
 -- The turns of loops match the turns of the woven loops.
-use Rattle.std.proofs.Common.{◌≡◌, ℕ, suc, ◌≤◌, List, Bool, false, Some, None, sym, subst₂, arith}
-use Rattle.std.specs.Prelude.{if◌then◌else◌}
+use Rattle.std.proofs.Common.{◌≡◌, ℕ, ◌≤◌, List, false, sym, subst₂, arith}
 use Rattle.jl_ast.specs.Tree as tree
 use Rattle.jl_ast.specs.Tree.{OptionalTree, Text}
 use Rattle.jl_value.specs.declared.ending.Completion.{Completion}
@@ -36,14 +35,14 @@ module _ (chosen : Kinds) (table table' : FunctionTable)
   test_match : (e : OptionalTree ℕ tree.expr) → FitsIfPresent e → (id : ℕ) → HasId e id → (id' j : ℕ) (c : Context)
       (s : Store)
       → Matched chosen s 31 3 (test_loop table e id c)
-        (test_loop table' (optional_with_ids j (woven_test chosen id e)) id' c)
+      (test_loop table' (optional_with_ids j (woven_test chosen id e)) id' c)
   test_match tree.absent p id h id' j c s = ends (omega arith)
   test_match (tree.present e) p id h id' j c s =
       spare {c = 1} (omega arith) (tested_match chosen table table' same e p id h id' j c s 0)
 
   update_match : (u : OptionalTree ℕ tree.expr) → FitsIfPresent u → (j : ℕ) (c : Context)
       → StatementMatch chosen (update_loop table u c)
-        (update_loop table' (optional_with_ids j (woven_optional chosen u)) c)
+      (update_loop table' (optional_with_ids j (woven_optional chosen u)) c)
   update_match tree.absent p j c = record { at = λ s d. done }
   update_match (tree.present e) p j c = record {
     at = λ s d. valued (omega arith) ((even (evaluate_match chosen table table' same e p j c)).at s d) (λ v t. done);
@@ -54,10 +53,10 @@ module _ (chosen : Kinds) (table table' : FunctionTable)
       (labels : List Text) (j k : ℕ) (again again' : Turn) → AreJobs chosen (TurnOf again) (TurnOf again')
       → (t : Store) (d : ℕ)
       → Matched chosen t d 0
-        (and_then (execute_all table l c) (after_body labels (then_do (update_loop table u c) (begin_turn again))))
-        (and_then (execute_all table' (forest_with_ids k (woven_forest chosen l)) c)
-        (after_body labels (then_do (update_loop table' (optional_with_ids j (woven_optional chosen u)) c)
-        (begin_turn again'))))
+      (and_then (execute_all table l c) (after_body labels (then_do (update_loop table u c) (begin_turn again))))
+      (and_then (execute_all table' (forest_with_ids k (woven_forest chosen l)) c)
+      (after_body labels (then_do (update_loop table' (optional_with_ids j (woven_optional chosen u)) c)
+      (begin_turn again'))))
   for_to u p l q c labels j k again again' pair t d =
       followed ((execute_all_match chosen table table' same l q k c).at t d) (λ z t. body_match labels (omega arith) z t
       (followed ((update_match u p j c).at t d) on))
@@ -74,8 +73,8 @@ module _ (chosen : Kinds) (table table' : FunctionTable)
   put_to : (x : Text) → is_hooks x ≡ false → (c : Context) (y : Text) {k k' : Unit {0} → Part Completion} {s : Store}
       {n d : ℕ} → d ≤ n → ((u : Unit {0}) (t : Store) → Matched chosen t n d (k u) (k' u))
       → Matched chosen s n d
-        (and_then (unless_hooks x (lift (put_name c.strict c.env x (value.Text y)))) (on_given k))
-        (and_then (unless_hooks x (lift (put_name c.strict c.env x (value.Text y)))) (on_given k'))
+      (and_then (unless_hooks x (lift (put_name c.strict c.env x (value.Text y)))) (on_given k))
+      (and_then (unless_hooks x (lift (put_name c.strict c.env x (value.Text y)))) (on_given k'))
   put_to x h c y {k} {k'} {s} {n} {d} le f =
       subst₂ (λ p q. Matched chosen s n d (and_then p (on_given k)) (and_then q (on_given k')))
       (sym (no_hooks x h (lift (put_name c.strict c.env x (value.Text y)))))
@@ -84,7 +83,7 @@ module _ (chosen : Kinds) (table table' : FunctionTable)
 
   pub turn_match : (l : Loop) (c : Context) (labels : List Text) (id : ℕ) (p : LoopFits l id) (id' j k m : ℕ) (s : Store)
       → Matched chosen s 31 0 (turn table (turn_with l c labels id))
-        (turn table' (turn_with (woven_loop chosen id j k m l) c labels id'))
+      (turn table' (turn_with (woven_loop chosen id j k m l) c labels id'))
   turn_match (do_loop l e) c labels id p id' j k m s =
       followed ((execute_all_match chosen table table' same l p.0 j c).at s 31) (λ z t. body_match labels (omega arith) z t
       (valued (omega arith) (test_match (tree.present e) p.1 id p.2 id' k c t) (λ b t. pick b

@@ -17,7 +17,7 @@ use Rattle.jl_effects.specs.Effects.{Step}
 use Rattle.jl_effects.specs.Matching.{ends, both, extra, looks, peeks, told, own, spare, plus}
 use Rattle.jl_meaning.specs.Conversions.{to_number, to_primitive}
 use Rattle.jl_meaning.specs.Noting.{emits, note, performs, Noting}
-use Rattle.jl_meaning.specs.Operators.{binary_result, give_number, on_all_numbers, one}
+use Rattle.jl_meaning.specs.Operators.{binary_result, give_number, one}
 use Rattle.jl_meaning.specs.Parts.{Context, Part, Answer, ◌>>=◌, give, lift}
 use Rattle.jl_meaning.specs.References.{identifier_reference, put_value, resolve, Reference}
 use Rattle.jl_meaning.specs.Store.{Store}
@@ -31,7 +31,7 @@ use Rattle.jl_weave.proofs.Members.{get_told, key_argument, put_told}
 use Rattle.jl_weave.proofs.Names.{assigning, no_hooks, read_by_hook, read_to, tell_write, written}
 use Rattle.jl_weave.proofs.Numbers.{down_again, up_again}
 use Rattle.jl_weave.proofs.Operators.{updated_number, update_told}
-use Rattle.jl_weave.proofs.Relation.{Matched, done, bind, algorithm, bind2, bind4, bind_both, assoc, assoc4, unit}
+use Rattle.jl_weave.proofs.Relation.{Matched, done, algorithm, bind2, bind4, bind_both, assoc, assoc4, unit}
 use Rattle.jl_weave.proofs.Relation.{ExpressionMatch}
 
 -- the operator that has the number back that an update began with
@@ -119,8 +119,8 @@ module _ {chosen : Kinds} where
       → (t : Store) (c : ℕ) → Matched chosen t (plus 2 c) c (give (g (n, value.Num m))) (T (value.Num m)))
       → (h : Value) (t : Store) (c : ℕ)
       → Matched chosen t (plus 4 c) c
-        (update performs (id + 1) (update_kind up) h >>= (λ v. (write_name (id + 2) k x reference v.1 >>= (λ _. give (g v)))))
-        (((tell_update (id + 1) k up h >>= tell_write (id + 2) k x) >>= written id2 k x reference) >>= T)
+      (update performs (id + 1) (update_kind up) h >>= (λ v. (write_name (id + 2) k x reference v.1 >>= (λ _. give (g v)))))
+      (((tell_update (id + 1) k up h >>= tell_write (id + 2) k x) >>= written id2 k x reference) >>= T)
   unfolding enter_hook
   update_rest x k true reference g id id2 T f h t c =
       let after : Number × Value → Part (Answer Value) = λ v. (write_name (id + 2) k x reference v.1 >>= (λ _. give (g v))) in
@@ -155,7 +155,7 @@ module _ {chosen : Kinds} where
   -- ++x
   pub update_prefix_told : (x : Name) (k : Context) (up : Bool) (id id' id2 : ℕ) → is_hooks x ≡ false
       → ExpressionMatch chosen (Step (update_name id k x up true))
-        (Step (assign_name id2 k x (Step (updated_by_hook id id' k x up >>= tell_write (id + 2) k x))))
+      (Step (assign_name id2 k x (Step (updated_by_hook id id' k x up >>= tell_write (id + 2) k x))))
   unfolding update_name
   update_prefix_told x k up id id' id2 h =
       subst₂ (λ p q. ExpressionMatch chosen (Step p) (Step q))
@@ -170,8 +170,8 @@ module _ {chosen : Kinds} where
   -- x++
   pub update_postfix_told : (x : Name) (k : Context) (up : Bool) (id id' id2 id3 id4 : ℕ) → is_hooks x ≡ false
       → ExpressionMatch chosen (Step (update_name id k x up false))
-        (Step (Step (assign_name id2 k x (Step (updated_by_hook id id' k x up >>= tell_write (id + 2) k x)))
-        >>= one_back id3 id4 up))
+      (Step (Step (assign_name id2 k x (Step (updated_by_hook id id' k x up >>= tell_write (id + 2) k x)))
+      >>= one_back id3 id4 up))
   unfolding update_name
   update_postfix_told x k up id id' id2 id3 id4 h =
       subst₂ (λ p q. ExpressionMatch chosen (Step p) (Step (Step q >>= one_back id3 id4 up)))
@@ -188,15 +188,15 @@ module _ {chosen : Kinds} where
       → ((n m : Number) → updated_number o n ≡ Some m
       → (t : Store) → Matched chosen t c d (k (n, value.Num m)) (l (n, value.Num m)))
       → Matched chosen s c d (update_member performs id strict o base key >>= k)
-        (update_member emits id strict o base key >>= l)
+      (update_member emits id strict o base key >>= l)
   unfolding update_member
   update_member_told id strict o base key {A} k l {s} {c} {d} le f =
       let put_back : Noting → Name → Number × Value → Part (Answer (Number × Value)) = λ how x v.
-        (put_member how (id + 2) strict base x v.1 >>= (λ _. give v)) in
+      (put_member how (id + 2) strict base x v.1 >>= (λ _. give v)) in
       let from_held : Noting → Name → Value → Part (Answer (Number × Value)) = λ how x held.
-        (update how (id + 1) o held >>= put_back how x) in
+      (update how (id + 1) o held >>= put_back how x) in
       let from : Noting → Name → Part (Answer (Number × Value)) = λ how x.
-        (get_member how id base x >>= from_held how x) in
+      (get_member how id base x >>= from_held how x) in
       bind_both (from performs) k (from emits) l le (algorithm (member_name base key))
       (λ x t. bind_both (from_held performs x) k (from_held emits x) l le (get_told id base x)
       (λ held t. subst₂ (Matched chosen t c d) (sym (assoc (update performs (id + 1) o held) (put_back performs x) k))
@@ -210,7 +210,7 @@ module _ {chosen : Kinds} where
       → ((n m : Number) → updated_number (update_kind up) n ≡ Some m
       → (t : Store) (c : ℕ) → Matched chosen t (plus 2 c) c (give (g (n, value.Num m))) (T (value.Num m))) → plus 3 d ≤ c
       → Matched chosen s c d (update_member performs id k.strict (update_kind up) base key >>= (λ v. give (g v)))
-        (tell_update_member id k up base key >>= T)
+      (tell_update_member id k up base key >>= T)
   unfolding enter_hook
   member_to id k up base key g T {s} {c} {d} f le =
       spare {c = plus 3 d} le (extra
@@ -228,9 +228,9 @@ module _ {chosen : Kinds} where
         → (t : Store) (c : ℕ) → Matched chosen t (plus 2 c) c (give (g (n, value.Num m))) (T (value.Num m)))
         → (s : Store) (c : ℕ)
         → Matched chosen s (plus 4 c) c
-          (o >>= (λ base. (update_member performs id k.strict (update_kind up) base (value.Text key)
-          >>= (λ v. give (g v)))))
-          ((o' >>= (λ v. (key_argument id' key >>= (λ w. tell_update_member id k up v w)))) >>= T)
+        (o >>= (λ base. (update_member performs id k.strict (update_kind up) base (value.Text key)
+        >>= (λ v. give (g v)))))
+        ((o' >>= (λ v. (key_argument id' key >>= (λ w. tell_update_member id k up v w)))) >>= T)
     unfolding literal
     update_dot_to key id' g T x f s c =
         bind2 (λ v. (key_argument id' key >>= (λ w. tell_update_member id k up v w))) T (omega arith) (x.at s _)
@@ -242,9 +242,9 @@ module _ {chosen : Kinds} where
         → (t : Store) (c : ℕ) → Matched chosen t (plus 2 c) c (give (g (n, value.Num m))) (T (value.Num m)))
         → (s : Store) (c : ℕ)
         → Matched chosen s (plus 4 c) c
-          (o >>= (λ base. (e >>= (λ key. (update_member performs id k.strict (update_kind up) base key
-          >>= (λ v. give (g v)))))))
-          ((o' >>= (λ v. (e' >>= (λ w. tell_update_member id k up v w)))) >>= T)
+        (o >>= (λ base. (e >>= (λ key. (update_member performs id k.strict (update_kind up) base key
+        >>= (λ v. give (g v)))))))
+        ((o' >>= (λ v. (e' >>= (λ w. tell_update_member id k up v w)))) >>= T)
     update_index_to {e' = e'} g T x y f s c =
         bind2 (λ v. (e' >>= (λ w. tell_update_member id k up v w))) T (omega arith) (x.at s _)
         (λ base t. bind2 (λ w. tell_update_member id k up base w) T (omega arith) (y.at t _)
@@ -252,7 +252,7 @@ module _ {chosen : Kinds} where
 
     pub update_dot_prefix : {o o' : Part (Answer Value)} (key : Text) (id' : ℕ) → ExpressionMatch chosen o o'
         → ExpressionMatch chosen (Step (o >>= (λ base. update_expression id k base (value.Text key) up true)))
-          (Step (o' >>= (λ v. (key_argument id' key >>= (λ w. tell_update_member id k up v w)))))
+        (Step (o' >>= (λ v. (key_argument id' key >>= (λ w. tell_update_member id k up v w)))))
     unfolding update_expression
     update_dot_prefix key id' x = record {
       at = λ s c. both (spare {c = plus 8 c} (omega arith) (subst (Matched chosen s (plus 8 c) (plus 4 c) _) (unit _)
@@ -261,8 +261,8 @@ module _ {chosen : Kinds} where
 
     pub update_dot_postfix : {o o' : Part (Answer Value)} (key : Text) (id' id3 id4 : ℕ) → ExpressionMatch chosen o o'
         → ExpressionMatch chosen (Step (o >>= (λ base. update_expression id k base (value.Text key) up false)))
-          (Step (Step (o' >>= (λ v. (key_argument id' key >>= (λ w. tell_update_member id k up v w))))
-          >>= one_back id3 id4 up))
+        (Step (Step (o' >>= (λ v. (key_argument id' key >>= (λ w. tell_update_member id k up v w))))
+        >>= one_back id3 id4 up))
     unfolding update_expression
     update_dot_postfix key id' id3 id4 x = record {
       at = λ s c. both (spare {c = plus 9 c} (omega arith) (extra
@@ -273,7 +273,7 @@ module _ {chosen : Kinds} where
     pub update_index_prefix : {o o' e e' : Part (Answer Value)} → ExpressionMatch chosen o o'
         → ExpressionMatch chosen e e'
         → ExpressionMatch chosen (Step (o >>= (λ base. (e >>= (λ key. update_expression id k base key up true)))))
-          (Step (o' >>= (λ v. (e' >>= (λ w. tell_update_member id k up v w)))))
+        (Step (o' >>= (λ v. (e' >>= (λ w. tell_update_member id k up v w)))))
     unfolding update_expression
     update_index_prefix x y = record {
       at = λ s c. both (spare {c = plus 8 c} (omega arith) (subst (Matched chosen s (plus 8 c) (plus 4 c) _) (unit _)
@@ -283,7 +283,7 @@ module _ {chosen : Kinds} where
     pub update_index_postfix : {o o' e e' : Part (Answer Value)} (id3 id4 : ℕ) → ExpressionMatch chosen o o'
         → ExpressionMatch chosen e e'
         → ExpressionMatch chosen (Step (o >>= (λ base. (e >>= (λ key. update_expression id k base key up false)))))
-          (Step (Step (o' >>= (λ v. (e' >>= (λ w. tell_update_member id k up v w)))) >>= one_back id3 id4 up))
+        (Step (Step (o' >>= (λ v. (e' >>= (λ w. tell_update_member id k up v w)))) >>= one_back id3 id4 up))
     unfolding update_expression
     update_index_postfix id3 id4 x y = record {
       at = λ s c. both (spare {c = plus 9 c} (omega arith) (extra
