@@ -38,6 +38,7 @@ use Rattle.jl_weave.proofs.Calls.{assign_dot_told, assign_index_told, call_silen
 use Rattle.jl_weave.proofs.Calls.{method_dot_told, method_index_silent, method_index_told, new_silent, new_told}
 use Rattle.jl_weave.proofs.Calls.{put_dot_told, put_index_told}
 use Rattle.jl_weave.proofs.Chosen.{first_not, none_of, second_not, split, NoneOf}
+use Rattle.jl_weave.proofs.Entries.{entry_to, getter_to, setter_to}
 use Rattle.jl_weave.proofs.HookCalls.{hook_plain_1, hook_plain_2, hook_worded_1, hook_worded_2, opener_plain_1}
 use Rattle.jl_weave.proofs.HookCalls.{opener_plain_2, opener_worded_2}
 use Rattle.jl_weave.proofs.HookNames.{asks_assign, asks_binary, asks_unary, asks_update, form_A, form_B, form_C, form_F}
@@ -74,40 +75,6 @@ module _ {chosen : Kinds} where
   both_are : {p p' q q' : Part (Answer Value)} → p ≡ p' → q ≡ q' → ExpressionMatch chosen p' q'
       → ExpressionMatch chosen p q
   both_are e f x = subst₂ (ExpressionMatch chosen) (sym e) (sym f) x
-
-  -- the accessors of an object literal
-  getter_to : (n : ℕ) (c : Context) (object : ObjId) (k : Text) (f : Func) (s : Store) (d : ℕ)
-      → Matched chosen s d d
-      (lift (make_function c.strict c.env f) >>= (λ g. define_entry object k (accessor_change (Some (Some g)) None)))
-      (lift (make_function c.strict c.env (with_ids n (woven chosen f)))
-      >>= (λ g. define_entry object k (accessor_change (Some (Some g)) None)))
-  unfolding define_entry
-  getter_to n c object k f s d =
-      subst (λ p. Matched chosen s d d
-      (lift (make_function c.strict c.env f) >>= (λ g. define_entry object k (accessor_change (Some (Some g)) None)))
-      (lift p >>= (λ g. define_entry object k (accessor_change (Some (Some g)) None))))
-      (make_same chosen n c.strict c.env f)
-      (bind (omega arith) (algorithm (make_function c.strict c.env f))
-      (λ g t. algorithm (define_own_property object k (accessor_change (Some (Some g)) None))))
-
-  setter_to : (n : ℕ) (c : Context) (object : ObjId) (k : Text) (f : Func) (s : Store) (d : ℕ)
-      → Matched chosen s d d
-      (lift (make_function c.strict c.env f) >>= (λ g. define_entry object k (accessor_change None (Some (Some g)))))
-      (lift (make_function c.strict c.env (with_ids n (woven chosen f)))
-      >>= (λ g. define_entry object k (accessor_change None (Some (Some g)))))
-  unfolding define_entry
-  setter_to n c object k f s d =
-      subst (λ p. Matched chosen s d d
-      (lift (make_function c.strict c.env f) >>= (λ g. define_entry object k (accessor_change None (Some (Some g)))))
-      (lift p >>= (λ g. define_entry object k (accessor_change None (Some (Some g))))))
-      (make_same chosen n c.strict c.env f)
-      (bind (omega arith) (algorithm (make_function c.strict c.env f))
-      (λ g t. algorithm (define_own_property object k (accessor_change None (Some (Some g))))))
-
-  entry_to : (object : ObjId) (k : Text) (v : Value) (s : Store) (d : ℕ)
-      → Matched chosen s d d (define_entry object k (plain_change v)) (define_entry object k (plain_change v))
-  unfolding define_entry
-  entry_to object k v s d = algorithm (define_own_property object k (plain_change v))
 
 module _ (chosen : Kinds) (table table' : FunctionTable)
     (same : (i : Inner) → callee_of table i ≡ callee_of table' i) where

@@ -16,7 +16,7 @@ use Rattle.jl_meaning.specs.forms.HookCalls.{relational_operators, returns, test
 use Rattle.jl_meaning.specs.forms.HookCalls.{unary_kinds, unary_of, update_kinds, updates, visits, worded, writes}
 use Rattle.jl_meaning.specs.forms.HookCalls.{CalleeForm, Hook, Opener}
 use Rattle.jl_meaning.specs.forms.Operators.{update_kind}
-use Rattle.jl_weave.specs.Plain.{IsAssignmentOperator}
+use Rattle.jl_weave.specs.CompoundAssignments.{IsAssignmentOperator}
 
 -- what the member of this name of the object with the hooks is
 abbrev pub hook_form : List ℕ → CalleeForm

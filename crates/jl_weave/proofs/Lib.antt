@@ -11,6 +11,7 @@ mod Updates
 mod Calls
 mod Shapes
 mod MadeFunctions
+mod Entries
 mod HookedNames
 mod Expressions
 mod FewNodes
@@ -29,3 +30,4 @@ mod Jobs
 mod Fitting
 mod Recording
 mod Programs
+mod Accepted

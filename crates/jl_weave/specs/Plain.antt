@@ -1,32 +1,21 @@
 -- Scripts that can be woven: no part of them is the name of the object with the hooks where it would be taken for that,
 -- a compound assignment has an operator of 11.13, and their operations have ids that hooks can be called with.
-use Rattle.std.specs.Prelude.{false, ◌+◌, ◌<◌, ◌≡◌, None, Option, Some, ℕ}
+use Rattle.std.specs.Prelude.{false, ◌+◌, ◌<◌, ◌≡◌, ℕ}
 use Rattle.jl_ast.specs.Tree.{absent, and, array, assign, binary, block, body, branch_of, call, case, catch, comma}
 use Rattle.jl_ast.specs.Tree.{conditional, declarator, do_while, dot, end, expression, filled, for, for_in, function}
 use Rattle.jl_ast.specs.Tree.{function_expression, getter, if_else, index, init_expression, init_var, labelled, more}
 use Rattle.jl_ast.specs.Tree.{name, new, object, or, present, return, setter, switch, throw, to_dot, to_index, to_name}
 use Rattle.jl_ast.specs.Tree.{try, unary, update, value, var, while, Forest, OptionalTree, Program, Sort, Tree}
-use Rattle.jl_ast.specs.declared.ops.BinOp.{BinOp}
 use Rattle.jl_op.specs.Ids.{id_count}
-use Rattle.jl_op.specs.Trace.{binary_sign}
-use Rattle.jl_meaning.specs.forms.HookCalls.{assignment_operators, binary_among}
 use Rattle.jl_meaning.specs.forms.Names.{is_hooks}
+use Rattle.jl_weave.specs.CompoundAssignments.{IsAssignment}
 
 -- the ids that hooks take are below this
 abbrev pub id_limit : ℕ
 id_limit = 4294967294
 
--- an operator of 11.13
-abbrev pub IsAssignmentOperator : BinOp → Type 0
-IsAssignmentOperator o = binary_among assignment_operators (binary_sign o) ≡ Some o
-
--- a plain assignment, or one with such an operator
-abbrev pub IsAssignment : Option BinOp → Type 0
-IsAssignment None = Unit {0}
-IsAssignment (Some o) = IsAssignmentOperator o
-
--- No name that is read, written, deleted or bound by a `catch` is that of the hooks. Labels, keys and parameters may
--- be.
+-- No name that is read, written, deleted or bound by a `catch` is that of the hooks, and compound assignments have
+-- their operators. Labels, keys and parameters may have that name.
 abbrev mutual
   pub IsPlain : {S : Type 0} {x : Sort} → Tree S x → Type 0
   IsPlain (name x s) = is_hooks x ≡ false

@@ -12,7 +12,8 @@ use Rattle.jl_ast.specs.declared.ops.UnOp.{UnOp}
 use Rattle.jl_ast.specs.declared.ops.UnOp.TheVariants.{Delete, Typeof}
 use Rattle.jl_meaning.specs.Parts.{do_loop, for_in_loop, for_loop, while_loop, Expr, Loop}
 use Rattle.jl_meaning.specs.forms.Names.{is_hooks}
-use Rattle.jl_weave.specs.Plain.{id_limit, IsAssignmentOperator}
+use Rattle.jl_weave.specs.CompoundAssignments.{IsAssignmentOperator}
+use Rattle.jl_weave.specs.Plain.{id_limit}
 
 -- an assignment with an operator has one of 11.13, and takes three ids
 abbrev pub AssignmentFits : Option BinOp → (id : ℕ) → Type 0
