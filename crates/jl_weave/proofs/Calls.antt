@@ -115,7 +115,8 @@ module _ {chosen : Kinds} (table table' : FunctionTable) (same : (i : Inner) →
       pub method_dot_told : {o o' : Part (Answer Value)} {args args' : Part (Answer (List Value))} (key : Text)
           (id id' : ℕ) → ExpressionMatch chosen o o' → EvenMatch chosen args args'
           → ExpressionMatch chosen (Step (o >>= (λ base. call_member table id (id + 1) base (value.Text key) args)))
-          (Step (Step (o' >>= (λ v. (key_argument id' key >>= (λ w. pair table' k id opens_method args' (v ∷ w ∷ [])))))))
+          (Step (Step (o' >>= (λ v. (key_argument id' key >>= (λ w. pair table' k id opens_method args'
+          (v ∷ w ∷ [])))))))
       unfolding literal
       method_dot_told key id id' x y = record {
         at = λ s c. both (extra (bind (omega arith) (x.at s _) (λ base t. extra (peeks (own
@@ -173,9 +174,11 @@ module _ {chosen : Kinds} (table table' : FunctionTable) (same : (i : Inner) →
           spare {c = suc d} le (extra (bind2
           (λ y. (get_member emits id base y >>= (λ held. give (pending_assign id o base y held))))
           (closing table' k (only_value e')) (omega arith) (algorithm (member_name base key))
-          (λ y t. bind2 (λ held. give (pending_assign id o base y held)) (closing table' k (only_value e')) (omega arith)
+          (λ y t. bind2 (λ held. give (pending_assign id o base y held)) (closing table' k (only_value e'))
+          (omega arith)
           (get_told id base y)
-          (λ held t. bind2 (λ v. give (v ∷ [])) (λ ws. close table' k (pending_assign id o base y held) ws) (omega arith)
+          (λ held t. bind2 (λ v. give (v ∷ [])) (λ ws. close table' k (pending_assign id o base y held) ws)
+          (omega arith)
           (x.at t _) (λ v t. fewer (omega arith) (bind (omega arith) (operate_told (id + 1) o held v) (λ r t.
           bind (omega arith) (put_told (id + 2) k.strict base y r) (λ u t. done))))))))
 

@@ -134,7 +134,7 @@ module _ (chosen : Kinds) (table table' : FunctionTable)
       way (chosen kind.Unary) _ _ j c
       (second_is (hook_worded_1 table' c (codes "U") asks_unary form_U id p.1 (unary_sign unary.Typeof)
       (unary_of unary.Typeof) (word_U unary.Typeof) (woven chosen e) j)
-      (unary_told c unary.Typeof id (itself p.0 (j + 3 + 1 + 1 + 1)) (λ v. refl)))
+      (unary_told c unary.Typeof id (itself p.0 (j + 2 + 2 + 1 + 1)) (λ v. refl)))
       (λ h. second_is (typeof_as_is chosen table' c e tt j) (unary_silent unary.Typeof id j h (itself p.0 (j + 1))))
 
   -- a call of a value
@@ -144,18 +144,21 @@ module _ (chosen : Kinds) (table table' : FunctionTable)
       (evaluate_all table' 0 [] (forest_with_ids j (woven_forest chosen l)) c))
       → ExpressionMatch chosen (Step (call_value table id (evaluate table f c) (evaluate_all table 0 [] l c)))
       (evaluate table' (with_ids j (tree.call
-      (if weave.calls chosen then hook_1 (codes "F") id (woven chosen f) else woven chosen f) (woven_forest chosen l) tt)) c)
+      (if weave.calls chosen then hook_1 (codes "F") id (woven chosen f) else woven chosen f)
+      (woven_forest chosen l) tt)) c)
   value_called f p h l id small j c itself args =
       split (weave.calls chosen) (λ which. ExpressionMatch chosen
       (Step (call_value table id (evaluate table f c) (evaluate_all table 0 [] l c)))
       (evaluate table' (with_ids j (tree.call
       (if which then hook_1 (codes "F") id (woven chosen f) else woven chosen f) (woven_forest chosen l) tt)) c))
-      (second_is (opener_plain_1 table' c (codes "F") opens_call form_F id small (woven chosen f) (woven_forest chosen l) j
-      refl) (call_told table table' same c id (itself (j + 2 + 3 + 1 + 1)) (args _)))
-      (λ e. second_is (called_as_is table' c (woven chosen f) (woven_no_member chosen f h) (woven_no_first chosen f p h) j
+      (second_is (opener_plain_1 table' c (codes "F") opens_call form_F id small (woven chosen f)
+      (woven_forest chosen l) j
+      refl) (call_told table table' same c id (itself (j + 2 + 2 + 2 + 1)) (args _)))
+      (λ e. second_is (called_as_is table' c (woven chosen f) (woven_no_member chosen f h)
+      (woven_no_first chosen f p h) j
       (woven_forest chosen l))
       (call_silent table table' same (first_not (chosen kind.InvokePre) (chosen kind.InvokePost) e)
-      (second_not (chosen kind.InvokePre) (chosen kind.InvokePost) e) id j (itself (j + 2)) (args _)))
+      (second_not (chosen kind.InvokePre) (chosen kind.InvokePost) e) id (j + 0) (itself (j + 2)) (args _)))
 
   mutual
     pub evaluate_match : (e : Expr) → Fits e → (j : ℕ) → (c : Context) → Woven e c j
@@ -183,19 +186,20 @@ module _ (chosen : Kinds) (table table' : FunctionTable)
     evaluate_match (tree.array l s) p j c =
         way (chosen kind.ArrayLiteral) _ _ j c
         (second_is (hook_plain_1 table' c (codes "T") makes form_T s p.1 (tree.array (woven_forest chosen l) tt) j)
-        (array_told c s (j + 3 + 1 + 1) (λ a. fill_match l p.0 a 0 (j + 3 + 1 + 1 + 1) c)))
+        (array_told c s (j + 2 + 2 + 1) (λ a. fill_match l p.0 a 0 (j + 2 + 2 + 1 + 1) c)))
         (λ e. array_as_is s j e (λ a. fill_match l p.0 a 0 (j + 1) c))
     evaluate_match (tree.object l s) p j c =
         way (chosen kind.ObjectLiteral) _ _ j c
         (second_is (hook_plain_1 table' c (codes "T") makes form_T s p.1 (tree.object (woven_forest chosen l) tt) j)
-        (object_told c s (j + 3 + 1 + 1) (λ a. equip_match l p.0 a (j + 3 + 1 + 1 + 1) c)))
+        (object_told c s (j + 2 + 2 + 1) (λ a. equip_match l p.0 a (j + 2 + 2 + 1 + 1) c)))
         (λ e. object_as_is s j e (λ a. equip_match l p.0 a (j + 1) c))
     evaluate_match (tree.function_expression f s) p j c =
         way (chosen kind.FunctionLiteral) _ _ j c
-        (second_is (hook_plain_1 table' c (codes "T") makes form_T s p.1 (tree.function_expression (woven chosen f) tt) j)
+        (second_is (hook_plain_1 table' c (codes "T") makes form_T s p.1 (tree.function_expression
+        (woven chosen f) tt) j)
         (function_told c (make_function_expression c.strict c.env f)
-        (make_function_expression c.strict c.env (with_ids (j + 3 + 1 + 1 + 1) (woven chosen f))) s (j + 3 + 1 + 1)
-        (expression_same chosen (j + 3 + 1 + 1 + 1) c.strict c.env f)))
+        (make_function_expression c.strict c.env (with_ids (j + 2 + 2 + 1 + 1) (woven chosen f))) s (j + 2 + 2 + 1)
+        (expression_same chosen (j + 2 + 2 + 1 + 1) c.strict c.env f)))
         (λ e. function_as_is (make_function_expression c.strict c.env f)
         (make_function_expression c.strict c.env (with_ids (j + 1) (woven chosen f))) s _ e
         (expression_same chosen (j + 1) c.strict c.env f))
@@ -212,7 +216,8 @@ module _ (chosen : Kinds) (table table' : FunctionTable)
         callee_match f p.0 l t p.2 p.3 j c (λ j. evaluate_match f p.0 j c) (λ j. values_match l p.1 [] j c)
     evaluate_match (tree.new f l t) p j c =
         way (weave.calls chosen) _ _ j c
-        (second_is (opener_plain_1 table' c (codes "N") opens_new form_N t p.2 (woven chosen f) (woven_forest chosen l) j refl)
+        (second_is (opener_plain_1 table' c (codes "N") opens_new form_N t p.2 (woven chosen f)
+        (woven_forest chosen l) j refl)
         (new_told table table' same c t (evaluate_match f p.0 _ c) (values_match l p.1 [] _ c)))
         (λ e. new_silent table table' same (first_not (chosen kind.InvokePre) (chosen kind.InvokePost) e)
         (second_not (chosen kind.InvokePre) (chosen kind.InvokePost) e) t _ (evaluate_match f p.0 _ c)
@@ -314,7 +319,8 @@ module _ (chosen : Kinds) (table table' : FunctionTable)
         (λ h. decide_silent {f = f} {g = g (j + 1 + id_count (woven chosen a))} s j h (evaluate_match a p.0 _ c)
         (on (j + 1 + id_count (woven chosen a))))
     evaluate_match (tree.conditional a b d s) p j c =
-        let f : Bool → Value → Part (Answer Value) = λ truth v. if truth then evaluate table b c else evaluate table d c in
+        let f : Bool → Value → Part (Answer Value) =
+        λ truth v. if truth then evaluate table b c else evaluate table d c in
         let g : ℕ → Bool → Value → Part (Answer Value) = λ m truth v.
         if truth then evaluate table' (with_ids m (woven chosen b)) c
         else evaluate table' (with_ids (m + id_count (woven chosen b)) (woven chosen d)) c in
@@ -324,7 +330,8 @@ module _ (chosen : Kinds) (table table' : FunctionTable)
         (spare (omega arith) ((evaluate_match d p.2 (m + id_count (woven chosen b)) c).at s e)) in
         split (chosen kind.Conditional) (λ which. ExpressionMatch chosen (evaluate table (tree.conditional a b d s) c)
         (evaluate table' (with_ids j
-        (tree.conditional (if which then test s (woven chosen a) else woven chosen a) (woven chosen b) (woven chosen d) tt)) c))
+        (tree.conditional (if which then test s (woven chosen a) else woven chosen a) (woven chosen b)
+        (woven chosen d) tt)) c))
         (second_is (ap (λ q. Step (q >>= (λ v.
         (decide j v >>= (λ truth. g (j + 1 + id_count (test s (woven chosen a))) truth v)))))
         (hook_plain_1 table' c (codes "C") tests form_C s p.3 (woven chosen a) (j + 1)))
@@ -353,7 +360,8 @@ module _ (chosen : Kinds) (table table' : FunctionTable)
         (λ h. put_dot_silent c k t _ h (evaluate_match o p.1 _ c) (evaluate_match e p.2 _ c))
     evaluate_match (tree.assign (Some q) (tree.to_dot o k s) e t) p j c =
         way (weave.computes chosen (tree.to_dot o k s) kind.Binary) _ _ j c
-        (second_is (opener_worded_2 table' c (codes "A") asks_assign form_A t (less t p.0.1) (binary_sign q) (opens_assign q)
+        (second_is (opener_worded_2 table' c (codes "A") asks_assign form_A t (less t p.0.1) (binary_sign q)
+        (opens_assign q)
         (word_A q p.0.0) (woven chosen o) (quoted k) (tree.more (woven chosen e) tree.end) j refl)
         (assign_dot_told table table' same c q k t _ (evaluate_match o p.1 _ c) (evaluate_match e p.2 _ c)))
         (λ i. let h : NoneOf (chosen kind.GetField) (chosen kind.Binary) (chosen kind.PutField) = none_of _ _ _ i in
@@ -364,10 +372,12 @@ module _ (chosen : Kinds) (table table' : FunctionTable)
         (tree.more (woven chosen e) tree.end) j refl)
         (put_index_told table table' same c t (evaluate_match o p.1.0 _ c) (evaluate_match k p.1.1 _ c)
         (evaluate_match e p.2 _ c)))
-        (λ h. put_index_silent c t _ h (evaluate_match o p.1.0 _ c) (evaluate_match k p.1.1 _ c) (evaluate_match e p.2 _ c))
+        (λ h. put_index_silent c t _ h (evaluate_match o p.1.0 _ c) (evaluate_match k p.1.1 _ c)
+        (evaluate_match e p.2 _ c))
     evaluate_match (tree.assign (Some q) (tree.to_index o k s) e t) p j c =
         way (weave.computes chosen (tree.to_index o k s) kind.Binary) _ _ j c
-        (second_is (opener_worded_2 table' c (codes "A") asks_assign form_A t (less t p.0.1) (binary_sign q) (opens_assign q)
+        (second_is (opener_worded_2 table' c (codes "A") asks_assign form_A t (less t p.0.1) (binary_sign q)
+        (opens_assign q)
         (word_A q p.0.0) (woven chosen o) (woven chosen k) (tree.more (woven chosen e) tree.end) j refl)
         (assign_index_told table table' same c q t (evaluate_match o p.1.0 _ c) (evaluate_match k p.1.1 _ c)
         (evaluate_match e p.2 _ c)))
@@ -391,13 +401,14 @@ module _ (chosen : Kinds) (table table' : FunctionTable)
         (member_no_hook o p.0 k)
         ∙ ap (λ i. Step (evaluate table o c >>= (λ base.
         call_member table s i base (value.Text k) (evaluate_all table 0 [] l c)))) (sym h) in
-        split (weave.calls_member chosen) (λ which. ExpressionMatch chosen (evaluate table (tree.call (tree.dot o k s) l id) c)
+        split (weave.calls_member chosen) (λ which. ExpressionMatch chosen (evaluate table
+        (tree.call (tree.dot o k s) l id) c)
         (evaluate table' (with_ids j (tree.call
         (if which then hook_2 (codes "M") s (woven chosen o) (quoted k) else tree.dot (woven chosen o) k tt)
         (woven_forest chosen l) tt)) c))
         (both_are first (opener_plain_2 table' c (codes "M") opens_method form_M s p.1 (woven chosen o) (quoted k)
         (woven_forest chosen l) j refl) (method_dot_told table table' same c k s _ (evaluate_match o p.0 _ c) (args _)))
-        (λ e. let m : ℕ = j + 3 + id_count (woven chosen o) in
+        (λ e. let m : ℕ = j + 2 + id_count (tree.dot (woven chosen o) k tt) in
         let l' : Exprs = forest_with_ids m (woven_forest chosen l) in
         let q : weave.calls chosen ≡ false = second_not (chosen kind.GetField) (weave.calls chosen) e in
         both_are first (ap (λ form. Step (call_by_form form l' c (λ literals. evaluate_all table' literals [] l' c)
@@ -414,21 +425,25 @@ module _ (chosen : Kinds) (table table' : FunctionTable)
         call_member table s (s + 1) base key (evaluate_all table 0 [] l c))))) =
         ap (λ i. Step (evaluate table o c >>= (λ base. (evaluate table k c >>= (λ key.
         call_member table s i base key (evaluate_all table 0 [] l c)))))) (sym h) in
-        split (weave.calls_member chosen) (λ which. ExpressionMatch chosen (evaluate table (tree.call (tree.index o k s) l id) c)
+        split (weave.calls_member chosen) (λ which. ExpressionMatch chosen (evaluate table
+        (tree.call (tree.index o k s) l id) c)
         (evaluate table' (with_ids j (tree.call
-        (if which then hook_2 (codes "M") s (woven chosen o) (woven chosen k) else tree.index (woven chosen o) (woven chosen k) tt)
+        (if which then hook_2 (codes "M") s (woven chosen o) (woven chosen k) else tree.index (woven chosen o)
+        (woven chosen k) tt)
         (woven_forest chosen l) tt)) c))
         (both_are first (opener_plain_2 table' c (codes "M") opens_method form_M s p.2 (woven chosen o) (woven chosen k)
         (woven_forest chosen l) j refl)
         (method_index_told table table' same c s (evaluate_match o p.0 _ c) (evaluate_match k p.1 _ c) (args _)))
         (λ e. let q : weave.calls chosen ≡ false = second_not (chosen kind.GetField) (weave.calls chosen) e in
-        both_are first refl (method_index_silent table table' same (first_not (chosen kind.InvokePre) (chosen kind.InvokePost) q)
+        both_are first refl (method_index_silent table table' same (first_not (chosen kind.InvokePre)
+        (chosen kind.InvokePost) q)
         (second_not (chosen kind.InvokePre) (chosen kind.InvokePost) q) s j (s + 1) (j + 1)
         (first_not (chosen kind.GetField) (weave.calls chosen) e)
         (evaluate_match o p.0 (j + 3) c) (evaluate_match k p.1 _ c) (args _)))
     callee_match (tree.call f inner s) p l id small h j c itself args =
         let values : Part (Answer (List Value)) = evaluate_all table 0 [] l c in
-        both_are (ap (λ form. Step (call_of_call table c form inner (λ literals. evaluate_all table literals [] inner c) (count l)
+        both_are (ap (λ form. Step (call_of_call table c form inner
+        (λ literals. evaluate_all table literals [] inner c) (count l)
         values (call_value table id (evaluate table (tree.call f inner s) c) values))) (callee_no_hook f p.0)) refl
         (value_called (tree.call f inner s) p tt l id small j c itself args)
     callee_match f p l id small h j c itself args = value_called f p tt l id small j c itself args

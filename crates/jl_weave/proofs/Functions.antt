@@ -78,7 +78,8 @@ hooked id c p = Step (Step p)
 abbrev left_by_hook : (id id' env : ℕ) → Bool → Running → Completion → Part (Answer Value)
 left_by_hook id id' env strict r z =
     and_then (and_then (ends_as (unless_abrupt z) (then_do
-    (Step (and_then (Step (Step (enter_hook (in_call env strict r) id exits_function []))) (on_given (λ _. normal)))) normal))
+    (Step (and_then (Step (Step (enter_hook (in_call env strict r) id exits_function [])))
+    (on_given (λ _. normal)))) normal))
     (if_normal normal)) (leaving id' r.function)
 
 module _ {chosen : Kinds} where
@@ -133,7 +134,8 @@ module _ (chosen : Kinds) (table table' : FunctionTable)
     (same : (i : Inner) → callee_of table i ≡ callee_of table' i) where
   -- the body of a function, and the woven body
   run_match : (m : ℕ) (x : Option (Ident ℕ)) (ps : List (Ident ℕ)) (st : Bool) (fs : Forest ℕ tree.func) (l : Stmts)
-      (id : ℕ) → AllFit l → id + 1 < id_limit → (j : ℕ) (strict : Bool) (env : ℕ) (this : Value) (call : Call) (s : Store)
+      (id : ℕ) → AllFit l → id + 1 < id_limit → (j : ℕ) (strict : Bool) (env : ℕ) (this : Value) (call : Call)
+      (s : Store)
       → Matched chosen s 31 0
       (run_function table (function_of (tree.function m x ps (tree.body st fs l) id) strict) this call
       (function_context (function_of (tree.function m x ps (tree.body st fs l) id) strict) env this call))
@@ -169,7 +171,8 @@ module _ (chosen : Kinds) (table table' : FunctionTable)
   unfolding enter_function
   call_match (tree.function m x ps (tree.body st fs l) id) p j strict env call s =
       let f : ScriptFunction = function_of (tree.function m x ps (tree.body st fs l) id) strict in
-      let f' : ScriptFunction = function_of (with_ids j (woven chosen (tree.function m x ps (tree.body st fs l) id))) strict in
+      let f' : ScriptFunction = function_of (with_ids j (woven chosen (tree.function m x ps
+      (tree.body st fs l) id))) strict in
       let k : Value → Context → Part (Answer Value) = λ this c. run_function table f this call c in
       let k' : Value → Context → Part (Answer Value) = λ this c. run_function table' f' this call c in
       lifted (this_within strict call.this) (omega arith) (λ this t.
@@ -179,7 +182,8 @@ module _ (chosen : Kinds) (table table' : FunctionTable)
       (function_params (tree.function m x ps (tree.body st fs l) id)) call.args inside in
       subst (λ p. Matched chosen t 31 0 (lift (enter_function f env this call) >>= k this) (lift p >>= k' this))
       (enter_same chosen (tree.function m x ps (tree.body st fs l) id) strict j env this call)
-      (looks (peeks (changes (subst (λ p. Matched chosen (apply (NewEnvironment env) t) 31 0 (p >>= k this) (p >>= k' this))
+      (looks (peeks (changes (subst (λ p. Matched chosen (apply (NewEnvironment env) t) 31 0 (p >>= k this)
+      (p >>= k' this))
       (sym (lift_then declared (λ _. give inside)))
       (bind_both (λ _. give inside) (k this) (λ _. give inside) (k' this) (omega arith) (algorithm declared)
       (λ u t'. run_match m x ps st fs l id p.0.1 p.1 j strict (next_environment t) this call t')))))))

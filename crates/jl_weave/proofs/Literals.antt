@@ -75,13 +75,15 @@ module _ {chosen : Kinds} where
       → Matched chosen s c d (note_or_misuse performs id v o) (note_or_misuse performs id' v o >>= tell_literal id k)) [
         | None ↦ λ e. fails
         | Some o ↦ λ e. own (spare {c = suc d} le (extra (peeks
-            (subst (λ q. Matched chosen s d d (note_or_misuse performs id v (Some o)) (note_or_misuse emits id v q)) (sym e)
+            (subst (λ q. Matched chosen s d d (note_or_misuse performs id v (Some o)) (note_or_misuse emits id v q))
+            (sym e)
             (told done)))))
       ] in
       looks (peeks (at (literal_op s.heap v) refl))
 
   pub literal_told : (k : Context) (v : Value) (id id' : ℕ)
-      → ExpressionMatch chosen (Step (literal performs id v)) (Step (Step (literal performs id' v) >>= tell_literal id k))
+      → ExpressionMatch chosen (Step (literal performs id v))
+      (Step (Step (literal performs id' v) >>= tell_literal id k))
   literal_told k v id id' = record { at = λ s c. both (extra (literal_to id id' k v (omega arith))) }
 
   pub literal_silent : (v : Value) (f : Seen) (id id' : ℕ)
@@ -90,7 +92,8 @@ module _ {chosen : Kinds} where
   unfolding literal
   literal_silent v f id id' is e = record {
     at = λ s c. both (looks (peeks (subst
-        (λ o. Matched chosen s (plus 31 c) (plus 4 c) (note_or_misuse performs id v o) (note_or_misuse performs id' v o))
+        (λ o. Matched chosen s (plus 31 c) (plus 4 c) (note_or_misuse performs id v o)
+        (note_or_misuse performs id' v o))
         (sym (is s.heap)) (quiet e (own (ends (omega arith)))))));
   }
 

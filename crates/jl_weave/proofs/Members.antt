@@ -101,7 +101,8 @@ module _ {chosen : Kinds} where
       → ExpressionMatch chosen (Step (o >>= (λ base. read_member id base (value.Text key))))
       (Step (o' >>= (λ base. read_member id' base (value.Text key))))
   dot_silent key id id' e x = record {
-    at = λ s c. both (bind (omega arith) (x.at s _) (λ base t. read_silent id id' base (value.Text key) e (omega arith)));
+    at = λ s c. both (bind (omega arith) (x.at s _) (λ base t. read_silent id id' base (value.Text key) e
+        (omega arith)));
   }
 
   pub index_silent : {o o' i i' : Part (Answer Value)} (id id' : ℕ) → chosen kind.GetField ≡ false
@@ -153,11 +154,13 @@ module _ {chosen : Kinds} where
   }
 
   pub delete_other : {e e' : Part (Answer Value)} → ExpressionMatch chosen e e'
-      → ExpressionMatch chosen (Step (e >>= (λ _. give (value.Bool true)))) (Step (e' >>= (λ _. give (value.Bool true))))
+      → ExpressionMatch chosen (Step (e >>= (λ _. give (value.Bool true))))
+      (Step (e' >>= (λ _. give (value.Bool true))))
   delete_other x = record { at = λ s c. both (bind (omega arith) (x.at s _) (λ v t. ends (omega arith))) }
 
   -- assignments and updates that stand as they are
-  put_as_is : (k : Context) (base key : Value) (id id' : ℕ) → chosen kind.PutField ≡ false → {a a' : Part (Answer Value)}
+  put_as_is : (k : Context) (base key : Value) (id id' : ℕ) → chosen kind.PutField ≡ false → {a a' : Part
+      (Answer Value)}
       → ExpressionMatch chosen a a' → {s : Store} {c d : ℕ} → d ≤ c
       → Matched chosen s c d (assign_member id k base key None a) (assign_member id' k base key None a')
   put_as_is k base key id id' e x le =

@@ -87,7 +87,8 @@ module _ (chosen : Kinds) where
     declared_handler : (m : OptionalTree ℕ tree.handler) (id n : ℕ)
         → declared_in_optional (handler_with_ids id n (woven_optional chosen m)) ≡ declared_in_optional m
     declared_handler tree.absent id n = refl
-    declared_handler (tree.present (tree.catch x l)) id n = caught_same (chosen kind.Catch) x l n (λ n. declared_forest l n)
+    declared_handler (tree.present (tree.catch x l)) id n = caught_same (chosen kind.Catch) x l n
+        (λ n. declared_forest l n)
 
     declared_init : (t : Tree ℕ tree.init) (n : ℕ) → declared_in (with_ids n (woven chosen t)) ≡ declared_in t
     declared_init (tree.init_var l) n = declared_decls l n
@@ -141,17 +142,17 @@ module _ (chosen : Kinds) where
         → ((n : ℕ) → mentions x (with_ids n w) ≡ mentions x e)
         → mentions x (with_ids n (woven_typeof chosen id e w)) ≡ mentions x e
     typeof_same id (tree.name y s) w n e = way (chosen kind.TypeofName) _ _ n (one refl) refl
-    typeof_same id _ w n e = way (chosen kind.Unary) _ _ n (one (e (n + 3 + 1 + 1 + 1))) (e (n + 1))
+    typeof_same id _ w n e = way (chosen kind.Unary) _ _ n (one (e (n + 2 + 2 + 1 + 1))) (e (n + 1))
 
     -- an expression in a hook of one value, if that is chosen
     hooked : (k : OpKind) (h : Text) (id : ℕ) (w : weaving.Expr) {b : Bool} (n : ℕ)
         → ((n : ℕ) → mentions x (with_ids n w) ≡ b)
         → mentions x (with_ids n (weave.hooked_if chosen k (hook_1 h id) w)) ≡ b
-    hooked k h id w n is = way (chosen k) _ _ n (one (is (n + 3 + 1 + 1))) (is n)
+    hooked k h id w n is = way (chosen k) _ _ n (one (is (n + 2 + 2 + 1))) (is n)
 
     written : (y : Text) (id : ℕ) (w : weaving.Expr) {b : Bool} (n : ℕ) → ((n : ℕ) → mentions x (with_ids n w) ≡ b)
         → mentions x (with_ids n (weave.hooked_if chosen kind.Write (weaving.write id y) w)) ≡ b
-    written y id w n is = way (chosen kind.Write) _ _ n (one (is (n + 3 + 1 + 1 + 1))) (is n)
+    written y id w n is = way (chosen kind.Write) _ _ n (one (is (n + 2 + 2 + 1 + 1))) (is n)
 
     -- a `catch`, whose hook mentions the name that is caught
     catch_same : (b : Bool) (y : Ident ℕ) (l : Forest ℕ tree.stmt) (k : ℕ)
@@ -223,7 +224,8 @@ module _ (chosen : Kinds) where
       same (tree.block l s) n = forests l _
       same (tree.if_else c a b s) n =
           ap₂ ◌||◌ (ap₂ ◌||◌ (tests s c n (λ n. same c n)) (forests a _)) (optionals b _)
-      same (tree.do_while l c s) n = ap₂ ◌||◌ (forests l _) (hooked kind.Conditional (codes "C") s (woven chosen c) _ (λ n. same c n))
+      same (tree.do_while l c s) n = ap₂ ◌||◌ (forests l _) (hooked kind.Conditional (codes "C") s (woven chosen c) _
+          (λ n. same c n))
       same (tree.while c l s) n = ap₂ ◌||◌ (tests s c n (λ n. same c n)) (forests l _)
       same (tree.for i tree.absent u l s) n =
           ap₂ ◌||◌ (ap₂ ◌||◌ (ap₂ ◌||◌ (same i _) refl) (optionals u _)) (forests l _)
@@ -263,7 +265,7 @@ module _ (chosen : Kinds) where
           by_callee (weave.calls_member chosen) _ _ l n (ap₂ ◌||◌ (two (same o _) (same k _)) (r _))
           (ap₂ ◌||◌ (ap₂ ◌||◌ (same o _) (same k _)) (r _))
       callee f id l n e r =
-          by_callee (weave.calls chosen) _ (woven chosen f) l n (ap₂ ◌||◌ (one (e (n + 2 + 3 + 1 + 1))) (r _))
+          by_callee (weave.calls chosen) _ (woven chosen f) l n (ap₂ ◌||◌ (one (e (n + 2 + 2 + 2 + 1))) (r _))
           (ap (λ t. mentions x t) (call_with_ids chosen f tt n (woven_forest chosen l)) ∙ ap₂ ◌||◌ (e (n + 2)) (r _))
 
       deletes : (f : Expr) (id n : ℕ) → ((n : ℕ) → mentions x (with_ids n (woven chosen f)) ≡ mentions x f)

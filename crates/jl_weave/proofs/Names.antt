@@ -96,7 +96,8 @@ module _ {chosen : Kinds} where
   name_told x k id id' e =
       subst₂ (λ p q. ExpressionMatch chosen (Step p) (Step (Step q >>= tell_read id k x))) (sym (read_is id k x e))
       (sym (read_is id' k x e)) (record {
-        at = λ s c. both (extra (bind2 (λ v. (note_value performs id' (op.Read x) v >>= (λ _. give v))) (tell_read id k x)
+        at = λ s c. both (extra (bind2 (λ v. (note_value performs id' (op.Read x) v >>= (λ _. give v)))
+            (tell_read id k x)
             (omega arith) (algorithm (get_name k.env x))
             (λ v t. looks (peeks (own (extra (peeks (told (ends (omega arith))))))))));
       })
@@ -126,7 +127,8 @@ module _ {chosen : Kinds} where
       subst₂ (λ p q. ExpressionMatch chosen (Step p) (Step (Step q >>= tell_type id k x))) (sym (typing_is id k x e))
       (sym (typing_is id' k x e)) (record {
         at = λ s c. both (extra (bind2
-            (λ type. (note performs id' (λ heap. op.TypeofName x type) >>= (λ _. give (value.Text type)))) (tell_type id k x)
+            (λ type. (note performs id' (λ heap. op.TypeofName x type) >>= (λ _. give (value.Text type))))
+            (tell_type id k x)
             (omega arith) (algorithm (type_of_name k.env x))
             (λ type t. looks (peeks (own (extra (told (ends (omega arith)))))))));
       })
@@ -158,7 +160,8 @@ module _ {chosen : Kinds} where
 
   pub assign_name_told : (x : Name) (k : Context) (id id' : ℕ) → is_hooks x ≡ false → {e e' : Part (Answer Value)}
       → ExpressionMatch chosen e e'
-      → ExpressionMatch chosen (Step (assign_name id k x e)) (Step (assign_name id' k x (Step (e' >>= tell_write id k x))))
+      → ExpressionMatch chosen (Step (assign_name id k x e)) (Step (assign_name id' k x
+      (Step (e' >>= tell_write id k x))))
   assign_name_told x k id id' h {e} {e'} y =
       subst₂ (λ p q. ExpressionMatch chosen (Step p) (Step q)) (sym (no_hooks x h (assigning id k x e)))
       (sym (no_hooks x h (assigning id' k x (Step (e' >>= tell_write id k x))))) (record {
@@ -187,8 +190,10 @@ module _ {chosen : Kinds} where
   unfolding enter_hook get_name
   read_to x k id id' e s c =
       let reference : Reference = identifier_reference s k.env x in
-      subst (λ q. Matched chosen s (suc (suc (suc c))) c (read_reference id x reference) (Step (Step q >>= tell_read id k x)))
-      (sym (read_is id' k x e)) (extra (extra (peeks (bind2 (λ v. (note_value performs id' (op.Read x) v >>= (λ _. give v)))
+      subst (λ q. Matched chosen s (suc (suc (suc c))) c (read_reference id x reference)
+      (Step (Step q >>= tell_read id k x)))
+      (sym (read_is id' k x e)) (extra (extra (peeks (bind2 (λ v. (note_value performs id' (op.Read x) v >>=
+      (λ _. give v)))
       (tell_read id k x) (omega arith) (algorithm (get_value x reference))
       (λ v t. looks (peeks (own (extra (peeks (told done))))))))))
 
@@ -209,7 +214,8 @@ module _ {chosen : Kinds} where
   unfolding enter_hook
   compute_to x k o id id' id2 h {e} {e'} y s c =
       let reference : Reference = identifier_reference s k.env x in
-      looks (peeks (extra (extra (bind3 (tell_binary (id + 1) k o e') (tell_write (id + 2) k x) (written id2 k x reference)
+      looks (peeks (extra (extra (bind3 (tell_binary (id + 1) k o e') (tell_write (id + 2) k x)
+      (written id2 k x reference)
       (omega arith) (read_to x k id id' h s (plus 3 c))
       (λ held t. bind3 (λ w. Step (enter_hook k (id + 1) (binary_of o) (held ∷ w ∷ []))) (tell_write (id + 2) k x)
       (written id2 k x reference) (omega arith) (y.at t _)
@@ -234,7 +240,8 @@ module _ {chosen : Kinds} where
   compute_name_silent x k o id id' f g h {e} {e'} y =
       unless_silent x {p = computing id k x o e} {q = computing id' k x o e'} (λ s c.
       let reference : Reference = identifier_reference s k.env x in
-      looks (peeks (bind (omega arith) (lifted (get_value x reference) (omega arith) (λ v t. looks (peeks (quiet f (own done)))))
+      looks (peeks (bind (omega arith) (lifted (get_value x reference) (omega arith) (λ v t. looks
+      (peeks (quiet f (own done)))))
       (λ held t. bind (omega arith) (y.at t _) (λ w t. bind (omega arith) (operate_silent (id + 1) (id' + 1) o held w g)
       (λ v t. looks (peeks (quiet h (own
       (bind (omega arith) (algorithm (put_value k.strict x v reference)) (λ u t. ends (omega arith))))))))))))
@@ -247,7 +254,8 @@ module _ {chosen : Kinds} where
   update_name_silent x k up prefix id id' f g h =
       unless_silent x (λ s c.
       let reference : Reference = identifier_reference s k.env x in
-      looks (peeks (bind (omega arith) (lifted (get_value x reference) (omega arith) (λ v t. looks (peeks (quiet f (own done)))))
+      looks (peeks (bind (omega arith) (lifted (get_value x reference) (omega arith) (λ v t. looks
+      (peeks (quiet f (own done)))))
       (λ held t. bind (omega arith) (update_silent (id + 1) (id' + 1) (update_kind up) held g)
       (λ v t. looks (peeks (quiet h (own
       (bind (omega arith) (algorithm (put_value k.strict x v.1 reference)) (λ u t. ends (omega arith)))))))))))

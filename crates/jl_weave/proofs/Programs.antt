@@ -57,7 +57,8 @@ abbrev statement_X : weaving.Stmt
 statement_X = hook_statement (hook (codes "X") 2 tree.end)
 
 last_functions : (strict : Bool) (j : ℕ) (m : weaving.Stmts)
-    → forest_functions strict (forest_with_ids j (and_last m statement_X)) ≡ forest_functions strict (forest_with_ids j m)
+    → forest_functions strict (forest_with_ids j (and_last m statement_X)) ≡ forest_functions strict
+    (forest_with_ids j m)
 last_functions strict j tree.end = refl
 last_functions strict j (tree.more t l) =
     ap (◌++◌ (functions_in strict (with_ids j t))) (last_functions strict (j + id_count t) l)
@@ -126,7 +127,8 @@ module _ (chosen : Kinds) where
   -- statements, and one more in the second alone
   last_to : (table table' : FunctionTable) → ((i : Inner) → callee_of table i ≡ callee_of table' i) → (l : Stmts)
       → AllFit l → (last : weaving.Stmt) (j : ℕ) (c : Context) (p : Part Completion) (d : ℕ)
-      → ((j : ℕ) (t : Store) → Matched chosen t d 0 p (execute_all table' (forest_with_ids j (tree.more last tree.end)) c))
+      → ((j : ℕ) (t : Store) → Matched chosen t d 0 p (execute_all table' (forest_with_ids j
+      (tree.more last tree.end)) c))
       → (s : Store)
       → Matched chosen s d 0 (then_do (execute_all table l c) p)
       (execute_all table' (forest_with_ids j (and_last (woven_forest chosen l) last)) c)
@@ -199,7 +201,8 @@ module _ (chosen : Kinds) where
       (λ z t. end_to z t 0))))))))
 
   code_simulates : (b : Code) → Fits b
-      → Simulates (is_kept chosen) (λ n. run_of chosen (program_of b) n) (λ n. run_of chosen (woven_program_of chosen b) n)
+      → Simulates (is_kept chosen) (λ n. run_of chosen (program_of b) n) (λ n. run_of chosen
+      (woven_program_of chosen b) n)
   unfolding language
   code_simulates b p =
       let table : FunctionTable = function_table (program_of b) in
@@ -210,6 +213,6 @@ module _ (chosen : Kinds) where
       (jobs_match chosen table table' (program_table b p)) realm (script (program_of b))
       (script (woven_program_of chosen b)) (script_match b p realm))
 
-  pub woven_simulates : (p : Program (Unit {0})) → IsPlain p.body → HasFewIds p → WovenSimulates chosen p
+  pub woven_simulates : {S : Type 0} (p : Program S) → IsPlain p.body → HasFewIds p → WovenSimulates chosen p
   unfolding woven_program
   woven_simulates p plain few = code_simulates (with_ids 3 p.body) (fits p.body plain 3 (omega arith))

@@ -46,7 +46,8 @@ module _ {S F O A : Type 0} (kept : O → Bool) where
   renamed first first' second is x =
       let y : Simulates kept (λ n. with_state (keep_hooks kept) (first n)) second = same_hooks first second x in
       record {
-        follows = λ n h. subst (λ r. Alike kept r (second (bound n))) (sym (is n)) (y.follows n (subst IsOver (is n) h));
+        follows = λ n h. subst (λ r. Alike kept r (second (bound n))) (sym (is n)) (y.follows n (subst IsOver
+            (is n) h));
         leads = λ m h. subst (λ r. Alike kept r (second m)) (sym (is m)) (y.leads m h);
         no_fewer = λ m h. subst (λ r. steps_taken m r ≤ steps_taken m (second m)) (sym (is m)) (y.no_fewer m h);
         not_many_more = λ m h.

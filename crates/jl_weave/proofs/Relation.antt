@@ -39,7 +39,8 @@ turn_with l c labels id = record { loop = l; context = c; labels = labels; id = 
 pub data AreJobs (chosen : Kinds) : Job → Job → Type 0 where
   calls : (call : Call) → AreJobs chosen (CallOf call) (CallOf call)
   turns : (l : Loop) → (c : Context) → (labels : List Text) → (id : ℕ) → LoopFits l id → (id' j k m : ℕ)
-      → AreJobs chosen (TurnOf (turn_with l c labels id)) (TurnOf (turn_with (woven_loop chosen id j k m l) c labels id'))
+      → AreJobs chosen (TurnOf (turn_with l c labels id))
+      (TurnOf (turn_with (woven_loop chosen id j k m l) c labels id'))
 
 -- the second part matches the first from this store on, with c steps to spare before and d after
 abbrev pub Matched : {A : Type 0} → Kinds → Store → (c d : ℕ) → Part A → Part A → Type 0

@@ -58,18 +58,12 @@ other_with_ids : (j : ℕ) (e : weaving.Expr) → IsOther e → IsOther (with_id
 other_with_ids j (tree.name x s) h = absurd h
 other_with_ids j (tree.dot o k s) h = absurd h
 other_with_ids j (tree.index o k s) h = absurd h
-other_with_ids j (tree.call (tree.dot o k s) l t) h = tt
-other_with_ids j (tree.call (tree.index o k s) l t) h = tt
-other_with_ids j (tree.call _ l t) h = tt
 other_with_ids j (tree.unary un.Delete e s) h = tt
 other_with_ids j (tree.unary o e s) h = tt
 other_with_ids j _ h = tt
 
 no_name_with_ids : (j : ℕ) (e : weaving.Expr) → IsNoName e → IsNoName (with_ids j e)
 no_name_with_ids j (tree.name x s) h = absurd h
-no_name_with_ids j (tree.call (tree.dot o k s) l t) h = tt
-no_name_with_ids j (tree.call (tree.index o k s) l t) h = tt
-no_name_with_ids j (tree.call _ l t) h = tt
 no_name_with_ids j (tree.unary un.Delete e s) h = tt
 no_name_with_ids j (tree.unary o e s) h = tt
 no_name_with_ids j _ h = tt
@@ -77,9 +71,6 @@ no_name_with_ids j _ h = tt
 no_member_with_ids : (j : ℕ) (e : weaving.Expr) → IsNoMember e → IsNoMember (with_ids j e)
 no_member_with_ids j (tree.dot o k s) h = absurd h
 no_member_with_ids j (tree.index o k s) h = absurd h
-no_member_with_ids j (tree.call (tree.dot o k s) l t) h = tt
-no_member_with_ids j (tree.call (tree.index o k s) l t) h = tt
-no_member_with_ids j (tree.call _ l t) h = tt
 no_member_with_ids j (tree.unary un.Delete e s) h = tt
 no_member_with_ids j (tree.unary o e s) h = tt
 no_member_with_ids j _ h = tt
@@ -181,11 +172,12 @@ module _ (chosen : Kinds) where
   -- the ids of a call of what is no member
   pub call_with_ids : (f : Expr) → IsNoMember f → (j : ℕ) (l : weaving.Exprs)
       → with_ids j (tree.call (woven chosen f) l tt)
-      ≡ tree.call (with_ids (j + 2) (woven chosen f)) (forest_with_ids (j + 2 + id_count (woven chosen f)) l) j
+      ≡ tree.call (with_ids (j + 2) (woven chosen f)) (forest_with_ids (j + 2 + id_count (woven chosen f)) l) (j + 0)
   call_with_ids f h j l = at (woven chosen f) (woven_no_member f h)
     where
       at : (g : weaving.Expr) → IsNoMember g
-          → with_ids j (tree.call g l tt) ≡ tree.call (with_ids (j + 2) g) (forest_with_ids (j + 2 + id_count g) l) j
+          → with_ids j (tree.call g l tt)
+          ≡ tree.call (with_ids (j + 2) g) (forest_with_ids (j + 2 + id_count g) l) (j + 0)
       at (tree.dot o k s) h = absurd h
       at (tree.index o k s) h = absurd h
       at _ h = refl
@@ -317,12 +309,13 @@ module _ (table : FunctionTable) (c : Context) where
   abbrev CalledAsIs : weaving.Expr → (j : ℕ) → weaving.Exprs → Type 0
   CalledAsIs g j l =
       evaluate table (with_ids j (tree.call g l tt)) c
-      ≡ Step (call_value table j (evaluate table (with_ids (j + 2) g) c)
+      ≡ Step (call_value table (j + 0) (evaluate table (with_ids (j + 2) g) c)
       (evaluate_all table 0 [] (forest_with_ids (j + 2 + id_count g) l) c))
 
   -- what is no first call of a pair is called otherwise
   otherwise : (form : CalleeForm) → IsNoOpener form → (inner : Exprs) (first : Arguments) (n : ℕ)
-      (second : Part (Answer (List Value))) (p : Part (Answer Value)) → call_of_call table c form inner first n second p ≡ p
+      (second : Part (Answer (List Value))) (p : Part (Answer Value))
+      → call_of_call table c form inner first n second p ≡ p
   otherwise (opener shape) h inner first n second p = absurd h
   otherwise (hook shape) h inner first n second p = refl
   otherwise no_hook h inner first n second p = refl
@@ -340,7 +333,7 @@ module _ (table : FunctionTable) (c : Context) where
       ap Step (otherwise (form_of (with_ids (j + 2 + 2) f)) (subst IsNoOpener
       (sym (form_of_no_member (with_ids (j + 2 + 2) f) (no_member_with_ids (j + 2 + 2) f tt))) tt) inner
       (λ literals. evaluate_all table literals [] inner c) (count outer) values
-      (call_value table j (evaluate table (with_ids (j + 2) (tree.call f l' t)) c) values))
+      (call_value table (j + 0) (evaluate table (with_ids (j + 2) (tree.call f l' t)) c) values))
   called_as_is (tree.unary un.Delete e s) h i j l = refl
   called_as_is (tree.unary o e s) h i j l = refl
   called_as_is _ h i j l = refl

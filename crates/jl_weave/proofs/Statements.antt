@@ -94,7 +94,7 @@ hook_H id x = hook_statement (hook_of_1 (codes "H") id x (name_of x))
 -- the statements of a woven `catch`
 hooked_catch : (table : FunctionTable) (x : Text) (id : ℕ) → id < id_limit → (h : weaving.Stmts) (j : ℕ) (c : Context)
     → (λ env. execute_all table (forest_with_ids j (catch_and_go_on id x h)) (in_environment_of c env))
-    ≡ told_first id (j + 3 + 1 + 1 + 1) c x
+    ≡ told_first id (j + 2 + 2 + 1 + 1) c x
     (λ env. execute_all table (forest_with_ids (j + id_count (hook_H id x)) h) (in_environment_of c env))
 hooked_catch table x id small h j c = fun_ext (λ env.
     ap (λ q. then_do (Step (and_then q (on_given (λ _. normal))))
@@ -112,11 +112,12 @@ module _ (chosen : Kinds) (table table' : FunctionTable)
       (decide_by id' (evaluate table' (with_ids j (if which then test id (woven chosen e) else woven chosen e)) c)))
       (subst (λ q. Matched chosen s (suc n) (plus 3 n) (decide_by id (evaluate table e c)) (decide_by id' q))
       (sym (hook_plain_1 table' c (codes "C") tests form_C id small (woven chosen e) j))
-      (decide_by_told c id id' (evaluate_match chosen table table' same e p (j + 3 + 1 + 1) c) s n))
+      (decide_by_told c id id' (evaluate_match chosen table table' same e p (j + 2 + 2 + 1) c) s n))
       (λ h. decide_by_silent id id' h (evaluate_match chosen table table' same e p j c) s n)
 
   -- a test, and what is done by it, after a step of the statement
-  tested_then : (e : Expr) → Fits e → (id : ℕ) → id < id_limit → (id' j : ℕ) (c : Context) (f g : Bool → Part Completion)
+  tested_then : (e : Expr) → Fits e → (id : ℕ) → id < id_limit → (id' j : ℕ) (c : Context) (f g : Bool
+      → Part Completion)
       → ((truth : Bool) → StatementMatch chosen (f truth) (g truth))
       → StatementMatch chosen (Step (and_then (decide_by id (evaluate table e c)) (on_given f)))
       (Step (and_then (decide_by id' (evaluate table' (with_ids j (weave.tested chosen id (woven chosen e))) c))
@@ -136,13 +137,14 @@ module _ (chosen : Kinds) (table table' : FunctionTable)
       (on_given (noted id' f g'))))
   noted_match k name h form f emitted of e p id small id' j c {g} {g'} y =
       split (chosen k) (λ which. StatementMatch chosen (Step (and_then (evaluate table e c) (on_given (noted id f g))))
-      (Step (and_then (evaluate table' (with_ids j (if which then hook_1 name id (woven chosen e) else woven chosen e)) c)
+      (Step (and_then (evaluate table' (with_ids j (if which then hook_1 name id
+      (woven chosen e) else woven chosen e)) c)
       (on_given (noted id' f g')))))
       (subst (λ q. StatementMatch chosen (Step (and_then (evaluate table e c) (on_given (noted id f g))))
       (Step (and_then q (on_given (noted id' f g')))))
       (sym (hook_plain_1 table' c name h form id small (woven chosen e) j))
       (noted_told (λ v. Step (enter_hook c id h (v ∷ []))) id id' f
-      (evaluate_match chosen table table' same e p (j + 3 + 1 + 1) c) (λ v. ap Step (emitted c id v)) y))
+      (evaluate_match chosen table table' same e p (j + 2 + 2 + 1) c) (λ v. ap Step (emitted c id v)) y))
       (λ i. noted_silent id id' f (λ v. of v ∙ i) (evaluate_match chosen table table' same e p j c) y)
 
   declare_all_match : (l : Forest ℕ tree.decl) → AllFit l → (j : ℕ) (c : Context)
@@ -159,7 +161,8 @@ module _ (chosen : Kinds) (table table' : FunctionTable)
       >>= (λ _. give tt)))
       (subst (λ q. DeclarationMatch chosen (assign_name x.at c x.text (evaluate table e c) >>= (λ _. give tt))
       (assign_name j c x.text q >>= (λ _. give tt)))
-      (sym (hook_worded_1 table' c (codes "W") _ form_W x.at p.0.2 x.text (writes x.text) refl (woven chosen e) (j + 1)))
+      (sym (hook_worded_1 table' c (codes "W") _ form_W x.at p.0.2 x.text (writes x.text) refl (woven chosen e)
+      (j + 1)))
       (declared_told x.text c x.at j p.0.0 (evaluate_match chosen table table' same e p.0.1 _ c)))
       (λ h. declared_silent x.text c x.at j p.0.0 h (evaluate_match chosen table table' same e p.0.1 (j + 1) c)))
       (declare_all_match l p.1 _ c)
@@ -223,7 +226,8 @@ module _ (chosen : Kinds) (table table' : FunctionTable)
     execute_match (tree.break (Some x) s) p labels j c = stepped end_match
     execute_match (tree.return tree.absent s) p labels j c = stepped end_match
     execute_match (tree.return (tree.present e) s) p labels j c =
-        noted_match kind.Return (codes "V") returns form_V op.Return (λ c id v. refl) (λ v. refl) e p.0 s p.1 j (j + 1) c
+        noted_match kind.Return (codes "V") returns form_V op.Return (λ c id v. refl) (λ v. refl) e p.0 s p.1 j
+        (j + 1) c
         (λ v. end_match)
     execute_match (tree.labelled x t s) p labels j c =
         stepped (ending (after_labelled x.text) (execute_match t p (x.text ∷ labels) j c))
@@ -235,7 +239,8 @@ module _ (chosen : Kinds) (table table' : FunctionTable)
         (execute_from table' (option_or selected k) (forest_with_ids m (woven_forest chosen l)) c))
         (default_same chosen m l) (from_match (option_or selected (default_of l)) l p.1 m c))))
     execute_match (tree.throw e s) p labels j c =
-        noted_match kind.Throw (codes "K") throws_value form_K op.Throw (λ c id v. refl) (λ v. refl) e p.0 s p.1 j (j + 1) c
+        noted_match kind.Throw (codes "K") throws_value form_K op.Throw (λ c id v. refl) (λ v. refl) e p.0 s p.1 j
+        (j + 1) c
         (λ v. end_match)
     execute_match (tree.try l tree.absent f s) p labels j c =
         try_match (uncaught_match (execute_all_match l p.0 (j + 0) c)
@@ -252,11 +257,13 @@ module _ (chosen : Kinds) (table table' : FunctionTable)
         let m : ℕ = k + id_count (hook_H x.at x.text) in
         let f' : OptionalTree ℕ tree.branch = optional_with_ids (k + forest_id_count hs) (woven_optional chosen f) in
         subst₂ (StatementMatch chosen) (sym (try_is table l x h f s labels c))
-        (sym (try_is table' (forest_with_ids (j + 1) l') (ident_with_id (without_id x) j) (forest_with_ids k hs) f' j labels c
+        (sym (try_is table' (forest_with_ids (j + 1) l') (ident_with_id (without_id x) j)
+        (forest_with_ids k hs) f' j labels c
         ∙ ap (λ g. caught_try (execute_all table' (forest_with_ids (j + 1) l') c) (λ v. catching j c x.text v g)
         (execute_branch table' f' c)) (hooked_catch table' x.text x.at p.3 h' k c)))
         (try_match (catch_told_match x.at j _ c x.text _
-        (λ env. execute_all table' (forest_with_ids m h') (in_environment_of c env)) p.1.0 (execute_all_match l p.0 (j + 1) c)
+        (λ env. execute_all table' (forest_with_ids m h') (in_environment_of c env)) p.1.0 (execute_all_match l p.0
+        (j + 1) c)
         (λ env. execute_all_match h p.1.1 m (in_environment_of c env))
         (λ z. ending (unless_abrupt z) (branch_match f p.2 (k + forest_id_count hs) c)))))
         (λ q. subst₂ (StatementMatch chosen) (sym (try_is table l x h f s labels c))

@@ -71,7 +71,8 @@ module _ {chosen : Kinds} where
 module _ (chosen : Kinds) (strict : Bool) where
   -- by a hook, or as it stands
   way : {a : FunctionTable} (b : Bool) (u v : weaving.Expr) (j : ℕ)
-      → TableMatch chosen a (functions_in strict (with_ids j u)) → TableMatch chosen a (functions_in strict (with_ids j v))
+      → TableMatch chosen a (functions_in strict (with_ids j u)) → TableMatch chosen a (functions_in strict
+      (with_ids j v))
       → TableMatch chosen a (functions_in strict (with_ids j (if b then u else v)))
   way true u v j x y = x
   way false u v j x y = y
@@ -79,22 +80,24 @@ module _ (chosen : Kinds) (strict : Bool) where
   hooked : {a : FunctionTable} (k : OpKind) (h : Text) (id : ℕ) (w : weaving.Expr) (j : ℕ)
       → ((j : ℕ) → TableMatch chosen a (functions_in strict (with_ids j w)))
       → TableMatch chosen a (functions_in strict (with_ids j (weave.hooked_if chosen k (hook_1 h id) w)))
-  hooked k h id w j x = way (chosen k) _ _ j (table_end (x (j + 3 + 1 + 1))) (x j)
+  hooked k h id w j x = way (chosen k) _ _ j (table_end (x (j + 2 + 2 + 1))) (x j)
 
   by_callee : {a : FunctionTable} (b : Bool) (u v : weaving.Expr) (l : Exprs) (j : ℕ)
       → TableMatch chosen a (functions_in strict (with_ids j (tree.call u (woven_forest chosen l) tt)))
       → TableMatch chosen a (functions_in strict (with_ids j (tree.call v (woven_forest chosen l) tt)))
-      → TableMatch chosen a (functions_in strict (with_ids j (tree.call (if b then u else v) (woven_forest chosen l) tt)))
+      → TableMatch chosen a (functions_in strict (with_ids j (tree.call (if b then u else v)
+      (woven_forest chosen l) tt)))
   by_callee true u v l j x y = x
   by_callee false u v l j x y = y
 
   typeof_table : (e : Expr) (id : ℕ) → UnaryFits un.Typeof e (Fits e) id → (j : ℕ)
-      → (Fits e → (j : ℕ) → TableMatch chosen (functions_in strict e) (functions_in strict (with_ids j (woven chosen e))))
+      → (Fits e → (j : ℕ) → TableMatch chosen (functions_in strict e) (functions_in strict
+      (with_ids j (woven chosen e))))
       → TableMatch chosen (functions_in strict e)
       (functions_in strict (with_ids j (woven_typeof chosen id e (woven chosen e))))
   typeof_table (tree.name x s) id p j itself = way (chosen kind.TypeofName) _ _ j none none
   typeof_table _ id p j itself =
-      way (chosen kind.Unary) _ _ j (table_end (itself p.0 (j + 3 + 1 + 1 + 1))) (itself p.0 (j + 1))
+      way (chosen kind.Unary) _ _ j (table_end (itself p.0 (j + 2 + 2 + 1 + 1))) (itself p.0 (j + 1))
 
   back_table : (up prefix : Bool) (e : weaving.Expr) {l : FunctionTable} (j : ℕ)
       → ((j : ℕ) → TableMatch chosen l (functions_in strict (with_ids j e)))
@@ -105,13 +108,15 @@ module _ (chosen : Kinds) (strict : Bool) where
 
   catch_table : {a : FunctionTable} (b : Bool) (id : ℕ) (x : Text) (l : weaving.Stmts) (j : ℕ)
       → ((j : ℕ) → TableMatch chosen a (forest_functions strict (forest_with_ids j l)))
-      → TableMatch chosen a (forest_functions strict (forest_with_ids j (if b then weaving.catch_and_go_on id x l else l)))
+      → TableMatch chosen a (forest_functions strict (forest_with_ids j
+      (if b then weaving.catch_and_go_on id x l else l)))
   catch_table true id x l j y = y _
   catch_table false id x l j y = y j
 
   body_table : {a : FunctionTable} (b : Bool) (id : ℕ) (l : weaving.Stmts) (j : ℕ)
       → ((j : ℕ) → TableMatch chosen a (forest_functions strict (forest_with_ids j l)))
-      → TableMatch chosen a (forest_functions strict (forest_with_ids j (if b then weaving.enter_and_leave id l else l)))
+      → TableMatch chosen a (forest_functions strict (forest_with_ids j
+      (if b then weaving.enter_and_leave id l else l)))
   body_table true id l j y = table_end (table_end (table_end (y _)))
   body_table false id l j y = y j
 
@@ -228,7 +233,8 @@ module _ (chosen : Kinds) where
         table_append (hooked chosen strict kind.Conditional (codes "C") s _ _ (λ j. functions_match strict e p.0 j))
         (forests_match strict l p.1 _)
     functions_match strict (tree.for i tree.absent u l s) p j =
-        table_append (table_append (table_append (functions_match strict i p.0 _) none) (optionals_match strict u p.2 _))
+        table_append (table_append (table_append (functions_match strict i p.0 _) none)
+        (optionals_match strict u p.2 _))
         (forests_match strict l p.3 _)
     functions_match strict (tree.for i (tree.present e) u l s) p j =
         table_append (table_append (table_append (functions_match strict i p.0 _)
@@ -280,11 +286,12 @@ module _ (chosen : Kinds) where
         (table_append (functions_match strict o p.0 _) (rest _))
     callee_table strict (tree.index o k s) p id l j itself rest =
         by_callee chosen strict (weave.calls_member chosen) _ _ l j
-        (table_append (table_append (functions_match strict o p.0 _) (table_end (functions_match strict k p.1 _))) (rest _))
+        (table_append (table_append (functions_match strict o p.0 _) (table_end (functions_match strict k p.1 _)))
+        (rest _))
         (table_append (table_append (functions_match strict o p.0 _) (functions_match strict k p.1 _)) (rest _))
     callee_table strict f p id l j itself rest =
         by_callee chosen strict (weave.calls chosen) _ (woven chosen f) l j
-        (table_append (table_end (itself (j + 2 + 3 + 1 + 1))) (rest _))
+        (table_append (table_end (itself (j + 2 + 2 + 2 + 1))) (rest _))
         (subst (λ t. TableMatch chosen (functions_in strict f ++ forest_functions strict l) (functions_in strict t))
         (sym (call_with_ids chosen f tt j (woven_forest chosen l))) (table_append (itself (j + 2)) (rest _)))
 

@@ -127,7 +127,8 @@ module _ {chosen : Kinds} where
       → Matched chosen s (plus 4 c) c (catching id k x v h) (catching id' k x v h')
   unfolding begin_catch
   catch_silent id id' k x v h h' e y s c =
-      looks (peeks (changes (changes (looks (peeks (quiet e (own (spare (omega arith) ((y (next_environment s)).at _ c)))))))))
+      looks (peeks (changes
+      (changes (looks (peeks (quiet e (own (spare (omega arith) ((y (next_environment s)).at _ c)))))))))
 
   -- what is thrown is handled, and then what follows is done
   pub thrown_match : {p p' : Part Completion} {h h' : Value → Part Completion} → StatementMatch chosen p p'

@@ -81,16 +81,19 @@ module _ (chosen : Kinds) (table table' : FunctionTable)
       (sym (no_hooks x h (lift (put_name c.strict c.env x (value.Text y)))))
       (valued le (algorithm (put_name c.strict c.env x (value.Text y))) f)
 
-  pub turn_match : (l : Loop) (c : Context) (labels : List Text) (id : ℕ) (p : LoopFits l id) (id' j k m : ℕ) (s : Store)
+  pub turn_match : (l : Loop) (c : Context) (labels : List Text) (id : ℕ) (p : LoopFits l id) (id' j k m : ℕ)
+      (s : Store)
       → Matched chosen s 31 0 (turn table (turn_with l c labels id))
       (turn table' (turn_with (woven_loop chosen id j k m l) c labels id'))
   turn_match (do_loop l e) c labels id p id' j k m s =
-      followed ((execute_all_match chosen table table' same l p.0 j c).at s 31) (λ z t. body_match labels (omega arith) z t
+      followed ((execute_all_match chosen table table' same l p.0 j c).at s 31) (λ z t. body_match labels
+      (omega arith) z t
       (valued (omega arith) (test_match (tree.present e) p.1 id p.2 id' k c t) (λ b t. pick b
       (begins (turns (do_loop l e) c labels id p id' j k m) (λ z t. ends (omega arith))) (ends (omega arith)))))
   turn_match (while_loop e l) c labels id p id' j k m s =
       valued (omega arith) (test_match (tree.present e) p.0 id p.2 id' j c s) (λ b t. pick b
-      (followed ((execute_all_match chosen table table' same l p.1 k c).at t 3) (λ z t. body_match labels (omega arith) z t
+      (followed ((execute_all_match chosen table table' same l p.1 k c).at t 3) (λ z t. body_match labels
+      (omega arith) z t
       (begins (turns (while_loop e l) c labels id p id' j k m) (λ z t. ends (omega arith))))) (ends (omega arith)))
   turn_match (for_loop e u l) c labels id p id' j k m s =
       valued (omega arith) (test_match e p.0 id p.3 id' j c s) (λ b t. pick b

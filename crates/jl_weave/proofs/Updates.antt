@@ -119,11 +119,13 @@ module _ {chosen : Kinds} where
       → (t : Store) (c : ℕ) → Matched chosen t (plus 2 c) c (give (g (n, value.Num m))) (T (value.Num m)))
       → (h : Value) (t : Store) (c : ℕ)
       → Matched chosen t (plus 4 c) c
-      (update performs (id + 1) (update_kind up) h >>= (λ v. (write_name (id + 2) k x reference v.1 >>= (λ _. give (g v)))))
+      (update performs (id + 1) (update_kind up) h >>= (λ v. (write_name (id + 2) k x reference v.1 >>=
+      (λ _. give (g v)))))
       (((tell_update (id + 1) k up h >>= tell_write (id + 2) k x) >>= written id2 k x reference) >>= T)
   unfolding enter_hook
   update_rest x k true reference g id id2 T f h t c =
-      let after : Number × Value → Part (Answer Value) = λ v. (write_name (id + 2) k x reference v.1 >>= (λ _. give (g v))) in
+      let after : Number × Value → Part (Answer Value) = λ v. (write_name (id + 2) k x reference v.1 >>=
+      (λ _. give (g v))) in
       extra (subst (Matched chosen t (plus 3 c) c (update performs (id + 1) (update_kind true) h >>= after))
       (sym (assoc4 (update emits (id + 1) (update_kind true) h) (λ r. give r.1) (tell_write (id + 2) k x)
       (written id2 k x reference) T))
@@ -132,7 +134,8 @@ module _ {chosen : Kinds} where
       (λ n m e t. looks (extra (peeks (told (peeks (own (bind2 (λ _. give (value.Num m)) T (omega arith)
       (algorithm (put_value k.strict x (value.Num m) reference)) (λ u t. f n m e t c))))))))))
   update_rest x k false reference g id id2 T f h t c =
-      let after : Number × Value → Part (Answer Value) = λ v. (write_name (id + 2) k x reference v.1 >>= (λ _. give (g v))) in
+      let after : Number × Value → Part (Answer Value) = λ v. (write_name (id + 2) k x reference v.1 >>=
+      (λ _. give (g v))) in
       extra (subst (Matched chosen t (plus 3 c) c (update performs (id + 1) (update_kind false) h >>= after))
       (sym (assoc4 (update emits (id + 1) (update_kind false) h) (λ r. give r.1) (tell_write (id + 2) k x)
       (written id2 k x reference) T))
@@ -149,7 +152,8 @@ module _ {chosen : Kinds} where
       → Matched chosen s (plus 9 c) c (updating id k x up g) (assigned_update id id' id2 k x up >>= T)
   update_name_to x k up g id id' id2 T h f s c =
       let reference : Reference = identifier_reference s k.env x in
-      looks (peeks (extra (extra (bind4 (tell_update (id + 1) k up) (tell_write (id + 2) k x) (written id2 k x reference) T
+      looks (peeks (extra (extra (bind4 (tell_update (id + 1) k up) (tell_write (id + 2) k x)
+      (written id2 k x reference) T
       (omega arith) (read_to x k id id' h s (plus 4 c)) (λ v t. update_rest x k up reference g id id2 T f v t c)))))
 
   -- ++x
@@ -164,7 +168,8 @@ module _ {chosen : Kinds} where
         at = λ s c. both (spare {c = plus 13 c} (omega arith)
             (subst (Matched chosen s (plus 13 c) (plus 4 c) (updating id k x up (result_of_update true)))
             (unit (assigned_update id id' id2 k x up))
-            (update_name_to x k up (result_of_update true) id id' id2 give h (λ n m e t c. ends (omega arith)) s (plus 4 c))));
+            (update_name_to x k up (result_of_update true) id id' id2 give h (λ n m e t c. ends (omega arith)) s
+            (plus 4 c))));
       })
 
   -- x++
@@ -208,7 +213,8 @@ module _ {chosen : Kinds} where
   member_to : (id : ℕ) (k : Context) (up : Bool) (base key : Value) (g : Number × Value → Value)
       (T : Value → Part (Answer Value)) {s : Store} {c d : ℕ}
       → ((n m : Number) → updated_number (update_kind up) n ≡ Some m
-      → (t : Store) (c : ℕ) → Matched chosen t (plus 2 c) c (give (g (n, value.Num m))) (T (value.Num m))) → plus 3 d ≤ c
+      → (t : Store) (c : ℕ) → Matched chosen t (plus 2 c) c (give (g (n, value.Num m))) (T (value.Num m)))
+      → plus 3 d ≤ c
       → Matched chosen s c d (update_member performs id k.strict (update_kind up) base key >>= (λ v. give (g v)))
       (tell_update_member id k up base key >>= T)
   unfolding enter_hook

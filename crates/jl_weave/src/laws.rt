@@ -14,8 +14,8 @@ ghost use Rattle.jl_weave.specs.Simulation.{WovenSimulates};
 /// the same store and output, and its hooks have emitted the operations of the chosen kinds that the script performs,
 /// in order. Where the run of the woven script is over, so is the script's, in no more steps. Where it is spent, what
 /// it has printed and emitted are prefixes of what the script has printed and performed with as many steps.
-pub fn woven_scripts_simulate()
-    ensures { (chosen : Kinds) (p : Program (Unit {0})) → IsPlain p.body → HasFewIds p → WovenSimulates chosen p }
+pub fn woven_scripts_simulate<S>()
+    ensures { (chosen : Kinds) (p : Program S) → IsPlain p.body → HasFewIds p → WovenSimulates chosen p }
 {}
 
 /// The map of a program that is read has at most four entries for each token, and two.

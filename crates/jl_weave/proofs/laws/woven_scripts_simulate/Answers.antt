@@ -2,4 +2,4 @@ use Rattle.jl_weave.proofs.Programs.{woven_simulates}
 use Rattle.jl_weave.proofs.laws.woven_scripts_simulate.Goals as goal
 
 pub returns : goal.returns
-returns c = λ chosen p plain few. woven_simulates chosen p plain few
+returns g c = λ chosen p plain few. woven_simulates chosen p plain few
