@@ -1,6 +1,5 @@
 -- The ids of the operations of a numbered tree are the numbers from its first id on.
-use Rattle.std.proofs.Common.{◌≡◌, ◌∙◌, ap, ℕ, ◌+◌, suc, zero, List, [], ◌∷◌, ◌++◌, map, refl, arith, Option, Some}
-use Rattle.std.proofs.Common.{None}
+use Rattle.std.proofs.Common.{◌≡◌, ℕ, ◌+◌, suc, zero, List, [], ◌∷◌, ◌++◌, map, refl, arith, Option, Some, None}
 use Rattle.std.specs.List.{range_with_len}
 use Rattle.std.proofs.lemmas.List.{map-append}
 use Rattle.jl_ast.specs.declared.ops.BinOp.{BinOp}
@@ -16,11 +15,9 @@ use Rattle.jl_ast.specs.Tree.{init_expression, init_var, declarator, case, branc
 use Rattle.jl_ast.specs.Tree.{present}
 use Rattle.jl_op.specs.declared.kind.OpKind.{OpKind}
 use Rattle.jl_op.specs.declared.kind.OpKind.TheVariants as kind
-use Rattle.jl_op.proofs.NumberedCalls.{no_deletion, no_member, no_name_type}
 use Rattle.jl_op.specs.Ids.{id_count, forest_id_count, optional_id_count, unary_id_count, with_ids, forest_with_ids}
-use Rattle.jl_op.specs.Ids.{optional_with_ids, assignment_id_count, one_if_present}
+use Rattle.jl_op.specs.Ids.{optional_with_ids, callee_with_ids, member_ids, assignment_id_count, one_if_present}
 use Rattle.jl_op.specs.IdMap.{MapEntries, ids_in, id_of, entries, forest_entries, optional_entries, call_entries}
-use Rattle.jl_op.specs.IdMap.{invoke_entries}
 use Rattle.jl_op.specs.IdMap.{unary_entries, compute_entries, assign_entries, optional_test_entries}
 
 range-append : (n a b m : ℕ) → n + a ≡ m → range_with_len n a ++ range_with_len m b ≡ range_with_len n (a + b)
@@ -40,20 +37,18 @@ two : (xs ys : MapEntries ℕ) (n a m b c : ℕ) → n + a ≡ m → c ≡ a + b
     ids_in ys ≡ range_with_len m b → ids_in (xs ++ ys) ≡ range_with_len n c
 two xs ys n a m b c e s l r = cc (map-append (λ e. e.1) xs ys, l, r, s, range-append n a b m e)
 
-called : (xs ys : MapEntries ℕ) (n a b : ℕ) → ids_in xs ≡ range_with_len (n + 2) a →
-    ids_in ys ≡ range_with_len (n + 2 + a) b →
-    (n + 0) ∷ ((n + 1) ∷ ids_in (xs ++ ys)) ≡ range_with_len n (2 + a + b)
-called xs ys n a b l r =
-    first _ n (n + 1) (1 + a + b) (2 + a + b) _ (omega arith) refl (omega arith)
-    (first _ (n + 1) (n + 2) (a + b) (1 + a + b) _ (omega arith) (omega arith) (omega arith)
-    (two xs ys (n + 2) a (n + 2 + a) b (a + b) refl refl l r))
-
 method : (n a c : ℕ) (l : List ℕ) → c ≡ 3 + a → l ≡ range_with_len (n + 3) a →
     (n + 0) ∷ ((n + 1 + 0) ∷ ((n + 1 + 1) ∷ l)) ≡ range_with_len n c
 method n a c l e h =
     first _ n (n + 1) (2 + a) c _ (omega arith) refl (omega arith)
     (first _ (n + 1) (n + 2) (1 + a) (2 + a) _ (omega arith) (omega arith) (omega arith)
     (first _ (n + 2) (n + 3) a (1 + a) _ (omega arith) (omega arith) (omega arith) h))
+
+invoked : (i n a : ℕ) (l : List ℕ) → i ≡ n → l ≡ range_with_len (n + 2) a →
+    (i + 0) ∷ ((i + 1) ∷ l) ≡ range_with_len n (2 + a)
+invoked i n a l e h =
+    first _ n (n + 1) (1 + a) (2 + a) _ (omega arith) refl (omega arith)
+    (first _ (n + 1) (n + 2) a (1 + a) _ (omega arith) (omega arith) (omega arith) h)
 
 three : (n : ℕ) → (n + 0) ∷ ((n + 1) ∷ ((n + 2) ∷ [])) ≡ range_with_len n 3
 three n =
@@ -99,7 +94,9 @@ mutual
       (omega arith) (omega arith) (omega arith) (two _ _ _ (id_count o) (n + 1 + id_count o) (id_count k)
       (id_count o + id_count k) (omega arith) (omega arith) (ids_from (n + 1) o) (ids_from
       (n + 1 + id_count o) k))
-  ids_from n (call f l s) = call_ids n f l s (ids_from (n + 2) f) (λ m. forest_ids_from m l)
+  ids_from n (call f l s) = two _ _ _ ((2 + id_count f)) (n + 2 + id_count f) (forest_id_count l)
+      ((2 + id_count f) + forest_id_count l) (omega arith) (omega arith) (callee_ids n f (ids_from (n + 2) f))
+      (forest_ids_from (n + 2 + id_count f) l)
   ids_from n (new f l s) = first (n + 0) n (n + 1) (1 + (id_count f + forest_id_count l))
       (2 + id_count f + forest_id_count l) _ (omega arith) (omega arith) (omega arith) (first (n + 1) (n + 1)
       (n + 2) (id_count f + forest_id_count l) (1 + (id_count f + forest_id_count l)) _ (omega arith)
@@ -246,95 +243,40 @@ mutual
   optional_ids_from n absent = refl
   optional_ids_from n (present t) = ids_from n t
 
-  -- a call, of whose callee by itself this is so, and of its arguments from each number on
-  call_ids : {S : Type 0} (n : ℕ) (f : Tree S expr) (l : Forest S expr) (s : S) →
+  -- a callee, of which by itself this is so
+  callee_ids : {S : Type 0} (n : ℕ) (f : Tree S expr) →
       ids_in (entries id_of (with_ids (n + 2) f)) ≡ range_with_len (n + 2) (id_count f) →
-      ((m : ℕ) → ids_in (forest_entries id_of (forest_with_ids m l)) ≡ range_with_len m (forest_id_count l)) →
-      ids_in (entries id_of (with_ids n (call f l s))) ≡ range_with_len n (2 + id_count f + forest_id_count l)
-  call_ids n (this at) l s h args =
-      called (entries id_of (with_ids (n + 2) (this at))) _ n (id_count (this at)) (forest_id_count l) h (args _)
-  call_ids n (name x at) l s h args =
-      called (entries id_of (with_ids (n + 2) (name x at))) _ n (id_count (name x at)) (forest_id_count l) h (args _)
-  call_ids n (number m at) l s h args =
-      called (entries id_of (with_ids (n + 2) (number m at))) _ n (id_count (number m at)) (forest_id_count l) h
-      (args _)
-  call_ids n (string t at) l s h args =
-      called (entries id_of (with_ids (n + 2) (string t at))) _ n (id_count (string t at)) (forest_id_count l) h
-      (args _)
-  call_ids n (boolean b at) l s h args =
-      called (entries id_of (with_ids (n + 2) (boolean b at))) _ n (id_count (boolean b at)) (forest_id_count l) h
-      (args _)
-  call_ids n (null at) l s h args =
-      called (entries id_of (with_ids (n + 2) (null at))) _ n (id_count (null at)) (forest_id_count l) h (args _)
-  call_ids n (array l0 at) l s h args =
-      called (entries id_of (with_ids (n + 2) (array l0 at))) _ n (id_count (array l0 at)) (forest_id_count l) h
-      (args _)
-  call_ids n (object l0 at) l s h args =
-      called (entries id_of (with_ids (n + 2) (object l0 at))) _ n (id_count (object l0 at)) (forest_id_count l) h
-      (args _)
-  call_ids n (function_expression f0 at) l s h args =
-      called (entries id_of (with_ids (n + 2) (function_expression f0 at))) _ n (id_count
-      (function_expression f0 at)) (forest_id_count l) h (args _)
-  call_ids n (dot o k t) l s h args = two ((kind.GetField, n + 0) ∷ (kind.InvokePre, n + 1 + 0)
-      ∷ (kind.InvokePost, n + 1 + 1) ∷ entries id_of (with_ids (n + 3) o)) _ _ (3 + id_count o)
-      (n + 3 + id_count o) (forest_id_count l) _
-      (omega arith) (omega arith) (method _ (id_count o) _ _ refl (ids_from (n + 3) o)) (args (n + 3 + id_count o))
-  call_ids n (index o k t) l s h args = two ((kind.GetField, n + 0) ∷ (kind.InvokePre, n + 1 + 0)
-      ∷ (kind.InvokePost, n + 1 + 1) ∷ (entries id_of (with_ids (n + 3) o) ++ entries id_of (with_ids
-      (n + 3 + id_count o) k)))
-      _ _ (3 + (id_count o + id_count k)) (n + 3 + id_count o + id_count k)
-      (forest_id_count l) _ (omega arith) (omega arith) (method _ (id_count o + id_count k) _ _ refl
+      ids_in (call_entries id_of (callee_with_ids n f (with_ids (n + 2) f)) (n + member_ids f)
+      (entries id_of (callee_with_ids n f (with_ids (n + 2) f)))) ≡ range_with_len n (2 + id_count f)
+  callee_ids n (this s) h = invoked (n + 0) n (id_count (this s)) _ (omega arith) h
+  callee_ids n (name x s) h = invoked (n + 0) n (id_count (name x s)) _ (omega arith) h
+  callee_ids n (number m s) h = invoked (n + 0) n (id_count (number m s)) _ (omega arith) h
+  callee_ids n (string t s) h = invoked (n + 0) n (id_count (string t s)) _ (omega arith) h
+  callee_ids n (boolean b s) h = invoked (n + 0) n (id_count (boolean b s)) _ (omega arith) h
+  callee_ids n (null s) h = invoked (n + 0) n (id_count (null s)) _ (omega arith) h
+  callee_ids n (array l s) h = invoked (n + 0) n (id_count (array l s)) _ (omega arith) h
+  callee_ids n (object l s) h = invoked (n + 0) n (id_count (object l s)) _ (omega arith) h
+  callee_ids n (function_expression f s) h = invoked (n + 0) n (id_count (function_expression f s)) _ (omega arith) h
+  callee_ids n (dot o k s) h = method _ (id_count o) _ _ (omega arith) (ids_from (n + 3) o)
+  callee_ids n (index o k s) h = method _ (id_count o + id_count k) _ _ (omega arith)
       (two _ _ _ (id_count o) (n + 3 + id_count o) (id_count k) (id_count o + id_count k) (omega arith) (omega arith)
-      (ids_from (n + 3) o) (ids_from (n + 3 + id_count o) k))) (args (n + 3 + id_count o + id_count k))
-  call_ids n (call f0 l0 at) l s h args =
-      ap (λ r. ids_in (r ++ forest_entries id_of (forest_with_ids (n + 2 + id_count (call f0 l0 at)) l)))
-      (no_member (n + 2) f0 l0 at n (entries id_of (with_ids (n + 2) (call f0 l0 at))))
-      ∙ called (entries id_of (with_ids (n + 2) (call f0 l0 at))) _ n (id_count (call f0 l0 at))
-      (forest_id_count l) h (args _)
-  call_ids n (new f0 l0 at) l s h args =
-      called (entries id_of (with_ids (n + 2) (new f0 l0 at))) _ n (id_count (new f0 l0 at)) (forest_id_count l) h
-      (args _)
-  call_ids n (unary un.Minus e at) l s h args =
-      called (entries id_of (with_ids (n + 2) (unary un.Minus e at))) _ n (id_count (unary un.Minus e at))
-      (forest_id_count l) h (args _)
-  call_ids n (unary un.Plus e at) l s h args =
-      called (entries id_of (with_ids (n + 2) (unary un.Plus e at))) _ n (id_count (unary un.Plus e at))
-      (forest_id_count l) h (args _)
-  call_ids n (unary un.Not e at) l s h args =
-      called (entries id_of (with_ids (n + 2) (unary un.Not e at))) _ n (id_count (unary un.Not e at))
-      (forest_id_count l) h (args _)
-  call_ids n (unary un.Tilde e at) l s h args =
-      called (entries id_of (with_ids (n + 2) (unary un.Tilde e at))) _ n (id_count (unary un.Tilde e at))
-      (forest_id_count l) h (args _)
-  call_ids n (unary un.Typeof e at) l s h args =
-      called (entries id_of (with_ids (n + 2) (unary un.Typeof e at))) _ n (id_count (unary un.Typeof e at))
-      (forest_id_count l) h (args _)
-  call_ids n (unary un.Void e at) l s h args =
-      called (entries id_of (with_ids (n + 2) (unary un.Void e at))) _ n (id_count (unary un.Void e at))
-      (forest_id_count l) h (args _)
-  call_ids n (unary un.Delete e at) l s h args =
-      called (entries id_of (with_ids (n + 2) (unary un.Delete e at))) _ n (id_count (unary un.Delete e at))
-      (forest_id_count l) h (args _)
-  call_ids n (update up prefix t at) l s h args =
-      called (entries id_of (with_ids (n + 2) (update up prefix t at))) _ n (id_count (update up prefix t at))
-      (forest_id_count l) h (args _)
-  call_ids n (binary o a b at) l s h args =
-      called (entries id_of (with_ids (n + 2) (binary o a b at))) _ n (id_count (binary o a b at))
-      (forest_id_count l) h (args _)
-  call_ids n (and a b at) l s h args =
-      called (entries id_of (with_ids (n + 2) (and a b at))) _ n (id_count (and a b at)) (forest_id_count l) h
-      (args _)
-  call_ids n (or a b at) l s h args =
-      called (entries id_of (with_ids (n + 2) (or a b at))) _ n (id_count (or a b at)) (forest_id_count l) h (args _)
-  call_ids n (conditional a b c at) l s h args =
-      called (entries id_of (with_ids (n + 2) (conditional a b c at))) _ n (id_count (conditional a b c at))
-      (forest_id_count l) h (args _)
-  call_ids n (assign o t e at) l s h args =
-      called (entries id_of (with_ids (n + 2) (assign o t e at))) _ n (id_count (assign o t e at))
-      (forest_id_count l) h (args _)
-  call_ids n (comma a b at) l s h args =
-      called (entries id_of (with_ids (n + 2) (comma a b at))) _ n (id_count (comma a b at)) (forest_id_count l) h
-      (args _)
+      (ids_from (n + 3) o) (ids_from (n + 3 + id_count o) k))
+  callee_ids n (call f l s) h = invoked (n + 0) n (id_count (call f l s)) _ (omega arith) h
+  callee_ids n (new f l s) h = invoked (n + 0) n (id_count (new f l s)) _ (omega arith) h
+  callee_ids n (unary un.Minus e s) h = invoked (n + 0) n (id_count (unary un.Minus e s)) _ (omega arith) h
+  callee_ids n (unary un.Plus e s) h = invoked (n + 0) n (id_count (unary un.Plus e s)) _ (omega arith) h
+  callee_ids n (unary un.Not e s) h = invoked (n + 0) n (id_count (unary un.Not e s)) _ (omega arith) h
+  callee_ids n (unary un.Tilde e s) h = invoked (n + 0) n (id_count (unary un.Tilde e s)) _ (omega arith) h
+  callee_ids n (unary un.Typeof e s) h = invoked (n + 0) n (id_count (unary un.Typeof e s)) _ (omega arith) h
+  callee_ids n (unary un.Void e s) h = invoked (n + 0) n (id_count (unary un.Void e s)) _ (omega arith) h
+  callee_ids n (unary un.Delete e s) h = invoked (n + 0) n (id_count (unary un.Delete e s)) _ (omega arith) h
+  callee_ids n (update up prefix t s) h = invoked (n + 0) n (id_count (update up prefix t s)) _ (omega arith) h
+  callee_ids n (binary o a b s) h = invoked (n + 0) n (id_count (binary o a b s)) _ (omega arith) h
+  callee_ids n (and a b s) h = invoked (n + 0) n (id_count (and a b s)) _ (omega arith) h
+  callee_ids n (or a b s) h = invoked (n + 0) n (id_count (or a b s)) _ (omega arith) h
+  callee_ids n (conditional a b c s) h = invoked (n + 0) n (id_count (conditional a b c s)) _ (omega arith) h
+  callee_ids n (assign o t e s) h = invoked (n + 0) n (id_count (assign o t e s)) _ (omega arith) h
+  callee_ids n (comma a b s) h = invoked (n + 0) n (id_count (comma a b s)) _ (omega arith) h
 
   -- what `delete` takes
   delete_ids : {S : Type 0} (n : ℕ) (e : Tree S expr) →
@@ -356,8 +298,7 @@ mutual
       (omega arith) (omega arith) (omega arith) (two _ _ _ (id_count o) (n + 1 + id_count o) (id_count k)
       (id_count o + id_count k) (omega arith) (omega arith) (ids_from (n + 1) o) (ids_from
       (n + 1 + id_count o) k))
-  delete_ids n (call f l s) h =
-      ap ids_in (no_deletion n f l s n (entries id_of (with_ids n (call f l s)))) ∙ h
+  delete_ids n (call f l s) h = h
   delete_ids n (new f l s) h = h
   delete_ids n (unary un.Minus e s) h = h
   delete_ids n (unary un.Plus e s) h = h
@@ -400,10 +341,8 @@ mutual
       (omega arith) (omega arith) (omega arith) h
   typeof_ids n (index o k s) h = first (n + 0) n (n + 1) (id_count (index o k s)) (1 + id_count (index o k s)) _
       (omega arith) (omega arith) (omega arith) h
-  typeof_ids n (call f l s) h =
-      ap ids_in (no_name_type (n + 1) f l s n (entries id_of (with_ids (n + 1) (call f l s))))
-      ∙ first (n + 0) n (n + 1) (id_count (call f l s)) (1 + id_count (call f l s)) _ (omega arith) (omega arith)
-      (omega arith) h
+  typeof_ids n (call f l s) h = first (n + 0) n (n + 1) (id_count (call f l s)) (1 + id_count (call f l s)) _
+      (omega arith) (omega arith) (omega arith) h
   typeof_ids n (new f l s) h = first (n + 0) n (n + 1) (id_count (new f l s)) (1 + id_count (new f l s)) _
       (omega arith) (omega arith) (omega arith) h
   typeof_ids n (unary un.Minus e s) h = first (n + 0) n (n + 1) (id_count (unary un.Minus e s)) (1 + id_count

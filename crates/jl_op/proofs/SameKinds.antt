@@ -1,5 +1,5 @@
 -- The kinds of the operations of a numbered tree are those of the map.
-use Rattle.std.proofs.Common.{◌≡◌, ◌∙◌, ℕ, ◌+◌, List, [], ◌∷◌, ◌++◌, map, refl, ap, Option, Some, None}
+use Rattle.std.proofs.Common.{◌≡◌, ℕ, ◌+◌, List, [], ◌∷◌, ◌++◌, map, refl, ap, Option, Some, None}
 use Rattle.std.proofs.lemmas.List.{map-append}
 use Rattle.jl_ast.specs.declared.ops.BinOp.{BinOp}
 use Rattle.jl_ast.specs.declared.ops.UnOp.{UnOp}
@@ -14,9 +14,8 @@ use Rattle.jl_ast.specs.Tree.{init_expression, init_var, declarator, case, branc
 use Rattle.jl_ast.specs.Tree.{present}
 use Rattle.jl_op.specs.declared.kind.OpKind.{OpKind}
 use Rattle.jl_op.specs.declared.kind.OpKind.TheVariants as kind
-use Rattle.jl_op.proofs.NumberedCalls.{no_deletion, no_member, no_name_type}
 use Rattle.jl_op.specs.Ids.{id_count, forest_id_count, optional_id_count, with_ids, forest_with_ids}
-use Rattle.jl_op.specs.Ids.{optional_with_ids, assignment_id_count, one_if_present}
+use Rattle.jl_op.specs.Ids.{optional_with_ids, callee_with_ids, assignment_id_count, one_if_present, member_ids}
 use Rattle.jl_op.specs.IdMap.{MapEntries, kinds_in, id_of, place_of, entries, forest_entries, optional_entries}
 use Rattle.jl_op.specs.IdMap.{call_entries}
 use Rattle.jl_op.specs.IdMap.{unary_entries, compute_entries, assign_entries, optional_test_entries}
@@ -58,7 +57,8 @@ mutual
   same_kinds n (dot o k s) = ap (λ l. kind.GetField ∷ l) (same_kinds (n + 1) o)
   same_kinds n (index o k s) = ap (λ l. kind.GetField ∷ l) (join _ _ _ _ (same_kinds (n + 1) o) (same_kinds
       (n + 1 + id_count o) k))
-  same_kinds n (call f l s) = call_kinds n f l s (same_kinds (n + 2) f) (λ m. forest_same_kinds m l)
+  same_kinds n (call f l s) = join _ _ _ _ (callee_kinds n f s (same_kinds (n + 2) f)) (forest_same_kinds
+      (n + 2 + id_count f) l)
   same_kinds n (new f l s) = ap (λ l. kind.InvokePre ∷ l) (ap (λ l. kind.InvokePost ∷ l) (join _ _ _ _ (same_kinds
       (n + 2) f) (forest_same_kinds (n + 2 + id_count f) l)))
   same_kinds n (unary un.Minus e s) = ap (λ l. kind.Unary ∷ l) (same_kinds (n + 1) e)
@@ -142,121 +142,41 @@ mutual
   optional_same_kinds n absent = refl
   optional_same_kinds n (present t) = same_kinds n t
 
-  call_kinds : {S : Type 0} (n : ℕ) (f : Tree S expr) (l : Forest S expr) (s : S) →
+  callee_kinds : {S : Type 0} (n : ℕ) (f : Tree S expr) (s : S) →
       kinds_in (entries id_of (with_ids (n + 2) f)) ≡ kinds_in (entries place_of f) →
-      ((m : ℕ) → kinds_in (forest_entries id_of (forest_with_ids m l)) ≡ kinds_in (forest_entries place_of l)) →
-      kinds_in (entries id_of (with_ids n (call f l s))) ≡ kinds_in (entries place_of (call f l s))
-  call_kinds n (this at) l s h args =
-      ap (λ l. kind.InvokePre ∷ (kind.InvokePost ∷ l))
-      (join (entries id_of (with_ids (n + 2) (this at))) _ (entries place_of (this at)) _ h
-      (args (n + 2 + id_count (this at))))
-  call_kinds n (name x at) l s h args =
-      ap (λ l. kind.InvokePre ∷ (kind.InvokePost ∷ l))
-      (join (entries id_of (with_ids (n + 2) (name x at))) _ (entries place_of (name x at)) _ h
-      (args (n + 2 + id_count (name x at))))
-  call_kinds n (number m at) l s h args =
-      ap (λ l. kind.InvokePre ∷ (kind.InvokePost ∷ l))
-      (join (entries id_of (with_ids (n + 2) (number m at))) _ (entries place_of (number m at)) _ h
-      (args (n + 2 + id_count (number m at))))
-  call_kinds n (string t at) l s h args =
-      ap (λ l. kind.InvokePre ∷ (kind.InvokePost ∷ l))
-      (join (entries id_of (with_ids (n + 2) (string t at))) _ (entries place_of (string t at)) _ h
-      (args (n + 2 + id_count (string t at))))
-  call_kinds n (boolean b at) l s h args =
-      ap (λ l. kind.InvokePre ∷ (kind.InvokePost ∷ l))
-      (join (entries id_of (with_ids (n + 2) (boolean b at))) _ (entries place_of (boolean b at)) _ h
-      (args (n + 2 + id_count (boolean b at))))
-  call_kinds n (null at) l s h args =
-      ap (λ l. kind.InvokePre ∷ (kind.InvokePost ∷ l))
-      (join (entries id_of (with_ids (n + 2) (null at))) _ (entries place_of (null at)) _ h
-      (args (n + 2 + id_count (null at))))
-  call_kinds n (array l0 at) l s h args =
-      ap (λ l. kind.InvokePre ∷ (kind.InvokePost ∷ l))
-      (join (entries id_of (with_ids (n + 2) (array l0 at))) _ (entries place_of (array l0 at)) _ h
-      (args (n + 2 + id_count (array l0 at))))
-  call_kinds n (object l0 at) l s h args =
-      ap (λ l. kind.InvokePre ∷ (kind.InvokePost ∷ l))
-      (join (entries id_of (with_ids (n + 2) (object l0 at))) _ (entries place_of (object l0 at)) _ h
-      (args (n + 2 + id_count (object l0 at))))
-  call_kinds n (function_expression f0 at) l s h args =
-      ap (λ l. kind.InvokePre ∷ (kind.InvokePost ∷ l))
-      (join (entries id_of (with_ids (n + 2) (function_expression f0 at))) _ (entries place_of
-      (function_expression f0 at)) _ h
-      (args (n + 2 + id_count (function_expression f0 at))))
-  call_kinds n (dot o k at) l s h args =
+      kinds_in (call_entries id_of (callee_with_ids n f (with_ids (n + 2) f)) (n + member_ids f)
+      (entries id_of (callee_with_ids n f (with_ids (n + 2) f)))) ≡ kinds_in (call_entries place_of f s
+      (entries place_of f))
+  callee_kinds n (this at) s h = ap (λ l. kind.InvokePre ∷ (kind.InvokePost ∷ l)) h
+  callee_kinds n (name x at) s h = ap (λ l. kind.InvokePre ∷ (kind.InvokePost ∷ l)) h
+  callee_kinds n (number m at) s h = ap (λ l. kind.InvokePre ∷ (kind.InvokePost ∷ l)) h
+  callee_kinds n (string t at) s h = ap (λ l. kind.InvokePre ∷ (kind.InvokePost ∷ l)) h
+  callee_kinds n (boolean b at) s h = ap (λ l. kind.InvokePre ∷ (kind.InvokePost ∷ l)) h
+  callee_kinds n (null at) s h = ap (λ l. kind.InvokePre ∷ (kind.InvokePost ∷ l)) h
+  callee_kinds n (array l at) s h = ap (λ l. kind.InvokePre ∷ (kind.InvokePost ∷ l)) h
+  callee_kinds n (object l at) s h = ap (λ l. kind.InvokePre ∷ (kind.InvokePost ∷ l)) h
+  callee_kinds n (function_expression f at) s h = ap (λ l. kind.InvokePre ∷ (kind.InvokePost ∷ l)) h
+  callee_kinds n (dot o k at) s h = ap (λ l. kind.GetField ∷ (kind.InvokePre ∷ (kind.InvokePost ∷ l))) (same_kinds
+      (n + 3) o)
+  callee_kinds n (index o k at) s h =
       ap (λ l. kind.GetField ∷ (kind.InvokePre ∷ (kind.InvokePost ∷ l)))
-      (join _ _ _ _ (same_kinds (n + 3) o) (args (n + 3 + id_count o)))
-  call_kinds n (index o k at) l s h args =
-      ap (λ l. kind.GetField ∷ (kind.InvokePre ∷ (kind.InvokePost ∷ l)))
-      (join _ _ _ _ (join _ _ _ _ (same_kinds (n + 3) o) (same_kinds (n + 3 + id_count o) k))
-      (args (n + 3 + id_count o + id_count k)))
-  call_kinds n (call f0 l0 at) l s h args =
-      ap (λ r. kinds_in (r ++ forest_entries id_of (forest_with_ids (n + 2 + id_count (call f0 l0 at)) l)))
-      (no_member (n + 2) f0 l0 at n (entries id_of (with_ids (n + 2) (call f0 l0 at))))
-      ∙ ap (λ l. kind.InvokePre ∷ (kind.InvokePost ∷ l))
-      (join (entries id_of (with_ids (n + 2) (call f0 l0 at))) _ (entries place_of (call f0 l0 at)) _ h
-      (args (n + 2 + id_count (call f0 l0 at))))
-  call_kinds n (new f0 l0 at) l s h args =
-      ap (λ l. kind.InvokePre ∷ (kind.InvokePost ∷ l))
-      (join (entries id_of (with_ids (n + 2) (new f0 l0 at))) _ (entries place_of (new f0 l0 at)) _ h
-      (args (n + 2 + id_count (new f0 l0 at))))
-  call_kinds n (unary un.Minus e at) l s h args =
-      ap (λ l. kind.InvokePre ∷ (kind.InvokePost ∷ l))
-      (join (entries id_of (with_ids (n + 2) (unary un.Minus e at))) _ (entries place_of (unary un.Minus e at)) _ h
-      (args (n + 2 + id_count (unary un.Minus e at))))
-  call_kinds n (unary un.Plus e at) l s h args =
-      ap (λ l. kind.InvokePre ∷ (kind.InvokePost ∷ l))
-      (join (entries id_of (with_ids (n + 2) (unary un.Plus e at))) _ (entries place_of (unary un.Plus e at)) _ h
-      (args (n + 2 + id_count (unary un.Plus e at))))
-  call_kinds n (unary un.Not e at) l s h args =
-      ap (λ l. kind.InvokePre ∷ (kind.InvokePost ∷ l))
-      (join (entries id_of (with_ids (n + 2) (unary un.Not e at))) _ (entries place_of (unary un.Not e at)) _ h
-      (args (n + 2 + id_count (unary un.Not e at))))
-  call_kinds n (unary un.Tilde e at) l s h args =
-      ap (λ l. kind.InvokePre ∷ (kind.InvokePost ∷ l))
-      (join (entries id_of (with_ids (n + 2) (unary un.Tilde e at))) _ (entries place_of (unary un.Tilde e at)) _ h
-      (args (n + 2 + id_count (unary un.Tilde e at))))
-  call_kinds n (unary un.Typeof e at) l s h args =
-      ap (λ l. kind.InvokePre ∷ (kind.InvokePost ∷ l))
-      (join (entries id_of (with_ids (n + 2) (unary un.Typeof e at))) _ (entries place_of (unary un.Typeof e at)) _ h
-      (args (n + 2 + id_count (unary un.Typeof e at))))
-  call_kinds n (unary un.Void e at) l s h args =
-      ap (λ l. kind.InvokePre ∷ (kind.InvokePost ∷ l))
-      (join (entries id_of (with_ids (n + 2) (unary un.Void e at))) _ (entries place_of (unary un.Void e at)) _ h
-      (args (n + 2 + id_count (unary un.Void e at))))
-  call_kinds n (unary un.Delete e at) l s h args =
-      ap (λ l. kind.InvokePre ∷ (kind.InvokePost ∷ l))
-      (join (entries id_of (with_ids (n + 2) (unary un.Delete e at))) _ (entries place_of (unary un.Delete e at)) _ h
-      (args (n + 2 + id_count (unary un.Delete e at))))
-  call_kinds n (update up prefix t at) l s h args =
-      ap (λ l. kind.InvokePre ∷ (kind.InvokePost ∷ l))
-      (join (entries id_of (with_ids (n + 2) (update up prefix t at))) _ (entries place_of
-      (update up prefix t at)) _ h
-      (args (n + 2 + id_count (update up prefix t at))))
-  call_kinds n (binary o a b at) l s h args =
-      ap (λ l. kind.InvokePre ∷ (kind.InvokePost ∷ l))
-      (join (entries id_of (with_ids (n + 2) (binary o a b at))) _ (entries place_of (binary o a b at)) _ h
-      (args (n + 2 + id_count (binary o a b at))))
-  call_kinds n (and a b at) l s h args =
-      ap (λ l. kind.InvokePre ∷ (kind.InvokePost ∷ l))
-      (join (entries id_of (with_ids (n + 2) (and a b at))) _ (entries place_of (and a b at)) _ h
-      (args (n + 2 + id_count (and a b at))))
-  call_kinds n (or a b at) l s h args =
-      ap (λ l. kind.InvokePre ∷ (kind.InvokePost ∷ l))
-      (join (entries id_of (with_ids (n + 2) (or a b at))) _ (entries place_of (or a b at)) _ h
-      (args (n + 2 + id_count (or a b at))))
-  call_kinds n (conditional a b c at) l s h args =
-      ap (λ l. kind.InvokePre ∷ (kind.InvokePost ∷ l))
-      (join (entries id_of (with_ids (n + 2) (conditional a b c at))) _ (entries place_of (conditional a b c at)) _ h
-      (args (n + 2 + id_count (conditional a b c at))))
-  call_kinds n (assign o t e at) l s h args =
-      ap (λ l. kind.InvokePre ∷ (kind.InvokePost ∷ l))
-      (join (entries id_of (with_ids (n + 2) (assign o t e at))) _ (entries place_of (assign o t e at)) _ h
-      (args (n + 2 + id_count (assign o t e at))))
-  call_kinds n (comma a b at) l s h args =
-      ap (λ l. kind.InvokePre ∷ (kind.InvokePost ∷ l))
-      (join (entries id_of (with_ids (n + 2) (comma a b at))) _ (entries place_of (comma a b at)) _ h
-      (args (n + 2 + id_count (comma a b at))))
+      (join _ _ _ _ (same_kinds (n + 3) o) (same_kinds (n + 3 + id_count o) k))
+  callee_kinds n (call f l at) s h = ap (λ l. kind.InvokePre ∷ (kind.InvokePost ∷ l)) h
+  callee_kinds n (new f l at) s h = ap (λ l. kind.InvokePre ∷ (kind.InvokePost ∷ l)) h
+  callee_kinds n (unary un.Minus e at) s h = ap (λ l. kind.InvokePre ∷ (kind.InvokePost ∷ l)) h
+  callee_kinds n (unary un.Plus e at) s h = ap (λ l. kind.InvokePre ∷ (kind.InvokePost ∷ l)) h
+  callee_kinds n (unary un.Not e at) s h = ap (λ l. kind.InvokePre ∷ (kind.InvokePost ∷ l)) h
+  callee_kinds n (unary un.Tilde e at) s h = ap (λ l. kind.InvokePre ∷ (kind.InvokePost ∷ l)) h
+  callee_kinds n (unary un.Typeof e at) s h = ap (λ l. kind.InvokePre ∷ (kind.InvokePost ∷ l)) h
+  callee_kinds n (unary un.Void e at) s h = ap (λ l. kind.InvokePre ∷ (kind.InvokePost ∷ l)) h
+  callee_kinds n (unary un.Delete e at) s h = ap (λ l. kind.InvokePre ∷ (kind.InvokePost ∷ l)) h
+  callee_kinds n (update up prefix t at) s h = ap (λ l. kind.InvokePre ∷ (kind.InvokePost ∷ l)) h
+  callee_kinds n (binary o a b at) s h = ap (λ l. kind.InvokePre ∷ (kind.InvokePost ∷ l)) h
+  callee_kinds n (and a b at) s h = ap (λ l. kind.InvokePre ∷ (kind.InvokePost ∷ l)) h
+  callee_kinds n (or a b at) s h = ap (λ l. kind.InvokePre ∷ (kind.InvokePost ∷ l)) h
+  callee_kinds n (conditional a b c at) s h = ap (λ l. kind.InvokePre ∷ (kind.InvokePost ∷ l)) h
+  callee_kinds n (assign o t e at) s h = ap (λ l. kind.InvokePre ∷ (kind.InvokePost ∷ l)) h
+  callee_kinds n (comma a b at) s h = ap (λ l. kind.InvokePre ∷ (kind.InvokePost ∷ l)) h
 
   delete_kinds : {S : Type 0} (n : ℕ) (e : Tree S expr) (s : S) →
       kinds_in (entries id_of (with_ids n e)) ≡ kinds_in (entries place_of e) →
@@ -274,8 +194,7 @@ mutual
   delete_kinds n (dot o k at) s h = ap (λ l. kind.DeleteField ∷ l) (same_kinds (n + 1) o)
   delete_kinds n (index o k at) s h =
       ap (λ l. kind.DeleteField ∷ l) (join _ _ _ _ (same_kinds (n + 1) o) (same_kinds (n + 1 + id_count o) k))
-  delete_kinds n (call f l at) s h =
-      ap kinds_in (no_deletion n f l at n (entries id_of (with_ids n (call f l at)))) ∙ h
+  delete_kinds n (call f l at) s h = h
   delete_kinds n (new f l at) s h = h
   delete_kinds n (unary un.Minus e at) s h = h
   delete_kinds n (unary un.Plus e at) s h = h
@@ -307,9 +226,7 @@ mutual
   typeof_kinds n (function_expression f at) s h = ap (λ l. kind.Unary ∷ l) h
   typeof_kinds n (dot o k at) s h = ap (λ l. kind.Unary ∷ l) h
   typeof_kinds n (index o k at) s h = ap (λ l. kind.Unary ∷ l) h
-  typeof_kinds n (call f l at) s h =
-      ap kinds_in (no_name_type (n + 1) f l at n (entries id_of (with_ids (n + 1) (call f l at))))
-      ∙ ap (λ l. kind.Unary ∷ l) h
+  typeof_kinds n (call f l at) s h = ap (λ l. kind.Unary ∷ l) h
   typeof_kinds n (new f l at) s h = ap (λ l. kind.Unary ∷ l) h
   typeof_kinds n (unary un.Minus e at) s h = ap (λ l. kind.Unary ∷ l) h
   typeof_kinds n (unary un.Plus e at) s h = ap (λ l. kind.Unary ∷ l) h

@@ -13,7 +13,7 @@ use Rattle.jl_ast.specs.Tree.{init_expression, init_var, declarator, case, branc
 use Rattle.jl_ast.specs.Tree.{present}
 use Rattle.jl_ast.specs.Spans.{ident, map_tree, map_forest, map_optional, without_spans}
 use Rattle.jl_op.specs.Ids.{id_count, forest_id_count, optional_id_count, unary_id_count, with_ids, forest_with_ids}
-use Rattle.jl_op.specs.Ids.{optional_with_ids, handler_with_ids, assignment_id_count}
+use Rattle.jl_op.specs.Ids.{optional_with_ids, handler_with_ids, callee_with_ids, member_ids, assignment_id_count}
 use Rattle.jl_op.specs.Ids.{one_if_present, ident_with_id, program_with_ids}
 
 ap2 : {A B C : Type 0} (F : A → B → C) {a a' : A} {b b' : B} → a ≡ a' → b ≡ b' → F a b ≡ F a' b'
@@ -123,6 +123,29 @@ module _ {S T : Type 0} (f : S → T) where
   same_unary_count un.Delete (assign o t e s) n = refl
   same_unary_count un.Delete (comma a b s) n = refl
 
+  same_member : (e : Tree S expr) → member_ids (map_tree f e) ≡ member_ids e
+  same_member (this s) = refl
+  same_member (name x s) = refl
+  same_member (number m s) = refl
+  same_member (string t s) = refl
+  same_member (boolean b s) = refl
+  same_member (null s) = refl
+  same_member (array l s) = refl
+  same_member (object l s) = refl
+  same_member (function_expression f s) = refl
+  same_member (dot o k s) = refl
+  same_member (index o k s) = refl
+  same_member (call f l s) = refl
+  same_member (new f l s) = refl
+  same_member (unary o e s) = refl
+  same_member (update up prefix t s) = refl
+  same_member (binary o a b s) = refl
+  same_member (and a b s) = refl
+  same_member (or a b s) = refl
+  same_member (conditional a b c s) = refl
+  same_member (assign o t e s) = refl
+  same_member (comma a b s) = refl
+
   mutual
     pub same_count : {x : Sort} (t : Tree S x) → id_count (map_tree f t) ≡ id_count t
     same_count (this s) = refl
@@ -206,7 +229,8 @@ module _ {S T : Type 0} (f : S → T) where
     same_ids n (dot a b s) = ap (λ p. dot p b n) (same_ids (n + 1) a)
     same_ids n (index a b s) = ap2 (λ p q. index p q n) (same_ids (n + 1) a) (shift b (ap (λ h. n + 1 + h)
         (same_count a)) (same_ids (n + 1 + id_count a) b))
-    same_ids n (call a b s) = same_call n a b s (same_ids (n + 2) a) (same_count a) (λ m. forest_same_ids m b)
+    same_ids n (call a b s) = ap3 (λ g l j. call g l (n + j)) (same_callee n a (same_ids (n + 2) a))
+        (forest_shift b (ap (λ h. n + 2 + h) (same_count a)) (forest_same_ids (n + 2 + id_count a) b)) (same_member a)
     same_ids n (new a b s) = ap2 (λ p q. new p q n) (same_ids (n + 2) a) (forest_shift b (ap (λ h. n + 2 + h)
         (same_count a)) (forest_same_ids (n + 2 + id_count a) b))
     same_ids n (unary un.Minus b s) = ap (λ e. unary un.Minus e n) (same_ids (n + 1) b)
@@ -308,66 +332,31 @@ module _ {S T : Type 0} (f : S → T) where
     same_handler id n absent = refl
     same_handler id n (present (catch x l)) = ap (λ m. present (catch (ident_with_id x id) m)) (forest_same_ids n l)
 
-    same_call : (n : ℕ) (e : Tree S expr) (l : Forest S expr) (s : S) →
-        with_ids (n + 2) (map_tree f e) ≡ with_ids (n + 2) e → id_count (map_tree f e) ≡ id_count e →
-        ((m : ℕ) → forest_with_ids m (map_forest f l) ≡ forest_with_ids m l) →
-        with_ids n (map_tree f (call e l s)) ≡ with_ids n (call e l s)
-    same_call n (this at) l s h j args = ap2 (λ p m. call p m n) h
-        (forest_shift l (ap (λ i. n + 2 + i) j) (args (n + 2 + id_count (this at))))
-    same_call n (name x at) l s h j args = ap2 (λ p m. call p m n) h
-        (forest_shift l (ap (λ i. n + 2 + i) j) (args (n + 2 + id_count (name x at))))
-    same_call n (number m at) l s h j args = ap2 (λ p m. call p m n) h
-        (forest_shift l (ap (λ i. n + 2 + i) j) (args (n + 2 + id_count (number m at))))
-    same_call n (string t0 at) l s h j args = ap2 (λ p m. call p m n) h
-        (forest_shift l (ap (λ i. n + 2 + i) j) (args (n + 2 + id_count (string t0 at))))
-    same_call n (boolean b at) l s h j args = ap2 (λ p m. call p m n) h
-        (forest_shift l (ap (λ i. n + 2 + i) j) (args (n + 2 + id_count (boolean b at))))
-    same_call n (null at) l s h j args = ap2 (λ p m. call p m n) h
-        (forest_shift l (ap (λ i. n + 2 + i) j) (args (n + 2 + id_count (null at))))
-    same_call n (array l0 at) l s h j args = ap2 (λ p m. call p m n) h
-        (forest_shift l (ap (λ i. n + 2 + i) j) (args (n + 2 + id_count (array l0 at))))
-    same_call n (object l0 at) l s h j args = ap2 (λ p m. call p m n) h
-        (forest_shift l (ap (λ i. n + 2 + i) j) (args (n + 2 + id_count (object l0 at))))
-    same_call n (function_expression f0 at) l s h j args = ap2 (λ p m. call p m n) h
-        (forest_shift l (ap (λ i. n + 2 + i) j) (args (n + 2 + id_count (function_expression f0 at))))
-    same_call n (dot o k at) l s h j args = ap2 (λ p m. call (dot p k n) m (n + 1)) (same_ids (n + 3) o)
-        (forest_shift l (ap (λ i. n + 3 + i) (same_count o)) (args (n + 3 + id_count o)))
-    same_call n (index o k at) l s h j args = ap3 (λ p q m. call (index p q n) m (n + 1)) (same_ids (n + 3) o)
-        (shift k (ap (λ i. n + 3 + i) (same_count o)) (same_ids (n + 3 + id_count o) k))
-        (forest_shift l (ap2 (λ g i. n + 3 + g + i) (same_count o) (same_count k))
-        (args (n + 3 + id_count o + id_count k)))
-    same_call n (call f0 l0 at) l s h j args = ap2 (λ p m. call p m n) h
-        (forest_shift l (ap (λ i. n + 2 + i) j) (args (n + 2 + id_count (call f0 l0 at))))
-    same_call n (new f0 l0 at) l s h j args = ap2 (λ p m. call p m n) h
-        (forest_shift l (ap (λ i. n + 2 + i) j) (args (n + 2 + id_count (new f0 l0 at))))
-    same_call n (unary un.Minus e0 at) l s h j args = ap2 (λ p m. call p m n) h
-        (forest_shift l (ap (λ i. n + 2 + i) j) (args (n + 2 + id_count (unary un.Minus e0 at))))
-    same_call n (unary un.Plus e0 at) l s h j args = ap2 (λ p m. call p m n) h
-        (forest_shift l (ap (λ i. n + 2 + i) j) (args (n + 2 + id_count (unary un.Plus e0 at))))
-    same_call n (unary un.Not e0 at) l s h j args = ap2 (λ p m. call p m n) h
-        (forest_shift l (ap (λ i. n + 2 + i) j) (args (n + 2 + id_count (unary un.Not e0 at))))
-    same_call n (unary un.Tilde e0 at) l s h j args = ap2 (λ p m. call p m n) h
-        (forest_shift l (ap (λ i. n + 2 + i) j) (args (n + 2 + id_count (unary un.Tilde e0 at))))
-    same_call n (unary un.Typeof e0 at) l s h j args = ap2 (λ p m. call p m n) h
-        (forest_shift l (ap (λ i. n + 2 + i) j) (args (n + 2 + id_count (unary un.Typeof e0 at))))
-    same_call n (unary un.Void e0 at) l s h j args = ap2 (λ p m. call p m n) h
-        (forest_shift l (ap (λ i. n + 2 + i) j) (args (n + 2 + id_count (unary un.Void e0 at))))
-    same_call n (unary un.Delete e0 at) l s h j args = ap2 (λ p m. call p m n) h
-        (forest_shift l (ap (λ i. n + 2 + i) j) (args (n + 2 + id_count (unary un.Delete e0 at))))
-    same_call n (update up prefix t0 at) l s h j args = ap2 (λ p m. call p m n) h
-        (forest_shift l (ap (λ i. n + 2 + i) j) (args (n + 2 + id_count (update up prefix t0 at))))
-    same_call n (binary o a b at) l s h j args = ap2 (λ p m. call p m n) h
-        (forest_shift l (ap (λ i. n + 2 + i) j) (args (n + 2 + id_count (binary o a b at))))
-    same_call n (and a b at) l s h j args = ap2 (λ p m. call p m n) h
-        (forest_shift l (ap (λ i. n + 2 + i) j) (args (n + 2 + id_count (and a b at))))
-    same_call n (or a b at) l s h j args = ap2 (λ p m. call p m n) h
-        (forest_shift l (ap (λ i. n + 2 + i) j) (args (n + 2 + id_count (or a b at))))
-    same_call n (conditional a b c at) l s h j args = ap2 (λ p m. call p m n) h
-        (forest_shift l (ap (λ i. n + 2 + i) j) (args (n + 2 + id_count (conditional a b c at))))
-    same_call n (assign o t0 e0 at) l s h j args = ap2 (λ p m. call p m n) h
-        (forest_shift l (ap (λ i. n + 2 + i) j) (args (n + 2 + id_count (assign o t0 e0 at))))
-    same_call n (comma a b at) l s h j args = ap2 (λ p m. call p m n) h
-        (forest_shift l (ap (λ i. n + 2 + i) j) (args (n + 2 + id_count (comma a b at))))
+    same_callee : (n : ℕ) (e : Tree S expr) → with_ids (n + 2) (map_tree f e) ≡ with_ids (n + 2) e →
+        callee_with_ids n (map_tree f e) (with_ids (n + 2) (map_tree f e)) ≡ callee_with_ids n e (with_ids (n + 2) e)
+    same_callee n (this s) h = h
+    same_callee n (name x s) h = h
+    same_callee n (number m s) h = h
+    same_callee n (string t s) h = h
+    same_callee n (boolean b s) h = h
+    same_callee n (null s) h = h
+    same_callee n (array l s) h = h
+    same_callee n (object l s) h = h
+    same_callee n (function_expression f s) h = h
+    same_callee n (dot o k s) h = ap (λ p. dot p k n) (same_ids (n + 3) o)
+    same_callee n (index o k s) h =
+        ap2 (λ p q. index p q n) (same_ids (n + 3) o)
+        (shift k (ap (λ h. n + 3 + h) (same_count o)) (same_ids (n + 3 + id_count o) k))
+    same_callee n (call f l s) h = h
+    same_callee n (new f l s) h = h
+    same_callee n (unary o e s) h = h
+    same_callee n (update up prefix t s) h = h
+    same_callee n (binary o a b s) h = h
+    same_callee n (and a b s) h = h
+    same_callee n (or a b s) h = h
+    same_callee n (conditional a b c s) h = h
+    same_callee n (assign o t e s) h = h
+    same_callee n (comma a b s) h = h
 
 pub same_program : {S : Type 0} (p : Program S) → program_with_ids (without_spans p) ≡ program_with_ids p
 same_program p = ap (λ b. record { body = b; at = 1 }) (same_ids (λ s. tt) 3 p.body)

@@ -102,6 +102,12 @@ abbrev mutual
 abbrev pub ident_with_id : {S : Type 0} → Ident S → ℕ → Ident ℕ
 ident_with_id x n = record { text = x.text; at = n }
 
+-- how many ids a callee takes before those of its call
+abbrev pub member_ids : {S : Type 0} → Tree S expr → ℕ
+member_ids (dot o k s) = 1
+member_ids (index o k s) = 1
+member_ids f = 0
+
 abbrev mutual
   -- the tree with the ids from n on; a node that has none has the next as its place
   pub with_ids : {S : Type 0} {x : Sort} → (n : ℕ) → Tree S x → Tree ℕ x
@@ -116,13 +122,8 @@ abbrev mutual
   with_ids n (function_expression f s) = function_expression (with_ids (n + 1) f) n
   with_ids n (dot o k s) = dot (with_ids (n + 1) o) k n
   with_ids n (index o k s) = index (with_ids (n + 1) o) (with_ids (n + 1 + id_count o) k) n
-  -- the member that is called has the id before those of the call
-  with_ids n (call (dot o k t) l s) =
-      call (dot (with_ids (n + 3) o) k n) (forest_with_ids (n + 3 + id_count o) l) (n + 1)
-  with_ids n (call (index o k t) l s) =
-      call (index (with_ids (n + 3) o) (with_ids (n + 3 + id_count o) k) n)
-      (forest_with_ids (n + 3 + id_count o + id_count k) l) (n + 1)
-  with_ids n (call f l s) = call (with_ids (n + 2) f) (forest_with_ids (n + 2 + id_count f) l) n
+  with_ids n (call f l s) =
+      call (callee_with_ids n f (with_ids (n + 2) f)) (forest_with_ids (n + 2 + id_count f) l) (n + member_ids f)
   with_ids n (new f l s) = new (with_ids (n + 2) f) (forest_with_ids (n + 2 + id_count f) l) n
   -- the member that is deleted has no id of its own
   with_ids n (unary Delete e s) = unary Delete (with_ids n e) n
@@ -182,6 +183,12 @@ abbrev mutual
   with_ids n (case e l) = case (optional_with_ids n e) (forest_with_ids (n + optional_id_count e) l)
   with_ids n (branch_of l) = branch_of (forest_with_ids n l)
   with_ids n (catch x l) = catch (ident_with_id x n) (forest_with_ids n l)
+
+  -- the callee of a call that takes its ids from n on: a member has its own before the two of the call
+  pub callee_with_ids : {S : Type 0} → (n : ℕ) → Tree S expr → (itself : Tree ℕ expr) → Tree ℕ expr
+  callee_with_ids n (dot o k s) itself = dot (with_ids (n + 3) o) k n
+  callee_with_ids n (index o k s) itself = index (with_ids (n + 3) o) (with_ids (n + 3 + id_count o) k) n
+  callee_with_ids n f itself = itself
 
   pub handler_with_ids : {S : Type 0} → (id n : ℕ) → OptionalTree S handler → OptionalTree ℕ handler
   handler_with_ids id n absent = absent
