@@ -1,21 +1,16 @@
 -- The answer that the code makes of a run is the one that is due.
-use Rattle.std.proofs.Common.{◌≡◌, ℕ, ◌<◌, ◌≤◌, ◌^◌, ◌++◌, List, [], ◌∷◌, length, map, sum_by, refl}
-use Rattle.std.proofs.Common.{sym, ap, ◌∙◌, subst, arith}
-use Rattle.std.specs.Prelude.{All, IfSome, slice_get, Result, Ok, Err, IfOk, OnOk}
-use Rattle.std.specs.Ordering.{nat_cmp}
-use Rattle.std.specs.List.Sorted.{IsStrictlySortedBy}
+use Rattle.std.proofs.Common.{◌≡◌, ℕ, ◌<◌, ◌^◌, ◌++◌, List, [], ◌∷◌, length, refl, ap, ◌∙◌, subst, arith}
+use Rattle.std.specs.Prelude.{Result, Ok, Err, IfOk, OnOk}
 use Rattle.jl_op.specs.Operations.{Operation}
-use Rattle.jl_op.specs.Summary.{Counts, hits, summary}
 use Rattle.jl_effects.specs.Running.{Ends, Fails, Over, Spent, state_of as world_of, steps_taken}
 use Rattle.jl_app.specs.Runs.{Outcome}
 use Rattle.jl_app.specs.declared.outcome.Outcome.{Outcome as Answered}
 use Rattle.jl_app.specs.declared.status.Status.{Status}
-use Rattle.jl_app.specs.Reporting.{Lines, count_at, if_any, total_at, lines_text}
+use Rattle.jl_app.specs.Reporting.{Lines, IsReport, lines_text}
 use Rattle.jl_app.specs.Places.{places}
 use Rattle.jl_app.specs.Sums.{Script}
 use Rattle.jl_app.specs.Weaving.{Hooked, woven, hooked_run}
 use Rattle.jl_app.specs.declared.outcome.Run.{Run}
-use Rattle.jl_app.proofs.Reports.{hits_few, summary_positive, summary_few, summary_total}
 use Rattle.jl_app.specs.Running.{IsRun, end_of}
 use Rattle.jl_app.specs.Texts.{outcome_text, outcome_status}
 use Rattle.jl_app.specs.Answers.{end_text, end_line, run_status, woven_run, woven_budget, IsRunAnswer}
@@ -47,44 +42,26 @@ pub run_of : {O : Type 0} {told : O → List Operation → Type 0} {r : Run} {o 
 run_of {told = told} {r = r} {o = o} s h e is =
     subst (λ x. IsRun told woven_budget (hooked_run x woven_budget) r o) e is
 
--- the counts of the crowd
-pub found_of : (rules : List ℕ) (found : Counts) (ops : List Operation) → rules ≡ 1 ∷ []
-    → IfSome (slice_get rules 0) (λ rule. found ≡ summary rule ops) → found ≡ summary 1 ops
-found_of rules found ops e h = subst (λ x. IfSome (slice_get x 0) (λ rule. found ≡ summary rule ops)) e h
-
-pub few_of : (ops : List Operation) (r : Run) → r.hooks ≡ length ops → r.hooks < 2 ^ 64 → length (hits 1 ops) < 2 ^ 64
-few_of ops r e h = hits_few 1 ops (omega arith)
-
-pub some_found : (found : Counts) (ops : List Operation) → found ≡ summary 1 ops → All (λ x. 1 ≤ x.1) found
-some_found found ops e = subst (λ c. All (λ x. 1 ≤ x.1) c) (sym e) (summary_positive 1 ops)
-
-pub few_found : (found : Counts) (ops : List Operation) → found ≡ summary 1 ops → length (hits 1 ops) < 2 ^ 64
-    → sum_by (λ x. x.1) found < 2 ^ 64
-few_found found ops e h = subst (λ c. sum_by (λ x. x.1) c < 2 ^ 64) (sym e) (summary_few 1 ops h)
+-- the operations of a run can be counted
+pub few_of : (ops : List Operation) (r : Run) → r.hooks ≡ length ops → r.hooks < 2 ^ 64 → length ops < 2 ^ 64
+few_of ops r e h = omega arith
 
 -- what is answered
 pub answer_is : {O : Type 0} {told : O → List Operation → Type 0} {r : Run} {o : O} (units : List ℕ)
-    (s : Script) (found : Counts) (taken : List ℕ) (lines : Lines) (reports : ℕ) (answer : Status)
-    (text end bytes : List ℕ) → IsRun told woven_budget (woven_run s) r o → r.hooks < 2 ^ 64
-    → found ≡ summary 1 (world_of (woven_run s)).hooks → taken ≡ places s
-    → ((at : ℕ) → count_at lines at ≡ if_any (total_at taken at found))
-    → IsStrictlySortedBy nat_cmp (map (λ line. line.0) lines) → reports ≡ length lines
-    → answer ≡ outcome_status r.outcome reports → text ≡ lines_text units lines
+    (s : Script) (taken : List ℕ) (lines : Lines) (reports : ℕ) (answer : Status) (text end bytes : List ℕ)
+    → IsRun told woven_budget (woven_run s) r o → taken ≡ places s
+    → IsReport units taken (world_of (woven_run s)).hooks lines → reports ≡ length lines
+    → answer ≡ outcome_status r.outcome reports → text ≡ lines_text lines
     → end ≡ end_line (outcome_text r.outcome) r.steps r.hooks reports → bytes ≡ r.output.items ++ (text ++ end)
     → IsRunAnswer units s lines answer bytes
-answer_is {r = r} units s found taken lines reports answer text end bytes is few f p counts sorted n st t e b =
+answer_is {r = r} units s taken lines reports answer text end bytes is p report n st t e b =
     let ops = (world_of (woven_run s)).hooks in
-    let short = few_of ops r is.hooks few in
     record {
-      report = record {
-        by_place = sorted;
-        counts = λ at. counts at ∙ ap (λ x. if_any (total_at x at found)) p
-            ∙ ap (λ x. if_any (total_at (places s) at x)) f ∙ ap if_any (summary_total (places s) at ops short);
-      };
+      report = subst (λ x. IsReport units x ops lines) p report;
       status = status_is (woven_run s) lines r.outcome reports answer st is.outcome n;
       bytes_are = b ∙ ap (λ x. x ++ (text ++ end)) is.output
           ∙ ap (λ x. (world_of (woven_run s)).output ++ (x ++ end)) t
-          ∙ ap (λ x. (world_of (woven_run s)).output ++ (lines_text units lines ++ x)) (e
+          ∙ ap (λ x. (world_of (woven_run s)).output ++ (lines_text lines ++ x)) (e
           ∙ ap (λ x. end_line x r.steps r.hooks reports) (text_is (woven_run s) r.outcome is.outcome)
           ∙ ap (λ x. end_line (end_text (woven_run s)) x r.hooks reports) is.steps
           ∙ ap (λ x. end_line (end_text (woven_run s)) (steps_taken woven_budget (woven_run s)) x reports) is.hooks

@@ -91,10 +91,10 @@ module _ (units : List ℕ) (s : Script) (over : IsOver (own_run s)) where
   taken : steps_taken woven_budget (own_run_of s woven_budget) ≡ steps_taken budget (own_run s)
   taken = same_steps budget (31 * budget + 64) s (own_run s) refl over
 
-  about : {call : Call} (lines : Lines) → IsReport (places s) (world_of (woven_run s)).hooks lines
-      → Grows call.written.0 call.written.1 (run_answer units s lines).bytes
-      → call.knows (run_answer units s lines).told
-      → IsAboutOwnRun call units s (run_answer units s lines).status
+  about : {call : Call} (lines : Lines) → IsReport units (places s) (world_of (woven_run s)).hooks lines
+      → Grows call.written.0 call.written.1 (run_answer s lines).bytes
+      → call.knows (run_answer s lines).told
+      → IsAboutOwnRun call units s (run_answer s lines).status
   about {call} lines report grows knows =
       let hooks : (world_of (woven_run s)).hooks ≡ (world_of (own_run s)).operations =
       seen.hooks ∙ filter_any (world_of (own_run s)).operations in
@@ -103,17 +103,17 @@ module _ (units : List ℕ) (s : Script) (over : IsOver (own_run s)) where
       record {
         lines = lines;
         steps = steps;
-        report = subst (λ ops. IsReport (places s) ops lines) hooks report;
+        report = subst (λ ops. IsReport units (places s) ops lines) hooks report;
         status = same_status (own_run s) (woven_run s) lines alike;
         written = subst (λ bytes. Grows call.written.0 call.written.1 bytes)
-            (ap (λ out. out ++ (lines_text units lines
+            (ap (λ out. out ++ (lines_text lines
             ++ end_line (end_text (woven_run s)) steps (length (world_of (woven_run s)).hooks)
             (length lines))) seen.output
             ∙ ap (λ end. (world_of (own_run s)).output
-            ++ (lines_text units lines ++ end_line end steps (length (world_of (woven_run s)).hooks)
+            ++ (lines_text lines ++ end_line end steps (length (world_of (woven_run s)).hooks)
             (length lines))) (same_text (own_run s) (woven_run s) alike)
             ∙ ap (λ ops. (world_of (own_run s)).output
-            ++ (lines_text units lines ++ end_line (end_text (own_run s)) steps (length ops) (length lines)))
+            ++ (lines_text lines ++ end_line (end_text (own_run s)) steps (length ops) (length lines)))
             hooks)
             grows;
         no_fewer = subst (λ n. n ≤ steps) taken ((script_simulates s).no_fewer woven_budget ended);
@@ -130,10 +130,10 @@ lint_about units p s _ over is (not_yet none) grows knows =
 lint_about {call} units p s _ over is (ran t lines is2 report) grows knows =
     let both : Some s ≡ Some t = sym is ∙ is2 in
     let same : s ≡ t = cc in
-    subst (λ x. IsReport (places x) (world_of (woven_run x)).hooks lines
-    → Grows call.written.0 call.written.1 (run_answer units x lines).bytes
-    → call.knows (run_answer units x lines).told
-    → IsAboutOwnRun call units s (run_answer units x lines).status) same (about units s over lines) report
+    subst (λ x. IsReport units (places x) (world_of (woven_run x)).hooks lines
+    → Grows call.written.0 call.written.1 (run_answer x lines).bytes
+    → call.knows (run_answer x lines).told
+    → IsAboutOwnRun call units s (run_answer x lines).status) same (about units s over lines) report
     grows knows
 
 due_about : {call : Call} (bytes : List ℕ) (s : Script) (due : Due) → IsOver (own_run s) → IsScript bytes s

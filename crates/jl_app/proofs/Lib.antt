@@ -5,7 +5,7 @@ pub mod Forms
 pub mod PositionLemmas
 pub mod Refusing
 pub mod Comings
-pub mod Reports
+pub mod Reported
 pub mod Answering
 pub mod Endings
 pub mod Headline

@@ -78,28 +78,28 @@ run_status (Over (Ends a) left w) (line ∷ lines) = status.Reports
 run_status (Over (Fails f) left w) lines = status.Fault
 run_status (Spent w) lines = status.Spent
 
--- the answer to a script in a source of these units: what it printed, the report, and the last line
-abbrev pub run_answer : (units : List ℕ) → Script → Lines → Due
-run_answer units s lines = record {
+-- the answer to a script: what it printed, the report, and the last line
+abbrev pub run_answer : Script → Lines → Due
+run_answer s lines = record {
   status = run_status (woven_run s) lines;
-  bytes = (world_of (woven_run s)).output ++ (lines_text units lines
+  bytes = (world_of (woven_run s)).output ++ (lines_text lines
       ++ end_line (end_text (woven_run s)) (steps_taken woven_budget (woven_run s))
       (length (world_of (woven_run s)).hooks) (length lines));
   told = (world_of (woven_run s)).hooks;
 }
 
--- it is the answer to the script, and these are the lines of the report
+-- it is the answer to the script in a source of these units, and these are the lines of the report
 pub record IsRunAnswer (units : List ℕ) (s : Script) (lines : Lines) (answer : Status) (written : List ℕ)
     : Type 0 where
-  pub report : IsReport (places s) (world_of (woven_run s)).hooks lines
-  pub status : answer ≡ (run_answer units s lines).status
-  pub bytes_are : written ≡ (run_answer units s lines).bytes
+  pub report : IsReport units (places s) (world_of (woven_run s)).hooks lines
+  pub status : answer ≡ (run_answer s lines).status
+  pub bytes_are : written ≡ (run_answer s lines).bytes
 
 -- what `lint` answers to a source of these units that is accepted as this program
 pub data IsLinted (units : List ℕ) (p : Program Span) : Due → Type 0 where
   not_yet : script_of p ≡ None → IsLinted units p (refused_only (codes "NotYet"))
-  ran : (s : Script) (lines : Lines) → script_of p ≡ Some s → IsReport (places s) (world_of (woven_run s)).hooks lines
-      → IsLinted units p (run_answer units s lines)
+  ran : (s : Script) (lines : Lines) → script_of p ≡ Some s
+      → IsReport units (places s) (world_of (woven_run s)).hooks lines → IsLinted units p (run_answer s lines)
 
 -- the line that counts a program's functions
 abbrev pub functions_line : Program Span → Due

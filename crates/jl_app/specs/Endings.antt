@@ -53,11 +53,11 @@ HasAnswered _ = Unit {0}
 pub record IsAboutOwnRun (call : Call) (units : List ℕ) (s : Script) (answer : Status) : Type 0 where
   pub lines : Lines
   pub steps : ℕ
-  pub report : IsReport (places s) (world_of (own_run s)).operations lines
+  pub report : IsReport units (places s) (world_of (own_run s)).operations lines
   pub status : answer ≡ run_status (own_run s) lines
   pub written : Grows call.written.0 call.written.1
       ((world_of (own_run s)).output
-      ++ (lines_text units lines
+      ++ (lines_text lines
       ++ end_line (end_text (own_run s)) steps (length (world_of (own_run s)).operations) (length lines)))
   pub no_fewer : steps_taken budget (own_run s) ≤ steps
   pub not_many_more : steps ≤ 32 * steps_taken budget (own_run s) + 64

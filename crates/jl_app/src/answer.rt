@@ -1,4 +1,5 @@
 ghost use Rattle.std.specs.Prelude.{◌≡◌, ◌≤◌, [], ◌∷◌, length, IfOk};
+ghost use Rattle.jl_analysis.specs.Rules.{all_rules};
 ghost use Rattle.jl_op.specs.Operations.{Operation};
 ghost use Rattle.jl_app.specs.Answers.{Due, IsAnswered, line_only, refused_only};
 ghost use Rattle.jl_app.specs.Refusals.{refusal_words};
@@ -10,7 +11,8 @@ use crate::lint::lint;
 use crate::print::print;
 use crate::refusal::Refusal;
 use crate::status::Status;
-use jl_op::{Crowd, Observer};
+use jl_analysis::{Crowd, Findings};
+use jl_op::Observer;
 use std::alloc::{AllocError, Global};
 
 /// A status, and the bytes that are written with it.
@@ -50,14 +52,14 @@ pub(crate) fn respond(
     crowd: &mut Crowd,
 ) -> Result<Answer, AllocError>
     requires small { length bytes.now ≤ 1048576 }
-    requires rules { ⟦<Crowd as Observer>⟧.rules crowd.old ≡ 1 ∷ [] }
+    requires rules { ⟦<Crowd as Findings>⟧.rules crowd.old ≡ all_rules }
     requires fresh { ⟦<Crowd as Observer>⟧.stands_for crowd.old [] }
     ensures due { IfOk result (λ a. (due : Due)
         × IsAnswered command bytes.now due
         × (a.status ≡ due.status)
         × (a.bytes.items ≡ due.bytes)
         × ⟦<Crowd as Observer>⟧.stands_for crowd.new due.told) }
-    ensures same_rules { ⟦<Crowd as Observer>⟧.rules crowd.new ≡ ⟦<Crowd as Observer>⟧.rules crowd.old }
+    ensures same_rules { ⟦<Crowd as Findings>⟧.rules crowd.new ≡ ⟦<Crowd as Findings>⟧.rules crowd.old }
 {
     let accepted = match accept(alloc, bytes) {
         Ok(accepted) => accepted,

@@ -1,7 +1,9 @@
-ghost use Rattle.std.specs.Prelude.{◌≡◌, ◌+◌, ◌^◌, ◌<◌, ℕ, Some, [], ◌∷◌, ◌++◌, length, IfOk, OnOk};
+ghost use Rattle.std.specs.Prelude.{◌≡◌, ◌^◌, ◌<◌, List as Items, Some, [], ◌++◌, IfOk, OnOk};
 ghost use Rattle.std.specs.String.{string_bytes};
 ghost use Rattle.jl_ast.specs.View.{view};
-ghost use Rattle.jl_op.specs.Operations.{Operation};
+ghost use Rattle.jl_analysis.specs.Rules.{all_rules};
+ghost use Rattle.jl_token.specs.Tokens.{Tokens};
+ghost use Rattle.jl_token.specs.declared.token.Token.{Token as OneToken};
 ghost use Rattle.jl_effects.specs.Running.{state_of as world_of};
 ghost use Rattle.jl_app.specs.Answers.{Due, IsLinted, IsRunAnswer, end_line, woven_run};
 ghost use Rattle.jl_app.specs.Form.{script_of};
@@ -20,7 +22,8 @@ use crate::source::Source;
 use crate::status::Status;
 use crate::tree::Script;
 use crate::weave::weave;
-use jl_op::{Crowd, Observer};
+use jl_analysis::{Crowd, Findings};
+use jl_op::Observer;
 use std::alloc::{AllocError, Global};
 
 /// How many steps a script's own run has.
@@ -69,11 +72,11 @@ fn run_status(outcome: Outcome, reports: usize) -> Status
 }
 
 /// The output of a run, its report and the last line.
-fn joined(output: Vec<u8>, report: &str, end: &str) -> Result<Vec<u8>, AllocError>
+fn joined(output: Vec<u8>, report: &[u8], end: &str) -> Result<Vec<u8>, AllocError>
     ensures { IfOk result (λ bytes. bytes.items ≡ output.items ++ (report.now ++ end.now)) }
 {
     let mut bytes = output;
-    bytes.extend_from_slice(report.as_bytes())?;
+    bytes.extend_from_slice(report)?;
     bytes.extend_from_slice(end.as_bytes())?;
     Ok(bytes)
 }
@@ -86,21 +89,22 @@ fn run_answer(
     crowd: &mut Crowd,
 ) -> Result<Answer, AllocError>
     requires parts { parts (view_script script.now).argument < 2 ^ 31 }
-    requires rules { ⟦<Crowd as Observer>⟧.rules crowd.old ≡ 1 ∷ [] }
+    requires lexed { (tokens : Items OneToken) × Tokens source.now tokens }
+    requires rules { ⟦<Crowd as Findings>⟧.rules crowd.old ≡ all_rules }
     requires fresh { ⟦<Crowd as Observer>⟧.stands_for crowd.old [] }
     ensures run { IfOk result (λ a. (lines : Lines)
         × IsRunAnswer source.now (view_script script.now) lines a.status a.bytes.items) }
     ensures told { OnOk result (⟦<Crowd as Observer>⟧.stands_for crowd.new
         (world_of (woven_run (view_script script.now))).hooks) }
-    ensures same_rules { ⟦<Crowd as Observer>⟧.rules crowd.new ≡ ⟦<Crowd as Observer>⟧.rules crowd.old }
+    ensures same_rules { ⟦<Crowd as Findings>⟧.rules crowd.new ≡ ⟦<Crowd as Findings>⟧.rules crowd.old }
 {
     let mut places = vec![in alloc; 0, 0, script.at, script.at, script.print_at]?;
     let woven = weave(alloc, &script.argument, &mut places)?;
     let run = run(alloc, &woven, WOVEN_BUDGET, crowd)?;
-    let lines = report(alloc, crowd.found(0), &places)?;
+    let lines = report(alloc, source, &places, crowd)?;
     let reports = lines.len();
     let status = run_status(run.outcome, reports);
-    let report = text(alloc, source, &lines)?;
+    let report = text(alloc, &lines)?;
     let end = end_line(alloc, &run, reports)?;
     Ok(Answer {
         status,
@@ -114,15 +118,16 @@ pub(crate) fn lint(
     accepted: &Accepted,
     crowd: &mut Crowd,
 ) -> Result<Answer, AllocError>
+    requires lexed { (tokens : Items OneToken) × Tokens accepted.now.source tokens }
     requires parts { (s : PlainScript) → script_of (view accepted.now.program) ≡ Some s → parts s.argument < 2 ^ 31 }
-    requires rules { ⟦<Crowd as Observer>⟧.rules crowd.old ≡ 1 ∷ [] }
+    requires rules { ⟦<Crowd as Findings>⟧.rules crowd.old ≡ all_rules }
     requires fresh { ⟦<Crowd as Observer>⟧.stands_for crowd.old [] }
     ensures due { IfOk result (λ a. (due : Due)
         × IsLinted accepted.now.source (view accepted.now.program) due
         × (a.status ≡ due.status)
         × (a.bytes.items ≡ due.bytes)
         × ⟦<Crowd as Observer>⟧.stands_for crowd.new due.told) }
-    ensures same_rules { ⟦<Crowd as Observer>⟧.rules crowd.new ≡ ⟦<Crowd as Observer>⟧.rules crowd.old }
+    ensures same_rules { ⟦<Crowd as Findings>⟧.rules crowd.new ≡ ⟦<Crowd as Findings>⟧.rules crowd.old }
 {
     match script(alloc, &accepted.program)? {
         Some(script) => run_answer(alloc, &accepted.source, &script, crowd),

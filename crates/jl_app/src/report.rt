@@ -1,63 +1,72 @@
-ghost use Rattle.std.specs.Prelude.{◌≡◌, ◌+◌, ◌^◌, ◌<◌, ◌≤◌, ℕ, All, ◌++◌, sum_by, IfOk, OnOk};
-ghost use Rattle.std.specs.Ordering.{nat_cmp};
-ghost use Rattle.std.specs.BTreeMap.{get, IsOrdered};
-ghost use Rattle.std.specs.String.{string_bytes};
-ghost use Rattle.jl_app.specs.Reporting.{if_any, total_at, place_of, line_text, lines_text};
+ghost use Rattle.std.specs.Prelude.{◌≡◌, ◌<◌, ◌^◌, ℕ, List as Items, All, length, map, IfOk};
+ghost use Rattle.jl_analysis.specs.Rules.{IsRule, all_rules};
+ghost use Rattle.jl_op.specs.Operations.{Operation};
+ghost use Rattle.jl_report.specs.Off.{off_by};
+ghost use Rattle.jl_token.specs.Tokens.{Tokens, Comments};
+ghost use Rattle.jl_token.specs.declared.token.Comment.{Comment as OneComment};
+ghost use Rattle.jl_token.specs.declared.token.Token.{Token as OneToken};
+ghost use Rattle.jl_app.specs.Reporting.{IsReport, lines_text, positions};
 
 use crate::source::Source;
-use jl_op::OpId;
+use jl_analysis::{Crowd, Findings, RuleSet};
+use jl_lex::{LexRefusal, comments};
+use jl_op::Observer;
+use jl_report::{Line, Off, line_text, off, report_at};
 use std::alloc::{AllocError, Global};
-use std::collections::BTreeMap;
 
-/// The number of hits at each place, by rising place. Each id that has a place is looked up once.
-pub fn report(
-    alloc: Global,
-    found: &[(OpId, u64)],
-    places: &[u32],
-) -> Result<BTreeMap<u32, u64>, AllocError>
-    requires some { All (λ x. 1 ≤ x.1) found.now }
-    requires few { sum_by (λ x. x.1) found.now < 2 ^ 64 }
-    ensures counts { IfOk result (λ lines. (at : ℕ) → get nat_cmp lines at ≡ if_any (total_at places.now at found.now)) }
-    ensures by_place { IfOk result (λ lines. IsOrdered nat_cmp lines) }
-{
-    let mut lines = BTreeMap::new(alloc);
-    for (id, count) in found {
-        if let Some(at) = place(places, *id) {
-            let before = lines.get(&at).copied().unwrap_or(0);
-            lines.insert(at, before + *count)?;
-        }
-    }
-    Ok(lines)
-}
-
-/// Where the part of the script with this id begins.
-fn place(places: &[u32], id: OpId) -> Option<u32>
-    ensures { result ≡ place_of places.now id }
-{
-    let index = id.0.checked_sub(1)?;
-    places.get(index as usize).copied()
-}
-
-/// The text of a report, a line for each place.
-pub fn text(
+/// The report of what the checkers of all rules found, but for what the comments of the source switch off. `places` has
+/// where the part of the script begins that has the id 1, then that of the id 2, and so on.
+pub(crate) fn report(
     alloc: Global,
     source: &Source,
-    lines: &BTreeMap<u32, u64>,
-) -> Result<String, AllocError>
-    ensures { IfOk result (λ text. string_bytes text ≡ lines_text source.now lines.now.entries) }
+    places: &[u32],
+    crowd: &Crowd,
+) -> Result<Vec<Line>, AllocError>
+    requires lexed { (tokens : Items OneToken) × Tokens source.now tokens }
+    requires rules { ⟦<Crowd as Findings>⟧.rules crowd.now ≡ all_rules }
+    ensures report { IfOk result (λ lines. (told : Items Operation) → ⟦<Crowd as Observer>⟧.stands_for crowd.now told
+        → length told < 2 ^ 64 → IsReport source.now places.now told lines.items) }
+    ensures rules { IfOk result (λ lines. All (λ x. IsRule x.rule) lines.items) }
 {
-    let mut text = String::new(alloc);
-    for (at, count) in lines {
-        let line = line(alloc, source, *at, *count)?;
-        text.push_str(&line)?;
-    }
-    Ok(text)
+    let positions = positions(alloc, source, places)?;
+    let off = switched_off(alloc, source)?;
+    report_at(alloc, crowd, &positions, RuleSet::all(), &off)
 }
 
-/// The text of a line: the place, the rule, and the number of hits.
-fn line(alloc: Global, source: &Source, at: u32, count: u64) -> Result<String, AllocError>
-    ensures { IfOk result (λ text. string_bytes text ≡ line_text source.now (at, count)) }
+/// The lines and the columns of places.
+fn positions(alloc: Global, source: &Source, places: &[u32]) -> Result<Vec<(u32, u32)>, AllocError>
+    ensures { IfOk result (λ found. found.items ≡ positions source.now places.now) }
 {
-    let position = source.position(at);
-    format!(in alloc; "{position} nan-made {count}\n")
+    let mut positions = Vec::new(alloc);
+    for at in places {
+        let position = source.position(*at);
+        positions.push((position.line, position.column))?;
+    }
+    Ok(positions)
+}
+
+/// What the comments of a source switch off.
+fn switched_off(alloc: Global, source: &Source) -> Result<Off, AllocError>
+    requires lexed { (tokens : Items OneToken) × Tokens source.now tokens }
+    ensures { IfOk result (λ off. (found : Items OneComment) × Comments source.now found
+        × (off ≡ off_by source.now found)) }
+{
+    match comments(alloc, source.units()) {
+        Ok(found) => off(alloc, source.units(), &found, source.lines()),
+        Err(LexRefusal::BadInput { .. }) => unreachable!(),
+        Err(LexRefusal::NoMemory) => Err(AllocError),
+    }
+}
+
+/// The text of a report, with LF after each line.
+pub(crate) fn text(alloc: Global, lines: &[Line]) -> Result<Vec<u8>, AllocError>
+    requires { All (λ x. IsRule x.rule) lines.now }
+    ensures { IfOk result (λ text. text.items ≡ lines_text lines.now) }
+{
+    let mut text = Vec::new(alloc);
+    for line in lines {
+        text.extend_from_slice(&line_text(alloc, line)?)?;
+        text.push(b'\n')?;
+    }
+    Ok(text)
 }

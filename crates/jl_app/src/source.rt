@@ -1,4 +1,5 @@
 ghost use Rattle.std.specs.Prelude.{◌≡◌, ◌<◌, ◌+◌, length, IfOk};
+ghost use Rattle.jl_text.specs.Places.{line_table};
 ghost use Rattle.jl_app.specs.Positions.{position};
 
 use crate::position::Position;
@@ -40,6 +41,13 @@ impl Source {
         ensures short { length self.now < 4294967295 }
     {
         &self.units
+    }
+
+    /// Its lines.
+    pub fn lines(&self) -> &Lines
+        ensures { result.now ≡ line_table self.now }
+    {
+        &self.lines
     }
 
     /// The line and the column of a place. A place past the end is told as the end. It takes a number of steps in the

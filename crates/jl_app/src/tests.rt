@@ -4,10 +4,19 @@ mod hoisting;
 mod names;
 mod parsing;
 mod printing;
+mod reports;
 
 use crate::top::jlint;
-use jl_op::{Crowd, NanMade};
+use jl_analysis::{Analysis, Crowd};
 use jl_port::{MemSink, MemSource, Same};
+use jl_rules_type::{
+    BitsOfNothing, LooseEqual, NanMade, ObjectJoined, OddCompare, PutOnPrimitive, TypeofText,
+    UndefinedJoined, UndefinedKey, WrappedCondition,
+};
+use jl_rules_use::{
+    ExtraArguments, ForInArray, GlobalThis, LatePrototype, MixedNew, NoRadix, ObjectPrototypeWrite,
+    OddPrototype, ShadowWrite, WrapperMade,
+};
 use std::alloc::Global;
 use std::process::Abort;
 use std::test::Fail;
@@ -19,11 +28,30 @@ fn answer(
     source: &mut MemSource,
     sink: &mut MemSink,
 ) -> Result<(u8, String), Fail> {
+    let boxes: [Box<dyn Analysis>; 20] = [
+        Box::new(alloc, NanMade::fresh(alloc))?,
+        Box::new(alloc, UndefinedJoined::fresh(alloc))?,
+        Box::new(alloc, ObjectJoined::fresh(alloc))?,
+        Box::new(alloc, UndefinedKey::fresh(alloc))?,
+        Box::new(alloc, PutOnPrimitive::fresh(alloc))?,
+        Box::new(alloc, WrappedCondition::fresh(alloc))?,
+        Box::new(alloc, LooseEqual::fresh(alloc))?,
+        Box::new(alloc, OddCompare::fresh(alloc))?,
+        Box::new(alloc, TypeofText::fresh(alloc))?,
+        Box::new(alloc, BitsOfNothing::fresh(alloc))?,
+        Box::new(alloc, ShadowWrite::fresh(alloc))?,
+        Box::new(alloc, MixedNew::fresh(alloc))?,
+        Box::new(alloc, ObjectPrototypeWrite::fresh(alloc))?,
+        Box::new(alloc, OddPrototype::fresh(alloc))?,
+        Box::new(alloc, LatePrototype::fresh(alloc))?,
+        Box::new(alloc, ForInArray::fresh(alloc))?,
+        Box::new(alloc, ExtraArguments::fresh(alloc))?,
+        Box::new(alloc, WrapperMade::fresh(alloc))?,
+        Box::new(alloc, NoRadix::fresh(alloc))?,
+        Box::new(alloc, GlobalThis::fresh(alloc))?,
+    ];
+    let mut crowd = Crowd::of(Vec::from_array(alloc, boxes)?);
     let mut shelf = Same::new();
-    let mut crowd = Crowd::new();
-    crowd
-        .add(Box::new(alloc, NanMade::fresh(alloc))?)
-        .map_err(|_| "no memory")?;
     let status = jlint(alloc, words, source, sink, &mut shelf, &mut crowd);
     Ok((
         status.code(),
@@ -107,6 +135,26 @@ fn scripts_are_linted(rt: HostRuntime) -> Result<(), Fail> {
             "NaN\n1:9 nan-made 1\njlint: normal steps=23 hooks=8 reports=1\n",
         ),
         ("/* \u{1F600} */print(0 / 0)", 1, nan_at_15),
+        (
+            "print(0 / 0); // jlint-off nan-made",
+            0,
+            "NaN\njlint: normal steps=23 hooks=8 reports=0\n",
+        ),
+        (
+            "// jlint-off-next nan-made,loose-equal\nprint(0 / 0);",
+            0,
+            "NaN\njlint: normal steps=23 hooks=8 reports=0\n",
+        ),
+        (
+            "print(0 / 0); // jlint-off nan",
+            1,
+            "NaN\n1:7 nan-made 1\njlint: normal steps=23 hooks=8 reports=1\n",
+        ),
+        (
+            "print(0 / 0); /* jlint-off nan-made */",
+            1,
+            "NaN\n1:7 nan-made 1\njlint: normal steps=23 hooks=8 reports=1\n",
+        ),
         (
             "pr\\u0069nt(  0 / 0);",
             1,

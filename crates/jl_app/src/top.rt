@@ -1,4 +1,5 @@
 ghost use Rattle.std.specs.Prelude.{◌≡◌, ◌≤◌, ℕ, List, [], ◌∷◌, length, Option, Some, IfOk, IsErrOf};
+ghost use Rattle.jl_analysis.specs.Rules.{all_rules};
 ghost use Rattle.jl_op.specs.Operations.{Operation};
 ghost use Rattle.jl_port.specs.Bytes.{Grows};
 ghost use Rattle.jl_port.specs.Count.{HasRisen};
@@ -17,7 +18,8 @@ use crate::answer::{Answer, line_only, refused, respond};
 use crate::command::Command;
 use crate::refusal::Refusal;
 use crate::status::Status;
-use jl_op::{Crowd, Observer};
+use jl_analysis::{Crowd, Findings};
+use jl_op::Observer;
 use jl_port::{ReadRefusal, Shelf, Sink, Source, read_all, write_all};
 use std::alloc::{AllocError, Global};
 
@@ -43,7 +45,7 @@ fn due<S: Source>(
     source: &mut S,
     crowd: &mut Crowd,
 ) -> Result<Answer, Unanswered>
-    requires rules { ⟦<Crowd as Observer>⟧.rules crowd.old ≡ 1 ∷ [] }
+    requires rules { ⟦<Crowd as Findings>⟧.rules crowd.old ≡ all_rules }
     requires fresh { ⟦<Crowd as Observer>⟧.stands_for crowd.old [] }
     ensures due { IfOk result (λ a. (due : Due)
         × IsDue (texts words.now) (S.left source.old) due
@@ -54,7 +56,7 @@ fn due<S: Source>(
         × HasRisen (S.faults source.old) (S.faults source.new)
         × ⟦<Crowd as Observer>⟧.stands_for crowd.new [] }
     ensures unread { ((c : Named) → texts words.now ≡ words_of c → ⊥) → source.new ≡ source.old }
-    ensures same_rules { ⟦<Crowd as Observer>⟧.rules crowd.new ≡ ⟦<Crowd as Observer>⟧.rules crowd.old }
+    ensures same_rules { ⟦<Crowd as Findings>⟧.rules crowd.new ≡ ⟦<Crowd as Findings>⟧.rules crowd.old }
 {
     let Some(command) = Command::of(words) else {
         return Ok(line_only(alloc, Status::BadWords, "bad words")?);
@@ -80,7 +82,7 @@ pub fn jlint<S: Source, K: Sink, H: Shelf>(
     _shelf: &mut H,
     crowd: &mut Crowd,
 ) -> Status
-    requires rules { ⟦<Crowd as Observer>⟧.rules crowd.old ≡ 1 ∷ [] }
+    requires rules { ⟦<Crowd as Findings>⟧.rules crowd.old ≡ all_rules }
     requires fresh { ⟦<Crowd as Observer>⟧.stands_for crowd.old [] }
     ensures ends { EndsWith (record {
       words = texts words.now;
@@ -103,7 +105,7 @@ pub fn jlint<S: Source, K: Sink, H: Shelf>(
         }) (units_of bytes) s result }
     ensures unread { ((c : Named) → texts words.now ≡ words_of c → ⊥) → source.new ≡ source.old }
     ensures shelf { _shelf.new ≡ _shelf.old }
-    ensures same_rules { ⟦<Crowd as Observer>⟧.rules crowd.new ≡ ⟦<Crowd as Observer>⟧.rules crowd.old }
+    ensures same_rules { ⟦<Crowd as Findings>⟧.rules crowd.new ≡ ⟦<Crowd as Findings>⟧.rules crowd.old }
 {
     let answer = match due(alloc, words, source, crowd) {
         Ok(answer) => answer,

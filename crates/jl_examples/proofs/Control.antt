@@ -6,10 +6,11 @@ use Rattle.jl_ast.specs.Tree.{Program}
 use Rattle.jl_examples.proofs.Computing as computing
 use Rattle.jl_examples.proofs.Running.{prints}
 use Rattle.jl_examples.proofs.Trees.{script, function_of, this, name, number, string, null, object, value}
-use Rattle.jl_examples.proofs.Trees.{function_expression, dot, call, new, unary, update, operator, assign, compute}
-use Rattle.jl_examples.proofs.Trees.{comma, to_name, to_dot, declarator, var, expression, block, if_else, do_while}
-use Rattle.jl_examples.proofs.Trees.{while, nothing, init_var, for, for_in, continue, break, return, throw, labelled}
-use Rattle.jl_examples.proofs.Trees.{case, switch, catch, no_catch, try}
+use Rattle.jl_examples.proofs.Trees.{function_expression, dot, call, new, unary, update, operator, conditional}
+use Rattle.jl_examples.proofs.Trees.{assign, compute, comma, to_name, to_dot, declarator, var, empty, expression}
+use Rattle.jl_examples.proofs.Trees.{block, debugger, if_else, do_while, while, nothing, init_var, init_expression}
+use Rattle.jl_examples.proofs.Trees.{for, for_in, continue, break, return, throw, labelled, case, switch, catch}
+use Rattle.jl_examples.proofs.Trees.{no_catch, try}
 
 -- continue with a label goes on with the loop that has it (12.7, 12.12)
 --
@@ -283,3 +284,58 @@ loops =
 loops_holds : prints loops (codes "20dd0:9 4:8  1 8 7" ∷ codes "jlint: normal" ∷ []) ≡ true
 unfolding computing.run
 loops_holds = refl
+
+-- empty statements, blocks, debugger, and heads of loops that are expressions (12.1, 12.3, 12.6.3, 12.15)
+--
+--     var i, s = "";
+--     ;
+--     { s += "a"; { s += "b"; } }
+--     debugger;
+--     for (i = 0; i < 3; i++) ;
+--     for (i++; ; ) { if (i > 5) break; else i++; }
+--     if (i) { } else { s += "never"; }
+--     if (!i) s += "never"; else s += "c";
+--     switch (i) { }
+--     print(s, i, (1, 2), i ? "yes" : "no");
+abbrev small_statements : Program (Unit {0})
+small_statements =
+    script false []
+    (var (declarator (codes "i") None ∷ declarator (codes "s") (Some (string [])) ∷ [])
+    ∷ empty
+    ∷ block
+    (expression (compute binary.Add (to_name (codes "s")) (string (codes "a")))
+    ∷ block (expression (compute binary.Add (to_name (codes "s")) (string (codes "b"))) ∷ [])
+    ∷ [])
+    ∷ debugger
+    ∷ for
+    (init_expression (assign (to_name (codes "i")) (number 0)))
+    (Some (operator binary.Less (name (codes "i")) (number 3)))
+    (Some (update true false (to_name (codes "i"))))
+    (empty ∷ [])
+    ∷ for
+    (init_expression (update true false (to_name (codes "i"))))
+    None
+    None
+    (if_else
+    (operator binary.Greater (name (codes "i")) (number 5))
+    (break None ∷ [])
+    (Some (expression (update true false (to_name (codes "i"))) ∷ []))
+    ∷ [])
+    ∷ if_else (name (codes "i")) []
+    (Some (expression (compute binary.Add (to_name (codes "s")) (string (codes "never"))) ∷ []))
+    ∷ if_else (unary un.Not (name (codes "i")))
+    (expression (compute binary.Add (to_name (codes "s")) (string (codes "never"))) ∷ [])
+    (Some (expression (compute binary.Add (to_name (codes "s")) (string (codes "c"))) ∷ []))
+    ∷ switch (name (codes "i")) []
+    ∷ expression
+    (call (name (codes "print"))
+    (name (codes "s")
+    ∷ name (codes "i")
+    ∷ comma (number 1) (number 2)
+    ∷ conditional (name (codes "i")) (string (codes "yes")) (string (codes "no"))
+    ∷ []))
+    ∷ [])
+
+small_statements_holds : prints small_statements (codes "abc 6 2 yes" ∷ codes "jlint: normal" ∷ []) ≡ true
+unfolding computing.run
+small_statements_holds = refl

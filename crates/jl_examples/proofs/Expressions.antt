@@ -415,3 +415,58 @@ bits_holds : prints bits
     ≡ true
 unfolding computing.run
 bits_holds = refl
+
+-- operators with one operand, remainders and inequalities (11.4, 11.5.3, 11.9)
+--
+--     print(+"3", -"4", !0, !"x", ~"5", void 0, typeof -1, - -1, +true, +null, +undefined, -{}, !!{});
+--     print(7 % 3, -7 % 3, 7 % -3, 5 % 0, 1 != "1", 1 != 2, null != undefined, "a" !== "a", 6 / -3, 12 & 10, 12 | 3,
+--       12 ^ 10, 1 << 3, -8 >> 1, 8 >>> 2, 2 <= 2, 3 >= 4);
+abbrev unary_operators : Program (Unit {0})
+unary_operators =
+    script false []
+    (expression
+    (call (name (codes "print"))
+    (unary un.Plus (string (codes "3"))
+    ∷ unary un.Minus (string (codes "4"))
+    ∷ unary un.Not (number 0)
+    ∷ unary un.Not (string (codes "x"))
+    ∷ unary un.Tilde (string (codes "5"))
+    ∷ unary un.Void (number 0)
+    ∷ unary un.Typeof (unary un.Minus (number 1))
+    ∷ unary un.Minus (unary un.Minus (number 1))
+    ∷ unary un.Plus (boolean true)
+    ∷ unary un.Plus null
+    ∷ unary un.Plus (name (codes "undefined"))
+    ∷ unary un.Minus (object [])
+    ∷ unary un.Not (unary un.Not (object []))
+    ∷ []))
+    ∷ expression
+    (call (name (codes "print"))
+    (operator binary.Rem (number 7) (number 3)
+    ∷ operator binary.Rem (unary un.Minus (number 7)) (number 3)
+    ∷ operator binary.Rem (number 7) (unary un.Minus (number 3))
+    ∷ operator binary.Rem (number 5) (number 0)
+    ∷ operator binary.NotEqual (number 1) (string (codes "1"))
+    ∷ operator binary.NotEqual (number 1) (number 2)
+    ∷ operator binary.NotEqual null (name (codes "undefined"))
+    ∷ operator binary.StrictNotEqual (string (codes "a")) (string (codes "a"))
+    ∷ operator binary.Div (number 6) (unary un.Minus (number 3))
+    ∷ operator binary.BitAnd (number 12) (number 10)
+    ∷ operator binary.BitOr (number 12) (number 3)
+    ∷ operator binary.BitXor (number 12) (number 10)
+    ∷ operator binary.Shl (number 1) (number 3)
+    ∷ operator binary.Sar (unary un.Minus (number 8)) (number 1)
+    ∷ operator binary.Shr (number 8) (number 2)
+    ∷ operator binary.LessEq (number 2) (number 2)
+    ∷ operator binary.GreaterEq (number 3) (number 4)
+    ∷ []))
+    ∷ [])
+
+unary_operators_holds : prints unary_operators
+    (codes "3 -4 true false -6 undefined number 1 1 0 NaN NaN true"
+    ∷ codes "1 -1 1 NaN false true false false -2 8 15 6 8 -4 2 true false"
+    ∷ codes "jlint: normal"
+    ∷ [])
+    ≡ true
+unfolding computing.run
+unary_operators_holds = refl

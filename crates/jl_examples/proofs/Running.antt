@@ -1,7 +1,7 @@
 -- What the examples show of runs. These are tests, since equations between texts are quickly computed, and such
 -- between stores or operations are not.
-use Rattle.std.specs.Prelude.{ℕ, ◌∷◌, [], List, ◌++◌, codes, Bool, false, ◌&&◌, ◌==◌, ◌-◌, filter, map, length, slice_get}
-use Rattle.std.specs.Prelude.{if◌then◌else◌}
+use Rattle.std.specs.Prelude.{ℕ, ◌∷◌, [], List, ◌++◌, codes, Bool, false, ◌&&◌, ◌==◌, ◌-◌, filter, map, length}
+use Rattle.std.specs.Prelude.{slice_get, if◌then◌else◌}
 use Rattle.std.specs.List.{list_all}
 use Rattle.std.specs.Option.{option_map_or}
 use Rattle.std.specs.Fmt.{decimal}

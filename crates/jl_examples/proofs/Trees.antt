@@ -1,5 +1,5 @@
 -- Words for writing scripts as trees. Nodes have no places.
-use Rattle.std.specs.Prelude.{ℕ, ◌∷◌, [], List, Bool, pos, Option, Some, None, map, option_map}
+use Rattle.std.specs.Prelude.{ℕ, List, Bool, pos, Option, Some, None, map, option_map}
 use Rattle.jl_ast.specs.declared.ops.BinOp.{BinOp}
 use Rattle.jl_ast.specs.declared.ops.UnOp.{UnOp}
 use Rattle.jl_ast.specs.Tree as tree

@@ -1,5 +1,5 @@
--- How many expressions and functions there are in a tree (clauses 11 and 13): an expression and a function count one
--- and their parts, but a function expression and its function are one; any other part counts its parts alone.
+-- How many expressions, functions and `catch` clauses there are in a tree (clauses 11, 13 and 12.14): each counts one and
+-- its parts, but a function expression and its function are one; any other part counts its parts alone.
 use Rattle.std.specs.Prelude.{ℕ, ◌+◌}
 use Rattle.jl_ast.specs.Tree.{Sort, Tree, Forest, OptionalTree, this, name, number, string, boolean, null, array}
 use Rattle.jl_ast.specs.Tree.{object, function_expression, dot, index, call, new, unary, update, binary, and, or}
@@ -65,7 +65,7 @@ abbrev mutual
   nodes (declarator a b) = nodes_optional b
   nodes (case a b) = nodes_optional a + nodes_forest b
   nodes (branch_of a) = nodes_forest a
-  nodes (catch a b) = nodes_forest b
+  nodes (catch a b) = nodes_forest b + 1
 
   pub nodes_forest : {S : Type 0} {x : Sort} → Forest S x → ℕ
   nodes_forest end = 0

@@ -1,8 +1,8 @@
 -- Of a run for chosen kinds the hooks are the chosen ones of all.
 use mathlib.Core.Path.{fun_ext}
-use Rattle.std.proofs.Common.{◌≡◌, ◌∙◌, ℕ, Bool, true, refl, ap, sym}
+use Rattle.std.proofs.Common.{◌≡◌, ◌∙◌, ℕ, true, refl, ap, sym}
 use Rattle.jl_ast.specs.Tree.{Program}
-use Rattle.jl_effects.specs.Running.{any, everything, keeping, nothing_done, run}
+use Rattle.jl_effects.specs.Running.{any, keeping, nothing_done, run}
 use Rattle.jl_effects.specs.Traces.{keep_hooks, with_state}
 use Rattle.jl_effects.proofs.Traces.{run_keeping}
 use Rattle.jl_op.specs.Chosen as chosen
@@ -10,7 +10,7 @@ use Rattle.jl_op.specs.Chosen.{every_kind, is_kept, Kinds}
 use Rattle.jl_op.specs.Operations.{Operation}
 use Rattle.jl_meaning.specs.FunctionTable.{function_table}
 use Rattle.jl_meaning.specs.Jobs.{job}
-use Rattle.jl_meaning.specs.Mean.{language, mean, run_of, script}
+use Rattle.jl_meaning.specs.Mean.{language, run_of, script}
 use Rattle.jl_meaning.specs.Realm.{realm}
 
 every_one : (o : Operation) → is_kept every_kind o ≡ true

@@ -1,5 +1,5 @@
 -- The functions of a program, with whether they are strict, are those of its table.
-use Rattle.std.proofs.Common.{◌≡◌, ℕ, Bool, false, List, [], ◌∷◌, ◌++◌, map, refl, ap}
+use Rattle.std.proofs.Common.{◌≡◌, ℕ, Bool, false, List, ◌∷◌, ◌++◌, map, refl, ap}
 use Rattle.std.proofs.lemmas.List.{map-append}
 use Rattle.jl_ast.specs.Tree.{Program, Sort, func, Tree, Forest, OptionalTree, this, name, number, string, boolean}
 use Rattle.jl_ast.specs.Tree.{null, array, object, function_expression, dot, index, call, new, unary, update, binary}

@@ -58,9 +58,11 @@ mutual
   plain s (tree.binary p a b at) e o = (plain s a (none _ _ e).0 o.0, plain s b (none _ _ e).1 o.1)
   plain s (tree.and a b at) e o = (plain s a (none _ _ e).0 o.0, plain s b (none _ _ e).1 o.1)
   plain s (tree.or a b at) e o = (plain s a (none _ _ e).0 o.0, plain s b (none _ _ e).1 o.1)
-  plain s (tree.conditional a b c at) e o =
-      (plain s a (none _ _ (none _ _ e).0).0 o.0, plain s b (none _ _ (none _ _ e).0).1 o.1,
-      plain s c (none _ _ e).1 o.2)
+  plain s (tree.conditional a b c at) e o = (
+    plain s a (none _ _ (none _ _ e).0).0 o.0,
+    plain s b (none _ _ (none _ _ e).0).1 o.1,
+    plain s c (none _ _ e).1 o.2,
+  )
   plain s (tree.assign p t a at) e o = (o.0, plain s t (none _ _ e).0 o.1, plain s a (none _ _ e).1 o.2)
   plain s (tree.comma a b at) e o = (plain s a (none _ _ e).0 o.0, plain s b (none _ _ e).1 o.1)
   plain s (tree.to_name x) e o = target s x.text x.at e
@@ -75,24 +77,33 @@ mutual
   plain s (tree.var l at) e o = forests s l e o
   plain s (tree.expression a at) e o = plain s a e o
   plain s (tree.block l at) e o = forests s l e o
-  plain s (tree.if_else c a b at) e o =
-      (plain s c (none _ _ (none _ _ e).0).0 o.0, forests s a (none _ _ (none _ _ e).0).1 o.1,
-      optionals s b (none _ _ e).1 o.2)
+  plain s (tree.if_else c a b at) e o = (
+    plain s c (none _ _ (none _ _ e).0).0 o.0,
+    forests s a (none _ _ (none _ _ e).0).1 o.1,
+    optionals s b (none _ _ e).1 o.2,
+  )
   plain s (tree.do_while l c at) e o = (forests (in_a_loop s) l (none _ _ e).0 o.0, plain s c (none _ _ e).1 o.1)
   plain s (tree.while c l at) e o = (plain s c (none _ _ e).0 o.0, forests (in_a_loop s) l (none _ _ e).1 o.1)
-  plain s (tree.for i c u l at) e o =
-      (plain s i (none _ _ (none _ _ (none _ _ e).0).0).0 o.0, optionals s c (none _ _ (none _ _ (none _ _ e).0).0).1 o.1,
-      optionals s u (none _ _ (none _ _ e).0).1 o.2, forests (in_a_loop s) l (none _ _ e).1 o.3)
-  plain s (tree.for_in is_var x a l at) e o =
-      (for_in s x.text x.at is_var (none _ _ (none _ _ e).0).0, plain s a (none _ _ (none _ _ e).0).1 o.0,
-      forests (in_a_loop s) l (none _ _ e).1 o.1)
+  plain s (tree.for i c u l at) e o = (
+    plain s i (none _ _ (none _ _ (none _ _ e).0).0).0 o.0,
+    optionals s c (none _ _ (none _ _ (none _ _ e).0).0).1 o.1,
+    optionals s u (none _ _ (none _ _ e).0).1 o.2,
+    forests (in_a_loop s) l (none _ _ e).1 o.3,
+  )
+  plain s (tree.for_in is_var x a l at) e o = (
+    for_in s x.text x.at is_var (none _ _ (none _ _ e).0).0,
+    plain s a (none _ _ (none _ _ e).0).1 o.0,
+    forests (in_a_loop s) l (none _ _ e).1 o.1,
+  )
   plain s (tree.return a at) e o = optionals s a (none _ _ e).1 o
   plain s (tree.labelled x t at) e o = plain (under_label s x.text (is_loop t)) t (none _ _ e).1 o
   plain s (tree.switch a l at) e o = (plain s a (none _ _ e).0 o.0, forests (in_a_switch s) l (none _ _ e).1 o.1)
   plain s (tree.throw a at) e o = plain s a e o
-  plain s (tree.try l h f at) e o =
-      (forests s l (none _ _ (none _ _ e).0).0 o.0, optionals s h (none _ _ (none _ _ e).0).1 o.1,
-      optionals s f (none _ _ e).1 o.2)
+  plain s (tree.try l h f at) e o = (
+    forests s l (none _ _ (none _ _ e).0).0 o.0,
+    optionals s h (none _ _ (none _ _ e).0).1 o.1,
+    optionals s f (none _ _ e).1 o.2,
+  )
   plain s (tree.init_expression a) e o = plain s a e o
   plain s (tree.init_var l) e o = forests s l e o
   plain s (tree.declarator x a) e o = (written s x.text x.at (none _ _ e).0, optionals s a (none _ _ e).1 o)

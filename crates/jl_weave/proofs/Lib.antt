@@ -14,6 +14,8 @@ mod MadeFunctions
 mod Entries
 mod HookedNames
 mod Expressions
+mod FewNodes
+mod FewIds
 mod Completions
 mod Simple
 mod Try

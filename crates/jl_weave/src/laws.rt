@@ -1,9 +1,12 @@
 //! Laws over the definitions; each is the contract of a function that does nothing.
-ghost use Rattle.std.specs.Prelude.{◌≡◌, []};
-ghost use Rattle.jl_ast.specs.Tree.{Program};
-ghost use Rattle.jl_op.specs.Chosen.{Kinds};
-ghost use Rattle.jl_scope.specs.EarlyErrors.{early_errors_of};
+ghost use Rattle.std.specs.Prelude.{◌≡◌, ◌+◌, ◌*◌, ◌≤◌, [], ℕ, List, length};
 ghost use Rattle.jl_text.specs.declared.span.Span.{Span};
+ghost use Rattle.jl_token.specs.declared.token.Token.{Token};
+ghost use Rattle.jl_ast.specs.Tree.{Program};
+ghost use Rattle.jl_grammar.specs.Program.{Reads};
+ghost use Rattle.jl_op.specs.Chosen.{Kinds};
+ghost use Rattle.jl_op.specs.IdMap.{id_map};
+ghost use Rattle.jl_scope.specs.EarlyErrors.{early_errors_of};
 ghost use Rattle.jl_weave.specs.CompoundAssignments.{AssignsByOperators};
 ghost use Rattle.jl_weave.specs.Plain.{HasFewIds, IsPlain};
 ghost use Rattle.jl_weave.specs.Simulation.{WovenSimulates};
@@ -15,6 +18,12 @@ ghost use Rattle.jl_weave.specs.Simulation.{WovenSimulates};
 /// it has printed and emitted are prefixes of what the script has printed and performed with as many steps.
 pub fn woven_scripts_simulate<S>()
     ensures { (chosen : Kinds) (p : Program S) → IsPlain p.body → HasFewIds p → WovenSimulates chosen p }
+{}
+
+/// The map of a program that is read has at most four entries for each token, and two.
+pub fn few_ids()
+    ensures { (ts : List Token) (limit : ℕ) (p : Program Span) → Reads ts limit p
+        → length (id_map p) ≤ 4 * length ts + 2 }
 {}
 
 /// A script without early errors is plain, where its compound assignments have operators of 11.13: it doesn't name `J$`.

@@ -1,9 +1,17 @@
 //! The program jlint: standard input is the script, standard output the answer, and the exit status how it ended.
 #![tactic(auto)]
 
+use jl_analysis::{Analysis, Crowd};
 use jl_app::{Status, jlint};
-use jl_op::{Crowd, NanMade};
 use jl_port::{InSource, OutSink, Same};
+use jl_rules_type::{
+    BitsOfNothing, LooseEqual, NanMade, ObjectJoined, OddCompare, PutOnPrimitive, TypeofText,
+    UndefinedJoined, UndefinedKey, WrappedCondition,
+};
+use jl_rules_use::{
+    ExtraArguments, ForInArray, GlobalThis, LatePrototype, MixedNew, NoRadix, ObjectPrototypeWrite,
+    OddPrototype, ShadowWrite, WrapperMade,
+};
 use std::env;
 use std::io::{self, ErrorKind};
 use std::process::ExitCode;
@@ -15,20 +23,38 @@ fn main(rt: HostRuntime) -> ExitCode {
     }
 }
 
-/// Runs the command that the program's words name. An error is want of memory, before anything was read or written.
+/// Runs the command that the program's words name, with a checker of each rule. An error is that no memory was left,
+/// before anything was read or written.
 fn run(rt: &HostRuntime) -> io::Result<Status> {
     let words = words(rt)?;
     let mut named = Vec::new(rt.alloc());
     for word in &words {
         named.push(word.as_str())?;
     }
-    let mut crowd = Crowd::new();
-    if crowd
-        .add(Box::new(rt.alloc(), NanMade::fresh(rt.alloc()))?)
-        .is_err()
-    {
-        return Ok(Status::NoMemory);
-    }
+    let alloc = rt.alloc();
+    let boxes: [Box<dyn Analysis>; 20] = [
+        Box::new(alloc, NanMade::fresh(alloc))?,
+        Box::new(alloc, UndefinedJoined::fresh(alloc))?,
+        Box::new(alloc, ObjectJoined::fresh(alloc))?,
+        Box::new(alloc, UndefinedKey::fresh(alloc))?,
+        Box::new(alloc, PutOnPrimitive::fresh(alloc))?,
+        Box::new(alloc, WrappedCondition::fresh(alloc))?,
+        Box::new(alloc, LooseEqual::fresh(alloc))?,
+        Box::new(alloc, OddCompare::fresh(alloc))?,
+        Box::new(alloc, TypeofText::fresh(alloc))?,
+        Box::new(alloc, BitsOfNothing::fresh(alloc))?,
+        Box::new(alloc, ShadowWrite::fresh(alloc))?,
+        Box::new(alloc, MixedNew::fresh(alloc))?,
+        Box::new(alloc, ObjectPrototypeWrite::fresh(alloc))?,
+        Box::new(alloc, OddPrototype::fresh(alloc))?,
+        Box::new(alloc, LatePrototype::fresh(alloc))?,
+        Box::new(alloc, ForInArray::fresh(alloc))?,
+        Box::new(alloc, ExtraArguments::fresh(alloc))?,
+        Box::new(alloc, WrapperMade::fresh(alloc))?,
+        Box::new(alloc, NoRadix::fresh(alloc))?,
+        Box::new(alloc, GlobalThis::fresh(alloc))?,
+    ];
+    let mut crowd = Crowd::of(Vec::from_array(alloc, boxes)?);
     let mut source = InSource::new(rt.stdin());
     let mut sink = OutSink::new(rt.stdout());
     let mut shelf = Same::new();

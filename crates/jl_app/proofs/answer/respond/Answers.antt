@@ -1,10 +1,16 @@
 use Rattle.std.proofs.Common.{sym, subst}
 use Rattle.std.proofs.lemmas.Result.{IfOk-weaker}
 use Rattle.jl_ast.specs.View.{view}
+use Rattle.jl_token.specs.Tokens.{Tokens}
 use Rattle.jl_app.specs.Answers.{refused_only, functions_line, counted, canonical_text, written, refused, accepted, IsAnswered, IsLinted}
 use Rattle.jl_app.specs.Refusals.{refusal_words}
 use Rattle.jl_app.proofs.Scripts.{script_small}
 use Rattle.jl_app.proofs.answer.respond.Goals as goal
+
+pub lint-requires-clause-lexed : goal.lint-requires-clause-lexed
+lint-requires-clause-lexed g c =
+    let is = c.in-Ok.ensures.accepted in
+    (is.0.tokens, subst (λ us. Tokens us is.0.tokens) (sym is.1) is.0.lexed)
 
 pub lint-requires-clause-parts : goal.lint-requires-clause-parts
 lint-requires-clause-parts g c = λ s is. script_small c.args.bytes.now _ s c.in-Ok.ensures.accepted.0 is

@@ -17,11 +17,10 @@ run_answer-requires-clause-parts g c =
 pub returns-in-Some-clause-due : goal.returns-in-Some-clause-due
 returns-in-Some-clause-due g c =
     let s = view_script c.in-Some.script in
-    let units = c.args.accepted.now.source in
     let is : script_of (view c.args.accepted.now.program) ≡ Some s = sym c.in_ok-script.ensures
     ∙ ap (option_map view_script) c.in-Some.is in
     both_ok c.run_answer.result _ _
-    (λ a run told. (run_answer units s run.0, ran s run.0 is run.1.report, run.1.status, run.1.bytes_are, told))
+    (λ a run told. (run_answer s run.0, ran s run.0 is run.1.report, run.1.status, run.1.bytes_are, told))
     c.run_answer.ensures.run c.run_answer.ensures.told
 
 pub returns-in-None-clause-due : goal.returns-in-None-clause-due

@@ -1,8 +1,6 @@
-use Rattle.std.proofs.Common.{◌≡◌, map}
-use Rattle.std.specs.Map.Iter.{deref_pair}
-use Rattle.std.specs.String.{string_bytes}
+use Rattle.std.proofs.Common.{◌≡◌, take}
 use Rattle.jl_app.specs.Reporting.{lines_text}
 use Rattle.jl_app.proofs.report.text.Given as goal
 
-abbrev pub invariant-loop-at : goal.invariant-loop-at
-invariant-loop-at l = string_bytes l.text ≡ lines_text l.source (map deref_pair l.yielded)
+abbrev pub invariant-loop-line : goal.invariant-loop-line
+invariant-loop-line l = l.text.items ≡ lines_text (take l.line-index l.lines)

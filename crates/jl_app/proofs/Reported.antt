@@ -1,0 +1,27 @@
+-- The text of a report grows by that of a line; and the report of all rules is the one that is due.
+use Rattle.std.proofs.Common.{◌≡◌, ℕ, ◌<◌, ◌^◌, ◌++◌, List, [], ◌∷◌, length, take, get_or, ◌+◌, refl, sym, ap, ◌∙◌, subst}
+use Rattle.std.proofs.Common.{arith, append_assoc, append-nil, add-one}
+use Rattle.std.proofs.Math.Seq.{take-suc}
+use Rattle.jl_op.specs.Operations.{Operation}
+use Rattle.jl_report.specs.Texts.{line_bytes}
+use Rattle.jl_report.specs.declared.line.Line.{Line}
+use Rattle.jl_app.specs.Reporting.{Lines, lines_text}
+
+lines_text-push : (lines : Lines) (line : Line)
+    → lines_text (lines ++ line ∷ []) ≡ lines_text lines ++ (line_bytes line ++ 10 ∷ [])
+lines_text-push [] line = append-nil (line_bytes line ++ 10 ∷ [])
+lines_text-push (x ∷ lines) line =
+    ap (λ text. (line_bytes x ++ 10 ∷ []) ++ text) (lines_text-push lines line)
+    ∙ sym (append_assoc (line_bytes x ++ 10 ∷ []) (lines_text lines) (line_bytes line ++ 10 ∷ []))
+
+-- a text of the first lines has one line more
+pub one_more_line : (lines : Lines) (at : ℕ) (d : Line) (text written next : List ℕ) → at < length lines
+    → text ≡ lines_text (take at lines) → written ≡ text ++ line_bytes (get_or lines at d)
+    → next ≡ written ++ 10 ∷ [] → next ≡ lines_text (take (at + 1) lines)
+one_more_line lines at d text written next within so_far line grown =
+    grown ∙ ap (λ l. l ++ 10 ∷ []) line
+    ∙ append_assoc text (line_bytes (get_or lines at d)) (10 ∷ [])
+    ∙ ap (λ l. l ++ (line_bytes (get_or lines at d) ++ 10 ∷ [])) so_far
+    ∙ sym (lines_text-push (take at lines) (get_or lines at d))
+    ∙ ap lines_text (sym (take-suc lines at d within))
+    ∙ ap (λ n. lines_text (take n lines)) (sym (add-one at))
