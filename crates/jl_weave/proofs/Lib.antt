@@ -31,3 +31,5 @@ mod Fitting
 mod Recording
 mod Programs
 mod Accepted
+mod ReadOperators
+mod AcceptedScripts

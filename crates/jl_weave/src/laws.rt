@@ -1,5 +1,5 @@
 //! Laws over the definitions; each is the contract of a function that does nothing.
-ghost use Rattle.std.specs.Prelude.{◌≡◌, ◌+◌, ◌*◌, ◌≤◌, [], ℕ, List, length};
+ghost use Rattle.std.specs.Prelude.{◌≡◌, ◌+◌, ◌*◌, ◌<◌, ◌≤◌, [], ℕ, List, length};
 ghost use Rattle.jl_text.specs.declared.span.Span.{Span};
 ghost use Rattle.jl_token.specs.declared.token.Token.{Token};
 ghost use Rattle.jl_ast.specs.Tree.{Program};
@@ -29,4 +29,11 @@ pub fn few_ids()
 /// A script without early errors is plain, where its compound assignments have operators of 11.13: it doesn't name `J$`.
 pub fn scripts_without_early_errors_are_plain()
     ensures { (p : Program Span) → early_errors_of p ≡ [] → AssignsByOperators p.body → IsPlain p.body }
+{}
+
+/// For every set of kinds the woven script simulates the script, be it any program that is read of fewer than 2^30 - 1
+/// tokens and has no early errors: it is plain and has few ids, and nothing more is asked of it.
+pub fn accepted_scripts_simulate()
+    ensures { (chosen : Kinds) (ts : List Token) (limit : ℕ) (p : Program Span) → Reads ts limit p
+        → early_errors_of p ≡ [] → length ts < 1073741823 → WovenSimulates chosen p }
 {}
