@@ -1,5 +1,5 @@
 -- Properties of object literals.
-use Rattle.std.proofs.Common.{◌≡◌, ℕ, None, Some, subst, arith}
+use Rattle.std.proofs.Common.{ℕ, None, Some, subst, arith}
 use Rattle.jl_ast.specs.Tree.{Text}
 use Rattle.jl_value.specs.declared.object.ObjId.{ObjId}
 use Rattle.jl_value.specs.declared.value.Value.{Value}

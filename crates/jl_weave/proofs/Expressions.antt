@@ -16,17 +16,16 @@ use Rattle.jl_op.specs.declared.kind.OpKind.TheVariants as kind
 use Rattle.jl_op.specs.declared.sign.UnKind.TheVariants as unary
 use Rattle.jl_effects.specs.Effects.{Step}
 use Rattle.jl_effects.specs.Matching.{ends, both, spare, plus}
-use Rattle.jl_meaning.specs.Defining.{define_own_property, plain_change}
 use Rattle.jl_meaning.specs.Expressions.{equip, evaluate, evaluate_all, fill}
-use Rattle.jl_meaning.specs.FunctionObjects.{callee_of, make_function, make_function_expression, FunctionTable}
-use Rattle.jl_meaning.specs.Parts.{Answer, Context, Expr, Exprs, Func, Part, ◌>>=◌, give, lift}
+use Rattle.jl_meaning.specs.FunctionObjects.{callee_of, make_function_expression, FunctionTable}
+use Rattle.jl_meaning.specs.Parts.{Answer, Context, Expr, Exprs, Part, ◌>>=◌, give}
 use Rattle.jl_meaning.specs.Store.{Store}
 use Rattle.jl_meaning.specs.forms.Calls.{call_member, call_value}
 use Rattle.jl_meaning.specs.forms.HookCalls.{binary_of, count, deletes, gets, makes, opens_assign, opens_call}
 use Rattle.jl_meaning.specs.forms.HookCalls.{opens_method, opens_new, opens_put, reads, tests, types, unary_of, updates}
 use Rattle.jl_meaning.specs.forms.HookCalls.{writes}
 use Rattle.jl_meaning.specs.forms.Hooks.{call_by_form, call_of_call}
-use Rattle.jl_meaning.specs.forms.Literals.{accessor_change, define_entry, put_element}
+use Rattle.jl_meaning.specs.forms.Literals.{put_element}
 use Rattle.jl_meaning.specs.forms.Names.{assign_name}
 use Rattle.jl_meaning.specs.forms.Operators.{decide, unary_kind, update_kind}
 use Rattle.jl_weave.specs.HookCalls as weaving
@@ -48,7 +47,7 @@ use Rattle.jl_weave.proofs.HookNames.{form_Z, word_A, word_B, word_I, word_U}
 use Rattle.jl_weave.proofs.HookedNames.{computed_hook, had_back_hook, updated_hook}
 use Rattle.jl_weave.proofs.Literals.{array_as_is, array_told, function_as_is, function_told, literal_silent}
 use Rattle.jl_weave.proofs.Literals.{literal_told, object_as_is, object_told}
-use Rattle.jl_weave.proofs.MadeFunctions.{expression_same, make_same}
+use Rattle.jl_weave.proofs.MadeFunctions.{expression_same}
 use Rattle.jl_weave.proofs.Members.{compute_dot_silent, compute_index_silent, delete_dot_silent, delete_dot_told}
 use Rattle.jl_weave.proofs.Members.{delete_index_silent, delete_index_told, delete_other, dot_silent, dot_told}
 use Rattle.jl_weave.proofs.Members.{index_silent, index_told, put_dot_silent, put_index_silent, update_dot_silent}
