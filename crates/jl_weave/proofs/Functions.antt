@@ -72,10 +72,7 @@ running id id' r p =
 abbrev in_call : ℕ → Bool → Running → Context
 in_call env strict r = record { env = env; strict = strict; call = Some r }
 
--- a hook without arguments
-abbrev hooked : (id : ℕ) → Context → Part (Answer Value) → Part (Answer Value)
-hooked id c p = Step (Step p)
-
+-- and how it ends by L
 abbrev left_by_hook : (id id' env : ℕ) → Bool → Running → Completion → Part (Answer Value)
 left_by_hook id id' env strict r z =
     and_then (and_then (ends_as (unless_abrupt z) (then_do
