@@ -68,6 +68,9 @@ fn reported(
     let lines = Lines::new(alloc, &units)?;
     let mut map = OpMap::new(alloc);
     for from in BEGINS {
+        if map.len() > 20 {
+            return Err("a long map")?;
+        }
         let from = from.min(15);
         map.add(OpKind::Binary, Span { from, to: 15 })?;
     }
