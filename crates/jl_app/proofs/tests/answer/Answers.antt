@@ -21,8 +21,8 @@ module _ (at i : own-1.I) (y : (own-1.entry i).0.Denot) (x fresh : (own-1.entry 
       → (own-1.entry i).1.kept y ≡ summary ((own-1.entry i).1.rule_of y) []
   fresh_is k = kept_is ∙ k ∙ ap (λ r. summary r []) (sym rule_is)
 
-pub jlint-requires-clause-rules : goal.jlint-requires-clause-rules
-jlint-requires-clause-rules c =
+pub jlint-status-requires-clause-rules : goal.jlint-status-requires-clause-rules
+jlint-status-requires-clause-rules c =
     c.of-crowd.ensures.rules ∙ ap (map _) c.in_ok-from_array.ensures.items
     ∙ cons_is (rule_is (inl tt) c.into_dyn_box.result.vtable c.into_dyn_box.result.value c.in_ok-new.field-0.value c.fresh.result c.into_dyn_box.ensures.1 c.in_ok-new.ensures.ok)
     (cons_is (rule_is (inr (inl tt)) c.into_dyn_box-in_ok-new-2.result.vtable c.into_dyn_box-in_ok-new-2.result.value c.in_ok-new-2.field-0.value c.fresh-2.result c.into_dyn_box-in_ok-new-2.ensures.1 c.in_ok-new-2.ensures.ok)
@@ -46,8 +46,8 @@ jlint-requires-clause-rules c =
     (cons_is (rule_is (inr (inr (inr (inr (inr (inr (inr (inr (inr (inr (inr (inr (inr (inr (inr (inr (inr (inr (inr (inl tt)))))))))))))))))))) c.into_dyn_box-in_ok-new-20.result.vtable c.into_dyn_box-in_ok-new-20.result.value c.in_ok-new-20.field-0.value c.fresh-20.result c.into_dyn_box-in_ok-new-20.ensures.1 c.in_ok-new-20.ensures.ok)
     (refl))))))))))))))))))))
 
-pub jlint-requires-clause-fresh : goal.jlint-requires-clause-fresh
-jlint-requires-clause-fresh c =
+pub jlint-status-requires-clause-fresh : goal.jlint-status-requires-clause-fresh
+jlint-status-requires-clause-fresh c =
     c.of-crowd.ensures.stands []
     (subst (λ xs. All (λ b. (own-1.entry b.vtable).1.kept b.value ≡ summary ((own-1.entry b.vtable).1.rule_of b.value) []) xs)
     (sym c.in_ok-from_array.ensures.items) (each_all {P = λ b. (own-1.entry b.vtable).1.kept b.value ≡ summary ((own-1.entry b.vtable).1.rule_of b.value) []} (
