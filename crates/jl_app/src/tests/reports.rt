@@ -4,11 +4,11 @@ use jl_analysis::{Analysis, Crowd, RuleSet};
 use jl_ast::BinOp;
 use jl_lex::comments;
 use jl_num::Num;
-use jl_op::{Observer, Op, OpId, OpKind, OpMap, UnKind};
-use jl_report::{Line, Off, off, report};
+use jl_op::{Observer, Op, OpId, UnKind};
+use jl_report::{Line, Off, off, report_at};
 use jl_rules_type::{LooseEqual, NanMade};
 use jl_rules_use::ForInArray;
-use jl_text::{Lines, Span, Text, from_utf8};
+use jl_text::{Lines, Text, from_utf8};
 use jl_value::{Class, ObjId, Seen, Value};
 use std::alloc::Global;
 use std::process::Abort;
@@ -16,8 +16,18 @@ use std::test::Fail;
 
 const SOURCE: &str = "print(1 == 2);\nx; // jlint-off nan-made\n";
 
-/// Where the parts with the ids from 1 on begin: 1:1 five times, 1:7 twice, 1:12 and 2:1.
-const BEGINS: [u32; 9] = [0, 0, 0, 0, 0, 6, 6, 11, 15];
+/// Where the parts with the ids from 1 on begin.
+const BEGINS: [(u32, u32); 9] = [
+    (1, 1),
+    (1, 1),
+    (1, 1),
+    (1, 1),
+    (1, 1),
+    (1, 7),
+    (1, 7),
+    (1, 12),
+    (2, 1),
+];
 
 fn primitive(value: Value) -> Seen {
     Seen {
@@ -62,24 +72,16 @@ fn reported(
     switched: bool,
 ) -> Result<Vec<Line>, Fail> {
     let units = from_utf8(alloc, SOURCE.as_bytes())?;
-    if units.len() < 15 || units.len() > 1000 {
+    if units.len() > 1000 {
         return Err("another source")?;
     }
-    let lines = Lines::new(alloc, &units)?;
-    let mut map = OpMap::new(alloc);
-    for from in BEGINS {
-        if map.len() > 20 {
-            return Err("a long map")?;
-        }
-        let from = from.min(15);
-        map.add(OpKind::Binary, Span { from, to: 15 })?;
-    }
     let off = if switched {
+        let lines = Lines::new(alloc, &units)?;
         off(alloc, &units, &comments(alloc, &units)?, &lines)?
     } else {
         Off::none(alloc)
     };
-    Ok(report(alloc, crowd, &map, &lines, chosen, &off)?)
+    Ok(report_at(alloc, crowd, &BEGINS, chosen, &off)?)
 }
 
 fn check(rt: &impl Abort, lines: &[Line], rows: &[(u32, u32, u32, u64)]) {
