@@ -1,21 +1,15 @@
-//! Calls of jl_lex, and what jl_parse, jl_ast and jl_numbering make of a source.
+//! Calls of jl_lex.
 use crate::fault::Fault;
 use crate::words::{repeated, shown_units, shown_words, units_of};
-use jl_ast::{Function, Program, function_table, height};
 use jl_lex::{LexRefusal, comments, lex};
-use jl_parse::{ParseRefusal, parse};
 use jl_text::List;
 use jl_token::{Token, TokenKind, spelling};
 use std::alloc::Global;
-
-/// The greatest height of a tree that is read.
-const LIMIT: u32 = 1000;
 
 pub fn answer(alloc: Global, call: &str, source: &str) -> Result<String, Fault> {
     match call {
         "lex" => lexed(alloc, units_of(alloc, source)?.as_slice()),
         "comments" => commented(alloc, units_of(alloc, source)?.as_slice()),
-        "read" => read(alloc, units_of(alloc, source)?.as_slice()),
         _ => of_long(alloc, call, source),
     }
 }
@@ -31,7 +25,6 @@ fn of_long(alloc: Global, call: &str, source: &str) -> Result<String, Fault> {
     units.extend_from_slice(units_of(alloc, after)?.as_slice())?;
     match call {
         "long_lex" => counted(alloc, units.as_slice()),
-        "long_read" => read(alloc, units.as_slice()),
         _ => Err(Fault::Unreadable),
     }
 }
@@ -103,43 +96,4 @@ fn shown(alloc: Global, token: &Token) -> Result<String, Fault> {
         "{spelled}{mark}{line}@{}-{}",
         token.span.from, token.span.to
     )?)
-}
-
-/// The height of the program, and the names of its functions by their numbers.
-fn read(alloc: Global, units: &[u16]) -> Result<String, Fault> {
-    match tokens(alloc, units)? {
-        Ok(tokens) => parsed(alloc, tokens.items()),
-        Err(refusal) => Ok(refusal),
-    }
-}
-
-fn parsed(alloc: Global, tokens: &[Token]) -> Result<String, Fault> {
-    if tokens.len() > 1_000_000 {
-        return Err(Fault::Unreadable);
-    }
-    match parse(alloc, tokens, LIMIT) {
-        Ok(program) => shown_program(alloc, &program),
-        Err(ParseRefusal::Unreadable { at }) => Ok(format!(in alloc; "at {at}")?),
-        Err(ParseRefusal::NoMemory) => Err(Fault::NoMemory),
-    }
-}
-
-fn shown_program(alloc: Global, program: &Program) -> Result<String, Fault> {
-    let mut words = Vec::new(alloc);
-    for function in function_table(alloc, program)? {
-        words.push(shown_function(alloc, function)?)?;
-    }
-    let functions = shown_words(alloc, words)?;
-    Ok(format!(in alloc; "{}: {functions}", height(program))?)
-}
-
-/// Its number and its name, or where it begins if it has none.
-fn shown_function(alloc: Global, function: &Function) -> Result<String, Fault> {
-    match &function.name {
-        Some(name) => {
-            let text = shown_units(alloc, name.text.units())?;
-            Ok(format!(in alloc; "{}={text}", function.number)?)
-        }
-        None => Ok(format!(in alloc; "{}@{}", function.number, function.span.from)?),
-    }
 }
