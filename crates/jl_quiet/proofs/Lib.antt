@@ -1,0 +1,16 @@
+mod Quieted
+mod Bare
+mod Counted
+mod Declared
+mod Tables
+mod Relation
+mod Forms
+mod MadeFunctions
+mod Declarations
+mod Calls
+mod Expressions
+mod Statements
+mod Turns
+mod Functions
+mod Jobs
+mod Programs
