@@ -22,7 +22,7 @@ use Rattle.jl_meaning.specs.forms.Calls.{call_member, call_value, function_of, i
 use Rattle.jl_meaning.specs.forms.HookCalls.{asked_of, count, form_of, form_of_member, hook, hook_call, id_in}
 use Rattle.jl_meaning.specs.forms.HookCalls.{literals_of, no_hook, opener, plain, takes_arguments, word_in, worded}
 use Rattle.jl_meaning.specs.forms.HookCalls.{CalleeForm, Hook, HookCall, Opener, Shape}
-use Rattle.jl_meaning.specs.forms.Hooks.{call_by_form, call_hook, call_of_call, call_pair, close, enter_hook}
+use Rattle.jl_meaning.specs.forms.Hooks.{call_by_form, call_hook, call_of_call, call_opener, call_pair, close, enter_hook}
 use Rattle.jl_meaning.specs.forms.Hooks.{enter_opener, pending_assign, pending_call, pending_new, pending_put}
 use Rattle.jl_meaning.specs.forms.Hooks.{Arguments, Pending}
 use Rattle.jl_quiet.proofs.Bare.{bare, bare_forest}
@@ -141,12 +141,11 @@ module _ (table table' : FunctionTable) (same : (i : Inner) → callee_of table 
       stepped (bind (x h.literals) (λ vs. stepped (bind (itself (enter_opener h.id h.asked vs)) (λ pending.
       bind y (λ ws. close_alike c pending ws)))))
 
-  at_opener : (c : Context) (shape : Shape Opener) (inner l : Exprs) {first first' : Arguments}
+  opener_alike : (c : Context) (shape : Shape Opener) (inner l : Exprs) {first first' : Arguments}
       → ArgumentsAlike first first' → {second second' : Part (Answer (List Value))} → Alike second second'
-      → {p p' : Part (Answer Value)}
-      → Alike (call_of_call table c (opener shape) inner first (count l) second p)
-      (call_of_call table' c (opener shape) (bare_forest inner) first' (count (bare_forest l)) second' p')
-  at_opener c shape inner l {first' = first'} x {second' = second'} y =
+      → Alike (call_opener table c shape inner first (count l) second)
+      (call_opener table' c shape (bare_forest inner) first' (count (bare_forest l)) second')
+  opener_alike c shape inner l {first' = first'} x {second' = second'} y =
       second_is (ap₂ (λ h n. if takes_arguments shape n then call_pair table' c h first' second' else Fail Misuse)
       (sym (call_same shape inner)) (sym (count_same l)))
       (pick (takes_arguments shape (count l)) (pair_alike c (hook_call shape inner) x y) (itself (Fail Misuse)))
@@ -157,7 +156,7 @@ module _ (table table' : FunctionTable) (same : (i : Inner) → callee_of table 
       → Alike (call_of_call table c form inner first (count l) second p)
       (call_of_call table' c form (bare_forest inner) first' (count (bare_forest l)) second' p')
   at_callee c (hook shape) inner l x y z = z
-  at_callee c (opener shape) inner l x y z = at_opener c shape inner l x y
+  at_callee c (opener shape) inner l x y z = opener_alike c shape inner l x y
   at_callee c no_hook inner l x y z = z
 
   pub call_of_call_alike : (c : Context) (f : Expr) (inner l : Exprs) {first first' : Arguments}

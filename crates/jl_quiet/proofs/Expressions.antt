@@ -1,5 +1,5 @@
 -- Expressions do the same with no ids, but for what they perform.
-use Rattle.std.proofs.Common.{◌≡◌, ℕ, ◌+◌, ◌++◌, List, [], ◌∷◌, Bool, Option, Some, None, zero, suc, refl, ap}
+use Rattle.std.proofs.Common.{◌≡◌, ℕ, ◌+◌, ◌++◌, List, [], ◌∷◌, Bool, true, Option, Some, None, zero, suc, refl, ap}
 use Rattle.std.specs.Prelude.{if◌then◌else◌}
 use Rattle.jl_ast.specs.Tree as tree
 use Rattle.jl_ast.specs.Tree.{Forest, Tree}
@@ -14,8 +14,9 @@ use Rattle.jl_meaning.specs.Expressions.{equip, equip_one, evaluate, evaluate_al
 use Rattle.jl_meaning.specs.Expressions.{evaluate_delete, evaluate_typeof, evaluate_update, fill, fill_one}
 use Rattle.jl_meaning.specs.FunctionObjects.{callee_of, make_function, make_function_expression, FunctionTable}
 use Rattle.jl_meaning.specs.Parts.{give, lift, Answer, Context, Expr, Exprs, Func, Part}
+use Rattle.jl_meaning.specs.Store.{next_object}
 use Rattle.jl_meaning.specs.forms.Hooks.{Arguments}
-use Rattle.jl_meaning.specs.forms.Literals.{new_array, new_plain_object, of_function, of_object}
+use Rattle.jl_meaning.specs.forms.Literals.{of_function, of_object}
 use Rattle.jl_meaning.specs.forms.Operators.{unary_kind}
 use Rattle.jl_quiet.proofs.Bare.{bare, bare_forest}
 use Rattle.jl_quiet.proofs.Calls.{by_form_alike, call_member_alike, call_of_call_alike, call_value_alike, invoke_alike}
@@ -25,7 +26,7 @@ use Rattle.jl_quiet.proofs.Forms.{end_array_alike, literal_alike, literal_of_ali
 use Rattle.jl_quiet.proofs.Forms.{read_alike, read_member_alike, typeof_alike, update_expression_alike}
 use Rattle.jl_quiet.proofs.Forms.{update_name_alike}
 use Rattle.jl_quiet.proofs.MadeFunctions.{expression_same, make_same}
-use Rattle.jl_quiet.proofs.Relation.{bind, itself, lifted, pick, second_is, stepped, Alike}
+use Rattle.jl_quiet.proofs.Relation.{bind, changed, itself, looked, pick, second_is, stepped, Alike}
 
 made_alike : (c : Context) (f : Func)
     → Alike (lift (make_function c.strict c.env f)) (lift (make_function c.strict c.env (bare f)))
@@ -52,11 +53,11 @@ module _ (table table' : FunctionTable) (same : (i : Inner) → callee_of table 
     evaluate_alike (tree.boolean b s) c = stepped (literal_alike s 0 (value.Bool b))
     evaluate_alike (tree.null s) c = stepped (literal_alike s 0 value.Null)
     evaluate_alike (tree.array l s) c =
-        stepped (bind (itself (lift new_array)) (λ array. bind (fill_alike l array 0 c) (λ n.
-        end_array_alike s 0 array n)))
+        stepped (looked (λ store. changed (bind (fill_alike l (next_object store) 0 c) (λ n.
+        end_array_alike s 0 (next_object store) n))))
     evaluate_alike (tree.object l s) c =
-        stepped (bind (itself (lift new_plain_object)) (λ object. bind (equip_alike l object c) (λ done.
-        literal_of_alike of_object s 0 (value.Obj object))))
+        stepped (looked (λ store. changed (bind (equip_alike l (next_object store) c) (λ done.
+        literal_of_alike of_object s 0 (value.Obj (next_object store))))))
     evaluate_alike (tree.function_expression f s) c =
         stepped (bind (expression_alike c f) (λ object. literal_of_alike of_function s 0 (value.Obj object)))
     evaluate_alike (tree.dot o k s) c =

@@ -6,7 +6,8 @@ use Rattle.jl_value.specs.declared.ending.Completion.{Completion}
 use Rattle.jl_value.specs.declared.ending.Completion.TheVariants as completion
 use Rattle.jl_value.specs.declared.value.Value.{Value}
 use Rattle.jl_op.specs.Operations.{Operation}
-use Rattle.jl_effects.specs.Effects.{and_then, Begin, End, Look, Perform, Step}
+use Rattle.jl_effects.specs.Effects.{and_then, Begin, Change, End, Look, Perform, Step}
+use Rattle.jl_meaning.specs.Changes.{StoreChange}
 use Rattle.jl_meaning.specs.Completions.{ends_as, if_normal, on_given, then_do}
 use Rattle.jl_meaning.specs.Parts.{answer_of, begin_call, do_loop, for_in_loop, for_loop, given, gives, lift, throws}
 use Rattle.jl_meaning.specs.Parts.{while_loop, ◌>>=◌, Algorithm, Answer, Call, CallOf, Job, Loop, Part, Turn, TurnOf}
@@ -70,6 +71,9 @@ stepped x = record { same = ap Step x.same }
 
 pub looked : {A : Type 0} {p q : Store → Part A} → ((s : Store) → Alike (p s) (q s)) → Alike (Look p) (Look q)
 looked f = record { same = ap Look (fun_ext (λ s. (f s).same)) }
+
+pub changed : {A : Type 0} {change : StoreChange} {p q : Part A} → Alike p q → Alike (Change change p) (Change change q)
+changed {change = change} x = record { same = ap (Change change) x.same }
 
 -- a call
 pub begun : {B : Type 0} (call : Call) {k l : Value → Part (Answer B)} → ((v : Value) → Alike (k v) (l v))
