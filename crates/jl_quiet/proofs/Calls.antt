@@ -1,7 +1,8 @@
--- Calls of functions and of hooks do the same with any ids, but for what the script performs: a hook reads its id in the
+-- Calls of functions and of hooks do the same with any ids, but for what the script performs: a hook reads its id in
+-- the
 -- text of the script.
 use Rattle.std.proofs.Common.{◌≡◌, ℕ, suc, ◌+◌, ◌==◌, List, Bool, false, true, Option, Some, None, pos, refl, sym, ap}
-use Rattle.std.proofs.Common.{ap₂, subst}
+use Rattle.std.proofs.Common.{ap₂}
 use Rattle.std.specs.Option.{option_and_then}
 use Rattle.std.specs.Prelude.{if◌then◌else◌, map, option_map}
 use mathlib.Core.Path.{fun_ext}
@@ -22,12 +23,14 @@ use Rattle.jl_meaning.specs.forms.Calls.{call_member, call_value, function_of, i
 use Rattle.jl_meaning.specs.forms.HookCalls.{asked_of, count, form_of, form_of_member, hook, hook_call, id_in}
 use Rattle.jl_meaning.specs.forms.HookCalls.{literals_of, no_hook, opener, plain, takes_arguments, word_in, worded}
 use Rattle.jl_meaning.specs.forms.HookCalls.{CalleeForm, Hook, HookCall, Opener, Shape}
-use Rattle.jl_meaning.specs.forms.Hooks.{call_by_form, call_hook, call_of_call, call_opener, call_pair, close, enter_hook}
+use Rattle.jl_meaning.specs.forms.Hooks.{call_by_form, call_hook, call_of_call, call_opener, call_pair, close}
+use Rattle.jl_meaning.specs.forms.Hooks.{enter_hook}
 use Rattle.jl_meaning.specs.forms.Hooks.{enter_opener, pending_assign, pending_call, pending_new, pending_put}
 use Rattle.jl_meaning.specs.forms.Hooks.{Arguments, Pending}
 use Rattle.jl_quiet.proofs.Bare.{bare, bare_forest}
 use Rattle.jl_quiet.proofs.Forms.{read_member_alike}
-use Rattle.jl_quiet.proofs.Relation.{begun, bind, itself, lifted, looked, noted, pick, second_is, stepped, Alike}
+use Rattle.jl_quiet.proofs.Relation.{begin_call_alike, bind, itself, lift_alike, look_alike, perform_alike, pick}
+use Rattle.jl_quiet.proofs.Relation.{second_is, step_alike, Alike}
 
 -- WHAT CALLS OF HOOKS LOOK LIKE
 pub count_same : (l : Exprs) → count (bare_forest l) ≡ count l
@@ -80,7 +83,8 @@ at_form (hook shape) l c {args' = args'} y x =
 at_form (opener shape) l c y x = record { same = refl }
 at_form no_hook l c y x = x
 
-pub by_form_alike : (o : Expr) (k : Name) (l : Exprs) (c : Context) {args args' : Arguments} → ArgumentsAlike args args'
+pub by_form_alike : (o : Expr) (k : Name) (l : Exprs) (c : Context) {args args' : Arguments}
+    → ArgumentsAlike args args'
     → {p p' : Part (Answer Value)} → Alike p p'
     → Alike (call_by_form (form_of_member o k) l c args p)
     (call_by_form (form_of_member (bare o) k) (bare_forest l) c args' p')
@@ -89,13 +93,13 @@ by_form_alike o k l c {args' = args'} y {p' = p'} x =
     (at_form (form_of_member o k) l c y x)
 
 -- a call, where what operations tell of functions is given
-abbrev told_call : (Inner → Callee) → (id : ℕ) → (callee this : Value) → List Value → (by_new : Bool)
+abbrev call_emitting : (Inner → Callee) → (id : ℕ) → (callee this : Value) → List Value → (by_new : Bool)
     → Part (Answer Value)
-told_call of id callee this args by_new = do
+call_emitting of id callee this args by_new = do
   store ← look
   f ← lift (function_of by_new store.heap callee)
-  _ ← note emits id (λ heap. op.InvokePre f (of (object_at heap f.0).inner) (seen_of heap this) (map (seen_of heap) args)
-      by_new)
+  _ ← note emits id (λ heap.
+      op.InvokePre f (of (object_at heap f.0).inner) (seen_of heap this) (map (seen_of heap) args) by_new)
   v ← begin_call CallOf (record { callee = f; this = this; args = args; by_new = by_new })
   _ ← note_value emits (id + 1) (op.InvokePost f) v
   give v
@@ -106,9 +110,11 @@ module _ (table table' : FunctionTable) (same : (i : Inner) → callee_of table 
       → Alike (invoke table performs id callee this args by_new) (invoke table' performs id' callee this args by_new)
   unfolding invoke
   invoke_alike id id' callee this args by_new =
-      looked (λ s. lifted (function_of by_new s.heap callee) (λ f. noted (begun _ (λ v. record { same = refl }))))
+      look_alike (λ s. lift_alike (function_of by_new s.heap callee) (λ f.
+      perform_alike (begin_call_alike _ (λ v. record { same = refl }))))
 
-  pub call_value_alike : (id id' : ℕ) {f f' : Part (Answer Value)} {args args' : Part (Answer (List Value))} → Alike f f'
+  pub call_value_alike : (id id' : ℕ) {f f' : Part (Answer Value)} {args args' : Part (Answer (List Value))}
+      → Alike f f'
       → Alike args args' → Alike (call_value table id f args) (call_value table' id' f' args')
   call_value_alike id id' x y = bind x (λ f. bind y (λ vs. invoke_alike id id' f value.Undefined vs false))
 
@@ -118,11 +124,11 @@ module _ (table table' : FunctionTable) (same : (i : Inner) → callee_of table 
       bind (read_member_alike get get' base key) (λ f. bind y (λ vs. invoke_alike id id' f base vs false))
 
   -- PAIRS OF CALLS
-  invoke_told : (id : ℕ) (callee this : Value) (args : List Value) (by_new : Bool)
+  invoke_emits_alike : (id : ℕ) (callee this : Value) (args : List Value) (by_new : Bool)
       → Alike (invoke table emits id callee this args by_new) (invoke table' emits id callee this args by_new)
   unfolding invoke
-  invoke_told id callee this args by_new =
-      second_is (ap (λ of. told_call of id callee this args by_new) (fun_ext same))
+  invoke_emits_alike id callee this args by_new =
+      second_is (ap (λ of. call_emitting of id callee this args by_new) (fun_ext same))
       (itself (invoke table emits id callee this args by_new))
 
   close_alike : (c : Context) (pending : Pending) (vs : List Value)
@@ -130,15 +136,15 @@ module _ (table table' : FunctionTable) (same : (i : Inner) → callee_of table 
   unfolding close
   close_alike c (pending_put id base x) vs = record { same = refl }
   close_alike c (pending_assign id o base x held) vs = record { same = refl }
-  close_alike c (pending_call pre callee this) vs = invoke_told pre callee this vs false
-  close_alike c (pending_new pre callee) vs = invoke_told pre callee value.Undefined vs true
+  close_alike c (pending_call pre callee this) vs = invoke_emits_alike pre callee this vs false
+  close_alike c (pending_new pre callee) vs = invoke_emits_alike pre callee value.Undefined vs true
 
   pair_alike : (c : Context) (h : Option (HookCall Opener)) {first first' : Arguments} → ArgumentsAlike first first'
       → {second second' : Part (Answer (List Value))} → Alike second second'
       → Alike (call_pair table c h first second) (call_pair table' c h first' second')
   pair_alike c None x y = record { same = refl }
   pair_alike c (Some h) x y =
-      stepped (bind (x h.literals) (λ vs. stepped (bind (itself (enter_opener h.id h.asked vs)) (λ pending.
+      step_alike (bind (x h.literals) (λ vs. step_alike (bind (itself (enter_opener h.id h.asked vs)) (λ pending.
       bind y (λ ws. close_alike c pending ws)))))
 
   opener_alike : (c : Context) (shape : Shape Opener) (inner l : Exprs) {first first' : Arguments}

@@ -1,4 +1,5 @@
--- What is declared: bodies with no ids bind what the bodies do, and a function with no ids is entered like the function.
+-- What is declared: bodies with no ids bind what the bodies do, and a function with no ids is entered like the
+-- function.
 use Rattle.std.proofs.Common.{◌≡◌, ℕ, Bool, not, ◌&&◌, List, refl, sym, ap, ap₂, ◌∙◌}
 use Rattle.std.specs.Prelude.{if◌then◌else◌}
 use mathlib.Core.Path.{fun_ext}
@@ -19,7 +20,7 @@ use Rattle.jl_meaning.specs.Parts.{change_store, give, look, ◌>>=◌, Algorith
 use Rattle.jl_meaning.specs.Store.{has_binding, next_environment}
 use Rattle.jl_meaning.specs.forms.Functions.{enter_function, function_context}
 use Rattle.jl_quiet.proofs.Bare.{bare, bare_forest}
-use Rattle.jl_quiet.proofs.Declared.{mentions_same, variables_same}
+use Rattle.jl_quiet.proofs.Mentions.{mentions_same, variables_same}
 use Rattle.jl_quiet.proofs.MadeFunctions.{make_same, name_same, params_same}
 use Rattle.jl_quiet.proofs.Tables.{bare_function}
 

@@ -1,6 +1,5 @@
 -- Expressions do the same with no ids, but for what they perform.
 use Rattle.std.proofs.Common.{◌≡◌, ℕ, ◌+◌, ◌++◌, List, [], ◌∷◌, Bool, true, Option, Some, None, zero, suc, refl, ap}
-use Rattle.std.specs.Prelude.{if◌then◌else◌}
 use Rattle.jl_ast.specs.Tree as tree
 use Rattle.jl_ast.specs.Tree.{Forest, Tree}
 use Rattle.jl_ast.specs.declared.ops.BinOp.{BinOp}
@@ -21,19 +20,22 @@ use Rattle.jl_meaning.specs.forms.Operators.{unary_kind}
 use Rattle.jl_quiet.proofs.Bare.{bare, bare_forest}
 use Rattle.jl_quiet.proofs.Calls.{by_form_alike, call_member_alike, call_of_call_alike, call_value_alike, invoke_alike}
 use Rattle.jl_quiet.proofs.Calls.{ArgumentsAlike}
-use Rattle.jl_quiet.proofs.Forms.{assign_member_alike, assign_name_alike, compute_name_alike, decide_alike, delete_alike}
+use Rattle.jl_quiet.proofs.Forms.{assign_member_alike, assign_name_alike, compute_name_alike, decide_alike}
+use Rattle.jl_quiet.proofs.Forms.{delete_alike}
 use Rattle.jl_quiet.proofs.Forms.{end_array_alike, literal_alike, literal_of_alike, operate_alike, operate_on_alike}
 use Rattle.jl_quiet.proofs.Forms.{read_alike, read_member_alike, typeof_alike, update_expression_alike}
 use Rattle.jl_quiet.proofs.Forms.{update_name_alike}
 use Rattle.jl_quiet.proofs.MadeFunctions.{expression_same, make_same}
-use Rattle.jl_quiet.proofs.Relation.{bind, changed, itself, looked, pick, second_is, stepped, Alike}
+use Rattle.jl_quiet.proofs.Relation.{bind, change_alike, itself, look_alike, pick, second_is, step_alike, Alike}
 
-made_alike : (c : Context) (f : Func)
+make_alike : (c : Context) (f : Func)
     → Alike (lift (make_function c.strict c.env f)) (lift (make_function c.strict c.env (bare f)))
-made_alike c f = second_is (ap (λ p. lift p) (make_same c.strict c.env f)) (itself (lift (make_function c.strict c.env f)))
+make_alike c f =
+    second_is (ap (λ p. lift p) (make_same c.strict c.env f)) (itself (lift (make_function c.strict c.env f)))
 
 expression_alike : (c : Context) (f : Func)
-    → Alike (lift (make_function_expression c.strict c.env f)) (lift (make_function_expression c.strict c.env (bare f)))
+    → Alike (lift (make_function_expression c.strict c.env f))
+    (lift (make_function_expression c.strict c.env (bare f)))
 expression_alike c f =
     second_is (ap (λ p. lift p) (expression_same c.strict c.env f))
     (itself (lift (make_function_expression c.strict c.env f)))
@@ -47,46 +49,47 @@ module _ (table table' : FunctionTable) (same : (i : Inner) → callee_of table 
   mutual
     pub evaluate_alike : (e : Expr) (c : Context) → Alike (evaluate table e c) (evaluate table' (bare e) c)
     evaluate_alike (tree.this s) c = record { same = refl }
-    evaluate_alike (tree.name x s) c = stepped (read_alike s 0 c x)
-    evaluate_alike (tree.number m s) c = stepped (literal_alike s 0 (value.Num m))
-    evaluate_alike (tree.string t s) c = stepped (literal_alike s 0 (value.Text t))
-    evaluate_alike (tree.boolean b s) c = stepped (literal_alike s 0 (value.Bool b))
-    evaluate_alike (tree.null s) c = stepped (literal_alike s 0 value.Null)
+    evaluate_alike (tree.name x s) c = step_alike (read_alike s 0 c x)
+    evaluate_alike (tree.number m s) c = step_alike (literal_alike s 0 (value.Num m))
+    evaluate_alike (tree.string t s) c = step_alike (literal_alike s 0 (value.Text t))
+    evaluate_alike (tree.boolean b s) c = step_alike (literal_alike s 0 (value.Bool b))
+    evaluate_alike (tree.null s) c = step_alike (literal_alike s 0 value.Null)
     evaluate_alike (tree.array l s) c =
-        stepped (looked (λ store. changed (bind (fill_alike l (next_object store) 0 c) (λ n.
+        step_alike (look_alike (λ store. change_alike (bind (fill_alike l (next_object store) 0 c) (λ n.
         end_array_alike s 0 (next_object store) n))))
     evaluate_alike (tree.object l s) c =
-        stepped (looked (λ store. changed (bind (equip_alike l (next_object store) c) (λ done.
+        step_alike (look_alike (λ store. change_alike (bind (equip_alike l (next_object store) c) (λ done.
         literal_of_alike of_object s 0 (value.Obj (next_object store))))))
     evaluate_alike (tree.function_expression f s) c =
-        stepped (bind (expression_alike c f) (λ object. literal_of_alike of_function s 0 (value.Obj object)))
+        step_alike (bind (expression_alike c f) (λ object. literal_of_alike of_function s 0 (value.Obj object)))
     evaluate_alike (tree.dot o k s) c =
-        stepped (bind (evaluate_alike o c) (λ base. read_member_alike s 0 base (value.Text k)))
+        step_alike (bind (evaluate_alike o c) (λ base. read_member_alike s 0 base (value.Text k)))
     evaluate_alike (tree.index o k s) c =
-        stepped (bind (evaluate_alike o c) (λ base. bind (evaluate_alike k c) (λ key. read_member_alike s 0 base key)))
+        step_alike (bind (evaluate_alike o c)
+        (λ base. bind (evaluate_alike k c) (λ key. read_member_alike s 0 base key)))
     evaluate_alike (tree.call f l s) c =
-        stepped (call_alike f l s c (evaluate_alike f c) (λ literals. values_alike literals l [] c))
+        step_alike (call_alike f l s c (evaluate_alike f c) (λ literals. values_alike literals l [] c))
     evaluate_alike (tree.new f l s) c =
-        stepped (bind (evaluate_alike f c) (λ f. bind (values_alike 0 l [] c) (λ vs.
+        step_alike (bind (evaluate_alike f c) (λ f. bind (values_alike 0 l [] c) (λ vs.
         invoke_alike table table' same s 0 f value.Undefined vs true)))
-    evaluate_alike (tree.unary un.Typeof e s) c = stepped (type_alike e s c (evaluate_alike e c))
-    evaluate_alike (tree.unary un.Delete e s) c = stepped (deleted_alike e s c (evaluate_alike e c))
+    evaluate_alike (tree.unary un.Typeof e s) c = step_alike (type_alike e s c (evaluate_alike e c))
+    evaluate_alike (tree.unary un.Delete e s) c = step_alike (deletion_alike e s c (evaluate_alike e c))
     evaluate_alike (tree.unary o e s) c =
-        stepped (bind (evaluate_alike e c) (λ v. operate_on_alike s 0 (unary_kind o) v))
-    evaluate_alike (tree.update up prefix t s) c = stepped (updated_alike t up prefix s c)
+        step_alike (bind (evaluate_alike e c) (λ v. operate_on_alike s 0 (unary_kind o) v))
+    evaluate_alike (tree.update up prefix t s) c = step_alike (update_alike t up prefix s c)
     evaluate_alike (tree.binary o a b s) c =
-        stepped (bind (evaluate_alike a c) (λ x. bind (evaluate_alike b c) (λ y. operate_alike s 0 o x y)))
+        step_alike (bind (evaluate_alike a c) (λ x. bind (evaluate_alike b c) (λ y. operate_alike s 0 o x y)))
     evaluate_alike (tree.and a b s) c =
-        stepped (bind (evaluate_alike a c) (λ v. bind (decide_alike s 0 v) (λ truth.
+        step_alike (bind (evaluate_alike a c) (λ v. bind (decide_alike s 0 v) (λ truth.
         pick truth (evaluate_alike b c) (itself (give v)))))
     evaluate_alike (tree.or a b s) c =
-        stepped (bind (evaluate_alike a c) (λ v. bind (decide_alike s 0 v) (λ truth.
+        step_alike (bind (evaluate_alike a c) (λ v. bind (decide_alike s 0 v) (λ truth.
         pick truth (itself (give v)) (evaluate_alike b c))))
     evaluate_alike (tree.conditional a b d s) c =
-        stepped (bind (evaluate_alike a c) (λ v. bind (decide_alike s 0 v) (λ truth.
+        step_alike (bind (evaluate_alike a c) (λ v. bind (decide_alike s 0 v) (λ truth.
         pick truth (evaluate_alike b c) (evaluate_alike d c))))
-    evaluate_alike (tree.assign o t e s) c = stepped (assigned_alike t o s c (evaluate_alike e c))
-    evaluate_alike (tree.comma a b s) c = stepped (bind (evaluate_alike a c) (λ v. evaluate_alike b c))
+    evaluate_alike (tree.assign o t e s) c = step_alike (assignment_alike t o s c (evaluate_alike e c))
+    evaluate_alike (tree.comma a b s) c = step_alike (bind (evaluate_alike a c) (λ v. evaluate_alike b c))
 
     -- arguments
     values_alike : (literals : ℕ) (l : Exprs) (so_far : List Value) (c : Context)
@@ -111,32 +114,32 @@ module _ (table table' : FunctionTable) (same : (i : Inner) → callee_of table 
         (call_value_alike table table' same id 0 x (y 0))
     call_alike f l id c x y = call_value_alike table table' same id 0 x (y 0)
 
-    deleted_alike : (e : Expr) (id : ℕ) (c : Context) {p p' : Part (Answer Value)} → Alike p p'
+    deletion_alike : (e : Expr) (id : ℕ) (c : Context) {p p' : Part (Answer Value)} → Alike p p'
         → Alike (evaluate_delete table e p id c) (evaluate_delete table' (bare e) p' 0 c)
-    deleted_alike (tree.name x s) id c y = record { same = refl }
-    deleted_alike (tree.dot o k s) id c y =
+    deletion_alike (tree.name x s) id c y = record { same = refl }
+    deletion_alike (tree.dot o k s) id c y =
         bind (evaluate_alike o c) (λ base. delete_alike id 0 c.strict base (value.Text k))
-    deleted_alike (tree.index o k s) id c y =
+    deletion_alike (tree.index o k s) id c y =
         bind (evaluate_alike o c) (λ base. bind (evaluate_alike k c) (λ key. delete_alike id 0 c.strict base key))
-    deleted_alike e id c y = bind y (λ v. record { same = refl })
+    deletion_alike e id c y = bind y (λ v. record { same = refl })
 
     -- an assignment of a part's value
-    assigned_alike : (t : Tree ℕ tree.target) (o : Option BinOp) (id : ℕ) (c : Context) {p p' : Part (Answer Value)}
+    assignment_alike : (t : Tree ℕ tree.target) (o : Option BinOp) (id : ℕ) (c : Context) {p p' : Part (Answer Value)}
         → Alike p p'
         → Alike (evaluate_assignment table t o p id c) (evaluate_assignment table' (bare t) o p' 0 c)
-    assigned_alike (tree.to_name x) None id c y = assign_name_alike id 0 c x.text y
-    assigned_alike (tree.to_name x) (Some o) id c y = compute_name_alike id 0 c x.text o y
-    assigned_alike (tree.to_dot a k s) o id c y =
+    assignment_alike (tree.to_name x) None id c y = assign_name_alike id 0 c x.text y
+    assignment_alike (tree.to_name x) (Some o) id c y = compute_name_alike id 0 c x.text o y
+    assignment_alike (tree.to_dot a k s) o id c y =
         bind (evaluate_alike a c) (λ base. assign_member_alike id 0 c base (value.Text k) o y)
-    assigned_alike (tree.to_index a k s) o id c y =
+    assignment_alike (tree.to_index a k s) o id c y =
         bind (evaluate_alike a c) (λ base. bind (evaluate_alike k c) (λ key. assign_member_alike id 0 c base key o y))
 
-    updated_alike : (t : Tree ℕ tree.target) (up prefix : Bool) (id : ℕ) (c : Context)
+    update_alike : (t : Tree ℕ tree.target) (up prefix : Bool) (id : ℕ) (c : Context)
         → Alike (evaluate_update table t up prefix id c) (evaluate_update table' (bare t) up prefix 0 c)
-    updated_alike (tree.to_name x) up prefix id c = update_name_alike id 0 c x.text up prefix
-    updated_alike (tree.to_dot o k s) up prefix id c =
+    update_alike (tree.to_name x) up prefix id c = update_name_alike id 0 c x.text up prefix
+    update_alike (tree.to_dot o k s) up prefix id c =
         bind (evaluate_alike o c) (λ base. update_expression_alike id 0 c base (value.Text k) up prefix)
-    updated_alike (tree.to_index o k s) up prefix id c =
+    update_alike (tree.to_index o k s) up prefix id c =
         bind (evaluate_alike o c) (λ base. bind (evaluate_alike k c) (λ key.
         update_expression_alike id 0 c base key up prefix))
 
@@ -159,5 +162,5 @@ module _ (table table' : FunctionTable) (same : (i : Inner) → callee_of table 
     entry_alike : (t : Tree ℕ tree.entry) (object : ObjId) (c : Context)
         → Alike (equip_one table t object c) (equip_one table' (bare t) object c)
     entry_alike (tree.value k e) object c = bind (evaluate_alike e c) (λ v. record { same = refl })
-    entry_alike (tree.getter k f) object c = bind (made_alike c f) (λ g. record { same = refl })
-    entry_alike (tree.setter k f) object c = bind (made_alike c f) (λ g. record { same = refl })
+    entry_alike (tree.getter k f) object c = bind (make_alike c f) (λ g. record { same = refl })
+    entry_alike (tree.setter k f) object c = bind (make_alike c f) (λ g. record { same = refl })

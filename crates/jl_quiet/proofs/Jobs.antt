@@ -13,17 +13,17 @@ use Rattle.jl_meaning.specs.Parts.{completion_of, lift, Call, CallOf, Func, Job,
 use Rattle.jl_meaning.specs.builtins.Function.{names_of}
 use Rattle.jl_meaning.specs.builtins.Table.{builtin}
 use Rattle.jl_quiet.proofs.Bare.{bare}
-use Rattle.jl_quiet.proofs.Declared.{mentions_same}
+use Rattle.jl_quiet.proofs.Mentions.{mentions_same}
 use Rattle.jl_quiet.proofs.Functions.{script_alike}
 use Rattle.jl_quiet.proofs.MadeFunctions.{name_same, params_same}
-use Rattle.jl_quiet.proofs.Relation.{bare_job, followed, itself, looked, second_is, Alike}
+use Rattle.jl_quiet.proofs.Relation.{bare_job, then_alike, itself, look_alike, second_is, Alike}
 use Rattle.jl_quiet.proofs.Tables.{bare_function, bare_table}
 use Rattle.jl_quiet.proofs.Turns.{turn_alike}
 
 -- what operations tell of functions is the same
-told_same : (number : ℕ) (f : ScriptFunction)
+script_same : (number : ℕ) (f : ScriptFunction)
     → script_callee number (Some f) ≡ script_callee number (Some (bare_function f))
-told_same number f = at f.func
+script_same number f = at f.func
   where
     at : (g : Func) → script_callee number (Some (record { func = g; strict = f.strict }))
         ≡ script_callee number (Some (record { func = bare g; strict = f.strict }))
@@ -31,15 +31,15 @@ told_same number f = at f.func
         ap₂ (λ names mentioned. callee.Script number (length names) mentioned) (params_same params)
         (sym (mentions_same arguments_name b))
 
-found_same : (l : FunctionTable) (number k : ℕ)
+lookup_same : (l : FunctionTable) (number k : ℕ)
     → script_callee number (slice_get l k) ≡ script_callee number (slice_get (bare_table l) k)
-found_same [] number k = refl
-found_same (f ∷ l) number zero = told_same number f
-found_same (f ∷ l) number (suc k) = found_same l number k
+lookup_same [] number k = refl
+lookup_same (f ∷ l) number zero = script_same number f
+lookup_same (f ∷ l) number (suc k) = lookup_same l number k
 
 pub callees_same : (l : FunctionTable) (i : Inner) → callee_of l i ≡ callee_of (bare_table l) i
 unfolding callee_of
-callees_same l (inner.Script number env) = found_same l number number
+callees_same l (inner.Script number env) = lookup_same l number number
 callees_same l (inner.Native b) = refl
 callees_same l _ = refl
 
@@ -66,6 +66,6 @@ module _ (table : FunctionTable) where
 
   pub job_alike : (j : Job) → Alike (job table j) (job (bare_table table) (bare_job j))
   job_alike (CallOf call) =
-      looked (λ s. followed (inside_alike s.heap call (object_at s.heap call.callee.0).inner) (λ a.
+      look_alike (λ s. then_alike (inside_alike s.heap call (object_at s.heap call.callee.0).inner) (λ a.
       itself (End (completion_of a))))
   job_alike (TurnOf t) = turn_alike table (bare_table table) (callees_same table) t

@@ -1,7 +1,7 @@
-mod Quieted
+mod QuietParts
 mod Bare
-mod Counted
-mod Declared
+mod BareIds
+mod Mentions
 mod Tables
 mod Relation
 mod Forms
@@ -13,4 +13,4 @@ mod Statements
 mod Turns
 mod Functions
 mod Jobs
-mod Programs
+pub mod Programs

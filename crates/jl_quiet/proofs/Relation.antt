@@ -1,5 +1,5 @@
 -- Parts that do the same but for what the script performs and for the ids of loops, and how they are put together.
-use Rattle.std.proofs.Common.{◌≡◌, ℕ, Bool, true, false, refl, sym, ap, ap₂, ◌∙◌, subst}
+use Rattle.std.proofs.Common.{◌≡◌, Bool, true, false, refl, sym, ap, ap₂, ◌∙◌, subst}
 use Rattle.std.specs.Prelude.{if◌then◌else◌}
 use mathlib.Core.Path.{fun_ext}
 use Rattle.jl_value.specs.declared.ending.Completion.{Completion}
@@ -13,7 +13,7 @@ use Rattle.jl_meaning.specs.Parts.{answer_of, begin_call, do_loop, for_in_loop, 
 use Rattle.jl_meaning.specs.Parts.{while_loop, ◌>>=◌, Algorithm, Answer, Call, CallOf, Job, Loop, Part, Turn, TurnOf}
 use Rattle.jl_meaning.specs.Store.{Store}
 use Rattle.jl_quiet.proofs.Bare.{bare, bare_forest, bare_optional}
-use Rattle.jl_quiet.proofs.Quieted.{quieted, quieted_then}
+use Rattle.jl_quiet.proofs.QuietParts.{quiet_part, quiet_then}
 
 -- jobs with no ids
 abbrev pub bare_loop : Loop → Loop
@@ -31,54 +31,57 @@ bare_job (TurnOf t) = TurnOf (bare_turn t)
 
 -- a record, so that a goal says of which parts it is
 pub record Alike {A : Type 0} (p q : Part A) : Type 0 where
-  pub same : quieted bare_job p ≡ quieted bare_job q
+  pub same : quiet_part bare_job p ≡ quiet_part bare_job q
 
 pub itself : {A : Type 0} (p : Part A) → Alike p p
 itself p = record { same = refl }
 
 -- parts in a row
-pub followed : {A B : Type 0} {p q : Part A} {k l : A → Part B} → Alike p q → ((a : A) → Alike (k a) (l a))
+pub then_alike : {A B : Type 0} {p q : Part A} {k l : A → Part B} → Alike p q → ((a : A) → Alike (k a) (l a))
     → Alike (and_then p k) (and_then q l)
-followed {p = p} {q = q} {k = k} {l = l} x f = record {
-  same = quieted_then bare_job p k
+then_alike {p = p} {q = q} {k = k} {l = l} x f = record {
+  same = quiet_then bare_job p k
       ∙ ap₂ (λ r m. and_then r m) x.same (fun_ext (λ a. (f a).same))
-      ∙ sym (quieted_then bare_job q l);
+      ∙ sym (quiet_then bare_job q l);
 }
 
 pub bind : {A B : Type 0} {p q : Part (Answer A)} {k l : A → Part (Answer B)} → Alike p q
     → ((a : A) → Alike (k a) (l a)) → Alike (p >>= k) (q >>= l)
-bind {k = k} {l = l} x f = followed x on
+bind {k = k} {l = l} x f = then_alike x on
   where
     on : (r : Answer _) → Alike (given k r) (given l r)
     on (gives a) = f a
     on (throws v) = record { same = refl }
 
 -- what a statement does with a value
-pub valued : {A : Type 0} {p q : Part (Answer A)} {k l : A → Part Completion} → Alike p q
+pub value_alike : {A : Type 0} {p q : Part (Answer A)} {k l : A → Part Completion} → Alike p q
     → ((a : A) → Alike (k a) (l a)) → Alike (and_then p (on_given k)) (and_then q (on_given l))
-valued {k = k} {l = l} x f = followed x on
+value_alike {k = k} {l = l} x f = then_alike x on
   where
     on : (r : Answer _) → Alike (on_given k r) (on_given l r)
     on (gives a) = f a
     on (throws v) = record { same = refl }
 
-pub lifted : {A B : Type 0} (p : Algorithm A) {k l : A → Part (Answer B)} → ((a : A) → Alike (k a) (l a))
+pub lift_alike : {A B : Type 0} (p : Algorithm A) {k l : A → Part (Answer B)} → ((a : A) → Alike (k a) (l a))
     → Alike (lift p >>= k) (lift p >>= l)
-lifted p f = bind (itself (lift p)) f
+lift_alike p f = bind (itself (lift p)) f
 
-pub stepped : {A : Type 0} {p q : Part A} → Alike p q → Alike (Step p) (Step q)
-stepped x = record { same = ap Step x.same }
+pub step_alike : {A : Type 0} {p q : Part A} → Alike p q → Alike (Step p) (Step q)
+step_alike x = record { same = ap Step x.same }
 
-pub looked : {A : Type 0} {p q : Store → Part A} → ((s : Store) → Alike (p s) (q s)) → Alike (Look p) (Look q)
-looked f = record { same = ap Look (fun_ext (λ s. (f s).same)) }
+pub look_alike : {A : Type 0} {p q : Store → Part A} → ((s : Store) → Alike (p s) (q s)) → Alike (Look p) (Look q)
+look_alike f = record { same = ap Look (fun_ext (λ s. (f s).same)) }
 
-pub changed : {A : Type 0} {change : StoreChange} {p q : Part A} → Alike p q → Alike (Change change p) (Change change q)
-changed {change = change} x = record { same = ap (Change change) x.same }
+pub change_alike : {A : Type 0} {change : StoreChange} {p q : Part A} → Alike p q
+    → Alike (Change change p) (Change change q)
+change_alike {change = change} x = record { same = ap (Change change) x.same }
 
 -- a call
-pub begun : {B : Type 0} (call : Call) {k l : Value → Part (Answer B)} → ((v : Value) → Alike (k v) (l v))
+pub begin_call_alike : {B : Type 0} (call : Call) {k l : Value → Part (Answer B)} → ((v : Value) → Alike (k v) (l v))
     → Alike (begin_call CallOf call >>= k) (begin_call CallOf call >>= l)
-begun call {k = k} {l = l} f = record { same = ap (Begin (CallOf call)) (fun_ext (λ end. (on (answer_of end)).same)) }
+begin_call_alike call {k = k} {l = l} f = record {
+  same = ap (Begin (CallOf call)) (fun_ext (λ end. (on (answer_of end)).same));
+}
   where
     on : (r : Answer Value) → Alike (given k r) (given l r)
     on (gives v) = f v
@@ -95,13 +98,13 @@ pub second_is : {A : Type 0} {p q r : Part A} → q ≡ r → Alike p q → Alik
 second_is {p = p} e x = subst (Alike p) e x
 
 -- the script performs an operation, and the parts go on
-pub noted : {A : Type 0} {g h : Store → Operation} {p q : Part A} → Alike p q
+pub perform_alike : {A : Type 0} {g h : Store → Operation} {p q : Part A} → Alike p q
     → Alike (Look (λ s. Perform (g s) p)) (Look (λ s. Perform (h s) q))
-noted x = record { same = ap (λ r. Look (λ s. r)) x.same }
+perform_alike x = record { same = ap (λ r. Look (λ s. r)) x.same }
 
 -- statements one after another
 pub sequence : {p p' q q' : Part Completion} → Alike p p' → Alike q q' → Alike (then_do p q) (then_do p' q')
-sequence {q = q} {q' = q'} x y = followed x on
+sequence {q = q} {q' = q'} x y = then_alike x on
   where
     on : (how : Completion) → Alike (if_normal q how) (if_normal q' how)
     on completion.Normal = y
@@ -111,5 +114,6 @@ sequence {q = q} {q' = q'} x y = followed x on
     on (completion.Continue l) = record { same = refl }
 
 -- a part whose completion becomes another
-pub ending : (f : Completion → Completion) {p q : Part Completion} → Alike p q → Alike (ends_as f p) (ends_as f q)
-ending f x = followed x (λ how. itself (End (f how)))
+pub ending_alike : (f : Completion → Completion) {p q : Part Completion} → Alike p q
+    → Alike (ends_as f p) (ends_as f q)
+ending_alike f x = then_alike x (λ how. itself (End (f how)))

@@ -1,10 +1,9 @@
 -- Statements do the same with no ids, but for what they perform.
 use Rattle.std.proofs.Common.{◌≡◌, ℕ, ◌+◌, List, [], ◌∷◌, Option, Some, None, zero, suc, refl, sym, ap, ap₂}
 use Rattle.std.specs.Option.{option_or}
-use Rattle.std.specs.Prelude.{if◌then◌else◌, option_map}
+use Rattle.std.specs.Prelude.{option_map}
 use Rattle.jl_ast.specs.Tree as tree
 use Rattle.jl_ast.specs.Tree.{Forest, Ident, OptionalTree, Text, Tree}
-use Rattle.jl_scope.specs.Names.{among}
 use Rattle.jl_value.specs.declared.ending.Completion.{Completion}
 use Rattle.jl_value.specs.declared.ending.Completion.TheVariants as completion
 use Rattle.jl_value.specs.declared.value.Value.{Value}
@@ -14,8 +13,8 @@ use Rattle.jl_effects.specs.Effects.{Begin, End}
 use Rattle.jl_meaning.specs.Completions.{normal}
 use Rattle.jl_meaning.specs.Conversions.{to_object}
 use Rattle.jl_meaning.specs.FunctionObjects.{callee_of, FunctionTable}
-use Rattle.jl_meaning.specs.Parts.{do_loop, for_in_loop, for_loop, give, lift, while_loop, Answer, Context, Exprs, Loop}
-use Rattle.jl_meaning.specs.Parts.{Part, Stmt, Stmts, TurnOf, Visit}
+use Rattle.jl_meaning.specs.Parts.{do_loop, for_in_loop, for_loop, give, lift, while_loop, Context, Loop}
+use Rattle.jl_meaning.specs.Parts.{Stmt, Stmts, TurnOf, Visit}
 use Rattle.jl_meaning.specs.Relations.{is_nothing}
 use Rattle.jl_meaning.specs.Statements.{execute, execute_all, execute_branch, execute_from, handle, select}
 use Rattle.jl_meaning.specs.forms.Jumps.{after_labelled, return_value, throw_value}
@@ -23,19 +22,21 @@ use Rattle.jl_meaning.specs.forms.Loops.{begin_loop, visit_all, visit_first, vis
 use Rattle.jl_meaning.specs.forms.Simple.{begin_for, declare, declare_all}
 use Rattle.jl_meaning.specs.forms.Switch.{after_switch, default_of}
 use Rattle.jl_meaning.specs.forms.Try.{begin_catch, unless_abrupt}
-use Rattle.jl_quiet.proofs.Bare.{again, again_forest, again_optional, ap3, bare, bare_forest, bare_optional}
+use Rattle.jl_quiet.proofs.Bare.{bare_map, bare_map_forest, bare_map_optional, ap3, bare, bare_forest, bare_optional}
 use Rattle.jl_quiet.proofs.Expressions.{evaluate_alike}
 use Rattle.jl_quiet.proofs.Forms.{assign_name_alike, decide_alike}
-use Rattle.jl_quiet.proofs.Relation.{bare_loop, bind, ending, followed, itself, looked, noted, pick, second_is, sequence}
-use Rattle.jl_quiet.proofs.Relation.{stepped, valued, Alike}
+use Rattle.jl_quiet.proofs.Relation.{bare_loop, bind, ending_alike, then_alike, itself, look_alike, perform_alike}
+use Rattle.jl_quiet.proofs.Relation.{pick, second_is, sequence}
+use Rattle.jl_quiet.proofs.Relation.{step_alike, value_alike, Alike}
 
 -- LOOPS
 loop_again : (l : Loop) → bare_loop (bare_loop l) ≡ bare_loop l
-loop_again (do_loop l e) = ap₂ (λ p q. do_loop p q) (again_forest (λ s. 0) l) (again (λ s. 0) e)
-loop_again (while_loop e l) = ap₂ (λ p q. while_loop p q) (again (λ s. 0) e) (again_forest (λ s. 0) l)
+loop_again (do_loop l e) = ap₂ (λ p q. do_loop p q) (bare_map_forest (λ s. 0) l) (bare_map (λ s. 0) e)
+loop_again (while_loop e l) = ap₂ (λ p q. while_loop p q) (bare_map (λ s. 0) e) (bare_map_forest (λ s. 0) l)
 loop_again (for_loop e u l) =
-    ap3 (λ p q r. for_loop p q r) (again_optional (λ s. 0) e) (again_optional (λ s. 0) u) (again_forest (λ s. 0) l)
-loop_again (for_in_loop x y rest l) = ap (λ p. for_in_loop x y rest p) (again_forest (λ s. 0) l)
+    ap3 (λ p q r. for_loop p q r) (bare_map_optional (λ s. 0) e) (bare_map_optional (λ s. 0) u)
+    (bare_map_forest (λ s. 0) l)
+loop_again (for_in_loop x y rest l) = ap (λ p. for_in_loop x y rest p) (bare_map_forest (λ s. 0) l)
 
 pub loop_alike : (l : Loop) (c : Context) (labels : List Text) (id id' : ℕ)
     → Alike (begin_loop l c labels id) (begin_loop (bare_loop l) c labels id')
@@ -51,14 +52,14 @@ first_alike x l c labels id id' (v ∷ rest) = loop_alike (for_in_loop x v.name 
 pub visit_alike : (x : Text) (l : Stmts) (c : Context) (labels : List Text) (id id' : ℕ) (visits : List Visit)
     → Alike (visit_next x l c labels id visits) (visit_next x (bare_forest l) c labels id' visits)
 unfolding visit_next
-visit_alike x l c labels id id' visits = looked (λ s. first_alike x l c labels id id' (visits_left s.heap visits))
+visit_alike x l c labels id id' visits = look_alike (λ s. first_alike x l c labels id id' (visits_left s.heap visits))
 
 visit_all_alike : (x : Text) (l : Stmts) (c : Context) (labels : List Text) (id id' : ℕ) (v : Value)
     → Alike (visit_all x l c labels id v) (visit_all x (bare_forest l) c labels id' v)
 unfolding visit_all
 visit_all_alike x l c labels id id' v =
-    pick (is_nothing v) (itself normal) (valued (itself (lift (to_object v))) (λ object.
-    looked (λ s. visit_alike x l c labels id id' (visits_of s.heap object.0))))
+    pick (is_nothing v) (itself normal) (value_alike (itself (lift (to_object v))) (λ object.
+    look_alike (λ s. visit_alike x l c labels id id' (visits_of s.heap object.0))))
 
 -- OTHER FORMS
 return_alike : (id id' : ℕ) (v : Value) → Alike (return_value id v) (return_value id' v)
@@ -79,15 +80,15 @@ default_same (tree.more (tree.case tree.absent b) l) = refl
 default_same (tree.more (tree.case (tree.present e) b) l) = ap (option_map suc) (default_same l)
 
 module _ (table table' : FunctionTable) (same : (i : Inner) → callee_of table i ≡ callee_of table' i) where
-  declared_alike : (d : Tree ℕ tree.decl) (c : Context) → Alike (declare table d c) (declare table' (bare d) c)
-  declared_alike (tree.declarator x tree.absent) c = record { same = refl }
-  declared_alike (tree.declarator x (tree.present e)) c =
+  declarator_alike : (d : Tree ℕ tree.decl) (c : Context) → Alike (declare table d c) (declare table' (bare d) c)
+  declarator_alike (tree.declarator x tree.absent) c = record { same = refl }
+  declarator_alike (tree.declarator x (tree.present e)) c =
       bind (assign_name_alike x.at 0 c x.text (evaluate_alike table table' same e c)) (λ v. record { same = refl })
 
   declare_alike : (l : Forest ℕ tree.decl) (c : Context)
       → Alike (declare_all table l c) (declare_all table' (bare_forest l) c)
   declare_alike tree.end c = record { same = refl }
-  declare_alike (tree.more d l) c = bind (declared_alike d c) (λ done. declare_alike l c)
+  declare_alike (tree.more d l) c = bind (declarator_alike d c) (λ done. declare_alike l c)
 
   begin_alike : (i : Tree ℕ tree.init) (c : Context) → Alike (begin_for table i c) (begin_for table' (bare i) c)
   begin_alike tree.nothing c = record { same = refl }
@@ -107,39 +108,41 @@ module _ (table table' : FunctionTable) (same : (i : Inner) → callee_of table 
   mutual
     pub execute_alike : (a : Stmt) (labels : List Text) (c : Context)
         → Alike (execute table a labels c) (execute table' (bare a) labels c)
-    execute_alike (tree.var l s) labels c = stepped (valued (declare_alike l c) (λ done. itself normal))
+    execute_alike (tree.var l s) labels c = step_alike (value_alike (declare_alike l c) (λ done. itself normal))
     execute_alike (tree.empty s) labels c = record { same = refl }
     execute_alike (tree.expression e s) labels c =
-        stepped (valued (evaluate_alike table table' same e c) (λ v. itself normal))
-    execute_alike (tree.block l s) labels c = stepped (execute_all_alike l c)
+        step_alike (value_alike (evaluate_alike table table' same e c) (λ v. itself normal))
+    execute_alike (tree.block l s) labels c = step_alike (execute_all_alike l c)
     execute_alike (tree.if_else e a b s) labels c =
-        stepped (valued (evaluate_alike table table' same e c) (λ v. valued (decide_alike s 0 v) (λ truth.
+        step_alike (value_alike (evaluate_alike table table' same e c) (λ v. value_alike (decide_alike s 0 v) (λ truth.
         pick truth (execute_all_alike a c) (branch_alike b c))))
-    execute_alike (tree.do_while l e s) labels c = stepped (loop_alike (do_loop l e) c labels s 0)
-    execute_alike (tree.while e l s) labels c = stepped (loop_alike (while_loop e l) c labels s 0)
+    execute_alike (tree.do_while l e s) labels c = step_alike (loop_alike (do_loop l e) c labels s 0)
+    execute_alike (tree.while e l s) labels c = step_alike (loop_alike (while_loop e l) c labels s 0)
     execute_alike (tree.for i e u l s) labels c =
-        stepped (valued (begin_alike i c) (λ done. loop_alike (for_loop e u l) c labels s 0))
+        step_alike (value_alike (begin_alike i c) (λ done. loop_alike (for_loop e u l) c labels s 0))
     execute_alike (tree.for_in is_var x o l s) labels c =
-        stepped (valued (evaluate_alike table table' same o c) (λ v. noted (visit_all_alike x.text l c labels s 0 v)))
+        step_alike (value_alike (evaluate_alike table table' same o c)
+        (λ v. perform_alike (visit_all_alike x.text l c labels s 0 v)))
     execute_alike (tree.continue None s) labels c = record { same = refl }
     execute_alike (tree.continue (Some x) s) labels c = record { same = refl }
     execute_alike (tree.break None s) labels c = record { same = refl }
     execute_alike (tree.break (Some x) s) labels c = record { same = refl }
     execute_alike (tree.return tree.absent s) labels c = record { same = refl }
     execute_alike (tree.return (tree.present e) s) labels c =
-        stepped (valued (evaluate_alike table table' same e c) (λ v. return_alike s 0 v))
+        step_alike (value_alike (evaluate_alike table table' same e c) (λ v. return_alike s 0 v))
     execute_alike (tree.throw e s) labels c =
-        stepped (valued (evaluate_alike table table' same e c) (λ v. throw_alike s 0 v))
+        step_alike (value_alike (evaluate_alike table table' same e c) (λ v. throw_alike s 0 v))
     execute_alike (tree.labelled x t s) labels c =
-        stepped (ending (after_labelled x.text) (execute_alike t (x.text ∷ labels) c))
+        step_alike (ending_alike (after_labelled x.text) (execute_alike t (x.text ∷ labels) c))
     execute_alike (tree.switch e l s) labels c =
-        stepped (valued (evaluate_alike table table' same e c) (λ v. valued (select_alike 0 l v c) (λ selected.
-        ending after_switch (second_is
+        step_alike (value_alike (evaluate_alike table table' same e c)
+        (λ v. value_alike (select_alike 0 l v c) (λ selected.
+        ending_alike after_switch (second_is
         (ap (λ k. execute_from table' (option_or selected k) (bare_forest l) c) (default_same l))
         (from_alike (option_or selected (default_of l)) l c)))))
     execute_alike (tree.try l h f s) labels c =
-        stepped (followed (execute_all_alike l c) (λ tried. followed (handle_alike h tried c) (λ handled.
-        ending (unless_abrupt handled) (branch_alike f c))))
+        step_alike (then_alike (execute_all_alike l c) (λ tried. then_alike (handle_alike h tried c) (λ handled.
+        ending_alike (unless_abrupt handled) (branch_alike f c))))
     execute_alike (tree.debugger s) labels c = record { same = refl }
 
     pub execute_all_alike : (l : Stmts) (c : Context)
@@ -155,7 +158,7 @@ module _ (table table' : FunctionTable) (same : (i : Inner) → callee_of table 
     handle_alike : (h : OptionalTree ℕ tree.handler) (tried : Completion) (c : Context)
         → Alike (handle table h tried c) (handle table' (bare_optional h) tried c)
     handle_alike (tree.present (tree.catch x l)) (completion.Throw v) c =
-        valued (catch_alike x.at 0 c.env x.text v) (λ inside. execute_all_alike l (record c { env = inside }))
+        value_alike (catch_alike x.at 0 c.env x.text v) (λ inside. execute_all_alike l (record c { env = inside }))
     handle_alike _ tried c = record { same = refl }
 
     from_alike : (k : Option ℕ) (l : Forest ℕ tree.clause) (c : Context)

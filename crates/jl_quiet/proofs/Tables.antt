@@ -1,14 +1,14 @@
 -- The functions of a program with no ids are those of the program, with no ids and in the same order.
-use Rattle.std.proofs.Common.{◌≡◌, ◌∙◌, ℕ, Bool, false, List, [], ◌∷◌, ◌++◌, map, refl, sym, ap, ap₂}
+use Rattle.std.proofs.Common.{◌≡◌, ◌∙◌, ℕ, Bool, false, ◌∷◌, ◌++◌, map, refl, sym, ap, ap₂}
 use Rattle.std.proofs.lemmas.List.{map-append}
 use Rattle.jl_ast.specs.Tree.{absent, and, array, assign, binary, block, body, boolean, branch_of, break, call, case}
 use Rattle.jl_ast.specs.Tree.{catch, comma, conditional, continue, debugger, declarator, do_while, dot, empty, end}
-use Rattle.jl_ast.specs.Tree.{expr, expression, filled, for, for_in, function, function_expression, getter, handler}
+use Rattle.jl_ast.specs.Tree.{expression, filled, for, for_in, function, function_expression, getter}
 use Rattle.jl_ast.specs.Tree.{hole, if_else, index, init_expression, init_var, labelled, more, name, new, nothing}
 use Rattle.jl_ast.specs.Tree.{null, number, object, or, present, return, setter, string, switch, this, throw, to_dot}
-use Rattle.jl_ast.specs.Tree.{to_index, to_name, try, unary, update, value, var, while, Forest, Ident, OptionalTree}
+use Rattle.jl_ast.specs.Tree.{to_index, to_name, try, unary, update, value, var, while, Forest, OptionalTree}
 use Rattle.jl_ast.specs.Tree.{Program, Sort, Tree}
-use Rattle.jl_ast.specs.Tree.{code, func}
+use Rattle.jl_ast.specs.Tree.{code}
 use Rattle.jl_scope.specs.Hoisting.{strict_in}
 use Rattle.jl_meaning.specs.FunctionObjects.{FunctionTable, ScriptFunction}
 use Rattle.jl_meaning.specs.FunctionTable.{forest_functions, function_table, functions_in, optional_functions}
@@ -29,7 +29,8 @@ join : (a b : FunctionTable) {a' b' : FunctionTable} → a' ≡ bare_table a →
 join a b e f = ap₂ ◌++◌ e f ∙ sym (map-append bare_function a b)
 
 mutual
-  table_same : {x : Sort} (strict : Bool) (t : Tree ℕ x) → functions_in strict (bare t) ≡ bare_table (functions_in strict t)
+  table_same : {x : Sort} (strict : Bool) (t : Tree ℕ x) → functions_in strict (bare t)
+      ≡ bare_table (functions_in strict t)
   table_same strict (this s) = refl
   table_same strict (name x s) = refl
   table_same strict (number m s) = refl
@@ -48,7 +49,8 @@ mutual
   table_same strict (binary o a b s) = join _ _ (table_same strict a) (table_same strict b)
   table_same strict (and a b s) = join _ _ (table_same strict a) (table_same strict b)
   table_same strict (or a b s) = join _ _ (table_same strict a) (table_same strict b)
-  table_same strict (conditional a b c s) = join _ _ (join _ _ (table_same strict a) (table_same strict b)) (table_same strict c)
+  table_same strict (conditional a b c s) =
+      join _ _ (join _ _ (table_same strict a) (table_same strict b)) (table_same strict c)
   table_same strict (assign o t e s) = join _ _ (table_same strict t) (table_same strict e)
   table_same strict (comma a b s) = join _ _ (table_same strict a) (table_same strict b)
   table_same strict (to_name x) = refl
@@ -67,10 +69,13 @@ mutual
   table_same strict (empty s) = refl
   table_same strict (expression e s) = table_same strict e
   table_same strict (block l s) = table_forest strict l
-  table_same strict (if_else c a b s) = join _ _ (join _ _ (table_same strict c) (table_forest strict a)) (table_optional strict b)
+  table_same strict (if_else c a b s) =
+      join _ _ (join _ _ (table_same strict c) (table_forest strict a)) (table_optional strict b)
   table_same strict (do_while l c s) = join _ _ (table_forest strict l) (table_same strict c)
   table_same strict (while c l s) = join _ _ (table_same strict c) (table_forest strict l)
-  table_same strict (for i c u l s) = join _ _ (join _ _ (join _ _ (table_same strict i) (table_optional strict c)) (table_optional strict u)) (table_forest strict l)
+  table_same strict (for i c u l s) = join _ _
+      (join _ _ (join _ _ (table_same strict i) (table_optional strict c)) (table_optional strict u))
+      (table_forest strict l)
   table_same strict (for_in is_var x o l s) = join _ _ (table_same strict o) (table_forest strict l)
   table_same strict (continue x s) = refl
   table_same strict (break x s) = refl
@@ -78,7 +83,8 @@ mutual
   table_same strict (labelled x t s) = table_same strict t
   table_same strict (switch e l s) = join _ _ (table_same strict e) (table_forest strict l)
   table_same strict (throw e s) = table_same strict e
-  table_same strict (try l h f s) = join _ _ (join _ _ (table_forest strict l) (table_optional strict h)) (table_optional strict f)
+  table_same strict (try l h f s) =
+      join _ _ (join _ _ (table_forest strict l) (table_optional strict h)) (table_optional strict f)
   table_same strict (debugger s) = refl
   table_same strict nothing = refl
   table_same strict (init_expression e) = table_same strict e

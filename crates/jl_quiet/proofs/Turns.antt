@@ -17,7 +17,7 @@ use Rattle.jl_meaning.specs.forms.Names.{unless_hooks}
 use Rattle.jl_quiet.proofs.Bare.{bare_optional}
 use Rattle.jl_quiet.proofs.Expressions.{evaluate_alike}
 use Rattle.jl_quiet.proofs.Forms.{decide_by_alike}
-use Rattle.jl_quiet.proofs.Relation.{bare_loop, bare_turn, followed, itself, pick, sequence, valued, Alike}
+use Rattle.jl_quiet.proofs.Relation.{bare_loop, bare_turn, then_alike, itself, pick, sequence, value_alike, Alike}
 use Rattle.jl_quiet.proofs.Statements.{execute_all_alike, loop_alike, visit_alike}
 
 after_alike : (labels : List Text) {next next' : Part Completion} → Alike next next' → (how : Completion)
@@ -42,26 +42,26 @@ module _ (table table' : FunctionTable) (same : (i : Inner) → callee_of table 
   update_alike : (u : OptionalTree ℕ tree.expr) (c : Context)
       → Alike (update_loop table u c) (update_loop table' (bare_optional u) c)
   update_alike tree.absent c = record { same = refl }
-  update_alike (tree.present e) c = valued (evaluate_alike table table' same e c) (λ v. itself normal)
+  update_alike (tree.present e) c = value_alike (evaluate_alike table table' same e c) (λ v. itself normal)
 
-  turned_alike : (l : Loop) (c : Context) (labels : List Text) (id : ℕ)
+  turn_of_alike : (l : Loop) (c : Context) (labels : List Text) (id : ℕ)
       → Alike (turn table (turn_with l c labels id)) (turn table' (turn_with (bare_loop l) c labels 0))
-  turned_alike (do_loop l e) c labels id =
-      followed (execute_all_alike table table' same l c) (λ how. after_alike labels
-      (valued (test_alike (tree.present e) id c) (λ truth.
+  turn_of_alike (do_loop l e) c labels id =
+      then_alike (execute_all_alike table table' same l c) (λ how. after_alike labels
+      (value_alike (test_alike (tree.present e) id c) (λ truth.
       pick truth (loop_alike (do_loop l e) c labels id 0) (itself normal))) how)
-  turned_alike (while_loop e l) c labels id =
-      valued (test_alike (tree.present e) id c) (λ truth. pick truth
-      (followed (execute_all_alike table table' same l c) (λ how.
+  turn_of_alike (while_loop e l) c labels id =
+      value_alike (test_alike (tree.present e) id c) (λ truth. pick truth
+      (then_alike (execute_all_alike table table' same l c) (λ how.
       after_alike labels (loop_alike (while_loop e l) c labels id 0) how)) (itself normal))
-  turned_alike (for_loop e u l) c labels id =
-      valued (test_alike e id c) (λ truth. pick truth
-      (followed (execute_all_alike table table' same l c) (λ how. after_alike labels
+  turn_of_alike (for_loop e u l) c labels id =
+      value_alike (test_alike e id c) (λ truth. pick truth
+      (then_alike (execute_all_alike table table' same l c) (λ how. after_alike labels
       (sequence (update_alike u c) (loop_alike (for_loop e u l) c labels id 0)) how)) (itself normal))
-  turned_alike (for_in_loop x y rest l) c labels id =
-      valued (itself (unless_hooks x (lift (put_name c.strict c.env x (value.Text y))))) (λ done.
-      followed (execute_all_alike table table' same l c) (λ how.
+  turn_of_alike (for_in_loop x y rest l) c labels id =
+      value_alike (itself (unless_hooks x (lift (put_name c.strict c.env x (value.Text y))))) (λ done.
+      then_alike (execute_all_alike table table' same l c) (λ how.
       after_alike labels (visit_alike x l c labels id 0 rest) how))
 
   pub turn_alike : (t : Turn) → Alike (turn table t) (turn table' (bare_turn t))
-  turn_alike t = turned_alike t.loop t.context t.labels t.id
+  turn_alike t = turn_of_alike t.loop t.context t.labels t.id

@@ -31,7 +31,8 @@ quiet_mean chosen p n = quiet_run chosen (without_ids p) n (nothing_done realm)
 -- Programs that are the same but for their places have the same runs.
 abbrev pub IdsDoNotMatter : Kinds → Program ℕ → Program ℕ → Type 0
 IdsDoNotMatter chosen p q =
-    without_spans p ≡ without_spans q → (n : ℕ) (start : Start) → quiet_run chosen p n start ≡ quiet_run chosen q n start
+    without_spans p ≡ without_spans q
+    → (n : ℕ) (start : Start) → quiet_run chosen p n start ≡ quiet_run chosen q n start
 
 -- What a program means, but for what it performs, is what it comes to with no ids.
 abbrev pub QuietMeans : {S : Type 0} → Kinds → Program S → Type 0

@@ -5,8 +5,8 @@ ghost use Rattle.jl_op.specs.Chosen.{Kinds};
 ghost use Rattle.jl_quiet.specs.QuietMean.{IdsDoNotMatter, QuietMeans};
 
 /// Programs that are the same but for their places have the same quiet runs, with as many steps and from the same
-/// start: what hooks emit, the output, the store, the end and the steps that are left don't depend on ids. An id that a
-/// hook is called with is a number in the text, and no place.
+/// start: what hooks emit, the output, the store, the end and the steps that are left don't depend on ids. The id that
+/// a hook is called with is a number in the text, and no place.
 pub fn ids_do_not_matter()
     ensures { (chosen : Kinds) (p q : Program ℕ) → IdsDoNotMatter chosen p q }
 {}

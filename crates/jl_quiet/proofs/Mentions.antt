@@ -1,12 +1,12 @@
 -- A tree with no ids declares and mentions what the tree does.
-use Rattle.std.proofs.Common.{◌≡◌, ℕ, ◌||◌, List, [], ◌∷◌, ◌++◌, Option, Some, None, option_map, refl, ap, ap₂}
-use Rattle.jl_ast.specs.Tree.{absent, and, array, assign, binary, block, body, boolean, branch_of, break, call, case}
-use Rattle.jl_ast.specs.Tree.{catch, comma, conditional, continue, debugger, declarator, do_while, dot, empty, end}
-use Rattle.jl_ast.specs.Tree.{expr, expression, filled, for, for_in, function, function_expression, getter, handler}
-use Rattle.jl_ast.specs.Tree.{hole, if_else, index, init_expression, init_var, labelled, more, name, new, nothing}
-use Rattle.jl_ast.specs.Tree.{null, number, object, or, present, return, setter, string, switch, this, throw, to_dot}
+use Rattle.std.proofs.Common.{◌≡◌, ℕ, ◌||◌, [], ◌++◌, Option, Some, None, option_map, refl, ap, ap₂}
+use Rattle.jl_ast.specs.Tree.{absent, and, array, assign, binary, block, body, branch_of, call, case}
+use Rattle.jl_ast.specs.Tree.{catch, comma, conditional, declarator, do_while, dot, end}
+use Rattle.jl_ast.specs.Tree.{expression, filled, for, for_in, function}
+use Rattle.jl_ast.specs.Tree.{if_else, index, init_expression, init_var, labelled, more, name, new}
+use Rattle.jl_ast.specs.Tree.{object, or, present, return, switch, throw, to_dot}
 use Rattle.jl_ast.specs.Tree.{to_index, to_name, try, unary, update, value, var, while, Forest, Ident, OptionalTree}
-use Rattle.jl_ast.specs.Tree.{Program, Sort, Tree}
+use Rattle.jl_ast.specs.Tree.{Sort, Tree}
 use Rattle.jl_ast.specs.Tree.{code, func, Text}
 use Rattle.jl_scope.specs.Hoisting.{declared_in, declared_in_forest, declared_in_optional, function_names, name_texts}
 use Rattle.jl_scope.specs.Hoisting.{variables}
@@ -38,7 +38,8 @@ mutual
   declared_forest end = refl
   declared_forest (more t l) = ap₂ ◌++◌ (declared_same t) (declared_forest l)
 
-  declared_optional : {x : Sort} (o : OptionalTree ℕ x) → declared_in_optional (bare_optional o) ≡ declared_in_optional o
+  declared_optional : {x : Sort} (o : OptionalTree ℕ x) → declared_in_optional (bare_optional o)
+      ≡ declared_in_optional o
   declared_optional absent = refl
   declared_optional (present t) = declared_same t
 
@@ -83,7 +84,8 @@ module _ (x : Text) where
     mentions_same (if_else c a b at) = ap₂ ◌||◌ (ap₂ ◌||◌ (mentions_same c) (mentions_forest a)) (mentions_optional b)
     mentions_same (do_while l c at) = ap₂ ◌||◌ (mentions_forest l) (mentions_same c)
     mentions_same (while c l at) = ap₂ ◌||◌ (mentions_same c) (mentions_forest l)
-    mentions_same (for i c u l at) = ap₂ ◌||◌ (ap₂ ◌||◌ (ap₂ ◌||◌ (mentions_same i) (mentions_optional c)) (mentions_optional u)) (mentions_forest l)
+    mentions_same (for i c u l at) = ap₂ ◌||◌
+        (ap₂ ◌||◌ (ap₂ ◌||◌ (mentions_same i) (mentions_optional c)) (mentions_optional u)) (mentions_forest l)
     mentions_same (for_in is_var y o l at) = ap₂ ◌||◌ (ap₂ ◌||◌ refl (mentions_same o)) (mentions_forest l)
     mentions_same (return e at) = mentions_optional e
     mentions_same (labelled y t at) = mentions_same t
@@ -102,6 +104,7 @@ module _ (x : Text) where
     mentions_forest end = refl
     mentions_forest (more t l) = ap₂ ◌||◌ (mentions_same t) (mentions_forest l)
 
-    mentions_optional : {y : Sort} (o : OptionalTree ℕ y) → optional_mentions x (bare_optional o) ≡ optional_mentions x o
+    mentions_optional : {y : Sort} (o : OptionalTree ℕ y) → optional_mentions x (bare_optional o)
+        ≡ optional_mentions x o
     mentions_optional absent = refl
     mentions_optional (present t) = mentions_same t
