@@ -1,5 +1,5 @@
 -- Programs that are the same but for their places have the same quiet runs.
-use Rattle.std.proofs.Common.{◌≡◌, ℕ, ◌+◌, refl, sym, ap, ◌∙◌}
+use Rattle.std.proofs.Common.{◌≡◌, ℕ, ◌+◌, sym, ap, ◌∙◌}
 use Rattle.jl_ast.specs.Tree as tree
 use Rattle.jl_ast.specs.Tree.{Program}
 use Rattle.jl_op.specs.Chosen.{is_kept, Kinds}
@@ -49,11 +49,8 @@ over_alike table (tree.body strict fs l) at =
     let b : Code = tree.body strict fs l in
     let c : Context = global_context (program_of b at) in
     value_alike (second_is (ap (λ p. lift p) (program_same b c)) (itself (lift (declare_program b c)))) (λ done.
-    perform_alike (then_alike (sequence (body_alike table (bare_table table) (callees_same table) b c) (record {
-      same =
-          refl;
-    }))
-    (λ how. itself (end_of how))))
+    perform_alike (then_alike (sequence (body_alike table (bare_table table) (callees_same table) b c)
+    (perform_alike (itself normal))) (λ how. itself (end_of how))))
 
 program_alike : (p : Program ℕ) → Alike (script p) (script (without_ids p))
 program_alike p =

@@ -24,11 +24,11 @@ quiet_run chosen p n start = run language (quietly (is_kept chosen)) (job (funct
 abbrev pub without_ids : {S : Type 0} → Program S → Program ℕ
 without_ids p = map_spans (λ s. 0) p
 
--- the same from the realm, of a program that has no ids
+-- what a program comes to from the realm: the run of it with no ids
 abbrev pub quiet_mean : {S : Type 0} → Kinds → Program S → (steps : ℕ) → Run
 quiet_mean chosen p n = quiet_run chosen (without_ids p) n (nothing_done realm)
 
--- Programs that are the same but for their places have the same runs.
+-- Programs that are the same but for their places have the same quiet runs.
 abbrev pub IdsDoNotMatter : Kinds → Program ℕ → Program ℕ → Type 0
 IdsDoNotMatter chosen p q =
     without_spans p ≡ without_spans q
