@@ -1,10 +1,8 @@
 //! What rules ask of the values that an operation saw.
 ghost use Rattle.std.specs.Prelude.{◌≡◌};
-ghost use Rattle.std.specs.Str.{bytes_eq};
 ghost use Rattle.jl_analysis.specs.Values.{is_undefined, is_nothing, is_number, is_nan, is_text, is_object};
 ghost use Rattle.jl_analysis.specs.Values.{is_object_at, is_wrapper, are_of_one_type};
 
-use jl_text::Text;
 use jl_value::{Class, ObjId, Value};
 
 /// Whether the value is undefined.
@@ -82,23 +80,4 @@ pub fn is_wrapper(class: Class) -> bool
     ensures { result ≡ is_wrapper class }
 {
     matches!(class, Class::Boolean | Class::Number | Class::String)
-}
-
-/// Whether the text is spelled by these ASCII characters.
-pub fn is_spelled(text: &Text, spelling: &str) -> bool
-    ensures { result ≡ bytes_eq text.now spelling.now }
-{
-    let mut units = text.units();
-    let mut bytes = spelling.as_bytes();
-    while let [byte, more_bytes @ ..] = bytes {
-        let [unit, more_units @ ..] = units else {
-            return false;
-        };
-        if *unit != u16::from(*byte) {
-            return false;
-        }
-        units = more_units;
-        bytes = more_bytes;
-    }
-    units.is_empty()
 }

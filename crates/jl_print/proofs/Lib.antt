@@ -3,6 +3,7 @@ mod Fronts
 mod Skeleton
 mod Places
 mod Operators
+mod Levels
 mod Names
 mod Following
 mod BackParts

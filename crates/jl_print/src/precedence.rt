@@ -5,6 +5,7 @@ ghost use Rattle.jl_print.specs.Precedence.{fits, is_in, operator_precedence, pr
 ghost use Rattle.jl_print.specs.CanonicalTokens.{is_name, is_string};
 
 use jl_ast::{BinOp, Expr, ExprKind};
+use jl_grammar::level;
 
 /// Whether it is `in`, which stands in brackets wherever it is (11.8, 12.6.3).
 pub(crate) fn is_in(op: BinOp) -> bool
@@ -17,37 +18,19 @@ pub(crate) fn is_in(op: BinOp) -> bool
 }
 
 /// The precedence of an operator, and so the loosest that its left operand may have (11.5 to 11.10).
+#[tactic(auto, using(crate::proofs::Levels::at_most_eight))]
 pub(crate) fn operator_precedence(op: BinOp) -> u32
     ensures { result ≡ operator_precedence op }
 {
-    match op {
-        BinOp::Mul | BinOp::Div | BinOp::Rem => 3,
-        BinOp::Add | BinOp::Sub => 4,
-        BinOp::Shl | BinOp::Sar | BinOp::Shr => 5,
-        BinOp::Less | BinOp::Greater | BinOp::LessEq | BinOp::GreaterEq => 6,
-        BinOp::InstanceOf | BinOp::In => 6,
-        BinOp::Equal | BinOp::NotEqual | BinOp::StrictEqual | BinOp::StrictNotEqual => 7,
-        BinOp::BitAnd => 8,
-        BinOp::BitXor => 9,
-        BinOp::BitOr => 10,
-    }
+    2 + (9 - level(op))
 }
 
 /// The loosest precedence of an operator's right operand: one less, since all of them group to the left.
+#[tactic(auto, using(crate::proofs::Levels::at_most_eight))]
 pub(crate) fn right_precedence(op: BinOp) -> u32
     ensures { result ≡ pred (operator_precedence op) }
 {
-    match op {
-        BinOp::Mul | BinOp::Div | BinOp::Rem => 2,
-        BinOp::Add | BinOp::Sub => 3,
-        BinOp::Shl | BinOp::Sar | BinOp::Shr => 4,
-        BinOp::Less | BinOp::Greater | BinOp::LessEq | BinOp::GreaterEq => 5,
-        BinOp::InstanceOf | BinOp::In => 5,
-        BinOp::Equal | BinOp::NotEqual | BinOp::StrictEqual | BinOp::StrictNotEqual => 6,
-        BinOp::BitAnd => 7,
-        BinOp::BitXor => 8,
-        BinOp::BitOr => 9,
-    }
+    1 + (9 - level(op))
 }
 
 /// The precedence of an expression as it is printed (11.1 to 11.14), tightest first.

@@ -12,7 +12,7 @@ ghost use Rattle.jl_report.specs.Off.{with_pairs, pairs_named, pairs_of, off_by}
 use crate::off_list::Off;
 use jl_analysis::{RULE_COUNT, rule_name};
 use jl_lex::Comment;
-use jl_text::Lines;
+use jl_text::{Lines, is_spelled};
 use std::alloc::{AllocError, Global};
 
 const SPACE: u16 = 0x20;
@@ -134,21 +134,11 @@ fn rule_with(name: &[u16]) -> Option<u32>
     ensures { result ≡ rule_with name.now }
 {
     for rule in 1..=RULE_COUNT {
-        if is_spelled(name, rule_name(rule)) {
+        if is_spelled(name, rule_name(rule).as_bytes()) {
             return Some(rule);
         }
     }
     None
-}
-
-/// Whether a text is spelled by these ASCII characters.
-fn is_spelled(text: &[u16], spelling: &str) -> bool
-    ensures { result ≡ bytes_eq text.now spelling.now }
-{
-    match text_after(text, spelling) {
-        Some(rest) => rest.is_empty(),
-        None => false,
-    }
 }
 
 /// A text without the spaces at its end.

@@ -8,11 +8,10 @@ ghost use Rattle.jl_analysis.specs.Memories.{typeof_code};
 ghost use Rattle.jl_analysis.specs.TypeRules.{is_equality, is_odd_text, type_names};
 ghost use Rattle.jl_rules_type.specs.Sides.{code_of, compares};
 
-use jl_analysis::values::is_spelled;
 use jl_analysis::{Checker, Rule};
 use jl_ast::BinOp;
 use jl_op::{Op, UnKind};
-use jl_text::Text;
+use jl_text::{Text, is_spelled};
 use jl_value::Value;
 use std::alloc::{AllocError, Global};
 
@@ -117,10 +116,10 @@ fn is_odd_text(value: &Value) -> bool
 fn is_type_name(text: &Text) -> bool
     ensures { result ≡ list_any (bytes_eq text.now) type_names }
 {
-    is_spelled(text, "undefined")
-        || is_spelled(text, "object")
-        || is_spelled(text, "boolean")
-        || is_spelled(text, "number")
-        || is_spelled(text, "string")
-        || is_spelled(text, "function")
+    is_spelled(text.units(), b"undefined")
+        || is_spelled(text.units(), b"object")
+        || is_spelled(text.units(), b"boolean")
+        || is_spelled(text.units(), b"number")
+        || is_spelled(text.units(), b"string")
+        || is_spelled(text.units(), b"function")
 }

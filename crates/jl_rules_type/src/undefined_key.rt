@@ -4,9 +4,9 @@ ghost use Rattle.std.proofs.Common.{rules};
 ghost use Rattle.std.specs.Prelude.{◌≡◌, []};
 ghost use Rattle.jl_analysis.specs.TypeRules.{undefined_key};
 
-use jl_analysis::values::is_spelled;
 use jl_analysis::{Checker, Rule};
 use jl_op::Op;
+use jl_text::is_spelled;
 use std::alloc::{AllocError, Global};
 
 /// Rule 4: a property is got, put or deleted under the name `undefined`.
@@ -40,7 +40,7 @@ fn takes_undefined_key(op: &Op) -> bool
 {
     match op {
         Op::GetField { name, .. } | Op::PutField { name, .. } | Op::DeleteField { name, .. } => {
-            is_spelled(name, "undefined")
+            is_spelled(name.units(), b"undefined")
         }
         _ => false,
     }

@@ -3,6 +3,8 @@ ghost use Rattle.jl_scope.specs.Names.{same_text, among, strict_words, strict_na
 ghost use Rattle.jl_scope.specs.Names.{left_out_names};
 ghost use Rattle.jl_scope.specs.Scope.{is_left_out};
 
+use jl_text::is_spelled;
+
 const LEFT_OUT_NAMES: [&[u8]; 12] = [
     b"eval",
     b"Infinity",
@@ -50,23 +52,6 @@ pub(crate) fn is_among(name: &[u16], mut names: &[&[u16]]) -> bool
         names = rest;
     }
     false
-}
-
-/// Whether the units are these ASCII characters.
-fn is_spelled(mut units: &[u16], mut spelling: &[u8]) -> bool
-    ensures { result ≡ same_text units.entry.now spelling.entry.now }
-{
-    while let [byte, more_bytes @ ..] = spelling {
-        let [unit, more_units @ ..] = units else {
-            return false;
-        };
-        if *unit != *byte as u16 {
-            return false;
-        }
-        units = more_units;
-        spelling = more_bytes;
-    }
-    units.is_empty()
 }
 
 fn is_one_of(name: &[u16], mut table: &[&[u8]]) -> bool

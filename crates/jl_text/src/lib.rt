@@ -8,6 +8,7 @@ mod list;
 mod quoting;
 mod search;
 mod span;
+mod spelling;
 mod text;
 
 pub use encoding::{Utf8Fault, from_utf8, to_utf8};
@@ -15,5 +16,6 @@ pub use lines::Lines;
 pub use list::List;
 pub use quoting::quote;
 pub use span::Span;
+pub use spelling::is_spelled;
 pub use std::alloc::AllocError as NoMemory;
 pub use text::{MOST_UNITS, Text, TextFault};

@@ -10,18 +10,20 @@ pub returns-then-is_spelled : goal.returns-then-is_spelled
 returns-then-is_spelled c =
     let name = c.args.name.now in
     let rule = c.loop-rule.rule in
+    let same : c.as_bytes.result.now ≡ c.rule_name.result.now = c.as_bytes.ensures.value in
     ap (λ b. cond b (Some rule) (position_from (bytes_eq name) (rule + 1) (drop (rule + 1 - 1) rule_names)))
     c.if-is_spelled.ensures
-    ∙ sym (rule_turn name c.rule_name.result.now rule (omega (arith, c.loop-rule.auto.rule)) c.rule_name.ensures)
+    ∙ sym (rule_turn name c.as_bytes.result.now rule (omega (arith, c.loop-rule.auto.rule)) (ap Some same ∙ c.rule_name.ensures))
     ∙ c.loop-rule.invariant
 
 pub loop-rule-preserved : goal.loop-rule-preserved
 loop-rule-preserved c =
     let name = c.args.name.now in
     let rule = c.loop-rule.rule in
+    let same : c.as_bytes.result.now ≡ c.rule_name.result.now = c.as_bytes.ensures.value in
     ap (λ b. cond b (Some rule) (position_from (bytes_eq name) (rule + 1) (drop (rule + 1 - 1) rule_names)))
     c.if-is_spelled.ensures
-    ∙ sym (rule_turn name c.rule_name.result.now rule (omega (arith, c.loop-rule.auto.rule)) c.rule_name.ensures)
+    ∙ sym (rule_turn name c.as_bytes.result.now rule (omega (arith, c.loop-rule.auto.rule)) (ap Some same ∙ c.rule_name.ensures))
     ∙ c.loop-rule.invariant
 
 pub returns : goal.returns
