@@ -222,11 +222,11 @@ module _ (ts : List Token) (cap : ℕ) (wide : (i : ℕ) → opened ts i ≤ cap
     entry_complete {i} {j} (a_getter {c = x} a b c) f m =
         let p = after a in let q = after_key b in
         expressions.getter_step ts (deeper ts cap f) i j x a (key_is_no_colon (terminal_at ts (suc i)) b.is) b
-        (rest_complete c f (omega arith))
+        (rest_complete c f (omega arith)) (fit f i (height x + 1) (omega arith))
     entry_complete {i} {j} (a_setter {p = y} {c = x} a b c) f m =
         let p = after a in let q = after_key b in
         expressions.setter_step ts (deeper ts cap f) i j y x a (key_is_no_colon (terminal_at ts (suc i)) b.is) b
-        (rest_complete c f (omega arith))
+        (rest_complete c f (omega arith)) (fit f i (height x + 1) (omega arith))
 
     rest_complete : {i j : ℕ} {ps : List (Ident Span)} {c : Code} → ReadsRest ts i ps c j → (f : ℕ)
         → height c + cap ≤ f + opened ts i → rest_at ts (deeper ts cap f) i ≡ Some ((ps, c), j)

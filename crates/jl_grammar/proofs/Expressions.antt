@@ -199,18 +199,20 @@ module _ (ts : List Token) (d : Deeper) where
 
   pub getter_step : (i j : ℕ) (c : Code) → At ts i terminals.Get → is_colon (terminal_at ts (suc i)) ≡ false
       → Is is_key ts (suc i) → rest_at ts d (suc (suc i)) ≡ Some (([], c), j)
+      → height (tree.function 0 None [] c (span ts i j)) ≤ suc (d.room i)
       → entry_at ts d i ≡ Some (tree.getter (key_ident_at ts (suc i)) (tree.function 0 None [] c (span ts i j)), j)
   unfolding entry_at entry_by accessor_at getter_by
-  getter_step i j c e a f h = rw (e.is, entry_at) (rw (a, f.is, h, accessor_at))
+  getter_step i j c e a f h fits = rw (e.is, entry_at) (rw (a, f.is, h, accessor_at) (fitting _ _ _ _ fits))
 
   pub setter_step : (i j : ℕ) (p : Ident Span) (c : Code) → At ts i terminals.Set → is_colon (terminal_at ts (suc i)) ≡ false
       → Is is_key ts (suc i) → rest_at ts d (suc (suc i)) ≡ Some ((p ∷ [], c), j)
+      → height (tree.function 0 None (p ∷ []) c (span ts i j)) ≤ suc (d.room i)
       → entry_at ts d i ≡ Some (
         tree.setter (key_ident_at ts (suc i)) (tree.function 0 None (p ∷ []) c (span ts i j)),
         j,
       )
   unfolding entry_at entry_by accessor_at setter_by
-  setter_step i j p c e a f h = rw (e.is, entry_at) (rw (a, f.is, h, accessor_at))
+  setter_step i j p c e a f h fits = rw (e.is, entry_at) (rw (a, f.is, h, accessor_at) (fitting _ _ _ _ fits))
 
   pub rest_step : (i j k : ℕ) (ps : List (Ident Span)) (c : Code) → At ts i open_paren
       → parameters_at ts (suc i) ≡ Some (ps, j) → At ts j open_brace

@@ -270,14 +270,14 @@ module _ (ts : List Token) (d : Deeper) (sound : Sound ts d) where
   getter_sound : (i : ℕ) (ps : List (Ident Span)) (c : Code) (j : ℕ) → At ts i terminals.Get → Is is_key ts (suc i)
       → ReadsRest ts (suc (suc i)) ps c j → Holds (getter_by ts d i ps c j) (λ x. ReadsEntry ts i x.0 x.1)
   unfolding getter_by
-  getter_sound i [] c j e h r = just (a_getter e h r)
+  getter_sound i [] c j e h r = fits _ _ _ _ (just (a_getter e h r))
   getter_sound i (p ∷ ps) c j e h r = nothing
 
   setter_sound : (i : ℕ) (ps : List (Ident Span)) (c : Code) (j : ℕ) → At ts i terminals.Set → Is is_key ts (suc i)
       → ReadsRest ts (suc (suc i)) ps c j → Holds (setter_by ts d i ps c j) (λ x. ReadsEntry ts i x.0 x.1)
   unfolding setter_by
   setter_sound i [] c j e h r = nothing
-  setter_sound i (p ∷ []) c j e h r = just (a_setter e h r)
+  setter_sound i (p ∷ []) c j e h r = fits _ _ _ _ (just (a_setter e h r))
   setter_sound i (p ∷ q ∷ ps) c j e h r = nothing
 
   entry_by_sound : (i : ℕ) (k : Terminal) → terminal_at ts i ≡ k → Holds (entry_by ts d i k) (λ x. ReadsEntry ts i x.0 x.1)

@@ -215,12 +215,15 @@ module _ (ts : List Token) (d : Deeper) where
       else None
 
   unfoldable pub getter_by : ℕ → List (Ident Span) → Code → ℕ → Read (Tree Span tree.entry)
-  getter_by i [] c j = Some (tree.getter (key_ident_at ts (suc i)) (tree.function 0 None [] c (span ts i j)), j)
+  getter_by i [] c j =
+      made (d.room i) (tree.function 0 None [] c (span ts i j)) j
+      (λ f k. Some (tree.getter (key_ident_at ts (suc i)) f, k))
   getter_by i _ c j = None
 
   unfoldable pub setter_by : ℕ → List (Ident Span) → Code → ℕ → Read (Tree Span tree.entry)
-  setter_by i (p
-      ∷ []) c j = Some (tree.setter (key_ident_at ts (suc i)) (tree.function 0 None (p ∷ []) c (span ts i j)), j)
+  setter_by i (p ∷ []) c j =
+      made (d.room i) (tree.function 0 None (p ∷ []) c (span ts i j)) j
+      (λ f k. Some (tree.setter (key_ident_at ts (suc i)) f, k))
   setter_by i _ c j = None
 
   -- a property that begins with `get` or `set`

@@ -7,6 +7,7 @@ mod functions;
 mod loops;
 mod nodes;
 mod operators;
+mod part;
 mod primary;
 mod refusal;
 mod statements;
