@@ -2,6 +2,7 @@
 #![tactic(auto)]
 
 mod clauses;
+mod depth;
 mod expressions;
 mod functions;
 mod loops;
@@ -10,6 +11,7 @@ mod operators;
 mod part;
 mod primary;
 mod refusal;
+mod statement_nodes;
 mod statements;
 mod terminals;
 mod tokens;
