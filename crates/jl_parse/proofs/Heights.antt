@@ -79,5 +79,3 @@ pub made_high : {x : tree.Sort} (most h : ℕ) (t : Tree Span x) (j : ℕ) → h
     → made most t j done ≡ None
 unfolding made
 made_high most h t j e l = rw (lt-leb (height t) (suc most) (omega arith), made)
-
-pub ruleset making = (made_low, made_high)

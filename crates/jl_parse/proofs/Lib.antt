@@ -5,3 +5,4 @@ pub mod Turns
 pub mod Lists
 pub mod Heights
 pub mod Limits
+pub mod Forms

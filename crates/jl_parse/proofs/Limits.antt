@@ -18,15 +18,8 @@ use Rattle.jl_grammar.specs.Tokens.{from_at, terminal_at}
 use Rattle.jl_grammar.proofs.CountedNodes.{counted}
 use Rattle.jl_grammar.proofs.FewNodes.{body_few}
 use Rattle.jl_grammar.proofs.One.{read, reader_tells}
+use Rattle.jl_parse.proofs.Places.{opened_more, opened_none}
 use Rattle.jl_parse.specs.Refusals.{IsPlace, at_end, at_token}
-
-pub opened_none : (ts : List Token) → opened ts 0 ≡ 0
-unfolding opened
-opened_none ts = refl
-
-pub opened_more : (ts : List Token) (i : ℕ) → opened ts (i + 1) ≡ bracket (terminal_at ts i) (opened ts i)
-unfolding opened
-opened_more ts i = let e : i + 1 ≡ suc i = omega arith in ap (opened ts) e
 
 pub shallow_more : (ts : List Token) (most i : ℕ) → is_shallow ts most i ≡ true
     → bracket (terminal_at ts i) (opened ts i) ≤ most → is_shallow ts most (i + 1) ≡ true

@@ -5,7 +5,7 @@ use Rattle.std.proofs.Common.{subst, sym, length-append}
 use Rattle.std.proofs.lemmas.Bool.{cases_lt}
 use Rattle.std.proofs.lemmas.List.{get_or_append_left}
 use Rattle.std.proofs.Math.Seq.{get_or-append_seam}
-use Rattle.jl_grammar.specs.Brackets.{opened}
+use Rattle.jl_grammar.specs.Brackets.{bracket, opened}
 use Rattle.jl_grammar.proofs.One.{opened_past}
 use Rattle.std.specs.Prelude.{None, option_map, Result, IfOk}
 use Rattle.jl_token.specs.declared.token.Token.{Token}
@@ -183,15 +183,15 @@ counts_long ts (suc n) =
 
 count_there : (ts : List Token) (n i x : ℕ) → i < n → get_or (counts ts n) i x ≡ opened ts i
 count_there ts zero i x h = absurd (omega arith)
-count_there ts (suc n) i x h = by_place (cases_lt i n)
+count_there ts (suc n) i x h = by_place (cases_lt i n) (λ l. count_there ts n i x l)
   where
-    by_place : (i < n) ⊎ (n ≤ i) → get_or (counts ts (suc n)) i x ≡ opened ts i
-    by_place (inl l) =
+    by_place : (i < n) ⊎ (n ≤ i) → (i < n → get_or (counts ts n) i x ≡ opened ts i)
+        → get_or (counts ts (suc n)) i x ≡ opened ts i
+    by_place (inl l) f =
         let q = counts_long ts n in
-        get_or_append_left (counts ts n) (opened ts n ∷ []) x i (omega arith) ∙ count_there ts n i x l
-    by_place (inr l) =
+        get_or_append_left (counts ts n) (opened ts n ∷ []) x i (omega arith) ∙ f l
+    by_place (inr l) f =
         let q = counts_long ts n in let e : i ≡ length (counts ts n) = omega arith in
-        let f : length (counts ts n) ≡ n = q in
         ap (λ k. get_or (counts ts (suc n)) k x) e ∙ get_or-append_seam (counts ts n) (opened ts n) [] x
         ∙ ap (opened ts) (omega arith)
 
@@ -207,3 +207,23 @@ count_past ts cs i x s h e =
     let l = counts_long ts (length ts) in let k = ap (λ (r : List ℕ). length r) s in
     let q : (i - length ts) + length ts ≡ i = omega arith in
     e ∙ sym (opened_past ts (i - length ts)) ∙ ap (opened ts) q
+
+pub counts_more : (ts : List Token) (i : ℕ) → counts ts (i + 1) ≡ counts ts i ++ (opened ts i ∷ [])
+counts_more ts i = let e : i + 1 ≡ suc i = omega arith in ap (counts ts) e
+
+pub opened_none : (ts : List Token) → opened ts 0 ≡ 0
+unfolding opened
+opened_none ts = refl
+
+pub opened_more : (ts : List Token) (i : ℕ) → opened ts (i + 1) ≡ bracket (terminal_at ts i) (opened ts i)
+unfolding opened
+opened_more ts i = let e : i + 1 ≡ suc i = omega arith in ap (opened ts) e
+
+pub bracket_few : (k : Terminal) (n i : ℕ) → n ≤ i → bracket k n ≤ i + 1
+bracket_few (terminals.Punct puncts.LeftParen) n i h = omega arith
+bracket_few (terminals.Punct puncts.LeftBracket) n i h = omega arith
+bracket_few (terminals.Punct puncts.LeftBrace) n i h = omega arith
+bracket_few (terminals.Punct puncts.RightParen) n i h = omega arith
+bracket_few (terminals.Punct puncts.RightBracket) n i h = omega arith
+bracket_few (terminals.Punct puncts.RightBrace) n i h = omega arith
+bracket_few _ n i h = omega arith

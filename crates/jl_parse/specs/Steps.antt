@@ -69,6 +69,10 @@ abbrev pub counts : List Token → ℕ → List ℕ
 counts ts zero = []
 counts ts (suc n) = counts ts n ++ (opened ts n ∷ [])
 
+-- so many brackets are open before each token, and in the end
+abbrev pub AreCounts : List Token → List ℕ → ℕ → Type 0
+AreCounts ts before last = (before ≡ counts ts (length ts)) × (last ≡ opened ts (length ts))
+
 -- one forest after another
 abbrev pub append : {x : tree.Sort} → Forest Span x → Forest Span x → Forest Span x
 append tree.end b = b

@@ -1,10 +1,11 @@
-ghost use Rattle.std.specs.Prelude.{◌≡◌, ◌-◌, ◌<◌};
+ghost use Rattle.std.specs.Prelude.{◌≡◌, ◌-◌, ◌<◌, ◌^◌};
 
 /// How deep the parser may go on: the levels of nodes and brackets that are left, and how many brackets may be open.
 #[derive(Clone, Copy, Debug)]
 pub struct Depth {
     pub levels: u64,
     pub brackets: u64,
+    pub ghost few: { levels < 2 ^ 63 },
 }
 
 impl Depth {

@@ -23,7 +23,6 @@ use jl_text::{List, Span, Text};
 use std::alloc::Global;
 
 // An expression from one place to another, of which the highest part is so high.
-#[tactic(auto, using(jl_ast::proofs::Views::nodes, crate::proofs::Heights::making))]
 fn expression_node(
     alloc: Global,
     tokens: &Tokens,
@@ -288,7 +287,6 @@ pub fn comma_node(
 }
 
 /// A function (clause 13) from one place to another.
-#[tactic(auto, using(jl_ast::proofs::Views::nodes, crate::proofs::Heights::making))]
 pub fn function_node(
     tokens: &Tokens,
     depth: Depth,
@@ -316,7 +314,6 @@ pub fn function_node(
 }
 
 /// A function as an expression (clause 13).
-#[tactic(auto, using(jl_ast::proofs::Views::nodes, crate::proofs::Heights::making))]
 pub fn function_expression_node(
     alloc: Global,
     tokens: &Tokens,

@@ -18,7 +18,6 @@ use jl_text::List;
 use std::alloc::Global;
 
 // A statement from one place to another, of which the highest part is so high.
-#[tactic(auto, using(jl_ast::proofs::Views::nodes, crate::proofs::Heights::making))]
 fn statement_node(
     tokens: &Tokens,
     depth: Depth,
@@ -92,6 +91,7 @@ pub fn expression_statement_node(
 }
 
 /// An `if` statement without an `else` (12.5).
+#[tactic(auto, using(crate::proofs::Forms::seen))]
 pub fn if_node(
     tokens: &Tokens,
     depth: Depth,
@@ -109,6 +109,7 @@ pub fn if_node(
 }
 
 /// An `if` statement with an `else` (12.5).
+#[tactic(auto, using(crate::proofs::Forms::seen))]
 pub fn if_else_node(
     tokens: &Tokens,
     depth: Depth,
@@ -212,6 +213,7 @@ pub fn for_in_node(
 }
 
 /// A `return` statement with a value (12.9).
+#[tactic(auto, using(crate::proofs::Forms::seen))]
 pub fn return_node(
     tokens: &Tokens,
     depth: Depth,
@@ -275,6 +277,7 @@ pub fn throw_node(
 }
 
 /// A `try` statement with a `catch` alone (12.14).
+#[tactic(auto, using(crate::proofs::Forms::seen))]
 pub fn try_catch_node(
     tokens: &Tokens,
     depth: Depth,
@@ -296,6 +299,7 @@ pub fn try_catch_node(
 }
 
 /// A `try` statement with a `finally` alone (12.14).
+#[tactic(auto, using(crate::proofs::Forms::seen))]
 pub fn try_finally_node(
     tokens: &Tokens,
     depth: Depth,
@@ -317,6 +321,7 @@ pub fn try_finally_node(
 }
 
 /// A `try` statement with both (12.14).
+#[tactic(auto, using(crate::proofs::Forms::seen))]
 pub fn try_both_node(
     tokens: &Tokens,
     depth: Depth,

@@ -26,15 +26,14 @@ use std::marker::Model;
 pub struct Tokens<'a> {
     tokens: &'a [Token],
     terminals: Vec<Terminal>,
-    opened: Vec<u64>,
-    opened_in_the_end: u64,
+    brackets: Vec<u64>,
+    brackets_in_the_end: u64,
 }
 
 impl<'a> Model for Tokens<'a> {
-    ghost use Rattle.std.specs.Prelude.{◌≡◌, List, length, map};
-    ghost use Rattle.jl_grammar.specs.Brackets.{opened};
+    ghost use Rattle.std.specs.Prelude.{◌≡◌, List, map};
     ghost use Rattle.jl_grammar.specs.Terminals.{terminal_of};
-    ghost use Rattle.jl_parse.specs.Steps.{counts};
+    ghost use Rattle.jl_parse.specs.Steps.{AreCounts};
     ghost use Rattle.jl_token.specs.declared.token.Token.{Token};
 
     ghost Value = { List Token };
@@ -42,8 +41,7 @@ impl<'a> Model for Tokens<'a> {
     ghost view = { λ it. it.tokens.now };
 
     ghost invariant = { λ it. (it.terminals.items ≡ map (λ t. terminal_of t.kind) it.tokens.now)
-        × (it.opened.items ≡ counts it.tokens.now (length it.tokens.now))
-        × (it.opened_in_the_end ≡ opened it.tokens.now (length it.tokens.now)) };
+        × AreCounts it.tokens.now it.brackets.items it.brackets_in_the_end };
 }
 
 impl<'a> Tokens<'a> {
@@ -52,19 +50,19 @@ impl<'a> Tokens<'a> {
         ensures { IfOk result (λ r. r ≡ tokens.now) }
     {
         let mut terminals = Vec::with_capacity(alloc, tokens.len())?;
-        let mut opened = Vec::with_capacity(alloc, tokens.len())?;
+        let mut brackets = Vec::with_capacity(alloc, tokens.len())?;
         let mut before = 0;
         for token in tokens {
             let terminal = terminal_of(&token.kind);
             terminals.push(terminal)?;
-            opened.push(before)?;
+            brackets.push(before)?;
             before = bracket(terminal, before);
         }
         Ok(Tokens {
             tokens,
             terminals,
-            opened,
-            opened_in_the_end: before,
+            brackets,
+            brackets_in_the_end: before,
         })
     }
 
@@ -89,9 +87,9 @@ impl<'a> Tokens<'a> {
     fn opened(&self, at: usize) -> u64
         ensures { result ≡ opened self.now at }
     {
-        match self.opened.get(at) {
+        match self.brackets.get(at) {
             Some(opened) => *opened,
-            None => self.opened_in_the_end,
+            None => self.brackets_in_the_end,
         }
     }
 
@@ -99,7 +97,8 @@ impl<'a> Tokens<'a> {
     /// still open.
     #[tactic(auto, using(jl_grammar::proofs::Levels::room_is))]
     pub fn room(&self, depth: Depth, at: usize) -> u64
-        ensures { result ≡ (within self.now depth).room at }
+        ensures is { result ≡ (within self.now depth).room at }
+        ensures few { result < 2 ^ 63 }
     {
         let brackets = depth.brackets.saturating_sub(self.opened(at));
         depth.levels.saturating_sub(brackets)

@@ -7,7 +7,7 @@ use Rattle.jl_parse.proofs.tokens.Tokens.new.Given as goal
 abbrev pub invariant-loop-token : goal.invariant-loop-token
 invariant-loop-token l = record {
   seen : l.terminals.items ≡ map (λ t. terminal_of t.kind) (take l.token-index l.tokens);
-  counted : l.opened.items ≡ counts l.tokens l.token-index;
+  counted : l.brackets.items ≡ counts l.tokens l.token-index;
   now : l.before ≡ opened l.tokens l.token-index;
   few : l.before ≤ l.token-index;
 }
