@@ -317,14 +317,14 @@ fn two_hundred_levels_are_read(rt: HostRuntime) -> Result<(), Fail> {
         "198\njlint: normal steps=1003 hooks=400 reports=0\n"
     );
     let script = repeated(rt.alloc(), "print(1", "+1", 198, ");")?;
-    is_refused(&rt, rt.alloc(), script.as_bytes(), "Unreadable at 1:406")?;
+    is_refused(&rt, rt.alloc(), script.as_bytes(), "Unreadable at 1:405")?;
 
     let script = repeated(rt.alloc(), "", "!", 198, "1;")?;
     let (code, written) = answer_to(rt.alloc(), "check", script.as_bytes())?;
     assert_eq!(rt; code, 0);
     assert_eq!(rt; written.as_str(), "jlint: accepted functions=0\n");
     let script = repeated(rt.alloc(), "", "!", 199, "1;")?;
-    is_refused(&rt, rt.alloc(), script.as_bytes(), "Unreadable at 1:202")
+    is_refused(&rt, rt.alloc(), script.as_bytes(), "Unreadable at 1:200")
 }
 
 #[test]

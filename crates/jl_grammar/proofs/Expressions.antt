@@ -6,6 +6,7 @@ use Rattle.std.specs.Prelude.{◌-◌, List, Option, Some, None, nat_le, is_some
 use Rattle.jl_ast.specs.declared.ops.BinOp.{BinOp}
 use Rattle.jl_ast.specs.declared.ops.BinOp.TheVariants as ops
 use Rattle.jl_ast.specs.declared.ops.UnOp.{UnOp}
+use Rattle.jl_ast.specs.Height.{height}
 use Rattle.jl_ast.specs.Tree.{Ident, Tree, Forest, OptionalTree}
 use Rattle.jl_ast.specs.Tree as tree
 use Rattle.jl_text.specs.declared.span.Span.{Span}
@@ -27,7 +28,7 @@ use Rattle.jl_grammar.specs.Reader.{getter_by, setter_by, accessor_at, entry_by,
 use Rattle.jl_grammar.specs.Reader.{primary_at, arguments_from, arguments_at, new_at, start_at, left_by, left_from}
 use Rattle.jl_grammar.specs.Reader.{left_at, postfix_by, postfix_at, unary_by, unary_at, binary_by, binary_from}
 use Rattle.jl_grammar.specs.Reader.{binary_at, conditional_from, conditional_at, assignment_by, assignment_at}
-use Rattle.jl_grammar.specs.Reader.{comma_from, expression_at, Read, Deeper}
+use Rattle.jl_grammar.specs.Reader.{comma_from, expression_at, made, Read, Deeper}
 
 -- a infix operator has a looseness, and so at least 1
 pub some_looseness : (o : Option InfixOperator) → nat_le 1 (infix_precedence_of o) ≡ is_some o
@@ -39,6 +40,12 @@ some_looseness (Some (plain op)) = plain_looseness op
     plain_looseness _ = refl
 some_looseness (Some both) = refl
 some_looseness (Some either) = refl
+
+-- a node that is low enough is made
+pub fitting : {x : tree.Sort} {B : Type 0} (most : ℕ) (t : Tree Span x) (j : ℕ) (go : Tree Span x → ℕ → Option B)
+    → height t ≤ suc most → made most t j go ≡ go t j
+unfolding made
+fitting most t j go h = rw (le-leb _ _ h, made)
 
 module _ (ts : List Token) where
   pub last_name_step : (n i : ℕ) → Is is_identifier ts i → At ts (suc i) close_paren
@@ -105,15 +112,17 @@ module _ (ts : List Token) (d : Deeper) where
   string_step i e = rw (e.is, primary_at)
 
   pub array_step : (i j : ℕ) (xs : Forest Span tree.item) → At ts i open_bracket
-      → items_from ts d (length ts) (suc i) ≡ Some (xs, j) → primary_at ts d i ≡ Some (tree.array xs (span ts i j), j)
+      → items_from ts d (length ts) (suc i) ≡ Some (xs, j) → height (tree.array xs (span ts i j)) ≤ suc (d.room i)
+      → primary_at ts d i ≡ Some (tree.array xs (span ts i j), j)
   unfolding primary_at primary_by
-  array_step i j xs e h = rw (e.is, h, primary_at)
+  array_step i j xs e h fits = rw (e.is, h, primary_at) (fitting _ _ _ _ fits)
 
   pub object_step : (i j : ℕ) (xs : Forest Span tree.entry) → At ts i open_brace
       → entries_from ts d (length ts) (suc i) ≡ Some (xs, j)
+      → height (tree.object xs (span ts i j)) ≤ suc (d.room i)
       → primary_at ts d i ≡ Some (tree.object xs (span ts i j), j)
   unfolding primary_at primary_by
-  object_step i j xs e h = rw (e.is, h, primary_at)
+  object_step i j xs e h fits = rw (e.is, h, primary_at) (fitting _ _ _ _ fits)
 
   pub parens_step : (i j : ℕ) (t : Expr) → At ts i open_paren → d.expression false (suc i) ≡ Some (t, j)
       → At ts j close_paren → primary_at ts d i ≡ Some (t, suc j)
@@ -122,19 +131,21 @@ module _ (ts : List Token) (d : Deeper) where
 
   pub function_step : (i j : ℕ) (ps : List (Ident Span)) (c : Code) → At ts i (keyword words.Function)
       → is_identifier (terminal_at ts (suc i)) ≡ false → rest_at ts d (suc i) ≡ Some ((ps, c), j)
+      → height (tree.function_expression (tree.function 0 None ps c (span ts i j)) (span ts i j)) ≤ suc (d.room i)
       → primary_at ts d i ≡ Some (tree.function_expression (tree.function 0 None ps c (span ts i j)) (span ts i j), j)
   unfolding primary_at primary_by function_at
-  function_step i j ps c e f h = rw (e.is, primary_at) (rw (f, h, function_at))
+  function_step i j ps c e f h fits = rw (e.is, primary_at) (rw (f, h, function_at) (fitting _ _ _ _ fits))
 
   pub named_function_step : (i j : ℕ) (ps : List (Ident Span)) (c : Code) → At ts i (keyword words.Function)
       → Is is_identifier ts (suc i) → rest_at ts d (suc (suc i)) ≡ Some ((ps, c), j)
+      → height (tree.function_expression (tree.function 0 (Some (ident_at ts (suc i))) ps c (span ts i j)) (span ts i j)) ≤ suc (d.room i)
       → primary_at ts d i ≡ Some (
         tree.function_expression
             (tree.function 0 (Some (ident_at ts (suc i))) ps c (span ts i j)) (span ts i j),
         j,
       )
   unfolding primary_at primary_by function_at
-  named_function_step i j ps c e f h = rw (e.is, primary_at) (rw (f.is, h, function_at))
+  named_function_step i j ps c e f h fits = rw (e.is, primary_at) (rw (f.is, h, function_at) (fitting _ _ _ _ fits))
 
   pub no_items_step : (n i : ℕ) → At ts i close_bracket → items_from ts d n i ≡ Some (tree.end, suc i)
   unfolding items_from
@@ -188,18 +199,20 @@ module _ (ts : List Token) (d : Deeper) where
 
   pub getter_step : (i j : ℕ) (c : Code) → At ts i terminals.Get → is_colon (terminal_at ts (suc i)) ≡ false
       → Is is_key ts (suc i) → rest_at ts d (suc (suc i)) ≡ Some (([], c), j)
+      → height (tree.function 0 None [] c (span ts i j)) ≤ suc (d.room i)
       → entry_at ts d i ≡ Some (tree.getter (key_ident_at ts (suc i)) (tree.function 0 None [] c (span ts i j)), j)
   unfolding entry_at entry_by accessor_at getter_by
-  getter_step i j c e a f h = rw (e.is, entry_at) (rw (a, f.is, h, accessor_at))
+  getter_step i j c e a f h fits = rw (e.is, entry_at) (rw (a, f.is, h, accessor_at) (fitting _ _ _ _ fits))
 
   pub setter_step : (i j : ℕ) (p : Ident Span) (c : Code) → At ts i terminals.Set → is_colon (terminal_at ts (suc i)) ≡ false
       → Is is_key ts (suc i) → rest_at ts d (suc (suc i)) ≡ Some ((p ∷ [], c), j)
+      → height (tree.function 0 None (p ∷ []) c (span ts i j)) ≤ suc (d.room i)
       → entry_at ts d i ≡ Some (
         tree.setter (key_ident_at ts (suc i)) (tree.function 0 None (p ∷ []) c (span ts i j)),
         j,
       )
   unfolding entry_at entry_by accessor_at setter_by
-  setter_step i j p c e a f h = rw (e.is, entry_at) (rw (a, f.is, h, accessor_at))
+  setter_step i j p c e a f h fits = rw (e.is, entry_at) (rw (a, f.is, h, accessor_at) (fitting _ _ _ _ fits))
 
   pub rest_step : (i j k : ℕ) (ps : List (Ident Span)) (c : Code) → At ts i open_paren
       → parameters_at ts (suc i) ≡ Some (ps, j) → At ts j open_brace
@@ -210,14 +223,16 @@ module _ (ts : List Token) (d : Deeper) where
 
   pub new_start_step : (i j k : ℕ) (t : Expr) (us : Exprs) → At ts i (keyword words.New)
       → d.member (suc i) ≡ Some (t, j) → At ts j open_paren → arguments_at ts d (suc j) ≡ Some (us, k)
+      → height (tree.new t us (span ts i k)) ≤ suc (d.room i)
       → start_at ts d i ≡ Some (tree.new t us (span ts i k), k)
   unfolding start_at new_at
-  new_start_step i j k t us e h f g = rw (e.is, start_at) (rw (h, f.is, g, new_at))
+  new_start_step i j k t us e h f g fits = rw (e.is, start_at) (rw (h, f.is, g, new_at) (fitting _ _ _ _ fits))
 
   pub bare_new_start_step : (i j : ℕ) (t : Expr) → At ts i (keyword words.New) → d.member (suc i) ≡ Some (t, j)
-      → is_open_paren (terminal_at ts j) ≡ false → start_at ts d i ≡ Some (tree.new t tree.end (span ts i j), j)
+      → is_open_paren (terminal_at ts j) ≡ false → height (tree.new t tree.end (span ts i j)) ≤ suc (d.room i)
+      → start_at ts d i ≡ Some (tree.new t tree.end (span ts i j), j)
   unfolding start_at new_at
-  bare_new_start_step i j t e h f = rw (e.is, start_at) (rw (h, f, new_at))
+  bare_new_start_step i j t e h f fits = rw (e.is, start_at) (rw (h, f, new_at) (fitting _ _ _ _ fits))
 
   pub primary_start_step : (i : ℕ) → is_new (terminal_at ts i) ≡ false → start_at ts d i ≡ primary_at ts d i
   unfolding start_at
@@ -229,24 +244,26 @@ module _ (ts : List Token) (d : Deeper) where
   left_step calls n i j t h = rw (h, left_at)
 
   pub dot_step : (calls : Bool) (n i j : ℕ) (t : Expr) → At ts j dot_terminal → Is is_name ts (suc j)
+      → height (tree.dot t (text_at ts (suc j)) (span ts i (suc (suc j)))) ≤ suc (d.room i)
       → left_from ts d calls (suc n) i t j ≡ left_from ts d calls n i
       (tree.dot t (text_at ts (suc j)) (span ts i (suc (suc j)))) (suc (suc j))
   unfolding left_from left_by
-  dot_step true n i j t e f = rw (e.is, f.is, left_from)
-  dot_step false n i j t e f = rw (e.is, f.is, left_from)
+  dot_step true n i j t e f fits = rw (e.is, f.is, left_from) (fitting _ _ _ _ fits)
+  dot_step false n i j t e f fits = rw (e.is, f.is, left_from) (fitting _ _ _ _ fits)
 
   pub index_step : (calls : Bool) (n i j k : ℕ) (t u : Expr) → At ts j open_bracket
       → d.expression false (suc j) ≡ Some (u, k) → At ts k close_bracket
+      → height (tree.index t u (span ts i (suc k))) ≤ suc (d.room i)
       → left_from ts d calls (suc n) i t j ≡ left_from ts d calls n i (tree.index t u (span ts i (suc k))) (suc k)
   unfolding left_from left_by
-  index_step true n i j k t u e h f = rw (e.is, h, f.is, left_from)
-  index_step false n i j k t u e h f = rw (e.is, h, f.is, left_from)
+  index_step true n i j k t u e h f fits = rw (e.is, h, f.is, left_from) (fitting _ _ _ _ fits)
+  index_step false n i j k t u e h f fits = rw (e.is, h, f.is, left_from) (fitting _ _ _ _ fits)
 
   pub call_step : (n i j k : ℕ) (t : Expr) (us : Exprs) → At ts j open_paren
-      → arguments_at ts d (suc j) ≡ Some (us, k)
+      → arguments_at ts d (suc j) ≡ Some (us, k) → height (tree.call t us (span ts i k)) ≤ suc (d.room i)
       → left_from ts d true (suc n) i t j ≡ left_from ts d true n i (tree.call t us (span ts i k)) k
   unfolding left_from left_by
-  call_step n i j k t us e h = rw (e.is, h, left_from)
+  call_step n i j k t us e h fits = rw (e.is, h, left_from) (fitting _ _ _ _ fits)
 
   left_by_stop : (calls : Bool) (go : Expr → ℕ → Read Expr) (i j : ℕ) (t : Expr) (k : Terminal)
       → continues_left calls k ≡ false → left_by ts d calls go i t j k ≡ Some (t, j)
@@ -298,9 +315,10 @@ module _ (ts : List Token) (d : Deeper) where
 
   pub postfix_step : (n i j : ℕ) (t : Expr) (g : Tree Span tree.target) (up : Bool)
       → left_at ts d true n i ≡ Some (t, j) → IsTarget t g → UpdateAt ts j up → line_at ts j ≡ false
+      → height (tree.update up false g (span ts i (suc j))) ≤ suc (d.room i)
       → postfix_at ts d n i ≡ Some (tree.update up false g (span ts i (suc j)), suc j)
   unfolding postfix_at postfix_by
-  postfix_step n i j t g up h q e f = rw (h, e.is, f, q.is, postfix_at)
+  postfix_step n i j t g up h q e f fits = rw (h, e.is, f, q.is, postfix_at) (fitting _ _ _ _ fits)
 
   pub no_prefix_step : (n i j : ℕ) (t : Expr) → unary_operator (terminal_at ts i) ≡ None
       → update_operator (terminal_at ts i) ≡ None → postfix_at ts d n i ≡ Some (t, j) → unary_at ts d n i ≡ Some (t, j)
@@ -308,15 +326,17 @@ module _ (ts : List Token) (d : Deeper) where
   no_prefix_step n i j t e f h = rw (e, f, h, unary_at)
 
   pub prefix_step : (n i j : ℕ) (t : Expr) (op : UnOp) → PrefixAt ts i op → d.unary (suc i) ≡ Some (t, j)
+      → height (tree.unary op t (span ts i j)) ≤ suc (d.room i)
       → unary_at ts d n i ≡ Some (tree.unary op t (span ts i j), j)
   unfolding unary_at unary_by
-  prefix_step n i j t op e h = rw (e.is, h, unary_at)
+  prefix_step n i j t op e h fits = rw (e.is, h, unary_at) (fitting _ _ _ _ fits)
 
   pub update_step : (n i j : ℕ) (t : Expr) (g : Tree Span tree.target) (up : Bool)
       → unary_operator (terminal_at ts i) ≡ None → UpdateAt ts i up → left_at ts d true n (suc i) ≡ Some (t, j)
-      → IsTarget t g → unary_at ts d n i ≡ Some (tree.update up true g (span ts i j), j)
+      → IsTarget t g → height (tree.update up true g (span ts i j)) ≤ suc (d.room i)
+      → unary_at ts d n i ≡ Some (tree.update up true g (span ts i j), j)
   unfolding unary_at unary_by
-  update_step n i j t g up a e h q = rw (a, e.is, h, q.is, unary_at)
+  update_step n i j t g up a e h q fits = rw (a, e.is, h, q.is, unary_at) (fitting _ _ _ _ fits)
 
   pub binary_step : (no_in : Bool) (n m i j : ℕ) (t : Expr) → unary_at ts d n i ≡ Some (t, j)
       → binary_at ts d no_in n m i ≡ binary_from ts d no_in n m i t j
@@ -325,9 +345,11 @@ module _ (ts : List Token) (d : Deeper) where
 
   pub infix_operator_step : (no_in : Bool) (n m i j k : ℕ) (a b : Expr) (op : InfixOperator) → JoinsAt ts no_in j op → infix_precedence op ≤ m
       → d.binary no_in (pred (infix_precedence op)) (suc j) ≡ Some (b, k)
+      → height (infix_node op a b (span ts i k)) ≤ suc (d.room i)
       → binary_from ts d no_in (suc n) m i a j ≡ binary_from ts d no_in n m i (infix_node op a b (span ts i k)) k
   unfolding binary_from binary_by
-  infix_operator_step no_in n m i j k a b op e l h = rw (e.is, le-leb _ _ l, h, binary_from)
+  infix_operator_step no_in n m i j k a b op e l h fits =
+      rw (e.is, le-leb _ _ l, h, binary_from) (fitting _ _ _ _ fits)
 
   binary_by_stop : (no_in : Bool) (go : Expr → ℕ → Read Expr) (m i j : ℕ) (t : Expr) (o : Option InfixOperator)
       → (nat_le 1 (infix_precedence_of o) && nat_le (infix_precedence_of o) m) ≡ false → nat_le 1 (infix_precedence_of o) ≡ is_some o
@@ -356,9 +378,10 @@ module _ (ts : List Token) (d : Deeper) where
   pub question_step : (no_in : Bool) (n i j k m : ℕ) (c a b : Expr) → binary_at ts d no_in n 10 i ≡ Some (c, j)
       → At ts j question → d.assignment false (suc j) ≡ Some (a, k) → At ts k colon
       → d.assignment no_in (suc k) ≡ Some (b, m)
+      → height (tree.conditional c a b (span ts i m)) ≤ suc (d.room i)
       → conditional_at ts d no_in n i ≡ Some (tree.conditional c a b (span ts i m), m)
   unfolding conditional_at conditional_from
-  question_step no_in n i j k m c a b h e g f q = rw (h, e.is, g, f.is, q, conditional_at)
+  question_step no_in n i j k m c a b h e g f q fits = rw (h, e.is, g, f.is, q, conditional_at) (fitting _ _ _ _ fits)
 
   no_assignment_by : (no_in : Bool) (i j : ℕ) (t : Expr) (o : Option (Option BinOp)) → is_some o ≡ false
       → assignment_by ts d no_in i t j o ≡ Some (t, j)
@@ -375,9 +398,10 @@ module _ (ts : List Token) (d : Deeper) where
   pub assign_step : (no_in : Bool) (n i j k : ℕ) (t v : Expr) (g : Tree Span tree.target) (op : Option BinOp)
       → conditional_at ts d no_in n i ≡ Some (t, j) → IsTarget t g → AssignsAt ts j op
       → d.assignment no_in (suc j) ≡ Some (v, k)
+      → height (tree.assign op g v (span ts i k)) ≤ suc (d.room i)
       → assignment_at ts d no_in n i ≡ Some (tree.assign op g v (span ts i k), k)
   unfolding assignment_at assignment_by
-  assign_step no_in n i j k t v g op h q e f = rw (h, e.is, q.is, f, assignment_at)
+  assign_step no_in n i j k t v g op h q e f fits = rw (h, e.is, q.is, f, assignment_at) (fitting _ _ _ _ fits)
 
   pub expression_step : (no_in : Bool) (n i j : ℕ) (t : Expr) → assignment_at ts d no_in n i ≡ Some (t, j)
       → expression_at ts d no_in n i ≡ comma_from ts d no_in n i t j
@@ -385,10 +409,10 @@ module _ (ts : List Token) (d : Deeper) where
   expression_step no_in n i j t h = rw (h, expression_at)
 
   pub comma_step : (no_in : Bool) (n i j k : ℕ) (a b : Expr) → At ts j comma
-      → d.assignment no_in (suc j) ≡ Some (b, k)
+      → d.assignment no_in (suc j) ≡ Some (b, k) → height (tree.comma a b (span ts i k)) ≤ suc (d.room i)
       → comma_from ts d no_in (suc n) i a j ≡ comma_from ts d no_in n i (tree.comma a b (span ts i k)) k
   unfolding comma_from
-  comma_step no_in n i j k a b e h = rw (e.is, h, comma_from)
+  comma_step no_in n i j k a b e h fits = rw (e.is, h, comma_from) (fitting _ _ _ _ fits)
 
   pub comma_stop : (no_in : Bool) (n i j : ℕ) (t : Expr) → is_comma (terminal_at ts j) ≡ false
       → comma_from ts d no_in n i t j ≡ Some (t, j)

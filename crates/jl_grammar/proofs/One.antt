@@ -30,25 +30,26 @@ code_height : (ts : List Token) (c : Code) → program_height (program_of ts c) 
 code_height ts c = renumbered 0 c
 
 -- the reader's answer, with levels enough
-pub answer : (ts : List Token) (limit f : ℕ) (p : Program Span) (r : Reads ts limit p) → 3 * limit ≤ f
-    → body_from ts (deeper ts f) (length ts) 0 ≡ Some (r.code, length ts)
-answer ts limit f p r l =
+pub answer : (ts : List Token) (limit b f : ℕ) (p : Program Span) (r : Reads ts limit p) → 2 * limit ≤ b
+    → limit + b ≤ f → body_from ts (deeper ts b f) (length ts) 0 ≡ Some (r.code, length ts)
+answer ts limit b f p r w l =
     let e = ap program_height r.is in let h = code_height ts r.code in let low = r.low in let n = none_opened ts in
-    body_complete ts (2 * limit) r.shallow r.whole f (omega arith) (length ts) (omega arith)
+    body_complete ts b (λ i. let s = r.shallow i in omega arith) r.whole f (omega arith) (length ts) (omega arith)
 
 pub limits_agree : LimitsAgree
 limits_agree ts limit other p q r s =
-    let e = sym (answer ts limit (3 * limit + 3 * other) p r (omega arith))
-    ∙ answer ts other (3 * limit + 3 * other) q s (omega arith) in
+    let b = 2 * limit + 2 * other in let f = 3 * limit + 3 * other in
+    let e = sym (answer ts limit b f p r (omega arith) (omega arith))
+    ∙ answer ts other b f q s (omega arith) (omega arith) in
     r.is ∙ ap (λ (x : Code × ℕ). program_of ts x.0) (same_Some _ _ e) ∙ sym s.is
 
 pub one_reading : OneReading
 one_reading ts limit p q r s = limits_agree ts limit limit p q r s
 
 -- what the reader reads
-pub read : (ts : List Token) (f : ℕ) (c : Code) (j : ℕ) → body_from ts (deeper ts f) (length ts) 0 ≡ Some (c, j)
+pub read : (ts : List Token) (b f : ℕ) (c : Code) (j : ℕ) → body_from ts (deeper ts b f) (length ts) 0 ≡ Some (c, j)
     → ReadsBody ts 0 c j
-read ts f c j e = of_holds _ _ _ (body_sound ts (deeper ts f) (deeper_sound ts f) (length ts) 0) e
+read ts b f c j e = of_holds _ _ _ (body_sound ts (deeper ts b f) (deeper_sound ts b f) (length ts) 0) e
   where
     of_holds : (o : Option (Code × ℕ)) (c : Code) (j : ℕ) → Holds o (λ x. ReadsBody ts 0 x.0 x.1) → o ≡ Some (c, j)
         → ReadsBody ts 0 c j
@@ -98,7 +99,7 @@ is_shallow_there ts most h zero = refl
 is_shallow_there ts most h (suc n) = rw (le-leb _ _ (h (suc n)), is_shallow_there ts most h n) refl
 
 module _ (ts : List Token) (limit : ℕ) (p : Program Span) where
-  tells_code : (x : Code × ℕ) → body_from ts (deeper ts (3 * limit)) (length ts) 0 ≡ Some x
+  tells_code : (x : Code × ℕ) → body_from ts (deeper ts (2 * limit) (3 * limit)) (length ts) 0 ≡ Some x
       → is_shallow ts (2 * limit) (length ts) ≡ true
       → (b : Bool) → (nat_eq x.1 (length ts) && nat_le (program_height (program_of ts x.0)) limit) ≡ b
       → (if b then Some (program_of ts x.0) else None) ≡ Some p → Reads ts limit p
@@ -107,7 +108,7 @@ module _ (ts : List Token) (limit : ℕ) (p : Program Span) where
       let q = same_Some _ _ h in let l = leb-true _ _ b.1 in let w = ap program_height q in
       record {
         code = x.0;
-        whole = subst (λ j. ReadsBody ts 0 x.0 j) (eqb-true _ _ b.0) (read ts (3 * limit) x.0 x.1 f);
+        whole = subst (λ j. ReadsBody ts 0 x.0 j) (eqb-true _ _ b.0) (read ts (2 * limit) (3 * limit) x.0 x.1 f);
         is = sym q;
         low = omega arith;
         shallow = shallow_everywhere ts (2 * limit) s;
@@ -115,7 +116,7 @@ module _ (ts : List Token) (limit : ℕ) (p : Program Span) where
   tells_code x f s false e h = cc
 
   tells : (s : Bool) → is_shallow ts (2 * limit) (length ts) ≡ s → (o : Option (Code × ℕ))
-      → body_from ts (deeper ts (3 * limit)) (length ts) 0 ≡ o
+      → body_from ts (deeper ts (2 * limit) (3 * limit)) (length ts) 0 ≡ o
       → (if s then option_and_then (λ x. if nat_eq x.1 (length ts) && nat_le
       (program_height (program_of ts x.0)) limit then Some (program_of ts x.0) else None) o else None) ≡ Some p
       → Reads ts limit p
@@ -130,7 +131,7 @@ module _ (ts : List Token) (limit : ℕ) (p : Program Span) where
   told : Reads ts limit p → program_at ts limit ≡ Some p
   unfolding program_at
   told r =
-      let a = answer ts limit (3 * limit) p r (omega arith) in let w = ap program_height r.is in let l = r.low in
+      let a = answer ts limit (2 * limit) (3 * limit) p r (omega arith) (omega arith) in let w = ap program_height r.is in let l = r.low in
       rw (
         is_shallow_there ts (2 * limit) r.shallow (length ts),
         a,

@@ -32,7 +32,7 @@ use Rattle.jl_grammar.proofs.Holds.{Holds, nothing, just, after, weaken, test, w
 use Rattle.jl_grammar.proofs.Holds.{close_paren_terminal, close_brace_terminal, open_paren_terminal, open_brace_terminal}
 use Rattle.jl_grammar.proofs.Holds.{semicolon_terminal, comma_terminal, colon_terminal, equals_terminal, else_terminal, finally_terminal}
 use Rattle.jl_grammar.proofs.Holds.{not_true, while_terminal, in_terminal, var_terminal, case_terminal, default_terminal, catch_terminal}
-use Rattle.jl_grammar.proofs.SoundExpressions.{left_of_expression, named, Sound, no_line, ends_sound}
+use Rattle.jl_grammar.proofs.SoundExpressions.{fits, left_of_expression, named, Sound, no_line, ends_sound}
 use Rattle.jl_grammar.proofs.SoundExpressions.{statements_sound, block_sound, rest_sound, left_sound, unary_sound}
 use Rattle.jl_grammar.proofs.SoundExpressions.{binary_sound, assignment_sound, expression_sound}
 
@@ -71,30 +71,30 @@ module _ (ts : List Token) (d : Deeper) (sound : Sound ts d) where
   var_sound : (i : ℕ) → At ts i (keyword words.Var) → Holds (var_at ts d i) (λ x. ReadsStatement ts i x.0 x.1)
   unfolding var_at
   var_sound i e = after _ _ (declarations_sound false (length ts) (suc i))
-      (λ x r. after _ _ (ends_sound ts x.1) (λ k f. just (a_var e r f)))
+      (λ x r. after _ _ (ends_sound ts x.1) (λ k f. fits _ _ _ _ (just (a_var e r f))))
 
   express_sound : (i : ℕ) → bars_expression (terminal_at ts i) ≡ false → is_label ts i ≡ false
       → Holds (express_at ts d i) (λ x. ReadsStatement ts i x.0 x.1)
   unfolding express_at
   express_sound i h l = after _ _ (sound.expression false i)
-      (λ x r. after _ _ (ends_sound ts x.1) (λ k f. just (an_expression h l r f)))
+      (λ x r. after _ _ (ends_sound ts x.1) (λ k f. fits _ _ _ _ (just (an_expression h l r f))))
 
   if_sound : (i : ℕ) → At ts i (keyword words.If) → Holds (if_at ts d i) (λ x. ReadsStatement ts i x.0 x.1)
   unfolding if_at else_from
   if_sound i e = after _ _ (head_sound (suc i))
       (λ t r. after (else_from ts d i t.0) _ (sub_sound t.1) (λ x q. test (is_else (terminal_at ts x.1)) _ _
-      (λ h. after _ _ (sub_sound (suc x.1)) (λ y p. just (an_if_else e r q (record { is = else_terminal _ h }) p)))
-      (λ h. just (an_if e r q h))))
+      (λ h. after _ _ (sub_sound (suc x.1)) (λ y p. fits _ _ _ _ (just (an_if_else e r q (record { is = else_terminal _ h }) p))))
+      (λ h. fits _ _ _ _ (just (an_if e r q h)))))
 
   do_sound : (i : ℕ) → At ts i (keyword words.Do) → Holds (do_at ts d i) (λ x. ReadsStatement ts i x.0 x.1)
   unfolding do_at
   do_sound i e = after _ _ (sub_sound (suc i))
       (λ x r. when_true (is_while (terminal_at ts x.1)) _ (λ h. after _ _ (head_sound (suc x.1)) (λ t q.
-      after _ _ (ends_sound ts t.1) (λ k f. just (a_do_while e r (record { is = while_terminal _ h }) q f)))))
+      after _ _ (ends_sound ts t.1) (λ k f. fits _ _ _ _ (just (a_do_while e r (record { is = while_terminal _ h }) q f))))))
 
   while_sound : (i : ℕ) → At ts i (keyword words.While) → Holds (while_at ts d i) (λ x. ReadsStatement ts i x.0 x.1)
   unfolding while_at
-  while_sound i e = after _ _ (head_sound (suc i)) (λ t r. after _ _ (sub_sound t.1) (λ x q. just (a_while e r q)))
+  while_sound i e = after _ _ (head_sound (suc i)) (λ t r. after _ _ (sub_sound t.1) (λ x q. fits _ _ _ _ (just (a_while e r q))))
 
   optional_sound : (ends : Terminal → Bool) (k : Terminal) → ((s : Terminal) → ends s ≡ true → s ≡ k) → (i : ℕ)
       → Holds (optional_at ts d ends i) (λ x. ReadsOptional ts k i x.0 x.1)
@@ -110,8 +110,8 @@ module _ (ts : List Token) (d : Deeper) (sound : Sound ts d) where
       when_true (is_semicolon (terminal_at ts b.1)) _
       (λ g. after _ _ (optional_sound is_close_paren close_paren close_paren_terminal (suc b.1)) (λ c q.
       when_true (is_close_paren (terminal_at ts c.1)) _ (λ k. after _ _ (sub_sound (suc c.1)) (λ x s.
-      just (a_for e f r (record { is = semicolon_terminal _ h }) p (record { is = semicolon_terminal _ g }) q
-      (record { is = close_paren_terminal _ k }) s)))))))
+      fits _ _ _ _ (just (a_for e f r (record { is = semicolon_terminal _ h }) p (record { is = semicolon_terminal _ g }) q
+      (record { is = close_paren_terminal _ k }) s))))))))
 
   for_in_from_sound : (i : ℕ) (is_var : Bool) (x : Ident Span) (j : ℕ)
       → ((t : Expr) (k : ℕ) (ws : Stmts) (m : ℕ) → ReadsExpression ts false j t k → At ts k close_paren
@@ -120,8 +120,8 @@ module _ (ts : List Token) (d : Deeper) (sound : Sound ts d) where
   unfolding for_in_from
   for_in_from_sound i is_var x j make = after _ _ (sound.expression false j)
       (λ t r. when_true (is_close_paren (terminal_at ts t.1)) _ (λ h.
-      after _ _ (sub_sound (suc t.1)) (λ w q. just
-      (make t.0 t.1 w.0 w.1 r (record { is = close_paren_terminal _ h }) q))))
+      after _ _ (sub_sound (suc t.1)) (λ w q. fits _ _ _ _ (just
+      (make t.0 t.1 w.0 w.1 r (record { is = close_paren_terminal _ h }) q)))))
 
   for_var_sound : (i : ℕ) → At ts i (keyword words.For) → At ts (suc i) open_paren
       → At ts (suc (suc i)) (keyword words.Var) → Holds (for_var_at ts d i) (λ x. ReadsStatement ts i x.0 x.1)
@@ -181,8 +181,8 @@ module _ (ts : List Token) (d : Deeper) (sound : Sound ts d) where
   return_by_sound i (Some k) q h e = just (a_return e h.has)
   return_by_sound i None q h e = after _ _ (sound.expression false (suc i))
       (λ x r. after _ _ (ends_sound ts x.1) (λ k f.
-      just (a_return_of e (no_line (is_semicolon (terminal_at ts (suc i))) (ends_statement (terminal_at ts (suc i)))
-      (line_at ts (suc i)) (suc (suc i)) (suc i) q) r f)))
+      fits _ _ _ _ (just (a_return_of e (no_line (is_semicolon (terminal_at ts (suc i))) (ends_statement (terminal_at ts (suc i)))
+      (line_at ts (suc i)) (suc (suc i)) (suc i) q) r f))))
 
   return_sound : (i : ℕ) → At ts i (keyword words.Return)
       → Holds (return_at ts d i) (λ x. ReadsStatement ts i x.0 x.1)
@@ -193,7 +193,7 @@ module _ (ts : List Token) (d : Deeper) (sound : Sound ts d) where
   unfolding throw_at
   throw_sound i e = test (line_at ts (suc i)) _ _ (λ h. nothing)
       (λ h. after _ _ (sound.expression false (suc i))
-      (λ x r. after _ _ (ends_sound ts x.1) (λ k f. just (a_throw e h r f))))
+      (λ x r. after _ _ (ends_sound ts x.1) (λ k f. fits _ _ _ _ (just (a_throw e h r f)))))
 
   clauses_sound : (n i : ℕ) (fresh : Bool)
       → Holds (clauses_from ts d n fresh i) (λ x. ReadsClauses ts fresh i x.0 x.1)
@@ -223,7 +223,7 @@ module _ (ts : List Token) (d : Deeper) (sound : Sound ts d) where
       (λ t r. when_true (is_open_brace (terminal_at ts t.1)) _
       (λ h. after _ _ (clauses_sound (length ts) (suc t.1) true) (λ c q.
       when_true (is_close_brace (terminal_at ts c.1)) _
-      (λ g. just (a_switch e r (record { is = open_brace_terminal _ h }) q (record { is = close_brace_terminal _ g }))))))
+      (λ g. fits _ _ _ _ (just (a_switch e r (record { is = open_brace_terminal _ h }) q (record { is = close_brace_terminal _ g })))))))
 
   catch_sound : (i : ℕ) → At ts i (keyword words.Catch) → Holds (catch_at ts d i) (λ x. ReadsCatch ts i x.0 x.1)
   unfolding catch_at
@@ -243,25 +243,25 @@ module _ (ts : List Token) (d : Deeper) (sound : Sound ts d) where
       (λ h. after (finally_from ts d i x.0) _ (catch_sound x.1 (record { is = catch_terminal _ h }))
       (λ y q. test (is_finally (terminal_at ts y.1)) _ _
       (λ g. after _ _ (block_sound ts d sound (suc y.1))
-      (λ u p. just (a_try_both e r q (record { is = finally_terminal _ g }) p)))
-      (λ g. just (a_try_catch e r q g))))
+      (λ u p. fits _ _ _ _ (just (a_try_both e r q (record { is = finally_terminal _ g }) p))))
+      (λ g. fits _ _ _ _ (just (a_try_catch e r q g)))))
       (λ h. when_true (is_finally (terminal_at ts x.1)) _
       (λ g. after _ _ (block_sound ts d sound (suc x.1))
-      (λ u p. just (a_try_finally e r (record { is = finally_terminal _ g }) p)))))
+      (λ u p. fits _ _ _ _ (just (a_try_finally e r (record { is = finally_terminal _ g }) p))))))
 
   named_sound : (i : ℕ) → is_identifier (terminal_at ts i) ≡ true → bars_expression (terminal_at ts i) ≡ false
       → Holds (named_at ts d i) (λ x. ReadsStatement ts i x.0 x.1)
   unfolding named_at
   named_sound i e b = test (is_colon (terminal_at ts (suc i))) _ _
       (λ h. after _ _ (sound.statement (suc (suc i)))
-      (λ x r. just (a_label (record { is = e }) (record { is = colon_terminal _ h }) r)))
+      (λ x r. fits _ _ _ _ (just (a_label (record { is = e }) (record { is = colon_terminal _ h }) r))))
       (λ h. express_sound i b (ap (λ x. x && is_colon (terminal_at ts (suc i))) e ∙ h))
 
   statement_by_sound : (i : ℕ) (k : Terminal) → terminal_at ts i ≡ k
       → Holds (statement_by ts d i k) (λ x. ReadsStatement ts i x.0 x.1)
   unfolding statement_by
   statement_by_sound i (terminals.Punct puncts.LeftBrace) e =
-      after _ _ (block_sound ts d sound i) (λ x r. just (a_block r))
+      after _ _ (block_sound ts d sound i) (λ x r. fits _ _ _ _ (just (a_block r)))
   statement_by_sound i (terminals.Word words.Var) e = var_sound i (record { is = e })
   statement_by_sound i (terminals.Punct puncts.Semicolon) e = just (an_empty (record { is = e }))
   statement_by_sound i (terminals.Word words.If) e = if_sound i (record { is = e })
@@ -288,9 +288,9 @@ module _ (ts : List Token) (d : Deeper) (sound : Sound ts d) where
   statement_sound i = statement_by_sound i (terminal_at ts i) refl
 
 -- whatever the number of levels
-pub deeper_sound : (ts : List Token) (f : ℕ) → Sound ts (deeper ts f)
+pub deeper_sound : (ts : List Token) (b f : ℕ) → Sound ts (deeper ts b f)
 unfolding deeper
-deeper_sound ts zero = record {
+deeper_sound ts b zero = record {
   expression = λ n i. nothing;
   assignment = λ n i. nothing;
   unary = λ i. nothing;
@@ -299,14 +299,14 @@ deeper_sound ts zero = record {
   statement = λ i. nothing;
   rest = λ i. nothing;
 }
-deeper_sound ts (suc f) =
-    let s = deeper_sound ts f in
+deeper_sound ts b (suc f) =
+    let s = deeper_sound ts b f in
     record {
-      expression = λ n. expression_sound ts (deeper ts f) s n f;
-      assignment = λ n. assignment_sound ts (deeper ts f) s n f;
-      unary = unary_sound ts (deeper ts f) s f;
-      binary = λ n. binary_sound ts (deeper ts f) s n f;
-      member = left_sound ts (deeper ts f) s false f;
-      statement = statement_sound ts (deeper ts f) s;
-      rest = rest_sound ts (deeper ts f) s;
+      expression = λ n i. when_true _ _ (λ h. expression_sound ts (deeper ts b f) s n f i);
+      assignment = λ n i. when_true _ _ (λ h. assignment_sound ts (deeper ts b f) s n f i);
+      unary = λ i. when_true _ _ (λ h. unary_sound ts (deeper ts b f) s f i);
+      binary = λ n m i. when_true _ _ (λ h. binary_sound ts (deeper ts b f) s n f m i);
+      member = λ i. when_true _ _ (λ h. left_sound ts (deeper ts b f) s false f i);
+      statement = λ i. when_true _ _ (λ h. statement_sound ts (deeper ts b f) s i);
+      rest = λ i. when_true _ _ (λ h. rest_sound ts (deeper ts b f) s i);
     }

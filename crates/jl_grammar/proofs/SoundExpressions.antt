@@ -9,6 +9,7 @@ use Rattle.jl_ast.specs.declared.ops.UnOp.{UnOp}
 use Rattle.jl_token.specs.declared.punct.Punct.TheVariants as puncts
 use Rattle.jl_grammar.specs.declared.terminal.Terminal.TheVariants as terminals
 use Rattle.jl_grammar.specs.declared.word.Word.TheVariants as words
+use Rattle.jl_ast.specs.Height.{height}
 use Rattle.jl_ast.specs.Tree.{Ident, Tree, Forest, OptionalTree}
 use Rattle.jl_ast.specs.Tree as tree
 use Rattle.jl_text.specs.declared.span.Span.{Span}
@@ -41,13 +42,19 @@ use Rattle.jl_grammar.specs.Reader.{getter_by, setter_by, accessor_at, entry_by,
 use Rattle.jl_grammar.specs.Reader.{primary_at, arguments_from, arguments_at, new_at, start_at, left_by, left_from}
 use Rattle.jl_grammar.specs.Reader.{left_at, postfix_by, postfix_at, unary_by, unary_at, binary_by, binary_from}
 use Rattle.jl_grammar.specs.Reader.{binary_at, conditional_from, conditional_at, assignment_by, assignment_at}
-use Rattle.jl_grammar.specs.Reader.{comma_from, expression_at, Read, Deeper}
+use Rattle.jl_grammar.specs.Reader.{comma_from, expression_at, made, Read, Deeper}
 use Rattle.jl_grammar.specs.Tokens.{At, Is, terminal_at, line_at, strict_at, span}
 use Rattle.jl_grammar.proofs.Expressions.{some_looseness}
 use Rattle.jl_grammar.proofs.Holds.{Holds, nothing, just, after, weaken, test, when_true, both_true, told}
 use Rattle.jl_grammar.proofs.Holds.{close_paren_terminal, close_bracket_terminal, close_brace_terminal, open_paren_terminal}
 use Rattle.jl_grammar.proofs.Holds.{open_brace_terminal, semicolon_terminal, comma_terminal, colon_terminal, question_terminal}
 use Rattle.jl_grammar.proofs.Holds.{function_terminal, new_terminal, string_terminal, not_true}
+
+-- what holds of what a node comes to, if it is made
+pub fits : {x : tree.Sort} {A : Type 0} {P : A → Type 0} (most : ℕ) (t : Tree Span x) (j : ℕ)
+    (go : Tree Span x → ℕ → Option A) → Holds (go t j) P → Holds (made most t j go) P
+unfolding made
+fits most t j go h = when_true (nat_le (height t) (suc most)) _ (λ l. h)
 
 -- the infix operators read so far may stop a tighter reading
 pub tighter_stops : (s x y : ℕ) → x ≤ y → (nat_le 1 s && nat_le s y) ≡ false → (nat_le 1 s && nat_le s x) ≡ false
@@ -204,8 +211,8 @@ module _ (ts : List Token) (d : Deeper) (sound : Sound ts d) where
   elements_sound (suc n) i = test (ends_list (terminal_at ts i)) _ _ (λ h. just (no_elements h)) (λ h.
       test (is_function (terminal_at ts i)) _ _
       (λ g. when_true (is_identifier (terminal_at ts (suc i))) _
-      (λ k. after _ _ (sound.rest (suc (suc i))) (λ x r. after _ _ (elements_sound n x.1) (λ y q.
-      just (a_declaration (a_declared_function (record { is = function_terminal _ g }) (record { is = k }) r) q)))))
+      (λ k. after _ _ (sound.rest (suc (suc i))) (λ x r. fits _ _ _ _ (after _ _ (elements_sound n x.1) (λ y q.
+      just (a_declaration (a_declared_function (record { is = function_terminal _ g }) (record { is = k }) r) q))))))
       (λ g. after _ _ (sound.statement i) (λ x r.
       after _ _ (elements_sound n x.1) (λ y q. just (a_statement r q)))))
 
@@ -236,8 +243,8 @@ module _ (ts : List Token) (d : Deeper) (sound : Sound ts d) where
       → Holds (function_at ts d i) (λ x. ReadsPrimary ts i x.0 x.1)
   unfolding function_at
   function_sound i e = test (is_identifier (terminal_at ts (suc i))) _ _
-      (λ h. after _ _ (rest_sound (suc (suc i))) (λ x r. just (a_named_function e (record { is = h }) r)))
-      (λ h. after _ _ (rest_sound (suc i)) (λ x r. just (a_function e r)))
+      (λ h. after _ _ (rest_sound (suc (suc i))) (λ x r. fits _ _ _ _ (just (a_named_function e (record { is = h }) r))))
+      (λ h. after _ _ (rest_sound (suc i)) (λ x r. fits _ _ _ _ (just (a_function e r))))
 
   items_sound : (n i : ℕ) → Holds (items_from ts d n i) (λ x. ReadsItems ts i x.0 x.1)
   unfolding items_from
@@ -263,14 +270,14 @@ module _ (ts : List Token) (d : Deeper) (sound : Sound ts d) where
   getter_sound : (i : ℕ) (ps : List (Ident Span)) (c : Code) (j : ℕ) → At ts i terminals.Get → Is is_key ts (suc i)
       → ReadsRest ts (suc (suc i)) ps c j → Holds (getter_by ts d i ps c j) (λ x. ReadsEntry ts i x.0 x.1)
   unfolding getter_by
-  getter_sound i [] c j e h r = just (a_getter e h r)
+  getter_sound i [] c j e h r = fits _ _ _ _ (just (a_getter e h r))
   getter_sound i (p ∷ ps) c j e h r = nothing
 
   setter_sound : (i : ℕ) (ps : List (Ident Span)) (c : Code) (j : ℕ) → At ts i terminals.Set → Is is_key ts (suc i)
       → ReadsRest ts (suc (suc i)) ps c j → Holds (setter_by ts d i ps c j) (λ x. ReadsEntry ts i x.0 x.1)
   unfolding setter_by
   setter_sound i [] c j e h r = nothing
-  setter_sound i (p ∷ []) c j e h r = just (a_setter e h r)
+  setter_sound i (p ∷ []) c j e h r = fits _ _ _ _ (just (a_setter e h r))
   setter_sound i (p ∷ q ∷ ps) c j e h r = nothing
 
   entry_by_sound : (i : ℕ) (k : Terminal) → terminal_at ts i ≡ k → Holds (entry_by ts d i k) (λ x. ReadsEntry ts i x.0 x.1)
@@ -314,9 +321,9 @@ module _ (ts : List Token) (d : Deeper) (sound : Sound ts d) where
   primary_by_sound i terminals.Number e = just (a_number (record { is = e }))
   primary_by_sound i terminals.Str e = just (a_string (record { is = e }))
   primary_by_sound i (terminals.Punct puncts.LeftBracket) e =
-      after _ _ (items_sound (length ts) (suc i)) (λ x r. just (an_array (record { is = e }) r))
+      after _ _ (items_sound (length ts) (suc i)) (λ x r. fits _ _ _ _ (just (an_array (record { is = e }) r)))
   primary_by_sound i (terminals.Punct puncts.LeftBrace) e =
-      after _ _ (entries_sound (length ts) (suc i)) (λ x r. just (an_object (record { is = e }) r))
+      after _ _ (entries_sound (length ts) (suc i)) (λ x r. fits _ _ _ _ (just (an_object (record { is = e }) r)))
   primary_by_sound i (terminals.Punct puncts.LeftParen) e = after (closed ts d) _ (sound.expression false (suc i)) (λ x r.
       when_true (is_close_paren (terminal_at ts x.1)) _
       (λ h. just (in_parens (record { is = e }) r (record { is = close_paren_terminal _ h }))))
@@ -347,8 +354,8 @@ module _ (ts : List Token) (d : Deeper) (sound : Sound ts d) where
       → Holds (new_at ts d i) (λ x. BeginsLeft ts calls i x.0 x.1)
   unfolding new_at
   new_sound calls i e = after _ _ (sound.member (suc i)) (λ x r. test (is_open_paren (terminal_at ts x.1)) _ _
-      (λ h. after _ _ (arguments_sound (suc x.1)) (λ y q. just (a_new e r (record { is = open_paren_terminal _ h }) q)))
-      (λ h. just (a_bare_new e r h)))
+      (λ h. after _ _ (arguments_sound (suc x.1)) (λ y q. fits _ _ _ _ (just (a_new e r (record { is = open_paren_terminal _ h }) q))))
+      (λ h. fits _ _ _ _ (just (a_bare_new e r h))))
 
   start_sound : (calls : Bool) (i : ℕ) → Holds (start_at ts d i) (λ x. BeginsLeft ts calls i x.0 x.1)
   unfolding start_at
@@ -361,19 +368,19 @@ module _ (ts : List Token) (d : Deeper) (sound : Sound ts d) where
       → Holds (left_by ts d calls go i t j k) (λ x. ReadsLeft ts calls i x.0 x.1)
   unfolding left_by
   left_by_sound true go i t j (terminals.Punct puncts.Dot) e r g =
-      when_true (is_name (terminal_at ts (suc j))) _ (λ h. g _ _ (a_dot r (record { is = e }) (record { is = h })))
+      when_true (is_name (terminal_at ts (suc j))) _ (λ h. fits _ _ _ _ (g _ _ (a_dot r (record { is = e }) (record { is = h }))))
   left_by_sound false go i t j (terminals.Punct puncts.Dot) e r g =
-      when_true (is_name (terminal_at ts (suc j))) _ (λ h. g _ _ (a_dot r (record { is = e }) (record { is = h })))
+      when_true (is_name (terminal_at ts (suc j))) _ (λ h. fits _ _ _ _ (g _ _ (a_dot r (record { is = e }) (record { is = h }))))
   left_by_sound true go i t j (terminals.Punct puncts.LeftBracket) e r g =
       after _ _ (sound.expression false (suc j)) (λ x q.
       when_true (is_close_bracket (terminal_at ts x.1)) _
-      (λ h. g _ _ (an_index r (record { is = e }) q (record { is = close_bracket_terminal _ h }))))
+      (λ h. fits _ _ _ _ (g _ _ (an_index r (record { is = e }) q (record { is = close_bracket_terminal _ h })))))
   left_by_sound false go i t j (terminals.Punct puncts.LeftBracket) e r g =
       after _ _ (sound.expression false (suc j)) (λ x q.
       when_true (is_close_bracket (terminal_at ts x.1)) _
-      (λ h. g _ _ (an_index r (record { is = e }) q (record { is = close_bracket_terminal _ h }))))
+      (λ h. fits _ _ _ _ (g _ _ (an_index r (record { is = e }) q (record { is = close_bracket_terminal _ h })))))
   left_by_sound true go i t j (terminals.Punct puncts.LeftParen) e r g =
-      after _ _ (arguments_sound (suc j)) (λ x q. g _ _ (a_call r (record { is = e }) q))
+      after _ _ (arguments_sound (suc j)) (λ x q. fits _ _ _ _ (g _ _ (a_call r (record { is = e }) q)))
   left_by_sound true go i t j _ e r g = just (whole_left r (ap (continues_left true) e))
   left_by_sound false go i t j _ e r g = just (whole_left r (ap (continues_left false) e))
 
@@ -394,7 +401,7 @@ module _ (ts : List Token) (d : Deeper) (sound : Sound ts d) where
       → Holds (postfix_by ts d i t j o b) (λ x. ReadsPostfix ts i x.0 x.1)
   unfolding postfix_by
   postfix_by_sound i t j (Some up) false e l r =
-      after _ _ (told (target_of t)) (λ g h. just (a_postfix r (record { is = h }) (record { is = e }) l))
+      after _ _ (told (target_of t)) (λ g h. fits _ _ _ _ (just (a_postfix r (record { is = h }) (record { is = e }) l)))
   postfix_by_sound i t j (Some up) true e l r =
       just (left r (ap₂ (λ (x : Option Bool) (y : Bool). is_some x && not y) e l))
   postfix_by_sound i t j None b e l r = just (left r (ap (λ (x : Option Bool). is_some x && not (line_at ts j)) e))
@@ -407,9 +414,9 @@ module _ (ts : List Token) (d : Deeper) (sound : Sound ts d) where
   unary_by_sound : (n i : ℕ) (o : Option UnOp) (u : Option Bool) → unary_operator (terminal_at ts i) ≡ o
       → update_operator (terminal_at ts i) ≡ u → Holds (unary_by ts d n i o u) (λ x. ReadsUnary ts i x.0 x.1)
   unfolding unary_by
-  unary_by_sound n i (Some op) u e f = after _ _ (sound.unary (suc i)) (λ x r. just (a_prefix (record { is = e }) r))
+  unary_by_sound n i (Some op) u e f = after _ _ (sound.unary (suc i)) (λ x r. fits _ _ _ _ (just (a_prefix (record { is = e }) r)))
   unary_by_sound n i None (Some up) e f = after _ _ (left_sound true n (suc i))
-      (λ x r. after _ _ (told (target_of x.0)) (λ g h. just (an_update (record { is = f }) r (record { is = h }))))
+      (λ x r. after _ _ (told (target_of x.0)) (λ g h. fits _ _ _ _ (just (an_update (record { is = f }) r (record { is = h })))))
   unary_by_sound n i None None e f = weaken _ (postfix_sound n i) (λ x r. postfix r)
 
   pub unary_sound : (n i : ℕ) → Holds (unary_at ts d n i) (λ x. ReadsUnary ts i x.0 x.1)
@@ -445,7 +452,7 @@ module _ (ts : List Token) (d : Deeper) (sound : Sound ts d) where
       let l : infix_precedence_of (infix_operator no_in (terminal_at ts j)) ≡ infix_precedence op = ap infix_precedence_of e in
       test (nat_le (infix_precedence op) m) _ _
       (λ h. after _ _ (sound.binary no_in (pred (infix_precedence op)) (suc j))
-      (λ x r. g _ _ (more_infix_operators no_in m i t j op s e (leb-true _ _ h) x.0 x.1 r)))
+      (λ x r. fits _ _ _ _ (g _ _ (more_infix_operators no_in m i t j op s e (leb-true _ _ h) x.0 x.1 r))))
       (λ h. just (whole ts no_in m i t j s (looser_stops (infix_precedence_of (infix_operator no_in (terminal_at ts j))) m
       (subst (λ y. m < y) (sym l) (leb-false _ _ h)))))
 
@@ -477,8 +484,8 @@ module _ (ts : List Token) (d : Deeper) (sound : Sound ts d) where
       (λ x r. test (is_question (terminal_at ts x.1)) _ _
       (λ h. after _ _ (sound.assignment false (suc x.1)) (λ a p. when_true (is_colon (terminal_at ts a.1)) _
       (λ g. after _ _ (sound.assignment no_in (suc a.1))
-      (λ b q. just (a_conditional r (record { is = question_terminal _ h }) p
-      (record { is = colon_terminal _ g }) q)))))
+      (λ b q. fits _ _ _ _ (just (a_conditional r (record { is = question_terminal _ h }) p
+      (record { is = colon_terminal _ g }) q))))))
       (λ h. just (operands r h)))
 
   assignment_by_sound : (no_in : Bool) (i : ℕ) (t : Expr) (j : ℕ) (o : Option (Option BinOp))
@@ -488,7 +495,7 @@ module _ (ts : List Token) (d : Deeper) (sound : Sound ts d) where
   assignment_by_sound no_in i t j None e r = just (conditional r (ap (λ (o : Option (Option BinOp)). is_some o) e))
   assignment_by_sound no_in i t j (Some op) e r =
       after _ _ (told (target_of t)) (λ g h. after _ _ (sound.assignment no_in (suc j)) (λ v q.
-      just (an_assignment (left_of_conditional r h) (record { is = h }) (record { is = e }) q)))
+      fits _ _ _ _ (just (an_assignment (left_of_conditional r h) (record { is = h }) (record { is = e }) q))))
 
   pub assignment_sound : (no_in : Bool) (n i : ℕ)
       → Holds (assignment_at ts d no_in n i) (λ x. ReadsAssignment ts no_in i x.0 x.1)
@@ -503,8 +510,8 @@ module _ (ts : List Token) (d : Deeper) (sound : Sound ts d) where
       (λ h. just (whole_expression r h))
   comma_from_sound no_in (suc n) i t j r = test (is_comma (terminal_at ts j)) _ _
       (λ h. after _ _ (sound.assignment no_in (suc j))
-      (λ x q. comma_from_sound no_in n i (tree.comma t x.0 (span ts i x.1)) x.1
-      (a_comma r (record { is = comma_terminal _ h }) q)))
+      (λ x q. fits _ _ _ _ (comma_from_sound no_in n i (tree.comma t x.0 (span ts i x.1)) x.1
+      (a_comma r (record { is = comma_terminal _ h }) q))))
       (λ h. just (whole_expression r h))
 
   pub expression_sound : (no_in : Bool) (n i : ℕ)

@@ -1,6 +1,7 @@
 -- What the reader does at each production of statements and bodies.
-use Rattle.std.proofs.Common.{◌≡◌, ℕ, zero, suc, Bool, true, false, not, ◌&&◌, ◌||◌, refl, ap, ◌∙◌, length}
+use Rattle.std.proofs.Common.{◌≡◌, ℕ, zero, suc, ◌≤◌, Bool, true, false, not, ◌&&◌, ◌||◌, refl, ap, ◌∙◌, length}
 use Rattle.std.specs.Prelude.{List, Option, Some, None}
+use Rattle.jl_ast.specs.Height.{height}
 use Rattle.jl_ast.specs.Tree.{Ident, Tree, Forest, OptionalTree}
 use Rattle.jl_ast.specs.Tree as tree
 use Rattle.jl_text.specs.declared.span.Span.{Span}
@@ -21,6 +22,7 @@ use Rattle.jl_grammar.specs.Reader.{while_at, optional_at, for_from, for_in_from
 use Rattle.jl_grammar.specs.Reader.{for_at, continue_at, break_at, return_by, return_at, throw_at, clauses_from}
 use Rattle.jl_grammar.specs.Reader.{switch_at, catch_at, finally_from, try_at, named_at, statement_by, statement_at}
 use Rattle.jl_grammar.specs.Reader.{Deeper}
+use Rattle.jl_grammar.proofs.Expressions.{fitting}
 use Rattle.jl_grammar.proofs.Holds.{and_true}
 
 module _ (ts : List Token) where
@@ -71,6 +73,7 @@ module _ (ts : List Token) (d : Deeper) where
   pub declared_step : (n i j k : ℕ) (ps : List (Ident Span)) (c : Code) (fs : Forest Span tree.func) (ws : Stmts)
       → At ts i (keyword words.Function) → Is is_identifier ts (suc i) → d.rest (suc (suc i)) ≡ Some ((ps, c), j)
       → elements_from ts d n j ≡ Some ((fs, ws), k)
+      → height (tree.function 0 (Some (ident_at ts (suc i))) ps c (span ts i j)) ≤ suc (d.room i)
       → elements_from ts d (suc n) i ≡ Some (
         (
           tree.more
@@ -80,7 +83,7 @@ module _ (ts : List Token) (d : Deeper) where
         k,
       )
   unfolding elements_from
-  declared_step n i j k ps c fs ws e f h g = rw (e.is, elements_from) (rw (f.is, h, g) refl)
+  declared_step n i j k ps c fs ws e f h g fits = rw (e.is, elements_from) (rw (f.is, h) (fitting _ _ _ _ fits ∙ rw g refl))
 
   pub element_step : (n i j k : ℕ) (w : Stmt) (fs : Forest Span tree.func) (ws : Stmts)
       → ends_list (terminal_at ts i) ≡ false → is_function (terminal_at ts i) ≡ false → d.statement i ≡ Some (w, j)
@@ -144,49 +147,56 @@ module _ (ts : List Token) (d : Deeper) where
   more_declarations_step no_in n i j k x xs h e g = rw (h, e.is, g, declarations_from)
 
   pub block_statement_step : (i j : ℕ) (ws : Stmts) → At ts i open_brace → block_at ts d i ≡ Some (ws, j)
+      → height (tree.block ws (span ts i j)) ≤ suc (d.room i)
       → statement_at ts d i ≡ Some (tree.block ws (span ts i j), j)
   unfolding statement_at statement_by
-  block_statement_step i j ws e h = rw (e.is, h, statement_at)
+  block_statement_step i j ws e h fits = rw (e.is, h, statement_at) (fitting _ _ _ _ fits)
 
   pub var_step : (i j k : ℕ) (xs : Forest Span tree.decl) → At ts i (keyword words.Var)
       → declarations_from ts d false (length ts) (suc i) ≡ Some (xs, j) → ends_at ts j ≡ Some k
+      → height (tree.var xs (span ts i k)) ≤ suc (d.room i)
       → statement_at ts d i ≡ Some (tree.var xs (span ts i k), k)
   unfolding statement_at statement_by var_at
-  var_step i j k xs e h g = rw (e.is, statement_at) (rw (h, g, var_at))
+  var_step i j k xs e h g fits = rw (e.is, statement_at) (rw (h, g, var_at) (fitting _ _ _ _ fits))
 
   pub empty_step : (i : ℕ) → At ts i semicolon → statement_at ts d i ≡ Some (tree.empty (span ts i (suc i)), suc i)
   unfolding statement_at statement_by
   empty_step i e = rw (e.is, statement_at)
 
   pub express_step : (i j k : ℕ) (t : Expr) → d.expression false i ≡ Some (t, j) → ends_at ts j ≡ Some k
+      → height (tree.expression t (span ts i k)) ≤ suc (d.room i)
       → express_at ts d i ≡ Some (tree.expression t (span ts i k), k)
   unfolding express_at
-  express_step i j k t h g = rw (h, g, express_at)
+  express_step i j k t h g fits = rw (h, g, express_at) (fitting _ _ _ _ fits)
 
   pub if_else_step : (i j k m : ℕ) (t : Expr) (ws us : Stmts) → At ts i (keyword words.If)
       → head_at ts d (suc i) ≡ Some (t, j) → sub_at ts d j ≡ Some (ws, k) → At ts k (keyword words.Else)
       → sub_at ts d (suc k) ≡ Some (us, m)
+      → height (tree.if_else t ws (tree.present (tree.branch_of us)) (span ts i m)) ≤ suc (d.room i)
       → statement_at ts d i ≡ Some (tree.if_else t ws (tree.present (tree.branch_of us)) (span ts i m), m)
   unfolding statement_at statement_by if_at else_from
-  if_else_step i j k m t ws us e h g f q = rw (e.is, statement_at) (rw (h, g, f.is, q, if_at))
+  if_else_step i j k m t ws us e h g f q fits = rw (e.is, statement_at) (rw (h, g, f.is, q, if_at) (fitting _ _ _ _ fits))
 
   pub if_step : (i j k : ℕ) (t : Expr) (ws : Stmts) → At ts i (keyword words.If) → head_at ts d (suc i) ≡ Some (t, j)
       → sub_at ts d j ≡ Some (ws, k) → is_else (terminal_at ts k) ≡ false
+      → height (tree.if_else t ws tree.absent (span ts i k)) ≤ suc (d.room i)
       → statement_at ts d i ≡ Some (tree.if_else t ws tree.absent (span ts i k), k)
   unfolding statement_at statement_by if_at else_from
-  if_step i j k t ws e h g f = rw (e.is, statement_at) (rw (h, g, f, if_at))
+  if_step i j k t ws e h g f fits = rw (e.is, statement_at) (rw (h, g, f, if_at) (fitting _ _ _ _ fits))
 
   pub do_step : (i j k m : ℕ) (t : Expr) (ws : Stmts) → At ts i (keyword words.Do)
       → sub_at ts d (suc i) ≡ Some (ws, j) → At ts j (keyword words.While) → head_at ts d (suc j) ≡ Some (t, k)
-      → ends_at ts k ≡ Some m → statement_at ts d i ≡ Some (tree.do_while ws t (span ts i m), m)
+      → ends_at ts k ≡ Some m → height (tree.do_while ws t (span ts i m)) ≤ suc (d.room i)
+      → statement_at ts d i ≡ Some (tree.do_while ws t (span ts i m), m)
   unfolding statement_at statement_by do_at
-  do_step i j k m t ws e h f g q = rw (e.is, statement_at) (rw (h, f.is, g, q, do_at))
+  do_step i j k m t ws e h f g q fits = rw (e.is, statement_at) (rw (h, f.is, g, q, do_at) (fitting _ _ _ _ fits))
 
   pub while_step : (i j k : ℕ) (t : Expr) (ws : Stmts) → At ts i (keyword words.While)
       → head_at ts d (suc i) ≡ Some (t, j) → sub_at ts d j ≡ Some (ws, k)
+      → height (tree.while t ws (span ts i k)) ≤ suc (d.room i)
       → statement_at ts d i ≡ Some (tree.while t ws (span ts i k), k)
   unfolding statement_at statement_by while_at
-  while_step i j k t ws e h g = rw (e.is, statement_at) (rw (h, g, while_at))
+  while_step i j k t ws e h g fits = rw (e.is, statement_at) (rw (h, g, while_at) (fitting _ _ _ _ fits))
 
   pub absent_step : (ends : Terminal → Bool) (i : ℕ) → ends (terminal_at ts i) ≡ true
       → optional_at ts d ends i ≡ Some (tree.absent, i)
@@ -201,9 +211,10 @@ module _ (ts : List Token) (d : Deeper) where
   pub for_from_step : (i j k m n : ℕ) (a : Tree Span tree.init) (b c : OptionalTree Span tree.expr) (ws : Stmts)
       → At ts j semicolon → optional_at ts d is_semicolon (suc j) ≡ Some (b, k) → At ts k semicolon
       → optional_at ts d is_close_paren (suc k) ≡ Some (c, m) → At ts m close_paren → sub_at ts d (suc m) ≡ Some (ws, n)
+      → height (tree.for a b c ws (span ts i n)) ≤ suc (d.room i)
       → for_from ts d i (a, j) ≡ Some (tree.for a b c ws (span ts i n), n)
   unfolding for_from
-  for_from_step i j k m n a b c ws e h f g q r = rw (e.is, h, f.is, g, q.is, r, for_from)
+  for_from_step i j k m n a b c ws e h f g q r fits = rw (e.is, h, f.is, g, q.is, r, for_from) (fitting _ _ _ _ fits)
 
   pub for_nothing_step : (i : ℕ) → At ts i (keyword words.For) → At ts (suc i) open_paren
       → At ts (suc (suc i)) semicolon → statement_at ts d i ≡ for_from ts d i (tree.nothing, suc (suc i))
@@ -228,9 +239,10 @@ module _ (ts : List Token) (d : Deeper) where
 
   pub for_in_from_step : (i j k m : ℕ) (is_var : Bool) (x : Ident Span) (t : Expr) (ws : Stmts)
       → d.expression false j ≡ Some (t, k) → At ts k close_paren → sub_at ts d (suc k) ≡ Some (ws, m)
+      → height (tree.for_in is_var x t ws (span ts i m)) ≤ suc (d.room i)
       → for_in_from ts d i is_var x j ≡ Some (tree.for_in is_var x t ws (span ts i m), m)
   unfolding for_in_from
-  for_in_from_step i j k m is_var x t ws h e g = rw (h, e.is, g, for_in_from)
+  for_in_from_step i j k m is_var x t ws h e g fits = rw (h, e.is, g, for_in_from) (fitting _ _ _ _ fits)
 
   pub for_in_step : (i j : ℕ) (t : Expr) (x : Ident Span) → At ts i (keyword words.For) → At ts (suc i) open_paren
       → is_semicolon (terminal_at ts (suc (suc i))) ≡ false → is_var (terminal_at ts (suc (suc i))) ≡ false
@@ -265,15 +277,17 @@ module _ (ts : List Token) (d : Deeper) where
 
   pub return_of_step : (i j k : ℕ) (t : Expr) → At ts i (keyword words.Return) → ends_at ts (suc i) ≡ None
       → d.expression false (suc i) ≡ Some (t, j) → ends_at ts j ≡ Some k
+      → height (tree.return (tree.present t) (span ts i k)) ≤ suc (d.room i)
       → statement_at ts d i ≡ Some (tree.return (tree.present t) (span ts i k), k)
   unfolding statement_at statement_by return_at return_by
-  return_of_step i j k t e n h g = rw (e.is, statement_at) (rw (n, h, g, return_at))
+  return_of_step i j k t e n h g fits = rw (e.is, statement_at) (rw (n, h, g, return_at) (fitting _ _ _ _ fits))
 
   pub throw_step : (i j k : ℕ) (t : Expr) → At ts i (keyword words.Throw) → line_at ts (suc i) ≡ false
       → d.expression false (suc i) ≡ Some (t, j) → ends_at ts j ≡ Some k
+      → height (tree.throw t (span ts i k)) ≤ suc (d.room i)
       → statement_at ts d i ≡ Some (tree.throw t (span ts i k), k)
   unfolding statement_at statement_by throw_at
-  throw_step i j k t e l h g = rw (e.is, statement_at) (rw (l, h, g, throw_at))
+  throw_step i j k t e l h g fits = rw (e.is, statement_at) (rw (l, h, g, throw_at) (fitting _ _ _ _ fits))
 
   pub no_clauses_step : (n i : ℕ) (fresh : Bool) → At ts i close_brace
       → clauses_from ts d n fresh i ≡ Some (tree.end, i)
@@ -298,9 +312,10 @@ module _ (ts : List Token) (d : Deeper) where
   pub switch_step : (i j k : ℕ) (t : Expr) (cs : Forest Span tree.clause) → At ts i (keyword words.Switch)
       → head_at ts d (suc i) ≡ Some (t, j) → At ts j open_brace
       → clauses_from ts d (length ts) true (suc j) ≡ Some (cs, k) → At ts k close_brace
+      → height (tree.switch t cs (span ts i (suc k))) ≤ suc (d.room i)
       → statement_at ts d i ≡ Some (tree.switch t cs (span ts i (suc k)), suc k)
   unfolding statement_at statement_by switch_at
-  switch_step i j k t cs e h f g q = rw (e.is, statement_at) (rw (h, f.is, g, q.is, switch_at))
+  switch_step i j k t cs e h f g q fits = rw (e.is, statement_at) (rw (h, f.is, g, q.is, switch_at) (fitting _ _ _ _ fits))
 
   pub catch_step : (i j : ℕ) (ws : Stmts) → At ts (suc i) open_paren → Is is_identifier ts (suc (suc i))
       → At ts (suc (suc (suc i))) close_paren → block_at ts d (suc (suc (suc (suc i)))) ≡ Some (ws, j)
@@ -311,22 +326,25 @@ module _ (ts : List Token) (d : Deeper) where
   pub try_catch_step : (i j k : ℕ) (ws : Stmts) (h : Tree Span tree.handler) → At ts i (keyword words.Try)
       → block_at ts d (suc i) ≡ Some (ws, j) → At ts j (keyword words.Catch) → catch_at ts d j ≡ Some (h, k)
       → is_finally (terminal_at ts k) ≡ false
+      → height (tree.try ws (tree.present h) tree.absent (span ts i k)) ≤ suc (d.room i)
       → statement_at ts d i ≡ Some (tree.try ws (tree.present h) tree.absent (span ts i k), k)
   unfolding statement_at statement_by try_at finally_from
-  try_catch_step i j k ws h e b f g q = rw (e.is, statement_at) (rw (b, f.is, g, q, try_at))
+  try_catch_step i j k ws h e b f g q fits = rw (e.is, statement_at) (rw (b, f.is, g, q, try_at) (fitting _ _ _ _ fits))
 
   pub try_finally_step : (i j k : ℕ) (ws us : Stmts) → At ts i (keyword words.Try)
       → block_at ts d (suc i) ≡ Some (ws, j) → At ts j (keyword words.Finally) → block_at ts d (suc j) ≡ Some (us, k)
+      → height (tree.try ws tree.absent (tree.present (tree.branch_of us)) (span ts i k)) ≤ suc (d.room i)
       → statement_at ts d i ≡ Some (tree.try ws tree.absent (tree.present (tree.branch_of us)) (span ts i k), k)
   unfolding statement_at statement_by try_at
-  try_finally_step i j k ws us e b f g = rw (e.is, statement_at) (rw (b, f.is, g, try_at))
+  try_finally_step i j k ws us e b f g fits = rw (e.is, statement_at) (rw (b, f.is, g, try_at) (fitting _ _ _ _ fits))
 
   pub try_both_step : (i j k m : ℕ) (ws us : Stmts) (h : Tree Span tree.handler) → At ts i (keyword words.Try)
       → block_at ts d (suc i) ≡ Some (ws, j) → At ts j (keyword words.Catch) → catch_at ts d j ≡ Some (h, k)
       → At ts k (keyword words.Finally) → block_at ts d (suc k) ≡ Some (us, m)
+      → height (tree.try ws (tree.present h) (tree.present (tree.branch_of us)) (span ts i m)) ≤ suc (d.room i)
       → statement_at ts d i ≡ Some (tree.try ws (tree.present h) (tree.present (tree.branch_of us)) (span ts i m), m)
   unfolding statement_at statement_by try_at finally_from
-  try_both_step i j k m ws us h e b f g q r = rw (e.is, statement_at) (rw (b, f.is, g, q.is, r, try_at))
+  try_both_step i j k m ws us h e b f g q r fits = rw (e.is, statement_at) (rw (b, f.is, g, q.is, r, try_at) (fitting _ _ _ _ fits))
 
   pub debugger_step : (i k : ℕ) → At ts i (keyword words.Debugger) → ends_at ts (suc i) ≡ Some k
       → statement_at ts d i ≡ Some (tree.debugger (span ts i k), k)
@@ -342,9 +360,10 @@ module _ (ts : List Token) (d : Deeper) where
 
   pub labelled_step : (i j : ℕ) (w : Stmt) → Is is_identifier ts i → At ts (suc i) colon
       → d.statement (suc (suc i)) ≡ Some (w, j)
+      → height (tree.labelled (ident_at ts i) w (span ts i j)) ≤ suc (d.room i)
       → statement_at ts d i ≡ Some (tree.labelled (ident_at ts i) w (span ts i j), j)
   unfolding statement_at named_at
-  labelled_step i j w e f h = named_by i (terminal_at ts i) e.is ∙ rw (f.is, h, named_at)
+  labelled_step i j w e f h fits = named_by i (terminal_at ts i) e.is ∙ rw (f.is, h, named_at) (fitting _ _ _ _ fits)
 
   pub named_expression_step : (i : ℕ) → Is is_identifier ts i → is_colon (terminal_at ts (suc i)) ≡ false
       → statement_at ts d i ≡ express_at ts d i

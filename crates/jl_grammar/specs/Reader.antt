@@ -1,11 +1,12 @@
 -- A reader as a function, that tells what the grammar reads. It is a step of the proofs: no public clause but a law
 -- speaks of it. Each function reads from a place and gives what it read with the place after it. What begins later than
--- the whole, as a right operand or what is in brackets, is read one level deeper.
-use Rattle.std.specs.Prelude.{ℕ, zero, suc, pred, ◌*◌, nat_eq, Bool, true, false, not, ◌&&◌, ◌||◌, List, [], ◌∷◌}
+-- the whole, as a right operand or what is in brackets, is read one level deeper. A node is refused as soon as it is
+-- higher than the levels that are left for it, of which brackets that may still open have their share.
+use Rattle.std.specs.Prelude.{ℕ, zero, suc, pred, ◌*◌, ◌-◌, nat_eq, Bool, true, false, not, ◌&&◌, ◌||◌, List, [], ◌∷◌}
 use Rattle.std.specs.Prelude.{length, Option, Some, None, option_and_then, nat_le, if◌then◌else◌}
 use Rattle.jl_ast.specs.declared.ops.BinOp.{BinOp}
 use Rattle.jl_ast.specs.declared.ops.UnOp.{UnOp}
-use Rattle.jl_ast.specs.Height.{program_height}
+use Rattle.jl_ast.specs.Height.{height, program_height}
 use Rattle.jl_ast.specs.Tree.{Ident, Program, Tree, Forest, OptionalTree, Text}
 use Rattle.jl_ast.specs.Tree as tree
 use Rattle.jl_text.specs.declared.span.Span.{Span}
@@ -31,6 +32,13 @@ o >>= f = option_and_then f o
 -- what was read, and the place after it
 abbrev pub Read : Type 0 → Type 0
 Read A = Option (A × ℕ)
+
+abbrev pub done : {A : Type 0} → A → ℕ → Read A
+done t j = Some (t, j)
+
+-- a node that ends before j, of which the parts may be so high, and what comes after it
+unfoldable pub made : {x : tree.Sort} {B : Type 0} → ℕ → Tree Span x → ℕ → (Tree Span x → ℕ → Option B) → Option B
+made most t j go = if nat_le (height t) (suc most) then go t j else None
 
 abbrev pub is_close_paren : Terminal → Bool
 is_close_paren (terminals.Punct puncts.RightParen) = true
@@ -85,8 +93,9 @@ name_of _ = None
 abbrev pub with_directive : Bool → Code → Code
 with_directive strict (tree.body s fs ws) = tree.body (strict || s) fs ws
 
--- what is read one level deeper
+-- how high the parts of a node that begins at a place may be, and what is read one level deeper
 pub record Deeper : Type 0 where
+  pub room : ℕ → ℕ
   pub expression : Bool → ℕ → Read Expr
   pub assignment : Bool → ℕ → Read Expr
   pub unary : ℕ → Read Expr
@@ -150,11 +159,9 @@ module _ (ts : List Token) (d : Deeper) where
       then Some ((tree.end, tree.end), i)
       else (if is_function (terminal_at ts i)
       then (if is_identifier (terminal_at ts (suc i))
-      then (d.rest (suc (suc i)) >>= λ x. elements_from n x.1 >>= λ r.
-      Some (
-        (tree.more (tree.function 0 (Some (ident_at ts (suc i))) x.0.0 x.0.1 (span ts i x.1)) r.0.0, r.0.1),
-        r.1,
-      ))
+      then (d.rest (suc (suc i)) >>= λ x.
+      made (d.room i) (tree.function 0 (Some (ident_at ts (suc i))) x.0.0 x.0.1 (span ts i x.1)) x.1
+      (λ f j. elements_from n j >>= λ r. Some ((tree.more f r.0.0, r.0.1), r.1)))
       else None)
       else (d.statement i >>= λ x. elements_from n x.1 >>= λ r. Some ((r.0.0, tree.more x.0 r.0.1), r.1)))
 
@@ -180,13 +187,12 @@ module _ (ts : List Token) (d : Deeper) where
   function_at i =
       if is_identifier (terminal_at ts (suc i))
       then (rest_at (suc (suc i)) >>= λ r.
-      Some (
-        tree.function_expression (tree.function 0 (Some (ident_at ts (suc i))) r.0.0 r.0.1 (span ts i r.1))
-            (span ts i r.1),
-        r.1,
-      ))
+      made (d.room i)
+      (tree.function_expression (tree.function 0 (Some (ident_at ts (suc i))) r.0.0 r.0.1 (span ts i r.1)) (span ts i r.1))
+      r.1 done)
       else (rest_at (suc i) >>= λ r.
-      Some (tree.function_expression (tree.function 0 None r.0.0 r.0.1 (span ts i r.1)) (span ts i r.1), r.1))
+      made (d.room i)
+      (tree.function_expression (tree.function 0 None r.0.0 r.0.1 (span ts i r.1)) (span ts i r.1)) r.1 done)
 
   -- at most n items of an array, and the `]` after them
   unfoldable pub items_from : ℕ → ℕ → Read (Forest Span tree.item)
@@ -209,12 +215,15 @@ module _ (ts : List Token) (d : Deeper) where
       else None
 
   unfoldable pub getter_by : ℕ → List (Ident Span) → Code → ℕ → Read (Tree Span tree.entry)
-  getter_by i [] c j = Some (tree.getter (key_ident_at ts (suc i)) (tree.function 0 None [] c (span ts i j)), j)
+  getter_by i [] c j =
+      made (d.room i) (tree.function 0 None [] c (span ts i j)) j
+      (λ f k. Some (tree.getter (key_ident_at ts (suc i)) f, k))
   getter_by i _ c j = None
 
   unfoldable pub setter_by : ℕ → List (Ident Span) → Code → ℕ → Read (Tree Span tree.entry)
-  setter_by i (p
-      ∷ []) c j = Some (tree.setter (key_ident_at ts (suc i)) (tree.function 0 None (p ∷ []) c (span ts i j)), j)
+  setter_by i (p ∷ []) c j =
+      made (d.room i) (tree.function 0 None (p ∷ []) c (span ts i j)) j
+      (λ f k. Some (tree.setter (key_ident_at ts (suc i)) f, k))
   setter_by i _ c j = None
 
   -- a property that begins with `get` or `set`
@@ -256,9 +265,9 @@ module _ (ts : List Token) (d : Deeper) where
   primary_by i terminals.Number = Some (tree.number (number_at ts i) (span ts i (suc i)), suc i)
   primary_by i terminals.Str = Some (tree.string (text_at ts i) (span ts i (suc i)), suc i)
   primary_by i (terminals.Punct puncts.LeftBracket) = items_from (length ts) (suc i) >>= λ x.
-      Some (tree.array x.0 (span ts i x.1), x.1)
+      made (d.room i) (tree.array x.0 (span ts i x.1)) x.1 done
   primary_by i (terminals.Punct puncts.LeftBrace) = entries_from (length ts) (suc i) >>= λ x.
-      Some (tree.object x.0 (span ts i x.1), x.1)
+      made (d.room i) (tree.object x.0 (span ts i x.1)) x.1 done
   primary_by i (terminals.Punct puncts.LeftParen) = d.expression false (suc i) >>= closed
   primary_by i (terminals.Word words.Function) = function_at i
   primary_by i _ = None
@@ -282,20 +291,21 @@ module _ (ts : List Token) (d : Deeper) where
   unfoldable pub new_at : ℕ → Read Expr
   new_at i = d.member (suc i) >>= λ x.
       if is_open_paren (terminal_at ts x.1)
-      then (arguments_at (suc x.1) >>= λ a. Some (tree.new x.0 a.0 (span ts i a.1), a.1))
-      else Some (tree.new x.0 tree.end (span ts i x.1), x.1)
+      then (arguments_at (suc x.1) >>= λ a. made (d.room i) (tree.new x.0 a.0 (span ts i a.1)) a.1 done)
+      else made (d.room i) (tree.new x.0 tree.end (span ts i x.1)) x.1 done
 
   unfoldable pub start_at : ℕ → Read Expr
   start_at i = if is_new (terminal_at ts i) then new_at i else primary_at i
 
   unfoldable pub left_by : Bool → (Expr → ℕ → Read Expr) → ℕ → Expr → ℕ → Terminal → Read Expr
   left_by calls go i t j (terminals.Punct puncts.Dot) =
-      if is_name (terminal_at ts (suc j)) then go (tree.dot t (text_at ts (suc j)) (span ts i (suc (suc j))))
-      (suc (suc j)) else None
+      if is_name (terminal_at ts (suc j)) then made (d.room i) (tree.dot t (text_at ts (suc j)) (span ts i (suc (suc j))))
+      (suc (suc j)) go else None
   left_by calls go i t j (terminals.Punct puncts.LeftBracket) = d.expression false (suc j) >>= λ x.
-      if is_close_bracket (terminal_at ts x.1) then go (tree.index t x.0 (span ts i (suc x.1))) (suc x.1) else None
+      if is_close_bracket (terminal_at ts x.1) then made (d.room i) (tree.index t x.0 (span ts i (suc x.1))) (suc x.1) go
+      else None
   left_by true go i t j (terminals.Punct puncts.LeftParen) = arguments_at (suc j) >>= λ x.
-      go (tree.call t x.0 (span ts i x.1)) x.1
+      made (d.room i) (tree.call t x.0 (span ts i x.1)) x.1 go
   left_by calls go i t j _ = Some (t, j)
 
   -- goes on with a left-hand side that began at i, with at most n more parts
@@ -307,16 +317,16 @@ module _ (ts : List Token) (d : Deeper) where
   left_at calls n i = start_at i >>= λ x. left_from calls n i x.0 x.1
 
   unfoldable pub postfix_by : ℕ → Expr → ℕ → Option Bool → Bool → Read Expr
-  postfix_by i t j (Some up) false = target_of t >>= λ g. Some (tree.update up false g (span ts i (suc j)), suc j)
+  postfix_by i t j (Some up) false = target_of t >>= λ g. made (d.room i) (tree.update up false g (span ts i (suc j))) (suc j) done
   postfix_by i t j _ _ = Some (t, j)
 
   unfoldable pub postfix_at : ℕ → ℕ → Read Expr
   postfix_at n i = left_at true n i >>= λ x. postfix_by i x.0 x.1 (update_operator (terminal_at ts x.1)) (line_at ts x.1)
 
   unfoldable pub unary_by : ℕ → ℕ → Option UnOp → Option Bool → Read Expr
-  unary_by n i (Some op) up = d.unary (suc i) >>= λ x. Some (tree.unary op x.0 (span ts i x.1), x.1)
+  unary_by n i (Some op) up = d.unary (suc i) >>= λ x. made (d.room i) (tree.unary op x.0 (span ts i x.1)) x.1 done
   unary_by n i None (Some up) =
-      left_at true n (suc i) >>= λ x. target_of x.0 >>= λ g. Some (tree.update up true g (span ts i x.1), x.1)
+      left_at true n (suc i) >>= λ x. target_of x.0 >>= λ g. made (d.room i) (tree.update up true g (span ts i x.1)) x.1 done
   unary_by n i None None = postfix_at n i
 
   unfoldable pub unary_at : ℕ → ℕ → Read Expr
@@ -326,7 +336,8 @@ module _ (ts : List Token) (d : Deeper) where
   binary_by no_in go m i t j None = Some (t, j)
   binary_by no_in go m i t j (Some op) =
       if nat_le (infix_precedence op) m
-      then (d.binary no_in (pred (infix_precedence op)) (suc j) >>= λ x. go (infix_node op t x.0 (span ts i x.1)) x.1)
+      then (d.binary no_in (pred (infix_precedence op)) (suc j) >>= λ x.
+      made (d.room i) (infix_node op t x.0 (span ts i x.1)) x.1 go)
       else Some (t, j)
 
   -- goes on with infix operators as loose as m, with at most n more operands
@@ -342,7 +353,7 @@ module _ (ts : List Token) (d : Deeper) where
       if is_question (terminal_at ts x.1)
       then (d.assignment false (suc x.1) >>= λ a.
       if is_colon (terminal_at ts a.1)
-      then (d.assignment no_in (suc a.1) >>= λ b. Some (tree.conditional x.0 a.0 b.0 (span ts i b.1), b.1))
+      then (d.assignment no_in (suc a.1) >>= λ b. made (d.room i) (tree.conditional x.0 a.0 b.0 (span ts i b.1)) b.1 done)
       else None)
       else Some x
 
@@ -352,7 +363,7 @@ module _ (ts : List Token) (d : Deeper) where
   unfoldable pub assignment_by : Bool → ℕ → Expr → ℕ → Option (Option BinOp) → Read Expr
   assignment_by no_in i t j None = Some (t, j)
   assignment_by no_in i t j (Some op) =
-      target_of t >>= λ g. d.assignment no_in (suc j) >>= λ v. Some (tree.assign op g v.0 (span ts i v.1), v.1)
+      target_of t >>= λ g. d.assignment no_in (suc j) >>= λ v. made (d.room i) (tree.assign op g v.0 (span ts i v.1)) v.1 done
 
   unfoldable pub assignment_at : Bool → ℕ → ℕ → Read Expr
   assignment_at no_in n i = conditional_at no_in n i >>= λ x.
@@ -363,7 +374,8 @@ module _ (ts : List Token) (d : Deeper) where
   comma_from no_in zero i t j = if is_comma (terminal_at ts j) then None else Some (t, j)
   comma_from no_in (suc n) i t j =
       if is_comma (terminal_at ts j)
-      then (d.assignment no_in (suc j) >>= λ x. comma_from no_in n i (tree.comma t x.0 (span ts i x.1)) x.1)
+      then (d.assignment no_in (suc j) >>= λ x.
+      made (d.room i) (tree.comma t x.0 (span ts i x.1)) x.1 (comma_from no_in n i))
       else Some (t, j)
 
   unfoldable pub expression_at : Bool → ℕ → ℕ → Read Expr
@@ -394,16 +406,16 @@ module _ (ts : List Token) (d : Deeper) where
 
   unfoldable pub var_at : ℕ → Read Stmt
   var_at i = declarations_from false (length ts) (suc i) >>= λ x. ends_at ts x.1 >>= λ k.
-      Some (tree.var x.0 (span ts i k), k)
+      made (d.room i) (tree.var x.0 (span ts i k)) k done
 
   unfoldable pub express_at : ℕ → Read Stmt
-  express_at i = d.expression false i >>= λ x. ends_at ts x.1 >>= λ k. Some (tree.expression x.0 (span ts i k), k)
+  express_at i = d.expression false i >>= λ x. ends_at ts x.1 >>= λ k. made (d.room i) (tree.expression x.0 (span ts i k)) k done
 
   unfoldable pub else_from : ℕ → Expr → Stmts × ℕ → Read Stmt
   else_from i t x =
       if is_else (terminal_at ts x.1)
-      then (sub_at (suc x.1) >>= λ y. Some (tree.if_else t x.0 (tree.present (tree.branch_of y.0)) (span ts i y.1), y.1))
-      else Some (tree.if_else t x.0 tree.absent (span ts i x.1), x.1)
+      then (sub_at (suc x.1) >>= λ y. made (d.room i) (tree.if_else t x.0 (tree.present (tree.branch_of y.0)) (span ts i y.1)) y.1 done)
+      else made (d.room i) (tree.if_else t x.0 tree.absent (span ts i x.1)) x.1 done
 
   unfoldable pub if_at : ℕ → Read Stmt
   if_at i = head_at (suc i) >>= λ t. sub_at t.1 >>= else_from i t.0
@@ -411,11 +423,11 @@ module _ (ts : List Token) (d : Deeper) where
   unfoldable pub do_at : ℕ → Read Stmt
   do_at i = sub_at (suc i) >>= λ x.
       if is_while (terminal_at ts x.1)
-      then (head_at (suc x.1) >>= λ t. ends_at ts t.1 >>= λ k. Some (tree.do_while x.0 t.0 (span ts i k), k))
+      then (head_at (suc x.1) >>= λ t. ends_at ts t.1 >>= λ k. made (d.room i) (tree.do_while x.0 t.0 (span ts i k)) k done)
       else None
 
   unfoldable pub while_at : ℕ → Read Stmt
-  while_at i = head_at (suc i) >>= λ t. sub_at t.1 >>= λ x. Some (tree.while t.0 x.0 (span ts i x.1), x.1)
+  while_at i = head_at (suc i) >>= λ t. sub_at t.1 >>= λ x. made (d.room i) (tree.while t.0 x.0 (span ts i x.1)) x.1 done
 
   -- an expression, or none before a token that passes the test
   unfoldable pub optional_at : (Terminal → Bool) → ℕ → Read (OptionalTree Span tree.expr)
@@ -428,7 +440,7 @@ module _ (ts : List Token) (d : Deeper) where
       if is_semicolon (terminal_at ts a.1)
       then (optional_at is_semicolon (suc a.1) >>= λ b. if is_semicolon (terminal_at ts b.1)
       then (optional_at is_close_paren (suc b.1) >>= λ c. if is_close_paren (terminal_at ts c.1)
-      then (sub_at (suc c.1) >>= λ x. Some (tree.for a.0 b.0 c.0 x.0 (span ts i x.1), x.1))
+      then (sub_at (suc c.1) >>= λ x. made (d.room i) (tree.for a.0 b.0 c.0 x.0 (span ts i x.1)) x.1 done)
       else None)
       else None)
       else None
@@ -436,7 +448,7 @@ module _ (ts : List Token) (d : Deeper) where
   -- a `for` after its `in`
   unfoldable pub for_in_from : ℕ → Bool → Ident Span → ℕ → Read Stmt
   for_in_from i is_var x j = d.expression false j >>= λ t. if is_close_paren (terminal_at ts t.1)
-      then (sub_at (suc t.1) >>= λ w. Some (tree.for_in is_var x t.0 w.0 (span ts i w.1), w.1))
+      then (sub_at (suc t.1) >>= λ w. made (d.room i) (tree.for_in is_var x t.0 w.0 (span ts i w.1)) w.1 done)
       else None
 
   unfoldable pub for_var_at : ℕ → Read Stmt
@@ -467,7 +479,7 @@ module _ (ts : List Token) (d : Deeper) where
   unfoldable pub return_by : ℕ → Option ℕ → Read Stmt
   return_by i (Some k) = Some (tree.return tree.absent (span ts i k), k)
   return_by i None = d.expression false (suc i) >>= λ x. ends_at ts x.1 >>= λ k.
-      Some (tree.return (tree.present x.0) (span ts i k), k)
+      made (d.room i) (tree.return (tree.present x.0) (span ts i k)) k done
 
   unfoldable pub return_at : ℕ → Read Stmt
   return_at i = return_by i (ends_at ts (suc i))
@@ -476,7 +488,8 @@ module _ (ts : List Token) (d : Deeper) where
   throw_at i =
       if line_at ts (suc i)
       then None
-      else (d.expression false (suc i) >>= λ x. ends_at ts x.1 >>= λ k. Some (tree.throw x.0 (span ts i k), k))
+      else (d.expression false (suc i) >>= λ x. ends_at ts x.1 >>= λ k.
+      made (d.room i) (tree.throw x.0 (span ts i k)) k done)
 
   -- at most n clauses of a `switch`, with one default or, with false, none
   unfoldable pub clauses_from : ℕ → Bool → ℕ → Read (Forest Span tree.clause)
@@ -497,7 +510,7 @@ module _ (ts : List Token) (d : Deeper) where
   unfoldable pub switch_at : ℕ → Read Stmt
   switch_at i = head_at (suc i) >>= λ t. if is_open_brace (terminal_at ts t.1)
       then (clauses_from (length ts) true (suc t.1) >>= λ c.
-      if is_close_brace (terminal_at ts c.1) then Some (tree.switch t.0 c.0 (span ts i (suc c.1)), suc c.1) else None)
+      if is_close_brace (terminal_at ts c.1) then made (d.room i) (tree.switch t.0 c.0 (span ts i (suc c.1))) (suc c.1) done else None)
       else None
 
   unfoldable pub catch_at : ℕ → Read (Tree Span tree.handler)
@@ -510,33 +523,25 @@ module _ (ts : List Token) (d : Deeper) where
   unfoldable pub finally_from : ℕ → Stmts → Tree Span tree.handler × ℕ → Read Stmt
   finally_from i ws h =
       if is_finally (terminal_at ts h.1)
-      then (block_at (suc h.1) >>= λ u. Some (
-        tree.try ws (tree.present h.0) (tree.present (tree.branch_of u.0))
-            (span ts i u.1),
-        u.1,
-      ))
-      else Some (tree.try ws (tree.present h.0) tree.absent (span ts i h.1), h.1)
+      then (block_at (suc h.1) >>= λ u. made (d.room i) (tree.try ws (tree.present h.0) (tree.present (tree.branch_of u.0)) (span ts i u.1)) u.1 done)
+      else made (d.room i) (tree.try ws (tree.present h.0) tree.absent (span ts i h.1)) h.1 done
 
   unfoldable pub try_at : ℕ → Read Stmt
   try_at i = block_at (suc i) >>= λ x. if is_catch (terminal_at ts x.1)
       then (catch_at x.1 >>= finally_from i x.0)
       else (if is_finally (terminal_at ts x.1)
-      then (block_at (suc x.1) >>= λ u. Some (
-        tree.try x.0 tree.absent (tree.present (tree.branch_of u.0))
-            (span ts i u.1),
-        u.1,
-      ))
+      then (block_at (suc x.1) >>= λ u. made (d.room i) (tree.try x.0 tree.absent (tree.present (tree.branch_of u.0)) (span ts i u.1)) u.1 done)
       else None)
 
   -- a statement that begins with an identifier
   unfoldable pub named_at : ℕ → Read Stmt
   named_at i =
       if is_colon (terminal_at ts (suc i))
-      then (d.statement (suc (suc i)) >>= λ w. Some (tree.labelled (ident_at ts i) w.0 (span ts i w.1), w.1))
+      then (d.statement (suc (suc i)) >>= λ w. made (d.room i) (tree.labelled (ident_at ts i) w.0 (span ts i w.1)) w.1 done)
       else express_at i
 
   unfoldable pub statement_by : ℕ → Terminal → Read Stmt
-  statement_by i (terminals.Punct puncts.LeftBrace) = block_at i >>= λ x. Some (tree.block x.0 (span ts i x.1), x.1)
+  statement_by i (terminals.Punct puncts.LeftBrace) = block_at i >>= λ x. made (d.room i) (tree.block x.0 (span ts i x.1)) x.1 done
   statement_by i (terminals.Word words.Var) = var_at i
   statement_by i (terminals.Punct puncts.Semicolon) = Some (tree.empty (span ts i (suc i)), suc i)
   statement_by i (terminals.Word words.If) = if_at i
@@ -559,9 +564,17 @@ module _ (ts : List Token) (d : Deeper) where
   unfoldable pub statement_at : ℕ → Read Stmt
   statement_at i = statement_by i (terminal_at ts i)
 
--- what is read with f more levels
-unfoldable pub deeper : List Token → ℕ → Deeper
-deeper ts zero = record {
+-- with f levels left of which brackets that may still open have their share, where so many may be open
+abbrev pub room_at : List Token → ℕ → ℕ → ℕ → ℕ
+room_at ts brackets f i = f - (brackets - opened ts i)
+
+abbrev where_room : {A : Type 0} → ℕ → Read A → Read A
+where_room most r = if nat_le 1 most then r else None
+
+-- what is read with f more levels, where so many brackets may be open
+unfoldable pub deeper : List Token → ℕ → ℕ → Deeper
+deeper ts brackets zero = record {
+  room = λ i. 0;
   expression = λ no_in i. None;
   assignment = λ no_in i. None;
   unary = λ i. None;
@@ -570,14 +583,15 @@ deeper ts zero = record {
   statement = λ i. None;
   rest = λ i. None;
 }
-deeper ts (suc f) = record {
-  expression = λ no_in. expression_at ts (deeper ts f) no_in f;
-  assignment = λ no_in. assignment_at ts (deeper ts f) no_in f;
-  unary = unary_at ts (deeper ts f) f;
-  binary = λ no_in. binary_at ts (deeper ts f) no_in f;
-  member = left_at ts (deeper ts f) false f;
-  statement = statement_at ts (deeper ts f);
-  rest = rest_at ts (deeper ts f);
+deeper ts brackets (suc f) = record {
+  room = λ i. room_at ts brackets (suc f) i;
+  expression = λ no_in i. where_room (room_at ts brackets (suc f) i) (expression_at ts (deeper ts brackets f) no_in f i);
+  assignment = λ no_in i. where_room (room_at ts brackets (suc f) i) (assignment_at ts (deeper ts brackets f) no_in f i);
+  unary = λ i. where_room (room_at ts brackets (suc f) i) (unary_at ts (deeper ts brackets f) f i);
+  binary = λ no_in m i. where_room (room_at ts brackets (suc f) i) (binary_at ts (deeper ts brackets f) no_in f m i);
+  member = λ i. where_room (room_at ts brackets (suc f) i) (left_at ts (deeper ts brackets f) false f i);
+  statement = λ i. where_room (room_at ts brackets (suc f) i) (statement_at ts (deeper ts brackets f) i);
+  rest = λ i. where_room (room_at ts brackets (suc f) i) (rest_at ts (deeper ts brackets f) i);
 }
 
 abbrev pub is_shallow : List Token → ℕ → ℕ → Bool
@@ -588,7 +602,7 @@ is_shallow ts most (suc n) = nat_le (opened ts (suc n)) most && is_shallow ts mo
 unfoldable pub program_at : List Token → ℕ → Option (Program Span)
 program_at ts limit =
     if is_shallow ts (2 * limit) (length ts)
-    then (body_from ts (deeper ts (3 * limit)) (length ts) 0 >>= λ x.
+    then (body_from ts (deeper ts (2 * limit) (3 * limit)) (length ts) 0 >>= λ x.
     if nat_eq x.1 (length ts) && nat_le (program_height (program_of ts x.0)) limit then Some
     (program_of ts x.0) else None)
     else None

@@ -1,86 +1,93 @@
 -- What is read with a level less.
-use Rattle.std.proofs.Common.{◌≡◌, ◌≢◌, ℕ, zero, suc, ◌-◌, Bool, refl, arith}
-use Rattle.std.specs.Prelude.{List, None, false}
+use Rattle.std.proofs.Common.{◌≡◌, ℕ, zero, suc, ◌-◌, Bool, refl, arith}
+use Rattle.std.specs.Prelude.{List, None, false, true, nat_le}
 use Rattle.jl_token.specs.declared.token.Token.{Token}
 use Rattle.jl_grammar.specs.Reader.{deeper, expression_at, assignment_at, unary_at, binary_at, left_at, statement_at}
 use Rattle.jl_grammar.specs.Reader.{rest_at}
 
-pub no_expression : (ts : List Token) (d : ℕ) (no_in : Bool) (i : ℕ) → d ≡ 0 → (deeper ts d).expression no_in i ≡ None
+pub no_expression : (ts : List Token) (b d : ℕ) (no_in : Bool) (i : ℕ) → nat_le 1 ((deeper ts b d).room i) ≡ false
+    → (deeper ts b d).expression no_in i ≡ None
 unfolding deeper
-no_expression ts zero no_in i h = refl
-no_expression ts (suc d) no_in i h = absurd (omega arith)
+no_expression ts b zero no_in i h = refl
+no_expression ts b (suc d) no_in i h = rw h
 
-pub one_expression : (ts : List Token) (d : ℕ) (no_in : Bool) (i : ℕ) → d ≢ 0
-    → (deeper ts d).expression no_in i ≡ expression_at ts (deeper ts (d - 1)) no_in (d - 1) i
+pub one_expression : (ts : List Token) (b d : ℕ) (no_in : Bool) (i : ℕ) → nat_le 1 ((deeper ts b d).room i) ≡ true
+    → (deeper ts b d).expression no_in i ≡ expression_at ts (deeper ts b (d - 1)) no_in (d - 1) i
 unfolding deeper
-one_expression ts zero no_in i h = absurd (h refl)
-one_expression ts (suc d) no_in i h = let e : suc d - 1 ≡ d = omega arith in rw e
+one_expression ts b zero no_in i h = cc
+one_expression ts b (suc d) no_in i h = let e : suc d - 1 ≡ d = omega arith in rw (e, h)
 
-pub no_assignment : (ts : List Token) (d : ℕ) (no_in : Bool) (i : ℕ) → d ≡ 0 → (deeper ts d).assignment no_in i ≡ None
+pub no_assignment : (ts : List Token) (b d : ℕ) (no_in : Bool) (i : ℕ) → nat_le 1 ((deeper ts b d).room i) ≡ false
+    → (deeper ts b d).assignment no_in i ≡ None
 unfolding deeper
-no_assignment ts zero no_in i h = refl
-no_assignment ts (suc d) no_in i h = absurd (omega arith)
+no_assignment ts b zero no_in i h = refl
+no_assignment ts b (suc d) no_in i h = rw h
 
-pub one_assignment : (ts : List Token) (d : ℕ) (no_in : Bool) (i : ℕ) → d ≢ 0
-    → (deeper ts d).assignment no_in i ≡ assignment_at ts (deeper ts (d - 1)) no_in (d - 1) i
+pub one_assignment : (ts : List Token) (b d : ℕ) (no_in : Bool) (i : ℕ) → nat_le 1 ((deeper ts b d).room i) ≡ true
+    → (deeper ts b d).assignment no_in i ≡ assignment_at ts (deeper ts b (d - 1)) no_in (d - 1) i
 unfolding deeper
-one_assignment ts zero no_in i h = absurd (h refl)
-one_assignment ts (suc d) no_in i h = let e : suc d - 1 ≡ d = omega arith in rw e
+one_assignment ts b zero no_in i h = cc
+one_assignment ts b (suc d) no_in i h = let e : suc d - 1 ≡ d = omega arith in rw (e, h)
 
-pub no_unary : (ts : List Token) (d : ℕ) (i : ℕ) → d ≡ 0 → (deeper ts d).unary i ≡ None
+pub no_unary : (ts : List Token) (b d : ℕ) (i : ℕ) → nat_le 1 ((deeper ts b d).room i) ≡ false
+    → (deeper ts b d).unary i ≡ None
 unfolding deeper
-no_unary ts zero i h = refl
-no_unary ts (suc d) i h = absurd (omega arith)
+no_unary ts b zero i h = refl
+no_unary ts b (suc d) i h = rw h
 
-pub one_unary : (ts : List Token) (d : ℕ) (i : ℕ) → d ≢ 0
-    → (deeper ts d).unary i ≡ unary_at ts (deeper ts (d - 1)) (d - 1) i
+pub one_unary : (ts : List Token) (b d : ℕ) (i : ℕ) → nat_le 1 ((deeper ts b d).room i) ≡ true
+    → (deeper ts b d).unary i ≡ unary_at ts (deeper ts b (d - 1)) (d - 1) i
 unfolding deeper
-one_unary ts zero i h = absurd (h refl)
-one_unary ts (suc d) i h = let e : suc d - 1 ≡ d = omega arith in rw e
+one_unary ts b zero i h = cc
+one_unary ts b (suc d) i h = let e : suc d - 1 ≡ d = omega arith in rw (e, h)
 
-pub no_binary : (ts : List Token) (d : ℕ) (no_in : Bool) (m : ℕ) (i : ℕ) → d ≡ 0 → (deeper ts d).binary no_in m i ≡ None
+pub no_binary : (ts : List Token) (b d : ℕ) (no_in : Bool) (m i : ℕ) → nat_le 1 ((deeper ts b d).room i) ≡ false
+    → (deeper ts b d).binary no_in m i ≡ None
 unfolding deeper
-no_binary ts zero no_in m i h = refl
-no_binary ts (suc d) no_in m i h = absurd (omega arith)
+no_binary ts b zero no_in m i h = refl
+no_binary ts b (suc d) no_in m i h = rw h
 
-pub one_binary : (ts : List Token) (d : ℕ) (no_in : Bool) (m : ℕ) (i : ℕ) → d ≢ 0
-    → (deeper ts d).binary no_in m i ≡ binary_at ts (deeper ts (d - 1)) no_in (d - 1) m i
+pub one_binary : (ts : List Token) (b d : ℕ) (no_in : Bool) (m i : ℕ) → nat_le 1 ((deeper ts b d).room i) ≡ true
+    → (deeper ts b d).binary no_in m i ≡ binary_at ts (deeper ts b (d - 1)) no_in (d - 1) m i
 unfolding deeper
-one_binary ts zero no_in m i h = absurd (h refl)
-one_binary ts (suc d) no_in m i h = let e : suc d - 1 ≡ d = omega arith in rw e
+one_binary ts b zero no_in m i h = cc
+one_binary ts b (suc d) no_in m i h = let e : suc d - 1 ≡ d = omega arith in rw (e, h)
 
-pub no_member : (ts : List Token) (d : ℕ) (i : ℕ) → d ≡ 0 → (deeper ts d).member i ≡ None
+pub no_member : (ts : List Token) (b d : ℕ) (i : ℕ) → nat_le 1 ((deeper ts b d).room i) ≡ false
+    → (deeper ts b d).member i ≡ None
 unfolding deeper
-no_member ts zero i h = refl
-no_member ts (suc d) i h = absurd (omega arith)
+no_member ts b zero i h = refl
+no_member ts b (suc d) i h = rw h
 
-pub one_member : (ts : List Token) (d : ℕ) (i : ℕ) → d ≢ 0
-    → (deeper ts d).member i ≡ left_at ts (deeper ts (d - 1)) false (d - 1) i
+pub one_member : (ts : List Token) (b d : ℕ) (i : ℕ) → nat_le 1 ((deeper ts b d).room i) ≡ true
+    → (deeper ts b d).member i ≡ left_at ts (deeper ts b (d - 1)) false (d - 1) i
 unfolding deeper
-one_member ts zero i h = absurd (h refl)
-one_member ts (suc d) i h = let e : suc d - 1 ≡ d = omega arith in rw e
+one_member ts b zero i h = cc
+one_member ts b (suc d) i h = let e : suc d - 1 ≡ d = omega arith in rw (e, h)
 
-pub no_statement : (ts : List Token) (d : ℕ) (i : ℕ) → d ≡ 0 → (deeper ts d).statement i ≡ None
+pub no_statement : (ts : List Token) (b d : ℕ) (i : ℕ) → nat_le 1 ((deeper ts b d).room i) ≡ false
+    → (deeper ts b d).statement i ≡ None
 unfolding deeper
-no_statement ts zero i h = refl
-no_statement ts (suc d) i h = absurd (omega arith)
+no_statement ts b zero i h = refl
+no_statement ts b (suc d) i h = rw h
 
-pub one_statement : (ts : List Token) (d : ℕ) (i : ℕ) → d ≢ 0
-    → (deeper ts d).statement i ≡ statement_at ts (deeper ts (d - 1)) i
+pub one_statement : (ts : List Token) (b d : ℕ) (i : ℕ) → nat_le 1 ((deeper ts b d).room i) ≡ true
+    → (deeper ts b d).statement i ≡ statement_at ts (deeper ts b (d - 1)) i
 unfolding deeper
-one_statement ts zero i h = absurd (h refl)
-one_statement ts (suc d) i h = let e : suc d - 1 ≡ d = omega arith in rw e
+one_statement ts b zero i h = cc
+one_statement ts b (suc d) i h = let e : suc d - 1 ≡ d = omega arith in rw (e, h)
 
-pub no_rest : (ts : List Token) (d : ℕ) (i : ℕ) → d ≡ 0 → (deeper ts d).rest i ≡ None
+pub no_rest : (ts : List Token) (b d : ℕ) (i : ℕ) → nat_le 1 ((deeper ts b d).room i) ≡ false
+    → (deeper ts b d).rest i ≡ None
 unfolding deeper
-no_rest ts zero i h = refl
-no_rest ts (suc d) i h = absurd (omega arith)
+no_rest ts b zero i h = refl
+no_rest ts b (suc d) i h = rw h
 
-pub one_rest : (ts : List Token) (d : ℕ) (i : ℕ) → d ≢ 0
-    → (deeper ts d).rest i ≡ rest_at ts (deeper ts (d - 1)) i
+pub one_rest : (ts : List Token) (b d : ℕ) (i : ℕ) → nat_le 1 ((deeper ts b d).room i) ≡ true
+    → (deeper ts b d).rest i ≡ rest_at ts (deeper ts b (d - 1)) i
 unfolding deeper
-one_rest ts zero i h = absurd (h refl)
-one_rest ts (suc d) i h = let e : suc d - 1 ≡ d = omega arith in rw e
+one_rest ts b zero i h = cc
+one_rest ts b (suc d) i h = let e : suc d - 1 ≡ d = omega arith in rw (e, h)
 
 pub ruleset levels = (
   no_expression,

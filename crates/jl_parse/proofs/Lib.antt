@@ -3,5 +3,6 @@ pub mod Levels
 pub mod Rows
 pub mod Turns
 pub mod Lists
+pub mod Heights
 pub mod Limits
-pub mod Parts
+pub mod Forms

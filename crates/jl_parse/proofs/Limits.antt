@@ -18,15 +18,8 @@ use Rattle.jl_grammar.specs.Tokens.{from_at, terminal_at}
 use Rattle.jl_grammar.proofs.CountedNodes.{counted}
 use Rattle.jl_grammar.proofs.FewNodes.{body_few}
 use Rattle.jl_grammar.proofs.One.{read, reader_tells}
+use Rattle.jl_parse.proofs.Places.{opened_more, opened_none}
 use Rattle.jl_parse.specs.Refusals.{IsPlace, at_end, at_token}
-
-pub opened_none : (ts : List Token) → opened ts 0 ≡ 0
-unfolding opened
-opened_none ts = refl
-
-pub opened_more : (ts : List Token) (i : ℕ) → opened ts (i + 1) ≡ bracket (terminal_at ts i) (opened ts i)
-unfolding opened
-opened_more ts i = let e : i + 1 ≡ suc i = omega arith in ap (opened ts) e
 
 pub shallow_more : (ts : List Token) (most i : ℕ) → is_shallow ts most i ≡ true
     → bracket (terminal_at ts i) (opened ts i) ≤ most → is_shallow ts most (i + 1) ≡ true
@@ -60,9 +53,9 @@ pub program_is_as_high : (ts : List Token) (c : Code) → program_height (progra
 program_is_as_high ts c = renumbered 0 c
 
 -- what is read has fewer functions than tokens
-pub few_functions : (ts : List Token) (f : ℕ) (c : Code) (j : ℕ)
-    → body_from ts (deeper ts f) (length ts) 0 ≡ Some (c, j) → functions_in c ≤ j
-few_functions ts f c j e = let h = body_few (read ts f c j e) in let k = counted c in omega arith
+pub few_functions : (ts : List Token) (b f : ℕ) (c : Code) (j : ℕ)
+    → body_from ts (deeper ts b f) (length ts) 0 ≡ Some (c, j) → functions_in c ≤ j
+few_functions ts b f c j e = let h = body_few (read ts b f c j e) in let k = counted c in omega arith
 
 -- what the reader answers for whole lists
 
@@ -83,11 +76,11 @@ module _ (ts : List Token) (limit : ℕ) where
   unfolding program_at
   too_deep h = rw (h, program_at)
 
-  pub no_body : body_from ts (deeper ts (3 * limit)) (length ts) 0 ≡ None → program_at ts limit ≡ None
+  pub no_body : body_from ts (deeper ts (2 * limit) (3 * limit)) (length ts) 0 ≡ None → program_at ts limit ≡ None
   unfolding program_at
   no_body h = rw (h, program_at) (none_either (is_shallow ts (2 * limit) (length ts)))
 
-  pub cut_short : (c : Code) (j : ℕ) → body_from ts (deeper ts (3 * limit)) (length ts) 0 ≡ Some (c, j)
+  pub cut_short : (c : Code) (j : ℕ) → body_from ts (deeper ts (2 * limit) (3 * limit)) (length ts) 0 ≡ Some (c, j)
       → j ≢ length ts → program_at ts limit ≡ None
   unfolding program_at
   cut_short c j h n =
@@ -96,7 +89,7 @@ module _ (ts : List Token) (limit : ℕ) where
       (nat_le (program_height (program_of ts c)) limit) (Some (program_of ts c))
       (ap (λ b. b && nat_le (program_height (program_of ts c)) limit) e))
 
-  pub too_high : (c : Code) (j : ℕ) → body_from ts (deeper ts (3 * limit)) (length ts) 0 ≡ Some (c, j)
+  pub too_high : (c : Code) (j : ℕ) → body_from ts (deeper ts (2 * limit) (3 * limit)) (length ts) 0 ≡ Some (c, j)
       → limit < height c → program_at ts limit ≡ None
   unfolding program_at
   too_high c j h l =
@@ -107,7 +100,7 @@ module _ (ts : List Token) (limit : ℕ) where
       (ap (λ b. nat_eq j (length ts) && b) e ∙ and_false (nat_eq j (length ts))))
 
   pub is_whole : (c : Code) (j : ℕ) → is_shallow ts (2 * limit) (length ts) ≡ true
-      → body_from ts (deeper ts (3 * limit)) (length ts) 0 ≡ Some (c, j) → j ≡ length ts → height c ≤ limit
+      → body_from ts (deeper ts (2 * limit) (3 * limit)) (length ts) 0 ≡ Some (c, j) → j ≡ length ts → height c ≤ limit
       → program_at ts limit ≡ Some (program_of ts c)
   unfolding program_at
   is_whole c j s h e l =

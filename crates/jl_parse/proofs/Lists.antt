@@ -18,11 +18,12 @@ use Rattle.jl_grammar.specs.Next.{ends_list, is_colon, is_comma, is_directive, i
 use Rattle.jl_grammar.specs.Reader.{◌>>=◌, Deeper, Read, body_from, clauses_from, declaration_at, declarations_from}
 use Rattle.jl_grammar.specs.Reader.{elements_from, entries_from, entry_at, getter_by, is_case, is_close_brace}
 use Rattle.jl_grammar.specs.Reader.{is_close_paren, is_default, is_function, names_from, setter_by, statements_from}
-use Rattle.jl_grammar.specs.Reader.{ends_at, with_directive}
+use Rattle.jl_grammar.specs.Reader.{done, ends_at, made, with_directive}
 use Rattle.jl_grammar.specs.Reads.{Code, Stmt, Stmts}
 use Rattle.jl_grammar.specs.Tokens.{ident_at, key_ident_at, terminal_at, span, strict_at}
 use Rattle.jl_parse.specs.Steps.{append, clause_of, declaration_of, with_elements}
-use Rattle.jl_parse.proofs.Rows.{append_assoc, append_end, regroup, with_end, with_forest}
+use Rattle.jl_parse.proofs.Rows.{append_assoc, append_end, made_none, made_on, made_some, regroup, then_on, with_end}
+use Rattle.jl_parse.proofs.Rows.{with_forest}
 
 pub statements_push : (l : List CodeStmt) (e : CodeStmt)
     → view_statements (l ++ (e ∷ [])) ≡ append (view_statements l) (tree.more (view_statement e) tree.end)
@@ -80,11 +81,6 @@ pub with_no_body : (o : Read Code) → with_body false o ≡ o
 with_no_body None = refl
 with_no_body (Some r) = ap (λ (c : Code). Some (c, r.1)) (is_alone r.0)
 
--- what comes after a part
-abbrev then_on : {A B : Type 0} → Read A → (A → ℕ → Option B) → Option B
-then_on None go = None
-then_on (Some x) go = go x.0 x.1
-
 if_then : {A B C : Type 0} (b : Bool) (o : Read A) (f : A → ℕ → B) (go : B → ℕ → Option C)
     → (if b then (o >>= λ x. go (f x.0 x.1) x.1) else None)
     ≡ then_on (if b then (o >>= λ x. Some (f x.0 x.1, x.1)) else None) go
@@ -97,6 +93,14 @@ then_if : {A B C D : Type 0} (o : Read D) (b : ℕ → Bool) (s : ℕ → Read A
     ≡ then_on (o >>= λ t. if b t.1 then (s t.1 >>= λ x. Some (f t.0 x.0 x.1, x.1)) else None) go
 then_if None b s f go = refl
 then_if (Some t) b s f go = if_then (b t.1) (s t.1) (f t.0) go
+
+if_made : {A C : Type 0} {x : tree.Sort} (b : Bool) (o : Read A) (most : ℕ) (f : A → ℕ → Tree Span x)
+    (go : Tree Span x → ℕ → Option C)
+    → (if b then (o >>= λ x. made most (f x.0 x.1) x.1 go) else None)
+    ≡ then_on (if b then (o >>= λ x. made most (f x.0 x.1) x.1 done) else None) go
+if_made false o most f go = refl
+if_made true None most f go = refl
+if_made true (Some x) most f go = made_on most (f x.0 x.1) x.1 go
 
 append_ends : (strict : Bool) (fs : Forest Span tree.func) (ws : Stmts)
     → tree.body strict (append fs tree.end) (append ws tree.end) ≡ tree.body strict fs ws
@@ -328,7 +332,7 @@ module _ (ts : List Token) (d : Deeper) where
       → elements_from ts d (suc n) i ≡ then_on (declaration_of ts d i) (after_declaration n)
   unfolding elements_from
   function_turn n i h e =
-      rw (h, e, elements_from) (if_then (is_identifier (terminal_at ts (suc i))) (d.rest (suc (suc i)))
+      rw (h, e, elements_from) (if_made (is_identifier (terminal_at ts (suc i))) (d.rest (suc (suc i))) (d.room i)
       (λ x j. tree.function 0 (Some (ident_at ts (suc i))) x.0 x.1 (span ts i j)) (after_declaration n))
 
   pub elements_no_function : (s : Bool) (fs : Forest Span tree.func) (ws : Stmts) (n i : ℕ) → n ≢ 0
@@ -395,12 +399,19 @@ module _ (ts : List Token) (d : Deeper) where
 
   -- the parameters of accessors
 
-  pub getter_one : (i : ℕ) (ps : List CodeIdent) (c : Code) (j : ℕ) → length ps ≡ 0
-      → getter_by ts d i (map view_ident ps) c j
-      ≡ Some (tree.getter (key_ident_at ts (suc i)) (tree.function 0 None (map view_ident ps) c (span ts i j)), j)
+  pub getter_one : (i : ℕ) (ps : List CodeIdent) (c : Code) (j : ℕ) (f : Tree Span tree.func) (k : ℕ) → length ps ≡ 0
+      → made (d.room i) (tree.function 0 None (map view_ident ps) c (span ts i j)) j done ≡ Some (f, k)
+      → getter_by ts d i (map view_ident ps) c j ≡ Some (tree.getter (key_ident_at ts (suc i)) f, k)
   unfolding getter_by
-  getter_one i [] c j h = refl
-  getter_one i (p ∷ ps) c j h = absurd (omega arith)
+  getter_one i [] c j f k h e = made_some (d.room i) _ j _ f k e
+  getter_one i (p ∷ ps) c j f k h e = absurd (omega arith)
+
+  pub getter_high : (i : ℕ) (ps : List CodeIdent) (c : Code) (j : ℕ)
+      → made (d.room i) (tree.function 0 None (map view_ident ps) c (span ts i j)) j done ≡ None
+      → getter_by ts d i (map view_ident ps) c j ≡ None
+  unfolding getter_by
+  getter_high i [] c j e = made_none (d.room i) _ j _ e
+  getter_high i (p ∷ ps) c j e = refl
 
   pub getter_none : (i : ℕ) (ps : List CodeIdent) (c : Code) (j : ℕ) → length ps ≢ 0
       → getter_by ts d i (map view_ident ps) c j ≡ None
@@ -408,13 +419,21 @@ module _ (ts : List Token) (d : Deeper) where
   getter_none i [] c j h = absurd (h refl)
   getter_none i (p ∷ ps) c j h = refl
 
-  pub setter_one : (i : ℕ) (ps : List CodeIdent) (c : Code) (j : ℕ) → length ps ≡ 1
-      → setter_by ts d i (map view_ident ps) c j
-      ≡ Some (tree.setter (key_ident_at ts (suc i)) (tree.function 0 None (map view_ident ps) c (span ts i j)), j)
+  pub setter_one : (i : ℕ) (ps : List CodeIdent) (c : Code) (j : ℕ) (f : Tree Span tree.func) (k : ℕ) → length ps ≡ 1
+      → made (d.room i) (tree.function 0 None (map view_ident ps) c (span ts i j)) j done ≡ Some (f, k)
+      → setter_by ts d i (map view_ident ps) c j ≡ Some (tree.setter (key_ident_at ts (suc i)) f, k)
   unfolding setter_by
-  setter_one i [] c j h = absurd (omega arith)
-  setter_one i (p ∷ []) c j h = refl
-  setter_one i (p ∷ q ∷ ps) c j h = absurd (omega arith)
+  setter_one i [] c j f k h e = absurd (omega arith)
+  setter_one i (p ∷ []) c j f k h e = made_some (d.room i) _ j _ f k e
+  setter_one i (p ∷ q ∷ ps) c j f k h e = absurd (omega arith)
+
+  pub setter_high : (i : ℕ) (ps : List CodeIdent) (c : Code) (j : ℕ)
+      → made (d.room i) (tree.function 0 None (map view_ident ps) c (span ts i j)) j done ≡ None
+      → setter_by ts d i (map view_ident ps) c j ≡ None
+  unfolding setter_by
+  setter_high i [] c j e = refl
+  setter_high i (p ∷ []) c j e = made_none (d.room i) _ j _ e
+  setter_high i (p ∷ q ∷ ps) c j e = refl
 
   pub setter_none : (i : ℕ) (ps : List CodeIdent) (c : Code) (j : ℕ) → length ps ≢ 1
       → setter_by ts d i (map view_ident ps) c j ≡ None
@@ -500,6 +519,6 @@ pub ruleset body_loop = (with_no_body, body_ends, body_none, body_fails, body_mo
 
 pub ruleset parameters_loop = (with_nil, idents_push, names_none, names_other, names_last, names_more, names_stuck)
 
-pub ruleset getters = (getter_one, getter_none)
+pub ruleset getters = (getter_one, getter_high, getter_none)
 
-pub ruleset setters = (setter_one, setter_none)
+pub ruleset setters = (setter_one, setter_high, setter_none)

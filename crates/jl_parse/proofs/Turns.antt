@@ -15,12 +15,12 @@ use Rattle.jl_grammar.specs.declared.terminal.Terminal.{Terminal}
 use Rattle.jl_grammar.specs.declared.terminal.Terminal.TheVariants as terminals
 use Rattle.jl_grammar.specs.Next.{is_comma, is_name, continues_left}
 use Rattle.jl_grammar.specs.Operators.{InfixOperator, infix_operator, infix_node, infix_precedence, infix_precedence_of, continues}
-use Rattle.jl_grammar.specs.Reader.{Read, Deeper, ◌>>=◌, is_close_paren, is_close_bracket, comma_from, binary_from}
+use Rattle.jl_grammar.specs.Reader.{Read, Deeper, ◌>>=◌, done, made, is_close_paren, is_close_bracket, comma_from, binary_from}
 use Rattle.jl_grammar.specs.Reader.{binary_by, left_from, left_by, items_from, arguments_at, arguments_from}
 use Rattle.jl_grammar.specs.Reads.{Expr, Exprs}
 use Rattle.jl_grammar.specs.Tokens.{terminal_at, text_at, span}
 use Rattle.jl_parse.specs.Steps.{append}
-use Rattle.jl_parse.proofs.Rows.{with_forest, append_end, with_end, regroup}
+use Rattle.jl_parse.proofs.Rows.{with_forest, append_end, with_end, regroup, made_none, made_on, made_some, then_on}
 
 pub expressions_push : (l : List CodeExpr) (e : CodeExpr)
     → view_expressions (l ++ (e ∷ [])) ≡ append (view_expressions l) (tree.more (view_expression e) tree.end)
@@ -39,26 +39,21 @@ item_push [] e = refl
 item_push (None ∷ l) e = ap (tree.more tree.hole) (item_push l e)
 item_push (Some x ∷ l) e = ap (tree.more (tree.filled (view_expression x))) (item_push l e)
 
--- what is read after an expression
-abbrev then_on : Read Expr → (Expr → ℕ → Read Expr) → Read Expr
-then_on None go = None
-then_on (Some x) go = go x.0 x.1
+if_made : (b : Bool) (most : ℕ) (u : Expr) (k : ℕ) (go : Expr → ℕ → Read Expr)
+    → (if b then made most u k go else None) ≡ then_on (if b then made most u k done else None) go
+if_made true most u k go = made_on most u k go
+if_made false most u k go = refl
 
-if_bind : (b : Bool) (u : Expr) (k : ℕ) (go : Expr → ℕ → Read Expr)
-    → (if b then go u k else None) ≡ then_on (if b then Some (u, k) else None) go
-if_bind true u k go = refl
-if_bind false u k go = refl
+bind_test : {A : Type 0} (o : Option A) (b : A → Bool) (most : ℕ) (u : A → Expr) (k : A → ℕ) (go : Expr → ℕ → Read Expr)
+    → (o >>= λ x. if b x then made most (u x) (k x) go else None)
+    ≡ then_on (o >>= λ x. if b x then made most (u x) (k x) done else None) go
+bind_test None b most u k go = refl
+bind_test (Some x) b most u k go = if_made (b x) most (u x) (k x) go
 
-bind_test : {A : Type 0} (o : Option A) (b : A → Bool) (u : A → Expr) (k : A → ℕ) (go : Expr → ℕ → Read Expr)
-    → (o >>= λ x. if b x then go (u x) (k x) else None)
-    ≡ then_on (o >>= λ x. if b x then Some (u x, k x) else None) go
-bind_test None b u k go = refl
-bind_test (Some x) b u k go = if_bind (b x) (u x) (k x) go
-
-bind_bind : {A : Type 0} (o : Option A) (u : A → Expr) (k : A → ℕ) (go : Expr → ℕ → Read Expr)
-    → (o >>= λ x. go (u x) (k x)) ≡ then_on (o >>= λ x. Some (u x, k x)) go
-bind_bind None u k go = refl
-bind_bind (Some x) u k go = refl
+bind_made : {A : Type 0} (o : Option A) (most : ℕ) (u : A → Expr) (k : A → ℕ) (go : Expr → ℕ → Read Expr)
+    → (o >>= λ x. made most (u x) (k x) go) ≡ then_on (o >>= λ x. made most (u x) (k x) done) go
+bind_made None most u k go = refl
+bind_made (Some x) most u k go = made_on most (u x) (k x) go
 
 beyond : (s x : ℕ) → x < s → (nat_le 1 s && nat_le s x) ≡ false
 beyond s x l = grind (arith, leb_tells)
@@ -97,12 +92,23 @@ module _ (ts : List Token) (d : Deeper) where
   comma_fails no_in zero i t j e h q = absurd (e refl)
   comma_fails no_in (suc n) i t j e h q = rw (h, q, comma_from)
 
-  pub comma_more : (no_in : Bool) (n i : ℕ) (t : Expr) (j : ℕ) (b : Expr) (k : ℕ) → n ≢ 0
+  pub comma_more : (no_in : Bool) (n i : ℕ) (t : Expr) (j : ℕ) (b : Expr) (k : ℕ) (u : Expr) (m : ℕ) → n ≢ 0
       → is_comma (terminal_at ts j) ≡ true → d.assignment no_in (suc j) ≡ Some (b, k)
-      → comma_from ts d no_in n i t j ≡ comma_from ts d no_in (n - 1) i (tree.comma t b (span ts i k)) k
+      → made (d.room i) (tree.comma t b (span ts i k)) k done ≡ Some (u, m)
+      → comma_from ts d no_in n i t j ≡ comma_from ts d no_in (n - 1) i u m
   unfolding comma_from
-  comma_more no_in zero i t j b k h e q = absurd (h refl)
-  comma_more no_in (suc n) i t j b k h e q = let m : suc n - 1 ≡ n = omega arith in rw (m, e, q, comma_from)
+  comma_more no_in zero i t j b k u m h e q f = absurd (h refl)
+  comma_more no_in (suc n) i t j b k u m h e q f =
+      let g : suc n - 1 ≡ n = omega arith in
+      rw (g, e, q, comma_from) (made_some (d.room i) (tree.comma t b (span ts i k)) k (comma_from ts d no_in n i) u m f)
+
+  pub comma_high : (no_in : Bool) (n i : ℕ) (t : Expr) (j : ℕ) (b : Expr) (k : ℕ) → n ≢ 0
+      → is_comma (terminal_at ts j) ≡ true → d.assignment no_in (suc j) ≡ Some (b, k)
+      → made (d.room i) (tree.comma t b (span ts i k)) k done ≡ None → comma_from ts d no_in n i t j ≡ None
+  unfolding comma_from
+  comma_high no_in zero i t j b k h e q f = absurd (h refl)
+  comma_high no_in (suc n) i t j b k h e q f =
+      rw (e, q, comma_from) (made_none (d.room i) (tree.comma t b (span ts i k)) k (comma_from ts d no_in n i) f)
 
   -- infix operators
 
@@ -136,15 +142,29 @@ module _ (ts : List Token) (d : Deeper) where
       let g : pred (infix_precedence op) ≡ infix_precedence op - 1 = omega arith in
       rw (e, le-leb (infix_precedence op) m l, g, q, binary_from)
 
-  pub binary_more : (no_in : Bool) (n m i : ℕ) (t : Expr) (j : ℕ) (op : InfixOperator) (b : Expr) (k : ℕ) → n ≢ 0
+  pub binary_more : (no_in : Bool) (n m i : ℕ) (t : Expr) (j : ℕ) (op : InfixOperator) (b : Expr) (k : ℕ) (u : Expr)
+      (l : ℕ) → n ≢ 0
       → infix_operator no_in (terminal_at ts j) ≡ Some op → infix_precedence op ≤ m
       → d.binary no_in (infix_precedence op - 1) (suc j) ≡ Some (b, k)
-      → binary_from ts d no_in n m i t j ≡ binary_from ts d no_in (n - 1) m i (infix_node op t b (span ts i k)) k
+      → made (d.room i) (infix_node op t b (span ts i k)) k done ≡ Some (u, l)
+      → binary_from ts d no_in n m i t j ≡ binary_from ts d no_in (n - 1) m i u l
   unfolding binary_from binary_by
-  binary_more no_in zero m i t j op b k h e l q = absurd (h refl)
-  binary_more no_in (suc n) m i t j op b k h e l q =
+  binary_more no_in zero m i t j op b k u l h e r q f = absurd (h refl)
+  binary_more no_in (suc n) m i t j op b k u l h e r q f =
       let g : suc n - 1 ≡ n = omega arith in let p : pred (infix_precedence op) ≡ infix_precedence op - 1 = omega arith in
-      rw (g, e, le-leb (infix_precedence op) m l, p, q, binary_from)
+      rw (g, e, le-leb (infix_precedence op) m r, p, q, binary_from)
+      (made_some (d.room i) (infix_node op t b (span ts i k)) k (binary_from ts d no_in n m i) u l f)
+
+  pub binary_high : (no_in : Bool) (n m i : ℕ) (t : Expr) (j : ℕ) (op : InfixOperator) (b : Expr) (k : ℕ) → n ≢ 0
+      → infix_operator no_in (terminal_at ts j) ≡ Some op → infix_precedence op ≤ m
+      → d.binary no_in (infix_precedence op - 1) (suc j) ≡ Some (b, k)
+      → made (d.room i) (infix_node op t b (span ts i k)) k done ≡ None → binary_from ts d no_in n m i t j ≡ None
+  unfolding binary_from binary_by
+  binary_high no_in zero m i t j op b k h e r q f = absurd (h refl)
+  binary_high no_in (suc n) m i t j op b k h e r q f =
+      let p : pred (infix_precedence op) ≡ infix_precedence op - 1 = omega arith in
+      rw (e, le-leb (infix_precedence op) m r, p, q, binary_from)
+      (made_none (d.room i) (infix_node op t b (span ts i k)) k (binary_from ts d no_in n m i) f)
 
   -- members and calls
 
@@ -171,24 +191,23 @@ module _ (ts : List Token) (d : Deeper) where
   left_none calls (suc n) i t j e h = absurd (omega arith)
 
   stepwise : (calls : Bool) (go : Expr → ℕ → Read Expr) (i : ℕ) (t : Expr) (j : ℕ) (k : Terminal)
-      → continues_left calls k ≡ true
-      → left_by ts d calls go i t j k ≡ then_on (left_by ts d true (λ t j. Some (t, j)) i t j k) go
+      → continues_left calls k ≡ true → left_by ts d calls go i t j k ≡ then_on (left_by ts d true done i t j k) go
   unfolding left_by
   stepwise calls go i t j (terminals.Punct puncts.Dot) h =
-      if_bind (is_name (terminal_at ts (suc j))) (tree.dot t (text_at ts (suc j)) (span ts i (suc (suc j))))
+      if_made (is_name (terminal_at ts (suc j))) (d.room i) (tree.dot t (text_at ts (suc j)) (span ts i (suc (suc j))))
       (suc (suc j)) go
   stepwise calls go i t j (terminals.Punct puncts.LeftBracket) h =
-      bind_test (d.expression false (suc j)) (λ x. is_close_bracket (terminal_at ts x.1))
+      bind_test (d.expression false (suc j)) (λ x. is_close_bracket (terminal_at ts x.1)) (d.room i)
       (λ x. tree.index t x.0 (span ts i (suc x.1))) (λ x. suc x.1) go
   stepwise true go i t j (terminals.Punct puncts.LeftParen) h =
-      bind_bind (arguments_at ts d (suc j)) (λ x. tree.call t x.0 (span ts i x.1)) (λ x. x.1) go
+      bind_made (arguments_at ts d (suc j)) (d.room i) (λ x. tree.call t x.0 (span ts i x.1)) (λ x. x.1) go
   stepwise false go i t j (terminals.Punct puncts.LeftParen) h = cc
   stepwise true go i t j _ h = cc
   stepwise false go i t j _ h = cc
 
   pub left_more : (calls : Bool) (n i : ℕ) (t : Expr) (j : ℕ) (u : Expr) (k : ℕ) → n ≢ 0
       → continues_left calls (terminal_at ts j) ≡ true
-      → left_by ts d true (λ t j. Some (t, j)) i t j (terminal_at ts j) ≡ Some (u, k)
+      → left_by ts d true done i t j (terminal_at ts j) ≡ Some (u, k)
       → left_from ts d calls n i t j ≡ left_from ts d calls (n - 1) i u k
   unfolding left_from
   left_more calls zero i t j u k h e q = absurd (h refl)
@@ -199,7 +218,7 @@ module _ (ts : List Token) (d : Deeper) where
 
   pub left_fails : (calls : Bool) (n i : ℕ) (t : Expr) (j : ℕ) → n ≢ 0
       → continues_left calls (terminal_at ts j) ≡ true
-      → left_by ts d true (λ t j. Some (t, j)) i t j (terminal_at ts j) ≡ None
+      → left_by ts d true done i t j (terminal_at ts j) ≡ None
       → left_from ts d calls n i t j ≡ None
   unfolding left_from
   left_fails calls zero i t j h e q = absurd (h refl)
@@ -301,9 +320,9 @@ module _ (ts : List Token) (d : Deeper) where
   items_end ls zero i t j f e q c k = rw (f, items_from)
   items_end ls (suc n) i t j f e q c k = rw (f, e, q, c, k, items_from)
 
-pub ruleset comma_loop = (comma_ends, comma_none, comma_fails, comma_more)
+pub ruleset comma_loop = (comma_ends, comma_none, comma_fails, comma_more, comma_high)
 
-pub ruleset binary_loop = (binary_ends, binary_looser, binary_fails, binary_more)
+pub ruleset binary_loop = (binary_ends, binary_looser, binary_fails, binary_more, binary_high)
 
 pub ruleset left_loop = (left_ends, left_none, left_more, left_fails)
 

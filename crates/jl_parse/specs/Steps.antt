@@ -1,5 +1,5 @@
 -- What the parser's functions answer, by the reader of jl_grammar. A step of the proof: no public clause cites it.
-use Rattle.std.specs.Prelude.{◌≡◌, ℕ, suc, Bool, true, false, ◌&&◌, List, length, map, Option, Some, None, Result, Ok, Err}
+use Rattle.std.specs.Prelude.{◌≡◌, ℕ, zero, suc, Bool, true, false, ◌&&◌, List, [], ◌∷◌, ◌++◌, length, map, Option, Some, None, Result, Ok, Err}
 use Rattle.std.specs.Prelude.{if◌then◌else◌}
 use Rattle.std.specs.Global.{Global}
 use Rattle.std.specs.declared.boxed.Box.{Box}
@@ -12,13 +12,15 @@ use Rattle.jl_ast.specs.declared.tree.Body.{Body as CodeBody}
 use Rattle.jl_ast.specs.declared.tree.Expr.{Expr as CodeExpr}
 use Rattle.jl_ast.specs.declared.tree.Ident.{Ident as CodeIdent}
 use Rattle.jl_ast.specs.declared.tree.Stmt.{Stmt as CodeStmt}
+use Rattle.jl_grammar.specs.Brackets.{opened}
 use Rattle.jl_grammar.specs.Next.{is_colon, is_identifier}
-use Rattle.jl_grammar.specs.Reader.{◌>>=◌, Deeper, Read, is_case, is_default, statements_from}
+use Rattle.jl_grammar.specs.Reader.{◌>>=◌, Deeper, Read, deeper, done, is_case, is_default, made, statements_from}
 use Rattle.jl_grammar.specs.Reads.{Code, Expr, Stmt, Stmts}
 use Rattle.jl_grammar.specs.Tokens.{ident_at, terminal_at, span}
 use Rattle.jl_grammar.specs.declared.terminal.Terminal.{Terminal}
 use Rattle.jl_grammar.specs.declared.terminal.Terminal.TheVariants as terminals
 use Rattle.jl_grammar.specs.Operators.{InfixOperator, plain, both, either}
+use Rattle.jl_parse.specs.declared.depth.Depth.{Depth}
 use Rattle.jl_parse.specs.declared.operators.InfixOperator.{InfixOperator as CodeInfixOperator}
 use Rattle.jl_parse.specs.declared.operators.InfixOperator.TheVariants as infix_operators
 use Rattle.jl_parse.specs.declared.refusal.Stop.{Stop}
@@ -50,6 +52,27 @@ GivesStatement result read = Gives (λ x. (view_statement x.0, x.1)) result read
 abbrev pub GivesRest : Result ((List CodeIdent × CodeBody) × ℕ) Stop → Read (List (Ident Span) × Code) → Type 0
 GivesRest result read = Gives (λ x. ((map view_ident x.0.0, view_body x.0.1), x.1)) result read
 
+-- what is read with so many levels left
+abbrev pub within : List Token → Depth → Deeper
+within ts depth = deeper ts depth.brackets depth.levels
+
+-- the answer is this expression from place i to place j, if it is low enough
+abbrev pub MakesExpression : List Token → Depth → ℕ → ℕ → (Span → Expr) → Result (Box CodeExpr Global × ℕ) Stop → Type 0
+MakesExpression ts depth i j t result = GivesExpression result (made ((within ts depth).room i) (t (span ts i j)) j done)
+
+-- the answer is this statement from place i to place j, if it is low enough
+abbrev pub MakesStatement : List Token → Depth → ℕ → ℕ → (Span → Stmt) → Result (CodeStmt × ℕ) Stop → Type 0
+MakesStatement ts depth i j t result = GivesStatement result (made ((within ts depth).room i) (t (span ts i j)) j done)
+
+-- how many brackets are open before each of the first n tokens
+abbrev pub counts : List Token → ℕ → List ℕ
+counts ts zero = []
+counts ts (suc n) = counts ts n ++ (opened ts n ∷ [])
+
+-- so many brackets are open before each token, and in the end
+abbrev pub AreCounts : List Token → List ℕ → ℕ → Type 0
+AreCounts ts before last = (before ≡ counts ts (length ts)) × (last ≡ opened ts (length ts))
+
 -- one forest after another
 abbrev pub append : {x : tree.Sort} → Forest Span x → Forest Span x → Forest Span x
 append tree.end b = b
@@ -60,7 +83,7 @@ abbrev pub declaration_of : List Token → Deeper → ℕ → Read (Tree Span tr
 declaration_of ts d i =
     if is_identifier (terminal_at ts (suc i))
     then (d.rest (suc (suc i)) >>= λ x.
-    Some (tree.function 0 (Some (ident_at ts (suc i))) x.0.0 x.0.1 (span ts i x.1), x.1))
+    made (d.room i) (tree.function 0 (Some (ident_at ts (suc i))) x.0.0 x.0.1 (span ts i x.1)) x.1 done)
     else None
 
 -- what is read of a body after these declarations and statements

@@ -1,14 +1,19 @@
 //! Operators and what they stand between (11.3 to 11.14).
-ghost use Rattle.jl_grammar.specs.Reader.{deeper, postfix_at, unary_at, binary_at, conditional_at, assignment_at};
-ghost use Rattle.jl_parse.specs.Steps.{GivesExpression};
+ghost use Rattle.jl_grammar.specs.Reader.{postfix_at, unary_at, binary_at, conditional_at, assignment_at};
+ghost use Rattle.jl_parse.specs.Steps.{GivesExpression, within};
 
-use crate::nodes::{node, target};
+use crate::depth::Depth;
+use crate::nodes::{
+    assign_node, comma_node, conditional_node, infix_operator_node, postfix_node, prefix_node,
+    target, unary_node,
+};
 use crate::operators::{unary_op, update_op};
+use crate::part::Part;
 use crate::primary::left;
 use crate::refusal::{Read, Stop};
 use crate::terminals::{is_colon, is_comma, is_question};
 use crate::tokens::Tokens;
-use jl_ast::{Expr, ExprKind};
+use jl_ast::Expr;
 use std::alloc::Global;
 
 // An AssignmentExpression (11.13) one level deeper.
@@ -17,27 +22,27 @@ use std::alloc::Global;
 pub fn inner_assignment(
     alloc: Global,
     tokens: &Tokens,
-    depth: u64,
+    depth: Depth,
     no_in: bool,
     at: usize,
-) -> Read<Box<Expr>>
-    ensures { GivesExpression result ((deeper tokens.now depth).assignment no_in at) }
+) -> Read<Part<Box<Expr>>>
+    ensures { GivesExpression result ((within tokens.now depth).assignment no_in at) }
 {
-    if depth == 0 {
+    if !tokens.has_room(depth, at) {
         return Err(Stop::At(at));
     }
-    assignment(alloc, tokens, depth - 1, no_in, at)
+    assignment(alloc, tokens, depth.inside(), no_in, at)
 }
 
 #[cycle(parser)]
 #[tactic(auto, using(crate::proofs::Levels::levels))]
-fn inner_unary(alloc: Global, tokens: &Tokens, depth: u64, at: usize) -> Read<Box<Expr>>
-    ensures { GivesExpression result ((deeper tokens.now depth).unary at) }
+fn inner_unary(alloc: Global, tokens: &Tokens, depth: Depth, at: usize) -> Read<Part<Box<Expr>>>
+    ensures { GivesExpression result ((within tokens.now depth).unary at) }
 {
-    if depth == 0 {
+    if !tokens.has_room(depth, at) {
         return Err(Stop::At(at));
     }
-    unary(alloc, tokens, depth - 1, at)
+    unary(alloc, tokens, depth.inside(), at)
 }
 
 #[cycle(parser)]
@@ -45,24 +50,24 @@ fn inner_unary(alloc: Global, tokens: &Tokens, depth: u64, at: usize) -> Read<Bo
 fn inner_binary(
     alloc: Global,
     tokens: &Tokens,
-    depth: u64,
+    depth: Depth,
     no_in: bool,
     loosest: u32,
     at: usize,
-) -> Read<Box<Expr>>
-    ensures { GivesExpression result ((deeper tokens.now depth).binary no_in loosest at) }
+) -> Read<Part<Box<Expr>>>
+    ensures { GivesExpression result ((within tokens.now depth).binary no_in loosest at) }
 {
-    if depth == 0 {
+    if !tokens.has_room(depth, at) {
         return Err(Stop::At(at));
     }
-    binary(alloc, tokens, depth - 1, no_in, loosest, at)
+    binary(alloc, tokens, depth.inside(), no_in, loosest, at)
 }
 
 // A PostfixExpression (11.3).
 #[cycle(parser)]
 #[tactic(auto, using(jl_ast::proofs::Views::nodes), unfolding(jl_grammar::specs::Reader::postfix_at, jl_grammar::specs::Reader::postfix_by))]
-fn postfix(alloc: Global, tokens: &Tokens, depth: u64, at: usize) -> Read<Box<Expr>>
-    ensures { GivesExpression result (postfix_at tokens.now (deeper tokens.now depth) depth at) }
+fn postfix(alloc: Global, tokens: &Tokens, depth: Depth, at: usize) -> Read<Part<Box<Expr>>>
+    ensures { GivesExpression result (postfix_at tokens.now (within tokens.now depth) depth.levels at) }
 {
     let (operand, end) = left(alloc, tokens, depth, true, at)?;
     let Some(up) = update_op(tokens.terminal(end)) else {
@@ -73,36 +78,26 @@ fn postfix(alloc: Global, tokens: &Tokens, depth: u64, at: usize) -> Read<Box<Ex
     }
     let target = target(alloc, operand, end)?;
     let next = tokens.after(end);
-    let kind = ExprKind::Update {
-        up,
-        prefix: false,
-        target,
-    };
-    Ok((node(alloc, kind, tokens.span(at, next))?, next))
+    postfix_node(alloc, tokens, depth, at, up, target, next)
 }
 
 // A UnaryExpression (11.4).
 #[cycle(parser)]
 #[tactic(auto, using(jl_ast::proofs::Views::nodes), unfolding(jl_grammar::specs::Reader::unary_at, jl_grammar::specs::Reader::unary_by))]
-fn unary(alloc: Global, tokens: &Tokens, depth: u64, at: usize) -> Read<Box<Expr>>
-    ensures { GivesExpression result (unary_at tokens.now (deeper tokens.now depth) depth at) }
+fn unary(alloc: Global, tokens: &Tokens, depth: Depth, at: usize) -> Read<Part<Box<Expr>>>
+    ensures { GivesExpression result (unary_at tokens.now (within tokens.now depth) depth.levels at) }
 {
     let terminal = tokens.terminal(at);
     if let Some(op) = unary_op(terminal) {
         let (operand, end) = inner_unary(alloc, tokens, depth, tokens.after(at))?;
-        let kind = ExprKind::Unary(op, operand);
-        return Ok((node(alloc, kind, tokens.span(at, end))?, end));
+        return unary_node(alloc, tokens, depth, at, op, operand, end);
     }
     let Some(up) = update_op(terminal) else {
         return postfix(alloc, tokens, depth, at);
     };
     let (operand, end) = left(alloc, tokens, depth, true, tokens.after(at))?;
-    let kind = ExprKind::Update {
-        up,
-        prefix: true,
-        target: target(alloc, operand, at)?,
-    };
-    Ok((node(alloc, kind, tokens.span(at, end))?, end))
+    let target = target(alloc, operand, at)?;
+    prefix_node(alloc, tokens, depth, at, up, target, end)
 }
 
 // Operands with infix operators between them that are no looser than `loosest` (11.5 to 11.11).
@@ -111,15 +106,15 @@ fn unary(alloc: Global, tokens: &Tokens, depth: u64, at: usize) -> Read<Box<Expr
 fn binary(
     alloc: Global,
     tokens: &Tokens,
-    depth: u64,
+    depth: Depth,
     no_in: bool,
     loosest: u32,
     at: usize,
-) -> Read<Box<Expr>>
-    ensures { GivesExpression result (binary_at tokens.now (deeper tokens.now depth) no_in depth loosest at) }
+) -> Read<Part<Box<Expr>>>
+    ensures { GivesExpression result (binary_at tokens.now (within tokens.now depth) no_in depth.levels loosest at) }
 {
     let (mut operand, mut end) = unary(alloc, tokens, depth, at)?;
-    let mut room = depth;
+    let mut room = depth.levels;
     'parts: loop {
         let Some(infix_operator) = tokens.infix_operator(end, no_in) else {
             return Ok((operand, end));
@@ -134,8 +129,17 @@ fn binary(
         room -= 1;
         let next = tokens.after(end);
         let (other, next) = inner_binary(alloc, tokens, depth, no_in, infix_precedence - 1, next)?;
-        let kind = infix_operator.join(operand, other);
-        operand = node(alloc, kind, tokens.span(at, next))?;
+        let (more, next) = infix_operator_node(
+            alloc,
+            tokens,
+            depth,
+            at,
+            infix_operator,
+            operand,
+            other,
+            next,
+        )?;
+        operand = more;
         end = next;
     }
 }
@@ -146,11 +150,11 @@ fn binary(
 fn conditional(
     alloc: Global,
     tokens: &Tokens,
-    depth: u64,
+    depth: Depth,
     no_in: bool,
     at: usize,
-) -> Read<Box<Expr>>
-    ensures { GivesExpression result (conditional_at tokens.now (deeper tokens.now depth) no_in depth at) }
+) -> Read<Part<Box<Expr>>>
+    ensures { GivesExpression result (conditional_at tokens.now (within tokens.now depth) no_in depth.levels at) }
 {
     let (test, end) = binary(alloc, tokens, depth, no_in, 10, at)?;
     if !is_question(tokens.terminal(end)) {
@@ -161,15 +165,20 @@ fn conditional(
         return Err(Stop::At(end));
     }
     let (second, end) = inner_assignment(alloc, tokens, depth, no_in, tokens.after(end))?;
-    let kind = ExprKind::Cond(test, first, second);
-    Ok((node(alloc, kind, tokens.span(at, end))?, end))
+    conditional_node(alloc, tokens, depth, at, test, first, second, end)
 }
 
 // An AssignmentExpression (11.13).
 #[cycle(parser)]
 #[tactic(auto, using(jl_ast::proofs::Views::nodes), unfolding(jl_grammar::specs::Reader::assignment_at, jl_grammar::specs::Reader::assignment_by))]
-fn assignment(alloc: Global, tokens: &Tokens, depth: u64, no_in: bool, at: usize) -> Read<Box<Expr>>
-    ensures { GivesExpression result (assignment_at tokens.now (deeper tokens.now depth) no_in depth at) }
+fn assignment(
+    alloc: Global,
+    tokens: &Tokens,
+    depth: Depth,
+    no_in: bool,
+    at: usize,
+) -> Read<Part<Box<Expr>>>
+    ensures { GivesExpression result (assignment_at tokens.now (within tokens.now depth) no_in depth.levels at) }
 {
     let (left, end) = conditional(alloc, tokens, depth, no_in, at)?;
     let Some(op) = tokens.assign_op(end) else {
@@ -177,8 +186,7 @@ fn assignment(alloc: Global, tokens: &Tokens, depth: u64, no_in: bool, at: usize
     };
     let target = target(alloc, left, end)?;
     let (value, end) = inner_assignment(alloc, tokens, depth, no_in, tokens.after(end))?;
-    let kind = ExprKind::Assign(op, target, value);
-    Ok((node(alloc, kind, tokens.span(at, end))?, end))
+    assign_node(alloc, tokens, depth, at, op, target, value, end)
 }
 
 /// An Expression (11.14) one level deeper.
@@ -187,18 +195,18 @@ fn assignment(alloc: Global, tokens: &Tokens, depth: u64, no_in: bool, at: usize
 pub fn expression(
     alloc: Global,
     tokens: &Tokens,
-    depth: u64,
+    depth: Depth,
     no_in: bool,
     at: usize,
-) -> Read<Box<Expr>>
-    ensures { GivesExpression result ((deeper tokens.now depth).expression no_in at) }
+) -> Read<Part<Box<Expr>>>
+    ensures { GivesExpression result ((within tokens.now depth).expression no_in at) }
 {
-    if depth == 0 {
+    if !tokens.has_room(depth, at) {
         return Err(Stop::At(at));
     }
-    let levels = depth - 1;
-    let (mut left, mut end) = assignment(alloc, tokens, levels, no_in, at)?;
-    let mut room = levels;
+    let inside = depth.inside();
+    let (mut left, mut end) = assignment(alloc, tokens, inside, no_in, at)?;
+    let mut room = inside.levels;
     'parts: loop {
         if !is_comma(tokens.terminal(end)) {
             return Ok((left, end));
@@ -208,9 +216,9 @@ pub fn expression(
         }
         room -= 1;
         let next = tokens.after(end);
-        let (right, next) = inner_assignment(alloc, tokens, levels, no_in, next)?;
-        let kind = ExprKind::Comma(left, right);
-        left = node(alloc, kind, tokens.span(at, next))?;
+        let (right, next) = inner_assignment(alloc, tokens, inside, no_in, next)?;
+        let (more, next) = comma_node(alloc, tokens, inside, at, left, right, next)?;
+        left = more;
         end = next;
     }
 }

@@ -1,13 +1,17 @@
 //! Functions, what they hold (clauses 13 and 14), and object literals (11.1.5).
-ghost use Rattle.std.specs.Prelude.{◌≡◌, false, length, map, IfOk};
+ghost use Rattle.std.specs.Prelude.{◌≡◌, false, length, map};
 ghost use Rattle.jl_ast.specs.Tree as tree;
-ghost use Rattle.jl_ast.specs.View.{view_body, view_entries, view_entry, view_expression, view_function, view_ident};
-ghost use Rattle.jl_grammar.specs.Reader.{deeper, accessor_at, body_from, elements_from, entries_from, entry_at, function_at, getter_by, parameters_at, rest_at, setter_by, value_at};
+ghost use Rattle.jl_ast.specs.View.{view_body, view_entries, view_entry, view_function, view_ident};
+ghost use Rattle.jl_grammar.specs.Reader.{accessor_at, body_from, elements_from, entries_from, entry_at, function_at, getter_by, parameters_at, rest_at, setter_by, value_at};
 ghost use Rattle.jl_grammar.specs.Tokens.{terminal_at};
-ghost use Rattle.jl_parse.specs.Steps.{Gives, GivesExpression, GivesRest, is_end, declaration_of, with_elements};
+ghost use Rattle.jl_parse.specs.Steps.{Gives, GivesExpression, GivesRest, is_end, declaration_of, with_elements, within};
 
+use crate::depth::Depth;
 use crate::expressions::inner_assignment;
-use crate::nodes::node;
+use crate::nodes::{
+    body_of, function_expression_node, function_node, getter_entry, setter_entry, value_entry,
+};
+use crate::part::{Part, push_entry, push_function, push_statement};
 use crate::refusal::{Read, Stop};
 use crate::statements::{ends, statement};
 use crate::terminals::{
@@ -15,10 +19,10 @@ use crate::terminals::{
     is_key, is_open_brace, is_open_paren,
 };
 use crate::tokens::Tokens;
-use jl_ast::{Body, Entry, Expr, ExprKind, Function, Ident};
+use jl_ast::{Body, Entry, Expr, Function, Ident};
 use jl_grammar::Terminal;
-use jl_text::{List, Span};
-use std::alloc::{AllocError, Global};
+use jl_text::List;
+use std::alloc::Global;
 
 // The parameters of a function after its `(`, and the `)` after them.
 #[tactic(auto, using(crate::proofs::Lists::parameters_loop), unfolding(jl_grammar::specs::Reader::parameters_at))]
@@ -52,8 +56,8 @@ fn parameters(alloc: Global, tokens: &Tokens, at: usize) -> Read<List<Ident>>
 // The parameters and the body of a function, from its `(` to its `}`.
 #[cycle(parser)]
 #[tactic(auto, unfolding(jl_grammar::specs::Reader::rest_at))]
-fn rest(alloc: Global, tokens: &Tokens, depth: u64, at: usize) -> Read<(List<Ident>, Body)>
-    ensures { GivesRest result (rest_at tokens.now (deeper tokens.now depth) at) }
+fn rest(alloc: Global, tokens: &Tokens, depth: Depth, at: usize) -> Read<(List<Ident>, Part<Body>)>
+    ensures { GivesRest result (rest_at tokens.now (within tokens.now depth) at) }
 {
     if !is_open_paren(tokens.terminal(at)) {
         return Err(Stop::At(at));
@@ -72,98 +76,80 @@ fn rest(alloc: Global, tokens: &Tokens, depth: u64, at: usize) -> Read<(List<Ide
 
 #[cycle(parser)]
 #[tactic(auto, using(crate::proofs::Levels::levels))]
-fn inner_rest(alloc: Global, tokens: &Tokens, depth: u64, at: usize) -> Read<(List<Ident>, Body)>
-    ensures { GivesRest result ((deeper tokens.now depth).rest at) }
+fn inner_rest(
+    alloc: Global,
+    tokens: &Tokens,
+    depth: Depth,
+    at: usize,
+) -> Read<(List<Ident>, Part<Body>)>
+    ensures { GivesRest result ((within tokens.now depth).rest at) }
 {
-    if depth == 0 {
+    if !tokens.has_room(depth, at) {
         return Err(Stop::At(at));
     }
-    rest(alloc, tokens, depth - 1, at)
-}
-
-// The node of a function expression.
-#[tactic(auto, using(jl_ast::proofs::Views::nodes))]
-fn function_node(alloc: Global, function: Function, span: Span) -> Result<Box<Expr>, AllocError>
-    ensures { IfOk result (λ e. view_expression e.value ≡ tree.function_expression (view_function function) span) }
-{
-    node(alloc, ExprKind::Function(Box::new(alloc, function)?), span)
+    rest(alloc, tokens, depth.inside(), at)
 }
 
 /// A function expression (clause 13).
 #[cycle(parser)]
 #[tactic(auto, using(jl_ast::proofs::Views::nodes), unfolding(jl_grammar::specs::Reader::function_at))]
-pub fn function_expression(alloc: Global, tokens: &Tokens, depth: u64, at: usize) -> Read<Box<Expr>>
+pub fn function_expression(
+    alloc: Global,
+    tokens: &Tokens,
+    depth: Depth,
+    at: usize,
+) -> Read<Part<Box<Expr>>>
     requires { is_end (terminal_at tokens.now at) ≡ false }
-    ensures { GivesExpression result (function_at tokens.now (deeper tokens.now depth) at) }
+    ensures { GivesExpression result (function_at tokens.now (within tokens.now depth) at) }
 {
     let name = tokens.after(at);
     if is_identifier(tokens.terminal(name)) {
         let ((params, body), end) = rest(alloc, tokens, depth, tokens.after(name))?;
-        let span = tokens.span(at, end);
-        let function = Function {
-            number: 0,
-            name: Some(tokens.ident(alloc, name)?),
-            params,
-            body,
-            span,
-        };
-        Ok((function_node(alloc, function, span)?, end))
+        let name = Some(tokens.ident(alloc, name)?);
+        function_expression_node(alloc, tokens, depth, at, name, params, body, end)
     } else {
         let ((params, body), end) = rest(alloc, tokens, depth, name)?;
-        let span = tokens.span(at, end);
-        let function = Function {
-            number: 0,
-            name: None,
-            params,
-            body,
-            span,
-        };
-        Ok((function_node(alloc, function, span)?, end))
+        function_expression_node(alloc, tokens, depth, at, None, params, body, end)
     }
 }
 
 // A function declaration (clause 13).
 #[cycle(parser)]
 #[tactic(auto, using(jl_ast::proofs::Views::nodes))]
-fn declaration(alloc: Global, tokens: &Tokens, depth: u64, at: usize) -> Read<Function>
+fn declaration(alloc: Global, tokens: &Tokens, depth: Depth, at: usize) -> Read<Part<Function>>
     requires { is_end (terminal_at tokens.now at) ≡ false }
-    ensures { Gives (λ x. (view_function x.0, x.1)) result (declaration_of tokens.now (deeper tokens.now depth) at) }
+    ensures { Gives (λ x. (view_function x.0, x.1)) result (declaration_of tokens.now (within tokens.now depth) at) }
 {
     let name = tokens.after(at);
     if !is_identifier(tokens.terminal(name)) {
         return Err(Stop::At(name));
     }
     let ((params, body), end) = inner_rest(alloc, tokens, depth, tokens.after(name))?;
-    let function = Function {
-        number: 0,
-        name: Some(tokens.ident(alloc, name)?),
-        params,
-        body,
-        span: tokens.span(at, end),
-    };
-    Ok((function, end))
+    let name = Some(tokens.ident(alloc, name)?);
+    function_node(tokens, depth, at, name, params, body, end)
 }
 
 // The function declarations and statements of a body (clause 14), after its directives.
 #[cycle(parser)]
 #[tactic(auto, using(jl_ast::proofs::Views::nodes, crate::proofs::Lists::elements_loop))]
-fn elements(alloc: Global, tokens: &Tokens, depth: u64, at: usize, strict: bool) -> Read<Body>
+fn elements(
+    alloc: Global,
+    tokens: &Tokens,
+    depth: Depth,
+    at: usize,
+    strict: bool,
+) -> Read<Part<Body>>
     ensures { Gives (λ x. (view_body x.0, x.1)) result (with_elements strict tree.end tree.end
-        (elements_from tokens.now (deeper tokens.now depth) (length tokens.now) at)) }
+        (elements_from tokens.now (within tokens.now depth) (length tokens.now) at)) }
 {
-    let mut functions = List::new(alloc);
-    let mut statements = List::new(alloc);
+    let mut functions = Part::flat(List::new(alloc));
+    let mut statements = Part::flat(List::new(alloc));
     let mut next = at;
     let mut room = tokens.len();
     'parts: loop {
         let terminal = tokens.terminal(next);
         if ends_list(terminal) {
-            let body = Body {
-                strict,
-                functions,
-                statements,
-            };
-            return Ok((body, next));
+            return Ok((body_of(strict, functions, statements), next));
         }
         if room == 0 {
             return Err(Stop::At(next));
@@ -171,11 +157,11 @@ fn elements(alloc: Global, tokens: &Tokens, depth: u64, at: usize, strict: bool)
         room -= 1;
         if is_function(terminal) {
             let (f, end) = declaration(alloc, tokens, depth, next)?;
-            functions.push(f)?;
+            push_function(&mut functions, f)?;
             next = end;
         } else {
             let (s, end) = statement(alloc, tokens, depth, next)?;
-            statements.push(s)?;
+            push_statement(&mut statements, s)?;
             next = end;
         }
     }
@@ -184,8 +170,8 @@ fn elements(alloc: Global, tokens: &Tokens, depth: u64, at: usize, strict: bool)
 /// What a function or a program holds (clause 14), up to what ends it. A directive leaves no statement.
 #[cycle(parser)]
 #[tactic(auto, using(crate::proofs::Lists::body_loop))]
-pub fn body(alloc: Global, tokens: &Tokens, depth: u64, at: usize) -> Read<Body>
-    ensures { Gives (λ x. (view_body x.0, x.1)) result (body_from tokens.now (deeper tokens.now depth) (length tokens.now) at) }
+pub fn body(alloc: Global, tokens: &Tokens, depth: Depth, at: usize) -> Read<Part<Body>>
+    ensures { Gives (λ x. (view_body x.0, x.1)) result (body_from tokens.now (within tokens.now depth) (length tokens.now) at) }
 {
     let mut strict = false;
     let mut next = at;
@@ -210,8 +196,8 @@ pub fn body(alloc: Global, tokens: &Tokens, depth: u64, at: usize) -> Read<Body>
 // A property that is a value under a key (11.1.5).
 #[cycle(parser)]
 #[tactic(auto, using(jl_ast::proofs::Views::nodes), unfolding(jl_grammar::specs::Reader::value_at))]
-fn value(alloc: Global, tokens: &Tokens, depth: u64, at: usize) -> Read<Entry>
-    ensures { Gives (λ x. (view_entry x.0, x.1)) result (value_at tokens.now (deeper tokens.now depth) at) }
+fn value(alloc: Global, tokens: &Tokens, depth: Depth, at: usize) -> Read<Part<Entry>>
+    ensures { Gives (λ x. (view_entry x.0, x.1)) result (value_at tokens.now (within tokens.now depth) at) }
 {
     if !is_key(tokens.terminal(at)) {
         return Err(Stop::At(at));
@@ -222,16 +208,16 @@ fn value(alloc: Global, tokens: &Tokens, depth: u64, at: usize) -> Read<Entry>
     }
     let (e, end) = inner_assignment(alloc, tokens, depth, false, tokens.after(colon))?;
     let key = tokens.key(alloc, at)?;
-    Ok((Entry::Value(key, Box::into_inner(e)), end))
+    Ok((value_entry(key, e), end))
 }
 
 // A property that begins with `get` (11.1.5).
 #[cycle(parser)]
 #[tactic(auto, using(jl_ast::proofs::Views::nodes, crate::proofs::Lists::getters), unfolding(jl_grammar::specs::Reader::accessor_at))]
-fn getter(alloc: Global, tokens: &Tokens, depth: u64, at: usize) -> Read<Entry>
+fn getter(alloc: Global, tokens: &Tokens, depth: Depth, at: usize) -> Read<Part<Entry>>
     requires { is_end (terminal_at tokens.now at) ≡ false }
-    ensures { Gives (λ x. (view_entry x.0, x.1)) result (accessor_at tokens.now (deeper tokens.now depth)
-        (getter_by tokens.now (deeper tokens.now depth)) at) }
+    ensures { Gives (λ x. (view_entry x.0, x.1)) result (accessor_at tokens.now (within tokens.now depth)
+        (getter_by tokens.now (within tokens.now depth)) at) }
 {
     let name = tokens.after(at);
     if is_colon(tokens.terminal(name)) {
@@ -245,23 +231,18 @@ fn getter(alloc: Global, tokens: &Tokens, depth: u64, at: usize) -> Read<Entry>
     if params.len() != 0 {
         return Err(Stop::At(open));
     }
-    let function = Function {
-        number: 0,
-        name: None,
-        params,
-        body,
-        span: tokens.span(at, end),
-    };
-    Ok((Entry::Get(tokens.key(alloc, name)?, function), end))
+    let (function, end) = function_node(tokens, depth, at, None, params, body, end)?;
+    let key = tokens.key(alloc, name)?;
+    Ok((getter_entry(key, function), end))
 }
 
 // A property that begins with `set` (11.1.5).
 #[cycle(parser)]
 #[tactic(auto, using(jl_ast::proofs::Views::nodes, crate::proofs::Lists::setters), unfolding(jl_grammar::specs::Reader::accessor_at))]
-fn setter(alloc: Global, tokens: &Tokens, depth: u64, at: usize) -> Read<Entry>
+fn setter(alloc: Global, tokens: &Tokens, depth: Depth, at: usize) -> Read<Part<Entry>>
     requires { is_end (terminal_at tokens.now at) ≡ false }
-    ensures { Gives (λ x. (view_entry x.0, x.1)) result (accessor_at tokens.now (deeper tokens.now depth)
-        (setter_by tokens.now (deeper tokens.now depth)) at) }
+    ensures { Gives (λ x. (view_entry x.0, x.1)) result (accessor_at tokens.now (within tokens.now depth)
+        (setter_by tokens.now (within tokens.now depth)) at) }
 {
     let name = tokens.after(at);
     if is_colon(tokens.terminal(name)) {
@@ -275,20 +256,15 @@ fn setter(alloc: Global, tokens: &Tokens, depth: u64, at: usize) -> Read<Entry>
     if params.len() != 1 {
         return Err(Stop::At(open));
     }
-    let function = Function {
-        number: 0,
-        name: None,
-        params,
-        body,
-        span: tokens.span(at, end),
-    };
-    Ok((Entry::Set(tokens.key(alloc, name)?, function), end))
+    let (function, end) = function_node(tokens, depth, at, None, params, body, end)?;
+    let key = tokens.key(alloc, name)?;
+    Ok((setter_entry(key, function), end))
 }
 
 #[cycle(parser)]
 #[tactic(auto, unfolding(jl_grammar::specs::Reader::entry_at, jl_grammar::specs::Reader::entry_by))]
-fn entry(alloc: Global, tokens: &Tokens, depth: u64, at: usize) -> Read<Entry>
-    ensures { Gives (λ x. (view_entry x.0, x.1)) result (entry_at tokens.now (deeper tokens.now depth) at) }
+fn entry(alloc: Global, tokens: &Tokens, depth: Depth, at: usize) -> Read<Part<Entry>>
+    ensures { Gives (λ x. (view_entry x.0, x.1)) result (entry_at tokens.now (within tokens.now depth) at) }
 {
     match tokens.terminal(at) {
         Terminal::Get => getter(alloc, tokens, depth, at),
@@ -300,10 +276,10 @@ fn entry(alloc: Global, tokens: &Tokens, depth: u64, at: usize) -> Read<Entry>
 /// The properties of an object literal (11.1.5) and the `}` after them.
 #[cycle(parser)]
 #[tactic(auto, using(crate::proofs::Lists::entries_loop))]
-pub fn entries(alloc: Global, tokens: &Tokens, depth: u64, at: usize) -> Read<List<Entry>>
-    ensures { Gives (λ x. (view_entries x.0, x.1)) result (entries_from tokens.now (deeper tokens.now depth) (length tokens.now) at) }
+pub fn entries(alloc: Global, tokens: &Tokens, depth: Depth, at: usize) -> Read<Part<List<Entry>>>
+    ensures { Gives (λ x. (view_entries x.0, x.1)) result (entries_from tokens.now (within tokens.now depth) (length tokens.now) at) }
 {
-    let mut entries = List::new(alloc);
+    let mut entries = Part::flat(List::new(alloc));
     let mut next = at;
     let mut room = tokens.len();
     'parts: loop {
@@ -315,7 +291,7 @@ pub fn entries(alloc: Global, tokens: &Tokens, depth: u64, at: usize) -> Read<Li
         }
         room -= 1;
         let (e, end) = entry(alloc, tokens, depth, next)?;
-        entries.push(e)?;
+        push_entry(&mut entries, e)?;
         let terminal = tokens.terminal(end);
         if is_close_brace(terminal) {
             return Ok((entries, tokens.after(end)));

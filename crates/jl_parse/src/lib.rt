@@ -2,13 +2,16 @@
 #![tactic(auto)]
 
 mod clauses;
+mod depth;
 mod expressions;
 mod functions;
 mod loops;
 mod nodes;
 mod operators;
+mod part;
 mod primary;
 mod refusal;
+mod statement_nodes;
 mod statements;
 mod terminals;
 mod tokens;

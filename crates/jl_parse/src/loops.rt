@@ -4,42 +4,50 @@
 ghost use Rattle.std.specs.Prelude.{◌≡◌, ◌&&◌, false, suc, true};
 ghost use Rattle.jl_ast.specs.View.{view_expression, view_ident, view_init, view_optional};
 ghost use Rattle.jl_grammar.specs.Next.{is_identifier, is_semicolon};
-ghost use Rattle.jl_grammar.specs.Reader.{deeper, for_at, for_expression_at, for_from, for_in_from, for_var_at, is_close_paren, is_in, optional_at, name_of};
+ghost use Rattle.jl_grammar.specs.Reader.{for_at, for_expression_at, for_from, for_in_from, for_var_at, is_close_paren, is_in, optional_at, name_of};
 ghost use Rattle.jl_grammar.specs.Tokens.{terminal_at};
-ghost use Rattle.jl_parse.specs.Steps.{Gives, GivesStatement, is_end};
+ghost use Rattle.jl_parse.specs.Steps.{Gives, GivesStatement, is_end, within};
 
+use crate::depth::Depth;
 use crate::expressions::expression;
+use crate::part::Part;
 use crate::refusal::{Read, Stop};
+use crate::statement_nodes::{for_in_node, for_node, init_expression, init_var, present};
 use crate::statements::{declarators, sub};
 use crate::terminals::{is_close_paren, is_identifier, is_in, is_open_paren, is_semicolon, is_var};
 use crate::tokens::Tokens;
-use jl_ast::{Expr, ExprKind, ForInit, Ident, Stmt, StmtKind};
+use jl_ast::{Expr, ExprKind, ForInit, Ident, Stmt};
 use std::alloc::Global;
 
 // An expression, or none before a semicolon.
 #[cycle(parser)]
 #[tactic(auto, unfolding(jl_grammar::specs::Reader::optional_at))]
-fn until_semicolon(alloc: Global, tokens: &Tokens, depth: u64, at: usize) -> Read<Option<Expr>>
-    ensures { Gives (λ x. (view_optional x.0, x.1)) result (optional_at tokens.now (deeper tokens.now depth) is_semicolon at) }
+fn until_semicolon(
+    alloc: Global,
+    tokens: &Tokens,
+    depth: Depth,
+    at: usize,
+) -> Read<Part<Option<Expr>>>
+    ensures { Gives (λ x. (view_optional x.0, x.1)) result (optional_at tokens.now (within tokens.now depth) is_semicolon at) }
 {
     if is_semicolon(tokens.terminal(at)) {
-        return Ok((None, at));
+        return Ok((Part::flat(None), at));
     }
     let (e, end) = expression(alloc, tokens, depth, false, at)?;
-    Ok((Some(Box::into_inner(e)), end))
+    Ok((present(e), end))
 }
 
 // An expression, or none before a `)`.
 #[cycle(parser)]
 #[tactic(auto, unfolding(jl_grammar::specs::Reader::optional_at))]
-fn until_close(alloc: Global, tokens: &Tokens, depth: u64, at: usize) -> Read<Option<Expr>>
-    ensures { Gives (λ x. (view_optional x.0, x.1)) result (optional_at tokens.now (deeper tokens.now depth) is_close_paren at) }
+fn until_close(alloc: Global, tokens: &Tokens, depth: Depth, at: usize) -> Read<Part<Option<Expr>>>
+    ensures { Gives (λ x. (view_optional x.0, x.1)) result (optional_at tokens.now (within tokens.now depth) is_close_paren at) }
 {
     if is_close_paren(tokens.terminal(at)) {
-        return Ok((None, at));
+        return Ok((Part::flat(None), at));
     }
     let (e, end) = expression(alloc, tokens, depth, false, at)?;
-    Ok((Some(Box::into_inner(e)), end))
+    Ok((present(e), end))
 }
 
 // A `for` from its first semicolon on.
@@ -48,12 +56,12 @@ fn until_close(alloc: Global, tokens: &Tokens, depth: u64, at: usize) -> Read<Op
 fn for_rest(
     alloc: Global,
     tokens: &Tokens,
-    depth: u64,
+    depth: Depth,
     at: usize,
-    init: ForInit,
+    init: Part<ForInit>,
     end: usize,
-) -> Read<Stmt>
-    ensures { GivesStatement result (for_from tokens.now (deeper tokens.now depth) at (view_init init, end)) }
+) -> Read<Part<Stmt>>
+    ensures { GivesStatement result (for_from tokens.now (within tokens.now depth) at (view_init init, end)) }
 {
     if !is_semicolon(tokens.terminal(end)) {
         return Err(Stop::At(end));
@@ -67,9 +75,7 @@ fn for_rest(
         return Err(Stop::At(end));
     }
     let (body, end) = sub(alloc, tokens, depth, tokens.after(end))?;
-    let kind = StmtKind::For(init, test, step, body);
-    let span = tokens.span(at, end);
-    Ok((Stmt { kind, span }, end))
+    for_node(tokens, depth, at, init, test, step, body, end)
 }
 
 // A `for` after its `in`, which stands before `next`.
@@ -78,27 +84,20 @@ fn for_rest(
 fn for_in_rest(
     alloc: Global,
     tokens: &Tokens,
-    depth: u64,
+    depth: Depth,
     at: usize,
     is_var: bool,
     name: Ident,
     next: usize,
-) -> Read<Stmt>
-    ensures { GivesStatement result (for_in_from tokens.now (deeper tokens.now depth) at is_var (view_ident name) next) }
+) -> Read<Part<Stmt>>
+    ensures { GivesStatement result (for_in_from tokens.now (within tokens.now depth) at is_var (view_ident name) next) }
 {
     let (object, end) = expression(alloc, tokens, depth, false, next)?;
     if !is_close_paren(tokens.terminal(end)) {
         return Err(Stop::At(end));
     }
     let (body, end) = sub(alloc, tokens, depth, tokens.after(end))?;
-    let kind = StmtKind::ForIn {
-        is_var,
-        name,
-        object: Box::into_inner(object),
-        body,
-    };
-    let span = tokens.span(at, end);
-    Ok((Stmt { kind, span }, end))
+    for_in_node(tokens, depth, at, is_var, name, object, body, end)
 }
 
 // Whether a name and an `in` stand there.
@@ -113,10 +112,10 @@ fn is_name_in(tokens: &Tokens, at: usize) -> bool
 // A `for` whose head begins with a `var`, which stands at `var`.
 #[cycle(parser)]
 #[tactic(auto, using(jl_ast::proofs::Views::nodes), unfolding(jl_grammar::specs::Reader::for_var_at))]
-fn for_var(alloc: Global, tokens: &Tokens, depth: u64, at: usize, var: usize) -> Read<Stmt>
+fn for_var(alloc: Global, tokens: &Tokens, depth: Depth, at: usize, var: usize) -> Read<Part<Stmt>>
     requires place { var ≡ suc (suc at) }
     requires there { is_end (terminal_at tokens.now var) ≡ false }
-    ensures { GivesStatement result (for_var_at tokens.now (deeper tokens.now depth) at) }
+    ensures { GivesStatement result (for_var_at tokens.now (within tokens.now depth) at) }
 {
     let first = tokens.after(var);
     if is_name_in(tokens, first) {
@@ -125,14 +124,14 @@ fn for_var(alloc: Global, tokens: &Tokens, depth: u64, at: usize, var: usize) ->
         return for_in_rest(alloc, tokens, depth, at, true, name, next);
     }
     let (declarators, end) = declarators(alloc, tokens, depth, true, first)?;
-    for_rest(alloc, tokens, depth, at, ForInit::Var(declarators), end)
+    for_rest(alloc, tokens, depth, at, init_var(declarators), end)
 }
 
 // The name that an expression is; where it is none, nothing can be read at the token with index `at`.
-fn name(e: Box<Expr>, at: usize) -> Result<Ident, Stop>
+fn name(e: Part<Box<Expr>>, at: usize) -> Result<Ident, Stop>
     ensures { Gives view_ident result (name_of (view_expression e.value)) }
 {
-    let Expr { kind, span } = Box::into_inner(e);
+    let Expr { kind, span } = Box::into_inner(e.into_node());
     match kind {
         ExprKind::Name(text) => Ok(Ident { text, span }),
         _ => Err(Stop::At(at)),
@@ -142,31 +141,30 @@ fn name(e: Box<Expr>, at: usize) -> Result<Ident, Stop>
 // A `for` whose head begins with an expression, which stands at `first`.
 #[cycle(parser)]
 #[tactic(auto, using(jl_ast::proofs::Views::nodes), unfolding(jl_grammar::specs::Reader::for_expression_at))]
-fn for_expression(alloc: Global, tokens: &Tokens, depth: u64, at: usize, first: usize) -> Read<Stmt>
+fn for_expression(
+    alloc: Global,
+    tokens: &Tokens,
+    depth: Depth,
+    at: usize,
+    first: usize,
+) -> Read<Part<Stmt>>
     requires { first ≡ suc (suc at) }
-    ensures { GivesStatement result (for_expression_at tokens.now (deeper tokens.now depth) at) }
+    ensures { GivesStatement result (for_expression_at tokens.now (within tokens.now depth) at) }
 {
     let (e, end) = expression(alloc, tokens, depth, true, first)?;
     if is_in(tokens.terminal(end)) {
         let name = name(e, end)?;
         return for_in_rest(alloc, tokens, depth, at, false, name, tokens.after(end));
     }
-    for_rest(
-        alloc,
-        tokens,
-        depth,
-        at,
-        ForInit::Expr(Box::into_inner(e)),
-        end,
-    )
+    for_rest(alloc, tokens, depth, at, init_expression(e), end)
 }
 
 /// A `for` statement (12.6.3, 12.6.4).
 #[cycle(parser)]
 #[tactic(auto, using(jl_ast::proofs::Views::nodes), unfolding(jl_grammar::specs::Reader::for_at))]
-pub fn for_statement(alloc: Global, tokens: &Tokens, depth: u64, at: usize) -> Read<Stmt>
+pub fn for_statement(alloc: Global, tokens: &Tokens, depth: Depth, at: usize) -> Read<Part<Stmt>>
     requires { is_end (terminal_at tokens.now at) ≡ false }
-    ensures { GivesStatement result (for_at tokens.now (deeper tokens.now depth) at) }
+    ensures { GivesStatement result (for_at tokens.now (within tokens.now depth) at) }
 {
     let open = tokens.after(at);
     if !is_open_paren(tokens.terminal(open)) {
@@ -175,7 +173,8 @@ pub fn for_statement(alloc: Global, tokens: &Tokens, depth: u64, at: usize) -> R
     let first = tokens.after(open);
     let terminal = tokens.terminal(first);
     if is_semicolon(terminal) {
-        return for_rest(alloc, tokens, depth, at, ForInit::Nothing, first);
+        let nothing = Part::flat(ForInit::Nothing);
+        return for_rest(alloc, tokens, depth, at, nothing, first);
     }
     if is_var(terminal) {
         return for_var(alloc, tokens, depth, at, first);

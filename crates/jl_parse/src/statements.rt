@@ -5,19 +5,24 @@ ghost use Rattle.std.specs.Prelude.{◌≡◌, false, length, option_map, suc, t
 ghost use Rattle.jl_ast.specs.Tree as tree;
 ghost use Rattle.jl_ast.specs.View.{view_declarator, view_declarators, view_ident, view_statement, view_statements};
 ghost use Rattle.jl_grammar.specs.Next.{is_colon};
-ghost use Rattle.jl_grammar.specs.Reader.{Deeper, block_at, break_at, continue_at, declaration_at, declarations_from, deeper, do_at, ends_at, express_at, if_at, label_at, named_at, return_at, statement_by, statements_from, sub_at, throw_at, var_at, while_at};
+ghost use Rattle.jl_grammar.specs.Reader.{Deeper, block_at, break_at, continue_at, declaration_at, declarations_from, do_at, ends_at, express_at, if_at, label_at, named_at, return_at, statement_by, statements_from, sub_at, throw_at, var_at, while_at};
 ghost use Rattle.jl_grammar.specs.Tokens.{terminal_at, span};
 ghost use Rattle.jl_grammar.specs.declared.terminal.Terminal.TheVariants as Terminal;
 ghost use Rattle.jl_grammar.specs.declared.word.Word.TheVariants as Word;
 ghost use Rattle.jl_token.specs.declared.punct.Punct.TheVariants as Punct;
-ghost use Rattle.jl_parse.specs.Steps.{Gives, GivesStatement, is_end};
+ghost use Rattle.jl_parse.specs.Steps.{Gives, GivesStatement, is_end, within};
 
 use crate::clauses::{switch_statement, try_statement};
+use crate::depth::Depth;
 use crate::expressions::{expression, inner_assignment};
 use crate::loops::for_statement;
-use crate::nodes::labelled;
+use crate::part::{Part, push_declarator, push_statement};
 use crate::primary::head;
 use crate::refusal::{Read, Stop};
+use crate::statement_nodes::{
+    bare_declarator, block_node, do_node, expression_statement_node, if_else_node, if_node,
+    initialised, labelled_node, leaf_statement, return_node, throw_node, var_node, while_node,
+};
 use crate::terminals::{
     ends_list, ends_statement, is_close_brace, is_colon, is_comma, is_else, is_equals,
     is_identifier, is_open_brace, is_semicolon, is_while,
@@ -48,10 +53,10 @@ pub fn ends(tokens: &Tokens, at: usize) -> Option<usize>
 // The statements up to what ends their list.
 #[cycle(parser)]
 #[tactic(auto, using(crate::proofs::Lists::statements_loop))]
-pub fn statements(alloc: Global, tokens: &Tokens, depth: u64, at: usize) -> Read<List<Stmt>>
-    ensures { Gives (λ x. (view_statements x.0, x.1)) result (statements_from tokens.now (deeper tokens.now depth) (length tokens.now) at) }
+pub fn statements(alloc: Global, tokens: &Tokens, depth: Depth, at: usize) -> Read<Part<List<Stmt>>>
+    ensures { Gives (λ x. (view_statements x.0, x.1)) result (statements_from tokens.now (within tokens.now depth) (length tokens.now) at) }
 {
-    let mut statements = List::new(alloc);
+    let mut statements = Part::flat(List::new(alloc));
     let mut next = at;
     let mut room = tokens.len();
     'parts: loop {
@@ -63,7 +68,7 @@ pub fn statements(alloc: Global, tokens: &Tokens, depth: u64, at: usize) -> Read
         }
         room -= 1;
         let (s, end) = statement(alloc, tokens, depth, next)?;
-        statements.push(s)?;
+        push_statement(&mut statements, s)?;
         next = end;
     }
 }
@@ -71,8 +76,8 @@ pub fn statements(alloc: Global, tokens: &Tokens, depth: u64, at: usize) -> Read
 /// The statements between `{` and `}` (12.1).
 #[cycle(parser)]
 #[tactic(auto, unfolding(jl_grammar::specs::Reader::block_at))]
-pub fn block(alloc: Global, tokens: &Tokens, depth: u64, at: usize) -> Read<List<Stmt>>
-    ensures { Gives (λ x. (view_statements x.0, x.1)) result (block_at tokens.now (deeper tokens.now depth) at) }
+pub fn block(alloc: Global, tokens: &Tokens, depth: Depth, at: usize) -> Read<Part<List<Stmt>>>
+    ensures { Gives (λ x. (view_statements x.0, x.1)) result (block_at tokens.now (within tokens.now depth) at) }
 {
     if !is_open_brace(tokens.terminal(at)) {
         return Err(Stop::At(at));
@@ -88,15 +93,15 @@ pub fn block(alloc: Global, tokens: &Tokens, depth: u64, at: usize) -> Read<List
 /// A statement under another: the statements of a block, or the one statement.
 #[cycle(parser)]
 #[tactic(auto, unfolding(jl_grammar::specs::Reader::sub_at))]
-pub fn sub(alloc: Global, tokens: &Tokens, depth: u64, at: usize) -> Read<List<Stmt>>
-    ensures { Gives (λ x. (view_statements x.0, x.1)) result (sub_at tokens.now (deeper tokens.now depth) at) }
+pub fn sub(alloc: Global, tokens: &Tokens, depth: Depth, at: usize) -> Read<Part<List<Stmt>>>
+    ensures { Gives (λ x. (view_statements x.0, x.1)) result (sub_at tokens.now (within tokens.now depth) at) }
 {
     if is_open_brace(tokens.terminal(at)) {
         return block(alloc, tokens, depth, at);
     }
     let (s, end) = statement(alloc, tokens, depth, at)?;
-    let mut body = List::new(alloc);
-    body.push(s)?;
+    let mut body = Part::flat(List::new(alloc));
+    push_statement(&mut body, s)?;
     Ok((body, end))
 }
 
@@ -106,11 +111,11 @@ pub fn sub(alloc: Global, tokens: &Tokens, depth: u64, at: usize) -> Read<List<S
 fn declarator(
     alloc: Global,
     tokens: &Tokens,
-    depth: u64,
+    depth: Depth,
     no_in: bool,
     at: usize,
-) -> Read<(Ident, Option<Expr>)>
-    ensures { Gives (λ x. (view_declarator x.0, x.1)) result (declaration_at tokens.now (deeper tokens.now depth) no_in at) }
+) -> Read<Part<(Ident, Option<Expr>)>>
+    ensures { Gives (λ x. (view_declarator x.0, x.1)) result (declaration_at tokens.now (within tokens.now depth) no_in at) }
 {
     if !is_identifier(tokens.terminal(at)) {
         return Err(Stop::At(at));
@@ -119,9 +124,9 @@ fn declarator(
     let end = tokens.after(at);
     if is_equals(tokens.terminal(end)) {
         let (e, end) = inner_assignment(alloc, tokens, depth, no_in, tokens.after(end))?;
-        Ok(((name, Some(Box::into_inner(e))), end))
+        Ok((initialised(name, e), end))
     } else {
-        Ok(((name, None), end))
+        Ok((bare_declarator(name), end))
     }
 }
 
@@ -131,13 +136,13 @@ fn declarator(
 pub fn declarators(
     alloc: Global,
     tokens: &Tokens,
-    depth: u64,
+    depth: Depth,
     no_in: bool,
     at: usize,
-) -> Read<List<(Ident, Option<Expr>)>>
-    ensures { Gives (λ x. (view_declarators x.0, x.1)) result (declarations_from tokens.now (deeper tokens.now depth) no_in (length tokens.now) at) }
+) -> Read<Part<List<(Ident, Option<Expr>)>>>
+    ensures { Gives (λ x. (view_declarators x.0, x.1)) result (declarations_from tokens.now (within tokens.now depth) no_in (length tokens.now) at) }
 {
-    let mut declarators = List::new(alloc);
+    let mut declarators = Part::flat(List::new(alloc));
     let mut next = at;
     let mut room = tokens.len();
     'parts: loop {
@@ -146,7 +151,7 @@ pub fn declarators(
         }
         room -= 1;
         let (d, end) = declarator(alloc, tokens, depth, no_in, next)?;
-        declarators.push(d)?;
+        push_declarator(&mut declarators, d)?;
         if !is_comma(tokens.terminal(end)) {
             return Ok((declarators, end));
         }
@@ -157,61 +162,53 @@ pub fn declarators(
 // A `var` statement (12.2).
 #[cycle(parser)]
 #[tactic(auto, using(jl_ast::proofs::Views::nodes), unfolding(jl_grammar::specs::Reader::var_at))]
-fn var_statement(alloc: Global, tokens: &Tokens, depth: u64, at: usize) -> Read<Stmt>
+fn var_statement(alloc: Global, tokens: &Tokens, depth: Depth, at: usize) -> Read<Part<Stmt>>
     requires { is_end (terminal_at tokens.now at) ≡ false }
-    ensures { GivesStatement result (var_at tokens.now (deeper tokens.now depth) at) }
+    ensures { GivesStatement result (var_at tokens.now (within tokens.now depth) at) }
 {
     let (declarators, end) = declarators(alloc, tokens, depth, false, tokens.after(at))?;
     let Some(next) = ends(tokens, end) else {
         return Err(Stop::At(end));
     };
-    let kind = StmtKind::Var(declarators);
-    let span = tokens.span(at, next);
-    Ok((Stmt { kind, span }, next))
+    var_node(tokens, depth, at, declarators, next)
 }
 
 // An expression statement (12.4).
 #[cycle(parser)]
 #[tactic(auto, using(jl_ast::proofs::Views::nodes), unfolding(jl_grammar::specs::Reader::express_at))]
-fn expression_statement(alloc: Global, tokens: &Tokens, depth: u64, at: usize) -> Read<Stmt>
-    ensures { GivesStatement result (express_at tokens.now (deeper tokens.now depth) at) }
+fn expression_statement(alloc: Global, tokens: &Tokens, depth: Depth, at: usize) -> Read<Part<Stmt>>
+    ensures { GivesStatement result (express_at tokens.now (within tokens.now depth) at) }
 {
     let (e, end) = expression(alloc, tokens, depth, false, at)?;
     let Some(next) = ends(tokens, end) else {
         return Err(Stop::At(end));
     };
-    let kind = StmtKind::Expr(Box::into_inner(e));
-    let span = tokens.span(at, next);
-    Ok((Stmt { kind, span }, next))
+    expression_statement_node(tokens, depth, at, e, next)
 }
 
 // An `if` statement (12.5).
 #[cycle(parser)]
 #[tactic(auto, using(jl_ast::proofs::Views::nodes), unfolding(jl_grammar::specs::Reader::if_at, jl_grammar::specs::Reader::else_from))]
-fn if_statement(alloc: Global, tokens: &Tokens, depth: u64, at: usize) -> Read<Stmt>
+fn if_statement(alloc: Global, tokens: &Tokens, depth: Depth, at: usize) -> Read<Part<Stmt>>
     requires { is_end (terminal_at tokens.now at) ≡ false }
-    ensures { GivesStatement result (if_at tokens.now (deeper tokens.now depth) at) }
+    ensures { GivesStatement result (if_at tokens.now (within tokens.now depth) at) }
 {
     let (test, end) = head(alloc, tokens, depth, tokens.after(at))?;
     let (body, end) = sub(alloc, tokens, depth, end)?;
     if is_else(tokens.terminal(end)) {
         let (other, end) = sub(alloc, tokens, depth, tokens.after(end))?;
-        let kind = StmtKind::If(Box::into_inner(test), body, Some(other));
-        let span = tokens.span(at, end);
-        Ok((Stmt { kind, span }, end))
+        if_else_node(tokens, depth, at, test, body, other, end)
     } else {
-        let kind = StmtKind::If(Box::into_inner(test), body, None);
-        let span = tokens.span(at, end);
-        Ok((Stmt { kind, span }, end))
+        if_node(tokens, depth, at, test, body, end)
     }
 }
 
 // A `do` statement (12.6.1).
 #[cycle(parser)]
 #[tactic(auto, using(jl_ast::proofs::Views::nodes), unfolding(jl_grammar::specs::Reader::do_at))]
-fn do_statement(alloc: Global, tokens: &Tokens, depth: u64, at: usize) -> Read<Stmt>
+fn do_statement(alloc: Global, tokens: &Tokens, depth: Depth, at: usize) -> Read<Part<Stmt>>
     requires { is_end (terminal_at tokens.now at) ≡ false }
-    ensures { GivesStatement result (do_at tokens.now (deeper tokens.now depth) at) }
+    ensures { GivesStatement result (do_at tokens.now (within tokens.now depth) at) }
 {
     let (body, end) = sub(alloc, tokens, depth, tokens.after(at))?;
     if !is_while(tokens.terminal(end)) {
@@ -221,23 +218,19 @@ fn do_statement(alloc: Global, tokens: &Tokens, depth: u64, at: usize) -> Read<S
     let Some(after) = ends(tokens, end) else {
         return Err(Stop::At(end));
     };
-    let kind = StmtKind::DoWhile(body, Box::into_inner(test));
-    let span = tokens.span(at, after);
-    Ok((Stmt { kind, span }, after))
+    do_node(tokens, depth, at, body, test, after)
 }
 
 // A `while` statement (12.6.2).
 #[cycle(parser)]
 #[tactic(auto, using(jl_ast::proofs::Views::nodes), unfolding(jl_grammar::specs::Reader::while_at))]
-fn while_statement(alloc: Global, tokens: &Tokens, depth: u64, at: usize) -> Read<Stmt>
+fn while_statement(alloc: Global, tokens: &Tokens, depth: Depth, at: usize) -> Read<Part<Stmt>>
     requires { is_end (terminal_at tokens.now at) ≡ false }
-    ensures { GivesStatement result (while_at tokens.now (deeper tokens.now depth) at) }
+    ensures { GivesStatement result (while_at tokens.now (within tokens.now depth) at) }
 {
     let (test, end) = head(alloc, tokens, depth, tokens.after(at))?;
     let (body, end) = sub(alloc, tokens, depth, end)?;
-    let kind = StmtKind::While(Box::into_inner(test), body);
-    let span = tokens.span(at, end);
-    Ok((Stmt { kind, span }, end))
+    while_node(tokens, depth, at, test, body, end)
 }
 
 // The label of a `continue` or `break`, if there is one, and the end of the statement (12.7, 12.8).
@@ -261,61 +254,51 @@ fn label(alloc: Global, tokens: &Tokens, at: usize) -> Read<Option<Ident>>
 
 // A `continue` statement (12.7).
 #[tactic(auto, using(jl_ast::proofs::Views::nodes), unfolding(jl_grammar::specs::Reader::continue_at))]
-fn continue_statement(alloc: Global, tokens: &Tokens, at: usize) -> Read<Stmt>
+fn continue_statement(alloc: Global, tokens: &Tokens, at: usize) -> Read<Part<Stmt>>
     requires { is_end (terminal_at tokens.now at) ≡ false }
     ensures { (d : Deeper) → GivesStatement result (continue_at tokens.now d at) }
 {
     let (label, end) = label(alloc, tokens, tokens.after(at))?;
     let kind = StmtKind::Continue(label);
-    let span = tokens.span(at, end);
-    Ok((Stmt { kind, span }, end))
+    Ok((leaf_statement(tokens, at, end, kind), end))
 }
 
 // A `break` statement (12.8).
 #[tactic(auto, using(jl_ast::proofs::Views::nodes), unfolding(jl_grammar::specs::Reader::break_at))]
-fn break_statement(alloc: Global, tokens: &Tokens, at: usize) -> Read<Stmt>
+fn break_statement(alloc: Global, tokens: &Tokens, at: usize) -> Read<Part<Stmt>>
     requires { is_end (terminal_at tokens.now at) ≡ false }
     ensures { (d : Deeper) → GivesStatement result (break_at tokens.now d at) }
 {
     let (label, end) = label(alloc, tokens, tokens.after(at))?;
     let kind = StmtKind::Break(label);
-    let span = tokens.span(at, end);
-    Ok((Stmt { kind, span }, end))
+    Ok((leaf_statement(tokens, at, end, kind), end))
 }
 
 // A `return` statement (12.9).
 #[cycle(parser)]
 #[tactic(auto, using(jl_ast::proofs::Views::nodes), unfolding(jl_grammar::specs::Reader::return_at, jl_grammar::specs::Reader::return_by))]
-fn return_statement(alloc: Global, tokens: &Tokens, depth: u64, at: usize) -> Read<Stmt>
+fn return_statement(alloc: Global, tokens: &Tokens, depth: Depth, at: usize) -> Read<Part<Stmt>>
     requires { is_end (terminal_at tokens.now at) ≡ false }
-    ensures { GivesStatement result (return_at tokens.now (deeper tokens.now depth) at) }
+    ensures { GivesStatement result (return_at tokens.now (within tokens.now depth) at) }
 {
     let inside = tokens.after(at);
     if let Some(next) = ends(tokens, inside) {
-        let span = tokens.span(at, next);
-        return Ok((
-            Stmt {
-                kind: StmtKind::Return(None),
-                span,
-            },
-            next,
-        ));
+        let kind = StmtKind::Return(None);
+        return Ok((leaf_statement(tokens, at, next, kind), next));
     }
     let (e, end) = expression(alloc, tokens, depth, false, inside)?;
     let Some(next) = ends(tokens, end) else {
         return Err(Stop::At(end));
     };
-    let kind = StmtKind::Return(Some(Box::into_inner(e)));
-    let span = tokens.span(at, next);
-    Ok((Stmt { kind, span }, next))
+    return_node(tokens, depth, at, e, next)
 }
 
 // A `throw` statement (12.13).
 #[cycle(parser)]
 #[tactic(auto, using(jl_ast::proofs::Views::nodes), unfolding(jl_grammar::specs::Reader::throw_at))]
-fn throw_statement(alloc: Global, tokens: &Tokens, depth: u64, at: usize) -> Read<Stmt>
+fn throw_statement(alloc: Global, tokens: &Tokens, depth: Depth, at: usize) -> Read<Part<Stmt>>
     requires { is_end (terminal_at tokens.now at) ≡ false }
-    ensures { GivesStatement result (throw_at tokens.now (deeper tokens.now depth) at) }
+    ensures { GivesStatement result (throw_at tokens.now (within tokens.now depth) at) }
 {
     let inside = tokens.after(at);
     if tokens.line_before(inside) {
@@ -325,9 +308,7 @@ fn throw_statement(alloc: Global, tokens: &Tokens, depth: u64, at: usize) -> Rea
     let Some(next) = ends(tokens, end) else {
         return Err(Stop::At(end));
     };
-    let kind = StmtKind::Throw(Box::into_inner(e));
-    let span = tokens.span(at, next);
-    Ok((Stmt { kind, span }, next))
+    throw_node(tokens, depth, at, e, next)
 }
 
 // A statement with a label (12.12), whose colon stands at `colon`.
@@ -336,28 +317,27 @@ fn throw_statement(alloc: Global, tokens: &Tokens, depth: u64, at: usize) -> Rea
 fn labelled_statement(
     alloc: Global,
     tokens: &Tokens,
-    depth: u64,
+    depth: Depth,
     at: usize,
     colon: usize,
-) -> Read<Stmt>
+) -> Read<Part<Stmt>>
     requires place { colon ≡ suc at }
     requires name { is_end (terminal_at tokens.now at) ≡ false }
     requires colon { is_colon (terminal_at tokens.now colon) ≡ true }
     requires there { is_end (terminal_at tokens.now colon) ≡ false }
-    ensures { GivesStatement result (named_at tokens.now (deeper tokens.now depth) at) }
+    ensures { GivesStatement result (named_at tokens.now (within tokens.now depth) at) }
 {
     let label = tokens.ident(alloc, at)?;
     let (s, end) = statement(alloc, tokens, depth, tokens.after(colon))?;
-    let span = tokens.span(at, end);
-    Ok((labelled(alloc, label, s, span)?, end))
+    labelled_node(alloc, tokens, depth, at, label, s, end)
 }
 
 // A statement that begins with an identifier: with a label (12.12), or an expression.
 #[cycle(parser)]
 #[tactic(auto, unfolding(jl_grammar::specs::Reader::named_at))]
-fn named_statement(alloc: Global, tokens: &Tokens, depth: u64, at: usize) -> Read<Stmt>
+fn named_statement(alloc: Global, tokens: &Tokens, depth: Depth, at: usize) -> Read<Part<Stmt>>
     requires { is_end (terminal_at tokens.now at) ≡ false }
-    ensures { GivesStatement result (named_at tokens.now (deeper tokens.now depth) at) }
+    ensures { GivesStatement result (named_at tokens.now (within tokens.now depth) at) }
 {
     let colon = tokens.after(at);
     if is_colon(tokens.terminal(colon)) {
@@ -370,35 +350,26 @@ fn named_statement(alloc: Global, tokens: &Tokens, depth: u64, at: usize) -> Rea
 // A block as a statement (12.1).
 #[cycle(parser)]
 #[tactic(auto, using(jl_ast::proofs::Views::nodes), unfolding(jl_grammar::specs::Reader::statement_by))]
-fn block_statement(alloc: Global, tokens: &Tokens, depth: u64, at: usize) -> Read<Stmt>
-    ensures { GivesStatement result (statement_by tokens.now (deeper tokens.now depth) at (Terminal.Punct Punct.LeftBrace)) }
+fn block_statement(alloc: Global, tokens: &Tokens, depth: Depth, at: usize) -> Read<Part<Stmt>>
+    ensures { GivesStatement result (statement_by tokens.now (within tokens.now depth) at (Terminal.Punct Punct.LeftBrace)) }
 {
     let (body, end) = block(alloc, tokens, depth, at)?;
-    let kind = StmtKind::Block(body);
-    let span = tokens.span(at, end);
-    Ok((Stmt { kind, span }, end))
+    block_node(tokens, depth, at, body, end)
 }
 
 // The empty statement (12.3).
-fn empty_statement(tokens: &Tokens, at: usize) -> (Stmt, usize)
+fn empty_statement(tokens: &Tokens, at: usize) -> (Part<Stmt>, usize)
     requires { is_end (terminal_at tokens.now at) ≡ false }
     ensures place { result.1 ≡ suc at }
     ensures is { view_statement result.0 ≡ tree.empty (span tokens.now at (suc at)) }
 {
     let end = tokens.after(at);
-    let span = tokens.span(at, end);
-    (
-        Stmt {
-            kind: StmtKind::Empty,
-            span,
-        },
-        end,
-    )
+    (leaf_statement(tokens, at, end, StmtKind::Empty), end)
 }
 
 // A `debugger` statement (12.15).
 #[tactic(auto, using(jl_ast::proofs::Views::nodes), unfolding(jl_grammar::specs::Reader::statement_by))]
-fn debugger_statement(tokens: &Tokens, at: usize) -> Read<Stmt>
+fn debugger_statement(tokens: &Tokens, at: usize) -> Read<Part<Stmt>>
     requires { is_end (terminal_at tokens.now at) ≡ false }
     ensures { (d : Deeper) → GivesStatement result (statement_by tokens.now d at (Terminal.Word Word.Debugger)) }
 {
@@ -406,38 +377,42 @@ fn debugger_statement(tokens: &Tokens, at: usize) -> Read<Stmt>
     let Some(next) = ends(tokens, end) else {
         return Err(Stop::At(end));
     };
-    let kind = StmtKind::Debugger;
-    let span = tokens.span(at, next);
-    Ok((Stmt { kind, span }, next))
+    Ok((leaf_statement(tokens, at, next, StmtKind::Debugger), next))
 }
 
 /// A statement (clause 12) one level deeper.
 #[cycle(parser)]
 #[tactic(auto, using(crate::proofs::Levels::levels), unfolding(jl_grammar::specs::Reader::statement_at, jl_grammar::specs::Reader::statement_by))]
-pub fn statement(alloc: Global, tokens: &Tokens, depth: u64, at: usize) -> Read<Stmt>
-    ensures { GivesStatement result ((deeper tokens.now depth).statement at) }
+pub fn statement(alloc: Global, tokens: &Tokens, depth: Depth, at: usize) -> Read<Part<Stmt>>
+    ensures { GivesStatement result ((within tokens.now depth).statement at) }
 {
-    if depth == 0 {
+    if !tokens.has_room(depth, at) {
         return Err(Stop::At(at));
     }
-    let levels = depth - 1;
+    let inside = depth.inside();
     match tokens.terminal(at) {
-        Terminal::Punct(Punct::LeftBrace) => block_statement(alloc, tokens, levels, at),
+        Terminal::Punct(Punct::LeftBrace) => block_statement(alloc, tokens, inside, at),
         Terminal::Punct(Punct::Semicolon) => Ok(empty_statement(tokens, at)),
         Terminal::Identifier | Terminal::Get | Terminal::Set => named_statement(
-            alloc, tokens, levels, at,
+            alloc, tokens, inside, at,
         ),
-        Terminal::Word(word) => word_statement(alloc, tokens, levels, at, word),
-        _ => expression_statement(alloc, tokens, levels, at),
+        Terminal::Word(word) => word_statement(alloc, tokens, inside, at, word),
+        _ => expression_statement(alloc, tokens, inside, at),
     }
 }
 
 // A statement that begins with a reserved word.
 #[cycle(parser)]
 #[tactic(auto, unfolding(jl_grammar::specs::Reader::statement_by))]
-fn word_statement(alloc: Global, tokens: &Tokens, depth: u64, at: usize, word: Word) -> Read<Stmt>
+fn word_statement(
+    alloc: Global,
+    tokens: &Tokens,
+    depth: Depth,
+    at: usize,
+    word: Word,
+) -> Read<Part<Stmt>>
     requires { terminal_at tokens.now at ≡ Terminal.Word word }
-    ensures { GivesStatement result (statement_by tokens.now (deeper tokens.now depth) at (Terminal.Word word)) }
+    ensures { GivesStatement result (statement_by tokens.now (within tokens.now depth) at (Terminal.Word word)) }
 {
     match word {
         Word::Var => var_statement(alloc, tokens, depth, at),

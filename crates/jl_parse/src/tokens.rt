@@ -1,13 +1,15 @@
 //! The tokens at the places of a list, counted from 0.
-ghost use Rattle.std.specs.Prelude.{◌≡◌, ◌≤◌, [], ◌∷◌, length, IfOk, suc, false, true, option_map};
+ghost use Rattle.std.specs.Prelude.{◌≡◌, ◌≤◌, ◌<◌, ◌^◌, [], ◌∷◌, length, IfOk, nat_le, suc, false, true, option_map};
 ghost use Rattle.jl_ast.specs.View.{view_ident};
 ghost use Rattle.jl_grammar.specs.Tokens.{terminal_at, line_at, text_at, number_at, key_at, strict_at, from_at, to_at, span, ident_at, key_ident_at};
 ghost use Rattle.jl_grammar.specs.Words.{same_text};
 ghost use Rattle.jl_grammar.specs.Program.{last_end};
 ghost use Rattle.jl_grammar.specs.Next.{continues_at, is_directive};
 ghost use Rattle.jl_grammar.specs.Operators.{infix_operator, binary_operator, assign_operator};
-ghost use Rattle.jl_parse.specs.Steps.{is_end, infix_operator_of};
+ghost use Rattle.jl_grammar.specs.Brackets.{bracket, opened};
+ghost use Rattle.jl_parse.specs.Steps.{is_end, infix_operator_of, within};
 
+use crate::depth::Depth;
 use crate::operators::{InfixOperator, continues_left, update_op};
 use crate::terminals::{is_comma, is_in, is_question};
 use jl_ast::{BinOp, Ident};
@@ -18,23 +20,28 @@ use jl_token::{Punct, Token, TokenKind};
 use std::alloc::{AllocError, Global};
 use std::marker::Model;
 
-/// A list of tokens, with what the grammar sees of each. Contracts see it as the list.
+/// A list of tokens, with what the grammar sees of each, and how many brackets are open before each and in the end.
+/// Contracts see it as the list.
 #[derive(Drop)]
 pub struct Tokens<'a> {
     tokens: &'a [Token],
     terminals: Vec<Terminal>,
+    brackets: Vec<u64>,
+    brackets_in_the_end: u64,
 }
 
 impl<'a> Model for Tokens<'a> {
     ghost use Rattle.std.specs.Prelude.{◌≡◌, List, map};
     ghost use Rattle.jl_grammar.specs.Terminals.{terminal_of};
+    ghost use Rattle.jl_parse.specs.Steps.{AreCounts};
     ghost use Rattle.jl_token.specs.declared.token.Token.{Token};
 
     ghost Value = { List Token };
 
     ghost view = { λ it. it.tokens.now };
 
-    ghost invariant = { λ it. it.terminals.items ≡ map (λ t. terminal_of t.kind) it.tokens.now };
+    ghost invariant = { λ it. (it.terminals.items ≡ map (λ t. terminal_of t.kind) it.tokens.now)
+        × AreCounts it.tokens.now it.brackets.items it.brackets_in_the_end };
 }
 
 impl<'a> Tokens<'a> {
@@ -43,10 +50,20 @@ impl<'a> Tokens<'a> {
         ensures { IfOk result (λ r. r ≡ tokens.now) }
     {
         let mut terminals = Vec::with_capacity(alloc, tokens.len())?;
+        let mut brackets = Vec::with_capacity(alloc, tokens.len())?;
+        let mut before = 0;
         for token in tokens {
-            terminals.push(terminal_of(&token.kind))?;
+            let terminal = terminal_of(&token.kind);
+            terminals.push(terminal)?;
+            brackets.push(before)?;
+            before = bracket(terminal, before);
         }
-        Ok(Tokens { tokens, terminals })
+        Ok(Tokens {
+            tokens,
+            terminals,
+            brackets,
+            brackets_in_the_end: before,
+        })
     }
 
     /// How many tokens there are.
@@ -64,6 +81,36 @@ impl<'a> Tokens<'a> {
             Some(terminal) => *terminal,
             None => Terminal::End,
         }
+    }
+
+    /// How many brackets are open before the token there.
+    fn opened(&self, at: usize) -> u64
+        ensures { result ≡ opened self.now at }
+    {
+        match self.brackets.get(at) {
+            Some(opened) => *opened,
+            None => self.brackets_in_the_end,
+        }
+    }
+
+    /// How high the parts of a node that begins there may be: the levels that are left but those for brackets that may
+    /// still open.
+    #[tactic(auto, using(jl_grammar::proofs::Levels::room_is))]
+    pub fn room(&self, depth: Depth, at: usize) -> u64
+        ensures is { result ≡ (within self.now depth).room at }
+        ensures few { result < 2 ^ 63 }
+    {
+        let brackets = depth.brackets.saturating_sub(self.opened(at));
+        depth.levels.saturating_sub(brackets)
+    }
+
+    /// Whether a node that begins there may have parts.
+    #[tactic(auto, using(jl_grammar::proofs::Levels::room_is))]
+    pub fn has_room(&self, depth: Depth, at: usize) -> bool
+        ensures is { result ≡ nat_le 1 ((within self.now depth).room at) }
+        ensures there { result ≡ true → 0 < depth.levels }
+    {
+        self.room(depth, at) >= 1
     }
 
     /// The place after a token that is there.
@@ -322,4 +369,18 @@ fn is_spelled(mut units: &[u16], mut spelling: &[u8]) -> bool
         spelling = more_bytes;
     }
     units.is_empty()
+}
+
+/// How many brackets are open after a token, before which there are so many.
+pub fn bracket(terminal: Terminal, before: u64) -> u64
+    requires { suc before < 2 ^ 64 }
+    ensures { result ≡ bracket terminal before }
+{
+    match terminal {
+        Terminal::Punct(Punct::LeftParen | Punct::LeftBracket | Punct::LeftBrace) => before + 1,
+        Terminal::Punct(Punct::RightParen | Punct::RightBracket | Punct::RightBrace) => {
+            before.saturating_sub(1)
+        }
+        _ => before,
+    }
 }

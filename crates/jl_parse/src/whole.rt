@@ -3,7 +3,6 @@ ghost use Rattle.std.specs.Prelude.{◌≡◌, ◌<◌, ◌^◌, is_some, length
 ghost use Rattle.jl_ast.specs.Numbering.{functions_in, numbered};
 ghost use Rattle.jl_ast.specs.Tree.{Program as Tree};
 ghost use Rattle.jl_ast.specs.View.{view};
-ghost use Rattle.jl_grammar.specs.Brackets.{bracket};
 ghost use Rattle.jl_grammar.specs.Program.{Reads};
 ghost use Rattle.jl_grammar.specs.Reader.{is_shallow, program_at};
 ghost use Rattle.jl_parse.specs.Refusals.{IsPlaced};
@@ -11,29 +10,15 @@ ghost use Rattle.jl_parse.specs.Steps.{Gives};
 ghost use Rattle.jl_parse.specs.declared.refusal.ParseRefusal.TheVariants.{NoMemory};
 ghost use Rattle.jl_text.specs.declared.span.Span.{Span as Place};
 
+use crate::depth::Depth;
 use crate::functions::body;
 use crate::refusal::{ParseRefusal, Stop};
-use crate::tokens::Tokens;
-use jl_ast::{Program, height};
-use jl_grammar::Terminal;
+use crate::tokens::{Tokens, bracket};
+use jl_ast::Program;
 use jl_numbering::number;
 use jl_text::Span;
-use jl_token::{Punct, Token};
+use jl_token::Token;
 use std::alloc::Global;
-
-// How many brackets are open after a token, before which there are so many.
-fn bracket(terminal: Terminal, before: u64) -> u64
-    requires { before < 2 ^ 63 }
-    ensures { result ≡ bracket terminal before }
-{
-    match terminal {
-        Terminal::Punct(Punct::LeftParen | Punct::LeftBracket | Punct::LeftBrace) => before + 1,
-        Terminal::Punct(Punct::RightParen | Punct::RightBracket | Punct::RightBrace) => {
-            before.saturating_sub(1)
-        }
-        _ => before,
-    }
-}
 
 // The first bracket before which more than `most` are open, itself among them, if there is one. One pass.
 #[tactic(auto, using(crate::proofs::Limits::shallow))]
@@ -52,8 +37,8 @@ fn deep_bracket(tokens: &Tokens, most: u64) -> Option<usize>
 }
 
 // The program that the tokens are within the limit, with all functions numbered 0. It is refused where it is stuck: at
-// a bracket inside too many others; at the first token that can't stand there, or past the last one; and past the last
-// one where the program is too high. A program of height 2^32 - 1 or more counts as one that no memory is left for.
+// a bracket inside too many others; at the first token that can't stand there, or past the last one; and at the token
+// after a part that is too high, or before one for which no levels are left.
 #[tactic(auto, using(crate::proofs::Limits::whole_program))]
 fn program(alloc: Global, tokens: &Tokens, limit: u32) -> Result<Program, Stop>
     requires { length tokens.now < 2 ^ 32 }
@@ -64,7 +49,11 @@ fn program(alloc: Global, tokens: &Tokens, limit: u32) -> Result<Program, Stop>
     if let Some(at) = deep_bracket(tokens, 2 * most) {
         return Err(Stop::At(at));
     }
-    let (body, end) = body(alloc, tokens, 3 * most, 0)?;
+    let depth = Depth {
+        levels: 3 * most,
+        brackets: 2 * most,
+    };
+    let (body, end) = body(alloc, tokens, depth, 0)?;
     if end != tokens.len() {
         return Err(Stop::At(end));
     }
@@ -72,15 +61,11 @@ fn program(alloc: Global, tokens: &Tokens, limit: u32) -> Result<Program, Stop>
         from: 0,
         to: tokens.last_end(),
     };
-    let program = Program { body, span };
-    let height = height(&program);
-    if height > limit {
+    if body.height() > most {
         return Err(Stop::At(end));
     }
-    if height == u32::MAX {
-        return Err(Stop::NoMemory);
-    }
-    Ok(program)
+    let body = body.into_node();
+    Ok(Program { body, span })
 }
 
 // The refusal where nothing can be read at the token with index `at`, or past the last one.
@@ -101,9 +86,9 @@ fn unreadable(tokens: &Tokens, at: usize) -> ParseRefusal
 /// The program (clause 14) that the tokens are, if its height is at most `limit` and at no place more than twice as
 /// many brackets are open. Semicolons are inserted where edition 5.1 allows it (7.9). Any other list of tokens is
 /// refused with a place: the first bracket inside too many others; else the first token that can't stand where it does,
-/// or the end of the last one; and that end where the program is too high, or the token at which the levels run out. A
-/// tree of height 2^32 - 1 or more, which only the greatest limit allows, is refused for want of memory. Three passes
-/// over the tokens and two over the tree; it recurses as deep as brackets are open and as the program is high.
+/// or the end of the last one; the token after a part that is too high, or the one at which the levels run out. Such a
+/// part is refused before it is made, so that no tree is ever higher than the limit and one. Three passes over the
+/// tokens and one over the tree; it recurses as deep as brackets are open and as the limit on height allows.
 pub fn parse(alloc: Global, tokens: &[Token], limit: u32) -> Result<Program, ParseRefusal>
     requires { length tokens.now < 2 ^ 32 }
     ensures found { IfOk result (λ p. Reads tokens.now limit (view p)) }

@@ -198,7 +198,7 @@ fn limits(rt: HostRuntime) -> Result<(), Fail> {
         &[("", "0 0 0"), (";", "at 0"), ("(", "at 0")],
     )?;
     check(&rt, alloc, 1, &[("}(((;", "at 3"), ("(((a)))", "at 2")])?;
-    check(&rt, alloc, 2, &[("a + b ", "at 5"), ("((((a))))", "0 1 2")])?;
+    check(&rt, alloc, 2, &[("a + b ", "at 4"), ("((((a))))", "0 1 2")])?;
     check(&rt, alloc, 3, &[("a + b", "0 1 3")])?;
     check(&rt, alloc, u32::MAX, &[("a + b", "0 1 3")])
 }
