@@ -1,3 +1,4 @@
+mod Spelled
 pub mod Progress
 pub mod CountedNodes
 pub mod FewNodes

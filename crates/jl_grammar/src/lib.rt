@@ -8,4 +8,4 @@ mod word;
 
 pub use operators::{assign_op, binary_op, level};
 pub use terminal::{Terminal, terminal_of};
-pub use word::{Word, is_reserved, reserved_word};
+pub use word::{Word, has_spelling, is_reserved, reserved_word};

@@ -1,7 +1,7 @@
 ghost use Rattle.jl_grammar.specs.Terminals.{name_terminal, terminal_of};
 ghost use Rattle.std.specs.Prelude.{◌≡◌};
 
-use crate::word::{Word, is_spelled, reserved_word};
+use crate::word::{Word, has_spelling, reserved_word};
 use jl_token::{Punct, TokenKind};
 
 /// What the grammar sees of a token.
@@ -46,8 +46,8 @@ fn name_terminal(units: &[u16], escaped: bool) -> Terminal
         Some(_) if escaped => Terminal::EscapedWord,
         Some(word) => Terminal::Word(word),
         None if escaped => Terminal::Identifier,
-        None if is_spelled(units, b"get") => Terminal::Get,
-        None if is_spelled(units, b"set") => Terminal::Set,
+        None if has_spelling(units, b"get") => Terminal::Get,
+        None if has_spelling(units, b"set") => Terminal::Set,
         None => Terminal::Identifier,
     }
 }

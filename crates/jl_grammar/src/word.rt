@@ -1,6 +1,8 @@
 ghost use Rattle.jl_grammar.specs.Words.{look_up, same_text, word_of};
 ghost use Rattle.std.specs.Prelude.{◌≡◌, map, is_some, true};
 
+use jl_text::is_spelled;
+
 /// A reserved word (7.6.1): the keywords, the future reserved words of all code, `null` and the boolean literals.
 #[derive(Clone, Copy, PartialEq, Eq, Debug)]
 pub enum Word {
@@ -118,27 +120,18 @@ const WORDS: [(&[u8], Word); 36] = [
 ];
 
 /// Whether the units are these ASCII characters.
-pub(crate) fn is_spelled(mut units: &[u16], mut spelling: &[u8]) -> bool
-    ensures { result ≡ same_text spelling.entry.now units.entry.now }
+#[tactic(auto, using(crate::proofs::Spelled::spelled))]
+pub fn has_spelling(units: &[u16], spelling: &[u8]) -> bool
+    ensures { result ≡ same_text spelling.now units.now }
 {
-    while let [byte, more_bytes @ ..] = spelling {
-        let [unit, more_units @ ..] = units else {
-            return false;
-        };
-        if *unit != *byte as u16 {
-            return false;
-        }
-        units = more_units;
-        spelling = more_bytes;
-    }
-    units.is_empty()
+    is_spelled(units, spelling)
 }
 
 fn find(mut table: &[(&[u8], Word)], units: &[u16]) -> Option<Word>
     ensures { result ≡ look_up (map (λ entry. (entry.0.now, entry.1)) table.entry.now) units.now }
 {
     while let [entry, rest @ ..] = table {
-        if is_spelled(units, entry.0) {
+        if has_spelling(units, entry.0) {
             return Some(entry.1);
         }
         table = rest;

@@ -2,7 +2,6 @@
 ghost use Rattle.std.specs.Prelude.{◌≡◌, ◌≤◌, ◌<◌, ◌^◌, [], ◌∷◌, length, IfOk, nat_le, suc, false, true, option_map};
 ghost use Rattle.jl_ast.specs.View.{view_ident};
 ghost use Rattle.jl_grammar.specs.Tokens.{terminal_at, line_at, text_at, number_at, key_at, strict_at, from_at, to_at, span, ident_at, key_ident_at};
-ghost use Rattle.jl_grammar.specs.Words.{same_text};
 ghost use Rattle.jl_grammar.specs.Program.{last_end};
 ghost use Rattle.jl_grammar.specs.Next.{continues_at, is_directive};
 ghost use Rattle.jl_grammar.specs.Operators.{infix_operator, binary_operator, assign_operator};
@@ -13,7 +12,7 @@ use crate::depth::Depth;
 use crate::operators::{InfixOperator, continues_left, update_op};
 use crate::terminals::{is_comma, is_in, is_question};
 use jl_ast::{BinOp, Ident};
-use jl_grammar::{Terminal, assign_op, binary_op, terminal_of};
+use jl_grammar::{Terminal, assign_op, binary_op, has_spelling, terminal_of};
 use jl_num::{Num, digits};
 use jl_text::{Span, Text, TextFault};
 use jl_token::{Punct, Token, TokenKind};
@@ -349,38 +348,7 @@ fn is_use_strict(token: &Token) -> bool
     ensures { result ≡ strict_at (token.now ∷ []) 0 }
 {
     match &token.kind {
-        TokenKind::Str { text, plain } => *plain && is_spelled(text.units(), b"use strict"),
+        TokenKind::Str { text, plain } => *plain && has_spelling(text.units(), b"use strict"),
         _ => false,
-    }
-}
-
-// Whether the units are these ASCII characters.
-fn is_spelled(mut units: &[u16], mut spelling: &[u8]) -> bool
-    ensures { result ≡ same_text spelling.entry.now units.entry.now }
-{
-    while let [byte, more_bytes @ ..] = spelling {
-        let [unit, more_units @ ..] = units else {
-            return false;
-        };
-        if *unit != *byte as u16 {
-            return false;
-        }
-        units = more_units;
-        spelling = more_bytes;
-    }
-    units.is_empty()
-}
-
-/// How many brackets are open after a token, before which there are so many.
-pub fn bracket(terminal: Terminal, before: u64) -> u64
-    requires { suc before < 2 ^ 64 }
-    ensures { result ≡ bracket terminal before }
-{
-    match terminal {
-        Terminal::Punct(Punct::LeftParen | Punct::LeftBracket | Punct::LeftBrace) => before + 1,
-        Terminal::Punct(Punct::RightParen | Punct::RightBracket | Punct::RightBrace) => {
-            before.saturating_sub(1)
-        }
-        _ => before,
     }
 }
