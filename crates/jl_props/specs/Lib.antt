@@ -1,3 +1,4 @@
 pub mod Entries
 pub mod Store
 pub mod Laws
+pub mod inner

@@ -110,7 +110,7 @@ impl<T: Drop> Store<T> {
         grow(&mut self.lists, self.alloc, obj)?;
         let serial = self.made.len() as u64;
         let entries = &mut self.lists[obj];
-        entries.push(Entry { name, serial, item })?;
+        entries.push(self.alloc, Entry { name, serial, item })?;
         self.made.push(0)?;
         Ok(())
     }
