@@ -1,0 +1,63 @@
+#!/usr/bin/env python3
+"""Times of calls of jl_props on one object of 1,000, 10,000 and 100,000 properties, in microseconds a call.
+
+Run it at the top of the repository after `rt run` in crates/jl_props_bench. Names are short, or have a hundred units in
+common, which is what costs an ordered map most. An ordered map takes the logarithm of the number of names, which is
+1.67 times as great at 100,000 as at 1,000; with that divided out no call should cost more than twice at 100,000 of
+what it costs at 1,000 (caches apart), and the exit status is 1 where one does.
+
+A put has the look-up before it that a caller makes; the time of a remove is without the puts before it."""
+
+import math
+import os
+import subprocess
+import sys
+import time
+
+PROGRAM = os.path.join("crates", "jl_props_bench", "out", "jl_props_bench")
+COUNTS = [1000, 10000, 100000]
+LIMIT = 2.0
+
+
+def run(call, kind, count, turns):
+    start = time.perf_counter()
+    subprocess.run([PROGRAM, call, kind, str(count), str(turns)], stdout=subprocess.DEVNULL, check=True)
+    return time.perf_counter() - start
+
+
+def microseconds(call, kind, count):
+    """The least of three runs, without the time of making the names and, but for puts, the properties."""
+    turns = 2000000 // count
+    best = None
+    for _ in range(3):
+        spent = (run(call, kind, count, turns) - run(call, kind, count, 0)) / (turns * count)
+        best = spent if best is None else min(best, spent)
+    return 1e6 * best
+
+
+def main():
+    if not os.path.exists(PROGRAM):
+        sys.exit("no " + PROGRAM + ": run `rt run` in crates/jl_props_bench first")
+    log = math.log(COUNTS[-1]) / math.log(COUNTS[0])
+    worst = 0.0
+    heads = "".join(f"{count:12}" for count in COUNTS)
+    print(f"{'names':8}{'call':8}{heads}  ratio  without the logarithm")
+    for kind in ("short", "nested"):
+        puts = [microseconds("put", kind, count) for count in COUNTS]
+        for call in ("put", "get", "remove", "order"):
+            if call == "put":
+                found = puts
+            else:
+                found = [microseconds(call, kind, count) for count in COUNTS]
+            if call == "remove":
+                found = [both - put for both, put in zip(found, puts)]
+            ratio = found[-1] / found[0]
+            # a list in order takes no look-up
+            bare = ratio if call == "order" else ratio / log
+            worst = max(worst, bare)
+            times = "".join(f"{spent:9.3f} us" for spent in found)
+            print(f"{kind:8}{call:8}{times}{ratio:7.2f}{bare:7.2f}")
+    sys.exit(worst > LIMIT)
+
+
+main()
