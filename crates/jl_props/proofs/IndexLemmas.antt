@@ -1,6 +1,6 @@
 -- What keeps entries indexed: the names' serials stay those of the entries.
-use Rattle.std.proofs.Common.{◌≡◌, refl, sym, ap, ◌∙◌, ℕ, ◌<◌, Bool, true, false, cond, Option, List, [], ◌∷◌, ◌++◌, Some, None, subst}
-use Rattle.std.specs.Prelude.{◌≢◌, IsNone}
+use Rattle.std.proofs.Common.{inl, ◌≡◌, refl, sym, ap, ◌∙◌, ℕ, ◌<◌, Bool, true, false, cond, Option, List, [], ◌∷◌, ◌++◌, Some, None, subst}
+use Rattle.std.specs.Prelude.{◌≢◌, ◌⊎◌, IsNone}
 use Rattle.std.specs.BTreeMap.{BTreeMap, get, is_at, insert_entry, values}
 use Rattle.std.specs.Cmp.Lexicographic.{slice_cmp}
 use Rattle.std.specs.List.{All}
@@ -180,3 +180,8 @@ same-IsIndexed kept after serials left is names indexed = record {
   in_order = rw is indexed.in_order;
   named = λ q. rw (names, is) (indexed.named q);
 }
+
+-- what a lender ends as, where two functions of what is written last are the same
+pub ends_alike : {N A B C : Type 0} {name : N} {f g : A → B} → ((w : A) → f w ≡ g w)
+    → Path ((N × (A → B)) ⊎ C) (inl (name, f)) (inl (name, g))
+ends_alike {name = name} same = λ i. inl (name, λ w. same w i)

@@ -1,5 +1,5 @@
 ghost use Rattle.std.specs.Prelude.{◌≡◌, ◌<◌, [], ◌∷◌, ◌++◌, All, IsNone, OnOk, OnErr, IfOk, map};
-ghost use Rattle.std.specs.Option.{option_copied, option_map};
+ghost use Rattle.std.specs.Option.{option_copied, option_copied_mut, option_map};
 
 use jl_text::{List, NoMemory, Text};
 use std::alloc::Global;
@@ -39,7 +39,9 @@ impl<T> Model for Entries<T> {
 }
 
 impl<T> Entries<T> {
+    ghost use Rattle.std.specs.Borrow.{sem};
     ghost use Rattle.jl_props.specs.Entries.{entry_named, without, name_and_serial};
+    ghost use Rattle.jl_props.specs.Lending.{LendsItemOf};
 
     pub(crate) fn new(alloc: Global) -> Entries<T>
         ensures { result ≡ [] }
@@ -56,6 +58,16 @@ impl<T> Entries<T> {
     {
         let serial = self.serials.get(name)?;
         self.entries.get(serial)
+    }
+
+    /// The item of a name, if there is one, to be changed in place.
+    pub(crate) fn item_mut(&mut self, name: &Text) -> Option<&mut T>
+        ensures* comes_back { sem 𝓛 (LendsItemOf T.row self.entry name.now result) }
+        ensures value { option_copied_mut result ≡ option_map (λ e. e.item) (entry_named name.now self.old) }
+    {
+        let serial = self.serials.get(name).copied()?;
+        let entry = self.entries.get_mut(&serial)?;
+        Some(&mut entry.item)
     }
 
     /// The names and the serials of the entries, in their order.

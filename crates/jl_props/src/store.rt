@@ -1,5 +1,5 @@
 ghost use Rattle.std.specs.Prelude.{◌≡◌, ◌+◌, ◌<◌, ℕ, [], OnOk, OnErr, IfOk, IsNone, IsSome, map, vec_len};
-ghost use Rattle.std.specs.Option.{option_copied};
+ghost use Rattle.std.specs.Option.{option_copied, option_copied_mut};
 ghost use Rattle.std.specs.List.{slice_index_or};
 
 use crate::entries::{Entries, Entry};
@@ -29,6 +29,8 @@ impl<T> Model for Store<T> {
 }
 
 impl<T> Store<T> {
+    ghost use Rattle.std.specs.Borrow.{sem};
+    ghost use Rattle.jl_props.specs.Lending.{LendsItem};
     ghost use Rattle.jl_props.specs.Entries.{entry_named, name_and_serial, without};
     ghost use Rattle.jl_props.specs.Store.{entries_of, item_of, serial_of, Changes, IsWellKept};
 
@@ -50,6 +52,15 @@ impl<T> Store<T> {
     {
         let entry = self.entry(obj, name)?;
         Some(&entry.item)
+    }
+
+    /// What an object holds under a name, to be changed in place; the entry keeps its place and its serial.
+    pub fn get_mut(&mut self, obj: usize, name: &Text) -> Option<&mut T>
+        ensures* comes_back { sem 𝓛 (LendsItem T.row self.entry obj name.now result) }
+        ensures value { option_copied_mut result ≡ item_of self.old obj name.now }
+    {
+        let entries = self.lists.get_mut(obj)?;
+        entries.item_mut(name)
     }
 
     /// The serial of an object's entry of a name.
