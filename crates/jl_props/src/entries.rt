@@ -93,7 +93,7 @@ impl<T> Entries<T> {
 }
 
 impl<T: Drop> Entries<T> {
-    ghost use Rattle.jl_props.specs.Entries.{entry_named, with_item};
+    ghost use Rattle.jl_props.specs.Entries.{entry_named};
 
     /// Adds an entry. After `Err` the entries are as before.
     pub(crate) fn push(&mut self, alloc: Global, entry: Entry<T>) -> Result<(), NoMemory>
@@ -110,17 +110,6 @@ impl<T: Drop> Entries<T> {
             Err(failed) => {
                 self.entries.remove(&serial);
                 Err(failed.into())
-            }
-        }
-    }
-
-    /// Puts the item in place of the one under a name.
-    pub(crate) fn set(&mut self, name: &Text, item: T)
-        ensures { self.new ≡ with_item self.old name.now item }
-    {
-        if let Some(serial) = self.serials.get(name) {
-            if let Some(entry) = self.entries.get_mut(serial) {
-                entry.item = item;
             }
         }
     }

@@ -132,9 +132,8 @@ impl<T: Drop> Store<T> {
         requires { IsSome (item_of self.old obj name.now) }
         ensures { Changes self.old self.new obj (with_item (entries_of self.old obj) name.now item) self.old.next }
     {
-        if obj < self.lists.len() {
-            let entries = &mut self.lists[obj];
-            entries.set(name, item);
+        if let Some(place) = self.get_mut(obj, name) {
+            *place = item;
         }
     }
 }
