@@ -1,6 +1,7 @@
 pub mod Seen
 pub mod InsideLemmas
 pub mod StoreSteps
+pub mod ValueAlone
 pub mod ReadOnly
 pub mod Named
 pub mod Items

@@ -1,8 +1,9 @@
 //! Properties of arrays defined (15.4.5.1).
-ghost use Rattle.std.specs.Prelude.{◌≡◌, IfOk, IsTrue, OnErr, Some};
+ghost use Rattle.std.specs.Prelude.{◌≡◌, ◌↔◌, IfOk, IsTrue, OnErr, Some};
 
 use crate::array::{
-    is_length_name, is_writable, kept_open, length_of, lengthened, new_length, refuses_element,
+    is_length, is_length_name, is_writable, kept_open, length_of, lengthened, new_length,
+    refuses_element,
 };
 use crate::heap::Heap;
 use crate::property::{Change, Defined};
@@ -31,6 +32,16 @@ impl Heap {
             Class::Array => self.define_on_array(id, name, change),
             _ => self.define_plainly(id, name, change),
         }
+    }
+
+    /// Whether a change, under a name of an object, gives no value to the `length` of an array but a whole number from 0
+    /// to 4,294,967,295, as `define` asks.
+    pub fn fits_length(&self, id: ObjId, name: &Text, change: &Change) -> bool
+        ensures { IsTrue result ↔ FitsLength self.now id.0 name.now change.now }
+    {
+        self.class_of(id) != Class::Array
+            || !is_length_name(name)
+            || is_length(change.value.as_ref())
     }
 
     /// The same on an array.

@@ -49,7 +49,7 @@ later : {T : Type 0} (x : Entry T) (xs : List (Entry T)) → IsInOrder (x ∷ xs
 later x xs ordered = λ k d within. ordered 0 (suc k) d (omega arith) (omega arith)
 
 -- an entry that has a name is its only one
-no_other : {T : Type 0} (name : List ℕ) (x : Entry T) (xs : List (Entry T)) → IsInOrder (x ∷ xs)
+pub no_other : {T : Type 0} (name : List ℕ) (x : Entry T) (xs : List (Entry T)) → IsInOrder (x ∷ xs)
     → has_name name x ≡ true → All (λ e. has_name name e ≡ false) xs
 no_other name x xs ordered fits = λ k d within. apart name x (get_or xs k d) ((later x xs ordered k d within).0) fits
 

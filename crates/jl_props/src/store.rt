@@ -58,6 +58,7 @@ impl<T> Store<T> {
     pub fn get_mut(&mut self, obj: usize, name: &Text) -> Option<&mut T>
         ensures* comes_back { sem 𝓛 (LendsItem T.row self.entry obj name.now result) }
         ensures value { option_copied_mut result ≡ item_of self.old obj name.now }
+        ensures kept { IsWellKept self.old }
     {
         let entries = self.lists.get_mut(obj)?;
         entries.item_mut(name)
