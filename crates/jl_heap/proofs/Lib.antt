@@ -7,6 +7,7 @@ pub mod Named
 pub mod Items
 pub mod Puts
 pub mod Plainly
+pub mod Covered
 pub mod Shortened
 pub mod ChainLemmas
 pub mod Pushed

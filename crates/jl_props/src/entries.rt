@@ -1,4 +1,4 @@
-ghost use Rattle.std.specs.Prelude.{◌≡◌, ◌<◌, [], ◌∷◌, ◌++◌, All, IsNone, OnOk, OnErr, IfOk, map};
+ghost use Rattle.std.specs.Prelude.{◌≡◌, ◌<◌, [], ◌∷◌, ◌++◌, All, IsNone, OnOk, OnErr, IfOk, length, map};
 ghost use Rattle.std.specs.Option.{option_copied, option_copied_mut, option_map};
 
 use jl_text::{List, NoMemory, Text};
@@ -50,6 +50,12 @@ impl<T> Entries<T> {
             entries: BTreeMap::new(alloc),
             serials: BTreeMap::new(alloc),
         }
+    }
+
+    pub(crate) fn len(&self) -> usize
+        ensures { result ≡ length self.now }
+    {
+        self.entries.len()
     }
 
     /// The entry of a name, if there is one.

@@ -1,4 +1,4 @@
-ghost use Rattle.std.specs.Prelude.{◌≡◌, ◌+◌, ◌<◌, ℕ, [], OnOk, OnErr, IfOk, IsNone, IsSome, map, vec_len};
+ghost use Rattle.std.specs.Prelude.{◌≡◌, ◌+◌, ◌<◌, ℕ, [], OnOk, OnErr, IfOk, IsNone, IsSome, length, map, vec_len};
 ghost use Rattle.std.specs.Option.{option_copied, option_copied_mut};
 ghost use Rattle.std.specs.List.{slice_index_or};
 
@@ -79,6 +79,17 @@ impl<T> Store<T> {
     {
         let entries = self.lists.get(obj)?;
         entries.find(name)
+    }
+
+    /// How many entries an object has.
+    pub fn count(&self, obj: usize) -> usize
+        ensures count { result ≡ length (entries_of self.now obj) }
+        ensures kept { IsWellKept self.now }
+    {
+        match self.lists.get(obj) {
+            Some(entries) => entries.len(),
+            None => 0,
+        }
     }
 
     /// The names of an object's entries with their serials, in the order in which they were made.
