@@ -1,18 +1,21 @@
 #!/usr/bin/env python3
-"""Times of calls of jl_props on one object of 1,000, 10,000 and 100,000 properties, in microseconds a call.
+"""Times of calls of jl_props on one object of 1,000, 10,000 and 100,000 properties, in microseconds of the processor a
+call.
 
-Run it at the top of the repository after `rt run` in crates/jl_props_bench. Names are short, or have a hundred units in
-common, which is what costs an ordered map most. An ordered map takes the logarithm of the number of names, which is
-1.67 times as great at 100,000 as at 1,000; with that divided out no call should cost more than twice at 100,000 of
-what it costs at 1,000 (caches apart), and the exit status is 1 where one does.
+Run it at the top of the repository after `rt run` in crates/jl_props_bench. A store finds names by an ordered map, whose
+steps grow with the logarithm of the number of names, which is 1.67 times as great at 100,000 as at 1,000. With that
+divided out no call should cost more than twice at 100,000 of what it costs at 1,000; the exit status is 1 where one does.
+That is judged where names come in their order: rising ones, and nested ones, which have a hundred units in common and so
+cost an ordered map most. Mixed ones come in another order, so that at 100,000 each step also misses the processor's
+caches; these rows are printed and not judged.
 
 A put has the look-up before it that a caller makes; the time of a remove is without the puts before it."""
 
 import math
 import os
+import resource
 import subprocess
 import sys
-import time
 
 PROGRAM = os.path.join("crates", "jl_props_bench", "out", "jl_props_bench")
 COUNTS = [1000, 10000, 100000]
@@ -20,14 +23,14 @@ LIMIT = 2.0
 
 
 def run(call, kind, count, turns):
-    start = time.perf_counter()
+    start = resource.getrusage(resource.RUSAGE_CHILDREN).ru_utime
     subprocess.run([PROGRAM, call, kind, str(count), str(turns)], stdout=subprocess.DEVNULL, check=True)
-    return time.perf_counter() - start
+    return resource.getrusage(resource.RUSAGE_CHILDREN).ru_utime - start
 
 
 def microseconds(call, kind, count):
     """The least of three runs, without the time of making the names and, but for puts, the properties."""
-    turns = 2000000 // count
+    turns = (20000000 if call == "order" else 2000000) // count
     best = None
     for _ in range(3):
         spent = (run(call, kind, count, turns) - run(call, kind, count, 0)) / (turns * count)
@@ -42,7 +45,7 @@ def main():
     worst = 0.0
     heads = "".join(f"{count:12}" for count in COUNTS)
     print(f"{'names':8}{'call':8}{heads}  ratio  without the logarithm")
-    for kind in ("short", "nested"):
+    for kind in ("rising", "nested", "mixed"):
         puts = [microseconds("put", kind, count) for count in COUNTS]
         for call in ("put", "get", "remove", "order"):
             if call == "put":
@@ -54,7 +57,8 @@ def main():
             ratio = found[-1] / found[0]
             # a list in order takes no look-up
             bare = ratio if call == "order" else ratio / log
-            worst = max(worst, bare)
+            if kind != "mixed":
+                worst = max(worst, bare)
             times = "".join(f"{spent:9.3f} us" for spent in found)
             print(f"{kind:8}{call:8}{times}{ratio:7.2f}{bare:7.2f}")
     sys.exit(worst > LIMIT)

@@ -92,7 +92,8 @@ impl Heap {
         units.get(index as usize).copied()
     }
 
-    /// The own property that is stored under a name (8.12.1). It looks through the properties of the object.
+    /// The own property that is stored under a name (8.12.1). Its steps are in the order of the logarithm of the number of
+    /// properties of the object.
     pub fn own(&self, id: ObjId, name: &Text) -> Option<&Prop>
         ensures { option_copied result ≡ own self.now id.0 name.now }
     {

@@ -8,7 +8,8 @@ use jl_text::{Text, Utf8Fault, from_utf8};
 use std::alloc::Global;
 use std::env;
 
-const PREFIX: &str = "abcdefghijklmnopqrstuvwxyzabcdefghijklmnopqrstuvwxyzabcdefghijklmnopqrstuvwxyzabcdefghijklmnopqrstuv";
+const PREFIX: &str =
+    "abcdefghijklmnopqrstuvwxyzabcdefghijklmnopqrstuvwxyzabcdefghijklmnopqrstuvwxyzabcdefghijklmnopqrstuv";
 
 fn main(rt: HostRuntime) -> Result<()> {
     let alloc = rt.alloc();
@@ -41,15 +42,16 @@ fn main(rt: HostRuntime) -> Result<()> {
     Ok(())
 }
 
-/// So many names, in an order that is not theirs: short ones, or ones that have a hundred units in common.
+/// So many names: short ones in their order, short ones in another order, or ones that have a hundred units in common.
 fn names(alloc: Global, kind: &str, count: u32) -> Result<Vec<Text>> {
     let mut names = Vec::new(alloc);
     for at in 0..count {
-        let number = u64::from(at).wrapping_mul(7919) % u64::from(count);
+        let other = u64::from(at).wrapping_mul(7919) % u64::from(count);
         let written = match kind {
-            "short" => format!(in alloc; "p{number}")?,
-            "nested" => format!(in alloc; "{PREFIX}{number}")?,
-            _ => bail!("the kinds of names are short and nested"),
+            "rising" => format!(in alloc; "p{at:06}")?,
+            "mixed" => format!(in alloc; "p{other:06}")?,
+            "nested" => format!(in alloc; "{PREFIX}{at:06}")?,
+            _ => bail!("the kinds of names are rising, mixed and nested"),
         };
         let units = match from_utf8(alloc, written.as_bytes()) {
             Ok(units) => units,
