@@ -24,17 +24,17 @@ fn main(rt: HostRuntime) -> Result<()> {
     let turns = turns.as_str().parse::<u32>()?;
     let names = names(alloc, kind.as_str(), count)?;
     let mut store = Store::new(alloc);
-    if call.as_str() != "put" && call.as_str() != "remove" {
+    if call.as_str() != "put" {
         put_all(alloc, &mut store, names.as_slice())?;
     }
     let mut found = 0u64;
     for _turn in 0..turns {
         let more = match call.as_str() {
             "put" => put_all(alloc, &mut Store::new(alloc), names.as_slice())?,
-            "remove" => put_and_removed(alloc, names.as_slice())?,
+            "again" => put_again(alloc, &mut store, names.as_slice())?,
             "get" => got(&store, names.as_slice()),
             "order" => store.in_order(alloc, 0)?.len() as u64,
-            _ => bail!("the calls are put, remove, get and order"),
+            _ => bail!("the calls are put, again, get and order"),
         };
         found = found.wrapping_add(more);
     }
@@ -74,16 +74,19 @@ fn put_all(alloc: Global, store: &mut Store<u64>, names: &[Text]) -> Result<u64>
     Ok(made)
 }
 
-fn put_and_removed(alloc: Global, names: &[Text]) -> Result<u64> {
-    let mut store = Store::new(alloc);
-    put_all(alloc, &mut store, names)?;
-    let mut gone = 0u64;
+/// Each name is taken out and put again.
+fn put_again(alloc: Global, store: &mut Store<u64>, names: &[Text]) -> Result<u64> {
+    let mut again = 0u64;
     for name in names {
-        if store.remove(0, name).is_some() {
-            gone = gone.wrapping_add(1);
+        let Some(item) = store.remove(0, name) else {
+            bail!("a name is gone");
+        };
+        if store.get(0, name).is_none() {
+            store.put_new(0, name.share(alloc)?, item)?;
+            again = again.wrapping_add(1);
         }
     }
-    Ok(gone)
+    Ok(again)
 }
 
 fn got(store: &Store<u64>, names: &[Text]) -> u64 {
