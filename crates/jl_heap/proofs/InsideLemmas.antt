@@ -7,8 +7,9 @@ use Rattle.jl_props.specs.Entries.{entry_named}
 use Rattle.std.proofs.lemmas.Option.{get_or_from_slice_get, slice_get_within}
 use Rattle.jl_props.specs.declared.entries.Entry.{Entry}
 use Rattle.jl_props.specs.Store.{Changes, Properties, entries_of, item_of}
+use Rattle.jl_props.specs.Store as store
 use Rattle.jl_heap.specs.Inside.{objects_inside, IsKept}
-use Rattle.jl_heap.specs.Objects.{Object, Objects, object_at, own, absent_object, with_properties}
+use Rattle.jl_heap.specs.Objects.{Object, Objects, object_at, own, serial_of, absent_object, with_properties}
 use Rattle.jl_heap.specs.View.{object_of, HasHeader}
 use Rattle.jl_heap.specs.declared.header.Header.{Header}
 use Rattle.jl_heap.specs.declared.heap.Heap.TheInside.{Inside}
@@ -52,6 +53,12 @@ pub own_is : (a : Inside) (heap : Objects) (k : ℕ) (name : List ℕ) → IsKep
 own_is a heap k name kept seen =
     ap (λ es. option_map (λ (e : Entry Prop). e.item) (entry_named name es)) (sym (properties_at a k kept))
     ∙ ap (λ h. own h k name) seen
+
+pub serial_is : (a : Inside) (heap : Objects) (k : ℕ) (name : List ℕ) → IsKept a → objects_inside a ≡ heap →
+    store.serial_of a.properties k name ≡ serial_of heap k name
+serial_is a heap k name kept seen =
+    ap (λ es. option_map (λ (e : Entry Prop). e.serial) (entry_named name es)) (sym (properties_at a k kept))
+    ∙ ap (λ h. serial_of h k name) seen
 
 -- the object at a place is made of the header there and its properties, or nobody
 header_by : (a : Inside) (k : ℕ) → (found : Option Header) → slice_get a.headers k ≡ found → HasHeader (object_at (objects_inside a) k) found

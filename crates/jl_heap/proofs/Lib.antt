@@ -1,11 +1,13 @@
 pub mod Seen
 pub mod InsideLemmas
 pub mod StoreSteps
+pub mod ValueAlone
 pub mod ReadOnly
 pub mod Named
 pub mod Items
 pub mod Puts
 pub mod Plainly
+pub mod Covered
 pub mod Shortened
 pub mod ChainLemmas
 pub mod Pushed

@@ -1,5 +1,5 @@
 -- Defining a property (8.12.9), and what arrays add to it (15.4.5.1).
-use Rattle.std.specs.Prelude.{ℕ, ◌+◌, max, Bool, true, false, not, ◌&&◌, nat_le, nat_lt, IsTrue, pos}
+use Rattle.std.specs.Prelude.{ℕ, ◌+◌, max, Bool, true, false, not, ◌&&◌, ◌||◌, nat_le, nat_lt, IsTrue, pos}
 use Rattle.std.specs.Prelude.{List, [], ◌∷◌, Option, None, Some, codes, filter, if◌then◌else◌}
 use Rattle.std.specs.Option.{option_map, option_map_or, unwrap_or}
 use Rattle.std.specs.Str.{bytes_eq}
@@ -177,3 +177,15 @@ IsLength (Some v) = IsTrue (is_length v)
 abbrev pub FitsLength : Objects → ℕ → Name → Change → Type 0
 FitsLength heap place name change =
     IsTrue (is_array (object_at heap place).class) → IsTrue (bytes_eq name length_name) → IsLength change.value
+
+-- whether a change of a value under this name leaves the length of an array: the name is neither `length` nor an index
+-- from the length on
+abbrev pub keeps_length : Objects → ℕ → Name → Bool
+keeps_length heap place name =
+    not (is_array (object_at heap place).class)
+    || (not (bytes_eq name length_name)
+    && option_map_or (λ i. nat_lt i (length_of (own heap place length_name))) (index_of name) true)
+
+-- whether a change of the value of an own property comes to that alone
+abbrev pub takes_value_alone : Objects → ℕ → Name → Bool
+takes_value_alone heap place name = is_writable (own heap place name) && keeps_length heap place name

@@ -51,6 +51,10 @@ with_properties heap place properties =
 abbrev pub own : Objects → ℕ → Name → Option Prop
 own heap place name = option_map (λ e. e.item) (entry_named name (object_at heap place).properties)
 
+-- the serial of the own property that is stored under a name
+abbrev pub serial_of : Objects → ℕ → Name → Option ℕ
+serial_of heap place name = option_map (λ e. e.serial) (entry_named name (object_at heap place).properties)
+
 -- the units that an object of this class with this inner part has as properties: those of the text of a String object
 abbrev pub units_of : Class → Inner → List ℕ
 units_of class.String (Wrapped (value.Text units)) = units

@@ -2,6 +2,7 @@
 use Rattle.std.specs.Prelude.{Bool, true, false, not, ◌&&◌, ◌||◌, ◌==◌, Option, None, Some, is_some, if◌then◌else◌}
 use Rattle.std.specs.Option.{unwrap_or}
 use Rattle.jl_value.specs.declared.object.ObjId.{ObjId}
+use Rattle.jl_value.specs.declared.value.Value.{Value}
 use Rattle.jl_value.specs.declared.value.Value.TheVariants.{Undefined}
 use Rattle.jl_value.specs.Same.{same_bool, same_value}
 use Rattle.jl_heap.specs.declared.property.Prop.{Prop}
@@ -15,6 +16,14 @@ is_enumerable (Accessor _ _ enumerable _) = enumerable
 abbrev pub is_configurable : Prop → Bool
 is_configurable (Plain _ _ _ configurable) = configurable
 is_configurable (Accessor _ _ _ configurable) = configurable
+
+-- nothing is asked for
+abbrev pub no_change : Change
+no_change = record { value = None; writable = None; get = None; set = None; enumerable = None; configurable = None }
+
+-- another value is asked for
+abbrev pub value_change : Value → Change
+value_change v = record no_change { value = Some v }
 
 -- IsDataDescriptor (8.10.2)
 abbrev pub is_data : Change → Bool
@@ -83,6 +92,11 @@ revised present change =
     if not (is_configurable present) && is_refused present change
     then None
     else Some (with_fields (if turns present change then turned present else present) change)
+
+-- the property with another value, if it holds one
+abbrev pub with_value : Prop → Value → Prop
+with_value (Plain _ writable enumerable configurable) v = Plain v writable enumerable configurable
+with_value (Accessor get set enumerable configurable) v = Accessor get set enumerable configurable
 
 -- a new property: what isn't given is undefined or false (step 4)
 abbrev pub made : Change → Prop

@@ -1,5 +1,5 @@
 //! The property `length` of an array (15.4.5.1, 15.4.5.2), and a change on it.
-ghost use Rattle.std.specs.Prelude.{◌≡◌, ◌+◌, ◌<◌, ◌&&◌, not, nat_le, true, if◌then◌else◌};
+ghost use Rattle.std.specs.Prelude.{◌≡◌, ◌↔◌, ◌+◌, ◌<◌, ◌&&◌, not, nat_le, true, if◌then◌else◌, IsTrue};
 ghost use Rattle.std.specs.Option.{option_copied, option_map};
 ghost use Rattle.std.specs.Str.{bytes_eq};
 ghost use Rattle.jl_heap.specs.Define.{IsLength, count_of, is_writable, kept_open, length_name, length_of, with_count};
@@ -79,6 +79,22 @@ pub(crate) fn with_count(count: u32, stays_writable: bool, length: &Prop) -> Pro
             enumerable: *enumerable,
             configurable: *configurable,
         },
+    }
+}
+
+/// Whether a value, if one is given, can be a length: a whole number from 0 to 4,294,967,295.
+pub(crate) fn is_length(value: Option<&Value>) -> bool
+    ensures { IsTrue result ↔ IsLength (option_copied value.entry) }
+{
+    let Some(value) = value else {
+        return true;
+    };
+    let Value::Num(number) = value else {
+        return false;
+    };
+    match number.value() {
+        Some(count) => 0 <= count && count < 4_294_967_296,
+        None => false,
     }
 }
 

@@ -54,7 +54,7 @@ impl Heap {
         if !self.is_extensible(id) {
             return Ok(Defined::Rejected);
         }
-        self.add(id, name, made(change))?;
+        self.add_property(id, name, made(change))?;
         Ok(Defined::Done)
     }
 

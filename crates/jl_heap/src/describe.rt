@@ -91,7 +91,8 @@ fn push_ascii(units: &mut Vec<u16>, codes: &[u8]) -> Result<(), NoMemory>
     Ok(())
 }
 
-fn ascii_text(alloc: Global, codes: &[u8]) -> Result<Text, NoMemory>
+/// The text of these ASCII codes.
+pub(crate) fn ascii_text(alloc: Global, codes: &[u8]) -> Result<Text, NoMemory>
     ensures { IfOk result (λ text. text ≡ codes.now) }
 {
     match Text::from_units(alloc, &ascii(alloc, codes)?) {

@@ -33,7 +33,7 @@ impl Heap {
     }
 
     /// The nearest property of a name that is stored, on an object or along its prototypes, and where it is (8.12.2).
-    /// It looks through the properties of each of these objects until it is found.
+    /// One look-up on each of these objects until it is found.
     pub fn find(&self, id: ObjId, name: &Text) -> Option<(ObjId, &Prop)>
         ensures { option_map (λ found. (found.0.0, found.1.now)) result ≡ find self.now id.0 name.now }
     {

@@ -1,4 +1,4 @@
-ghost use Rattle.std.specs.Prelude.{◌≡◌, ◌<◌, [], All, length, IfOk, OnOk, OnErr, IsNone, IsSome};
+ghost use Rattle.std.specs.Prelude.{◌≡◌, ◌↔◌, ◌<◌, [], All, length, IfOk, OnOk, OnErr, IsNone, IsSome, IsTrue};
 ghost use Rattle.std.specs.Option.{option_copied};
 
 use crate::absent::Absent;
@@ -37,7 +37,7 @@ impl Model for Heap {
 }
 
 impl Heap {
-    ghost use Rattle.jl_heap.specs.Objects.{names_of, object_at, own, unit_at, with_properties};
+    ghost use Rattle.jl_heap.specs.Objects.{names_of, object_at, own, serial_of, unit_at, with_properties};
     ghost use Rattle.jl_heap.specs.Define.{with_new_property, with_property};
     ghost use Rattle.jl_props.specs.Entries.{IsInOrder, without};
     ghost use Rattle.jl_heap.specs.View.{HasHeader};
@@ -92,11 +92,27 @@ impl Heap {
         units.get(index as usize).copied()
     }
 
-    /// The own property that is stored under a name (8.12.1). It looks through the properties of the object.
+    /// The own property that is stored under a name (8.12.1). Its steps are in the order of the logarithm of the number of
+    /// properties of the object.
     pub fn own(&self, id: ObjId, name: &Text) -> Option<&Prop>
         ensures { option_copied result ≡ own self.now id.0 name.now }
     {
         self.properties.get(id.0, name)
+    }
+
+    /// The number of properties that were made before the own one of a name, in the whole heap. A name that was deleted
+    /// and made again has another one.
+    pub fn serial_of(&self, id: ObjId, name: &Text) -> Option<u64>
+        ensures { result ≡ serial_of self.now id.0 name.now }
+    {
+        self.properties.serial_of(id.0, name)
+    }
+
+    /// Whether an object is there.
+    pub fn is_there(&self, id: ObjId) -> bool
+        ensures { IsTrue result ↔ (id.0 < length self.now.objects) }
+    {
+        id.0 < self.len()
     }
 
     /// The names of the own properties that are stored, in the order in which they were made, each with the number of
@@ -117,8 +133,9 @@ impl Heap {
         self.properties.set(id.0, name, property);
     }
 
-    // Stores a property of a new name.
-    pub(crate) fn add(&mut self, id: ObjId, name: &Text, property: Prop) -> Result<(), NoMemory>
+    /// Makes a property of a name that the object has none of, without the table of 8.12.9: it needn't be extensible, and
+    /// an array's `length` stays. It comes last. Where no memory is left, all is as before.
+    pub fn add_property(&mut self, id: ObjId, name: &Text, property: Prop) -> Result<(), NoMemory>
         requires there { id.0 < length self.old.objects }
         requires free { IsNone (own self.old id.0 name.now) }
         ensures ok { OnOk result (self.new ≡ with_new_property self.old id.0 name.now property) }

@@ -15,6 +15,7 @@ pub mod laws;
 mod lengths;
 mod new_object;
 mod property;
+mod put;
 mod revise;
 mod shorten;
 

@@ -55,7 +55,7 @@ impl Heap {
     }
 
     /// How many objects there are.
-    fn len(&self) -> usize
+    pub(crate) fn len(&self) -> usize
         ensures { result ≡ length self.now.objects }
     {
         self.headers.len()

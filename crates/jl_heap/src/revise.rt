@@ -1,8 +1,9 @@
 //! What a change makes of one property.
-ghost use Rattle.std.specs.Prelude.{◌≡◌, ◌&&◌, not, IfOk};
+ghost use Rattle.std.specs.Prelude.{◌≡◌, ◌↔◌, ◌&&◌, not, IfOk, IsTrue};
 ghost use Rattle.jl_value.specs.Same.{same_bool, same_value};
 ghost use Rattle.jl_heap.specs.Property.{breaks, is_accessor, is_configurable, is_data, is_enumerable, is_refused};
 ghost use Rattle.jl_heap.specs.Property.{is_same, made, revised, same_function, stays, turned, turns, with_fields};
+ghost use Rattle.jl_heap.specs.Define.{IsOneKind};
 ghost use Rattle.jl_heap.specs.Objects.{unit_property};
 
 use crate::property::{Change, Prop};
@@ -11,7 +12,8 @@ use jl_value::{ObjId, Value, same_value, share};
 use std::alloc::Global;
 
 impl Prop {
-    pub(crate) fn is_configurable(&self) -> bool
+    /// Whether it can be deleted and its attributes can change (8.6.1).
+    pub fn is_configurable(&self) -> bool
         ensures { result ≡ is_configurable self.now }
     {
         match self {
@@ -21,7 +23,8 @@ impl Prop {
 }
 
 impl Prop {
-    fn is_enumerable(&self) -> bool
+    /// Whether a `for-in` sees it (8.6.1).
+    pub fn is_enumerable(&self) -> bool
         ensures { result ≡ is_enumerable self.now }
     {
         match self {
@@ -32,17 +35,24 @@ impl Prop {
 
 impl Change {
     /// Whether a value is given, or whether it can be written (8.10.2).
-    pub(crate) fn is_data(&self) -> bool
+    pub fn is_data(&self) -> bool
         ensures { result ≡ is_data self.now }
     {
         self.value.is_some() || self.writable.is_some()
     }
 
     /// Whether a getter or a setter is given (8.10.1).
-    pub(crate) fn is_accessor(&self) -> bool
+    pub fn is_accessor(&self) -> bool
         ensures { result ≡ is_accessor self.now }
     {
         self.get.is_some() || self.set.is_some()
+    }
+
+    /// Whether it isn't data and accessor at once, as `Heap::define` asks (8.10.5, step 9).
+    pub fn is_one_kind(&self) -> bool
+        ensures { IsTrue result ↔ IsOneKind self.now }
+    {
+        !(self.is_data() && self.is_accessor())
     }
 }
 

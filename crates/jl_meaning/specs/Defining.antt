@@ -1,4 +1,5 @@
 -- Defining properties (8.12.9, 10.6, 15.4.5.1).
+pub use Rattle.jl_heap.specs.Property.{no_change, value_change}
 use Rattle.std.specs.Option.{option_map_or}
 use Rattle.std.specs.Prelude.{codes, false, if◌then◌else◌, length, not, pos, true, ◌&&◌, Bool, None, Option, Some, ℕ}
 use Rattle.std.specs.Str.{bytes_eq}
@@ -21,14 +22,6 @@ use Rattle.jl_meaning.specs.Conversions.{to_number, to_uint32}
 use Rattle.jl_meaning.specs.Errors.{throw_error}
 use Rattle.jl_meaning.specs.Parts.{change_store, give, look, ◌>>=◌, Algorithm}
 use Rattle.jl_meaning.specs.Properties.{mapped_parameter}
-
--- nothing is asked for
-abbrev pub no_change : Change
-no_change = record { value = None; writable = None; get = None; set = None; enumerable = None; configurable = None }
-
--- another value is asked for
-abbrev pub value_change : Value → Change
-value_change v = record no_change { value = Some v }
 
 -- a property that can be written, enumerated and configured (8.12.5, step 6)
 abbrev pub plain_change : Value → Change

@@ -1,19 +1,17 @@
 -- Entries that are in order: what stands under a name, and what keeps them in order.
-use Rattle.std.proofs.Common.{◌≡◌, refl, sym, ap, ◌∙◌, ℕ, ◌<◌, ◌≤◌, Bool, true, false, cond, not, List, [], ◌∷◌, length, Some, None, arith, ⊎_elim}
+use Rattle.std.proofs.Common.{◌≡◌, refl, sym, ◌∙◌, ℕ, ◌<◌, Bool, true, false, cond, not, List, [], ◌∷◌, length, arith}
 use Rattle.std.specs.Prelude.{◌≢◌, IsNone}
-use Rattle.std.specs.List.{All, position, position_or_len, remove}
+use Rattle.std.specs.List.{All}
 use Rattle.std.specs.Option.{option_map}
-use Rattle.std.proofs.Math.ListN.{get_or, set}
-use Rattle.std.proofs.lemmas.Bool.{not-true, cases_lt, false≢true}
-use Rattle.std.proofs.lemmas.List.{get_or_default, get_or-map, length-map}
+use Rattle.std.proofs.Math.ListN.{get_or}
+use Rattle.std.proofs.lemmas.Bool.{false≢true}
+use Rattle.std.proofs.lemmas.List.{get_or-map, length-map}
 use Rattle.std.proofs.lemmas.List.Elements.{All-nil, All-cons}
 use Rattle.std.proofs.lemmas.List.Kept.{AllPairs-filter}
-use Rattle.std.proofs.lemmas.List.Quantifiers.{position-Some, all_pairs_push}
-use Rattle.std.proofs.lemmas.List.Sums.{prefix_len_passes}
+use Rattle.std.proofs.lemmas.List.Quantifiers.{all_pairs_push}
 use Rattle.std.proofs.lemmas.Slice.Eq.{bytes_eq-Decides}
 use Rattle.jl_props.specs.declared.entries.Entry.{Entry}
 use Rattle.jl_props.specs.Entries.{has_name, entry_named, with_new, with_item, without, IsInOrder}
-use Rattle.jl_props.proofs.OneLemmas.{PassesOnlyAt, filter-none, map-none, find-none, filter-only, map-only, find-only}
 
 pub false_unless : (b : Bool) → (b ≡ true → ⊥) → b ≡ false
 false_unless true h = absurd (h refl)
@@ -24,63 +22,7 @@ apart name a b differ is_a =
     false_unless (has_name name b) (λ is_b.
     differ ((bytes_eq-Decides a.name name).0 is_a ∙ sym ((bytes_eq-Decides b.name name).0 is_b)))
 
--- the first place of a name is its only one
-pub only_place : {T : Type 0} (name : List ℕ) (entries : List (Entry T)) (i : ℕ) → IsInOrder entries
-    → position (has_name name) entries ≡ Some i → PassesOnlyAt (has_name name) entries i
-only_place name [] i ordered found = cc
-only_place {T} name (x ∷ xs) i ordered found =
-    let at = λ (d : Entry T). position-Some (has_name name) (x ∷ xs) i d found in
-    record {
-      within = (at x).0;
-      here = λ d. (at d).1;
-      others = λ k d within other.
-          ⊎_elim
-          (λ (before : k < i). (at d).2 k before)
-          (λ (after : i ≤ k). apart name (get_or (x ∷ xs) i d) (get_or (x ∷ xs) k d) ((ordered i k d (omega arith) within).0) ((at d).1))
-          (cases_lt k i);
-    }
-
-pub no_place : {T : Type 0} (name : List ℕ) (entries : List (Entry T)) → position (has_name name) entries ≡ None
-    → All (λ e. has_name name e ≡ false) entries
-no_place name entries none k d within =
-    let past : length entries ≤ position_or_len (has_name name) entries = grind arith in
-    not-true _ (prefix_len_passes (λ e. not (has_name name e)) entries k d (omega arith))
-
-pub item_at : {T : Type 0} (name : List ℕ) (entries : List (Entry T)) (i : ℕ) (y : Entry T) → IsInOrder entries
-    → position (has_name name) entries ≡ Some i → y ≡ get_or entries i y
-    → Some y.item ≡ option_map (λ e. e.item) (entry_named name entries)
-item_at {T} name entries i y ordered found is =
-    let one = only_place name entries i ordered found in
-    rw (find-only (has_name name) entries i one y) (ap (λ (e : Entry T). Some e.item) is)
-
-pub no_item : {T : Type 0} (name : List ℕ) (entries : List (Entry T)) → position (has_name name) entries ≡ None
-    → option_map {T = Entry T} {U = T} (λ e. e.item) (entry_named name entries) ≡ None
-no_item name entries none = rw (find-none (has_name name) entries (no_place name entries none)) refl
-
-pub removed : {T : Type 0} (name : List ℕ) (entries : List (Entry T)) (i : ℕ) → IsInOrder entries
-    → position (has_name name) entries ≡ Some i → remove entries i ≡ without entries name
-removed name entries i ordered found =
-    sym (filter-only (has_name name) entries i (only_place name entries i ordered found))
-
-pub none_removed : {T : Type 0} (name : List ℕ) (entries : List (Entry T)) → position (has_name name) entries ≡ None
-    → entries ≡ without entries name
-none_removed name entries none = sym (filter-none (has_name name) entries (no_place name entries none))
-
-pub item_set : {T : Type 0} (name : List ℕ) (item : T) (entries : List (Entry T)) (i : ℕ) (y : Entry T) → IsInOrder entries
-    → position (has_name name) entries ≡ Some i → y ≡ get_or entries i y
-    → set entries i (record y { item = item }) ≡ with_item entries name item
-item_set {T} name item entries i y ordered found is =
-    let one = only_place name entries i ordered found in
-    let f : Entry T → Entry T = λ e. record e { item = item } in
-    sym (map-only (has_name name) f entries i one (f y) (λ d. ap f (is ∙ get_or_default entries i y d one.within)))
-
-pub none_set : {T : Type 0} (name : List ℕ) (item : T) (entries : List (Entry T)) → position (has_name name) entries ≡ None
-    → entries ≡ with_item entries name item
-none_set {T} name item entries none =
-    let f : Entry T → Entry T = λ e. record e { item = item } in
-    sym (map-none (has_name name) f entries (no_place name entries none))
-
-none_found : {T : Type 0} (name : List ℕ) (entries : List (Entry T))
+pub none_found : {T : Type 0} (name : List ℕ) (entries : List (Entry T))
     → IsNone (option_map {T = Entry T} {U = T} (λ e. e.item) (entry_named name entries)) → All (λ e. has_name name e ≡ false) entries
 none_found {T} name [] none = All-nil (λ (e : Entry T). has_name name e ≡ false)
 none_found {T} name (x ∷ xs) none =

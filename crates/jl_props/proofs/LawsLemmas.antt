@@ -26,7 +26,7 @@ new_step : {T : Type 0} (x : Entry T) (xs : List (Entry T)) (name : List ℕ) (n
 new_step x xs name new true fits rest none = absurd (false≢true (sym (rw fits at none)))
 new_step x xs name new false fails rest none = rw fails (rest (rw fails at none))
 
-new_found : {T : Type 0} (entries : List (Entry T)) (new : Entry T) → IsNone (entry_named new.name entries)
+pub new_found : {T : Type 0} (entries : List (Entry T)) (new : Entry T) → IsNone (entry_named new.name entries)
     → entry_named new.name (entries ++ new ∷ []) ≡ Some new
 new_found [] new none = rw (itself new.name) refl
 new_found (x ∷ xs) new none = new_step x xs new.name new (has_name new.name x) refl (new_found xs new) none
@@ -47,7 +47,7 @@ removed_step : {T : Type 0} (x : Entry T) (xs : List (Entry T)) (name : List ℕ
 removed_step x xs name true fits rest = rw fits rest
 removed_step x xs name false fails rest = rw (fails, fails) rest
 
-removed_gone : {T : Type 0} (entries : List (Entry T)) (name : List ℕ) → IsNone (entry_named name (without entries name))
+pub removed_gone : {T : Type 0} (entries : List (Entry T)) (name : List ℕ) → IsNone (entry_named name (without entries name))
 removed_gone [] name = refl
 removed_gone (x ∷ xs) name = removed_step x xs name (has_name name x) refl (removed_gone xs name)
 
@@ -70,7 +70,7 @@ more_step : {T : Type 0} (x : Entry T) (xs ys : List (Entry T)) (other : List �
 more_step x xs ys other true fits rest = rw fits refl
 more_step x xs ys other false fails rest = rw fails rest
 
-other_new : {T : Type 0} (entries : List (Entry T)) (new : Entry T) (other : List ℕ) → other ≢ new.name
+pub other_new : {T : Type 0} (entries : List (Entry T)) (new : Entry T) (other : List ℕ) → other ≢ new.name
     → entry_named other (entries ++ new ∷ []) ≡ entry_named other entries
 other_new [] new other not_same = rw (differ new.name other not_same) refl
 other_new (x ∷ xs) new other not_same = more_step x _ xs other (has_name other x) refl (other_new xs new other not_same)
@@ -95,7 +95,7 @@ other_removed_step x xs name other true not_same fits rest =
     let fails = elsewhere x name other not_same fits in rw (fits, fails) rest
 other_removed_step x xs name other false not_same fails rest = rw fails (more_step x _ xs other (has_name other x) refl rest)
 
-other_removed : {T : Type 0} (entries : List (Entry T)) (name other : List ℕ) → other ≢ name
+pub other_removed : {T : Type 0} (entries : List (Entry T)) (name other : List ℕ) → other ≢ name
     → entry_named other (without entries name) ≡ entry_named other entries
 other_removed [] name other not_same = refl
 other_removed (x ∷ xs) name other not_same =

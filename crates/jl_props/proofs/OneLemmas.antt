@@ -1,8 +1,8 @@
 -- Lists of which a test passes at one place alone, or nowhere.
 use Rattle.std.proofs.Common.{◌≡◌, refl, ap, ℕ, zero, suc, ◌<◌, Bool, true, false, not, cond, List, [], ◌∷◌, length, map, Some, None, arith}
 use Rattle.std.specs.Prelude.{◌≢◌}
-use Rattle.std.specs.List.{All, filter, find, remove}
-use Rattle.std.proofs.Math.ListN.{get_or, set}
+use Rattle.std.specs.List.{All, filter, find}
+use Rattle.std.proofs.Math.ListN.{get_or}
 
 pub filter-none : {X : Type 0} (p : X → Bool) (xs : List X) → All (λ x. p x ≡ false) xs → filter (λ x. not (p x)) xs ≡ xs
 filter-none p [] none = refl
@@ -40,20 +40,6 @@ after p x xs i one = record {
 
 first_fails : {X : Type 0} (p : X → Bool) (x : X) (xs : List X) (i : ℕ) → PassesOnlyAt p (x ∷ xs) (suc i) → p x ≡ false
 first_fails p x xs i one = one.others 0 x (omega arith) (λ e. omega arith)
-
-pub filter-only : {X : Type 0} (p : X → Bool) (xs : List X) (i : ℕ) → PassesOnlyAt p xs i → filter (λ x. not (p x)) xs ≡ remove xs i
-filter-only p [] i one = absurd (let w = one.within in omega arith)
-filter-only p (x ∷ xs) zero one = rw (one.here x) (filter-none p xs (rest p x xs one))
-filter-only p (x ∷ xs) (suc i) one =
-    rw (first_fails p x xs i one) (ap (λ l. x ∷ l) (filter-only p xs i (after p x xs i one)))
-
-pub map-only : {X : Type 0} (p : X → Bool) (f : X → X) (xs : List X) (i : ℕ) → PassesOnlyAt p xs i
-    → (y : X) → ((d : X) → y ≡ f (get_or xs i d)) → map (λ x. cond (p x) (f x) x) xs ≡ set xs i y
-map-only p f [] i one y e = absurd (let w = one.within in omega arith)
-map-only p f (x ∷ xs) zero one y e =
-    rw (one.here x, e x) (ap (λ l. f x ∷ l) (map-none p f xs (rest p x xs one)))
-map-only p f (x ∷ xs) (suc i) one y e =
-    rw (first_fails p x xs i one) (ap (λ l. x ∷ l) (map-only p f xs i (after p x xs i one) y e))
 
 pub find-only : {X : Type 0} (p : X → Bool) (xs : List X) (i : ℕ) → PassesOnlyAt p xs i → (d : X) → find p xs ≡ Some (get_or xs i d)
 find-only p [] i one d = absurd (let w = one.within in omega arith)

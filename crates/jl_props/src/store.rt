@@ -1,5 +1,5 @@
-ghost use Rattle.std.specs.Prelude.{◌≡◌, ◌+◌, ◌<◌, ℕ, [], OnOk, OnErr, IfOk, IsNone, IsSome, map, vec_len};
-ghost use Rattle.std.specs.Option.{option_copied};
+ghost use Rattle.std.specs.Prelude.{◌≡◌, ◌+◌, ◌<◌, ℕ, [], OnOk, OnErr, IfOk, IsNone, IsSome, length, map, vec_len};
+ghost use Rattle.std.specs.Option.{option_copied, option_copied_mut};
 ghost use Rattle.std.specs.List.{slice_index_or};
 
 use crate::entries::{Entries, Entry};
@@ -8,7 +8,8 @@ use std::alloc::Global;
 use std::marker::Model;
 
 /// The own properties of objects, which are numbered from 0. Contracts see the list of entries of each object and the
-/// next serial. Each call but `new` looks through the entries of the one object, in their order.
+/// next serial. A call that is given a name takes steps in the order of the logarithm of the number of entries of the one
+/// object, whatever the names are, and compares the name with so many others.
 #[derive(Drop)]
 pub struct Store<T> {
     alloc: Global,
@@ -29,6 +30,8 @@ impl<T> Model for Store<T> {
 }
 
 impl<T> Store<T> {
+    ghost use Rattle.std.specs.Borrow.{sem};
+    ghost use Rattle.jl_props.specs.Lending.{LendsItem};
     ghost use Rattle.jl_props.specs.Entries.{entry_named, name_and_serial, without};
     ghost use Rattle.jl_props.specs.Store.{entries_of, item_of, serial_of, Changes, IsWellKept};
 
@@ -52,6 +55,16 @@ impl<T> Store<T> {
         Some(&entry.item)
     }
 
+    /// What an object holds under a name, to be changed in place; the entry keeps its place and its serial.
+    pub fn get_mut(&mut self, obj: usize, name: &Text) -> Option<&mut T>
+        ensures* comes_back { sem 𝓛 (LendsItem T.row self.entry obj name.now result) }
+        ensures value { option_copied_mut result ≡ item_of self.old obj name.now }
+        ensures kept { IsWellKept self.old }
+    {
+        let entries = self.lists.get_mut(obj)?;
+        entries.item_mut(name)
+    }
+
     /// The serial of an object's entry of a name.
     pub fn serial_of(&self, obj: usize, name: &Text) -> Option<u64>
         ensures value { result ≡ serial_of self.now obj name.now }
@@ -67,6 +80,17 @@ impl<T> Store<T> {
     {
         let entries = self.lists.get(obj)?;
         entries.find(name)
+    }
+
+    /// How many entries an object has.
+    pub fn count(&self, obj: usize) -> usize
+        ensures count { result ≡ length (entries_of self.now obj) }
+        ensures kept { IsWellKept self.now }
+    {
+        match self.lists.get(obj) {
+            Some(entries) => entries.len(),
+            None => 0,
+        }
     }
 
     /// The names of an object's entries with their serials, in the order in which they were made.
@@ -110,7 +134,7 @@ impl<T: Drop> Store<T> {
         grow(&mut self.lists, self.alloc, obj)?;
         let serial = self.made.len() as u64;
         let entries = &mut self.lists[obj];
-        entries.push(Entry { name, serial, item })?;
+        entries.push(self.alloc, Entry { name, serial, item })?;
         self.made.push(0)?;
         Ok(())
     }
@@ -121,9 +145,8 @@ impl<T: Drop> Store<T> {
         requires { IsSome (item_of self.old obj name.now) }
         ensures { Changes self.old self.new obj (with_item (entries_of self.old obj) name.now item) self.old.next }
     {
-        if obj < self.lists.len() {
-            let entries = &mut self.lists[obj];
-            entries.set(name, item);
+        if let Some(place) = self.get_mut(obj, name) {
+            *place = item;
         }
     }
 }

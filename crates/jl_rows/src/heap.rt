@@ -1,14 +1,10 @@
 //! Calls of jl_heap, on one heap.
-ghost use Rattle.std.specs.Prelude.{IfOk};
-ghost use Rattle.jl_heap.specs.Define.{IsLength, IsOneKind};
-
 use crate::fault::Fault;
 use crate::inner::{inner_of, shown_inner};
 use crate::store::shown_names;
 use crate::values::{told, value_of};
 use crate::words::{shown_units, size_of, text_of};
 use jl_heap::{Change, Heap, Prop};
-use jl_num::Num;
 use jl_text::Text;
 use jl_value::{Class, ObjId, Value};
 use std::alloc::Global;
@@ -28,26 +24,22 @@ pub fn answer(alloc: Global, heap: &mut Heap, call: &str, words: &[&str]) -> Res
             &text_of(alloc, name)?,
         ),
         [class, proto, inner] if call == "object" => made(alloc, heap, class, proto, inner),
-        [id, name, value, flags] if call == "define" => {
-            defined(
-                alloc,
-                heap,
-                ObjId(size_of(id)?),
-                &text_of(alloc, name)?,
-                counting(value, flags)?,
-            )
-        }
-        [id, name, value, flags] if call == "store" => {
-            let value = value_of(alloc, value)?;
-            stored(
-                alloc,
-                heap,
-                ObjId(size_of(id)?),
-                &text_of(alloc, name)?,
-                value,
-                flags,
-            )
-        }
+        [id, name, value] => put(
+            alloc,
+            heap,
+            call,
+            ObjId(size_of(id)?),
+            &text_of(alloc, name)?,
+            value_of(alloc, value)?,
+        ),
+        [id, name, value, flags] => with_flags(
+            alloc,
+            heap,
+            call,
+            ObjId(size_of(id)?),
+            &text_of(alloc, name)?,
+            holding(alloc, value, flags)?,
+        ),
         [id, name, get, set, flags] if call == "accessor" => {
             let change = calling(get, set, flags)?;
             defined(
@@ -108,6 +100,10 @@ fn of_name(
 ) -> Result<String, Fault> {
     match call {
         "own" => shown_property(alloc, heap.own(id, name)),
+        "serial" => match heap.serial_of(id, name) {
+            Some(serial) => Ok(format!(in alloc; "{serial}")?),
+            None => Ok(String::from_str(alloc, "none")?),
+        },
         "find" => found(alloc, heap, id, name),
         "can_put" => Ok(format!(in alloc; "{}", heap.can_put(id, name))?),
         "delete" => Ok(format!(in alloc; "{}", heap.delete(id, name))?),
@@ -216,14 +212,16 @@ fn flag(flags: &str, at: usize) -> Option<bool> {
     }
 }
 
-/// A change to a count, if one is given, and of flags: `y` and `n` for writable, enumerable and configurable, `-` for what
+/// A change to a value, if one is given, and of flags: `y` and `n` for writable, enumerable and configurable, `-` for what
 /// isn't given.
-fn counting(count: &str, flags: &str) -> Result<Change, Fault>
-    ensures one_kind { IfOk result IsOneKind }
-    ensures length { IfOk result (λ c. IsLength c.value) }
-{
+fn holding(alloc: Global, value: &str, flags: &str) -> Result<Change, Fault> {
+    let value = if value == "-" {
+        None
+    } else {
+        Some(value_of(alloc, value)?)
+    };
     Ok(Change {
-        value: count_of(count)?,
+        value,
         writable: flag(flags, 0),
         get: None,
         set: None,
@@ -232,21 +230,8 @@ fn counting(count: &str, flags: &str) -> Result<Change, Fault>
     })
 }
 
-fn count_of(word: &str) -> Result<Option<Value>, Fault>
-    ensures { IfOk result IsLength }
-{
-    if word == "-" {
-        return Ok(None);
-    }
-    let count = word.parse::<u32>().ok().ok_or(Fault::Unreadable)?;
-    Ok(Some(Value::Num(Num::new(i64::from(count)).unwrap())))
-}
-
 /// A change to a getter and a setter, each an object, `none` or not given.
-fn calling(get: &str, set: &str, flags: &str) -> Result<Change, Fault>
-    ensures one_kind { IfOk result IsOneKind }
-    ensures length { IfOk result (λ c. IsLength c.value) }
-{
+fn calling(get: &str, set: &str, flags: &str) -> Result<Change, Fault> {
     Ok(Change {
         value: None,
         writable: None,
@@ -265,38 +250,83 @@ fn function_of(word: &str) -> Result<Option<Option<ObjId>>, Fault> {
     }
 }
 
+fn with_flags(
+    alloc: Global,
+    heap: &mut Heap,
+    call: &str,
+    id: ObjId,
+    name: &Text,
+    change: Change,
+) -> Result<String, Fault> {
+    match call {
+        "define" => defined(alloc, heap, id, name, change),
+        "add" => added(alloc, heap, id, name, change),
+        _ => Err(Fault::Unreadable),
+    }
+}
+
 fn defined(
     alloc: Global,
     heap: &mut Heap,
     id: ObjId,
     name: &Text,
     change: Change,
-) -> Result<String, Fault>
-    requires one_kind { IsOneKind change }
-    requires length { IsLength change.value }
-{
+) -> Result<String, Fault> {
+    if !change.is_one_kind() || !heap.fits_length(id, name, &change) {
+        return Err(Fault::Unreadable);
+    }
     Ok(format!(in alloc; "{:?}", heap.define(id, name, change)?)?)
 }
 
-/// The same to any value, on an object that is no array.
-fn stored(
+/// A data property of a name that an object has none of is made.
+fn added(
     alloc: Global,
     heap: &mut Heap,
     id: ObjId,
     name: &Text,
-    value: Value,
-    flags: &str,
+    change: Change,
 ) -> Result<String, Fault> {
-    if heap.class_of(id) == Class::Array {
+    let property = Prop::Plain {
+        value: change.value.unwrap_or(Value::Undefined),
+        writable: change.writable.unwrap_or(false),
+        enumerable: change.enumerable.unwrap_or(false),
+        configurable: change.configurable.unwrap_or(false),
+    };
+    if !heap.is_there(id) || heap.own(id, name).is_some() {
         return Err(Fault::Unreadable);
     }
-    let change = Change {
-        value: Some(value),
-        writable: flag(flags, 0),
-        get: None,
-        set: None,
-        enumerable: flag(flags, 1),
-        configurable: flag(flags, 2),
-    };
-    Ok(format!(in alloc; "{:?}", heap.define(id, name, change)?)?)
+    heap.add_property(id, name, property)?;
+    Ok(String::from_str(alloc, "added")?)
+}
+
+/// A value is put on a property, or comes back.
+fn put(
+    alloc: Global,
+    heap: &mut Heap,
+    call: &str,
+    id: ObjId,
+    name: &Text,
+    value: Value,
+) -> Result<String, Fault> {
+    match call {
+        "put" => match heap.set_value(id, name, value) {
+            Ok(()) => Ok(String::from_str(alloc, "put")?),
+            Err(value) => {
+                let value = told(alloc, &value)?;
+                Ok(format!(in alloc; "{value} came back")?)
+            }
+        },
+        "fits" => {
+            let change = Change {
+                value: Some(value),
+                writable: None,
+                get: None,
+                set: None,
+                enumerable: None,
+                configurable: None,
+            };
+            Ok(format!(in alloc; "{}", heap.fits_length(id, name, &change))?)
+        }
+        _ => Err(Fault::Unreadable),
+    }
 }

@@ -7,6 +7,7 @@ mod fault;
 mod heap;
 mod inner;
 mod numbers;
+mod plain_list;
 mod sources;
 mod store;
 mod texts;

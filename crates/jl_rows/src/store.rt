@@ -1,5 +1,6 @@
 //! Calls of jl_props, on one store of texts.
 use crate::fault::Fault;
+use crate::plain_list::compared;
 use crate::words::{shown_units, shown_words, size_of, text_of};
 use jl_props::Store;
 use jl_text::{List, Text};
@@ -15,6 +16,14 @@ pub fn answer(
         [] if call == "new" => {
             *store = Store::new(alloc);
             Ok(String::from_str(alloc, "empty")?)
+        }
+        [seed, steps] if call == "random" => {
+            let steps = steps.parse::<u32>().ok().ok_or(Fault::Unreadable)?;
+            compared(
+                alloc,
+                seed.parse::<u64>().ok().ok_or(Fault::Unreadable)?,
+                steps,
+            )
         }
         [obj] if call == "names" => shown_names(alloc, store.in_order(alloc, size_of(obj)?)?),
         [obj, name] => of_name(alloc, store, call, size_of(obj)?, text_of(alloc, name)?),

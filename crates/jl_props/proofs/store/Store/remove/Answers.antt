@@ -3,11 +3,6 @@ use Rattle.std.proofs.lemmas.List.{get_or_default}
 use Rattle.jl_props.proofs.StoreLemmas.{removed-IsWellKept}
 use Rattle.jl_props.proofs.store.Store.remove.Goals as goal
 
-pub remove-requires : goal.remove-requires
-remove-requires g c =
-    let e = c.index_mut-entries.ensures.value ∙ get_or_default c.self.inside.lists.items c.args.obj c.index_mut-entries.result.now [] (omega arith) in
-    rw e (c.self.invariant.in_order c.args.obj)
-
 pub invariant_of-self : goal.invariant_of-self
 invariant_of-self g c =
     let e = c.index_mut-entries.ensures.value ∙ get_or_default c.self.inside.lists.items c.args.obj c.index_mut-entries.result.now [] (omega arith) in

@@ -6,7 +6,7 @@ use Rattle.jl_heap.specs.Inside.{objects_inside}
 use Rattle.jl_heap.specs.Objects.{Objects}
 use Rattle.jl_heap.proofs.InsideLemmas.{own_is}
 use Rattle.jl_heap.proofs.StoreSteps.{kept_added, seen_added}
-use Rattle.jl_heap.proofs.heap.Heap.add.Goals as goal
+use Rattle.jl_heap.proofs.heap.Heap.add_property.Goals as goal
 
 pub put_new-requires : goal.put_new-requires
 put_new-requires c =
