@@ -14,11 +14,11 @@ use Rattle.jl_ast.specs.Tree.{Ident, Tree, Forest}
 use Rattle.jl_ast.specs.Tree as tree
 use Rattle.jl_ast.specs.View.{view_case, view_cases, view_declarator, view_declarators, view_entries, view_entry}
 use Rattle.jl_ast.specs.View.{view_function, view_functions, view_ident, view_statement, view_statements}
-use Rattle.jl_grammar.specs.Next.{ends_list, is_colon, is_comma, is_directive, is_identifier}
+use Rattle.jl_grammar.specs.Next.{ends_list, is_colon, is_comma, is_directive, is_identifier, is_key}
 use Rattle.jl_grammar.specs.Reader.{◌>>=◌, Deeper, Read, body_from, clauses_from, declaration_at, declarations_from}
 use Rattle.jl_grammar.specs.Reader.{elements_from, entries_from, entry_at, getter_by, is_case, is_close_brace}
 use Rattle.jl_grammar.specs.Reader.{is_close_paren, is_default, is_function, names_from, setter_by, statements_from}
-use Rattle.jl_grammar.specs.Reader.{done, ends_at, made, with_directive}
+use Rattle.jl_grammar.specs.Reader.{accessor_at, done, ends_at, made, rest_at, with_directive}
 use Rattle.jl_grammar.specs.Reads.{Code, Stmt, Stmts}
 use Rattle.jl_grammar.specs.Tokens.{ident_at, key_ident_at, terminal_at, span, strict_at}
 use Rattle.jl_parse.specs.Steps.{append, clause_of, declaration_of, with_elements}
@@ -397,7 +397,15 @@ module _ (ts : List Token) (d : Deeper) where
       let g : suc n - 1 ≡ n = omega arith in
       rw (g, e, q, body_from) (after_directive s (strict_at ts i) (body_from ts d n j))
 
-  -- the parameters of accessors
+  -- accessors
+
+  pub accessor_read : (by : ℕ → List (Ident Span) → Code → ℕ → Read (Tree Span tree.entry)) (i : ℕ)
+      (ps : List (Ident Span)) (c : Code) (j : ℕ) → is_colon (terminal_at ts (suc i)) ≡ false
+      → is_key (terminal_at ts (suc i)) ≡ true → rest_at ts d (suc (suc i)) ≡ Some ((ps, c), j)
+      → accessor_at ts d by i ≡ by i ps c j
+  unfolding accessor_at
+  accessor_read by i ps c j e f g = rw (accessor_at, e, f, g) refl
+
 
   pub getter_one : (i : ℕ) (ps : List CodeIdent) (c : Code) (j : ℕ) (f : Tree Span tree.func) (k : ℕ) → length ps ≡ 0
       → made (d.room i) (tree.function 0 None (map view_ident ps) c (span ts i j)) j done ≡ Some (f, k)

@@ -1,15 +1,16 @@
-use Rattle.std.proofs.Common.{◌≡◌, ◌∙◌, ◌&&◌, ◌||◌, ap, arith, rules, subst, suc, sym, true, false, length}
+use Rattle.std.proofs.Common.{◌≡◌, ◌∙◌, ◌&&◌, ◌||◌, ap, arith, rules, subst, suc, sym, true, false, length, map}
 use Rattle.std.specs.Prelude.{None, option_map, Some}
 use Rattle.jl_ast.specs.Tree as tree
 use Rattle.jl_ast.specs.View.{view_case, view_cases, view_declarator, view_declarators, view_expression}
-use Rattle.jl_ast.specs.View.{view_expressions}
-use Rattle.jl_grammar.specs.Next.{is_comma, is_directive}
-use Rattle.jl_grammar.specs.Reader.{declaration_at, ends_at, is_case}
+use Rattle.jl_ast.specs.View.{view_body, view_entry, view_expressions, view_function, view_ident}
+use Rattle.jl_grammar.specs.Next.{is_colon, is_comma, is_directive, is_key}
+use Rattle.jl_grammar.specs.Reader.{declaration_at, done, ends_at, getter_by, is_case, made, rest_at, setter_by}
 use Rattle.jl_grammar.specs.Reader.{is_close_brace, is_close_paren, statement_by}
-use Rattle.jl_grammar.specs.Tokens.{terminal_at, strict_at}
+use Rattle.jl_grammar.specs.Tokens.{key_ident_at, span, terminal_at, strict_at}
 use Rattle.jl_grammar.specs.declared.terminal.Terminal.TheVariants as terminals
 use Rattle.jl_parse.specs.Steps.{GivesStatement, append, clause_of, infix_operator_of, within}
-use Rattle.jl_parse.proofs.Lists.{body_more, cases_push, clauses_more, declarations_more, declarators_push}
+use Rattle.jl_parse.proofs.Lists.{accessor_read, body_more, cases_push, clauses_more, declarations_more, declarators_push, getter_one}
+use Rattle.jl_parse.proofs.Lists.{setter_one}
 use Rattle.jl_parse.proofs.Turns.{arguments_more, binary_none, expressions_push}
 use Rattle.jl_parse.proofs.+parser.Goals.{clauses::clauses-then-fresh, clauses::clauses-else-fresh}
 use Rattle.jl_parse.proofs.+parser.Goals.{functions::body-then-strict, functions::body-else-strict}
@@ -50,6 +51,46 @@ functions::body-parts-preserved t c =
     let o : ends_at ts (suc c.parts.next) ≡ Some c.in-Some.end = search rules in
     let m = body_more ts d c.parts.strict c.parts.room c.parts.next c.in-Some.end (search rules) e o in
     rw f (sym m ∙ c.parts.invariant)
+
+pub functions::getter-returns : goal.functions::getter-returns
+functions::getter-returns t c =
+    let ts = c.args.tokens.now in
+    let d = within ts c.args.depth in
+    let ps = c.in_ok-params.params in
+    let b = view_body c.in_ok-params.body in
+    let j = c.in_ok-params.end in
+    let f = view_function c.in_ok-function.function in
+    let k = c.in_ok-function.end in
+    let e : is_colon (terminal_at ts (suc c.args.at)) ≡ false = search rules in
+    let g : is_key (terminal_at ts (suc c.args.at)) ≡ true = search rules in
+    let r : rest_at ts d (suc (suc c.args.at)) ≡ Some ((map view_ident ps, b), j) = search rules in
+    let n : length ps ≡ 0 = search rules in
+    let m : made (d.room c.args.at) (tree.function 0 None (map view_ident ps) b (span ts c.args.at j)) j done ≡ Some (f, k) =
+    search rules in
+    let y : view_ident c.in_ok-key.key ≡ key_ident_at ts (suc c.args.at) = search rules in
+    let v : view_entry c.getter_entry.result ≡ tree.getter (view_ident c.in_ok-key.key) f = search rules in
+    accessor_read ts d (getter_by ts d) c.args.at (map view_ident ps) b j e g r
+    ∙ getter_one ts d c.args.at ps b j f k n m ∙ ap (λ x. Some (x, k)) (sym (v ∙ ap (λ x. tree.getter x f) y))
+
+pub functions::setter-returns : goal.functions::setter-returns
+functions::setter-returns t c =
+    let ts = c.args.tokens.now in
+    let d = within ts c.args.depth in
+    let ps = c.in_ok-params.params in
+    let b = view_body c.in_ok-params.body in
+    let j = c.in_ok-params.end in
+    let f = view_function c.in_ok-function.function in
+    let k = c.in_ok-function.end in
+    let e : is_colon (terminal_at ts (suc c.args.at)) ≡ false = search rules in
+    let g : is_key (terminal_at ts (suc c.args.at)) ≡ true = search rules in
+    let r : rest_at ts d (suc (suc c.args.at)) ≡ Some ((map view_ident ps, b), j) = search rules in
+    let n : length ps ≡ 1 = search rules in
+    let m : made (d.room c.args.at) (tree.function 0 None (map view_ident ps) b (span ts c.args.at j)) j done ≡ Some (f, k) =
+    search rules in
+    let y : view_ident c.in_ok-key.key ≡ key_ident_at ts (suc c.args.at) = search rules in
+    let v : view_entry c.setter_entry.result ≡ tree.setter (view_ident c.in_ok-key.key) f = search rules in
+    accessor_read ts d (setter_by ts d) c.args.at (map view_ident ps) b j e g r
+    ∙ setter_one ts d c.args.at ps b j f k n m ∙ ap (λ x. Some (x, k)) (sym (v ∙ ap (λ x. tree.setter x f) y))
 
 pub primary::some_arguments-parts-preserved : goal.primary::some_arguments-parts-preserved
 primary::some_arguments-parts-preserved t c =

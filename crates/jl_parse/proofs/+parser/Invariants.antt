@@ -206,7 +206,7 @@ decreases-expressions::binary-parts l = l.room
 
 abbrev pub invariant-expressions::expression-parts : goal.invariant-expressions::expression-parts
 invariant-expressions::expression-parts l =
-    (within l.tokens l.depth).expression l.no_in l.at
+    (within l.tokens l.fn.depth).expression l.no_in l.at
     ≡ comma_from l.tokens (within l.tokens l.inside) l.no_in l.room l.at (view_expression l.left.value) l.end
 
 abbrev pub decreases-expressions::expression-parts : goal.decreases-expressions::expression-parts
