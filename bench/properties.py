@@ -1,16 +1,16 @@
 #!/usr/bin/env python3
-"""Times of calls of jl_props on one object of 1,000, 10,000 and 100,000 properties, in microseconds of the processor a
-call.
+"""Times of calls of jl_props on one object of 1,000, 10,000 and 100,000 properties, in microseconds of the processor
+a call.
 
-Run it at the top of the repository after `rt run` in crates/jl_props_bench. A store finds names by an ordered map, whose
-steps grow with the logarithm of the number of names, which is 1.67 times as great at 100,000 as at 1,000. With that
-divided out no call should cost more than twice at 100,000 of what it costs at 1,000; the exit status is 1 where one does.
-That is judged where names come in their order: rising ones, and nested ones, which have a hundred units in common and so
-cost an ordered map most. Mixed ones come in another order, so that at 100,000 each step also misses the processor's
-caches; these rows are printed and not judged.
+Run it at the top of the repository after `rt run` in crates/jl_props_bench. A store finds names by an ordered map,
+whose steps grow with the logarithm of the number of names, which is 1.67 times as great at 100,000 as at 1,000. With
+that divided out no call should cost more than twice at 100,000 of what it costs at 1,000; the exit status is 1 where one
+does. That is judged where names come in their order: rising ones, and nested ones, which have a hundred units in common
+and so cost an ordered map most. Mixed ones come in another order, so that at 100,000 each step also misses the
+processor's caches; these rows are printed and not judged.
 
-A put has the look-up before it that a caller makes. To put again is to take a name out and then to put it. The last row of
-a kind is the cost of a name in a list of all names, which counts one more owner of each; its ratio is printed and not
+A put has the look-up before it that a caller makes. To put again is to take a name out and then to put it. The last row
+of a kind is the cost of a name in a list of all names, which counts one more owner of each; its ratio is printed and not
 judged either, since the names of 100,000 properties are past the caches."""
 
 import math

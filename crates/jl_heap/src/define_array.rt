@@ -20,8 +20,8 @@ impl Heap {
     /// Makes of a property what is asked of it, or rejects that (8.12.9, and 15.4.5.1 on an array). What isn't there is
     /// made; what is there gets the fields that are given. A rejected change leaves all as it was, but for a smaller
     /// `length` of an array, which is cut down to the first element from its end that can't be deleted. Where no memory
-    /// is left, all is as before. It looks up the name, and on an array `length`. To make an array shorter it looks up each
-    /// index that is given up, or each property where these are fewer.
+    /// is left, all is as before. It looks up the name, and on an array `length`. To make an array shorter it looks up
+    /// each index that is given up, or each property where these are fewer.
     pub fn define(&mut self, id: ObjId, name: &Text, change: Change) -> Result<Defined, NoMemory>
         requires one_kind { IsOneKind change }
         requires length { FitsLength self.old id.0 name.now change }
@@ -34,8 +34,8 @@ impl Heap {
         }
     }
 
-    /// Whether a change, under a name of an object, gives no value to the `length` of an array but a whole number from 0
-    /// to 4,294,967,295, as `define` asks.
+    /// Whether a change, under a name of an object, gives no value to the `length` of an array but a whole number from
+    /// 0 to 4,294,967,295, as `define` asks.
     pub fn fits_length(&self, id: ObjId, name: &Text, change: &Change) -> bool
         ensures { IsTrue result ↔ FitsLength self.now id.0 name.now change.now }
     {

@@ -92,8 +92,8 @@ impl Heap {
         units.get(index as usize).copied()
     }
 
-    /// The own property that is stored under a name (8.12.1). Its steps are in the order of the logarithm of the number of
-    /// properties of the object.
+    /// The own property that is stored under a name (8.12.1). Its steps are in the order of the logarithm of the number
+    /// of properties of the object.
     pub fn own(&self, id: ObjId, name: &Text) -> Option<&Prop>
         ensures { option_copied result ≡ own self.now id.0 name.now }
     {
@@ -133,8 +133,8 @@ impl Heap {
         self.properties.set(id.0, name, property);
     }
 
-    /// Makes a property of a name that the object has none of, without the table of 8.12.9: it needn't be extensible, and
-    /// an array's `length` stays. It comes last. Where no memory is left, all is as before.
+    /// Makes a property of a name that the object has none of, without the table of 8.12.9: it needn't be extensible,
+    /// and an array's `length` stays. It comes last. Where no memory is left, all is as before.
     pub fn add_property(&mut self, id: ObjId, name: &Text, property: Prop) -> Result<(), NoMemory>
         requires there { id.0 < length self.old.objects }
         requires free { IsNone (own self.old id.0 name.now) }

@@ -17,7 +17,8 @@ impl Heap {
     /// 3), in one look-up, or in two on an array. The value comes back where there is no such property, and for the
     /// `length` of an array and an element from its length on; then all is as before. It takes no memory.
     pub fn set_value(&mut self, id: ObjId, name: &Text, value: Value) -> Result<(), Value>
-        ensures done { OnOk result ((self.new, Done) ≡ define_own_property self.old id.0 name.now (value_change value)) }
+        ensures done { OnOk result
+            ((self.new, Done) ≡ define_own_property self.old id.0 name.now (value_change value)) }
         ensures err { OnErr result (self.new ≡ self.old) }
         ensures value_returned { IfErr result (λ v. v ≡ value) }
         ensures taken { IsOk result ↔ IsTrue (takes_value_alone self.old id.0 name.now) }

@@ -82,7 +82,8 @@ impl Heap {
     }
 
     /// Names among which are those of all elements in these bounds, with their serials. Where the object has more
-    /// properties than indices are in the bounds, as at a `pop`, these are looked up, and else all properties are listed.
+    /// properties than indices are in the bounds, as at a `pop`, these are looked up, and else all properties are
+    /// listed.
     fn elements(&self, id: ObjId, low: u32, high: u64) -> Result<List<(Text, u64)>, NoMemory>
         ensures covers { IfOk result (Covers self.now id.0 low high) }
         ensures in_order { IsInOrder (object_at self.now id.0).properties }

@@ -15,8 +15,8 @@ pub struct Entry<T> {
     pub item: T,
 }
 
-/// The entries of one object, in the order in which they were made. Contracts see that list. Names are kept in order and
-/// not hashed, so whoever chooses them can't make a call take longer than the logarithm of their number.
+/// The entries of one object, in the order in which they were made. Contracts see that list. Names are kept in order
+/// and not hashed, so whoever chooses them can't make a call take longer than the logarithm of their number.
 #[derive(Drop)]
 pub(crate) struct Entries<T> {
     /// The entries by their serials, which rise.
@@ -41,7 +41,7 @@ impl<T> Model for Entries<T> {
 impl<T> Entries<T> {
     ghost use Rattle.std.specs.Borrow.{sem};
     ghost use Rattle.jl_props.specs.Entries.{entry_named, without, name_and_serial};
-    ghost use Rattle.jl_props.specs.Lending.{LendsItemOf};
+    ghost use Rattle.jl_props.specs.inner.Lending.{LendsItemOf};
 
     pub(crate) fn new(alloc: Global) -> Entries<T>
         ensures { result ≡ [] }

@@ -8,8 +8,8 @@ use std::alloc::Global;
 use std::marker::Model;
 
 /// The own properties of objects, which are numbered from 0. Contracts see the list of entries of each object and the
-/// next serial. A call that is given a name takes steps in the order of the logarithm of the number of entries of the one
-/// object, whatever the names are, and compares the name with so many others.
+/// next serial. A call that is given a name takes steps in the order of the logarithm of the number of entries of the
+/// one object, whatever the names are, and compares the name with so many others.
 #[derive(Drop)]
 pub struct Store<T> {
     alloc: Global,

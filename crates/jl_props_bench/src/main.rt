@@ -1,5 +1,5 @@
-//! Does one kind of call of jl_props as often as its four arguments say: the call, the kind of names, how many of them, and
-//! how many turns over them. `bench/properties.py` takes the times.
+//! Does one kind of call of jl_props as often as its four arguments say: the call, the kind of names, how many of them,
+//! and how many turns over them. `bench/properties.py` takes the times.
 #![tactic(auto)]
 
 use anyhow::{Result, bail};

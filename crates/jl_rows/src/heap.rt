@@ -212,8 +212,8 @@ fn flag(flags: &str, at: usize) -> Option<bool> {
     }
 }
 
-/// A change to a value, if one is given, and of flags: `y` and `n` for writable, enumerable and configurable, `-` for what
-/// isn't given.
+/// A change to a value, if one is given, and of flags: `y` and `n` for writable, enumerable and configurable, `-` for
+/// what isn't given.
 fn holding(alloc: Global, value: &str, flags: &str) -> Result<Change, Fault> {
     let value = if value == "-" {
         None

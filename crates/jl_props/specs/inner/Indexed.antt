@@ -12,4 +12,5 @@ use Rattle.jl_props.specs.Entries.{entry_named, IsInOrder}
 pub record IsIndexed {T : Type 0} (kept : BTreeMap ℕ (Entry T)) (serials : BTreeMap (List ℕ) ℕ) : Type 0 where
   pub own_serial : All (λ p. p.0 ≡ p.1.serial) kept.entries
   pub in_order : IsInOrder (values kept)
-  pub named : (name : List ℕ) → get (slice_cmp nat_cmp) serials name ≡ option_map (λ e. e.serial) (entry_named name (values kept))
+  pub named : (name : List ℕ)
+      → get (slice_cmp nat_cmp) serials name ≡ option_map (λ e. e.serial) (entry_named name (values kept))
