@@ -352,3 +352,17 @@ fn is_use_strict(token: &Token) -> bool
         _ => false,
     }
 }
+
+/// How many brackets are open after a token, before which there are so many.
+pub fn bracket(terminal: Terminal, before: u64) -> u64
+    requires { suc before < 2 ^ 64 }
+    ensures { result ≡ bracket terminal before }
+{
+    match terminal {
+        Terminal::Punct(Punct::LeftParen | Punct::LeftBracket | Punct::LeftBrace) => before + 1,
+        Terminal::Punct(Punct::RightParen | Punct::RightBracket | Punct::RightBrace) => {
+            before.saturating_sub(1)
+        }
+        _ => before,
+    }
+}
