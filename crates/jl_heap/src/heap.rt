@@ -117,8 +117,9 @@ impl Heap {
         self.properties.set(id.0, name, property);
     }
 
-    // Stores a property of a new name.
-    pub(crate) fn add(&mut self, id: ObjId, name: &Text, property: Prop) -> Result<(), NoMemory>
+    /// Stores a property under a name that the object has no property of. It comes last. Where no memory is left, all is
+    /// as before.
+    pub fn add(&mut self, id: ObjId, name: &Text, property: Prop) -> Result<(), NoMemory>
         requires there { id.0 < length self.old.objects }
         requires free { IsNone (own self.old id.0 name.now) }
         ensures ok { OnOk result (self.new ≡ with_new_property self.old id.0 name.now property) }

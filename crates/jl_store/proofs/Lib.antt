@@ -1,0 +1,5 @@
+pub mod Seen
+pub mod Bindings
+pub mod EnvironmentSteps
+pub mod Names
+pub mod Chains

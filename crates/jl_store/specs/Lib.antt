@@ -1,0 +1,5 @@
+pub mod Environments
+pub mod Changes
+pub mod Comes
+pub mod Answers
+pub mod inner

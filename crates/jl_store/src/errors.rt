@@ -1,0 +1,46 @@
+//! The errors that the language throws by itself (15.11).
+ghost use Rattle.std.specs.Prelude.{◌≡◌, IfOk};
+ghost use Rattle.jl_meaning.specs.Intrinsics.{prototype_of_error};
+ghost use Rattle.jl_store.specs.Answers.{MakesError};
+
+use crate::store::Store;
+use crate::words::word;
+use jl_heap::{Inner, Prop};
+use jl_text::{NoMemory, Text};
+use jl_value::{Class, ErrorKind, ObjId, Value};
+
+/// The prototype of a kind of errors (15.11.7.7).
+fn prototype_of_error(kind: ErrorKind) -> ObjId
+    ensures { result ≡ prototype_of_error kind }
+{
+    match kind {
+        ErrorKind::RangeError => ObjId(9),
+        ErrorKind::ReferenceError => ObjId(10),
+        ErrorKind::TypeError => ObjId(12),
+    }
+}
+
+impl Store {
+    /// Makes a new error with its message, which is to be thrown (15.11.1.1, 15.11.7.4).
+    pub fn throw_error(&mut self, kind: ErrorKind, message: Text) -> Result<Value, NoMemory>
+        ensures { IfOk result (λ thrown. MakesError kind message self.old self.new thrown) }
+    {
+        let name = word(self.alloc, "message")?;
+        let error = self.new_object(
+            Class::Error,
+            Some(prototype_of_error(kind)),
+            Inner::Nothing,
+        )?;
+        self.add_property(
+            error,
+            &name,
+            Prop::Plain {
+                value: Value::Text(message),
+                writable: true,
+                enumerable: false,
+                configurable: true,
+            },
+        )?;
+        Ok(Value::Obj(error))
+    }
+}
