@@ -3,3 +3,5 @@ pub mod Bindings
 pub mod EnvironmentSteps
 pub mod Names
 pub mod Chains
+pub mod Steps
+pub mod Continuations

@@ -4,7 +4,7 @@ use Rattle.std.proofs.Common.{length, get_or, refl, ap, sym, ◌∙◌, subst, a
 use Rattle.std.proofs.Math.ListN.{get_or-append}
 use Rattle.std.proofs.Math.Seq.{get_or-append_seam}
 use Rattle.std.proofs.lemmas.List.{get_or-set_other, get_or-set_same, length-set}
-use Rattle.std.specs.Prelude.{if◌then◌else◌, is_some, map, option_map, IsTrue, None, Option}
+use Rattle.std.specs.Prelude.{if◌then◌else◌, is_some, map, option_map, IsNone, IsTrue, None, Option, Some}
 use Rattle.std.specs.Str.{bytes_eq}
 use Rattle.jl_props.specs.Entries.{entry_named, with_new}
 use Rattle.jl_props.specs.declared.entries.Entry.{Entry}
@@ -48,11 +48,14 @@ none_named x [] free = refl
 none_named x (e ∷ es) free = none_step x e es (bytes_eq e.name x) refl free (λ more. none_named x es more)
 
 -- a name that no property has is free
-pub is_free : {s : Store} {id : ObjId} {names : List Name} (x : Name) → HasNames s id names → IsTrue (lacks names x)
-    → IsFree s id x
-is_free {s} {id} {names} x has free =
-    let none =
-        none_named x (object_at s.heap id.0).properties (subst (λ ns. IsTrue (lacks ns x)) (sym has.named) free) in
+pub is_free : {s : Store} {id : ObjId} {names : List Name} (x : Name) {y : Name} → x ≡ y → HasNames s id names
+    → IsTrue (lacks names y) → IsFree s id x
+is_free {s} {id} {names} x {y} is has free =
+    let named : IsTrue (lacks (names_of (object_at s.heap id.0).properties) y) =
+        subst (λ ns. IsTrue (lacks ns y)) (sym has.named) free in
+    let none : entry_named x (object_at s.heap id.0).properties ≡ None =
+        subst (λ z. entry_named z (object_at s.heap id.0).properties ≡ None) (sym is)
+        (none_named y (object_at s.heap id.0).properties named) in
     record { there = has.there; free = ap (λ o. is_some (option_map (λ (e : Entry Prop). e.item) o)) none }
 
 pub is_apart : {s : Store} {id other : ObjId} {names : List Name} → HasNames s id names → other ≡ next_object s
@@ -68,10 +71,10 @@ longer : {A : Type 0} (xs : List A) (x : A) → length (xs ++ x ∷ []) ≡ leng
 longer [] x = refl
 longer (y ∷ ys) x = omega (arith, longer ys x)
 
-pub names_new : {s t : Store} {id : ObjId} {kind : Class} {proto : Option ObjId} {inner : Inner} → id ≡ next_object s
+pub names_new : (s t : Store) (id : ObjId) (kind : Class) (proto : Option ObjId) (inner : Inner) → id ≡ next_object s
     → t ≡ after (NewObject kind proto inner) s → is_array kind ≡ false → HasNames t id []
 unfolding after
-names_new {s} {t} {id} {kind} {proto} {inner} is made plain =
+names_new s t id kind proto inner is made plain =
     let heap : t.heap ≡ with_bare_object s.heap kind proto inner =
         ap (λ (u : Store). u.heap) made ∙ plain_object s.heap kind proto inner plain in
     let at : HasNames (record t { heap = with_bare_object s.heap kind proto inner }) (next_object s) [] = record {
@@ -83,11 +86,11 @@ names_new {s} {t} {id} {kind} {proto} {inner} is made plain =
     subst (λ (i : ObjId). HasNames t i []) (sym is)
     (subst (λ (h : Objects). HasNames (record t { heap = h }) (next_object s) []) (sym heap) at)
 
-pub names_beside_new : {s t : Store} {id : ObjId} {names : List Name} {kind : Class} {proto : Option ObjId}
-    {inner : Inner} → t ≡ after (NewObject kind proto inner) s → is_array kind ≡ false → HasNames s id names
+pub names_beside_new : {s : Store} {id : ObjId} {names : List Name} (t : Store) (kind : Class) (proto : Option ObjId)
+    (inner : Inner) → t ≡ after (NewObject kind proto inner) s → is_array kind ≡ false → HasNames s id names
     → HasNames t id names
 unfolding after
-names_beside_new {s} {t} {id} {names} {kind} {proto} {inner} made plain has =
+names_beside_new {s} {id} {names} t kind proto inner made plain has =
     let heap : t.heap ≡ with_bare_object s.heap kind proto inner =
         ap (λ (u : Store). u.heap) made ∙ plain_object s.heap kind proto inner plain in
     let at : HasNames (record t { heap = with_bare_object s.heap kind proto inner }) id names = record {
@@ -108,10 +111,10 @@ changed_object : Objects → ℕ → Name → Prop → Object
 changed_object heap place x p =
     record (object_at heap place) { properties = with_new (object_at heap place).properties x heap.next p }
 
-pub names_added : {s t : Store} {id : ObjId} {names : List Name} {x : Name} {p : Prop}
+names_with : {s : Store} {id : ObjId} {names : List Name} (t : Store) (x : Name) (p : Prop)
     → t ≡ after (NewProperty id x p) s → HasNames s id names → HasNames t id (names ++ x ∷ [])
 unfolding after changed_object
-names_added {s} {t} {id} {names} {x} {p} made has =
+names_with {s} {id} {names} t x p made has =
     let changed = changed_object s.heap id.0 x p in
     let at : HasNames (record s { heap = with_new_property s.heap id.0 x p }) id (names ++ x ∷ []) = record {
       there = omega (arith, has.there, length-set s.heap.objects id.0 changed);
@@ -123,10 +126,15 @@ names_added {s} {t} {id} {names} {x} {p} made has =
     } in
     subst (λ (u : Store). HasNames u id (names ++ x ∷ [])) (sym made) at
 
-pub names_beside_added : {s t : Store} {id other : ObjId} {names : List Name} {x : Name} {p : Prop}
+pub names_added : {s : Store} {id : ObjId} {names : List Name} {y : Name} (t : Store) (x : Name) (p : Prop) → x ≡ y
+    → t ≡ after (NewProperty id x p) s → HasNames s id names → HasNames t id (names ++ y ∷ [])
+names_added {s} {id} {names} t x p is made has =
+    subst (λ z. HasNames t id (names ++ z ∷ [])) is (names_with t x p made has)
+
+pub names_beside_added : {s : Store} {id : ObjId} {names : List Name} (t : Store) (other : ObjId) (x : Name) (p : Prop)
     → t ≡ after (NewProperty other x p) s → other.0 ≢ id.0 → HasNames s id names → HasNames t id names
 unfolding after changed_object
-names_beside_added {s} {t} {id} {other} {names} {x} {p} made differ has =
+names_beside_added {s} {id} {names} t other x p made differ has =
     let changed = changed_object s.heap other.0 x p in
     let at : HasNames (record s { heap = with_new_property s.heap other.0 x p }) id names = record {
       there = omega (arith, has.there, length-set s.heap.objects other.0 changed);
@@ -136,3 +144,37 @@ names_beside_added {s} {t} {id} {other} {names} {x} {p} made differ has =
           ∙ has.named;
     } in
     subst (λ (u : Store). HasNames u id names) (sym made) at
+
+stays_by : (x y : Name) (e : Entry Prop) (es : List (Entry Prop)) (serial : ℕ) (p : Prop) (same : Bool)
+    → bytes_eq e.name y ≡ same → entry_named y (e ∷ es) ≡ None
+    → (entry_named y es ≡ None → entry_named y (with_new es x serial p) ≡ None)
+    → entry_named y (with_new (e ∷ es) x serial p) ≡ None
+stays_by x y e es serial p true same none rest = let found : Some e ≡ None = rw same at none in cc
+stays_by x y e es serial p false same none rest = rw same (rest (rw same at none))
+
+name_stays : (x y : Name) (es : List (Entry Prop)) (serial : ℕ) (p : Prop) → bytes_eq x y ≡ false
+    → entry_named y es ≡ None → entry_named y (with_new es x serial p) ≡ None
+name_stays x y [] serial p differ none = rw differ refl
+name_stays x y (e ∷ es) serial p differ none =
+    stays_by x y e es serial p (bytes_eq e.name y) refl none (λ more. name_stays x y es serial p differ more)
+
+nothing_named : (o : Option (Entry Prop)) → IsNone (option_map (λ (e : Entry Prop). e.item) o) → o ≡ None
+nothing_named None none = refl
+nothing_named (Some e) none = absurd (cc)
+
+-- another name stays free
+pub still_free : {s : Store} {id : ObjId} {x' y : Name} (t : Store) (x y' : Name) (p : Prop) → x ≡ x' → y' ≡ y
+    → t ≡ after (NewProperty id x p) s → bytes_eq x' y ≡ false → IsFree s id y → IsFree t id y'
+unfolding after changed_object
+still_free {s} {id} {x'} {y} t x y' p x_is y_is made differ free =
+    let changed = changed_object s.heap id.0 x p in
+    let none = nothing_named (entry_named y (object_at s.heap id.0).properties) free.free in
+    let at : IsFree (record s { heap = with_new_property s.heap id.0 x p }) id y = record {
+      there = omega (arith, free.there, length-set s.heap.objects id.0 changed);
+      free =
+          ap (λ o. is_some (option_map (λ (e : Entry Prop). e.item) o))
+          (ap (λ (o : Object). entry_named y o.properties)
+          (get_or-set_same s.heap.objects id.0 changed absent_object free.there)
+          ∙ name_stays x y (object_at s.heap id.0).properties s.heap.next p (ap (λ z. bytes_eq z y) x_is ∙ differ) none);
+    } in
+    subst (λ z. IsFree t id z) (sym y_is) (subst (λ (u : Store). IsFree u id y) (sym made) at)

@@ -5,6 +5,7 @@ mod answer;
 mod changes;
 mod environments;
 mod errors;
+mod functions;
 mod store;
 mod words;
 
