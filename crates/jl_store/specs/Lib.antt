@@ -2,4 +2,5 @@ pub mod Environments
 pub mod Changes
 pub mod Comes
 pub mod Answers
+pub mod LookUps
 pub mod inner

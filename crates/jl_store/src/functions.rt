@@ -5,6 +5,7 @@ ghost use Rattle.jl_meaning.specs.FunctionObjects.{add_poison, create_function, 
 ghost use Rattle.jl_meaning.specs.Parts.{gives};
 ghost use Rattle.jl_store.specs.Comes.{Comes};
 
+use crate::intrinsics::{FUNCTION_PROTOTYPE, THROWER};
 use crate::store::Store;
 use crate::words::{count, word};
 use jl_heap::{Inner, Prop};
@@ -35,9 +36,6 @@ pub(crate) fn poisoned() -> Prop
     }
 }
 
-/// The function that throws a TypeError (13.2.3).
-const THROWER: ObjId = ObjId(41);
-
 impl Store {
     ghost use Rattle.std.specs.Prelude.{codes, if◌then◌else◌};
     ghost use Rattle.jl_meaning.specs.Parts.{give};
@@ -62,9 +60,9 @@ impl Store {
         let prototype = word(self.alloc, "prototype")?;
         let params = count(params)?;
         let inner = Inner::Script { function, env };
-        let f = self.new_object(Class::Function, Some(ObjId(2)), inner)?;
+        let f = self.new_object(Class::Function, Some(FUNCTION_PROTOTYPE), inner)?;
         self.add_property(f, &length, data(params, false, false, false))?;
-        let proto = self.new_object(Class::Object, Some(ObjId(0)), Inner::Nothing)?;
+        let proto = self.new_object(Class::Object, Some(ObjId::OBJECT_PROTOTYPE), Inner::Nothing)?;
         self.add_property(proto, &constructor, data(Value::Obj(f), true, false, true))?;
         self.add_property(f, &prototype, data(Value::Obj(proto), true, false, false))?;
         self.add_poison_if(strict, f)?;

@@ -19,7 +19,7 @@ pub(crate) fn word(alloc: Global, word: &str) -> Result<Text, NoMemory>
 }
 
 /// The text of units that are far fewer than a text may have.
-fn text_of(alloc: Global, units: &[u16]) -> Result<Text, NoMemory>
+pub(crate) fn text_of(alloc: Global, units: &[u16]) -> Result<Text, NoMemory>
     ensures { IfOk result (λ text. text ≡ units.now) }
 {
     match Text::from_units(alloc, units) {

@@ -1,6 +1,6 @@
 use Rattle.std.proofs.Common.{refl}
 use Rattle.jl_scope.specs.Names.{arguments_name}
-use Rattle.jl_store.proofs.Names.{still_free}
+use Rattle.jl_store.proofs.Fresh.{still_free}
 use Rattle.jl_store.proofs.Steps.{comes_added, comes_by_adding}
 use Rattle.jl_store.proofs.store.Store.add_poison.Goals as goal
 

@@ -6,7 +6,7 @@ use Rattle.jl_value.specs.declared.object.ObjId.{ObjId}
 use Rattle.jl_scope.specs.Names.{arguments_name}
 use Rattle.jl_meaning.specs.FunctionObjects.{create_function}
 use Rattle.jl_store.specs.Changes.{HasNames}
-use Rattle.jl_store.proofs.Names.{is_apart, is_free, names_added, names_beside_added, names_beside_new, names_new}
+use Rattle.jl_store.proofs.Fresh.{is_apart, is_free, names_added, names_beside_added, names_beside_new, names_new}
 use Rattle.jl_store.proofs.Continuations.{function_alone, function_with_prototype}
 use Rattle.jl_store.proofs.Chains.{comes_after}
 use Rattle.jl_store.proofs.Steps.{comes_added, comes_new, comes_to}

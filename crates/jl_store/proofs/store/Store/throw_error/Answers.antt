@@ -1,5 +1,5 @@
 use Rattle.std.proofs.Common.{refl}
-use Rattle.jl_store.proofs.Names.{is_free, names_new}
+use Rattle.jl_store.proofs.Fresh.{is_free, names_new}
 use Rattle.jl_store.proofs.store.Store.throw_error.Goals as goal
 
 pub add_property-requires : goal.add_property-requires
