@@ -21,7 +21,7 @@ use Rattle.jl_store.specs.declared.environments.Bound.{Bound}
 use Rattle.jl_store.specs.declared.environments.Environments.TheInside.{Inside}
 use Rattle.jl_store.specs.inner.Inside.{binding_of_entry, environment_with, environments_inside, environments_with}
 use Rattle.jl_store.specs.inner.Inside.{is_before, IsKept}
-use Rattle.jl_store.proofs.Bindings.{binding_found, bindings_with_new, rebound_is, unbound_stays}
+use Rattle.jl_store.proofs.BindingEntries.{binding_found, bindings_with_new, rebound_is, unbound_stays}
 use Rattle.jl_store.proofs.Seen.{environments-at, environments-past, environments-push, environments-put, environments-same}
 use Rattle.jl_store.proofs.Seen.{length-environments}
 

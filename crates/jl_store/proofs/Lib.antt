@@ -1,8 +1,9 @@
 pub mod Seen
-pub mod Bindings
+pub mod BindingEntries
 pub mod EnvironmentSteps
 pub mod Fresh
 pub mod Chains
 pub mod Steps
 pub mod Continuations
 pub mod Fuel
+pub mod Loops

@@ -4,3 +4,4 @@ pub mod Comes
 pub mod Answers
 pub mod LookUps
 pub mod inner
+pub mod Bindings

@@ -43,4 +43,13 @@ impl Store {
         )?;
         Ok(Value::Obj(error))
     }
+
+    /// The same of a TypeError.
+    pub fn throw_type_error(&mut self, message: &str) -> Result<Value, NoMemory>
+        ensures { IfOk result (λ thrown. MakesError ErrorKind.TypeError message.now self.old self.new thrown) }
+    {
+        let message = word(self.alloc, message)?;
+        let thrown = self.throw_error(ErrorKind::TypeError, message)?;
+        Ok(thrown)
+    }
 }

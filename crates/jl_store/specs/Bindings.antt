@@ -1,0 +1,24 @@
+-- Steps of declarations.
+use Rattle.std.specs.Prelude.{[], if◌then◌else◌, true, ◌∷◌, List, ℕ}
+use Rattle.jl_value.specs.declared.value.Value.{Value}
+use Rattle.jl_value.specs.declared.value.Value.TheVariants as value
+use Rattle.jl_heap.specs.Objects.{Name}
+use Rattle.jl_meaning.specs.Changes.{NewBinding}
+use Rattle.jl_meaning.specs.Parts.{change_store, give, look, ◌>>=◌, Algorithm}
+use Rattle.jl_meaning.specs.Store.{has_binding}
+
+-- one variable, which is undefined unless it is bound already (10.5, step 8)
+abbrev pub declare_variable : (env : ℕ) → Name → Algorithm (Unit {0})
+declare_variable env x = do
+  store ← look
+  if has_binding store env x
+      then give tt
+      else change_store (NewBinding env (record { name = x; value = value.Undefined; mutable = true }))
+
+abbrev pub first_or_undefined : List Value → Value
+first_or_undefined [] = value.Undefined
+first_or_undefined (v ∷ vs) = v
+
+abbrev pub after_first : List Value → List Value
+after_first [] = []
+after_first (v ∷ vs) = vs

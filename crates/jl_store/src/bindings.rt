@@ -1,0 +1,137 @@
+//! Names bound to values (10.2.1.1, 10.5).
+ghost use Rattle.std.specs.Prelude.{◌≡◌, false, if◌then◌else◌, map, true, IfOk, List as Items, OnOk};
+ghost use Rattle.std.specs.Option.{option_copied, option_map};
+ghost use Rattle.jl_effects.specs.Running.{Ends};
+ghost use Rattle.jl_meaning.specs.DeclarationBinding.{bind_parameters, declare_binding, declare_variables};
+ghost use Rattle.jl_meaning.specs.Parts.{gives};
+ghost use Rattle.jl_meaning.specs.References.{set_mutable_binding};
+ghost use Rattle.jl_meaning.specs.Store.{binding_of};
+ghost use Rattle.jl_store.specs.Answers.{answered};
+ghost use Rattle.jl_store.specs.Comes.{Comes};
+ghost use Rattle.jl_store.specs.Bindings.{after_first, declare_variable, first_or_undefined};
+
+use crate::answer::Answer;
+use crate::environments::Bound;
+use crate::store::Store;
+use jl_ast::Ident;
+use jl_text::{NoMemory, Text};
+use jl_value::{Value, share};
+use std::alloc::Global;
+
+impl Store {
+    /// Binds a name to a value, which can be changed, whether it is bound in the environment already or not (10.5).
+    pub fn declare_binding(
+        &mut self,
+        env: usize,
+        name: &Text,
+        value: Value,
+    ) -> Result<(), NoMemory>
+        ensures { OnOk result (Comes (declare_binding env name.now value) self.old self.new (Ends (gives tt))) }
+    {
+        if self.has_binding(env, name) {
+            self.set_binding(env, name, value);
+            return Ok(());
+        }
+        let bound = Bound {
+            value,
+            mutable: true,
+        };
+        self.new_binding(env, name, bound)?;
+        Ok(())
+    }
+
+    /// Binds each parameter to its argument, or to undefined. Where a name is there twice, the last one counts (10.5,
+    /// step 4).
+    pub fn bind_parameters(
+        &mut self,
+        env: usize,
+        params: &[Ident],
+        args: &[Value],
+    ) -> Result<(), NoMemory>
+        ensures { OnOk result (Comes (bind_parameters env (map (λ x. x.text) params.now) args.now) self.old self.new
+            (Ends (gives tt))) }
+    {
+        let alloc = self.alloc;
+        let mut rest = args;
+        for param in params {
+            let value = first_or_undefined(alloc, rest)?;
+            rest = after_first(rest);
+            self.declare_binding(env, &param.text, value)?;
+        }
+        Ok(())
+    }
+
+    /// Binds the variables of a function that aren't bound yet to undefined (10.5, step 8).
+    pub fn declare_variables(&mut self, env: usize, names: &[Text]) -> Result<(), NoMemory>
+        ensures { OnOk result (Comes (declare_variables env names.now) self.old self.new (Ends (gives tt))) }
+    {
+        for name in names {
+            self.declare_variable(env, name)?;
+        }
+        Ok(())
+    }
+
+    /// The same of one variable.
+    fn declare_variable(&mut self, env: usize, name: &Text) -> Result<(), NoMemory>
+        ensures { OnOk result (Comes (declare_variable env name.now) self.old self.new (Ends (gives tt))) }
+    {
+        if self.has_binding(env, name) {
+            return Ok(());
+        }
+        let bound = Bound {
+            value: Value::Undefined,
+            mutable: true,
+        };
+        self.new_binding(env, name, bound)?;
+        Ok(())
+    }
+
+    /// Gives a binding another value, if it can be changed (10.2.1.1.3). Where it can't, that throws in strict code, and
+    /// else nothing is done.
+    #[tactic(auto, using(crate::proofs::Chains::error_comes))]
+    pub fn set_mutable_binding(
+        &mut self,
+        strict: bool,
+        env: usize,
+        name: &Text,
+        value: Value,
+    ) -> Result<Answer<()>, NoMemory>
+        ensures { IfOk result (λ answer.
+            Comes (set_mutable_binding strict env name.now value (binding_of self.old env name.now)) self.old self.new
+            (answered answer)) }
+    {
+        let mutable = match self.binding(env, name) {
+            Some(bound) => bound.mutable,
+            None => return Ok(Answer::Gives(())),
+        };
+        if mutable {
+            self.set_binding(env, name, value);
+            return Ok(Answer::Gives(()));
+        }
+        if !strict {
+            return Ok(Answer::Gives(()));
+        }
+        let thrown = self.throw_type_error("cannot write")?;
+        Ok(Answer::Throws(thrown))
+    }
+}
+
+/// The first of these values, or undefined where there is none.
+fn first_or_undefined(alloc: Global, values: &[Value]) -> Result<Value, NoMemory>
+    ensures { IfOk result (λ value. value ≡ first_or_undefined values.now) }
+{
+    match values.first() {
+        Some(value) => share(alloc, value),
+        None => Ok(Value::Undefined),
+    }
+}
+
+/// The values but the first.
+fn after_first(values: &[Value]) -> &[Value]
+    ensures { result.now ≡ after_first values.entry.now }
+{
+    match values.split_first() {
+        Some((_, others)) => others,
+        None => values,
+    }
+}
