@@ -7,3 +7,6 @@ pub mod Steps
 pub mod Continuations
 pub mod Fuel
 pub mod Loops
+pub mod Trees
+pub mod MadeFunctions
+pub mod Defined

@@ -5,3 +5,5 @@ pub mod Answers
 pub mod LookUps
 pub mod inner
 pub mod Bindings
+pub mod Plain
+pub mod Defining

@@ -28,6 +28,7 @@ impl Store {
     ) -> Result<ObjId, NoMemory>
         ensures next { IfOk result (λ id. id ≡ next_object self.old) }
         ensures made { OnOk result (self.new ≡ after (NewObject class proto inner) self.old) }
+        ensures rest { OnOk result (self.new.environments ≡ self.old.environments) }
         ensures err { OnErr result (self.new ≡ self.old) }
     {
         self.heap.new_object(class, proto, inner)
@@ -38,6 +39,7 @@ impl Store {
     pub fn add_property(&mut self, id: ObjId, name: &Text, property: Prop) -> Result<(), NoMemory>
         requires { IsFree self.old id name.now }
         ensures made { OnOk result (self.new ≡ after (NewProperty id name.now property) self.old) }
+        ensures rest { OnOk result (self.new.environments ≡ self.old.environments) }
         ensures err { OnErr result (self.new ≡ self.old) }
     {
         self.heap.add(id, name, property)

@@ -5,11 +5,14 @@ ghost use Rattle.jl_meaning.specs.FunctionObjects.{add_poison, create_function, 
 ghost use Rattle.jl_meaning.specs.Parts.{gives};
 ghost use Rattle.jl_store.specs.Comes.{Comes};
 
+use crate::environments::Bound;
 use crate::intrinsics::{FUNCTION_PROTOTYPE, THROWER};
 use crate::store::Store;
 use crate::words::{count, word};
+use jl_ast::Function;
 use jl_heap::{Inner, Prop};
-use jl_text::NoMemory;
+use jl_scope::is_strict;
+use jl_text::{NoMemory, Text};
 use jl_value::{Class, ObjId, Value};
 
 /// A data property.
@@ -37,10 +40,12 @@ pub(crate) fn poisoned() -> Prop
 }
 
 impl Store {
-    ghost use Rattle.std.specs.Prelude.{codes, if◌then◌else◌};
+    ghost use Rattle.std.specs.Prelude.{codes, if◌then◌else◌, Some};
     ghost use Rattle.jl_meaning.specs.Parts.{give};
     ghost use Rattle.jl_scope.specs.Names.{arguments_name};
+    ghost use Rattle.jl_meaning.specs.FunctionObjects.{make_function, make_function_expression, make_named};
     ghost use Rattle.jl_store.specs.Changes.{IsFree};
+    ghost use Rattle.jl_store.specs.Plain.{plain_function};
 
     /// Creates a function object for a function of the script in an environment, with its length, and with a prototype
     /// whose constructor it is (13.2).
@@ -52,8 +57,9 @@ impl Store {
         params: usize,
         env: usize,
     ) -> Result<ObjId, NoMemory>
-        ensures { IfOk result (λ f. Comes (create_function strict function params env) self.old self.new
+        ensures made { IfOk result (λ f. Comes (create_function strict function params env) self.old self.new
             (Ends (gives f))) }
+        ensures rest { OnOk result (self.new.environments ≡ self.old.environments) }
     {
         let length = word(self.alloc, "length")?;
         let constructor = word(self.alloc, "constructor")?;
@@ -72,7 +78,9 @@ impl Store {
     fn add_poison_if(&mut self, strict: bool, f: ObjId) -> Result<(), NoMemory>
         requires caller { IsFree self.old f (codes "caller") }
         requires arguments { IsFree self.old f arguments_name }
-        ensures { OnOk result (Comes (if strict then add_poison f else give tt) self.old self.new (Ends (gives tt))) }
+        ensures made { OnOk result (Comes (if strict then add_poison f else give tt) self.old self.new
+            (Ends (gives tt))) }
+        ensures rest { OnOk result (self.new.environments ≡ self.old.environments) }
     {
         if strict {
             self.add_poison(f)?;
@@ -85,12 +93,71 @@ impl Store {
     pub fn add_poison(&mut self, f: ObjId) -> Result<(), NoMemory>
         requires caller { IsFree self.old f (codes "caller") }
         requires arguments { IsFree self.old f arguments_name }
-        ensures { OnOk result (Comes (add_poison f) self.old self.new (Ends (gives tt))) }
+        ensures made { OnOk result (Comes (add_poison f) self.old self.new (Ends (gives tt))) }
+        ensures rest { OnOk result (self.new.environments ≡ self.old.environments) }
     {
         let caller = word(self.alloc, "caller")?;
         let arguments = word(self.alloc, "arguments")?;
         self.add_property(f, &caller, poisoned())?;
         self.add_property(f, &arguments, poisoned())?;
         Ok(())
+    }
+
+    /// Makes a function object for a function of the script, in code that is strict or not (13.2).
+    #[tactic(auto, using(jl_ast::proofs::Views::nodes, crate::proofs::Trees::plain_is))]
+    pub fn make_function(
+        &mut self,
+        outer_strict: bool,
+        env: usize,
+        f: &Function,
+    ) -> Result<ObjId, NoMemory>
+        ensures made { IfOk result (λ id. Comes (make_function outer_strict env (plain_function f.now)) self.old self.new
+            (Ends (gives id))) }
+        ensures rest { OnOk result (self.new.environments ≡ self.old.environments) }
+    {
+        let strict = is_strict(outer_strict, &f.body);
+        let id = self.create_function(strict, f.number, f.params.len(), env)?;
+        Ok(id)
+    }
+
+    /// Makes a function object for a function expression. One with a name has an environment in which the name is bound,
+    /// and can't be changed (clause 13).
+    #[tactic(auto, using(jl_ast::proofs::Views::nodes, crate::proofs::Trees::plain_is))]
+    pub fn make_function_expression(
+        &mut self,
+        outer_strict: bool,
+        env: usize,
+        f: &Function,
+    ) -> Result<ObjId, NoMemory>
+        ensures { IfOk result (λ id. Comes (make_function_expression outer_strict env (plain_function f.now)) self.old
+            self.new (Ends (gives id))) }
+    {
+        match &f.name {
+            None => {
+                let id = self.make_function(outer_strict, env, f)?;
+                Ok(id)
+            }
+            Some(name) => Ok(self.make_named(outer_strict, env, f, &name.text)?),
+        }
+    }
+
+    fn make_named(
+        &mut self,
+        outer_strict: bool,
+        env: usize,
+        f: &Function,
+        name: &Text,
+    ) -> Result<ObjId, NoMemory>
+        ensures { IfOk result (λ id. Comes (make_named outer_strict env (plain_function f.now) (Some name.now)) self.old
+            self.new (Ends (gives id))) }
+    {
+        let inside = self.new_environment(env)?;
+        let id = self.make_function(outer_strict, inside, f)?;
+        let bound = Bound {
+            value: Value::Obj(id),
+            mutable: false,
+        };
+        self.new_binding(inside, name, bound)?;
+        Ok(id)
     }
 }

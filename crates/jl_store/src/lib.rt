@@ -3,6 +3,7 @@
 
 mod answer;
 mod changes;
+mod defining;
 mod environments;
 mod errors;
 mod found;
@@ -10,6 +11,7 @@ mod functions;
 mod inner;
 mod intrinsics;
 mod bindings;
+mod name_set;
 mod names;
 mod objects;
 mod properties;

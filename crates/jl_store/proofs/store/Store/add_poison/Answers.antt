@@ -10,8 +10,8 @@ add_property-requires-2 c =
     still_free _ _ _ _ c.in_ok-caller.ensures c.in_ok-arguments.ensures c.in_ok-add_property.ensures.made refl
     c.requires.arguments
 
-pub returns : goal.returns
+pub returns-clause-made : goal.returns-clause-made
 unfolding arguments_name
-returns c =
+returns-clause-made c =
     comes_added c.args.f c.in_ok-caller.ensures c.poisoned.ensures c.in_ok-add_property.ensures.made
     (comes_by_adding c.args.f c.in_ok-arguments.ensures c.poisoned-2.ensures c.in_ok-add_property-2.ensures.made)
