@@ -10,3 +10,5 @@ pub mod Loops
 pub mod Trees
 pub mod MadeFunctions
 pub mod Defined
+pub mod IndexNames
+pub mod MappedNames

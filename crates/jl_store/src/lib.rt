@@ -10,6 +10,7 @@ mod found;
 mod functions;
 mod inner;
 mod intrinsics;
+mod arguments;
 mod bindings;
 mod name_set;
 mod names;
