@@ -1,10 +1,10 @@
 -- Names of indices differ, and are no words.
 use Rattle.std.proofs.Common.{◌≡◌, ◌≢◌, ◌∙◌, ℕ, zero, suc, ◌+◌, ◌<◌, ◌≤◌, ◌/◌, ◌%◌, Bool, true, false, List, [], ◌∷◌, ◌++◌}
 use Rattle.std.proofs.Common.{ap, arith, refl, subst, sym, ⊎_elim}
-use Rattle.std.proofs.lemmas.Bool.{cases_lt}
+use Rattle.std.proofs.lemmas.Bool.{cases_lt, ltb-true}
 use Rattle.std.proofs.lemmas.Bool.Decides.{nat_tests}
 use Rattle.std.proofs.lemmas.Slice.Eq.{bytes_eq-Decides}
-use Rattle.std.specs.Prelude.{if◌then◌else◌, IsTrue}
+use Rattle.std.specs.Prelude.{if◌then◌else◌, nat_lt, IsTrue}
 use Rattle.std.specs.Str.{bytes_eq}
 use Rattle.std.specs.Str.Parse.{digits_value}
 use Rattle.jl_num.specs.Digits.{digit_code, digits_of, digits_within}
@@ -42,13 +42,19 @@ low_digits (suc places) n =
     (code_low (n % 10) (omega arith), tt)))
     (cases_lt n 10)
 
--- a word that begins past the digits is no name of an index
-pub no_index : (c : ℕ) (w : List ℕ) (n : ℕ) → 58 ≤ c → bytes_eq (index_name n) (c ∷ w) ≡ false
-no_index c w n past =
+-- whether a word begins past the digits
+abbrev pub is_word : Name → Bool
+is_word [] = false
+is_word (c ∷ w) = nat_lt 57 c
+
+-- such a word is no name of an index
+no_index : (x : Name) (n : ℕ) → IsTrue (is_word x) → bytes_eq (index_name n) x ≡ false
+no_index [] n word = absurd (cc)
+no_index (c ∷ w) n word =
     false_unless _ (λ same.
     let is : index_name n ≡ c ∷ w = (bytes_eq-Decides (index_name n) (c ∷ w)).0 same in
     let low : Low (c ∷ w) = subst Low is (low_digits (n + 1) n) in
-    omega (arith, past, low.0))
+    omega (arith, ltb-true 57 c word, low.0))
 
 pub indices_differ : (n m : ℕ) → n ≢ m → bytes_eq (index_name n) (index_name m) ≡ false
 indices_differ n m differ =
@@ -58,14 +64,14 @@ indices_differ n m differ =
     ∙ ap (digits_value 10) is
     ∙ (digits_write_numbers 10 m (omega arith) (omega arith)).value))
 
+lacks_by : (l : List Name) (y x : Name) (same : Bool) → (IsTrue (lacks l x) → IsTrue (lacks (l ++ y ∷ []) x))
+    → IsTrue (if same then false else lacks l x) → IsTrue (if same then false else lacks (l ++ y ∷ []) x)
+lacks_by l y x true more free = free
+lacks_by l y x false more free = more free
+
 lacks_more : (l : List Name) (y x : Name) → IsTrue (lacks l x) → bytes_eq y x ≡ false → IsTrue (lacks (l ++ y ∷ []) x)
 lacks_more [] y x free differ = rw differ refl
-lacks_more (z ∷ l) y x free differ = by (bytes_eq z x) refl free
-  where
-    by : (same : Bool) → bytes_eq z x ≡ same → IsTrue (if same then false else lacks l x)
-        → IsTrue (if same then false else lacks (l ++ y ∷ []) x)
-    by true e h = h
-    by false e h = lacks_more l y x h differ
+lacks_more (z ∷ l) y x free differ = lacks_by l y x (bytes_eq z x) (λ more. lacks_more l y x more differ) free
 
 no_length : (m : ℕ) → bytes_eq length_name (index_name m) ≡ false
 unfolding length_name
@@ -86,8 +92,8 @@ pub lacks_next : (n : ℕ) → IsTrue (lacks (names_with n) (index_name n))
 lacks_next n = lacks_later n n (omega arith)
 
 -- nor is a word that begins past the digits
-pub lacks_word : (n c : ℕ) (w : List ℕ) → 58 ≤ c → bytes_eq length_name (c ∷ w) ≡ false
-    → IsTrue (lacks (names_with n) (c ∷ w))
-lacks_word zero c w past differ = rw differ refl
-lacks_word (suc n) c w past differ =
-    lacks_more (names_with n) (index_name n) (c ∷ w) (lacks_word n c w past differ) (no_index c w n past)
+pub lacks_word : (n : ℕ) (x : Name) → IsTrue (is_word x) → bytes_eq length_name x ≡ false
+    → IsTrue (lacks (names_with n) x)
+lacks_word zero x word differ = rw differ refl
+lacks_word (suc n) x word differ =
+    lacks_more (names_with n) (index_name n) x (lacks_word n x word differ) (no_index x n word)

@@ -12,3 +12,4 @@ pub mod MadeFunctions
 pub mod Defined
 pub mod IndexNames
 pub mod MappedNames
+pub mod DeclaredBodies

@@ -1,13 +1,15 @@
 -- The names that indices are mapped to, from the last one on.
-use Rattle.std.proofs.Common.{◌≡◌, ◌∙◌, ℕ, zero, suc, ◌+◌, ◌<◌, Bool, true, false, not, ◌||◌, List, [], ◌∷◌, ◌++◌, length}
-use Rattle.std.proofs.Common.{ap, arith, drop, get_or, refl, sym}
+use Rattle.std.proofs.Common.{◌≡◌, ◌∙◌, ℕ, zero, suc, ◌+◌, ◌<◌, ◌≤◌, Bool, true, false, not, ◌||◌, List, [], ◌∷◌, ◌++◌, length}
+use Rattle.std.proofs.Common.{ap, arith, drop, drop-cons, get_or, length-append, refl, subst, sym}
 use Rattle.std.proofs.Math.ListN.{set}
 use Rattle.std.specs.Prelude.{None, Option, Some, if◌then◌else◌}
+use Rattle.jl_ast.specs.declared.tree.Ident.{Ident}
 use Rattle.jl_scope.proofs.Binding.{with_one}
 use Rattle.jl_scope.specs.Names.{among, same_text, with_name}
 use Rattle.jl_scope.specs.inner.NameSets.{SameNames}
 use Rattle.jl_heap.specs.Objects.{Name}
 use Rattle.jl_meaning.specs.ArgumentsObject.{mapped_names}
+use Rattle.jl_store.specs.Plain.{names_of}
 use Rattle.jl_store.specs.inner.Arguments.{unmapped}
 
 pub one_more : (n : ℕ) → unmapped n ++ None ∷ [] ≡ unmapped (suc n)
@@ -42,3 +44,61 @@ pub same_with : (set rest after : List Name) (x : Name) → SameNames set rest �
     → SameNames after (x ∷ rest)
 same_with set rest after x same added z =
     added z ∙ with_one z x set ∙ ap (λ b. b || same_text z x) (same z) ∙ or_comm (among z rest) (same_text z x)
+
+pub pushed : (xs ys : List (Option Name)) → ys ≡ xs ++ None ∷ [] → xs ≡ unmapped (length xs)
+    → ys ≡ unmapped (length ys)
+pushed xs ys is all =
+    let longer : suc (length xs) ≡ length ys = omega (arith, ap length is, length-append xs (None ∷ [])) in
+    is ∙ ap (λ l. l ++ None ∷ []) all ∙ one_more (length xs) ∙ ap unmapped longer
+
+pub longer_by_one : (xs ys : List (Option Name)) → ys ≡ xs ++ None ∷ [] → length ys ≡ length xs + 1
+longer_by_one xs ys is = omega (arith, ap length is, length-append xs (None ∷ []))
+
+not_true : (b c : Bool) → c ≡ not b → c ≡ true → b ≡ false
+not_true true c is e = absurd (cc)
+not_true false c is e = refl
+
+not_false : (b c : Bool) → c ≡ not b → c ≡ false → b ≡ true
+not_false true c is e = refl
+not_false false c is e = absurd (cc)
+
+-- one parameter nearer to the first
+module _ (k : ℕ) (params : List Ident) (p : Ident) (names : List (Option Name)) (later : List Name) (units : Name)
+    (added : Bool) (within : k < length params) (is : p ≡ get_or params k p)
+    (mapped : names ≡ unmapped (suc k) ++ mapped_names (names_of (drop (suc k) params)))
+    (same : SameNames later (names_of (drop (suc k) params))) (as_units : units ≡ p.text)
+    (added_is : added ≡ not (among units later)) where
+  split : names_of (drop k params) ≡ p.text ∷ names_of (drop (suc k) params)
+  split = ap names_of (drop-cons params k p within ∙ ap (λ q. q ∷ drop (suc k) params) (sym is))
+
+  among_is : (b : Bool) → among units later ≡ b → among p.text (names_of (drop (suc k) params)) ≡ b
+  among_is b e = sym (same p.text) ∙ ap (λ x. among x later) (sym as_units) ∙ e
+
+  pub mapped_new : (x : Name) → x ≡ p.text → added ≡ true
+      → set names k (Some x) ≡ unmapped k ++ mapped_names (names_of (drop k params))
+  mapped_new x x_is new =
+      ap (λ l. set l k (Some x)) mapped
+      ∙ ap (λ y. set (unmapped (suc k) ++ mapped_names (names_of (drop (suc k) params))) k (Some y)) x_is
+      ∙ mapped_last k p.text (names_of (drop (suc k) params)) (among_is false (not_true _ added added_is new))
+      ∙ ap (λ l. unmapped k ++ mapped_names l) (sym split)
+
+  pub mapped_old : added ≡ false → names ≡ unmapped k ++ mapped_names (names_of (drop k params))
+  mapped_old old =
+      mapped
+      ∙ mapped_again k p.text (names_of (drop (suc k) params)) (among_is true (not_false _ added added_is old))
+      ∙ ap (λ l. unmapped k ++ mapped_names l) (sym split)
+
+  pub same_before : (after : List Name) → SameNames after (with_name later units)
+      → SameNames after (names_of (drop k params))
+  same_before after with_it =
+      subst (λ l. SameNames after l) (sym split)
+      (same_with later (names_of (drop (suc k) params)) after p.text same
+      (subst (λ x. SameNames after (with_name later x)) as_units with_it))
+
+length-unmapped : (n : ℕ) → length (unmapped n) ≡ n
+length-unmapped zero = refl
+length-unmapped (suc n) = ap suc (length-unmapped n)
+
+pub within_mapped : (n : ℕ) (names l : List (Option Name)) → names ≡ unmapped n ++ l → n ≤ length names
+within_mapped n names l is =
+    omega (arith, ap length is, length-append (unmapped n) l, length-unmapped n)

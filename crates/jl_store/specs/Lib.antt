@@ -7,3 +7,4 @@ pub mod inner
 pub mod Bindings
 pub mod Plain
 pub mod Defining
+pub mod Declarations

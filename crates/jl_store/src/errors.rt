@@ -1,12 +1,12 @@
 //! The errors that the language throws by itself (15.11).
 ghost use Rattle.std.specs.Prelude.{◌≡◌, IfOk};
 ghost use Rattle.jl_meaning.specs.Intrinsics.{prototype_of_error};
-ghost use Rattle.jl_store.specs.Answers.{MakesError};
+ghost use Rattle.jl_store.specs.Answers.{IsNotDefined, MakesError};
 
 use crate::store::Store;
 use crate::words::word;
 use jl_heap::{Inner, Prop};
-use jl_text::{NoMemory, Text};
+use jl_text::{NoMemory, Text, TextFault};
 use jl_value::{Class, ErrorKind, ObjId, Value};
 
 /// The prototype of a kind of errors (15.11.7.7).
@@ -52,4 +52,28 @@ impl Store {
         let thrown = self.throw_error(ErrorKind::TypeError, message)?;
         Ok(thrown)
     }
+
+    /// Makes the error that nothing binds a name, to be thrown (8.7.1, 8.7.2), or gives up where its message would be too
+    /// long.
+    pub fn throw_not_defined(&mut self, name: &Text) -> Result<NotDefined, NoMemory>
+        ensures { IfOk result (λ answer. IsNotDefined name.now self.old self.new answer) }
+    {
+        let rest = word(self.alloc, " is not defined")?;
+        match Text::concat(self.alloc, name, &rest) {
+            Ok(message) => {
+                let thrown = self.throw_error(ErrorKind::ReferenceError, message)?;
+                Ok(NotDefined::Throws(thrown))
+            }
+            Err(TextFault::TooLong) => Ok(NotDefined::TooLong),
+            Err(TextFault::NoMemory) => Err(NoMemory),
+        }
+    }
+}
+
+/// What comes of a name that nothing binds.
+#[derive(Drop)]
+pub enum NotDefined {
+    Throws(Value),
+    /// The message would have more units than a string of a run may have.
+    TooLong,
 }

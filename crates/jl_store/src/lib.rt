@@ -3,6 +3,7 @@
 
 mod answer;
 mod changes;
+mod declarations;
 mod defining;
 mod environments;
 mod errors;
@@ -20,8 +21,10 @@ mod prototypes;
 mod store;
 mod words;
 
-pub use answer::Answer;
+pub use answer::{AlgorithmFault, Answer, Finished};
+pub use declarations::Declared;
 pub use environments::Bound;
+pub use errors::NotDefined;
 pub use found::{Found, Property, can_put};
 pub use inner::{has_call, has_construct, script_number};
 pub use names::Reference;
