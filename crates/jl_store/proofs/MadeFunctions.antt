@@ -1,15 +1,18 @@
 -- Functions that are made in an environment of their own.
-use Rattle.std.proofs.Common.{◌≡◌, ◌∙◌, ◌++◌, ◌∷◌, ℕ, Bool, List, false, get_or, [], ap, subst, sym}
+use Rattle.std.proofs.Common.{◌≡◌, ◌∙◌, ◌++◌, ◌∷◌, ℕ, Bool, List, false, true, get_or, [], ap, refl, subst, sym}
 use Rattle.std.proofs.Math.Seq.{get_or-append_seam}
 use Rattle.std.specs.Prelude.{is_some, IsNone, None, Option, Some}
 use Rattle.jl_value.specs.declared.object.ObjId.{ObjId}
+use Rattle.jl_value.specs.declared.value.Value.{Value}
 use Rattle.jl_value.specs.declared.value.Value.TheVariants as value
 use Rattle.jl_heap.specs.Objects.{Name}
 use Rattle.jl_effects.specs.Running.{Ends, Finish}
 use Rattle.jl_meaning.specs.Changes.{outer_there, NewBinding, NewEnvironment}
 use Rattle.jl_meaning.specs.FunctionObjects.{function_name, make_function, make_function_expression, make_named}
-use Rattle.jl_meaning.specs.Parts.{change_store, give, gives, ◌>>=◌, Algorithm, AlgorithmFault, Answer, Func}
+use Rattle.jl_meaning.specs.Parts.{change_store, give, gives, lift, ◌>>=◌, Algorithm, AlgorithmFault, Answer, Func}
 use Rattle.jl_meaning.specs.Store.{binding_named, binding_of, next_environment, no_environment, Environment, Store}
+use Rattle.jl_meaning.specs.forms.Try.{enter_catch}
+use Rattle.jl_store.specs.Bindings.{catch_environment}
 use Rattle.jl_store.specs.Changes.{after}
 use Rattle.jl_store.specs.Comes.{leads, Comes}
 use Rattle.jl_store.proofs.Chains.{comes_on}
@@ -33,6 +36,11 @@ with_name env x id = do
   _ ← change_store (NewBinding env (record { name = x; value = value.Obj id; mutable = false }))
   give id
 
+abbrev in_catch : (env : ℕ) → Name → Value → Algorithm ℕ
+in_catch env x v = do
+  _ ← change_store (NewBinding env (record { name = x; value = v; mutable = true }))
+  give env
+
 pub named_comes : (outer : Bool) (env inside : ℕ) (f : Func) (x : Name) (s t u v : Store) (id : ObjId)
     → inside ≡ next_environment s → t ≡ after (NewEnvironment env) s
     → Comes (make_function outer inside f) t u (Ends (gives id))
@@ -55,3 +63,20 @@ pub expression_comes : (outer : Bool) (env : ℕ) (f : Func) (x : Option Name) (
 unfolding make_function_expression
 expression_comes outer env f x s t id is comes =
     subst (λ o. Comes (make_named outer env f o) s t (Ends (gives id))) (sym is) comes
+
+-- the environment of a `catch` is that of the language
+pub catch_is : (env : ℕ) (x : Name) (v : Value) → lift (catch_environment env x v) ≡ enter_catch env x v
+catch_is env x v = refl
+
+pub catch_comes : (env inside : ℕ) (x : Name) (v : Value) (s t u : Store) → inside ≡ next_environment s
+    → t ≡ after (NewEnvironment env) s
+    → u ≡ after (NewBinding inside (record { name = x; value = v; mutable = true })) t
+    → Comes (catch_environment env x v) s u (Ends (gives inside))
+catch_comes env inside x v s t u is made bound =
+    let all : Comes (change_store (NewEnvironment env) >>= (λ _. in_catch inside x v)) s u (Ends (gives inside)) =
+        comes_changed _ made (comes_changed _ bound comes_to) in
+    record {
+      leads =
+          subst (λ k. leads (change_store (NewEnvironment env) >>= (λ _. in_catch k x v)) s u (Ends (gives inside))) is
+          all.leads;
+    }

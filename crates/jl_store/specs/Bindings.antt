@@ -3,9 +3,9 @@ use Rattle.std.specs.Prelude.{[], if◌then◌else◌, true, ◌∷◌, List, �
 use Rattle.jl_value.specs.declared.value.Value.{Value}
 use Rattle.jl_value.specs.declared.value.Value.TheVariants as value
 use Rattle.jl_heap.specs.Objects.{Name}
-use Rattle.jl_meaning.specs.Changes.{NewBinding}
+use Rattle.jl_meaning.specs.Changes.{NewBinding, NewEnvironment}
 use Rattle.jl_meaning.specs.Parts.{change_store, give, look, ◌>>=◌, Algorithm}
-use Rattle.jl_meaning.specs.Store.{has_binding}
+use Rattle.jl_meaning.specs.Store.{has_binding, next_environment}
 
 -- one variable, which is undefined unless it is bound already (10.5, step 8)
 abbrev pub declare_variable : (env : ℕ) → Name → Algorithm (Unit {0})
@@ -22,3 +22,11 @@ first_or_undefined (v ∷ vs) = v
 abbrev pub after_first : List Value → List Value
 after_first [] = []
 after_first (v ∷ vs) = vs
+
+-- the environment of a `catch` block, as an algorithm: `enter_catch` of the language (12.14)
+abbrev pub catch_environment : (env : ℕ) → Name → Value → Algorithm ℕ
+catch_environment env x v = do
+  store ← look
+  _ ← change_store (NewEnvironment env)
+  _ ← change_store (NewBinding (next_environment store) (record { name = x; value = v; mutable = true }))
+  give (next_environment store)

@@ -1,10 +1,14 @@
 -- What becomes of a parameter when the index that is mapped to it has been defined, by what was asked for (10.6,
 -- [[DefineOwnProperty]], step 5).
-use Rattle.std.specs.Prelude.{if◌then◌else◌, Bool, None, Option, Some, ℕ}
+use Rattle.std.specs.Prelude.{if◌then◌else◌, ◌≡◌, Bool, false, IsTrue, None, Option, Some, ℕ}
+use Rattle.std.specs.Option.{option_map_or}
+use Rattle.std.specs.Str.{bytes_eq}
 use Rattle.jl_value.specs.Indices.{index_of}
 use Rattle.jl_value.specs.declared.object.ObjId.{ObjId}
 use Rattle.jl_value.specs.declared.value.Value.{Value}
-use Rattle.jl_heap.specs.Objects.{Name}
+use Rattle.jl_conv.specs.Conversions.{is_object}
+use Rattle.jl_heap.specs.Define.{is_array, length_name}
+use Rattle.jl_heap.specs.Objects.{object_at, Name, Objects}
 use Rattle.jl_heap.specs.Property.{is_accessor}
 use Rattle.jl_heap.specs.declared.property.Change.{Change}
 use Rattle.jl_meaning.specs.Defining.{end_mapping, makes_read_only, set_parameter}
@@ -36,3 +40,9 @@ remapping_of change parameter = record {
 abbrev pub remapped_if : ObjId → Name → Option Remapping → Algorithm (Unit {0})
 remapped_if id x None = give tt
 remapped_if id x (Some r) = remapped id x r.accessor r.value r.read_only (r.env, r.parameter)
+
+-- a value that is given for the length of an array is no object
+abbrev pub LengthIsPrimitive : Objects → (address : ℕ) → Name → Change → Type 0
+LengthIsPrimitive heap address x change =
+    IsTrue (is_array (object_at heap address).class) → IsTrue (bytes_eq x length_name)
+    → option_map_or is_object change.value false ≡ false

@@ -4,11 +4,11 @@ ghost use Rattle.std.specs.Option.{option_copied, option_map};
 ghost use Rattle.jl_effects.specs.Running.{Ends};
 ghost use Rattle.jl_meaning.specs.DeclarationBinding.{bind_parameters, declare_binding, declare_variables};
 ghost use Rattle.jl_meaning.specs.Parts.{gives};
-ghost use Rattle.jl_meaning.specs.References.{set_mutable_binding};
+ghost use Rattle.jl_meaning.specs.References.{binding_value, in_environment, put_value, set_mutable_binding};
 ghost use Rattle.jl_meaning.specs.Store.{binding_of};
 ghost use Rattle.jl_store.specs.Answers.{answered};
 ghost use Rattle.jl_store.specs.Comes.{Comes};
-ghost use Rattle.jl_store.specs.Bindings.{after_first, declare_variable, first_or_undefined};
+ghost use Rattle.jl_store.specs.Bindings.{after_first, catch_environment, declare_variable, first_or_undefined};
 
 use crate::answer::Answer;
 use crate::environments::Bound;
@@ -113,6 +113,48 @@ impl Store {
         }
         let thrown = self.throw_type_error("cannot write")?;
         Ok(Answer::Throws(thrown))
+    }
+
+    /// The value of a name in an environment (8.7.1, 10.2.1.1.4), and undefined where it isn't bound there. It takes no
+    /// memory but where the units of a text have to be copied.
+    pub fn binding_value(&self, env: usize, name: &Text) -> Result<Value, NoMemory>
+        ensures { IfOk result (λ value. value ≡ binding_value (binding_of self.now env name.now)) }
+    {
+        match self.binding(env, name) {
+            Some(bound) => share(self.alloc, &bound.value),
+            None => Ok(Value::Undefined),
+        }
+    }
+
+    /// PutValue to a name that an environment binds (8.7.2). Where the binding can't be changed, that throws in strict
+    /// code.
+    #[tactic(auto, unfolding(jl_meaning::specs::References::put_value))]
+    pub fn put_in_environment(
+        &mut self,
+        strict: bool,
+        env: usize,
+        name: &Text,
+        value: Value,
+    ) -> Result<Answer<()>, NoMemory>
+        ensures { IfOk result (λ answer. Comes (put_value strict name.now value (in_environment env)) self.old self.new
+            (answered answer)) }
+    {
+        let answer = self.set_mutable_binding(strict, env, name, value)?;
+        Ok(answer)
+    }
+
+    /// Makes the environment of a `catch` block, in which the caught value is bound (12.14).
+    pub fn enter_catch(&mut self, env: usize, name: &Text, value: Value) -> Result<usize, NoMemory>
+        ensures { IfOk result (λ inside. Comes (catch_environment env name.now value) self.old self.new
+            (Ends (gives inside))) }
+    {
+        let inside = self.new_environment(env)?;
+        let bound = Bound {
+            value,
+            mutable: true,
+        };
+        self.new_binding(inside, name, bound)?;
+        Ok(inside)
     }
 }
 

@@ -2,20 +2,27 @@
 ghost use Rattle.std.specs.Prelude.{◌≡◌, IfOk, OnOk, Some};
 ghost use Rattle.std.specs.Option.{option_copied, option_map};
 ghost use Rattle.jl_effects.specs.Running.{Ends};
-ghost use Rattle.jl_heap.specs.Define.{FitsLength, IsOneKind};
+ghost use Rattle.jl_heap.specs.Define.{FitsLength, IsOneKind, is_length};
 ghost use Rattle.jl_heap.specs.Property.{is_accessor};
-ghost use Rattle.jl_meaning.specs.Defining.{define_with_number, end_mapping, makes_read_only, set_parameter};
+ghost use Rattle.jl_meaning.specs.Defining.{define_own_property, define_with_number, end_mapping, makes_read_only};
+ghost use Rattle.jl_meaning.specs.Defining.{set_parameter};
 ghost use Rattle.jl_meaning.specs.Defining.{update_mapping_if};
 ghost use Rattle.jl_meaning.specs.Parts.{gives};
 ghost use Rattle.jl_meaning.specs.Properties.{mapped_parameter};
+ghost use Rattle.jl_store.specs.Answers.{finished};
 ghost use Rattle.jl_store.specs.Comes.{Comes};
-ghost use Rattle.jl_store.specs.Defining.{end_mapping_where, remapped, remapped_if, remapping_of};
+ghost use Rattle.jl_store.specs.Defining.{end_mapping_where, LengthIsPrimitive, remapped, remapped_if, remapping_of};
 ghost use Rattle.jl_value.specs.Indices.{index_of};
 
+use crate::answer::{AlgorithmFault, Finished};
+use crate::properties::is_length_name;
 use crate::store::Store;
+use crate::words::word;
+use jl_conv::primitive_to_num;
 use jl_heap::{Change, Defined};
+use jl_num::Num;
 use jl_text::{NoMemory, Text};
-use jl_value::{ObjId, Value, array_index, share};
+use jl_value::{Class, ErrorKind, ObjId, Value, array_index, share};
 use std::alloc::Global;
 
 /// What becomes of the parameter that an index is mapped to when the index is defined (10.6).
@@ -117,6 +124,41 @@ impl Store {
         }
     }
 
+    /// [[DefineOwnProperty]] (8.12.9, 10.6, 15.4.5.1), where no function is called: a value that is given for the length of
+    /// an array is no object. Such a value is converted to a number: that ends the run where no number is the result, and
+    /// throws where the number is no length.
+    #[tactic(auto, unfolding(jl_meaning::specs::Defining::define_own_property))]
+    pub fn define_own_property(
+        &mut self,
+        id: ObjId,
+        name: &Text,
+        change: Change,
+    ) -> Result<Finished<bool>, NoMemory>
+        requires one_kind { IsOneKind change }
+        requires primitive { LengthIsPrimitive self.old.heap id.0 name.now change }
+        ensures { IfOk result (λ end. Comes (define_own_property id name.now change) self.old self.new (finished end)) }
+    {
+        if self.class_of(id) != Class::Array || !is_length_name(name) {
+            return Ok(Finished::Gives(self.define_with_number(id, name, change)?));
+        }
+        let Some(value) = &change.value else {
+            return Ok(Finished::Gives(self.define_with_number(id, name, change)?));
+        };
+        let Ok(number) = primitive_to_num(value) else {
+            return Ok(Finished::Fails(AlgorithmFault::NumberOutside));
+        };
+        if !is_length(number) {
+            let message = word(self.alloc, "bad array length")?;
+            let thrown = self.throw_error(ErrorKind::RangeError, message)?;
+            return Ok(Finished::Throws(thrown));
+        }
+        let change = Change {
+            value: Some(Value::Num(number)),
+            ..change
+        };
+        Ok(Finished::Gives(self.define_with_number(id, name, change)?))
+    }
+
     fn remap_if(&mut self, id: ObjId, name: &Text, remapping: Option<Remapping>)
         ensures { Comes (remapped_if id name.now remapping) self.old self.new (Ends (gives tt)) }
     {
@@ -150,5 +192,15 @@ fn shared(alloc: Global, value: &Option<Value>) -> Result<Option<Value>, NoMemor
     match value {
         Some(value) => Ok(Some(share(alloc, value)?)),
         None => Ok(None),
+    }
+}
+
+/// Whether a number may be the length of an array (15.4.5.1, step 3.d): it is a whole number from 0 to 2^32 - 1.
+fn is_length(number: Num) -> bool
+    ensures { result ≡ is_length (Value.Num number) }
+{
+    match number.value() {
+        Some(n) => 0 <= n && n < 4_294_967_296,
+        None => false,
     }
 }
