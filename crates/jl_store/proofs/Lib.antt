@@ -13,3 +13,4 @@ pub mod Defined
 pub mod IndexNames
 pub mod MappedNames
 pub mod DeclaredBodies
+pub mod Lengths

@@ -1,5 +1,5 @@
 //! Properties defined (8.12.9, 10.6, 15.4.5.1).
-ghost use Rattle.std.specs.Prelude.{◌≡◌, IfOk, OnOk, Some};
+ghost use Rattle.std.specs.Prelude.{◌≡◌, false, IfOk, OnOk, Some};
 ghost use Rattle.std.specs.Option.{option_copied, option_map};
 ghost use Rattle.jl_effects.specs.Running.{Ends};
 ghost use Rattle.jl_heap.specs.Define.{FitsLength, IsOneKind, is_length};
@@ -9,9 +9,10 @@ ghost use Rattle.jl_meaning.specs.Defining.{set_parameter};
 ghost use Rattle.jl_meaning.specs.Defining.{update_mapping_if};
 ghost use Rattle.jl_meaning.specs.Parts.{gives};
 ghost use Rattle.jl_meaning.specs.Properties.{mapped_parameter};
+ghost use Rattle.jl_conv.specs.Conversions.{is_object};
 ghost use Rattle.jl_store.specs.Answers.{finished};
 ghost use Rattle.jl_store.specs.Comes.{Comes};
-ghost use Rattle.jl_store.specs.Defining.{end_mapping_where, LengthIsPrimitive, remapped, remapped_if, remapping_of};
+ghost use Rattle.jl_store.specs.Defining.{end_mapping_where, IsLengthOf, length_given, LengthIsPrimitive, remapped, remapped_if, remapping_of};
 ghost use Rattle.jl_value.specs.Indices.{index_of};
 
 use crate::answer::{AlgorithmFault, Finished};
@@ -138,25 +139,47 @@ impl Store {
         requires primitive { LengthIsPrimitive self.old.heap id.0 name.now change }
         ensures { IfOk result (λ end. Comes (define_own_property id name.now change) self.old self.new (finished end)) }
     {
-        if self.class_of(id) != Class::Array || !is_length_name(name) {
-            return Ok(Finished::Gives(self.define_with_number(id, name, change)?));
-        }
-        let Some(value) = &change.value else {
+        let Some(value) = self.length_given(id, name, &change) else {
             return Ok(Finished::Gives(self.define_with_number(id, name, change)?));
         };
+        match self.to_length(value)? {
+            Finished::Gives(number) => {
+                let change = Change {
+                    value: Some(Value::Num(number)),
+                    ..change
+                };
+                Ok(Finished::Gives(self.define_with_number(id, name, change)?))
+            }
+            Finished::Throws(thrown) => Ok(Finished::Throws(thrown)),
+            Finished::Fails(fault) => Ok(Finished::Fails(fault)),
+        }
+    }
+
+    /// The value that a change gives for the length of an array, if it gives one.
+    fn length_given<'a>(&self, id: ObjId, name: &Text, change: &'a Change) -> Option<&'a Value>
+        ensures { option_copied result ≡ length_given self.now.heap id.0 name.now change.now }
+    {
+        if self.class_of(id) != Class::Array || !is_length_name(name) {
+            return None;
+        }
+        change.value.as_ref()
+    }
+
+    /// A value as a length (15.4.5.1, steps 3.c and 3.d). It throws where the number is none, and ends the run where the
+    /// value has none.
+    fn to_length(&mut self, value: &Value) -> Result<Finished<Num>, NoMemory>
+        requires { is_object value.now ≡ false }
+        ensures { IfOk result (λ end. IsLengthOf value.now self.old self.new end) }
+    {
         let Ok(number) = primitive_to_num(value) else {
             return Ok(Finished::Fails(AlgorithmFault::NumberOutside));
         };
-        if !is_length(number) {
-            let message = word(self.alloc, "bad array length")?;
-            let thrown = self.throw_error(ErrorKind::RangeError, message)?;
-            return Ok(Finished::Throws(thrown));
+        if is_length(number) {
+            return Ok(Finished::Gives(number));
         }
-        let change = Change {
-            value: Some(Value::Num(number)),
-            ..change
-        };
-        Ok(Finished::Gives(self.define_with_number(id, name, change)?))
+        let message = word(self.alloc, "bad array length")?;
+        let thrown = self.throw_error(ErrorKind::RangeError, message)?;
+        Ok(Finished::Throws(thrown))
     }
 
     fn remap_if(&mut self, id: ObjId, name: &Text, remapping: Option<Remapping>)
