@@ -14,3 +14,4 @@ pub mod IndexNames
 pub mod MappedNames
 pub mod DeclaredBodies
 pub mod Lengths
+pub mod GlobalNames

@@ -4,7 +4,7 @@ use Rattle.std.proofs.Common.{add-one, drop-cons, true}
 use Rattle.jl_value.specs.declared.object.ObjId.{ObjId}
 use Rattle.jl_value.specs.declared.value.Value.{Value}
 use Rattle.jl_ast.specs.declared.tree.Function.{Function}
-use Rattle.jl_effects.specs.Running.{Ends, Finish}
+use Rattle.jl_effects.specs.Running.{Ends, Fails, Finish}
 use Rattle.jl_heap.specs.Objects.{Name}
 use Rattle.jl_heap.specs.declared.property.Prop.{Prop}
 use Rattle.jl_heap.specs.declared.property.Prop.TheVariants.{Plain}
@@ -12,14 +12,15 @@ use Rattle.jl_meaning.specs.ArgumentsObject.{add_elements}
 use Rattle.jl_meaning.specs.Changes.{NewProperty}
 use Rattle.jl_meaning.specs.forms.Literals.{index_name}
 use Rattle.jl_store.specs.Changes.{after}
-use Rattle.jl_meaning.specs.DeclarationBinding.{declare_function, declare_functions, declare_variables}
+use Rattle.jl_meaning.specs.DeclarationBinding.{declare_function, declare_functions, declare_global_variables}
+use Rattle.jl_meaning.specs.DeclarationBinding.{declare_variables}
 use Rattle.jl_meaning.specs.FunctionObjects.{function_name, make_function}
-use Rattle.jl_meaning.specs.Parts.{give, gives, ◌>>=◌, Algorithm, AlgorithmFault, Answer, Context}
+use Rattle.jl_meaning.specs.Parts.{give, gives, throws, ◌>>=◌, Algorithm, AlgorithmFault, Answer, Context}
 use Rattle.jl_meaning.specs.Store.{Store}
-use Rattle.jl_store.specs.Bindings.{declare_variable}
+use Rattle.jl_store.specs.Bindings.{declare_global_variable, declare_variable}
 use Rattle.jl_store.specs.Plain.{plain_function, plain_functions}
 use Rattle.jl_store.specs.Comes.{Comes}
-use Rattle.jl_store.proofs.Chains.{comes_after, comes_on}
+use Rattle.jl_store.proofs.Chains.{comes_after, comes_failed, comes_on, comes_thrown}
 use Rattle.jl_store.proofs.Steps.{comes_by_adding, comes_to}
 
 -- from this store the algorithm p has come to that one, where q is left of it
@@ -35,6 +36,25 @@ next_done before step = record { on = λ u e rest. before.on u e (comes_after st
 
 pub all_done : {p : Algorithm (Unit {0})} {s t : Store} → Leaves p s (give tt) t → Comes p s t (Ends (gives tt))
 all_done before = before.on _ _ comes_to
+
+-- the next one throws, or fails
+pub next_thrown : {p r : Algorithm (Unit {0})} {s t u : Store} {v : Value} (q : Algorithm (Unit {0})) → Leaves p s (r >>= (λ _. q)) t
+    → Comes r t u (Ends (throws v)) → Comes p s u (Ends (throws v))
+next_thrown q before step = before.on _ _ (comes_thrown _ step)
+
+pub next_failed : {p r : Algorithm (Unit {0})} {s t u : Store} {f : AlgorithmFault} (q : Algorithm (Unit {0})) → Leaves p s (r >>= (λ _. q)) t
+    → Comes r t u (Fails f) → Comes p s u (Fails f)
+next_failed q before step = before.on _ _ (comes_failed _ step)
+
+-- variables of a program, from one of them on
+pub globals_from : {p : Algorithm (Unit {0})} {s t : Store} (i : ℕ) (names : List Name) (x : Name)
+    → Leaves p s (declare_global_variables (drop i names)) t → i < length names → x ≡ get_or names i x
+    → Leaves p s (declare_global_variable x >>= (λ _. declare_global_variables (drop (i + 1) names))) t
+globals_from {p} {s} {t} i names x before within is =
+    let split : drop i names ≡ x ∷ drop (i + 1) names =
+        drop-cons names i x within ∙ ap (λ y. y ∷ drop (suc i) names) (sym is)
+        ∙ ap (λ k. x ∷ drop k names) (sym (add-one i)) in
+    subst (λ l. Leaves p s (declare_global_variables l) t) split before
 
 -- variables
 

@@ -4,6 +4,9 @@ use Rattle.jl_value.specs.declared.value.Value.{Value}
 use Rattle.jl_value.specs.declared.value.Value.TheVariants as value
 use Rattle.jl_heap.specs.Objects.{Name}
 use Rattle.jl_meaning.specs.Changes.{NewBinding, NewEnvironment}
+use Rattle.jl_meaning.specs.DeclarationBinding.{create_global}
+use Rattle.jl_meaning.specs.Intrinsics.{global_object}
+use Rattle.jl_meaning.specs.Properties.{has_property}
 use Rattle.jl_meaning.specs.Parts.{change_store, give, look, ◌>>=◌, Algorithm}
 use Rattle.jl_meaning.specs.Store.{has_binding, next_environment}
 
@@ -14,6 +17,12 @@ declare_variable env x = do
   if has_binding store env x
       then give tt
       else change_store (NewBinding env (record { name = x; value = value.Undefined; mutable = true }))
+
+-- one variable of a program, which is undefined unless the global object has a property of its name (10.5, step 8)
+abbrev pub declare_global_variable : Name → Algorithm (Unit {0})
+declare_global_variable x = do
+  store ← look
+  if has_property store global_object.0 x then give tt else create_global x
 
 abbrev pub first_or_undefined : List Value → Value
 first_or_undefined [] = value.Undefined

@@ -1,3 +1,6 @@
+ghost use Rattle.std.specs.Prelude.{◌≡◌};
+ghost use Rattle.jl_store.specs.Answers.{answered, finished};
+
 use jl_value::Value;
 
 /// What an algorithm comes to that may throw.
@@ -22,4 +25,14 @@ pub enum AlgorithmFault {
     NumberOutside,
     /// A string would have more units than a string of a run may have.
     StringTooLong,
+}
+
+/// The same answer, where none ends the run.
+pub(crate) fn finish<T>(answer: Answer<T>) -> Finished<T>
+    ensures { finished result ≡ answered answer }
+{
+    match answer {
+        Answer::Gives(value) => Finished::Gives(value),
+        Answer::Throws(thrown) => Finished::Throws(thrown),
+    }
 }

@@ -1,8 +1,11 @@
 //! The errors that the language throws by itself (15.11).
 ghost use Rattle.std.specs.Prelude.{◌≡◌, IfOk};
 ghost use Rattle.jl_meaning.specs.Intrinsics.{prototype_of_error};
-ghost use Rattle.jl_store.specs.Answers.{IsNotDefined, MakesError};
+ghost use Rattle.jl_store.specs.Answers.{answered, IsNotDefined, MakesError};
+ghost use Rattle.jl_store.specs.Comes.{Comes};
+ghost use Rattle.jl_meaning.specs.Errors.{require};
 
+use crate::answer::Answer;
 use crate::store::Store;
 use crate::words::word;
 use jl_heap::{Inner, Prop};
@@ -51,6 +54,18 @@ impl Store {
         let message = word(self.alloc, message)?;
         let thrown = self.throw_error(ErrorKind::TypeError, message)?;
         Ok(thrown)
+    }
+
+    /// Throws a TypeError unless this is so.
+    #[tactic(auto, using(crate::proofs::Chains::error_comes))]
+    pub fn require(&mut self, holds: bool, message: &str) -> Result<Answer<()>, NoMemory>
+        ensures { IfOk result (λ answer. Comes (require holds message.now) self.old self.new (answered answer)) }
+    {
+        if holds {
+            return Ok(Answer::Gives(()));
+        }
+        let thrown = self.throw_type_error(message)?;
+        Ok(Answer::Throws(thrown))
     }
 
     /// Makes the error that nothing binds a name, to be thrown (8.7.1, 8.7.2), or gives up where its message would be too

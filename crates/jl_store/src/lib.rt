@@ -9,6 +9,7 @@ mod environments;
 mod errors;
 mod found;
 mod functions;
+mod globals;
 mod inner;
 mod intrinsics;
 mod arguments;
