@@ -1,14 +1,14 @@
 -- Bindings and the entries that hold them.
-use Rattle.std.proofs.Common.{◌≡◌, ℕ, zero, suc, ◌<◌, Bool, true, false, List, [], ◌∷◌, ◌++◌, length, get_or, refl, ap}
+use Rattle.std.proofs.Common.{◌≡◌, ℕ, suc, ◌<◌, Bool, true, false, List, [], ◌∷◌, ◌++◌, length, get_or, refl, ap}
 use Rattle.std.proofs.Common.{sym, ◌∙◌, arith, subst}
 use Rattle.std.proofs.lemmas.Slice.Eq.{bytes_eq-Decides}
-use Rattle.std.specs.Prelude.{map, find, All, Option, Some, None, option_map}
+use Rattle.std.specs.Prelude.{map, All, Some, None, option_map}
 use Rattle.std.specs.Str.{bytes_eq}
-use Rattle.jl_props.specs.Entries.{entry_named, has_name, with_item, with_new, IsInOrder}
+use Rattle.jl_props.specs.Entries.{entry_named, with_item, with_new}
 use Rattle.jl_props.specs.declared.entries.Entry.{Entry}
 use Rattle.jl_value.specs.declared.value.Value.{Value}
 use Rattle.jl_meaning.specs.Changes.{rebound}
-use Rattle.jl_meaning.specs.Store.{binding_named, Binding}
+use Rattle.jl_meaning.specs.Store.{binding_named}
 use Rattle.jl_store.specs.Environments.{bound_to}
 use Rattle.jl_store.specs.declared.environments.Bound.{Bound}
 use Rattle.jl_store.specs.inner.Inside.{binding_of_entry}
@@ -45,8 +45,8 @@ rebound_step : (x : List ℕ) (v : Value) (m : Bool) (e : Entry Bound) (es : Lis
 rebound_step x v m e es true same here rest =
     let mutable : e.item.mutable ≡ m = here refl in
     rw same (
-      ap (λ l. record { name = e.name; value = v; mutable = m } ∷ l) rest
-      ∙ ap (λ k. record { name = e.name; value = v; mutable = k } ∷ rebound x v (map binding_of_entry es)) (sym mutable)
+    ap (λ l. record { name = e.name; value = v; mutable = m } ∷ l) rest
+    ∙ ap (λ k. record { name = e.name; value = v; mutable = k } ∷ rebound x v (map binding_of_entry es)) (sym mutable)
     )
 rebound_step x v m e es false same here rest = rw same (ap (λ l. binding_of_entry e ∷ l) rest)
 
@@ -67,9 +67,9 @@ rebound_is x v m es found is =
     rebound_by x v m es (λ k d within same.
     let named : entry_named (get_or es k d).name es ≡ Some (get_or es k d) = found k d within in
     let here : entry_named x es ≡ Some (get_or es k d) =
-        subst (λ n. entry_named n es ≡ Some (get_or es k d)) ((bytes_eq-Decides _ x).0 same) named in
+    subst (λ n. entry_named n es ≡ Some (get_or es k d)) ((bytes_eq-Decides _ x).0 same) named in
     let both : Some (get_or es k d).item.mutable ≡ Some m =
-        sym (ap (option_map (λ (e : Entry Bound). e.item.mutable)) here) ∙ is in
+    sym (ap (option_map (λ (e : Entry Bound). e.item.mutable)) here) ∙ is in
     cc)
 
 -- where nothing stands under the name, its binding has no other value

@@ -1,5 +1,5 @@
 -- The declarations of a body, one after another.
-use Rattle.std.proofs.Common.{◌≡◌, ℕ, Bool, List, subst, sym}
+use Rattle.std.proofs.Common.{ℕ, Bool, List, subst, sym}
 use Rattle.jl_ast.specs.Tree as tree
 use Rattle.jl_ast.specs.Tree.{Forest}
 use Rattle.jl_ast.specs.declared.tree.Body.{Body, out-Body}
@@ -18,7 +18,6 @@ use Rattle.jl_store.proofs.Trees.{body_plain}
 
 module _ (names : List Name) (mentioned strict : Bool) (callee : ObjId) (params : List Name) (args : List Value)
     (c : Context) (s t u v w : Store) where
-
   tree_comes : (st : Bool) (fs : Forest ℕ tree.func) (l : Forest ℕ tree.stmt)
       → Declares (tree.body st fs l) names mentioned → Comes (bind_parameters c.env params args) s t (Ends (gives tt))
       → Comes (declare_functions fs c) t u (Ends (gives tt))

@@ -1,5 +1,5 @@
 -- What follows a property that has been defined.
-use Rattle.std.proofs.Common.{◌≡◌, ◌∙◌, ℕ, Bool, true, ap, refl, subst, sym}
+use Rattle.std.proofs.Common.{◌≡◌, ◌∙◌, ℕ, true, ap, refl, subst, sym}
 use Rattle.std.specs.Prelude.{None, Option, Some, option_map}
 use Rattle.jl_value.specs.declared.object.ObjId.{ObjId}
 use Rattle.jl_heap.specs.Define as heaps
@@ -10,7 +10,7 @@ use Rattle.jl_heap.specs.declared.property.Defined.TheVariants.{Done}
 use Rattle.jl_effects.specs.Running.{Ends}
 use Rattle.jl_meaning.specs.Changes.{DefineProperty}
 use Rattle.jl_meaning.specs.Defining.{define_with_number, is_done, update_mapping, update_mapping_if}
-use Rattle.jl_meaning.specs.Parts.{give, gives, ◌>>=◌, Algorithm}
+use Rattle.jl_meaning.specs.Parts.{gives}
 use Rattle.jl_meaning.specs.Properties.{mapped_parameter}
 use Rattle.jl_meaning.specs.Store.{Store}
 use Rattle.jl_store.specs.Changes.{after}
@@ -33,7 +33,7 @@ done_comes id x change s t u r d made is done mapping comes =
     let p = mapped_parameter s id.0 x in
     let same : update_mapping id x change p ≡ remapped_if id x r = same_mapping id x change p ∙ ap (remapped_if id x) mapping in
     let updated : Comes (update_mapping id x change p) t u (Ends (gives tt)) =
-        subst (λ q. Comes q t u (Ends (gives tt))) (sym same) comes in
+    subst (λ q. Comes q t u (Ends (gives tt))) (sym same) comes in
     let all : leads (update_mapping_if true id x change p) t u (Ends (gives true)) = (comes_after updated comes_to).leads in
     let truth : true ≡ is_done (heaps.define_own_property s.heap id.0 x change).1 = ap is_done (sym done ∙ is) in
     record {

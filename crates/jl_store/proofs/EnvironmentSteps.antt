@@ -1,7 +1,6 @@
 -- What environments are seen as, by their parts, and after a change of these.
-use Rattle.std.proofs.Common.{◌≡◌, ◌≢◌, ℕ, zero, suc, ◌<◌, ◌≤◌, Bool, true, false, List, [], ◌∷◌, ◌++◌, length, get_or}
+use Rattle.std.proofs.Common.{◌≡◌, ℕ, zero, suc, ◌<◌, ◌≤◌, Bool, true, false, List, [], ◌∷◌, ◌++◌, length}
 use Rattle.std.proofs.Common.{◌+◌, refl, ap, sym, ◌∙◌, subst, eqb, arith, length-append}
-use Rattle.std.proofs.Math.ListN.{set}
 use Rattle.std.proofs.lemmas.Bool.{eqb-true, eqb-false, ltb-true}
 use Rattle.std.proofs.lemmas.List.{set-get_or, set_past}
 use Rattle.std.proofs.lemmas.Option.{get_or_from_slice_get, slice_get_within}
@@ -19,7 +18,7 @@ use Rattle.jl_store.specs.Environments.{bound_to, environment_in, outer_in, Oute
 use Rattle.jl_store.specs.Environments.{with_environment_in}
 use Rattle.jl_store.specs.declared.environments.Bound.{Bound}
 use Rattle.jl_store.specs.declared.environments.Environments.TheInside.{Inside}
-use Rattle.jl_store.specs.inner.Inside.{binding_of_entry, environment_with, environments_inside, environments_with}
+use Rattle.jl_store.specs.inner.Inside.{binding_of_entry, environment_with, environments_inside}
 use Rattle.jl_store.specs.inner.Inside.{is_before, IsKept}
 use Rattle.jl_store.proofs.BindingEntries.{binding_found, bindings_with_new, rebound_is, unbound_stays}
 use Rattle.jl_store.proofs.Seen.{environments-at, environments-past, environments-push, environments-put, environments-same}
@@ -122,7 +121,7 @@ seen_wider : (a : Inside) (seen : List Environment) (o : Option ℕ) → IsKept 
     → environments_inside (record a { outers = a.outers ++ o ∷ [] }) ≡ seen ++ record { outer = o; bindings = [] } ∷ []
 seen_wider a seen o kept e =
     let bare : entries_of a.bindings (length a.outers) ≡ [] =
-        no_entries _ (kept.none_past (length a.outers) (omega arith)) in
+    no_entries _ (kept.none_past (length a.outers) (omega arith)) in
     environments-push a.outers (entries_of a.bindings) o
     ∙ ap (λ es. environments_inside a ++ environment_with o es ∷ []) bare
     ∙ ap (λ l. l ++ record { outer = o; bindings = [] } ∷ []) e
@@ -240,7 +239,7 @@ pub seen_rebound : (a : Inside) (p : Properties Bound) (k : ℕ) (x : List ℕ) 
     → environments_inside (record a { bindings = p }) ≡ rebound_in seen k x v
 seen_rebound a p k x v m seen next kept well e is changes =
     let mutable : option_map (λ (e : Entry Bound). e.item.mutable) (entry_named x (entries_of a.bindings k)) ≡ Some m =
-        mutable_of _ ∙ is in
+    mutable_of _ ∙ is in
     seen_put a p k _ _ changes
     ∙ ap (with_bindings_in (environments_inside a) k)
     (rebound_is x v m (entries_of a.bindings k) (finds_each _ (well.in_order k)) mutable
@@ -256,9 +255,8 @@ pub seen_as_before : (a : Inside) (k : ℕ) (x : List ℕ) (v : Value) (seen : L
     → seen ≡ rebound_in seen k x v
 seen_as_before a k x v seen kept e none =
     let same : (environment_in seen k).bindings ≡ rebound x v (environment_in seen k).bindings =
-        subst (λ (l : List Environment). (environment_in l k).bindings ≡ rebound x v (environment_in l k).bindings) e
-        (bindings_at a k kept
-        ∙ unbound_stays x v (entries_of a.bindings k) (nothing_under _ none)
-        ∙ ap (rebound x v) (sym (bindings_at a k kept))) in
+    subst (λ (l : List Environment). (environment_in l k).bindings ≡ rebound x v (environment_in l k).bindings) e
+    (bindings_at a k kept
+    ∙ unbound_stays x v (entries_of a.bindings k) (nothing_under _ none)
+    ∙ ap (rebound x v) (sym (bindings_at a k kept))) in
     sym (set-get_or seen k no_environment) ∙ ap (with_bindings_in seen k) same
-

@@ -1,6 +1,6 @@
 -- The names of properties of objects that are being made.
-use Rattle.std.proofs.Common.{◌≡◌, ◌≢◌, ℕ, ◌+◌, ◌<◌, Bool, true, false, List, [], ◌∷◌, ◌++◌}
-use Rattle.std.proofs.Common.{length, get_or, refl, ap, sym, ◌∙◌, subst, arith}
+use Rattle.std.proofs.Common.{◌≡◌, ◌≢◌, ℕ, ◌+◌, Bool, true, false, List, [], ◌∷◌, ◌++◌}
+use Rattle.std.proofs.Common.{length, refl, ap, sym, ◌∙◌, subst, arith}
 use Rattle.std.proofs.Math.ListN.{get_or-append}
 use Rattle.std.proofs.Math.Seq.{get_or-append_seam}
 use Rattle.std.proofs.lemmas.List.{get_or-set_other, get_or-set_same, length-set}
@@ -52,10 +52,10 @@ pub is_free : {s : Store} {id : ObjId} {names : List Name} (x : Name) {y : Name}
     → IsTrue (lacks names y) → IsFree s id x
 is_free {s} {id} {names} x {y} is has free =
     let named : IsTrue (lacks (names_of (object_at s.heap id.0).properties) y) =
-        subst (λ ns. IsTrue (lacks ns y)) (sym has.named) free in
+    subst (λ ns. IsTrue (lacks ns y)) (sym has.named) free in
     let none : entry_named x (object_at s.heap id.0).properties ≡ None =
-        subst (λ z. entry_named z (object_at s.heap id.0).properties ≡ None) (sym is)
-        (none_named y (object_at s.heap id.0).properties named) in
+    subst (λ z. entry_named z (object_at s.heap id.0).properties ≡ None) (sym is)
+    (none_named y (object_at s.heap id.0).properties named) in
     record { there = has.there; free = ap (λ o. is_some (option_map (λ (e : Entry Prop). e.item) o)) none }
 
 pub is_apart : {s : Store} {id other : ObjId} {names : List Name} → HasNames s id names → other ≡ next_object s
@@ -76,7 +76,7 @@ pub names_new : (s t : Store) (id : ObjId) (kind : Class) (proto : Option ObjId)
 unfolding after
 names_new s t id kind proto inner is made plain =
     let heap : t.heap ≡ with_bare_object s.heap kind proto inner =
-        ap (λ (u : Store). u.heap) made ∙ plain_object s.heap kind proto inner plain in
+    ap (λ (u : Store). u.heap) made ∙ plain_object s.heap kind proto inner plain in
     let at : HasNames (record t { heap = with_bare_object s.heap kind proto inner }) (next_object s) [] = record {
       there = omega (arith, longer s.heap.objects (last s.heap kind proto inner));
       named =
@@ -92,7 +92,7 @@ pub names_beside_new : {s : Store} {id : ObjId} {names : List Name} (t : Store) 
 unfolding after
 names_beside_new {s} {id} {names} t kind proto inner made plain has =
     let heap : t.heap ≡ with_bare_object s.heap kind proto inner =
-        ap (λ (u : Store). u.heap) made ∙ plain_object s.heap kind proto inner plain in
+    ap (λ (u : Store). u.heap) made ∙ plain_object s.heap kind proto inner plain in
     let at : HasNames (record t { heap = with_bare_object s.heap kind proto inner }) id names = record {
       there = omega (arith, has.there, longer s.heap.objects (last s.heap kind proto inner));
       named =

@@ -1,5 +1,5 @@
 -- Look-ups along prototypes, environments and targets: greater bounds than there are make no difference.
-use Rattle.std.proofs.Common.{◌≡◌, refl, sym, ap, ◌∙◌, subst, ℕ, zero, suc, ◌<◌, ◌≤◌, Bool, List, Option, Some, None, arith}
+use Rattle.std.proofs.Common.{◌≡◌, refl, sym, ap, ◌∙◌, ℕ, zero, suc, ◌<◌, ◌≤◌, Bool, List, Option, Some, None, arith}
 use Rattle.std.proofs.lemmas.Bool.{lt-ltb, ltb-true, ne_eqb}
 use Rattle.std.specs.Prelude.{false, if◌then◌else◌, nat_lt, true, ◌==◌, ◌||◌, ◌≢◌, IfSome}
 use Rattle.std.specs.Option.{option_and_then, option_map_or, option_or}
@@ -7,7 +7,7 @@ use Rattle.jl_value.specs.declared.object.ObjId.{ObjId}
 use Rattle.jl_value.specs.declared.value.Value.{Value}
 use Rattle.jl_heap.specs.Chain.{ProtosAreOlder}
 use Rattle.jl_heap.specs.Objects.{object_at, Objects}
-use Rattle.jl_meaning.specs.Properties.{get_own_property, property_on, property_within}
+use Rattle.jl_meaning.specs.Properties.{get_own_property, property_within}
 use Rattle.jl_heap.specs.declared.inner.Inner.{Inner}
 use Rattle.jl_heap.specs.declared.inner.Inner.TheVariants as inner
 use Rattle.jl_meaning.specs.Relations.{is_prototype_within, target_inside, target_within}

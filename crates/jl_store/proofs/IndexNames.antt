@@ -7,7 +7,7 @@ use Rattle.std.proofs.lemmas.Slice.Eq.{bytes_eq-Decides}
 use Rattle.std.specs.Prelude.{if◌then◌else◌, nat_lt, IsTrue}
 use Rattle.std.specs.Str.{bytes_eq}
 use Rattle.std.specs.Str.Parse.{digits_value}
-use Rattle.jl_num.specs.Digits.{digit_code, digits_of, digits_within}
+use Rattle.jl_num.specs.Digits.{digit_code, digits_within}
 use Rattle.jl_num.proofs.Numeral.{digits_write_numbers}
 use Rattle.jl_num.proofs.Places.{last_digit, more_digits, one_digit}
 use Rattle.jl_heap.specs.Define.{length_name}

@@ -16,17 +16,17 @@ use Rattle.jl_heap.specs.Define.{is_array, is_length, length_name}
 use Rattle.jl_heap.specs.Objects.{object_at, Name, Objects}
 use Rattle.jl_heap.specs.declared.property.Change.{Change}
 use Rattle.jl_effects.specs.Running.{Ends, Fails, Finish}
-use Rattle.jl_meaning.specs.Conversions.{number_hint, to_number, to_primitive, to_uint32}
+use Rattle.jl_meaning.specs.Conversions.{to_number, to_primitive, to_uint32}
 use Rattle.jl_meaning.specs.Defining.{define_own_property, define_with_number, length_within, to_length, with_length}
 use Rattle.jl_meaning.specs.Errors.{throw_error}
-use Rattle.jl_meaning.specs.Parts.{give, gives, or_fault, throws, ◌>>=◌, Algorithm, AlgorithmFault, Answer, NumberOutside}
+use Rattle.jl_meaning.specs.Parts.{give, gives, or_fault, throws, ◌>>=◌, AlgorithmFault, Answer, NumberOutside}
 use Rattle.jl_meaning.specs.Store.{Store}
 use Rattle.jl_store.specs.Answers.{fault_seen, MakesError}
 use Rattle.std.specs.Option.{option_map_or}
 use Rattle.jl_store.specs.Defining.{IsLengthOf, length_given, LengthIsPrimitive}
 use Rattle.jl_store.specs.declared.answer.AlgorithmFault.{AlgorithmFault as Fault}
 use Rattle.jl_store.specs.declared.answer.Finished.TheVariants as ended
-use Rattle.jl_store.specs.Comes.{leads, Comes}
+use Rattle.jl_store.specs.Comes.{Comes}
 use Rattle.jl_store.proofs.Chains.{comes_failed, comes_on, comes_thrown, error_comes}
 use Rattle.jl_store.proofs.Steps.{comes_to}
 
@@ -50,8 +50,8 @@ pub no_number : (v : Value) (s : Store) → is_object v ≡ false → number_of_
     → Comes (to_length v) s s (Fails NumberOutside)
 no_number v s bare is =
     let first : Comes (to_number v) s s (Fails NumberOutside) =
-        subst (λ p. Comes p s s (Fails NumberOutside))
-        (sym (number_of_primitive v bare ∙ ap (or_fault NumberOutside) is)) (record { leads = (refl, refl) }) in
+    subst (λ p. Comes p s s (Fails NumberOutside))
+    (sym (number_of_primitive v bare ∙ ap (or_fault NumberOutside) is)) (record { leads = (refl, refl) }) in
     comes_failed _ (comes_failed _ first)
 
 after_number : (v : Value) (n : Number) (s t : Store) (e : Finish AlgorithmFault (Answer Value)) → is_object v ≡ false
@@ -59,7 +59,7 @@ after_number : (v : Value) (n : Number) (s t : Store) (e : Finish AlgorithmFault
 after_number v n s t e bare is rest =
     let number = number_given v n s bare is in
     let count : Comes (to_uint32 v) s s (Ends (gives (uint32_of n))) =
-        comes_on (λ m. give (uint32_of m)) number comes_to in
+    comes_on (λ m. give (uint32_of m)) number comes_to in
     comes_on (λ (k : ℕ). to_number v >>= (λ m. length_within (Some (pos k)) m)) count
     (comes_on (λ m. length_within (Some (pos (uint32_of n))) m) number rest)
 
@@ -110,7 +110,7 @@ module _ (id : ObjId) (x : Name) (change : Change) (v : Value) (s : Store)
   unfolding define_own_property
   own_defined w t e length comes =
       let changed : Comes (with_length is_asked change change.value) s s (Ends (gives (record change { value = Some w }))) =
-          with_it is_asked change.value _ s given (comes_on _ length comes_to) in
+      with_it is_asked change.value _ s given (comes_on _ length comes_to) in
       record { leads = (comes_on (λ (c : Change). define_with_number id x c) changed comes).leads }
 
   pub own_thrown : (w : Value) (t : Store) → Comes (to_length v) s t (Ends (throws w))
@@ -118,7 +118,7 @@ module _ (id : ObjId) (x : Name) (change : Change) (v : Value) (s : Store)
   unfolding define_own_property
   own_thrown w t length =
       let changed : Comes (with_length is_asked change change.value) s t (Ends (throws w)) =
-          with_it is_asked change.value _ t given (comes_thrown _ length) in
+      with_it is_asked change.value _ t given (comes_thrown _ length) in
       record { leads = (comes_thrown (λ (c : Change). define_with_number id x c) changed).leads }
 
   pub own_failed : Comes (to_length v) s s (Fails NumberOutside)
@@ -126,7 +126,7 @@ module _ (id : ObjId) (x : Name) (change : Change) (v : Value) (s : Store)
   unfolding define_own_property
   own_failed length =
       let changed : Comes (with_length is_asked change change.value) s s (Fails NumberOutside) =
-          with_it is_asked change.value _ s given (comes_failed _ length) in
+      with_it is_asked change.value _ s given (comes_failed _ length) in
       record { leads = (comes_failed (λ (c : Change). define_with_number id x c) changed).leads }
 
   module _ (bare : is_object v ≡ false) (t u : Store) where

@@ -52,8 +52,8 @@ pub globals_from : {p : Algorithm (Unit {0})} {s t : Store} (i : ℕ) (names : L
     → Leaves p s (declare_global_variable x >>= (λ _. declare_global_variables (drop (i + 1) names))) t
 globals_from {p} {s} {t} i names x before within is =
     let split : drop i names ≡ x ∷ drop (i + 1) names =
-        drop-cons names i x within ∙ ap (λ y. y ∷ drop (suc i) names) (sym is)
-        ∙ ap (λ k. x ∷ drop k names) (sym (add-one i)) in
+    drop-cons names i x within ∙ ap (λ y. y ∷ drop (suc i) names) (sym is)
+    ∙ ap (λ k. x ∷ drop k names) (sym (add-one i)) in
     subst (λ l. Leaves p s (declare_global_variables l) t) split before
 
 -- variables
@@ -63,7 +63,7 @@ pub variable_done : {p : Algorithm (Unit {0})} {s t u : Store} (env i : ℕ) (na
     → Comes (declare_variable env x) t u (Ends (gives tt)) → Leaves p s (declare_variables env (drop (i + 1) names)) u
 variable_done {p} {s} {t} env i names x before within is step =
     let split : drop i names ≡ x ∷ drop (i + 1) names =
-        drop-cons names i x within ∙ ap (λ y. y ∷ drop (suc i) names) (sym is) ∙ ap (λ k. x ∷ drop k names) (sym (add-one i)) in
+    drop-cons names i x within ∙ ap (λ y. y ∷ drop (suc i) names) (sym is) ∙ ap (λ k. x ∷ drop k names) (sym (add-one i)) in
     next_done (subst (λ l. Leaves p s (declare_variables env l) t) split before) step
 
 pub none_left : {A : Type 0} (xs : List A) (i : ℕ) → length xs ≡ i → drop i xs ≡ []
@@ -85,8 +85,8 @@ pub element_done : {p : Algorithm (Unit {0})} {s t u : Store} (id : ObjId) (i : 
     → Leaves p s (add_elements id (i + 1) (drop (i + 1) args)) u
 element_done {p} {s} {t} {u} id i args v x q before within is named as_data made =
     let split : drop i args ≡ v ∷ drop (i + 1) args =
-        drop-cons args i v within ∙ ap (λ w. w ∷ drop (suc i) args) (sym is)
-        ∙ ap (λ k. v ∷ drop k args) (sym (add-one i)) in
+    drop-cons args i v within ∙ ap (λ w. w ∷ drop (suc i) args) (sym is)
+    ∙ ap (λ k. v ∷ drop k args) (sym (add-one i)) in
     next_done (subst (λ l. Leaves p s (add_elements id i l) t) split before) (comes_by_adding id named as_data made)
 
 -- functions that a body declares
@@ -99,7 +99,7 @@ pub function_done : {p : Algorithm (Unit {0})} {s t u v : Store} {id : ObjId} (c
     → Leaves p s (declare_functions (plain_functions (drop (i + 1) fs)) c) v
 function_done {p} {s} {t} {u} {v} {id} c i fs f before within is made declared =
     let split : drop i fs ≡ f ∷ drop (i + 1) fs =
-        drop-cons fs i f within ∙ ap (λ g. g ∷ drop (suc i) fs) (sym is) ∙ ap (λ k. f ∷ drop k fs) (sym (add-one i)) in
+    drop-cons fs i f within ∙ ap (λ g. g ∷ drop (suc i) fs) (sym is) ∙ ap (λ k. f ∷ drop k fs) (sym (add-one i)) in
     let left = subst (λ l. Leaves p s (declare_functions (plain_functions l) c) t) split before in
     record {
       on = λ w e rest. left.on w e (comes_on _ made (comes_after declared rest));

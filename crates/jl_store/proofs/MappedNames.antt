@@ -2,7 +2,7 @@
 use Rattle.std.proofs.Common.{◌≡◌, ◌∙◌, ℕ, zero, suc, ◌+◌, ◌<◌, ◌≤◌, Bool, true, false, not, ◌||◌, List, [], ◌∷◌, ◌++◌, length}
 use Rattle.std.proofs.Common.{ap, arith, drop, drop-cons, get_or, length-append, refl, subst, sym}
 use Rattle.std.proofs.Math.ListN.{set}
-use Rattle.std.specs.Prelude.{None, Option, Some, if◌then◌else◌}
+use Rattle.std.specs.Prelude.{None, Option, Some}
 use Rattle.jl_ast.specs.declared.tree.Ident.{Ident}
 use Rattle.jl_scope.proofs.Binding.{with_one}
 use Rattle.jl_scope.specs.Names.{among, same_text, with_name}

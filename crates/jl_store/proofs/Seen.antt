@@ -3,7 +3,7 @@ use Rattle.std.proofs.Common.{◌≡◌, ◌≢◌, ℕ, zero, suc, ◌<◌, ◌
 use Rattle.std.proofs.Math.ListN.{set}
 use Rattle.std.specs.Prelude.{map, Option}
 use Rattle.jl_props.specs.declared.entries.Entry.{Entry}
-use Rattle.jl_meaning.specs.Store.{Binding, Environment}
+use Rattle.jl_meaning.specs.Store.{Environment}
 use Rattle.jl_store.specs.declared.environments.Bound.{Bound}
 use Rattle.jl_store.specs.inner.Inside.{binding_of_entry, environment_with, environments_with}
 
@@ -47,7 +47,7 @@ environments-put (o ∷ os) f g zero d others =
 environments-put (o ∷ os) f g (suc k) d others =
     let here = others 0 (λ e. omega (arith, e)) in
     let tail =
-        environments-put os (λ j. f (suc j)) (λ j. g (suc j)) k d (λ j n. others (suc j) (λ e. n (omega (arith, e)))) in
+    environments-put os (λ j. f (suc j)) (λ j. g (suc j)) k d (λ j n. others (suc j) (λ e. n (omega (arith, e)))) in
     cc
 
 -- one more index is one more environment

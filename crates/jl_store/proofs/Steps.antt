@@ -34,7 +34,7 @@ pub comes_added : {A : Type 0} {s t u : Store} {e : Finish AlgorithmFault (Answe
     → Comes (add_property id x p >>= (λ _. r)) s u e
 comes_added {A} {s} {t} {u} {e} {x} {y} {p} {q} {r} id x_is p_is made rest =
     let made_so : t ≡ after (NewProperty id x p) s =
-        made ∙ ap (λ z. after (NewProperty id z q) s) x_is ∙ ap (λ w. after (NewProperty id x w) s) p_is in
+    made ∙ ap (λ z. after (NewProperty id z q) s) x_is ∙ ap (λ w. after (NewProperty id x w) s) p_is in
     comes_changed (NewProperty id x p) made_so rest
 
 pub comes_by_adding : {s t : Store} {x y : Name} {p q : Prop} (id : ObjId) → y ≡ x → q ≡ p

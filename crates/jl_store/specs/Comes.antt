@@ -14,5 +14,6 @@ leads (Change c p) from to end = leads p (after c from) to end
 leads _ from to end = ⊥
 
 -- the algorithm comes from this store to that one, and to this end
-pub record Comes {A : Type 0} (p : Algorithm A) (from to : Store) (end : Finish AlgorithmFault (Answer A)) : Type 0 where
+pub record Comes {A : Type 0} (p : Algorithm A) (from to : Store) (end : Finish AlgorithmFault (Answer A))
+    : Type 0 where
   pub leads : leads p from to end

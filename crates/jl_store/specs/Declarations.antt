@@ -1,5 +1,5 @@
 -- Declarations of a body whose facts are at hand.
-use Rattle.std.specs.Prelude.{if◌then◌else◌, map, not, ◌&&◌, ◌≡◌, Bool, List, ℕ}
+use Rattle.std.specs.Prelude.{if◌then◌else◌, not, ◌&&◌, ◌≡◌, Bool, List, ℕ}
 use Rattle.jl_scope.specs.Hoisting.{variables}
 use Rattle.jl_scope.specs.Mentions.{mentions}
 use Rattle.jl_scope.specs.Names.{arguments_name}

@@ -1,6 +1,7 @@
 -- What becomes of a parameter when the index that is mapped to it has been defined, by what was asked for (10.6,
 -- [[DefineOwnProperty]], step 5).
-use Rattle.std.specs.Prelude.{codes, if◌then◌else◌, ◌&&◌, ◌≡◌, Bool, IfSome, IsSome, true, false, IsTrue, None, Option, Some, ℕ}
+use Rattle.std.specs.Prelude.{codes, false, if◌then◌else◌, true, ◌&&◌, ◌≡◌, Bool, IfSome, IsSome, IsTrue, None}
+use Rattle.std.specs.Prelude.{Option, Some, ℕ}
 use Rattle.std.specs.Option.{option_map_or}
 use Rattle.std.specs.Str.{bytes_eq}
 use Rattle.jl_value.specs.Indices.{index_of}

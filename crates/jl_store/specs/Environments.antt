@@ -1,6 +1,6 @@
 -- Environments as a list, apart from the objects of a store (10.2).
-use Rattle.std.specs.Prelude.{[], if◌then◌else◌, length, nat_lt, slice_index_or, slice_set, ◌++◌, ◌<◌, ◌∷◌, IfSome, List}
-use Rattle.std.specs.Prelude.{None, Option, Some, ℕ}
+use Rattle.std.specs.Prelude.{[], if◌then◌else◌, length, nat_lt, slice_index_or, slice_set, ◌++◌, ◌<◌, ◌∷◌}
+use Rattle.std.specs.Prelude.{IfSome, List, None, Option, Some, ℕ}
 use Rattle.jl_heap.specs.Objects.{Name}
 use Rattle.jl_meaning.specs.Store.{no_environment, Binding, Environment}
 use Rattle.jl_store.specs.declared.environments.Bound.{Bound}

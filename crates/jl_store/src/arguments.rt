@@ -19,8 +19,8 @@ use jl_text::{List, NoMemory, Text};
 use jl_value::{Class, ObjId, Value, share};
 use std::alloc::Global;
 
-/// The parameters that the indices of arguments are mapped to: an index whose name stands at a later index too is mapped
-/// to none (10.6, step 11). It takes the logarithm of their number for each.
+/// The parameters that the indices of arguments are mapped to: an index whose name stands at a later index too is
+/// mapped to none (10.6, step 11). It takes the logarithm of their number for each.
 fn mapped_names(alloc: Global, params: &[Ident]) -> Result<List<Option<Text>>, NoMemory>
     ensures { IfOk result (λ names. names ≡ mapped_names (names_of params.now)) }
 {

@@ -20,12 +20,7 @@ use std::alloc::Global;
 
 impl Store {
     /// Binds a name to a value, which can be changed, whether it is bound in the environment already or not (10.5).
-    pub fn declare_binding(
-        &mut self,
-        env: usize,
-        name: &Text,
-        value: Value,
-    ) -> Result<(), NoMemory>
+    pub fn declare_binding(&mut self, env: usize, name: &Text, value: Value) -> Result<(), NoMemory>
         ensures { OnOk result (Comes (declare_binding env name.now value) self.old self.new (Ends (gives tt))) }
     {
         if self.has_binding(env, name) {
@@ -40,8 +35,8 @@ impl Store {
         Ok(())
     }
 
-    /// Binds each parameter to its argument, or to undefined. Where a name is there twice, the last one counts (10.5,
-    /// step 4).
+    /// Binds each parameter to its argument, or to undefined. Where a name is there twice, the last one counts
+    /// (10.5, step 4).
     pub fn bind_parameters(
         &mut self,
         env: usize,
@@ -86,8 +81,8 @@ impl Store {
         Ok(())
     }
 
-    /// Gives a binding another value, if it can be changed (10.2.1.1.3). Where it can't, that throws in strict code, and
-    /// else nothing is done.
+    /// Gives a binding another value, if it can be changed (10.2.1.1.3). Where it can't, that throws in strict
+    /// code, and else nothing is done.
     #[tactic(auto, using(crate::proofs::Chains::error_comes))]
     pub fn set_mutable_binding(
         &mut self,
@@ -115,8 +110,8 @@ impl Store {
         Ok(Answer::Throws(thrown))
     }
 
-    /// The value of a name in an environment (8.7.1, 10.2.1.1.4), and undefined where it isn't bound there. It takes no
-    /// memory but where the units of a text have to be copied.
+    /// The value of a name in an environment (8.7.1, 10.2.1.1.4), and undefined where it isn't bound there. It
+    /// takes no memory but where the units of a text have to be copied.
     pub fn binding_value(&self, env: usize, name: &Text) -> Result<Value, NoMemory>
         ensures { IfOk result (λ value. value ≡ binding_value (binding_of self.now env name.now)) }
     {
@@ -126,8 +121,8 @@ impl Store {
         }
     }
 
-    /// PutValue to a name that an environment binds (8.7.2). Where the binding can't be changed, that throws in strict
-    /// code.
+    /// PutValue to a name that an environment binds (8.7.2). Where the binding can't be changed, that throws in
+    /// strict code.
     #[tactic(auto, unfolding(jl_meaning::specs::References::put_value))]
     pub fn put_in_environment(
         &mut self,

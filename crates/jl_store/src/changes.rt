@@ -18,8 +18,8 @@ use jl_text::{NoMemory, Text};
 use jl_value::{Class, ObjId, Value};
 
 impl Store {
-    /// Makes an object, without properties but for the `length` of an array (8.6.2, 15.4.5.2). A prototype that isn't
-    /// there counts as none. Where no memory is left, all is as before.
+    /// Makes an object, without properties but for the `length` of an array (8.6.2, 15.4.5.2). A prototype that
+    /// isn't there counts as none. Where no memory is left, all is as before.
     pub fn new_object(
         &mut self,
         class: Class,
@@ -34,8 +34,8 @@ impl Store {
         self.heap.new_object(class, proto, inner)
     }
 
-    /// Makes a property under a name that the object has no property of. It comes last. Where no memory is left, all is as
-    /// before.
+    /// Makes a property under a name that the object has no property of. It comes last. Where no memory is left,
+    /// all is as before.
     pub fn add_property(&mut self, id: ObjId, name: &Text, property: Prop) -> Result<(), NoMemory>
         requires { IsFree self.old id name.now }
         ensures made { OnOk result (self.new ≡ after (NewProperty id name.now property) self.old) }
@@ -45,8 +45,8 @@ impl Store {
         self.heap.add(id, name, property)
     }
 
-    /// [[DefineOwnProperty]] of the properties that are stored (8.12.9, 15.4.5.1). Where no memory is left, all is as
-    /// before.
+    /// [[DefineOwnProperty]] of the properties that are stored (8.12.9, 15.4.5.1). Where no memory is left, all is
+    /// as before.
     pub fn define_property(
         &mut self,
         id: ObjId,
@@ -94,8 +94,8 @@ impl Store {
         self.environments.push(outer)
     }
 
-    /// Binds a name that an environment doesn't bind yet (10.2.1.1.2, 10.2.1.1.7). The binding comes last. Where no memory
-    /// is left, all is as before.
+    /// Binds a name that an environment doesn't bind yet (10.2.1.1.2, 10.2.1.1.7). The binding comes last. Where no
+    /// memory is left, all is as before.
     pub fn new_binding(&mut self, env: usize, name: &Text, bound: Bound) -> Result<(), NoMemory>
         requires { IsNone (binding_of self.old env name.now) }
         ensures made { OnOk result (self.new ≡ after (NewBinding env (bound_to name.now bound)) self.old) }

@@ -1,7 +1,8 @@
 //! What is bound before the code of a function runs: Declaration Binding Instantiation (10.5).
 ghost use Rattle.std.specs.Prelude.{◌≡◌, IsNone, OnOk};
 ghost use Rattle.jl_effects.specs.Running.{Ends};
-ghost use Rattle.jl_meaning.specs.DeclarationBinding.{bind_arguments, declare_body, declare_function, declare_functions};
+ghost use Rattle.jl_meaning.specs.DeclarationBinding.{bind_arguments, declare_body, declare_function};
+ghost use Rattle.jl_meaning.specs.DeclarationBinding.{declare_functions};
 ghost use Rattle.jl_meaning.specs.FunctionObjects.{function_name};
 ghost use Rattle.jl_meaning.specs.Parts.{gives};
 ghost use Rattle.jl_meaning.specs.Store.{binding_of};
@@ -17,7 +18,8 @@ use jl_ast::{Body, Function, Ident};
 use jl_text::{NoMemory, Text};
 use jl_value::{ObjId, Value};
 
-/// What a body declares, found once and not at each call: its variables, each once, and whether it mentions `arguments`.
+/// What a body declares, found once and not at each call: its variables, each once, and whether it mentions
+/// `arguments`.
 #[derive(Drop)]
 pub struct Declared {
     pub variables: Vec<Text>,
@@ -64,8 +66,8 @@ impl Store {
         args: &[Value],
     ) -> Result<(), NoMemory>
         requires { IsNone (binding_of self.old env arguments_name) }
-        ensures { OnOk result (Comes (bind_arguments strict callee env (names_of params.now) args.now) self.old self.new
-            (Ends (gives tt))) }
+        ensures { OnOk result (Comes (bind_arguments strict callee env (names_of params.now) args.now) self.old
+            self.new (Ends (gives tt))) }
     {
         let name = word(self.alloc, "arguments")?;
         let id = self.create_arguments_object(strict, callee, env, params, args)?;

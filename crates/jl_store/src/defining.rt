@@ -12,7 +12,8 @@ ghost use Rattle.jl_meaning.specs.Properties.{mapped_parameter};
 ghost use Rattle.jl_conv.specs.Conversions.{is_object};
 ghost use Rattle.jl_store.specs.Answers.{finished};
 ghost use Rattle.jl_store.specs.Comes.{Comes};
-ghost use Rattle.jl_store.specs.Defining.{end_mapping_where, IsLengthOf, length_given, LengthIsPrimitive, remapped, remapped_if, remapping_of};
+ghost use Rattle.jl_store.specs.Defining.{end_mapping_where, IsLengthOf, length_given, LengthIsPrimitive};
+ghost use Rattle.jl_store.specs.Defining.{remapped, remapped_if, remapping_of};
 ghost use Rattle.jl_value.specs.Indices.{index_of};
 
 use crate::answer::{AlgorithmFault, Finished};
@@ -88,7 +89,8 @@ impl Store {
         name: &Text,
         change: &Change,
     ) -> Result<Option<Remapping>, NoMemory>
-        ensures { IfOk result (λ r. option_map (remapping_of change.now) (mapped_parameter self.now id.0 name.now) ≡ r) }
+        ensures { IfOk result (λ r.
+            option_map (remapping_of change.now) (mapped_parameter self.now id.0 name.now) ≡ r) }
     {
         let Some((env, parameter)) = self.mapped_parameter(id, name) else {
             return Ok(None);
@@ -102,8 +104,8 @@ impl Store {
         }))
     }
 
-    /// [[DefineOwnProperty]] of a change in which a length of an array is a number already: whether it is done (8.12.9,
-    /// 10.6, 15.4.5.1).
+    /// [[DefineOwnProperty]] of a change in which a length of an array is a number already: whether it is done
+    /// (8.12.9, 10.6, 15.4.5.1).
     pub fn define_with_number(
         &mut self,
         id: ObjId,
@@ -125,9 +127,9 @@ impl Store {
         }
     }
 
-    /// [[DefineOwnProperty]] (8.12.9, 10.6, 15.4.5.1), where no function is called: a value that is given for the length of
-    /// an array is no object. Such a value is converted to a number: that ends the run where no number is the result, and
-    /// throws where the number is no length.
+    /// [[DefineOwnProperty]] (8.12.9, 10.6, 15.4.5.1), where no function is called: a value that is given for the
+    /// length of an array is no object. Such a value is converted to a number: that ends the run where no number is
+    /// the result, and throws where the number is no length.
     #[tactic(auto, unfolding(jl_meaning::specs::Defining::define_own_property))]
     pub fn define_own_property(
         &mut self,
@@ -137,7 +139,8 @@ impl Store {
     ) -> Result<Finished<bool>, NoMemory>
         requires one_kind { IsOneKind change }
         requires primitive { LengthIsPrimitive self.old.heap id.0 name.now change }
-        ensures { IfOk result (λ end. Comes (define_own_property id name.now change) self.old self.new (finished end)) }
+        ensures { IfOk result (λ end.
+            Comes (define_own_property id name.now change) self.old self.new (finished end)) }
     {
         let Some(value) = self.length_given(id, name, &change) else {
             return Ok(Finished::Gives(self.define_with_number(id, name, change)?));
@@ -165,8 +168,8 @@ impl Store {
         change.value.as_ref()
     }
 
-    /// A value as a length (15.4.5.1, steps 3.c and 3.d). It throws where the number is none, and ends the run where the
-    /// value has none.
+    /// A value as a length (15.4.5.1, steps 3.c and 3.d). It throws where the number is none, and ends the run
+    /// where the value has none.
     fn to_length(&mut self, value: &Value) -> Result<Finished<Num>, NoMemory>
         requires { is_object value.now ≡ false }
         ensures { IfOk result (λ end. IsLengthOf value.now self.old self.new end) }

@@ -15,8 +15,8 @@ pub struct Bound {
     pub mutable: bool,
 }
 
-/// The environments of a run, each at its index, from 0. They are never given up. Contracts see of each the index of the
-/// one around it, which is smaller, and its bindings in the order in which they were made.
+/// The environments of a run, each at its index, from 0. They are never given up. Contracts see of each the index
+/// of the one around it, which is smaller, and its bindings in the order in which they were made.
 #[derive(Drop)]
 pub(crate) struct Environments {
     alloc: Global,
@@ -100,11 +100,15 @@ impl Environments {
     fn outer_there(&self, outer: usize) -> Option<usize>
         ensures { result ≡ outer_in self.now outer }
     {
-        if outer < self.len() { Some(outer) } else { None }
+        if outer < self.len() {
+            Some(outer)
+        } else {
+            None
+        }
     }
 
-    /// Binds a name that isn't bound in an environment yet. The binding comes last; where the environment isn't there,
-    /// nothing changes. Where no memory is left, all is as before.
+    /// Binds a name that isn't bound in an environment yet. The binding comes last; where the environment isn't
+    /// there, nothing changes. Where no memory is left, all is as before.
     pub(crate) fn bind(&mut self, env: usize, name: Text, bound: Bound) -> Result<(), NoMemory>
         requires { IsNone (binding_named name (environment_in self.old env).bindings) }
         ensures made { OnOk result (self.new

@@ -29,11 +29,7 @@ impl Store {
         ensures { IfOk result (λ thrown. MakesError kind message self.old self.new thrown) }
     {
         let name = word(self.alloc, "message")?;
-        let error = self.new_object(
-            Class::Error,
-            Some(prototype_of_error(kind)),
-            Inner::Nothing,
-        )?;
+        let error = self.new_object(Class::Error, Some(prototype_of_error(kind)), Inner::Nothing)?;
         self.add_property(
             error,
             &name,
@@ -68,8 +64,8 @@ impl Store {
         Ok(Answer::Throws(thrown))
     }
 
-    /// Makes the error that nothing binds a name, to be thrown (8.7.1, 8.7.2), or gives up where its message would be too
-    /// long.
+    /// Makes the error that nothing binds a name, to be thrown (8.7.1, 8.7.2), or gives up where its message would
+    /// be too long.
     pub fn throw_not_defined(&mut self, name: &Text) -> Result<NotDefined, NoMemory>
         ensures { IfOk result (λ answer. IsNotDefined name.now self.old self.new answer) }
     {

@@ -47,8 +47,8 @@ impl Store {
     ghost use Rattle.jl_store.specs.Changes.{IsFree};
     ghost use Rattle.jl_store.specs.Plain.{plain_function};
 
-    /// Creates a function object for a function of the script in an environment, with its length, and with a prototype
-    /// whose constructor it is (13.2).
+    /// Creates a function object for a function of the script in an environment, with its length, and with a
+    /// prototype whose constructor it is (13.2).
     #[tactic(auto, unfolding(jl_meaning::specs::FunctionObjects::create_function))]
     pub fn create_function(
         &mut self,
@@ -88,7 +88,8 @@ impl Store {
         Ok(())
     }
 
-    /// Adds the two properties of a strict function that throw a TypeError (13.2, step 19, 15.3.4.5, steps 20 and 21).
+    /// Adds the two properties of a strict function that throw a TypeError (13.2, step 19, 15.3.4.5, steps 20 and
+    /// 21).
     #[tactic(auto, unfolding(jl_scope::specs::Names::arguments_name))]
     pub fn add_poison(&mut self, f: ObjId) -> Result<(), NoMemory>
         requires caller { IsFree self.old f (codes "caller") }
@@ -111,8 +112,8 @@ impl Store {
         env: usize,
         f: &Function,
     ) -> Result<ObjId, NoMemory>
-        ensures made { IfOk result (λ id. Comes (make_function outer_strict env (plain_function f.now)) self.old self.new
-            (Ends (gives id))) }
+        ensures made { IfOk result (λ id. Comes (make_function outer_strict env (plain_function f.now)) self.old
+            self.new (Ends (gives id))) }
         ensures rest { OnOk result (self.new.environments ≡ self.old.environments) }
     {
         let strict = is_strict(outer_strict, &f.body);
@@ -120,8 +121,8 @@ impl Store {
         Ok(id)
     }
 
-    /// Makes a function object for a function expression. One with a name has an environment in which the name is bound,
-    /// and can't be changed (clause 13).
+    /// Makes a function object for a function expression. One with a name has an environment in which the name is
+    /// bound, and can't be changed (clause 13).
     #[tactic(auto, using(jl_ast::proofs::Views::nodes, crate::proofs::Trees::plain_is))]
     pub fn make_function_expression(
         &mut self,
@@ -148,8 +149,8 @@ impl Store {
         f: &Function,
         name: &Text,
     ) -> Result<ObjId, NoMemory>
-        ensures { IfOk result (λ id. Comes (make_named outer_strict env (plain_function f.now) (Some name.now)) self.old
-            self.new (Ends (gives id))) }
+        ensures { IfOk result (λ id. Comes (make_named outer_strict env (plain_function f.now) (Some name.now))
+            self.old self.new (Ends (gives id))) }
     {
         let inside = self.new_environment(env)?;
         let id = self.make_function(outer_strict, inside, f)?;

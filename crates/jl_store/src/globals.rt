@@ -12,8 +12,8 @@ use jl_text::{NoMemory, Text};
 use jl_value::{ObjId, Value};
 
 impl Store {
-    /// Makes a property of the global object for a name that is declared: it can't be deleted (10.2.1.2.2). It throws where
-    /// that can't be.
+    /// Makes a property of the global object for a name that is declared: it can't be deleted (10.2.1.2.2). It
+    /// throws where that can't be.
     pub fn create_global(&mut self, name: &Text) -> Result<Finished<()>, NoMemory>
         ensures { IfOk result (λ end. Comes (create_global name.now) self.old self.new (finished end)) }
     {
@@ -32,8 +32,8 @@ impl Store {
         }
     }
 
-    /// Declares the variables of a program: each is undefined where the global object has no property of its name yet
-    /// (10.5, step 8).
+    /// Declares the variables of a program: each is undefined where the global object has no property of its name
+    /// yet (10.5, step 8).
     pub fn declare_global_variables(&mut self, names: &[Text]) -> Result<Finished<()>, NoMemory>
         ensures { IfOk result (λ end. Comes (declare_global_variables names.now) self.old self.new (finished end)) }
     {

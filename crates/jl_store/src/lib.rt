@@ -2,6 +2,8 @@
 #![tactic(auto)]
 
 mod answer;
+mod arguments;
+mod bindings;
 mod changes;
 mod declarations;
 mod defining;
@@ -12,8 +14,6 @@ mod functions;
 mod globals;
 mod inner;
 mod intrinsics;
-mod arguments;
-mod bindings;
 mod name_set;
 mod names;
 mod objects;

@@ -7,8 +7,8 @@ use std::alloc::Global;
 use std::collections::BTreeSet;
 use std::marker::Model;
 
-/// Names, each once. They are kept in order and not hashed, so whoever chooses the names can't make a call take longer
-/// than the logarithm of their number. Contracts see them as a list of texts.
+/// Names, each once. They are kept in order and not hashed, so whoever chooses the names can't make a call take
+/// longer than the logarithm of their number. Contracts see them as a list of texts.
 #[derive(Drop)]
 pub(crate) struct NameSet<'a> {
     names: BTreeSet<&'a [u16]>,

@@ -3,7 +3,8 @@ ghost use Rattle.std.specs.Prelude.{◌≡◌};
 ghost use Rattle.std.specs.Option.{option_copied, option_map};
 ghost use Rattle.std.specs.Str.{bytes_eq};
 ghost use Rattle.jl_heap.specs.Define.{length_name};
-ghost use Rattle.jl_meaning.specs.Properties.{get_own_property, get_property, has_property, inherited_property, mapped_parameter};
+ghost use Rattle.jl_meaning.specs.Properties.{get_own_property, get_property, has_property, inherited_property};
+ghost use Rattle.jl_meaning.specs.Properties.{mapped_parameter};
 ghost use Rattle.jl_meaning.specs.Properties.{parameter_at, parameter_value, property_of_value, property_on};
 ghost use Rattle.jl_meaning.specs.Properties.{holding, own_or_inherited, string_property};
 ghost use Rattle.jl_store.specs.LookUps.{property_found, property_seen};
@@ -135,8 +136,8 @@ impl Store {
         self.get_property(id, name).is_some()
     }
 
-    /// The property of a value under a name; that of a value that is no object is one of the object that ToObject would
-    /// make of it (8.7.1).
+    /// The property of a value under a name; that of a value that is no object is one of the object that ToObject
+    /// would make of it (8.7.1).
     #[tactic(auto, unfolding(jl_meaning::specs::Properties::property_of_value))]
     pub fn property_of_value(&self, base: &Value, name: &Text) -> Option<Property<'_>>
         ensures { option_map property_seen result ≡ property_of_value self.now base.now name.now }

@@ -12,8 +12,8 @@ use jl_value::{Class, ObjId};
 use std::alloc::Global;
 use std::marker::Model;
 
-/// The store of a run: its objects (8.6), and the environments in which names are bound (10.2). Neither are ever given up.
-/// Contracts see it as the store of the language's definitions.
+/// The store of a run: its objects (8.6), and the environments in which names are bound (10.2). Neither are ever
+/// given up. Contracts see it as the store of the language's definitions.
 #[derive(Drop)]
 pub struct Store {
     pub(crate) alloc: Global,

@@ -1,5 +1,5 @@
 -- How the parts of the environments are seen, and what they keep to.
-use Rattle.std.specs.Prelude.{[], length, map, nat_lt, slice_get, suc, true, ◌∷◌, ◌≡◌, ◌≤◌, Bool, IsTrue, List, None}
+use Rattle.std.specs.Prelude.{[], length, map, nat_lt, slice_get, suc, true, ◌∷◌, ◌≡◌, ◌≤◌, Bool, IsTrue, List}
 use Rattle.std.specs.Prelude.{Option, Some, ℕ}
 use Rattle.jl_props.specs.Store.{entries_of}
 use Rattle.jl_props.specs.declared.entries.Entry.{Entry}

@@ -1,4 +1,4 @@
-use Rattle.std.proofs.Common.{◌≡◌, ◌∙◌, ◌-◌, ◌<◌, ◌≤◌, ◌++◌, suc, ap, arith, drop, length, subst}
+use Rattle.std.proofs.Common.{◌≡◌, ◌∙◌, ◌-◌, ◌<◌, ◌≤◌, ◌++◌, suc, arith, drop, length, subst}
 use Rattle.jl_meaning.specs.ArgumentsObject.{mapped_names}
 use Rattle.jl_scope.specs.inner.NameSets.{SameNames}
 use Rattle.jl_store.specs.Plain.{names_of}
@@ -17,8 +17,8 @@ loop-at-preserved-then-branch c =
     let next : c.loop-at.at ≡ suc (c.loop-at.at - 1) = omega (arith, c.loop-at-test.true) in
     let within : c.loop-at.at - 1 < length c.args.params.now = omega (arith, c.loop-at-test.true, c.loop-at.invariant.within) in
     let mapped =
-        subst (λ n. c.loop-at.names ≡ unmapped n ++ mapped_names (names_of (drop n c.args.params.now))) next
-        c.loop-at.invariant.mapped in
+    subst (λ n. c.loop-at.names ≡ unmapped n ++ mapped_names (names_of (drop n c.args.params.now))) next
+    c.loop-at.invariant.mapped in
     let same = subst (λ n. SameNames c.loop-at.later (names_of (drop n c.args.params.now))) next c.loop-at.invariant.same in
     record {
       mapped =
@@ -38,8 +38,8 @@ loop-at-preserved c =
     let next : c.loop-at.at ≡ suc (c.loop-at.at - 1) = omega (arith, c.loop-at-test.true) in
     let within : c.loop-at.at - 1 < length c.args.params.now = omega (arith, c.loop-at-test.true, c.loop-at.invariant.within) in
     let mapped =
-        subst (λ n. c.loop-at.names ≡ unmapped n ++ mapped_names (names_of (drop n c.args.params.now))) next
-        c.loop-at.invariant.mapped in
+    subst (λ n. c.loop-at.names ≡ unmapped n ++ mapped_names (names_of (drop n c.args.params.now))) next
+    c.loop-at.invariant.mapped in
     let same = subst (λ n. SameNames c.loop-at.later (names_of (drop n c.args.params.now))) next c.loop-at.invariant.same in
     record {
       mapped =

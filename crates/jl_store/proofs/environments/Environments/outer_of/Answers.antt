@@ -1,4 +1,4 @@
-use Rattle.std.proofs.Common.{◌≡◌, ◌∙◌, ap, rules, sym}
+use Rattle.std.proofs.Common.{◌∙◌, ap, sym}
 use Rattle.std.specs.Option.{option_copied}
 use Rattle.jl_store.proofs.EnvironmentSteps.{joined, outer_is, outers_are_before}
 use Rattle.jl_store.proofs.environments.Environments.outer_of.Goals as goal

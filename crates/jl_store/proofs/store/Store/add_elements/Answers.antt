@@ -1,4 +1,4 @@
-use Rattle.std.proofs.Common.{◌∙◌, add-one, ap, refl, subst, sym, true}
+use Rattle.std.proofs.Common.{◌∙◌, add-one, ap, subst, sym, true}
 use Rattle.jl_heap.specs.declared.property.Prop.TheVariants.{Plain}
 use Rattle.jl_store.specs.Changes.{HasNames}
 use Rattle.jl_store.specs.inner.Arguments.{names_with}

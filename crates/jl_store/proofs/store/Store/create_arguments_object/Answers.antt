@@ -1,4 +1,4 @@
-use Rattle.std.proofs.Common.{◌∙◌, [], ap, false, length, refl, true}
+use Rattle.std.proofs.Common.{◌∙◌, ap, false, length, refl, true}
 use Rattle.std.specs.Prelude.{codes, Some}
 use Rattle.jl_value.specs.declared.object.Class.TheVariants as class
 use Rattle.jl_heap.specs.Define.{length_name}

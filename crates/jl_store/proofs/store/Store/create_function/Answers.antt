@@ -2,7 +2,6 @@ use Rattle.std.proofs.Common.{◌∙◌, [], ◌∷◌, ap, false, refl}
 use Rattle.std.specs.Prelude.{codes}
 use Rattle.jl_heap.specs.Define.{length_name}
 use Rattle.jl_heap.specs.declared.property.Prop.TheVariants.{Plain}
-use Rattle.jl_value.specs.declared.object.ObjId.{ObjId}
 use Rattle.jl_scope.specs.Names.{arguments_name}
 use Rattle.jl_meaning.specs.FunctionObjects.{create_function}
 use Rattle.jl_store.specs.Changes.{HasNames}

@@ -1,4 +1,4 @@
-use Rattle.std.proofs.Common.{ap, drop, subst, ◌+◌}
+use Rattle.std.proofs.Common.{drop, subst, ◌+◌}
 use Rattle.jl_meaning.specs.DeclarationBinding.{declare_global_variables}
 use Rattle.jl_store.specs.Answers.{finished}
 use Rattle.jl_store.specs.Bindings.{declare_global_variable}

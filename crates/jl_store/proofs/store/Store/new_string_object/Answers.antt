@@ -1,6 +1,4 @@
-use Rattle.std.proofs.Common.{◌∙◌, ap, false, refl}
-use Rattle.jl_heap.specs.Define.{length_name}
-use Rattle.jl_heap.specs.declared.property.Prop.TheVariants.{Plain}
+use Rattle.std.proofs.Common.{refl}
 use Rattle.jl_store.proofs.Fresh.{is_free, names_new}
 use Rattle.jl_store.proofs.store.Store.new_string_object.Goals as goal
 
