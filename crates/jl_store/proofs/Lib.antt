@@ -1,0 +1,17 @@
+pub mod Seen
+pub mod BindingEntries
+pub mod EnvironmentSteps
+pub mod Fresh
+pub mod Chains
+pub mod Steps
+pub mod Continuations
+pub mod Fuel
+pub mod Loops
+pub mod Trees
+pub mod MadeFunctions
+pub mod Defined
+pub mod IndexNames
+pub mod MappedNames
+pub mod DeclaredBodies
+pub mod Lengths
+pub mod GlobalNames

@@ -1,0 +1,10 @@
+pub mod Environments
+pub mod Changes
+pub mod Comes
+pub mod Answers
+pub mod LookUps
+pub mod inner
+pub mod Bindings
+pub mod Plain
+pub mod Defining
+pub mod Declarations

@@ -1,0 +1,65 @@
+//! Words of the standard, indices and counts, as texts and values.
+ghost use Rattle.std.specs.Prelude.{◌≡◌, pos, IfOk, Some};
+ghost use Rattle.jl_meaning.specs.FunctionObjects.{whole};
+ghost use Rattle.jl_meaning.specs.forms.Literals.{index_name};
+
+use jl_num::{Num, digits};
+use jl_text::{NoMemory, Text, TextFault};
+use jl_value::Value;
+use std::alloc::Global;
+
+/// The text of a word of ASCII characters.
+pub(crate) fn word(alloc: Global, word: &str) -> Result<Text, NoMemory>
+    ensures { IfOk result (λ text. text ≡ word.now) }
+{
+    ascii(alloc, word.as_bytes())
+}
+
+/// The name of an index (9.8.1).
+pub(crate) fn index_name(alloc: Global, index: usize) -> Result<Text, NoMemory>
+    ensures { IfOk result (λ text. text ≡ index_name index) }
+{
+    let digits = digits(alloc, number(index)?, 10)?;
+    ascii(alloc, digits.as_slice())
+}
+
+/// The text of ASCII characters.
+fn ascii(alloc: Global, bytes: &[u8]) -> Result<Text, NoMemory>
+    ensures { IfOk result (λ text. text ≡ bytes.now) }
+{
+    let mut units = Vec::with_capacity(alloc, bytes.len())?;
+    for byte in bytes {
+        units.push(u16::from(*byte))?;
+    }
+    text_of(alloc, units.as_slice())
+}
+
+/// The text of units that are far fewer than a text may have.
+pub(crate) fn text_of(alloc: Global, units: &[u16]) -> Result<Text, NoMemory>
+    ensures { IfOk result (λ text. text ≡ units.now) }
+{
+    match Text::from_units(alloc, units) {
+        Ok(text) => Ok(text),
+        Err(TextFault::NoMemory | TextFault::TooLong) => Err(NoMemory),
+    }
+}
+
+/// A count of things that are in memory, as a value.
+pub(crate) fn count(n: usize) -> Result<Value, NoMemory>
+    ensures { IfOk result (λ value. value ≡ whole n) }
+{
+    Ok(Value::Num(number(n)?))
+}
+
+/// A count of things that are in memory. No memory holds more things than there are numbers.
+fn number(n: usize) -> Result<Num, NoMemory>
+    ensures { IfOk result (λ number. number ≡ Some (pos n)) }
+{
+    match i64::try_from(n) {
+        Ok(n) => match Num::new(n) {
+            Ok(number) => Ok(number),
+            Err(_) => Err(NoMemory),
+        },
+        Err(_) => Err(NoMemory),
+    }
+}
