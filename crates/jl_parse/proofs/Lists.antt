@@ -406,7 +406,6 @@ module _ (ts : List Token) (d : Deeper) where
   unfolding accessor_at
   accessor_read by i ps c j e f g = rw (accessor_at, e, f, g) refl
 
-
   pub getter_one : (i : ℕ) (ps : List CodeIdent) (c : Code) (j : ℕ) (f : Tree Span tree.func) (k : ℕ) → length ps ≡ 0
       → made (d.room i) (tree.function 0 None (map view_ident ps) c (span ts i j)) j done ≡ Some (f, k)
       → getter_by ts d i (map view_ident ps) c j ≡ Some (tree.getter (key_ident_at ts (suc i)) f, k)

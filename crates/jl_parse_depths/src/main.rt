@@ -32,7 +32,18 @@ fn main(rt: HostRuntime) -> Result<()> {
 
 fn answer(alloc: Global, row: &str) -> Result<&'static str> {
     let fields: Vec<&str> = row.split('|').collect(alloc)?;
-    let [limit, before, open, opens, inside, link, links, close, closes] = fields.as_slice() else {
+    let [
+        limit,
+        before,
+        open,
+        opens,
+        inside,
+        link,
+        links,
+        close,
+        closes,
+    ] = fields.as_slice()
+    else {
         bail!("not nine fields");
     };
     let mut level = String::new(alloc);
