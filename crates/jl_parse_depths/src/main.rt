@@ -19,10 +19,9 @@ fn main(rt: HostRuntime) -> Result<()> {
         let line = line?;
         if let Some((row, wanted)) = line.split_once(" => ") {
             rows = rows.wrapping_add(1);
-            let given = answer(alloc, row)?;
-            if given != wanted {
+            if is_accepted(alloc, row)? != is_due(wanted)? {
                 differ = differ.wrapping_add(1);
-                println!(rt; "{row} => {given}, where {wanted} is due")?;
+                println!(rt; "{row} is answered otherwise, where {wanted} is due")?;
             }
         }
     }
@@ -30,9 +29,28 @@ fn main(rt: HostRuntime) -> Result<()> {
     Ok(())
 }
 
-fn answer(alloc: Global, row: &str) -> Result<&'static str> {
+fn is_due(wanted: &str) -> Result<bool> {
+    match wanted {
+        "accepted" => Ok(true),
+        "refused" => Ok(false),
+        _ => bail!("neither accepted nor refused"),
+    }
+}
+
+fn is_accepted(alloc: Global, row: &str) -> Result<bool> {
     let fields: Vec<&str> = row.split('|').collect(alloc)?;
-    let [limit, before, open, opens, inside, link, links, close, closes] = fields.as_slice() else {
+    let [
+        limit,
+        before,
+        open,
+        opens,
+        inside,
+        link,
+        links,
+        close,
+        closes,
+    ] = fields.as_slice()
+    else {
         bail!("not nine fields");
     };
     let mut level = String::new(alloc);
@@ -43,7 +61,7 @@ fn answer(alloc: Global, row: &str) -> Result<&'static str> {
     push_times(&mut source, open, opens.parse::<u32>()?)?;
     source.push_str(inside)?;
     push_times(&mut source, level.as_str(), closes.parse::<u32>()?)?;
-    parsed(alloc, source.as_bytes(), limit.parse::<u32>()?)
+    is_program(alloc, source.as_bytes(), limit.parse::<u32>()?)
 }
 
 /// Adds the piece that often at the end.
@@ -55,7 +73,7 @@ fn push_times(text: &mut String, piece: &str, times: u32) -> Result<()> {
 }
 
 /// Whether the source is a program within the limit.
-fn parsed(alloc: Global, bytes: &[u8], limit: u32) -> Result<&'static str> {
+fn is_program(alloc: Global, bytes: &[u8], limit: u32) -> Result<bool> {
     let units = match from_utf8(alloc, bytes) {
         Ok(units) => units,
         Err(Utf8Fault::NotUtf8 { at }) => bail!("not UTF-8 at {at}"),
@@ -73,8 +91,8 @@ fn parsed(alloc: Global, bytes: &[u8], limit: u32) -> Result<&'static str> {
         bail!("too many tokens");
     }
     match parse(alloc, tokens.items(), limit) {
-        Ok(_program) => Ok("accepted"),
-        Err(ParseRefusal::Unreadable { .. }) => Ok("refused"),
+        Ok(_program) => Ok(true),
+        Err(ParseRefusal::Unreadable { .. }) => Ok(false),
         Err(ParseRefusal::NoMemory) => bail!("no memory"),
     }
 }
