@@ -3,7 +3,7 @@ use Rattle.std.proofs.Common.{Bool, sym, ◌≡◌, ◌∙◌, ℕ, List, [], �
 use Rattle.std.specs.Prelude.{option_map, None, Option, Some}
 use Rattle.jl_ast.specs.Spans.{ident, map_forest, map_tree}
 use Rattle.jl_ast.specs.Tree as tree
-use Rattle.jl_ast.specs.View.{view_ident, view_statements}
+use Rattle.jl_ast.specs.View.{view_body, view_ident, view_statements}
 use Rattle.jl_ast.specs.declared.tree.Body.{Body, out-Body}
 use Rattle.jl_ast.specs.declared.tree.Function.{Function, out-Function}
 use Rattle.jl_ast.specs.declared.tree.Ident.{Ident}

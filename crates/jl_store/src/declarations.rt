@@ -30,7 +30,6 @@ pub struct Declared {
 
 impl Declared {
     /// What a body declares.
-    #[tactic(auto, using(crate::proofs::Trees::declares_plain))]
     pub fn of(alloc: Global, body: &Body) -> Result<Declared, NoMemory>
         ensures { IfOk result (λ declared.
             Declares (plain_code body.now) declared.variables.items declared.mentions_arguments) }
