@@ -61,8 +61,8 @@ impl Store {
         Ok(end)
     }
 
-    /// Makes the global object ready for a declared function of this name (10.5, step 5.e): a property that can be deleted,
-    /// or none, is made anew, and any other has to be one that the function may take over, or that throws.
+    /// Makes the global object ready for a declared function of this name (10.5, step 5.e): a property that can be
+    /// deleted, or none, is made anew, and any other has to be one that the function may take over, or that throws.
     pub fn prepare_global(&mut self, name: &Text) -> Result<Finished<()>, NoMemory>
         ensures { IfOk result (λ end.
             Comes (prepare_global name.now (get_property self.old global_object.0 name.now)) self.old self.new
