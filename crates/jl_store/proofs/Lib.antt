@@ -15,3 +15,4 @@ pub mod MappedNames
 pub mod DeclaredBodies
 pub mod Lengths
 pub mod GlobalNames
+pub mod Places

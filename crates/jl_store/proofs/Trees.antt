@@ -1,12 +1,18 @@
 -- Trees without places.
-use Rattle.std.proofs.Common.{◌≡◌, ◌∙◌, ℕ, List, [], ◌∷◌, map, ap, refl}
+use Rattle.std.proofs.Common.{Bool, sym, ◌≡◌, ◌∙◌, ℕ, List, [], ◌∷◌, map, ap, refl}
 use Rattle.std.specs.Prelude.{option_map, None, Option, Some}
 use Rattle.jl_ast.specs.Spans.{ident, map_forest, map_tree}
 use Rattle.jl_ast.specs.Tree as tree
-use Rattle.jl_ast.specs.View.{view_ident, view_statements}
+use Rattle.jl_ast.specs.View.{view_body, view_ident, view_statements}
 use Rattle.jl_ast.specs.declared.tree.Body.{Body, out-Body}
 use Rattle.jl_ast.specs.declared.tree.Function.{Function, out-Function}
 use Rattle.jl_ast.specs.declared.tree.Ident.{Ident}
+use Rattle.jl_scope.specs.Hoisting.{variables}
+use Rattle.jl_scope.specs.Mentions.{mentions}
+use Rattle.jl_scope.specs.Names.{arguments_name}
+use Rattle.jl_heap.specs.Objects.{Name}
+use Rattle.jl_store.specs.Declarations.{Declares}
+use Rattle.jl_store.proofs.Places.{mentions_same, variables_same}
 use Rattle.jl_ast.proofs.Views.{body_is, function_is}
 use Rattle.jl_meaning.specs.FunctionObjects.{function_body, function_name, function_params}
 use Rattle.jl_store.specs.Plain.{names_of, plain_code, plain_function, plain_functions}
@@ -46,3 +52,11 @@ pub name_is : (f : Function) (o : Option Ident) → (out-Function f).name ≡ o
     → function_name (plain_function f) ≡ option_map (λ (x : Ident). x.text) o
 name_is f o is =
     ap function_name (plain_is f) ∙ name_of (out-Function f).name ∙ ap (option_map (λ (x : Ident). x.text)) is
+
+-- what a body declares, without places and with them
+pub declares_plain : (b : Body) (names : List Name) (mentioned : Bool) → names ≡ variables (view_body b)
+    → mentioned ≡ mentions arguments_name (view_body b) → Declares (plain_code b) names mentioned
+declares_plain b names mentioned are is = record {
+  are_variables = are ∙ sym (variables_same (λ s. 0) (view_body b));
+  is_mentioned = is ∙ sym (mentions_same (λ s. 0) arguments_name (view_body b));
+}

@@ -1,5 +1,5 @@
 //! What is bound before the code of a function runs: Declaration Binding Instantiation (10.5).
-ghost use Rattle.std.specs.Prelude.{◌≡◌, IsNone, OnOk};
+ghost use Rattle.std.specs.Prelude.{IfOk, IsNone, OnOk};
 ghost use Rattle.jl_effects.specs.Running.{Ends};
 ghost use Rattle.jl_meaning.specs.DeclarationBinding.{bind_arguments, declare_body, declare_function};
 ghost use Rattle.jl_meaning.specs.DeclarationBinding.{declare_functions};
@@ -15,8 +15,10 @@ use crate::environments::Bound;
 use crate::store::Store;
 use crate::words::word;
 use jl_ast::{Body, Function, Ident};
+use jl_scope::{mentions_arguments, vars};
 use jl_text::{NoMemory, Text};
 use jl_value::{ObjId, Value};
+use std::alloc::Global;
 
 /// What a body declares, found once and not at each call: its variables, each once, and whether it mentions
 /// `arguments`.
@@ -24,6 +26,21 @@ use jl_value::{ObjId, Value};
 pub struct Declared {
     pub variables: Vec<Text>,
     pub mentions_arguments: bool,
+}
+
+impl Declared {
+    /// What a body declares.
+    pub fn of(alloc: Global, body: &Body) -> Result<Declared, NoMemory>
+        ensures { IfOk result (λ declared.
+            Declares (plain_code body.now) declared.variables.items declared.mentions_arguments) }
+    {
+        let variables = vars(alloc, body)?;
+        let mentions_arguments = mentions_arguments(body);
+        Ok(Declared {
+            variables,
+            mentions_arguments,
+        })
+    }
 }
 
 impl Store {

@@ -1,6 +1,9 @@
 //! What a program declares, as properties of the global object (10.5).
-ghost use Rattle.std.specs.Prelude.{IfOk};
-ghost use Rattle.jl_meaning.specs.DeclarationBinding.{create_global, declare_global_variables};
+ghost use Rattle.std.specs.Prelude.{◌≡◌, IfOk};
+ghost use Rattle.jl_meaning.specs.DeclarationBinding.{can_be_made_anew, can_be_taken_over, create_global};
+ghost use Rattle.jl_meaning.specs.DeclarationBinding.{declare_global_variables, prepare_global};
+ghost use Rattle.jl_meaning.specs.Intrinsics.{global_object};
+ghost use Rattle.jl_meaning.specs.Properties.{get_property};
 ghost use Rattle.jl_store.specs.Answers.{finished};
 ghost use Rattle.jl_store.specs.Bindings.{declare_global_variable};
 ghost use Rattle.jl_store.specs.Comes.{Comes};
@@ -56,5 +59,38 @@ impl Store {
         }
         let end = self.create_global(name)?;
         Ok(end)
+    }
+
+    /// Makes the global object ready for a declared function of this name (10.5, step 5.e): a property that can be
+    /// deleted, or none, is made anew, and any other has to be one that the function may take over, or that throws.
+    pub fn prepare_global(&mut self, name: &Text) -> Result<Finished<()>, NoMemory>
+        ensures { IfOk result (λ end.
+            Comes (prepare_global name.now (get_property self.old global_object.0 name.now)) self.old self.new
+            (finished end)) }
+    {
+        if self.can_be_made_anew(name) {
+            let end = self.create_global(name)?;
+            return Ok(end);
+        }
+        let taken_over = self.can_be_taken_over(name);
+        Ok(finish(self.require(taken_over, "cannot define")?))
+    }
+
+    fn can_be_made_anew(&self, name: &Text) -> bool
+        ensures { result ≡ can_be_made_anew (get_property self.now global_object.0 name.now) }
+    {
+        match self.get_property(ObjId::GLOBAL, name) {
+            None => true,
+            Some(property) => property.found.is_configurable(),
+        }
+    }
+
+    fn can_be_taken_over(&self, name: &Text) -> bool
+        ensures { result ≡ can_be_taken_over (get_property self.now global_object.0 name.now) }
+    {
+        match self.get_property(ObjId::GLOBAL, name) {
+            None => false,
+            Some(property) => property.found.is_writable() && property.found.is_enumerable(),
+        }
     }
 }
