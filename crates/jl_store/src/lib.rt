@@ -30,3 +30,4 @@ pub use found::{Found, Property, can_put};
 pub use inner::{has_call, has_construct, script_number};
 pub use names::Reference;
 pub use store::Store;
+pub use words::word;

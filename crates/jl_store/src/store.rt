@@ -1,6 +1,7 @@
 ghost use Rattle.std.specs.Prelude.{◌≡◌, [], ◌∷◌, IfOk};
 ghost use Rattle.std.specs.Option.{option_copied};
 ghost use Rattle.jl_heap.specs.Chain.{ProtosAreOlder};
+ghost use Rattle.jl_heap.specs.Describe.{seen_of};
 ghost use Rattle.jl_heap.specs.Objects.{object_at, own, unit_at};
 ghost use Rattle.jl_meaning.specs.Store.{environment_at, no_environment};
 ghost use Rattle.jl_store.specs.Environments.{OutersAreBefore};
@@ -8,7 +9,7 @@ ghost use Rattle.jl_store.specs.Environments.{OutersAreBefore};
 use crate::environments::Environments;
 use jl_heap::{Heap, Inner, Prop};
 use jl_text::{NoMemory, Text};
-use jl_value::{Class, ObjId};
+use jl_value::{Class, ObjId, Seen, Value};
 use std::alloc::Global;
 use std::marker::Model;
 
@@ -47,6 +48,13 @@ impl Store {
         ensures { result ≡ (object_at self.now.heap id.0).class }
     {
         self.heap.class_of(id)
+    }
+
+    /// A value with the class that it has now, which is `Primitive` for a value that is no object.
+    pub fn seen(&self, v: &Value) -> Result<Seen, NoMemory>
+        ensures { IfOk result (λ seen. seen ≡ seen_of self.now.heap v.now) }
+    {
+        self.heap.seen(v)
     }
 
     /// The prototype of an object, if it has one (8.6.2). It stands at a smaller address.

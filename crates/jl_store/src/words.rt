@@ -9,7 +9,7 @@ use jl_value::Value;
 use std::alloc::Global;
 
 /// The text of a word of ASCII characters.
-pub(crate) fn word(alloc: Global, word: &str) -> Result<Text, NoMemory>
+pub fn word(alloc: Global, word: &str) -> Result<Text, NoMemory>
     ensures { IfOk result (λ text. text ≡ word.now) }
 {
     ascii(alloc, word.as_bytes())

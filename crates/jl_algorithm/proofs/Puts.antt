@@ -1,0 +1,124 @@
+-- Values that are put.
+use Rattle.std.proofs.Common.{◌≡◌, refl, subst, sym, ap, ◌∙◌, codes, false, true, [], ◌∷◌, Bool, None, Option, Some}
+use Rattle.std.proofs.Common.{if◌then◌else◌, inl, inr, ◌⊎◌}
+use Rattle.jl_num.specs.Number.{Number}
+use Rattle.jl_value.specs.declared.error_kind.ErrorKind.TheVariants.{TypeError}
+use Rattle.jl_value.specs.declared.object.ObjId.{ObjId}
+use Rattle.jl_value.specs.declared.value.Value.{Value}
+use Rattle.jl_value.specs.declared.value.Value.TheVariants as value
+use Rattle.jl_conv.specs.Conversions.{is_object}
+use Rattle.jl_heap.specs.Objects.{Name}
+use Rattle.jl_heap.specs.declared.property.Prop.TheVariants.{Accessor, Plain}
+use Rattle.jl_meaning.specs.Errors.{require, throw_error}
+use Rattle.jl_meaning.specs.Parts.{call, give, ◌>>=◌}
+use Rattle.jl_meaning.specs.Properties.{can_put, property_of_value, Property}
+use Rattle.jl_meaning.specs.Putting.{put, put_if, put_on, put_on_primitive}
+use Rattle.jl_state.specs.Frames.{after_define}
+use Rattle.jl_state.specs.Rest.{Works}
+use Rattle.jl_state.specs.declared.act.Act.{Act}
+use Rattle.jl_state.specs.declared.frame.WrittenBy.{WrittenBy}
+use Rattle.jl_state.specs.declared.frame.WrittenBy.TheVariants.{Put}
+use Rattle.jl_state.specs.declared.state.State.{State}
+use Rattle.jl_algorithm.specs.declared.putting.Way.{Way}
+use Rattle.jl_algorithm.specs.inner.Ways.{found_setter, put_so, way_of}
+use Rattle.jl_algorithm.proofs.Chains.{works_assoc}
+use Rattle.jl_algorithm.proofs.Throwing.{works_left_out}
+use Rattle.jl_algorithm.proofs.Ways.{way_is}
+
+-- what follows a put that is done or not
+pub puts : (s : State) (throwing : Bool) (base : Value) (x : Name) (v given : Value) (t : State) (a : Act)
+    → Works s (put_on s.store base x v >>= after_define (Put throwing given)) t a
+    → Works s (put throwing base x v >>= λ _. give given) t a
+unfolding put
+puts s throwing base x v given t a leads = record {
+  is = (works_assoc s (put_on s.store base x v)
+      (λ done. require (if throwing then done else true) (codes "cannot write")) (λ _. give given) t a leads).is;
+}
+
+pub puts_object : (s : State) (throwing : Bool) (base : Value) (id : ObjId) (x : Name) (v given : Value) (t : State)
+    (a : Act) → base ≡ value.Obj id
+    → Works s (put_on s.store (value.Obj id) x v >>= after_define (Put throwing given)) t a
+    → Works s (put throwing base x v >>= λ _. give given) t a
+puts_object s throwing base id x v given t a is leads =
+    subst (λ b. Works s (put throwing b x v >>= λ _. give given) t a) (sym is)
+    (puts s throwing (value.Obj id) x v given t a leads)
+
+pub puts_primitive : (s : State) (throwing : Bool) (base : Value) (x : Name) (v given : Value) (t : State) (a : Act)
+    → is_object base ≡ false
+    → Works s (put_on_primitive base v (property_of_value s.store base x) >>= after_define (Put throwing given)) t a
+    → Works s (put throwing base x v >>= λ _. give given) t a
+puts_primitive s throwing base x v given t a is leads = puts s throwing base x v given t a (by base is leads)
+  where
+    by : (b : Value) → is_object b ≡ false
+        → Works s (put_on_primitive b v (property_of_value s.store b x) >>= after_define (Put throwing given)) t a
+        → Works s (put_on s.store b x v >>= after_define (Put throwing given)) t a
+    by value.Undefined e l = l
+    by value.Null e l = l
+    by (value.Bool b) e l = l
+    by (value.Num n) e l = l
+    by (value.Text y) e l = l
+    by (value.Obj id) e l = absurd (let differ = e in cc)
+
+-- the kinds of values that are no objects
+abbrev pub IsPrimitive : Value → Type 0
+IsPrimitive v = (v ≡ value.Undefined) ⊎ ((v ≡ value.Null) ⊎ (((b : Bool) × (v ≡ value.Bool b))
+    ⊎ (((n : Number) × (v ≡ value.Num n)) ⊎ ((x : Name) × (v ≡ value.Text x)))))
+
+pub no_object : (v : Value) → IsPrimitive v → is_object v ≡ false
+no_object v (inl e) = ap is_object e
+no_object v (inr (inl e)) = ap is_object e
+no_object v (inr (inr (inl e))) = ap is_object e.1
+no_object v (inr (inr (inr (inl e)))) = ap is_object e.1
+no_object v (inr (inr (inr (inr e)))) = ap is_object e.1
+
+pub puts_so : (s : State) (id : ObjId) (x : Name) (v : Value) (extensible done : Bool) (property : Option Property)
+    (way : Way) (purpose : WrittenBy) (t : State) (a : Act) → done ≡ can_put extensible property
+    → way ≡ way_of done property → Works s (put_so id x v way >>= after_define purpose) t a
+    → Works s (put_if (can_put extensible property) id x v property >>= after_define purpose) t a
+puts_so s id x v extensible done property way purpose t a able so leads =
+    subst (λ b. Works s (put_if b id x v property >>= after_define purpose) t a) able
+    (subst (λ p. Works s (p >>= after_define purpose) t a)
+    (ap (put_so id x v) so ∙ sym (way_is done id x v property)) leads)
+
+-- a put that isn't done throws, if it is asked to
+pub rejects : (s : State) (throwing done : Bool) (given : Value) (t : State) (a : Act) → throwing ≡ true → done ≡ false
+    → Works s (throw_error TypeError (codes "cannot write")) t a → Works s (after_define (Put throwing given) done) t a
+rejects s true false given t a e f leads =
+    works_left_out s TypeError (codes "cannot write") (λ _. give given) t a leads
+rejects s false done given t a e f leads = absurd (let differ = e in cc)
+rejects s true true given t a e f leads = absurd (let differ = f in cc)
+
+-- a setter has taken the value
+after_call : (throwing : Bool) (given : Value) → after_define (Put throwing given) true ≡ give given
+after_call true given = refl
+after_call false given = refl
+
+pub calls_setter : (s : State) (setter : ObjId) (this v : Value) (throwing : Bool) (given : Value) (t : State)
+    (a : Act)
+    → Works s (call setter this (v ∷ []) >>= λ _. give given) t a
+    → Works s (call setter this (v ∷ []) >>= (λ _. give true) >>= after_define (Put throwing given)) t a
+calls_setter s setter this v throwing given t a leads =
+    works_assoc s (call setter this (v ∷ [])) (λ _. give true) (after_define (Put throwing given)) t a
+    (subst (λ p. Works s (call setter this (v ∷ []) >>= λ _. p) t a) (sym (after_call throwing given)) leads)
+
+-- on a base that is no object
+
+pub calls_found : (s : State) (base v : Value) (property : Option Property) (setter : ObjId) (throwing : Bool)
+    (given : Value) (t : State) (a : Act) → found_setter property ≡ Some setter
+    → Works s (call setter base (v ∷ []) >>= λ _. give given) t a
+    → Works s (put_on_primitive base v property >>= after_define (Put throwing given)) t a
+calls_found s base v None setter throwing given t a e leads = absurd (let differ = e in cc)
+calls_found s base v (Some (own, Plain _ _ _ _)) setter throwing given t a e leads = absurd (let differ = e in cc)
+calls_found s base v (Some (own, Accessor _ None _ _)) setter throwing given t a e leads =
+    absurd (let differ = e in cc)
+calls_found s base v (Some (own, Accessor _ (Some f) _ _)) setter throwing given t a e leads =
+    calls_setter s f base v throwing given t a
+    (subst (λ g. Works s (call g base (v ∷ []) >>= λ _. give given) t a) (let same = e in cc) leads)
+
+pub refuses : (s : State) (base v : Value) (property : Option Property) (throwing : Bool) (given : Value) (t : State)
+    (a : Act) → found_setter property ≡ None → Works s (after_define (Put throwing given) false) t a
+    → Works s (put_on_primitive base v property >>= after_define (Put throwing given)) t a
+refuses s base v None throwing given t a e leads = leads
+refuses s base v (Some (own, Plain _ _ _ _)) throwing given t a e leads = leads
+refuses s base v (Some (own, Accessor _ None _ _)) throwing given t a e leads = leads
+refuses s base v (Some (own, Accessor _ (Some f) _ _)) throwing given t a e leads = absurd (let differ = e in cc)

@@ -1,0 +1,57 @@
+//! Errors that the language throws by itself (15.11).
+ghost use Rattle.std.specs.Prelude.{◌≡◌, IfOk};
+ghost use Rattle.jl_meaning.specs.Errors.{throw_error, throw_not_defined};
+ghost use Rattle.jl_state.specs.Rank.{Falls};
+ghost use Rattle.jl_state.specs.Rest.{Works};
+
+use jl_state::{Act, State};
+use jl_store::word;
+use jl_text::{NoMemory, Text, TextFault};
+use jl_value::{Completion, ErrorKind, Fault};
+use std::alloc::Global;
+
+/// Throws a new error of this kind, with a message of ASCII characters (15.11.1.1, 15.11.7.4).
+pub fn throw_native<'p>(
+    alloc: Global,
+    state: &mut State<'p>,
+    kind: ErrorKind,
+    message: &str,
+) -> Result<Act<'p>, NoMemory>
+    ensures leads { IfOk result (λ act. Works state.old (throw_error kind message.now) state.new act) }
+    ensures falls { IfOk result (λ act. Falls state.old 3 state.new act) }
+{
+    let message = word(alloc, message)?;
+    Ok(throw_error(state, kind, message)?)
+}
+
+/// Throws a new error of this kind with a message (15.11.1.1, 15.11.7.4).
+#[tactic(auto, using(crate::proofs::Throwing::works_made))]
+fn throw_error<'p>(
+    state: &mut State<'p>,
+    kind: ErrorKind,
+    message: Text,
+) -> Result<Act<'p>, NoMemory>
+    ensures leads { IfOk result (λ act. Works state.old (throw_error kind message) state.new act) }
+    ensures falls { IfOk result (λ act. Falls state.old 3 state.new act) }
+{
+    let thrown = state.store.throw_error(kind, message)?;
+    Ok(Act::Complete(Completion::Throw(thrown)))
+}
+
+/// Throws that nothing binds a name (8.7.1, 8.7.2). Where the message would be too long for a text, the run ends.
+#[tactic(auto, using(crate::proofs::Throwing::throws_message, crate::proofs::Throwing::message_too_long))]
+pub(crate) fn throw_not_defined<'p>(
+    alloc: Global,
+    state: &mut State<'p>,
+    name: &Text,
+) -> Result<Act<'p>, NoMemory>
+    ensures leads { IfOk result (λ act. Works state.old (throw_not_defined name.now) state.new act) }
+    ensures falls { IfOk result (λ act. Falls state.old 3 state.new act) }
+{
+    let ending = word(alloc, " is not defined")?;
+    match Text::concat(alloc, name, &ending) {
+        Ok(message) => Ok(throw_error(state, ErrorKind::ReferenceError, message)?),
+        Err(TextFault::TooLong) => Ok(Act::Fault(Fault::StringTooLong)),
+        Err(TextFault::NoMemory) => Err(NoMemory),
+    }
+}

@@ -1,0 +1,120 @@
+//! Lengths of arrays defined, when their values have been converted (15.4.5.1).
+ghost use Rattle.std.specs.Prelude.{◌≡◌, pos, Some, IfOk};
+ghost use Rattle.jl_conv.specs.Conversions.{number_of_value};
+ghost use Rattle.jl_value.specs.Same.{same_number};
+ghost use Rattle.jl_state.specs.Frames.{algorithm_after, define_length};
+ghost use Rattle.jl_state.specs.Rank.{Falls};
+ghost use Rattle.jl_state.specs.Rest.{Works};
+
+use crate::defining::define_now;
+use crate::errors::throw_native;
+use crate::primitive::to_primitive;
+use jl_conv::primitive_to_num;
+use jl_heap::Change;
+use jl_num::{Num, to_uint32};
+use jl_state::{Act, AlgorithmFrame, Attributes, Hint, State, WrittenBy};
+use jl_store::word;
+use jl_text::NoMemory;
+use jl_value::{ErrorKind, Fault, ObjId, Value};
+use std::alloc::Global;
+
+/// Goes on when the length of an array has been converted to a primitive value: it is converted once more (15.4.5.1,
+/// step 3.d).
+#[tactic(auto, using(crate::proofs::Defined::outside))]
+pub fn step_length_count<'p>(
+    alloc: Global,
+    state: &mut State<'p>,
+    array: ObjId,
+    length: Value,
+    attributes: Attributes,
+    purpose: WrittenBy,
+    v: Value,
+) -> Result<Act<'p>, NoMemory>
+    ensures leads { IfOk result (λ act. Works state.old
+        (algorithm_after (AlgorithmFrame.LengthCount array length attributes purpose) v) state.new act) }
+    ensures falls { IfOk result (λ act. Falls state.old 22 state.new act) }
+{
+    let Some(first) = number_of(&v) else {
+        return Ok(Act::Fault(Fault::NumberOutside));
+    };
+    state.push_algorithm(AlgorithmFrame::LengthNumber {
+        array,
+        count: to_uint32(first),
+        attributes,
+        purpose,
+    })?;
+    Ok(to_primitive(alloc, state, length, Hint::Number)?)
+}
+
+/// Goes on when it has been converted a second time: where it is a length, it is defined.
+#[tactic(auto, using(crate::proofs::Defined::outside, crate::proofs::Defined::numbers_length))]
+pub fn step_length_number<'p>(
+    alloc: Global,
+    state: &mut State<'p>,
+    array: ObjId,
+    count: u32,
+    attributes: Attributes,
+    purpose: WrittenBy,
+    v: Value,
+) -> Result<Act<'p>, NoMemory>
+    ensures leads { IfOk result (λ act. Works state.old
+        (algorithm_after (AlgorithmFrame.LengthNumber array count attributes purpose) v) state.new act) }
+    ensures falls { IfOk result (λ act. Falls state.old 5 state.new act) }
+{
+    let Some(n) = number_of(&v) else {
+        return Ok(Act::Fault(Fault::NumberOutside));
+    };
+    Ok(define_length(alloc, state, array, count, attributes, purpose, n)?)
+}
+
+/// The length of an array is defined, where the number is this count (15.4.5.1, step 3.d).
+#[tactic(auto, using(crate::proofs::Defined::fits_count))]
+fn define_length<'p>(
+    alloc: Global,
+    state: &mut State<'p>,
+    array: ObjId,
+    count: u32,
+    attributes: Attributes,
+    purpose: WrittenBy,
+    n: Num,
+) -> Result<Act<'p>, NoMemory>
+    ensures leads { IfOk result (λ act. Works state.old
+        (define_length array count attributes purpose n) state.new act) }
+    ensures falls { IfOk result (λ act. Falls state.old 3 state.new act) }
+{
+    if !is_count(n, count) {
+        return Ok(throw_native(alloc, state, ErrorKind::RangeError, "bad array length")?);
+    }
+    let name = word(alloc, "length")?;
+    let change = Change {
+        value: Some(Value::Num(n)),
+        writable: attributes.writable,
+        get: None,
+        set: None,
+        enumerable: attributes.enumerable,
+        configurable: attributes.configurable,
+    };
+    Ok(define_now(alloc, state, array, &name, change, purpose)?)
+}
+
+/// Whether a number is this count.
+fn is_count(n: Num, count: u32) -> bool
+    ensures { result ≡ same_number (Some (pos count)) n }
+{
+    match n.value() {
+        Some(n) => i64::from(count) == n,
+        None => false,
+    }
+}
+
+/// ToNumber of a value that is no object (9.3), where that is a number of the language.
+fn number_of(v: &Value) -> Option<Num>
+    ensures { result ≡ number_of_value v.now }
+{
+    match v {
+        Value::Obj(_) => None,
+        Value::Undefined | Value::Null | Value::Bool(_) | Value::Num(_) | Value::Text(_) => {
+            primitive_to_num(v).ok()
+        }
+    }
+}

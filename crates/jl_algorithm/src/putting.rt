@@ -1,0 +1,216 @@
+//! Values put to properties (8.7.2, 8.12.5).
+ghost use Rattle.std.specs.Prelude.{◌≡◌, ◌∷◌, [], true, false, IfOk};
+ghost use Rattle.std.specs.Option.{option_map};
+ghost use Rattle.jl_value.specs.declared.value.Value.TheVariants as value;
+ghost use Rattle.jl_heap.specs.Objects.{object_at};
+ghost use Rattle.jl_meaning.specs.Defining.{plain_change, value_change};
+ghost use Rattle.jl_meaning.specs.Parts.{call, give, ◌>>=◌ as ◌then◌};
+ghost use Rattle.jl_meaning.specs.Properties.{can_put, get_property, property_of_value};
+ghost use Rattle.jl_meaning.specs.Putting.{put, put_if, put_on_primitive};
+ghost use Rattle.jl_state.specs.Frames.{after_define};
+ghost use Rattle.jl_state.specs.Rank.{Falls};
+ghost use Rattle.jl_state.specs.Rest.{Works};
+ghost use Rattle.jl_store.specs.LookUps.{property_seen};
+ghost use Rattle.jl_algorithm.specs.inner.Ways.{found_setter, put_so, way_of};
+
+use crate::defining::{after_define, define_own_property};
+use jl_heap::Change;
+use jl_state::{Act, AlgorithmFrame, Invocation, State, WrittenBy};
+use jl_store::{Property, can_put};
+use jl_text::{List, NoMemory, Text};
+use jl_value::{ObjId, Value};
+use std::alloc::Global;
+
+/// How a put is done on an object (8.12.5).
+#[derive(Clone, Copy)]
+enum Way {
+    /// Not at all (step 1).
+    Refused,
+    /// An own data property gets the value (step 3).
+    Changed,
+    /// A setter is called (step 5).
+    Called(ObjId),
+    /// An own property is made (step 6).
+    Added,
+}
+
+/// [[Put]] (8.12.5), and that of a base that is no object (8.7.2), and then a value is given. Where it isn't done, it
+/// throws a TypeError if it is asked to.
+pub fn put<'p>(
+    alloc: Global,
+    state: &mut State<'p>,
+    throwing: bool,
+    base: Value,
+    name: &Text,
+    v: Value,
+    gives: Value,
+) -> Result<Act<'p>, NoMemory>
+    ensures leads { IfOk result (λ act. Works state.old
+        (put throwing base name.now v then λ _. give gives) state.new act) }
+    ensures falls { IfOk result (λ act. Falls state.old 42 state.new act) }
+{
+    match base {
+        Value::Obj(id) => Ok(put_on_object(alloc, state, id, name, v, throwing, gives)?),
+        Value::Undefined | Value::Null | Value::Bool(_) | Value::Num(_) | Value::Text(_) => {
+            Ok(put_on_primitive(alloc, state, base, name, v, throwing, gives)?)
+        }
+    }
+}
+
+/// A put on an object.
+fn put_on_object<'p>(
+    alloc: Global,
+    state: &mut State<'p>,
+    id: ObjId,
+    name: &Text,
+    v: Value,
+    throwing: bool,
+    gives: Value,
+) -> Result<Act<'p>, NoMemory>
+    ensures leads { IfOk result (λ act. Works state.old
+        (put_if (can_put (object_at state.old.store.heap id.0).extensible (get_property state.old.store id.0 name.now))
+        id name.now v (get_property state.old.store id.0 name.now) then after_define (WrittenBy.Put throwing gives))
+        state.new act) }
+    ensures falls { IfOk result (λ act. Falls state.old 42 state.new act) }
+{
+    let property = state.store.get_property(id, name);
+    let way = way_of(can_put(state.store.is_extensible(id), &property), &property);
+    Ok(put_so(alloc, state, way, id, name, v, throwing, gives)?)
+}
+
+/// A put that is done so.
+#[tactic(auto, using(crate::proofs::Puts::calls_setter))]
+fn put_so<'p>(
+    alloc: Global,
+    state: &mut State<'p>,
+    way: Way,
+    id: ObjId,
+    name: &Text,
+    v: Value,
+    throwing: bool,
+    gives: Value,
+) -> Result<Act<'p>, NoMemory>
+    ensures leads { IfOk result (λ act. Works state.old
+        (put_so id name.now v way then after_define (WrittenBy.Put throwing gives)) state.new act) }
+    ensures falls { IfOk result (λ act. Falls state.old 42 state.new act) }
+{
+    match way {
+        Way::Refused => {
+            Ok(after_define(alloc, state, WrittenBy::Put { throwing, gives }, false)?)
+        }
+        Way::Changed => {
+            let purpose = WrittenBy::Put { throwing, gives };
+            Ok(define_own_property(alloc, state, id, name, value_change(v), purpose)?)
+        }
+        Way::Called(setter) => Ok(call_setter(alloc, state, setter, Value::Obj(id), v, gives)?),
+        Way::Added => {
+            let purpose = WrittenBy::Put { throwing, gives };
+            Ok(define_own_property(alloc, state, id, name, plain_change(v), purpose)?)
+        }
+    }
+}
+
+/// A put on a base that is no object: only a setter takes it (8.7.2).
+#[tactic(auto, using(crate::proofs::Puts::refuses))]
+fn put_on_primitive<'p>(
+    alloc: Global,
+    state: &mut State<'p>,
+    base: Value,
+    name: &Text,
+    v: Value,
+    throwing: bool,
+    gives: Value,
+) -> Result<Act<'p>, NoMemory>
+    ensures leads { IfOk result (λ act. Works state.old
+        (put_on_primitive base v (property_of_value state.old.store base name.now)
+        then after_define (WrittenBy.Put throwing gives)) state.new act) }
+    ensures falls { IfOk result (λ act. Falls state.old 42 state.new act) }
+{
+    match found_setter(&state.store.property_of_value(&base, name)) {
+        Some(setter) => Ok(call_setter(alloc, state, setter, base, v, gives)?),
+        None => Ok(after_define(alloc, state, WrittenBy::Put { throwing, gives }, false)?),
+    }
+}
+
+/// A setter is called, and then a value is given.
+fn call_setter<'p>(
+    alloc: Global,
+    state: &mut State<'p>,
+    setter: ObjId,
+    this: Value,
+    v: Value,
+    gives: Value,
+) -> Result<Act<'p>, NoMemory>
+    ensures leads { IfOk result (λ act. Works state.old
+        (call setter this (v ∷ []) then λ _. give gives) state.new act) }
+    ensures falls { IfOk result (λ act. Falls state.old 5 state.new act) }
+{
+    let mut args = List::new(alloc);
+    args.push(v)?;
+    state.push_algorithm(AlgorithmFrame::Then(gives))?;
+    Ok(Act::Call(Invocation {
+        callee: setter,
+        this,
+        args,
+        by_new: false,
+    }))
+}
+
+/// How a put is done where this property was found, or none, by whether it can be done at all.
+#[tactic(auto, using(crate::proofs::Ways::ways))]
+fn way_of(can_put: bool, property: &Option<Property<'_>>) -> Way
+    ensures { result ≡ way_of can_put (option_map property_seen property.now) }
+{
+    if !can_put {
+        return Way::Refused;
+    }
+    let Some(property) = property else {
+        return Way::Added;
+    };
+    if let Some(setter) = property.found.setter() {
+        return Way::Called(setter);
+    }
+    if property.own && property.found.is_data() {
+        Way::Changed
+    } else {
+        Way::Added
+    }
+}
+
+/// The setter of a property that was found, if it has one.
+fn found_setter(property: &Option<Property<'_>>) -> Option<ObjId>
+    ensures { result ≡ found_setter (option_map property_seen property.now) }
+{
+    match property {
+        Some(property) => property.found.setter(),
+        None => None,
+    }
+}
+
+/// Another value is asked for.
+fn value_change(value: Value) -> Change
+    ensures { result ≡ value_change value }
+{
+    Change {
+        value: Some(value),
+        writable: None,
+        get: None,
+        set: None,
+        enumerable: None,
+        configurable: None,
+    }
+}
+
+/// A property is asked for that can be written, enumerated and configured (8.12.5, step 6).
+pub fn plain_change(value: Value) -> Change
+    ensures { result ≡ plain_change value }
+{
+    Change {
+        value: Some(value),
+        writable: Some(true),
+        get: None,
+        set: None,
+        enumerable: Some(true),
+        configurable: Some(true),
+    }
+}

@@ -1,0 +1,94 @@
+-- Steps that wait for an operand as a number or a text, and operations that hooks emit.
+use Rattle.std.proofs.Common.{◌≡◌, ◌∷◌, ◌∙◌, Bool, List, Option, Some, false, refl, sym, ap, subst, ℕ}
+use mathlib.Core.Path.{fun_ext}
+use Rattle.jl_num.specs.Number.{Number}
+use Rattle.jl_ast.specs.declared.ops.BinOp.{BinOp}
+use Rattle.jl_value.specs.declared.value.Value.{Value}
+use Rattle.jl_conv.specs.Conversions.{text_of_value}
+use Rattle.jl_heap.specs.Describe.{seen_of}
+use Rattle.jl_op.specs.declared.op.Op.{Op}
+use Rattle.jl_op.specs.declared.op.Op.TheVariants as op
+use Rattle.jl_op.specs.declared.op.OpId.{OpId}
+use Rattle.jl_op.specs.declared.sign.UnKind.{UnKind}
+use Rattle.jl_effects.specs.Effects.{and_then, Emit}
+use Rattle.jl_effects.proofs.Chains.{and_then-assoc}
+use Rattle.jl_meaning.specs.Conversions.{number_hint, string_hint, to_number, to_primitive, to_string}
+use Rattle.jl_meaning.specs.Operators.{binary_result, unary_result}
+use Rattle.jl_meaning.specs.Parts.{give, given, gives, lift, or_fault, throws, ◌>>=◌, Algorithm, Answer, NumberOutside}
+use Rattle.jl_meaning.specs.forms.Operators.{operate, operate_on}
+use Rattle.jl_state.specs.Frames.{algorithm_after, number_of_primitive}
+use Rattle.jl_state.specs.Rest.{rest_after, Gives, Works}
+use Rattle.jl_state.specs.Steps.{AlgorithmWaits}
+use Rattle.jl_state.specs.Words.{noting}
+use Rattle.jl_state.specs.declared.act.Act.{Act}
+use Rattle.jl_state.specs.declared.act.Act.TheVariants as act
+use Rattle.jl_state.specs.declared.frame.AlgorithmFrame.{AlgorithmFrame}
+use Rattle.jl_state.specs.declared.frame.Frame.{Frame}
+use Rattle.jl_state.specs.declared.frame.Frame.TheVariants as frame
+use Rattle.jl_state.specs.declared.frame.ToldFrame.TheVariants as told
+use Rattle.jl_state.specs.declared.state.State.{State}
+use Rattle.jl_state.proofs.Steps.{gives_noted, gives_works}
+
+-- a number that there is
+pub found : {A : Type 0} (s t : State) (a : Act) (o : Option A) (x : A) (k : A → Algorithm Value) → Some x ≡ o
+    → Works s (k x) t a → Works s (or_fault NumberOutside o >>= k) t a
+found s t a o x k is leads = subst (λ q. Works s (or_fault NumberOutside q >>= k) t a) is leads
+
+-- an algorithm, and what is done with its value before the rest is
+pub chained : {A B : Type 0} (p : Algorithm A) (f : A → Algorithm B) (k : B → Algorithm Value)
+    → (p >>= λ a. f a >>= k) ≡ (p >>= f >>= k)
+chained {A} {B} p f k =
+    ap (λ (l : Answer A → Algorithm Value). and_then p l) (fun_ext each) ∙ sym (and_then-assoc p (given f) (given k))
+  where
+    each : (a : Answer A) → given (λ b. f b >>= k) a ≡ and_then (given f a) (given k)
+    each (gives a) = refl
+    each (throws v) = refl
+
+-- a frame waits for a value that is to be a number
+pub number_waits : (s t u : State) (f : AlgorithmFrame) (k : Number → Algorithm Value) (v : Value) (a : Act)
+    → ((p : Value) → algorithm_after f p ≡ (number_of_primitive p >>= k)) → AlgorithmWaits s f t
+    → Works t (to_primitive number_hint v) u a → Works s (to_number v >>= k) u a
+unfolding to_number
+number_waits s t u f k v a after waits leads =
+    subst (λ q. Works s q u a) (chained (to_primitive number_hint v) number_of_primitive k)
+    (subst (λ (g : Value → Algorithm Value). Works s (to_primitive number_hint v >>= g) u a) (fun_ext after)
+    (waits.works (to_primitive number_hint v) u a leads))
+
+-- a frame waits for a value that is to be a text
+pub text_waits : (s t u : State) (f : AlgorithmFrame) (k : List ℕ → Algorithm Value) (v : Value) (a : Act)
+    → ((p : Value) → algorithm_after f p ≡ k (text_of_value p)) → AlgorithmWaits s f t
+    → Works t (to_primitive string_hint v) u a → Works s (to_string v >>= k) u a
+unfolding to_string
+text_waits s t u f k v a after waits leads =
+    subst (λ q. Works s q u a) (chained (to_primitive string_hint v) (λ p. give (text_of_value p)) k)
+    (subst (λ (g : Value → Algorithm Value). Works s (to_primitive string_hint v >>= g) u a) (fun_ext after)
+    (waits.works (to_primitive string_hint v) u a leads))
+
+-- the observer is told of an operation, and then a value is given
+pub emits_then : (s : State) (frames : List Frame) (id : OpId) (o : Op) (v : Value)
+    → frames ≡ frame.Told (told.Give v) ∷ s.stack
+    → Gives s (Emit (id, o) (give v)) (record s { stack = frames }) (act.Emit id o)
+emits_then s frames id o v is = record {
+  is = λ kept before. ap (λ (l : List Frame). rest_after kept before (record s { stack = l }) (act.Emit id o)) is;
+}
+
+-- an operator between two values, of which no hook tells
+pub operates : (s t : State) (a : Act) (emitting : Bool) (id : ℕ) (o : BinOp) (x y : Value) → emitting ≡ false
+    → Works s (binary_result o x y) t a → Gives s (operate (noting emitting) id o x y) t a
+unfolding operate
+operates s t a emitting id o x y is leads =
+    subst (λ (b : Bool). Gives s (operate (noting b) id o x y) t a) (sym is)
+    (gives_noted s (λ store v. (
+      record { 0 = id },
+      op.Binary o (seen_of store.heap x) (seen_of store.heap y)
+          (seen_of store.heap v),
+    )) (lift (binary_result o x y)) t a (gives_works s (binary_result o x y) t a leads))
+
+-- an operator on one value, of which no hook tells
+pub operates_on : (s t : State) (a : Act) (emitting : Bool) (id : ℕ) (o : UnKind) (x : Value) → emitting ≡ false
+    → Works s (unary_result o x) t a → Gives s (operate_on (noting emitting) id o x) t a
+unfolding operate_on
+operates_on s t a emitting id o x is leads =
+    subst (λ (b : Bool). Gives s (operate_on (noting b) id o x) t a) (sym is)
+    (gives_noted s (λ store v. (record { 0 = id }, op.Unary o (seen_of store.heap x) (seen_of store.heap v)))
+    (lift (unary_result o x)) t a (gives_works s (unary_result o x) t a leads))

@@ -1,0 +1,18 @@
+use Rattle.std.proofs.Common.{◌∙◌, sym, subst}
+use Rattle.jl_meaning.specs.Relations.{negate_if}
+use Rattle.jl_state.specs.Rest.{Works}
+use Rattle.jl_operator.proofs.Equalities.{of_left_object, of_objects_or_primitives}
+use Rattle.jl_operator.proofs.equality.object_equals.Goals as goal
+
+pub returns-then-is_object-clause-leads : goal.returns-then-is_object-clause-leads
+returns-then-is_object-clause-leads c =
+    let s = c.args.state.now in
+    subst (λ q. Works s (negate_if c.args.is_negative q) s c.equal_primitives.result)
+    (sym (of_objects_or_primitives c.args.a c.args.b (c.requires ∙ c.if-is_object.ensures)))
+    (c.equal_primitives.ensures.leads s)
+
+pub returns-clause-leads : goal.returns-clause-leads
+returns-clause-leads c =
+    subst (λ q. Works c.args.state.now (negate_if c.args.is_negative q) c.equal_object.new.state c.in_ok-equal_object.field-0)
+    (of_left_object c.args.a c.args.b (sym c.requires) c.if-is_object.ensures)
+    c.in_ok-equal_object.ensures.leads

@@ -1,0 +1,126 @@
+//! Operators on two numbers (11.5, 11.6.2, 11.7, 11.10).
+ghost use Rattle.std.specs.Prelude.{◌≡◌, ◌≤◌, IfOk};
+ghost use Rattle.std.specs.Result.{result_ok};
+ghost use Rattle.jl_conv.specs.Conversions.{number_of_value};
+ghost use Rattle.jl_meaning.specs.Conversions.{to_number};
+ghost use Rattle.jl_meaning.specs.Operators.{give_number, on_numbers};
+ghost use Rattle.jl_meaning.specs.Parts.{◌>>=◌ as ◌then◌};
+ghost use Rattle.jl_state.specs.Frames.{algorithm_after, number_result};
+ghost use Rattle.jl_state.specs.Rank.{rank_act, Falls};
+ghost use Rattle.jl_state.specs.Rest.{Works};
+ghost use Rattle.jl_state.specs.declared.state.State.{State as Machine};
+
+use jl_algorithm::to_primitive;
+use jl_ast::BinOp;
+use jl_conv::primitive_to_num;
+use jl_num::{Num, NumberOutside, and, div, mul, or, rem, sar, shl, shr, sub, xor};
+use jl_state::{Act, AlgorithmFrame, Hint, State};
+use jl_text::NoMemory;
+use jl_value::{Fault, Value};
+use std::alloc::Global;
+
+/// ToNumber of a primitive value (9.3). Refused for an object, too, which no conversion gives.
+pub(crate) fn number_of(p: &Value) -> Result<Num, NumberOutside>
+    ensures { result_ok result ≡ number_of_value p.now }
+{
+    match p {
+        Value::Obj(_) => Err(NumberOutside),
+        _ => primitive_to_num(p),
+    }
+}
+
+/// The number is given that an operator came to.
+pub(crate) fn give_number<'p>(outcome: Result<Num, NumberOutside>) -> Act<'p>
+    ensures leads { (s : Machine) → Works s (give_number (result_ok outcome)) s result }
+    ensures low { rank_act result ≤ 2 }
+{
+    match outcome {
+        Ok(n) => Act::Give(Value::Num(n)),
+        Err(NumberOutside) => Act::Fault(Fault::NumberOutside),
+    }
+}
+
+/// What an operator makes of two numbers.
+fn number_result(op: BinOp, x: Num, y: Num) -> Result<Num, NumberOutside>
+    ensures { result_ok result ≡ number_result op x y }
+{
+    match op {
+        BinOp::Mul => mul(x, y),
+        BinOp::Div => div(x, y),
+        BinOp::Rem => Ok(rem(x, y)),
+        BinOp::Sub => sub(x, y),
+        BinOp::Shl => Ok(shl(x, y)),
+        BinOp::Sar => Ok(sar(x, y)),
+        BinOp::Shr => Ok(shr(x, y)),
+        BinOp::BitAnd => Ok(and(x, y)),
+        BinOp::BitXor => Ok(xor(x, y)),
+        BinOp::BitOr => Ok(or(x, y)),
+        _ => Err(NumberOutside),
+    }
+}
+
+/// An operator on two numbers, of which the left one is known.
+fn with_left<'p>(
+    alloc: Global,
+    state: &mut State<'p>,
+    op: BinOp,
+    left: Num,
+    right: Value,
+) -> Result<Act<'p>, NoMemory>
+    ensures leads { IfOk result (λ act. Works state.old
+        (to_number right then (λ y. give_number (number_result op left y))) state.new act) }
+    ensures falls { IfOk result (λ act. Falls state.old 22 state.new act) }
+{
+    state.push_algorithm(AlgorithmFrame::RightNumber { op, left })?;
+    Ok(to_primitive(alloc, state, right, Hint::Number)?)
+}
+
+/// Goes on with the left operand of an operator on two numbers, which is converted first.
+pub fn step_left_number<'p>(
+    alloc: Global,
+    state: &mut State<'p>,
+    op: BinOp,
+    right: Value,
+    v: Value,
+) -> Result<Act<'p>, NoMemory>
+    ensures leads { IfOk result (λ act. Works state.old
+        (algorithm_after (AlgorithmFrame.LeftNumber op right) v) state.new act) }
+    ensures falls { IfOk result (λ act. Falls state.old 22 state.new act) }
+{
+    match number_of(&v) {
+        Ok(x) => Ok(with_left(alloc, state, op, x, right)?),
+        Err(NumberOutside) => Ok(Act::Fault(Fault::NumberOutside)),
+    }
+}
+
+/// Goes on with the right operand of an operator on two numbers.
+pub fn step_right_number<'p>(
+    state: &mut State<'p>,
+    op: BinOp,
+    left: Num,
+    v: Value,
+) -> Result<Act<'p>, NoMemory>
+    ensures leads { IfOk result (λ act. Works state.old
+        (algorithm_after (AlgorithmFrame.RightNumber op left) v) state.new act) }
+    ensures falls { IfOk result (λ act. Falls state.old 5 state.new act) }
+{
+    match number_of(&v) {
+        Ok(y) => Ok(give_number(number_result(op, left, y))),
+        Err(NumberOutside) => Ok(Act::Fault(Fault::NumberOutside)),
+    }
+}
+
+/// An operator on two numbers (11.5, 11.6.2, 11.7, 11.10).
+pub(crate) fn on_numbers<'p>(
+    alloc: Global,
+    state: &mut State<'p>,
+    op: BinOp,
+    a: Value,
+    b: Value,
+) -> Result<Act<'p>, NoMemory>
+    ensures leads { IfOk result (λ act. Works state.old (on_numbers (number_result op) a b) state.new act) }
+    ensures falls { IfOk result (λ act. Falls state.old 40 state.new act) }
+{
+    state.push_algorithm(AlgorithmFrame::LeftNumber { op, right: b })?;
+    Ok(to_primitive(alloc, state, a, Hint::Number)?)
+}

@@ -1,0 +1,162 @@
+//! Operators as expressions, and what hooks emit of them and of what was got and called (11.3 to 11.10).
+ghost use Rattle.std.specs.Prelude.{◌≡◌, ◌∷◌, IfOk};
+ghost use Rattle.jl_effects.specs.Effects.{Emit, Look};
+ghost use Rattle.jl_heap.specs.Describe.{seen_of};
+ghost use Rattle.jl_heap.specs.Objects.{Objects};
+ghost use Rattle.jl_meaning.specs.Parts.{give};
+ghost use Rattle.jl_meaning.specs.forms.Operators.{operate, operate_on};
+ghost use Rattle.jl_state.specs.Frames.{value_after};
+ghost use Rattle.jl_state.specs.Rank.{Falls};
+ghost use Rattle.jl_state.specs.Rest.{Gives};
+ghost use Rattle.jl_state.specs.Words.{noting, table_of};
+
+use crate::binary::binary_result;
+use crate::unary::unary_result;
+use jl_ast::BinOp;
+use jl_op::{Found, Op, OpId, UnKind};
+use jl_state::{Act, Frame, State, ToldFrame, ValueFrame};
+use jl_text::{NoMemory, Text};
+use jl_value::{ObjId, Value, share};
+use std::alloc::Global;
+
+/// The observer is told of an operation, and then a value is given.
+pub fn emit<'p>(state: &mut State<'p>, id: OpId, op: Op, then: Value) -> Result<Act<'p>, NoMemory>
+    ensures leads { IfOk result (λ act. Gives state.old (Emit (id, op) (give then)) state.new act) }
+    ensures falls { IfOk result (λ act. Falls state.old 5 state.new act) }
+{
+    state.stack.push(Frame::Told(ToldFrame::Give(then)))?;
+    Ok(Act::Emit(id, op))
+}
+
+/// A hook emits what an operator gave.
+pub fn step_emit_binary<'p>(
+    state: &mut State<'p>,
+    id: OpId,
+    op: BinOp,
+    left: Value,
+    right: Value,
+    v: Value,
+) -> Result<Act<'p>, NoMemory>
+    ensures leads { IfOk result (λ act. Gives state.old (value_after (table_of state.old.functions) state.old.calls
+        (ValueFrame.EmitBinary id op left right) v) state.new act) }
+    ensures falls { IfOk result (λ act. Falls state.old 6 state.new act) }
+{
+    let told = Op::Binary {
+        op,
+        left: state.store.seen(&left)?,
+        right: state.store.seen(&right)?,
+        result: state.store.seen(&v)?,
+    };
+    Ok(emit(state, id, told, v)?)
+}
+
+/// A hook emits what an operator on one operand gave.
+pub fn step_emit_unary<'p>(
+    state: &mut State<'p>,
+    id: OpId,
+    op: UnKind,
+    operand: Value,
+    v: Value,
+) -> Result<Act<'p>, NoMemory>
+    ensures leads { IfOk result (λ act. Gives state.old (value_after (table_of state.old.functions) state.old.calls
+        (ValueFrame.EmitUnary id op operand) v) state.new act) }
+    ensures falls { IfOk result (λ act. Falls state.old 6 state.new act) }
+{
+    let told = Op::Unary {
+        op,
+        operand: state.store.seen(&operand)?,
+        result: state.store.seen(&v)?,
+    };
+    Ok(emit(state, id, told, v)?)
+}
+
+/// A hook emits that a member was got, and what was found.
+pub fn step_emit_get<'p>(
+    state: &mut State<'p>,
+    id: OpId,
+    base: Value,
+    name: Text,
+    found: Found,
+    v: Value,
+) -> Result<Act<'p>, NoMemory>
+    ensures leads { IfOk result (λ act. Gives state.old (value_after (table_of state.old.functions) state.old.calls
+        (ValueFrame.EmitGet id base name found) v) state.new act) }
+    ensures falls { IfOk result (λ act. Falls state.old 6 state.new act) }
+{
+    let told = Op::GetField {
+        base: state.store.seen(&base)?,
+        name,
+        value: state.store.seen(&v)?,
+        found,
+    };
+    Ok(emit(state, id, told, v)?)
+}
+
+/// A hook emits what a call gave.
+pub fn step_emit_invoke<'p>(
+    state: &mut State<'p>,
+    id: OpId,
+    callee: ObjId,
+    v: Value,
+) -> Result<Act<'p>, NoMemory>
+    ensures leads { IfOk result (λ act. Gives state.old (value_after (table_of state.old.functions) state.old.calls
+        (ValueFrame.EmitInvoke id callee) v) state.new act) }
+    ensures falls { IfOk result (λ act. Falls state.old 6 state.new act) }
+{
+    let told = Op::InvokePost {
+        callee,
+        result: state.store.seen(&v)?,
+    };
+    Ok(emit(state, id, told, v)?)
+}
+
+/// An operator between two values, which a hook emits or the script performs with this id.
+#[tactic(auto, unfolding(jl_meaning::specs::forms::Operators::operate))]
+pub fn operate<'p>(
+    alloc: Global,
+    state: &mut State<'p>,
+    emits: bool,
+    id: OpId,
+    op: BinOp,
+    a: Value,
+    b: Value,
+) -> Result<Act<'p>, NoMemory>
+    ensures leads { IfOk result (λ act. Gives state.old (operate (noting emits) id.0 op a b) state.new act) }
+    ensures falls { IfOk result (λ act. Falls state.old 46 state.new act) }
+{
+    if emits {
+        let left = share(alloc, &a)?;
+        let right = share(alloc, &b)?;
+        state.push_value(ValueFrame::EmitBinary {
+            id,
+            op,
+            left,
+            right,
+        })?;
+        Ok(binary_result(alloc, state, op, a, b)?)
+    } else {
+        Ok(binary_result(alloc, state, op, a, b)?)
+    }
+}
+
+/// An operator on one value, which a hook emits or the script performs with this id.
+#[tactic(auto, unfolding(jl_meaning::specs::forms::Operators::operate_on))]
+pub fn operate_on<'p>(
+    alloc: Global,
+    state: &mut State<'p>,
+    emits: bool,
+    id: OpId,
+    op: UnKind,
+    v: Value,
+) -> Result<Act<'p>, NoMemory>
+    ensures leads { IfOk result (λ act. Gives state.old (operate_on (noting emits) id.0 op v) state.new act) }
+    ensures falls { IfOk result (λ act. Falls state.old 46 state.new act) }
+{
+    if emits {
+        let operand = share(alloc, &v)?;
+        state.push_value(ValueFrame::EmitUnary { id, op, operand })?;
+        Ok(unary_result(alloc, state, op, v)?)
+    } else {
+        Ok(unary_result(alloc, state, op, v)?)
+    }
+}

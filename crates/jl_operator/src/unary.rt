@@ -1,0 +1,109 @@
+//! Operators on one operand (11.3, 11.4).
+ghost use Rattle.std.specs.Prelude.{◌≡◌, ◌≤◌, None, if◌then◌else◌, IfOk};
+ghost use Rattle.std.specs.Result.{result_ok};
+ghost use Rattle.jl_meaning.specs.Conversions.{to_number};
+ghost use Rattle.jl_meaning.specs.Operators.{give_next, is_script_number, next_number, unary_result};
+ghost use Rattle.jl_meaning.specs.Parts.{◌>>=◌ as ◌then◌};
+ghost use Rattle.jl_state.specs.Frames.{algorithm_after, number_operand};
+ghost use Rattle.jl_state.specs.Rank.{rank_act, Falls};
+ghost use Rattle.jl_state.specs.Rest.{Works};
+ghost use Rattle.jl_state.specs.declared.state.State.{State as Machine};
+
+use crate::numbers::{give_number, number_of};
+use jl_algorithm::to_primitive;
+use jl_conv::{to_boolean, type_name};
+use jl_num::{Num, NumberOutside, add, neg, not, sub};
+use jl_op::UnKind;
+use jl_state::{Act, AlgorithmFrame, Hint, State};
+use jl_store::word;
+use jl_text::NoMemory;
+use jl_value::{Fault, Value};
+use std::alloc::Global;
+
+/// The number after another one, or before it with `UnKind::Down` (11.3, 11.4.4, 11.4.5). Refused exactly where it is no
+/// number of a script.
+pub fn next_number(op: UnKind, n: Num) -> Result<Num, NumberOutside>
+    ensures { result_ok result ≡ (if is_script_number n then next_number op n else None) }
+{
+    let one = Num::new(1)?;
+    match op {
+        UnKind::Down => sub(n, one),
+        _ => add(n, one),
+    }
+}
+
+/// The new value of `++`, or of `--` with `UnKind::Down`, for a number that it was (11.3, 11.4.4, 11.4.5).
+pub fn give_next<'p>(op: UnKind, n: Num) -> Act<'p>
+    ensures leads { (s : Machine) → Works s (give_next op n) s result }
+    ensures low { rank_act result ≤ 2 }
+{
+    give_number(next_number(op, n))
+}
+
+/// What an operator makes of a number.
+fn number_operand<'p>(op: UnKind, n: Num) -> Act<'p>
+    ensures leads { (s : Machine) → Works s (number_operand op n) s result }
+    ensures low { rank_act result ≤ 2 }
+{
+    match op {
+        UnKind::Minus => Act::Give(Value::Num(neg(n))),
+        UnKind::Tilde => Act::Give(Value::Num(not(n))),
+        UnKind::Up => give_next(UnKind::Up, n),
+        UnKind::Down => give_next(UnKind::Down, n),
+        _ => Act::Give(Value::Num(n)),
+    }
+}
+
+/// Goes on with the operand of an operator on a number, which is converted first.
+pub fn step_number_operand<'p>(
+    state: &mut State<'p>,
+    op: UnKind,
+    v: Value,
+) -> Result<Act<'p>, NoMemory>
+    ensures leads { IfOk result (λ act. Works state.old
+        (algorithm_after (AlgorithmFrame.NumberOperand op) v) state.new act) }
+    ensures falls { IfOk result (λ act. Falls state.old 5 state.new act) }
+{
+    match number_of(&v) {
+        Ok(n) => Ok(number_operand(op, n)),
+        Err(NumberOutside) => Ok(Act::Fault(Fault::NumberOutside)),
+    }
+}
+
+/// An operator on a number.
+fn on_number<'p>(
+    alloc: Global,
+    state: &mut State<'p>,
+    op: UnKind,
+    v: Value,
+) -> Result<Act<'p>, NoMemory>
+    ensures leads { IfOk result (λ act. Works state.old (to_number v then number_operand op) state.new act) }
+    ensures falls { IfOk result (λ act. Falls state.old 40 state.new act) }
+{
+    state.push_algorithm(AlgorithmFrame::NumberOperand { op })?;
+    Ok(to_primitive(alloc, state, v, Hint::Number)?)
+}
+
+/// An operator on one operand (11.3, 11.4).
+#[tactic(auto, unfolding(jl_meaning::specs::Operators::unary_result))]
+pub fn unary_result<'p>(
+    alloc: Global,
+    state: &mut State<'p>,
+    op: UnKind,
+    v: Value,
+) -> Result<Act<'p>, NoMemory>
+    ensures leads { IfOk result (λ act. Works state.old (unary_result op v) state.new act) }
+    ensures falls { IfOk result (λ act. Falls state.old 40 state.new act) }
+{
+    match op {
+        UnKind::Minus | UnKind::Plus | UnKind::Tilde | UnKind::Up | UnKind::Down => {
+            Ok(on_number(alloc, state, op, v)?)
+        }
+        UnKind::Not => Ok(Act::Give(Value::Bool(!to_boolean(&v)))),
+        UnKind::Typeof => {
+            let name = type_name(&v, state.store.is_callable(&v));
+            Ok(Act::Give(Value::Text(word(alloc, name)?)))
+        }
+        UnKind::Void => Ok(Act::Give(Value::Undefined)),
+    }
+}

@@ -1,0 +1,590 @@
+-- What a frame does with what it is handed: what is left to do of the part of the script that it stands for.
+use Rattle.std.specs.Option.{option_or}
+use Rattle.std.specs.Prelude.{[], codes, drop, false, if◌then◌else◌, map, pos, slice_get, true, ◌++◌, ◌+◌, ◌∷◌, Bool}
+use Rattle.std.specs.Prelude.{List, None, Option, Some, ℕ}
+use Rattle.std.specs.Borrow.{Bor}
+use Rattle.std.specs.Global.{Global}
+use Rattle.std.specs.declared.boxed.Box.{Box}
+use Rattle.jl_num.specs.Arithmetic.{difference_of, negative_of, product_of, quotient_of, remainder_of}
+use Rattle.jl_num.specs.Bits.{and_of, complement_of, left_shift_of, or_of, right_shift_of, uint32_of, unsigned_right_shift_of}
+use Rattle.jl_num.specs.Bits.{xor_of}
+use Rattle.jl_num.specs.Number.{Number}
+use Rattle.jl_ast.specs.Tree as tree
+use Rattle.jl_ast.specs.View.{view_branch, view_cases, view_catch, view_declarators, view_entries, view_expression}
+use Rattle.jl_ast.specs.View.{view_expressions, view_items, view_optional, view_statements}
+use Rattle.jl_ast.specs.declared.ops.BinOp.{BinOp}
+use Rattle.jl_ast.specs.declared.ops.BinOp.TheVariants as binary
+use Rattle.jl_ast.specs.declared.tree.Case.{Case}
+use Rattle.jl_ast.specs.declared.tree.Entry.{Entry}
+use Rattle.jl_ast.specs.declared.tree.Expr.{Expr}
+use Rattle.jl_ast.specs.declared.tree.Ident.{Ident}
+use Rattle.jl_ast.specs.declared.tree.Stmt.{Stmt}
+use Rattle.jl_value.specs.declared.ending.Completion.{Completion}
+use Rattle.jl_value.specs.declared.object.Class.TheVariants as class
+use Rattle.jl_value.specs.declared.object.ObjId.{ObjId}
+use Rattle.jl_value.specs.declared.value.Value.{Value}
+use Rattle.jl_value.specs.declared.value.Value.TheVariants as value
+use Rattle.jl_conv.specs.Comparisons.{less_than, strictly_equal}
+use Rattle.jl_conv.specs.Conversions.{is_object, number_of_value, text_of_value, type_text}
+use Rattle.jl_heap.specs.Define.{length_name}
+use Rattle.jl_heap.specs.Describe.{seen_of}
+use Rattle.jl_heap.specs.Objects.{Name}
+use Rattle.jl_heap.specs.declared.inner.Inner.TheVariants as inner
+use Rattle.jl_heap.specs.declared.property.Change.{Change}
+use Rattle.jl_op.specs.declared.op.Op.TheVariants as op
+use Rattle.jl_op.specs.declared.sign.UnKind.{UnKind}
+use Rattle.jl_op.specs.declared.sign.UnKind.TheVariants as unary
+use Rattle.jl_effects.specs.Effects.{and_then, End, Step}
+use Rattle.jl_meaning.specs.Completions.{ends_as, if_normal, normal, then_do}
+use Rattle.jl_meaning.specs.Completions as completions
+use Rattle.jl_meaning.specs.Conversions.{or_else, primitive_found, primitive_of_method, to_number, to_primitive, try_method}
+use Rattle.jl_meaning.specs.Conversions.{no_hint, number_hint}
+use Rattle.jl_meaning.specs.Defining.{define_with_number, length_within, plain_change}
+use Rattle.jl_meaning.specs.Errors.{require}
+use Rattle.jl_meaning.specs.Expressions.{equip, evaluate, evaluate_all, fill}
+use Rattle.jl_meaning.specs.FunctionObjects.{FunctionTable}
+use Rattle.jl_meaning.specs.FunctionObjects as functions
+use Rattle.jl_meaning.specs.Getting.{get, is_callable}
+use Rattle.jl_meaning.specs.Noting.{emits, note, note_value, performs}
+use Rattle.jl_meaning.specs.Operators.{give_next, give_number, sum_of_primitives}
+use Rattle.jl_meaning.specs.Parts.{begin_call, do_loop, for_in_loop, for_loop, gives, give, lift, look, new_object, or_fault, while_loop}
+use Rattle.jl_meaning.specs.Parts.{◌>>=◌, Algorithm, Answer, CallOf, Context, NumberOutside, Part}
+use Rattle.jl_meaning.specs.Parts as parts
+use Rattle.jl_meaning.specs.Properties.{has_property}
+use Rattle.jl_meaning.specs.Putting.{delete, put}
+use Rattle.jl_meaning.specs.References.{put_value}
+use Rattle.jl_meaning.specs.Relations.{give_truth, has_prototype, negate_if, opposite, or_false, primitive_equality}
+use Rattle.jl_meaning.specs.Statements.{execute_all, execute_branch, execute_from, handle, select, test_loop, update_loop}
+use Rattle.jl_meaning.specs.builtins.Arguments.{give_object}
+use Rattle.jl_meaning.specs.builtins.Error.{name_and_message, new_error, string_or}
+use Rattle.jl_meaning.specs.builtins.Global.{print_others}
+use Rattle.jl_meaning.specs.forms.Calls.{call_member, invoke}
+use Rattle.jl_meaning.specs.forms.Functions.{call_script, prototype_for, result_of}
+use Rattle.jl_meaning.specs.forms.Hooks.{close, enter_hook, enter_opener, pending_assign, pending_call, pending_put}
+use Rattle.jl_meaning.specs.forms.Jumps.{after_labelled, return_value, throw_value}
+use Rattle.jl_meaning.specs.forms.Literals.{define_entry, end_array, literal_of, of_object, put_element}
+use Rattle.jl_meaning.specs.forms.Loops.{after_body, begin_turn, visit_all, visit_next}
+use Rattle.jl_meaning.specs.forms.Members.{assign_member, delete_member, get_member, put_member, read_member}
+use Rattle.jl_meaning.specs.forms.Members.{update_expression}
+use Rattle.jl_meaning.specs.forms.Operators.{decide, operate, operate_on, update, update_kind}
+use Rattle.jl_meaning.specs.forms.Simple.{declare_all}
+use Rattle.jl_meaning.specs.forms.Switch.{after_switch, default_of}
+use Rattle.jl_meaning.specs.forms.Try.{unless_abrupt}
+use Rattle.jl_store.specs.LookUps.{reference_seen}
+use Rattle.jl_state.specs.Trees.{items_left, plain, plain_forest, plain_optional}
+use Rattle.jl_state.specs.Words.{call_of, context_of, hook_of, noting, opener_of, pending_of, visit_of}
+use Rattle.jl_state.specs.declared.calls.Call.{Call}
+use Rattle.jl_state.specs.declared.frame.AlgorithmFrame.{AlgorithmFrame}
+use Rattle.jl_state.specs.declared.frame.AlgorithmFrame.TheVariants as algorithm
+use Rattle.jl_state.specs.declared.frame.ArgumentsFor.{ArgumentsFor}
+use Rattle.jl_state.specs.declared.frame.ArgumentsFor.TheVariants as arguments_for
+use Rattle.jl_state.specs.declared.frame.Attributes.{Attributes}
+use Rattle.jl_state.specs.declared.frame.CompletionFrame.{CompletionFrame}
+use Rattle.jl_state.specs.declared.frame.CompletionFrame.TheVariants as completing
+use Rattle.jl_state.specs.declared.frame.Here.{Here}
+use Rattle.jl_state.specs.declared.frame.Hint.{Hint}
+use Rattle.jl_state.specs.declared.frame.Hint.TheVariants as hint
+use Rattle.jl_state.specs.declared.frame.KeyFor.{KeyFor}
+use Rattle.jl_state.specs.declared.frame.KeyFor.TheVariants as key_for
+use Rattle.jl_state.specs.declared.frame.Loop.{Loop}
+use Rattle.jl_state.specs.declared.frame.Loop.TheVariants as loop
+use Rattle.jl_state.specs.declared.frame.LoopTurn.{LoopTurn}
+use Rattle.jl_state.specs.declared.frame.Progress.{Progress}
+use Rattle.jl_state.specs.declared.frame.Progress.TheVariants as progress
+use Rattle.jl_state.specs.declared.frame.StatementFrame.{StatementFrame}
+use Rattle.jl_state.specs.declared.frame.StatementFrame.TheVariants as statement
+use Rattle.jl_state.specs.declared.frame.ToldFrame.{ToldFrame}
+use Rattle.jl_state.specs.declared.frame.ToldFrame.TheVariants as told
+use Rattle.jl_state.specs.declared.frame.ValueFrame.{ValueFrame}
+use Rattle.jl_state.specs.declared.frame.ValueFrame.TheVariants as waiting
+use Rattle.jl_state.specs.declared.frame.Visits.{Visits}
+use Rattle.jl_state.specs.declared.frame.WrittenBy.{WrittenBy}
+use Rattle.jl_state.specs.declared.frame.WrittenBy.TheVariants as written_by
+use Rattle.jl_state.specs.declared.remaining.Remaining.{Remaining}
+
+-- algorithms
+
+-- the method that a conversion tries first or second (8.12.8)
+abbrev pub method_name : Hint → (is_second : Bool) → Name
+method_name hint.Text false = codes "toString"
+method_name hint.Text true = codes "valueOf"
+method_name _ false = codes "valueOf"
+method_name _ true = codes "toString"
+
+-- what is tried after a method
+abbrev pub after_method : ObjId → Hint → (is_second : Bool) → Option Value → Algorithm Value
+after_method object h false tried = do
+  found ← or_else (try_method (value.Obj object) (method_name h true)) tried
+  primitive_found found
+after_method object h true tried = primitive_found tried
+
+-- what an operator makes of two numbers (11.5, 11.6.2, 11.7, 11.10)
+abbrev pub number_result : BinOp → Number → Number → Option Number
+number_result binary.Mul x y = product_of x y
+number_result binary.Div x y = quotient_of x y
+number_result binary.Rem x y = Some (remainder_of x y)
+number_result binary.Sub x y = difference_of x y
+number_result binary.Shl x y = Some (left_shift_of x y)
+number_result binary.Sar x y = Some (right_shift_of x y)
+number_result binary.Shr x y = Some (unsigned_right_shift_of x y)
+number_result binary.BitAnd x y = Some (and_of x y)
+number_result binary.BitXor x y = Some (xor_of x y)
+number_result binary.BitOr x y = Some (or_of x y)
+number_result _ x y = None
+
+-- what a relation makes of two primitive values (11.8.1 to 11.8.5)
+abbrev pub compared : BinOp → Value → Value → Algorithm Value
+compared binary.Greater x y = do
+  r ← or_fault NumberOutside (less_than y x)
+  give_truth (or_false r)
+compared binary.LessEq x y = do
+  r ← or_fault NumberOutside (less_than y x)
+  give_truth (opposite r)
+compared binary.GreaterEq x y = do
+  r ← or_fault NumberOutside (less_than x y)
+  give_truth (opposite r)
+compared _ x y = do
+  r ← or_fault NumberOutside (less_than x y)
+  give_truth (or_false r)
+
+-- a primitive value as a number (9.3)
+abbrev pub number_of_primitive : Value → Algorithm Number
+number_of_primitive p = or_fault NumberOutside (number_of_value p)
+
+-- what an operator makes of a number (11.3, 11.4)
+abbrev pub number_operand : UnKind → Number → Algorithm Value
+number_operand unary.Minus n = give_number (Some (negative_of n))
+number_operand unary.Tilde n = give_number (Some (complement_of n))
+number_operand unary.Up n = give_next unary.Up n
+number_operand unary.Down n = give_next unary.Down n
+number_operand _ n = give_number (Some n)
+
+-- what follows when a property has been defined, or that was rejected
+abbrev pub after_define : WrittenBy → Bool → Algorithm Value
+after_define (written_by.Put throwing given) done = do
+  _ ← require (if throwing then done else true) (codes "cannot write")
+  give given
+after_define written_by.Literal done = give value.Undefined
+
+-- a data property is asked for with this value
+abbrev pub data_change : Attributes → Value → Change
+data_change a v = record {
+  value = Some v;
+  writable = a.writable;
+  get = None;
+  set = None;
+  enumerable = a.enumerable;
+  configurable = a.configurable;
+}
+
+-- the length of an array is defined, of which both conversions are done
+abbrev pub define_length : ObjId → (count : ℕ) → Attributes → WrittenBy → Number → Algorithm Value
+define_length array count attributes purpose n = do
+  length ← length_within (Some (pos count)) n
+  done ← define_with_number array length_name (data_change attributes length)
+  after_define purpose done
+
+-- a text after what a line has, and a space if it isn't the first
+abbrev pub line_with : (line : List ℕ) → (is_first : Bool) → List ℕ → List ℕ
+line_with line true units = units
+line_with line false units = line ++ 32 ∷ units
+
+abbrev pub progress_after : Progress → Value → Algorithm Value
+progress_after (progress.Print line is_first rest) p = print_others (line_with line is_first (text_of_value p)) rest
+progress_after (progress.ErrorMessage proto) p = do
+  id ← new_error proto (Some (text_of_value p))
+  give_object id
+progress_after (progress.ErrorName object) v = do
+  name ← string_or (codes "Error") v
+  w ← get (value.Obj object) (codes "message")
+  message ← string_or [] w
+  name_and_message name message
+progress_after (progress.ErrorNamePrimitive object) p = do
+  w ← get (value.Obj object) (codes "message")
+  message ← string_or [] w
+  name_and_message (text_of_value p) message
+progress_after (progress.ErrorText name) w = do
+  message ← string_or [] w
+  name_and_message name message
+progress_after (progress.ErrorTextPrimitive name) p = name_and_message name (text_of_value p)
+
+abbrev pub algorithm_after : AlgorithmFrame → Value → Algorithm Value
+algorithm_after (algorithm.Method object h is_second) method = do
+  store ← look
+  tried ← primitive_of_method (value.Obj object) method (is_callable store.heap method)
+  after_method object h is_second tried
+algorithm_after (algorithm.MethodResult object h is_second) v =
+    after_method object h is_second (if is_object v then None else Some v)
+algorithm_after (algorithm.LeftNumber o right) p = do
+  x ← number_of_primitive p
+  y ← to_number right
+  give_number (number_result o x y)
+algorithm_after (algorithm.RightNumber o left) p = do
+  y ← number_of_primitive p
+  give_number (number_result o left y)
+algorithm_after (algorithm.LeftSummand right) x = do
+  y ← to_primitive no_hint right
+  sum_of_primitives x y
+algorithm_after (algorithm.RightSummand left) y = sum_of_primitives left y
+algorithm_after (algorithm.LeftCompared o right) x = do
+  y ← to_primitive number_hint right
+  compared o x y
+algorithm_after (algorithm.RightCompared o left) y = compared o left y
+algorithm_after (algorithm.EqualTo other is_negative) p = negate_if is_negative (primitive_equality p other)
+algorithm_after (algorithm.InstanceOf v) proto = do
+  store ← look
+  has_prototype store.heap v proto
+algorithm_after (algorithm.In object) p = do
+  store ← look
+  give_truth (has_property store object.0 (text_of_value p))
+algorithm_after (algorithm.NumberOperand o) p = do
+  n ← number_of_primitive p
+  number_operand o n
+algorithm_after (algorithm.LengthCount array length attributes purpose) p = do
+  first ← number_of_primitive p
+  n ← to_number length
+  define_length array (uint32_of first) attributes purpose n
+algorithm_after (algorithm.LengthNumber array count attributes purpose) p = do
+  n ← number_of_primitive p
+  define_length array count attributes purpose n
+algorithm_after algorithm.TypeOf v = do
+  store ← look
+  give (value.Text (type_text v (is_callable store.heap v)))
+algorithm_after (algorithm.Then v) _ = give v
+algorithm_after (algorithm.Builtin p) v = progress_after p v
+
+-- what follows an operation that a hook has emitted
+
+abbrev pub told_after : ToldFrame → Part (Answer Value)
+told_after (told.Give v) = give v
+told_after (told.Put base x v strict given) = do
+  _ ← lift (put strict base x v)
+  give given
+told_after (told.PutMember id base x v strict given) = do
+  _ ← put_member emits id.0 strict base x v
+  give given
+told_after (told.Invoke id call) = do
+  v ← begin_call CallOf (call_of call)
+  _ ← note_value emits (id.pre + 1) (op.InvokePost call.callee) v
+  give v
+
+module _ (table : FunctionTable) (calls : List Call) where
+  abbrev context : Here → Context
+  context here = context_of calls here
+
+  abbrev value_of : Bor Expr → Here → Part (Answer Value)
+  value_of e here = evaluate table (plain (view_expression e.now)) (context here)
+
+  abbrev value_in : Bor (Box Expr Global) → Here → Part (Answer Value)
+  value_in e here = evaluate table (plain (view_expression e.now.value)) (context here)
+
+  abbrev values_of : (so_far : List Value) → List Expr → Here → Part (Answer (List Value))
+  values_of so_far l here = evaluate_all table 0 so_far (plain_forest (view_expressions l)) (context here)
+
+  -- what is done with the name of a member
+  abbrev pub key_after : KeyFor → Name → Part (Answer Value)
+  key_after (key_for.Get noted base) x = get_member (noting noted.emits) noted.id.id base x
+  key_after (key_for.Call base args here) x = do
+    f ← get_member performs 0 base x
+    vs ← values_of [] args.now here
+    invoke table performs 0 f base vs false
+  key_after (key_for.Assign base None e here) x = do
+    v ← value_in e here
+    _ ← put_member performs 0 here.strict base x v
+    give v
+  key_after (key_for.Assign base (Some o) e here) x = do
+    held ← get_member performs 0 base x
+    operand ← value_in e here
+    v ← operate performs 1 o held operand
+    _ ← put_member performs 2 here.strict base x v
+    give v
+  key_after (key_for.Delete noted base strict) x = do
+    free ← lift (delete strict base x)
+    _ ← note (noting noted.emits) noted.id.id (λ heap. op.DeleteField (seen_of heap base) x free)
+    give (value.Bool free)
+  key_after (key_for.Update noted base up prefix strict) x = do
+    held ← get_member (noting noted.emits) noted.id.id base x
+    v ← update (noting noted.emits) (noted.id.id + 1) (update_kind up) held
+    _ ← put_member (noting noted.emits) (noted.id.id + 2) strict base x v.1
+    give (if prefix then v.1 else value.Num v.0)
+  key_after (key_for.Put id base args here) x = do
+    vs ← values_of [] args.now here
+    close table (context here) (pending_put id.id base x) vs
+  key_after (key_for.Compute id o base args here) x = do
+    held ← get_member emits id.id base x
+    vs ← values_of [] args.now here
+    close table (context here) (pending_assign id.id o base x held) vs
+  key_after (key_for.Method id base args here) x = do
+    f ← get_member emits id.id base x
+    vs ← values_of [] args.now here
+    close table (context here) (pending_call (id.id + 1) f base) vs
+
+  -- what is done with the values of arguments
+  abbrev pub arguments_after : ArgumentsFor → Here → List Value → Part (Answer Value)
+  arguments_after (arguments_for.Invoke callee this by_new) here vs = invoke table performs 0 callee this vs by_new
+  arguments_after (arguments_for.Hook id h) here vs = Step (enter_hook (context here) id.id (hook_of h) vs)
+  arguments_after (arguments_for.Opener id o second) here vs = do
+    pending ← Step (enter_opener id.id (opener_of o) vs)
+    ws ← values_of [] second.now here
+    close table (context here) pending ws
+  arguments_after (arguments_for.Close pending) here vs = close table (context here) (pending_of pending) vs
+
+  -- [[Construct]] of a function of the script goes on with the prototype (13.2.2, steps 5 to 10)
+  abbrev construct_with : Option functions.ScriptFunction → (env : ℕ) → parts.Call → (proto : Value) → Part (Answer Value)
+  construct_with None env call proto = give value.Undefined
+  construct_with (Some f) env call proto = do
+    id ← lift (new_object class.Object (Some (prototype_for proto)) inner.Nothing)
+    v ← call_script table f env (record call { this = value.Obj id })
+    give (if is_object v then v else value.Obj id)
+
+  abbrev pub value_after : ValueFrame → Value → Part (Answer Value)
+  value_after (waiting.Element array index rest here) v = do
+    _ ← lift (put_element array index v)
+    n ← fill table (plain_forest (view_items (items_left rest))) array (index + 1) (context here)
+    end_array 0 array n
+  value_after (waiting.EntryValue object key rest here) v = do
+    _ ← define_entry object key.now (plain_change v)
+    _ ← equip table (plain_forest (view_entries (items_left rest))) object (context here)
+    literal_of of_object 0 (value.Obj object)
+  value_after (waiting.Entries object rest here) _ = do
+    _ ← equip table (plain_forest (view_entries (items_left rest))) object (context here)
+    literal_of of_object 0 (value.Obj object)
+  value_after (waiting.DotBase key) base = read_member 0 base (value.Text key.now)
+  value_after (waiting.IndexBase k here) base = do
+    key ← value_in k here
+    read_member 0 base key
+  value_after (waiting.IndexKey base) key = read_member 0 base key
+  value_after (waiting.Key purpose) p = key_after purpose (text_of_value p)
+  value_after (waiting.Callee this by_new args here) f = do
+    vs ← values_of [] args.now here
+    invoke table performs 0 f this vs by_new
+  value_after (waiting.CalleeDotBase key args here) base =
+      call_member table 0 0 base (value.Text key.now) (values_of [] args.now here)
+  value_after (waiting.CalleeIndexBase k args here) base = do
+    key ← value_in k here
+    call_member table 0 0 base key (values_of [] args.now here)
+  value_after (waiting.CalleeIndexKey base args here) key = call_member table 0 0 base key (values_of [] args.now here)
+  value_after (waiting.Argument purpose so_far rest here) v = do
+    vs ← values_of (so_far ++ v ∷ []) (items_left rest) here
+    arguments_after purpose here vs
+  value_after (waiting.Operand o) v = operate_on performs 0 o v
+  value_after waiting.DeleteValue _ = give (value.Bool true)
+  value_after (waiting.DeleteDotBase key strict) base = delete_member performs 0 strict base (value.Text key.now)
+  value_after (waiting.DeleteIndexBase k here) base = do
+    key ← value_in k here
+    delete_member performs 0 here.strict base key
+  value_after (waiting.DeleteIndexKey base strict) key = delete_member performs 0 strict base key
+  value_after (waiting.LeftOperand o b here) x = do
+    y ← value_in b here
+    operate performs 0 o x y
+  value_after (waiting.RightOperand o x) y = operate performs 0 o x y
+  value_after (waiting.And b here) v = do
+    truth ← decide 0 v
+    if truth then value_in b here else give v
+  value_after (waiting.Or b here) v = do
+    truth ← decide 0 v
+    if truth then give v else value_in b here
+  value_after (waiting.Conditional a b here) v = do
+    truth ← decide 0 v
+    if truth then value_in a here else value_in b here
+  value_after (waiting.Comma b here) _ = value_in b here
+  value_after (waiting.WriteName id x reference strict) v = do
+    _ ← note_value performs id.0 (op.Write x.now) v
+    _ ← lift (put_value strict x.now v (reference_seen reference))
+    give v
+  value_after (waiting.ComputeName x reference o e here) held = do
+    _ ← note_value performs 0 (op.Read x.now) held
+    operand ← value_in e here
+    v ← operate performs 1 o held operand
+    _ ← note_value performs 2 (op.Write x.now) v
+    _ ← lift (put_value here.strict x.now v (reference_seen reference))
+    give v
+  value_after (waiting.ComputeNameOperand x reference o held strict) operand = do
+    v ← operate performs 1 o held operand
+    _ ← note_value performs 2 (op.Write x.now) v
+    _ ← lift (put_value strict x.now v (reference_seen reference))
+    give v
+  value_after (waiting.UpdateName x reference up prefix strict) held = do
+    _ ← note_value performs 0 (op.Read x.now) held
+    v ← update performs 1 (update_kind up) held
+    _ ← note_value performs 2 (op.Write x.now) v.1
+    _ ← lift (put_value strict x.now v.1 (reference_seen reference))
+    give (if prefix then v.1 else value.Num v.0)
+  value_after (waiting.UpdateNamePrimitive x reference up prefix strict held) p = do
+    n ← lift (number_of_primitive p)
+    w ← lift (give_next (update_kind up) n)
+    _ ← note performs 1 (λ heap. op.Unary (update_kind up) (seen_of heap held) (seen_of heap w))
+    _ ← note_value performs 2 (op.Write x.now) w
+    _ ← lift (put_value strict x.now w (reference_seen reference))
+    give (if prefix then w else value.Num n)
+  value_after (waiting.AssignDotBase key o e here) base =
+      assign_member 0 (context here) base (value.Text key.now) o (value_in e here)
+  value_after (waiting.AssignIndexBase k o e here) base = do
+    key ← value_of k here
+    assign_member 0 (context here) base key o (value_in e here)
+  value_after (waiting.AssignIndexKey base o e here) key =
+      assign_member 0 (context here) base key o (value_in e here)
+  value_after (waiting.PutMember emitting id base x strict) v = do
+    _ ← put_member (noting emitting) id.0 strict base x v
+    give v
+  value_after (waiting.ComputeMember base x o e here) held = do
+    operand ← value_in e here
+    v ← operate performs 1 o held operand
+    _ ← put_member performs 2 here.strict base x v
+    give v
+  value_after (waiting.ComputePending id o base x args here) held = do
+    vs ← values_of [] args.now here
+    close table (context here) (pending_assign id.id o base x held) vs
+  value_after (waiting.MethodPending id base args here) f = do
+    vs ← values_of [] args.now here
+    close table (context here) (pending_call (id.id + 1) f base) vs
+  value_after (waiting.ComputeMemberOperand base x o held strict) operand = do
+    v ← operate performs 1 o held operand
+    _ ← put_member performs 2 strict base x v
+    give v
+  value_after (waiting.UpdateDotBase key up prefix strict) base =
+      update_expression 0 (context (record { env = 0; strict = strict })) base (value.Text key.now) up prefix
+  value_after (waiting.UpdateIndexBase k up prefix here) base = do
+    key ← value_of k here
+    update_expression 0 (context here) base key up prefix
+  value_after (waiting.UpdateIndexKey base up prefix strict) key =
+      update_expression 0 (context (record { env = 0; strict = strict })) base key up prefix
+  value_after (waiting.UpdateMember noted base x up prefix strict) held = do
+    v ← update (noting noted.emits) (noted.id.id + 1) (update_kind up) held
+    _ ← put_member (noting noted.emits) (noted.id.id + 2) strict base x v.1
+    give (if prefix then v.1 else value.Num v.0)
+  value_after (waiting.UpdateMemberPrimitive noted base x up prefix strict held) p = do
+    n ← lift (number_of_primitive p)
+    w ← lift (give_next (update_kind up) n)
+    _ ← note (noting noted.emits) (noted.id.id + 1) (λ heap. op.Unary (update_kind up) (seen_of heap held) (seen_of heap w))
+    _ ← put_member (noting noted.emits) (noted.id.id + 2) strict base x w
+    give (if prefix then w else value.Num n)
+  value_after (waiting.UpdateOperandPrimitive id up held) p = do
+    n ← lift (number_of_primitive p)
+    w ← lift (give_next (update_kind up) n)
+    _ ← note emits id.id (λ heap. op.Unary (update_kind up) (seen_of heap held) (seen_of heap w))
+    give w
+  value_after (waiting.EmitGet id base x found) v = do
+    _ ← note emits id.0 (λ heap. op.GetField (seen_of heap base) x (seen_of heap v) found)
+    give v
+  value_after (waiting.EmitBinary id o left right) v = do
+    _ ← note emits id.0 (λ heap. op.Binary o (seen_of heap left) (seen_of heap right) (seen_of heap v))
+    give v
+  value_after (waiting.EmitUnary id o operand) v = do
+    _ ← note emits id.0 (λ heap. op.Unary o (seen_of heap operand) (seen_of heap v))
+    give v
+  value_after (waiting.EmitInvoke id callee) v = do
+    _ ← note_value emits id.0 (op.InvokePost callee) v
+    give v
+  value_after (waiting.InstancePrototype number env call) proto =
+      construct_with (slice_get table number) env (call_of call) proto
+  value_after (waiting.Constructed object) v = give (if is_object v then v else object)
+
+  -- statements
+
+  abbrev statements : List Stmt → Here → Part Completion
+  statements l here = execute_all table (plain_forest (view_statements l)) (context here)
+
+  abbrev branch : Option (List Stmt) → Here → Part Completion
+  branch l here = execute_branch table (plain_optional (view_branch l)) (context here)
+
+  abbrev declared_variables : List (Ident × Option Expr) → Here → Part (Answer (Unit {0}))
+  declared_variables l here = declare_all table (plain_forest (view_declarators l)) (context here)
+
+  abbrev labels_of : List (Bor (List ℕ)) → List Name
+  labels_of l = map (λ (x : Bor (List ℕ)). x.now) l
+
+  abbrev visits_in : Visits → List parts.Visit
+  visits_in v = map visit_of (drop v.from v.visits)
+
+  -- a turn of a loop, which is none of a `for-in`
+  abbrev turn_with : LoopTurn → parts.Loop → parts.Turn
+  turn_with t l = record { loop = l; context = context t.here; labels = labels_of t.labels; id = 0 }
+
+  abbrev loop_of : Loop → parts.Loop
+  loop_of (loop.Do l e) = do_loop (plain_forest (view_statements l.now)) (plain (view_expression e.now))
+  loop_of (loop.While e l) = while_loop (plain (view_expression e.now)) (plain_forest (view_statements l.now))
+  loop_of (loop.For e u l) =
+      for_loop (plain_optional (view_optional e.now)) (plain_optional (view_optional u.now))
+      (plain_forest (view_statements l.now))
+  loop_of (loop.ForIn x visits l) =
+      for_in_loop x.now [] (visits_in visits) (plain_forest (view_statements l.now))
+
+  abbrev pub next_turn : LoopTurn → Part Completion
+  next_turn t = begin_turn (turn_with t (loop_of t.kind))
+
+  abbrev body_of : Loop → List Stmt
+  body_of (loop.Do l e) = l.now
+  body_of (loop.While e l) = l.now
+  body_of (loop.For e u l) = l.now
+  body_of (loop.ForIn x visits l) = l.now
+
+  -- what follows the body of a loop that has completed and goes on
+  abbrev after_turn : LoopTurn → Loop → Part Completion
+  after_turn t (loop.Do l e) = completions.◌>>=◌ (test_loop table (tree.present (plain (view_expression e.now))) 0 (context t.here))
+      (λ truth. if truth then next_turn t else normal)
+  after_turn t (loop.While e l) = next_turn t
+  after_turn t (loop.For e u l) =
+      then_do (update_loop table (plain_optional (view_optional u.now)) (context t.here)) (next_turn t)
+  after_turn t (loop.ForIn x visits l) =
+      visit_next x.now (plain_forest (view_statements l.now)) (context t.here) (labels_of t.labels) 0 (visits_in visits)
+
+  abbrev pub after_loop_body : LoopTurn → Completion → Part Completion
+  after_loop_body t how = after_body (labels_of t.labels) (after_turn t t.kind) how
+
+  -- the body of a turn, and what follows
+  abbrev pub loop_body : LoopTurn → Part Completion
+  loop_body t = and_then (statements (body_of t.kind) t.here) (after_loop_body t)
+
+  -- what the test of a loop leads to, if it holds
+  abbrev tested : LoopTurn → Loop → Part Completion
+  tested t (loop.Do l e) = next_turn t
+  tested t k = loop_body t
+
+  -- the clauses of a `switch` from the one that is selected
+  abbrev run_clauses : List Case → Here → Option ℕ → Part Completion
+  run_clauses l here selected =
+      ends_as after_switch (execute_from table (option_or selected (default_of (plain_forest (view_cases l))))
+      (plain_forest (view_cases l)) (context here))
+
+  abbrev pub statement_after : StatementFrame → Value → Part Completion
+  statement_after statement.Expression _ = normal
+  statement_after (statement.Variables rest here) _ =
+      completions.◌>>=◌ (declared_variables (items_left rest) here) (λ _. normal)
+  statement_after (statement.ForHead rest t) _ =
+      completions.◌>>=◌ (declared_variables (items_left rest) t.here) (λ _. next_turn t)
+  statement_after (statement.ForExpression t) _ = next_turn t
+  statement_after (statement.If a b here) v =
+      completions.◌>>=◌ (decide 0 v) (λ truth. if truth then statements a.now here else branch b.now here)
+  statement_after (statement.ForInObject x l here labels) v =
+      completions.◌>>=◌ (note_value performs 0 op.ForIn v)
+      (λ _. visit_all x.now (plain_forest (view_statements l.now)) (context here) (labels_of labels) 0 v)
+  statement_after (statement.ForInBody t) _ = loop_body t
+  statement_after (statement.Test t) v =
+      completions.◌>>=◌ (decide 0 v) (λ truth. if truth then tested t t.kind else normal)
+  statement_after (statement.Update t) _ = next_turn t
+  statement_after statement.Return v = return_value 0 v
+  statement_after statement.Throw v = throw_value 0 v
+  statement_after (statement.Switch l here) v =
+      completions.◌>>=◌ (select table 0 (plain_forest (view_cases l.now)) v (context here)) (run_clauses l.now here)
+  statement_after (statement.CaseTest v index l here) w =
+      completions.◌>>=◌ (if strictly_equal v w then give (Some index)
+      else select table (index + 1) (plain_forest (view_cases (drop (index + 1) l.now))) v (context here))
+      (run_clauses l.now here)
+
+  abbrev pub completion_after : CompletionFrame → Completion → Part Completion
+  completion_after (completing.Statements rest here) how = if_normal (statements (items_left rest) here) how
+  completion_after (completing.Clauses rest here) how =
+      if_normal (execute_from table (Some 0) (plain_forest (view_cases (items_left rest))) (context here)) how
+  completion_after completing.Switch how = End (after_switch how)
+  completion_after (completing.Labelled x) how = End (after_labelled x.now how)
+  completion_after (completing.LoopBody t) how = after_loop_body t how
+  completion_after (completing.TryBlock h f here) tried =
+      and_then (handle table (plain_optional (view_catch h.now)) tried (context here))
+      (λ handled. ends_as (unless_abrupt handled) (branch f.now here))
+  completion_after (completing.CatchBlock f here) handled = ends_as (unless_abrupt handled) (branch f.now here)
+  completion_after (completing.FinallyBlock before) how = End (unless_abrupt before how)
+
+  -- a function is left (13.2.1); the operation of that is nothing to a machine that is told by hooks alone
+  abbrev pub body_after : Completion → Part (Answer Value)
+  body_after how = result_of how

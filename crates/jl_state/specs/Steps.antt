@@ -1,0 +1,50 @@
+-- What the calls of a state do to what is left to do: each turns what holds of the state after it into what holds of the
+-- state before.
+use Rattle.std.specs.Prelude.{◌≡◌, ◌∷◌, List}
+use Rattle.jl_value.specs.declared.ending.Completion.{Completion}
+use Rattle.jl_value.specs.declared.value.Value.{Value}
+use Rattle.jl_effects.specs.Effects.{and_then, Step}
+use Rattle.jl_meaning.specs.Completions.{on_given}
+use Rattle.jl_meaning.specs.Parts.{lift, ◌>>=◌, Algorithm, Answer, Part}
+use Rattle.jl_state.specs.Frames.{algorithm_after, completion_after, statement_after, value_after}
+use Rattle.jl_state.specs.Rest.{Completes, Gives, Works}
+use Rattle.jl_state.specs.Words.{table_of}
+use Rattle.jl_state.specs.declared.act.Act.{Act}
+use Rattle.jl_state.specs.declared.act.Act.TheVariants as act
+use Rattle.jl_state.specs.declared.frame.AlgorithmFrame.{AlgorithmFrame}
+use Rattle.jl_state.specs.declared.frame.CompletionFrame.{CompletionFrame}
+use Rattle.jl_state.specs.declared.frame.StatementFrame.{StatementFrame}
+use Rattle.jl_state.specs.declared.frame.ValueFrame.{ValueFrame}
+use Rattle.jl_state.specs.declared.state.State.{State}
+
+-- t is s, of whose steps one was taken
+pub record Took (s t : State) : Type 0 where
+  pub gives : (p : Part (Answer Value)) (u : State) (a : Act) → Gives t p u a → Gives s (Step p) u a
+  pub completes : (p : Part Completion) (u : State) (a : Act) → Completes t p u a → Completes s (Step p) u a
+  pub works : (p : Algorithm Value) (u : State) (a : Act) → Works t p u a → Works s (Step p) u a
+
+-- no step is left
+pub record RanOut (s : State) : Type 0 where
+  pub gives : (p : Part (Answer Value)) → Gives s (Step p) s act.Spent
+  pub completes : (p : Part Completion) → Completes s (Step p) s act.Spent
+  pub works : (p : Algorithm Value) → Works s (Step p) s act.Spent
+
+-- t is s with a frame on it
+pub record ValueWaits (s : State) (f : ValueFrame) (t : State) : Type 0 where
+  pub gives : (p : Part (Answer Value)) (u : State) (a : Act) → Gives t p u a
+      → Gives s (p >>= value_after (table_of s.functions) s.calls f) u a
+  pub works : (p : Algorithm Value) (u : State) (a : Act) → Works t p u a
+      → Gives s (lift p >>= value_after (table_of s.functions) s.calls f) u a
+
+pub record AlgorithmWaits (s : State) (f : AlgorithmFrame) (t : State) : Type 0 where
+  pub works : (p : Algorithm Value) (u : State) (a : Act) → Works t p u a → Works s (p >>= algorithm_after f) u a
+
+pub record StatementWaits (s : State) (f : StatementFrame) (t : State) : Type 0 where
+  pub gives : (p : Part (Answer Value)) (u : State) (a : Act) → Gives t p u a
+      → Completes s (and_then p (on_given (statement_after (table_of s.functions) s.calls f))) u a
+  pub works : (p : Algorithm Value) (u : State) (a : Act) → Works t p u a
+      → Completes s (and_then (lift p) (on_given (statement_after (table_of s.functions) s.calls f))) u a
+
+pub record CompletionWaits (s : State) (f : CompletionFrame) (t : State) : Type 0 where
+  pub completes : (p : Part Completion) (u : State) (a : Act) → Completes t p u a
+      → Completes s (and_then p (completion_after (table_of s.functions) s.calls f)) u a

@@ -1,0 +1,125 @@
+//! The state of a run, and what steps do to it.
+ghost use Rattle.std.specs.Prelude.{◌≡◌, ◌-◌, ◌<◌, ◌∷◌, [], IfOk, OnOk, true, false};
+
+use crate::act::Act;
+use crate::calls::Calls;
+use crate::frame::{AlgorithmFrame, CompletionFrame, Frame, Here, StatementFrame, ValueFrame};
+use crate::stack::Stack;
+use jl_ast::{Expr, Function, Stmt};
+use jl_store::Store;
+use jl_text::{List, NoMemory, Text};
+
+/// A function of the script, with what its calls need: whether it is strict code (10.1.1), the variables of its body
+/// (10.5), and whether that mentions `arguments`.
+#[derive(Drop)]
+pub struct ScriptFunction<'p> {
+    pub function: &'p Function,
+    pub is_strict: bool,
+    pub variables: List<Text>,
+    pub mentions_arguments: bool,
+}
+
+/// The state of a run: its store, the functions of the script by number, the calls that are running, the frames, the
+/// bytes of the output, and how many steps are left.
+#[derive(Drop)]
+pub struct State<'p> {
+    pub store: Store,
+    pub functions: List<ScriptFunction<'p>>,
+    pub calls: Calls,
+    pub stack: Stack<'p>,
+    pub output: List<u8>,
+    pub left: u64,
+}
+
+impl<'p> State<'p> {
+    ghost use Rattle.jl_ast.specs.View.{view_expression};
+    ghost use Rattle.jl_effects.specs.Effects.{and_then};
+    ghost use Rattle.jl_meaning.specs.Completions.{on_given};
+    ghost use Rattle.jl_meaning.specs.Expressions.{evaluate};
+    ghost use Rattle.jl_meaning.specs.Parts.{◌>>=◌ as ◌then◌};
+    ghost use Rattle.jl_state.specs.Frames.{value_after, statement_after};
+    ghost use Rattle.jl_state.specs.Rest.{Gives, Completes};
+    ghost use Rattle.jl_state.specs.Steps.{Took, RanOut, ValueWaits, AlgorithmWaits, StatementWaits, CompletionWaits};
+    ghost use Rattle.jl_state.specs.Trees.{plain};
+    ghost use Rattle.jl_state.specs.Words.{table_of, context_of};
+
+    /// Takes one of the steps that are left, and answers whether there was one.
+    pub fn spend(&mut self) -> bool
+        ensures took { result ≡ true → Took self.old self.new }
+        ensures left { result ≡ true → self.new ≡ record self.old { left = self.old.left - 1 } }
+        ensures less { result ≡ true → self.new.left < self.old.left }
+        ensures ran_out { result ≡ false → RanOut self.old }
+        ensures same { result ≡ false → self.new ≡ self.old }
+    {
+        if self.left == 0 {
+            return false;
+        }
+        self.left -= 1;
+        true
+    }
+
+    /// An expression waits for a value.
+    pub fn push_value(&mut self, frame: ValueFrame<'p>) -> Result<(), NoMemory>
+        ensures waits { OnOk result (ValueWaits self.old frame.entry self.new) }
+        ensures pushed { OnOk result (self.new ≡ record self.old { stack = Frame.Value frame.entry ∷ self.old.stack }) }
+    {
+        self.stack.push(Frame::Value(frame))?;
+        Ok(())
+    }
+
+    /// An algorithm waits for a value.
+    pub fn push_algorithm(&mut self, frame: AlgorithmFrame) -> Result<(), NoMemory>
+        ensures waits { OnOk result (AlgorithmWaits self.old frame self.new) }
+        ensures pushed { OnOk result (self.new ≡ record self.old { stack = Frame.Algorithm frame ∷ self.old.stack }) }
+    {
+        self.stack.push(Frame::Algorithm(frame))?;
+        Ok(())
+    }
+
+    /// A statement waits for a value.
+    pub fn push_statement(&mut self, frame: StatementFrame<'p>) -> Result<(), NoMemory>
+        ensures waits { OnOk result (StatementWaits self.old frame.entry self.new) }
+        ensures pushed { OnOk result (self.new ≡ record self.old { stack = Frame.Statement frame.entry ∷ self.old.stack }) }
+    {
+        self.stack.push(Frame::Statement(frame))?;
+        Ok(())
+    }
+
+    /// A statement waits for the completion of another.
+    pub fn push_completion(&mut self, frame: CompletionFrame<'p>) -> Result<(), NoMemory>
+        ensures waits { OnOk result (CompletionWaits self.old frame.entry self.new) }
+        ensures pushed { OnOk result (self.new ≡ record self.old { stack = Frame.Completion frame.entry ∷ self.old.stack }) }
+    {
+        self.stack.push(Frame::Completion(frame))?;
+        Ok(())
+    }
+
+    /// An expression is to be evaluated, for whose value another one waits.
+    pub fn evaluate(&mut self, frame: ValueFrame<'p>, e: &'p Expr, here: Here) -> Result<Act<'p>, NoMemory>
+        ensures leads { IfOk result (λ act. Gives self.old
+            (evaluate (table_of self.old.functions) (plain (view_expression e.now)) (context_of self.old.calls here)
+            then value_after (table_of self.old.functions) self.old.calls frame.entry) self.new act) }
+        ensures pushed { IfOk result (λ act. (act ≡ Act.Evaluate e.entry here)
+            × (self.new ≡ record self.old { stack = Frame.Value frame.entry ∷ self.old.stack })) }
+    {
+        self.push_value(frame)?;
+        Ok(Act::Evaluate(e, here))
+    }
+
+    /// An expression is to be evaluated, for whose value a statement waits.
+    pub fn evaluate_for(
+        &mut self,
+        frame: StatementFrame<'p>,
+        e: &'p Expr,
+        here: Here,
+    ) -> Result<Act<'p>, NoMemory>
+        ensures leads { IfOk result (λ act. Completes self.old
+            (and_then (evaluate (table_of self.old.functions) (plain (view_expression e.now)) (context_of self.old.calls here))
+            (on_given (statement_after (table_of self.old.functions) self.old.calls frame.entry))) self.new act) }
+        ensures pushed { IfOk result (λ act. (act ≡ Act.Evaluate e.entry here)
+            × (self.new ≡ record self.old { stack = Frame.Statement frame.entry ∷ self.old.stack })) }
+    {
+        self.push_statement(frame)?;
+        Ok(Act::Evaluate(e, here))
+    }
+}
