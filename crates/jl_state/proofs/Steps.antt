@@ -211,15 +211,18 @@ gives_alike s p k l t a alike leads = record { is = λ kept told. leads.is kept 
   where
     later : (Value → Part (Answer Value)) → Answer Value → Part Completion
     later m b = and_then (as_value (given m b)) (rest_of s)
+
     apart : (m : Value → Part (Answer Value)) → and_then (as_value (p >>= m)) (rest_of s) ≡ and_then p (later m)
     apart m =
         ap (λ q. and_then q (rest_of s)) (and_then-assoc p (given m) (λ b. End (handed b)))
         ∙ and_then-assoc p (λ b. as_value (given m b)) (rest_of s)
+
     each : (kept : Operation → Bool) (b : Answer Value) (n : ℕ) (w : RunState Store Operation)
         → run language (quietly kept) (job (table_of s.functions)) n (later k b) w
         ≡ run language (quietly kept) (job (table_of s.functions)) n (later l b) w
     each kept (gives v) n w = alike v kept n w
     each kept (throws v) n w = refl
+
     same : (kept : Operation → Bool) (told : List Operation)
         → run_in kept told s (and_then (as_value (p >>= k)) (rest_of s))
         ≡ run_in kept told s (and_then (as_value (p >>= l)) (rest_of s))
@@ -237,6 +240,7 @@ given_on p = ap (and_then p) (fun_ext each) ∙ and_then-end p
   where
     on : Answer Value → Part (Answer Value)
     on b = given (λ v. give v) b
+
     each : (b : Answer Value) → on b ≡ End b
     each (gives v) = refl
     each (throws v) = refl
@@ -269,9 +273,11 @@ begins_call s c p t a is leads = record {
   where
     after_job : Completion → Part Completion
     after_job end = and_then (as_value (End (answer_of end))) (rest_of s)
+
     each : (b : Answer Value) → rest_of s (handed b) ≡ after_job (completion_of b)
     each (gives v) = refl
     each (throws v) = refl
+
     same : and_then (as_value p) (rest_of s) ≡ and_then (job (table_of s.functions) (CallOf c)) after_job
     same =
         and_then-assoc p (λ b. End (handed b)) (rest_of s)

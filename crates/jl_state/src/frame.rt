@@ -1,7 +1,7 @@
 //! What is left to do of the parts of a program that were begun.
+use crate::act::Invocation;
 use crate::hook::{CallId, Hook, HookId, Opener, Pending};
 use crate::remaining::Remaining;
-use crate::act::Invocation;
 use jl_ast::{BinOp, Case, Entry, Expr, Ident, Stmt};
 use jl_num::Num;
 use jl_op::{Found, OpId, UnKind};
@@ -36,7 +36,10 @@ pub struct Noted {
 #[derive(Drop)]
 pub enum KeyFor<'p> {
     /// Its value is got.
-    Get { noted: Noted, base: Value },
+    Get {
+        noted: Noted,
+        base: Value,
+    },
     /// Its value is called with arguments.
     Call {
         base: Value,
@@ -98,7 +101,10 @@ pub enum ArgumentsFor<'p> {
         by_new: bool,
     },
     /// A hook.
-    Hook { id: HookId, hook: Hook },
+    Hook {
+        id: HookId,
+        hook: Hook,
+    },
     /// A hook that begins a pair of calls, with the arguments of the second.
     Opener {
         id: HookId,
@@ -133,11 +139,18 @@ pub enum ValueFrame<'p> {
         here: Here,
     },
     /// `o.k` waits for o (11.2.1).
-    DotBase { key: &'p Text },
+    DotBase {
+        key: &'p Text,
+    },
     /// `o[k]` waits for o.
-    IndexBase { key: &'p Box<Expr>, here: Here },
+    IndexBase {
+        key: &'p Box<Expr>,
+        here: Here,
+    },
     /// `o[k]` waits for k.
-    IndexKey { base: Value },
+    IndexKey {
+        base: Value,
+    },
     /// The key of a member as a primitive value (9.8).
     Key(KeyFor<'p>),
     /// A call waits for its callee (11.2.2, 11.2.3).
@@ -173,15 +186,26 @@ pub enum ValueFrame<'p> {
         here: Here,
     },
     /// An operator with one operand (11.4).
-    Operand { op: UnKind },
+    Operand {
+        op: UnKind,
+    },
     /// `delete` of what is no reference (11.4.1).
     DeleteValue,
     /// `delete o.k` waits for o.
-    DeleteDotBase { key: &'p Text, strict: bool },
+    DeleteDotBase {
+        key: &'p Text,
+        strict: bool,
+    },
     /// `delete o[k]` waits for o.
-    DeleteIndexBase { key: &'p Box<Expr>, here: Here },
+    DeleteIndexBase {
+        key: &'p Box<Expr>,
+        here: Here,
+    },
     /// `delete o[k]` waits for k.
-    DeleteIndexKey { base: Value, strict: bool },
+    DeleteIndexKey {
+        base: Value,
+        strict: bool,
+    },
     /// An operator waits for its left operand (11.5 to 11.10).
     LeftOperand {
         op: BinOp,
@@ -189,11 +213,20 @@ pub enum ValueFrame<'p> {
         here: Here,
     },
     /// An operator waits for its right operand.
-    RightOperand { op: BinOp, left: Value },
+    RightOperand {
+        op: BinOp,
+        left: Value,
+    },
     /// `a && b` waits for a (11.11).
-    And { right: &'p Box<Expr>, here: Here },
+    And {
+        right: &'p Box<Expr>,
+        here: Here,
+    },
     /// `a || b` waits for a (11.11).
-    Or { right: &'p Box<Expr>, here: Here },
+    Or {
+        right: &'p Box<Expr>,
+        here: Here,
+    },
     /// `a ? b : c` waits for a (11.12).
     Conditional {
         first: &'p Box<Expr>,
@@ -201,7 +234,10 @@ pub enum ValueFrame<'p> {
         here: Here,
     },
     /// `a, b` waits for a (11.14).
-    Comma { right: &'p Box<Expr>, here: Here },
+    Comma {
+        right: &'p Box<Expr>,
+        here: Here,
+    },
     /// A value that is written to a name (11.13.1, 12.2), which is the operation with this id.
     WriteName {
         id: OpId,
@@ -344,7 +380,11 @@ pub enum ValueFrame<'p> {
         held: Value,
     },
     /// A hook of `++` or `--` waits for its operand as a primitive value.
-    UpdateOperandPrimitive { id: HookId, up: bool, held: Value },
+    UpdateOperandPrimitive {
+        id: HookId,
+        up: bool,
+        held: Value,
+    },
     /// A hook emits that a member was got.
     EmitGet {
         id: OpId,
@@ -366,7 +406,10 @@ pub enum ValueFrame<'p> {
         operand: Value,
     },
     /// A hook emits what a call gave.
-    EmitInvoke { id: OpId, callee: ObjId },
+    EmitInvoke {
+        id: OpId,
+        callee: ObjId,
+    },
     /// A construction waits for the prototype of the new object (13.2.2).
     InstancePrototype {
         function: u32,
@@ -374,7 +417,9 @@ pub enum ValueFrame<'p> {
         call: Invocation,
     },
     /// A construction waits for what the call gives.
-    Constructed { object: Value },
+    Constructed {
+        object: Value,
+    },
 }
 
 /// What is asked of a data property beside its value (8.10). A field of none isn't given.
@@ -405,15 +450,25 @@ pub enum Progress {
         rest: List<Value>,
     },
     /// An error waits for its message (15.11.1, 15.11.7).
-    ErrorMessage { proto: ObjId },
+    ErrorMessage {
+        proto: ObjId,
+    },
     /// `Error.prototype.toString` waits for the name (15.11.4.4).
-    ErrorName { object: ObjId },
+    ErrorName {
+        object: ObjId,
+    },
     /// It waits for the name as a primitive value.
-    ErrorNamePrimitive { object: ObjId },
+    ErrorNamePrimitive {
+        object: ObjId,
+    },
     /// It waits for the message.
-    ErrorText { name: Text },
+    ErrorText {
+        name: Text,
+    },
     /// It waits for the message as a primitive value.
-    ErrorTextPrimitive { name: Text },
+    ErrorTextPrimitive {
+        name: Text,
+    },
 }
 
 /// An algorithm of the standard that waits for a value, of a call or of a conversion to a primitive value.
@@ -432,25 +487,50 @@ pub enum AlgorithmFrame {
         is_second: bool,
     },
     /// An operator on two numbers waits for the left one.
-    LeftNumber { op: BinOp, right: Value },
+    LeftNumber {
+        op: BinOp,
+        right: Value,
+    },
     /// It waits for the right one.
-    RightNumber { op: BinOp, left: Num },
+    RightNumber {
+        op: BinOp,
+        left: Num,
+    },
     /// `+` waits for its left operand (11.6.1).
-    LeftSummand { right: Value },
+    LeftSummand {
+        right: Value,
+    },
     /// It waits for the right one.
-    RightSummand { left: Value },
+    RightSummand {
+        left: Value,
+    },
     /// A relation waits for its left operand (11.8.5).
-    LeftCompared { op: BinOp, right: Value },
+    LeftCompared {
+        op: BinOp,
+        right: Value,
+    },
     /// It waits for the right one.
-    RightCompared { op: BinOp, left: Value },
+    RightCompared {
+        op: BinOp,
+        left: Value,
+    },
     /// An equality of an object with another value (11.9.3).
-    EqualTo { other: Value, is_negative: bool },
+    EqualTo {
+        other: Value,
+        is_negative: bool,
+    },
     /// `instanceof` waits for the prototype (15.3.5.3).
-    InstanceOf { value: Value },
+    InstanceOf {
+        value: Value,
+    },
     /// `in` waits for the name (11.8.7).
-    In { object: ObjId },
+    In {
+        object: ObjId,
+    },
     /// An operator on a number (11.4).
-    NumberOperand { op: UnKind },
+    NumberOperand {
+        op: UnKind,
+    },
     /// The length of an array is converted a first time (15.4.5.1).
     LengthCount {
         array: ObjId,
@@ -536,7 +616,9 @@ pub enum StatementFrame<'p> {
         turn: LoopTurn<'p>,
     },
     /// The head of a `for`, after an expression.
-    ForExpression { turn: LoopTurn<'p> },
+    ForExpression {
+        turn: LoopTurn<'p>,
+    },
     /// An `if` waits for its test (12.5).
     If {
         then: &'p List<Stmt>,
@@ -551,17 +633,26 @@ pub enum StatementFrame<'p> {
         labels: List<&'p Text>,
     },
     /// A turn of a `for-in`, whose variable has been put.
-    ForInBody { turn: LoopTurn<'p> },
+    ForInBody {
+        turn: LoopTurn<'p>,
+    },
     /// A loop waits for its test.
-    Test { turn: LoopTurn<'p> },
+    Test {
+        turn: LoopTurn<'p>,
+    },
     /// A `for` waits for its update.
-    Update { turn: LoopTurn<'p> },
+    Update {
+        turn: LoopTurn<'p>,
+    },
     /// `return` (12.9).
     Return,
     /// `throw` (12.13).
     Throw,
     /// A `switch` waits for its value (12.11).
-    Switch { cases: &'p List<Case>, here: Here },
+    Switch {
+        cases: &'p List<Case>,
+        here: Here,
+    },
     /// It waits for the value of the case at this index.
     CaseTest {
         value: Value,
@@ -587,9 +678,13 @@ pub enum CompletionFrame<'p> {
     /// The `switch` around the clauses (12.11).
     Switch,
     /// A labelled statement (12.12).
-    Labelled { label: &'p Text },
+    Labelled {
+        label: &'p Text,
+    },
     /// A loop, of whose body a turn ends (12.6).
-    LoopBody { turn: LoopTurn<'p> },
+    LoopBody {
+        turn: LoopTurn<'p>,
+    },
     /// A `try` waits for its block (12.14).
     TryBlock {
         catch: &'p Option<(Ident, List<Stmt>)>,
@@ -602,7 +697,9 @@ pub enum CompletionFrame<'p> {
         here: Here,
     },
     /// It waits for its `finally`.
-    FinallyBlock { before: Completion },
+    FinallyBlock {
+        before: Completion,
+    },
 }
 
 /// What follows once the observer has been told of an operation.
@@ -628,7 +725,10 @@ pub enum ToldFrame {
         gives: Value,
     },
     /// A call is made, and what it gives is emitted.
-    Invoke { id: CallId, call: Invocation },
+    Invoke {
+        id: CallId,
+        call: Invocation,
+    },
 }
 
 /// What is left to do of a part that was begun.

@@ -11,10 +11,11 @@ mod state;
 
 pub use act::{Act, Invocation};
 pub use calls::{Call, Calls};
-pub use frame::{AlgorithmFrame, ArgumentsFor, Attributes, CompletionFrame, Frame, Here, Hint, KeyFor, Noted, Progress};
-pub use frame::{StatementFrame, ToldFrame, ValueFrame, WrittenBy};
+pub use frame::{
+    AlgorithmFrame, ArgumentsFor, Attributes, CompletionFrame, Frame, Here, Hint, KeyFor, Loop,
+    LoopTurn, Noted, Progress, StatementFrame, ToldFrame, ValueFrame, Visits, WrittenBy,
+};
 pub use hook::{Hook, HookId, Opener, Pending};
-pub use frame::{Loop, LoopTurn, Visits};
 pub use remaining::{Remaining, split_first};
 pub use stack::Stack;
 pub use state::{ScriptFunction, State};

@@ -95,7 +95,12 @@ impl<'p> State<'p> {
     }
 
     /// An expression is to be evaluated, for whose value another one waits.
-    pub fn evaluate(&mut self, frame: ValueFrame<'p>, e: &'p Expr, here: Here) -> Result<Act<'p>, NoMemory>
+    pub fn evaluate(
+        &mut self,
+        frame: ValueFrame<'p>,
+        e: &'p Expr,
+        here: Here,
+    ) -> Result<Act<'p>, NoMemory>
         ensures leads { IfOk result (λ act. Gives self.old
             (evaluate (table_of self.old.functions) (plain (view_expression e.now)) (context_of self.old.calls here)
             then value_after (table_of self.old.functions) self.old.calls frame.entry) self.new act) }
