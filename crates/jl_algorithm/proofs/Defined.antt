@@ -23,14 +23,14 @@ use Rattle.jl_meaning.specs.Conversions.{number_hint, to_number, to_primitive, t
 use Rattle.jl_meaning.specs.Defining.{define_own_property, define_with_number, length_within, to_length, with_length}
 use Rattle.jl_meaning.specs.Errors.{throw_error}
 use Rattle.jl_meaning.specs.Parts.{give, or_fault, ◌>>=◌, Algorithm, NumberOutside}
-use Rattle.jl_state.specs.Frames.{after_define, algorithm_after, data_change, define_length}
+use Rattle.jl_state.specs.AlgorithmFrames.{after_define, algorithm_after, data_change, define_length}
 use Rattle.jl_state.specs.Rest.{Works}
 use Rattle.jl_state.specs.Steps.{AlgorithmWaits}
 use Rattle.jl_state.specs.declared.act.Act.{Act}
 use Rattle.jl_state.specs.declared.act.Act.TheVariants as act
-use Rattle.jl_state.specs.declared.frame.AlgorithmFrame.TheVariants as algorithm
-use Rattle.jl_state.specs.declared.frame.Attributes.{Attributes}
-use Rattle.jl_state.specs.declared.frame.WrittenBy.{WrittenBy}
+use Rattle.jl_state.specs.declared.algorithm_frame.AlgorithmFrame.TheVariants as algorithm
+use Rattle.jl_state.specs.declared.algorithm_frame.Attributes.{Attributes}
+use Rattle.jl_state.specs.declared.algorithm_frame.WrittenBy.{WrittenBy}
 use Rattle.jl_state.specs.declared.state.State.{State}
 use Rattle.jl_algorithm.specs.inner.Lengths.{is_array_length}
 use Rattle.jl_algorithm.proofs.Chains.{bind_assoc, works_assoc}

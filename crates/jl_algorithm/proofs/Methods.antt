@@ -8,15 +8,15 @@ use Rattle.jl_meaning.specs.Conversions.{default_value, primitive_of_method, try
 use Rattle.jl_meaning.specs.Errors.{throw_error}
 use Rattle.jl_meaning.specs.Getting.{get, is_callable}
 use Rattle.jl_meaning.specs.Parts.{call, ◌>>=◌, Algorithm}
-use Rattle.jl_state.specs.Frames.{after_method, algorithm_after, method_name}
+use Rattle.jl_state.specs.AlgorithmFrames.{after_method, algorithm_after, method_name}
 use Rattle.jl_state.specs.Rest.{Works}
 use Rattle.jl_state.specs.Steps.{AlgorithmWaits}
 use Rattle.jl_state.specs.Words.{hint_of}
 use Rattle.jl_state.specs.declared.act.Act.{Act}
 use Rattle.jl_state.specs.declared.act.Act.TheVariants as act
-use Rattle.jl_state.specs.declared.frame.AlgorithmFrame.TheVariants as algorithm
-use Rattle.jl_state.specs.declared.frame.Hint.{Hint}
-use Rattle.jl_state.specs.declared.frame.Hint.TheVariants as hint
+use Rattle.jl_state.specs.declared.algorithm_frame.AlgorithmFrame.TheVariants as algorithm
+use Rattle.jl_state.specs.declared.algorithm_frame.Hint.{Hint}
+use Rattle.jl_state.specs.declared.algorithm_frame.Hint.TheVariants as hint
 use Rattle.jl_state.specs.declared.state.State.{State}
 use Rattle.jl_algorithm.proofs.Chains.{works_assoc}
 

@@ -13,11 +13,11 @@ use Rattle.jl_meaning.specs.Errors.{require, throw_error}
 use Rattle.jl_meaning.specs.Parts.{call, give, ◌>>=◌}
 use Rattle.jl_meaning.specs.Properties.{can_put, property_of_value, Property}
 use Rattle.jl_meaning.specs.Putting.{put, put_if, put_on, put_on_primitive}
-use Rattle.jl_state.specs.Frames.{after_define}
+use Rattle.jl_state.specs.AlgorithmFrames.{after_define}
 use Rattle.jl_state.specs.Rest.{Works}
 use Rattle.jl_state.specs.declared.act.Act.{Act}
-use Rattle.jl_state.specs.declared.frame.WrittenBy.{WrittenBy}
-use Rattle.jl_state.specs.declared.frame.WrittenBy.TheVariants.{Put}
+use Rattle.jl_state.specs.declared.algorithm_frame.WrittenBy.{WrittenBy}
+use Rattle.jl_state.specs.declared.algorithm_frame.WrittenBy.TheVariants.{Put}
 use Rattle.jl_state.specs.declared.state.State.{State}
 use Rattle.jl_algorithm.specs.declared.putting.Way.{Way}
 use Rattle.jl_algorithm.specs.inner.Ways.{found_setter, put_so, way_of}

@@ -19,11 +19,11 @@ use Rattle.jl_store.specs.declared.answer.Answer.{Answer as Answered}
 use Rattle.jl_store.specs.declared.answer.Answer.TheVariants.{Gives, Throws}
 use Rattle.jl_store.specs.declared.names.Reference.{Reference as Resolved}
 use Rattle.jl_store.specs.declared.names.Reference.TheVariants.{InEnvironment, OnGlobalObject, Unresolvable}
-use Rattle.jl_state.specs.Frames.{algorithm_after}
+use Rattle.jl_state.specs.AlgorithmFrames.{algorithm_after}
 use Rattle.jl_state.specs.Rest.{Works}
 use Rattle.jl_state.specs.declared.act.Act.{Act}
 use Rattle.jl_state.specs.declared.act.Act.TheVariants as act
-use Rattle.jl_state.specs.declared.frame.AlgorithmFrame.TheVariants as algorithm
+use Rattle.jl_state.specs.declared.algorithm_frame.AlgorithmFrame.TheVariants as algorithm
 use Rattle.jl_state.specs.declared.state.State.{State}
 use Rattle.jl_state.proofs.Stores.{works_comes, works_thrown, IsStored}
 use Rattle.jl_algorithm.proofs.Chains.{works_assoc}

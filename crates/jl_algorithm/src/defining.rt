@@ -3,7 +3,7 @@ ghost use Rattle.std.specs.Prelude.{◌≡◌, true, IfOk};
 ghost use Rattle.jl_heap.specs.Define.{FitsLength, IsOneKind};
 ghost use Rattle.jl_meaning.specs.Defining.{define_own_property, define_with_number};
 ghost use Rattle.jl_meaning.specs.Parts.{◌>>=◌ as ◌then◌};
-ghost use Rattle.jl_state.specs.Frames.{after_define};
+ghost use Rattle.jl_state.specs.AlgorithmFrames.{after_define};
 ghost use Rattle.jl_state.specs.Rank.{Falls};
 ghost use Rattle.jl_state.specs.Rest.{Works};
 ghost use Rattle.jl_algorithm.specs.inner.Lengths.{is_array_length};

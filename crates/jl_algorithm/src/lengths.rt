@@ -2,7 +2,7 @@
 ghost use Rattle.std.specs.Prelude.{◌≡◌, pos, Some, IfOk};
 ghost use Rattle.jl_conv.specs.Conversions.{number_of_value};
 ghost use Rattle.jl_value.specs.Same.{same_number};
-ghost use Rattle.jl_state.specs.Frames.{algorithm_after, define_length};
+ghost use Rattle.jl_state.specs.AlgorithmFrames.{algorithm_after, define_length};
 ghost use Rattle.jl_state.specs.Rank.{Falls};
 ghost use Rattle.jl_state.specs.Rest.{Works};
 

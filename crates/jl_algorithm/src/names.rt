@@ -5,7 +5,7 @@ ghost use Rattle.jl_meaning.specs.Parts.{give, ◌>>=◌ as ◌then◌};
 ghost use Rattle.jl_meaning.specs.References.{binding_value, delete_name, get_name, get_value, in_environment};
 ghost use Rattle.jl_meaning.specs.References.{put_name, put_value, type_of_name, type_of_reference};
 ghost use Rattle.jl_meaning.specs.Store.{binding_of};
-ghost use Rattle.jl_state.specs.Frames.{algorithm_after};
+ghost use Rattle.jl_state.specs.AlgorithmFrames.{algorithm_after};
 ghost use Rattle.jl_state.specs.Rank.{Falls};
 ghost use Rattle.jl_state.specs.Rest.{Works};
 ghost use Rattle.jl_store.specs.Answers.{answered};

@@ -3,7 +3,7 @@ ghost use Rattle.std.specs.Prelude.{◌≡◌, ◌+◌, None, IfOk};
 ghost use Rattle.jl_value.specs.declared.value.Value.TheVariants as value;
 ghost use Rattle.jl_meaning.specs.Conversions.{to_primitive, try_method};
 ghost use Rattle.jl_meaning.specs.Parts.{◌>>=◌ as ◌then◌};
-ghost use Rattle.jl_state.specs.Frames.{after_method, algorithm_after, method_name};
+ghost use Rattle.jl_state.specs.AlgorithmFrames.{after_method, algorithm_after, method_name};
 ghost use Rattle.jl_state.specs.Rank.{rank_method, rank_method_result, Falls};
 ghost use Rattle.jl_state.specs.Rest.{Works};
 ghost use Rattle.jl_state.specs.Words.{hint_of};

@@ -7,7 +7,7 @@ ghost use Rattle.jl_meaning.specs.Defining.{plain_change, value_change};
 ghost use Rattle.jl_meaning.specs.Parts.{call, give, ◌>>=◌ as ◌then◌};
 ghost use Rattle.jl_meaning.specs.Properties.{can_put, get_property, property_of_value};
 ghost use Rattle.jl_meaning.specs.Putting.{put, put_if, put_on_primitive};
-ghost use Rattle.jl_state.specs.Frames.{after_define};
+ghost use Rattle.jl_state.specs.AlgorithmFrames.{after_define};
 ghost use Rattle.jl_state.specs.Rank.{Falls};
 ghost use Rattle.jl_state.specs.Rest.{Works};
 ghost use Rattle.jl_store.specs.LookUps.{property_seen};

@@ -10,7 +10,7 @@ use Rattle.jl_meaning.specs.Relations.{primitive_equality}
 use Rattle.jl_state.specs.Rest.{Works}
 use Rattle.jl_state.specs.Steps.{AlgorithmWaits}
 use Rattle.jl_state.specs.declared.act.Act.{Act}
-use Rattle.jl_state.specs.declared.frame.AlgorithmFrame.TheVariants as algorithm
+use Rattle.jl_state.specs.declared.algorithm_frame.AlgorithmFrame.TheVariants as algorithm
 use Rattle.jl_state.specs.declared.state.State.{State}
 use Rattle.jl_operator.proofs.Operands.{chained}
 

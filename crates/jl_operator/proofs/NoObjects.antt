@@ -6,10 +6,10 @@ use Rattle.jl_value.specs.declared.value.Value.TheVariants as value
 use Rattle.jl_heap.specs.Objects.{Objects}
 use Rattle.jl_meaning.specs.Errors.{throw_type_error}
 use Rattle.jl_meaning.specs.Relations.{has_prototype, in_object}
-use Rattle.jl_state.specs.Frames.{algorithm_after}
+use Rattle.jl_state.specs.AlgorithmFrames.{algorithm_after}
 use Rattle.jl_state.specs.Rest.{Works}
 use Rattle.jl_state.specs.declared.act.Act.{Act}
-use Rattle.jl_state.specs.declared.frame.AlgorithmFrame.TheVariants as algorithm
+use Rattle.jl_state.specs.declared.algorithm_frame.AlgorithmFrame.TheVariants as algorithm
 use Rattle.jl_state.specs.declared.state.State.{State}
 
 abbrev IsNone : Value → Type 0

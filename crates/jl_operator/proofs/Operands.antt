@@ -16,13 +16,13 @@ use Rattle.jl_meaning.specs.Conversions.{number_hint, string_hint, to_number, to
 use Rattle.jl_meaning.specs.Operators.{binary_result, unary_result}
 use Rattle.jl_meaning.specs.Parts.{give, given, gives, lift, or_fault, throws, ◌>>=◌, Algorithm, Answer, NumberOutside}
 use Rattle.jl_meaning.specs.forms.Operators.{operate, operate_on}
-use Rattle.jl_state.specs.Frames.{algorithm_after, number_of_primitive}
+use Rattle.jl_state.specs.AlgorithmFrames.{algorithm_after, number_of_primitive}
 use Rattle.jl_state.specs.Rest.{rest_after, Gives, Works}
 use Rattle.jl_state.specs.Steps.{AlgorithmWaits}
 use Rattle.jl_state.specs.Words.{noting}
 use Rattle.jl_state.specs.declared.act.Act.{Act}
 use Rattle.jl_state.specs.declared.act.Act.TheVariants as act
-use Rattle.jl_state.specs.declared.frame.AlgorithmFrame.{AlgorithmFrame}
+use Rattle.jl_state.specs.declared.algorithm_frame.AlgorithmFrame.{AlgorithmFrame}
 use Rattle.jl_state.specs.declared.frame.Frame.{Frame}
 use Rattle.jl_state.specs.declared.frame.Frame.TheVariants as frame
 use Rattle.jl_state.specs.declared.frame.ToldFrame.TheVariants as told

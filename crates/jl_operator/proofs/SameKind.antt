@@ -7,8 +7,8 @@ use Rattle.jl_value.specs.declared.value.Value.{Value}
 use Rattle.jl_meaning.specs.Conversions.{number_hint, to_primitive}
 use Rattle.jl_meaning.specs.Operators.{binary_result, on_numbers}
 use Rattle.jl_meaning.specs.Parts.{◌>>=◌}
-use Rattle.jl_state.specs.Frames.{algorithm_after, number_result}
-use Rattle.jl_state.specs.declared.frame.AlgorithmFrame.TheVariants as algorithm
+use Rattle.jl_state.specs.AlgorithmFrames.{algorithm_after, number_result}
+use Rattle.jl_state.specs.declared.algorithm_frame.AlgorithmFrame.TheVariants as algorithm
 
 module _ (F : BinOp → Type 0) (o : BinOp) where
   last : (p : BinOp) → F p → o ≡ p → F o

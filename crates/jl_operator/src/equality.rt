@@ -5,7 +5,7 @@ ghost use Rattle.jl_conv.specs.Comparisons.{loosely_equal, strictly_equal};
 ghost use Rattle.jl_conv.specs.Conversions.{is_object};
 ghost use Rattle.jl_meaning.specs.Relations.{abstract_equality, equality_of_object, give_truth, is_nothing, negate_if};
 ghost use Rattle.jl_meaning.specs.Relations.{primitive_equality};
-ghost use Rattle.jl_state.specs.Frames.{algorithm_after};
+ghost use Rattle.jl_state.specs.AlgorithmFrames.{algorithm_after};
 ghost use Rattle.jl_state.specs.Rank.{rank_act, Falls};
 ghost use Rattle.jl_state.specs.Rest.{Works};
 ghost use Rattle.jl_state.specs.declared.state.State.{State as Machine};

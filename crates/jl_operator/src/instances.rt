@@ -1,7 +1,7 @@
 //! `instanceof` and `in` (11.8.6, 11.8.7).
 ghost use Rattle.std.specs.Prelude.{◌≡◌, ◌≤◌, IfOk};
 ghost use Rattle.jl_meaning.specs.Relations.{has_instance, has_prototype, in_object, instance_of};
-ghost use Rattle.jl_state.specs.Frames.{algorithm_after};
+ghost use Rattle.jl_state.specs.AlgorithmFrames.{algorithm_after};
 ghost use Rattle.jl_state.specs.Rank.{Falls};
 ghost use Rattle.jl_state.specs.Rest.{Works};
 

@@ -5,7 +5,7 @@ ghost use Rattle.jl_conv.specs.Conversions.{number_of_value};
 ghost use Rattle.jl_meaning.specs.Conversions.{to_number};
 ghost use Rattle.jl_meaning.specs.Operators.{give_number, on_numbers};
 ghost use Rattle.jl_meaning.specs.Parts.{◌>>=◌ as ◌then◌};
-ghost use Rattle.jl_state.specs.Frames.{algorithm_after, number_result};
+ghost use Rattle.jl_state.specs.AlgorithmFrames.{algorithm_after, number_result};
 ghost use Rattle.jl_state.specs.Rank.{rank_act, Falls};
 ghost use Rattle.jl_state.specs.Rest.{Works};
 ghost use Rattle.jl_state.specs.declared.state.State.{State as Machine};

@@ -5,7 +5,7 @@ ghost use Rattle.jl_heap.specs.Describe.{seen_of};
 ghost use Rattle.jl_heap.specs.Objects.{Objects};
 ghost use Rattle.jl_meaning.specs.Parts.{give};
 ghost use Rattle.jl_meaning.specs.forms.Operators.{operate, operate_on};
-ghost use Rattle.jl_state.specs.Frames.{value_after};
+ghost use Rattle.jl_state.specs.ValueFrames.{value_after};
 ghost use Rattle.jl_state.specs.Rank.{Falls};
 ghost use Rattle.jl_state.specs.Rest.{Gives};
 ghost use Rattle.jl_state.specs.Words.{noting, table_of};

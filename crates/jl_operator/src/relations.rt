@@ -5,7 +5,7 @@ ghost use Rattle.jl_conv.specs.Comparisons.{less_than};
 ghost use Rattle.jl_meaning.specs.Conversions.{number_hint, to_primitive};
 ghost use Rattle.jl_meaning.specs.Parts.{◌>>=◌ as ◌then◌};
 ghost use Rattle.jl_meaning.specs.Relations.{opposite, or_false};
-ghost use Rattle.jl_state.specs.Frames.{algorithm_after, compared};
+ghost use Rattle.jl_state.specs.AlgorithmFrames.{algorithm_after, compared};
 ghost use Rattle.jl_state.specs.Rank.{rank_act, Falls};
 ghost use Rattle.jl_state.specs.Rest.{Works};
 ghost use Rattle.jl_state.specs.declared.state.State.{State as Machine};

@@ -6,7 +6,7 @@ ghost use Rattle.jl_meaning.specs.Operators.{is_string, sum, sum_of_primitives};
 ghost use Rattle.jl_meaning.specs.Parts.{give, ◌>>=◌ as ◌then◌};
 ghost use Rattle.jl_num.specs.Arithmetic.{sum_of};
 ghost use Rattle.jl_operator.specs.inner.Sums.{sum_of_numbers, text_of_texts};
-ghost use Rattle.jl_state.specs.Frames.{algorithm_after};
+ghost use Rattle.jl_state.specs.AlgorithmFrames.{algorithm_after};
 ghost use Rattle.jl_state.specs.Rank.{rank_act, Falls};
 ghost use Rattle.jl_state.specs.Rest.{Works};
 ghost use Rattle.jl_state.specs.declared.state.State.{State as Machine};

@@ -4,7 +4,7 @@ ghost use Rattle.std.specs.Result.{result_ok};
 ghost use Rattle.jl_meaning.specs.Conversions.{to_number};
 ghost use Rattle.jl_meaning.specs.Operators.{give_next, is_script_number, next_number, unary_result};
 ghost use Rattle.jl_meaning.specs.Parts.{◌>>=◌ as ◌then◌};
-ghost use Rattle.jl_state.specs.Frames.{algorithm_after, number_operand};
+ghost use Rattle.jl_state.specs.AlgorithmFrames.{algorithm_after, number_operand};
 ghost use Rattle.jl_state.specs.Rank.{rank_act, Falls};
 ghost use Rattle.jl_state.specs.Rest.{Works};
 ghost use Rattle.jl_state.specs.declared.state.State.{State as Machine};

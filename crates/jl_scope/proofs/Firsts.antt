@@ -15,7 +15,7 @@ use Rattle.jl_scope.specs.EarlyErrors.{early_errors, forest_early_errors, option
 use Rattle.jl_scope.specs.EarlyErrors.{parameter_early_errors}
 use Rattle.jl_scope.specs.Kinds.{EarlyError, first_from, sooner}
 use Rattle.jl_scope.specs.Scope.{Scope}
-use Rattle.jl_scope.specs.inner.NameSets.{SameNames}
+use Rattle.jl_scope.specs.NameSets.{SameNames}
 use Rattle.jl_scope.proofs.NameLists.{with_name_same}
 
 -- the first of two lists is found in the one and then in the other

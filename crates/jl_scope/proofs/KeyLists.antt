@@ -9,7 +9,7 @@ use Rattle.jl_scope.specs.Names.{among}
 use Rattle.jl_scope.specs.EarlyErrors.{Keys, with_key, key_early_errors, literal_early_errors, broken_if}
 use Rattle.jl_scope.specs.Kinds.{EarlyError, first_from}
 use Rattle.jl_scope.specs.Scope.{Scope}
-use Rattle.jl_scope.specs.inner.NameSets.{SameKeys}
+use Rattle.jl_scope.specs.NameSets.{SameKeys}
 use Rattle.jl_scope.proofs.NameLists.{with_name_same}
 use Rattle.jl_scope.proofs.Firsts.{first_from-append, front}
 

@@ -12,7 +12,7 @@ use Rattle.std.proofs.lemmas.Slice.Eq.{bytes_eq-Decides}
 use denote.Ref.{Bor}
 use Rattle.jl_ast.specs.Tree.{Text}
 use Rattle.jl_scope.specs.Names.{same_text, among, with_name}
-use Rattle.jl_scope.specs.inner.NameSets.{SameNames}
+use Rattle.jl_scope.specs.NameSets.{SameNames}
 use Rattle.jl_scope.proofs.Binding.{with_one, there_already}
 
 -- what the set answers of a name

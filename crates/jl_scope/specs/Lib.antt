@@ -8,4 +8,4 @@ pub mod EarlyErrors
 pub mod EarlyError
 pub mod Laws
 pub mod Steps
-pub mod inner
+pub mod NameSets

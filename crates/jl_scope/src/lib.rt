@@ -20,5 +20,6 @@ mod walk;
 pub use checking::check;
 pub use hoisting::{is_strict, vars};
 pub use mentions::mentions_arguments;
+pub use name_set::NameSet;
 pub use refusal::ScopeRefusal;
 pub use rules::EarlyRule;

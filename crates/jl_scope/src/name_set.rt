@@ -1,6 +1,7 @@
+//! Sets of names.
 ghost use Rattle.std.specs.Prelude.{◌≡◌, [], not, IfOk, OnOk};
 ghost use Rattle.jl_scope.specs.Names.{among, with_name};
-ghost use Rattle.jl_scope.specs.inner.NameSets.{SameNames};
+ghost use Rattle.jl_scope.specs.NameSets.{SameNames};
 
 use jl_text::NoMemory;
 use std::alloc::Global;
@@ -10,7 +11,7 @@ use std::marker::Model;
 /// Names, each once. They are kept in order and not hashed, so whoever chooses the names can't make a call take longer
 /// than the logarithm of their number. Contracts see them as a list of texts.
 #[derive(Drop)]
-pub(crate) struct NameSet<'a> {
+pub struct NameSet<'a> {
     names: BTreeSet<&'a [u16]>,
 }
 
@@ -23,7 +24,8 @@ impl<'a> Model for NameSet<'a> {
 }
 
 impl<'a> NameSet<'a> {
-    pub(crate) fn new(alloc: Global) -> NameSet<'a>
+    /// No name.
+    pub fn new(alloc: Global) -> NameSet<'a>
         ensures { result ≡ [] }
     {
         NameSet {
@@ -32,14 +34,14 @@ impl<'a> NameSet<'a> {
     }
 
     /// Whether a name is there.
-    pub(crate) fn contains(&self, name: &[u16]) -> bool
+    pub fn contains(&self, name: &[u16]) -> bool
         ensures { result ≡ among name.now self.now }
     {
         self.names.contains(name)
     }
 
     /// Adds a name, and tells whether it is new.
-    pub(crate) fn insert(&mut self, name: &'a [u16]) -> Result<bool, NoMemory>
+    pub fn insert(&mut self, name: &'a [u16]) -> Result<bool, NoMemory>
         ensures added { IfOk result (λ added. added ≡ not (among name.now self.old)) }
         ensures names { OnOk result (SameNames self.new (with_name self.old name.now)) }
     {

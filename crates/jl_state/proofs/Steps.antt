@@ -20,7 +20,9 @@ use Rattle.jl_meaning.specs.Parts.{answer_of, begin_call, completion_of, fault_o
 use Rattle.jl_meaning.specs.Parts.{Algorithm, Answer, CallOf, Job, Part}
 use Rattle.jl_meaning.specs.Parts as parts
 use Rattle.jl_meaning.specs.Store.{Store}
-use Rattle.jl_state.specs.Frames.{algorithm_after, completion_after, statement_after, value_after}
+use Rattle.jl_state.specs.AlgorithmFrames.{algorithm_after}
+use Rattle.jl_state.specs.StatementFrames.{completion_after, statement_after}
+use Rattle.jl_state.specs.ValueFrames.{value_after}
 use Rattle.jl_state.specs.Jobs.{job}
 use Rattle.jl_state.specs.Rest.{as_completion, as_value, handed, rest, rest_of, run_in, run_state, Completes, Gives, Given, Works}
 use Rattle.jl_state.specs.Rest.{Completion-given, Value-given}
@@ -30,13 +32,13 @@ use Rattle.jl_state.specs.Words.{context_of, table_of}
 use Rattle.jl_state.specs.declared.act.Act.{Act}
 use Rattle.jl_state.specs.declared.act.Act.TheVariants as act
 use Rattle.jl_state.specs.declared.calls.Call.{Call}
-use Rattle.jl_state.specs.declared.frame.AlgorithmFrame.{AlgorithmFrame}
-use Rattle.jl_state.specs.declared.frame.CompletionFrame.{CompletionFrame}
+use Rattle.jl_state.specs.declared.algorithm_frame.AlgorithmFrame.{AlgorithmFrame}
+use Rattle.jl_state.specs.declared.statement_frame.CompletionFrame.{CompletionFrame}
 use Rattle.jl_state.specs.declared.frame.Frame.{Frame}
 use Rattle.jl_state.specs.declared.frame.Frame.TheVariants as frame
 use Rattle.jl_state.specs.declared.frame.Here.{Here}
-use Rattle.jl_state.specs.declared.frame.StatementFrame.{StatementFrame}
-use Rattle.jl_state.specs.declared.frame.ValueFrame.{ValueFrame}
+use Rattle.jl_state.specs.declared.statement_frame.StatementFrame.{StatementFrame}
+use Rattle.jl_state.specs.declared.value_frame.ValueFrame.{ValueFrame}
 use Rattle.jl_state.specs.declared.state.State.{State}
 
 -- frames

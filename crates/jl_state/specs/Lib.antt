@@ -1,7 +1,10 @@
-pub mod Frames
+pub mod AlgorithmFrames
 pub mod Jobs
 pub mod Rank
 pub mod Rest
+pub mod StatementFrames
 pub mod Steps
+pub mod ToldFrames
 pub mod Trees
+pub mod ValueFrames
 pub mod Words

@@ -3,24 +3,24 @@ use Rattle.std.specs.Prelude.{length, ◌*◌, ◌+◌, ◌<◌, ◌≡◌, ◌�
 use Rattle.jl_state.specs.Trees.{items_left}
 use Rattle.jl_state.specs.declared.act.Act.{Act}
 use Rattle.jl_state.specs.declared.act.Act.TheVariants as act
-use Rattle.jl_state.specs.declared.frame.AlgorithmFrame.{AlgorithmFrame}
-use Rattle.jl_state.specs.declared.frame.AlgorithmFrame.TheVariants as algorithm
-use Rattle.jl_state.specs.declared.frame.CompletionFrame.{CompletionFrame}
-use Rattle.jl_state.specs.declared.frame.CompletionFrame.TheVariants as completing
+use Rattle.jl_state.specs.declared.algorithm_frame.AlgorithmFrame.{AlgorithmFrame}
+use Rattle.jl_state.specs.declared.algorithm_frame.AlgorithmFrame.TheVariants as algorithm
+use Rattle.jl_state.specs.declared.statement_frame.CompletionFrame.{CompletionFrame}
+use Rattle.jl_state.specs.declared.statement_frame.CompletionFrame.TheVariants as completing
 use Rattle.jl_state.specs.declared.frame.Frame.{Frame}
 use Rattle.jl_state.specs.declared.frame.Frame.TheVariants as frame
-use Rattle.jl_state.specs.declared.frame.KeyFor.{KeyFor}
-use Rattle.jl_state.specs.declared.frame.KeyFor.TheVariants as key_for
-use Rattle.jl_state.specs.declared.frame.Loop.{Loop}
-use Rattle.jl_state.specs.declared.frame.Loop.TheVariants as loop
-use Rattle.jl_state.specs.declared.frame.Progress.{Progress}
-use Rattle.jl_state.specs.declared.frame.Progress.TheVariants as progress
-use Rattle.jl_state.specs.declared.frame.StatementFrame.{StatementFrame}
-use Rattle.jl_state.specs.declared.frame.StatementFrame.TheVariants as statement
+use Rattle.jl_state.specs.declared.value_frame.KeyFor.{KeyFor}
+use Rattle.jl_state.specs.declared.value_frame.KeyFor.TheVariants as key_for
+use Rattle.jl_state.specs.declared.statement_frame.Loop.{Loop}
+use Rattle.jl_state.specs.declared.statement_frame.Loop.TheVariants as loop
+use Rattle.jl_state.specs.declared.algorithm_frame.Progress.{Progress}
+use Rattle.jl_state.specs.declared.algorithm_frame.Progress.TheVariants as progress
+use Rattle.jl_state.specs.declared.statement_frame.StatementFrame.{StatementFrame}
+use Rattle.jl_state.specs.declared.statement_frame.StatementFrame.TheVariants as statement
 use Rattle.jl_state.specs.declared.frame.ToldFrame.{ToldFrame}
 use Rattle.jl_state.specs.declared.frame.ToldFrame.TheVariants as told
-use Rattle.jl_state.specs.declared.frame.ValueFrame.{ValueFrame}
-use Rattle.jl_state.specs.declared.frame.ValueFrame.TheVariants as waiting
+use Rattle.jl_state.specs.declared.value_frame.ValueFrame.{ValueFrame}
+use Rattle.jl_state.specs.declared.value_frame.ValueFrame.TheVariants as waiting
 use Rattle.jl_state.specs.declared.state.State.{State}
 
 -- The words below are what a call of that name may do: get, put, to_primitive and so on.

@@ -22,20 +22,24 @@ use Rattle.jl_meaning.specs.Parts.{answer_of, gives, lift, throws, ◌>>=◌, Al
 use Rattle.jl_meaning.specs.Parts as parts
 use Rattle.jl_meaning.specs.Statements.{execute}
 use Rattle.jl_meaning.specs.Store.{Store}
-use Rattle.jl_state.specs.Frames.{algorithm_after, body_after, completion_after, statement_after, told_after, value_after}
+use Rattle.jl_meaning.specs.forms.Functions.{result_of}
+use Rattle.jl_state.specs.AlgorithmFrames.{algorithm_after}
+use Rattle.jl_state.specs.ToldFrames.{told_after}
+use Rattle.jl_state.specs.StatementFrames.{completion_after, statement_after}
+use Rattle.jl_state.specs.ValueFrames.{value_after}
 use Rattle.jl_state.specs.Jobs.{job}
 use Rattle.jl_state.specs.Trees.{plain}
 use Rattle.jl_state.specs.Words.{call_of, context_of, table_of, without_innermost}
 use Rattle.jl_state.specs.declared.act.Act.{Act}
 use Rattle.jl_state.specs.declared.act.Act.TheVariants as act
 use Rattle.jl_state.specs.declared.calls.Call.{Call}
-use Rattle.jl_state.specs.declared.frame.AlgorithmFrame.{AlgorithmFrame}
-use Rattle.jl_state.specs.declared.frame.CompletionFrame.{CompletionFrame}
+use Rattle.jl_state.specs.declared.algorithm_frame.AlgorithmFrame.{AlgorithmFrame}
+use Rattle.jl_state.specs.declared.statement_frame.CompletionFrame.{CompletionFrame}
 use Rattle.jl_state.specs.declared.frame.Frame.{Frame}
 use Rattle.jl_state.specs.declared.frame.Frame.TheVariants as frame
-use Rattle.jl_state.specs.declared.frame.StatementFrame.{StatementFrame}
+use Rattle.jl_state.specs.declared.statement_frame.StatementFrame.{StatementFrame}
 use Rattle.jl_state.specs.declared.frame.ToldFrame.{ToldFrame}
-use Rattle.jl_state.specs.declared.frame.ValueFrame.{ValueFrame}
+use Rattle.jl_state.specs.declared.value_frame.ValueFrame.{ValueFrame}
 use Rattle.jl_state.specs.declared.state.State.{State}
 use Rattle.std.specs.Borrow.{Bor}
 
@@ -77,7 +81,7 @@ after table calls (frame.Algorithm f) = on_value (λ v. as_value (lift (algorith
 after table calls (frame.Statement f) = on_value (λ v. as_completion (statement_after table calls f v))
 after table calls (frame.Completion f) = on_completion (λ how. as_completion (completion_after table calls f how))
 after table calls (frame.Told f) = on_nothing (as_value (told_after f))
-after table calls frame.Body = on_completion (λ how. as_value (body_after table calls how))
+after table calls frame.Body = on_completion (λ how. as_value (result_of how))
 
 -- the calls that are running when a frame is done
 abbrev pub calls_after : List Call → Frame → List Call

@@ -6,15 +6,17 @@ use Rattle.jl_value.specs.declared.value.Value.{Value}
 use Rattle.jl_effects.specs.Effects.{and_then, Step}
 use Rattle.jl_meaning.specs.Completions.{on_given}
 use Rattle.jl_meaning.specs.Parts.{lift, ◌>>=◌, Algorithm, Answer, Part}
-use Rattle.jl_state.specs.Frames.{algorithm_after, completion_after, statement_after, value_after}
+use Rattle.jl_state.specs.AlgorithmFrames.{algorithm_after}
+use Rattle.jl_state.specs.StatementFrames.{completion_after, statement_after}
+use Rattle.jl_state.specs.ValueFrames.{value_after}
 use Rattle.jl_state.specs.Rest.{Completes, Gives, Works}
 use Rattle.jl_state.specs.Words.{table_of}
 use Rattle.jl_state.specs.declared.act.Act.{Act}
 use Rattle.jl_state.specs.declared.act.Act.TheVariants as act
-use Rattle.jl_state.specs.declared.frame.AlgorithmFrame.{AlgorithmFrame}
-use Rattle.jl_state.specs.declared.frame.CompletionFrame.{CompletionFrame}
-use Rattle.jl_state.specs.declared.frame.StatementFrame.{StatementFrame}
-use Rattle.jl_state.specs.declared.frame.ValueFrame.{ValueFrame}
+use Rattle.jl_state.specs.declared.algorithm_frame.AlgorithmFrame.{AlgorithmFrame}
+use Rattle.jl_state.specs.declared.statement_frame.CompletionFrame.{CompletionFrame}
+use Rattle.jl_state.specs.declared.statement_frame.StatementFrame.{StatementFrame}
+use Rattle.jl_state.specs.declared.value_frame.ValueFrame.{ValueFrame}
 use Rattle.jl_state.specs.declared.state.State.{State}
 
 -- t is s, of whose steps one was taken

@@ -15,17 +15,17 @@ use Rattle.jl_state.specs.Trees.{plain}
 use Rattle.jl_state.specs.declared.act.Invocation.{Invocation}
 use Rattle.jl_state.specs.declared.calls.Call.{Call}
 use Rattle.jl_state.specs.declared.frame.Here.{Here}
-use Rattle.jl_state.specs.declared.frame.Hint.{Hint}
-use Rattle.jl_state.specs.declared.frame.Hint.TheVariants as hint
-use Rattle.jl_state.specs.declared.frame.Noted.{Noted}
-use Rattle.jl_state.specs.declared.frame.Visit.{Visit}
+use Rattle.jl_state.specs.declared.algorithm_frame.Hint.{Hint}
+use Rattle.jl_state.specs.declared.algorithm_frame.Hint.TheVariants as hint
+use Rattle.jl_state.specs.declared.value_frame.Noted.{Noted}
+use Rattle.jl_state.specs.declared.statement_frame.Visit.{Visit}
 use Rattle.jl_state.specs.declared.hook.Hook.{Hook}
 use Rattle.jl_state.specs.declared.hook.Hook.TheVariants as hook
 use Rattle.jl_state.specs.declared.hook.Opener.{Opener}
 use Rattle.jl_state.specs.declared.hook.Opener.TheVariants as opener
 use Rattle.jl_state.specs.declared.hook.Pending.{Pending}
 use Rattle.jl_state.specs.declared.hook.Pending.TheVariants as pending
-use Rattle.jl_state.specs.declared.state.ScriptFunction.{ScriptFunction}
+use Rattle.jl_state.specs.declared.script_function.ScriptFunction.{ScriptFunction}
 
 abbrev pub running : List Call → Option Running
 running [] = None

@@ -1,5 +1,6 @@
 //! The calls of functions of the script that are running (10.3).
-ghost use Rattle.std.specs.Prelude.{◌≡◌, ◌∷◌, [], OnOk, OnErr, MatchOption};
+ghost use Rattle.std.specs.Prelude.{◌≡◌, ◌∷◌, [], OnOk, MatchOption};
+ghost use Rattle.jl_state.specs.Words.{without_innermost};
 
 use jl_text::NoMemory;
 use jl_value::Value;
@@ -47,6 +48,13 @@ impl Calls {
     {
         self.list.push(call)?;
         Ok(())
+    }
+
+    /// The innermost of the calls, if one is running.
+    pub fn innermost(&self) -> Option<&Call>
+        ensures { MatchOption result (self.now ≡ []) (λ call. self.now ≡ call.now ∷ without_innermost self.now) }
+    {
+        self.list.last()
     }
 
     /// The innermost call is over.

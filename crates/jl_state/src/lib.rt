@@ -2,20 +2,25 @@
 #![tactic(auto)]
 
 mod act;
+mod algorithm_frame;
 mod calls;
 mod frame;
 mod hook;
 mod remaining;
+mod script_function;
 mod stack;
 mod state;
+mod statement_frame;
+mod value_frame;
 
 pub use act::{Act, Invocation};
+pub use algorithm_frame::{AlgorithmFrame, Attributes, Hint, Progress, WrittenBy};
 pub use calls::{Call, Calls};
-pub use frame::{
-    AlgorithmFrame, ArgumentsFor, Attributes, CompletionFrame, Frame, Here, Hint, KeyFor, Loop,
-    LoopTurn, Noted, Progress, StatementFrame, ToldFrame, ValueFrame, Visits, WrittenBy,
-};
-pub use hook::{Hook, HookId, Opener, Pending};
+pub use frame::{Frame, Here, ToldFrame};
+pub use hook::{CallId, Hook, HookId, Opener, Pending};
 pub use remaining::{Remaining, split_first};
+pub use script_function::ScriptFunction;
 pub use stack::Stack;
-pub use state::{ScriptFunction, State};
+pub use state::State;
+pub use statement_frame::{CompletionFrame, Loop, LoopTurn, StatementFrame, Visit, Visits};
+pub use value_frame::{ArgumentsFor, KeyFor, Noted, ValueFrame};

@@ -2,22 +2,16 @@
 ghost use Rattle.std.specs.Prelude.{◌≡◌, ◌-◌, ◌<◌, ◌∷◌, [], IfOk, OnOk, true, false};
 
 use crate::act::Act;
+use crate::algorithm_frame::AlgorithmFrame;
 use crate::calls::Calls;
-use crate::frame::{AlgorithmFrame, CompletionFrame, Frame, Here, StatementFrame, ValueFrame};
+use crate::frame::{Frame, Here};
+use crate::script_function::ScriptFunction;
 use crate::stack::Stack;
-use jl_ast::{Expr, Function, Stmt};
+use crate::statement_frame::{CompletionFrame, StatementFrame};
+use crate::value_frame::ValueFrame;
+use jl_ast::{Expr, Stmt};
 use jl_store::Store;
-use jl_text::{List, NoMemory, Text};
-
-/// A function of the script, with what its calls need: whether it is strict code (10.1.1), the variables of its body
-/// (10.5), and whether that mentions `arguments`.
-#[derive(Drop)]
-pub struct ScriptFunction<'p> {
-    pub function: &'p Function,
-    pub is_strict: bool,
-    pub variables: List<Text>,
-    pub mentions_arguments: bool,
-}
+use jl_text::{List, NoMemory};
 
 /// The state of a run: its store, the functions of the script by number, the calls that are running, the frames, the
 /// bytes of the output, and how many steps are left.
@@ -37,7 +31,8 @@ impl<'p> State<'p> {
     ghost use Rattle.jl_meaning.specs.Completions.{on_given};
     ghost use Rattle.jl_meaning.specs.Expressions.{evaluate};
     ghost use Rattle.jl_meaning.specs.Parts.{◌>>=◌ as ◌then◌};
-    ghost use Rattle.jl_state.specs.Frames.{value_after, statement_after};
+    ghost use Rattle.jl_state.specs.StatementFrames.{statement_after};
+    ghost use Rattle.jl_state.specs.ValueFrames.{value_after};
     ghost use Rattle.jl_state.specs.Rest.{Gives, Completes};
     ghost use Rattle.jl_state.specs.Steps.{Took, RanOut, ValueWaits, AlgorithmWaits, StatementWaits, CompletionWaits};
     ghost use Rattle.jl_state.specs.Trees.{plain};

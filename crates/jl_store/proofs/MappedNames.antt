@@ -6,7 +6,7 @@ use Rattle.std.specs.Prelude.{None, Option, Some}
 use Rattle.jl_ast.specs.declared.tree.Ident.{Ident}
 use Rattle.jl_scope.proofs.Binding.{with_one}
 use Rattle.jl_scope.specs.Names.{among, same_text, with_name}
-use Rattle.jl_scope.specs.inner.NameSets.{SameNames}
+use Rattle.jl_scope.specs.NameSets.{SameNames}
 use Rattle.jl_heap.specs.Objects.{Name}
 use Rattle.jl_meaning.specs.ArgumentsObject.{mapped_names}
 use Rattle.jl_store.specs.Plain.{names_of}

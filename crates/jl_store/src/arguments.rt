@@ -10,11 +10,11 @@ ghost use Rattle.jl_store.specs.Plain.{names_of};
 ghost use Rattle.jl_store.specs.inner.Arguments.{names_with, unmapped};
 
 use crate::functions::{data, poisoned};
-use crate::name_set::NameSet;
 use crate::store::Store;
 use crate::words::{count, index_name, word};
 use jl_ast::Ident;
 use jl_heap::Inner;
+use jl_scope::NameSet;
 use jl_text::{List, NoMemory, Text};
 use jl_value::{Class, ObjId, Value, share};
 use std::alloc::Global;

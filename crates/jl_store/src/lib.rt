@@ -14,7 +14,6 @@ mod functions;
 mod globals;
 mod inner;
 mod intrinsics;
-mod name_set;
 mod names;
 mod objects;
 mod properties;

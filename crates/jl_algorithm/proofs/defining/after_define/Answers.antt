@@ -1,5 +1,5 @@
 use Rattle.std.proofs.Common.{subst, sym}
-use Rattle.jl_state.specs.Frames.{after_define}
+use Rattle.jl_state.specs.AlgorithmFrames.{after_define}
 use Rattle.jl_state.specs.Rest.{Works}
 use Rattle.jl_algorithm.proofs.Puts.{rejects}
 use Rattle.jl_algorithm.proofs.defining.after_define.Goals as goal

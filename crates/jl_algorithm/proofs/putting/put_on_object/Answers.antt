@@ -3,7 +3,7 @@ use Rattle.std.specs.Option.{option_map}
 use Rattle.jl_heap.specs.Objects.{object_at}
 use Rattle.jl_meaning.specs.Properties.{can_put, get_property}
 use Rattle.jl_store.specs.LookUps.{property_seen}
-use Rattle.jl_state.specs.declared.frame.WrittenBy.TheVariants.{Put}
+use Rattle.jl_state.specs.declared.algorithm_frame.WrittenBy.TheVariants.{Put}
 use Rattle.jl_algorithm.specs.inner.Ways.{way_of}
 use Rattle.jl_algorithm.proofs.Puts.{puts_so}
 use Rattle.jl_algorithm.proofs.putting.put_on_object.Goals as goal

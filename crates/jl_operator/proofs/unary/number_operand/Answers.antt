@@ -1,6 +1,6 @@
 use Rattle.std.proofs.Common.{sym, subst}
 use Rattle.jl_op.specs.declared.sign.UnKind.{UnKind}
-use Rattle.jl_state.specs.Frames.{number_operand}
+use Rattle.jl_state.specs.AlgorithmFrames.{number_operand}
 use Rattle.jl_state.specs.Rest.{Works}
 use Rattle.jl_operator.proofs.unary.number_operand.Goals as goal
 

@@ -1,6 +1,6 @@
 use Rattle.std.proofs.Common.{◌≡◌, [], drop, map}
 use Rattle.jl_scope.specs.Names.{with_names}
-use Rattle.jl_scope.specs.inner.NameSets.{SameNames}
+use Rattle.jl_scope.specs.NameSets.{SameNames}
 use Rattle.jl_scope.proofs.hoisting.each_once.Given as goal
 
 abbrev pub invariant-loop-name : goal.invariant-loop-name

@@ -1,6 +1,6 @@
 use Rattle.std.proofs.Common.{◌≡◌, ◌++◌, ◌≤◌, drop, length}
 use Rattle.jl_meaning.specs.ArgumentsObject.{mapped_names}
-use Rattle.jl_scope.specs.inner.NameSets.{SameNames}
+use Rattle.jl_scope.specs.NameSets.{SameNames}
 use Rattle.jl_store.specs.Plain.{names_of}
 use Rattle.jl_store.specs.inner.Arguments.{unmapped}
 use Rattle.jl_store.proofs.arguments.mapped_names.Given as goal

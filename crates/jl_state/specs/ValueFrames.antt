@@ -1,4 +1,4 @@
--- What a frame does with what it is handed: what is left to do of the part of the script that it stands for.
+-- What an expression does that waits for a value, with the value.
 use Rattle.std.specs.Option.{option_or}
 use Rattle.std.specs.Prelude.{[], codes, drop, false, if◌then◌else◌, map, pos, slice_get, true, ◌++◌, ◌+◌, ◌∷◌, Bool}
 use Rattle.std.specs.Prelude.{List, None, Option, Some, ℕ}
@@ -74,199 +74,33 @@ use Rattle.jl_store.specs.LookUps.{reference_seen}
 use Rattle.jl_state.specs.Trees.{items_left, plain, plain_forest, plain_optional}
 use Rattle.jl_state.specs.Words.{call_of, context_of, hook_of, noting, opener_of, pending_of, visit_of}
 use Rattle.jl_state.specs.declared.calls.Call.{Call}
-use Rattle.jl_state.specs.declared.frame.AlgorithmFrame.{AlgorithmFrame}
-use Rattle.jl_state.specs.declared.frame.AlgorithmFrame.TheVariants as algorithm
-use Rattle.jl_state.specs.declared.frame.ArgumentsFor.{ArgumentsFor}
-use Rattle.jl_state.specs.declared.frame.ArgumentsFor.TheVariants as arguments_for
-use Rattle.jl_state.specs.declared.frame.Attributes.{Attributes}
-use Rattle.jl_state.specs.declared.frame.CompletionFrame.{CompletionFrame}
-use Rattle.jl_state.specs.declared.frame.CompletionFrame.TheVariants as completing
+use Rattle.jl_state.specs.declared.algorithm_frame.AlgorithmFrame.{AlgorithmFrame}
+use Rattle.jl_state.specs.declared.algorithm_frame.AlgorithmFrame.TheVariants as algorithm
+use Rattle.jl_state.specs.declared.value_frame.ArgumentsFor.{ArgumentsFor}
+use Rattle.jl_state.specs.declared.value_frame.ArgumentsFor.TheVariants as arguments_for
+use Rattle.jl_state.specs.declared.algorithm_frame.Attributes.{Attributes}
+use Rattle.jl_state.specs.declared.statement_frame.CompletionFrame.{CompletionFrame}
+use Rattle.jl_state.specs.declared.statement_frame.CompletionFrame.TheVariants as completing
 use Rattle.jl_state.specs.declared.frame.Here.{Here}
-use Rattle.jl_state.specs.declared.frame.Hint.{Hint}
-use Rattle.jl_state.specs.declared.frame.Hint.TheVariants as hint
-use Rattle.jl_state.specs.declared.frame.KeyFor.{KeyFor}
-use Rattle.jl_state.specs.declared.frame.KeyFor.TheVariants as key_for
-use Rattle.jl_state.specs.declared.frame.Loop.{Loop}
-use Rattle.jl_state.specs.declared.frame.Loop.TheVariants as loop
-use Rattle.jl_state.specs.declared.frame.LoopTurn.{LoopTurn}
-use Rattle.jl_state.specs.declared.frame.Progress.{Progress}
-use Rattle.jl_state.specs.declared.frame.Progress.TheVariants as progress
-use Rattle.jl_state.specs.declared.frame.StatementFrame.{StatementFrame}
-use Rattle.jl_state.specs.declared.frame.StatementFrame.TheVariants as statement
+use Rattle.jl_state.specs.declared.algorithm_frame.Hint.{Hint}
+use Rattle.jl_state.specs.declared.algorithm_frame.Hint.TheVariants as hint
+use Rattle.jl_state.specs.declared.value_frame.KeyFor.{KeyFor}
+use Rattle.jl_state.specs.declared.value_frame.KeyFor.TheVariants as key_for
+use Rattle.jl_state.specs.declared.statement_frame.Loop.{Loop}
+use Rattle.jl_state.specs.declared.statement_frame.Loop.TheVariants as loop
+use Rattle.jl_state.specs.declared.statement_frame.LoopTurn.{LoopTurn}
+use Rattle.jl_state.specs.declared.algorithm_frame.Progress.{Progress}
+use Rattle.jl_state.specs.declared.algorithm_frame.Progress.TheVariants as progress
+use Rattle.jl_state.specs.declared.statement_frame.StatementFrame.{StatementFrame}
+use Rattle.jl_state.specs.declared.statement_frame.StatementFrame.TheVariants as statement
 use Rattle.jl_state.specs.declared.frame.ToldFrame.{ToldFrame}
 use Rattle.jl_state.specs.declared.frame.ToldFrame.TheVariants as told
-use Rattle.jl_state.specs.declared.frame.ValueFrame.{ValueFrame}
-use Rattle.jl_state.specs.declared.frame.ValueFrame.TheVariants as waiting
-use Rattle.jl_state.specs.declared.frame.Visits.{Visits}
-use Rattle.jl_state.specs.declared.frame.WrittenBy.{WrittenBy}
-use Rattle.jl_state.specs.declared.frame.WrittenBy.TheVariants as written_by
+use Rattle.jl_state.specs.declared.value_frame.ValueFrame.{ValueFrame}
+use Rattle.jl_state.specs.declared.value_frame.ValueFrame.TheVariants as waiting
+use Rattle.jl_state.specs.declared.statement_frame.Visits.{Visits}
+use Rattle.jl_state.specs.declared.algorithm_frame.WrittenBy.{WrittenBy}
+use Rattle.jl_state.specs.declared.algorithm_frame.WrittenBy.TheVariants as written_by
 use Rattle.jl_state.specs.declared.remaining.Remaining.{Remaining}
-
--- algorithms
-
--- the method that a conversion tries first or second (8.12.8)
-abbrev pub method_name : Hint → (is_second : Bool) → Name
-method_name hint.Text false = codes "toString"
-method_name hint.Text true = codes "valueOf"
-method_name _ false = codes "valueOf"
-method_name _ true = codes "toString"
-
--- what is tried after a method
-abbrev pub after_method : ObjId → Hint → (is_second : Bool) → Option Value → Algorithm Value
-after_method object h false tried = do
-  found ← or_else (try_method (value.Obj object) (method_name h true)) tried
-  primitive_found found
-after_method object h true tried = primitive_found tried
-
--- what an operator makes of two numbers (11.5, 11.6.2, 11.7, 11.10)
-abbrev pub number_result : BinOp → Number → Number → Option Number
-number_result binary.Mul x y = product_of x y
-number_result binary.Div x y = quotient_of x y
-number_result binary.Rem x y = Some (remainder_of x y)
-number_result binary.Sub x y = difference_of x y
-number_result binary.Shl x y = Some (left_shift_of x y)
-number_result binary.Sar x y = Some (right_shift_of x y)
-number_result binary.Shr x y = Some (unsigned_right_shift_of x y)
-number_result binary.BitAnd x y = Some (and_of x y)
-number_result binary.BitXor x y = Some (xor_of x y)
-number_result binary.BitOr x y = Some (or_of x y)
-number_result _ x y = None
-
--- what a relation makes of two primitive values (11.8.1 to 11.8.5)
-abbrev pub compared : BinOp → Value → Value → Algorithm Value
-compared binary.Greater x y = do
-  r ← or_fault NumberOutside (less_than y x)
-  give_truth (or_false r)
-compared binary.LessEq x y = do
-  r ← or_fault NumberOutside (less_than y x)
-  give_truth (opposite r)
-compared binary.GreaterEq x y = do
-  r ← or_fault NumberOutside (less_than x y)
-  give_truth (opposite r)
-compared _ x y = do
-  r ← or_fault NumberOutside (less_than x y)
-  give_truth (or_false r)
-
--- a primitive value as a number (9.3)
-abbrev pub number_of_primitive : Value → Algorithm Number
-number_of_primitive p = or_fault NumberOutside (number_of_value p)
-
--- what an operator makes of a number (11.3, 11.4)
-abbrev pub number_operand : UnKind → Number → Algorithm Value
-number_operand unary.Minus n = give_number (Some (negative_of n))
-number_operand unary.Tilde n = give_number (Some (complement_of n))
-number_operand unary.Up n = give_next unary.Up n
-number_operand unary.Down n = give_next unary.Down n
-number_operand _ n = give_number (Some n)
-
--- what follows when a property has been defined, or that was rejected
-abbrev pub after_define : WrittenBy → Bool → Algorithm Value
-after_define (written_by.Put throwing given) done = do
-  _ ← require (if throwing then done else true) (codes "cannot write")
-  give given
-after_define written_by.Literal done = give value.Undefined
-
--- a data property is asked for with this value
-abbrev pub data_change : Attributes → Value → Change
-data_change a v = record {
-  value = Some v;
-  writable = a.writable;
-  get = None;
-  set = None;
-  enumerable = a.enumerable;
-  configurable = a.configurable;
-}
-
--- the length of an array is defined, of which both conversions are done
-abbrev pub define_length : ObjId → (count : ℕ) → Attributes → WrittenBy → Number → Algorithm Value
-define_length array count attributes purpose n = do
-  length ← length_within (Some (pos count)) n
-  done ← define_with_number array length_name (data_change attributes length)
-  after_define purpose done
-
--- a text after what a line has, and a space if it isn't the first
-abbrev pub line_with : (line : List ℕ) → (is_first : Bool) → List ℕ → List ℕ
-line_with line true units = units
-line_with line false units = line ++ 32 ∷ units
-
-abbrev pub progress_after : Progress → Value → Algorithm Value
-progress_after (progress.Print line is_first rest) p = print_others (line_with line is_first (text_of_value p)) rest
-progress_after (progress.ErrorMessage proto) p = do
-  id ← new_error proto (Some (text_of_value p))
-  give_object id
-progress_after (progress.ErrorName object) v = do
-  name ← string_or (codes "Error") v
-  w ← get (value.Obj object) (codes "message")
-  message ← string_or [] w
-  name_and_message name message
-progress_after (progress.ErrorNamePrimitive object) p = do
-  w ← get (value.Obj object) (codes "message")
-  message ← string_or [] w
-  name_and_message (text_of_value p) message
-progress_after (progress.ErrorText name) w = do
-  message ← string_or [] w
-  name_and_message name message
-progress_after (progress.ErrorTextPrimitive name) p = name_and_message name (text_of_value p)
-
-abbrev pub algorithm_after : AlgorithmFrame → Value → Algorithm Value
-algorithm_after (algorithm.Method object h is_second) method = do
-  store ← look
-  tried ← primitive_of_method (value.Obj object) method (is_callable store.heap method)
-  after_method object h is_second tried
-algorithm_after (algorithm.MethodResult object h is_second) v =
-    after_method object h is_second (if is_object v then None else Some v)
-algorithm_after (algorithm.LeftNumber o right) p = do
-  x ← number_of_primitive p
-  y ← to_number right
-  give_number (number_result o x y)
-algorithm_after (algorithm.RightNumber o left) p = do
-  y ← number_of_primitive p
-  give_number (number_result o left y)
-algorithm_after (algorithm.LeftSummand right) x = do
-  y ← to_primitive no_hint right
-  sum_of_primitives x y
-algorithm_after (algorithm.RightSummand left) y = sum_of_primitives left y
-algorithm_after (algorithm.LeftCompared o right) x = do
-  y ← to_primitive number_hint right
-  compared o x y
-algorithm_after (algorithm.RightCompared o left) y = compared o left y
-algorithm_after (algorithm.EqualTo other is_negative) p = negate_if is_negative (primitive_equality p other)
-algorithm_after (algorithm.InstanceOf v) proto = do
-  store ← look
-  has_prototype store.heap v proto
-algorithm_after (algorithm.In object) p = do
-  store ← look
-  give_truth (has_property store object.0 (text_of_value p))
-algorithm_after (algorithm.NumberOperand o) p = do
-  n ← number_of_primitive p
-  number_operand o n
-algorithm_after (algorithm.LengthCount array length attributes purpose) p = do
-  first ← number_of_primitive p
-  n ← to_number length
-  define_length array (uint32_of first) attributes purpose n
-algorithm_after (algorithm.LengthNumber array count attributes purpose) p = do
-  n ← number_of_primitive p
-  define_length array count attributes purpose n
-algorithm_after algorithm.TypeOf v = do
-  store ← look
-  give (value.Text (type_text v (is_callable store.heap v)))
-algorithm_after (algorithm.Then v) _ = give v
-algorithm_after (algorithm.Builtin p) v = progress_after p v
-
--- what follows an operation that a hook has emitted
-
-abbrev pub told_after : ToldFrame → Part (Answer Value)
-told_after (told.Give v) = give v
-told_after (told.Put base x v strict given) = do
-  _ ← lift (put strict base x v)
-  give given
-told_after (told.PutMember id base x v strict given) = do
-  _ ← put_member emits id.0 strict base x v
-  give given
-told_after (told.Invoke id call) = do
-  v ← begin_call CallOf (call_of call)
-  _ ← note_value emits (id.pre + 1) (op.InvokePost call.callee) v
-  give v
 
 module _ (table : FunctionTable) (calls : List Call) where
   abbrev context : Here → Context
@@ -479,112 +313,3 @@ module _ (table : FunctionTable) (calls : List Call) where
   value_after (waiting.InstancePrototype number env call) proto =
       construct_with (slice_get table number) env (call_of call) proto
   value_after (waiting.Constructed object) v = give (if is_object v then v else object)
-
-  -- statements
-
-  abbrev statements : List Stmt → Here → Part Completion
-  statements l here = execute_all table (plain_forest (view_statements l)) (context here)
-
-  abbrev branch : Option (List Stmt) → Here → Part Completion
-  branch l here = execute_branch table (plain_optional (view_branch l)) (context here)
-
-  abbrev declared_variables : List (Ident × Option Expr) → Here → Part (Answer (Unit {0}))
-  declared_variables l here = declare_all table (plain_forest (view_declarators l)) (context here)
-
-  abbrev labels_of : List (Bor (List ℕ)) → List Name
-  labels_of l = map (λ (x : Bor (List ℕ)). x.now) l
-
-  abbrev visits_in : Visits → List parts.Visit
-  visits_in v = map visit_of (drop v.from v.visits)
-
-  -- a turn of a loop, which is none of a `for-in`
-  abbrev turn_with : LoopTurn → parts.Loop → parts.Turn
-  turn_with t l = record { loop = l; context = context t.here; labels = labels_of t.labels; id = 0 }
-
-  abbrev loop_of : Loop → parts.Loop
-  loop_of (loop.Do l e) = do_loop (plain_forest (view_statements l.now)) (plain (view_expression e.now))
-  loop_of (loop.While e l) = while_loop (plain (view_expression e.now)) (plain_forest (view_statements l.now))
-  loop_of (loop.For e u l) =
-      for_loop (plain_optional (view_optional e.now)) (plain_optional (view_optional u.now))
-      (plain_forest (view_statements l.now))
-  loop_of (loop.ForIn x visits l) =
-      for_in_loop x.now [] (visits_in visits) (plain_forest (view_statements l.now))
-
-  abbrev pub next_turn : LoopTurn → Part Completion
-  next_turn t = begin_turn (turn_with t (loop_of t.kind))
-
-  abbrev body_of : Loop → List Stmt
-  body_of (loop.Do l e) = l.now
-  body_of (loop.While e l) = l.now
-  body_of (loop.For e u l) = l.now
-  body_of (loop.ForIn x visits l) = l.now
-
-  -- what follows the body of a loop that has completed and goes on
-  abbrev after_turn : LoopTurn → Loop → Part Completion
-  after_turn t (loop.Do l e) = completions.◌>>=◌ (test_loop table (tree.present (plain (view_expression e.now))) 0 (context t.here))
-      (λ truth. if truth then next_turn t else normal)
-  after_turn t (loop.While e l) = next_turn t
-  after_turn t (loop.For e u l) =
-      then_do (update_loop table (plain_optional (view_optional u.now)) (context t.here)) (next_turn t)
-  after_turn t (loop.ForIn x visits l) =
-      visit_next x.now (plain_forest (view_statements l.now)) (context t.here) (labels_of t.labels) 0 (visits_in visits)
-
-  abbrev pub after_loop_body : LoopTurn → Completion → Part Completion
-  after_loop_body t how = after_body (labels_of t.labels) (after_turn t t.kind) how
-
-  -- the body of a turn, and what follows
-  abbrev pub loop_body : LoopTurn → Part Completion
-  loop_body t = and_then (statements (body_of t.kind) t.here) (after_loop_body t)
-
-  -- what the test of a loop leads to, if it holds
-  abbrev tested : LoopTurn → Loop → Part Completion
-  tested t (loop.Do l e) = next_turn t
-  tested t k = loop_body t
-
-  -- the clauses of a `switch` from the one that is selected
-  abbrev run_clauses : List Case → Here → Option ℕ → Part Completion
-  run_clauses l here selected =
-      ends_as after_switch (execute_from table (option_or selected (default_of (plain_forest (view_cases l))))
-      (plain_forest (view_cases l)) (context here))
-
-  abbrev pub statement_after : StatementFrame → Value → Part Completion
-  statement_after statement.Expression _ = normal
-  statement_after (statement.Variables rest here) _ =
-      completions.◌>>=◌ (declared_variables (items_left rest) here) (λ _. normal)
-  statement_after (statement.ForHead rest t) _ =
-      completions.◌>>=◌ (declared_variables (items_left rest) t.here) (λ _. next_turn t)
-  statement_after (statement.ForExpression t) _ = next_turn t
-  statement_after (statement.If a b here) v =
-      completions.◌>>=◌ (decide 0 v) (λ truth. if truth then statements a.now here else branch b.now here)
-  statement_after (statement.ForInObject x l here labels) v =
-      completions.◌>>=◌ (note_value performs 0 op.ForIn v)
-      (λ _. visit_all x.now (plain_forest (view_statements l.now)) (context here) (labels_of labels) 0 v)
-  statement_after (statement.ForInBody t) _ = loop_body t
-  statement_after (statement.Test t) v =
-      completions.◌>>=◌ (decide 0 v) (λ truth. if truth then tested t t.kind else normal)
-  statement_after (statement.Update t) _ = next_turn t
-  statement_after statement.Return v = return_value 0 v
-  statement_after statement.Throw v = throw_value 0 v
-  statement_after (statement.Switch l here) v =
-      completions.◌>>=◌ (select table 0 (plain_forest (view_cases l.now)) v (context here)) (run_clauses l.now here)
-  statement_after (statement.CaseTest v index l here) w =
-      completions.◌>>=◌ (if strictly_equal v w then give (Some index)
-      else select table (index + 1) (plain_forest (view_cases (drop (index + 1) l.now))) v (context here))
-      (run_clauses l.now here)
-
-  abbrev pub completion_after : CompletionFrame → Completion → Part Completion
-  completion_after (completing.Statements rest here) how = if_normal (statements (items_left rest) here) how
-  completion_after (completing.Clauses rest here) how =
-      if_normal (execute_from table (Some 0) (plain_forest (view_cases (items_left rest))) (context here)) how
-  completion_after completing.Switch how = End (after_switch how)
-  completion_after (completing.Labelled x) how = End (after_labelled x.now how)
-  completion_after (completing.LoopBody t) how = after_loop_body t how
-  completion_after (completing.TryBlock h f here) tried =
-      and_then (handle table (plain_optional (view_catch h.now)) tried (context here))
-      (λ handled. ends_as (unless_abrupt handled) (branch f.now here))
-  completion_after (completing.CatchBlock f here) handled = ends_as (unless_abrupt handled) (branch f.now here)
-  completion_after (completing.FinallyBlock before) how = End (unless_abrupt before how)
-
-  -- a function is left (13.2.1); the operation of that is nothing to a machine that is told by hooks alone
-  abbrev pub body_after : Completion → Part (Answer Value)
-  body_after how = result_of how

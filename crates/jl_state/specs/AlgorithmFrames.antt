@@ -1,0 +1,252 @@
+-- What an algorithm of the standard does that waits for a value, with the value.
+use Rattle.std.specs.Option.{option_or}
+use Rattle.std.specs.Prelude.{[], codes, drop, false, if◌then◌else◌, map, pos, slice_get, true, ◌++◌, ◌+◌, ◌∷◌, Bool}
+use Rattle.std.specs.Prelude.{List, None, Option, Some, ℕ}
+use Rattle.std.specs.Borrow.{Bor}
+use Rattle.std.specs.Global.{Global}
+use Rattle.std.specs.declared.boxed.Box.{Box}
+use Rattle.jl_num.specs.Arithmetic.{difference_of, negative_of, product_of, quotient_of, remainder_of}
+use Rattle.jl_num.specs.Bits.{and_of, complement_of, left_shift_of, or_of, right_shift_of, uint32_of, unsigned_right_shift_of}
+use Rattle.jl_num.specs.Bits.{xor_of}
+use Rattle.jl_num.specs.Number.{Number}
+use Rattle.jl_ast.specs.Tree as tree
+use Rattle.jl_ast.specs.View.{view_branch, view_cases, view_catch, view_declarators, view_entries, view_expression}
+use Rattle.jl_ast.specs.View.{view_expressions, view_items, view_optional, view_statements}
+use Rattle.jl_ast.specs.declared.ops.BinOp.{BinOp}
+use Rattle.jl_ast.specs.declared.ops.BinOp.TheVariants as binary
+use Rattle.jl_ast.specs.declared.tree.Case.{Case}
+use Rattle.jl_ast.specs.declared.tree.Entry.{Entry}
+use Rattle.jl_ast.specs.declared.tree.Expr.{Expr}
+use Rattle.jl_ast.specs.declared.tree.Ident.{Ident}
+use Rattle.jl_ast.specs.declared.tree.Stmt.{Stmt}
+use Rattle.jl_value.specs.declared.ending.Completion.{Completion}
+use Rattle.jl_value.specs.declared.object.Class.TheVariants as class
+use Rattle.jl_value.specs.declared.object.ObjId.{ObjId}
+use Rattle.jl_value.specs.declared.value.Value.{Value}
+use Rattle.jl_value.specs.declared.value.Value.TheVariants as value
+use Rattle.jl_conv.specs.Comparisons.{less_than, strictly_equal}
+use Rattle.jl_conv.specs.Conversions.{is_object, number_of_value, text_of_value, type_text}
+use Rattle.jl_heap.specs.Define.{length_name}
+use Rattle.jl_heap.specs.Describe.{seen_of}
+use Rattle.jl_heap.specs.Objects.{Name}
+use Rattle.jl_heap.specs.declared.inner.Inner.TheVariants as inner
+use Rattle.jl_heap.specs.declared.property.Change.{Change}
+use Rattle.jl_op.specs.declared.op.Op.TheVariants as op
+use Rattle.jl_op.specs.declared.sign.UnKind.{UnKind}
+use Rattle.jl_op.specs.declared.sign.UnKind.TheVariants as unary
+use Rattle.jl_effects.specs.Effects.{and_then, End, Step}
+use Rattle.jl_meaning.specs.Completions.{ends_as, if_normal, normal, then_do}
+use Rattle.jl_meaning.specs.Completions as completions
+use Rattle.jl_meaning.specs.Conversions.{or_else, primitive_found, primitive_of_method, to_number, to_primitive, try_method}
+use Rattle.jl_meaning.specs.Conversions.{no_hint, number_hint}
+use Rattle.jl_meaning.specs.Defining.{define_with_number, length_within, plain_change}
+use Rattle.jl_meaning.specs.Errors.{require}
+use Rattle.jl_meaning.specs.Expressions.{equip, evaluate, evaluate_all, fill}
+use Rattle.jl_meaning.specs.FunctionObjects.{FunctionTable}
+use Rattle.jl_meaning.specs.FunctionObjects as functions
+use Rattle.jl_meaning.specs.Getting.{get, is_callable}
+use Rattle.jl_meaning.specs.Noting.{emits, note, note_value, performs}
+use Rattle.jl_meaning.specs.Operators.{give_next, give_number, sum_of_primitives}
+use Rattle.jl_meaning.specs.Parts.{begin_call, do_loop, for_in_loop, for_loop, gives, give, lift, look, new_object, or_fault, while_loop}
+use Rattle.jl_meaning.specs.Parts.{◌>>=◌, Algorithm, Answer, CallOf, Context, NumberOutside, Part}
+use Rattle.jl_meaning.specs.Parts as parts
+use Rattle.jl_meaning.specs.Properties.{has_property}
+use Rattle.jl_meaning.specs.Putting.{delete, put}
+use Rattle.jl_meaning.specs.References.{put_value}
+use Rattle.jl_meaning.specs.Relations.{give_truth, has_prototype, negate_if, opposite, or_false, primitive_equality}
+use Rattle.jl_meaning.specs.Statements.{execute_all, execute_branch, execute_from, handle, select, test_loop, update_loop}
+use Rattle.jl_meaning.specs.builtins.Arguments.{give_object}
+use Rattle.jl_meaning.specs.builtins.Error.{name_and_message, new_error, string_or}
+use Rattle.jl_meaning.specs.builtins.Global.{print_others}
+use Rattle.jl_meaning.specs.forms.Calls.{call_member, invoke}
+use Rattle.jl_meaning.specs.forms.Functions.{call_script, prototype_for, result_of}
+use Rattle.jl_meaning.specs.forms.Hooks.{close, enter_hook, enter_opener, pending_assign, pending_call, pending_put}
+use Rattle.jl_meaning.specs.forms.Jumps.{after_labelled, return_value, throw_value}
+use Rattle.jl_meaning.specs.forms.Literals.{define_entry, end_array, literal_of, of_object, put_element}
+use Rattle.jl_meaning.specs.forms.Loops.{after_body, begin_turn, visit_all, visit_next}
+use Rattle.jl_meaning.specs.forms.Members.{assign_member, delete_member, get_member, put_member, read_member}
+use Rattle.jl_meaning.specs.forms.Members.{update_expression}
+use Rattle.jl_meaning.specs.forms.Operators.{decide, operate, operate_on, update, update_kind}
+use Rattle.jl_meaning.specs.forms.Simple.{declare_all}
+use Rattle.jl_meaning.specs.forms.Switch.{after_switch, default_of}
+use Rattle.jl_meaning.specs.forms.Try.{unless_abrupt}
+use Rattle.jl_store.specs.LookUps.{reference_seen}
+use Rattle.jl_state.specs.Trees.{items_left, plain, plain_forest, plain_optional}
+use Rattle.jl_state.specs.Words.{call_of, context_of, hook_of, noting, opener_of, pending_of, visit_of}
+use Rattle.jl_state.specs.declared.calls.Call.{Call}
+use Rattle.jl_state.specs.declared.algorithm_frame.AlgorithmFrame.{AlgorithmFrame}
+use Rattle.jl_state.specs.declared.algorithm_frame.AlgorithmFrame.TheVariants as algorithm
+use Rattle.jl_state.specs.declared.value_frame.ArgumentsFor.{ArgumentsFor}
+use Rattle.jl_state.specs.declared.value_frame.ArgumentsFor.TheVariants as arguments_for
+use Rattle.jl_state.specs.declared.algorithm_frame.Attributes.{Attributes}
+use Rattle.jl_state.specs.declared.statement_frame.CompletionFrame.{CompletionFrame}
+use Rattle.jl_state.specs.declared.statement_frame.CompletionFrame.TheVariants as completing
+use Rattle.jl_state.specs.declared.frame.Here.{Here}
+use Rattle.jl_state.specs.declared.algorithm_frame.Hint.{Hint}
+use Rattle.jl_state.specs.declared.algorithm_frame.Hint.TheVariants as hint
+use Rattle.jl_state.specs.declared.value_frame.KeyFor.{KeyFor}
+use Rattle.jl_state.specs.declared.value_frame.KeyFor.TheVariants as key_for
+use Rattle.jl_state.specs.declared.statement_frame.Loop.{Loop}
+use Rattle.jl_state.specs.declared.statement_frame.Loop.TheVariants as loop
+use Rattle.jl_state.specs.declared.statement_frame.LoopTurn.{LoopTurn}
+use Rattle.jl_state.specs.declared.algorithm_frame.Progress.{Progress}
+use Rattle.jl_state.specs.declared.algorithm_frame.Progress.TheVariants as progress
+use Rattle.jl_state.specs.declared.statement_frame.StatementFrame.{StatementFrame}
+use Rattle.jl_state.specs.declared.statement_frame.StatementFrame.TheVariants as statement
+use Rattle.jl_state.specs.declared.frame.ToldFrame.{ToldFrame}
+use Rattle.jl_state.specs.declared.frame.ToldFrame.TheVariants as told
+use Rattle.jl_state.specs.declared.value_frame.ValueFrame.{ValueFrame}
+use Rattle.jl_state.specs.declared.value_frame.ValueFrame.TheVariants as waiting
+use Rattle.jl_state.specs.declared.statement_frame.Visits.{Visits}
+use Rattle.jl_state.specs.declared.algorithm_frame.WrittenBy.{WrittenBy}
+use Rattle.jl_state.specs.declared.algorithm_frame.WrittenBy.TheVariants as written_by
+use Rattle.jl_state.specs.declared.remaining.Remaining.{Remaining}
+
+-- the method that a conversion tries first or second (8.12.8)
+abbrev pub method_name : Hint → (is_second : Bool) → Name
+method_name hint.Text false = codes "toString"
+method_name hint.Text true = codes "valueOf"
+method_name _ false = codes "valueOf"
+method_name _ true = codes "toString"
+
+-- what is tried after a method
+abbrev pub after_method : ObjId → Hint → (is_second : Bool) → Option Value → Algorithm Value
+after_method object h false tried = do
+  found ← or_else (try_method (value.Obj object) (method_name h true)) tried
+  primitive_found found
+after_method object h true tried = primitive_found tried
+
+-- what an operator makes of two numbers (11.5, 11.6.2, 11.7, 11.10)
+abbrev pub number_result : BinOp → Number → Number → Option Number
+number_result binary.Mul x y = product_of x y
+number_result binary.Div x y = quotient_of x y
+number_result binary.Rem x y = Some (remainder_of x y)
+number_result binary.Sub x y = difference_of x y
+number_result binary.Shl x y = Some (left_shift_of x y)
+number_result binary.Sar x y = Some (right_shift_of x y)
+number_result binary.Shr x y = Some (unsigned_right_shift_of x y)
+number_result binary.BitAnd x y = Some (and_of x y)
+number_result binary.BitXor x y = Some (xor_of x y)
+number_result binary.BitOr x y = Some (or_of x y)
+number_result _ x y = None
+
+-- what a relation makes of two primitive values (11.8.1 to 11.8.5)
+abbrev pub compared : BinOp → Value → Value → Algorithm Value
+compared binary.Greater x y = do
+  r ← or_fault NumberOutside (less_than y x)
+  give_truth (or_false r)
+compared binary.LessEq x y = do
+  r ← or_fault NumberOutside (less_than y x)
+  give_truth (opposite r)
+compared binary.GreaterEq x y = do
+  r ← or_fault NumberOutside (less_than x y)
+  give_truth (opposite r)
+compared _ x y = do
+  r ← or_fault NumberOutside (less_than x y)
+  give_truth (or_false r)
+
+-- a primitive value as a number (9.3)
+abbrev pub number_of_primitive : Value → Algorithm Number
+number_of_primitive p = or_fault NumberOutside (number_of_value p)
+
+-- what an operator makes of a number (11.3, 11.4)
+abbrev pub number_operand : UnKind → Number → Algorithm Value
+number_operand unary.Minus n = give_number (Some (negative_of n))
+number_operand unary.Tilde n = give_number (Some (complement_of n))
+number_operand unary.Up n = give_next unary.Up n
+number_operand unary.Down n = give_next unary.Down n
+number_operand _ n = give_number (Some n)
+
+-- what follows when a property has been defined, or that was rejected
+abbrev pub after_define : WrittenBy → Bool → Algorithm Value
+after_define (written_by.Put throwing given) done = do
+  _ ← require (if throwing then done else true) (codes "cannot write")
+  give given
+after_define written_by.Literal done = give value.Undefined
+
+-- a data property is asked for with this value
+abbrev pub data_change : Attributes → Value → Change
+data_change a v = record {
+  value = Some v;
+  writable = a.writable;
+  get = None;
+  set = None;
+  enumerable = a.enumerable;
+  configurable = a.configurable;
+}
+
+-- the length of an array is defined, of which both conversions are done
+abbrev pub define_length : ObjId → (count : ℕ) → Attributes → WrittenBy → Number → Algorithm Value
+define_length array count attributes purpose n = do
+  length ← length_within (Some (pos count)) n
+  done ← define_with_number array length_name (data_change attributes length)
+  after_define purpose done
+
+-- a text after what a line has, and a space if it isn't the first
+abbrev pub line_with : (line : List ℕ) → (is_first : Bool) → List ℕ → List ℕ
+line_with line true units = units
+line_with line false units = line ++ 32 ∷ units
+
+abbrev pub progress_after : Progress → Value → Algorithm Value
+progress_after (progress.Print line is_first rest) p = print_others (line_with line is_first (text_of_value p)) rest
+progress_after (progress.ErrorMessage proto) p = do
+  id ← new_error proto (Some (text_of_value p))
+  give_object id
+progress_after (progress.ErrorName object) v = do
+  name ← string_or (codes "Error") v
+  w ← get (value.Obj object) (codes "message")
+  message ← string_or [] w
+  name_and_message name message
+progress_after (progress.ErrorNamePrimitive object) p = do
+  w ← get (value.Obj object) (codes "message")
+  message ← string_or [] w
+  name_and_message (text_of_value p) message
+progress_after (progress.ErrorText name) w = do
+  message ← string_or [] w
+  name_and_message name message
+progress_after (progress.ErrorTextPrimitive name) p = name_and_message name (text_of_value p)
+
+abbrev pub algorithm_after : AlgorithmFrame → Value → Algorithm Value
+algorithm_after (algorithm.Method object h is_second) method = do
+  store ← look
+  tried ← primitive_of_method (value.Obj object) method (is_callable store.heap method)
+  after_method object h is_second tried
+algorithm_after (algorithm.MethodResult object h is_second) v =
+    after_method object h is_second (if is_object v then None else Some v)
+algorithm_after (algorithm.LeftNumber o right) p = do
+  x ← number_of_primitive p
+  y ← to_number right
+  give_number (number_result o x y)
+algorithm_after (algorithm.RightNumber o left) p = do
+  y ← number_of_primitive p
+  give_number (number_result o left y)
+algorithm_after (algorithm.LeftSummand right) x = do
+  y ← to_primitive no_hint right
+  sum_of_primitives x y
+algorithm_after (algorithm.RightSummand left) y = sum_of_primitives left y
+algorithm_after (algorithm.LeftCompared o right) x = do
+  y ← to_primitive number_hint right
+  compared o x y
+algorithm_after (algorithm.RightCompared o left) y = compared o left y
+algorithm_after (algorithm.EqualTo other is_negative) p = negate_if is_negative (primitive_equality p other)
+algorithm_after (algorithm.InstanceOf v) proto = do
+  store ← look
+  has_prototype store.heap v proto
+algorithm_after (algorithm.In object) p = do
+  store ← look
+  give_truth (has_property store object.0 (text_of_value p))
+algorithm_after (algorithm.NumberOperand o) p = do
+  n ← number_of_primitive p
+  number_operand o n
+algorithm_after (algorithm.LengthCount array length attributes purpose) p = do
+  first ← number_of_primitive p
+  n ← to_number length
+  define_length array (uint32_of first) attributes purpose n
+algorithm_after (algorithm.LengthNumber array count attributes purpose) p = do
+  n ← number_of_primitive p
+  define_length array count attributes purpose n
+algorithm_after algorithm.TypeOf v = do
+  store ← look
+  give (value.Text (type_text v (is_callable store.heap v)))
+algorithm_after (algorithm.Then v) _ = give v
+algorithm_after (algorithm.Builtin p) v = progress_after p v

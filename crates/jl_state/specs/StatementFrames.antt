@@ -1,0 +1,210 @@
+-- What a statement does that waits for a value or for the completion of another.
+use Rattle.std.specs.Option.{option_or}
+use Rattle.std.specs.Prelude.{[], codes, drop, false, if◌then◌else◌, map, pos, slice_get, true, ◌++◌, ◌+◌, ◌∷◌, Bool}
+use Rattle.std.specs.Prelude.{List, None, Option, Some, ℕ}
+use Rattle.std.specs.Borrow.{Bor}
+use Rattle.std.specs.Global.{Global}
+use Rattle.std.specs.declared.boxed.Box.{Box}
+use Rattle.jl_num.specs.Arithmetic.{difference_of, negative_of, product_of, quotient_of, remainder_of}
+use Rattle.jl_num.specs.Bits.{and_of, complement_of, left_shift_of, or_of, right_shift_of, uint32_of, unsigned_right_shift_of}
+use Rattle.jl_num.specs.Bits.{xor_of}
+use Rattle.jl_num.specs.Number.{Number}
+use Rattle.jl_ast.specs.Tree as tree
+use Rattle.jl_ast.specs.View.{view_branch, view_cases, view_catch, view_declarators, view_entries, view_expression}
+use Rattle.jl_ast.specs.View.{view_expressions, view_items, view_optional, view_statements}
+use Rattle.jl_ast.specs.declared.ops.BinOp.{BinOp}
+use Rattle.jl_ast.specs.declared.ops.BinOp.TheVariants as binary
+use Rattle.jl_ast.specs.declared.tree.Case.{Case}
+use Rattle.jl_ast.specs.declared.tree.Entry.{Entry}
+use Rattle.jl_ast.specs.declared.tree.Expr.{Expr}
+use Rattle.jl_ast.specs.declared.tree.Ident.{Ident}
+use Rattle.jl_ast.specs.declared.tree.Stmt.{Stmt}
+use Rattle.jl_value.specs.declared.ending.Completion.{Completion}
+use Rattle.jl_value.specs.declared.object.Class.TheVariants as class
+use Rattle.jl_value.specs.declared.object.ObjId.{ObjId}
+use Rattle.jl_value.specs.declared.value.Value.{Value}
+use Rattle.jl_value.specs.declared.value.Value.TheVariants as value
+use Rattle.jl_conv.specs.Comparisons.{less_than, strictly_equal}
+use Rattle.jl_conv.specs.Conversions.{is_object, number_of_value, text_of_value, type_text}
+use Rattle.jl_heap.specs.Define.{length_name}
+use Rattle.jl_heap.specs.Describe.{seen_of}
+use Rattle.jl_heap.specs.Objects.{Name}
+use Rattle.jl_heap.specs.declared.inner.Inner.TheVariants as inner
+use Rattle.jl_heap.specs.declared.property.Change.{Change}
+use Rattle.jl_op.specs.declared.op.Op.TheVariants as op
+use Rattle.jl_op.specs.declared.sign.UnKind.{UnKind}
+use Rattle.jl_op.specs.declared.sign.UnKind.TheVariants as unary
+use Rattle.jl_effects.specs.Effects.{and_then, End, Step}
+use Rattle.jl_meaning.specs.Completions.{ends_as, if_normal, normal, then_do}
+use Rattle.jl_meaning.specs.Completions as completions
+use Rattle.jl_meaning.specs.Conversions.{or_else, primitive_found, primitive_of_method, to_number, to_primitive, try_method}
+use Rattle.jl_meaning.specs.Conversions.{no_hint, number_hint}
+use Rattle.jl_meaning.specs.Defining.{define_with_number, length_within, plain_change}
+use Rattle.jl_meaning.specs.Errors.{require}
+use Rattle.jl_meaning.specs.Expressions.{equip, evaluate, evaluate_all, fill}
+use Rattle.jl_meaning.specs.FunctionObjects.{FunctionTable}
+use Rattle.jl_meaning.specs.FunctionObjects as functions
+use Rattle.jl_meaning.specs.Getting.{get, is_callable}
+use Rattle.jl_meaning.specs.Noting.{emits, note, note_value, performs}
+use Rattle.jl_meaning.specs.Operators.{give_next, give_number, sum_of_primitives}
+use Rattle.jl_meaning.specs.Parts.{begin_call, do_loop, for_in_loop, for_loop, gives, give, lift, look, new_object, or_fault, while_loop}
+use Rattle.jl_meaning.specs.Parts.{◌>>=◌, Algorithm, Answer, CallOf, Context, NumberOutside, Part}
+use Rattle.jl_meaning.specs.Parts as parts
+use Rattle.jl_meaning.specs.Properties.{has_property}
+use Rattle.jl_meaning.specs.Putting.{delete, put}
+use Rattle.jl_meaning.specs.References.{put_value}
+use Rattle.jl_meaning.specs.Relations.{give_truth, has_prototype, negate_if, opposite, or_false, primitive_equality}
+use Rattle.jl_meaning.specs.Statements.{execute_all, execute_branch, execute_from, handle, select, test_loop, update_loop}
+use Rattle.jl_meaning.specs.builtins.Arguments.{give_object}
+use Rattle.jl_meaning.specs.builtins.Error.{name_and_message, new_error, string_or}
+use Rattle.jl_meaning.specs.builtins.Global.{print_others}
+use Rattle.jl_meaning.specs.forms.Calls.{call_member, invoke}
+use Rattle.jl_meaning.specs.forms.Functions.{call_script, prototype_for, result_of}
+use Rattle.jl_meaning.specs.forms.Hooks.{close, enter_hook, enter_opener, pending_assign, pending_call, pending_put}
+use Rattle.jl_meaning.specs.forms.Jumps.{after_labelled, return_value, throw_value}
+use Rattle.jl_meaning.specs.forms.Literals.{define_entry, end_array, literal_of, of_object, put_element}
+use Rattle.jl_meaning.specs.forms.Loops.{after_body, begin_turn, visit_all, visit_next}
+use Rattle.jl_meaning.specs.forms.Members.{assign_member, delete_member, get_member, put_member, read_member}
+use Rattle.jl_meaning.specs.forms.Members.{update_expression}
+use Rattle.jl_meaning.specs.forms.Operators.{decide, operate, operate_on, update, update_kind}
+use Rattle.jl_meaning.specs.forms.Simple.{declare_all}
+use Rattle.jl_meaning.specs.forms.Switch.{after_switch, default_of}
+use Rattle.jl_meaning.specs.forms.Try.{unless_abrupt}
+use Rattle.jl_store.specs.LookUps.{reference_seen}
+use Rattle.jl_state.specs.Trees.{items_left, plain, plain_forest, plain_optional}
+use Rattle.jl_state.specs.Words.{call_of, context_of, hook_of, noting, opener_of, pending_of, visit_of}
+use Rattle.jl_state.specs.declared.calls.Call.{Call}
+use Rattle.jl_state.specs.declared.algorithm_frame.AlgorithmFrame.{AlgorithmFrame}
+use Rattle.jl_state.specs.declared.algorithm_frame.AlgorithmFrame.TheVariants as algorithm
+use Rattle.jl_state.specs.declared.value_frame.ArgumentsFor.{ArgumentsFor}
+use Rattle.jl_state.specs.declared.value_frame.ArgumentsFor.TheVariants as arguments_for
+use Rattle.jl_state.specs.declared.algorithm_frame.Attributes.{Attributes}
+use Rattle.jl_state.specs.declared.statement_frame.CompletionFrame.{CompletionFrame}
+use Rattle.jl_state.specs.declared.statement_frame.CompletionFrame.TheVariants as completing
+use Rattle.jl_state.specs.declared.frame.Here.{Here}
+use Rattle.jl_state.specs.declared.algorithm_frame.Hint.{Hint}
+use Rattle.jl_state.specs.declared.algorithm_frame.Hint.TheVariants as hint
+use Rattle.jl_state.specs.declared.value_frame.KeyFor.{KeyFor}
+use Rattle.jl_state.specs.declared.value_frame.KeyFor.TheVariants as key_for
+use Rattle.jl_state.specs.declared.statement_frame.Loop.{Loop}
+use Rattle.jl_state.specs.declared.statement_frame.Loop.TheVariants as loop
+use Rattle.jl_state.specs.declared.statement_frame.LoopTurn.{LoopTurn}
+use Rattle.jl_state.specs.declared.algorithm_frame.Progress.{Progress}
+use Rattle.jl_state.specs.declared.algorithm_frame.Progress.TheVariants as progress
+use Rattle.jl_state.specs.declared.statement_frame.StatementFrame.{StatementFrame}
+use Rattle.jl_state.specs.declared.statement_frame.StatementFrame.TheVariants as statement
+use Rattle.jl_state.specs.declared.frame.ToldFrame.{ToldFrame}
+use Rattle.jl_state.specs.declared.frame.ToldFrame.TheVariants as told
+use Rattle.jl_state.specs.declared.value_frame.ValueFrame.{ValueFrame}
+use Rattle.jl_state.specs.declared.value_frame.ValueFrame.TheVariants as waiting
+use Rattle.jl_state.specs.declared.statement_frame.Visits.{Visits}
+use Rattle.jl_state.specs.declared.algorithm_frame.WrittenBy.{WrittenBy}
+use Rattle.jl_state.specs.declared.algorithm_frame.WrittenBy.TheVariants as written_by
+use Rattle.jl_state.specs.declared.remaining.Remaining.{Remaining}
+
+module _ (table : FunctionTable) (calls : List Call) where
+  abbrev context : Here → Context
+  context here = context_of calls here
+
+  abbrev statements : List Stmt → Here → Part Completion
+  statements l here = execute_all table (plain_forest (view_statements l)) (context here)
+
+  abbrev branch : Option (List Stmt) → Here → Part Completion
+  branch l here = execute_branch table (plain_optional (view_branch l)) (context here)
+
+  abbrev declared_variables : List (Ident × Option Expr) → Here → Part (Answer (Unit {0}))
+  declared_variables l here = declare_all table (plain_forest (view_declarators l)) (context here)
+
+  abbrev labels_of : List (Bor (List ℕ)) → List Name
+  labels_of l = map (λ (x : Bor (List ℕ)). x.now) l
+
+  abbrev visits_in : Visits → List parts.Visit
+  visits_in v = map visit_of (drop v.from v.visits)
+
+  -- a turn of a loop, which is none of a `for-in`
+  abbrev turn_with : LoopTurn → parts.Loop → parts.Turn
+  turn_with t l = record { loop = l; context = context t.here; labels = labels_of t.labels; id = 0 }
+
+  abbrev loop_of : Loop → parts.Loop
+  loop_of (loop.Do l e) = do_loop (plain_forest (view_statements l.now)) (plain (view_expression e.now))
+  loop_of (loop.While e l) = while_loop (plain (view_expression e.now)) (plain_forest (view_statements l.now))
+  loop_of (loop.For e u l) =
+      for_loop (plain_optional (view_optional e.now)) (plain_optional (view_optional u.now))
+      (plain_forest (view_statements l.now))
+  loop_of (loop.ForIn x visits l) =
+      for_in_loop x.now [] (visits_in visits) (plain_forest (view_statements l.now))
+
+  abbrev pub next_turn : LoopTurn → Part Completion
+  next_turn t = begin_turn (turn_with t (loop_of t.kind))
+
+  abbrev body_of : Loop → List Stmt
+  body_of (loop.Do l e) = l.now
+  body_of (loop.While e l) = l.now
+  body_of (loop.For e u l) = l.now
+  body_of (loop.ForIn x visits l) = l.now
+
+  -- what follows the body of a loop that has completed and goes on
+  abbrev after_turn : LoopTurn → Loop → Part Completion
+  after_turn t (loop.Do l e) = completions.◌>>=◌ (test_loop table (tree.present (plain (view_expression e.now))) 0 (context t.here))
+      (λ truth. if truth then next_turn t else normal)
+  after_turn t (loop.While e l) = next_turn t
+  after_turn t (loop.For e u l) =
+      then_do (update_loop table (plain_optional (view_optional u.now)) (context t.here)) (next_turn t)
+  after_turn t (loop.ForIn x visits l) =
+      visit_next x.now (plain_forest (view_statements l.now)) (context t.here) (labels_of t.labels) 0 (visits_in visits)
+
+  abbrev pub after_loop_body : LoopTurn → Completion → Part Completion
+  after_loop_body t how = after_body (labels_of t.labels) (after_turn t t.kind) how
+
+  -- the body of a turn, and what follows
+  abbrev pub loop_body : LoopTurn → Part Completion
+  loop_body t = and_then (statements (body_of t.kind) t.here) (after_loop_body t)
+
+  -- what the test of a loop leads to, if it holds
+  abbrev tested : LoopTurn → Loop → Part Completion
+  tested t (loop.Do l e) = next_turn t
+  tested t k = loop_body t
+
+  -- the clauses of a `switch` from the one that is selected
+  abbrev run_clauses : List Case → Here → Option ℕ → Part Completion
+  run_clauses l here selected =
+      ends_as after_switch (execute_from table (option_or selected (default_of (plain_forest (view_cases l))))
+      (plain_forest (view_cases l)) (context here))
+
+  abbrev pub statement_after : StatementFrame → Value → Part Completion
+  statement_after statement.Expression _ = normal
+  statement_after (statement.Variables rest here) _ =
+      completions.◌>>=◌ (declared_variables (items_left rest) here) (λ _. normal)
+  statement_after (statement.ForHead rest t) _ =
+      completions.◌>>=◌ (declared_variables (items_left rest) t.here) (λ _. next_turn t)
+  statement_after (statement.ForExpression t) _ = next_turn t
+  statement_after (statement.If a b here) v =
+      completions.◌>>=◌ (decide 0 v) (λ truth. if truth then statements a.now here else branch b.now here)
+  statement_after (statement.ForInObject x l here labels) v =
+      completions.◌>>=◌ (note_value performs 0 op.ForIn v)
+      (λ _. visit_all x.now (plain_forest (view_statements l.now)) (context here) (labels_of labels) 0 v)
+  statement_after (statement.ForInBody t) _ = loop_body t
+  statement_after (statement.Test t) v =
+      completions.◌>>=◌ (decide 0 v) (λ truth. if truth then tested t t.kind else normal)
+  statement_after (statement.Update t) _ = next_turn t
+  statement_after statement.Return v = return_value 0 v
+  statement_after statement.Throw v = throw_value 0 v
+  statement_after (statement.Switch l here) v =
+      completions.◌>>=◌ (select table 0 (plain_forest (view_cases l.now)) v (context here)) (run_clauses l.now here)
+  statement_after (statement.CaseTest v index l here) w =
+      completions.◌>>=◌ (if strictly_equal v w then give (Some index)
+      else select table (index + 1) (plain_forest (view_cases (drop (index + 1) l.now))) v (context here))
+      (run_clauses l.now here)
+
+  abbrev pub completion_after : CompletionFrame → Completion → Part Completion
+  completion_after (completing.Statements rest here) how = if_normal (statements (items_left rest) here) how
+  completion_after (completing.Clauses rest here) how =
+      if_normal (execute_from table (Some 0) (plain_forest (view_cases (items_left rest))) (context here)) how
+  completion_after completing.Switch how = End (after_switch how)
+  completion_after (completing.Labelled x) how = End (after_labelled x.now how)
+  completion_after (completing.LoopBody t) how = after_loop_body t how
+  completion_after (completing.TryBlock h f here) tried =
+      and_then (handle table (plain_optional (view_catch h.now)) tried (context here))
+      (λ handled. ends_as (unless_abrupt handled) (branch f.now here))
+  completion_after (completing.CatchBlock f here) handled = ends_as (unless_abrupt handled) (branch f.now here)
+  completion_after (completing.FinallyBlock before) how = End (unless_abrupt before how)
