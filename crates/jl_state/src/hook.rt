@@ -32,6 +32,13 @@ impl HookId {
         }
     }
 
+    /// The first id of the script's own operations, which a machine that is told by hooks alone doesn't look at.
+    pub fn own() -> HookId
+        ensures { result.id ≡ 0 }
+    {
+        HookId { id: 0 }
+    }
+
     /// The id of the hook's first operation.
     pub fn first(self) -> OpId
         ensures { result ≡ record { 0 = self.id } }
