@@ -1,5 +1,6 @@
 -- A set of kinds grows by those that a rule looks at.
-use Rattle.std.proofs.Common.{◌≡◌, ℕ, zero, suc, ◌+◌, ◌-◌, ◌≤◌, ◌<◌, Bool, true, false, List, [], ◌∷◌, ◌++◌, length, map}
+use Rattle.std.proofs.Common.{◌≡◌, ℕ, zero, suc, ◌+◌, ◌-◌, ◌≤◌, ◌<◌, Bool, true, false, List, [], ◌∷◌, ◌++◌, length}
+use Rattle.std.proofs.Common.{map}
 use Rattle.std.proofs.Common.{Option, None, Some, slice_get, refl, sym, ap, ◌∙◌, subst, arith, take, get_or}
 use Rattle.std.specs.Prelude.{option_map, nat_eq, ◌||◌, ◌&&◌, ◌≢◌, ◌==◌}
 use Rattle.std.specs.List.{list_any}

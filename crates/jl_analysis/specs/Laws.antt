@@ -10,8 +10,8 @@ use Rattle.jl_analysis.specs.Summary.{hits}
 abbrev pub OneName : Type 0
 OneName = (i j : ℕ) (name : List ℕ) → name_at i ≡ Some name → name_at j ≡ Some name → i ≡ j
 
--- Where the operations are kept whose kind a chosen rule looks at, and of the others some or none, a chosen rule hits at
--- those that are kept as it hits at all.
+-- Where the operations are kept whose kind a chosen rule looks at, and of the others some or none, a chosen rule hits
+-- at those that are kept as it hits at all.
 abbrev pub NeededIsEnough : Type 0
 NeededIsEnough =
     (chosen : ℕ → Bool) (kept : OpKind → Bool) → ((kind : OpKind) → is_needed chosen kind ≡ true → kept kind ≡ true)

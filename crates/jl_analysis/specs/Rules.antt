@@ -45,8 +45,8 @@ puts = kinds.PutField ∷ []
 abbrev pub calls : List OpKind
 calls = kinds.InvokePre ∷ []
 
--- the rules in the order of their numbers, which count from 1; typeof-text speaks of neighbours among all operations, and
--- so needs every kind
+-- the rules in the order of their numbers, which count from 1; typeof-text speaks of neighbours among all operations,
+-- and so needs every kind
 unfoldable pub rules : List RuleRow
 rules =
     looks_at_one (codes "nan-made") operators nan_made ∷
@@ -68,7 +68,8 @@ rules =
     looks_at_one (codes "extra-arguments") calls extra_arguments ∷
     looks_at_one (codes "wrapper-made") calls wrapper_made ∷
     looks_at_one (codes "no-radix") calls no_radix ∷
-    looks_back (codes "global-this") (kinds.PutField ∷ kinds.FunctionEnter ∷ kinds.FunctionExit ∷ []) global_this none_entered entered_and_left ∷ []
+    looks_back (codes "global-this") (kinds.PutField ∷ kinds.FunctionEnter ∷ kinds.FunctionExit ∷ []) global_this
+    none_entered entered_and_left ∷ []
 
 -- how many rules there are
 abbrev pub rule_count : ℕ

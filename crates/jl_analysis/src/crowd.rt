@@ -11,8 +11,8 @@ use crate::findings::Findings;
 use jl_op::{Observer, Op, OpId};
 use std::alloc::{AllocError, Global};
 
-/// Boxed checkers, each of which is told of each operation, in their order. Where one of them finds no memory left, `see`
-/// answers so, and so does every later call.
+/// Boxed checkers, each of which is told of each operation, in their order. Where one of them finds no memory left,
+/// `see` answers so, and so does every later call.
 #[derive(Drop)]
 pub struct Crowd {
     boxes: Vec<Box<dyn Analysis>>,
@@ -94,8 +94,8 @@ impl Crowd {
         Crowd { boxes }
     }
 
-    /// Adds a checker, which is told of each operation after those that are there. The error is that no memory was left:
-    /// it hands the box back, and the crowd is as it was.
+    /// Adds a checker, which is told of each operation after those that are there. The error is that no memory was
+    /// left: it hands the box back, and the crowd is as it was.
     pub fn add(&mut self, one: Box<dyn Analysis>) -> Result<(), CrowdRefusal>
         ensures rules { OnOk result (⟦<Crowd as Findings>⟧.rules self.new
             ≡ ⟦<Crowd as Findings>⟧.rules self.old ++ rule_of one ∷ []) }

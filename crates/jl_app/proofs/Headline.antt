@@ -3,7 +3,8 @@ use Rattle.std.proofs.Common.{◌≡◌, ℕ, ◌+◌, ◌-◌, ◌*◌, ◌≤�
 use Rattle.std.proofs.Common.{ap, ◌∙◌, subst, arith}
 use Rattle.std.specs.Prelude.{IfSome}
 use Rattle.jl_port.specs.Bytes.{Grows}
-use Rattle.jl_effects.specs.Running.{any, everything, Finish, Ends, Fails, Over, Spent, IsOver, state_of as world_of, steps_taken}
+use Rattle.jl_effects.specs.Running.{any, everything, Finish, Ends, Fails, Over, Spent, IsOver, state_of as world_of}
+use Rattle.jl_effects.specs.Running.{steps_taken}
 use Rattle.jl_effects.specs.Matching.{SameSeen, Alike, Simulates}
 use Rattle.jl_effects.proofs.Growth.{run_more}
 use Rattle.jl_effects.proofs.Traces.{filter_any}
@@ -16,7 +17,8 @@ use Rattle.jl_app.specs.Places.{places}
 use Rattle.jl_app.specs.Meaning.{script}
 use Rattle.jl_app.specs.Weaving.{woven, hooked_script, hooked_run}
 use Rattle.jl_app.specs.Reporting.{Lines, IsReport, lines_text}
-use Rattle.jl_app.specs.Answers.{Due, budget, woven_budget, own_run_of, own_run, woven_run_of, woven_run, end_text, end_line, run_status}
+use Rattle.jl_app.specs.Answers.{Due, budget, woven_budget, own_run_of, own_run, woven_run_of, woven_run, end_text}
+use Rattle.jl_app.specs.Answers.{end_line, run_status}
 use Rattle.jl_app.specs.Answers.{run_answer, IsLinted, not_yet, ran, IsAnswered, refused, accepted, bad_words}
 use Rattle.jl_app.specs.Answers.{answered_to}
 use Rattle.jl_ast.specs.Tree.{Program}

@@ -1,7 +1,8 @@
 -- The exit statuses.
 use Rattle.std.specs.Prelude.{ℕ}
 use Rattle.jl_app.specs.declared.status.Status.{Status}
-use Rattle.jl_app.specs.declared.status.Status.TheVariants.{Clean, Reports, BadWords, Refused, Thrown, Fault, Spent, ReadFault, WriteFault, NoMemory}
+use Rattle.jl_app.specs.declared.status.Status.TheVariants.{Clean, Reports, BadWords, Refused, Thrown, Fault, Spent}
+use Rattle.jl_app.specs.declared.status.Status.TheVariants.{ReadFault, WriteFault, NoMemory}
 
 abbrev pub code_of : Status → ℕ
 code_of Clean = 0

@@ -1,5 +1,5 @@
--- The scripts that run so far, among the programs: `print(SUM);`, where SUM is made of numbers and of `*`, `/`, `%`, `+`
--- and `-` between them. Brackets and white space leave no node, so they may stand anywhere.
+-- The scripts that run so far, among the programs: `print(SUM);`, where SUM is made of numbers and of `*`, `/`, `%`,
+-- `+` and `-` between them. Brackets and white space leave no node, so they may stand anywhere.
 use Rattle.std.specs.Prelude.{ℕ, false, Option, Some, None, option_map, codes, if◌then◌else◌}
 use Rattle.std.specs.Str.{bytes_eq}
 use Rattle.jl_ast.specs.declared.ops.BinOp.{BinOp}

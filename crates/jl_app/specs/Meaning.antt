@@ -8,7 +8,8 @@ use Rattle.jl_app.specs.declared.tree.Operator.{Operator}
 use Rattle.jl_app.specs.declared.tree.Operator.TheVariants.{Mul, Div, Rem, Add, Sub}
 use Rattle.jl_op.specs.declared.callee.Callee.TheVariants.{Native}
 use Rattle.jl_op.specs.declared.op.Op.{Op}
-use Rattle.jl_op.specs.declared.op.Op.TheVariants.{ScriptEnter, ScriptExit, Literal, Read, Binary, InvokePre, InvokePost}
+use Rattle.jl_op.specs.declared.op.Op.TheVariants.{ScriptEnter, ScriptExit, Literal, Read, Binary, InvokePre}
+use Rattle.jl_op.specs.declared.op.Op.TheVariants.{InvokePost}
 use Rattle.jl_op.specs.Operations.{Operation}
 use Rattle.jl_value.specs.declared.ending.Fault.TheVariants.{NumberOutside}
 use Rattle.jl_value.specs.declared.object.Class.TheVariants.{Primitive, Function}
@@ -70,8 +71,8 @@ or_outside None = Fail NumberOutside
 abbrev pub printed : Number → List ℕ
 printed n = number_text n 10
 
--- what a sum does to give its value, where `before` ids are taken before its own: both operands are evaluated, from left
--- to right, and then the operator is applied (11.5, 11.6)
+-- what a sum does to give its value, where `before` ids are taken before its own: both operands are evaluated, from
+-- left to right, and then the operator is applied (11.5, 11.6)
 abbrev pub value_of : Sum → (before : ℕ) → Part Number
 value_of (number at n) before = Step (Perform (with_id before (Literal (seen n))) (End n))
 value_of (binary at op a b) before = Step do
@@ -80,8 +81,8 @@ value_of (binary at op a b) before = Step do
   z ← or_outside (result_of op x y)
   Perform (with_id before (Binary (in_tree op) (seen x) (seen y) (seen z))) (End z)
 
--- what the call of `print` does, once its argument is evaluated: it is known to be callable, the builtin is entered, its
--- loop has a turn for the one argument, and it returns
+-- what the call of `print` does, once its argument is evaluated: it is known to be callable, the builtin is entered,
+-- its loop has a turn for the one argument, and it returns
 abbrev pub print_call : Number → Part (Unit {0})
 print_call x = Perform (with_id 2 (print_called x)) (steps 2 (Print (printed x) (
     Perform (with_id 3 print_returned) (End tt))))

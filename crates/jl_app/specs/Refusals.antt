@@ -42,10 +42,12 @@ pub data IsRefused (bytes : List ℕ) : Refusal → Type 0 where
       → first_early_error p ≡ Some (early rule s) → IsRefused bytes (refusals.Early rule (position_in bytes s.from))
   -- a name that is left out of the language is used freely
   left_out_name : (p : Program Span) (name : List ℕ) (s : Span) → IsProgram bytes p
-      → first_early_error p ≡ Some (left_out name s) → IsRefused bytes (refusals.LeftOut name (position_in bytes s.from))
+      → first_early_error p ≡ Some (left_out name s) → IsRefused bytes
+      (refusals.LeftOut name (position_in bytes s.from))
   -- `J$`, the name of the hooks, stands as a name or a label
   hooks_name : (p : Program Span) (s : Span) → IsProgram bytes p
-      → first_early_error p ≡ Some (reserved_name s) → IsRefused bytes (refusals.ReservedName (position_in bytes s.from))
+      → first_early_error p ≡ Some (reserved_name s) → IsRefused bytes
+      (refusals.ReservedName (position_in bytes s.from))
 
 abbrev pub kind_word : BadKind → List ℕ
 kind_word kinds.UnclosedText = codes "UnclosedText"

@@ -9,7 +9,8 @@ use Rattle.jl_effects.specs.Effects.{End, Step, Print, Emit, steps, ◌>>=◌}
 use Rattle.jl_app.specs.Form.{in_tree}
 use Rattle.jl_app.specs.Runs.{Part, Outcome, nothing_done, run}
 use Rattle.jl_app.specs.Sums.{Sum, number, binary, parts}
-use Rattle.jl_app.specs.Meaning.{with_id, seen, print_read, print_called, print_returned, result_of, or_outside, printed}
+use Rattle.jl_app.specs.Meaning.{with_id, seen, print_read, print_called, print_returned, result_of, or_outside}
+use Rattle.jl_app.specs.Meaning.{printed}
 
 pub data Hooked : Type 0 where
   -- `J$.T(id, n)`
@@ -47,8 +48,8 @@ hooked_enter = steps 3 (Emit (with_id 0 ScriptEnter) (End tt))
 abbrev pub hooked_callee : Part (Unit {0})
 hooked_callee = steps 6 (Emit (with_id 4 print_read) (Step (End tt)))
 
--- the call that `J$.F` prepared does what the call of `print` does by itself: the builtin is entered, and its loop has a
--- turn for the one argument
+-- the call that `J$.F` prepared does what the call of `print` does by itself: the builtin is entered, and its loop
+-- has a turn for the one argument
 abbrev pub hooked_invoke : Number → Part (Unit {0})
 hooked_invoke x = Emit (with_id 2 (print_called x)) (steps 2 (Print (printed x) (End tt)))
 

@@ -22,8 +22,9 @@ pub fn one_reading()
     ensures { OneReading }
 {}
 
-/// The woven script does what the script does by itself: its runs are over where those are, in the same way and with the
-/// same output, its hooks tell of the script's operations in order, and it takes at most 32 times as many steps and 64.
+/// The woven script does what the script does by itself: its runs are over where those are, in the same way and with
+/// the same output, its hooks tell of the script's operations in order, and it takes at most 32 times as many steps
+/// and 64.
 #[tactic(auto, using(crate::proofs::Headline::script_simulates))]
 pub fn woven_scripts_simulate()
     ensures { (s : Script) → Simulates any (own_run_of s) (woven_run_of s) }

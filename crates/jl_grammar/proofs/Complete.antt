@@ -53,7 +53,8 @@ use Rattle.jl_grammar.proofs.Expressions as expressions
 use Rattle.jl_grammar.proofs.Levels.{height_pos, statement_pos, joined_height, target_height, left_conditional}
 use Rattle.jl_grammar.proofs.Levels.{room_is, left_expression, deeper_expression, deeper_assignment, deeper_unary}
 use Rattle.jl_grammar.proofs.Levels.{deeper_binary, deeper_member, deeper_statement, deeper_rest}
-use Rattle.jl_grammar.proofs.Opened.{after, after_identifier, after_key, after_infix_operator, after_assign, after_prefix}
+use Rattle.jl_grammar.proofs.Opened.{after, after_identifier, after_key, after_infix_operator, after_assign}
+use Rattle.jl_grammar.proofs.Opened.{after_prefix}
 use Rattle.jl_grammar.proofs.Opened.{after_update}
 use Rattle.jl_grammar.proofs.Progress.{names_goes, items_goes, entries_goes, entry_goes, rest_goes, ends_at_goes}
 use Rattle.jl_grammar.proofs.Progress.{argument_list_goes, assignment_goes, expression_goes, statement_goes}

@@ -16,8 +16,10 @@ use Rattle.jl_grammar.specs.Brackets.{bracket, opened}
 use Rattle.jl_grammar.specs.Laws.{IsAlone, DirectivesAreAlone}
 use Rattle.jl_grammar.specs.Next.{continues_at, continues_left, is_comma, is_directive, is_identifier, is_question}
 use Rattle.jl_grammar.specs.Next.{is_string, updates_at}
-use Rattle.jl_grammar.specs.Operators.{InfixOperator, both, either, infix_node, plain, assigns, continues, infix_operator, infix_precedence_of}
-use Rattle.jl_grammar.specs.Reads.{Expr, Stmt, EndsAt, ReadsPrimary, BeginsBinary, ReadsExpression, ReadsStatement, primary}
+use Rattle.jl_grammar.specs.Operators.{InfixOperator, both, either, infix_node, plain, assigns, continues}
+use Rattle.jl_grammar.specs.Operators.{infix_operator, infix_precedence_of}
+use Rattle.jl_grammar.specs.Reads.{Expr, Stmt, EndsAt, ReadsPrimary, BeginsBinary, ReadsExpression, ReadsStatement}
+use Rattle.jl_grammar.specs.Reads.{primary}
 use Rattle.jl_grammar.specs.Reads.{whole_left, left, a_postfix, postfix}
 use Rattle.jl_grammar.specs.Reads.{a_prefix, an_update, operand, tighter, an_infix_operator, whole_binary, operands}
 use Rattle.jl_grammar.specs.Reads.{a_conditional, conditional, an_assignment, assignment, a_comma, whole_expression}

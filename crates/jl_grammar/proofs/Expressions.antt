@@ -18,7 +18,8 @@ use Rattle.jl_grammar.specs.declared.word.Word.TheVariants as words
 use Rattle.jl_grammar.specs.Next.{open_paren, close_paren, open_bracket, close_bracket, open_brace, close_brace}
 use Rattle.jl_grammar.specs.Next.{dot_terminal, comma, colon, question, keyword, is_identifier, is_name, is_key}
 use Rattle.jl_grammar.specs.Next.{is_open_paren, is_comma, is_colon, is_question, continues_left, updates_at}
-use Rattle.jl_grammar.specs.Operators.{InfixOperator, plain, both, either, level, infix_operator, infix_node, infix_precedence, infix_precedence_of}
+use Rattle.jl_grammar.specs.Operators.{InfixOperator, plain, both, either, level, infix_operator, infix_node}
+use Rattle.jl_grammar.specs.Operators.{infix_precedence, infix_precedence_of}
 use Rattle.jl_grammar.specs.Operators.{continues, assign_operator, assigns, unary_operator, update_operator}
 use Rattle.jl_grammar.specs.Reads.{Expr, Exprs, Code, JoinsAt, AssignsAt, PrefixAt, UpdateAt, IsTarget}
 use Rattle.jl_grammar.specs.Tokens.{At, Is, terminal_at, line_at, text_at, number_at, span, ident_at, key_ident_at}

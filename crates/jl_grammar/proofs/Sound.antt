@@ -29,9 +29,12 @@ use Rattle.jl_grammar.specs.Reader.{catch_at, finally_from, try_at, named_at, st
 use Rattle.jl_grammar.specs.Reader.{Deeper}
 use Rattle.jl_grammar.specs.Tokens.{At, terminal_at, line_at, span}
 use Rattle.jl_grammar.proofs.Holds.{Holds, nothing, just, after, weaken, test, when_true, both_true}
-use Rattle.jl_grammar.proofs.Holds.{close_paren_terminal, close_brace_terminal, open_paren_terminal, open_brace_terminal}
-use Rattle.jl_grammar.proofs.Holds.{semicolon_terminal, comma_terminal, colon_terminal, equals_terminal, else_terminal, finally_terminal}
-use Rattle.jl_grammar.proofs.Holds.{not_true, while_terminal, in_terminal, var_terminal, case_terminal, default_terminal, catch_terminal}
+use Rattle.jl_grammar.proofs.Holds.{close_paren_terminal, close_brace_terminal, open_paren_terminal}
+use Rattle.jl_grammar.proofs.Holds.{open_brace_terminal}
+use Rattle.jl_grammar.proofs.Holds.{semicolon_terminal, comma_terminal, colon_terminal, equals_terminal}
+use Rattle.jl_grammar.proofs.Holds.{else_terminal, finally_terminal}
+use Rattle.jl_grammar.proofs.Holds.{not_true, while_terminal, in_terminal, var_terminal, case_terminal}
+use Rattle.jl_grammar.proofs.Holds.{default_terminal, catch_terminal}
 use Rattle.jl_grammar.proofs.SoundExpressions.{fits, left_of_expression, named, Sound, no_line, ends_sound}
 use Rattle.jl_grammar.proofs.SoundExpressions.{statements_sound, block_sound, rest_sound, left_sound, unary_sound}
 use Rattle.jl_grammar.proofs.SoundExpressions.{binary_sound, assignment_sound, expression_sound}

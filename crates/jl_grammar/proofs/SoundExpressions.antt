@@ -33,7 +33,8 @@ use Rattle.jl_grammar.specs.Reads.{ReadsBody, a_directive, no_directive}
 use Rattle.jl_grammar.specs.Next.{keyword, is_identifier, is_name, is_key, is_open_paren, is_open_brace, is_string}
 use Rattle.jl_grammar.specs.Next.{is_semicolon, is_comma, is_colon, is_question, ends_statement, ends_list}
 use Rattle.jl_grammar.specs.Next.{continues_at, continues_left, is_directive, target_of}
-use Rattle.jl_grammar.specs.Operators.{InfixOperator, plain, both, either, infix_operator, infix_node, infix_precedence, infix_precedence_of}
+use Rattle.jl_grammar.specs.Operators.{InfixOperator, plain, both, either, infix_operator, infix_node}
+use Rattle.jl_grammar.specs.Operators.{infix_precedence, infix_precedence_of}
 use Rattle.jl_grammar.specs.Operators.{continues, assign_operator, unary_operator, update_operator}
 use Rattle.jl_grammar.specs.Reader.{is_close_paren, is_close_bracket, is_close_brace, is_function, is_new, name_of}
 use Rattle.jl_grammar.specs.Reader.{with_directive, ends_at, names_from, parameters_at, closed, statements_from}
@@ -46,8 +47,10 @@ use Rattle.jl_grammar.specs.Reader.{comma_from, expression_at, made, Read, Deepe
 use Rattle.jl_grammar.specs.Tokens.{At, Is, terminal_at, line_at, strict_at, span}
 use Rattle.jl_grammar.proofs.Expressions.{some_looseness}
 use Rattle.jl_grammar.proofs.Holds.{Holds, nothing, just, after, weaken, test, when_true, both_true, told}
-use Rattle.jl_grammar.proofs.Holds.{close_paren_terminal, close_bracket_terminal, close_brace_terminal, open_paren_terminal}
-use Rattle.jl_grammar.proofs.Holds.{open_brace_terminal, semicolon_terminal, comma_terminal, colon_terminal, question_terminal}
+use Rattle.jl_grammar.proofs.Holds.{close_paren_terminal, close_bracket_terminal, close_brace_terminal}
+use Rattle.jl_grammar.proofs.Holds.{open_paren_terminal}
+use Rattle.jl_grammar.proofs.Holds.{open_brace_terminal, semicolon_terminal, comma_terminal, colon_terminal}
+use Rattle.jl_grammar.proofs.Holds.{question_terminal}
 use Rattle.jl_grammar.proofs.Holds.{function_terminal, new_terminal, string_terminal, not_true}
 
 -- what holds of what a node comes to, if it is made

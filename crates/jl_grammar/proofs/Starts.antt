@@ -16,7 +16,8 @@ use Rattle.jl_grammar.specs.Reads.{in_parens, a_function, a_named_function, Read
 use Rattle.jl_grammar.specs.Reads.{ReadsRest, a_rest, BeginsLeft, primary, a_dot, an_index, a_call, a_new}
 use Rattle.jl_grammar.specs.Reads.{a_bare_new, ReadsLeft, whole_left, ReadsArgumentList, last_argument}
 use Rattle.jl_grammar.specs.Reads.{more_arguments, ReadsPostfix, left, a_postfix, ReadsUnary, postfix, a_prefix}
-use Rattle.jl_grammar.specs.Reads.{an_update, BeginsBinary, operand, tighter, an_infix_operator, ReadsBinary, whole_binary}
+use Rattle.jl_grammar.specs.Reads.{an_update, BeginsBinary, operand, tighter, an_infix_operator, ReadsBinary}
+use Rattle.jl_grammar.specs.Reads.{whole_binary}
 use Rattle.jl_grammar.specs.Reads.{ReadsConditional, operands, a_conditional, ReadsAssignment, conditional}
 use Rattle.jl_grammar.specs.Reads.{an_assignment, BeginsExpression, assignment, a_comma, ReadsExpression}
 use Rattle.jl_grammar.specs.Reads.{whole_expression, ReadsStatement, a_block, a_var, an_empty, an_expression}

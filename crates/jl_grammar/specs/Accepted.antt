@@ -21,4 +21,5 @@ pub record Accepted (is_legal : Program Span → Bool) (bytes : List ℕ) (p : P
 
 -- bytes are accepted as one program at most
 abbrev pub OneAccepted : Type 0
-OneAccepted = (is_legal : Program Span → Bool) (bytes : List ℕ) (p q : Program Span) → Accepted is_legal bytes p → Accepted is_legal bytes q → p ≡ q
+OneAccepted = (is_legal : Program Span → Bool) (bytes : List ℕ) (p q : Program Span) → Accepted is_legal bytes p
+    → Accepted is_legal bytes q → p ≡ q

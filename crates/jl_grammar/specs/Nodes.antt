@@ -1,5 +1,5 @@
--- How many expressions, functions and `catch` clauses there are in a tree (clauses 11, 13 and 12.14): each counts one and
--- its parts, but a function expression and its function are one; any other part counts its parts alone.
+-- How many expressions, functions and `catch` clauses there are in a tree (clauses 11, 13 and 12.14): each counts one
+-- and its parts, but a function expression and its function are one; any other part counts its parts alone.
 use Rattle.std.specs.Prelude.{ℕ, ◌+◌}
 use Rattle.jl_ast.specs.Tree.{Sort, Tree, Forest, OptionalTree, this, name, number, string, boolean, null, array}
 use Rattle.jl_ast.specs.Tree.{object, function_expression, dot, index, call, new, unary, update, binary, and, or}

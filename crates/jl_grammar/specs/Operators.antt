@@ -128,7 +128,8 @@ infix_precedence_of (Some o) = infix_precedence o
 
 -- the tokens that continue infix operators as loose as l
 abbrev pub continues : Bool → ℕ → Terminal → Bool
-continues no_in l k = nat_le 1 (infix_precedence_of (infix_operator no_in k)) && nat_le (infix_precedence_of (infix_operator no_in k)) l
+continues no_in l k =
+    nat_le 1 (infix_precedence_of (infix_operator no_in k)) && nat_le (infix_precedence_of (infix_operator no_in k)) l
 
 abbrev pub assigns : Terminal → Bool
 assigns k = is_some (assign_operator k)

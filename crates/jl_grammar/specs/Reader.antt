@@ -18,7 +18,8 @@ use Rattle.jl_grammar.specs.declared.word.Word.TheVariants as words
 use Rattle.jl_grammar.specs.Next.{is_identifier, is_name, is_key, is_open_paren, is_open_brace, is_semicolon}
 use Rattle.jl_grammar.specs.Next.{is_comma, is_colon, is_question, is_equals, is_else, is_finally, ends_statement}
 use Rattle.jl_grammar.specs.Next.{ends_list, continues_left, is_directive, target_of}
-use Rattle.jl_grammar.specs.Operators.{InfixOperator, infix_operator, infix_node, infix_precedence, continues, assign_operator, unary_operator}
+use Rattle.jl_grammar.specs.Operators.{InfixOperator, infix_operator, infix_node, infix_precedence, continues}
+use Rattle.jl_grammar.specs.Operators.{assign_operator, unary_operator}
 use Rattle.jl_grammar.specs.Operators.{update_operator}
 use Rattle.jl_grammar.specs.Brackets.{opened}
 use Rattle.jl_grammar.specs.Program.{program_of}
@@ -188,7 +189,8 @@ module _ (ts : List Token) (d : Deeper) where
       if is_identifier (terminal_at ts (suc i))
       then (rest_at (suc (suc i)) >>= λ r.
       made (d.room i)
-      (tree.function_expression (tree.function 0 (Some (ident_at ts (suc i))) r.0.0 r.0.1 (span ts i r.1)) (span ts i r.1))
+      (tree.function_expression (tree.function 0 (Some (ident_at ts (suc i))) r.0.0 r.0.1 (span ts i r.1))
+      (span ts i r.1))
       r.1 done)
       else (rest_at (suc i) >>= λ r.
       made (d.room i)
@@ -299,10 +301,12 @@ module _ (ts : List Token) (d : Deeper) where
 
   unfoldable pub left_by : Bool → (Expr → ℕ → Read Expr) → ℕ → Expr → ℕ → Terminal → Read Expr
   left_by calls go i t j (terminals.Punct puncts.Dot) =
-      if is_name (terminal_at ts (suc j)) then made (d.room i) (tree.dot t (text_at ts (suc j)) (span ts i (suc (suc j))))
+      if is_name (terminal_at ts (suc j)) then made (d.room i)
+      (tree.dot t (text_at ts (suc j)) (span ts i (suc (suc j))))
       (suc (suc j)) go else None
   left_by calls go i t j (terminals.Punct puncts.LeftBracket) = d.expression false (suc j) >>= λ x.
-      if is_close_bracket (terminal_at ts x.1) then made (d.room i) (tree.index t x.0 (span ts i (suc x.1))) (suc x.1) go
+      if is_close_bracket (terminal_at ts x.1) then made (d.room i) (tree.index t x.0 (span ts i (suc x.1))) (suc x.1)
+      go
       else None
   left_by true go i t j (terminals.Punct puncts.LeftParen) = arguments_at (suc j) >>= λ x.
       made (d.room i) (tree.call t x.0 (span ts i x.1)) x.1 go
@@ -317,16 +321,19 @@ module _ (ts : List Token) (d : Deeper) where
   left_at calls n i = start_at i >>= λ x. left_from calls n i x.0 x.1
 
   unfoldable pub postfix_by : ℕ → Expr → ℕ → Option Bool → Bool → Read Expr
-  postfix_by i t j (Some up) false = target_of t >>= λ g. made (d.room i) (tree.update up false g (span ts i (suc j))) (suc j) done
+  postfix_by i t j (Some up) false =
+      target_of t >>= λ g. made (d.room i) (tree.update up false g (span ts i (suc j))) (suc j) done
   postfix_by i t j _ _ = Some (t, j)
 
   unfoldable pub postfix_at : ℕ → ℕ → Read Expr
-  postfix_at n i = left_at true n i >>= λ x. postfix_by i x.0 x.1 (update_operator (terminal_at ts x.1)) (line_at ts x.1)
+  postfix_at n i =
+      left_at true n i >>= λ x. postfix_by i x.0 x.1 (update_operator (terminal_at ts x.1)) (line_at ts x.1)
 
   unfoldable pub unary_by : ℕ → ℕ → Option UnOp → Option Bool → Read Expr
   unary_by n i (Some op) up = d.unary (suc i) >>= λ x. made (d.room i) (tree.unary op x.0 (span ts i x.1)) x.1 done
   unary_by n i None (Some up) =
-      left_at true n (suc i) >>= λ x. target_of x.0 >>= λ g. made (d.room i) (tree.update up true g (span ts i x.1)) x.1 done
+      left_at true n (suc i) >>= λ x. target_of x.0 >>= λ g. made (d.room i) (tree.update up true g (span ts i x.1))
+      x.1 done
   unary_by n i None None = postfix_at n i
 
   unfoldable pub unary_at : ℕ → ℕ → Read Expr
@@ -343,7 +350,8 @@ module _ (ts : List Token) (d : Deeper) where
   -- goes on with infix operators as loose as m, with at most n more operands
   unfoldable pub binary_from : Bool → ℕ → ℕ → ℕ → Expr → ℕ → Read Expr
   binary_from no_in zero m i t j = if continues no_in m (terminal_at ts j) then None else Some (t, j)
-  binary_from no_in (suc n) m i t j = binary_by no_in (binary_from no_in n m i) m i t j (infix_operator no_in (terminal_at ts j))
+  binary_from no_in (suc n) m i t j =
+      binary_by no_in (binary_from no_in n m i) m i t j (infix_operator no_in (terminal_at ts j))
 
   unfoldable pub binary_at : Bool → ℕ → ℕ → ℕ → Read Expr
   binary_at no_in n m i = unary_at n i >>= λ x. binary_from no_in n m i x.0 x.1
@@ -353,7 +361,8 @@ module _ (ts : List Token) (d : Deeper) where
       if is_question (terminal_at ts x.1)
       then (d.assignment false (suc x.1) >>= λ a.
       if is_colon (terminal_at ts a.1)
-      then (d.assignment no_in (suc a.1) >>= λ b. made (d.room i) (tree.conditional x.0 a.0 b.0 (span ts i b.1)) b.1 done)
+      then (d.assignment no_in (suc a.1) >>= λ b. made (d.room i) (tree.conditional x.0 a.0 b.0 (span ts i b.1)) b.1
+      done)
       else None)
       else Some x
 
@@ -363,7 +372,8 @@ module _ (ts : List Token) (d : Deeper) where
   unfoldable pub assignment_by : Bool → ℕ → Expr → ℕ → Option (Option BinOp) → Read Expr
   assignment_by no_in i t j None = Some (t, j)
   assignment_by no_in i t j (Some op) =
-      target_of t >>= λ g. d.assignment no_in (suc j) >>= λ v. made (d.room i) (tree.assign op g v.0 (span ts i v.1)) v.1 done
+      target_of t >>= λ g. d.assignment no_in (suc j) >>= λ v. made (d.room i) (tree.assign op g v.0 (span ts i v.1))
+      v.1 done
 
   unfoldable pub assignment_at : Bool → ℕ → ℕ → Read Expr
   assignment_at no_in n i = conditional_at no_in n i >>= λ x.
@@ -409,12 +419,14 @@ module _ (ts : List Token) (d : Deeper) where
       made (d.room i) (tree.var x.0 (span ts i k)) k done
 
   unfoldable pub express_at : ℕ → Read Stmt
-  express_at i = d.expression false i >>= λ x. ends_at ts x.1 >>= λ k. made (d.room i) (tree.expression x.0 (span ts i k)) k done
+  express_at i =
+      d.expression false i >>= λ x. ends_at ts x.1 >>= λ k. made (d.room i) (tree.expression x.0 (span ts i k)) k done
 
   unfoldable pub else_from : ℕ → Expr → Stmts × ℕ → Read Stmt
   else_from i t x =
       if is_else (terminal_at ts x.1)
-      then (sub_at (suc x.1) >>= λ y. made (d.room i) (tree.if_else t x.0 (tree.present (tree.branch_of y.0)) (span ts i y.1)) y.1 done)
+      then (sub_at (suc x.1) >>= λ y. made (d.room i)
+      (tree.if_else t x.0 (tree.present (tree.branch_of y.0)) (span ts i y.1)) y.1 done)
       else made (d.room i) (tree.if_else t x.0 tree.absent (span ts i x.1)) x.1 done
 
   unfoldable pub if_at : ℕ → Read Stmt
@@ -423,11 +435,13 @@ module _ (ts : List Token) (d : Deeper) where
   unfoldable pub do_at : ℕ → Read Stmt
   do_at i = sub_at (suc i) >>= λ x.
       if is_while (terminal_at ts x.1)
-      then (head_at (suc x.1) >>= λ t. ends_at ts t.1 >>= λ k. made (d.room i) (tree.do_while x.0 t.0 (span ts i k)) k done)
+      then (head_at (suc x.1) >>= λ t. ends_at ts t.1 >>= λ k. made (d.room i) (tree.do_while x.0 t.0 (span ts i k)) k
+      done)
       else None
 
   unfoldable pub while_at : ℕ → Read Stmt
-  while_at i = head_at (suc i) >>= λ t. sub_at t.1 >>= λ x. made (d.room i) (tree.while t.0 x.0 (span ts i x.1)) x.1 done
+  while_at i =
+      head_at (suc i) >>= λ t. sub_at t.1 >>= λ x. made (d.room i) (tree.while t.0 x.0 (span ts i x.1)) x.1 done
 
   -- an expression, or none before a token that passes the test
   unfoldable pub optional_at : (Terminal → Bool) → ℕ → Read (OptionalTree Span tree.expr)
@@ -510,7 +524,8 @@ module _ (ts : List Token) (d : Deeper) where
   unfoldable pub switch_at : ℕ → Read Stmt
   switch_at i = head_at (suc i) >>= λ t. if is_open_brace (terminal_at ts t.1)
       then (clauses_from (length ts) true (suc t.1) >>= λ c.
-      if is_close_brace (terminal_at ts c.1) then made (d.room i) (tree.switch t.0 c.0 (span ts i (suc c.1))) (suc c.1) done else None)
+      if is_close_brace (terminal_at ts c.1) then made (d.room i) (tree.switch t.0 c.0 (span ts i (suc c.1)))
+      (suc c.1) done else None)
       else None
 
   unfoldable pub catch_at : ℕ → Read (Tree Span tree.handler)
@@ -523,25 +538,29 @@ module _ (ts : List Token) (d : Deeper) where
   unfoldable pub finally_from : ℕ → Stmts → Tree Span tree.handler × ℕ → Read Stmt
   finally_from i ws h =
       if is_finally (terminal_at ts h.1)
-      then (block_at (suc h.1) >>= λ u. made (d.room i) (tree.try ws (tree.present h.0) (tree.present (tree.branch_of u.0)) (span ts i u.1)) u.1 done)
+      then (block_at (suc h.1) >>= λ u. made (d.room i)
+      (tree.try ws (tree.present h.0) (tree.present (tree.branch_of u.0)) (span ts i u.1)) u.1 done)
       else made (d.room i) (tree.try ws (tree.present h.0) tree.absent (span ts i h.1)) h.1 done
 
   unfoldable pub try_at : ℕ → Read Stmt
   try_at i = block_at (suc i) >>= λ x. if is_catch (terminal_at ts x.1)
       then (catch_at x.1 >>= finally_from i x.0)
       else (if is_finally (terminal_at ts x.1)
-      then (block_at (suc x.1) >>= λ u. made (d.room i) (tree.try x.0 tree.absent (tree.present (tree.branch_of u.0)) (span ts i u.1)) u.1 done)
+      then (block_at (suc x.1) >>= λ u. made (d.room i)
+      (tree.try x.0 tree.absent (tree.present (tree.branch_of u.0)) (span ts i u.1)) u.1 done)
       else None)
 
   -- a statement that begins with an identifier
   unfoldable pub named_at : ℕ → Read Stmt
   named_at i =
       if is_colon (terminal_at ts (suc i))
-      then (d.statement (suc (suc i)) >>= λ w. made (d.room i) (tree.labelled (ident_at ts i) w.0 (span ts i w.1)) w.1 done)
+      then (d.statement (suc (suc i)) >>= λ w. made (d.room i) (tree.labelled (ident_at ts i) w.0 (span ts i w.1)) w.1
+      done)
       else express_at i
 
   unfoldable pub statement_by : ℕ → Terminal → Read Stmt
-  statement_by i (terminals.Punct puncts.LeftBrace) = block_at i >>= λ x. made (d.room i) (tree.block x.0 (span ts i x.1)) x.1 done
+  statement_by i (terminals.Punct puncts.LeftBrace) =
+      block_at i >>= λ x. made (d.room i) (tree.block x.0 (span ts i x.1)) x.1 done
   statement_by i (terminals.Word words.Var) = var_at i
   statement_by i (terminals.Punct puncts.Semicolon) = Some (tree.empty (span ts i (suc i)), suc i)
   statement_by i (terminals.Word words.If) = if_at i
@@ -585,8 +604,10 @@ deeper ts brackets zero = record {
 }
 deeper ts brackets (suc f) = record {
   room = λ i. room_at ts brackets (suc f) i;
-  expression = λ no_in i. where_room (room_at ts brackets (suc f) i) (expression_at ts (deeper ts brackets f) no_in f i);
-  assignment = λ no_in i. where_room (room_at ts brackets (suc f) i) (assignment_at ts (deeper ts brackets f) no_in f i);
+  expression =
+      λ no_in i. where_room (room_at ts brackets (suc f) i) (expression_at ts (deeper ts brackets f) no_in f i);
+  assignment =
+      λ no_in i. where_room (room_at ts brackets (suc f) i) (assignment_at ts (deeper ts brackets f) no_in f i);
   unary = λ i. where_room (room_at ts brackets (suc f) i) (unary_at ts (deeper ts brackets f) f i);
   binary = λ no_in m i. where_room (room_at ts brackets (suc f) i) (binary_at ts (deeper ts brackets f) no_in f m i);
   member = λ i. where_room (room_at ts brackets (suc f) i) (left_at ts (deeper ts brackets f) false f i);

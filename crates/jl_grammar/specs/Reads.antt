@@ -11,7 +11,8 @@ use Rattle.jl_token.specs.declared.token.Token.{Token}
 use Rattle.jl_grammar.specs.declared.terminal.Terminal.{Terminal}
 use Rattle.jl_grammar.specs.declared.terminal.Terminal.TheVariants as terminals
 use Rattle.jl_grammar.specs.declared.word.Word.TheVariants as words
-use Rattle.jl_grammar.specs.Operators.{InfixOperator, infix_operator, infix_node, infix_precedence, continues, assign_operator, assigns}
+use Rattle.jl_grammar.specs.Operators.{InfixOperator, infix_operator, infix_node, infix_precedence, continues}
+use Rattle.jl_grammar.specs.Operators.{assign_operator, assigns}
 use Rattle.jl_grammar.specs.Operators.{unary_operator, update_operator}
 use Rattle.jl_grammar.specs.Tokens.{At, Is, terminal_at, line_at, text_at, number_at, strict_at, span, ident_at}
 use Rattle.jl_grammar.specs.Tokens.{key_ident_at}
@@ -60,7 +61,8 @@ pub record IsTarget (t : Expr) (g : Tree Span tree.target) : Type 0 where
 -- the semicolon of a statement: it is there, or it is inserted (7.9.1) at the end, before a `}` or where a line ends
 pub data EndsAt (ts : List Token) : ℕ → ℕ → Type 0 where
   there : {i : ℕ} → At ts i semicolon → EndsAt ts i (suc i)
-  inserted : {i : ℕ} → is_semicolon (terminal_at ts i) ≡ false → (ends_statement (terminal_at ts i) || line_at ts i) ≡ true
+  inserted : {i : ℕ} → is_semicolon (terminal_at ts i) ≡ false → (ends_statement (terminal_at ts i) || line_at ts i) ≡
+      true
       → EndsAt ts i i
 
 -- FormalParameterList (clause 13), of which there is one
@@ -152,7 +154,8 @@ mutual
   pub data BeginsLeft (ts : List Token) : Bool → ℕ → Expr → ℕ → Type 0 where
     primary : {calls : Bool} {i j : ℕ} {t : Expr} → ReadsPrimary ts i t j → BeginsLeft ts calls i t j
     -- MemberExpression . IdentifierName, CallExpression . IdentifierName (11.2.1)
-    a_dot : {calls : Bool} {i j : ℕ} {t : Expr} → BeginsLeft ts calls i t j → At ts j dot_terminal → Is is_name ts (suc j)
+    a_dot : {calls : Bool} {i j : ℕ} {t : Expr} → BeginsLeft ts calls i t j → At ts j dot_terminal → Is is_name ts
+        (suc j)
         → BeginsLeft ts calls i (tree.dot t (text_at ts (suc j)) (span ts i (suc (suc j)))) (suc (suc j))
     -- MemberExpression [ Expression ], CallExpression [ Expression ] (11.2.1)
     an_index : {calls : Bool} {i j k : ℕ} {t u : Expr} → BeginsLeft ts calls i t j → At ts j open_bracket
@@ -201,14 +204,16 @@ mutual
     an_update : {i j : ℕ} {t : Expr} {g : Tree Span tree.target} {up : Bool} → UpdateAt ts i up
         → ReadsLeft ts true (suc i) t j → IsTarget t g → ReadsUnary ts i (tree.update up true g (span ts i j)) j
 
-  -- operands with infix operators as loose as l (11.5 to 11.11): MultiplicativeExpression with 1, AdditiveExpression with 2,
-  -- ShiftExpression 3, RelationalExpression 4, EqualityExpression 5, BitwiseANDExpression 6, BitwiseXORExpression 7,
-  -- BitwiseORExpression 8, LogicalANDExpression 9, LogicalORExpression 10; with no_in they are those without `in`
+  -- operands with infix operators as loose as l (11.5 to 11.11): MultiplicativeExpression with 1, AdditiveExpression
+  -- with 2, ShiftExpression 3, RelationalExpression 4, EqualityExpression 5, BitwiseANDExpression 6,
+  -- BitwiseXORExpression 7, BitwiseORExpression 8, LogicalANDExpression 9, LogicalORExpression 10; with no_in they
+  -- are those without `in`
   pub data BeginsBinary (ts : List Token) : Bool → ℕ → ℕ → Expr → ℕ → Type 0 where
     operand : {no_in : Bool} {i j : ℕ} {t : Expr} → ReadsUnary ts i t j → BeginsBinary ts no_in zero i t j
     tighter : {no_in : Bool} {l i j : ℕ} {t : Expr} → ReadsBinary ts no_in l i t j
         → BeginsBinary ts no_in (suc l) i t j
-    an_infix_operator : {no_in : Bool} {l i j k : ℕ} {a b : Expr} {op : InfixOperator} → BeginsBinary ts no_in (suc l) i a j
+    an_infix_operator : {no_in : Bool} {l i j k : ℕ} {a b : Expr} {op : InfixOperator} → BeginsBinary ts no_in (suc l)
+        i a j
         → JoinsAt ts no_in j op → infix_precedence op ≡ suc l → ReadsBinary ts no_in l (suc j) b k
         → BeginsBinary ts no_in (suc l) i (infix_node op a b (span ts i k)) k
 

@@ -1,5 +1,5 @@
-//! Lexes the script that it reads from standard input as often as its one argument says, and prints how many tokens it has
-//! or where it is refused. `bench/lexing.py` takes the times.
+//! Lexes the script that it reads from standard input as often as its one argument says, and prints how many tokens
+//! it has or where it is refused. `bench/lexing.py` takes the times.
 #![tactic(auto)]
 
 use anyhow::{Result, bail};

@@ -1,5 +1,6 @@
 -- The token at a place, as a slice has it.
-use Rattle.std.proofs.Common.{◌≡◌, ℕ, zero, suc, ◌+◌, ◌-◌, ◌≤◌, ◌<◌, ◌⊎◌, inl, inr, ◌++◌, List, [], ◌∷◌, length, map, get_or, refl, ap, ap₂}
+use Rattle.std.proofs.Common.{◌≡◌, ℕ, zero, suc, ◌+◌, ◌-◌, ◌≤◌, ◌<◌, ◌⊎◌, inl, inr, ◌++◌, List, [], ◌∷◌, length, map}
+use Rattle.std.proofs.Common.{get_or, refl, ap, ap₂}
 use Rattle.std.proofs.Common.{◌∙◌, Bool, true, false, ◌&&◌, arith}
 use Rattle.std.proofs.Common.{subst, sym, length-append}
 use Rattle.std.proofs.lemmas.Bool.{cases_lt}

@@ -14,8 +14,10 @@ use Rattle.jl_ast.specs.View.{view_expression, view_expressions, view_items}
 use Rattle.jl_grammar.specs.declared.terminal.Terminal.{Terminal}
 use Rattle.jl_grammar.specs.declared.terminal.Terminal.TheVariants as terminals
 use Rattle.jl_grammar.specs.Next.{is_comma, is_name, continues_left}
-use Rattle.jl_grammar.specs.Operators.{InfixOperator, infix_operator, infix_node, infix_precedence, infix_precedence_of, continues}
-use Rattle.jl_grammar.specs.Reader.{Read, Deeper, ◌>>=◌, done, made, is_close_paren, is_close_bracket, comma_from, binary_from}
+use Rattle.jl_grammar.specs.Operators.{InfixOperator, infix_operator, infix_node, infix_precedence}
+use Rattle.jl_grammar.specs.Operators.{infix_precedence_of, continues}
+use Rattle.jl_grammar.specs.Reader.{Read, Deeper, ◌>>=◌, done, made, is_close_paren, is_close_bracket, comma_from}
+use Rattle.jl_grammar.specs.Reader.{binary_from}
 use Rattle.jl_grammar.specs.Reader.{binary_by, left_from, left_by, items_from, arguments_at, arguments_from}
 use Rattle.jl_grammar.specs.Reads.{Expr, Exprs}
 use Rattle.jl_grammar.specs.Tokens.{terminal_at, text_at, span}

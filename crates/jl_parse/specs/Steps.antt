@@ -1,5 +1,6 @@
 -- What the parser's functions answer, by the reader of jl_grammar. A step of the proof: no public clause cites it.
-use Rattle.std.specs.Prelude.{◌≡◌, ℕ, zero, suc, Bool, true, false, ◌&&◌, List, [], ◌∷◌, ◌++◌, length, map, Option, Some, None, Result, Ok, Err}
+use Rattle.std.specs.Prelude.{◌≡◌, ℕ, zero, suc, Bool, true, false, ◌&&◌, List, [], ◌∷◌, ◌++◌, length, map, Option}
+use Rattle.std.specs.Prelude.{Some, None, Result, Ok, Err}
 use Rattle.std.specs.Prelude.{if◌then◌else◌}
 use Rattle.std.specs.Global.{Global}
 use Rattle.std.specs.declared.boxed.Box.{Box}
@@ -58,7 +59,8 @@ within ts depth = deeper ts depth.brackets depth.levels
 
 -- the answer is this expression from place i to place j, if it is low enough
 abbrev pub MakesExpression : List Token → Depth → ℕ → ℕ → (Span → Expr) → Result (Box CodeExpr Global × ℕ) Stop → Type 0
-MakesExpression ts depth i j t result = GivesExpression result (made ((within ts depth).room i) (t (span ts i j)) j done)
+MakesExpression ts depth i j t result =
+    GivesExpression result (made ((within ts depth).room i) (t (span ts i j)) j done)
 
 -- the answer is this statement from place i to place j, if it is low enough
 abbrev pub MakesStatement : List Token → Depth → ℕ → ℕ → (Span → Stmt) → Result (CodeStmt × ℕ) Stop → Type 0

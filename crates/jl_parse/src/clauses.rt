@@ -56,7 +56,8 @@ fn clause(alloc: Global, tokens: &Tokens, depth: Depth, fresh: bool, at: usize) 
 #[cycle(parser)]
 #[tactic(auto, using(crate::proofs::Lists::clauses_loop))]
 fn clauses(alloc: Global, tokens: &Tokens, depth: Depth, at: usize) -> Read<Part<List<Case>>>
-    ensures { Gives (λ x. (view_cases x.0, x.1)) result (clauses_from tokens.now (within tokens.now depth) (length tokens.now) true at) }
+    ensures { Gives (λ x. (view_cases x.0, x.1)) result
+        (clauses_from tokens.now (within tokens.now depth) (length tokens.now) true at) }
 {
     let mut clauses = Part::flat(List::new(alloc));
     let mut fresh = true;
@@ -102,7 +103,8 @@ pub fn switch_statement(alloc: Global, tokens: &Tokens, depth: Depth, at: usize)
 #[tactic(auto, unfolding(jl_grammar::specs::Reader::catch_at))]
 fn catch(alloc: Global, tokens: &Tokens, depth: Depth, at: usize) -> Read<Part<(Ident, List<Stmt>)>>
     requires { is_end (terminal_at tokens.now at) ≡ false }
-    ensures { Gives (λ x. (tree.catch (view_ident x.0.0) (view_statements x.0.1), x.1)) result (catch_at tokens.now (within tokens.now depth) at) }
+    ensures { Gives (λ x. (tree.catch (view_ident x.0.0) (view_statements x.0.1), x.1)) result
+        (catch_at tokens.now (within tokens.now depth) at) }
 {
     let open = tokens.after(at);
     if !is_open_paren(tokens.terminal(open)) {

@@ -2,9 +2,11 @@
 ghost use Rattle.std.specs.Prelude.{◌≡◌, false, length, map};
 ghost use Rattle.jl_ast.specs.Tree as tree;
 ghost use Rattle.jl_ast.specs.View.{view_body, view_entries, view_entry, view_function, view_ident};
-ghost use Rattle.jl_grammar.specs.Reader.{accessor_at, body_from, elements_from, entries_from, entry_at, function_at, getter_by, parameters_at, rest_at, setter_by, value_at};
+ghost use Rattle.jl_grammar.specs.Reader.{accessor_at, body_from, elements_from, entries_from, entry_at, function_at};
+ghost use Rattle.jl_grammar.specs.Reader.{getter_by, parameters_at, rest_at, setter_by, value_at};
 ghost use Rattle.jl_grammar.specs.Tokens.{terminal_at};
-ghost use Rattle.jl_parse.specs.Steps.{Gives, GivesExpression, GivesRest, is_end, declaration_of, with_elements, within};
+ghost use Rattle.jl_parse.specs.Steps.{Gives, GivesExpression, GivesRest, is_end, declaration_of, with_elements};
+ghost use Rattle.jl_parse.specs.Steps.{within};
 
 use crate::depth::Depth;
 use crate::expressions::inner_assignment;
@@ -171,7 +173,8 @@ fn elements(
 #[cycle(parser)]
 #[tactic(auto, using(crate::proofs::Lists::body_loop))]
 pub fn body(alloc: Global, tokens: &Tokens, depth: Depth, at: usize) -> Read<Part<Body>>
-    ensures { Gives (λ x. (view_body x.0, x.1)) result (body_from tokens.now (within tokens.now depth) (length tokens.now) at) }
+    ensures { Gives (λ x. (view_body x.0, x.1)) result
+        (body_from tokens.now (within tokens.now depth) (length tokens.now) at) }
 {
     let mut strict = false;
     let mut next = at;
@@ -277,7 +280,8 @@ fn entry(alloc: Global, tokens: &Tokens, depth: Depth, at: usize) -> Read<Part<E
 #[cycle(parser)]
 #[tactic(auto, using(crate::proofs::Lists::entries_loop))]
 pub fn entries(alloc: Global, tokens: &Tokens, depth: Depth, at: usize) -> Read<Part<List<Entry>>>
-    ensures { Gives (λ x. (view_entries x.0, x.1)) result (entries_from tokens.now (within tokens.now depth) (length tokens.now) at) }
+    ensures { Gives (λ x. (view_entries x.0, x.1)) result
+        (entries_from tokens.now (within tokens.now depth) (length tokens.now) at) }
 {
     let mut entries = Part::flat(List::new(alloc));
     let mut next = at;

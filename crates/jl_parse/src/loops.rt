@@ -4,7 +4,8 @@
 ghost use Rattle.std.specs.Prelude.{◌≡◌, ◌&&◌, false, suc, true};
 ghost use Rattle.jl_ast.specs.View.{view_expression, view_ident, view_init, view_optional};
 ghost use Rattle.jl_grammar.specs.Next.{is_identifier, is_semicolon};
-ghost use Rattle.jl_grammar.specs.Reader.{for_at, for_expression_at, for_from, for_in_from, for_var_at, is_close_paren, is_in, optional_at, name_of};
+ghost use Rattle.jl_grammar.specs.Reader.{for_at, for_expression_at, for_from, for_in_from, for_var_at};
+ghost use Rattle.jl_grammar.specs.Reader.{is_close_paren, is_in, optional_at, name_of};
 ghost use Rattle.jl_grammar.specs.Tokens.{terminal_at};
 ghost use Rattle.jl_parse.specs.Steps.{Gives, GivesStatement, is_end, within};
 
@@ -28,7 +29,8 @@ fn until_semicolon(
     depth: Depth,
     at: usize,
 ) -> Read<Part<Option<Expr>>>
-    ensures { Gives (λ x. (view_optional x.0, x.1)) result (optional_at tokens.now (within tokens.now depth) is_semicolon at) }
+    ensures { Gives (λ x. (view_optional x.0, x.1)) result
+        (optional_at tokens.now (within tokens.now depth) is_semicolon at) }
 {
     if is_semicolon(tokens.terminal(at)) {
         return Ok((Part::flat(None), at));
@@ -41,7 +43,8 @@ fn until_semicolon(
 #[cycle(parser)]
 #[tactic(auto, unfolding(jl_grammar::specs::Reader::optional_at))]
 fn until_close(alloc: Global, tokens: &Tokens, depth: Depth, at: usize) -> Read<Part<Option<Expr>>>
-    ensures { Gives (λ x. (view_optional x.0, x.1)) result (optional_at tokens.now (within tokens.now depth) is_close_paren at) }
+    ensures { Gives (λ x. (view_optional x.0, x.1)) result
+        (optional_at tokens.now (within tokens.now depth) is_close_paren at) }
 {
     if is_close_paren(tokens.terminal(at)) {
         return Ok((Part::flat(None), at));
@@ -90,7 +93,8 @@ fn for_in_rest(
     name: Ident,
     next: usize,
 ) -> Read<Part<Stmt>>
-    ensures { GivesStatement result (for_in_from tokens.now (within tokens.now depth) at is_var (view_ident name) next) }
+    ensures { GivesStatement result
+        (for_in_from tokens.now (within tokens.now depth) at is_var (view_ident name) next) }
 {
     let (object, end) = expression(alloc, tokens, depth, false, next)?;
     if !is_close_paren(tokens.terminal(end)) {

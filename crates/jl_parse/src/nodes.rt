@@ -97,7 +97,8 @@ pub fn new_node(
     arguments: Part<List<Expr>>,
     end: usize,
 ) -> Read<Part<Box<Expr>>>
-    ensures { MakesExpression tokens.now depth at end (tree.new (view_expression callee.value) (view_expressions arguments)) result }
+    ensures { MakesExpression tokens.now depth at end
+        (tree.new (view_expression callee.value) (view_expressions arguments)) result }
 {
     let height = callee.height().max(arguments.height());
     let kind = ExprKind::New(callee.into_node(), arguments.into_node());
@@ -131,7 +132,8 @@ pub fn index_node(
     key: Part<Box<Expr>>,
     end: usize,
 ) -> Read<Part<Box<Expr>>>
-    ensures { MakesExpression tokens.now depth at end (tree.index (view_expression object.value) (view_expression key.value)) result }
+    ensures { MakesExpression tokens.now depth at end
+        (tree.index (view_expression object.value) (view_expression key.value)) result }
 {
     let height = object.height().max(key.height());
     let kind = ExprKind::Index(object.into_node(), key.into_node());
@@ -148,7 +150,8 @@ pub fn call_node(
     arguments: Part<List<Expr>>,
     end: usize,
 ) -> Read<Part<Box<Expr>>>
-    ensures { MakesExpression tokens.now depth at end (tree.call (view_expression callee.value) (view_expressions arguments)) result }
+    ensures { MakesExpression tokens.now depth at end
+        (tree.call (view_expression callee.value) (view_expressions arguments)) result }
 {
     let height = callee.height().max(arguments.height());
     let kind = ExprKind::Call(callee.into_node(), arguments.into_node());
@@ -225,7 +228,8 @@ pub fn infix_operator_node(
     b: Part<Box<Expr>>,
     end: usize,
 ) -> Read<Part<Box<Expr>>>
-    ensures { MakesExpression tokens.now depth at end (infix_node (infix_operator_of op) (view_expression a.value) (view_expression b.value)) result }
+    ensures { MakesExpression tokens.now depth at end
+        (infix_node (infix_operator_of op) (view_expression a.value) (view_expression b.value)) result }
 {
     let height = a.height().max(b.height());
     let kind = op.join(a.into_node(), b.into_node());
@@ -244,7 +248,8 @@ pub fn conditional_node(
     end: usize,
 ) -> Read<Part<Box<Expr>>>
     ensures { MakesExpression tokens.now depth at end
-        (tree.conditional (view_expression test.value) (view_expression first.value) (view_expression second.value)) result }
+        (tree.conditional (view_expression test.value) (view_expression first.value) (view_expression second.value))
+        result }
 {
     let height = test.height().max(first.height()).max(second.height());
     let kind = ExprKind::Cond(test.into_node(), first.into_node(), second.into_node());
@@ -262,7 +267,8 @@ pub fn assign_node(
     value: Part<Box<Expr>>,
     end: usize,
 ) -> Read<Part<Box<Expr>>>
-    ensures { MakesExpression tokens.now depth at end (tree.assign op (view_target target.value) (view_expression value.value)) result }
+    ensures { MakesExpression tokens.now depth at end
+        (tree.assign op (view_target target.value) (view_expression value.value)) result }
 {
     let height = target.height().max(value.height());
     let kind = ExprKind::Assign(op, target.into_node(), value.into_node());
@@ -279,7 +285,8 @@ pub fn comma_node(
     b: Part<Box<Expr>>,
     end: usize,
 ) -> Read<Part<Box<Expr>>>
-    ensures { MakesExpression tokens.now depth at end (tree.comma (view_expression a.value) (view_expression b.value)) result }
+    ensures { MakesExpression tokens.now depth at end (tree.comma (view_expression a.value) (view_expression b.value))
+        result }
 {
     let height = a.height().max(b.height());
     let kind = ExprKind::Comma(a.into_node(), b.into_node());
@@ -297,7 +304,8 @@ pub fn function_node(
     end: usize,
 ) -> Read<Part<Function>>
     ensures { Gives (λ x. (view_function x.0, x.1)) result (made ((within tokens.now depth).room at)
-        (tree.function 0 (option_map view_ident name) (map view_ident params) (view_body body) (span tokens.now at end)) end done) }
+        (tree.function 0 (option_map view_ident name) (map view_ident params) (view_body body)
+        (span tokens.now at end)) end done) }
 {
     let height = body.height();
     if height > tokens.room(depth, at) {
@@ -325,7 +333,8 @@ pub fn function_expression_node(
     end: usize,
 ) -> Read<Part<Box<Expr>>>
     ensures { MakesExpression tokens.now depth at end (tree.function_expression
-        (tree.function 0 (option_map view_ident name) (map view_ident params) (view_body body) (span tokens.now at end))) result }
+        (tree.function 0 (option_map view_ident name) (map view_ident params) (view_body body)
+        (span tokens.now at end))) result }
 {
     let height = body.height();
     let span = tokens.span(at, end);

@@ -34,7 +34,8 @@ impl InfixOperator {
     /// The expression that joins two operands.
     #[tactic(auto, using(jl_ast::proofs::Views::nodes))]
     pub fn join(self, a: Box<Expr>, b: Box<Expr>) -> ExprKind
-        ensures { (s : Span) → view_expression_kind result s ≡ infix_node (infix_operator_of self) (view_expression a.value) (view_expression b.value) s }
+        ensures { (s : Span) → view_expression_kind result s ≡ infix_node (infix_operator_of self)
+            (view_expression a.value) (view_expression b.value) s }
     {
         match self {
             InfixOperator::Plain(op) => ExprKind::Binary(op, a, b),

@@ -1,7 +1,8 @@
 //! Primary expressions, members, calls and `new` (11.1, 11.2).
 ghost use Rattle.std.specs.Prelude.{◌≡◌, false, true, length};
 ghost use Rattle.jl_ast.specs.View.{view_expression, view_expressions, view_items};
-ghost use Rattle.jl_grammar.specs.Reader.{done, head_at, primary_at, primary_by, items_from, arguments_at, arguments_from, new_at, start_at, left_at, left_by};
+ghost use Rattle.jl_grammar.specs.Reader.{done, head_at, primary_at, primary_by, items_from, arguments_at};
+ghost use Rattle.jl_grammar.specs.Reader.{arguments_from, new_at, start_at, left_at, left_by};
 ghost use Rattle.jl_grammar.specs.Tokens.{terminal_at};
 ghost use Rattle.jl_grammar.specs.declared.terminal.Terminal.TheVariants as Terminal;
 ghost use Rattle.jl_parse.specs.Steps.{Gives, GivesExpression, is_end, within};
@@ -44,7 +45,8 @@ pub fn head(alloc: Global, tokens: &Tokens, depth: Depth, at: usize) -> Read<Par
 #[cycle(parser)]
 #[tactic(auto, using(crate::proofs::Turns::items_loop))]
 fn items(alloc: Global, tokens: &Tokens, depth: Depth, at: usize) -> Read<Part<List<Option<Expr>>>>
-    ensures { Gives (λ x. (view_items x.0, x.1)) result (items_from tokens.now (within tokens.now depth) (length tokens.now) at) }
+    ensures { Gives (λ x. (view_items x.0, x.1)) result
+        (items_from tokens.now (within tokens.now depth) (length tokens.now) at) }
 {
     let mut items = Part::flat(List::new(alloc));
     let mut next = at;
@@ -152,7 +154,8 @@ fn primary(alloc: Global, tokens: &Tokens, depth: Depth, at: usize) -> Read<Part
 #[cycle(parser)]
 #[tactic(auto, using(crate::proofs::Turns::arguments_loop))]
 fn some_arguments(alloc: Global, tokens: &Tokens, depth: Depth, at: usize) -> Read<Part<List<Expr>>>
-    ensures { Gives (λ x. (view_expressions x.0, x.1)) result (arguments_from tokens.now (within tokens.now depth) (length tokens.now) at) }
+    ensures { Gives (λ x. (view_expressions x.0, x.1)) result
+        (arguments_from tokens.now (within tokens.now depth) (length tokens.now) at) }
 {
     let mut arguments = Part::flat(List::new(alloc));
     let mut next = at;
@@ -240,7 +243,9 @@ fn longer(
     left: Part<Box<Expr>>,
     end: usize,
 ) -> Read<Part<Box<Expr>>>
-    ensures { GivesExpression result (left_by tokens.now (within tokens.now depth) true done at (view_expression left.value) end (terminal_at tokens.now end)) }
+    ensures { GivesExpression result
+        (left_by tokens.now (within tokens.now depth) true done at (view_expression left.value) end
+        (terminal_at tokens.now end)) }
 {
     match tokens.terminal(end) {
         Terminal::Punct(Punct::Dot) => {

@@ -4,7 +4,8 @@
 ghost use Rattle.std.specs.Prelude.{◌≡◌, suc, None, option_map, Some};
 ghost use Rattle.jl_ast.specs.Height.{height as height_of};
 ghost use Rattle.jl_ast.specs.Tree as tree;
-ghost use Rattle.jl_ast.specs.View.{view_case, view_cases, view_declarator, view_declarators, view_expression, view_ident};
+ghost use Rattle.jl_ast.specs.View.{view_case, view_cases, view_declarator, view_declarators, view_expression};
+ghost use Rattle.jl_ast.specs.View.{view_ident};
 ghost use Rattle.jl_ast.specs.View.{view_init, view_optional, view_statement, view_statement_kind, view_statements};
 ghost use Rattle.jl_grammar.specs.Tokens.{span};
 ghost use Rattle.jl_parse.specs.Steps.{MakesStatement};
@@ -140,7 +141,8 @@ pub fn do_node(
     test: Part<Box<Expr>>,
     end: usize,
 ) -> Read<Part<Stmt>>
-    ensures { MakesStatement tokens.now depth at end (tree.do_while (view_statements body) (view_expression test.value)) result }
+    ensures { MakesStatement tokens.now depth at end
+        (tree.do_while (view_statements body) (view_expression test.value)) result }
 {
     let height = body.height().max(test.height());
     let kind = StmtKind::DoWhile(body.into_node(), Box::into_inner(test.into_node()));
@@ -156,7 +158,8 @@ pub fn while_node(
     body: Part<List<Stmt>>,
     end: usize,
 ) -> Read<Part<Stmt>>
-    ensures { MakesStatement tokens.now depth at end (tree.while (view_expression test.value) (view_statements body)) result }
+    ensures { MakesStatement tokens.now depth at end (tree.while (view_expression test.value) (view_statements body))
+        result }
 {
     let height = test.height().max(body.height());
     let kind = StmtKind::While(Box::into_inner(test.into_node()), body.into_node());
@@ -254,7 +257,8 @@ pub fn switch_node(
     clauses: Part<List<Case>>,
     end: usize,
 ) -> Read<Part<Stmt>>
-    ensures { MakesStatement tokens.now depth at end (tree.switch (view_expression e.value) (view_cases clauses)) result }
+    ensures { MakesStatement tokens.now depth at end (tree.switch (view_expression e.value) (view_cases clauses))
+        result }
 {
     let height = e.height().max(clauses.height());
     let kind = StmtKind::Switch(Box::into_inner(e.into_node()), clauses.into_node());

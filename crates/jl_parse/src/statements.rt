@@ -5,7 +5,9 @@ ghost use Rattle.std.specs.Prelude.{◌≡◌, false, length, option_map, suc, t
 ghost use Rattle.jl_ast.specs.Tree as tree;
 ghost use Rattle.jl_ast.specs.View.{view_declarator, view_declarators, view_ident, view_statement, view_statements};
 ghost use Rattle.jl_grammar.specs.Next.{is_colon};
-ghost use Rattle.jl_grammar.specs.Reader.{Deeper, block_at, break_at, continue_at, declaration_at, declarations_from, do_at, ends_at, express_at, if_at, label_at, named_at, return_at, statement_by, statements_from, sub_at, throw_at, var_at, while_at};
+ghost use Rattle.jl_grammar.specs.Reader.{Deeper, block_at, break_at, continue_at, declaration_at, declarations_from};
+ghost use Rattle.jl_grammar.specs.Reader.{do_at, ends_at, express_at, if_at, label_at, named_at, return_at};
+ghost use Rattle.jl_grammar.specs.Reader.{statement_by, statements_from, sub_at, throw_at, var_at, while_at};
 ghost use Rattle.jl_grammar.specs.Tokens.{terminal_at, span};
 ghost use Rattle.jl_grammar.specs.declared.terminal.Terminal.TheVariants as Terminal;
 ghost use Rattle.jl_grammar.specs.declared.word.Word.TheVariants as Word;
@@ -54,7 +56,8 @@ pub fn ends(tokens: &Tokens, at: usize) -> Option<usize>
 #[cycle(parser)]
 #[tactic(auto, using(crate::proofs::Lists::statements_loop))]
 pub fn statements(alloc: Global, tokens: &Tokens, depth: Depth, at: usize) -> Read<Part<List<Stmt>>>
-    ensures { Gives (λ x. (view_statements x.0, x.1)) result (statements_from tokens.now (within tokens.now depth) (length tokens.now) at) }
+    ensures { Gives (λ x. (view_statements x.0, x.1)) result
+        (statements_from tokens.now (within tokens.now depth) (length tokens.now) at) }
 {
     let mut statements = Part::flat(List::new(alloc));
     let mut next = at;
@@ -115,7 +118,8 @@ fn declarator(
     no_in: bool,
     at: usize,
 ) -> Read<Part<(Ident, Option<Expr>)>>
-    ensures { Gives (λ x. (view_declarator x.0, x.1)) result (declaration_at tokens.now (within tokens.now depth) no_in at) }
+    ensures { Gives (λ x. (view_declarator x.0, x.1)) result
+        (declaration_at tokens.now (within tokens.now depth) no_in at) }
 {
     if !is_identifier(tokens.terminal(at)) {
         return Err(Stop::At(at));
@@ -140,7 +144,8 @@ pub fn declarators(
     no_in: bool,
     at: usize,
 ) -> Read<Part<List<(Ident, Option<Expr>)>>>
-    ensures { Gives (λ x. (view_declarators x.0, x.1)) result (declarations_from tokens.now (within tokens.now depth) no_in (length tokens.now) at) }
+    ensures { Gives (λ x. (view_declarators x.0, x.1)) result
+        (declarations_from tokens.now (within tokens.now depth) no_in (length tokens.now) at) }
 {
     let mut declarators = Part::flat(List::new(alloc));
     let mut next = at;
@@ -351,7 +356,8 @@ fn named_statement(alloc: Global, tokens: &Tokens, depth: Depth, at: usize) -> R
 #[cycle(parser)]
 #[tactic(auto, using(jl_ast::proofs::Views::nodes), unfolding(jl_grammar::specs::Reader::statement_by))]
 fn block_statement(alloc: Global, tokens: &Tokens, depth: Depth, at: usize) -> Read<Part<Stmt>>
-    ensures { GivesStatement result (statement_by tokens.now (within tokens.now depth) at (Terminal.Punct Punct.LeftBrace)) }
+    ensures { GivesStatement result
+        (statement_by tokens.now (within tokens.now depth) at (Terminal.Punct Punct.LeftBrace)) }
 {
     let (body, end) = block(alloc, tokens, depth, at)?;
     block_node(tokens, depth, at, body, end)

@@ -1,7 +1,10 @@
 //! Tests on one token, mostly on the one after what is read.
 ghost use Rattle.std.specs.Prelude.{◌≡◌, true, false};
-ghost use Rattle.jl_grammar.specs.Next.{is_identifier, is_name, is_key, is_open_paren, is_open_brace, is_semicolon, is_comma, is_colon, is_question, is_equals, is_else, is_finally, ends_statement, ends_list};
-ghost use Rattle.jl_grammar.specs.Reader.{is_close_paren, is_close_bracket, is_close_brace, is_catch, is_function, is_new, is_while, is_in, is_var, is_case, is_default};
+ghost use Rattle.jl_grammar.specs.Next.{is_identifier, is_name, is_key, is_open_paren, is_open_brace, is_semicolon};
+ghost use Rattle.jl_grammar.specs.Next.{is_comma, is_colon, is_question, is_equals, is_else, is_finally};
+ghost use Rattle.jl_grammar.specs.Next.{ends_statement, ends_list};
+ghost use Rattle.jl_grammar.specs.Reader.{is_close_paren, is_close_bracket, is_close_brace, is_catch, is_function};
+ghost use Rattle.jl_grammar.specs.Reader.{is_new, is_while, is_in, is_var, is_case, is_default};
 ghost use Rattle.jl_parse.specs.Steps.{is_end};
 
 use jl_grammar::{Terminal, Word};

@@ -92,7 +92,8 @@ fn unreadable(tokens: &Tokens, at: usize) -> ParseRefusal
 pub fn parse(alloc: Global, tokens: &[Token], limit: u32) -> Result<Program, ParseRefusal>
     requires { length tokens.now < 2 ^ 32 }
     ensures found { IfOk result (λ p. Reads tokens.now limit (view p)) }
-    ensures only { (p : Tree Place) → Reads tokens.now limit p → MatchResult result (λ r. view r ≡ p) (λ e. e ≡ NoMemory) }
+    ensures only { (p : Tree Place) → Reads tokens.now limit p → MatchResult result (λ r. view r ≡ p)
+        (λ e. e ≡ NoMemory) }
     ensures place { IfErr result (IsPlaced tokens.now) }
 {
     let tokens = Tokens::new(alloc, tokens)?;

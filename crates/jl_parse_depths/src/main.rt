@@ -1,8 +1,8 @@
-//! Deep scripts, and whether each is accepted. Standard input has a row for each, of nine fields with a `|` between them:
-//! the limit on height, what stands before, what opens a level and how often, what stands inside, what goes on with the
-//! level and how often, what closes it and how often; then ` => ` and the answer that is due. Other lines are passed
-//! over. A row that is answered otherwise is printed, and at the end how many rows there were and how many of them
-//! differed.
+//! Deep scripts, and whether each is accepted. Standard input has a row for each, of nine fields with a `|` between
+//! them: the limit on height, what stands before, what opens a level and how often, what stands inside, what goes on
+//! with the level and how often, what closes it and how often; then ` => ` and the answer that is due. Other lines
+//! are passed over. A row that is answered otherwise is printed, and at the end how many rows there were and how many
+//! of them differed.
 #![tactic(auto)]
 
 use anyhow::{Result, bail};

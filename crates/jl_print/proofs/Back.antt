@@ -26,7 +26,8 @@ use Rattle.jl_print.specs.Pieces.{in_parens, in_parens_unless, within_braces}
 use Rattle.jl_print.specs.Precedence.{precedence_of, fits}
 use Rattle.jl_print.specs.WellFormed.{WellFormed, AllWellFormed, OptionalWellFormed}
 use Rattle.jl_print.specs.WellFormed.{HasOneDefault, AreNamed, IsSome}
-use Rattle.jl_print.specs.CanonicalTokens.{tokens_of_node, tokens_of_arguments, further_arguments, tokens_of_entries, further}
+use Rattle.jl_print.specs.CanonicalTokens.{tokens_of_node, tokens_of_arguments, further_arguments, tokens_of_entries}
+use Rattle.jl_print.specs.CanonicalTokens.{further}
 use Rattle.jl_print.specs.CanonicalTokens.{tokens_of_items, items_after, is_name, parameters, tokens_of_all}
 use Rattle.jl_print.specs.CanonicalTokens.{tokens_of_declarators}
 use Rattle.jl_print.proofs.Fronts.{of_left, of_postfix, of_assignment, of_expression, to_left}
@@ -56,8 +57,10 @@ use Rattle.jl_print.proofs.BackParts.{no_directive_at_end, no_directive_at_funct
 use Rattle.jl_print.proofs.BackParts.{no_directive_before, stops_directive, is_strict}
 use Rattle.jl_print.proofs.BackParts.{line_of_target}
 use Rattle.jl_print.proofs.Statements.{OptionalAlone, InitAlone, HandlerAlone, StatementAlone}
-use Rattle.jl_print.proofs.Statements.{if_back, if_else_back, do_while_back, while_back, for_back, for_var_in_back, for_in_back}
-use Rattle.jl_print.proofs.Statements.{switch_back, return_back, throw_back, try_catch_back, try_finally_back, try_both_back}
+use Rattle.jl_print.proofs.Statements.{if_back, if_else_back, do_while_back, while_back, for_back, for_var_in_back}
+use Rattle.jl_print.proofs.Statements.{for_in_back}
+use Rattle.jl_print.proofs.Statements.{switch_back, return_back, throw_back, try_catch_back, try_finally_back}
+use Rattle.jl_print.proofs.Statements.{try_both_back}
 
 module _ {ts : List Token} where
   mutual

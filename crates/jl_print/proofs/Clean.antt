@@ -18,13 +18,17 @@ use Rattle.jl_token.proofs.Tests.{or_cases, and_true, is_unit}
 use Rattle.jl_token.proofs.Units.{units, each_between}
 use Rattle.jl_print.specs.Layout.{is_dot}
 use Rattle.jl_print.specs.Pieces.{name, punct, string, key, is_bare_key, is_plain_letter, is_plain_digit, are_plain}
-use Rattle.jl_print.specs.Pieces.{operator, prefix_operator, update_operator, assign_punct, in_parens, in_parens_unless, within_braces}
+use Rattle.jl_print.specs.Pieces.{operator, prefix_operator, update_operator, assign_punct, in_parens}
+use Rattle.jl_print.specs.Pieces.{in_parens_unless, within_braces}
 use Rattle.jl_print.specs.Precedence.{fits, is_in, operator_precedence}
 use Rattle.jl_print.specs.WellFormed.{WellFormed, AllWellFormed, OptionalWellFormed, IsName, IsShort}
 use Rattle.jl_print.specs.WellFormed.{IsOptionalIdentifier, AreIdentifiers, is_identifier_name, are_parts}
-use Rattle.jl_print.specs.CanonicalTokens.{tokens_of_node, tokens_of_all, tokens_of_optional, tokens_after, tokens_of_arguments}
-use Rattle.jl_print.specs.CanonicalTokens.{further_arguments, tokens_of_entries, tokens_of_declarators, further, tokens_of_items}
-use Rattle.jl_print.specs.CanonicalTokens.{items_after, parameters, further_names, optional_name, directive, is_name, last_item}
+use Rattle.jl_print.specs.CanonicalTokens.{tokens_of_node, tokens_of_all, tokens_of_optional, tokens_after}
+use Rattle.jl_print.specs.CanonicalTokens.{tokens_of_arguments}
+use Rattle.jl_print.specs.CanonicalTokens.{further_arguments, tokens_of_entries, tokens_of_declarators, further}
+use Rattle.jl_print.specs.CanonicalTokens.{tokens_of_items}
+use Rattle.jl_print.specs.CanonicalTokens.{items_after, parameters, further_names, optional_name, directive, is_name}
+use Rattle.jl_print.specs.CanonicalTokens.{last_item}
 use Rattle.jl_print.proofs.Lexed.{IsClean, CleanFrom}
 
 -- whether the last one is a dot

@@ -19,9 +19,12 @@ use Rattle.jl_grammar.specs.Words.{same_text, word_of}
 use Rattle.jl_print.specs.Pieces.{name, punct, string, key, is_bare_key, operator, prefix_operator, update_operator}
 use Rattle.jl_print.specs.Pieces.{assign_punct, in_parens, in_parens_unless}
 use Rattle.jl_print.specs.Precedence.{fits, is_in, operator_precedence}
-use Rattle.jl_print.specs.CanonicalTokens.{tokens_of_node, tokens_of_all, tokens_of_optional, tokens_after, tokens_of_arguments}
-use Rattle.jl_print.specs.CanonicalTokens.{further_arguments, tokens_of_entries, tokens_of_declarators, further, tokens_of_items}
-use Rattle.jl_print.specs.CanonicalTokens.{items_after, parameters, further_names, optional_name, directive, is_name, last_item}
+use Rattle.jl_print.specs.CanonicalTokens.{tokens_of_node, tokens_of_all, tokens_of_optional, tokens_after}
+use Rattle.jl_print.specs.CanonicalTokens.{tokens_of_arguments}
+use Rattle.jl_print.specs.CanonicalTokens.{further_arguments, tokens_of_entries, tokens_of_declarators, further}
+use Rattle.jl_print.specs.CanonicalTokens.{tokens_of_items}
+use Rattle.jl_print.specs.CanonicalTokens.{items_after, parameters, further_names, optional_name, directive, is_name}
+use Rattle.jl_print.specs.CanonicalTokens.{last_item}
 
 -- how many are open after these tokens, where n were open before
 abbrev pub left_open : ℕ → List TokenKind → ℕ

@@ -1,5 +1,6 @@
 -- Pieces laid out one by one.
-use Rattle.std.proofs.Common.{◌≡◌, ℕ, Bool, true, false, List, [], ◌∷◌, ◌++◌, refl, if◌then◌else◌, suc, ◌+◌, ◌<◌, map, drop, length, get_or}
+use Rattle.std.proofs.Common.{◌≡◌, ℕ, Bool, true, false, List, [], ◌∷◌, ◌++◌, refl, if◌then◌else◌, suc, ◌+◌, ◌<◌, map}
+use Rattle.std.proofs.Common.{drop, length, get_or}
 use Rattle.std.proofs.lemmas.List.{take_all}
 use Rattle.std.proofs.Common.{take, length-drop, ◌-◌, append_assoc, ap, sym, ◌∙◌, drop-cons, arith}
 use Rattle.jl_ast.specs.Tree.{Text}

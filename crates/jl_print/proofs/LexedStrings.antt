@@ -11,7 +11,8 @@ use Rattle.std.proofs.lemmas.Bool.Decides.{nat_tests, leb_tells}
 use Rattle.std.proofs.lemmas.List.{length-append}
 use Rattle.jl_grammar.specs.Words.{same_text}
 use Rattle.jl_text.specs.Quoted.{is_hidden, is_lone, unicode_escape, quoted_unit, quoted_after, quoted}
-use Rattle.jl_token.specs.Characters.{is_hex_digit, is_digit, are_hex_digits, hex_digit_value, hex_number, is_line_terminator}
+use Rattle.jl_token.specs.Characters.{is_hex_digit, is_digit, are_hex_digits, hex_digit_value, hex_number}
+use Rattle.jl_token.specs.Characters.{is_line_terminator}
 use Rattle.jl_token.specs.Characters.{single_escape, is_quote}
 use Rattle.jl_token.specs.Elements.{Word, Many, no_more, one_more, Character, plain, single, string_text, is_plain}
 use Rattle.jl_token.specs.Elements.{unicode_escape as four_digits}

@@ -1,5 +1,6 @@
 -- What the lexer makes of each token, and so what a token is that the grammar sees.
-use Rattle.std.proofs.Common.{◌≡◌, ℕ, zero, suc, ◌+◌, ◌≤◌, ◌<◌, Bool, true, false, refl, ap, sym, ◌∙◌, subst, List, [], ◌∷◌}
+use Rattle.std.proofs.Common.{◌≡◌, ℕ, zero, suc, ◌+◌, ◌≤◌, ◌<◌, Bool, true, false, refl, ap, sym, ◌∙◌, subst, List}
+use Rattle.std.proofs.Common.{[], ◌∷◌}
 use Rattle.std.proofs.Common.{length, arith, pow-suc, ◌^◌, ◌*◌, ◌/◌, ◌⊎◌, inl, inr}
 use Rattle.std.specs.Prelude.{Option, Some, None, pos, codes, int_lt, nat_lt, if◌then◌else◌}
 use Rattle.std.proofs.lemmas.Bool.Decides.{nat_tests}
@@ -10,7 +11,8 @@ use Rattle.jl_num.specs.Digits.{digits_within, number_text}
 use Rattle.jl_num.proofs.Places.{one_digit, more_digits, last_digit}
 use Rattle.jl_ast.specs.Tree.{Text}
 use Rattle.jl_num.specs.Number.{Number}
-use Rattle.jl_token.specs.Elements.{Element, White, LineEnd, LineComment, BlockComment, Word, Many, no_more, one_more, Letter, itself}
+use Rattle.jl_token.specs.Elements.{Element, White, LineEnd, LineComment, BlockComment, Word, Many, no_more, one_more}
+use Rattle.jl_token.specs.Elements.{Letter, itself}
 use Rattle.jl_token.specs.Elements.{escaped, Name, name, Front}
 use Rattle.jl_token.specs.Elements.{identifier_name, punctuator, numeric_literal}
 use Rattle.jl_token.specs.Elements.{string_literal, name_text}

@@ -11,7 +11,8 @@ use Rattle.jl_token.specs.declared.punct.Punct.TheVariants as puncts
 use Rattle.jl_token.specs.declared.token.Token.{Token}
 use Rattle.jl_token.specs.declared.token.TokenKind.{TokenKind}
 use Rattle.jl_grammar.specs.Next.{continues_left}
-use Rattle.jl_grammar.specs.Operators.{InfixOperator, infix_operator, plain, both, either, infix_precedence, infix_precedence_of, updates}
+use Rattle.jl_grammar.specs.Operators.{InfixOperator, infix_operator, plain, both, either, infix_precedence}
+use Rattle.jl_grammar.specs.Operators.{infix_precedence_of, updates}
 use Rattle.jl_grammar.specs.Operators.{assign_operator, unary_operator, update_operator as update_of}
 use Rattle.jl_grammar.specs.Reads.{JoinsAt, AssignsAt, PrefixAt, UpdateAt}
 use Rattle.jl_grammar.specs.Terminals.{terminal_of}

@@ -1,6 +1,8 @@
 -- In a canonical text each surrogate has its partner.
-use Rattle.std.proofs.Common.{◌≡◌, ℕ, zero, suc, ◌+◌, ◌/◌, ◌%◌, ◌<◌, ◌≤◌, ◌⊎◌, inl, inr, Bool, true, false, not, ◌&&◌, ◌||◌, ◌==◌}
-use Rattle.std.proofs.Common.{refl, ap, sym, ◌∙◌, subst, List, [], ◌∷◌, ◌++◌, Option, None, Some, is_some, arith, append_assoc, append-nil}
+use Rattle.std.proofs.Common.{◌≡◌, ℕ, zero, suc, ◌+◌, ◌/◌, ◌%◌, ◌<◌, ◌≤◌, ◌⊎◌, inl, inr, Bool, true, false, not, ◌&&◌}
+use Rattle.std.proofs.Common.{◌||◌, ◌==◌}
+use Rattle.std.proofs.Common.{refl, ap, sym, ◌∙◌, subst, List, [], ◌∷◌, ◌++◌, Option, None, Some, is_some, arith}
+use Rattle.std.proofs.Common.{append_assoc, append-nil}
 use Rattle.std.specs.Prelude.{nat_lt, nat_le, pos, if◌then◌else◌, slice_index}
 use Rattle.std.specs.List.{list_any, list_all}
 use Rattle.std.specs.Char.{digit_char}
@@ -11,7 +13,8 @@ use Rattle.std.proofs.lemmas.Str.{utf16_chars-nil, utf16_chars_lone, utf16_chars
 use Rattle.std.proofs.str.Utf16.{IsPair, lone_unit_char_low, lone_unit_char_high}
 use Rattle.jl_num.specs.Digits.{digit_code, digits_within, number_text}
 use Rattle.jl_text.specs.Quoted.{short_escape, is_hidden, is_lone, unicode_escape, quoted_unit, quoted_after, quoted}
-use Rattle.jl_token.specs.Characters.{is_identifier_start, is_identifier_part, is_surrogate, category, is_letter, is_mark}
+use Rattle.jl_token.specs.Characters.{is_identifier_start, is_identifier_part, is_surrogate, category, is_letter}
+use Rattle.jl_token.specs.Characters.{is_mark}
 use Rattle.jl_token.specs.Punctuators.{punctuator_units}
 use Rattle.jl_token.specs.Spelling.{spelled}
 use Rattle.jl_token.specs.declared.punct.Punct.{Punct}

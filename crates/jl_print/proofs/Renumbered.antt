@@ -7,7 +7,8 @@ use Rattle.jl_ast.specs.Tree.{setter, function, body, var, empty, expression, bl
 use Rattle.jl_ast.specs.Tree.{for_in, continue, break, return, labelled, switch, throw, try, debugger, nothing}
 use Rattle.jl_ast.specs.Tree.{init_expression, init_var, declarator, case, branch_of, catch, end, more, absent}
 use Rattle.jl_ast.specs.Tree.{present}
-use Rattle.jl_ast.specs.Numbering.{functions_in, functions_in_forest, functions_in_optional, numbered_tree, numbered_forest}
+use Rattle.jl_ast.specs.Numbering.{functions_in, functions_in_forest, functions_in_optional, numbered_tree}
+use Rattle.jl_ast.specs.Numbering.{numbered_forest}
 use Rattle.jl_ast.specs.Numbering.{numbered_optional}
 
 module _ {S : Type 0} where

@@ -9,7 +9,8 @@ use Rattle.jl_ast.specs.Tree.{for, for_in, continue, break, return, labelled, sw
 use Rattle.jl_ast.specs.Tree.{init_expression, init_var, declarator, case, branch_of, catch, end, more, absent}
 use Rattle.jl_ast.specs.Tree.{present}
 use Rattle.jl_ast.specs.Spans.{map_tree, map_forest, map_optional}
-use Rattle.jl_ast.specs.Numbering.{functions_in, functions_in_forest, functions_in_optional, numbered_tree, numbered_forest}
+use Rattle.jl_ast.specs.Numbering.{functions_in, functions_in_forest, functions_in_optional, numbered_tree}
+use Rattle.jl_ast.specs.Numbering.{numbered_forest}
 use Rattle.jl_ast.specs.Numbering.{numbered_optional}
 
 abbrev pub no_place : {S : Type 0} → S → Unit {0}

@@ -20,8 +20,10 @@ use Rattle.jl_grammar.specs.declared.word.Word.{Word}
 use Rattle.jl_print.specs.Kinds.{after_name, assigning, case_head, comma_unless, initializer, item_with_comma}
 use Rattle.jl_print.specs.Pieces.{in_parens_unless, key, name, punct, prefix_operator, update_operator}
 use Rattle.jl_print.specs.Precedence.{fits, is_in}
-use Rattle.jl_print.specs.CanonicalTokens.{tokens_of_node, tokens_of_arguments, further_arguments, tokens_of_entries, further}
-use Rattle.jl_print.specs.CanonicalTokens.{tokens_of_declarators, begins_otherwise, tokens_of_items, tokens_of_all, colon}
+use Rattle.jl_print.specs.CanonicalTokens.{tokens_of_node, tokens_of_arguments, further_arguments, tokens_of_entries}
+use Rattle.jl_print.specs.CanonicalTokens.{further}
+use Rattle.jl_print.specs.CanonicalTokens.{tokens_of_declarators, begins_otherwise, tokens_of_items, tokens_of_all}
+use Rattle.jl_print.specs.CanonicalTokens.{colon}
 
 -- what is left to write of a list, of which the next part is the first or not
 abbrev pub arguments_from : {S : Type 0} → Bool → Forest S tree.expr → List TokenKind

@@ -95,19 +95,24 @@ unfoldable mutual
       (in_parens_unless (fits a (operator_precedence op)) (tokens_of_node a) ++
       (operator op ∷ in_parens_unless (fits b (pred (operator_precedence op))) (tokens_of_node b)))
   tokens_of_node (tree.and a b s) =
-      in_parens_unless (fits a 11) (tokens_of_node a) ++ (punct puncts.AndAnd ∷ in_parens_unless (fits b 10) (tokens_of_node b))
+      in_parens_unless (fits a 11) (tokens_of_node a)
+      ++ (punct puncts.AndAnd ∷ in_parens_unless (fits b 10) (tokens_of_node b))
   tokens_of_node (tree.or a b s) =
-      in_parens_unless (fits a 12) (tokens_of_node a) ++ (punct puncts.OrOr ∷ in_parens_unless (fits b 11) (tokens_of_node b))
+      in_parens_unless (fits a 12) (tokens_of_node a)
+      ++ (punct puncts.OrOr ∷ in_parens_unless (fits b 11) (tokens_of_node b))
   tokens_of_node (tree.conditional a b c s) =
-      in_parens_unless (fits a 12) (tokens_of_node a) ++ (punct puncts.Question ∷ (in_parens_unless (fits b 13) (tokens_of_node b) ++
+      in_parens_unless (fits a 12) (tokens_of_node a)
+      ++ (punct puncts.Question ∷ (in_parens_unless (fits b 13) (tokens_of_node b) ++
       (colon ∷ in_parens_unless (fits c 13) (tokens_of_node c))))
-  tokens_of_node (tree.assign None g a s) = tokens_of_node g ++ (punct puncts.Assign ∷ in_parens_unless (fits a 13) (tokens_of_node a))
+  tokens_of_node (tree.assign None g a s) =
+      tokens_of_node g ++ (punct puncts.Assign ∷ in_parens_unless (fits a 13) (tokens_of_node a))
   tokens_of_node (tree.assign (Some op) g a s) =
       tokens_of_node g ++ (punct (assign_punct op) ∷ in_parens_unless (fits a 13) (tokens_of_node a))
   tokens_of_node (tree.comma a b s) = tokens_of_node a ++ (comma ∷ in_parens_unless (fits b 13) (tokens_of_node b))
   -- what is assigned to
   tokens_of_node (tree.to_name x) = name x.text ∷ []
-  tokens_of_node (tree.to_dot a t s) = in_parens_unless (fits a 0) (tokens_of_node a) ++ (punct puncts.Dot ∷ name t ∷ [])
+  tokens_of_node (tree.to_dot a t s) =
+      in_parens_unless (fits a 0) (tokens_of_node a) ++ (punct puncts.Dot ∷ name t ∷ [])
   tokens_of_node (tree.to_index a b s) =
       in_parens_unless (fits a 0) (tokens_of_node a) ++
       (punct puncts.LeftBracket ∷ (tokens_of_node b ++ punct puncts.RightBracket ∷ []))
@@ -130,11 +135,13 @@ unfoldable mutual
       in_parens_unless (not (begins_otherwise (tokens_of_node a) || is_string a)) (tokens_of_node a) ++ semicolon ∷ []
   tokens_of_node (tree.block ws s) = within_braces (tokens_of_all ws)
   tokens_of_node (tree.if_else a ws b s) =
-      name (codes "if") ∷ (in_parens (tokens_of_node a) ++ (within_braces (tokens_of_all ws) ++ tokens_after (codes "else") b))
+      name (codes "if") ∷ (in_parens (tokens_of_node a)
+      ++ (within_braces (tokens_of_all ws) ++ tokens_after (codes "else") b))
   tokens_of_node (tree.do_while ws a s) =
       name (codes "do") ∷ (within_braces (tokens_of_all ws) ++
       (name (codes "while") ∷ (in_parens (tokens_of_node a) ++ semicolon ∷ [])))
-  tokens_of_node (tree.while a ws s) = name (codes "while") ∷ (in_parens (tokens_of_node a) ++ within_braces (tokens_of_all ws))
+  tokens_of_node (tree.while a ws s) =
+      name (codes "while") ∷ (in_parens (tokens_of_node a) ++ within_braces (tokens_of_all ws))
   tokens_of_node (tree.for i a b ws s) =
       name (codes "for") ∷ (in_parens (tokens_of_node i ++
       (semicolon ∷ (tokens_of_optional a ++ (semicolon ∷ tokens_of_optional b)))) ++ within_braces (tokens_of_all ws))
@@ -142,15 +149,18 @@ unfoldable mutual
       name (codes "for") ∷ (in_parens
       (name (codes "var") ∷ name x.text ∷ name (codes "in") ∷ tokens_of_node a) ++ within_braces (tokens_of_all ws))
   tokens_of_node (tree.for_in false x a ws s) =
-      name (codes "for") ∷ (in_parens (name x.text ∷ name (codes "in") ∷ tokens_of_node a) ++ within_braces (tokens_of_all ws))
+      name (codes "for") ∷ (in_parens (name x.text ∷ name (codes "in") ∷ tokens_of_node a) ++ within_braces
+      (tokens_of_all ws))
   tokens_of_node (tree.continue x s) = name (codes "continue") ∷ (optional_name x ++ semicolon ∷ [])
   tokens_of_node (tree.break x s) = name (codes "break") ∷ (optional_name x ++ semicolon ∷ [])
   tokens_of_node (tree.return a s) = name (codes "return") ∷ (tokens_of_optional a ++ semicolon ∷ [])
   tokens_of_node (tree.labelled x w s) = name x.text ∷ colon ∷ tokens_of_node w
-  tokens_of_node (tree.switch a cs s) = name (codes "switch") ∷ (in_parens (tokens_of_node a) ++ within_braces (tokens_of_all cs))
+  tokens_of_node (tree.switch a cs s) =
+      name (codes "switch") ∷ (in_parens (tokens_of_node a) ++ within_braces (tokens_of_all cs))
   tokens_of_node (tree.throw a s) = name (codes "throw") ∷ (tokens_of_node a ++ semicolon ∷ [])
   tokens_of_node (tree.try ws h b s) =
-      name (codes "try") ∷ (within_braces (tokens_of_all ws) ++ (tokens_of_optional h ++ tokens_after (codes "finally") b))
+      name (codes "try") ∷ (within_braces (tokens_of_all ws)
+      ++ (tokens_of_optional h ++ tokens_after (codes "finally") b))
   tokens_of_node (tree.debugger s) = name (codes "debugger") ∷ semicolon ∷ []
   -- the parts of statements
   tokens_of_node tree.nothing = []
@@ -160,7 +170,8 @@ unfoldable mutual
   tokens_of_node (tree.declarator x (tree.present a)) =
       name x.text ∷ punct puncts.Assign ∷ in_parens_unless (fits a 13) (tokens_of_node a)
   tokens_of_node (tree.case tree.absent ws) = name (codes "default") ∷ colon ∷ tokens_of_all ws
-  tokens_of_node (tree.case (tree.present a) ws) = name (codes "case") ∷ (tokens_of_node a ++ (colon ∷ tokens_of_all ws))
+  tokens_of_node (tree.case (tree.present a) ws) =
+      name (codes "case") ∷ (tokens_of_node a ++ (colon ∷ tokens_of_all ws))
   tokens_of_node (tree.branch_of ws) = within_braces (tokens_of_all ws)
   tokens_of_node (tree.catch x ws) =
       name (codes "catch") ∷ open_paren ∷ name x.text ∷ close_paren ∷ within_braces (tokens_of_all ws)

@@ -14,9 +14,11 @@ use jl_ast::{Expr, ExprKind, Target};
 use jl_grammar::{Word, reserved_word};
 use jl_text::Text;
 
-/// Whether an expression may be a statement with no brackets (12.4, 14.1). It goes down the left edge of the expression.
+/// Whether an expression may be a statement with no brackets (12.4, 14.1). It goes down the left edge of the
+/// expression.
 pub(crate) fn stands_alone(e: &Expr) -> bool
-    ensures { result ≡ not (begins_otherwise (tokens_of_node (view_expression e.now)) || is_string (view_expression e.now)) }
+    ensures { result ≡ not (begins_otherwise (tokens_of_node (view_expression e.now)) || is_string
+        (view_expression e.now)) }
 {
     !(begins_otherwise(e) || is_string(e))
 }
@@ -79,7 +81,8 @@ fn begins_otherwise(e: &Expr) -> bool
 /// The same of an expression where something as loose as `most` may stand: in brackets it begins with one.
 #[cycle(begins)]
 fn operand_begins_otherwise(e: &Expr, most: u32) -> bool
-    ensures { result ≡ begins_otherwise (in_parens_unless (fits (view_expression e.now) most) (tokens_of_node (view_expression e.now))) }
+    ensures { result ≡ begins_otherwise
+        (in_parens_unless (fits (view_expression e.now) most) (tokens_of_node (view_expression e.now))) }
 {
     if fits(e, most) {
         begins_otherwise(e)

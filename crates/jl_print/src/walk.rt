@@ -1,15 +1,22 @@
 #![tactic(auto, using(jl_ast::proofs::Views::nodes), unfolding(crate::specs::CanonicalTokens::tokens_of_node))]
 
 ghost use Rattle.std.specs.Prelude.{◌≡◌, ◌++◌, ◌∷◌, [], OnOk, map, Some, None, codes, option_map, if◌then◌else◌};
-ghost use Rattle.jl_ast.specs.View.{view_ident, view_expression, view_expressions, view_optional, view_items, view_target, view_entry};
-ghost use Rattle.jl_ast.specs.View.{view_entries, view_function, view_functions, view_body, view_statement, view_statements};
-ghost use Rattle.jl_ast.specs.View.{view_branch, view_catch, view_init, view_declarators, view_declarator, view_case, view_cases, item};
-ghost use Rattle.jl_print.specs.Pieces.{name, in_parens_unless, in_parens, within_braces, operator, prefix_operator, update_operator, assign_punct, punct};
+ghost use Rattle.jl_ast.specs.View.{view_ident, view_expression, view_expressions, view_optional, view_items};
+ghost use Rattle.jl_ast.specs.View.{view_target, view_entry};
+ghost use Rattle.jl_ast.specs.View.{view_entries, view_function, view_functions, view_body, view_statement};
+ghost use Rattle.jl_ast.specs.View.{view_statements};
+ghost use Rattle.jl_ast.specs.View.{view_branch, view_catch, view_init, view_declarators, view_declarator, view_case};
+ghost use Rattle.jl_ast.specs.View.{view_cases, item};
+ghost use Rattle.jl_print.specs.Pieces.{name, in_parens_unless, in_parens, within_braces, operator, prefix_operator};
+ghost use Rattle.jl_print.specs.Pieces.{update_operator, assign_punct, punct};
 ghost use Rattle.jl_print.specs.Precedence.{fits};
-ghost use Rattle.jl_print.specs.CanonicalTokens.{tokens_of_node, tokens_of_all, tokens_of_optional, tokens_after, tokens_of_arguments, further_arguments};
-ghost use Rattle.jl_print.specs.CanonicalTokens.{tokens_of_entries, tokens_of_declarators, further, tokens_of_items, parameters, further_names};
+ghost use Rattle.jl_print.specs.CanonicalTokens.{tokens_of_node, tokens_of_all, tokens_of_optional, tokens_after};
+ghost use Rattle.jl_print.specs.CanonicalTokens.{tokens_of_arguments, further_arguments};
+ghost use Rattle.jl_print.specs.CanonicalTokens.{tokens_of_entries, tokens_of_declarators, further, tokens_of_items};
+ghost use Rattle.jl_print.specs.CanonicalTokens.{parameters, further_names};
 ghost use Rattle.jl_print.specs.CanonicalTokens.{optional_name, directive};
-ghost use Rattle.jl_print.specs.Kinds.{after_name, assigning, case_head, comma_unless, for_part, initializer, item_with_comma};
+ghost use Rattle.jl_print.specs.Kinds.{after_name, assigning, case_head, comma_unless, for_part, initializer};
+ghost use Rattle.jl_print.specs.Kinds.{item_with_comma};
 
 use crate::alone::stands_alone;
 use crate::piece::Pieces;
@@ -156,7 +163,8 @@ fn add_directive<'a>(strict: bool, out: &mut Pieces<'a>) -> Result<(), NoMemory>
 /// An expression where something as loose as `most` may stand.
 #[cycle(print)]
 fn add_operand<'a>(e: &'a Expr, most: u32, out: &mut Pieces<'a>) -> Result<(), NoMemory>
-    ensures { OnOk result (out.new ≡ out.old ++ in_parens_unless (fits (view_expression e.now) most) (tokens_of_node (view_expression e.now))) }
+    ensures { OnOk result (out.new ≡ out.old ++ in_parens_unless (fits (view_expression e.now) most)
+        (tokens_of_node (view_expression e.now))) }
 {
     add_in_parens_unless(e, fits(e, most), out)
 }

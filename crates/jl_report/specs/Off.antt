@@ -1,6 +1,6 @@
--- Comments of a source that switch rules off: `// jlint-off NAMES` does so for the line on which the comment begins, and
--- `// jlint-off-next NAMES` for the line after it. NAMES are names of rules with commas between them; spaces may follow.
--- Units stand here by their numbers: 32 is a space, 44 a comma.
+-- Comments of a source that switch rules off: `// jlint-off NAMES` does so for the line on which the comment begins,
+-- and `// jlint-off-next NAMES` for the line after it. NAMES are names of rules with commas between them; spaces may
+-- follow. Units stand here by their numbers: 32 is a space, 44 a comma.
 use Rattle.std.specs.Prelude.{ℕ, ◌+◌, Bool, ◌&&◌, ◌==◌, List, [], ◌∷◌, ◌++◌, Option, None, Some}
 use Rattle.std.specs.Prelude.{map, fold, codes, if◌then◌else◌}
 use Rattle.std.specs.List.{list_all, list_any, slice_split, slice_range, flat_map, position_from}
@@ -48,7 +48,8 @@ abbrev pub rules_with : (names : List (List ℕ)) → Option (List ℕ)
 rules_with [] = Some []
 rules_with (name ∷ names) = with_rule (rule_with name) (rules_with names)
 
--- the rules that a text names: what stands between its commas is the name of a rule each time, but for spaces at the end
+-- the rules that a text names: what stands between its commas is the name of a rule each time, but for spaces at the
+-- end
 abbrev pub rules_in : List ℕ → Option (List ℕ)
 rules_in us = rules_with (slice_split (λ u. u == 44) (without_last_spaces us))
 
@@ -68,8 +69,8 @@ abbrev pub pairs_named : (line : ℕ) → Option (List ℕ) → List Pair
 pairs_named line None = []
 pairs_named line (Some us) = pairs_with line (rules_in us)
 
--- the pairs that a comment gives which begins on a line, by its text, which is what follows its `//`; no text begins with
--- both words
+-- the pairs that a comment gives which begins on a line, by its text, which is what follows its `//`; no text begins
+-- with both words
 abbrev pub pairs_of_text : (line : ℕ) → List ℕ → List Pair
 pairs_of_text line us =
     pairs_named line (after (codes " jlint-off ") us) ++ pairs_named (line + 1) (after (codes " jlint-off-next ") us)

@@ -1,5 +1,6 @@
 -- The report: how often each rule hit at each place.
-use Rattle.std.specs.Prelude.{◌≡◌, ℕ, zero, suc, ◌^◌, ◌-◌, min, Bool, false, not, ◌&&◌, ◌==◌, List, [], ◌∷◌, map, Option}
+use Rattle.std.specs.Prelude.{◌≡◌, ℕ, zero, suc, ◌^◌, ◌-◌, min, Bool, false, not, ◌&&◌, ◌==◌, List, [], ◌∷◌, map}
+use Rattle.std.specs.Prelude.{Option}
 use Rattle.std.specs.Prelude.{None, Some, slice_get, count_by, sum_by, if◌then◌else◌}
 use Rattle.std.specs.Ordering.{nat_cmp, ordering_then}
 use Rattle.std.specs.declared.cmp.Ordering.{Ordering}

@@ -19,9 +19,9 @@ const SPACE: u16 = 0x20;
 
 const COMMA: u16 = 0x2C;
 
-/// What the comments of a source switch off. `// jlint-off NAMES` switches rules off for the line on which the comment
-/// begins, and `// jlint-off-next NAMES` for the line after it, where NAMES are names of rules with commas between them,
-/// and spaces may follow. Any other comment switches nothing off.
+/// What the comments of a source switch off. `// jlint-off NAMES` switches rules off for the line on which the
+/// comment begins, and `// jlint-off-next NAMES` for the line after it, where NAMES are names of rules with commas
+/// between them, and spaces may follow. Any other comment switches nothing off.
 ///
 /// `comments` and `lines` are those of the source, whose units are given.
 pub fn off(

@@ -6,8 +6,8 @@ use std::alloc::{AllocError, Global};
 use std::collections::BTreeSet;
 use std::marker::Model;
 
-/// What is switched off in a source: pairs of a line and the number of a rule. Contracts see them as a list, by line and
-/// then rule, each pair once.
+/// What is switched off in a source: pairs of a line and the number of a rule. Contracts see them as a list, by line
+/// and then rule, each pair once.
 #[derive(Drop)]
 pub struct Off {
     pairs: BTreeSet<(u32, u32)>,

@@ -1,6 +1,6 @@
-//! Calls of the libraries with the answers that are due: standard input has a row for each, `CRATE CALL WORDS => ANSWER`,
-//! and other lines are passed over. A row that is answered otherwise is printed, and at the end how many rows there were
-//! and how many of them differed.
+//! Calls of the libraries with the answers that are due: standard input has a row for each, `CRATE CALL WORDS =>
+//! ANSWER`, and other lines are passed over. A row that is answered otherwise is printed, and at the end how many
+//! rows there were and how many of them differed.
 #![tactic(auto)]
 
 mod fault;

@@ -13,8 +13,8 @@ enum Begun {
     Digits(u32, u16),
 }
 
-/// The units of a text in which `\n`, `\r`, `\t` and `\\` are as in JavaScript, `\uHHHH` is a unit, `\s` a space, and `\e`
-/// nothing.
+/// The units of a text in which `\n`, `\r`, `\t` and `\\` are as in JavaScript, `\uHHHH` is a unit, `\s` a space, and
+/// `\e` nothing.
 pub fn units_of(alloc: Global, written: &str) -> Result<Vec<u16>, Fault> {
     let mut units = Vec::new(alloc);
     let mut begun = Begun::Nothing;

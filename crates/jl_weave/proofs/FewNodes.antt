@@ -3,7 +3,8 @@ use Rattle.std.proofs.Common.{ℕ, ◌+◌, ◌*◌, ◌≤◌, Option, Some, No
 use Rattle.jl_ast.specs.declared.ops.BinOp.{BinOp}
 use Rattle.jl_ast.specs.declared.ops.UnOp.{UnOp}
 use Rattle.jl_ast.specs.declared.ops.UnOp.TheVariants as un
-use Rattle.jl_ast.specs.Tree.{Sort, expr, func, handler, Tree, Forest, OptionalTree, this, name, number, string, boolean}
+use Rattle.jl_ast.specs.Tree.{Sort, expr, func, handler, Tree, Forest, OptionalTree, this, name, number, string}
+use Rattle.jl_ast.specs.Tree.{boolean}
 use Rattle.jl_ast.specs.Tree.{null, array, object, function_expression, dot, index, call, new, unary, update, binary}
 use Rattle.jl_ast.specs.Tree.{and, or, conditional, assign, comma, to_name, to_dot, to_index, hole, filled, value}
 use Rattle.jl_ast.specs.Tree.{getter, setter, function, body, var, empty, expression, block, if_else, do_while, while}

@@ -57,7 +57,8 @@ abbrev mutual
   AssignsByOperators (labelled x t s) = AssignsByOperators t
   AssignsByOperators (switch e l s) = AssignsByOperators e × AllAssignByOperators l
   AssignsByOperators (throw e s) = AssignsByOperators e
-  AssignsByOperators (try l h f s) = AllAssignByOperators l × AssignsByOperatorsIfPresent h × AssignsByOperatorsIfPresent f
+  AssignsByOperators (try l h f s) =
+      AllAssignByOperators l × AssignsByOperatorsIfPresent h × AssignsByOperatorsIfPresent f
   AssignsByOperators (init_expression e) = AssignsByOperators e
   AssignsByOperators (init_var l) = AllAssignByOperators l
   AssignsByOperators (declarator x e) = AssignsByOperatorsIfPresent e

@@ -26,7 +26,8 @@ pub fn few_ids()
         → length (id_map p) ≤ 4 * length ts + 2 }
 {}
 
-/// A script without early errors is plain, where its compound assignments have operators of 11.13: it doesn't name `J$`.
+/// A script without early errors is plain, where its compound assignments have operators of 11.13: it doesn't name
+/// `J$`.
 pub fn scripts_without_early_errors_are_plain()
     ensures { (p : Program Span) → early_errors_of p ≡ [] → AssignsByOperators p.body → IsPlain p.body }
 {}

@@ -1,5 +1,5 @@
-//! What texts read as: their functions, statements and heights, counted by hand from edition 5.1, and the places at which
-//! a reader of a text is stuck.
+//! What texts read as: their functions, statements and heights, counted by hand from edition 5.1, and the places at
+//! which a reader of a text is stuck.
 
 use jl_ast::{Program, function_table, height};
 use jl_lex::{LexRefusal, lex};

@@ -1,14 +1,16 @@
-// What is expected follows from the rules' meaning and from that of a report: at each place and rule the hits of the ids
-// that are there, added up.
+ghost use Rattle.std.specs.Prelude.{◌≤◌, All, IfOk};
+
+// What is expected follows from the rules' meaning and from that of a report: at each place and rule the hits of the
+// ids that are there, added up.
 use jl_analysis::{Analysis, Crowd, RuleSet};
 use jl_ast::BinOp;
 use jl_lex::comments;
 use jl_num::Num;
-use jl_op::{Observer, Op, OpId, UnKind};
-use jl_report::{Line, Off, off, report_at};
+use jl_op::{Observer, Op, OpId, OpKind, OpMap, UnKind};
+use jl_report::{Line, Off, off, report};
 use jl_rules_type::{LooseEqual, NanMade};
 use jl_rules_use::ForInArray;
-use jl_text::{Lines, Text, from_utf8};
+use jl_text::{Lines, Span, Text, from_utf8};
 use jl_value::{Class, ObjId, Seen, Value};
 use std::alloc::Global;
 use std::process::Abort;
@@ -16,18 +18,20 @@ use std::test::Fail;
 
 const SOURCE: &str = "print(1 == 2);\nx; // jlint-off nan-made\n";
 
-/// Where the parts with the ids from 1 on begin.
-const BEGINS: [(u32, u32); 9] = [
-    (1, 1),
-    (1, 1),
-    (1, 1),
-    (1, 1),
-    (1, 1),
-    (1, 7),
-    (1, 7),
-    (1, 12),
-    (2, 1),
-];
+/// Where the parts with the ids from 1 on begin, in units.
+const BEGINS: [u32; 9] = [0, 0, 0, 0, 0, 6, 6, 11, 15];
+
+/// The map of a source of so many units.
+fn map_of(alloc: Global, units: u32) -> Result<OpMap, Fail>
+    ensures { IfOk result (λ map. All (λ row. row.1.from ≤ units) map) }
+{
+    let mut map = OpMap::new(alloc);
+    for at in BEGINS {
+        let from = at.min(units);
+        map.add(OpKind::Read, Span { from, to: units })?;
+    }
+    Ok(map)
+}
 
 fn primitive(value: Value) -> Seen {
     Seen {
@@ -75,13 +79,14 @@ fn reported(
     if units.len() > 1000 {
         return Err("another source")?;
     }
+    let lines = Lines::new(alloc, &units)?;
+    let map = map_of(alloc, units.len() as u32)?;
     let off = if switched {
-        let lines = Lines::new(alloc, &units)?;
         off(alloc, &units, &comments(alloc, &units)?, &lines)?
     } else {
         Off::none(alloc)
     };
-    Ok(report_at(alloc, crowd, &BEGINS, chosen, &off)?)
+    Ok(report(alloc, crowd, &map, &lines, chosen, &off)?)
 }
 
 fn check(rt: &impl Abort, lines: &[Line], rows: &[(u32, u32, u32, u64)]) {

@@ -2,7 +2,8 @@ use Rattle.std.proofs.Common.{sym, subst}
 use Rattle.std.proofs.lemmas.Result.{IfOk-weaker}
 use Rattle.jl_ast.specs.View.{view}
 use Rattle.jl_token.specs.Tokens.{Tokens}
-use Rattle.jl_app.specs.Answers.{refused_only, functions_line, counted, canonical_text, written, refused, accepted, IsAnswered, IsLinted}
+use Rattle.jl_app.specs.Answers.{refused_only, functions_line, counted, canonical_text, written, refused, accepted}
+use Rattle.jl_app.specs.Answers.{IsAnswered, IsLinted}
 use Rattle.jl_app.specs.Refusals.{refusal_words}
 use Rattle.jl_app.proofs.Scripts.{script_small}
 use Rattle.jl_app.proofs.answer.respond.Goals as goal

@@ -4,7 +4,8 @@ use Rattle.jl_num.specs.Number.{Number}
 use Rattle.jl_effects.specs.Effects.{and_then}
 use Rattle.jl_app.specs.Runs.{Part}
 use Rattle.jl_app.specs.View.{view_woven}
-use Rattle.jl_app.specs.Weaving.{Hooked, hooked_enter, hooked_callee, hooked_value, hooked_invoke, hooked_return, hooked_end}
+use Rattle.jl_app.specs.Weaving.{Hooked, hooked_enter, hooked_callee, hooked_value, hooked_invoke, hooked_return}
+use Rattle.jl_app.specs.Weaving.{hooked_end}
 use Rattle.jl_app.proofs.Comings.{comes_then, comes_stop}
 use Rattle.jl_app.proofs.run.script.Goals as goal
 

@@ -1,4 +1,5 @@
-use Rattle.std.proofs.Common.{◌≡◌, ◌∙◌, ◌+◌, ◌<◌, ◌^◌, ◌++◌, ◌∷◌, [], length, subst, ap, sym, arith, append_assoc, length-append}
+use Rattle.std.proofs.Common.{◌≡◌, ◌∙◌, ◌+◌, ◌<◌, ◌^◌, ◌++◌, ◌∷◌, [], length, subst, ap, sym, arith, append_assoc}
+use Rattle.std.proofs.Common.{length-append}
 use Rattle.jl_app.specs.Sums.{binary, parts}
 use Rattle.jl_app.specs.Places.{sum_places}
 use Rattle.jl_app.specs.View.{view, view_woven}

@@ -1,7 +1,8 @@
 use Rattle.std.proofs.Common.{◌≡◌, ◌+◌, ◌*◌, ◌++◌, drop, length}
 use Rattle.jl_ast.specs.View.{view_functions, view_statements, view_declarators, view_cases, view_items}
 use Rattle.jl_ast.specs.View.{view_entries, view_expressions}
-use Rattle.jl_print.specs.CanonicalTokens.{tokens_of_all, tokens_of_arguments, tokens_of_entries, tokens_of_declarators, tokens_of_items}
+use Rattle.jl_print.specs.CanonicalTokens.{tokens_of_all, tokens_of_arguments, tokens_of_entries}
+use Rattle.jl_print.specs.CanonicalTokens.{tokens_of_declarators, tokens_of_items}
 use Rattle.jl_print.proofs.Writing.{arguments_from, entries_from, declarators_from}
 use Rattle.jl_print.proofs.walk.+print.Given as goal
 
