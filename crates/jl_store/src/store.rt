@@ -43,6 +43,13 @@ impl Store {
         })
     }
 
+    /// The objects, as they are.
+    pub fn heap(&self) -> &Heap
+        ensures { result.now ≡ self.now.heap }
+    {
+        &self.heap
+    }
+
     /// The class of an object (8.6.2).
     pub fn class_of(&self, id: ObjId) -> Class
         ensures { result ≡ (object_at self.now.heap id.0).class }
