@@ -5,6 +5,7 @@ mod act;
 mod algorithm_frame;
 mod calls;
 mod frame;
+mod functions;
 mod hook;
 mod remaining;
 mod script_function;

@@ -1,18 +1,9 @@
-//! The functions of the script.
-ghost use Rattle.std.specs.Prelude.{◌≡◌, IfOk};
-ghost use Rattle.jl_scope.specs.Hoisting.{strict_in};
+//! A function of the script.
 ghost use Rattle.jl_store.specs.Declarations.{Declares};
 ghost use Rattle.jl_store.specs.Plain.{plain_code};
-ghost use Rattle.jl_ast.specs.View.{view_body, view_function};
-ghost use Rattle.jl_meaning.specs.FunctionObjects.{function_body};
-ghost use Rattle.jl_state.specs.Words.{function_of};
-ghost use Rattle.jl_state.specs.Trees.{plain};
 
 use jl_ast::Function;
-use jl_scope::is_strict;
 use jl_store::Declared;
-use jl_text::NoMemory;
-use std::alloc::Global;
 
 /// A function of the script, with what each of its calls needs: whether it is strict code (10.1.1), and what its body
 /// declares (10.5).
@@ -22,24 +13,4 @@ pub struct ScriptFunction<'p> {
     pub is_strict: bool,
     pub declared: Declared,
     ghost declares: { Declares (plain_code function.now.body) declared.variables.items declared.mentions_arguments },
-}
-
-impl<'p> ScriptFunction<'p> {
-    /// A function that stands in code which is strict or not. It takes a walk over its body.
-    pub fn of(
-        alloc: Global,
-        function: &'p Function,
-        is_outer_strict: bool,
-    ) -> Result<ScriptFunction<'p>, NoMemory>
-        ensures { IfOk result (λ made. function_of made
-            ≡ record { func = plain (view_function function.now); strict = strict_in is_outer_strict (view_body function.now.body) }) }
-    {
-        let is_strict = is_strict(is_outer_strict, &function.body);
-        let declared = Declared::of(alloc, &function.body)?;
-        Ok(ScriptFunction {
-            function,
-            is_strict,
-            declared,
-        })
-    }
 }
