@@ -5,10 +5,9 @@ use Rattle.std.specs.Borrow.{Bor}
 use Rattle.jl_ast.specs.View.{view_expression}
 use Rattle.jl_ast.specs.declared.tree.Expr.{Expr}
 use Rattle.jl_value.specs.declared.ending.Completion.{Completion}
-use Rattle.jl_value.specs.declared.ending.Completion.TheVariants as completion
 use Rattle.jl_value.specs.declared.value.Value.{Value}
 use Rattle.jl_op.specs.Operations.{Operation}
-use Rattle.jl_effects.specs.Effects.{and_then, Begin, Change, End, Look, Perform, Step}
+use Rattle.jl_effects.specs.Effects.{and_then, Begin, End, Look, Perform, Step}
 use Rattle.jl_effects.specs.Running.{outcome_then, run, RunState}
 use Rattle.jl_effects.specs.Traces.{quietly}
 use Rattle.jl_effects.proofs.Chains.{and_then-assoc, and_then-end, row-and_then, run-and_then}
@@ -25,7 +24,7 @@ use Rattle.jl_state.specs.StatementFrames.{completion_after, statement_after}
 use Rattle.jl_state.specs.ValueFrames.{value_after}
 use Rattle.jl_state.specs.Jobs.{job}
 use Rattle.jl_state.specs.Rest.{as_completion, as_value, handed, rest, rest_of, run_in, run_state, Completes, Gives, Given, Works}
-use Rattle.jl_state.specs.Rest.{Completion-given, Value-given}
+use Rattle.jl_state.specs.Rest.{Completion-given}
 use Rattle.jl_state.specs.Steps.{AlgorithmWaits, CompletionWaits, StatementWaits, ValueWaits}
 use Rattle.jl_state.specs.Trees.{plain}
 use Rattle.jl_state.specs.Words.{context_of, table_of}

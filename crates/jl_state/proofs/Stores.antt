@@ -1,12 +1,11 @@
 -- What an algorithm that looks at the store and changes it, and calls no function, leaves to do of a state.
-use Rattle.std.proofs.Common.{◌≡◌, List, Bool, refl, sym, ◌∙◌, ap}
-use mathlib.Core.Path.{fun_ext}
+use Rattle.std.proofs.Common.{◌≡◌, List, Bool, sym, ◌∙◌, ap}
 use Rattle.jl_value.specs.declared.ending.Completion.{Completion}
 use Rattle.jl_value.specs.declared.ending.Completion.TheVariants as completion
 use Rattle.jl_value.specs.declared.value.Value.{Value}
 use Rattle.jl_op.specs.Operations.{Operation}
 use Rattle.jl_effects.specs.Effects.{and_then, End}
-use Rattle.jl_effects.specs.Running.{run_to, step, Ends, Fails, Over}
+use Rattle.jl_effects.specs.Running.{step, Ends, Fails, Over}
 use Rattle.jl_effects.specs.Traces.{quietly}
 use Rattle.jl_effects.proofs.Chains.{and_then-assoc, row-and_then}
 use Rattle.jl_meaning.specs.Completions.{on_given}
@@ -16,7 +15,7 @@ use Rattle.jl_store.specs.Comes.{Comes}
 use Rattle.jl_store.proofs.Chains.{comes_fails, comes_runs}
 use Rattle.jl_state.specs.Jobs.{job}
 use Rattle.jl_state.specs.Rest.{as_completion, as_value, handed, rest_after, rest_of, run_in, run_state, Completes, Gives}
-use Rattle.jl_state.specs.Rest.{Completion-given, Given, Works}
+use Rattle.jl_state.specs.Rest.{Completion-given, Works}
 use Rattle.jl_state.specs.Words.{table_of}
 use Rattle.jl_state.specs.declared.act.Act.{Act}
 use Rattle.jl_state.specs.declared.act.Act.TheVariants as act

@@ -1,5 +1,5 @@
 -- What the jobs of a script do, where not every builtin is built yet: a call of one that is not ends the run.
-use Rattle.std.specs.Prelude.{codes, false, if◌then◌else◌, nat_le, true, ◌&&◌, ◌==◌, ◌||◌, Bool, ℕ}
+use Rattle.std.specs.Prelude.{if◌then◌else◌, nat_le, ◌&&◌, ◌==◌, ◌||◌, Bool, ℕ}
 use Rattle.jl_value.specs.declared.ending.Completion.{Completion}
 use Rattle.jl_value.specs.declared.value.Value.{Value}
 use Rattle.jl_heap.specs.Objects.{object_at, Objects}

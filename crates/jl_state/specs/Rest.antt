@@ -1,5 +1,5 @@
 -- What is left to do of a state, and after an act, as a run that records hooks alone.
-use Rattle.std.specs.Prelude.{[], map, ◌++◌, ◌∷◌, ◌≡◌, Bool, List, Option, ℕ}
+use Rattle.std.specs.Prelude.{[], map, ◌∷◌, ◌≡◌, Bool, List, ℕ}
 use Rattle.jl_value.specs.declared.ending.Completion.{Completion}
 use Rattle.jl_value.specs.declared.ending.Completion.TheVariants as completion
 use Rattle.jl_value.specs.declared.ending.Fault.{Fault}
@@ -11,15 +11,13 @@ use Rattle.jl_op.specs.declared.op.Op.TheVariants as op
 use Rattle.jl_effects.specs.Effects.{and_then, Begin, Emit, End, Fail}
 use Rattle.jl_effects.specs.Running.{Fails, Outcome, Over, run, RunState, Spent}
 use Rattle.jl_effects.specs.Traces.{quietly}
-use Rattle.jl_meaning.specs.Changes.{StoreChange}
 use Rattle.jl_meaning.specs.Completions.{if_normal, normal, on_given}
 use Rattle.jl_meaning.specs.Completions as completions
 use Rattle.jl_meaning.specs.Expressions.{evaluate}
 use Rattle.jl_meaning.specs.FunctionObjects.{FunctionTable}
 use Rattle.jl_meaning.specs.Mean.{end_of, language}
 use Rattle.jl_meaning.specs.Noting.{note, performs}
-use Rattle.jl_meaning.specs.Parts.{answer_of, gives, lift, throws, ◌>>=◌, Algorithm, Answer, CallOf, Part}
-use Rattle.jl_meaning.specs.Parts as parts
+use Rattle.jl_meaning.specs.Parts.{answer_of, gives, lift, throws, Algorithm, Answer, CallOf, Part}
 use Rattle.jl_meaning.specs.Statements.{execute}
 use Rattle.jl_meaning.specs.Store.{Store}
 use Rattle.jl_meaning.specs.forms.Functions.{result_of}
@@ -33,13 +31,8 @@ use Rattle.jl_state.specs.Words.{call_of, context_of, table_of, without_innermos
 use Rattle.jl_state.specs.declared.act.Act.{Act}
 use Rattle.jl_state.specs.declared.act.Act.TheVariants as act
 use Rattle.jl_state.specs.declared.calls.Call.{Call}
-use Rattle.jl_state.specs.declared.algorithm_frame.AlgorithmFrame.{AlgorithmFrame}
-use Rattle.jl_state.specs.declared.statement_frame.CompletionFrame.{CompletionFrame}
 use Rattle.jl_state.specs.declared.frame.Frame.{Frame}
 use Rattle.jl_state.specs.declared.frame.Frame.TheVariants as frame
-use Rattle.jl_state.specs.declared.statement_frame.StatementFrame.{StatementFrame}
-use Rattle.jl_state.specs.declared.frame.ToldFrame.{ToldFrame}
-use Rattle.jl_state.specs.declared.value_frame.ValueFrame.{ValueFrame}
 use Rattle.jl_state.specs.declared.state.State.{State}
 use Rattle.std.specs.Borrow.{Bor}
 

@@ -1,9 +1,8 @@
 -- Trees of the code as the definitions of the language see them. The place of a node is an id of the script's own
 -- operations there, which no machine looks at that is told by hooks alone: here it is 0.
-use Rattle.std.specs.Prelude.{drop, map, List, Option, ℕ}
+use Rattle.std.specs.Prelude.{drop, List, ℕ}
 use Rattle.jl_text.specs.declared.span.Span.{Span}
 use Rattle.jl_ast.specs.Spans.{map_forest, map_optional, map_tree}
-use Rattle.jl_ast.specs.Tree as tree
 use Rattle.jl_ast.specs.Tree.{Forest, OptionalTree, Sort, Tree}
 use Rattle.jl_state.specs.declared.remaining.Remaining.{Remaining}
 

@@ -1,6 +1,5 @@
 -- What the code's own types stand for in the definitions of the language.
-use Rattle.std.specs.Prelude.{[], false, if◌then◌else◌, map, true, zero, ◌∷◌, Bool, List, None, Option, Some, ℕ}
-use Rattle.jl_effects.specs.Effects as effects
+use Rattle.std.specs.Prelude.{[], false, map, true, ◌∷◌, Bool, List, None, Option, Some}
 use Rattle.jl_meaning.specs.Conversions.{no_hint, number_hint, string_hint}
 use Rattle.jl_meaning.specs.Conversions as conversions
 use Rattle.jl_meaning.specs.FunctionObjects as functions
@@ -17,7 +16,6 @@ use Rattle.jl_state.specs.declared.calls.Call.{Call}
 use Rattle.jl_state.specs.declared.frame.Here.{Here}
 use Rattle.jl_state.specs.declared.algorithm_frame.Hint.{Hint}
 use Rattle.jl_state.specs.declared.algorithm_frame.Hint.TheVariants as hint
-use Rattle.jl_state.specs.declared.value_frame.Noted.{Noted}
 use Rattle.jl_state.specs.declared.statement_frame.Visit.{Visit}
 use Rattle.jl_state.specs.declared.hook.Hook.{Hook}
 use Rattle.jl_state.specs.declared.hook.Hook.TheVariants as hook

@@ -1,6 +1,7 @@
 //! A function of the script.
+ghost use Rattle.jl_meaning.specs.FunctionObjects.{function_body};
 ghost use Rattle.jl_store.specs.Declarations.{Declares};
-ghost use Rattle.jl_store.specs.Plain.{plain_code};
+ghost use Rattle.jl_store.specs.Plain.{plain_function};
 
 use jl_ast::Function;
 use jl_store::Declared;
@@ -12,5 +13,5 @@ pub struct ScriptFunction<'p> {
     pub function: &'p Function,
     pub is_strict: bool,
     pub declared: Declared,
-    ghost declares: { Declares (plain_code function.now.body) declared.variables.items declared.mentions_arguments },
+    ghost declares: { Declares (function_body (plain_function function.now)) declared.variables.items declared.mentions_arguments },
 }
