@@ -1,0 +1,52 @@
+-- Changes that are left of a list of steps.
+use Rattle.std.proofs.Common.{◌≡◌, ◌∙◌, ℕ, suc, ◌+◌, ◌-◌, ◌<◌, true, Bool, List, ◌∷◌, ap, arith}
+use Rattle.std.proofs.Common.{get_or, drop, length}
+use Rattle.std.proofs.Common.{add-one, drop-cons, subst, sym}
+use Rattle.std.specs.List.{flat_map, list_all, range_with_len}
+use Rattle.jl_meaning.specs.Changes.{StoreChange}
+use Rattle.jl_meaning.specs.Store.{Store}
+use Rattle.jl_realm.specs.inner.Steps.{all_ready, applied, rows}
+use Rattle.jl_realm.proofs.Making.{apart, applied-append, ready-append}
+
+-- these are left to take, and come from a store to another
+pub record Left {X : Type 0} (f : X → List StoreChange) (end : Store) (xs : List X) (s : Store) : Type 0 where
+  pub ready : all_ready (flat_map f xs) s ≡ true
+  pub comes : applied (flat_map f xs) s ≡ end
+
+module _ {X : Type 0} {f : X → List StoreChange} {end s : Store} {x : X} {xs : List X}
+    (left : Left f end (x ∷ xs) s) where
+  pub next_ready : all_ready (f x) s ≡ true
+  next_ready = (apart _ _ (sym (ready-append (f x) (flat_map f xs) s) ∙ left.ready)).0
+
+  pub next_left : (t : Store) → t ≡ applied (f x) s → Left f end xs t
+  next_left t taken = record {
+    ready =
+        ap (all_ready (flat_map f xs)) taken
+        ∙ (apart _ _ (sym (ready-append (f x) (flat_map f xs) s) ∙ left.ready)).1;
+    comes =
+        ap (applied (flat_map f xs)) taken
+        ∙ sym (applied-append (f x) (flat_map f xs) s)
+        ∙ left.comes;
+  }
+
+-- items of a list, from one of them on
+split_at : {X : Type 0} (i : ℕ) (xs : List X) (d : X) → i < length xs → drop i xs ≡ get_or xs i d ∷ drop (i + 1) xs
+split_at i xs d within = drop-cons xs i d within ∙ ap (λ k. get_or xs i d ∷ drop k xs) (sym (add-one i))
+
+pub items_left : {X : Type 0} {f : X → List StoreChange} {end s : Store} (i : ℕ) (xs : List X) (d : X) → i < length xs
+    → Left f end (drop i xs) s → Left f end (get_or xs i d ∷ drop (i + 1) xs) s
+items_left {X} {f} {end} {s} i xs d within left = subst (λ l. Left f end l s) (split_at i xs d within) left
+
+pub all_after : {X : Type 0} (test : X → Bool) (i : ℕ) (xs : List X) (d : X) → i < length xs
+    → list_all test (drop i xs) ≡ true → list_all test (drop (i + 1) xs) ≡ true
+all_after test i xs d within all =
+    let split : list_all test (get_or xs i d ∷ drop (i + 1) xs) ≡ true =
+    subst (λ l. list_all test l ≡ true) (split_at i xs d within) all in
+    (apart (test (get_or xs i d)) (list_all test (drop (i + 1) xs)) split).1
+
+-- rows, from one of them on
+pub rows_left : {f : ℕ → List StoreChange} {end s : Store} (row to : ℕ) → row < to → Left f end (rows row to) s
+    → Left f end (row ∷ rows (row + 1) to) s
+rows_left {f} {end} {s} row to below left =
+    let more : to - row ≡ suc (to - (row + 1)) = omega arith in
+    subst (λ n. Left f end (range_with_len row n) s) more left

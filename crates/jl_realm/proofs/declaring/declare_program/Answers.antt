@@ -1,0 +1,28 @@
+use Rattle.std.proofs.Common.{subst}
+use Rattle.jl_meaning.specs.DeclarationBinding.{declare_global_functions}
+use Rattle.jl_store.specs.Answers.{answered}
+use Rattle.jl_store.specs.Comes.{Comes}
+use Rattle.jl_store.specs.Plain.{code_in, plain_functions}
+use Rattle.jl_realm.proofs.GlobalSteps.{program_comes, program_thrown}
+use Rattle.jl_realm.proofs.Ordinary.{global_stays}
+use Rattle.jl_realm.proofs.declaring.declare_program.Goals as goal
+
+pub declare_variables-requires : goal.declare_variables-requires
+declare_variables-requires c = global_stays c.in_ok-declare_functions.ensures c.requires
+
+pub returns-in_ok-declare_variables-in-Gives : goal.returns-in_ok-declare_variables-in-Gives
+returns-in_ok-declare_variables-in-Gives c =
+    let here = code_in 0 c.args.strict in
+    let fs = c.items.result.now in
+    program_comes c.args.body.now fs c.items.ensures here
+    (subst (λ a. Comes (declare_global_functions (plain_functions fs) here) c.args.store.now
+    c.declare_functions.new.store (answered a)) c.in-Gives.is c.in_ok-declare_functions.ensures)
+    c.in_ok-declare_variables-in-Gives.ensures
+
+pub returns-in-Throws : goal.returns-in-Throws
+returns-in-Throws c =
+    let here = code_in 0 c.args.strict in
+    let fs = c.items.result.now in
+    program_thrown c.args.body.now fs c.items.ensures here
+    (subst (λ a. Comes (declare_global_functions (plain_functions fs) here) c.args.store.now
+    c.declare_functions.new.store (answered a)) c.in-Throws.is c.in_ok-declare_functions.ensures)

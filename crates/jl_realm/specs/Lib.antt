@@ -1,0 +1,2 @@
+pub mod Global
+pub mod inner
