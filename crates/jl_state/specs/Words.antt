@@ -9,6 +9,7 @@ use Rattle.jl_meaning.specs.Parts.{Context, Running}
 use Rattle.jl_meaning.specs.Parts as parts
 use Rattle.jl_meaning.specs.forms.HookCalls as hooks
 use Rattle.jl_meaning.specs.forms.Hooks as pairs
+use Rattle.jl_meaning.specs.forms.Operators.{update_kind}
 use Rattle.jl_ast.specs.View.{view_function}
 use Rattle.jl_state.specs.Trees.{plain}
 use Rattle.jl_state.specs.declared.act.Invocation.{Invocation}
@@ -70,7 +71,7 @@ hook_of (hook.Binary o) = hooks.binary_of o
 hook_of (hook.Unary o) = hooks.unary_of o
 hook_of hook.Gets = hooks.gets
 hook_of hook.Deletes = hooks.deletes
-hook_of (hook.Updates o) = hooks.updates o
+hook_of (hook.Updates up) = hooks.updates (update_kind up)
 
 abbrev pub opener_of : Opener → hooks.Opener
 opener_of opener.Put = hooks.opens_put

@@ -111,7 +111,8 @@ pub enum Hook {
     Unary(UnKind),
     Gets,
     Deletes,
-    Updates(UnKind),
+    /// `++` of a member, or `--` where it doesn't go up.
+    Updates { up: bool },
 }
 
 /// What a hook is asked for that begins a pair of calls, of which the first prepares what the second does.
