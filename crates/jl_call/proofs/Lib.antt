@@ -1,0 +1,11 @@
+pub mod Chains
+pub mod Closings
+pub mod Entries
+pub mod Invocations
+pub mod Literals
+pub mod Methods
+pub mod Pairs
+pub mod Rests
+pub mod Seconds
+pub mod Told
+pub mod Updates

@@ -1,0 +1,7 @@
+use Rattle.jl_call.proofs.Methods.{calls_member}
+use Rattle.jl_call.proofs.callees.call_member.Goals as goal
+
+pub returns-clause-leads : goal.returns-clause-leads
+returns-clause-leads c =
+    calls_member _ _ _ c.args.args c.args.here c.args.base c.in_ok-object.object c.args.key c.in_ok-object.ensures
+    c.in_ok-member_name.ensures.leads

@@ -1,0 +1,6 @@
+use Rattle.jl_call.proofs.Told.{makes_call}
+use Rattle.jl_call.proofs.telling.make_call.Goals as goal
+
+pub returns-clause-leads : goal.returns-clause-leads
+returns-clause-leads c =
+    makes_call _ _ c.args.id c.post.result c.args.call c.post.ensures c.in_ok-push_value.ensures.waits

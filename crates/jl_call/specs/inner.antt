@@ -1,0 +1,2 @@
+pub mod Invoked
+pub mod Notes

@@ -1,0 +1,111 @@
+//! Hooks that give a value.
+ghost use Rattle.std.specs.Prelude.{IfOk};
+ghost use Rattle.jl_meaning.specs.Noting.{emits};
+ghost use Rattle.jl_meaning.specs.Parts.{lift, ◌>>=◌ as ◌then◌};
+ghost use Rattle.jl_meaning.specs.forms.Hooks.{enter_hook, first_of, second_of};
+ghost use Rattle.jl_meaning.specs.forms.Members.{delete_member, get_member, member_name};
+ghost use Rattle.jl_meaning.specs.forms.Operators.{operate};
+ghost use Rattle.jl_state.specs.Rank.{Falls};
+ghost use Rattle.jl_state.specs.Rest.{Gives};
+ghost use Rattle.jl_state.specs.Words.{context_of, hook_of};
+
+use crate::keys::name_member;
+use crate::notes::{ValueNote, emit_entry, emit_exit, emit_literal, emit_type, emit_value};
+use crate::updating::{enter_unary, enter_update};
+use crate::values::{first_of, second_of};
+use jl_ast::BinOp;
+use jl_member::delete_member;
+use jl_op::Op;
+use jl_operator::{emit, operate};
+use jl_state::{Act, Here, Hook, HookId, KeyFor, Noted, State};
+use jl_text::{List, NoMemory};
+use jl_value::Value;
+use std::alloc::Global;
+
+/// A hook is entered with these values: it does what its form does, and emits the operation that the form performs.
+#[tactic(auto, unfolding(jl_meaning::specs::forms::Hooks::enter_hook))]
+pub(crate) fn enter_hook<'p>(
+    alloc: Global,
+    state: &mut State<'p>,
+    id: HookId,
+    hook: Hook,
+    values: &List<Value>,
+    here: Here,
+) -> Result<Act<'p>, NoMemory>
+    ensures leads { IfOk result (λ act. Gives state.old
+        (enter_hook (context_of state.old.calls here) id.id (hook_of hook) values.now) state.new act) }
+    ensures falls { IfOk result (λ act. Falls state.old 150 state.new act) }
+{
+    match hook {
+        Hook::EntersScript => Ok(emit(state, id.first(), Op::ScriptEnter, Value::Undefined)?),
+        Hook::ExitsScript => Ok(emit(state, id.first(), Op::ScriptExit, Value::Undefined)?),
+        Hook::EntersFunction => Ok(emit_entry(state, id)?),
+        Hook::ExitsFunction => Ok(emit_exit(state, id)?),
+        Hook::Makes => Ok(emit_literal(state, id, first_of(alloc, values)?)?),
+        Hook::Reads(name) => Ok(emit_value(alloc, state, id, ValueNote::Read(name), values)?),
+        Hook::Writes(name) => Ok(emit_value(alloc, state, id, ValueNote::Write(name), values)?),
+        Hook::Types(name) => Ok(emit_type(alloc, state, id, name, first_of(alloc, values)?)?),
+        Hook::Catches(name) => Ok(emit_value(alloc, state, id, ValueNote::Catch(name), values)?),
+        Hook::Tests => Ok(emit_value(alloc, state, id, ValueNote::Test, values)?),
+        Hook::Visits => Ok(emit_value(alloc, state, id, ValueNote::Visit, values)?),
+        Hook::Returns => Ok(emit_value(alloc, state, id, ValueNote::Return, values)?),
+        Hook::Throws => Ok(emit_value(alloc, state, id, ValueNote::Throw, values)?),
+        Hook::Binary(op) => Ok(enter_binary(alloc, state, id, op, values)?),
+        Hook::Unary(op) => Ok(enter_unary(alloc, state, id, op, first_of(alloc, values)?)?),
+        Hook::Gets => Ok(enter_get(alloc, state, id, values)?),
+        Hook::Deletes => Ok(enter_delete(alloc, state, id, here.strict, values)?),
+        Hook::Updates { up } => Ok(enter_update(alloc, state, id, here.strict, up, values)?),
+    }
+}
+
+/// A hook of an operator between two operands (11.5 to 11.10).
+fn enter_binary<'p>(
+    alloc: Global,
+    state: &mut State<'p>,
+    id: HookId,
+    op: BinOp,
+    values: &List<Value>,
+) -> Result<Act<'p>, NoMemory>
+    ensures leads { IfOk result (λ act. Gives state.old
+        (operate emits id.id op (first_of values.now) (second_of values.now)) state.new act) }
+    ensures falls { IfOk result (λ act. Falls state.old 46 state.new act) }
+{
+    let left = first_of(alloc, values)?;
+    let right = second_of(alloc, values)?;
+    Ok(operate(alloc, state, true, id.first(), op, left, right)?)
+}
+
+/// A hook of a member that is got (11.2.1).
+fn enter_get<'p>(
+    alloc: Global,
+    state: &mut State<'p>,
+    id: HookId,
+    values: &List<Value>,
+) -> Result<Act<'p>, NoMemory>
+    ensures leads { IfOk result (λ act. Gives state.old
+        (lift (member_name (first_of values.now) (second_of values.now)) then λ x.
+        get_member emits id.id (first_of values.now) x) state.new act) }
+    ensures falls { IfOk result (λ act. Falls state.old 36 state.new act) }
+{
+    let base = first_of(alloc, values)?;
+    let noted = Noted { emits: true, id };
+    Ok(name_member(alloc, state, values, KeyFor::Get { noted, base })?)
+}
+
+/// A hook of a member that is deleted (11.4.1).
+fn enter_delete<'p>(
+    alloc: Global,
+    state: &mut State<'p>,
+    id: HookId,
+    strict: bool,
+    values: &List<Value>,
+) -> Result<Act<'p>, NoMemory>
+    ensures leads { IfOk result (λ act. Gives state.old
+        (delete_member emits id.id strict (first_of values.now) (second_of values.now)) state.new act) }
+    ensures falls { IfOk result (λ act. Falls state.old 30 state.new act) }
+{
+    let base = first_of(alloc, values)?;
+    let key = second_of(alloc, values)?;
+    let noted = Noted { emits: true, id };
+    Ok(delete_member(alloc, state, noted, strict, base, key)?)
+}

@@ -1,0 +1,188 @@
+//! Keys of members, and what their names are for (9.8, 11.2.1).
+ghost use Rattle.std.specs.Prelude.{◌+◌, IfOk};
+ghost use Rattle.jl_meaning.specs.Parts.{lift, ◌>>=◌ as ◌then◌};
+ghost use Rattle.jl_meaning.specs.forms.Hooks.{first_of, second_of};
+ghost use Rattle.jl_meaning.specs.forms.Members.{member_name};
+ghost use Rattle.jl_state.specs.Rank.{Falls, rank_key};
+ghost use Rattle.jl_state.specs.Rest.{Gives};
+ghost use Rattle.jl_state.specs.ValueFrames.{key_after, value_after};
+ghost use Rattle.jl_state.specs.Words.{table_of};
+
+use crate::closing::start_closing;
+use crate::values::{first_of, second_of, text_of};
+use jl_ast::{BinOp, Expr};
+use jl_member::{assign_by_key, delete_by_key, get_by_key, get_member, member_name, update_by_key};
+use jl_state::{Act, Here, HookId, KeyFor, Noted, Pending, State, ValueFrame};
+use jl_text::{List, NoMemory, Text};
+use jl_value::{Value, share};
+use std::alloc::Global;
+
+/// The key of a member is a primitive value (9.8).
+pub fn step_key<'p>(
+    alloc: Global,
+    state: &mut State<'p>,
+    purpose: KeyFor<'p>,
+    v: Value,
+) -> Result<Act<'p>, NoMemory>
+    ensures leads { IfOk result (λ act. Gives state.old
+        (value_after (table_of state.old.functions) state.old.calls (ValueFrame.Key purpose.entry) v) state.new act) }
+    ensures falls { IfOk result (λ act. Falls state.old (rank_key purpose.entry + 2) state.new act) }
+{
+    let name = text_of(alloc, &v)?;
+    Ok(use_name(alloc, state, purpose, name)?)
+}
+
+/// Something is done with the name of a member.
+fn use_name<'p>(
+    alloc: Global,
+    state: &mut State<'p>,
+    purpose: KeyFor<'p>,
+    name: Text,
+) -> Result<Act<'p>, NoMemory>
+    ensures leads { IfOk result (λ act. Gives state.old
+        (key_after (table_of state.old.functions) state.old.calls purpose.entry name) state.new act) }
+    ensures falls { IfOk result (λ act. Falls state.old (rank_key purpose.entry + 2) state.new act) }
+{
+    match purpose {
+        KeyFor::Get { noted, base } => Ok(get_by_key(alloc, state, noted, base, name)?),
+        KeyFor::Call { base, args, here } => {
+            Ok(call_by_key(alloc, state, base, args, here, name)?)
+        }
+        KeyFor::Assign {
+            base,
+            op,
+            value,
+            here,
+        } => Ok(assign_by_key(alloc, state, base, op, value, here, name)?),
+        KeyFor::Delete {
+            noted,
+            base,
+            strict,
+        } => Ok(delete_by_key(alloc, state, noted, base, strict, name)?),
+        KeyFor::Update {
+            noted,
+            base,
+            up,
+            prefix,
+            strict,
+        } => Ok(update_by_key(alloc, state, noted, base, up, prefix, strict, name)?),
+        KeyFor::Put {
+            id,
+            base,
+            args,
+            here,
+        } => Ok(start_closing(alloc, state, Pending::Put { id, base, name }, args, here)?),
+        KeyFor::Compute {
+            id,
+            op,
+            base,
+            args,
+            here,
+        } => Ok(compute_by_key(alloc, state, id, op, base, args, here, name)?),
+        KeyFor::Method {
+            id,
+            base,
+            args,
+            here,
+        } => Ok(method_by_key(alloc, state, id, base, args, here, name)?),
+    }
+}
+
+/// The value of a member is got, and called (11.2.3).
+fn call_by_key<'p>(
+    alloc: Global,
+    state: &mut State<'p>,
+    base: Value,
+    args: &'p List<Expr>,
+    here: Here,
+    name: Text,
+) -> Result<Act<'p>, NoMemory>
+    ensures leads { IfOk result (λ act. Gives state.old
+        (key_after (table_of state.old.functions) state.old.calls (KeyFor.Call base args.entry here) name)
+        state.new act) }
+    ensures falls { IfOk result (λ act. Falls state.old 160 state.new act) }
+{
+    let object = share(alloc, &base)?;
+    state.push_value(ValueFrame::Callee {
+        this: base,
+        by_new: false,
+        args,
+        here,
+    })?;
+    let noted = Noted {
+        emits: false,
+        id: HookId::own(),
+    };
+    Ok(get_member(alloc, state, noted, object, name)?)
+}
+
+/// A hook gets the value of a member, with which an assignment computes (11.13.2).
+fn compute_by_key<'p>(
+    alloc: Global,
+    state: &mut State<'p>,
+    id: HookId,
+    op: BinOp,
+    base: Value,
+    args: &'p List<Expr>,
+    here: Here,
+    name: Text,
+) -> Result<Act<'p>, NoMemory>
+    ensures leads { IfOk result (λ act. Gives state.old
+        (key_after (table_of state.old.functions) state.old.calls (KeyFor.Compute id op base args.entry here) name)
+        state.new act) }
+    ensures falls { IfOk result (λ act. Falls state.old 160 state.new act) }
+{
+    let object = share(alloc, &base)?;
+    let key = name.share(alloc)?;
+    state.push_value(ValueFrame::ComputePending {
+        id,
+        op,
+        base,
+        name,
+        args,
+        here,
+    })?;
+    Ok(get_member(alloc, state, Noted { emits: true, id }, object, key)?)
+}
+
+/// A hook gets the value of a member, which its second call calls (11.2.3).
+fn method_by_key<'p>(
+    alloc: Global,
+    state: &mut State<'p>,
+    id: HookId,
+    base: Value,
+    args: &'p List<Expr>,
+    here: Here,
+    name: Text,
+) -> Result<Act<'p>, NoMemory>
+    ensures leads { IfOk result (λ act. Gives state.old
+        (key_after (table_of state.old.functions) state.old.calls (KeyFor.Method id base args.entry here) name)
+        state.new act) }
+    ensures falls { IfOk result (λ act. Falls state.old 160 state.new act) }
+{
+    let object = share(alloc, &base)?;
+    state.push_value(ValueFrame::MethodPending {
+        id,
+        base,
+        args,
+        here,
+    })?;
+    Ok(get_member(alloc, state, Noted { emits: true, id }, object, name)?)
+}
+
+/// The name of the member is found that a hook is asked for, of which it gets the base and the key.
+pub(crate) fn name_member<'p>(
+    alloc: Global,
+    state: &mut State<'p>,
+    values: &List<Value>,
+    purpose: KeyFor<'p>,
+) -> Result<Act<'p>, NoMemory>
+    ensures leads { IfOk result (λ act. Gives state.old
+        (lift (member_name (first_of values.now) (second_of values.now))
+        then key_after (table_of state.old.functions) state.old.calls purpose.entry) state.new act) }
+    ensures falls { IfOk result (λ act. Falls state.old (rank_key purpose.entry + 20) state.new act) }
+{
+    let base = first_of(alloc, values)?;
+    let key = second_of(alloc, values)?;
+    Ok(member_name(alloc, state, &base, key, purpose)?)
+}

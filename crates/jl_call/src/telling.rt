@@ -1,0 +1,117 @@
+//! What follows once the observer has been told of an operation.
+ghost use Rattle.std.specs.Prelude.{◌≡◌, ◌+◌, IfOk};
+ghost use Rattle.jl_effects.specs.Effects.{Emit};
+ghost use Rattle.jl_meaning.specs.Noting.{emits};
+ghost use Rattle.jl_meaning.specs.Parts.{give, ◌>>=◌ as ◌then◌};
+ghost use Rattle.jl_meaning.specs.Properties.{found_of, property_of_value};
+ghost use Rattle.jl_meaning.specs.forms.Members.{put_member};
+ghost use Rattle.jl_state.specs.Rank.{Falls, rank_told};
+ghost use Rattle.jl_state.specs.Rest.{Gives};
+ghost use Rattle.jl_state.specs.ToldFrames.{told_after};
+
+use jl_algorithm::put;
+use jl_op::{Found, Op, OpId};
+use jl_state::{Act, CallId, Frame, Invocation, State, ToldFrame, ValueFrame};
+use jl_store::Store;
+use jl_text::{NoMemory, Text};
+use jl_value::Value;
+use std::alloc::Global;
+
+/// The observer has been told of an operation.
+pub fn step_told<'p>(
+    alloc: Global,
+    state: &mut State<'p>,
+    frame: ToldFrame,
+) -> Result<Act<'p>, NoMemory>
+    ensures leads { IfOk result (λ act. Gives state.old (told_after frame) state.new act) }
+    ensures falls { IfOk result (λ act. Falls state.old (rank_told frame + 1) state.new act) }
+{
+    match frame {
+        ToldFrame::Give(v) => Ok(Act::Give(v)),
+        ToldFrame::Put {
+            base,
+            name,
+            value,
+            strict,
+            gives,
+        } => Ok(put(alloc, state, strict, base, &name, value, gives)?),
+        ToldFrame::PutMember {
+            id,
+            base,
+            name,
+            value,
+            strict,
+            gives,
+        } => Ok(emit_put(alloc, state, id, strict, base, name, value, gives)?),
+        ToldFrame::Invoke { id, call } => Ok(make_call(state, id, call)?),
+    }
+}
+
+/// A call is made that a hook has emitted, and what it gives is to be emitted.
+fn make_call<'p>(state: &mut State<'p>, id: CallId, call: Invocation) -> Result<Act<'p>, NoMemory>
+    ensures leads { IfOk result (λ act. Gives state.old (told_after (ToldFrame.Invoke id call)) state.new act) }
+    ensures falls { IfOk result (λ act. Falls state.old 8 state.new act) }
+{
+    state.push_value(ValueFrame::EmitInvoke {
+        id: id.post(),
+        callee: call.callee,
+    })?;
+    Ok(Act::Call(call))
+}
+
+/// A hook emits that a value is put to a member, which follows; then another one is given (8.7.2).
+#[tactic(auto, unfolding(jl_meaning::specs::forms::Members::put_member))]
+fn emit_put<'p>(
+    alloc: Global,
+    state: &mut State<'p>,
+    id: OpId,
+    strict: bool,
+    base: Value,
+    name: Text,
+    value: Value,
+    gives: Value,
+) -> Result<Act<'p>, NoMemory>
+    ensures leads { IfOk result (λ act. Gives state.old
+        (put_member emits id.0 strict base name value then λ _. give gives) state.new act) }
+    ensures falls { IfOk result (λ act. Falls state.old 46 state.new act) }
+{
+    let told = Op::PutField {
+        base: state.store.seen(&base)?,
+        name: name.share(alloc)?,
+        value: state.store.seen(&value)?,
+        found: found_of(&state.store, &base, &name),
+    };
+    let frame = ToldFrame::Put {
+        base,
+        name,
+        value,
+        strict,
+        gives,
+    };
+    Ok(emit_for(state, id, told, frame)?)
+}
+
+/// What operations tell of a member of this name.
+fn found_of(store: &Store, base: &Value, name: &Text) -> Found
+    ensures { result ≡ found_of (property_of_value store.now base.now name.now) }
+{
+    match store.property_of_value(base, name) {
+        Some(property) => property.told(),
+        None => Found::Absent,
+    }
+}
+
+/// The observer is told of an operation, and then a frame goes on.
+#[tactic(auto, using(crate::proofs::Told::emits_for))]
+pub(crate) fn emit_for<'p>(
+    state: &mut State<'p>,
+    id: OpId,
+    told: Op,
+    frame: ToldFrame,
+) -> Result<Act<'p>, NoMemory>
+    ensures leads { IfOk result (λ act. Gives state.old (Emit (id, told) (told_after frame)) state.new act) }
+    ensures falls { IfOk result (λ act. Falls state.old (rank_told frame + 2) state.new act) }
+{
+    state.stack.push(Frame::Told(frame))?;
+    Ok(Act::Emit(id, told))
+}

@@ -1,0 +1,147 @@
+//! Hooks of operators on one operand, of `++` and `--` among them (11.3, 11.4).
+ghost use Rattle.std.specs.Prelude.{◌≡◌, ◌+◌, IfOk};
+ghost use Rattle.jl_heap.specs.Describe.{seen_of};
+ghost use Rattle.jl_meaning.specs.Noting.{emits, note};
+ghost use Rattle.jl_meaning.specs.Operators.{give_next};
+ghost use Rattle.jl_meaning.specs.Parts.{give, lift, ◌>>=◌ as ◌then◌};
+ghost use Rattle.jl_meaning.specs.forms.Hooks.{first_of, hooked_unary, hooked_update, second_of};
+ghost use Rattle.jl_meaning.specs.forms.Members.{update_member};
+ghost use Rattle.jl_meaning.specs.forms.Operators.{update_kind};
+ghost use Rattle.jl_state.specs.Rank.{Falls};
+ghost use Rattle.jl_state.specs.Rest.{Gives};
+ghost use Rattle.jl_state.specs.ValueFrames.{value_after};
+ghost use Rattle.jl_state.specs.Words.{table_of};
+
+use crate::values::{first_of, number_of, second_of};
+use jl_algorithm::to_primitive;
+use jl_member::update_member;
+use jl_num::{Num, NumberOutside};
+use jl_op::{Op, UnKind};
+use jl_operator::{next_number, operate_on, step_emit_unary};
+use jl_state::{Act, Hint, HookId, Noted, State, ValueFrame};
+use jl_text::{List, NoMemory};
+use jl_value::{Fault, Value, share};
+use std::alloc::Global;
+
+/// A hook of an operator on one operand.
+#[tactic(auto, using(crate::proofs::Updates::operates_hooked))]
+pub(crate) fn enter_unary<'p>(
+    alloc: Global,
+    state: &mut State<'p>,
+    id: HookId,
+    op: UnKind,
+    v: Value,
+) -> Result<Act<'p>, NoMemory>
+    ensures leads { IfOk result (λ act. Gives state.old (hooked_unary id.id op v) state.new act) }
+    ensures falls { IfOk result (λ act. Falls state.old 46 state.new act) }
+{
+    match op {
+        UnKind::Up => Ok(update_value(alloc, state, id, true, v)?),
+        UnKind::Down => Ok(update_value(alloc, state, id, false, v)?),
+        UnKind::Minus
+        | UnKind::Plus
+        | UnKind::Not
+        | UnKind::Tilde
+        | UnKind::Typeof
+        | UnKind::Void => Ok(operate_on(alloc, state, true, id.first(), op, v)?),
+    }
+}
+
+/// A hook of `++` or `--` on a value, which gives the new value.
+#[tactic(auto, using(crate::proofs::Updates::updates_hooked))]
+fn update_value<'p>(
+    alloc: Global,
+    state: &mut State<'p>,
+    id: HookId,
+    up: bool,
+    v: Value,
+) -> Result<Act<'p>, NoMemory>
+    ensures leads { IfOk result (λ act. Gives state.old (hooked_update id.id (update_kind up) v) state.new act) }
+    ensures falls { IfOk result (λ act. Falls state.old 30 state.new act) }
+{
+    let held = share(alloc, &v)?;
+    state.push_value(ValueFrame::UpdateOperandPrimitive { id, up, held })?;
+    Ok(to_primitive(alloc, state, v, Hint::Number)?)
+}
+
+/// The operand of a hook of `++` or `--` is a primitive value (11.3).
+pub fn step_update_operand_primitive<'p>(
+    alloc: Global,
+    state: &mut State<'p>,
+    id: HookId,
+    up: bool,
+    held: Value,
+    v: Value,
+) -> Result<Act<'p>, NoMemory>
+    ensures leads { IfOk result (λ act. Gives state.old
+        (value_after (table_of state.old.functions) state.old.calls (ValueFrame.UpdateOperandPrimitive id up held) v)
+        state.new act) }
+    ensures falls { IfOk result (λ act. Falls state.old 12 state.new act) }
+{
+    match number_of(&v) {
+        Ok(n) => Ok(emit_next(state, id, update_kind(up), held, n)?),
+        Err(NumberOutside) => Ok(Act::Fault(Fault::NumberOutside)),
+    }
+}
+
+/// A hook emits the number after another one, or before it, and gives it.
+fn emit_next<'p>(
+    state: &mut State<'p>,
+    id: HookId,
+    op: UnKind,
+    held: Value,
+    n: Num,
+) -> Result<Act<'p>, NoMemory>
+    ensures leads { IfOk result (λ act. Gives state.old
+        (lift (give_next op n) then λ w.
+        note emits id.id (λ heap. Op.Unary op (seen_of heap held) (seen_of heap w)) then λ _. give w) state.new act) }
+    ensures falls { IfOk result (λ act. Falls state.old 12 state.new act) }
+{
+    match next_number(op, n) {
+        Ok(next) => Ok(emit_unary(state, id, op, held, Value::Num(next))?),
+        Err(NumberOutside) => Ok(Act::Fault(Fault::NumberOutside)),
+    }
+}
+
+/// A hook emits what an operator on one operand gave, and gives it.
+fn emit_unary<'p>(
+    state: &mut State<'p>,
+    id: HookId,
+    op: UnKind,
+    operand: Value,
+    v: Value,
+) -> Result<Act<'p>, NoMemory>
+    ensures leads { IfOk result (λ act. Gives state.old
+        (note emits id.id (λ heap. Op.Unary op (seen_of heap operand) (seen_of heap v)) then λ _. give v)
+        state.new act) }
+    ensures falls { IfOk result (λ act. Falls state.old 6 state.new act) }
+{
+    Ok(step_emit_unary(state, id.first(), op, operand, v)?)
+}
+
+/// The kind of `++`, or of `--` with `false`.
+fn update_kind(up: bool) -> UnKind
+    ensures { result ≡ update_kind up }
+{
+    if up { UnKind::Up } else { UnKind::Down }
+}
+
+/// A hook of `++` or `--` on a member (11.3, 11.4.4, 11.4.5), which gives the new value.
+pub(crate) fn enter_update<'p>(
+    alloc: Global,
+    state: &mut State<'p>,
+    id: HookId,
+    strict: bool,
+    up: bool,
+    values: &List<Value>,
+) -> Result<Act<'p>, NoMemory>
+    ensures leads { IfOk result (λ act. Gives state.old
+        (update_member emits id.id strict (update_kind up) (first_of values.now) (second_of values.now)
+        then λ r. give r.1) state.new act) }
+    ensures falls { IfOk result (λ act. Falls state.old 146 state.new act) }
+{
+    let noted = Noted { emits: true, id };
+    let base = first_of(alloc, values)?;
+    let key = second_of(alloc, values)?;
+    Ok(update_member(alloc, state, noted, strict, up, true, base, key)?)
+}

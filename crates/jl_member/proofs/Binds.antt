@@ -1,0 +1,35 @@
+-- Parts one after another, as frames put them together.
+use Rattle.std.proofs.Common.{◌≡◌, refl, subst, ap, ◌∙◌}
+use mathlib.Core.Path.{fun_ext}
+use Rattle.jl_value.specs.declared.value.Value.{Value}
+use Rattle.jl_effects.specs.Effects.{and_then}
+use Rattle.jl_effects.proofs.Chains.{and_then-assoc, row-and_then}
+use Rattle.jl_meaning.specs.Parts.{fault_of, given, gives, lift, throws, ◌>>=◌, Algorithm, Answer, CallOf, Part}
+use Rattle.jl_state.specs.Rest.{Gives, Works}
+use Rattle.jl_state.specs.declared.act.Act.{Act}
+use Rattle.jl_state.specs.declared.state.State.{State}
+use Rattle.jl_state.proofs.Steps.{gives_works}
+
+pub bind_assoc : {A B C : Type 0} (p : Part (Answer A)) (k : A → Part (Answer B)) (l : B → Part (Answer C))
+    → (p >>= k >>= l) ≡ (p >>= λ a. k a >>= l)
+bind_assoc {A} {B} {C} p k l = and_then-assoc p (given k) (given l) ∙ ap (and_then p) (fun_ext each)
+  where
+    each : (b : Answer A) → and_then (given k b) (given l) ≡ given (λ a. k a >>= l) b
+    each (gives a) = refl
+    each (throws v) = refl
+
+pub bind_same : {A B : Type 0} (p : Part (Answer A)) (k l : A → Part (Answer B)) → ((a : A) → k a ≡ l a)
+    → (p >>= k) ≡ (p >>= l)
+bind_same {A} {B} p k l same = ap (λ (m : A → Part (Answer B)). p >>= m) (fun_ext same)
+
+-- an algorithm of two algorithms is one after the other
+pub lift_bind : {A B : Type 0} (p : Algorithm A) (k : A → Algorithm B) → lift (p >>= k) ≡ (lift p >>= λ a. lift (k a))
+lift_bind {A} {B} p k = row-and_then CallOf fault_of p (given k) ∙ ap (and_then (lift p)) (fun_ext each)
+  where
+    each : (b : Answer A) → lift (given k b) ≡ given (λ a. lift (k a)) b
+    each (gives a) = refl
+    each (throws v) = refl
+
+pub gives_lifted : {A : Type 0} (s : State) (p : Algorithm A) (k : A → Algorithm Value) (t : State) (a : Act)
+    → Works s (p >>= k) t a → Gives s (lift p >>= λ b. lift (k b)) t a
+gives_lifted s p k t a leads = subst (λ q. Gives s q t a) (lift_bind p k) (gives_works s (p >>= k) t a leads)

@@ -1,0 +1,73 @@
+-- Members that are got.
+use Rattle.std.proofs.Common.{◌≡◌, false, subst, sym, Bool, ℕ}
+use Rattle.jl_value.specs.declared.value.Value.{Value}
+use Rattle.jl_heap.specs.Describe.{seen_of}
+use Rattle.jl_heap.specs.Objects.{Name}
+use Rattle.jl_op.specs.declared.found.Found.{Found}
+use Rattle.jl_op.specs.declared.op.Op.TheVariants as op
+use Rattle.jl_op.specs.declared.op.OpId.{OpId}
+use Rattle.jl_meaning.specs.Getting.{get}
+use Rattle.jl_meaning.specs.Noting.{emits, performs}
+use Rattle.jl_meaning.specs.Parts.{lift, ◌>>=◌, Answer, Part}
+use Rattle.jl_meaning.specs.Properties.{found_of, property_of_value}
+use Rattle.jl_meaning.specs.forms.Members.{get_member, member_name, read_member}
+use Rattle.jl_state.specs.Rest.{Gives, Works}
+use Rattle.jl_state.specs.ValueFrames.{value_after}
+use Rattle.jl_state.specs.Words.{noting, table_of}
+use Rattle.jl_state.specs.declared.act.Act.{Act}
+use Rattle.jl_state.specs.declared.state.State.{State}
+use Rattle.jl_state.specs.declared.value_frame.ValueFrame.TheVariants as waiting
+use Rattle.jl_state.proofs.Steps.{gives_noted, gives_works}
+
+-- by the script
+pub gets_quietly : (s : State) (emitting : Bool) (id : ℕ) (base : Value) (x : Name) (t : State) (a : Act)
+    → emitting ≡ false → Works s (get base x) t a → Gives s (get_member (noting emitting) id base x) t a
+unfolding get_member
+gets_quietly s emitting id base x t a is leads =
+    subst (λ (b : Bool). Gives s (get_member (noting b) id base x) t a) (sym is) (record {
+      is = (gives_noted s
+          (λ store v. (
+            record { 0 = id },
+            op.GetField (seen_of store.heap base) x (seen_of store.heap v)
+                (found_of (property_of_value s.store base x)),
+          )) (lift (get base x)) t a (gives_works s (get base x) t a leads)).is;
+    })
+
+-- by a hook
+
+module _ (s : State) (id : OpId) (base : Value) (x : Name) (t : State) (a : Act) where
+  abbrev Emitted : Value → Name → Found → Type 0
+  Emitted told named found = Gives s
+      (lift (get base x) >>= value_after (table_of s.functions) s.calls (waiting.EmitGet id told named found)) t a
+
+  emitted : Emitted base x (found_of (property_of_value s.store base x)) → Gives s (get_member emits id.0 base x) t a
+  unfolding get_member
+  emitted leads = record { is = leads.is }
+
+  pub gets_and_emits : (told : Value) (named : Name) (found : Found) → told ≡ base → named ≡ x
+      → found ≡ found_of (property_of_value s.store base x) → Emitted told named found
+      → Gives s (get_member emits id.0 base x) t a
+  gets_and_emits told named found same_base same_name is leads =
+      emitted
+      (subst (λ (b : Value). Emitted b x (found_of (property_of_value s.store base x))) same_base
+      (subst (λ (y : Name). Emitted told y (found_of (property_of_value s.store base x))) same_name
+      (subst (λ (f : Found). Emitted told named f) is leads)))
+
+-- the member that a script gets, by the words of any noting
+pub gets_so : (s : State) (emitting : Bool) (id : ℕ) (base : Value) (x : Name)
+    (k : Value → Part (Answer Value)) (t : State) (a : Act) → emitting ≡ false → id ≡ 0
+    → Gives s (get_member (noting emitting) id base x >>= k) t a → Gives s (get_member performs 0 base x >>= k) t a
+gets_so s emitting id base x k t a is first leads =
+    subst (λ (b : Bool). Gives s (get_member (noting b) 0 base x >>= k) t a) is
+    (subst (λ (n : ℕ). Gives s (get_member (noting emitting) n base x >>= k) t a) first leads)
+
+pub reads_member : (s : State) (emitting : Bool) (id : ℕ) (base held key : Value) (t : State) (a : Act)
+    → emitting ≡ false → id ≡ 0 → held ≡ base
+    → Gives s (lift (member_name base key) >>= λ x. get_member (noting emitting) id held x) t a
+    → Gives s (read_member 0 base key) t a
+unfolding read_member
+reads_member s emitting id base held key t a is first same leads =
+    subst (λ (b : Bool). Gives s (lift (member_name base key) >>= λ x. get_member (noting b) 0 base x) t a) is
+    (subst (λ (n : ℕ). Gives s (lift (member_name base key) >>= λ x. get_member (noting emitting) n base x) t a) first
+    (subst (λ (b : Value). Gives s (lift (member_name base key) >>= λ x. get_member (noting emitting) id b x) t a) same
+    leads))

@@ -1,0 +1,11 @@
+pub mod Binds
+pub mod Deletes
+pub mod Gets
+pub mod Keys
+pub mod MemberUpdates
+pub mod NameUpdates
+pub mod Names
+pub mod Operands
+pub mod Puts
+pub mod Quiet
+pub mod Updates

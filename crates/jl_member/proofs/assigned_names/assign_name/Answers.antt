@@ -1,0 +1,13 @@
+use Rattle.std.proofs.Common.{sym, ◌∙◌}
+use Rattle.jl_member.proofs.Names.{assigns, misuses}
+use Rattle.jl_member.proofs.assigned_names.assign_name.Goals as goal
+
+pub returns-then-is_hooks-clause-leads : goal.returns-then-is_hooks-clause-leads
+returns-then-is_hooks-clause-leads c =
+    misuses c.args.state.now c.args.name.now _ (sym c.is_hooks.ensures ∙ c.if-is_hooks.true)
+
+pub returns-clause-leads : goal.returns-clause-leads
+returns-clause-leads c =
+    assigns _ c.args.here c.args.name _ _ _ _
+    (sym c.is_hooks.ensures ∙ c.if-is_hooks.false) c.identifier_reference-reference.ensures
+    c.in_ok-evaluate.ensures.leads

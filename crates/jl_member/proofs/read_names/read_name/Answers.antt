@@ -1,0 +1,14 @@
+use Rattle.std.proofs.Common.{sym, ◌∙◌}
+use Rattle.jl_meaning.specs.forms.Names.{read_name}
+use Rattle.jl_member.proofs.Names.{misuses, reads}
+use Rattle.jl_member.proofs.read_names.read_name.Goals as goal
+
+pub returns-then-is_hooks-clause-leads : goal.returns-then-is_hooks-clause-leads
+unfolding read_name
+returns-then-is_hooks-clause-leads c =
+    misuses c.args.state.now c.args.name.now _ (sym c.is_hooks.ensures ∙ c.if-is_hooks.true)
+
+pub returns-clause-leads : goal.returns-clause-leads
+returns-clause-leads c =
+    reads _ c.args.here c.args.name.now _ _
+    (sym c.is_hooks.ensures ∙ c.if-is_hooks.false) c.in_ok-get_name.ensures.leads

@@ -1,0 +1,51 @@
+//! The numbers of `++` and `--` (11.3, 11.4.4, 11.4.5).
+ghost use Rattle.std.specs.Prelude.{◌≡◌, if◌then◌else◌};
+ghost use Rattle.std.specs.Result.{result_ok};
+ghost use Rattle.jl_value.specs.declared.value.Value.TheVariants as value;
+ghost use Rattle.jl_conv.specs.Conversions.{number_of_value};
+ghost use Rattle.jl_meaning.specs.forms.Operators.{update_kind};
+ghost use Rattle.jl_member.specs.inner.Nexts.{next_of};
+
+use jl_conv::primitive_to_num;
+use jl_num::{Num, NumberOutside};
+use jl_op::UnKind;
+use jl_operator::next_number;
+use jl_value::Value;
+
+/// The operator `++` or `--`.
+pub(crate) fn update_kind(up: bool) -> UnKind
+    ensures { result ≡ update_kind up }
+{
+    if up { UnKind::Up } else { UnKind::Down }
+}
+
+/// ToNumber of a primitive value (9.3). Refused for an object, too, which no conversion gives.
+fn number_of(p: &Value) -> Result<Num, NumberOutside>
+    ensures { result_ok result ≡ number_of_value p.now }
+{
+    match p {
+        Value::Obj(_) => Err(NumberOutside),
+        _ => primitive_to_num(p),
+    }
+}
+
+/// A primitive value as a number, and the number after or before it. Refused exactly where one of them is none of a
+/// script.
+pub(crate) fn next_of(up: bool, p: &Value) -> Result<(Num, Num), NumberOutside>
+    ensures { result_ok result ≡ next_of (update_kind up) p.now }
+{
+    let n = number_of(p)?;
+    let next = next_number(update_kind(up), n)?;
+    Ok((n, next))
+}
+
+/// The value of an update: the new one with the operator before the operand, or the number that it was.
+pub(crate) fn value_of_update(prefix: bool, n: Num, next: Num) -> Value
+    ensures { result ≡ (if prefix then value.Num next else value.Num n) }
+{
+    if prefix {
+        Value::Num(next)
+    } else {
+        Value::Num(n)
+    }
+}

@@ -1,0 +1,251 @@
+//! `++` and `--` of members (11.3, 11.4.4, 11.4.5).
+ghost use Rattle.std.specs.Prelude.{◌+◌, if◌then◌else◌, IfOk};
+ghost use Rattle.jl_heap.specs.Describe.{seen_of};
+ghost use Rattle.jl_value.specs.declared.value.Value.TheVariants as value;
+ghost use Rattle.jl_meaning.specs.Noting.{note};
+ghost use Rattle.jl_meaning.specs.Parts.{give, ◌>>=◌ as ◌then◌};
+ghost use Rattle.jl_meaning.specs.forms.Members.{put_member, update_expression, update_member};
+ghost use Rattle.jl_meaning.specs.forms.Operators.{update_kind};
+ghost use Rattle.jl_op.specs.declared.op.Op.TheVariants as op;
+ghost use Rattle.jl_state.specs.Rank.{Falls};
+ghost use Rattle.jl_state.specs.Rest.{Gives};
+ghost use Rattle.jl_state.specs.ValueFrames.{key_after, value_after};
+ghost use Rattle.jl_state.specs.Words.{context_of, noting, table_of};
+
+use crate::members::{by_script, member_name};
+use crate::nexts::{next_of, update_kind, value_of_update};
+use crate::put_members::put_member;
+use crate::read_members::get_member;
+use jl_algorithm::to_primitive;
+use jl_ast::Expr;
+use jl_num::{Num, NumberOutside};
+use jl_op::Op;
+use jl_state::{Act, Frame, Here, Hint, KeyFor, Noted, State, ToldFrame, ValueFrame};
+use jl_text::{NoMemory, Text};
+use jl_value::{Fault, Value, share};
+use std::alloc::Global;
+
+/// `++` or `--` of a member (11.3, 11.4.4, 11.4.5): the new value, or the number that it was.
+pub fn update_member<'p>(
+    alloc: Global,
+    state: &mut State<'p>,
+    noted: Noted,
+    strict: bool,
+    up: bool,
+    prefix: bool,
+    base: Value,
+    key: Value,
+) -> Result<Act<'p>, NoMemory>
+    ensures leads { IfOk result (λ act. Gives state.old
+        (update_member (noting noted.emits) noted.id.id strict (update_kind up) base key
+        then λ v. give (if prefix then v.1 else value.Num v.0)) state.new act) }
+    ensures falls { IfOk result (λ act. Falls state.old 146 state.new act) }
+{
+    let purpose = KeyFor::Update {
+        noted,
+        base: share(alloc, &base)?,
+        up,
+        prefix,
+        strict,
+    };
+    Ok(member_name(alloc, state, &base, key, purpose)?)
+}
+
+/// `++` or `--` of a member whose name has been found.
+pub fn update_by_key<'p>(
+    alloc: Global,
+    state: &mut State<'p>,
+    noted: Noted,
+    base: Value,
+    up: bool,
+    prefix: bool,
+    strict: bool,
+    name: Text,
+) -> Result<Act<'p>, NoMemory>
+    ensures leads { IfOk result (λ act. Gives state.old (key_after (table_of state.old.functions) state.old.calls
+        (KeyFor.Update noted base up prefix strict) name) state.new act) }
+    ensures falls { IfOk result (λ act. Falls state.old 120 state.new act) }
+{
+    state.push_value(ValueFrame::UpdateMember {
+        noted,
+        base: share(alloc, &base)?,
+        name: name.share(alloc)?,
+        up,
+        prefix,
+        strict,
+    })?;
+    Ok(get_member(alloc, state, noted, base, name)?)
+}
+
+/// `++` or `--` of a member as an expression of the script.
+fn update_expression<'p>(
+    alloc: Global,
+    state: &mut State<'p>,
+    strict: bool,
+    up: bool,
+    prefix: bool,
+    base: Value,
+    key: Value,
+) -> Result<Act<'p>, NoMemory>
+    ensures leads { IfOk result (λ act. Gives state.old (update_expression 0
+        (context_of state.old.calls (record { env = 0; strict = strict })) base key up prefix) state.new act) }
+    ensures falls { IfOk result (λ act. Falls state.old 146 state.new act) }
+{
+    let noted = by_script();
+    Ok(update_member(alloc, state, noted, strict, up, prefix, base, key)?)
+}
+
+/// `++` or `--` of `o.k` goes on with o.
+pub fn step_update_dot_base<'p>(
+    alloc: Global,
+    state: &mut State<'p>,
+    key: &'p Text,
+    up: bool,
+    prefix: bool,
+    strict: bool,
+    v: Value,
+) -> Result<Act<'p>, NoMemory>
+    ensures leads { IfOk result (λ act. Gives state.old (value_after (table_of state.old.functions) state.old.calls
+        (ValueFrame.UpdateDotBase key.entry up prefix strict) v) state.new act) }
+    ensures falls { IfOk result (λ act. Falls state.old 150 state.new act) }
+{
+    let key = Value::Text(key.share(alloc)?);
+    Ok(update_expression(alloc, state, strict, up, prefix, v, key)?)
+}
+
+/// `++` or `--` of `o[k]` goes on with o.
+#[tactic(auto, unfolding(jl_meaning::specs::forms::Members::update_expression))]
+pub fn step_update_index_base<'p>(
+    state: &mut State<'p>,
+    key: &'p Expr,
+    up: bool,
+    prefix: bool,
+    here: Here,
+    v: Value,
+) -> Result<Act<'p>, NoMemory>
+    ensures leads { IfOk result (λ act. Gives state.old (value_after (table_of state.old.functions) state.old.calls
+        (ValueFrame.UpdateIndexBase key.entry up prefix here) v) state.new act) }
+    ensures falls { IfOk result (λ act. Falls state.old 154 state.new act) }
+{
+    let frame = ValueFrame::UpdateIndexKey {
+        base: v,
+        up,
+        prefix,
+        strict: here.strict,
+    };
+    Ok(state.evaluate(frame, key, here)?)
+}
+
+/// `++` or `--` of `o[k]` goes on with k.
+pub fn step_update_index_key<'p>(
+    alloc: Global,
+    state: &mut State<'p>,
+    base: Value,
+    up: bool,
+    prefix: bool,
+    strict: bool,
+    v: Value,
+) -> Result<Act<'p>, NoMemory>
+    ensures leads { IfOk result (λ act. Gives state.old (value_after (table_of state.old.functions) state.old.calls
+        (ValueFrame.UpdateIndexKey base up prefix strict) v) state.new act) }
+    ensures falls { IfOk result (λ act. Falls state.old 150 state.new act) }
+{
+    Ok(update_expression(alloc, state, strict, up, prefix, base, v)?)
+}
+
+/// Goes on with the value of the member, which is converted to a primitive one.
+pub fn step_update_member<'p>(
+    alloc: Global,
+    state: &mut State<'p>,
+    noted: Noted,
+    base: Value,
+    name: Text,
+    up: bool,
+    prefix: bool,
+    strict: bool,
+    v: Value,
+) -> Result<Act<'p>, NoMemory>
+    ensures leads { IfOk result (λ act. Gives state.old (value_after (table_of state.old.functions) state.old.calls
+        (ValueFrame.UpdateMember noted base name up prefix strict) v) state.new act) }
+    ensures falls { IfOk result (λ act. Falls state.old 90 state.new act) }
+{
+    let held = share(alloc, &v)?;
+    state.push_value(ValueFrame::UpdateMemberPrimitive {
+        noted,
+        base,
+        name,
+        up,
+        prefix,
+        strict,
+        held,
+    })?;
+    Ok(to_primitive(alloc, state, v, Hint::Number)?)
+}
+
+/// Goes on with the primitive value: the number after or before it is put to the member.
+pub fn step_update_member_primitive<'p>(
+    alloc: Global,
+    state: &mut State<'p>,
+    noted: Noted,
+    base: Value,
+    name: Text,
+    up: bool,
+    prefix: bool,
+    strict: bool,
+    held: Value,
+    v: Value,
+) -> Result<Act<'p>, NoMemory>
+    ensures leads { IfOk result (λ act. Gives state.old (value_after (table_of state.old.functions) state.old.calls
+        (ValueFrame.UpdateMemberPrimitive noted base name up prefix strict held) v) state.new act) }
+    ensures falls { IfOk result (λ act. Falls state.old 64 state.new act) }
+{
+    match next_of(up, &v) {
+        Ok((n, next)) => {
+            let given = value_of_update(prefix, n, next);
+            Ok(put_next(
+                alloc, state, noted, base, name, up, strict, &held, next, given,
+            )?)
+        }
+        Err(NumberOutside) => Ok(Act::Fault(Fault::NumberOutside)),
+    }
+}
+
+/// The number after or before what a member held is put to it, and a value given. A hook emits both first.
+fn put_next<'p>(
+    alloc: Global,
+    state: &mut State<'p>,
+    noted: Noted,
+    base: Value,
+    name: Text,
+    up: bool,
+    strict: bool,
+    held: &Value,
+    next: Num,
+    gives: Value,
+) -> Result<Act<'p>, NoMemory>
+    ensures leads { IfOk result (λ act. Gives state.old (note (noting noted.emits) (noted.id.id + 1)
+        (λ heap. op.Unary (update_kind up) (seen_of heap held.now) (seen_of heap (value.Num next)))
+        then (λ _. put_member (noting noted.emits) (noted.id.id + 2) strict base name (value.Num next)
+        then λ _. give gives)) state.new act) }
+    ensures falls { IfOk result (λ act. Falls state.old 62 state.new act) }
+{
+    let id = noted.id.third();
+    let value = Value::Num(next);
+    if !noted.emits {
+        return Ok(put_member(alloc, state, false, id, strict, base, name, value, gives)?);
+    }
+    let told = Op::Unary {
+        op: update_kind(up),
+        operand: state.store.seen(held)?,
+        result: state.store.seen(&value)?,
+    };
+    state.stack.push(Frame::Told(ToldFrame::PutMember {
+        id,
+        base,
+        name,
+        value,
+        strict,
+        gives,
+    }))?;
+    Ok(Act::Emit(noted.id.second(), told))
+}
