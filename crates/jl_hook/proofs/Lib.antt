@@ -1,0 +1,3 @@
+pub mod HookCalls
+pub mod HookTable
+pub mod Spelled

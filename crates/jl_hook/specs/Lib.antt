@@ -1,0 +1,2 @@
+pub mod HookForms
+pub mod inner
