@@ -1,0 +1,7 @@
+pub mod Bodies
+pub mod Callees
+pub mod Constructions
+pub mod Entries
+pub mod Messages
+pub mod Lines
+pub mod Rows

@@ -1,0 +1,151 @@
+//! `print` and `console.log`.
+ghost use Rattle.std.specs.Prelude.{◌≡◌, ◌∷◌, ◌++◌, ◌+◌, [], false, nat_le, IfOk, OnOk};
+ghost use Rattle.jl_conv.specs.Conversions.{text_of_value};
+ghost use Rattle.jl_effects.specs.Effects.{Step};
+ghost use Rattle.jl_meaning.specs.Conversions.{to_string};
+ghost use Rattle.jl_meaning.specs.Parts.{◌>>=◌ as ◌then◌};
+ghost use Rattle.jl_meaning.specs.builtins.Global.{print_all, print_line, print_others};
+ghost use Rattle.jl_state.specs.AlgorithmFrames.{line_with};
+ghost use Rattle.jl_state.specs.Rank.{Falls};
+ghost use Rattle.jl_state.specs.Rest.{Works};
+
+use crate::lists::{copy_of, with_units};
+use crate::texts::text_of;
+use jl_algorithm::to_primitive;
+use jl_state::{Act, AlgorithmFrame, Hint, Progress, State};
+use jl_text::{List, NoMemory, to_utf8};
+use jl_value::{Fault, Value, share};
+use std::alloc::Global;
+
+/// The most bytes that a run prints.
+const OUTPUT_LIMIT: usize = 16_777_216;
+
+/// Whether a line of so many bytes, and its end, has room after so many.
+fn has_room(printed: usize, line: usize) -> bool
+    ensures { result ≡ nat_le (printed + (line + 1)) 16777216 }
+{
+    printed < OUTPUT_LIMIT && line < OUTPUT_LIMIT - printed
+}
+
+/// A line comes last in the output.
+fn append_line(output: &mut List<u8>, line: &[u8]) -> Result<(), NoMemory>
+    ensures { OnOk result (output.new ≡ output.old ++ line.now ++ 10 ∷ []) }
+{
+    for byte in line {
+        output.push(*byte)?;
+    }
+    output.push(b'\n')?;
+    Ok(())
+}
+
+/// A line is printed in UTF-8, where there is room for it.
+fn print_line<'p>(alloc: Global, state: &mut State<'p>, units: &[u16]) -> Result<Act<'p>, NoMemory>
+    ensures leads { IfOk result (λ act. Works state.old (print_line units.now) state.new act) }
+    ensures falls { IfOk result (λ act. Falls state.old 3 state.new act) }
+{
+    let bytes = to_utf8(alloc, units)?;
+    let line = bytes.as_slice();
+    if !has_room(state.output.len(), line.len()) {
+        return Ok(Act::Fault(Fault::OutputTooLong));
+    }
+    append_line(&mut state.output, line)?;
+    Ok(Act::Give(Value::Undefined))
+}
+
+/// The line with one more argument, after a space if it isn't the first.
+fn line_with(
+    alloc: Global,
+    line: List<u16>,
+    is_first: bool,
+    units: &[u16],
+) -> Result<List<u16>, NoMemory>
+    ensures { IfOk result (λ longer. longer ≡ line_with line is_first units.now) }
+{
+    if is_first {
+        return with_units(List::new(alloc), units);
+    }
+    let spaced = with_units(line, &[32])?;
+    with_units(spaced, units)
+}
+
+/// An argument takes a step, and is converted; those after it wait.
+fn print_argument<'p>(
+    alloc: Global,
+    state: &mut State<'p>,
+    line: List<u16>,
+    is_first: bool,
+    v: Value,
+    rest: List<Value>,
+) -> Result<Act<'p>, NoMemory>
+    ensures leads { IfOk result (λ act. Works state.old
+        (Step (to_string v then λ units. print_others (line_with line is_first units) rest)) state.new act) }
+    ensures falls { IfOk result (λ act. Falls state.old 1 state.new act) }
+{
+    if !state.spend() {
+        return Ok(Act::Spent);
+    }
+    state.push_algorithm(AlgorithmFrame::Builtin(Progress::Print {
+        line,
+        is_first,
+        rest,
+    }))?;
+    Ok(to_primitive(alloc, state, v, Hint::Text)?)
+}
+
+/// The arguments after those that the line has, or the end of the line.
+fn print_others<'p>(
+    alloc: Global,
+    state: &mut State<'p>,
+    line: List<u16>,
+    rest: &[Value],
+) -> Result<Act<'p>, NoMemory>
+    ensures leads { IfOk result (λ act. Works state.old (print_others line rest.now) state.new act) }
+    ensures falls { IfOk result (λ act. Falls state.old 3 state.new act) }
+{
+    match rest.split_first() {
+        None => Ok(print_line(alloc, state, line.items())?),
+        Some((first, others)) => {
+            let first = share(alloc, first)?;
+            let others = copy_of(alloc, others)?;
+            Ok(print_argument(alloc, state, line, false, first, others)?)
+        }
+    }
+}
+
+/// `print(..)` and `console.log(..)`: the arguments as strings, with a space between each two.
+pub(crate) fn print<'p>(
+    alloc: Global,
+    state: &mut State<'p>,
+    args: &[Value],
+) -> Result<Act<'p>, NoMemory>
+    ensures leads { IfOk result (λ act. Works state.old (print_all args.now) state.new act) }
+    ensures falls { IfOk result (λ act. Falls state.old 3 state.new act) }
+{
+    let line = List::new(alloc);
+    match args.split_first() {
+        None => Ok(print_line(alloc, state, line.items())?),
+        Some((first, others)) => {
+            let first = share(alloc, first)?;
+            let others = copy_of(alloc, others)?;
+            Ok(print_argument(alloc, state, line, true, first, others)?)
+        }
+    }
+}
+
+/// Goes on with an argument that has been converted.
+pub(crate) fn step_print<'p>(
+    alloc: Global,
+    state: &mut State<'p>,
+    line: List<u16>,
+    is_first: bool,
+    rest: &[Value],
+    p: &Value,
+) -> Result<Act<'p>, NoMemory>
+    ensures leads { IfOk result (λ act. Works state.old
+        (print_others (line_with line is_first (text_of_value p.now)) rest.now) state.new act) }
+    ensures falls { IfOk result (λ act. Falls state.old 3 state.new act) }
+{
+    let text = text_of(alloc, p)?;
+    let line = line_with(alloc, line, is_first, text.units())?;
+    Ok(print_others(alloc, state, line, rest)?)
+}

@@ -1,0 +1,13 @@
+pub mod Begun
+pub mod Catching
+pub mod Declaring
+pub mod Dispatched
+pub mod Dropped
+pub mod Executes
+pub mod Followed
+pub mod Gathered
+pub mod Heading
+pub mod Selecting
+pub mod Trying
+pub mod Turning
+pub mod Visiting

@@ -1,0 +1,16 @@
+use Rattle.std.proofs.Common.{refl}
+use Rattle.jl_ast.specs.View.{view_statement}
+use Rattle.jl_state.specs.Trees.{plain}
+use Rattle.jl_statement.specs.inner.Beginnings.{labels_seen}
+use Rattle.jl_statement.proofs.Begun.{begins, spent}
+use Rattle.jl_statement.proofs.beginning.begin_statement.Goals as goal
+
+pub returns-then-not-spend-clause-leads : goal.returns-then-not-spend-clause-leads
+returns-then-not-spend-clause-leads c =
+    spent _ _ (plain (view_statement c.args.t.now)) (labels_seen c.args.labels) c.args.here
+    (c.if-not-spend.ensures.ran_out refl) (c.if-not-spend.ensures.same refl)
+
+pub returns-clause-leads : goal.returns-clause-leads
+returns-clause-leads c =
+    begins _ _ (plain (view_statement c.args.t.now)) (labels_seen c.args.labels) c.args.here _ _
+    (c.if-not-spend.ensures.took refl) (c.if-not-spend.ensures.left refl) c.in_ok-begin_kind.ensures.leads

@@ -1,0 +1,12 @@
+use Rattle.jl_statement.specs.inner.Turns.{visits_seen}
+use Rattle.jl_statement.proofs.Visiting.{visited_none, visited_some}
+use Rattle.jl_statement.proofs.for_in.visit_next.Goals as goal
+
+pub returns-in-None-clause-leads : goal.returns-in-None-clause-leads
+returns-in-None-clause-leads c =
+    visited_none _ _ _ _ _ (visits_seen c.args.visits) _ c.in_ok-next_visit.ensures c.in-None.is
+
+pub returns-clause-leads : goal.returns-clause-leads
+returns-clause-leads c =
+    visited_some _ _ _ _ _ (visits_seen c.args.visits) _ _ _ _ _ c.in_ok-next_visit.ensures c.in-Some.is
+    c.in_ok-begin_visit-in-Some.ensures.leads

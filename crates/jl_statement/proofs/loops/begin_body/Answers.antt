@@ -1,0 +1,7 @@
+use Rattle.jl_statement.proofs.Turning.{bodies}
+use Rattle.jl_statement.proofs.loops.begin_body.Goals as goal
+
+pub returns-clause-leads : goal.returns-clause-leads
+returns-clause-leads c =
+    bodies _ _ _ _ _ _ c.in_ok-push_completion.ensures.pushed c.body_of-body.ensures
+    c.in_ok-begin_statements.ensures.leads

@@ -1,0 +1,11 @@
+use Rattle.jl_statement.proofs.Selecting.{from_none, from_selected}
+use Rattle.jl_statement.proofs.switches.begin_from.Goals as goal
+
+pub returns-in-None-clause-leads : goal.returns-in-None-clause-leads
+returns-in-None-clause-leads c =
+    from_none _ _ c.args.selected c.args.cases.now c.args.here c.in-None.is c.in_ok-push_completion.ensures.pushed
+
+pub returns-in_ok-begin_clauses-in-Some-clause-leads : goal.returns-in_ok-begin_clauses-in-Some-clause-leads
+returns-in_ok-begin_clauses-in-Some-clause-leads c =
+    from_selected _ _ c.args.selected _ c.args.cases.now c.args.here _ _ c.in-Some.is
+    c.in_ok-push_completion.ensures.pushed c.in_ok-begin_clauses-in-Some.ensures.leads

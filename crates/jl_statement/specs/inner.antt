@@ -1,0 +1,6 @@
+pub mod Beginnings
+pub mod Declarators
+pub mod Ends
+pub mod Selections
+pub mod Turns
+pub mod Visited

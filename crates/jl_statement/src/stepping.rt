@@ -1,0 +1,95 @@
+//! Statements gone on with (clause 12).
+ghost use Rattle.std.specs.Prelude.{◌+◌, IfOk};
+ghost use Rattle.jl_state.specs.Rank.{Falls, rank_completion, rank_statement};
+ghost use Rattle.jl_state.specs.Rest.{Completes};
+ghost use Rattle.jl_state.specs.StatementFrames.{completion_after, statement_after};
+ghost use Rattle.jl_state.specs.Words.{table_of};
+
+use crate::choices::step_if;
+use crate::completions::{after_labelled, after_switch, unless_abrupt};
+use crate::executing::step_statements;
+use crate::for_in::step_for_in_object;
+use crate::jumps::{step_return, step_throw};
+use crate::loops::{begin_body, begin_turn, step_body, step_test};
+use crate::switches::{step_case_test, step_clauses, step_switch};
+use crate::tries::{begin_finally, step_try};
+use crate::variables::{declare_head, declare_variables};
+use jl_state::{Act, CompletionFrame, State, StatementFrame};
+use jl_text::NoMemory;
+use jl_value::{Completion, Value};
+use std::alloc::Global;
+
+/// A statement goes on with the value that it waited for.
+pub fn step_statement<'p>(
+    alloc: Global,
+    state: &mut State<'p>,
+    frame: StatementFrame<'p>,
+    v: Value,
+) -> Result<Act<'p>, NoMemory>
+    ensures leads { IfOk result (λ act. Completes state.old
+        (statement_after (table_of state.old.functions) state.old.calls frame.entry v) state.new act) }
+    ensures falls { IfOk result (λ act. Falls state.old (rank_statement frame.entry + 2) state.new act) }
+{
+    match frame {
+        StatementFrame::Expression => Ok(Act::Complete(Completion::Normal)),
+        StatementFrame::Variables { rest, here } => Ok(declare_variables(
+            alloc, state, rest, here,
+        )?),
+        StatementFrame::ForHead { rest, turn } => Ok(declare_head(alloc, state, rest, turn)?),
+        StatementFrame::ForExpression { turn } => Ok(begin_turn(alloc, state, turn)?),
+        StatementFrame::If {
+            then,
+            otherwise,
+            here,
+        } => Ok(step_if(alloc, state, then, otherwise, here, v)?),
+        StatementFrame::ForInObject {
+            variable,
+            body,
+            here,
+            labels,
+        } => Ok(step_for_in_object(alloc, state, variable, body, here, labels, v)?),
+        StatementFrame::ForInBody { turn } => Ok(begin_body(alloc, state, turn)?),
+        StatementFrame::Test { turn } => Ok(step_test(alloc, state, turn, v)?),
+        StatementFrame::Update { turn } => Ok(begin_turn(alloc, state, turn)?),
+        StatementFrame::Return => Ok(step_return(state, v)?),
+        StatementFrame::Throw => Ok(step_throw(state, v)?),
+        StatementFrame::Switch { cases, here } => Ok(step_switch(alloc, state, cases, here, v)?),
+        StatementFrame::CaseTest {
+            value,
+            index,
+            cases,
+            here,
+        } => Ok(step_case_test(alloc, state, value, index, cases, here, v)?),
+    }
+}
+
+/// A statement goes on after another one has completed.
+pub fn step_completion<'p>(
+    alloc: Global,
+    state: &mut State<'p>,
+    frame: CompletionFrame<'p>,
+    how: Completion,
+) -> Result<Act<'p>, NoMemory>
+    ensures leads { IfOk result (λ act. Completes state.old
+        (completion_after (table_of state.old.functions) state.old.calls frame.entry how) state.new act) }
+    ensures falls { IfOk result (λ act. Falls state.old (rank_completion frame.entry + 2) state.new act) }
+{
+    match frame {
+        CompletionFrame::Statements { rest, here } => Ok(step_statements(
+            alloc, state, rest, here, how,
+        )?),
+        CompletionFrame::Clauses { rest, here } => Ok(step_clauses(alloc, state, rest, here, how)?),
+        CompletionFrame::Switch => Ok(Act::Complete(after_switch(how))),
+        CompletionFrame::Labelled { label } => Ok(Act::Complete(after_labelled(label, how))),
+        CompletionFrame::LoopBody { turn } => Ok(step_body(alloc, state, turn, how)?),
+        CompletionFrame::TryBlock {
+            catch,
+            finally,
+            here,
+        } => Ok(step_try(alloc, state, catch, finally, here, how)?),
+        CompletionFrame::CatchBlock { finally, here } => {
+            Ok(begin_finally(alloc, state, finally, how, here)?)
+        }
+        CompletionFrame::FinallyBlock { before } => Ok(Act::Complete(unless_abrupt(before, how))),
+    }
+}
