@@ -1,5 +1,5 @@
 -- What is caught (12.14).
-use Rattle.std.proofs.Common.{◌≡◌, List, Some, ap, refl, subst}
+use Rattle.std.proofs.Common.{◌≡◌, List, Some, ap, subst}
 use Rattle.jl_ast.specs.View.{view_catch, view_statements}
 use Rattle.jl_ast.specs.declared.tree.Ident.{Ident}
 use Rattle.jl_ast.specs.declared.tree.Stmt.{Stmt}

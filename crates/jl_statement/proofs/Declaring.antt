@@ -1,5 +1,5 @@
 -- Declarators of variables (12.2).
-use Rattle.std.proofs.Common.{◌≡◌, ◌+◌, ◌<◌, ◌≤◌, ◌∷◌, [], List, None, Option, Some, ℕ, ap, arith, drop}
+use Rattle.std.proofs.Common.{◌≡◌, ◌+◌, ◌<◌, ◌≤◌, ◌∷◌, List, None, Option, Some, ℕ, ap, arith, drop}
 use Rattle.std.proofs.Common.{length, length-drop, refl, sym}
 use Rattle.std.proofs.Common.{◌∙◌, option_map, subst}
 use mathlib.Core.Path.{fun_ext}

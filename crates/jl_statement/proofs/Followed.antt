@@ -1,9 +1,6 @@
 -- Parts that give a value, and the statements that follow them.
-use Rattle.std.proofs.Common.{◌≡◌, Bool, List, Option, Some, refl, sym, ap, ◌∙◌, subst}
+use Rattle.std.proofs.Common.{◌≡◌, Bool, refl, sym, ap, ◌∙◌, subst}
 use mathlib.Core.Path.{fun_ext}
-use Rattle.std.specs.Borrow.{Bor}
-use Rattle.jl_ast.specs.View.{view_expression}
-use Rattle.jl_ast.specs.declared.tree.Expr.{Expr}
 use Rattle.jl_value.specs.declared.ending.Completion.{Completion}
 use Rattle.jl_value.specs.declared.value.Value.{Value}
 use Rattle.jl_conv.specs.Conversions.{truth_of}

@@ -17,7 +17,7 @@ use Rattle.jl_conv.specs.Comparisons.{strictly_equal}
 use Rattle.jl_meaning.specs.Completions.{ends_as, normal, on_given, then_do}
 use Rattle.jl_meaning.specs.Expressions.{evaluate}
 use Rattle.jl_meaning.specs.FunctionObjects.{FunctionTable}
-use Rattle.jl_meaning.specs.Parts.{give, ◌>>=◌, Answer, Context, Part}
+use Rattle.jl_meaning.specs.Parts.{give, Answer, Context, Part}
 use Rattle.jl_meaning.specs.Statements.{execute_all, execute_clause, execute_from, select}
 use Rattle.jl_meaning.specs.forms.Switch.{after_switch, default_of, gives_value, select_first}
 use Rattle.jl_state.specs.Rest.{Completes}

@@ -1,5 +1,5 @@
 -- The parts of a `try` (12.14).
-use Rattle.std.proofs.Common.{◌≡◌, ◌∷◌, List, None, Option, Some, ap, sym, subst}
+use Rattle.std.proofs.Common.{◌≡◌, ◌∷◌, List, None, Option, Some, sym, subst}
 use Rattle.std.specs.Borrow.{Bor}
 use Rattle.jl_ast.specs.View.{view_branch, view_catch, view_statements}
 use Rattle.jl_ast.specs.declared.tree.Ident.{Ident}

@@ -1,12 +1,12 @@
 -- Turns of loops (12.6).
 use Rattle.std.proofs.Common.{◌≡◌, ◌-◌, ◌∷◌, Bool, List, None, Option, Some, ℕ, false, true}
-use Rattle.std.proofs.Common.{ap, if◌then◌else◌, refl, sym, ◌∙◌, subst}
+use Rattle.std.proofs.Common.{ap, if◌then◌else◌, refl, sym, subst}
 use Rattle.std.specs.Borrow.{Bor}
 use Rattle.jl_value.specs.declared.ending.Completion.{Completion}
 use Rattle.jl_value.specs.declared.ending.Completion.TheVariants as completion
 use Rattle.jl_value.specs.declared.value.Value.{Value}
 use Rattle.jl_conv.specs.Conversions.{truth_of}
-use Rattle.jl_effects.specs.Effects.{and_then, End}
+use Rattle.jl_effects.specs.Effects.{and_then}
 use Rattle.jl_meaning.specs.Completions.{normal, on_given, then_do}
 use Rattle.jl_meaning.specs.Expressions.{evaluate}
 use Rattle.jl_meaning.specs.FunctionObjects.{FunctionTable}
