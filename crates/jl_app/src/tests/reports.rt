@@ -59,6 +59,16 @@ fn equals_loosely(alloc: Global) -> Result<Op, Fail> {
     })
 }
 
+/// `0 / 0`.
+fn divides_by_zero() -> Result<Op, Fail> {
+    Ok(Op::Binary {
+        op: BinOp::Div,
+        left: primitive(Value::Num(Num::new(0)?)),
+        right: primitive(Value::Num(Num::new(0)?)),
+        result: primitive(Value::Num(Num::NAN)),
+    })
+}
+
 fn goes_over_array() -> Op {
     Op::ForIn {
         object: Seen {
@@ -130,5 +140,17 @@ fn a_crowd_of_checkers_is_reported(rt: HostRuntime) -> Result<(), Fail> {
         (2, 1, 16, 1),
     ];
     check(&rt, &reported(alloc, &crowd, RuleSet::all(), false)?, &all);
+    Ok(())
+}
+
+#[test]
+fn a_checker_alone_is_reported(rt: HostRuntime) -> Result<(), Fail> {
+    let alloc = rt.alloc();
+    let mut boxes: Vec<Box<dyn Analysis>> = Vec::new(alloc);
+    boxes.push(Box::new(alloc, NanMade::fresh(alloc))?)?;
+    let mut crowd = Crowd::of(boxes);
+    crowd.see(OpId(6), &divides_by_zero()?)?;
+    let found = reported(alloc, &crowd, RuleSet::all(), false)?;
+    check(&rt, &found, &[(1, 7, 1, 1)]);
     Ok(())
 }
