@@ -9,9 +9,10 @@ ghost use Rattle.jl_state.specs.ValueFrames.{key_after, value_after};
 ghost use Rattle.jl_state.specs.Words.{table_of};
 
 use crate::closing::start_closing;
-use crate::values::{first_of, second_of, text_of};
+use crate::values::{first_of, second_of};
 use jl_ast::{BinOp, Expr};
 use jl_member::{assign_by_key, delete_by_key, get_by_key, get_member, member_name, update_by_key};
+use jl_operator::text_of;
 use jl_state::{Act, Here, HookId, KeyFor, Noted, Pending, State, ValueFrame};
 use jl_text::{List, NoMemory, Text};
 use jl_value::{Value, share};

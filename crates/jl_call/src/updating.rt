@@ -12,12 +12,12 @@ ghost use Rattle.jl_state.specs.Rest.{Gives};
 ghost use Rattle.jl_state.specs.ValueFrames.{value_after};
 ghost use Rattle.jl_state.specs.Words.{table_of};
 
-use crate::values::{first_of, number_of, second_of};
+use crate::values::{first_of, second_of};
 use jl_algorithm::to_primitive;
 use jl_member::update_member;
 use jl_num::{Num, NumberOutside};
 use jl_op::{Op, UnKind};
-use jl_operator::{next_number, operate_on, step_emit_unary};
+use jl_operator::{next_number, number_of, operate_on, step_emit_unary};
 use jl_state::{Act, Hint, HookId, Noted, State, ValueFrame};
 use jl_text::{List, NoMemory};
 use jl_value::{Fault, Value, share};

@@ -1,5 +1,5 @@
 -- Lines that are printed.
-use Rattle.std.proofs.Common.{◌≡◌, ◌∷◌, ◌++◌, ◌+◌, ◌∙◌, [], ap, arith, length, refl, subst, sym, false, true}
+use Rattle.std.proofs.Common.{◌≡◌, ◌∷◌, ◌++◌, ◌+◌, ◌∙◌, [], ap, arith, drop, length, refl, subst, sym, false, true}
 use Rattle.std.proofs.Common.{Bool, List, ℕ}
 use Rattle.std.specs.Prelude.{if◌then◌else◌, nat_le}
 use Rattle.jl_text.specs.Encoding.{bytes_of}
@@ -84,11 +84,12 @@ no_room s units bytes n m room is before more able none =
         ∙ ap (λ k. nat_le (length s.output + (k + 1)) 16777216) more
 
 -- an argument is converted, after a step
-pub converts_argument : (s t u : State) (line : List ℕ) (is_first : Bool) (v : Value) (rest : List Value) (w : State)
-    (a : Act) → Took s t → AlgorithmWaits t (algorithm.Builtin (progress.Print line is_first rest)) u
+pub converts_argument : (s t u : State) (line : List ℕ) (is_first : Bool) (v : Value) (args : List Value) (from : ℕ)
+    (w : State)
+    (a : Act) → Took s t → AlgorithmWaits t (algorithm.Builtin (progress.Print line is_first args from)) u
     → Works u (to_primitive string_hint v) w a
-    → Works s (Step (to_string v >>= λ units. print_others (line_with line is_first units) rest)) w a
-converts_argument s t u line is_first v rest w a took waits leads =
-    took.works (to_string v >>= λ units. print_others (line_with line is_first units) rest) w a
-    (text_waits t u w (algorithm.Builtin (progress.Print line is_first rest))
-    (λ units. print_others (line_with line is_first units) rest) v a (λ p. refl) waits leads)
+    → Works s (Step (to_string v >>= λ units. print_others (line_with line is_first units) (drop from args))) w a
+converts_argument s t u line is_first v args from w a took waits leads =
+    took.works (to_string v >>= λ units. print_others (line_with line is_first units) (drop from args)) w a
+    (text_waits t u w (algorithm.Builtin (progress.Print line is_first args from))
+    (λ units. print_others (line_with line is_first units) (drop from args)) v a (λ p. refl) waits leads)

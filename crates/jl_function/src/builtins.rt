@@ -85,8 +85,9 @@ pub fn step_progress<'p>(
         Progress::Print {
             line,
             is_first,
-            rest,
-        } => Ok(step_print(alloc, state, line, is_first, rest.items(), &v)?),
+            args,
+            from,
+        } => Ok(step_print(alloc, state, line, is_first, args, from, &v)?),
         Progress::ErrorMessage { proto } => Ok(step_error_message(alloc, state, proto, &v)?),
         Progress::ErrorName { object } => Ok(step_error_name(alloc, state, object, v)?),
         Progress::ErrorNamePrimitive { object } => {

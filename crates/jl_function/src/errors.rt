@@ -16,9 +16,9 @@ ghost use Rattle.jl_store.specs.Comes.{Comes};
 ghost use Rattle.jl_value.specs.declared.value.Value.TheVariants as value;
 
 use crate::lists::{first_argument, with_units};
-use crate::texts::text_of;
 use jl_algorithm::{get, throw_native, to_primitive};
 use jl_heap::{Inner, Prop};
+use jl_operator::text_of;
 use jl_state::{Act, AlgorithmFrame, Hint, Invocation, Progress, State};
 use jl_store::{Store, word};
 use jl_text::{List, NoMemory, Text, TextFault};

@@ -9,7 +9,6 @@ mod lists;
 mod printing;
 mod results;
 mod script;
-mod texts;
 
 pub use builtins::step_progress;
 pub use calls::begin_call;

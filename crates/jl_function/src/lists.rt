@@ -1,5 +1,5 @@
 //! Lists of values and of units.
-ghost use Rattle.std.specs.Prelude.{◌≡◌, ◌++◌, slice_index_or, IfOk};
+ghost use Rattle.std.specs.Prelude.{◌≡◌, ◌++◌, ◌∷◌, [], drop, slice_index_or, IfOk, MatchOption};
 ghost use Rattle.jl_value.specs.declared.value.Value.TheVariants as value;
 
 use jl_text::{List, NoMemory};
@@ -25,6 +25,21 @@ pub(crate) fn copy_of(alloc: Global, values: &[Value]) -> Result<List<Value>, No
     ensures { IfOk result (λ copy. copy ≡ values.now) }
 {
     with_values(alloc, List::new(alloc), values)
+}
+
+/// The value at an index and the next index, if there is one.
+pub(crate) fn value_from(
+    alloc: Global,
+    values: &[Value],
+    at: usize,
+) -> Result<Option<(Value, usize)>, NoMemory>
+    ensures { IfOk result (λ found. MatchOption found (drop at values.now ≡ [])
+        (λ r. drop at values.now ≡ r.0 ∷ drop r.1 values.now)) }
+{
+    match values.get(at) {
+        None => Ok(None),
+        Some(value) => Ok(Some((share(alloc, value)?, at + 1))),
+    }
 }
 
 /// The first of the arguments of a call, or undefined where none is given.

@@ -1,5 +1,5 @@
 //! `print` and `console.log`.
-ghost use Rattle.std.specs.Prelude.{◌≡◌, ◌∷◌, ◌++◌, ◌+◌, [], false, nat_le, IfOk, OnOk};
+ghost use Rattle.std.specs.Prelude.{◌≡◌, ◌∷◌, ◌++◌, ◌+◌, [], drop, nat_le, IfOk, OnOk};
 ghost use Rattle.jl_conv.specs.Conversions.{text_of_value};
 ghost use Rattle.jl_effects.specs.Effects.{Step};
 ghost use Rattle.jl_meaning.specs.Conversions.{to_string};
@@ -9,12 +9,12 @@ ghost use Rattle.jl_state.specs.AlgorithmFrames.{line_with};
 ghost use Rattle.jl_state.specs.Rank.{Falls};
 ghost use Rattle.jl_state.specs.Rest.{Works};
 
-use crate::lists::{copy_of, with_units};
-use crate::texts::text_of;
+use crate::lists::{copy_of, value_from, with_units};
 use jl_algorithm::to_primitive;
+use jl_operator::text_of;
 use jl_state::{Act, AlgorithmFrame, Hint, Progress, State};
 use jl_text::{List, NoMemory, to_utf8};
-use jl_value::{Fault, Value, share};
+use jl_value::{Fault, Value};
 use std::alloc::Global;
 
 /// The most bytes that a run prints.
@@ -68,17 +68,18 @@ fn line_with(
     with_units(spaced, units)
 }
 
-/// An argument takes a step, and is converted; those after it wait.
+/// An argument takes a step, and is converted; those from an index on wait.
 fn print_argument<'p>(
     alloc: Global,
     state: &mut State<'p>,
     line: List<u16>,
     is_first: bool,
     v: Value,
-    rest: List<Value>,
+    args: List<Value>,
+    from: usize,
 ) -> Result<Act<'p>, NoMemory>
     ensures leads { IfOk result (λ act. Works state.old
-        (Step (to_string v then λ units. print_others (line_with line is_first units) rest)) state.new act) }
+        (Step (to_string v then λ units. print_others (line_with line is_first units) (drop from args))) state.new act) }
     ensures falls { IfOk result (λ act. Falls state.old 1 state.new act) }
 {
     if !state.spend() {
@@ -87,28 +88,26 @@ fn print_argument<'p>(
     state.push_algorithm(AlgorithmFrame::Builtin(Progress::Print {
         line,
         is_first,
-        rest,
+        args,
+        from,
     }))?;
     Ok(to_primitive(alloc, state, v, Hint::Text)?)
 }
 
-/// The arguments after those that the line has, or the end of the line.
+/// The arguments from an index on, after those that the line has, or the end of the line.
 fn print_others<'p>(
     alloc: Global,
     state: &mut State<'p>,
     line: List<u16>,
-    rest: &[Value],
+    args: List<Value>,
+    from: usize,
 ) -> Result<Act<'p>, NoMemory>
-    ensures leads { IfOk result (λ act. Works state.old (print_others line rest.now) state.new act) }
+    ensures leads { IfOk result (λ act. Works state.old (print_others line (drop from args)) state.new act) }
     ensures falls { IfOk result (λ act. Falls state.old 3 state.new act) }
 {
-    match rest.split_first() {
+    match value_from(alloc, args.items(), from)? {
         None => Ok(print_line(alloc, state, line.items())?),
-        Some((first, others)) => {
-            let first = share(alloc, first)?;
-            let others = copy_of(alloc, others)?;
-            Ok(print_argument(alloc, state, line, false, first, others)?)
-        }
+        Some((v, next)) => Ok(print_argument(alloc, state, line, false, v, args, next)?),
     }
 }
 
@@ -122,13 +121,10 @@ pub(crate) fn print<'p>(
     ensures falls { IfOk result (λ act. Falls state.old 3 state.new act) }
 {
     let line = List::new(alloc);
-    match args.split_first() {
+    let args = copy_of(alloc, args)?;
+    match value_from(alloc, args.items(), 0)? {
         None => Ok(print_line(alloc, state, line.items())?),
-        Some((first, others)) => {
-            let first = share(alloc, first)?;
-            let others = copy_of(alloc, others)?;
-            Ok(print_argument(alloc, state, line, true, first, others)?)
-        }
+        Some((v, next)) => Ok(print_argument(alloc, state, line, true, v, args, next)?),
     }
 }
 
@@ -138,14 +134,15 @@ pub(crate) fn step_print<'p>(
     state: &mut State<'p>,
     line: List<u16>,
     is_first: bool,
-    rest: &[Value],
+    args: List<Value>,
+    from: usize,
     p: &Value,
 ) -> Result<Act<'p>, NoMemory>
     ensures leads { IfOk result (λ act. Works state.old
-        (print_others (line_with line is_first (text_of_value p.now)) rest.now) state.new act) }
+        (print_others (line_with line is_first (text_of_value p.now)) (drop from args)) state.new act) }
     ensures falls { IfOk result (λ act. Falls state.old 3 state.new act) }
 {
     let text = text_of(alloc, p)?;
     let line = line_with(alloc, line, is_first, text.units())?;
-    Ok(print_others(alloc, state, line, rest)?)
+    Ok(print_others(alloc, state, line, args, from)?)
 }

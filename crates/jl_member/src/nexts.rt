@@ -2,14 +2,12 @@
 ghost use Rattle.std.specs.Prelude.{◌≡◌, if◌then◌else◌};
 ghost use Rattle.std.specs.Result.{result_ok};
 ghost use Rattle.jl_value.specs.declared.value.Value.TheVariants as value;
-ghost use Rattle.jl_conv.specs.Conversions.{number_of_value};
 ghost use Rattle.jl_meaning.specs.forms.Operators.{update_kind};
 ghost use Rattle.jl_member.specs.inner.Nexts.{next_of};
 
-use jl_conv::primitive_to_num;
 use jl_num::{Num, NumberOutside};
 use jl_op::UnKind;
-use jl_operator::next_number;
+use jl_operator::{next_number, number_of};
 use jl_value::Value;
 
 /// The operator `++` or `--`.
@@ -17,16 +15,6 @@ pub(crate) fn update_kind(up: bool) -> UnKind
     ensures { result ≡ update_kind up }
 {
     if up { UnKind::Up } else { UnKind::Down }
-}
-
-/// ToNumber of a primitive value (9.3). Refused for an object, too, which no conversion gives.
-fn number_of(p: &Value) -> Result<Num, NumberOutside>
-    ensures { result_ok result ≡ number_of_value p.now }
-{
-    match p {
-        Value::Obj(_) => Err(NumberOutside),
-        _ => primitive_to_num(p),
-    }
 }
 
 /// A primitive value as a number, and the number after or before it. Refused exactly where one of them is none of a

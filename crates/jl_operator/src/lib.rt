@@ -13,10 +13,10 @@ mod unary;
 pub use binary::binary_result;
 pub use equality::step_equal_to;
 pub use instances::{step_in, step_instance_of};
-pub use numbers::{step_left_number, step_right_number};
+pub use numbers::{number_of, step_left_number, step_right_number};
 pub use operated::{
     emit, operate, operate_on, step_emit_binary, step_emit_get, step_emit_invoke, step_emit_unary,
 };
 pub use relations::{step_left_compared, step_right_compared};
-pub use sums::{step_left_summand, step_right_summand};
+pub use sums::{step_left_summand, step_right_summand, text_of};
 pub use unary::{give_next, next_number, step_number_operand, unary_result};

@@ -20,7 +20,7 @@ use jl_value::{Fault, Value};
 use std::alloc::Global;
 
 /// ToNumber of a primitive value (9.3). Refused for an object, too, which no conversion gives.
-pub(crate) fn number_of(p: &Value) -> Result<Num, NumberOutside>
+pub fn number_of(p: &Value) -> Result<Num, NumberOutside>
     ensures { result_ok result ≡ number_of_value p.now }
 {
     match p {

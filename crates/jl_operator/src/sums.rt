@@ -34,7 +34,7 @@ fn are_texts(x: &Value, y: &Value) -> bool
 }
 
 /// ToString of a primitive value (9.8); that of an object, which no conversion gives, is empty.
-pub(crate) fn text_of(alloc: Global, p: &Value) -> Result<Text, NoMemory>
+pub fn text_of(alloc: Global, p: &Value) -> Result<Text, NoMemory>
     ensures { IfOk result (λ text. text ≡ text_of_value p.now) }
 {
     match p {

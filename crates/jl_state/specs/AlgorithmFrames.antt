@@ -1,5 +1,5 @@
 -- What an algorithm of the standard does that waits for a value, with the value.
-use Rattle.std.specs.Prelude.{[], codes, false, if◌then◌else◌, pos, true, ◌++◌, ◌∷◌, Bool}
+use Rattle.std.specs.Prelude.{[], codes, drop, false, if◌then◌else◌, pos, true, ◌++◌, ◌∷◌, Bool}
 use Rattle.std.specs.Prelude.{List, None, Option, Some, ℕ}
 use Rattle.jl_num.specs.Arithmetic.{difference_of, negative_of, product_of, quotient_of, remainder_of}
 use Rattle.jl_num.specs.Bits.{and_of, complement_of, left_shift_of, or_of, right_shift_of, uint32_of, unsigned_right_shift_of}
@@ -126,7 +126,8 @@ line_with line true units = units
 line_with line false units = line ++ 32 ∷ units
 
 abbrev pub progress_after : Progress → Value → Algorithm Value
-progress_after (progress.Print line is_first rest) p = print_others (line_with line is_first (text_of_value p)) rest
+progress_after (progress.Print line is_first args from) p =
+    print_others (line_with line is_first (text_of_value p)) (drop from args)
 progress_after (progress.ErrorMessage proto) p = do
   id ← new_error proto (Some (text_of_value p))
   give_object id

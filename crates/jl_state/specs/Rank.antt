@@ -33,7 +33,7 @@ rank_method_result false = 9
 rank_method_result true = 3
 
 abbrev pub rank_progress : Progress → ℕ
-rank_progress (progress.Print line is_first rest) = 6
+rank_progress (progress.Print line is_first args from) = 6
 rank_progress (progress.ErrorMessage proto) = 6
 rank_progress (progress.ErrorName object) = 80
 rank_progress (progress.ErrorNamePrimitive object) = 60

@@ -33,12 +33,13 @@ pub enum WrittenBy {
 /// What a builtin has done so far.
 #[derive(Drop)]
 pub enum Progress {
-    /// `print`: the line so far, without the space before the argument that is converted, whether there is one, and the
-    /// arguments after it.
+    /// `print`: the line so far, without the space before the argument that is converted, whether that is the first, all
+    /// arguments, and the index of the one after it.
     Print {
         line: List<u16>,
         is_first: bool,
-        rest: List<Value>,
+        args: List<Value>,
+        from: usize,
     },
     /// An error waits for its message (15.11.1, 15.11.7).
     ErrorMessage {

@@ -8,11 +8,11 @@ ghost use Rattle.jl_state.specs.Words.{visit_of};
 ghost use Rattle.jl_statement.specs.inner.Turns.{visits_seen};
 ghost use Rattle.jl_statement.specs.inner.Visited.{all_seen, property_visit, unit_visit, IsNext};
 
-use crate::stored::{has_entry, index_name};
+use crate::stored::has_entry;
 use jl_heap::{Heap, Inner};
 use jl_scope::NameSet;
 use jl_state::{Visit, Visits};
-use jl_store::Store;
+use jl_store::{Store, index_name};
 use jl_text::{List, NoMemory, Text};
 use jl_value::{Class, ObjId, Value};
 use std::alloc::Global;

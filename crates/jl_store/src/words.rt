@@ -16,7 +16,7 @@ pub fn word(alloc: Global, word: &str) -> Result<Text, NoMemory>
 }
 
 /// The name of an index (9.8.1).
-pub(crate) fn index_name(alloc: Global, index: usize) -> Result<Text, NoMemory>
+pub fn index_name(alloc: Global, index: usize) -> Result<Text, NoMemory>
     ensures { IfOk result (λ text. text ≡ index_name index) }
 {
     let digits = digits(alloc, number(index)?, 10)?;
@@ -44,8 +44,8 @@ pub(crate) fn text_of(alloc: Global, units: &[u16]) -> Result<Text, NoMemory>
     }
 }
 
-/// A count of things that are in memory, as a value.
-pub(crate) fn count(n: usize) -> Result<Value, NoMemory>
+/// A count of things that are in memory, as a value. No memory holds more things than there are numbers.
+pub fn count(n: usize) -> Result<Value, NoMemory>
     ensures { IfOk result (λ value. value ≡ whole n) }
 {
     Ok(Value::Num(number(n)?))
