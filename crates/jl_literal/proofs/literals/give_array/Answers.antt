@@ -1,0 +1,9 @@
+use Rattle.std.proofs.Common.{rules}
+use Rattle.jl_literal.proofs.Made.{no_array_given}
+use Rattle.jl_literal.proofs.literals.give_array.Goals as goal
+
+pub returns-in_default : goal.returns-in_default
+returns-in_default c = record {
+  leads = λ s same. no_array_given s _ c.args.object _ c.class_of.ensures c.in_default.not-Array same;
+  low = search rules;
+}

@@ -1,0 +1,198 @@
+//! Array literals (11.1.4).
+ghost use Rattle.std.specs.Prelude.{◌+◌, ◌≡◌, IfOk};
+ghost use Rattle.jl_ast.specs.View.{view_items};
+ghost use Rattle.jl_effects.specs.Running.{Ends};
+ghost use Rattle.jl_meaning.specs.FunctionObjects.{whole};
+ghost use Rattle.jl_meaning.specs.Defining.{value_change};
+ghost use Rattle.jl_meaning.specs.Parts.{lift, ◌>>=◌ as ◌then◌};
+ghost use Rattle.jl_meaning.specs.Parts as parts;
+ghost use Rattle.jl_meaning.specs.forms.Literals.{end_array, index_name, new_array, put_element};
+ghost use Rattle.jl_store.specs.Answers.{fault_seen, finished};
+ghost use Rattle.jl_store.specs.Comes.{Comes};
+ghost use Rattle.jl_state.specs.Rank.{Falls};
+ghost use Rattle.jl_state.specs.Rest.{Gives};
+ghost use Rattle.jl_state.specs.Trees.{items_left, plain_forest};
+ghost use Rattle.jl_state.specs.ValueFrames.{value_after};
+ghost use Rattle.jl_state.specs.Words.{context_of, table_of};
+ghost use Rattle.jl_literal.specs.Filling.{array_from};
+ghost use Rattle.jl_literal.specs.inner.Elements.{after_holes, next_seen};
+
+use crate::literals::give_array;
+use jl_algorithm::plain_change;
+use jl_ast::Expr;
+use jl_heap::Change;
+use jl_state::{Act, Here, Remaining, State, ValueFrame, split_first};
+use jl_store::{AlgorithmFault, Finished, Store, count, index_name, word};
+use jl_text::{List, NoMemory};
+use jl_value::{Completion, Fault, ObjId, Value};
+use std::alloc::Global;
+
+/// What comes next in an array literal: an element with its index, before others, or the length.
+#[derive(Drop)]
+enum Next<'p> {
+    Element(usize, &'p Expr, Remaining<'p, Option<Expr>>),
+    Length(usize),
+}
+
+/// An array literal (11.1.4).
+pub fn begin_array<'p>(
+    alloc: Global,
+    state: &mut State<'p>,
+    items: &'p List<Option<Expr>>,
+    here: Here,
+) -> Result<Act<'p>, NoMemory>
+    ensures leads { IfOk result (λ act. Gives state.old (lift new_array then λ array.
+        array_from (table_of state.old.functions) (plain_forest (view_items items.now)) array 0
+        (context_of state.old.calls here)) state.new act) }
+    ensures falls { IfOk result (λ act. Falls state.old 12 state.new act) }
+{
+    let array = state.store.new_array()?;
+    let rest = Remaining {
+        list: items,
+        from: 0,
+    };
+    Ok(fill(alloc, state, array, 0, rest, here)?)
+}
+
+/// An array literal goes on with the value of an element.
+pub fn step_element<'p>(
+    alloc: Global,
+    state: &mut State<'p>,
+    array: ObjId,
+    index: usize,
+    rest: Remaining<'p, Option<Expr>>,
+    here: Here,
+    v: Value,
+) -> Result<Act<'p>, NoMemory>
+    ensures leads { IfOk result (λ act. Gives state.old (value_after (table_of state.old.functions) state.old.calls
+        (ValueFrame.Element array index rest.entry here) v) state.new act) }
+    ensures falls { IfOk result (λ act. Falls state.old 12 state.new act) }
+{
+    let next = next_index(index)?;
+    let answer = put_element(alloc, &mut state.store, array, index, v)?;
+    match answer {
+        Finished::Gives(_) => Ok(fill(alloc, state, array, next, rest, here)?),
+        Finished::Throws(thrown) => Ok(Act::Complete(Completion::Throw(thrown))),
+        Finished::Fails(fault) => Ok(Act::Fault(fault_of(fault))),
+    }
+}
+
+/// The elements that are left, from an index on, and then the length.
+fn fill<'p>(
+    alloc: Global,
+    state: &mut State<'p>,
+    array: ObjId,
+    index: usize,
+    rest: Remaining<'p, Option<Expr>>,
+    here: Here,
+) -> Result<Act<'p>, NoMemory>
+    ensures leads { IfOk result (λ act. Gives state.old (array_from (table_of state.old.functions)
+        (plain_forest (view_items (items_left rest.entry))) array index (context_of state.old.calls here))
+        state.new act) }
+    ensures falls { IfOk result (λ act. Falls state.old 12 state.new act) }
+{
+    match next_element(index, rest)? {
+        Next::Length(length) => Ok(end_array(alloc, state, array, length)?),
+        Next::Element(index, e, rest) => {
+            let frame = ValueFrame::Element {
+                array,
+                index,
+                rest,
+                here,
+            };
+            Ok(state.evaluate(frame, e, here)?)
+        }
+    }
+}
+
+/// What comes next of the elements that are left, from an index on. Holes are passed over here, in no step: each is a
+/// place of the tree.
+fn next_element<'p>(
+    mut index: usize,
+    mut rest: Remaining<'p, Option<Expr>>,
+) -> Result<Next<'p>, NoMemory>
+    ensures { IfOk result (λ next. next_seen next
+        ≡ after_holes (plain_forest (view_items (items_left rest.entry))) index) }
+{
+    while let Some((item, others)) = split_first(rest) {
+        if let Some(e) = item {
+            return Ok(Next::Element(index, e, others));
+        }
+        index = next_index(index)?;
+        rest = others;
+    }
+    Ok(Next::Length(index))
+}
+
+/// The index after another one. No memory holds more elements than there are indices.
+fn next_index(index: usize) -> Result<usize, NoMemory>
+    ensures { IfOk result (λ next. next ≡ index + 1) }
+{
+    match index.checked_add(1) {
+        Some(next) => Ok(next),
+        None => Err(NoMemory),
+    }
+}
+
+/// An element of an array literal.
+#[tactic(auto, using(crate::proofs::Lengths::elements))]
+fn put_element(
+    alloc: Global,
+    store: &mut Store,
+    array: ObjId,
+    index: usize,
+    v: Value,
+) -> Result<Finished<bool>, NoMemory>
+    ensures { IfOk result (λ end. Comes (put_element array index v) store.old store.new (finished end)) }
+{
+    let name = index_name(alloc, index)?;
+    let change = plain_change(v);
+    let answer = store.define_own_property(array, &name, change)?;
+    Ok(answer)
+}
+
+/// An array that has been filled is given its length, and then it is given.
+#[tactic(auto, using(crate::proofs::Lengths::lengths))]
+fn end_array<'p>(
+    alloc: Global,
+    state: &mut State<'p>,
+    array: ObjId,
+    length: usize,
+) -> Result<Act<'p>, NoMemory>
+    ensures leads { IfOk result (λ act. Gives state.old (end_array 0 array length) state.new act) }
+    ensures falls { IfOk result (λ act. Falls state.old 3 state.new act) }
+{
+    let name = word(alloc, "length")?;
+    let number = count(length)?;
+    let change = value_change(number);
+    let answer = state.store.define_own_property(array, &name, change)?;
+    match answer {
+        Finished::Gives(_) => Ok(give_array(&state.store, array)),
+        Finished::Throws(thrown) => Ok(Act::Complete(Completion::Throw(thrown))),
+        Finished::Fails(fault) => Ok(Act::Fault(fault_of(fault))),
+    }
+}
+
+/// Another value is asked for.
+fn value_change(value: Value) -> Change
+    ensures { result ≡ value_change value }
+{
+    Change {
+        value: Some(value),
+        writable: None,
+        get: None,
+        set: None,
+        enumerable: None,
+        configurable: None,
+    }
+}
+
+/// A fault of an algorithm, as what ends the run.
+fn fault_of(fault: AlgorithmFault) -> Fault
+    ensures { result ≡ parts.fault_of (fault_seen fault) }
+{
+    match fault {
+        AlgorithmFault::NumberOutside => Fault::NumberOutside,
+        AlgorithmFault::StringTooLong => Fault::StringTooLong,
+    }
+}
