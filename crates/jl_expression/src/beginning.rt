@@ -1,0 +1,313 @@
+//! Expressions begun (clause 11).
+ghost use Rattle.std.specs.Prelude.{◌≡◌, ◌≤◌, IfOk};
+ghost use Rattle.jl_ast.specs.Tree as tree;
+ghost use Rattle.jl_ast.specs.View.{view_expression, view_target};
+ghost use Rattle.jl_meaning.specs.Expressions.{evaluate, evaluate_assignment, evaluate_delete, evaluate_typeof};
+ghost use Rattle.jl_meaning.specs.Expressions.{evaluate_update};
+ghost use Rattle.jl_meaning.specs.forms.Operators.{unary_kind};
+ghost use Rattle.jl_state.specs.Rank.{Falls};
+ghost use Rattle.jl_state.specs.Rest.{Gives};
+ghost use Rattle.jl_state.specs.Trees.{plain};
+ghost use Rattle.jl_state.specs.Words.{context_of, table_of};
+ghost use Rattle.jl_expression.specs.inner.Begun.{assigned_name, begun, this_in};
+
+use crate::boxes::evaluate_boxed;
+use crate::calls::{begin_call, begin_new};
+use jl_ast::{BinOp, Expr, ExprKind, Target, UnOp};
+use jl_literal::{
+    begin_array, begin_function, begin_object, give_boolean, give_null, give_number, give_text,
+};
+use jl_member::{assign_name, compute_name, delete_name, read_name, typeof_name, update_name};
+use jl_op::UnKind;
+use jl_state::{Act, Calls, Here, State, ValueFrame};
+use jl_text::{NoMemory, Text};
+use jl_value::{ObjId, Value, share};
+use std::alloc::Global;
+
+/// An expression takes a step, and begins.
+pub fn begin_expression<'p>(
+    alloc: Global,
+    state: &mut State<'p>,
+    e: &'p Expr,
+    here: Here,
+) -> Result<Act<'p>, NoMemory>
+    ensures leads { IfOk result (λ act. Gives state.old
+        (evaluate (table_of state.old.functions) (plain (view_expression e.now)) (context_of state.old.calls here))
+        state.new act) }
+    ensures falls { IfOk result (λ act. Falls state.old 1 state.new act) }
+{
+    if !state.spend() {
+        return Ok(Act::Spent);
+    }
+    Ok(begin(alloc, state, e, here)?)
+}
+
+/// What an expression does after the step that begins it.
+#[tactic(auto, using(jl_ast::proofs::Views::nodes))]
+fn begin<'p>(
+    alloc: Global,
+    state: &mut State<'p>,
+    e: &'p Expr,
+    here: Here,
+) -> Result<Act<'p>, NoMemory>
+    ensures leads { IfOk result (λ act. Gives state.old
+        (begun (table_of state.old.functions) (plain (view_expression e.now)) (context_of state.old.calls here))
+        state.new act) }
+    ensures left { IfOk result (λ _. state.new.left ≤ state.old.left) }
+{
+    match &e.kind {
+        ExprKind::This => Ok(Act::Give(this_value(alloc, &state.calls)?)),
+        ExprKind::Name(name) => Ok(read_name(alloc, state, name, here)?),
+        ExprKind::Num(number) => Ok(give_number(*number)),
+        ExprKind::Str(text) => Ok(give_text(alloc, text)?),
+        ExprKind::Bool(truth) => Ok(give_boolean(*truth)),
+        ExprKind::Null => Ok(give_null()),
+        ExprKind::Array(items) => Ok(begin_array(alloc, state, items, here)?),
+        ExprKind::Object(entries) => Ok(begin_object(alloc, state, entries, here)?),
+        ExprKind::Function(function) => Ok(begin_function(state, function, here)?),
+        ExprKind::Dot(object, key) => {
+            Ok(evaluate_boxed(state, ValueFrame::DotBase { key }, object, here)?)
+        }
+        ExprKind::Index(object, key) => {
+            Ok(evaluate_boxed(state, ValueFrame::IndexBase { key, here }, object, here)?)
+        }
+        ExprKind::Call(callee, args) => Ok(begin_call(alloc, state, callee, args, here)?),
+        ExprKind::New(constructor, args) => Ok(begin_new(state, constructor, args, here)?),
+        ExprKind::Unary(op, operand) => Ok(begin_unary(alloc, state, *op, operand, here)?),
+        ExprKind::Update { up, prefix, target } => Ok(begin_update(
+            alloc, state, *up, *prefix, target, here,
+        )?),
+        ExprKind::Binary(op, left, right) => {
+            let op = *op;
+            Ok(evaluate_boxed(
+                state,
+                ValueFrame::LeftOperand { op, right, here },
+                left,
+                here,
+            )?)
+        }
+        ExprKind::And(left, right) => {
+            Ok(evaluate_boxed(state, ValueFrame::And { right, here }, left, here)?)
+        }
+        ExprKind::Or(left, right) => {
+            Ok(evaluate_boxed(state, ValueFrame::Or { right, here }, left, here)?)
+        }
+        ExprKind::Cond(test, first, second) => {
+            let frame = ValueFrame::Conditional {
+                first,
+                second,
+                here,
+            };
+            Ok(evaluate_boxed(state, frame, test, here)?)
+        }
+        ExprKind::Assign(op, target, value) => {
+            Ok(begin_assignment(alloc, state, *op, target, value, here)?)
+        }
+        ExprKind::Comma(left, right) => {
+            Ok(evaluate_boxed(state, ValueFrame::Comma { right, here }, left, here)?)
+        }
+    }
+}
+
+/// What `this` is (10.3, 11.1.1): in global code the global object.
+fn this_value(alloc: Global, calls: &Calls) -> Result<Value, NoMemory>
+    ensures { IfOk result (λ v. v ≡ this_in calls.now) }
+{
+    match calls.innermost() {
+        Some(call) => Ok(share(alloc, &call.this)?),
+        None => Ok(Value::Obj(ObjId::GLOBAL)),
+    }
+}
+
+/// An operator with one operand (11.4).
+#[tactic(auto, using(crate::proofs::Begun::operands))]
+fn begin_unary<'p>(
+    alloc: Global,
+    state: &mut State<'p>,
+    op: UnOp,
+    operand: &'p Expr,
+    here: Here,
+) -> Result<Act<'p>, NoMemory>
+    ensures leads { IfOk result (λ act. Gives state.old (begun (table_of state.old.functions)
+        (tree.unary op (plain (view_expression operand.now)) 0) (context_of state.old.calls here)) state.new act) }
+    ensures left { IfOk result (λ _. state.new.left ≤ state.old.left) }
+{
+    match op {
+        UnOp::Typeof => Ok(begin_typeof(alloc, state, operand, here)?),
+        UnOp::Delete => Ok(begin_delete(alloc, state, operand, here)?),
+        _ => {
+            let op = unary_kind(op);
+            Ok(state.evaluate(ValueFrame::Operand { op }, operand, here)?)
+        }
+    }
+}
+
+/// The kind of an operator that is neither `typeof` of a name nor `delete`.
+fn unary_kind(op: UnOp) -> UnKind
+    ensures { result ≡ unary_kind op }
+{
+    match op {
+        UnOp::Minus => UnKind::Minus,
+        UnOp::Plus => UnKind::Plus,
+        UnOp::Not => UnKind::Not,
+        UnOp::Tilde => UnKind::Tilde,
+        UnOp::Typeof => UnKind::Typeof,
+        UnOp::Void | UnOp::Delete => UnKind::Void,
+    }
+}
+
+/// `typeof` (11.4.3).
+#[tactic(auto, using(jl_ast::proofs::Views::nodes))]
+fn begin_typeof<'p>(
+    alloc: Global,
+    state: &mut State<'p>,
+    operand: &'p Expr,
+    here: Here,
+) -> Result<Act<'p>, NoMemory>
+    ensures leads { IfOk result (λ act. Gives state.old (evaluate_typeof (table_of state.old.functions)
+        (plain (view_expression operand.now))
+        (evaluate (table_of state.old.functions) (plain (view_expression operand.now))
+        (context_of state.old.calls here)) 0 (context_of state.old.calls here)) state.new act) }
+    ensures left { IfOk result (λ _. state.new.left ≤ state.old.left) }
+{
+    match &operand.kind {
+        ExprKind::Name(name) => Ok(typeof_name(alloc, state, name, here)?),
+        _ => {
+            let op = UnKind::Typeof;
+            Ok(state.evaluate(ValueFrame::Operand { op }, operand, here)?)
+        }
+    }
+}
+
+/// `delete` (11.4.1).
+#[tactic(auto, using(jl_ast::proofs::Views::nodes))]
+fn begin_delete<'p>(
+    alloc: Global,
+    state: &mut State<'p>,
+    operand: &'p Expr,
+    here: Here,
+) -> Result<Act<'p>, NoMemory>
+    ensures leads { IfOk result (λ act. Gives state.old (evaluate_delete (table_of state.old.functions)
+        (plain (view_expression operand.now))
+        (evaluate (table_of state.old.functions) (plain (view_expression operand.now))
+        (context_of state.old.calls here)) 0 (context_of state.old.calls here)) state.new act) }
+    ensures left { IfOk result (λ _. state.new.left ≤ state.old.left) }
+{
+    let strict = here.strict;
+    match &operand.kind {
+        ExprKind::Name(name) => Ok(delete_name(alloc, state, name, here)?),
+        ExprKind::Dot(object, key) => {
+            Ok(evaluate_boxed(
+                state,
+                ValueFrame::DeleteDotBase { key, strict },
+                object,
+                here,
+            )?)
+        }
+        ExprKind::Index(object, key) => {
+            Ok(evaluate_boxed(
+                state,
+                ValueFrame::DeleteIndexBase { key, here },
+                object,
+                here,
+            )?)
+        }
+        _ => Ok(state.evaluate(ValueFrame::DeleteValue, operand, here)?),
+    }
+}
+
+/// `++` and `--` (11.3, 11.4.4, 11.4.5).
+#[tactic(auto, using(jl_ast::proofs::Views::nodes))]
+fn begin_update<'p>(
+    alloc: Global,
+    state: &mut State<'p>,
+    up: bool,
+    prefix: bool,
+    target: &'p Target,
+    here: Here,
+) -> Result<Act<'p>, NoMemory>
+    ensures leads { IfOk result (λ act. Gives state.old (evaluate_update (table_of state.old.functions)
+        (plain (view_target target.now)) up prefix 0 (context_of state.old.calls here)) state.new act) }
+    ensures left { IfOk result (λ _. state.new.left ≤ state.old.left) }
+{
+    match target {
+        Target::Name(name) => Ok(update_name(alloc, state, &name.text, up, prefix, here)?),
+        Target::Dot(object, key, _) => {
+            let frame = ValueFrame::UpdateDotBase {
+                key,
+                up,
+                prefix,
+                strict: here.strict,
+            };
+            Ok(state.evaluate(frame, object, here)?)
+        }
+        Target::Index(object, key, _) => {
+            let frame = ValueFrame::UpdateIndexBase {
+                key,
+                up,
+                prefix,
+                here,
+            };
+            Ok(state.evaluate(frame, object, here)?)
+        }
+    }
+}
+
+/// An assignment (11.13).
+#[tactic(auto, using(jl_ast::proofs::Views::nodes))]
+fn begin_assignment<'p>(
+    alloc: Global,
+    state: &mut State<'p>,
+    op: Option<BinOp>,
+    target: &'p Target,
+    value: &'p Box<Expr>,
+    here: Here,
+) -> Result<Act<'p>, NoMemory>
+    ensures leads { IfOk result (λ act. Gives state.old (evaluate_assignment (table_of state.old.functions)
+        (plain (view_target target.now)) op
+        (evaluate (table_of state.old.functions) (plain (view_expression value.now.value))
+        (context_of state.old.calls here)) 0 (context_of state.old.calls here)) state.new act) }
+    ensures left { IfOk result (λ _. state.new.left ≤ state.old.left) }
+{
+    match target {
+        Target::Name(name) => Ok(assign_to_name(alloc, state, op, &name.text, value, here)?),
+        Target::Dot(object, key, _) => {
+            let frame = ValueFrame::AssignDotBase {
+                key,
+                op,
+                value,
+                here,
+            };
+            Ok(state.evaluate(frame, object, here)?)
+        }
+        Target::Index(object, key, _) => {
+            let frame = ValueFrame::AssignIndexBase {
+                key,
+                op,
+                value,
+                here,
+            };
+            Ok(state.evaluate(frame, object, here)?)
+        }
+    }
+}
+
+/// An assignment to a name (11.13.1, 11.13.2).
+fn assign_to_name<'p>(
+    alloc: Global,
+    state: &mut State<'p>,
+    op: Option<BinOp>,
+    name: &'p Text,
+    value: &'p Box<Expr>,
+    here: Here,
+) -> Result<Act<'p>, NoMemory>
+    ensures leads { IfOk result (λ act. Gives state.old (assigned_name op (context_of state.old.calls here) name.now
+        (evaluate (table_of state.old.functions) (plain (view_expression value.now.value))
+        (context_of state.old.calls here))) state.new act) }
+    ensures left { IfOk result (λ _. state.new.left ≤ state.old.left) }
+{
+    match op {
+        None => Ok(assign_name(alloc, state, name, value, here)?),
+        Some(op) => Ok(compute_name(alloc, state, name, op, value, here)?),
+    }
+}

@@ -1,0 +1,10 @@
+//! Expressions: what they begin with, and how they go on.
+#![tactic(auto)]
+
+mod beginning;
+mod boxes;
+mod calls;
+mod stepping;
+
+pub use beginning::begin_expression;
+pub use stepping::step_value;

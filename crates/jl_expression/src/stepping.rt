@@ -1,0 +1,260 @@
+//! Expressions that go on with the value that they waited for (clause 11).
+ghost use Rattle.std.specs.Prelude.{◌+◌, IfOk};
+ghost use Rattle.jl_state.specs.Rank.{Falls, rank_value};
+ghost use Rattle.jl_state.specs.Rest.{Gives};
+ghost use Rattle.jl_state.specs.ValueFrames.{value_after};
+ghost use Rattle.jl_state.specs.Words.{table_of};
+
+use jl_call::{
+    step_argument, step_callee, step_callee_dot_base, step_callee_index_base,
+    step_callee_index_key, step_compute_pending, step_key, step_method_pending,
+    step_update_operand_primitive,
+};
+use jl_function::{step_constructed, step_instance_prototype};
+use jl_literal::{
+    step_and, step_comma, step_conditional, step_element, step_entries, step_entry_value,
+    step_left_operand, step_operand, step_or, step_right_operand,
+};
+use jl_member::{
+    step_assign_dot_base, step_assign_index_base, step_assign_index_key, step_compute_member,
+    step_compute_member_operand, step_compute_name, step_compute_name_operand,
+    step_delete_dot_base, step_delete_index_base, step_delete_index_key, step_delete_value,
+    step_dot_base, step_index_base, step_index_key, step_put_member, step_update_dot_base,
+    step_update_index_base, step_update_index_key, step_update_member,
+    step_update_member_primitive, step_update_name, step_update_name_primitive, step_write_name,
+};
+use jl_operator::{step_emit_binary, step_emit_get, step_emit_invoke, step_emit_unary};
+use jl_state::{Act, State, ValueFrame};
+use jl_text::NoMemory;
+use jl_value::Value;
+use std::alloc::Global;
+
+/// An expression goes on with the value that it waited for.
+pub fn step_value<'p>(
+    alloc: Global,
+    state: &mut State<'p>,
+    frame: ValueFrame<'p>,
+    v: Value,
+) -> Result<Act<'p>, NoMemory>
+    ensures leads { IfOk result (λ act. Gives state.old
+        (value_after (table_of state.old.functions) state.old.calls frame.entry v) state.new act) }
+    ensures falls { IfOk result (λ act. Falls state.old (rank_value frame.entry + 2) state.new act) }
+{
+    match frame {
+        ValueFrame::Element {
+            array,
+            index,
+            rest,
+            here,
+        } => Ok(step_element(alloc, state, array, index, rest, here, v)?),
+        ValueFrame::EntryValue {
+            object,
+            key,
+            rest,
+            here,
+        } => Ok(step_entry_value(alloc, state, object, key, rest, here, v)?),
+        ValueFrame::Entries { object, rest, here } => Ok(step_entries(
+            alloc, state, object, rest, here, v,
+        )?),
+        ValueFrame::DotBase { key } => Ok(step_dot_base(alloc, state, key, v)?),
+        ValueFrame::IndexBase { key, here } => Ok(step_index_base(state, key, here, v)?),
+        ValueFrame::IndexKey { base } => Ok(step_index_key(alloc, state, base, v)?),
+        ValueFrame::Key(purpose) => Ok(step_key(alloc, state, purpose, v)?),
+        ValueFrame::Callee {
+            this,
+            by_new,
+            args,
+            here,
+        } => Ok(step_callee(alloc, state, this, by_new, args, here, v)?),
+        ValueFrame::CalleeDotBase { key, args, here } => Ok(step_callee_dot_base(
+            alloc, state, key, args, here, v,
+        )?),
+        ValueFrame::CalleeIndexBase { key, args, here } => Ok(step_callee_index_base(
+            alloc, state, key, args, here, v,
+        )?),
+        ValueFrame::CalleeIndexKey { base, args, here } => Ok(step_callee_index_key(
+            alloc, state, base, args, here, v,
+        )?),
+        ValueFrame::Argument {
+            purpose,
+            so_far,
+            rest,
+            here,
+        } => Ok(step_argument(alloc, state, purpose, so_far, rest, here, v)?),
+        ValueFrame::Operand { op } => Ok(step_operand(alloc, state, op, v)?),
+        ValueFrame::DeleteValue => Ok(step_delete_value(state, v)?),
+        ValueFrame::DeleteDotBase { key, strict } => Ok(step_delete_dot_base(
+            alloc, state, key, strict, v,
+        )?),
+        ValueFrame::DeleteIndexBase { key, here } => Ok(step_delete_index_base(
+            state, key, here, v,
+        )?),
+        ValueFrame::DeleteIndexKey { base, strict } => Ok(step_delete_index_key(
+            alloc, state, base, strict, v,
+        )?),
+        ValueFrame::LeftOperand { op, right, here } => Ok(step_left_operand(
+            state, op, right, here, v,
+        )?),
+        ValueFrame::RightOperand { op, left } => Ok(step_right_operand(alloc, state, op, left, v)?),
+        ValueFrame::And { right, here } => Ok(step_and(state, right, here, v)?),
+        ValueFrame::Or { right, here } => Ok(step_or(state, right, here, v)?),
+        ValueFrame::Conditional {
+            first,
+            second,
+            here,
+        } => Ok(step_conditional(state, first, second, here, v)?),
+        ValueFrame::Comma { right, here } => Ok(step_comma(state, right, here, v)?),
+        ValueFrame::WriteName {
+            id,
+            name,
+            reference,
+            strict,
+        } => Ok(step_write_name(alloc, state, id, name, reference, strict, v)?),
+        ValueFrame::ComputeName {
+            name,
+            reference,
+            op,
+            value,
+            here,
+        } => Ok(step_compute_name(state, name, reference, op, value, here, v)?),
+        ValueFrame::ComputeNameOperand {
+            name,
+            reference,
+            op,
+            held,
+            strict,
+        } => Ok(step_compute_name_operand(alloc, state, name, reference, op, held, strict, v)?),
+        ValueFrame::UpdateName {
+            name,
+            reference,
+            up,
+            prefix,
+            strict,
+        } => Ok(step_update_name(alloc, state, name, reference, up, prefix, strict, v)?),
+        ValueFrame::UpdateNamePrimitive {
+            name,
+            reference,
+            up,
+            prefix,
+            strict,
+            held,
+        } => Ok(step_update_name_primitive(
+            alloc, state, name, reference, up, prefix, strict, held, v,
+        )?),
+        ValueFrame::AssignDotBase {
+            key,
+            op,
+            value,
+            here,
+        } => Ok(step_assign_dot_base(alloc, state, key, op, value, here, v)?),
+        ValueFrame::AssignIndexBase {
+            key,
+            op,
+            value,
+            here,
+        } => Ok(step_assign_index_base(state, key, op, value, here, v)?),
+        ValueFrame::AssignIndexKey {
+            base,
+            op,
+            value,
+            here,
+        } => Ok(step_assign_index_key(alloc, state, base, op, value, here, v)?),
+        ValueFrame::PutMember {
+            emits,
+            id,
+            base,
+            name,
+            strict,
+        } => Ok(step_put_member(alloc, state, emits, id, base, name, strict, v)?),
+        ValueFrame::ComputeMember {
+            base,
+            name,
+            op,
+            value,
+            here,
+        } => Ok(step_compute_member(state, base, name, op, value, here, v)?),
+        ValueFrame::ComputePending {
+            id,
+            op,
+            base,
+            name,
+            args,
+            here,
+        } => Ok(step_compute_pending(alloc, state, id, op, base, name, args, here, v)?),
+        ValueFrame::MethodPending {
+            id,
+            base,
+            args,
+            here,
+        } => Ok(step_method_pending(alloc, state, id, base, args, here, v)?),
+        ValueFrame::ComputeMemberOperand {
+            base,
+            name,
+            op,
+            held,
+            strict,
+        } => Ok(step_compute_member_operand(alloc, state, base, name, op, held, strict, v)?),
+        ValueFrame::UpdateDotBase {
+            key,
+            up,
+            prefix,
+            strict,
+        } => Ok(step_update_dot_base(alloc, state, key, up, prefix, strict, v)?),
+        ValueFrame::UpdateIndexBase {
+            key,
+            up,
+            prefix,
+            here,
+        } => Ok(step_update_index_base(state, key, up, prefix, here, v)?),
+        ValueFrame::UpdateIndexKey {
+            base,
+            up,
+            prefix,
+            strict,
+        } => Ok(step_update_index_key(alloc, state, base, up, prefix, strict, v)?),
+        ValueFrame::UpdateMember {
+            noted,
+            base,
+            name,
+            up,
+            prefix,
+            strict,
+        } => Ok(step_update_member(alloc, state, noted, base, name, up, prefix, strict, v)?),
+        ValueFrame::UpdateMemberPrimitive {
+            noted,
+            base,
+            name,
+            up,
+            prefix,
+            strict,
+            held,
+        } => Ok(step_update_member_primitive(
+            alloc, state, noted, base, name, up, prefix, strict, held, v,
+        )?),
+        ValueFrame::UpdateOperandPrimitive { id, up, held } => Ok(step_update_operand_primitive(
+            alloc, state, id, up, held, v,
+        )?),
+        ValueFrame::EmitGet {
+            id,
+            base,
+            name,
+            found,
+        } => Ok(step_emit_get(state, id, base, name, found, v)?),
+        ValueFrame::EmitBinary {
+            id,
+            op,
+            left,
+            right,
+        } => Ok(step_emit_binary(state, id, op, left, right, v)?),
+        ValueFrame::EmitUnary { id, op, operand } => Ok(step_emit_unary(
+            state, id, op, operand, v,
+        )?),
+        ValueFrame::EmitInvoke { id, callee } => Ok(step_emit_invoke(state, id, callee, v)?),
+        ValueFrame::InstancePrototype {
+            function,
+            env,
+            call,
+        } => Ok(step_instance_prototype(alloc, state, function, env, call, v)?),
+        ValueFrame::Constructed { object } => Ok(step_constructed(state, object, v)?),
+    }
+}
