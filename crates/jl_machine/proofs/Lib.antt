@@ -1,0 +1,7 @@
+pub mod Acts
+pub mod Continuing
+pub mod Cutting
+pub mod Ends
+pub mod Hearing
+pub mod Meanings
+pub mod Ranks

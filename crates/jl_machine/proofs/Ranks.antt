@@ -1,0 +1,87 @@
+-- What frames and acts may do without a step.
+use Rattle.std.proofs.Common.{◌≡◌, ◌+◌, ◌<◌, ◌≤◌, ◌∷◌, ap, arith, false, subst, sym, true, List, ℕ}
+use Rattle.jl_state.specs.Rank.{rank, rank_act, rank_algorithm, rank_key, rank_progress}
+use Rattle.jl_state.specs.Rank.{rank_statement, rank_test, rank_value, ranks, Falls}
+use Rattle.jl_state.specs.declared.act.Act.{Act}
+use Rattle.jl_state.specs.declared.algorithm_frame.AlgorithmFrame.{AlgorithmFrame}
+use Rattle.jl_state.specs.declared.algorithm_frame.AlgorithmFrame.TheVariants as algorithm
+use Rattle.jl_state.specs.declared.algorithm_frame.Progress.{Progress}
+use Rattle.jl_state.specs.declared.algorithm_frame.Progress.TheVariants as progress
+use Rattle.jl_state.specs.declared.frame.Frame.{Frame}
+use Rattle.jl_state.specs.declared.frame.Frame.TheVariants as frame
+use Rattle.jl_state.specs.declared.state.State.{State}
+use Rattle.jl_state.specs.declared.statement_frame.Loop.{Loop}
+use Rattle.jl_state.specs.declared.statement_frame.Loop.TheVariants as loop
+use Rattle.jl_state.specs.declared.statement_frame.StatementFrame.{StatementFrame}
+use Rattle.jl_state.specs.declared.statement_frame.StatementFrame.TheVariants as statement
+use Rattle.jl_state.specs.declared.value_frame.KeyFor.{KeyFor}
+use Rattle.jl_state.specs.declared.value_frame.KeyFor.TheVariants as key_for
+use Rattle.jl_state.specs.declared.value_frame.ValueFrame.{ValueFrame}
+use Rattle.jl_state.specs.declared.value_frame.ValueFrame.TheVariants as waiting
+
+-- a frame that was taken off counts for what it may still do
+pub falls_popped : (s t : State) (f : Frame) (frames : List Frame) (n : ℕ) (a : Act) → s.stack ≡ f ∷ frames
+    → Falls (record s { stack = frames }) (rank f + n) t a → Falls s n t a
+falls_popped s t f frames n a e falls = record {
+  left = falls.left;
+  lower = λ same.
+      let less = falls.lower same in
+      let sum : ranks s.stack ≡ rank f + ranks frames = ap ranks e in
+      omega arith;
+}
+
+-- a frame that waits for a value may still do something
+
+key_waits : (k : KeyFor) → 0 < rank_key k
+key_waits (key_for.Get noted base) = omega arith
+key_waits k = omega arith
+
+value_waits : (f : ValueFrame) → 0 < rank_value f
+value_waits (waiting.EntryValue object key rest here) = omega arith
+value_waits (waiting.Entries object rest here) = omega arith
+value_waits (waiting.Key purpose) = key_waits purpose
+value_waits f = omega arith
+
+progress_waits : (p : Progress) → 0 < rank_progress p
+progress_waits (progress.ErrorName object) = omega arith
+progress_waits p = omega arith
+
+algorithm_waits : (f : AlgorithmFrame) → 0 < rank_algorithm f
+algorithm_waits (algorithm.Method object h false) = omega arith
+algorithm_waits (algorithm.Method object h true) = omega arith
+algorithm_waits (algorithm.MethodResult object h false) = omega arith
+algorithm_waits (algorithm.MethodResult object h true) = omega arith
+algorithm_waits (algorithm.Builtin p) = progress_waits p
+algorithm_waits f = omega arith
+
+test_waits : (l : Loop) → 0 < rank_test l
+test_waits (loop.Do l e) = omega arith
+test_waits l = omega arith
+
+statement_waits : (f : StatementFrame) → 0 < rank_statement f
+statement_waits (statement.Variables rest here) = omega arith
+statement_waits (statement.ForHead rest t) = omega arith
+statement_waits (statement.Test t) = test_waits t.kind
+statement_waits (statement.Switch l here) = omega arith
+statement_waits (statement.CaseTest v index l here) = omega arith
+statement_waits f = omega arith
+
+-- so what passes over it falls
+
+passes_over : (s : State) (f : Frame) (a : Act) → rank_act a ≤ 2 → 0 < rank f → Falls s (rank f + 2) s a
+passes_over s f a low waits = record { left = omega arith; lower = λ same. omega arith }
+
+pub over_value : (s : State) (f : Frame) (x : ValueFrame) (a : Act) → f ≡ frame.Value x → rank_act a ≤ 2
+    → Falls s (rank f + 2) s a
+over_value s f x a is low =
+    passes_over s f a low (subst (λ (g : Frame). 0 < rank g) (sym is) (value_waits x))
+
+pub over_algorithm : (s : State) (f : Frame) (x : AlgorithmFrame) (a : Act) → f ≡ frame.Algorithm x → rank_act a ≤ 2
+    → Falls s (rank f + 2) s a
+over_algorithm s f x a is low =
+    passes_over s f a low (subst (λ (g : Frame). 0 < rank g) (sym is) (algorithm_waits x))
+
+pub over_statement : (s : State) (f : Frame) (x : StatementFrame) (a : Act) → f ≡ frame.Statement x → rank_act a ≤ 2
+    → Falls s (rank f + 2) s a
+over_statement s f x a is low =
+    passes_over s f a low (subst (λ (g : Frame). 0 < rank g) (sym is) (statement_waits x))

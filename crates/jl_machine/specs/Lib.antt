@@ -1,0 +1,5 @@
+pub mod Built
+pub mod Going
+pub mod Handed
+pub mod Runs
+pub mod Starts

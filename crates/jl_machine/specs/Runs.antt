@@ -1,0 +1,50 @@
+-- What a run of the machine comes to.
+use Rattle.std.specs.Prelude.{◌≡◌, ◌++◌, ◌-◌, ◌<◌, ◌^◌, length, List, ℕ}
+use Rattle.jl_ast.specs.Tree.{Program}
+use Rattle.jl_value.specs.declared.ending.Completion.TheVariants as completion
+use Rattle.jl_value.specs.declared.ending.Fault.TheVariants.{Misuse}
+use Rattle.jl_value.specs.declared.ending.Outcome.{Outcome as Ending}
+use Rattle.jl_value.specs.declared.ending.Outcome.TheVariants as ending
+use Rattle.jl_op.specs.Chosen.{is_kept, Kinds}
+use Rattle.jl_op.specs.Operations.{Operation}
+use Rattle.jl_effects.specs.Running.{nothing_done, run, state_of, steps_taken, Ends, Fails, Over, Spent}
+use Rattle.jl_effects.specs.Traces.{quietly}
+use Rattle.jl_meaning.specs.FunctionTable.{function_table}
+use Rattle.jl_meaning.specs.Mean.{language, script}
+use Rattle.jl_meaning.specs.Mean as mean
+use Rattle.jl_meaning.specs.Realm.{realm}
+use Rattle.jl_state.specs.Jobs.{job}
+use Rattle.jl_machine.specs.Starts.{without_ids}
+use Rattle.jl_machine.specs.declared.ending.Run.{Run}
+
+-- What a program comes to from the realm with so many steps, as it looks from its hooks, where a call of a builtin that
+-- is not built ends the run.
+unfoldable pub built_mean : {S : Type 0} → Kinds → Program S → (steps : ℕ) → mean.Run
+built_mean chosen p n =
+    run language (quietly (is_kept chosen)) (job (function_table (without_ids p))) n (script (without_ids p))
+    (nothing_done realm)
+
+-- how a run ended; a program ends normally or by what it throws
+abbrev pub ending_of : mean.Run → Ending
+ending_of (Over (Ends completion.Normal) left w) = ending.Normal
+ending_of (Over (Ends (completion.Throw v)) left w) = ending.Thrown v
+ending_of (Over (Ends _) left w) = ending.Fault Misuse
+ending_of (Over (Fails f) left w) = ending.Fault f
+ending_of (Spent w) = ending.Spent
+
+-- how many steps a run took that ended so, of which so many are left
+abbrev pub steps_of : Ending → (budget left : ℕ) → ℕ
+steps_of ending.Spent budget left = budget
+steps_of end budget left = budget - left
+
+-- What was answered is what the run came to that began with so many steps, and the observer, who was told of those from
+-- before, was told of what its hooks emitted. Of these there are as many as was answered, as long as there are so few
+-- that a count may say how many.
+pub record IsRun {O : Type 0} (stands_for : O → List Operation → Type 0) (before : List Operation) (budget : ℕ)
+    (r : mean.Run) (answer : Run) (observer : O) : Type 0 where
+  pub outcome : answer.outcome ≡ ending_of r
+  pub output : answer.output ≡ (state_of r).output
+  pub store : answer.store ≡ (state_of r).store
+  pub steps : answer.steps ≡ steps_taken budget r
+  pub hooks : length (state_of r).hooks < 2 ^ 64 → answer.hooks ≡ length (state_of r).hooks
+  pub told : stands_for observer (before ++ (state_of r).hooks)

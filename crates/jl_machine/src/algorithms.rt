@@ -1,0 +1,74 @@
+//! Algorithms of the standard, and builtins, which go on with a value.
+ghost use Rattle.std.specs.Prelude.{◌+◌, IfOk};
+ghost use Rattle.jl_state.specs.AlgorithmFrames.{algorithm_after};
+ghost use Rattle.jl_state.specs.Rank.{rank_algorithm, Falls};
+ghost use Rattle.jl_state.specs.Rest.{Works};
+
+use jl_algorithm::{
+    step_length_count, step_length_number, step_method, step_method_result, step_type_of,
+};
+use jl_function::step_progress;
+use jl_operator::{
+    step_equal_to, step_in, step_instance_of, step_left_compared, step_left_number,
+    step_left_summand, step_number_operand, step_right_compared, step_right_number,
+    step_right_summand,
+};
+use jl_state::{Act, AlgorithmFrame, State};
+use jl_text::NoMemory;
+use jl_value::Value;
+use std::alloc::Global;
+
+/// An algorithm goes on with the value that it waited for.
+pub(crate) fn step_algorithm<'p>(
+    alloc: Global,
+    state: &mut State<'p>,
+    frame: AlgorithmFrame,
+    v: Value,
+) -> Result<Act<'p>, NoMemory>
+    ensures leads { IfOk result (λ act. Works state.old (algorithm_after frame v) state.new act) }
+    ensures falls { IfOk result (λ act. Falls state.old (rank_algorithm frame + 2) state.new act) }
+{
+    match frame {
+        AlgorithmFrame::Method {
+            object,
+            hint,
+            is_second,
+        } => Ok(step_method(alloc, state, object, hint, is_second, v)?),
+        AlgorithmFrame::MethodResult {
+            object,
+            hint,
+            is_second,
+        } => Ok(step_method_result(alloc, state, object, hint, is_second, v)?),
+        AlgorithmFrame::LeftNumber { op, right } => {
+            Ok(step_left_number(alloc, state, op, right, v)?)
+        }
+        AlgorithmFrame::RightNumber { op, left } => Ok(step_right_number(state, op, left, v)?),
+        AlgorithmFrame::LeftSummand { right } => Ok(step_left_summand(alloc, state, right, v)?),
+        AlgorithmFrame::RightSummand { left } => Ok(step_right_summand(alloc, state, left, v)?),
+        AlgorithmFrame::LeftCompared { op, right } => {
+            Ok(step_left_compared(alloc, state, op, right, v)?)
+        }
+        AlgorithmFrame::RightCompared { op, left } => Ok(step_right_compared(state, op, left, v)?),
+        AlgorithmFrame::EqualTo { other, is_negative } => {
+            Ok(step_equal_to(state, other, is_negative, v)?)
+        }
+        AlgorithmFrame::InstanceOf { value } => Ok(step_instance_of(alloc, state, value, v)?),
+        AlgorithmFrame::In { object } => Ok(step_in(alloc, state, object, v)?),
+        AlgorithmFrame::NumberOperand { op } => Ok(step_number_operand(state, op, v)?),
+        AlgorithmFrame::LengthCount {
+            array,
+            length,
+            attributes,
+            purpose,
+        } => Ok(step_length_count(alloc, state, array, length, attributes, purpose, v)?),
+        AlgorithmFrame::LengthNumber {
+            array,
+            count,
+            attributes,
+            purpose,
+        } => Ok(step_length_number(alloc, state, array, count, attributes, purpose, v)?),
+        AlgorithmFrame::TypeOf => Ok(step_type_of(alloc, state, v)?),
+        AlgorithmFrame::Then(given) => Ok(Act::Give(given)),
+        AlgorithmFrame::Builtin(progress) => Ok(step_progress(alloc, state, progress, v)?),
+    }
+}

@@ -1,0 +1,150 @@
+//! What is handed to the innermost of the frames.
+ghost use Rattle.std.specs.Prelude.{◌+◌, ◌≤◌, IfOk};
+ghost use Rattle.jl_state.specs.Rank.{rank, rank_act, Falls};
+ghost use Rattle.jl_state.specs.Rest.{Completion-given, Nothing, Value-given};
+ghost use Rattle.jl_machine.specs.Going.{Sinks};
+ghost use Rattle.jl_machine.specs.Handed.{Continues, EndsProgram, Hands, Passes};
+
+use crate::algorithms::step_algorithm;
+use crate::ending::Next;
+use jl_call::step_told;
+use jl_expression::step_value;
+use jl_function::step_body;
+use jl_state::{Act, Frame, State};
+use jl_statement::{step_completion, step_statement};
+use jl_text::NoMemory;
+use jl_value::{Completion, Fault, Outcome, Value};
+use std::alloc::Global;
+
+/// A frame goes on with a value. One that waits for none ends the run.
+#[tactic(auto, using(crate::proofs::Continuing::value_continues, crate::proofs::Continuing::algorithm_continues, crate::proofs::Continuing::statement_continues, crate::proofs::Continuing::misused))]
+fn continue_with_value<'p>(
+    alloc: Global,
+    state: &mut State<'p>,
+    frame: Frame<'p>,
+    v: Value,
+) -> Result<Act<'p>, NoMemory>
+    ensures continues { IfOk result (λ act. Continues state.old frame.entry (Value-given v) state.new act) }
+    ensures falls { IfOk result (λ act. Falls state.old (rank frame.entry + 2) state.new act) }
+{
+    match frame {
+        Frame::Value(frame) => Ok(step_value(alloc, state, frame, v)?),
+        Frame::Algorithm(frame) => Ok(step_algorithm(alloc, state, frame, v)?),
+        Frame::Statement(frame) => Ok(step_statement(alloc, state, frame, v)?),
+        Frame::Completion(_) => Ok(Act::Fault(Fault::Misuse)),
+        Frame::Told(_) => Ok(Act::Fault(Fault::Misuse)),
+        Frame::Body => Ok(Act::Fault(Fault::Misuse)),
+    }
+}
+
+/// What was thrown passes over a frame that waits for a value. No other completion is handed to one (8.9).
+fn pass<'p>(how: Completion) -> Act<'p>
+    ensures passes { Passes how result }
+    ensures falls { rank_act result ≤ 2 }
+{
+    match how {
+        Completion::Throw(v) => Act::Complete(Completion::Throw(v)),
+        Completion::Normal => Act::Fault(Fault::Misuse),
+        Completion::Return(_) => Act::Fault(Fault::Misuse),
+        Completion::Break(_) => Act::Fault(Fault::Misuse),
+        Completion::Continue(_) => Act::Fault(Fault::Misuse),
+    }
+}
+
+/// A frame goes on with a completion.
+#[tactic(auto, using(crate::proofs::Continuing::completion_continues, crate::proofs::Continuing::body_continues, crate::proofs::Continuing::misused))]
+fn continue_with_completion<'p>(
+    alloc: Global,
+    state: &mut State<'p>,
+    frame: Frame<'p>,
+    how: Completion,
+) -> Result<Act<'p>, NoMemory>
+    ensures continues { IfOk result (λ act. Continues state.old frame.entry (Completion-given how) state.new act) }
+    ensures falls { IfOk result (λ act. Falls state.old (rank frame.entry + 2) state.new act) }
+{
+    match frame {
+        Frame::Value(_) => Ok(pass(how)),
+        Frame::Algorithm(_) => Ok(pass(how)),
+        Frame::Statement(_) => Ok(pass(how)),
+        Frame::Completion(frame) => Ok(step_completion(alloc, state, frame, how)?),
+        Frame::Told(_) => Ok(Act::Fault(Fault::Misuse)),
+        Frame::Body => Ok(step_body(state, how)?),
+    }
+}
+
+/// A frame goes on by itself. One that waits for something ends the run.
+#[tactic(auto, using(crate::proofs::Continuing::told_continues, crate::proofs::Continuing::misused))]
+fn continue_by_itself<'p>(
+    alloc: Global,
+    state: &mut State<'p>,
+    frame: Frame<'p>,
+) -> Result<Act<'p>, NoMemory>
+    ensures continues { IfOk result (λ act. Continues state.old frame.entry Nothing state.new act) }
+    ensures falls { IfOk result (λ act. Falls state.old (rank frame.entry + 1) state.new act) }
+{
+    match frame {
+        Frame::Told(frame) => Ok(step_told(alloc, state, frame)?),
+        Frame::Value(_) => Ok(Act::Fault(Fault::Misuse)),
+        Frame::Algorithm(_) => Ok(Act::Fault(Fault::Misuse)),
+        Frame::Statement(_) => Ok(Act::Fault(Fault::Misuse)),
+        Frame::Completion(_) => Ok(Act::Fault(Fault::Misuse)),
+        Frame::Body => Ok(Act::Fault(Fault::Misuse)),
+    }
+}
+
+/// The innermost frame is handed a value.
+#[tactic(auto, using(crate::proofs::Continuing::handed, crate::proofs::Continuing::handed_nobody, crate::proofs::Ranks::falls_popped))]
+pub(crate) fn give_value<'p>(
+    alloc: Global,
+    state: &mut State<'p>,
+    v: Value,
+) -> Result<Act<'p>, NoMemory>
+    ensures hands { IfOk result (λ act. Hands state.old (Value-given v) state.new (Next.Act act)) }
+    ensures falls { IfOk result (λ act. Falls state.old 2 state.new act) }
+{
+    match state.stack.pop() {
+        None => Ok(Act::Fault(Fault::Misuse)),
+        Some(frame) => Ok(continue_with_value(alloc, state, frame, v)?),
+    }
+}
+
+/// The innermost frame is handed a completion, or where there is none, the program has completed so.
+#[tactic(auto, using(crate::proofs::Continuing::handed, crate::proofs::Continuing::ended, crate::proofs::Ranks::falls_popped))]
+pub(crate) fn give_completion<'p>(
+    alloc: Global,
+    state: &mut State<'p>,
+    how: Completion,
+) -> Result<Next<'p>, NoMemory>
+    ensures hands { IfOk result (λ n. Hands state.old (Completion-given how) state.new n) }
+    ensures falls { IfOk result (λ n. Sinks state.old 2 state.new n) }
+{
+    match state.stack.pop() {
+        None => Ok(Next::Over(end_program(how))),
+        Some(frame) => Ok(Next::Act(continue_with_completion(alloc, state, frame, how)?)),
+    }
+}
+
+/// The innermost frame goes on.
+#[tactic(auto, using(crate::proofs::Continuing::handed, crate::proofs::Continuing::handed_nobody, crate::proofs::Ranks::falls_popped))]
+pub(crate) fn resume<'p>(alloc: Global, state: &mut State<'p>) -> Result<Act<'p>, NoMemory>
+    ensures hands { IfOk result (λ act. Hands state.old Nothing state.new (Next.Act act)) }
+    ensures falls { IfOk result (λ act. Falls state.old 1 state.new act) }
+{
+    match state.stack.pop() {
+        None => Ok(Act::Fault(Fault::Misuse)),
+        Some(frame) => Ok(continue_by_itself(alloc, state, frame)?),
+    }
+}
+
+/// How a program ends whose statements have completed so (clause 14). None completes but normally or by what it throws.
+fn end_program(how: Completion) -> Outcome
+    ensures { EndsProgram how result }
+{
+    match how {
+        Completion::Normal => Outcome::Normal,
+        Completion::Throw(v) => Outcome::Thrown(v),
+        Completion::Return(_) => Outcome::Fault(Fault::Misuse),
+        Completion::Break(_) => Outcome::Fault(Fault::Misuse),
+        Completion::Continue(_) => Outcome::Fault(Fault::Misuse),
+    }
+}
