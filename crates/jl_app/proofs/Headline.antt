@@ -26,7 +26,7 @@ use Rattle.jl_text.specs.Encoding.{units_of}
 use Rattle.jl_text.specs.declared.span.Span.{Span}
 use Rattle.jl_grammar.proofs.OneAccepted.{one_accepted}
 use Rattle.jl_app.specs.declared.command.Command.{Command}
-use Rattle.jl_app.specs.declared.command.Command.TheVariants.{Lint, Check, Print}
+use Rattle.jl_app.specs.declared.command.Command.TheVariants.{Lint, Check, Print, Run}
 use Rattle.jl_app.specs.Accepting.{IsScript, is_legal}
 use Rattle.jl_app.specs.Commands.{words_of}
 use Rattle.jl_app.specs.Form.{script_of}
@@ -150,6 +150,7 @@ is_lint : (c : Command) → words_of c ≡ words_of Lint → c ≡ Lint
 is_lint Lint e = refl
 is_lint Check e = absurd (cc)
 is_lint Print e = absurd (cc)
+is_lint Run e = absurd (cc)
 
 pub headline : {call : Call} {answer : Status} → EndsWith call answer → (bytes : List ℕ) (s : Script)
     → call.held ≡ Some bytes → IsScript bytes s → call.words ≡ words_of Lint → IsOver (own_run s)

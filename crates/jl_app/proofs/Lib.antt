@@ -7,5 +7,6 @@ pub mod Refusing
 pub mod Comings
 pub mod Reported
 pub mod Answering
+pub mod Executing
 pub mod Endings
 pub mod Headline

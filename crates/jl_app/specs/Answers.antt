@@ -11,6 +11,8 @@ use Rattle.jl_print.specs.Layout.{text_of}
 use Rattle.jl_text.specs.Encoding.{bytes_of, units_of}
 use Rattle.jl_text.specs.declared.span.Span.{Span}
 use Rattle.jl_value.specs.Faults.{fault_text}
+use Rattle.jl_meaning.specs.Mean as mean
+use Rattle.jl_machine.specs.Runs.{ending_of}
 use Rattle.jl_app.specs.declared.command.Command.{Command}
 use Rattle.jl_app.specs.declared.command.Command.TheVariants as commands
 use Rattle.jl_app.specs.declared.refusal.Refusal.{Refusal}
@@ -20,6 +22,7 @@ use Rattle.jl_app.specs.Form.{script_of}
 use Rattle.jl_app.specs.Refusals.{IsRefused, refusal_words}
 use Rattle.jl_app.specs.Sums.{Script}
 use Rattle.jl_app.specs.Runs.{Outcome, nothing_done, run}
+use Rattle.jl_app.specs.OwnRuns.{ending_status, program_run, steps_line, uncaught_line}
 use Rattle.jl_app.specs.Places.{places}
 use Rattle.jl_app.specs.Meaning.{script}
 use Rattle.jl_app.specs.Weaving.{woven, hooked_run}
@@ -117,11 +120,25 @@ canonical_text p = record { status = status.Clean; bytes = bytes_of (text_of p);
 pub data IsPrinted (p : Program Span) : Due → Type 0 where
   written : IsPrinted p (canonical_text p)
 
+-- what a program printed that ran as it stands, what it threw, and the last line
+abbrev pub executed : mean.Run → Due
+executed r = record {
+  status = ending_status (ending_of r);
+  bytes = (world_of r).output ++ (uncaught_line (world_of r).store.heap (ending_of r)
+      ++ steps_line (ending_of r) (steps_taken budget r));
+  told = [];
+}
+
+-- what `run` answers to it
+pub data IsExecuted (p : Program Span) : Due → Type 0 where
+  ended : IsExecuted p (executed (program_run p budget))
+
 -- what a command answers to a source of these units that is accepted as this program
 abbrev pub Responds : Command → (units : List ℕ) → Program Span → Due → Type 0
 Responds commands.Lint units p due = IsLinted units p due
 Responds commands.Check units p due = IsChecked p due
 Responds commands.Print units p due = IsPrinted p due
+Responds commands.Run units p due = IsExecuted p due
 
 -- what a command answers to these bytes, which are refused or accepted
 pub data IsAnswered (c : Command) (bytes : List ℕ) : Due → Type 0 where

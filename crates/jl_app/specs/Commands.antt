@@ -13,3 +13,4 @@ abbrev pub words_of : Command → List (List ℕ)
 words_of commands.Lint = codes "lint" ∷ []
 words_of commands.Check = codes "check" ∷ []
 words_of commands.Print = codes "print" ∷ []
+words_of commands.Run = codes "run" ∷ []

@@ -1,5 +1,6 @@
 pub mod Sums
 pub mod Form
+pub mod OwnRuns
 pub mod Places
 pub mod Runs
 pub mod Meaning

@@ -7,6 +7,7 @@ ghost use Rattle.jl_app.specs.Refusals.{refusal_words};
 use crate::accept::{Unaccepted, accept};
 use crate::check::check;
 use crate::command::Command;
+use crate::execute::execute;
 use crate::lint::lint;
 use crate::print::print;
 use crate::refusal::Refusal;
@@ -70,5 +71,6 @@ pub(crate) fn respond(
         Command::Lint => lint(alloc, &accepted, crowd),
         Command::Check => check(alloc, &accepted.program),
         Command::Print => print(alloc, &accepted.program),
+        Command::Run => execute(alloc, &accepted.program),
     }
 }

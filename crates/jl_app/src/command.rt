@@ -11,6 +11,8 @@ pub enum Command {
     Check,
     /// Writes the canonical text of a script.
     Print,
+    /// Runs a script as it stands.
+    Run,
 }
 
 impl Command {
@@ -30,6 +32,9 @@ impl Command {
         }
         if *word == "print" {
             return Some(Command::Print);
+        }
+        if *word == "run" {
+            return Some(Command::Run);
         }
         None
     }

@@ -5,6 +5,7 @@ mod accept;
 mod answer;
 mod check;
 mod command;
+mod execute;
 mod form;
 pub mod laws;
 mod lint;

@@ -27,7 +27,7 @@ use jl_op::Observer;
 use std::alloc::{AllocError, Global};
 
 /// How many steps a script's own run has.
-const BUDGET: u64 = 1_000_000;
+pub(crate) const BUDGET: u64 = 1_000_000;
 
 /// How many steps the run of a woven script has.
 const WOVEN_BUDGET: u64 = 32 * BUDGET + 64;
@@ -72,7 +72,7 @@ fn run_status(outcome: Outcome, reports: usize) -> Status
 }
 
 /// The output of a run, its report and the last line.
-fn joined(output: Vec<u8>, report: &[u8], end: &str) -> Result<Vec<u8>, AllocError>
+pub(crate) fn joined(output: Vec<u8>, report: &[u8], end: &str) -> Result<Vec<u8>, AllocError>
     ensures { IfOk result (λ bytes. bytes.items ≡ output.items ++ (report.now ++ end.now)) }
 {
     let mut bytes = output;

@@ -5,6 +5,7 @@ mod names;
 mod parsing;
 mod printing;
 mod reports;
+mod running;
 
 use crate::top::jlint;
 use jl_analysis::{Analysis, Crowd};
@@ -232,7 +233,7 @@ fn functions_are_counted(rt: HostRuntime) -> Result<(), Fail> {
 /// What the commands answer to bytes that are refused.
 fn is_refused(rt: &impl Abort, alloc: Global, script: &[u8], words: &str) -> Result<(), Fail> {
     let line = format!(in alloc; "jlint: refused {words}\n")?;
-    for command in ["lint", "check", "print"] {
+    for command in ["lint", "check", "print", "run"] {
         let (code, written) = answer_to(alloc, command, script)?;
         assert_eq!(rt; code, 3, "at {words}");
         assert_eq!(rt; written.as_str(), line.as_str());
@@ -352,7 +353,7 @@ fn failures_of_the_outside_are_told(rt: HostRuntime) -> Result<(), Fail> {
 fn other_words_are_bad(rt: HostRuntime) -> Result<(), Fail> {
     let rows: [&[&str]; 7] = [
         &[],
-        &["run"],
+        &["runs"],
         &["lint", "lint"],
         &["check", "lint"],
         &["--help"],

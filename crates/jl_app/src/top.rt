@@ -72,8 +72,9 @@ fn due<S: Source>(
 /// Runs the command that the words name, with the source as the script and the sink for the answer; all bytes of an
 /// answer are made before the first is written.
 ///
-/// `check` tells whether a script is accepted, `print` writes its canonical text, and `lint` runs one of the form
-/// `print(SUM);`. The shelf is for a text between its printing and its reading, and no command uses it yet.
+/// `check` tells whether a script is accepted, `print` writes its canonical text, `run` runs it, and `lint` rewrites
+/// one of the form `print(SUM);`, runs that and reports. The shelf is for a text between its printing and its reading,
+/// and no command uses it yet.
 pub fn jlint<S: Source, K: Sink, H: Shelf>(
     alloc: Global,
     words: &[&str],

@@ -7,7 +7,7 @@ use std::alloc::Global;
 use std::test::Fail;
 
 /// The program that a text reads as.
-fn program(alloc: Global, source: &str) -> Result<Program, Fail> {
+pub(super) fn program(alloc: Global, source: &str) -> Result<Program, Fail> {
     match parsed(alloc, source, 200)? {
         Ok(program) => Ok(program),
         Err(_) => Err("unreadable")?,

@@ -2,8 +2,9 @@ use Rattle.std.proofs.Common.{sym, subst}
 use Rattle.std.proofs.lemmas.Result.{IfOk-weaker}
 use Rattle.jl_ast.specs.View.{view}
 use Rattle.jl_token.specs.Tokens.{Tokens}
-use Rattle.jl_app.specs.Answers.{refused_only, functions_line, counted, canonical_text, written, refused, accepted}
-use Rattle.jl_app.specs.Answers.{IsAnswered, IsLinted}
+use Rattle.jl_app.specs.Answers.{refused_only, functions_line, counted, canonical_text, written, executed, ended, budget}
+use Rattle.jl_app.specs.Answers.{refused, accepted, IsAnswered, IsLinted}
+use Rattle.jl_app.specs.OwnRuns.{program_run}
 use Rattle.jl_app.specs.Refusals.{refusal_words}
 use Rattle.jl_app.proofs.Scripts.{script_small}
 use Rattle.jl_app.proofs.answer.respond.Goals as goal
@@ -59,8 +60,8 @@ returns-in-Check-clause-due g c =
     ))
     c.check.ensures
 
-pub returns-clause-due : goal.returns-clause-due
-returns-clause-due g c =
+pub returns-in-Print-clause-due : goal.returns-in-Print-clause-due
+returns-in-Print-clause-due g c =
     let p = view c.in-Ok.accepted.program in
     IfOk-weaker c.print.result _ _
     (λ a answered. (
@@ -72,3 +73,17 @@ returns-clause-due g c =
       c.requires.fresh,
     ))
     c.print.ensures
+
+pub returns-clause-due : goal.returns-clause-due
+returns-clause-due g c =
+    let p = view c.in-Ok.accepted.program in
+    let due = executed (program_run p budget) in
+    IfOk-weaker c.execute.result _ _
+    (λ a answered. (
+      due,
+      subst (λ x. IsAnswered x c.args.bytes.now due) (sym c.in-Run.is) (accepted p c.in-Ok.ensures.accepted.0 ended),
+      answered.0,
+      answered.1,
+      c.requires.fresh,
+    ))
+    c.execute.ensures

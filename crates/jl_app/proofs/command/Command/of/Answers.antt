@@ -15,3 +15,8 @@ pub returns-then-eq-3 : goal.returns-then-eq-3
 returns-then-eq-3 c =
     (is_word _ _ (codes "print") c.eq-3.result
     (one_word c.args.words.now _ c.in-len1.len_at_least c.in-len1.len_below) c.eq-3.ensures).0 c.if-eq-3.true
+
+pub returns-then-eq-4 : goal.returns-then-eq-4
+returns-then-eq-4 c =
+    (is_word _ _ (codes "run") c.eq-4.result
+    (one_word c.args.words.now _ c.in-len1.len_at_least c.in-len1.len_below) c.eq-4.ensures).0 c.if-eq-4.true
