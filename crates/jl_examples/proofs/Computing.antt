@@ -38,7 +38,7 @@ use Rattle.jl_meaning.specs.forms.Members as form_members
 use Rattle.jl_meaning.specs.forms.Names as form_names
 use Rattle.jl_meaning.specs.forms.Operators as form_operators
 use Rattle.jl_meaning.specs.forms.Try as form_try
-use Rattle.jl_weave.specs.Weaving as weave_weaving
+use Rattle.jl_simulation.specs.Weaving as weave_weaving
 
 unfoldable pub run : Unit {0}
 unfolding names.hooks_name names.arguments_name indices.index_of builtins.builtin_names numerals.text_number

@@ -20,7 +20,7 @@ use Rattle.jl_op.specs.declared.kind.OpKind.{OpKind}
 use Rattle.jl_effects.specs.Matching.{bound}
 use Rattle.jl_effects.specs.Running.{Over, Spent, Ends, Fails, state_of, steps_taken}
 use Rattle.jl_meaning.specs.Mean.{mean, Run}
-use Rattle.jl_weave.specs.Weaving.{woven_program}
+use Rattle.jl_simulation.specs.Weaving.{woven_program}
 
 -- a line, and those after it
 abbrev pub line : List ℕ → List ℕ → List ℕ

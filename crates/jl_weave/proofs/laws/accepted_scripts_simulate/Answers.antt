@@ -1,5 +1,0 @@
-use Rattle.jl_weave.proofs.AcceptedScripts.{accepted_simulates}
-use Rattle.jl_weave.proofs.laws.accepted_scripts_simulate.Goals as goal
-
-pub returns : goal.returns
-returns c = λ chosen ts limit p read none few. accepted_simulates chosen ts limit p read none few

@@ -1,5 +1,0 @@
-use Rattle.jl_weave.proofs.FewIds.{few_entries}
-use Rattle.jl_weave.proofs.laws.few_ids.Goals as goal
-
-pub returns : goal.returns
-returns c = few_entries

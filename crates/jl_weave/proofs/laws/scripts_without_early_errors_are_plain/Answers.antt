@@ -1,6 +1,0 @@
-use Rattle.jl_scope.specs.Scope.{in_program}
-use Rattle.jl_weave.proofs.Accepted.{plain}
-use Rattle.jl_weave.proofs.laws.scripts_without_early_errors_are_plain.Goals as goal
-
-pub returns : goal.returns
-returns c = λ p none operators. plain (in_program p.body) p.body none operators

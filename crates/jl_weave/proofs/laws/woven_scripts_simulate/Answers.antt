@@ -1,5 +1,0 @@
-use Rattle.jl_weave.proofs.Programs.{woven_simulates}
-use Rattle.jl_weave.proofs.laws.woven_scripts_simulate.Goals as goal
-
-pub returns : goal.returns
-returns g c = λ chosen p plain few. woven_simulates chosen p plain few
