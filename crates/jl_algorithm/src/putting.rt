@@ -57,8 +57,30 @@ pub fn put<'p>(
     }
 }
 
-/// A put on an object.
+/// A put on an object: in one look-up where it comes to another value of an own property alone.
 fn put_on_object<'p>(
+    alloc: Global,
+    state: &mut State<'p>,
+    id: ObjId,
+    name: &Text,
+    v: Value,
+    throwing: bool,
+    gives: Value,
+) -> Result<Act<'p>, NoMemory>
+    ensures leads { IfOk result (λ act. Works state.old
+        (put_if (can_put (object_at state.old.store.heap id.0).extensible (get_property state.old.store id.0 name.now))
+        id name.now v (get_property state.old.store id.0 name.now) then after_define (WrittenBy.Put throwing gives))
+        state.new act) }
+    ensures falls { IfOk result (λ act. Falls state.old 42 state.new act) }
+{
+    match state.store.set_value(id, name, v) {
+        Ok(()) => Ok(after_define(alloc, state, WrittenBy::Put { throwing, gives }, true)?),
+        Err(v) => Ok(put_by_look_up(alloc, state, id, name, v, throwing, gives)?),
+    }
+}
+
+/// The same by the property that is found.
+fn put_by_look_up<'p>(
     alloc: Global,
     state: &mut State<'p>,
     id: ObjId,

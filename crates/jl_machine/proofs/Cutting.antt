@@ -26,9 +26,9 @@ use Rattle.jl_meaning.specs.builtins.Function.{names_of}
 use Rattle.jl_meaning.specs.builtins.Table.{builtin}
 use Rattle.jl_state.specs.Jobs.{begin_builtin, begin_inside, is_built}
 use Rattle.jl_state.specs.Jobs as built
-use Rattle.jl_machine.specs.Built.{whole_mean, IsNoGap, MeetsNoGap}
+use Rattle.jl_quiet.specs.QuietMean.{quiet_mean, without_ids}
+use Rattle.jl_machine.specs.Built.{IsNoGap, MeetsNoGap}
 use Rattle.jl_machine.specs.Runs.{built_mean}
-use Rattle.jl_machine.specs.Starts.{without_ids}
 
 -- the second part is the first, in which some parts are cut off
 data IsCut {A : Type 0} : parts.Part A → parts.Part A → Type 0 where
@@ -105,8 +105,8 @@ jobs_cut table (CallOf call) l =
 jobs_cut table (TurnOf t) l = uncut _
 
 pub built_runs : {S : Type 0} (chosen : Kinds) (p : Program S) (n : ℕ) → MeetsNoGap (built_mean chosen p n)
-    → whole_mean chosen p n ≡ built_mean chosen p n
-unfolding built_mean whole_mean
+    → quiet_mean chosen p n ≡ built_mean chosen p n
+unfolding built_mean
 built_runs chosen p n fine =
     cut_runs (quietly (is_kept chosen)) (meaning.job (function_table (without_ids p)))
     (built.job (function_table (without_ids p))) (jobs_cut (function_table (without_ids p)))

@@ -13,8 +13,8 @@ use Rattle.jl_meaning.specs.FunctionTable.{function_table}
 use Rattle.jl_meaning.specs.Mean.{language, script}
 use Rattle.jl_meaning.specs.Mean as mean
 use Rattle.jl_meaning.specs.Realm.{realm}
+use Rattle.jl_quiet.specs.QuietMean.{without_ids}
 use Rattle.jl_state.specs.Jobs.{job}
-use Rattle.jl_machine.specs.Starts.{without_ids}
 use Rattle.jl_machine.specs.declared.ending.Run.{Run}
 
 -- What a program comes to from the realm with so many steps, as it looks from its hooks, where a call of a builtin that

@@ -1,7 +1,6 @@
 -- What a run begins with.
 use Rattle.std.specs.Prelude.{[], ◌≡◌, ℕ}
 use Rattle.jl_text.specs.declared.span.Span.{Span}
-use Rattle.jl_ast.specs.Spans.{map_spans}
 use Rattle.jl_ast.specs.Tree.{Program}
 use Rattle.jl_value.specs.declared.ending.Completion.{Completion}
 use Rattle.jl_effects.specs.Effects.{and_then}
@@ -12,12 +11,9 @@ use Rattle.jl_meaning.specs.FunctionTable.{function_table}
 use Rattle.jl_meaning.specs.Parts.{lift, Code, Context, Part}
 use Rattle.jl_meaning.specs.Realm.{realm}
 use Rattle.jl_meaning.specs.forms.Functions.{run_body}
+use Rattle.jl_quiet.specs.QuietMean.{without_ids}
 use Rattle.jl_state.specs.Words.{table_of}
 use Rattle.jl_state.specs.declared.state.State.{State}
-
--- the program with no ids of the script's own operations, which no machine looks at that is told by hooks alone
-abbrev pub without_ids : {S : Type 0} → Program S → Program ℕ
-without_ids p = map_spans (λ s. 0) p
 
 -- the state in which the run of a program begins, with so many steps
 pub record IsStart (p : Program Span) (budget : ℕ) (s : State) : Type 0 where

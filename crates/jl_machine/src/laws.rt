@@ -2,7 +2,8 @@
 ghost use Rattle.std.specs.Prelude.{◌≡◌, ℕ};
 ghost use Rattle.jl_ast.specs.Tree.{Program};
 ghost use Rattle.jl_op.specs.Chosen.{Kinds};
-ghost use Rattle.jl_machine.specs.Built.{whole_mean, MeetsNoGap};
+ghost use Rattle.jl_quiet.specs.QuietMean.{quiet_mean};
+ghost use Rattle.jl_machine.specs.Built.{MeetsNoGap};
 ghost use Rattle.jl_machine.specs.Runs.{built_mean};
 
 /// A run of the machine that is not ended by a call of a builtin that is not built is what the program means, as that
@@ -10,5 +11,5 @@ ghost use Rattle.jl_machine.specs.Runs.{built_mean};
 #[tactic(auto, using(crate::proofs::Cutting::built_runs))]
 pub fn built_runs_are_meant<S>()
     ensures { (chosen : Kinds) (p : Program S) (n : ℕ) → MeetsNoGap (built_mean chosen p n)
-        → whole_mean chosen p n ≡ built_mean chosen p n }
+        → quiet_mean chosen p n ≡ built_mean chosen p n }
 {}

@@ -16,3 +16,4 @@ pub mod DeclaredBodies
 pub mod Lengths
 pub mod GlobalNames
 pub mod Places
+pub mod PutValues

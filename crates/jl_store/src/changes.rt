@@ -1,10 +1,12 @@
 //! The changes of a store. It is changed in no other way.
 #![tactic(auto, unfolding(crate::specs::Changes::after))]
 
-ghost use Rattle.std.specs.Prelude.{◌≡◌, IfOk, IsNone, OnErr, OnOk};
-ghost use Rattle.jl_heap.specs.Define.{FitsLength, IsOneKind};
+ghost use Rattle.std.specs.Prelude.{◌≡◌, ◌↔◌, IfErr, IfOk, IsNone, IsOk, IsTrue, OnErr, OnOk};
+ghost use Rattle.jl_heap.specs.Define.{takes_value_alone, FitsLength, IsOneKind};
 ghost use Rattle.jl_heap.specs.Define as heaps;
 ghost use Rattle.jl_heap.specs.Objects as objects;
+ghost use Rattle.jl_heap.specs.Property.{value_change};
+ghost use Rattle.jl_heap.specs.declared.property.Defined.TheVariants.{Done};
 ghost use Rattle.jl_meaning.specs.Changes.{DefineProperty, DeleteProperty, NewBinding, NewEnvironment, NewObject};
 ghost use Rattle.jl_meaning.specs.Changes.{NewProperty, PreventExtensions, SetBinding, UnmapIndex};
 ghost use Rattle.jl_meaning.specs.Store.{binding_of, next_environment, next_object};
@@ -60,6 +62,25 @@ impl Store {
         ensures err { OnErr result (self.new ≡ self.old) }
     {
         self.heap.define(id, name, change)
+    }
+
+    /// Gives an own data property that can be written another value, as `define_property` of that value alone does, in
+    /// one look-up. The value comes back where there is no such property, and for the `length` of an array and an
+    /// element from its length on; then all is as before. It takes no memory.
+    pub(crate) fn set_stored_value(
+        &mut self,
+        id: ObjId,
+        name: &Text,
+        value: Value,
+    ) -> Result<(), Value>
+        ensures answer { OnOk result
+            (Done ≡ (heaps.define_own_property self.old.heap id.0 name.now (value_change value)).1) }
+        ensures made { OnOk result (self.new ≡ after (DefineProperty id name.now (value_change value)) self.old) }
+        ensures err { OnErr result (self.new ≡ self.old) }
+        ensures value_returned { IfErr result (λ v. v ≡ value) }
+        ensures taken { IsOk result ↔ IsTrue (takes_value_alone self.old.heap id.0 name.now) }
+    {
+        self.heap.set_value(id, name, value)
     }
 
     /// [[Delete]] of the properties that are stored (8.12.7): whether the name is free now. It takes no memory.

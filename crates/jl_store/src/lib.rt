@@ -18,6 +18,7 @@ mod names;
 mod objects;
 mod properties;
 mod prototypes;
+mod putting;
 mod store;
 mod words;
 

@@ -1,22 +1,14 @@
-use Rattle.std.proofs.Common.{ap, ◌∙◌}
-use Rattle.std.specs.Option.{option_map}
+use Rattle.std.proofs.Common.{refl, true}
 use Rattle.jl_heap.specs.Objects.{object_at}
 use Rattle.jl_meaning.specs.Properties.{can_put, get_property}
-use Rattle.jl_store.specs.LookUps.{property_seen}
-use Rattle.jl_state.specs.declared.algorithm_frame.WrittenBy.TheVariants.{Put}
-use Rattle.jl_algorithm.specs.inner.Ways.{way_of}
-use Rattle.jl_algorithm.proofs.Puts.{puts_so}
+use Rattle.jl_meaning.specs.Putting.{put_if}
+use Rattle.jl_state.proofs.Stores.{works_comes}
 use Rattle.jl_algorithm.proofs.putting.put_on_object.Goals as goal
 
-pub returns-clause-leads : goal.returns-clause-leads
-returns-clause-leads c =
-    let store = c.args.state.now.store in
-    let property = get_property store c.args.id.0 c.args.name.now in
-    let extensible = (object_at store.heap c.args.id.0).extensible in
-    puts_so c.args.state.now c.args.id c.args.name.now c.args.v extensible c.can_put.result property
-    c.way_of-way.result (Put c.args.throwing c.args.gives) _ _
-    (c.can_put.ensures
-    ∙ ap (λ e. can_put e (option_map property_seen c.get_property-property.result)) c.is_extensible.ensures
-    ∙ ap (λ p. can_put extensible p) c.get_property-property.ensures)
-    (c.way_of-way.ensures ∙ ap (λ p. way_of c.can_put.result p) c.get_property-property.ensures)
-    c.in_ok-put_so.ensures.leads
+pub returns-in_ok-after_define-in-Ok-clause-leads : goal.returns-in_ok-after_define-in-Ok-clause-leads
+returns-in_ok-after_define-in-Ok-clause-leads c =
+    let s = c.args.state.now in
+    let property = get_property s.store c.args.id.0 c.args.name.now in
+    works_comes s (record s { store = c.set_value.new.self }) refl
+    (put_if (can_put (object_at s.store.heap c.args.id.0).extensible property) c.args.id c.args.name.now c.args.v property)
+    true _ _ _ c.set_value.ensures.done c.in_ok-after_define-in-Ok.ensures.leads
