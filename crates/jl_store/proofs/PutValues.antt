@@ -1,7 +1,7 @@
 -- A put that comes to another value of an own data property alone.
-use Rattle.std.proofs.Common.{◌≡◌, ◌∙◌, ◌×◌, ℕ, false, true, ap, refl, subst, sym, not, ◌&&◌, ◌||◌, Bool, None, Option, Some}
+use Rattle.std.proofs.Common.{◌≡◌, ◌∙◌, ℕ, false, true, ap, refl, subst, sym, not, ◌&&◌, ◌||◌, Bool, None, Option, Some}
 use Rattle.std.specs.Option.{option_and_then, option_or}
-use Rattle.std.specs.Prelude.{is_some, option_map, IsTrue}
+use Rattle.std.specs.Prelude.{is_some, option_map, ◌↔◌, Err, IsOk, IsTrue, Ok, OnOk, Result}
 use Rattle.std.specs.Str.{bytes_eq}
 use Rattle.jl_value.specs.declared.object.ObjId.{ObjId}
 use Rattle.jl_value.specs.declared.value.Value.{Value}
@@ -31,21 +31,21 @@ record Held (p : Option Prop) : Type 0 where
   is : p ≡ Some (Plain value true enumerable configurable)
 
 held : (p : Option Prop) (b : Bool) → IsTrue (is_writable p && b) → Held p
-held None b t = absurd t
-held (Some (Accessor get set e c)) b t = absurd t
-held (Some (Plain v false e c)) b t = absurd t
+held None b t = absurd (let differ = t in cc)
+held (Some (Accessor get set e c)) b t = absurd (let differ = t in cc)
+held (Some (Plain v false e c)) b t = absurd (let differ = t in cc)
 held (Some (Plain v true e c)) b t = record { value = v; enumerable = e; configurable = c; is = refl }
 
 second : (a b : Bool) → IsTrue (a && b) → IsTrue b
-second false b t = absurd t
+second false b t = absurd (let differ = t in cc)
 second true b t = t
 
 no_length : (array length index : Bool) → IsTrue (not array || (not length && index)) → (array && length) ≡ false
 no_length false length index t = refl
 no_length true false index t = refl
-no_length true true index t = absurd t
+no_length true true index t = absurd (let differ = t in cc)
 
-pub not_mapped : {A B : Type 0} (f : A → B) (found : Option A) (m : Option B) → option_map f found ≡ m
+not_mapped : {A B : Type 0} (f : A → B) (found : Option A) (m : Option B) → option_map f found ≡ m
     → is_some found ≡ false → m ≡ None
 not_mapped f None m is none = sym is
 not_mapped f (Some a) m is none = absurd (let differ = none in cc)
@@ -75,7 +75,7 @@ defines s t id x v no_length comes = record {
       (sym no_length) comes.leads;
 }
 
-pub value_comes : (id : ObjId) (x : Name) (v : Value) (s t : Store) → mapped_parameter s id.0 x ≡ None
+value_comes : (id : ObjId) (x : Name) (v : Value) (s t : Store) → mapped_parameter s id.0 x ≡ None
     → IsTrue (takes_value_alone s.heap id.0 x)
     → Done ≡ (heaps.define_own_property s.heap id.0 x (value_change v)).1
     → t ≡ after (DefineProperty id x (value_change v)) s
@@ -94,3 +94,16 @@ value_comes id x v s t unmapped taken done made =
     (λ p. Comes (put_if (can_put (object_at s.heap id.0).extensible p) id x v p) s t (Ends (gives true)))
     (sym (found s id x present (own_found s id x present unmapped property.is)))
     (defines s t id x v kept numbered)
+
+-- the same of an answer that says whether it was done
+pub value_put : {A : Type 0} (id : ObjId) (x : Name) (v : Value) (s t : Store) (found : Option A)
+    (f : A → ℕ × Name) (r : Result (Unit {0}) Value) → option_map f found ≡ mapped_parameter s id.0 x
+    → is_some found ≡ false → (IsOk r ↔ IsTrue (takes_value_alone s.heap id.0 x))
+    → OnOk r (Done ≡ (heaps.define_own_property s.heap id.0 x (value_change v)).1)
+    → OnOk r (t ≡ after (DefineProperty id x (value_change v)) s)
+    → OnOk r (Comes
+    (put_if (can_put (object_at s.heap id.0).extensible (get_property s id.0 x)) id x v (get_property s id.0 x))
+    s t (Ends (gives true)))
+value_put id x v s t found f (Ok u) is none taken done made =
+    value_comes id x v s t (not_mapped f found (mapped_parameter s id.0 x) is none) (taken.0 refl) done made
+value_put id x v s t found f (Err e) is none taken done made = tt

@@ -16,6 +16,7 @@ impl Store {
     /// value comes back where there is no such property that can be written, for the `length` of an array and an
     /// element from its length on, and for an index that is mapped to a parameter; then all is as before. It takes no
     /// memory.
+    #[tactic(auto, using(crate::proofs::PutValues::value_put))]
     pub fn set_value(&mut self, id: ObjId, name: &Text, value: Value) -> Result<(), Value>
         ensures done { OnOk result (Comes
             (put_if (can_put (object_at self.old.heap id.0).extensible (get_property self.old id.0 name.now))
