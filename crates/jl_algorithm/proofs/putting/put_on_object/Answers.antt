@@ -11,4 +11,4 @@ returns-in_ok-after_define-in-Ok-clause-leads c =
     let property = get_property s.store c.args.id.0 c.args.name.now in
     works_comes s (record s { store = c.set_value.new.self }) refl
     (put_if (can_put (object_at s.store.heap c.args.id.0).extensible property) c.args.id c.args.name.now c.args.v property)
-    true _ _ _ c.set_value.ensures.done c.in_ok-after_define-in-Ok.ensures.leads
+    true _ _ _ (rw c.in-Ok.is at c.set_value.ensures.done) c.in_ok-after_define-in-Ok.ensures.leads
