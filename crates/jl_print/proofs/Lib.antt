@@ -25,3 +25,4 @@ mod Printed
 mod Examples
 mod Writing
 mod Laying
+pub mod WithoutPlaces

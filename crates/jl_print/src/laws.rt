@@ -1,4 +1,8 @@
 //! The laws of the canonical text: each is the contract of a function.
+ghost use Rattle.std.specs.Prelude.{◌≡◌};
+ghost use Rattle.jl_ast.specs.Spans.{without_spans};
+ghost use Rattle.jl_ast.specs.Tree.{Program};
+ghost use Rattle.jl_print.specs.Layout.{text_of};
 ghost use Rattle.jl_print.specs.Laws.{PrintedReadsBack, ReadIsWellFormed, TextIsPaired};
 
 /// The canonical text of a well formed program reads back as that program, but for places, within every limit on
@@ -16,4 +20,10 @@ pub fn read_is_well_formed()
 /// UTF-8.
 pub fn text_is_paired()
     ensures { TextIsPaired }
+{}
+
+/// The canonical text of a program doesn't depend on where its nodes stand.
+#[tactic(auto, using(crate::proofs::WithoutPlaces::same_text))]
+pub fn places_do_not_show<S>()
+    ensures { (p : Program S) → text_of (without_spans p) ≡ text_of p }
 {}

@@ -1,5 +1,5 @@
 mod QuietParts
-mod Bare
+pub mod Bare
 mod BareIds
 mod Mentions
 mod Tables
