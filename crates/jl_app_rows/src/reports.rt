@@ -46,7 +46,10 @@ fn rules_of(names: &str) -> Result<RuleSet, Fault> {
     }
     let mut chosen = RuleSet::none();
     for name in names.split(',') {
-        chosen = chosen.with(rule_named(name).ok_or(Fault::Unreadable)?);
+        let Some(rule) = rule_named(name) else {
+            return Err(Fault::Unreadable);
+        };
+        chosen = chosen.with(rule);
     }
     Ok(chosen)
 }
