@@ -1,5 +1,5 @@
 //! Commands of jl_app, over sources and sinks in memory.
-use crate::escapes::{bytes_of, shown};
+use crate::escapes::{bytes_of, row_text};
 use crate::fault::Fault;
 use jl_analysis::{Analysis, Crowd};
 use jl_app::jlint;
@@ -17,11 +17,11 @@ use std::alloc::Global;
 /// How many bytes sinks take in all.
 const ROOM: usize = 4096;
 
-/// How a command ended.
+/// What a command answers.
 #[derive(Drop)]
-struct Ended {
+struct Reply {
     status: u8,
-    written: Vec<u8>,
+    bytes: Vec<u8>,
 }
 
 pub fn answer(alloc: Global, call: &str, words: &str) -> Result<String, Fault> {
@@ -31,7 +31,7 @@ pub fn answer(alloc: Global, call: &str, words: &str) -> Result<String, Fault> {
         "words" => of_words(alloc, words),
         "read_fails" => of_failing_source(alloc, words),
         "write_fails" => of_failing_sink(alloc, words),
-        command => told(
+        command => row_of(
             alloc,
             &of_command(alloc, command, &bytes_of(alloc, words)?)?,
         ),
@@ -39,18 +39,18 @@ pub fn answer(alloc: Global, call: &str, words: &str) -> Result<String, Fault> {
 }
 
 /// The status and the bytes that were written.
-fn told(alloc: Global, ended: &Ended) -> Result<String, Fault> {
-    let written = shown(alloc, ended.written.as_slice())?;
-    Ok(format!(in alloc; "{} {written}", ended.status)?)
+fn row_of(alloc: Global, reply: &Reply) -> Result<String, Fault> {
+    let written = row_text(alloc, reply.bytes.as_slice())?;
+    Ok(format!(in alloc; "{} {written}", reply.status)?)
 }
 
 /// What these words give, of a source and into a sink.
-fn answered(
+fn answer_to(
     alloc: Global,
     words: &[&str],
     source: &mut MemSource,
     sink: &mut MemSink,
-) -> Result<Ended, Fault> {
+) -> Result<Reply, Fault> {
     let boxes: [Box<dyn Analysis>; 20] = [
         Box::new(alloc, NanMade::fresh(alloc))?,
         Box::new(alloc, UndefinedJoined::fresh(alloc))?,
@@ -76,25 +76,25 @@ fn answered(
     let mut crowd = Crowd::of(Vec::from_array(alloc, boxes)?);
     let mut shelf = Same::new();
     let status = jlint(alloc, words, source, sink, &mut shelf, &mut crowd);
-    Ok(Ended {
+    Ok(Reply {
         status: status.code(),
-        written: Vec::from_slice(alloc, sink.written())?,
+        bytes: Vec::from_slice(alloc, sink.written())?,
     })
 }
 
 /// The same of one word and these bytes, from a source and into a sink that don't fail.
-fn of_command(alloc: Global, command: &str, script: &[u8]) -> Result<Ended, Fault> {
+fn of_command(alloc: Global, command: &str, script: &[u8]) -> Result<Reply, Fault> {
     let bytes = Vec::from_slice(alloc, script)?;
     let mut source = MemSource::new(bytes, Vec::new(alloc));
     let mut sink = MemSink::new(alloc, ROOM, ROOM, Vec::new(alloc))?;
-    answered(alloc, &[command], &mut source, &mut sink)
+    answer_to(alloc, &[command], &mut source, &mut sink)
 }
 
 /// What all four commands answer alike.
 fn of_each(alloc: Global, script: &[u8]) -> Result<String, Fault> {
-    let first = told(alloc, &of_command(alloc, "lint", script)?)?;
+    let first = row_of(alloc, &of_command(alloc, "lint", script)?)?;
     for command in ["check", "print", "run"] {
-        let other = told(alloc, &of_command(alloc, command, script)?)?;
+        let other = row_of(alloc, &of_command(alloc, command, script)?)?;
         if other.as_str() != first.as_str() {
             return Ok(format!(in alloc; "{first} by lint and {other} by {command}")?);
         }
@@ -105,8 +105,8 @@ fn of_each(alloc: Global, script: &[u8]) -> Result<String, Fault> {
 /// What `print` answers to a script, and alike to that answer.
 fn canonical(alloc: Global, script: &[u8]) -> Result<String, Fault> {
     let printed = of_command(alloc, "print", script)?;
-    let again = of_command(alloc, "print", printed.written.as_slice())?;
-    let (first, second) = (told(alloc, &printed)?, told(alloc, &again)?);
+    let again = of_command(alloc, "print", printed.bytes.as_slice())?;
+    let (first, second) = (row_of(alloc, &printed)?, row_of(alloc, &again)?);
     if second.as_str() != first.as_str() {
         return Ok(format!(in alloc; "{first} and then {second}")?);
     }
@@ -122,7 +122,7 @@ fn of_words(alloc: Global, written: &str) -> Result<String, Fault> {
     }
     let mut source = MemSource::new(Vec::new(alloc), Vec::from_slice(alloc, &[1])?);
     let mut sink = MemSink::new(alloc, ROOM, ROOM, Vec::new(alloc))?;
-    told(alloc, &answered(alloc, &named, &mut source, &mut sink)?)
+    row_of(alloc, &answer_to(alloc, &named, &mut source, &mut sink)?)
 }
 
 /// Words with a space between them, or none where nothing is written.
@@ -142,7 +142,10 @@ fn of_failing_source(alloc: Global, words: &str) -> Result<String, Fault> {
     let (command, script) = words.split_once(' ').ok_or(Fault::Unreadable)?;
     let mut source = MemSource::new(bytes_of(alloc, script)?, numbers_of(alloc, nth)?);
     let mut sink = MemSink::new(alloc, ROOM, ROOM, Vec::new(alloc))?;
-    told(alloc, &answered(alloc, &[command], &mut source, &mut sink)?)
+    row_of(
+        alloc,
+        &answer_to(alloc, &[command], &mut source, &mut sink)?,
+    )
 }
 
 /// `NTH MOST COMMAND SCRIPT`, where a write takes at most so many bytes, and the nth fails.
@@ -156,7 +159,10 @@ fn of_failing_sink(alloc: Global, words: &str) -> Result<String, Fault> {
     }
     let mut source = MemSource::new(bytes_of(alloc, script)?, Vec::new(alloc));
     let mut sink = MemSink::new(alloc, most, ROOM, numbers_of(alloc, nth)?)?;
-    told(alloc, &answered(alloc, &[command], &mut source, &mut sink)?)
+    row_of(
+        alloc,
+        &answer_to(alloc, &[command], &mut source, &mut sink)?,
+    )
 }
 
 /// A list of this number alone.

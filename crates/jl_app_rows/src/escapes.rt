@@ -2,16 +2,17 @@
 use crate::fault::Fault;
 use std::alloc::Global;
 
-/// What the bytes before one begin.
+/// Where a byte of what is written stands.
 #[derive(Clone, Copy)]
-enum Begun {
-    Nothing,
+enum Place {
+    Text,
+    /// After a backslash.
     Escape,
-    /// A byte in hexadecimal digits, of which the second is still to come.
+    /// Among the hexadecimal digits of a byte, after the first one if that was there.
     Byte(Option<u8>),
-    /// How often a piece stands.
+    /// In the number that tells how often a piece stands.
     Times(u32),
-    /// A piece that stands so often, and begins at this byte of what is made.
+    /// In a piece that stands so often, and begins at this byte of what is made.
     Piece(u32, usize),
 }
 
@@ -19,52 +20,52 @@ enum Begun {
 /// and `\{COUNT*PIECE}` that often the piece, which has neither escapes nor a `}`.
 pub fn bytes_of(alloc: Global, written: &str) -> Result<Vec<u8>, Fault> {
     let mut bytes = Vec::new(alloc);
-    let mut begun = Begun::Nothing;
+    let mut place = Place::Text;
     for byte in written.as_bytes() {
-        begun = go_on(alloc, &mut bytes, begun, *byte)?;
+        place = next(alloc, &mut bytes, place, *byte)?;
     }
-    match begun {
-        Begun::Nothing => Ok(bytes),
+    match place {
+        Place::Text => Ok(bytes),
         _ => Err(Fault::Unreadable),
     }
 }
 
-/// Takes one more byte of what is written, and adds what it ends.
-fn go_on(alloc: Global, bytes: &mut Vec<u8>, begun: Begun, byte: u8) -> Result<Begun, Fault> {
-    match begun {
-        Begun::Nothing if byte == b'\\' => Ok(Begun::Escape),
-        Begun::Nothing => added(bytes, byte),
-        Begun::Escape => escaped(bytes, byte),
-        Begun::Byte(None) => Ok(Begun::Byte(Some(digit(byte)?))),
-        Begun::Byte(Some(high)) => added(bytes, (high << 4) | digit(byte)?),
-        Begun::Times(times) if byte == b'*' => Ok(Begun::Piece(times, bytes.len())),
-        Begun::Times(times) => {
+/// Takes one more byte of what is written, and gives where the next one stands.
+fn next(alloc: Global, bytes: &mut Vec<u8>, place: Place, byte: u8) -> Result<Place, Fault> {
+    match place {
+        Place::Text if byte == b'\\' => Ok(Place::Escape),
+        Place::Text => add(bytes, byte),
+        Place::Escape => after_backslash(bytes, byte),
+        Place::Byte(None) => Ok(Place::Byte(Some(digit(byte)?))),
+        Place::Byte(Some(high)) => add(bytes, (high << 4) | digit(byte)?),
+        Place::Times(times) if byte == b'*' => Ok(Place::Piece(times, bytes.len())),
+        Place::Times(times) => {
             let digit = u32::from(digit(byte)?);
-            Ok(Begun::Times(times.saturating_mul(10).saturating_add(digit)))
+            Ok(Place::Times(times.saturating_mul(10).saturating_add(digit)))
         }
-        Begun::Piece(times, from) if byte == b'}' => repeated(alloc, bytes, times, from),
-        Begun::Piece(times, from) => {
+        Place::Piece(times, from) if byte == b'}' => repeat(alloc, bytes, times, from),
+        Place::Piece(times, from) => {
             bytes.push(byte)?;
-            Ok(Begun::Piece(times, from))
+            Ok(Place::Piece(times, from))
         }
     }
 }
 
-fn added(bytes: &mut Vec<u8>, byte: u8) -> Result<Begun, Fault> {
+fn add(bytes: &mut Vec<u8>, byte: u8) -> Result<Place, Fault> {
     bytes.push(byte)?;
-    Ok(Begun::Nothing)
+    Ok(Place::Text)
 }
 
 /// What stands after a backslash.
-fn escaped(bytes: &mut Vec<u8>, letter: u8) -> Result<Begun, Fault> {
+fn after_backslash(bytes: &mut Vec<u8>, letter: u8) -> Result<Place, Fault> {
     match letter {
-        b'n' => added(bytes, b'\n'),
-        b'r' => added(bytes, b'\r'),
-        b's' => added(bytes, b' '),
-        b'\\' => added(bytes, b'\\'),
-        b'e' => Ok(Begun::Nothing),
-        b'x' => Ok(Begun::Byte(None)),
-        b'{' => Ok(Begun::Times(0)),
+        b'n' => add(bytes, b'\n'),
+        b'r' => add(bytes, b'\r'),
+        b's' => add(bytes, b' '),
+        b'\\' => add(bytes, b'\\'),
+        b'e' => Ok(Place::Text),
+        b'x' => Ok(Place::Byte(None)),
+        b'{' => Ok(Place::Times(0)),
         _ => Err(Fault::Unreadable),
     }
 }
@@ -75,16 +76,16 @@ fn digit(letter: u8) -> Result<u8, Fault> {
 }
 
 /// Adds what begins at this byte so often that it stands `times` times.
-fn repeated(alloc: Global, bytes: &mut Vec<u8>, times: u32, from: usize) -> Result<Begun, Fault> {
+fn repeat(alloc: Global, bytes: &mut Vec<u8>, times: u32, from: usize) -> Result<Place, Fault> {
     let piece = Vec::from_slice(alloc, bytes.get(from..).ok_or(Fault::Unreadable)?)?;
     for _time in 1..times {
         bytes.extend_from_slice(piece.as_slice())?;
     }
-    Ok(Begun::Nothing)
+    Ok(Place::Text)
 }
 
 /// Bytes as a row has them: `\n`, `\r` and `\\` in place of these, and `\e` where there are none.
-pub fn shown(alloc: Global, bytes: &[u8]) -> Result<String, Fault> {
+pub fn row_text(alloc: Global, bytes: &[u8]) -> Result<String, Fault> {
     let mut text = String::new(alloc);
     for letter in String::from_utf8_lossy(alloc, bytes)?.chars() {
         match letter {

@@ -8,7 +8,7 @@ use std::alloc::Global;
 pub fn answer(alloc: Global, call: &str, source: &str) -> Result<String, Fault> {
     let body = program(alloc, source)?.body;
     match call {
-        "vars" => listed(alloc, vars(alloc, &body)?.as_slice()),
+        "vars" => names_text(alloc, vars(alloc, &body)?.as_slice()),
         "arguments" => Ok(format!(in alloc; "{}", mentions_arguments(&body))?),
         "strict" => {
             let (alone, within) = (is_strict(false, &body), is_strict(true, &body));
@@ -19,7 +19,7 @@ pub fn answer(alloc: Global, call: &str, source: &str) -> Result<String, Fault> 
 }
 
 /// The names with a space between them.
-fn listed(alloc: Global, names: &[Text]) -> Result<String, Fault> {
+fn names_text(alloc: Global, names: &[Text]) -> Result<String, Fault> {
     let mut all = String::new(alloc);
     for name in names {
         if !all.is_empty() {

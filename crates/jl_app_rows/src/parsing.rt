@@ -8,7 +8,7 @@ use jl_text::from_utf8;
 use std::alloc::Global;
 
 /// What the bytes read as, of at most so many levels.
-fn parsed(
+fn parse_bytes(
     alloc: Global,
     source: &[u8],
     limit: u32,
@@ -27,7 +27,7 @@ fn parsed(
 
 /// The program that a text reads as.
 pub fn program(alloc: Global, source: &str) -> Result<Program, Fault> {
-    Ok(parsed(alloc, &bytes_of(alloc, source)?, 200)??)
+    Ok(parse_bytes(alloc, &bytes_of(alloc, source)?, 200)??)
 }
 
 /// `LIMIT SOURCE`: the number of functions, of statements of the program itself, and the height of what is read, and
@@ -35,7 +35,7 @@ pub fn program(alloc: Global, source: &str) -> Result<Program, Fault> {
 pub fn answer(alloc: Global, words: &str) -> Result<String, Fault> {
     let (limit, source) = words.split_once(' ').ok_or(Fault::Unreadable)?;
     let limit = limit.parse::<u32>().ok().ok_or(Fault::Unreadable)?;
-    match parsed(alloc, &bytes_of(alloc, source)?, limit)? {
+    match parse_bytes(alloc, &bytes_of(alloc, source)?, limit)? {
         Ok(program) => {
             let functions = function_table(alloc, &program)?.len();
             let statements = program.body.statements.len();

@@ -64,7 +64,7 @@ fn of_one(
     boxes.push(Box::new(alloc, NanMade::fresh(alloc))?)?;
     let mut crowd = Crowd::of(boxes);
     tell(alloc, &mut crowd, operations)?;
-    listed(alloc, &reported(alloc, &crowd, chosen, switched)?)
+    lines_text(alloc, &report_of(alloc, &crowd, chosen, switched)?)
 }
 
 fn of_three(
@@ -79,7 +79,7 @@ fn of_three(
     boxes.push(Box::new(alloc, NanMade::fresh(alloc))?)?;
     let mut crowd = Crowd::of(boxes);
     tell(alloc, &mut crowd, operations)?;
-    listed(alloc, &reported(alloc, &crowd, chosen, switched)?)
+    lines_text(alloc, &report_of(alloc, &crowd, chosen, switched)?)
 }
 
 fn tell(alloc: Global, crowd: &mut Crowd, operations: &[&str]) -> Result<(), Fault> {
@@ -140,7 +140,7 @@ fn map_of(alloc: Global, units: u32) -> Result<OpMap, Fault>
 }
 
 /// The report of a crowd on the source.
-fn reported(
+fn report_of(
     alloc: Global,
     crowd: &Crowd,
     chosen: RuleSet,
@@ -161,7 +161,7 @@ fn reported(
 }
 
 /// Line, column, rule and count of each line, with a comma between lines.
-fn listed(alloc: Global, lines: &[Line]) -> Result<String, Fault> {
+fn lines_text(alloc: Global, lines: &[Line]) -> Result<String, Fault> {
     let mut all = String::new(alloc);
     for line in lines {
         if !all.is_empty() {

@@ -1,5 +1,5 @@
 //! Runs of programs with other budgets than that of the command `run`.
-use crate::escapes::shown;
+use crate::escapes::row_text;
 use crate::fault::Fault;
 use crate::parsing::program;
 use jl_machine::{Run, run};
@@ -11,7 +11,7 @@ use std::alloc::Global;
 /// it ends and how many bytes it prints.
 pub fn answer(alloc: Global, call: &str, words: &str) -> Result<String, Fault> {
     let (budget, script) = words.split_once(' ').ok_or(Fault::Unreadable)?;
-    let run = ran(
+    let run = run_of(
         alloc,
         script,
         budget.parse::<u64>().ok().ok_or(Fault::Unreadable)?,
@@ -19,7 +19,7 @@ pub fn answer(alloc: Global, call: &str, words: &str) -> Result<String, Fault> {
     let end = ending(alloc, &run.outcome)?;
     match call {
         "budget" => {
-            let printed = shown(alloc, run.output.items())?;
+            let printed = row_text(alloc, run.output.items())?;
             Ok(format!(in alloc; "{printed} {end} steps={}", run.steps)?)
         }
         "output" => Ok(format!(in alloc; "{end} bytes={}", run.output.len())?),
@@ -28,7 +28,7 @@ pub fn answer(alloc: Global, call: &str, words: &str) -> Result<String, Fault> {
 }
 
 /// The run of a script with so many steps.
-fn ran(alloc: Global, script: &str, budget: u64) -> Result<Run, Fault> {
+fn run_of(alloc: Global, script: &str, budget: u64) -> Result<Run, Fault> {
     let program = program(alloc, script)?;
     Ok(run(alloc, &program, budget, KindSet::all(), &mut Nobody)?)
 }
