@@ -23,6 +23,3 @@ mod weave;
 
 pub use status::Status;
 pub use top::jlint;
-
-#[cfg(test)]
-mod tests;
