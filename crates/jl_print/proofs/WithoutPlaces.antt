@@ -75,6 +75,7 @@ module _ {S T : Type 0} (f : S → T) where
 
   mutual
     unfolding tokens_of_node
+
     pub same_tokens : {x : Sort} (t : Tree S x) → tokens_of_node (map_tree f t) ≡ tokens_of_node t
     same_tokens (tree.this s) = refl
     same_tokens (tree.name t s) = refl
