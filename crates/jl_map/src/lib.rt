@@ -18,8 +18,9 @@ use jl_op::{OpKind, OpMap};
 use jl_text::NoMemory;
 use std::alloc::Global;
 
-/// The map of a program: a row for each id that it takes, by rising id, with the kind of the operation and its place. It
-/// is refused for want of memory alone, takes time in proportion to the program, and recurses as deep as that is high.
+/// The map of a program: a row for each id that it takes, by rising id, with the kind of the operation and its place.
+/// It is refused for want of memory alone, takes time in proportion to the program, and recurses as deep as that is
+/// high.
 pub fn map_of(alloc: Global, program: &Program) -> Result<OpMap, NoMemory>
     requires few { 2 + id_count (view program.now).body < 2 ^ 32 }
     ensures { IfOk result (λ map. map ≡ id_map (view program.now)) }

@@ -58,7 +58,8 @@ pub fn add_declarators(
 ) -> Result<(), NoMemory>
     requires few { HasRoom map.old (forest_id_count (view_declarators declarators.now)) }
     ensures added { OnOk result (map.new ≡ map.old ++ forest_entries place_of (view_declarators declarators.now)) }
-    ensures counted { OnOk result (length map.new ≡ length map.old + forest_id_count (view_declarators declarators.now)) }
+    ensures counted { OnOk result (length map.new
+        ≡ length map.old + forest_id_count (view_declarators declarators.now)) }
 {
     for d in declarators.items() {
         add_declarator(map, d)?;
@@ -82,7 +83,8 @@ pub fn add_cases(map: &mut OpMap, cases: &List<Case>) -> Result<(), NoMemory>
 #[cycle(mapping)]
 pub fn add_array(map: &mut OpMap, items: &List<Option<Expr>>, span: Span) -> Result<(), NoMemory>
     requires few { HasRoom map.old (1 + forest_id_count (view_items items.now)) }
-    ensures added { OnOk result (map.new ≡ map.old ++ (kind.ArrayLiteral, span) ∷ forest_entries place_of (view_items items.now)) }
+    ensures added { OnOk result (map.new
+        ≡ map.old ++ (kind.ArrayLiteral, span) ∷ forest_entries place_of (view_items items.now)) }
     ensures counted { OnOk result (length map.new ≡ length map.old + (1 + forest_id_count (view_items items.now))) }
 {
     add_row(map, OpKind::ArrayLiteral, span)?;
@@ -96,7 +98,8 @@ pub fn add_array(map: &mut OpMap, items: &List<Option<Expr>>, span: Span) -> Res
 #[cycle(mapping)]
 pub fn add_object(map: &mut OpMap, entries: &List<Entry>, span: Span) -> Result<(), NoMemory>
     requires few { HasRoom map.old (1 + forest_id_count (view_entries entries.now)) }
-    ensures added { OnOk result (map.new ≡ map.old ++ (kind.ObjectLiteral, span) ∷ forest_entries place_of (view_entries entries.now)) }
+    ensures added { OnOk result (map.new
+        ≡ map.old ++ (kind.ObjectLiteral, span) ∷ forest_entries place_of (view_entries entries.now)) }
     ensures counted { OnOk result (length map.new ≡ length map.old + (1 + forest_id_count (view_entries entries.now))) }
 {
     add_row(map, OpKind::ObjectLiteral, span)?;
@@ -110,7 +113,8 @@ pub fn add_object(map: &mut OpMap, entries: &List<Entry>, span: Span) -> Result<
 pub fn add_expressions(map: &mut OpMap, expressions: &List<Expr>) -> Result<(), NoMemory>
     requires few { HasRoom map.old (forest_id_count (view_expressions expressions.now)) }
     ensures added { OnOk result (map.new ≡ map.old ++ forest_entries place_of (view_expressions expressions.now)) }
-    ensures counted { OnOk result (length map.new ≡ length map.old + forest_id_count (view_expressions expressions.now)) }
+    ensures counted { OnOk result (length map.new
+        ≡ length map.old + forest_id_count (view_expressions expressions.now)) }
 {
     for e in expressions.items() {
         add_expression(map, e)?;

@@ -2,8 +2,8 @@ use Rattle.std.proofs.Common.{◌≡◌, ◌∙◌, ◌++◌, ◌∷◌, [], ap,
 use Rattle.jl_text.specs.declared.span.Span.{Span}
 use Rattle.jl_ast.specs.Spans.{place}
 use Rattle.jl_ast.specs.Tree as tree
-use Rattle.jl_ast.specs.View.{view_branch, view_cases, view_catch, view_expression, view_ident, view_init, view_optional}
-use Rattle.jl_ast.specs.View.{view_statement, view_statement_kind, view_statements}
+use Rattle.jl_ast.specs.View.{view_branch, view_cases, view_catch, view_expression, view_ident, view_init}
+use Rattle.jl_ast.specs.View.{view_optional, view_statement, view_statement_kind, view_statements}
 use Rattle.jl_ast.specs.declared.tree.ExprKind.{the_lemmas}
 use Rattle.jl_ast.proofs.Views.{init_Var, statement_DoWhile, statement_For, statement_ForIn, statement_If}
 use Rattle.jl_ast.proofs.Views.{statement_Switch, statement_Try, statement_Var, statement_While, statement_placed}
