@@ -6,6 +6,7 @@ use Rattle.jl_ast.specs.Numbering.{numbered_optional, numbered_tree}
 use Rattle.jl_ast.specs.Tree as tree
 use Rattle.jl_ast.specs.Tree.{Forest, Ident, OptionalTree, Sort, Text, Tree}
 use Rattle.std.specs.Prelude.{List}
+use Rattle.jl_num.specs.Number.{Number}
 use Rattle.jl_ast.specs.declared.ops.BinOp.{BinOp}
 use Rattle.jl_ast.specs.declared.ops.UnOp.{UnOp}
 
@@ -22,6 +23,17 @@ pub record CountsIfPresent {S : Type 0} {x : Sort} (n : ℕ) (o : OptionalTree S
   pub fixed : numbered_optional n o ≡ o
   pub next : n + functions_in_optional o ≡ m
 
+ap2 : {A B C : Type 0} (F : A → B → C) {a a' : A} {b b' : B} → a ≡ a' → b ≡ b' → F a b ≡ F a' b'
+ap2 F d e = cc (d, e)
+
+ap3 : {A B C D : Type 0} (F : A → B → C → D) {a a' : A} {b b' : B} {c c' : C} → a ≡ a' → b ≡ b' → c ≡ c'
+    → F a b c ≡ F a' b' c'
+ap3 F d e g = cc (d, e, g)
+
+ap4 : {A B C D E : Type 0} (F : A → B → C → D → E) {a a' : A} {b b' : B} {c c' : C} {d d' : D} → a ≡ a' → b ≡ b'
+    → c ≡ c' → d ≡ d' → F a b c d ≡ F a' b' c' d'
+ap4 F e g h i = cc (e, g, h, i)
+
 module _ {S : Type 0} where
   -- a part that stands after others
   later : {x : Sort} {i k m : ℕ} {t : Tree S x} → i ≡ k → Counts k t m → numbered_tree i t ≡ t
@@ -33,17 +45,6 @@ module _ {S : Type 0} where
   later_optional : {x : Sort} {i k m : ℕ} {t : OptionalTree S x} → i ≡ k → CountsIfPresent k t m
       → numbered_optional i t ≡ t
   later_optional {x} {i} {k} {m} {t} e p = subst (λ j. numbered_optional j t ≡ t) (sym e) p.fixed
-
-  ap2 : {A B C : Type 0} (F : A → B → C) {a a' : A} {b b' : B} → a ≡ a' → b ≡ b' → F a b ≡ F a' b'
-  ap2 F d e = cc (d, e)
-
-  ap3 : {A B C D : Type 0} (F : A → B → C → D) {a a' : A} {b b' : B} {c c' : C} → a ≡ a' → b ≡ b' → c ≡ c'
-      → F a b c ≡ F a' b' c'
-  ap3 F d e g = cc (d, e, g)
-
-  ap4 : {A B C D E : Type 0} (F : A → B → C → D → E) {a a' : A} {b b' : B} {c c' : C} {d d' : D} → a ≡ a' → b ≡ b'
-      → c ≡ c' → d ≡ d' → F a b c d ≡ F a' b' c' d'
-  ap4 F e g h i = cc (e, g, h, i)
 
   pub index_counts : {n i m : ℕ} {a : Tree S tree.expr} {b : Tree S tree.expr} {s : S}
       → Counts n a i → Counts i b m
@@ -197,6 +198,182 @@ module _ {S : Type 0} where
     next = omega arith;
   }
 
+  pub array_counts : {n m : ℕ} {a : Forest S tree.item} {s : S}
+      → CountsAll n a m
+      → Counts n (tree.array a s) m
+  array_counts {n} {m} {a} {s} p = record {
+    fixed = ap (λ (a' : Forest S tree.item). tree.array a' s) p.fixed;
+    next = omega arith;
+  }
+
+  pub object_counts : {n m : ℕ} {a : Forest S tree.entry} {s : S}
+      → CountsAll n a m
+      → Counts n (tree.object a s) m
+  object_counts {n} {m} {a} {s} p = record {
+    fixed = ap (λ (a' : Forest S tree.entry). tree.object a' s) p.fixed;
+    next = omega arith;
+  }
+
+  pub function_expression_counts : {n m : ℕ} {a : Tree S tree.func} {s : S}
+      → Counts n a m
+      → Counts n (tree.function_expression a s) m
+  function_expression_counts {n} {m} {a} {s} p = record {
+    fixed = ap (λ (a' : Tree S tree.func). tree.function_expression a' s) p.fixed;
+    next = omega arith;
+  }
+
+  pub dot_counts : {n m : ℕ} {u : Text} {a : Tree S tree.expr} {s : S}
+      → Counts n a m
+      → Counts n (tree.dot a u s) m
+  dot_counts {n} {m} {u} {a} {s} p = record {
+    fixed = ap (λ (a' : Tree S tree.expr). tree.dot a' u s) p.fixed;
+    next = omega arith;
+  }
+
+  pub unary_counts : {n m : ℕ} {u : UnOp} {a : Tree S tree.expr} {s : S}
+      → Counts n a m
+      → Counts n (tree.unary u a s) m
+  unary_counts {n} {m} {u} {a} {s} p = record {
+    fixed = ap (λ (a' : Tree S tree.expr). tree.unary u a' s) p.fixed;
+    next = omega arith;
+  }
+
+  pub update_counts : {n m : ℕ} {u : Bool} {v : Bool} {a : Tree S tree.target} {s : S}
+      → Counts n a m
+      → Counts n (tree.update u v a s) m
+  update_counts {n} {m} {u} {v} {a} {s} p = record {
+    fixed = ap (λ (a' : Tree S tree.target). tree.update u v a' s) p.fixed;
+    next = omega arith;
+  }
+
+  pub to_dot_counts : {n m : ℕ} {u : Text} {a : Tree S tree.expr} {s : S}
+      → Counts n a m
+      → Counts n (tree.to_dot a u s) m
+  to_dot_counts {n} {m} {u} {a} {s} p = record {
+    fixed = ap (λ (a' : Tree S tree.expr). tree.to_dot a' u s) p.fixed;
+    next = omega arith;
+  }
+
+  pub filled_counts : {n m : ℕ} {a : Tree S tree.expr}
+      → Counts n a m
+      → Counts n (tree.filled a) m
+  filled_counts {n} {m} {a} p = record {
+    fixed = ap (λ (a' : Tree S tree.expr). tree.filled a') p.fixed;
+    next = omega arith;
+  }
+
+  pub value_counts : {n m : ℕ} {u : Ident S} {a : Tree S tree.expr}
+      → Counts n a m
+      → Counts n (tree.value u a) m
+  value_counts {n} {m} {u} {a} p = record {
+    fixed = ap (λ (a' : Tree S tree.expr). tree.value u a') p.fixed;
+    next = omega arith;
+  }
+
+  pub getter_counts : {n m : ℕ} {u : Ident S} {a : Tree S tree.func}
+      → Counts n a m
+      → Counts n (tree.getter u a) m
+  getter_counts {n} {m} {u} {a} p = record {
+    fixed = ap (λ (a' : Tree S tree.func). tree.getter u a') p.fixed;
+    next = omega arith;
+  }
+
+  pub setter_counts : {n m : ℕ} {u : Ident S} {a : Tree S tree.func}
+      → Counts n a m
+      → Counts n (tree.setter u a) m
+  setter_counts {n} {m} {u} {a} p = record {
+    fixed = ap (λ (a' : Tree S tree.func). tree.setter u a') p.fixed;
+    next = omega arith;
+  }
+
+  pub var_counts : {n m : ℕ} {a : Forest S tree.decl} {s : S}
+      → CountsAll n a m
+      → Counts n (tree.var a s) m
+  var_counts {n} {m} {a} {s} p = record {
+    fixed = ap (λ (a' : Forest S tree.decl). tree.var a' s) p.fixed;
+    next = omega arith;
+  }
+
+  pub expression_counts : {n m : ℕ} {a : Tree S tree.expr} {s : S}
+      → Counts n a m
+      → Counts n (tree.expression a s) m
+  expression_counts {n} {m} {a} {s} p = record {
+    fixed = ap (λ (a' : Tree S tree.expr). tree.expression a' s) p.fixed;
+    next = omega arith;
+  }
+
+  pub block_counts : {n m : ℕ} {a : Forest S tree.stmt} {s : S}
+      → CountsAll n a m
+      → Counts n (tree.block a s) m
+  block_counts {n} {m} {a} {s} p = record {
+    fixed = ap (λ (a' : Forest S tree.stmt). tree.block a' s) p.fixed;
+    next = omega arith;
+  }
+
+  pub return_counts : {n m : ℕ} {a : OptionalTree S tree.expr} {s : S}
+      → CountsIfPresent n a m
+      → Counts n (tree.return a s) m
+  return_counts {n} {m} {a} {s} p = record {
+    fixed = ap (λ (a' : OptionalTree S tree.expr). tree.return a' s) p.fixed;
+    next = omega arith;
+  }
+
+  pub labelled_counts : {n m : ℕ} {u : Ident S} {a : Tree S tree.stmt} {s : S}
+      → Counts n a m
+      → Counts n (tree.labelled u a s) m
+  labelled_counts {n} {m} {u} {a} {s} p = record {
+    fixed = ap (λ (a' : Tree S tree.stmt). tree.labelled u a' s) p.fixed;
+    next = omega arith;
+  }
+
+  pub throw_counts : {n m : ℕ} {a : Tree S tree.expr} {s : S}
+      → Counts n a m
+      → Counts n (tree.throw a s) m
+  throw_counts {n} {m} {a} {s} p = record {
+    fixed = ap (λ (a' : Tree S tree.expr). tree.throw a' s) p.fixed;
+    next = omega arith;
+  }
+
+  pub init_expression_counts : {n m : ℕ} {a : Tree S tree.expr}
+      → Counts n a m
+      → Counts n (tree.init_expression a) m
+  init_expression_counts {n} {m} {a} p = record {
+    fixed = ap (λ (a' : Tree S tree.expr). tree.init_expression a') p.fixed;
+    next = omega arith;
+  }
+
+  pub init_var_counts : {n m : ℕ} {a : Forest S tree.decl}
+      → CountsAll n a m
+      → Counts n (tree.init_var a) m
+  init_var_counts {n} {m} {a} p = record {
+    fixed = ap (λ (a' : Forest S tree.decl). tree.init_var a') p.fixed;
+    next = omega arith;
+  }
+
+  pub declarator_counts : {n m : ℕ} {u : Ident S} {a : OptionalTree S tree.expr}
+      → CountsIfPresent n a m
+      → Counts n (tree.declarator u a) m
+  declarator_counts {n} {m} {u} {a} p = record {
+    fixed = ap (λ (a' : OptionalTree S tree.expr). tree.declarator u a') p.fixed;
+    next = omega arith;
+  }
+
+  pub branch_of_counts : {n m : ℕ} {a : Forest S tree.stmt}
+      → CountsAll n a m
+      → Counts n (tree.branch_of a) m
+  branch_of_counts {n} {m} {a} p = record {
+    fixed = ap (λ (a' : Forest S tree.stmt). tree.branch_of a') p.fixed;
+    next = omega arith;
+  }
+
+  pub catch_counts : {n m : ℕ} {u : Ident S} {a : Forest S tree.stmt}
+      → CountsAll n a m
+      → Counts n (tree.catch u a) m
+  catch_counts {n} {m} {u} {a} p = record {
+    fixed = ap (λ (a' : Forest S tree.stmt). tree.catch u a') p.fixed;
+    next = omega arith;
+  }
+
   pub one_counts : {n i m : ℕ} {x : Sort} {t : Tree S x} {l : Forest S x} → Counts n t i → CountsAll i l m
       → CountsAll n (tree.more t l) m
   one_counts {n} {i} {m} {x} {t} {l} p q = record {
@@ -204,5 +381,37 @@ module _ {S : Type 0} where
     next = omega arith;
   }
 
-  pub none_counts : {n : ℕ} {x : Sort} → CountsAll n (tree.end {S} {x}) n
+  pub none_counts : {n : ℕ} {x : Sort} → CountsAll {S = S} {x = x} n tree.end n
   none_counts = record { fixed = refl; next = omega arith }
+
+  pub absent_counts : {n : ℕ} {x : Sort} → CountsIfPresent {S = S} {x = x} n tree.absent n
+  absent_counts = record { fixed = refl; next = omega arith }
+
+  pub present_counts : {n m : ℕ} {x : Sort} {t : Tree S x} → Counts n t m → CountsIfPresent n (tree.present t) m
+  present_counts {n} {m} {x} {t} p = record {
+    fixed = ap (λ (u : Tree S x). tree.present u) p.fixed;
+    next = p.next;
+  }
+
+  pub function_counts : {n m : ℕ} {a : Option (Ident S)} {ps : List (Ident S)} {b : Tree S tree.code} {s : S}
+      → Counts (n + 1) b m → Counts n (tree.function n a ps b s) m
+  function_counts {n} {m} {a} {ps} {b} {s} p = record {
+    fixed = ap (λ (u : Tree S tree.code). tree.function n a ps u s) p.fixed;
+    next = omega arith;
+  }
+
+  pub name_counts : {n : ℕ} {t : Text} {s : S} → Counts n (tree.name t s) n
+  name_counts = record { fixed = refl; next = omega arith }
+
+  pub string_counts : {n : ℕ} {t : Text} {s : S} → Counts n (tree.string t s) n
+  string_counts = record { fixed = refl; next = omega arith }
+
+  pub number_counts : {n : ℕ} {v : Number} {s : S} → Counts n (tree.number v s) n
+  number_counts = record { fixed = refl; next = omega arith }
+
+  pub target_counts : {n : ℕ} {t : Ident S} → Counts n (tree.to_name t) n
+  target_counts = record { fixed = refl; next = omega arith }
+
+  -- up to another number that is the same
+  pub up_to : {n k m : ℕ} {x : Sort} {t : Tree S x} → Counts n t k → k ≡ m → Counts n t m
+  up_to {n} {k} {m} {x} {t} p e = record { fixed = p.fixed; next = omega arith }

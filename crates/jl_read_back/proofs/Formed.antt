@@ -358,6 +358,7 @@ module _ (chosen : Kinds) where
       code_formed (tree.body strict fs l) w few = (
         named_kept chosen 3 fs w.0,
         all_formed fs w.1 3 (omega arith),
-        begun (chosen kind.ScriptEnter || chosen kind.ScriptExit) 1 _ (omega arith)
+        begun (chosen kind.ScriptEnter || chosen kind.ScriptExit) 1
+            (woven_forest chosen (forest_with_ids (3 + forest_id_count fs) l)) (omega arith)
             (all_formed l w.2 (3 + forest_id_count fs) (omega arith)),
       )

@@ -4,3 +4,4 @@ pub mod HookWords
 pub mod Kept
 pub mod Formed
 pub mod Counts
+pub mod Numbers
