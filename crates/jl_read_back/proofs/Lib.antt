@@ -5,3 +5,5 @@ pub mod Kept
 pub mod Formed
 pub mod Counts
 pub mod Numbers
+pub mod FixedNumbers
+pub mod Places

@@ -156,7 +156,7 @@ module _ (chosen : Kinds) where
         (count.new_counts (counts f n _ (n + functions_in f) refl)
         (count_all l (n + functions_in f) _ m (omega arith)))
     counts (tree.unary un.Typeof (tree.name x t) s) n j m e =
-        up_to (either (chosen kind.TypeofName) _ _ (told_of_1 count.name_counts)
+        up_to (either (chosen kind.TypeofName) _ _ (told_of_1 (count.unary_counts count.name_counts))
         (count.unary_counts count.name_counts)) (omega arith)
     counts (tree.unary un.Typeof a s) n j m e =
         typed (j + 1) j (numbered_tree n a) tt (woven chosen (with_ids (j + 1) (numbered_tree n a)))
