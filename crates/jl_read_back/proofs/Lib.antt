@@ -5,5 +5,6 @@ pub mod Kept
 pub mod Formed
 pub mod Counts
 pub mod Numbers
+pub mod EqualNodes
 pub mod FixedNumbers
 pub mod Places

@@ -1,0 +1,227 @@
+-- What is wrong with a program is so wherever its nodes stand, a line for each form.
+use Rattle.std.proofs.Common.{◌≡◌, ◌∙◌, Bool, true, false, List, [], ◌∷◌, ◌++◌, map, Option, Some, None, option_map}
+use Rattle.std.proofs.Common.{refl, ap, ap₂, subst, sym}
+use Rattle.jl_ast.specs.Spans.{ident, map_forest, map_optional, map_tree}
+use Rattle.jl_ast.specs.Tree as tree
+use Rattle.jl_ast.specs.Tree.{Forest, Ident, OptionalTree, Sort, Text, Tree}
+use Rattle.jl_scope.specs.EarlyErrors.{early_errors, forest_early_errors, is_name, literal_early_errors}
+use Rattle.jl_scope.specs.EarlyErrors.{name_early_errors, no_keys, optional_early_errors, parameter_early_errors}
+use Rattle.jl_scope.specs.EarlyErrors.{with_key, Keys}
+use Rattle.jl_scope.specs.Hoisting.{bound_by_body, bound_by_function, declared_in, declared_in_forest}
+use Rattle.jl_scope.specs.Hoisting.{declared_in_optional, function_names, name_texts, strict_in}
+use Rattle.jl_scope.specs.Names.{with_name}
+use Rattle.jl_scope.specs.Scope.{bind, in_a_loop, in_a_switch, in_catch, in_function_of, in_program, is_loop}
+use Rattle.jl_scope.specs.Scope.{under_label, Scope}
+use Rattle.jl_text.specs.declared.span.Span.{Span}
+use Rattle.jl_read_back.specs.EarlyErrors.{AreReservedNames}
+use Rattle.jl_read_back.proofs.Rules as rule
+use Rattle.jl_read_back.proofs.Rules.{both, first, getters, setters, values, second, SameKey}
+
+module _ {S T : Type 0} (f : S → T) where
+  -- what is declared
+  mutual
+    declared : {x : Sort} (t : Tree S x) → declared_in (map_tree f t) ≡ declared_in t
+    declared (tree.body strict fs l) = declared_all l
+    declared (tree.var l at) = declared_all l
+    declared (tree.block l at) = declared_all l
+    declared (tree.if_else c a b at) = ap₂ (λ p q. p ++ q) (declared_all a) (declared_if_there b)
+    declared (tree.do_while l c at) = declared_all l
+    declared (tree.while c l at) = declared_all l
+    declared (tree.for i c u l at) = ap₂ (λ p q. p ++ q) (declared i) (declared_all l)
+    declared (tree.for_in true x o l at) = ap (λ p. x.text ∷ p) (declared_all l)
+    declared (tree.for_in false x o l at) = declared_all l
+    declared (tree.labelled x t at) = declared t
+    declared (tree.switch e l at) = declared_all l
+    declared (tree.try l h g at) =
+        ap₂ (λ p q. p ++ q) (ap₂ (λ p q. p ++ q) (declared_all l) (declared_if_there h)) (declared_if_there g)
+    declared (tree.init_var l) = declared_all l
+    declared (tree.declarator x e) = refl
+    declared (tree.case e l) = declared_all l
+    declared (tree.branch_of l) = declared_all l
+    declared (tree.catch x l) = declared_all l
+    declared _ = refl
+
+    declared_all : {x : Sort} (l : Forest S x) → declared_in_forest (map_forest f l) ≡ declared_in_forest l
+    declared_all tree.end = refl
+    declared_all (tree.more t l) = ap₂ (λ p q. p ++ q) (declared t) (declared_all l)
+
+    declared_if_there : {x : Sort} (o : OptionalTree S x)
+        → declared_in_optional (map_optional f o) ≡ declared_in_optional o
+    declared_if_there tree.absent = refl
+    declared_if_there (tree.present t) = declared t
+
+  named : (x : Option (Ident S)) → name_texts (option_map (ident f) x) ≡ name_texts x
+  named None = refl
+  named (Some x) = refl
+
+  functions_named : (l : Forest S tree.func) → function_names (map_forest f l) ≡ function_names l
+  functions_named tree.end = refl
+  functions_named (tree.more (tree.function n x ps b at) l) =
+      ap₂ (λ p q. p ++ q) (named x) (functions_named l)
+
+  pub bound_same : (b : Tree S tree.code) → bound_by_body (map_tree f b) ≡ bound_by_body b
+  bound_same (tree.body strict fs l) = ap₂ (λ p q. p ++ q) (functions_named fs) (declared_all l)
+
+  pub strict_same : (outer : Bool) (b : Tree S tree.code) → strict_in outer (map_tree f b) ≡ strict_in outer b
+  strict_same outer (tree.body strict fs l) = refl
+
+  parameters_same : (l : List (Ident S)) → map (λ (x : Ident T). x.text) (map (ident f) l) ≡ map (λ (x : Ident S). x.text) l
+  parameters_same [] = refl
+  parameters_same (x ∷ l) = ap (λ m. x.text ∷ m) (parameters_same l)
+
+  pub bound_in_function : (x : Option (Ident S)) (ps : List (Ident S)) (b : Tree S tree.code)
+      → bound_by_function (option_map (ident f) x) (map (ident f) ps) (map_tree f b) ≡ bound_by_function x ps b
+  bound_in_function x ps b =
+      ap₂ (λ p q. p ++ q) (ap₂ (λ p q. p ++ q) (named x) (parameters_same ps)) (bound_same b)
+
+module _ (f : Span → Span) where
+  scope_same : (s : Scope) (x : Option (Ident Span)) (ps : List (Ident Span)) (b : Tree Span tree.code)
+      → in_function_of s (option_map (ident f) x) (map (ident f) ps) (map_tree f b) ≡ in_function_of s x ps b
+  scope_same s x ps b =
+      ap₂ (λ strict names. record {
+        strict = strict;
+        in_function = true;
+        in_loop = false;
+        can_break = false;
+        labels = [];
+        bound = bind s.bound names;
+      }) (strict_same f s.strict b) (bound_in_function f x ps b)
+
+  pub program_scope : (b : Tree Span tree.code) → in_program (map_tree f b) ≡ in_program b
+  program_scope b =
+      ap₂ (λ strict names. record {
+        strict = strict;
+        in_function = false;
+        in_loop = false;
+        can_break = false;
+        labels = [];
+        bound = bind [] names;
+      }) (strict_same f false b) (bound_same f b)
+
+  loop_same : (t : Tree Span tree.stmt) → is_loop (map_tree f t) ≡ is_loop t
+  loop_same (tree.labelled x t at) = loop_same t
+  loop_same _ = refl
+
+  name_same : (e : Tree Span tree.expr) → is_name (map_tree f e) ≡ is_name e
+  name_same (tree.name x at) = refl
+  name_same _ = refl
+
+  function_name : (s : Scope) (x : Option (Ident Span)) → AreReservedNames (name_early_errors s (option_map (ident f) x))
+      → AreReservedNames (name_early_errors s x)
+  function_name s None w = tt
+  function_name s (Some x) w = rule.written s x.text (f x.at) x.at w
+
+  parameters : (s : Scope) (before : List Text) (l : List (Ident Span))
+      → AreReservedNames (parameter_early_errors s before (map (ident f) l))
+      → AreReservedNames (parameter_early_errors s before l)
+  parameters s before [] w = tt
+  parameters s before (x ∷ l) w =
+      both _ _ (both _ _ (rule.again _ _ (f x.at) x.at (first _ _ (first _ _ w)))
+      (rule.written s x.text (f x.at) x.at (second _ _ (first _ _ w))))
+      (parameters s (with_name before x.text) l (second _ _ w))
+
+  key_same : (t : Tree Span tree.entry) → SameKey (map_tree f t) t
+  key_same (tree.value k e) = values (ident f k) k (map_tree f e) e refl
+  key_same (tree.getter k g) = getters (ident f k) k (map_tree f g) g refl
+  key_same (tree.setter k g) = setters (ident f k) k (map_tree f g) g refl
+
+  entries : (s : Scope) (k : Keys) (l : Forest Span tree.entry)
+      → AreReservedNames (literal_early_errors s k (map_forest f l)) → AreReservedNames (literal_early_errors s k l)
+  entries s k tree.end w = tt
+  entries s k (tree.more t l) w =
+      both _ _ (rule.keys s k (map_tree f t) t (key_same t) (first _ _ w))
+      (entries s (with_key k t) l
+      (subst (λ m. AreReservedNames (literal_early_errors s m (map_forest f l)))
+      (rule.next_keys k (map_tree f t) t (key_same t)) (second _ _ w)))
+
+  mutual
+    pub moved_back : {x : Sort} (s : Scope) (t : Tree Span x) → AreReservedNames (early_errors s (map_tree f t))
+        → AreReservedNames (early_errors s t)
+    moved_back s (tree.name x at) w = rule.read s x (f at) at w
+    moved_back s (tree.array l at) w = all_back s l w
+    moved_back s (tree.object l at) w = both _ _ (entries s no_keys l (first _ _ w)) (all_back s l (second _ _ w))
+    moved_back s (tree.function_expression g at) w = moved_back s g w
+    moved_back s (tree.dot a k at) w = moved_back s a w
+    moved_back s (tree.index a b at) w = both _ _ (moved_back s a (first _ _ w)) (moved_back s b (second _ _ w))
+    moved_back s (tree.call a l at) w = both _ _ (moved_back s a (first _ _ w)) (all_back s l (second _ _ w))
+    moved_back s (tree.new a l at) w = both _ _ (moved_back s a (first _ _ w)) (all_back s l (second _ _ w))
+    moved_back s (tree.unary o e at) w =
+        both _ _ (rule.deletes s o (map_tree f e) e (f at) at (name_same e) (first _ _ w))
+        (moved_back s e (second _ _ w))
+    moved_back s (tree.update up prefix t at) w = moved_back s t w
+    moved_back s (tree.binary o a b at) w = both _ _ (moved_back s a (first _ _ w)) (moved_back s b (second _ _ w))
+    moved_back s (tree.and a b at) w = both _ _ (moved_back s a (first _ _ w)) (moved_back s b (second _ _ w))
+    moved_back s (tree.or a b at) w = both _ _ (moved_back s a (first _ _ w)) (moved_back s b (second _ _ w))
+    moved_back s (tree.conditional a b c at) w =
+        both _ _ (both _ _ (moved_back s a (first _ _ (first _ _ w)))
+        (moved_back s b (second _ _ (first _ _ w)))) (moved_back s c (second _ _ w))
+    moved_back s (tree.assign o t e at) w = both _ _ (moved_back s t (first _ _ w)) (moved_back s e (second _ _ w))
+    moved_back s (tree.comma a b at) w = both _ _ (moved_back s a (first _ _ w)) (moved_back s b (second _ _ w))
+    moved_back s (tree.to_name x) w = rule.target s x.text (f x.at) x.at w
+    moved_back s (tree.to_dot a k at) w = moved_back s a w
+    moved_back s (tree.to_index a b at) w = both _ _ (moved_back s a (first _ _ w)) (moved_back s b (second _ _ w))
+    moved_back s (tree.filled e) w = moved_back s e w
+    moved_back s (tree.value k e) w = moved_back s e w
+    moved_back s (tree.getter k g) w = moved_back s g w
+    moved_back s (tree.setter k g) w = moved_back s g w
+    moved_back s (tree.function n x ps b at) w =
+        let v = subst (λ r. AreReservedNames ((name_early_errors r (option_map (ident f) x)
+        ++ parameter_early_errors r [] (map (ident f) ps)) ++ early_errors r (map_tree f b))) (scope_same s x ps b) w in
+        both _ _ (both _ _ (function_name (in_function_of s x ps b) x (first _ _ (first _ _ v)))
+        (parameters (in_function_of s x ps b) [] ps (second _ _ (first _ _ v))))
+        (moved_back (in_function_of s x ps b) b (second _ _ v))
+    moved_back s (tree.body strict fs l) w = both _ _ (all_back s fs (first _ _ w)) (all_back s l (second _ _ w))
+    moved_back s (tree.var l at) w = all_back s l w
+    moved_back s (tree.expression e at) w = moved_back s e w
+    moved_back s (tree.block l at) w = all_back s l w
+    moved_back s (tree.if_else c a b at) w =
+        both _ _ (both _ _ (moved_back s c (first _ _ (first _ _ w)))
+        (all_back s a (second _ _ (first _ _ w)))) (optional_back s b (second _ _ w))
+    moved_back s (tree.do_while l c at) w =
+        both _ _ (all_back (in_a_loop s) l (first _ _ w)) (moved_back s c (second _ _ w))
+    moved_back s (tree.while c l at) w =
+        both _ _ (moved_back s c (first _ _ w)) (all_back (in_a_loop s) l (second _ _ w))
+    moved_back s (tree.for i c u l at) w =
+        both _ _ (both _ _ (both _ _ (moved_back s i (first _ _ (first _ _ (first _ _ w))))
+        (optional_back s c (second _ _ (first _ _ (first _ _ w)))))
+        (optional_back s u (second _ _ (first _ _ w)))) (all_back (in_a_loop s) l (second _ _ w))
+    moved_back s (tree.for_in is_var x o l at) w =
+        both _ _ (both _ _ (rule.for_in s x.text (f x.at) x.at is_var (first _ _ (first _ _ w)))
+        (moved_back s o (second _ _ (first _ _ w)))) (all_back (in_a_loop s) l (second _ _ w))
+    moved_back s (tree.continue None at) w = rule.continues s (f at) at w
+    moved_back s (tree.continue (Some x) at) w = rule.continues_to s (ident f x) x (f at) at refl w
+    moved_back s (tree.break None at) w = rule.breaks s (f at) at w
+    moved_back s (tree.break (Some x) at) w = rule.breaks_to s (ident f x) x (f at) at refl w
+    moved_back s (tree.return e at) w =
+        both _ _ (rule.returns s (f at) at (first _ _ w)) (optional_back s e (second _ _ w))
+    moved_back s (tree.labelled x t at) w =
+        both _ _ (rule.label s x.text (f x.at) x.at (first _ _ w))
+        (moved_back (under_label s x.text (is_loop t)) t
+        (subst (λ b. AreReservedNames (early_errors (under_label s x.text b) (map_tree f t))) (loop_same t)
+        (second _ _ w)))
+    moved_back s (tree.switch e l at) w =
+        both _ _ (moved_back s e (first _ _ w)) (all_back (in_a_switch s) l (second _ _ w))
+    moved_back s (tree.throw e at) w = moved_back s e w
+    moved_back s (tree.try l h g at) w =
+        both _ _ (both _ _ (all_back s l (first _ _ (first _ _ w)))
+        (optional_back s h (second _ _ (first _ _ w)))) (optional_back s g (second _ _ w))
+    moved_back s (tree.init_expression e) w = moved_back s e w
+    moved_back s (tree.init_var l) w = all_back s l w
+    moved_back s (tree.declarator x e) w =
+        both _ _ (rule.written s x.text (f x.at) x.at (first _ _ w)) (optional_back s e (second _ _ w))
+    moved_back s (tree.case e l) w = both _ _ (optional_back s e (first _ _ w)) (all_back s l (second _ _ w))
+    moved_back s (tree.branch_of l) w = all_back s l w
+    moved_back s (tree.catch x l) w =
+        both _ _ (rule.written s x.text (f x.at) x.at (first _ _ w))
+        (all_back (in_catch s x.text) l (second _ _ w))
+    moved_back s _ w = tt
+
+    all_back : {x : Sort} (s : Scope) (l : Forest Span x) → AreReservedNames (forest_early_errors s (map_forest f l))
+        → AreReservedNames (forest_early_errors s l)
+    all_back s tree.end w = tt
+    all_back s (tree.more t l) w = both _ _ (moved_back s t (first _ _ w)) (all_back s l (second _ _ w))
+
+    optional_back : {x : Sort} (s : Scope) (o : OptionalTree Span x)
+        → AreReservedNames (optional_early_errors s (map_optional f o)) → AreReservedNames (optional_early_errors s o)
+    optional_back s tree.absent w = tt
+    optional_back s (tree.present t) w = moved_back s t w
