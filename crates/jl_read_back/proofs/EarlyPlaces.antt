@@ -74,9 +74,25 @@ module _ {S T : Type 0} (f : S → T) where
   bound_in_function x ps b =
       ap₂ (λ p q. p ++ q) (ap₂ (λ p q. p ++ q) (named x) (parameters_same ps)) (bound_same b)
 
-module _ (f : Span → Span) where
+module _ (at : Span) where
+  -- a tree with its nodes at one place
+  abbrev gathered : {x : Sort} → Tree Span x → Tree Span x
+  gathered t = map_tree (λ u. at) (map_tree (λ s. tt) t)
+
+  abbrev all_gathered : {x : Sort} → Forest Span x → Forest Span x
+  all_gathered l = map_forest (λ u. at) (map_forest (λ s. tt) l)
+
+  abbrev optional_gathered : {x : Sort} → OptionalTree Span x → OptionalTree Span x
+  optional_gathered o = map_optional (λ u. at) (map_optional (λ s. tt) o)
+
+  abbrev gathered_name : Option (Ident Span) → Option (Ident Span)
+  gathered_name x = option_map (ident (λ u. at)) (option_map (ident (λ s. tt)) x)
+
+  abbrev gathered_names : List (Ident Span) → List (Ident Span)
+  gathered_names l = map (ident (λ u. at)) (map (ident (λ s. tt)) l)
+
   scope_same : (s : Scope) (x : Option (Ident Span)) (ps : List (Ident Span)) (b : Tree Span tree.code)
-      → in_function_of s (option_map (ident f) x) (map (ident f) ps) (map_tree f b) ≡ in_function_of s x ps b
+      → in_function_of s (gathered_name x) (gathered_names ps) (gathered b) ≡ in_function_of s x ps b
   scope_same s x ps b =
       ap₂ (λ strict names. record {
         strict = strict;
@@ -85,9 +101,11 @@ module _ (f : Span → Span) where
         can_break = false;
         labels = [];
         bound = bind s.bound names;
-      }) (strict_same f s.strict b) (bound_in_function f x ps b)
+      }) (strict_same (λ u. at) s.strict (map_tree (λ s. tt) b) ∙ strict_same (λ s. tt) s.strict b)
+      (bound_in_function (λ u. at) (option_map (ident (λ s. tt)) x) (map (ident (λ s. tt)) ps) (map_tree (λ s. tt) b)
+      ∙ bound_in_function (λ s. tt) x ps b)
 
-  pub program_scope : (b : Tree Span tree.code) → in_program (map_tree f b) ≡ in_program b
+  pub program_scope : (b : Tree Span tree.code) → in_program (gathered b) ≡ in_program b
   program_scope b =
       ap₂ (λ strict names. record {
         strict = strict;
@@ -96,132 +114,133 @@ module _ (f : Span → Span) where
         can_break = false;
         labels = [];
         bound = bind [] names;
-      }) (strict_same f false b) (bound_same f b)
+      }) (strict_same (λ u. at) false (map_tree (λ s. tt) b) ∙ strict_same (λ s. tt) false b)
+      (bound_same (λ u. at) (map_tree (λ s. tt) b) ∙ bound_same (λ s. tt) b)
 
-  loop_same : (t : Tree Span tree.stmt) → is_loop (map_tree f t) ≡ is_loop t
-  loop_same (tree.labelled x t at) = loop_same t
+  loop_same : (t : Tree Span tree.stmt) → is_loop (gathered t) ≡ is_loop t
+  loop_same (tree.labelled x t to) = loop_same t
   loop_same _ = refl
 
-  name_same : (e : Tree Span tree.expr) → is_name (map_tree f e) ≡ is_name e
-  name_same (tree.name x at) = refl
+  name_same : (e : Tree Span tree.expr) → is_name (gathered e) ≡ is_name e
+  name_same (tree.name x to) = refl
   name_same _ = refl
 
-  function_name : (s : Scope) (x : Option (Ident Span)) → AreReservedNames (name_early_errors s (option_map (ident f) x))
+  function_name : (s : Scope) (x : Option (Ident Span)) → AreReservedNames (name_early_errors s (gathered_name x))
       → AreReservedNames (name_early_errors s x)
   function_name s None w = tt
-  function_name s (Some x) w = rule.written s x.text (f x.at) x.at w
+  function_name s (Some x) w = rule.written s x.text at x.at w
 
   parameters : (s : Scope) (before : List Text) (l : List (Ident Span))
-      → AreReservedNames (parameter_early_errors s before (map (ident f) l))
+      → AreReservedNames (parameter_early_errors s before (gathered_names l))
       → AreReservedNames (parameter_early_errors s before l)
   parameters s before [] w = tt
   parameters s before (x ∷ l) w =
-      both _ _ (both _ _ (rule.again _ _ (f x.at) x.at (first _ _ (first _ _ w)))
-      (rule.written s x.text (f x.at) x.at (second _ _ (first _ _ w))))
+      both _ _ (both _ _ (rule.again _ _ at x.at (first _ _ (first _ _ w)))
+      (rule.written s x.text at x.at (second _ _ (first _ _ w))))
       (parameters s (with_name before x.text) l (second _ _ w))
 
-  key_same : (t : Tree Span tree.entry) → SameKey (map_tree f t) t
-  key_same (tree.value k e) = values (ident f k) k (map_tree f e) e refl
-  key_same (tree.getter k g) = getters (ident f k) k (map_tree f g) g refl
-  key_same (tree.setter k g) = setters (ident f k) k (map_tree f g) g refl
+  key_same : (t : Tree Span tree.entry) → SameKey (gathered t) t
+  key_same (tree.value k e) = values (ident (λ u. at) (ident (λ s. tt) k)) k (gathered e) e refl
+  key_same (tree.getter k g) = getters (ident (λ u. at) (ident (λ s. tt) k)) k (gathered g) g refl
+  key_same (tree.setter k g) = setters (ident (λ u. at) (ident (λ s. tt) k)) k (gathered g) g refl
 
   entries : (s : Scope) (k : Keys) (l : Forest Span tree.entry)
-      → AreReservedNames (literal_early_errors s k (map_forest f l)) → AreReservedNames (literal_early_errors s k l)
+      → AreReservedNames (literal_early_errors s k (all_gathered l)) → AreReservedNames (literal_early_errors s k l)
   entries s k tree.end w = tt
   entries s k (tree.more t l) w =
-      both _ _ (rule.keys s k (map_tree f t) t (key_same t) (first _ _ w))
+      both _ _ (rule.keys s k (gathered t) t (key_same t) (first _ _ w))
       (entries s (with_key k t) l
-      (subst (λ m. AreReservedNames (literal_early_errors s m (map_forest f l)))
-      (rule.next_keys k (map_tree f t) t (key_same t)) (second _ _ w)))
+      (subst (λ m. AreReservedNames (literal_early_errors s m (all_gathered l)))
+      (rule.next_keys k (gathered t) t (key_same t)) (second _ _ w)))
 
   mutual
-    pub moved_back : {x : Sort} (s : Scope) (t : Tree Span x) → AreReservedNames (early_errors s (map_tree f t))
+    pub moved_back : {x : Sort} (s : Scope) (t : Tree Span x) → AreReservedNames (early_errors s (gathered t))
         → AreReservedNames (early_errors s t)
-    moved_back s (tree.name x at) w = rule.read s x (f at) at w
-    moved_back s (tree.array l at) w = all_back s l w
-    moved_back s (tree.object l at) w = both _ _ (entries s no_keys l (first _ _ w)) (all_back s l (second _ _ w))
-    moved_back s (tree.function_expression g at) w = moved_back s g w
-    moved_back s (tree.dot a k at) w = moved_back s a w
-    moved_back s (tree.index a b at) w = both _ _ (moved_back s a (first _ _ w)) (moved_back s b (second _ _ w))
-    moved_back s (tree.call a l at) w = both _ _ (moved_back s a (first _ _ w)) (all_back s l (second _ _ w))
-    moved_back s (tree.new a l at) w = both _ _ (moved_back s a (first _ _ w)) (all_back s l (second _ _ w))
-    moved_back s (tree.unary o e at) w =
-        both _ _ (rule.deletes s o (map_tree f e) e (f at) at (name_same e) (first _ _ w))
+    moved_back s (tree.name x to) w = rule.read s x at to w
+    moved_back s (tree.array l to) w = all_back s l w
+    moved_back s (tree.object l to) w = both _ _ (entries s no_keys l (first _ _ w)) (all_back s l (second _ _ w))
+    moved_back s (tree.function_expression g to) w = moved_back s g w
+    moved_back s (tree.dot a k to) w = moved_back s a w
+    moved_back s (tree.index a b to) w = both _ _ (moved_back s a (first _ _ w)) (moved_back s b (second _ _ w))
+    moved_back s (tree.call a l to) w = both _ _ (moved_back s a (first _ _ w)) (all_back s l (second _ _ w))
+    moved_back s (tree.new a l to) w = both _ _ (moved_back s a (first _ _ w)) (all_back s l (second _ _ w))
+    moved_back s (tree.unary o e to) w =
+        both _ _ (rule.deletes s o (gathered e) e at to (name_same e) (first _ _ w))
         (moved_back s e (second _ _ w))
-    moved_back s (tree.update up prefix t at) w = moved_back s t w
-    moved_back s (tree.binary o a b at) w = both _ _ (moved_back s a (first _ _ w)) (moved_back s b (second _ _ w))
-    moved_back s (tree.and a b at) w = both _ _ (moved_back s a (first _ _ w)) (moved_back s b (second _ _ w))
-    moved_back s (tree.or a b at) w = both _ _ (moved_back s a (first _ _ w)) (moved_back s b (second _ _ w))
-    moved_back s (tree.conditional a b c at) w =
+    moved_back s (tree.update up prefix t to) w = moved_back s t w
+    moved_back s (tree.binary o a b to) w = both _ _ (moved_back s a (first _ _ w)) (moved_back s b (second _ _ w))
+    moved_back s (tree.and a b to) w = both _ _ (moved_back s a (first _ _ w)) (moved_back s b (second _ _ w))
+    moved_back s (tree.or a b to) w = both _ _ (moved_back s a (first _ _ w)) (moved_back s b (second _ _ w))
+    moved_back s (tree.conditional a b c to) w =
         both _ _ (both _ _ (moved_back s a (first _ _ (first _ _ w)))
         (moved_back s b (second _ _ (first _ _ w)))) (moved_back s c (second _ _ w))
-    moved_back s (tree.assign o t e at) w = both _ _ (moved_back s t (first _ _ w)) (moved_back s e (second _ _ w))
-    moved_back s (tree.comma a b at) w = both _ _ (moved_back s a (first _ _ w)) (moved_back s b (second _ _ w))
-    moved_back s (tree.to_name x) w = rule.target s x.text (f x.at) x.at w
-    moved_back s (tree.to_dot a k at) w = moved_back s a w
-    moved_back s (tree.to_index a b at) w = both _ _ (moved_back s a (first _ _ w)) (moved_back s b (second _ _ w))
+    moved_back s (tree.assign o t e to) w = both _ _ (moved_back s t (first _ _ w)) (moved_back s e (second _ _ w))
+    moved_back s (tree.comma a b to) w = both _ _ (moved_back s a (first _ _ w)) (moved_back s b (second _ _ w))
+    moved_back s (tree.to_name x) w = rule.target s x.text at x.at w
+    moved_back s (tree.to_dot a k to) w = moved_back s a w
+    moved_back s (tree.to_index a b to) w = both _ _ (moved_back s a (first _ _ w)) (moved_back s b (second _ _ w))
     moved_back s (tree.filled e) w = moved_back s e w
     moved_back s (tree.value k e) w = moved_back s e w
     moved_back s (tree.getter k g) w = moved_back s g w
     moved_back s (tree.setter k g) w = moved_back s g w
-    moved_back s (tree.function n x ps b at) w =
-        let v = subst (λ r. AreReservedNames ((name_early_errors r (option_map (ident f) x)
-        ++ parameter_early_errors r [] (map (ident f) ps)) ++ early_errors r (map_tree f b))) (scope_same s x ps b) w in
+    moved_back s (tree.function n x ps b to) w =
+        let v = subst (λ r. AreReservedNames ((name_early_errors r (gathered_name x)
+        ++ parameter_early_errors r [] (gathered_names ps)) ++ early_errors r (gathered b))) (scope_same s x ps b) w in
         both _ _ (both _ _ (function_name (in_function_of s x ps b) x (first _ _ (first _ _ v)))
         (parameters (in_function_of s x ps b) [] ps (second _ _ (first _ _ v))))
         (moved_back (in_function_of s x ps b) b (second _ _ v))
     moved_back s (tree.body strict fs l) w = both _ _ (all_back s fs (first _ _ w)) (all_back s l (second _ _ w))
-    moved_back s (tree.var l at) w = all_back s l w
-    moved_back s (tree.expression e at) w = moved_back s e w
-    moved_back s (tree.block l at) w = all_back s l w
-    moved_back s (tree.if_else c a b at) w =
+    moved_back s (tree.var l to) w = all_back s l w
+    moved_back s (tree.expression e to) w = moved_back s e w
+    moved_back s (tree.block l to) w = all_back s l w
+    moved_back s (tree.if_else c a b to) w =
         both _ _ (both _ _ (moved_back s c (first _ _ (first _ _ w)))
         (all_back s a (second _ _ (first _ _ w)))) (optional_back s b (second _ _ w))
-    moved_back s (tree.do_while l c at) w =
+    moved_back s (tree.do_while l c to) w =
         both _ _ (all_back (in_a_loop s) l (first _ _ w)) (moved_back s c (second _ _ w))
-    moved_back s (tree.while c l at) w =
+    moved_back s (tree.while c l to) w =
         both _ _ (moved_back s c (first _ _ w)) (all_back (in_a_loop s) l (second _ _ w))
-    moved_back s (tree.for i c u l at) w =
+    moved_back s (tree.for i c u l to) w =
         both _ _ (both _ _ (both _ _ (moved_back s i (first _ _ (first _ _ (first _ _ w))))
         (optional_back s c (second _ _ (first _ _ (first _ _ w)))))
         (optional_back s u (second _ _ (first _ _ w)))) (all_back (in_a_loop s) l (second _ _ w))
-    moved_back s (tree.for_in is_var x o l at) w =
-        both _ _ (both _ _ (rule.for_in s x.text (f x.at) x.at is_var (first _ _ (first _ _ w)))
+    moved_back s (tree.for_in is_var x o l to) w =
+        both _ _ (both _ _ (rule.for_in s x.text at x.at is_var (first _ _ (first _ _ w)))
         (moved_back s o (second _ _ (first _ _ w)))) (all_back (in_a_loop s) l (second _ _ w))
-    moved_back s (tree.continue None at) w = rule.continues s (f at) at w
-    moved_back s (tree.continue (Some x) at) w = rule.continues_to s (ident f x) x (f at) at refl w
-    moved_back s (tree.break None at) w = rule.breaks s (f at) at w
-    moved_back s (tree.break (Some x) at) w = rule.breaks_to s (ident f x) x (f at) at refl w
-    moved_back s (tree.return e at) w =
-        both _ _ (rule.returns s (f at) at (first _ _ w)) (optional_back s e (second _ _ w))
-    moved_back s (tree.labelled x t at) w =
-        both _ _ (rule.label s x.text (f x.at) x.at (first _ _ w))
+    moved_back s (tree.continue None to) w = rule.continues s at to w
+    moved_back s (tree.continue (Some x) to) w = rule.continues_to s (ident (λ u. at) (ident (λ s. tt) x)) x at to refl w
+    moved_back s (tree.break None to) w = rule.breaks s at to w
+    moved_back s (tree.break (Some x) to) w = rule.breaks_to s (ident (λ u. at) (ident (λ s. tt) x)) x at to refl w
+    moved_back s (tree.return e to) w =
+        both _ _ (rule.returns s at to (first _ _ w)) (optional_back s e (second _ _ w))
+    moved_back s (tree.labelled x t to) w =
+        both _ _ (rule.label s x.text at x.at (first _ _ w))
         (moved_back (under_label s x.text (is_loop t)) t
-        (subst (λ b. AreReservedNames (early_errors (under_label s x.text b) (map_tree f t))) (loop_same t)
+        (subst (λ b. AreReservedNames (early_errors (under_label s x.text b) (gathered t))) (loop_same t)
         (second _ _ w)))
-    moved_back s (tree.switch e l at) w =
+    moved_back s (tree.switch e l to) w =
         both _ _ (moved_back s e (first _ _ w)) (all_back (in_a_switch s) l (second _ _ w))
-    moved_back s (tree.throw e at) w = moved_back s e w
-    moved_back s (tree.try l h g at) w =
+    moved_back s (tree.throw e to) w = moved_back s e w
+    moved_back s (tree.try l h g to) w =
         both _ _ (both _ _ (all_back s l (first _ _ (first _ _ w)))
         (optional_back s h (second _ _ (first _ _ w)))) (optional_back s g (second _ _ w))
     moved_back s (tree.init_expression e) w = moved_back s e w
     moved_back s (tree.init_var l) w = all_back s l w
     moved_back s (tree.declarator x e) w =
-        both _ _ (rule.written s x.text (f x.at) x.at (first _ _ w)) (optional_back s e (second _ _ w))
+        both _ _ (rule.written s x.text at x.at (first _ _ w)) (optional_back s e (second _ _ w))
     moved_back s (tree.case e l) w = both _ _ (optional_back s e (first _ _ w)) (all_back s l (second _ _ w))
     moved_back s (tree.branch_of l) w = all_back s l w
     moved_back s (tree.catch x l) w =
-        both _ _ (rule.written s x.text (f x.at) x.at (first _ _ w))
+        both _ _ (rule.written s x.text at x.at (first _ _ w))
         (all_back (in_catch s x.text) l (second _ _ w))
     moved_back s _ w = tt
 
-    all_back : {x : Sort} (s : Scope) (l : Forest Span x) → AreReservedNames (forest_early_errors s (map_forest f l))
+    all_back : {x : Sort} (s : Scope) (l : Forest Span x) → AreReservedNames (forest_early_errors s (all_gathered l))
         → AreReservedNames (forest_early_errors s l)
     all_back s tree.end w = tt
     all_back s (tree.more t l) w = both _ _ (moved_back s t (first _ _ w)) (all_back s l (second _ _ w))
 
     optional_back : {x : Sort} (s : Scope) (o : OptionalTree Span x)
-        → AreReservedNames (optional_early_errors s (map_optional f o)) → AreReservedNames (optional_early_errors s o)
+        → AreReservedNames (optional_early_errors s (optional_gathered o)) → AreReservedNames (optional_early_errors s o)
     optional_back s tree.absent w = tt
     optional_back s (tree.present t) w = moved_back s t w

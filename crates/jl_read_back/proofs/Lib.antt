@@ -8,3 +8,11 @@ pub mod Numbers
 pub mod EqualNodes
 pub mod FixedNumbers
 pub mod Places
+pub mod Programs
+pub mod Rules
+pub mod EarlyPlaces
+pub mod Declared
+pub mod NoNames
+pub mod EarlyForms
+pub mod EarlyWoven
+pub mod Early

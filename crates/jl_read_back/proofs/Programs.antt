@@ -1,17 +1,22 @@
 -- Programs with places that are woven ones without them.
-use Rattle.std.proofs.Common.{◌≡◌, ◌∙◌, ℕ, ◌+◌, ◌*◌, ◌≤◌, ap, subst, sym, arith}
+use Rattle.std.proofs.Common.{◌≡◌, ◌∙◌, ℕ, ◌+◌, ◌*◌, ◌≤◌, List, length, ap, subst, sym, arith}
 use Rattle.jl_ast.proofs.SameHeight.{moved}
 use Rattle.jl_ast.proofs.SameNumbers.{numbered_moved}
 use Rattle.jl_ast.specs.Height.{height, program_height}
 use Rattle.jl_ast.specs.Numbering.{numbered, numbered_tree}
 use Rattle.jl_ast.specs.Spans.{map_tree, without_spans}
 use Rattle.jl_ast.specs.Tree.{Program}
+use Rattle.jl_grammar.specs.Program.{Reads}
 use Rattle.jl_op.specs.Chosen.{Kinds}
-use Rattle.jl_print.specs.Laws.{PrintedReadsBack, TextIsPaired}
+use Rattle.jl_op.specs.Ids.{id_count}
+use Rattle.jl_print.specs.Laws.{PrintedReadsBack, ReadIsWellFormed, TextIsPaired}
 use Rattle.jl_print.specs.WellFormed.{IsWellFormed}
 use Rattle.jl_simulation.specs.Weaving.{woven_program}
 use Rattle.jl_text.specs.declared.span.Span.{Span}
+use Rattle.jl_token.specs.Tokens.{FewTokens}
+use Rattle.jl_token.specs.declared.token.Token.{Token}
 use Rattle.jl_read_back.specs.Laws.{HasIds, IsWoven, ReadsBackWithin, WovenHeight, WovenIsWellFormed}
+use Rattle.jl_read_back.specs.Laws.{WovenReadsBack}
 use Rattle.jl_read_back.proofs.FixedNumbers.{fixed}
 use Rattle.jl_read_back.proofs.Formed.{woven_formed}
 use Rattle.jl_read_back.proofs.Heights.{woven_low}
@@ -49,3 +54,15 @@ reads_back printed paired chosen p q limit w few small e =
     let v = well_formed chosen p q w few e in
     let at_most = low chosen p q e in
     record { back = printed q limit v (omega arith); paired = paired q v }
+
+-- so does that of every program that is read
+pub read_program : PrintedReadsBack → TextIsPaired → ReadIsWellFormed → FewTokens → (entries : Program Span → ℕ)
+    → ((p : Program Span) → entries p ≡ 2 + id_count p.body)
+    → ((ts : List Token) (limit : ℕ) (p : Program Span) → Reads ts limit p → entries p ≤ 4 * length ts + 2)
+    → WovenReadsBack
+read_program printed paired formed few_tokens entries has few chosen text ts limit within p q tokens read short small e =
+    let count = has p in
+    let few_entries = few ts limit p read in
+    let few_units = few_tokens text ts tokens in
+    let low_enough = read.low in
+    reads_back printed paired chosen p q within (formed text ts limit p tokens read) (omega arith) (omega arith) e

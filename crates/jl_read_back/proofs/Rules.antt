@@ -206,7 +206,6 @@ unfolding free_early_errors
 caught_free s x at = by (is_left_out x) refl
   where
     by : (b : Bool) → is_left_out x ≡ b → AreReservedNames (free_early_errors (in_catch s x) x at)
-    unfolding free_early_errors
     by true e =
         let is : (is_left_out x && not (among x (if is_left_out x then with_name s.bound x else s.bound))) ≡ false =
             ap (λ b. b && not (among x (if b then with_name s.bound x else s.bound))) e
@@ -216,6 +215,13 @@ caught_free s x at = by (is_left_out x) refl
         nothing_wrong _
         (ap (λ b. if b && not (among x (if b then with_name s.bound x else s.bound)) then left_out x at ∷ [] else [])
         e)
+
+pub caught_read : (s : Scope) (x : Text) (at to : Span) → AreReservedNames (written_early_errors s x at)
+    → AreReservedNames (read_early_errors (in_catch s x) x to)
+unfolding written_early_errors read_early_errors identifier_early_errors
+caught_read s x at to w =
+    both _ _ (caught_free s x to)
+    (both _ _ (again _ _ at to (first _ _ (second _ _ w))) (reserved (same_text x hooks_name) to))
 
 -- the identifier of the hooks may be read anywhere
 pub hooks_read : (s : Scope) (at : Span) → AreReservedNames (read_early_errors s hooks_name at)
