@@ -22,7 +22,7 @@ use Rattle.jl_simulation.specs.HookCalls.{Expr, Exprs, Stmts, Woven}
 use Rattle.jl_simulation.specs.Weaving.{calls, calls_member, computes, woven, woven_body, woven_callee, woven_code}
 use Rattle.jl_simulation.specs.Weaving.{woven_delete, woven_forest, woven_optional, woven_typeof}
 use Rattle.jl_text.specs.declared.span.Span.{Span}
-use Rattle.jl_read_back.specs.EarlyErrors.{AreReservedNames}
+use Rattle.jl_read_back.specs.EarlyErrors.{none, AreReservedNames}
 use Rattle.jl_read_back.proofs.Declared.{body_strict, function_bound, program_bound, program_strict}
 use Rattle.jl_read_back.proofs.EarlyPlaces.{bound_in_function, bound_same, strict_same}
 use Rattle.jl_read_back.proofs.Forms.{callee_is, delete_is, typeof_is, IsNoMember, IsNoName}
@@ -46,21 +46,21 @@ module _ (at : Span) where
 
   -- a call of a hook is as what it is told
   pub told : (s : Scope) (h : Text) (id : ℕ) (l : Exprs) → AllClear s l → Clear s (hook h id l)
-  told s h id l w = both (read_early_errors s hooks_name at) _ (hooks_read s at) w
+  told s h id l w = both (hooks_read s at) w
 
   pub told_1 : (s : Scope) (h : Text) (id : ℕ) (e : Expr) → Clear s e → Clear s (hook_1 h id e)
-  told_1 s h id e w = told s h id (tree.more e tree.end) (both _ _ w tt)
+  told_1 s h id e w = told s h id (tree.more e tree.end) (both w none)
 
   pub told_2 : (s : Scope) (h : Text) (id : ℕ) (a b : Expr) → Clear s a → Clear s b → Clear s (hook_2 h id a b)
-  told_2 s h id a b v w = told s h id (tree.more a (tree.more b tree.end)) (both _ _ v (both _ _ w tt))
+  told_2 s h id a b v w = told s h id (tree.more a (tree.more b tree.end)) (both v (both w none))
 
   pub told_of_1 : (s : Scope) (h : Text) (id : ℕ) (t : Text) (e : Expr) → Clear s e → Clear s (hook_of_1 h id t e)
-  told_of_1 s h id t e w = told s h id (tree.more (quoted t) (tree.more e tree.end)) (both _ _ w tt)
+  told_of_1 s h id t e w = told s h id (tree.more (quoted t) (tree.more e tree.end)) (both w none)
 
   pub told_of_2 : (s : Scope) (h : Text) (id : ℕ) (t : Text) (a b : Expr) → Clear s a → Clear s b
       → Clear s (hook h id (tree.more (quoted t) (tree.more a (tree.more b tree.end))))
   told_of_2 s h id t a b v w =
-      told s h id (tree.more (quoted t) (tree.more a (tree.more b tree.end))) (both _ _ v (both _ _ w tt))
+      told s h id (tree.more (quoted t) (tree.more a (tree.more b tree.end))) (both v (both w none))
 
   -- by a hook, or as it stands
   pub either : (s : Scope) (b : Bool) (t u : Expr) → Clear s t → Clear s u → Clear s (if b then t else u)
@@ -80,47 +80,47 @@ module _ (at : Span) where
   -- the number before an update
   pub updated : (s : Scope) (up prefix : Bool) (e : Expr) → Clear s e → Clear s (before_update up prefix e)
   updated s up true e w = w
-  updated s true false e w = both _ _ w tt
-  updated s false false e w = both _ _ w tt
+  updated s true false e w = both w none
+  updated s false false e w = both w none
 
   -- statements of a function, of a `catch` and of a program
   statement : (s : Scope) (h : Text) (id : ℕ) → Clear s (hook_statement (hook h id no_exprs))
-  statement s h id = told s h id no_exprs tt
+  statement s h id = told s h id no_exprs none
 
   pub entered : (s : Scope) (b : Bool) (id : ℕ) (l : Stmts) → AllClear s l
       → AllClear s (if b then enter_and_leave id l else l)
   entered s true id l w =
-      both _ _ (both _ _ (both _ _ (both _ _ (statement s (codes "E") id) w) tt)
-      (both _ _ (statement s (codes "L") (id + 1)) tt)) tt
+      both (both (both (both (statement s (codes "E") id) w) none)
+      (both (statement s (codes "L") (id + 1)) none)) none
   entered s false id l w = w
 
   pub caught : (s : Scope) (b : Bool) (id : ℕ) (x : Text) (l : Stmts) → AreReservedNames (read_early_errors s x at)
       → AllClear s l → AllClear s (if b then catch_and_go_on id x l else l)
-  caught s true id x l v w = both _ _ (told_of_1 s (codes "H") id x (tree.name x tt) v) w
+  caught s true id x l v w = both (told_of_1 s (codes "H") id x (tree.name x tt) v) w
   caught s false id x l v w = w
 
   one_more : (s : Scope) (l : Stmts) (h : Text) (id : ℕ) → AllClear s l
       → AllClear s (and_last l (hook_statement (hook h id no_exprs)))
-  one_more s tree.end h id w = both _ _ (statement s h id) tt
-  one_more s (tree.more t l) h id w = both _ _ (first _ _ w) (one_more s l h id (second _ _ w))
+  one_more s tree.end h id w = both (statement s h id) none
+  one_more s (tree.more t l) h id w = both (first _ _ w) (one_more s l h id (second _ _ w))
 
   pub begun : (s : Scope) (b : Bool) (id : ℕ) (l : Stmts) → AllClear s l → AllClear s (if b then begin_and_end id l else l)
-  begun s true id l w = both _ _ (statement s (codes "S") id) (one_more s l (codes "X") (id + 1) w)
+  begun s true id l w = both (statement s (codes "S") id) (one_more s l (codes "X") (id + 1) w)
   begun s false id l w = w
 
   pub function_name : (s : Scope) (x : Option (Ident Span)) (j : ℕ) → AreReservedNames (name_early_errors s x)
       → AreReservedNames (name_early_errors s (option_map (ident (λ u. at)) (option_map without_id (option_map
       (λ y. ident_with_id y j) x))))
-  function_name s None j w = tt
+  function_name s None j w = none
   function_name s (Some x) j w = rule.written s x.text x.at at w
 
   pub parameters : (s : Scope) (before : List Text) (l : List (Ident Span)) (j : ℕ)
       → AreReservedNames (parameter_early_errors s before l)
       → AreReservedNames (parameter_early_errors s before (map (ident (λ u. at)) (map without_id (map
       (λ y. ident_with_id y j) l))))
-  parameters s before [] j w = tt
+  parameters s before [] j w = none
   parameters s before (x ∷ l) j w =
-      both _ _ (both _ _ (rule.again _ _ x.at at (first _ _ (first _ _ w)))
+      both (both (rule.again _ _ x.at at (first _ _ (first _ _ w)))
       (rule.written s x.text x.at at (second _ _ (first _ _ w))))
       (parameters s (with_name before x.text) l j (second _ _ w))
 
@@ -133,9 +133,9 @@ module _ (at : Span) where
     pub entries : (s : Scope) (k : Keys) (l : Forest Span tree.entry) (j : ℕ)
         → AreReservedNames (literal_early_errors s k l)
         → AreReservedNames (literal_early_errors s k (all_spanned (woven_forest chosen (forest_with_ids j l))))
-    entries s k tree.end j w = tt
+    entries s k tree.end j w = none
     entries s k (tree.more t l) j w =
-        both _ _ (rule.keys s k t (spanned (woven chosen (with_ids j t))) (key_same t j) (first _ _ w))
+        both (rule.keys s k t (spanned (woven chosen (with_ids j t))) (key_same t j) (first _ _ w))
         (subst (λ m. AreReservedNames (literal_early_errors s m (all_spanned (woven_forest chosen (forest_with_ids
         (j + id_count t) l))))) (rule.next_keys k t (spanned (woven chosen (with_ids j t))) (key_same t j))
         (entries s (with_key k t) l (j + id_count t) (second _ _ w)))
@@ -150,14 +150,14 @@ module _ (at : Span) where
     typed s n id e is w v =
         subst (λ e. Clear s e) (sym (typeof_is chosen n id e is w))
         (either s (chosen kind.Unary) _ _ (told_of_1 s (codes "U") id (codes "typeof") w v)
-        (both _ _ (no_delete s un.Typeof (spanned w) at refl) v))
+        (both (no_delete s un.Typeof (spanned w) at refl) v))
 
     pub deleted : (s : Scope) (n id : ℕ) (e : Tree Span tree.expr) → IsNoName e → IsNoMember e
         → Clear s (woven chosen (with_ids n e)) → Clear s (woven_delete chosen (with_ids n e)
         (woven chosen (with_ids n e)) id)
     deleted s n id e is not v =
         subst (λ e. Clear s e) (sym (delete_is chosen n id e is not (woven chosen (with_ids n e))))
-        (both _ _ (no_name_deleted s un.Delete (spanned (woven chosen (with_ids n e))) at
+        (both (no_name_deleted s un.Delete (spanned (woven chosen (with_ids n e))) at
         (no_name chosen at e is not n)) v)
 
     pub loop_same : (t : Tree Span tree.stmt) (j : ℕ) → is_loop (spanned (woven chosen (with_ids j t))) ≡ is_loop t

@@ -13,7 +13,7 @@ use Rattle.jl_scope.specs.Names.{with_name}
 use Rattle.jl_scope.specs.Scope.{bind, in_a_loop, in_a_switch, in_catch, in_function_of, in_program, is_loop}
 use Rattle.jl_scope.specs.Scope.{under_label, Scope}
 use Rattle.jl_text.specs.declared.span.Span.{Span}
-use Rattle.jl_read_back.specs.EarlyErrors.{AreReservedNames}
+use Rattle.jl_read_back.specs.EarlyErrors.{none, AreReservedNames}
 use Rattle.jl_read_back.proofs.Rules as rule
 use Rattle.jl_read_back.proofs.Rules.{both, first, getters, setters, values, second, SameKey}
 
@@ -127,15 +127,15 @@ module _ (at : Span) where
 
   function_name : (s : Scope) (x : Option (Ident Span)) → AreReservedNames (name_early_errors s (gathered_name x))
       → AreReservedNames (name_early_errors s x)
-  function_name s None w = tt
+  function_name s None w = none
   function_name s (Some x) w = rule.written s x.text at x.at w
 
   parameters : (s : Scope) (before : List Text) (l : List (Ident Span))
       → AreReservedNames (parameter_early_errors s before (gathered_names l))
       → AreReservedNames (parameter_early_errors s before l)
-  parameters s before [] w = tt
+  parameters s before [] w = none
   parameters s before (x ∷ l) w =
-      both _ _ (both _ _ (rule.again _ _ at x.at (first _ _ (first _ _ w)))
+      both (both (rule.again _ _ at x.at (first _ _ (first _ _ w)))
       (rule.written s x.text at x.at (second _ _ (first _ _ w))))
       (parameters s (with_name before x.text) l (second _ _ w))
 
@@ -146,9 +146,9 @@ module _ (at : Span) where
 
   entries : (s : Scope) (k : Keys) (l : Forest Span tree.entry)
       → AreReservedNames (literal_early_errors s k (all_gathered l)) → AreReservedNames (literal_early_errors s k l)
-  entries s k tree.end w = tt
+  entries s k tree.end w = none
   entries s k (tree.more t l) w =
-      both _ _ (rule.keys s k (gathered t) t (key_same t) (first _ _ w))
+      both (rule.keys s k (gathered t) t (key_same t) (first _ _ w))
       (entries s (with_key k t) l
       (subst (λ m. AreReservedNames (literal_early_errors s m (all_gathered l)))
       (rule.next_keys k (gathered t) t (key_same t)) (second _ _ w)))
@@ -158,27 +158,27 @@ module _ (at : Span) where
         → AreReservedNames (early_errors s t)
     moved_back s (tree.name x to) w = rule.read s x at to w
     moved_back s (tree.array l to) w = all_back s l w
-    moved_back s (tree.object l to) w = both _ _ (entries s no_keys l (first _ _ w)) (all_back s l (second _ _ w))
+    moved_back s (tree.object l to) w = both (entries s no_keys l (first _ _ w)) (all_back s l (second _ _ w))
     moved_back s (tree.function_expression g to) w = moved_back s g w
     moved_back s (tree.dot a k to) w = moved_back s a w
-    moved_back s (tree.index a b to) w = both _ _ (moved_back s a (first _ _ w)) (moved_back s b (second _ _ w))
-    moved_back s (tree.call a l to) w = both _ _ (moved_back s a (first _ _ w)) (all_back s l (second _ _ w))
-    moved_back s (tree.new a l to) w = both _ _ (moved_back s a (first _ _ w)) (all_back s l (second _ _ w))
+    moved_back s (tree.index a b to) w = both (moved_back s a (first _ _ w)) (moved_back s b (second _ _ w))
+    moved_back s (tree.call a l to) w = both (moved_back s a (first _ _ w)) (all_back s l (second _ _ w))
+    moved_back s (tree.new a l to) w = both (moved_back s a (first _ _ w)) (all_back s l (second _ _ w))
     moved_back s (tree.unary o e to) w =
-        both _ _ (rule.deletes s o (gathered e) e at to (name_same e) (first _ _ w))
+        both (rule.deletes s o (gathered e) e at to (name_same e) (first _ _ w))
         (moved_back s e (second _ _ w))
     moved_back s (tree.update up prefix t to) w = moved_back s t w
-    moved_back s (tree.binary o a b to) w = both _ _ (moved_back s a (first _ _ w)) (moved_back s b (second _ _ w))
-    moved_back s (tree.and a b to) w = both _ _ (moved_back s a (first _ _ w)) (moved_back s b (second _ _ w))
-    moved_back s (tree.or a b to) w = both _ _ (moved_back s a (first _ _ w)) (moved_back s b (second _ _ w))
+    moved_back s (tree.binary o a b to) w = both (moved_back s a (first _ _ w)) (moved_back s b (second _ _ w))
+    moved_back s (tree.and a b to) w = both (moved_back s a (first _ _ w)) (moved_back s b (second _ _ w))
+    moved_back s (tree.or a b to) w = both (moved_back s a (first _ _ w)) (moved_back s b (second _ _ w))
     moved_back s (tree.conditional a b c to) w =
-        both _ _ (both _ _ (moved_back s a (first _ _ (first _ _ w)))
+        both (both (moved_back s a (first _ _ (first _ _ w)))
         (moved_back s b (second _ _ (first _ _ w)))) (moved_back s c (second _ _ w))
-    moved_back s (tree.assign o t e to) w = both _ _ (moved_back s t (first _ _ w)) (moved_back s e (second _ _ w))
-    moved_back s (tree.comma a b to) w = both _ _ (moved_back s a (first _ _ w)) (moved_back s b (second _ _ w))
+    moved_back s (tree.assign o t e to) w = both (moved_back s t (first _ _ w)) (moved_back s e (second _ _ w))
+    moved_back s (tree.comma a b to) w = both (moved_back s a (first _ _ w)) (moved_back s b (second _ _ w))
     moved_back s (tree.to_name x) w = rule.target s x.text at x.at w
     moved_back s (tree.to_dot a k to) w = moved_back s a w
-    moved_back s (tree.to_index a b to) w = both _ _ (moved_back s a (first _ _ w)) (moved_back s b (second _ _ w))
+    moved_back s (tree.to_index a b to) w = both (moved_back s a (first _ _ w)) (moved_back s b (second _ _ w))
     moved_back s (tree.filled e) w = moved_back s e w
     moved_back s (tree.value k e) w = moved_back s e w
     moved_back s (tree.getter k g) w = moved_back s g w
@@ -186,61 +186,61 @@ module _ (at : Span) where
     moved_back s (tree.function n x ps b to) w =
         let v = subst (λ r. AreReservedNames ((name_early_errors r (gathered_name x)
         ++ parameter_early_errors r [] (gathered_names ps)) ++ early_errors r (gathered b))) (scope_same s x ps b) w in
-        both _ _ (both _ _ (function_name (in_function_of s x ps b) x (first _ _ (first _ _ v)))
+        both (both (function_name (in_function_of s x ps b) x (first _ _ (first _ _ v)))
         (parameters (in_function_of s x ps b) [] ps (second _ _ (first _ _ v))))
         (moved_back (in_function_of s x ps b) b (second _ _ v))
-    moved_back s (tree.body strict fs l) w = both _ _ (all_back s fs (first _ _ w)) (all_back s l (second _ _ w))
+    moved_back s (tree.body strict fs l) w = both (all_back s fs (first _ _ w)) (all_back s l (second _ _ w))
     moved_back s (tree.var l to) w = all_back s l w
     moved_back s (tree.expression e to) w = moved_back s e w
     moved_back s (tree.block l to) w = all_back s l w
     moved_back s (tree.if_else c a b to) w =
-        both _ _ (both _ _ (moved_back s c (first _ _ (first _ _ w)))
+        both (both (moved_back s c (first _ _ (first _ _ w)))
         (all_back s a (second _ _ (first _ _ w)))) (optional_back s b (second _ _ w))
     moved_back s (tree.do_while l c to) w =
-        both _ _ (all_back (in_a_loop s) l (first _ _ w)) (moved_back s c (second _ _ w))
+        both (all_back (in_a_loop s) l (first _ _ w)) (moved_back s c (second _ _ w))
     moved_back s (tree.while c l to) w =
-        both _ _ (moved_back s c (first _ _ w)) (all_back (in_a_loop s) l (second _ _ w))
+        both (moved_back s c (first _ _ w)) (all_back (in_a_loop s) l (second _ _ w))
     moved_back s (tree.for i c u l to) w =
-        both _ _ (both _ _ (both _ _ (moved_back s i (first _ _ (first _ _ (first _ _ w))))
+        both (both (both (moved_back s i (first _ _ (first _ _ (first _ _ w))))
         (optional_back s c (second _ _ (first _ _ (first _ _ w)))))
         (optional_back s u (second _ _ (first _ _ w)))) (all_back (in_a_loop s) l (second _ _ w))
     moved_back s (tree.for_in is_var x o l to) w =
-        both _ _ (both _ _ (rule.for_in s x.text at x.at is_var (first _ _ (first _ _ w)))
+        both (both (rule.for_in s x.text at x.at is_var (first _ _ (first _ _ w)))
         (moved_back s o (second _ _ (first _ _ w)))) (all_back (in_a_loop s) l (second _ _ w))
     moved_back s (tree.continue None to) w = rule.continues s at to w
     moved_back s (tree.continue (Some x) to) w = rule.continues_to s (ident (λ u. at) (ident (λ s. tt) x)) x at to refl w
     moved_back s (tree.break None to) w = rule.breaks s at to w
     moved_back s (tree.break (Some x) to) w = rule.breaks_to s (ident (λ u. at) (ident (λ s. tt) x)) x at to refl w
     moved_back s (tree.return e to) w =
-        both _ _ (rule.returns s at to (first _ _ w)) (optional_back s e (second _ _ w))
+        both (rule.returns s at to (first _ _ w)) (optional_back s e (second _ _ w))
     moved_back s (tree.labelled x t to) w =
-        both _ _ (rule.label s x.text at x.at (first _ _ w))
+        both (rule.label s x.text at x.at (first _ _ w))
         (moved_back (under_label s x.text (is_loop t)) t
         (subst (λ b. AreReservedNames (early_errors (under_label s x.text b) (gathered t))) (loop_same t)
         (second _ _ w)))
     moved_back s (tree.switch e l to) w =
-        both _ _ (moved_back s e (first _ _ w)) (all_back (in_a_switch s) l (second _ _ w))
+        both (moved_back s e (first _ _ w)) (all_back (in_a_switch s) l (second _ _ w))
     moved_back s (tree.throw e to) w = moved_back s e w
     moved_back s (tree.try l h g to) w =
-        both _ _ (both _ _ (all_back s l (first _ _ (first _ _ w)))
+        both (both (all_back s l (first _ _ (first _ _ w)))
         (optional_back s h (second _ _ (first _ _ w)))) (optional_back s g (second _ _ w))
     moved_back s (tree.init_expression e) w = moved_back s e w
     moved_back s (tree.init_var l) w = all_back s l w
     moved_back s (tree.declarator x e) w =
-        both _ _ (rule.written s x.text at x.at (first _ _ w)) (optional_back s e (second _ _ w))
-    moved_back s (tree.case e l) w = both _ _ (optional_back s e (first _ _ w)) (all_back s l (second _ _ w))
+        both (rule.written s x.text at x.at (first _ _ w)) (optional_back s e (second _ _ w))
+    moved_back s (tree.case e l) w = both (optional_back s e (first _ _ w)) (all_back s l (second _ _ w))
     moved_back s (tree.branch_of l) w = all_back s l w
     moved_back s (tree.catch x l) w =
-        both _ _ (rule.written s x.text at x.at (first _ _ w))
+        both (rule.written s x.text at x.at (first _ _ w))
         (all_back (in_catch s x.text) l (second _ _ w))
-    moved_back s _ w = tt
+    moved_back s _ w = none
 
     all_back : {x : Sort} (s : Scope) (l : Forest Span x) → AreReservedNames (forest_early_errors s (all_gathered l))
         → AreReservedNames (forest_early_errors s l)
-    all_back s tree.end w = tt
-    all_back s (tree.more t l) w = both _ _ (moved_back s t (first _ _ w)) (all_back s l (second _ _ w))
+    all_back s tree.end w = none
+    all_back s (tree.more t l) w = both (moved_back s t (first _ _ w)) (all_back s l (second _ _ w))
 
     optional_back : {x : Sort} (s : Scope) (o : OptionalTree Span x)
         → AreReservedNames (optional_early_errors s (optional_gathered o)) → AreReservedNames (optional_early_errors s o)
-    optional_back s tree.absent w = tt
+    optional_back s tree.absent w = none
     optional_back s (tree.present t) w = moved_back s t w

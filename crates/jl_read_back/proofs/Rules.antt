@@ -19,7 +19,7 @@ use Rattle.jl_scope.specs.declared.rules.EarlyRule.{EarlyRule}
 use Rattle.jl_scope.specs.declared.rules.EarlyRule.TheVariants as rules
 use Rattle.std.proofs.lemmas.Slice.Eq.{bytes_eq-Decides}
 use Rattle.jl_text.specs.declared.span.Span.{Span}
-use Rattle.jl_read_back.specs.EarlyErrors.{AreReservedNames}
+use Rattle.jl_read_back.specs.EarlyErrors.{none, one_more, AreReservedNames}
 
 -- properties of literals with the same key
 pub data SameKey : Tree Span tree.entry → Tree Span tree.entry → Type 0 where
@@ -31,59 +31,53 @@ pub data SameKey : Tree Span tree.entry → Tree Span tree.entry → Type 0 wher
       → SameKey (tree.setter x e) (tree.setter y f)
 
 -- of two lists
-pub both : (a b : List EarlyError) → AreReservedNames a → AreReservedNames b → AreReservedNames (a ++ b)
-both [] b v w = w
-both (early r at ∷ a) b v w = absurd v
-both (left_out x at ∷ a) b v w = absurd v
-both (reserved_name at ∷ a) b v w = both a b v w
+pub both : {a b : List EarlyError} → AreReservedNames a → AreReservedNames b → AreReservedNames (a ++ b)
+both none w = w
+both (one_more v) w = one_more (both v w)
 
 pub first : (a b : List EarlyError) → AreReservedNames (a ++ b) → AreReservedNames a
-first [] b w = tt
-first (early r at ∷ a) b w = absurd w
-first (left_out x at ∷ a) b w = absurd w
-first (reserved_name at ∷ a) b w = first a b w
+first [] b w = none
+first (early r at ∷ a) b w = elim w [ ]
+first (left_out x at ∷ a) b w = elim w [ ]
+first (reserved_name at ∷ a) b (one_more w) = one_more (first a b w)
 
 pub second : (a b : List EarlyError) → AreReservedNames (a ++ b) → AreReservedNames b
 second [] b w = w
-second (early r at ∷ a) b w = absurd w
-second (left_out x at ∷ a) b w = absurd w
-second (reserved_name at ∷ a) b w = second a b w
+second (early r at ∷ a) b w = elim w [ ]
+second (left_out x at ∷ a) b w = elim w [ ]
+second (reserved_name at ∷ a) b (one_more w) = second a b w
 
--- none is such a list
+-- no errors are such a list
 pub nothing_wrong : (l : List EarlyError) → l ≡ [] → AreReservedNames l
-nothing_wrong l e = subst (λ m. AreReservedNames m) (sym e) tt
+nothing_wrong l e = subst (λ m. AreReservedNames m) (sym e) none
 
 -- a rule that is kept
-pub kept : (b : Bool) (r : EarlyRule) (at : Span) → b ≡ false → AreReservedNames (broken_if b r at)
+kept : (b : Bool) (r : EarlyRule) (at : Span) → b ≡ false → AreReservedNames (broken_if b r at)
 kept true r at e = cc
-kept false r at e = tt
-
-pub is_kept : (b : Bool) (r : EarlyRule) (at : Span) → AreReservedNames (broken_if b r at) → b ≡ false
-is_kept true r at w = absurd w
-is_kept false r at w = refl
+kept false r at e = none
 
 pub again : (b : Bool) (r : EarlyRule) (at to : Span) → AreReservedNames (broken_if b r at)
     → AreReservedNames (broken_if b r to)
-again true r at to w = w
-again false r at to w = tt
+again true r at to w = elim w [ ]
+again false r at to w = none
 
 reserved : (b : Bool) (at : Span) → AreReservedNames (if b then reserved_name at ∷ [] else [])
-reserved true at = tt
-reserved false at = tt
+reserved true at = one_more none
+reserved false at = none
 
 free : (b : Bool) (x : Text) (at to : Span) → AreReservedNames (if b then left_out x at ∷ [] else [])
     → AreReservedNames (if b then left_out x to ∷ [] else [])
-free true x at to w = w
-free false x at to w = tt
+free true x at to w = elim w [ ]
+free false x at to w = none
 
 module _ (s : Scope) (x : Text) (at to : Span) where
   pub identifier : AreReservedNames (identifier_early_errors s x at) → AreReservedNames (identifier_early_errors s x to)
   unfolding identifier_early_errors
-  identifier w = both _ _ (again _ _ at to (first _ _ w)) (reserved (same_text x hooks_name) to)
+  identifier w = both (again _ _ at to (first _ _ w)) (reserved (same_text x hooks_name) to)
 
   pub written : AreReservedNames (written_early_errors s x at) → AreReservedNames (written_early_errors s x to)
   unfolding written_early_errors
-  written w = both _ _ (again _ _ at to (first _ _ w)) (identifier (second _ _ w))
+  written w = both (again _ _ at to (first _ _ w)) (identifier (second _ _ w))
 
   mentioned : AreReservedNames (free_early_errors s x at) → AreReservedNames (free_early_errors s x to)
   unfolding free_early_errors
@@ -91,16 +85,16 @@ module _ (s : Scope) (x : Text) (at to : Span) where
 
   pub read : AreReservedNames (read_early_errors s x at) → AreReservedNames (read_early_errors s x to)
   unfolding read_early_errors
-  read w = both _ _ (mentioned (first _ _ w)) (identifier (second _ _ w))
+  read w = both (mentioned (first _ _ w)) (identifier (second _ _ w))
 
   pub target : AreReservedNames (target_early_errors s x at) → AreReservedNames (target_early_errors s x to)
   unfolding target_early_errors
-  target w = both _ _ (mentioned (first _ _ w)) (written (second _ _ w))
+  target w = both (mentioned (first _ _ w)) (written (second _ _ w))
 
   -- what may be assigned to may be read
   pub target_read : AreReservedNames (target_early_errors s x at) → AreReservedNames (read_early_errors s x to)
   unfolding target_early_errors read_early_errors written_early_errors
-  target_read w = both _ _ (mentioned (first _ _ w)) (identifier (second _ _ (second _ _ w)))
+  target_read w = both (mentioned (first _ _ w)) (identifier (second _ _ (second _ _ w)))
 
   pub for_in : (is_var : Bool) → AreReservedNames (for_in_early_errors s is_var x at)
       → AreReservedNames (for_in_early_errors s is_var x to)
@@ -109,7 +103,7 @@ module _ (s : Scope) (x : Text) (at to : Span) where
 
   pub label : AreReservedNames (label_early_errors s x at) → AreReservedNames (label_early_errors s x to)
   unfolding label_early_errors
-  label w = both _ _ (again _ _ at to (first _ _ w)) (identifier (second _ _ w))
+  label w = both (again _ _ at to (first _ _ w)) (identifier (second _ _ w))
 
 -- a label that is named, or none
 module _ (s : Scope) (at to : Span) where
@@ -133,7 +127,7 @@ module _ (s : Scope) (x y : Ident Span) (at to : Span) (same : x.text ≡ y.text
   breaks_to w =
       subst (λ t. AreReservedNames (broken_if (not (has_label t s.labels)) rules.BreakOutside to
       ++ identifier_early_errors s t y.at)) same
-      (both _ _ (again _ _ at to (first _ _ w)) (identifier s x.text x.at y.at (second _ _ w)))
+      (both (again _ _ at to (first _ _ w)) (identifier s x.text x.at y.at (second _ _ w)))
 
   pub continues_to : AreReservedNames (continue_early_errors s (Some x) at)
       → AreReservedNames (continue_early_errors s (Some y) to)
@@ -141,7 +135,7 @@ module _ (s : Scope) (x y : Ident Span) (at to : Span) (same : x.text ≡ y.text
   continues_to w =
       subst (λ t. AreReservedNames (broken_if (not (has_loop_label t s.labels)) rules.ContinueOutside to
       ++ identifier_early_errors s t y.at)) same
-      (both _ _ (again _ _ at to (first _ _ w)) (identifier s x.text x.at y.at (second _ _ w)))
+      (both (again _ _ at to (first _ _ w)) (identifier s x.text x.at y.at (second _ _ w)))
 
 -- `delete` of a name, and of what else is one or none
 pub deletes : (s : Scope) (o : UnOp) (e u : Tree Span tree.expr) (at to : Span) → is_name e ≡ is_name u
@@ -150,10 +144,6 @@ unfolding delete_early_errors
 deletes s o e u at to same w =
     subst (λ b. AreReservedNames (broken_if (s.strict && is_delete o && b) rules.StrictDelete to)) same
     (again _ _ at to w)
-
-and_false : (a b : Bool) → b ≡ false → (a && b) ≡ false
-and_false true b e = e
-and_false false b e = refl
 
 and_no : (a : Bool) → (a && false) ≡ false
 and_no true = refl
@@ -164,14 +154,15 @@ pub no_delete : (s : Scope) (o : UnOp) (e : Tree Span tree.expr) (at : Span) →
     → AreReservedNames (delete_early_errors s o e at)
 unfolding delete_early_errors
 no_delete s o e at is =
-    kept _ rules.StrictDelete at (ap (λ b. s.strict && b && is_name e) is ∙ and_no s.strict)
+    kept _ rules.StrictDelete at
+    (ap (λ b. s.strict && b && is_name e) is ∙ ap (λ b. b && is_name e) (and_no s.strict))
 
 pub no_name_deleted : (s : Scope) (o : UnOp) (e : Tree Span tree.expr) (at : Span) → is_name e ≡ false
     → AreReservedNames (delete_early_errors s o e at)
 unfolding delete_early_errors
 no_name_deleted s o e at is =
-    kept _ rules.StrictDelete at (ap (λ b. s.strict && is_delete o && b) is
-    ∙ ap (λ b. s.strict && b) (and_no (is_delete o)) ∙ and_no s.strict)
+    kept _ rules.StrictDelete at
+    (ap (λ b. s.strict && is_delete o && b) is ∙ and_no (s.strict && is_delete o))
 
 -- a key with those before it
 pub keys : (s : Scope) (k : Keys) (t u : Tree Span tree.entry) → SameKey t u
@@ -179,7 +170,7 @@ pub keys : (s : Scope) (k : Keys) (t u : Tree Span tree.entry) → SameKey t u
 keys s k t u (values x y e f same) w =
     subst (λ z. AreReservedNames (broken_if (among z k.getters || among z k.setters) rules.KeyClash y.at
     ++ broken_if (s.strict && among z k.values) rules.StrictKey y.at)) same
-    (both _ _ (again _ _ x.at y.at (first _ _ w)) (again _ _ x.at y.at (second _ _ w)))
+    (both (again _ _ x.at y.at (first _ _ w)) (again _ _ x.at y.at (second _ _ w)))
 keys s k t u (getters x y e f same) w =
     subst (λ z. AreReservedNames (broken_if (among z k.values || among z k.getters) rules.KeyClash y.at)) same
     (again _ _ x.at y.at w)
@@ -220,12 +211,11 @@ pub caught_read : (s : Scope) (x : Text) (at to : Span) → AreReservedNames (wr
     → AreReservedNames (read_early_errors (in_catch s x) x to)
 unfolding written_early_errors read_early_errors identifier_early_errors
 caught_read s x at to w =
-    both _ _ (caught_free s x to)
-    (both _ _ (again _ _ at to (first _ _ (second _ _ w))) (reserved (same_text x hooks_name) to))
+    both (caught_free s x to)
+    (both (again _ _ at to (first _ _ (second _ _ w))) (reserved (same_text x hooks_name) to))
 
 -- the identifier of the hooks may be read anywhere
 pub hooks_read : (s : Scope) (at : Span) → AreReservedNames (read_early_errors s hooks_name at)
 unfolding read_early_errors free_early_errors identifier_early_errors is_left_out left_out_names strict_words hooks_name
 hooks_read s at =
-    both (broken_if (s.strict && false) rules.StrictWord at) _ (kept _ rules.StrictWord at (and_no s.strict))
-    tt
+    both (kept (s.strict && false) rules.StrictWord at (and_no s.strict)) (one_more none)

@@ -1,5 +1,5 @@
 //! Laws over the definitions; each is the contract of a function that does nothing but call the laws that it rests on.
-ghost use Rattle.jl_read_back.specs.EarlyErrors.{WovenKeepsRules};
+ghost use Rattle.jl_read_back.specs.EarlyErrors.{FirstIsReservedName, WovenKeepsRules};
 ghost use Rattle.jl_read_back.specs.Laws.{WovenHeight, WovenIsWellFormed, WovenReadsBack};
 
 use jl_op::laws::map_has_each_id;
@@ -34,7 +34,9 @@ pub fn woven_reads_back()
 }
 
 /// The woven script of a program without early errors breaks no rule, and mentions no left-out name that nothing binds,
-/// wherever its nodes stand: what is wrong with it is the name of the hooks and nothing else.
+/// wherever its nodes stand: what is wrong with it is the name of the hooks and nothing else. So that is what is found
+/// first.
 pub fn woven_keeps_rules()
-    ensures { WovenKeepsRules }
+    ensures rules { WovenKeepsRules }
+    ensures first { FirstIsReservedName }
 {}
