@@ -75,21 +75,27 @@ module _ {S T : Type 0} (f : S → T) where
       ap₂ (λ p q. p ++ q) (ap₂ (λ p q. p ++ q) (named x) (parameters_same ps)) (bound_same b)
 
 module _ (at : Span) where
+  abbrev nowhere : Span → Unit {0}
+  nowhere s = tt
+
+  abbrev there : Unit {0} → Span
+  there u = at
+
   -- a tree with its nodes at one place
   abbrev gathered : {x : Sort} → Tree Span x → Tree Span x
-  gathered t = map_tree (λ u. at) (map_tree (λ s. tt) t)
+  gathered t = map_tree there (map_tree nowhere t)
 
   abbrev all_gathered : {x : Sort} → Forest Span x → Forest Span x
-  all_gathered l = map_forest (λ u. at) (map_forest (λ s. tt) l)
+  all_gathered l = map_forest there (map_forest nowhere l)
 
   abbrev optional_gathered : {x : Sort} → OptionalTree Span x → OptionalTree Span x
-  optional_gathered o = map_optional (λ u. at) (map_optional (λ s. tt) o)
+  optional_gathered o = map_optional there (map_optional nowhere o)
 
   abbrev gathered_name : Option (Ident Span) → Option (Ident Span)
-  gathered_name x = option_map (ident (λ u. at)) (option_map (ident (λ s. tt)) x)
+  gathered_name x = option_map (ident there) (option_map (ident nowhere) x)
 
   abbrev gathered_names : List (Ident Span) → List (Ident Span)
-  gathered_names l = map (ident (λ u. at)) (map (ident (λ s. tt)) l)
+  gathered_names l = map (ident there) (map (ident nowhere) l)
 
   scope_same : (s : Scope) (x : Option (Ident Span)) (ps : List (Ident Span)) (b : Tree Span tree.code)
       → in_function_of s (gathered_name x) (gathered_names ps) (gathered b) ≡ in_function_of s x ps b
@@ -101,9 +107,9 @@ module _ (at : Span) where
         can_break = false;
         labels = [];
         bound = bind s.bound names;
-      }) (strict_same (λ u. at) s.strict (map_tree (λ s. tt) b) ∙ strict_same (λ s. tt) s.strict b)
-      (bound_in_function (λ u. at) (option_map (ident (λ s. tt)) x) (map (ident (λ s. tt)) ps) (map_tree (λ s. tt) b)
-      ∙ bound_in_function (λ s. tt) x ps b)
+      }) (strict_same there s.strict (map_tree nowhere b) ∙ strict_same nowhere s.strict b)
+      (bound_in_function there (option_map (ident nowhere) x) (map (ident nowhere) ps) (map_tree nowhere b)
+      ∙ bound_in_function nowhere x ps b)
 
   pub program_scope : (b : Tree Span tree.code) → in_program (gathered b) ≡ in_program b
   program_scope b =
@@ -114,8 +120,8 @@ module _ (at : Span) where
         can_break = false;
         labels = [];
         bound = bind [] names;
-      }) (strict_same (λ u. at) false (map_tree (λ s. tt) b) ∙ strict_same (λ s. tt) false b)
-      (bound_same (λ u. at) (map_tree (λ s. tt) b) ∙ bound_same (λ s. tt) b)
+      }) (strict_same there false (map_tree nowhere b) ∙ strict_same nowhere false b)
+      (bound_same there (map_tree nowhere b) ∙ bound_same nowhere b)
 
   loop_same : (t : Tree Span tree.stmt) → is_loop (gathered t) ≡ is_loop t
   loop_same (tree.labelled x t to) = loop_same t
@@ -140,9 +146,9 @@ module _ (at : Span) where
       (parameters s (with_name before x.text) l (second _ _ w))
 
   key_same : (t : Tree Span tree.entry) → SameKey (gathered t) t
-  key_same (tree.value k e) = values (ident (λ u. at) (ident (λ s. tt) k)) k (gathered e) e refl
-  key_same (tree.getter k g) = getters (ident (λ u. at) (ident (λ s. tt) k)) k (gathered g) g refl
-  key_same (tree.setter k g) = setters (ident (λ u. at) (ident (λ s. tt) k)) k (gathered g) g refl
+  key_same (tree.value k e) = values (ident there (ident nowhere k)) k (gathered e) e refl
+  key_same (tree.getter k g) = getters (ident there (ident nowhere k)) k (gathered g) g refl
+  key_same (tree.setter k g) = setters (ident there (ident nowhere k)) k (gathered g) g refl
 
   entries : (s : Scope) (k : Keys) (l : Forest Span tree.entry)
       → AreReservedNames (literal_early_errors s k (all_gathered l)) → AreReservedNames (literal_early_errors s k l)
@@ -208,9 +214,9 @@ module _ (at : Span) where
         both (both (rule.for_in s x.text at x.at is_var (first _ _ (first _ _ w)))
         (moved_back s o (second _ _ (first _ _ w)))) (all_back (in_a_loop s) l (second _ _ w))
     moved_back s (tree.continue None to) w = rule.continues s at to w
-    moved_back s (tree.continue (Some x) to) w = rule.continues_to s (ident (λ u. at) (ident (λ s. tt) x)) x at to refl w
+    moved_back s (tree.continue (Some x) to) w = rule.continues_to s (ident there (ident nowhere x)) x at to refl w
     moved_back s (tree.break None to) w = rule.breaks s at to w
-    moved_back s (tree.break (Some x) to) w = rule.breaks_to s (ident (λ u. at) (ident (λ s. tt) x)) x at to refl w
+    moved_back s (tree.break (Some x) to) w = rule.breaks_to s (ident there (ident nowhere x)) x at to refl w
     moved_back s (tree.return e to) w =
         both (rule.returns s at to (first _ _ w)) (optional_back s e (second _ _ w))
     moved_back s (tree.labelled x t to) w =

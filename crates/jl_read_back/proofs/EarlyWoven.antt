@@ -9,12 +9,14 @@ use Rattle.jl_ast.specs.declared.ops.UnOp.TheVariants as un
 use Rattle.jl_op.specs.Chosen.{Kinds}
 use Rattle.jl_op.specs.Ids.{forest_id_count, forest_with_ids, id_count, ident_with_id, optional_id_count}
 use Rattle.jl_op.specs.Ids.{optional_with_ids, with_ids}
+use Rattle.jl_meaning.specs.forms.Operators.{unary_kind, update_kind}
+use Rattle.jl_op.specs.Trace.{binary_sign, unary_sign}
 use Rattle.jl_op.specs.declared.kind.OpKind.TheVariants as kind
 use Rattle.jl_scope.specs.EarlyErrors.{early_errors, forest_early_errors, name_early_errors, no_keys}
 use Rattle.jl_scope.specs.EarlyErrors.{optional_early_errors, parameter_early_errors}
 use Rattle.jl_scope.specs.Scope.{in_a_loop, in_a_switch, in_catch, in_function_of, in_program, is_loop, under_label}
 use Rattle.jl_scope.specs.Scope.{Scope}
-use Rattle.jl_simulation.specs.HookCalls.{without_id}
+use Rattle.jl_simulation.specs.HookCalls.{binary_hook, read, unary_hook, without_id}
 use Rattle.jl_simulation.specs.Weaving.{calls, calls_member, computes, woven, woven_body, woven_code, woven_forest}
 use Rattle.jl_simulation.specs.Weaving.{woven_optional}
 use Rattle.jl_text.specs.declared.span.Span.{Span}
@@ -69,7 +71,8 @@ module _ (at : Span) (chosen : Kinds) where
         (all_clear s l (j + 2 + id_count (tree.index o k b)) (second _ _ w))
     clear s (tree.call f l a) j w =
         both (form.called at chosen s (j + 2) (j + 0) f tt (woven chosen (with_ids (j + 2) f))
-        (clear s f (j + 2) (first _ _ w))) (all_clear s l (j + 2 + id_count f) (second _ _ w))
+        (clear s f (j + 2) (first (early_errors s f) (forest_early_errors s l) w)))
+        (all_clear s l (j + 2 + id_count f) (second (early_errors s f) (forest_early_errors s l) w))
     clear s (tree.new f l a) j w =
         let v = clear s f (j + 2) (first _ _ w) in let u = all_clear s l (j + 2 + id_count f) (second _ _ w) in
         form.either at s (calls chosen) _ _
@@ -101,29 +104,30 @@ module _ (at : Span) (chosen : Kinds) where
     clear s (tree.unary o e a) j w =
         let v = clear s e (j + 1) (second _ _ w) in
         form.either at s (chosen kind.Unary) _ _
-        (form.told_of_1 at s (codes "U") j _ (woven chosen (with_ids (j + 1) e)) v)
+        (form.told_of_1 at s (codes "U") j (unary_sign (unary_kind o)) (woven chosen (with_ids (j + 1) e)) v)
         (both (no_delete s o (spanned at (woven chosen (with_ids (j + 1) e))) at refl) v)
     clear s (tree.update up prefix (tree.to_name x) a) j w =
         let r = rule.target s x.text x.at at w in
         form.either at s (computes chosen (tree.to_name (ident_with_id x (j + 3))) kind.Unary) _ _
-        (form.updated at s up prefix _ (both r (form.told_of_1 at s (codes "W") (j + 2) x.text _
-        (form.told_of_1 at s (codes "U") (j + 1) _ _ (form.told_of_1 at s (codes "R") j x.text (tree.name x.text tt)
+        (form.updated at s up prefix _ (both r (form.told_of_1 at s (codes "W") (j + 2) x.text
+        (unary_hook (j + 1) (update_kind up) (read j x.text)) (form.told_of_1 at s (codes "U") (j + 1)
+        (unary_sign (update_kind up)) (read j x.text) (form.told_of_1 at s (codes "R") j x.text (tree.name x.text tt)
         (rule.target_read s x.text x.at at w)))))) r
     clear s (tree.update up prefix (tree.to_dot o k b) a) j w =
         let v = clear s o (j + 3) w in
         form.either at s (computes chosen (with_ids (j + 3) (tree.to_dot o k b)) kind.Unary) _ _
         (form.updated at s up prefix _
-        (form.told_of_2 at s (codes "I") j _ (woven chosen (with_ids (j + 3) o)) (tree.string k tt) v none)) v
+        (form.told_of_2 at s (codes "I") j (unary_sign (update_kind up)) (woven chosen (with_ids (j + 3) o)) (tree.string k tt) v none)) v
     clear s (tree.update up prefix (tree.to_index o k b) a) j w =
         let v = clear s o (j + 3) (first _ _ w) in let u = clear s k (j + 3 + id_count o) (second _ _ w) in
         form.either at s (computes chosen (with_ids (j + 3) (tree.to_index o k b)) kind.Unary) _ _
         (form.updated at s up prefix _
-        (form.told_of_2 at s (codes "I") j _ (woven chosen (with_ids (j + 3) o))
+        (form.told_of_2 at s (codes "I") j (unary_sign (update_kind up)) (woven chosen (with_ids (j + 3) o))
         (woven chosen (with_ids (j + 3 + id_count o) k)) v u)) (both v u)
     clear s (tree.binary o a b p) j w =
         let v = clear s a (j + 1) (first _ _ w) in let u = clear s b (j + 1 + id_count a) (second _ _ w) in
         form.either at s (chosen kind.Binary) _ _
-        (form.told_of_2 at s (codes "B") j _ (woven chosen (with_ids (j + 1) a))
+        (form.told_of_2 at s (codes "B") j (binary_sign o) (woven chosen (with_ids (j + 1) a))
         (woven chosen (with_ids (j + 1 + id_count a) b)) v u) (both v u)
     clear s (tree.and a b p) j w =
         both (form.hooked at s (chosen kind.Conditional) (codes "C") j _ (clear s a (j + 1) (first _ _ w)))
@@ -132,7 +136,7 @@ module _ (at : Span) (chosen : Kinds) where
         both (form.hooked at s (chosen kind.Conditional) (codes "C") j _ (clear s a (j + 1) (first _ _ w)))
         (clear s b (j + 1 + id_count a) (second _ _ w))
     clear s (tree.conditional a b c p) j w =
-        both (both _ _
+        both (both
         (form.hooked at s (chosen kind.Conditional) (codes "C") j _ (clear s a (j + 1) (first _ _ (first _ _ w))))
         (clear s b (j + 1 + id_count a) (second _ _ (first _ _ w))))
         (clear s c (j + 1 + id_count a + id_count b) (second _ _ w))
@@ -143,8 +147,9 @@ module _ (at : Span) (chosen : Kinds) where
     clear s (tree.assign (Some q) (tree.to_name x) e a) j w =
         let r = rule.target s x.text x.at at (first _ _ w) in let v = clear s e (j + 3 + 0) (second _ _ w) in
         form.either at s (computes chosen (tree.to_name (ident_with_id x (j + 3))) kind.Binary) _ _
-        (both r (form.told_of_1 at s (codes "W") (j + 2) x.text _
-        (form.told_of_2 at s (codes "B") (j + 1) _ _ (woven chosen (with_ids (j + 3 + 0) e))
+        (both r (form.told_of_1 at s (codes "W") (j + 2) x.text
+        (binary_hook (j + 1) q (read j x.text) (woven chosen (with_ids (j + 3 + 0) e)))
+        (form.told_of_2 at s (codes "B") (j + 1) (binary_sign q) (read j x.text) (woven chosen (with_ids (j + 3 + 0) e))
         (form.told_of_1 at s (codes "R") j x.text (tree.name x.text tt)
         (rule.target_read s x.text x.at at (first _ _ w))) v))) (both r v)
     clear s (tree.assign None (tree.to_dot o k b) e a) j w =
@@ -155,7 +160,7 @@ module _ (at : Span) (chosen : Kinds) where
     clear s (tree.assign (Some q) (tree.to_dot o k b) e a) j w =
         let v = clear s o (j + 3) (first _ _ w) in let u = clear s e (j + 3 + id_count o) (second _ _ w) in
         form.either at s (computes chosen (with_ids (j + 3) (tree.to_dot o k b)) kind.Binary) _ _
-        (both (form.told_of_2 at s (codes "A") j _ (woven chosen (with_ids (j + 3) o)) (tree.string k tt) v none)
+        (both (form.told_of_2 at s (codes "A") j (binary_sign q) (woven chosen (with_ids (j + 3) o)) (tree.string k tt) v none)
         (both u none)) (both v u)
     clear s (tree.assign None (tree.to_index o k b) e a) j w =
         let v = clear s o (j + 1) (first _ _ (first _ _ w)) in
@@ -169,7 +174,7 @@ module _ (at : Span) (chosen : Kinds) where
         let z = clear s k (j + 3 + id_count o) (second _ _ (first _ _ w)) in
         let u = clear s e (j + 3 + (id_count o + id_count k)) (second _ _ w) in
         form.either at s (computes chosen (with_ids (j + 3) (tree.to_index o k b)) kind.Binary) _ _
-        (both (form.told_of_2 at s (codes "A") j _ (woven chosen (with_ids (j + 3) o))
+        (both (form.told_of_2 at s (codes "A") j (binary_sign q) (woven chosen (with_ids (j + 3) o))
         (woven chosen (with_ids (j + 3 + id_count o) k)) v z) (both u none)) (both (both v z) u)
     clear s (tree.comma a b p) j w =
         both (clear s a j (first _ _ w)) (clear s b (j + id_count a) (second _ _ w))
@@ -200,7 +205,7 @@ module _ (at : Span) (chosen : Kinds) where
     clear s (tree.expression e a) j w = clear s e j w
     clear s (tree.block l a) j w = all_clear s l j w
     clear s (tree.if_else e l b a) j w =
-        both (both _ _
+        both (both
         (form.hooked at s (chosen kind.Conditional) (codes "C") j _ (clear s e (j + 1) (first _ _ (first _ _ w))))
         (all_clear s l (j + 1 + id_count e) (second _ _ (first _ _ w))))
         (optional_clear s b (j + 1 + id_count e + forest_id_count l) (second _ _ w))
