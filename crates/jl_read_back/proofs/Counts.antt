@@ -1,5 +1,6 @@
 -- The functions of the woven script have the numbers of the script's, a line for each form.
-use Rattle.std.proofs.Common.{◌≡◌, codes, ℕ, ◌+◌, Bool, true, false, ◌||◌, Option, Some, None, refl, ap, subst, sym, arith}
+use Rattle.std.proofs.Common.{◌≡◌, codes, ℕ, ◌+◌, Bool, true, false, ◌||◌, Option, Some, None, refl, ap, subst, sym}
+use Rattle.std.proofs.Common.{arith}
 use Rattle.std.specs.Prelude.{if◌then◌else◌}
 use Rattle.jl_ast.specs.Numbering.{functions_in, functions_in_forest, functions_in_optional, numbered_forest}
 use Rattle.jl_ast.specs.Numbering.{numbered_optional, numbered_tree}
@@ -58,7 +59,8 @@ module _ {S : Type 0} where
       → Counts n a i → CountsAll i b m
       → Counts n (tree.call a b s) m
   call_counts {n} {i} {m} {a} {b} {s} p q = record {
-    fixed = ap2 (λ (a' : Tree S tree.expr) (b' : Forest S tree.expr). tree.call a' b' s) p.fixed (later_all (omega arith) q);
+    fixed = ap2 (λ (a' : Tree S tree.expr) (b' : Forest S tree.expr). tree.call a' b' s) p.fixed
+        (later_all (omega arith) q);
     next = omega arith;
   }
 
@@ -66,7 +68,8 @@ module _ {S : Type 0} where
       → Counts n a i → CountsAll i b m
       → Counts n (tree.new a b s) m
   new_counts {n} {i} {m} {a} {b} {s} p q = record {
-    fixed = ap2 (λ (a' : Tree S tree.expr) (b' : Forest S tree.expr). tree.new a' b' s) p.fixed (later_all (omega arith) q);
+    fixed = ap2 (λ (a' : Tree S tree.expr) (b' : Forest S tree.expr). tree.new a' b' s) p.fixed
+        (later_all (omega arith) q);
     next = omega arith;
   }
 
@@ -74,7 +77,8 @@ module _ {S : Type 0} where
       → Counts n a i → Counts i b m
       → Counts n (tree.binary u a b s) m
   binary_counts {n} {i} {m} {u} {a} {b} {s} p q = record {
-    fixed = ap2 (λ (a' : Tree S tree.expr) (b' : Tree S tree.expr). tree.binary u a' b' s) p.fixed (later (omega arith) q);
+    fixed = ap2 (λ (a' : Tree S tree.expr) (b' : Tree S tree.expr). tree.binary u a' b' s) p.fixed
+        (later (omega arith) q);
     next = omega arith;
   }
 
@@ -98,7 +102,8 @@ module _ {S : Type 0} where
       → Counts n a i → Counts i b j → Counts j c m
       → Counts n (tree.conditional a b c s) m
   conditional_counts {n} {i} {j} {m} {a} {b} {c} {s} p q r = record {
-    fixed = ap3 (λ (a' : Tree S tree.expr) (b' : Tree S tree.expr) (c' : Tree S tree.expr). tree.conditional a' b' c' s) p.fixed (later (omega arith) q) (later (omega arith) r);
+    fixed = ap3 (λ (a' : Tree S tree.expr) (b' : Tree S tree.expr) (c' : Tree S tree.expr). tree.conditional a' b' c'
+        s) p.fixed (later (omega arith) q) (later (omega arith) r);
     next = omega arith;
   }
 
@@ -106,7 +111,8 @@ module _ {S : Type 0} where
       → Counts n a i → Counts i b m
       → Counts n (tree.assign u a b s) m
   assign_counts {n} {i} {m} {u} {a} {b} {s} p q = record {
-    fixed = ap2 (λ (a' : Tree S tree.target) (b' : Tree S tree.expr). tree.assign u a' b' s) p.fixed (later (omega arith) q);
+    fixed = ap2 (λ (a' : Tree S tree.target) (b' : Tree S tree.expr). tree.assign u a' b' s) p.fixed
+        (later (omega arith) q);
     next = omega arith;
   }
 
@@ -122,15 +128,18 @@ module _ {S : Type 0} where
       → Counts n a i → Counts i b m
       → Counts n (tree.to_index a b s) m
   to_index_counts {n} {i} {m} {a} {b} {s} p q = record {
-    fixed = ap2 (λ (a' : Tree S tree.expr) (b' : Tree S tree.expr). tree.to_index a' b' s) p.fixed (later (omega arith) q);
+    fixed = ap2 (λ (a' : Tree S tree.expr) (b' : Tree S tree.expr). tree.to_index a' b' s) p.fixed
+        (later (omega arith) q);
     next = omega arith;
   }
 
-  pub if_else_counts : {n i j m : ℕ} {a : Tree S tree.expr} {b : Forest S tree.stmt} {c : OptionalTree S tree.branch} {s : S}
+  pub if_else_counts : {n i j m : ℕ} {a : Tree S tree.expr} {b : Forest S tree.stmt} {c : OptionalTree S tree.branch}
+      {s : S}
       → Counts n a i → CountsAll i b j → CountsIfPresent j c m
       → Counts n (tree.if_else a b c s) m
   if_else_counts {n} {i} {j} {m} {a} {b} {c} {s} p q r = record {
-    fixed = ap3 (λ (a' : Tree S tree.expr) (b' : Forest S tree.stmt) (c' : OptionalTree S tree.branch). tree.if_else a' b' c' s) p.fixed (later_all (omega arith) q) (later_optional (omega arith) r);
+    fixed = ap3 (λ (a' : Tree S tree.expr) (b' : Forest S tree.stmt) (c' : OptionalTree S tree.branch). tree.if_else
+        a' b' c' s) p.fixed (later_all (omega arith) q) (later_optional (omega arith) r);
     next = omega arith;
   }
 
@@ -138,7 +147,8 @@ module _ {S : Type 0} where
       → CountsAll n a i → Counts i b m
       → Counts n (tree.do_while a b s) m
   do_while_counts {n} {i} {m} {a} {b} {s} p q = record {
-    fixed = ap2 (λ (a' : Forest S tree.stmt) (b' : Tree S tree.expr). tree.do_while a' b' s) p.fixed (later (omega arith) q);
+    fixed = ap2 (λ (a' : Forest S tree.stmt) (b' : Tree S tree.expr). tree.do_while a' b' s) p.fixed
+        (later (omega arith) q);
     next = omega arith;
   }
 
@@ -146,15 +156,19 @@ module _ {S : Type 0} where
       → Counts n a i → CountsAll i b m
       → Counts n (tree.while a b s) m
   while_counts {n} {i} {m} {a} {b} {s} p q = record {
-    fixed = ap2 (λ (a' : Tree S tree.expr) (b' : Forest S tree.stmt). tree.while a' b' s) p.fixed (later_all (omega arith) q);
+    fixed = ap2 (λ (a' : Tree S tree.expr) (b' : Forest S tree.stmt). tree.while a' b' s) p.fixed
+        (later_all (omega arith) q);
     next = omega arith;
   }
 
-  pub for_counts : {n i j k m : ℕ} {a : Tree S tree.init} {b : OptionalTree S tree.expr} {c : OptionalTree S tree.expr} {d : Forest S tree.stmt} {s : S}
+  pub for_counts : {n i j k m : ℕ} {a : Tree S tree.init} {b : OptionalTree S tree.expr}
+      {c : OptionalTree S tree.expr} {d : Forest S tree.stmt} {s : S}
       → Counts n a i → CountsIfPresent i b j → CountsIfPresent j c k → CountsAll k d m
       → Counts n (tree.for a b c d s) m
   for_counts {n} {i} {j} {k} {m} {a} {b} {c} {d} {s} p q r z = record {
-    fixed = ap4 (λ (a' : Tree S tree.init) (b' : OptionalTree S tree.expr) (c' : OptionalTree S tree.expr) (d' : Forest S tree.stmt). tree.for a' b' c' d' s) p.fixed (later_optional (omega arith) q) (later_optional (omega arith) r) (later_all (omega arith) z);
+    fixed = ap4 (λ (a' : Tree S tree.init) (b' : OptionalTree S tree.expr) (c' : OptionalTree S tree.expr)
+        (d' : Forest S tree.stmt). tree.for a' b' c' d' s) p.fixed (later_optional (omega arith) q)
+        (later_optional (omega arith) r) (later_all (omega arith) z);
     next = omega arith;
   }
 
@@ -162,7 +176,8 @@ module _ {S : Type 0} where
       → Counts n a i → CountsAll i b m
       → Counts n (tree.for_in u v a b s) m
   for_in_counts {n} {i} {m} {u} {v} {a} {b} {s} p q = record {
-    fixed = ap2 (λ (a' : Tree S tree.expr) (b' : Forest S tree.stmt). tree.for_in u v a' b' s) p.fixed (later_all (omega arith) q);
+    fixed = ap2 (λ (a' : Tree S tree.expr) (b' : Forest S tree.stmt). tree.for_in u v a' b' s) p.fixed
+        (later_all (omega arith) q);
     next = omega arith;
   }
 
@@ -170,15 +185,18 @@ module _ {S : Type 0} where
       → Counts n a i → CountsAll i b m
       → Counts n (tree.switch a b s) m
   switch_counts {n} {i} {m} {a} {b} {s} p q = record {
-    fixed = ap2 (λ (a' : Tree S tree.expr) (b' : Forest S tree.clause). tree.switch a' b' s) p.fixed (later_all (omega arith) q);
+    fixed = ap2 (λ (a' : Tree S tree.expr) (b' : Forest S tree.clause). tree.switch a' b' s) p.fixed
+        (later_all (omega arith) q);
     next = omega arith;
   }
 
-  pub try_counts : {n i j m : ℕ} {a : Forest S tree.stmt} {b : OptionalTree S tree.handler} {c : OptionalTree S tree.branch} {s : S}
+  pub try_counts : {n i j m : ℕ} {a : Forest S tree.stmt} {b : OptionalTree S tree.handler}
+      {c : OptionalTree S tree.branch} {s : S}
       → CountsAll n a i → CountsIfPresent i b j → CountsIfPresent j c m
       → Counts n (tree.try a b c s) m
   try_counts {n} {i} {j} {m} {a} {b} {c} {s} p q r = record {
-    fixed = ap3 (λ (a' : Forest S tree.stmt) (b' : OptionalTree S tree.handler) (c' : OptionalTree S tree.branch). tree.try a' b' c' s) p.fixed (later_optional (omega arith) q) (later_optional (omega arith) r);
+    fixed = ap3 (λ (a' : Forest S tree.stmt) (b' : OptionalTree S tree.handler) (c' : OptionalTree S tree.branch).
+        tree.try a' b' c' s) p.fixed (later_optional (omega arith) q) (later_optional (omega arith) r);
     next = omega arith;
   }
 
@@ -186,7 +204,8 @@ module _ {S : Type 0} where
       → CountsAll n a i → CountsAll i b m
       → Counts n (tree.body u a b) m
   body_counts {n} {i} {m} {u} {a} {b} p q = record {
-    fixed = ap2 (λ (a' : Forest S tree.func) (b' : Forest S tree.stmt). tree.body u a' b') p.fixed (later_all (omega arith) q);
+    fixed = ap2 (λ (a' : Forest S tree.func) (b' : Forest S tree.stmt). tree.body u a' b') p.fixed
+        (later_all (omega arith) q);
     next = omega arith;
   }
 
@@ -194,7 +213,8 @@ module _ {S : Type 0} where
       → CountsIfPresent n a i → CountsAll i b m
       → Counts n (tree.case a b) m
   case_counts {n} {i} {m} {a} {b} p q = record {
-    fixed = ap2 (λ (a' : OptionalTree S tree.expr) (b' : Forest S tree.stmt). tree.case a' b') p.fixed (later_all (omega arith) q);
+    fixed = ap2 (λ (a' : OptionalTree S tree.expr) (b' : Forest S tree.stmt). tree.case a' b') p.fixed
+        (later_all (omega arith) q);
     next = omega arith;
   }
 

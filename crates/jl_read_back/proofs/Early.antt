@@ -12,7 +12,8 @@ use Rattle.jl_scope.specs.Scope.{in_program}
 use Rattle.jl_simulation.specs.HookCalls.{Woven}
 use Rattle.jl_simulation.specs.Weaving.{woven_code, woven_program}
 use Rattle.jl_text.specs.declared.span.Span.{Span}
-use Rattle.jl_read_back.specs.EarlyErrors.{one_more, AreReservedNames, FirstIsReservedName, IsReservedName, WovenKeepsRules}
+use Rattle.jl_read_back.specs.EarlyErrors.{one_more, AreReservedNames, FirstIsReservedName, IsReservedName}
+use Rattle.jl_read_back.specs.EarlyErrors.{WovenKeepsRules}
 use Rattle.jl_read_back.specs.Laws.{IsWoven}
 use Rattle.jl_read_back.proofs.EarlyForms.{spanned}
 use Rattle.jl_read_back.proofs.EarlyPlaces.{moved_back, program_scope}

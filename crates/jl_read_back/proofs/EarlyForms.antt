@@ -104,7 +104,8 @@ module _ (at : Span) where
   one_more s tree.end h id w = both (statement s h id) none
   one_more s (tree.more t l) h id w = both (first _ _ w) (one_more s l h id (second _ _ w))
 
-  pub begun : (s : Scope) (b : Bool) (id : ℕ) (l : Stmts) → AllClear s l → AllClear s (if b then begin_and_end id l else l)
+  pub begun : (s : Scope) (b : Bool) (id : ℕ) (l : Stmts) → AllClear s l
+      → AllClear s (if b then begin_and_end id l else l)
   begun s true id l w = both (statement s (codes "S") id) (one_more s l (codes "X") (id + 1) w)
   begun s false id l w = w
 
@@ -167,7 +168,8 @@ module _ (at : Span) where
     loop_same _ j = refl
 
     pub scope_same : (s : Scope) (x : Option (Ident Span)) (ps : List (Ident Span)) (b : Tree Span tree.code) (j : ℕ)
-        → in_function_of s (option_map (ident (λ u. at)) (option_map without_id (option_map (λ y. ident_with_id y j) x)))
+        → in_function_of s (option_map (ident (λ u. at))
+        (option_map without_id (option_map (λ y. ident_with_id y j) x)))
         (map (ident (λ u. at)) (map without_id (map (λ y. ident_with_id y j) ps)))
         (spanned (woven_body chosen j (with_ids (j + 2) b))) ≡ in_function_of s x ps b
     scope_same s x ps b j =

@@ -65,7 +65,8 @@ module _ {S T : Type 0} (f : S → T) where
   pub strict_same : (outer : Bool) (b : Tree S tree.code) → strict_in outer (map_tree f b) ≡ strict_in outer b
   strict_same outer (tree.body strict fs l) = refl
 
-  parameters_same : (l : List (Ident S)) → map (λ (x : Ident T). x.text) (map (ident f) l) ≡ map (λ (x : Ident S). x.text) l
+  parameters_same : (l : List (Ident S))
+      → map (λ (x : Ident T). x.text) (map (ident f) l) ≡ map (λ (x : Ident S). x.text) l
   parameters_same [] = refl
   parameters_same (x ∷ l) = ap (λ m. x.text ∷ m) (parameters_same l)
 
@@ -247,6 +248,7 @@ module _ (at : Span) where
     all_back s (tree.more t l) w = both (moved_back s t (first _ _ w)) (all_back s l (second _ _ w))
 
     optional_back : {x : Sort} (s : Scope) (o : OptionalTree Span x)
-        → AreReservedNames (optional_early_errors s (optional_gathered o)) → AreReservedNames (optional_early_errors s o)
+        → AreReservedNames (optional_early_errors s (optional_gathered o))
+        → AreReservedNames (optional_early_errors s o)
     optional_back s tree.absent w = none
     optional_back s (tree.present t) w = moved_back s t w

@@ -117,7 +117,8 @@ module _ (at : Span) (chosen : Kinds) where
         let v = clear s o (j + 3) w in
         form.either at s (computes chosen (with_ids (j + 3) (tree.to_dot o k b)) kind.Unary) _ _
         (form.updated at s up prefix _
-        (form.told_of_2 at s (codes "I") j (unary_sign (update_kind up)) (woven chosen (with_ids (j + 3) o)) (tree.string k tt) v none)) v
+        (form.told_of_2 at s (codes "I") j (unary_sign (update_kind up)) (woven chosen (with_ids (j + 3) o))
+        (tree.string k tt) v none)) v
     clear s (tree.update up prefix (tree.to_index o k b) a) j w =
         let v = clear s o (j + 3) (first _ _ w) in let u = clear s k (j + 3 + id_count o) (second _ _ w) in
         form.either at s (computes chosen (with_ids (j + 3) (tree.to_index o k b)) kind.Unary) _ _
@@ -160,7 +161,8 @@ module _ (at : Span) (chosen : Kinds) where
     clear s (tree.assign (Some q) (tree.to_dot o k b) e a) j w =
         let v = clear s o (j + 3) (first _ _ w) in let u = clear s e (j + 3 + id_count o) (second _ _ w) in
         form.either at s (computes chosen (with_ids (j + 3) (tree.to_dot o k b)) kind.Binary) _ _
-        (both (form.told_of_2 at s (codes "A") j (binary_sign q) (woven chosen (with_ids (j + 3) o)) (tree.string k tt) v none)
+        (both (form.told_of_2 at s (codes "A") j (binary_sign q) (woven chosen (with_ids (j + 3) o))
+        (tree.string k tt) v none)
         (both u none)) (both v u)
     clear s (tree.assign None (tree.to_index o k b) e a) j w =
         let v = clear s o (j + 1) (first _ _ (first _ _ w)) in

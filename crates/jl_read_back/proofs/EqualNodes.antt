@@ -129,7 +129,8 @@ module _ {T : Type 0} where
       → tree.block a s ≡ tree.block a' s' → a ≡ a'
   block_same e = cc
 
-  pub if_else_same : {a a' : Tree T tree.expr} {b b' : Forest T tree.stmt} {c c' : OptionalTree T tree.branch} {s s' : T}
+  pub if_else_same : {a a' : Tree T tree.expr} {b b' : Forest T tree.stmt} {c c' : OptionalTree T tree.branch}
+      {s s' : T}
       → tree.if_else a b c s ≡ tree.if_else a' b' c' s' → (a ≡ a') × (b ≡ b') × (c ≡ c')
   if_else_same e = (cc, cc, cc)
 
@@ -141,7 +142,8 @@ module _ {T : Type 0} where
       → tree.while a b s ≡ tree.while a' b' s' → (a ≡ a') × (b ≡ b')
   while_same e = (cc, cc)
 
-  pub for_same : {a a' : Tree T tree.init} {b b' : OptionalTree T tree.expr} {c c' : OptionalTree T tree.expr} {d d' : Forest T tree.stmt} {s s' : T}
+  pub for_same : {a a' : Tree T tree.init} {b b' : OptionalTree T tree.expr} {c c' : OptionalTree T tree.expr}
+      {d d' : Forest T tree.stmt} {s s' : T}
       → tree.for a b c d s ≡ tree.for a' b' c' d' s' → (a ≡ a') × (b ≡ b') × (c ≡ c') × (d ≡ d')
   for_same e = (cc, cc, cc, cc)
 
@@ -165,7 +167,8 @@ module _ {T : Type 0} where
       → tree.throw a s ≡ tree.throw a' s' → a ≡ a'
   throw_same e = cc
 
-  pub try_same : {a a' : Forest T tree.stmt} {b b' : OptionalTree T tree.handler} {c c' : OptionalTree T tree.branch} {s s' : T}
+  pub try_same : {a a' : Forest T tree.stmt} {b b' : OptionalTree T tree.handler} {c c' : OptionalTree T tree.branch}
+      {s s' : T}
       → tree.try a b c s ≡ tree.try a' b' c' s' → (a ≡ a') × (b ≡ b') × (c ≡ c')
   try_same e = (cc, cc, cc)
 

@@ -1,5 +1,6 @@
 -- The woven script is well formed where the script is, a line for each form.
-use Rattle.std.proofs.Common.{codes, ℕ, ◌+◌, ◌≤◌, Bool, true, false, ◌||◌, Option, Some, None, pos, refl, subst, sym, arith}
+use Rattle.std.proofs.Common.{codes, ℕ, ◌+◌, ◌≤◌, Bool, true, false, ◌||◌, Option, Some, None, pos, refl, subst, sym}
+use Rattle.std.proofs.Common.{arith}
 use Rattle.std.specs.Prelude.{if◌then◌else◌}
 use Rattle.jl_ast.specs.Tree as tree
 use Rattle.jl_ast.specs.Tree.{Forest, OptionalTree, Program, Sort, Text, Tree}
@@ -48,7 +49,8 @@ updated false false e w = (w, literal 1 (omega arith))
 entered : (b : Bool) (id : ℕ) (l : Stmts) → id + 1 ≤ 9007199254740991 → AllWellFormed l
     → AllWellFormed (if b then enter_and_leave id l else l)
 entered true id l small w = (
-  ((((hooks, name_E), (literal id (omega arith), tt)), w), tt, tt, (((hooks, name_L), (literal (id + 1) small, tt)), tt)),
+  ((((hooks, name_E), (literal id (omega arith), tt)), w), tt, tt,
+  (((hooks, name_L), (literal (id + 1) small, tt)), tt)),
   tt,
 )
 entered false id l small w = w
@@ -118,8 +120,7 @@ module _ (chosen : Kinds) where
         let b = formed k w.1 (n + 1 + id_count o) (omega arith) in
         either (chosen kind.GetField) _ _ ((hooks, name_G), (literal n (omega arith), (a, (b, tt)))) (a, b)
     formed (tree.call (tree.dot o k t) l s) w n few =
-        let a = formed o w.0.0 (n + 3) (omega arith) in
-        (
+        let a = formed o w.0.0 (n + 3) (omega arith) in (
           either (calls_member chosen) (hook_2 (codes "M") n (woven chosen (with_ids (n + 3) o)) (quoted k))
               (tree.dot (woven chosen (with_ids (n + 3) o)) k tt)
               ((hooks, name_M), (literal n (omega arith), (a, (w.0.1.short, tt)))) (a, w.0.1),
@@ -127,10 +128,10 @@ module _ (chosen : Kinds) where
         )
     formed (tree.call (tree.index o k t) l s) w n few =
         let a = formed o w.0.0 (n + 3) (omega arith) in
-        let b = formed k w.0.1 (n + 3 + id_count o) (omega arith) in
-        (
+        let b = formed k w.0.1 (n + 3 + id_count o) (omega arith) in (
           either (calls_member chosen)
-              (hook_2 (codes "M") n (woven chosen (with_ids (n + 3) o)) (woven chosen (with_ids (n + 3 + id_count o) k)))
+              (hook_2 (codes "M") n (woven chosen (with_ids (n + 3) o))
+              (woven chosen (with_ids (n + 3 + id_count o) k)))
               (tree.index (woven chosen (with_ids (n + 3) o)) (woven chosen (with_ids (n + 3 + id_count o) k)) tt)
               ((hooks, name_M), (literal n (omega arith), (a, (b, tt)))) (a, b),
           all_formed l w.1 (n + 2 + id_count (tree.index o k t)) (omega arith),
@@ -165,9 +166,32 @@ module _ (chosen : Kinds) where
         either (chosen kind.Unary) _ _ ((hooks, name_U), (literal n (omega arith), (omega arith, (a, tt)))) a
     formed (tree.update up prefix (tree.to_name x) s) w n few =
         either (computes chosen (tree.to_name (ident_with_id x (n + 3))) kind.Unary) _ _
-        (updated up prefix _ (tt, w, ((hooks, name_W), (literal (n + 2) (omega arith), (w.name.short,
-        (((hooks, name_U), (literal (n + 1) (omega arith), (update_short up,
-        (((hooks, name_R), (literal n (omega arith), (w.name.short, (w, tt)))), tt)))), tt)))))) w
+        (updated up prefix _ (
+          tt,
+          w,
+          (
+            (hooks, name_W),
+            (
+              literal (n + 2) (omega arith),
+              (
+                w.name.short,
+                (
+                  (
+                    (hooks, name_U),
+                    (
+                      literal (n + 1) (omega arith),
+                      (
+                        update_short up,
+                        (((hooks, name_R), (literal n (omega arith), (w.name.short, (w, tt)))), tt),
+                      ),
+                    ),
+                  ),
+                  tt,
+                ),
+              ),
+            ),
+          ),
+        )) w
     formed (tree.update up prefix (tree.to_dot o k t) s) w n few =
         let a = formed o w.0 (n + 3) (omega arith) in
         either (computes chosen (with_ids (n + 3) (tree.to_dot o k t)) kind.Unary) _ _
@@ -203,10 +227,32 @@ module _ (chosen : Kinds) where
         (tt, w.1, ((hooks, name_W), (literal n (omega arith), (w.1.name.short, (a, tt))))) (tt, w.1, a)
     formed (tree.assign (Some q) (tree.to_name x) e s) w n few =
         let a = formed e w.2 (n + 3 + 0) (omega arith) in
-        either (computes chosen (tree.to_name (ident_with_id x (n + 3))) kind.Binary) _ _
-        (tt, w.1, ((hooks, name_W), (literal (n + 2) (omega arith), (w.1.name.short,
-        (((hooks, name_B), (literal (n + 1) (omega arith), (binary_short q,
-        (((hooks, name_R), (literal n (omega arith), (w.1.name.short, (w.1, tt)))), (a, tt))))), tt))))) (w.0, w.1, a)
+        either (computes chosen (tree.to_name (ident_with_id x (n + 3))) kind.Binary) _ _ (
+          tt,
+          w.1,
+          (
+            (hooks, name_W),
+            (
+              literal (n + 2) (omega arith),
+              (
+                w.1.name.short,
+                (
+                  (
+                    (hooks, name_B),
+                    (
+                      literal (n + 1) (omega arith),
+                      (
+                        binary_short q,
+                        (((hooks, name_R), (literal n (omega arith), (w.1.name.short, (w.1, tt)))), (a, tt)),
+                      ),
+                    ),
+                  ),
+                  tt,
+                ),
+              ),
+            ),
+          ),
+        ) (w.0, w.1, a)
     formed (tree.assign None (tree.to_dot o k t) e s) w n few =
         let a = formed o w.1.0 (n + 1) (omega arith) in
         let b = formed e w.2 (n + 1 + id_count o) (omega arith) in

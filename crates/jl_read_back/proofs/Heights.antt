@@ -1,5 +1,6 @@
 -- The woven script is at most three times as high as the script, and 4.
-use Rattle.std.proofs.Common.{codes, ℕ, ◌+◌, ◌*◌, ◌≤◌, Bool, true, false, ◌||◌, Option, Some, None, ap, subst, sym, arith}
+use Rattle.std.proofs.Common.{codes, ℕ, ◌+◌, ◌*◌, ◌≤◌, Bool, true, false, ◌||◌, Option, Some, None, ap, subst, sym}
+use Rattle.std.proofs.Common.{arith}
 use Rattle.std.specs.Prelude.{if◌then◌else◌, max}
 use Rattle.jl_ast.specs.Height.{forest_height, height, optional_height, program_height}
 use Rattle.jl_ast.specs.Tree as tree
@@ -168,9 +169,11 @@ module _ (chosen : Kinds) where
         let p = low a (n + 1) in let q = low b (n + 1 + id_count a) in
         either (chosen kind.Binary) _ _ _ (omega arith) (omega arith)
     low (tree.and a b s) n =
-        let q = low b (n + 1 + id_count a) in let p = tested n (woven chosen (with_ids (n + 1) a)) (height a) (low a (n + 1)) in omega arith
+        let q = low b (n + 1 + id_count a) in
+        let p = tested n (woven chosen (with_ids (n + 1) a)) (height a) (low a (n + 1)) in omega arith
     low (tree.or a b s) n =
-        let q = low b (n + 1 + id_count a) in let p = tested n (woven chosen (with_ids (n + 1) a)) (height a) (low a (n + 1)) in omega arith
+        let q = low b (n + 1 + id_count a) in
+        let p = tested n (woven chosen (with_ids (n + 1) a)) (height a) (low a (n + 1)) in omega arith
     low (tree.conditional a b c s) n =
         let q = low b (n + 1 + id_count a) in let r = low c (n + 1 + id_count a + id_count b) in
         let p = tested n (woven chosen (with_ids (n + 1) a)) (height a) (low a (n + 1)) in omega arith
@@ -216,17 +219,22 @@ module _ (chosen : Kinds) where
     low (tree.expression e s) n = let a = low e n in omega arith
     low (tree.block l s) n = let a = lows l n in omega arith
     low (tree.if_else e a b s) n =
-        let p = tested n (woven chosen (with_ids (n + 1) e)) (height e) (low e (n + 1)) in let q = lows a (n + 1 + id_count e) in
+        let p = tested n (woven chosen (with_ids (n + 1) e)) (height e) (low e (n + 1)) in
+        let q = lows a (n + 1 + id_count e) in
         let r = optional_low b (n + 1 + id_count e + forest_id_count a) in omega arith
     low (tree.do_while l e s) n =
-        let p = lows l (n + 1) in let q = tested n (woven chosen (with_ids (n + 1 + forest_id_count l) e)) (height e) (low e (n + 1 + forest_id_count l)) in omega arith
+        let p = lows l (n + 1) in
+        let q = tested n (woven chosen (with_ids (n + 1 + forest_id_count l) e)) (height e)
+        (low e (n + 1 + forest_id_count l)) in omega arith
     low (tree.while e l s) n =
-        let p = tested n (woven chosen (with_ids (n + 1) e)) (height e) (low e (n + 1)) in let q = lows l (n + 1 + id_count e) in omega arith
+        let p = tested n (woven chosen (with_ids (n + 1) e)) (height e) (low e (n + 1)) in
+        let q = lows l (n + 1 + id_count e) in omega arith
     low (tree.for i tree.absent u l s) n =
         let a = low i (n + 0) in let c = optional_low u (n + 0 + id_count i + 0) in
         let d = lows l (n + 0 + id_count i + 0 + optional_id_count u) in omega arith
     low (tree.for i (tree.present e) u l s) n =
-        let a = low i (n + 1) in let b = tested n (woven chosen (with_ids (n + 1 + id_count i) e)) (height e) (low e (n + 1 + id_count i)) in
+        let a = low i (n + 1) in
+        let b = tested n (woven chosen (with_ids (n + 1 + id_count i) e)) (height e) (low e (n + 1 + id_count i)) in
         let c = optional_low u (n + 1 + id_count i + id_count e) in
         let d = lows l (n + 1 + id_count i + id_count e + optional_id_count u) in omega arith
     low (tree.for_in is_var x o l s) n =
@@ -255,7 +263,8 @@ module _ (chosen : Kinds) where
         let a = lows l (n + 1) in let b = lows h (n + 1 + forest_id_count l) in
         let c = optional_low f (n + 1 + forest_id_count l + forest_id_count h) in
         let d = caught (chosen kind.Catch) n x.text
-        (woven_forest chosen (forest_with_ids (n + 1 + forest_id_count l) h)) (3 * forest_height h + 4) (omega arith) b in
+        (woven_forest chosen (forest_with_ids (n + 1 + forest_id_count l) h)) (3 * forest_height h + 4) (omega arith)
+        b in
         omega arith
     low (tree.debugger s) n = omega arith
     low tree.nothing n = omega arith

@@ -1,5 +1,6 @@
 -- The functions of the woven script have the numbers of the script's, a line for each form.
-use Rattle.std.proofs.Common.{◌≡◌, codes, ℕ, ◌+◌, Bool, true, false, ◌||◌, Option, Some, None, refl, ap, subst, sym, arith}
+use Rattle.std.proofs.Common.{◌≡◌, codes, ℕ, ◌+◌, Bool, true, false, ◌||◌, Option, Some, None, refl, ap, subst, sym}
+use Rattle.std.proofs.Common.{arith}
 use Rattle.std.specs.Prelude.{if◌then◌else◌}
 use Rattle.jl_ast.specs.Numbering.{functions_in, functions_in_forest, functions_in_optional, numbered}
 use Rattle.jl_ast.specs.Numbering.{numbered_forest, numbered_optional, numbered_tree}
@@ -174,7 +175,8 @@ module _ (chosen : Kinds) where
     counts (tree.unary un.Delete a s) n j m e =
         deleted j j (numbered_tree n a) tt tt (woven chosen (with_ids j (numbered_tree n a))) (counts a n j m e)
     counts (tree.unary o a s) n j m e =
-        either (chosen kind.Unary) _ _ (told_of_1 (counts a n (j + 1) m e)) (count.unary_counts (counts a n (j + 1) m e))
+        either (chosen kind.Unary) _ _ (told_of_1 (counts a n (j + 1) m e))
+        (count.unary_counts (counts a n (j + 1) m e))
     counts (tree.update up prefix (tree.to_name x) s) n j m e =
         up_to (either (computes chosen (tree.to_name (ident_with_id x (j + 3))) kind.Unary) _ _
         (updated up prefix _ (count.assign_counts count.target_counts
@@ -274,7 +276,8 @@ module _ (chosen : Kinds) where
         (count_all l (n + functions_in a) _ m (omega arith))
     counts (tree.for i tree.absent u l s) n j m e =
         count.for_counts (counts i n _ (n + functions_in i) refl) absent_counts
-        (up_from_optional (count_optional u (n + functions_in i + 0) _ (n + functions_in i + 0 + functions_in_optional u) refl))
+        (up_from_optional (count_optional u (n + functions_in i + 0) _
+        (n + functions_in i + 0 + functions_in_optional u) refl))
         (count_all l (n + functions_in i + 0 + functions_in_optional u) _ m (omega arith))
     counts (tree.for i (tree.present a) u l s) n j m e =
         count.for_counts (counts i n _ (n + functions_in i) refl)

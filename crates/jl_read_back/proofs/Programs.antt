@@ -27,7 +27,7 @@ use Rattle.jl_read_back.proofs.Places.{placed}
 well_placed : {S : Type 0} (q : Program S) → IsWellFormed (without_spans q) → IsWellFormed q
 well_placed q w =
     let same : numbered_tree 0 (map_tree (λ s. tt) q.body) ≡ map_tree (λ s. tt) q.body =
-        ap (λ p. p.body) w.numbers in
+    ap (λ p. p.body) w.numbers in
     record {
       body = placed (λ s. tt) q.body w.body;
       numbers = ap (λ b. record { body = b; at = q.at })
@@ -43,7 +43,7 @@ pub low : {S T : Type 0} → WovenHeight S T
 low chosen p q e =
     let same : program_height (without_spans q) ≡ program_height q = moved (λ s. tt) q.body in
     let is : program_height (without_spans q) ≡ program_height (woven_program chosen p) =
-        ap (λ u. program_height u) e in
+    ap (λ u. program_height u) e in
     let at_most = woven_low chosen p in
     omega arith
 
@@ -60,7 +60,8 @@ pub read_program : PrintedReadsBack → TextIsPaired → ReadIsWellFormed → Fe
     → ((p : Program Span) → entries p ≡ 2 + id_count p.body)
     → ((ts : List Token) (limit : ℕ) (p : Program Span) → Reads ts limit p → entries p ≤ 4 * length ts + 2)
     → WovenReadsBack
-read_program printed paired formed few_tokens entries has few chosen text ts limit within p q tokens read short small e =
+read_program printed paired formed few_tokens entries has few chosen text ts limit within p q tokens read short small
+e =
     let count = has p in
     let few_entries = few ts limit p read in
     let few_units = few_tokens text ts tokens in

@@ -199,8 +199,8 @@ caught_free s x at = by (is_left_out x) refl
     by : (b : Bool) → is_left_out x ≡ b → AreReservedNames (free_early_errors (in_catch s x) x at)
     by true e =
         let is : (is_left_out x && not (among x (if is_left_out x then with_name s.bound x else s.bound))) ≡ false =
-            ap (λ b. b && not (among x (if b then with_name s.bound x else s.bound))) e
-            ∙ ap not (bound_there x s.bound) in
+        ap (λ b. b && not (among x (if b then with_name s.bound x else s.bound))) e
+        ∙ ap not (bound_there x s.bound) in
         nothing_wrong _ (ap (λ b. if b then left_out x at ∷ [] else []) is)
     by false e =
         nothing_wrong _
