@@ -1,7 +1,6 @@
 -- The functions of the woven script have the numbers of the script's, a line for each form.
-use Rattle.std.proofs.Common.{◌≡◌, codes, ℕ, ◌+◌, Bool, true, false, ◌||◌, Option, Some, None, refl, ap, subst, sym}
+use Rattle.std.proofs.Common.{◌≡◌, ℕ, ◌+◌, Bool, Option, refl, ap, subst, sym}
 use Rattle.std.proofs.Common.{arith}
-use Rattle.std.specs.Prelude.{if◌then◌else◌}
 use Rattle.jl_ast.specs.Numbering.{functions_in, functions_in_forest, functions_in_optional, numbered_forest}
 use Rattle.jl_ast.specs.Numbering.{numbered_optional, numbered_tree}
 use Rattle.jl_ast.specs.Tree as tree

@@ -5,13 +5,13 @@ use Rattle.std.specs.Prelude.{if◌then◌else◌}
 use Rattle.jl_ast.specs.Tree as tree
 use Rattle.jl_ast.specs.Tree.{Forest, Ident, OptionalTree, Text, Tree}
 use Rattle.jl_op.specs.Chosen.{Kinds}
-use Rattle.jl_op.specs.Ids.{forest_id_count, forest_with_ids, id_count, ident_with_id, optional_with_ids, with_ids}
+use Rattle.jl_op.specs.Ids.{forest_id_count, forest_with_ids, id_count, ident_with_id, with_ids}
 use Rattle.jl_op.specs.declared.kind.OpKind.TheVariants as kind
 use Rattle.jl_scope.specs.Hoisting.{bound_by_body, bound_by_function, declared_in, declared_in_forest}
-use Rattle.jl_scope.specs.Hoisting.{declared_in_optional, function_names, name_texts, strict_in}
+use Rattle.jl_scope.specs.Hoisting.{function_names, name_texts, strict_in}
 use Rattle.jl_simulation.specs.HookCalls.{and_last, begin_and_end, catch_and_go_on, enter_and_leave, hook}
 use Rattle.jl_simulation.specs.HookCalls.{hook_statement, no_exprs, without_id, Stmts}
-use Rattle.jl_simulation.specs.Weaving.{woven, woven_body, woven_code, woven_forest, woven_optional}
+use Rattle.jl_simulation.specs.Weaving.{woven, woven_body, woven_code, woven_forest}
 
 -- the calls of hooks declare nothing
 caught : (b : Bool) (id : ℕ) (x : Text) (l : Stmts)

@@ -1,7 +1,7 @@
 -- The woven program breaks no rule, wherever its nodes stand.
 use Rattle.std.proofs.Common.{◌≡◌, Bool, true, false, List, [], ◌∷◌, Option, Some, None, ap, subst, sym}
 use Rattle.std.specs.Prelude.{if◌then◌else◌, nat_lt}
-use Rattle.jl_ast.specs.Spans.{map_tree, without_spans}
+use Rattle.jl_ast.specs.Spans.{map_tree}
 use Rattle.jl_ast.specs.Tree as tree
 use Rattle.jl_ast.specs.Tree.{Program, Tree}
 use Rattle.jl_op.specs.Chosen.{Kinds}
@@ -14,7 +14,7 @@ use Rattle.jl_simulation.specs.Weaving.{woven_code, woven_program}
 use Rattle.jl_text.specs.declared.span.Span.{Span}
 use Rattle.jl_read_back.specs.EarlyErrors.{one_more, AreReservedNames, FirstIsReservedName, IsReservedName}
 use Rattle.jl_read_back.specs.EarlyErrors.{WovenKeepsRules}
-use Rattle.jl_read_back.specs.Laws.{IsWoven}
+use Rattle.jl_read_back.specs.Woven.{IsWoven}
 use Rattle.jl_read_back.proofs.EarlyForms.{spanned}
 use Rattle.jl_read_back.proofs.EarlyPlaces.{moved_back, program_scope}
 use Rattle.jl_read_back.proofs.EarlyWoven.{program_clear}

@@ -1,26 +1,26 @@
 -- Calls of hooks break no rule, and parts that are woven stand in the same scope. All nodes stand at one place.
-use Rattle.std.proofs.Common.{◌≡◌, ◌∙◌, codes, ℕ, ◌+◌, Bool, true, false, ◌||◌, List, [], ◌∷◌, ◌++◌, Option, Some, None}
-use Rattle.std.proofs.Common.{map, option_map, refl, ap, ap₂, subst, sym}
+use Rattle.std.proofs.Common.{◌≡◌, ◌∙◌, codes, ℕ, ◌+◌, Bool, true, false, List, [], ◌∷◌, Option, Some, None}
+use Rattle.std.proofs.Common.{map, option_map, refl, ap₂, subst, sym}
 use Rattle.std.specs.Prelude.{if◌then◌else◌}
-use Rattle.jl_ast.specs.Spans.{ident, map_forest, map_optional, map_tree}
+use Rattle.jl_ast.specs.Spans.{ident, map_forest, map_tree}
 use Rattle.jl_ast.specs.Tree as tree
 use Rattle.jl_ast.specs.Tree.{Forest, Ident, OptionalTree, Sort, Text, Tree}
 use Rattle.jl_ast.specs.declared.ops.UnOp.TheVariants as un
 use Rattle.jl_op.specs.Chosen.{Kinds}
-use Rattle.jl_op.specs.Ids.{forest_id_count, forest_with_ids, id_count, ident_with_id, optional_id_count}
-use Rattle.jl_op.specs.Ids.{optional_with_ids, with_ids}
+use Rattle.jl_op.specs.Ids.{forest_with_ids, id_count, ident_with_id}
+use Rattle.jl_op.specs.Ids.{with_ids}
 use Rattle.jl_op.specs.declared.kind.OpKind.TheVariants as kind
 use Rattle.jl_scope.specs.EarlyErrors.{early_errors, forest_early_errors, literal_early_errors, name_early_errors}
-use Rattle.jl_scope.specs.EarlyErrors.{no_keys, optional_early_errors, parameter_early_errors, read_early_errors}
+use Rattle.jl_scope.specs.EarlyErrors.{parameter_early_errors, read_early_errors}
 use Rattle.jl_scope.specs.EarlyErrors.{with_key, Keys}
-use Rattle.jl_scope.specs.Names.{hooks_name, with_name}
-use Rattle.jl_scope.specs.Scope.{bind, in_a_loop, in_a_switch, in_catch, in_function_of, in_program, is_loop}
-use Rattle.jl_scope.specs.Scope.{under_label, Scope}
+use Rattle.jl_scope.specs.Names.{with_name}
+use Rattle.jl_scope.specs.Scope.{bind, in_function_of, in_program, is_loop}
+use Rattle.jl_scope.specs.Scope.{Scope}
 use Rattle.jl_simulation.specs.HookCalls.{and_last, before_update, begin_and_end, catch_and_go_on, enter_and_leave}
 use Rattle.jl_simulation.specs.HookCalls.{hook, hook_1, hook_2, hook_of_1, hook_statement, no_exprs, quoted, without_id}
 use Rattle.jl_simulation.specs.HookCalls.{Expr, Exprs, Stmts, Woven}
-use Rattle.jl_simulation.specs.Weaving.{calls, calls_member, computes, woven, woven_body, woven_callee, woven_code}
-use Rattle.jl_simulation.specs.Weaving.{woven_delete, woven_forest, woven_optional, woven_typeof}
+use Rattle.jl_simulation.specs.Weaving.{calls, woven, woven_body, woven_callee, woven_code}
+use Rattle.jl_simulation.specs.Weaving.{woven_delete, woven_forest, woven_typeof}
 use Rattle.jl_text.specs.declared.span.Span.{Span}
 use Rattle.jl_read_back.specs.EarlyErrors.{none, AreReservedNames}
 use Rattle.jl_read_back.proofs.Declared.{body_strict, function_bound, program_bound, program_strict}

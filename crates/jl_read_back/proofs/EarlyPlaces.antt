@@ -1,6 +1,6 @@
 -- What is wrong with a program is so wherever its nodes stand, a line for each form.
 use Rattle.std.proofs.Common.{◌≡◌, ◌∙◌, Bool, true, false, List, [], ◌∷◌, ◌++◌, map, Option, Some, None, option_map}
-use Rattle.std.proofs.Common.{refl, ap, ap₂, subst, sym}
+use Rattle.std.proofs.Common.{refl, ap, ap₂, subst}
 use Rattle.jl_ast.specs.Spans.{ident, map_forest, map_optional, map_tree}
 use Rattle.jl_ast.specs.Tree as tree
 use Rattle.jl_ast.specs.Tree.{Forest, Ident, OptionalTree, Sort, Text, Tree}

@@ -1,7 +1,6 @@
 -- The woven script breaks no rule where the script breaks none, a line for each form.
-use Rattle.std.proofs.Common.{◌≡◌, codes, ℕ, ◌+◌, Bool, true, false, ◌||◌, List, [], ◌∷◌, ◌++◌, map, Option, Some, None}
+use Rattle.std.proofs.Common.{codes, ℕ, ◌+◌, ◌||◌, [], ◌++◌, map, Some, None}
 use Rattle.std.proofs.Common.{option_map, refl, subst, sym}
-use Rattle.std.specs.Prelude.{if◌then◌else◌}
 use Rattle.jl_ast.specs.Spans.{ident, map_optional}
 use Rattle.jl_ast.specs.Tree as tree
 use Rattle.jl_ast.specs.Tree.{Forest, Ident, OptionalTree, Sort, Text, Tree}

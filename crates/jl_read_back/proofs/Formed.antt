@@ -1,5 +1,5 @@
 -- The woven script is well formed where the script is, a line for each form.
-use Rattle.std.proofs.Common.{codes, ℕ, ◌+◌, ◌≤◌, Bool, true, false, ◌||◌, Option, Some, None, pos, refl, subst, sym}
+use Rattle.std.proofs.Common.{codes, ℕ, ◌+◌, ◌≤◌, Bool, true, false, ◌||◌, Some, None, subst, sym}
 use Rattle.std.proofs.Common.{arith}
 use Rattle.std.specs.Prelude.{if◌then◌else◌}
 use Rattle.jl_ast.specs.Tree as tree
@@ -49,8 +49,12 @@ updated false false e w = (w, literal 1 (omega arith))
 entered : (b : Bool) (id : ℕ) (l : Stmts) → id + 1 ≤ 9007199254740991 → AllWellFormed l
     → AllWellFormed (if b then enter_and_leave id l else l)
 entered true id l small w = (
-  ((((hooks, name_E), (literal id (omega arith), tt)), w), tt, tt,
-  (((hooks, name_L), (literal (id + 1) small, tt)), tt)),
+  (
+    (((hooks, name_E), (literal id (omega arith), tt)), w),
+    tt,
+    tt,
+    (((hooks, name_L), (literal (id + 1) small, tt)), tt),
+  ),
   tt,
 )
 entered false id l small w = w

@@ -1,7 +1,7 @@
 -- The woven script is at most three times as high as the script, and 4.
-use Rattle.std.proofs.Common.{codes, ℕ, ◌+◌, ◌*◌, ◌≤◌, Bool, true, false, ◌||◌, Option, Some, None, ap, subst, sym}
+use Rattle.std.proofs.Common.{codes, ℕ, ◌+◌, ◌*◌, ◌≤◌, Bool, true, false, ◌||◌, Some, None, subst, sym}
 use Rattle.std.proofs.Common.{arith}
-use Rattle.std.specs.Prelude.{if◌then◌else◌, max}
+use Rattle.std.specs.Prelude.{if◌then◌else◌}
 use Rattle.jl_ast.specs.Height.{forest_height, height, optional_height, program_height}
 use Rattle.jl_ast.specs.Tree as tree
 use Rattle.jl_ast.specs.Tree.{Forest, OptionalTree, Program, Sort, Text, Tree}
@@ -15,7 +15,7 @@ use Rattle.jl_simulation.specs.HookCalls.{and_last, before_update, begin_and_end
 use Rattle.jl_simulation.specs.HookCalls.{hook, hook_1, hook_2, hook_of_1, hook_statement, no_exprs, quoted}
 use Rattle.jl_simulation.specs.HookCalls.{unary_hook, Expr, Stmt}
 use Rattle.jl_simulation.specs.HookCalls.{Stmts, Woven}
-use Rattle.jl_simulation.specs.Weaving.{assigns, calls, calls_member, computes, woven, woven_forest, woven_optional}
+use Rattle.jl_simulation.specs.Weaving.{calls, calls_member, computes, woven, woven_forest, woven_optional}
 use Rattle.jl_simulation.specs.Weaving.{woven_callee, woven_code, woven_delete, woven_typeof, woven_program}
 use Rattle.jl_read_back.proofs.Forms.{callee_is, delete_is, typeof_is, IsNoMember, IsNoName}
 

@@ -1,5 +1,5 @@
 -- The functions of the woven script have the numbers of the script's, a line for each form.
-use Rattle.std.proofs.Common.{◌≡◌, codes, ℕ, ◌+◌, Bool, true, false, ◌||◌, Option, Some, None, refl, ap, subst, sym}
+use Rattle.std.proofs.Common.{◌≡◌, codes, ℕ, ◌+◌, Bool, true, false, ◌||◌, Some, None, refl, ap, subst, sym}
 use Rattle.std.proofs.Common.{arith}
 use Rattle.std.specs.Prelude.{if◌then◌else◌}
 use Rattle.jl_ast.specs.Numbering.{functions_in, functions_in_forest, functions_in_optional, numbered}
@@ -14,7 +14,7 @@ use Rattle.jl_op.specs.declared.sign.UnKind.TheVariants as unary
 use Rattle.jl_simulation.specs.HookCalls.{and_last, before_update, begin_and_end, catch_and_go_on, enter_and_leave}
 use Rattle.jl_simulation.specs.HookCalls.{hook, hook_1, hook_of_1, hook_statement, no_exprs, unary_hook, Expr}
 use Rattle.jl_simulation.specs.HookCalls.{Exprs, Stmts, Woven}
-use Rattle.jl_simulation.specs.Weaving.{assigns, calls, calls_member, computes, woven, woven_callee, woven_code}
+use Rattle.jl_simulation.specs.Weaving.{calls, calls_member, computes, woven, woven_callee, woven_code}
 use Rattle.jl_simulation.specs.Weaving.{woven_delete, woven_forest, woven_optional, woven_program, woven_typeof}
 use Rattle.jl_read_back.proofs.Counts as count
 use Rattle.jl_read_back.proofs.Counts.{absent_counts, none_counts, one_counts, present_counts, up_to, Counts, CountsAll}

@@ -2,8 +2,8 @@
 use Rattle.std.proofs.Common.{◌≡◌, ◌∙◌, ℕ, ◌+◌, ◌*◌, ◌≤◌, List, length, ap, subst, sym, arith}
 use Rattle.jl_ast.proofs.SameHeight.{moved}
 use Rattle.jl_ast.proofs.SameNumbers.{numbered_moved}
-use Rattle.jl_ast.specs.Height.{height, program_height}
-use Rattle.jl_ast.specs.Numbering.{numbered, numbered_tree}
+use Rattle.jl_ast.specs.Height.{program_height}
+use Rattle.jl_ast.specs.Numbering.{numbered_tree}
 use Rattle.jl_ast.specs.Spans.{map_tree, without_spans}
 use Rattle.jl_ast.specs.Tree.{Program}
 use Rattle.jl_grammar.specs.Program.{Reads}
@@ -15,8 +15,9 @@ use Rattle.jl_simulation.specs.Weaving.{woven_program}
 use Rattle.jl_text.specs.declared.span.Span.{Span}
 use Rattle.jl_token.specs.Tokens.{FewTokens}
 use Rattle.jl_token.specs.declared.token.Token.{Token}
-use Rattle.jl_read_back.specs.Laws.{HasIds, IsWoven, ReadsBackWithin, WovenHeight, WovenIsWellFormed}
+use Rattle.jl_read_back.specs.Laws.{HasIds, ReadsBackWithin, WovenHeight, WovenIsWellFormed}
 use Rattle.jl_read_back.specs.Laws.{WovenReadsBack}
+use Rattle.jl_read_back.specs.Woven.{IsWoven}
 use Rattle.jl_read_back.proofs.FixedNumbers.{fixed}
 use Rattle.jl_read_back.proofs.Formed.{woven_formed}
 use Rattle.jl_read_back.proofs.Heights.{woven_low}
@@ -60,10 +61,9 @@ pub read_program : PrintedReadsBack → TextIsPaired → ReadIsWellFormed → Fe
     → ((p : Program Span) → entries p ≡ 2 + id_count p.body)
     → ((ts : List Token) (limit : ℕ) (p : Program Span) → Reads ts limit p → entries p ≤ 4 * length ts + 2)
     → WovenReadsBack
-read_program printed paired formed few_tokens entries has few chosen text ts limit within p q tokens read short small
-e =
+read_program printed paired formed tokens entries has few chosen text ts limit within p q lexed read short small e =
     let count = has p in
     let few_entries = few ts limit p read in
-    let few_units = few_tokens text ts tokens in
+    let few_units = tokens text ts lexed in
     let low_enough = read.low in
-    reads_back printed paired chosen p q within (formed text ts limit p tokens read) (omega arith) (omega arith) e
+    reads_back printed paired chosen p q within (formed text ts limit p lexed read) (omega arith) (omega arith) e

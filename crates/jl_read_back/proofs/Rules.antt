@@ -1,8 +1,7 @@
 -- What is wrong with a part is so wherever its nodes stand: a lemma for each kind of rule.
-use Rattle.std.proofs.Common.{◌≡◌, ◌∙◌, Bool, true, false, ◌&&◌, ◌||◌, List, [], ◌∷◌, ◌++◌, map, not, refl, ap, sym}
-use Rattle.std.proofs.Common.{Option, Some, None, option_map, subst}
+use Rattle.std.proofs.Common.{◌≡◌, ◌∙◌, Bool, true, false, ◌&&◌, ◌||◌, List, [], ◌∷◌, ◌++◌, not, refl, ap, sym}
+use Rattle.std.proofs.Common.{Some, None, subst}
 use Rattle.std.specs.Prelude.{if◌then◌else◌}
-use Rattle.jl_ast.specs.Spans.{ident}
 use Rattle.jl_ast.specs.Tree as tree
 use Rattle.jl_ast.specs.Tree.{Ident, Text, Tree}
 use Rattle.jl_ast.specs.declared.ops.UnOp.{UnOp}

@@ -5,7 +5,7 @@ use Rattle.jl_op.specs.Chosen.{Kinds}
 use Rattle.jl_scope.specs.EarlyErrors.{early_errors_of}
 use Rattle.jl_scope.specs.Kinds.{early, first, left_out, reserved_name, EarlyError}
 use Rattle.jl_text.specs.declared.span.Span.{Span}
-use Rattle.jl_read_back.specs.Laws.{IsWoven}
+use Rattle.jl_read_back.specs.Woven.{IsWoven}
 
 -- no rule is broken, and no left-out name is mentioned that nothing binds
 pub data AreReservedNames : List EarlyError → Type 0 where

@@ -2,7 +2,6 @@
 use Rattle.std.specs.Prelude.{◌≡◌, ◌+◌, ◌*◌, ◌<◌, ◌≤◌, false, ℕ, List, length}
 use Rattle.std.specs.Char.Utf16.{has_unpaired_surrogate}
 use Rattle.jl_ast.specs.Height.{program_height}
-use Rattle.jl_ast.specs.Spans.{without_spans}
 use Rattle.jl_ast.specs.Tree.{Program}
 use Rattle.jl_grammar.specs.Program.{Reads}
 use Rattle.jl_op.specs.Chosen.{Kinds}
@@ -10,18 +9,14 @@ use Rattle.jl_op.specs.Ids.{id_count}
 use Rattle.jl_print.specs.Laws.{ReadsBack}
 use Rattle.jl_print.specs.Layout.{text_of}
 use Rattle.jl_print.specs.WellFormed.{IsWellFormed}
-use Rattle.jl_simulation.specs.Weaving.{woven_program}
 use Rattle.jl_text.specs.declared.span.Span.{Span}
 use Rattle.jl_token.specs.Tokens.{Tokens}
 use Rattle.jl_token.specs.declared.token.Token.{Token}
+use Rattle.jl_read_back.specs.Woven.{IsWoven}
 
 -- its ids are numbers of a script: a program takes two, and then its parts take theirs
 abbrev pub HasIds : {S : Type 0} → Program S → Type 0
 HasIds p = 3 + id_count p.body ≤ 9007199254740991
-
--- q is the woven program of p, with places
-abbrev pub IsWoven : {S T : Type 0} → Kinds → Program S → Program T → Type 0
-IsWoven chosen p q = without_spans q ≡ woven_program chosen p
 
 -- what is woven of a well formed program is well formed
 abbrev pub WovenIsWellFormed : (S T : Type 0) → Type 0
