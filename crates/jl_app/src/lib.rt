@@ -23,3 +23,6 @@ mod weave;
 
 pub use status::Status;
 pub use top::jlint;
+
+#[cfg(test)]
+mod tests;
