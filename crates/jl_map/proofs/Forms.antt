@@ -27,24 +27,33 @@ pub last_part : {T E : Type 0} (r : Result T E) (old mid new a b : List MapRow) 
     OnOk r (new ≡ mid ++ b) → OnOk r (new ≡ old ++ (a ++ b))
 last_part r old mid new a b m = on_ok_weaker r (λ n. then_part old mid new a b m n)
 
+-- rows that are known to be others
+pub same_rows : {T E : Type 0} (r : Result T E) (old new l m : List MapRow) → l ≡ m → OnOk r (new ≡ old ++ l) →
+    OnOk r (new ≡ old ++ m)
+same_rows r old new l m e = on_ok_weaker r (λ n. n ∙ ap (λ l. old ++ l) e)
+
 -- the rows of a tree that is known to be another
 pub placed : {T E : Type 0} (r : Result T E) (old new : List MapRow) {x : Sort} (t u : Tree Span x) → t ≡ u →
     OnOk r (new ≡ old ++ entries place_of u) → OnOk r (new ≡ old ++ entries place_of t)
-placed r old new t u e = on_ok_weaker r (λ n. n ∙ ap (λ t. old ++ entries place_of t) (sym e))
+placed r old new t u e =
+    same_rows r old new (entries place_of u) (entries place_of t) (ap (λ v. entries place_of v) (sym e))
 
 -- an initialiser and a value that are there
 pub initialiser_there : {T E : Type 0} (r : Result T E) (old new : List MapRow) (x : Ident) (o : Option Expr)
     (e : Expr) → o ≡ Some e → OnOk r (new ≡ old ++ (kind.Write, x.span) ∷ entries place_of (view_expression e)) →
     OnOk r (new ≡ old ++ entries place_of (tree.declarator (view_ident x) (view_optional o)))
 initialiser_there r old new x o e there =
-    on_ok_weaker r (λ n. n
-    ∙ ap (λ o. old ++ entries place_of (tree.declarator (view_ident x) (view_optional o))) (sym there))
+    same_rows r old new ((kind.Write, x.span) ∷ entries place_of (view_expression e))
+    (entries place_of (tree.declarator (view_ident x) (view_optional o)))
+    (ap (λ p. entries place_of (tree.declarator (view_ident x) (view_optional p))) (sym there))
 
 pub value_there : {T E : Type 0} (r : Result T E) (old new : List MapRow) (o : Option Expr) (e : Expr) (s : Span) →
     o ≡ Some e → OnOk r (new ≡ old ++ (kind.Return, s) ∷ entries place_of (view_expression e)) →
     OnOk r (new ≡ old ++ entries place_of (tree.return (view_optional o) s))
 value_there r old new o e s there =
-    on_ok_weaker r (λ n. n ∙ ap (λ o. old ++ entries place_of (tree.return (view_optional o) s)) (sym there))
+    same_rows r old new ((kind.Return, s) ∷ entries place_of (view_expression e))
+    (entries place_of (tree.return (view_optional o) s))
+    (ap (λ p. entries place_of (tree.return (view_optional p) s)) (sym there))
 
 -- a test whose row comes before those of a body, which come before the test's own
 pub do_while_is : (e : Expr) (l : Forest Span tree.stmt) (s : Span) →
@@ -66,8 +75,3 @@ pub try_is : (l : Forest Span tree.stmt) (h : OptionalTree Span tree.handler) (f
     ++ optional_entries place_of f ≡ entries place_of (tree.try l h f s)
 try_is l tree.absent f s = ap (λ r. r ++ optional_entries place_of f) (append-nil (forest_entries place_of l))
 try_is l (tree.present (tree.catch x h)) f s = refl
-
--- rows that are known to be others
-pub same_rows : {T E : Type 0} (r : Result T E) (old new l m : List MapRow) → l ≡ m → OnOk r (new ≡ old ++ l) →
-    OnOk r (new ≡ old ++ m)
-same_rows r old new l m e = on_ok_weaker r (λ n. n ∙ ap (λ l. old ++ l) e)
