@@ -1,11 +1,11 @@
 #!/usr/bin/env python3
-"""What `jlint run` takes: nanoseconds of the processor for a step, and the memory at the most, for scripts of three sizes
-each; and beside it how many times as long as node that is, where node is there.
+"""What the machine takes to run a script: nanoseconds of the processor for a step, and the memory at the most, for scripts
+of three sizes each; and beside it how many times as long as node that is, where node is there.
 
-Run it at the top of the repository after `./jlint run < examples/closures.js`. Each script runs within the 1,000,000
-steps of a run. The time of an empty script is taken off first. A script is judged by the cost of a step at its greatest
-size over that at a tenth of it: what is linear gives about 1, what is quadratic about 10. Where one gives more than 2,
-the exit status is 1."""
+Run it at the top of the repository after `rt ci`, which makes the program `jl_machine_bench`: it runs a script as `jlint
+run` does, with as many steps as it is told. The time of an empty script is taken off first. A script is judged by the
+cost of a step at its greatest size over that at a tenth of it: what is linear gives about 1, what is quadratic about 10.
+Where one gives more than 2, the exit status is 1. A join copies both texts, so that of joins is above it."""
 
 import os
 import resource
@@ -14,12 +14,13 @@ import subprocess
 import sys
 import tempfile
 
-PROGRAM = os.path.join("crates", "jlint", "out", "jlint")
+PROGRAM = os.path.join("crates", "jl_machine_bench", "out", "jl_machine_bench")
+RUN = [PROGRAM, "100000000"]
 LIMIT = 2.0
 PRELUDE = "var print = function () { console.log([].slice.call(arguments).join(' ')); };\n"
 SCRIPTS = [
-    ("turns of a loop", "var n = {n}; while (n--) {{ }} print(n);", (4500, 45000, 450000)),
-    ("sums in a loop", "var s = 0; for (var i = 0; i < {n}; i++) {{ s = s + i % 7; }} print(s);", (800, 8000, 80000)),
+    ("turns of a loop", "var n = {n}; while (n--) {{ }} print(n);", (10000, 100000, 1000000)),
+    ("sums in a loop", "var s = 0; for (var i = 0; i < {n}; i++) {{ s = s + i % 7; }} print(s);", (1000, 10000, 100000)),
     ("calls in one another", "function f(n) {{ if (n) f(n - 1); }} f({n});", (1000, 10000, 100000)),
     ("calls in a row", "function f(n) {{ return n + 1; }} var s = 0; for (var i = 0; i < {n}; i++) {{ s = f(s); }} print(s);",
      (500, 5000, 50000)),
@@ -58,9 +59,9 @@ def least(command, text, prepare=None):
 
 def main():
     if not os.path.exists(PROGRAM):
-        sys.exit("no " + PROGRAM + ": run ./jlint first")
+        sys.exit("no " + PROGRAM + ": run rt ci first")
     node = shutil.which("node")
-    empty = least([PROGRAM, "run"], "")[0]
+    empty = least(RUN, "")[0]
     bare = least([node, "-"], PRELUDE)[0] if node else 0.0
     worst = 0.0
     print(f"{'script':24}{'size':>8}{'steps':>9}{'ns a step':>11}{'MB':>6}{'times node':>12}")
@@ -68,9 +69,9 @@ def main():
         costs = []
         for n in sizes:
             script = text.format(n=n)
-            spent, megabytes, answer = least([PROGRAM, "run"], script)
+            spent, megabytes, answer = least(RUN, script)
             printed, _, end = answer.rstrip("\n").rpartition("\n")
-            if not end.startswith("jlint: normal steps="):
+            if not end.startswith("normal steps="):
                 sys.exit(f"{name}, {n}: {end}")
             steps = int(end.split("=")[1])
             costs.append(1e9 * max(spent - empty, 0.0) / steps)
