@@ -3,7 +3,7 @@ use Rattle.std.proofs.Common.{◌≡◌, ℕ, zero, suc, ◌+◌, ◌-◌, ◌*�
 use Rattle.std.proofs.Common.{List, [], ◌∷◌, ◌++◌, length, map, max, Option, Some, None, arith}
 use Rattle.std.proofs.lemmas.List.{length-append, length-map}
 use Rattle.std.specs.List.{flat_map, list_any}
-use Rattle.std.specs.Prelude.{if◌then◌else◌, pos}
+use Rattle.std.specs.Prelude.{codes, if◌then◌else◌, pos}
 use Rattle.jl_ast.specs.Tree.{Text}
 use Rattle.jl_ast.specs.declared.ops.BinOp.{BinOp}
 use Rattle.jl_ast.specs.declared.ops.BinOp.TheVariants as ops
@@ -111,7 +111,7 @@ no_punct t e p h = go (word_of t) e refl h
       where
         no_name : terminals.Identifier ≡ terminals.Punct p → ⊥
         no_name e = cc
-    go None false q h = free _ _ (sym (rw q refl) ∙ h)
+    go None false q h = free (same_text (codes "get") t) (same_text (codes "set") t) (sym (rw q refl) ∙ h)
 
 same_length : (p q : Punct) → terminals.Punct p ≡ terminals.Punct q
     → length (punctuator_units q) ≤ length (punctuator_units p)

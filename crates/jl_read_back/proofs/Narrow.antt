@@ -103,7 +103,7 @@ all_named : {S : Type 0} (l : List (Ident S)) (f : Ident S → Ident ℕ)
 all_named [] f h = omega arith
 all_named (x ∷ l) f h = let a = h x in let b = named x.text in let c = all_named l f h in omega arith
 
-directed : (strict : Bool) → directive_width strict ≤ 64 * directive_weight strict
+pub directed : (strict : Bool) → directive_width strict ≤ 64 * directive_weight strict
 directed true = omega arith
 directed false = omega arith
 

@@ -298,4 +298,4 @@ module _ (ts : List Token) (at : ℕ → ℕ) (one : (i : ℕ) → at i + 1 ≤ 
     body_weighs {i} (a_directive {strict} a b c d) =
         let u = one i in let e = ends_weighs c in let r = body_weighs d in
         let l = directive_light (strict_at ts i || strict) in omega arith
-    body_weighs (no_directive a b) = elements_weigh b
+    body_weighs (no_directive a b) = let r = elements_weigh b in omega arith
