@@ -1,7 +1,6 @@
 -- How long the canonical text of the woven script is.
 use Rattle.std.proofs.Common.{◌≡◌, codes, ℕ, ◌+◌, ◌*◌, ◌≤◌, Bool, true, false, ◌||◌, List, length, refl, ap, sym, ◌∙◌, arith}
 use Rattle.std.specs.Prelude.{if◌then◌else◌}
-use Rattle.jl_ast.specs.Spans.{without_spans}
 use Rattle.jl_ast.specs.Tree as tree
 use Rattle.jl_ast.specs.Tree.{Forest, Program, Tree}
 use Rattle.jl_grammar.specs.Program.{Reads}
@@ -9,6 +8,7 @@ use Rattle.jl_op.specs.Chosen.{Kinds}
 use Rattle.jl_op.specs.Ids.{forest_id_count, forest_with_ids, id_count, with_ids}
 use Rattle.jl_op.specs.declared.kind.OpKind.TheVariants as kind
 use Rattle.jl_print.specs.CanonicalTokens.{tokens_of, tokens_of_all, tokens_of_node}
+use Rattle.jl_print.specs.Laws.{ReadIsWellFormed}
 use Rattle.jl_print.specs.Layout.{text_of}
 use Rattle.jl_print.specs.WellFormed.{AllWellFormed, WellFormed}
 use Rattle.jl_print.proofs.WithoutPlaces.{same_text}
@@ -16,11 +16,13 @@ use Rattle.jl_scope.specs.Names.{hooks_name}
 use Rattle.jl_simulation.specs.HookCalls.{and_last, begin_and_end, hook, hook_statement, no_exprs, Stmt, Stmts}
 use Rattle.jl_simulation.specs.Weaving.{woven_code, woven_forest, woven_program}
 use Rattle.jl_text.specs.declared.span.Span.{Span}
-use Rattle.jl_token.specs.Tokens.{Tokens}
+use Rattle.jl_token.specs.Tokens.{FewTokens, Tokens}
 use Rattle.jl_token.specs.declared.token.Token.{Token}
+use Rattle.jl_read_back.specs.Laws.{WovenTextIsBounded}
 use Rattle.jl_read_back.specs.Woven.{IsWoven}
 use Rattle.jl_read_back.specs.inner.Weight.{weight, weights}
 use Rattle.jl_read_back.specs.inner.Width.{widths}
+use Rattle.jl_read_back.proofs.Formed.{woven_formed}
 use Rattle.jl_read_back.proofs.Lengths as tokens
 use Rattle.jl_read_back.proofs.Narrow.{all_narrow, directed}
 use Rattle.jl_read_back.proofs.SameWeight.{renumbered}
@@ -96,8 +98,15 @@ read_light text ts limit p lexed r =
     (tokens.assigns ts) r.whole in
     let b = tokens.long text ts lexed in omega arith
 
-pub text_few : (chosen : Kinds) (text : List ℕ) (ts : List Token) (limit : ℕ) (p q : Program Span) → Tokens text ts
-    → Reads ts limit p → WellFormed (woven_program chosen p).body → IsWoven chosen p q
-    → length (text_of q) ≤ 64 * length text + 64
-text_few chosen text ts limit p q lexed read w e =
-    let a = placed_few chosen p q w e in let b = read_light text ts limit p lexed read in omega arith
+-- so the woven text has at most 64 units for each unit of the text, and 64
+pub bounded : ReadIsWellFormed → FewTokens → (entries : Program Span → ℕ)
+    → ((p : Program Span) → entries p ≡ 2 + id_count p.body)
+    → ((ts : List Token) (limit : ℕ) (p : Program Span) → Reads ts limit p → entries p ≤ 4 * length ts + 2)
+    → WovenTextIsBounded
+bounded well_formed few_tokens entries has few chosen text ts limit p q lexed read short e =
+    let count = has p in
+    let few_entries = few ts limit p read in
+    let few_units = few_tokens text ts lexed in
+    let w = woven_formed chosen p (well_formed text ts limit p lexed read).body (omega arith) in
+    let a = placed_few chosen p q w e in
+    let b = read_light text ts limit p lexed read in omega arith

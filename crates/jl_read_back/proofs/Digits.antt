@@ -1,6 +1,6 @@
 -- A number of a script has at most sixteen digits.
-use Rattle.std.proofs.Common.{◌≡◌, ℕ, zero, suc, ◌+◌, ◌≤◌, ◌<◌, Bool, true, false, refl, ap, sym, ◌∙◌, subst, List, []}
-use Rattle.std.proofs.Common.{◌∷◌, length, arith, pow-suc, ◌^◌, ◌*◌, ◌/◌, ◌⊎◌, inl, inr}
+use Rattle.std.proofs.Common.{◌≡◌, ℕ, zero, suc, ◌+◌, ◌≤◌, ◌<◌, false, refl, ap, sym, ◌∙◌, subst}
+use Rattle.std.proofs.Common.{length, arith, pow-suc, ◌^◌, ◌*◌, ◌/◌, ◌⊎◌, inl, inr}
 use Rattle.std.specs.Prelude.{Some, pos, int_lt, nat_lt}
 use Rattle.std.proofs.lemmas.Bool.{cases_lt}
 use Rattle.std.proofs.lemmas.Bool.Decides.{nat_tests}

@@ -1,9 +1,8 @@
 -- How many units tokens are long at least: together no more than their text.
-use Rattle.std.proofs.Common.{◌≡◌, ℕ, zero, suc, ◌+◌, ◌-◌, ◌*◌, ◌≤◌, Bool, true, false, ◌||◌, refl, ap, sym, ◌∙◌, subst}
-use Rattle.std.proofs.Common.{List, [], ◌∷◌, ◌++◌, length, map, max, Option, Some, None, arith}
-use Rattle.std.proofs.lemmas.List.{length-append, length-map}
-use Rattle.std.specs.List.{flat_map, list_any}
-use Rattle.std.specs.Prelude.{codes, if◌then◌else◌, pos}
+use Rattle.std.proofs.Common.{◌≡◌, ℕ, zero, suc, ◌+◌, ◌≤◌, Bool, true, false, ◌||◌, refl, ap, sym, ◌∙◌, subst}
+use Rattle.std.proofs.Common.{List, [], ◌∷◌, length, Option, Some, None, arith}
+use Rattle.std.proofs.lemmas.List.{length-append}
+use Rattle.std.specs.Prelude.{codes, if◌then◌else◌}
 use Rattle.jl_ast.specs.Tree.{Text}
 use Rattle.jl_ast.specs.declared.ops.BinOp.{BinOp}
 use Rattle.jl_ast.specs.declared.ops.BinOp.TheVariants as ops
@@ -16,7 +15,6 @@ use Rattle.jl_grammar.specs.Terminals.{name_terminal, terminal_of}
 use Rattle.jl_grammar.specs.Tokens.{key_at, terminal_at, text_at}
 use Rattle.jl_grammar.specs.Words.{same_text, word_of}
 use Rattle.jl_num.specs.Digits.{number_text}
-use Rattle.jl_token.specs.Characters.{is_digit, is_identifier_part}
 use Rattle.jl_token.specs.Elements.{block_comment, carriage_return_line_feed, continuation, digits, escaped}
 use Rattle.jl_token.specs.Elements.{from_point, hex, hex_escape, identifier_name, itself, line_comment, line_terminator}
 use Rattle.jl_token.specs.Elements.{long_continuation, minus, name, name_text, no_exponent, no_more, no_sign, non_escape}

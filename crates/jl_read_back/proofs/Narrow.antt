@@ -1,6 +1,6 @@
 -- What weighs w is at most 64 w wide when it is woven.
 use Rattle.std.proofs.Common.{codes, ℕ, ◌+◌, ◌*◌, ◌≤◌, Bool, true, false, ◌||◌, Some, None, subst, sym}
-use Rattle.std.proofs.Common.{List, [], ◌∷◌, map, option_map, length, max, ◌-◌, Option, arith}
+use Rattle.std.proofs.Common.{List, [], ◌∷◌, map, option_map, length, Option, arith}
 use Rattle.std.specs.Prelude.{if◌then◌else◌}
 use Rattle.jl_ast.specs.Tree as tree
 use Rattle.jl_ast.specs.Tree.{Forest, Ident, OptionalTree, Sort, Text, Tree}
@@ -17,10 +17,10 @@ use Rattle.jl_simulation.specs.HookCalls.{hook_1, hook_2, hook_of_1, quoted, una
 use Rattle.jl_simulation.specs.HookCalls.{Stmts, Woven}
 use Rattle.jl_simulation.specs.Weaving.{calls, calls_member, computes, woven, woven_forest, woven_optional}
 use Rattle.jl_simulation.specs.Weaving.{woven_callee, woven_delete, woven_typeof}
-use Rattle.jl_read_back.specs.inner.Weight.{directive_weight, key_weight, name_weight, names_weight}
+use Rattle.jl_read_back.specs.inner.Weight.{directive_weight, name_weight, names_weight}
 use Rattle.jl_read_back.specs.inner.Weight.{optional_name_weight, optional_weight, weight, weights}
 use Rattle.jl_read_back.specs.inner.Width.{directive_width, names_width, optional_name_width, optional_width}
-use Rattle.jl_read_back.specs.inner.Width.{separator, string_width, width, widths}
+use Rattle.jl_read_back.specs.inner.Width.{separator, width, widths}
 use Rattle.jl_read_back.proofs.Forms.{callee_is, delete_is, typeof_is, IsNoMember, IsNoName}
 use Rattle.jl_read_back.proofs.Spelled.{binary_sign_few, string_few, unary_sign_few}
 

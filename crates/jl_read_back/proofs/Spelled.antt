@@ -1,8 +1,8 @@
 -- How many units tokens have as they are spelled, with one more after each.
-use Rattle.std.proofs.Common.{◌≡◌, ℕ, ◌+◌, ◌*◌, ◌≤◌, Bool, true, false, List, [], ◌∷◌, ◌++◌, length, refl, ap, arith}
-use Rattle.std.specs.Prelude.{codes, if◌then◌else◌, slice_index, Option, None, Some, ◌||◌}
+use Rattle.std.proofs.Common.{◌≡◌, ℕ, ◌+◌, ◌*◌, ◌≤◌, Bool, true, false, List, [], ◌∷◌, ◌++◌, length, refl, arith}
+use Rattle.std.specs.Prelude.{if◌then◌else◌, slice_index, Option, None, Some, ◌||◌}
 use Rattle.std.proofs.lemmas.List.{length-append}
-use Rattle.jl_ast.specs.Tree.{Ident, Text}
+use Rattle.jl_ast.specs.Tree.{Text}
 use Rattle.jl_ast.specs.declared.ops.BinOp.{BinOp}
 use Rattle.jl_ast.specs.declared.ops.BinOp.TheVariants as ops
 use Rattle.jl_ast.specs.declared.ops.UnOp.{UnOp}
@@ -11,10 +11,10 @@ use Rattle.jl_op.specs.Trace.{binary_sign, unary_sign}
 use Rattle.jl_op.specs.declared.sign.UnKind.{UnKind}
 use Rattle.jl_op.specs.declared.sign.UnKind.TheVariants as unary
 use Rattle.jl_print.specs.CanonicalTokens.{directive}
-use Rattle.jl_print.specs.Layout.{between, ends_line, is_dot, is_number, joins_left, joins_right, layout_of}
-use Rattle.jl_print.specs.Pieces.{assign_punct, in_parens, in_parens_unless, is_bare_key, key, name, operator}
+use Rattle.jl_print.specs.Layout.{between, layout_of}
+use Rattle.jl_print.specs.Pieces.{assign_punct, in_parens_unless, is_bare_key, key, name, operator}
 use Rattle.jl_print.specs.Pieces.{prefix_operator, string, update_operator}
-use Rattle.jl_text.specs.Quoted.{is_hidden, is_lone, quoted, quoted_after, quoted_unit, short_escape}
+use Rattle.jl_text.specs.Quoted.{is_hidden, is_lone, quoted_after, quoted_unit, short_escape}
 use Rattle.jl_token.specs.Spelling.{spelled}
 use Rattle.jl_token.specs.declared.token.TokenKind.{TokenKind}
 use Rattle.jl_token.specs.declared.token.TokenKind.TheVariants as kinds
@@ -29,14 +29,14 @@ size_append [] b = omega arith
 size_append (k ∷ a) b = omega (arith, size_append a b)
 
 -- what stands between two tokens is a unit or nothing
-chosen_few : (a b c : Bool) → length {A = ℕ} (if a then 10 ∷ [] else (if b then 32 ∷ [] else (if c then [] else 32 ∷ []))) ≤ 1
-chosen_few true b c = omega arith
-chosen_few false true c = omega arith
-chosen_few false false true = omega arith
-chosen_few false false false = omega arith
+gap_few : (a b c : Bool) → length {A = ℕ} (if a then 10 ∷ [] else (if b then 32 ∷ [] else (if c then [] else 32 ∷ []))) ≤ 1
+gap_few true b c = omega arith
+gap_few false true c = omega arith
+gap_few false false true = omega arith
+gap_few false false false = omega arith
 
 between_few : (k l : TokenKind) → length (between k l) ≤ 1
-between_few k l = chosen_few _ _ _
+between_few k l = gap_few _ _ _
 
 -- so the text that they are laid out as has no more
 pub laid_few : (ks : List TokenKind) → length (layout_of ks) ≤ size ks

@@ -6,7 +6,7 @@ use Rattle.std.specs.Prelude.{codes, nat_le, pred, if◌then◌else◌, Option, 
 use Rattle.jl_ast.specs.Tree as tree
 use Rattle.jl_ast.specs.Tree.{Forest, Ident, OptionalTree, Sort, Text, Tree}
 use Rattle.jl_ast.specs.declared.ops.BinOp.{BinOp}
-use Rattle.jl_print.specs.CanonicalTokens.{begins_otherwise, directive, further, further_arguments, further_names}
+use Rattle.jl_print.specs.CanonicalTokens.{begins_otherwise, further, further_arguments, further_names}
 use Rattle.jl_print.specs.CanonicalTokens.{is_name, is_string, items_after, last_item, optional_name, parameters}
 use Rattle.jl_print.specs.CanonicalTokens.{tokens_after, tokens_of_all, tokens_of_arguments, tokens_of_declarators}
 use Rattle.jl_print.specs.CanonicalTokens.{tokens_of_entries, tokens_of_items, tokens_of_node, tokens_of_optional}
@@ -14,7 +14,7 @@ use Rattle.jl_print.specs.Pieces.{in_parens, in_parens_unless, operator}
 use Rattle.jl_print.specs.Precedence.{fits, is_in, operator_precedence}
 use Rattle.jl_print.specs.WellFormed.{AllWellFormed, OptionalWellFormed, WellFormed}
 use Rattle.jl_token.specs.declared.token.TokenKind.{TokenKind}
-use Rattle.jl_read_back.specs.inner.Width.{names_width, optional_name_width, optional_width, separator, string_width}
+use Rattle.jl_read_back.specs.inner.Width.{names_width, optional_name_width, optional_width, separator}
 use Rattle.jl_read_back.specs.inner.Width.{width, widths}
 use Rattle.jl_read_back.proofs.Digits.{literal_few}
 use Rattle.jl_read_back.proofs.Spelled.{assign_few, bracketed, directive_few, key_few, operator_few, prefix_few, size}
