@@ -16,3 +16,11 @@ pub mod NoNames
 pub mod EarlyForms
 pub mod EarlyWoven
 pub mod Early
+pub mod Spelled
+pub mod Digits
+pub mod Wide
+pub mod Narrow
+pub mod SameWeight
+pub mod Weighed
+pub mod Lengths
+pub mod Bounded

@@ -40,3 +40,9 @@ WovenReadsBack =
     (chosen : Kinds) (text : List ℕ) (ts : List Token) (limit within : ℕ) (p q : Program Span) → Tokens text ts
     → Reads ts limit p → length text < 1073741823 → 3 * limit + 4 ≤ within → IsWoven chosen p q
     → ReadsBackWithin within q
+
+-- and its canonical text has at most 64 units for each unit of the text, and 64
+abbrev pub WovenTextIsBounded : Type 0
+WovenTextIsBounded =
+    (chosen : Kinds) (text : List ℕ) (ts : List Token) (limit : ℕ) (p q : Program Span) → Tokens text ts
+    → Reads ts limit p → length text < 1073741823 → IsWoven chosen p q → length (text_of q) ≤ 64 * length text + 64

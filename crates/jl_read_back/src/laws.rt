@@ -1,6 +1,6 @@
 //! Laws over the definitions; each is the contract of a function that does nothing but call the laws that it rests on.
 ghost use Rattle.jl_read_back.specs.EarlyErrors.{FirstIsReservedName, WovenKeepsRules};
-ghost use Rattle.jl_read_back.specs.Laws.{WovenHeight, WovenIsWellFormed, WovenReadsBack};
+ghost use Rattle.jl_read_back.specs.Laws.{WovenHeight, WovenIsWellFormed, WovenReadsBack, WovenTextIsBounded};
 
 use jl_op::laws::map_has_each_id;
 use jl_print::laws::{printed_reads_back, read_is_well_formed, text_is_paired};
@@ -27,6 +27,17 @@ pub fn woven_reads_back()
 {
     printed_reads_back();
     text_is_paired();
+    read_is_well_formed();
+    few_tokens();
+    map_has_each_id::<Span>();
+    few_ids();
+}
+
+/// The canonical text of the woven script has at most 64 units for each unit of the text that the program is read of,
+/// and 64: so it is of every program that is read of a text with fewer than 2^30 - 1 units, whatever kinds are chosen.
+pub fn woven_text_is_bounded()
+    ensures { WovenTextIsBounded }
+{
     read_is_well_formed();
     few_tokens();
     map_has_each_id::<Span>();

@@ -1,0 +1,112 @@
+-- How long the canonical text of the woven script is.
+use Rattle.std.proofs.Common.{◌≡◌, codes, ℕ, ◌+◌, ◌*◌, ◌≤◌, Bool, true, false, ◌||◌, List, length, refl, ap, sym, ◌∙◌, arith}
+use Rattle.std.specs.Prelude.{if◌then◌else◌}
+use Rattle.jl_ast.specs.Tree as tree
+use Rattle.jl_ast.specs.Tree.{Forest, Program, Tree}
+use Rattle.jl_grammar.specs.Program.{Reads}
+use Rattle.jl_op.specs.Chosen.{Kinds}
+use Rattle.jl_op.specs.Ids.{forest_id_count, forest_with_ids, id_count, with_ids}
+use Rattle.jl_op.specs.declared.kind.OpKind.TheVariants as kind
+use Rattle.jl_print.specs.CanonicalTokens.{tokens_of, tokens_of_all, tokens_of_node}
+use Rattle.jl_print.specs.Laws.{ReadIsWellFormed}
+use Rattle.jl_print.specs.Layout.{text_of}
+use Rattle.jl_print.specs.WellFormed.{AllWellFormed, WellFormed}
+use Rattle.jl_print.proofs.WithoutPlaces.{same_text}
+use Rattle.jl_scope.specs.Names.{hooks_name}
+use Rattle.jl_simulation.specs.HookCalls.{and_last, begin_and_end, hook, hook_statement, no_exprs, Stmt, Stmts}
+use Rattle.jl_simulation.specs.Weaving.{woven_code, woven_forest, woven_program}
+use Rattle.jl_text.specs.declared.span.Span.{Span}
+use Rattle.jl_token.specs.Tokens.{FewTokens, Tokens}
+use Rattle.jl_token.specs.declared.token.Token.{Token}
+use Rattle.jl_read_back.specs.Laws.{WovenTextIsBounded}
+use Rattle.jl_read_back.specs.Woven.{IsWoven}
+use Rattle.jl_read_back.specs.inner.Weight.{weight, weights}
+use Rattle.jl_read_back.specs.inner.Width.{widths}
+use Rattle.jl_read_back.proofs.Formed.{woven_formed}
+use Rattle.jl_read_back.proofs.Lengths as tokens
+use Rattle.jl_read_back.proofs.Narrow.{all_narrow, directed}
+use Rattle.jl_read_back.proofs.SameWeight.{renumbered}
+use Rattle.jl_read_back.proofs.Spelled.{directive_few, laid_few, size, size_append}
+use Rattle.jl_read_back.proofs.Weighed.{body_weighs}
+use Rattle.jl_read_back.proofs.Wide.{all_wide}
+
+-- statements and one more
+last_size : (l : Stmts) (t : Stmt) → size (tokens_of_all (and_last l t))
+    ≡ size (tokens_of_all l) + size (tokens_of_node t)
+unfolding tokens_of_node
+last_size tree.end t = omega (arith, size_append)
+last_size (tree.more u l) t = let r = last_size l t in omega (arith, size_append)
+
+last_formed : (l : Stmts) (t : Stmt) → AllWellFormed (and_last l t) → AllWellFormed l
+last_formed tree.end t w = tt
+last_formed (tree.more u l) t w = (w.0, last_formed l t w.1)
+
+-- `J$.S(1);` and `J$.X(2);`
+first_size : size (tokens_of_node (hook_statement (hook (codes "S") 1 no_exprs))) ≡ 15
+unfolding tokens_of_node hooks_name
+first_size = refl
+
+final_size : size (tokens_of_node (hook_statement (hook (codes "X") 2 no_exprs))) ≡ 15
+unfolding tokens_of_node hooks_name
+final_size = refl
+
+begun_size : (l : Stmts) → size (tokens_of_all (begin_and_end 1 l)) ≡ size (tokens_of_all l) + 30
+unfolding tokens_of_node
+begun_size l =
+    let a = first_size in let b = final_size in
+    let c = last_size l (hook_statement (hook (codes "X") 2 no_exprs)) in omega (arith, size_append)
+
+begun : (b : Bool) (l : Stmts) (n : ℕ) → AllWellFormed (if b then begin_and_end 1 l else l) → widths l ≤ n
+    → size (tokens_of_all (if b then begin_and_end 1 l else l)) ≤ n + 30
+begun true l n w h =
+    let a = begun_size l in let b = all_wide l (last_formed l _ w.1) in omega arith
+begun false l n w h = let a = all_wide l w in omega arith
+
+module _ (chosen : Kinds) where
+  code_few : {S : Type 0} (b : Tree S tree.code) → WellFormed (woven_code chosen 1 (with_ids 3 b))
+      → size (tokens_of_node (woven_code chosen 1 (with_ids 3 b))) ≤ 64 * weight b + 64
+  unfolding tokens_of_node
+  code_few (tree.body strict fs l) w =
+      let a = all_wide (woven_forest chosen (forest_with_ids 3 fs)) w.1 in let b = all_narrow chosen fs 3 in
+      let c = begun (chosen kind.ScriptEnter || chosen kind.ScriptExit)
+      (woven_forest chosen (forest_with_ids (3 + forest_id_count fs) l)) (64 * weights l) w.2
+      (all_narrow chosen l (3 + forest_id_count fs)) in
+      let d = directive_few strict in let e = directed strict in
+      omega (arith, size_append)
+
+  -- of the woven program
+  woven_few : {S : Type 0} (p : Program S) → WellFormed (woven_program chosen p).body
+      → length (text_of (woven_program chosen p)) ≤ 64 * weight p.body + 64
+  unfolding woven_program
+  woven_few p w =
+      let a = code_few p.body w in let b = laid_few (tokens_of (woven_program chosen p)) in omega arith
+
+  -- of one with places
+  placed_few : {S T : Type 0} (p : Program S) (q : Program T) → WellFormed (woven_program chosen p).body
+      → IsWoven chosen p q → length (text_of q) ≤ 64 * weight p.body + 64
+  placed_few p q w e =
+      let a = woven_few p w in
+      let b : length (text_of q) ≡ length (text_of (woven_program chosen p)) =
+      ap length (sym (same_text q) ∙ ap (λ u. text_of u) e) in omega arith
+
+-- what is read weighs at most its text
+read_light : (text : List ℕ) (ts : List Token) (limit : ℕ) (p : Program Span) → Tokens text ts → Reads ts limit p
+    → weight p.body ≤ length text
+read_light text ts limit p lexed r =
+    let e : weight p.body ≡ weight r.code = ap (λ (q : Program Span). weight q.body) r.is ∙ renumbered 0 r.code in
+    let a = body_weighs ts (tokens.before ts) (tokens.one ts) (tokens.named ts) (tokens.keyed ts) (tokens.updates ts)
+    (tokens.assigns ts) r.whole in
+    let b = tokens.long text ts lexed in omega arith
+
+-- so the woven text has at most 64 units for each unit of the text, and 64
+pub bounded : ReadIsWellFormed → FewTokens → (entries : Program Span → ℕ)
+    → ((p : Program Span) → entries p ≡ 2 + id_count p.body)
+    → ((ts : List Token) (limit : ℕ) (p : Program Span) → Reads ts limit p → entries p ≤ 4 * length ts + 2)
+    → WovenTextIsBounded
+bounded well_formed few_tokens entries has few chosen text ts limit p q lexed read short e =
+    let count = has p in
+    let few_entries = few ts limit p read in
+    let few_units = few_tokens text ts lexed in
+    let w = woven_formed chosen p (well_formed text ts limit p lexed read).body (omega arith) in
+    let a = placed_few chosen p q w e in
+    let b = read_light text ts limit p lexed read in omega arith

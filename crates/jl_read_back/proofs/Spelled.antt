@@ -1,0 +1,116 @@
+-- How many units tokens have as they are spelled, with one more after each.
+use Rattle.std.proofs.Common.{◌≡◌, ℕ, ◌+◌, ◌*◌, ◌≤◌, Bool, true, false, List, [], ◌∷◌, ◌++◌, length, refl, arith}
+use Rattle.std.specs.Prelude.{if◌then◌else◌, slice_index, Option, None, Some, ◌||◌}
+use Rattle.std.proofs.lemmas.List.{length-append}
+use Rattle.jl_ast.specs.Tree.{Text}
+use Rattle.jl_ast.specs.declared.ops.BinOp.{BinOp}
+use Rattle.jl_ast.specs.declared.ops.BinOp.TheVariants as ops
+use Rattle.jl_ast.specs.declared.ops.UnOp.{UnOp}
+use Rattle.jl_ast.specs.declared.ops.UnOp.TheVariants as prefixes
+use Rattle.jl_op.specs.Trace.{binary_sign, unary_sign}
+use Rattle.jl_op.specs.declared.sign.UnKind.{UnKind}
+use Rattle.jl_op.specs.declared.sign.UnKind.TheVariants as unary
+use Rattle.jl_print.specs.CanonicalTokens.{directive}
+use Rattle.jl_print.specs.Layout.{between, layout_of}
+use Rattle.jl_print.specs.Pieces.{assign_punct, in_parens_unless, is_bare_key, key, name, operator}
+use Rattle.jl_print.specs.Pieces.{prefix_operator, string, update_operator}
+use Rattle.jl_text.specs.Quoted.{is_hidden, is_lone, quoted_after, quoted_unit, short_escape}
+use Rattle.jl_token.specs.Spelling.{spelled}
+use Rattle.jl_token.specs.declared.token.TokenKind.{TokenKind}
+use Rattle.jl_token.specs.declared.token.TokenKind.TheVariants as kinds
+use Rattle.jl_read_back.specs.inner.Width.{directive_width, string_width}
+
+abbrev pub size : List TokenKind → ℕ
+size [] = 0
+size (k ∷ ks) = length (spelled k) + 1 + size ks
+
+pub size_append : (a b : List TokenKind) → size (a ++ b) ≡ size a + size b
+size_append [] b = omega arith
+size_append (k ∷ a) b = omega (arith, size_append a b)
+
+-- what stands between two tokens is a unit or nothing
+gap_few : (a b c : Bool) → length {A = ℕ} (if a then 10 ∷ [] else (if b then 32 ∷ [] else (if c then [] else 32 ∷ []))) ≤ 1
+gap_few true b c = omega arith
+gap_few false true c = omega arith
+gap_few false false true = omega arith
+gap_few false false false = omega arith
+
+between_few : (k l : TokenKind) → length (between k l) ≤ 1
+between_few k l = gap_few _ _ _
+
+-- so the text that they are laid out as has no more
+pub laid_few : (ks : List TokenKind) → length (layout_of ks) ≤ size ks
+laid_few [] = omega arith
+laid_few (k ∷ []) = omega (arith, length-append (spelled k) (10 ∷ []))
+laid_few (k ∷ l ∷ ks) =
+    let a = length-append (spelled k) (between k l ++ layout_of (l ∷ ks)) in
+    let b = length-append (between k l) (layout_of (l ∷ ks)) in
+    let c = between_few k l in let d = laid_few (l ∷ ks) in omega arith
+
+-- a unit of a string is written with six at most
+unit_few : (before u after : ℕ) → length (quoted_unit before u after) ≤ 6
+unit_few before u after = go (short_escape u) refl (is_hidden u || is_lone before u after) refl
+  where
+    go : (o : Option ℕ) → short_escape u ≡ o → (b : Bool) → (is_hidden u || is_lone before u after) ≡ b
+        → length (quoted_unit before u after) ≤ 6
+    go (Some letter) e b f = rw e (omega arith)
+    go None e true f = rw (e, f) (omega arith)
+    go None e false f = rw (e, f) (omega arith)
+
+units_few : (before : ℕ) (us : List ℕ) → length (quoted_after before us) ≤ 6 * length us
+units_few before [] = omega arith
+units_few before (u ∷ us) =
+    let a = length-append (quoted_unit before u (slice_index us 0)) (quoted_after u us) in
+    let b = unit_few before u (slice_index us 0) in let c = units_few u us in omega arith
+
+pub string_few : (t : Text) → string_width t ≤ 6 * length t + 3
+unfolding string_width
+string_few t = let a = length-append (quoted_after 0 t) (0x22 ∷ []) in let b = units_few 0 t in omega arith
+
+pub string_is : (t : Text) → length (spelled (string t)) + 1 ≤ string_width t
+unfolding string_width
+string_is t = omega arith
+
+-- the key of a property
+pub key_few : (t : Text) → length (spelled (key t)) ≤ 6 * length t + 2
+key_few t = go (is_bare_key t)
+  where
+    go : (b : Bool) → length (spelled (if b then name t else string t)) ≤ 6 * length t + 2
+    go true = omega arith
+    go false = let a = string_is t in let b = string_few t in omega arith
+
+-- the signs of the operators
+pub binary_sign_few : (o : BinOp) → string_width (binary_sign o) ≤ 13
+unfolding string_width
+binary_sign_few ops.InstanceOf = omega arith
+binary_sign_few _ = omega arith
+
+pub unary_sign_few : (o : UnKind) → string_width (unary_sign o) ≤ 9
+unfolding string_width
+unary_sign_few unary.Typeof = omega arith
+unary_sign_few _ = omega arith
+
+pub directive_few : (strict : Bool) → size (directive strict) ≤ directive_width strict
+directive_few true = omega arith
+directive_few false = omega arith
+
+-- brackets where they are needed
+pub bracketed : (b : Bool) (ks : List TokenKind) (n : ℕ) → size ks + 4 ≤ n → size (in_parens_unless b ks) ≤ n
+bracketed true ks n h = omega arith
+bracketed false ks n h = omega (arith, size_append)
+
+pub operator_few : (o : BinOp) → length (spelled (operator o)) ≤ 10
+operator_few ops.InstanceOf = omega arith
+operator_few _ = omega arith
+
+pub prefix_few : (o : UnOp) → length (spelled (prefix_operator o)) ≤ 6
+prefix_few prefixes.Typeof = omega arith
+prefix_few _ = omega arith
+
+pub update_few : (up : Bool) → length (spelled (update_operator up)) ≤ 2
+update_few true = omega arith
+update_few false = omega arith
+
+pub assign_few : (o : BinOp) → length (spelled (kinds.Punct (assign_punct o))) ≤ 4
+assign_few ops.Shr = omega arith
+assign_few _ = omega arith
