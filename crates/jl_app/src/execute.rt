@@ -16,7 +16,7 @@ use jl_value::Outcome;
 use std::alloc::{AllocError, Global};
 
 /// How a run ended, in words.
-fn ending_text(alloc: Global, outcome: &Outcome) -> Result<String, AllocError>
+pub(crate) fn ending_text(alloc: Global, outcome: &Outcome) -> Result<String, AllocError>
     ensures { IfOk result (λ text. string_bytes text ≡ ending_text outcome.now) }
 {
     match outcome {
@@ -39,7 +39,11 @@ fn ending_status(outcome: &Outcome) -> Status
 }
 
 /// The line that tells what was thrown and not caught, in UTF-8, if anything was.
-fn uncaught_line(alloc: Global, heap: &Heap, outcome: &Outcome) -> Result<String, AllocError>
+pub(crate) fn uncaught_line(
+    alloc: Global,
+    heap: &Heap,
+    outcome: &Outcome,
+) -> Result<String, AllocError>
     ensures { IfOk result (λ text. string_bytes text ≡ uncaught_line heap.now outcome.now) }
 {
     match outcome {
