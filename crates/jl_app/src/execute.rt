@@ -66,7 +66,7 @@ fn steps_line(alloc: Global, outcome: &Outcome, steps: u64) -> Result<String, Al
 }
 
 /// What a run printed, what it threw, and the last line.
-pub(crate) fn written(alloc: Global, run: &Run) -> Result<Vec<u8>, AllocError>
+fn written(alloc: Global, run: &Run) -> Result<Vec<u8>, AllocError>
     ensures { IfOk result (λ bytes. bytes.items ≡ run.now.output
         ++ (uncaught_line run.now.store.heap run.now.outcome ++ steps_line run.now.outcome run.now.steps)) }
 {

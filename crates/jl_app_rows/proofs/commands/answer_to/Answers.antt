@@ -2,8 +2,8 @@ use Rattle.std.proofs.Common.{◌≡◌, ◌∷◌, [], ◌∙◌, ℕ, List, ap
 use Rattle.jl_analysis.proofs.Filling.{Each, none, more, each_all, cons_is}
 use Rattle.jl_analysis.specs.Summary.{Kept, summary}
 use denote.Param.Object.{Made, read_made}
-use Rattle.jl_app.proofs.tests.answer.Goals as goal
-use Rattle.jl_app.proofs.tests.answer.OwnLists.{own-1}
+use Rattle.jl_app_rows.proofs.commands.answer_to.Goals as goal
+use Rattle.jl_app_rows.proofs.commands.answer_to.OwnLists.{own-1}
 
 -- what is known of a box, by what was put into it
 module _ (at i : own-1.I) (y : (own-1.entry i).0.Denot) (x fresh : (own-1.entry at).0.Denot)
