@@ -3,7 +3,7 @@ use crate::escapes::{bytes_of, row_text};
 use crate::fault::Fault;
 use jl_analysis::{Analysis, Crowd};
 use jl_app::jlint;
-use jl_port::{MemSink, MemSource, Same};
+use jl_port::{MemSink, MemSource, Same, Shelf, Swapped};
 use jl_rules_type::{
     BitsOfNothing, LooseEqual, NanMade, ObjectJoined, OddCompare, PutOnPrimitive, TypeofText,
     UndefinedJoined, UndefinedKey, WrappedCondition,
@@ -12,6 +12,7 @@ use jl_rules_use::{
     ExtraArguments, ForInArray, GlobalThis, LatePrototype, MixedNew, NoRadix, ObjectPrototypeWrite,
     OddPrototype, ShadowWrite, WrapperMade,
 };
+use jl_text::from_utf8;
 use std::alloc::Global;
 
 /// How many bytes sinks take in all.
@@ -28,6 +29,8 @@ pub fn answer(alloc: Global, call: &str, words: &str) -> Result<String, Fault> {
     match call {
         "each" => of_each(alloc, &bytes_of(alloc, words)?),
         "canonical" => canonical(alloc, &bytes_of(alloc, words)?),
+        "but_end" => but_end(alloc, words),
+        "lent" => of_lent(alloc, &bytes_of(alloc, words)?),
         "words" => of_words(alloc, words),
         "read_fails" => of_failing_source(alloc, words),
         "write_fails" => of_failing_sink(alloc, words),
@@ -44,12 +47,13 @@ fn row_of(alloc: Global, reply: &Reply) -> Result<String, Fault> {
     Ok(format!(in alloc; "{} {written}", reply.status)?)
 }
 
-/// What these words give, of a source and into a sink.
-fn answer_to(
+/// What these words give, of a source, into a sink and over a shelf.
+fn answer_to<H: Shelf>(
     alloc: Global,
     words: &[&str],
     source: &mut MemSource,
     sink: &mut MemSink,
+    shelf: &mut H,
 ) -> Result<Reply, Fault> {
     let boxes: [Box<dyn Analysis>; 20] = [
         Box::new(alloc, NanMade::fresh(alloc))?,
@@ -74,8 +78,7 @@ fn answer_to(
         Box::new(alloc, GlobalThis::fresh(alloc))?,
     ];
     let mut crowd = Crowd::of(Vec::from_array(alloc, boxes)?);
-    let mut shelf = Same::new();
-    let status = jlint(alloc, words, source, sink, &mut shelf, &mut crowd);
+    let status = jlint(alloc, words, source, sink, shelf, &mut crowd);
     Ok(Reply {
         status: status.code(),
         bytes: Vec::from_slice(alloc, sink.written())?,
@@ -87,13 +90,39 @@ fn of_command(alloc: Global, command: &str, script: &[u8]) -> Result<Reply, Faul
     let bytes = Vec::from_slice(alloc, script)?;
     let mut source = MemSource::new(bytes, Vec::new(alloc));
     let mut sink = MemSink::new(alloc, ROOM, ROOM, Vec::new(alloc))?;
-    answer_to(alloc, &[command], &mut source, &mut sink)
+    answer_to(alloc, &[command], &mut source, &mut sink, &mut Same::new())
 }
 
-/// What all four commands answer alike.
+/// The answer of a command without its last line.
+fn but_end(alloc: Global, words: &str) -> Result<String, Fault> {
+    let (command, script) = words.split_once(' ').ok_or(Fault::Unreadable)?;
+    let mut reply = of_command(alloc, command, &bytes_of(alloc, script)?)?;
+    reply.bytes.pop();
+    while let Some(byte) = reply.bytes.pop() {
+        if byte == b'\n' {
+            reply.bytes.push(byte)?;
+            break;
+        }
+    }
+    row_of(alloc, &reply)
+}
+
+/// What `lint` answers to the script `print(0 / 0);`, where the shelf lends this text.
+fn of_lent(alloc: Global, text: &[u8]) -> Result<String, Fault> {
+    let script = Vec::from_slice(alloc, b"print(0 / 0);")?;
+    let mut source = MemSource::new(script, Vec::new(alloc));
+    let mut sink = MemSink::new(alloc, ROOM, ROOM, Vec::new(alloc))?;
+    let mut shelf = Swapped::new(from_utf8(alloc, text)?);
+    row_of(
+        alloc,
+        &answer_to(alloc, &["lint"], &mut source, &mut sink, &mut shelf)?,
+    )
+}
+
+/// What all commands answer alike.
 fn of_each(alloc: Global, script: &[u8]) -> Result<String, Fault> {
     let first = row_of(alloc, &of_command(alloc, "lint", script)?)?;
-    for command in ["check", "print", "run"] {
+    for command in ["check", "print", "instrument", "map", "run"] {
         let other = row_of(alloc, &of_command(alloc, command, script)?)?;
         if other.as_str() != first.as_str() {
             return Ok(format!(in alloc; "{first} by lint and {other} by {command}")?);
@@ -122,7 +151,10 @@ fn of_words(alloc: Global, written: &str) -> Result<String, Fault> {
     }
     let mut source = MemSource::new(Vec::new(alloc), Vec::from_slice(alloc, &[1])?);
     let mut sink = MemSink::new(alloc, ROOM, ROOM, Vec::new(alloc))?;
-    row_of(alloc, &answer_to(alloc, &named, &mut source, &mut sink)?)
+    row_of(
+        alloc,
+        &answer_to(alloc, &named, &mut source, &mut sink, &mut Same::new())?,
+    )
 }
 
 /// Words with a space between them, or none where nothing is written.
@@ -144,7 +176,7 @@ fn of_failing_source(alloc: Global, words: &str) -> Result<String, Fault> {
     let mut sink = MemSink::new(alloc, ROOM, ROOM, Vec::new(alloc))?;
     row_of(
         alloc,
-        &answer_to(alloc, &[command], &mut source, &mut sink)?,
+        &answer_to(alloc, &[command], &mut source, &mut sink, &mut Same::new())?,
     )
 }
 
@@ -161,7 +193,7 @@ fn of_failing_sink(alloc: Global, words: &str) -> Result<String, Fault> {
     let mut sink = MemSink::new(alloc, most, ROOM, numbers_of(alloc, nth)?)?;
     row_of(
         alloc,
-        &answer_to(alloc, &[command], &mut source, &mut sink)?,
+        &answer_to(alloc, &[command], &mut source, &mut sink, &mut Same::new())?,
     )
 }
 

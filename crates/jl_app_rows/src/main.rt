@@ -45,7 +45,7 @@ fn answer(alloc: Global, row: &str) -> Result<String, Fault> {
     match call {
         "parse" => parsing::answer(alloc, words),
         "vars" | "arguments" | "strict" => hoisting::answer(alloc, call, words),
-        "budget" | "output" => running::answer(alloc, call, words),
+        "budget" | "output" | "hooks" => running::answer(alloc, call, words),
         "report" => reports::answer(alloc, words),
         _ => commands::answer(alloc, call, words),
     }

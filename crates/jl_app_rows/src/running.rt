@@ -7,15 +7,15 @@ use jl_op::{KindSet, Nobody};
 use jl_value::Outcome;
 use std::alloc::Global;
 
-/// `BUDGET SCRIPT`: of `budget` what the script prints, how it ends and how many steps it takes, and of `output` how
-/// it ends and how many bytes it prints.
+/// `BUDGET SCRIPT`: of `budget` what the script prints, how it ends and how many steps it takes, of `output` how it ends
+/// and how many bytes it prints, and of `hooks` how many operations its hooks tell of, with each budget from 0 on.
 pub fn answer(alloc: Global, call: &str, words: &str) -> Result<String, Fault> {
     let (budget, script) = words.split_once(' ').ok_or(Fault::Unreadable)?;
-    let run = run_of(
-        alloc,
-        script,
-        budget.parse::<u64>().ok().ok_or(Fault::Unreadable)?,
-    )?;
+    let budget = budget.parse::<u64>().ok().ok_or(Fault::Unreadable)?;
+    if call == "hooks" {
+        return hooks(alloc, script, budget);
+    }
+    let run = run_of(alloc, script, budget)?;
     let end = ending(alloc, &run.outcome)?;
     match call {
         "budget" => {
@@ -25,6 +25,16 @@ pub fn answer(alloc: Global, call: &str, words: &str) -> Result<String, Fault> {
         "output" => Ok(format!(in alloc; "{end} bytes={}", run.output.len())?),
         _ => Err(Fault::Unreadable),
     }
+}
+
+/// How many operations the hooks of a script tell of, with each number of steps up to this one.
+fn hooks(alloc: Global, script: &str, most: u64) -> Result<String, Fault> {
+    let mut told = String::new(alloc);
+    for budget in 0..most {
+        write!(told, "{} ", run_of(alloc, script, budget)?.hooks)?;
+    }
+    write!(told, "{}", run_of(alloc, script, most)?.hooks)?;
+    Ok(told)
 }
 
 /// The run of a script with so many steps.
