@@ -39,9 +39,9 @@ long_bytes limit None left taken long = (taken.0, omega (arith, taken.1), tt)
 long_bytes limit (Some all) left taken long = (all, long, refl)
 
 -- the answer was written
-pub ends_answered : {call : Call} (due : Due) (answer : Status) (bytes : List ℕ) → answer ≡ due.status → bytes ≡ due.bytes → IsDue call.words call.held due → Grows call.written.0 call.written.1 bytes → call.knows due.told → EndsWith call answer
+pub ends_answered : {call : Call} (due : Due) (answer : Status) (bytes : List ℕ) → answer ≡ due.status → bytes ≡ due.bytes → IsDue call.words call.held call.shelf due → Grows call.written.0 call.written.1 bytes → call.knows due.told → EndsWith call answer
 ends_answered {call} due answer bytes s b is g k = subst (λ x. EndsWith call x) (sym s) (answered due is (subst (λ x. Grows call.written.0 call.written.1 x) b g) k)
 
 -- a prefix of the answer was written
-pub ends_short : {call : Call} (due : Due) (bytes : List ℕ) (n : ℕ) → bytes ≡ due.bytes → IsDue call.words call.held due → HasRisen call.write_faults.0 call.write_faults.1 → n < length bytes → Grows call.written.0 call.written.1 (take n bytes) → call.knows due.told → EndsWith call status.WriteFault
+pub ends_short : {call : Call} (due : Due) (bytes : List ℕ) (n : ℕ) → bytes ≡ due.bytes → IsDue call.words call.held call.shelf due → HasRisen call.write_faults.0 call.write_faults.1 → n < length bytes → Grows call.written.0 call.written.1 (take n bytes) → call.knows due.told → EndsWith call status.WriteFault
 ends_short {call} due bytes n b is risen less g k = write_failed due n is risen (subst (λ x. n < length x) b less) (subst (λ x. Grows call.written.0 call.written.1 (take n x)) b g) k

@@ -16,7 +16,7 @@ use Rattle.jl_app.specs.OwnRuns.{ending_status, program_run, steps_line, uncaugh
 use Rattle.jl_app.specs.declared.status.Status.{Status}
 
 -- the run that records all kinds is the run of the program
-of_all_kinds : (kinds : KindSet) → ((kind : OpKind) → is_member kinds kind ≡ true) → (p : Program Span) (n : ℕ)
+pub of_all_kinds : (kinds : KindSet) → ((kind : OpKind) → is_member kinds kind ≡ true) → (p : Program Span) (n : ℕ)
     → built_mean (is_member kinds) p n ≡ program_run p n
 unfolding program_run
 of_all_kinds kinds all p n = ap (λ chosen. built_mean chosen p n) (fun_ext all)

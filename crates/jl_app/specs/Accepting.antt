@@ -1,5 +1,5 @@
 -- The bytes that are accepted, and as what.
-use Rattle.std.specs.Prelude.{◌≡◌, ℕ, ◌≤◌, Bool, List, Some, length, is_none}
+use Rattle.std.specs.Prelude.{◌≡◌, ℕ, ◌≤◌, Bool, List, length, is_none}
 use Rattle.std.specs.Str.{IsUtf8}
 use Rattle.jl_ast.specs.Tree.{Program}
 use Rattle.jl_text.specs.Encoding.{units_of}
@@ -9,8 +9,6 @@ use Rattle.jl_token.specs.Tokens.{Tokens}
 use Rattle.jl_grammar.specs.Accepted.{Accepted}
 use Rattle.jl_grammar.specs.Program.{Reads}
 use Rattle.jl_scope.specs.EarlyError.{first_early_error}
-use Rattle.jl_app.specs.Form.{script_of}
-use Rattle.jl_app.specs.Sums.{Script}
 
 -- the most bytes that a script has
 abbrev pub most_bytes : ℕ
@@ -44,12 +42,6 @@ pub record IsProgram (bytes : List ℕ) (p : Program Span) : Type 0 where
   pub has : HasTokens bytes tokens
   pub read : Reads tokens most_levels p
 
--- the bytes are accepted as a program that is this script
-pub record IsScript (bytes : List ℕ) (s : Script) : Type 0 where
-  pub program : Program Span
-  pub accepted : IsAccepted bytes program
-  pub is : script_of program ≡ Some s
-
--- no bytes are two scripts
+-- no bytes are accepted as two programs
 abbrev pub OneReading : Type 0
-OneReading = (bytes : List ℕ) (s t : Script) → IsScript bytes s → IsScript bytes t → s ≡ t
+OneReading = (bytes : List ℕ) (p q : Program Span) → IsAccepted bytes p → IsAccepted bytes q → p ≡ q

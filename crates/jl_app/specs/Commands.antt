@@ -13,4 +13,6 @@ abbrev pub words_of : Command → List (List ℕ)
 words_of commands.Lint = codes "lint" ∷ []
 words_of commands.Check = codes "check" ∷ []
 words_of commands.Print = codes "print" ∷ []
+words_of commands.Instrument = codes "instrument" ∷ []
+words_of commands.Map = codes "map" ∷ []
 words_of commands.Run = codes "run" ∷ []

@@ -2,7 +2,6 @@
 use Rattle.std.specs.Prelude.{[], codes, true, ◌++◌, ◌∷◌, List, ℕ}
 use Rattle.std.specs.Fmt.{decimal}
 use Rattle.jl_text.specs.Encoding.{bytes_of}
-use Rattle.jl_text.specs.declared.span.Span.{Span}
 use Rattle.jl_ast.specs.Tree.{Program}
 use Rattle.jl_value.specs.Faults.{fault_text}
 use Rattle.jl_value.specs.declared.ending.Outcome.{Outcome as Ending}
@@ -15,7 +14,7 @@ use Rattle.jl_app.specs.declared.status.Status.{Status}
 use Rattle.jl_app.specs.declared.status.Status.TheVariants as status
 
 -- the run of a program with so many steps; it calls no hook, so it is the same whichever kinds are recorded
-unfoldable pub program_run : Program Span → (steps : ℕ) → Run
+unfoldable pub program_run : {S : Type 0} → Program S → (steps : ℕ) → Run
 program_run p n = built_mean (λ kind. true) p n
 
 -- how it ended, in words

@@ -2,6 +2,7 @@ ghost use Rattle.std.specs.Prelude.{◌≡◌, ◌≤◌, ◌<◌, ◌^◌, ℕ,
 ghost use Rattle.jl_ast.specs.View.{view};
 ghost use Rattle.jl_grammar.specs.Program.{Reads};
 ghost use Rattle.jl_scope.specs.EarlyError.{first_early_error};
+ghost use Rattle.jl_simulation.specs.Plain.{HasFewIds};
 ghost use Rattle.jl_text.specs.Encoding.{units_of};
 ghost use Rattle.jl_token.specs.Tokens.{Tokens};
 ghost use Rattle.jl_app.specs.Accepting.{IsAccepted, IsText, HasTokens, IsProgram};
@@ -14,6 +15,7 @@ use jl_ast::Program;
 use jl_lex::{LexRefusal, lex};
 use jl_parse::{ParseRefusal, parse};
 use jl_scope::{ScopeRefusal, check};
+use jl_simulation::laws::few_ids;
 use jl_text::{List, Utf8Fault, from_utf8};
 use jl_token::Token;
 use std::alloc::{AllocError, Global};
@@ -120,11 +122,13 @@ fn checked(alloc: Global, source: &Source, program: &Program) -> Result<(), Unac
 pub(crate) fn accept(alloc: Global, bytes: &[u8]) -> Result<Accepted, Unaccepted>
     requires { length bytes.now ≤ 1048576 }
     ensures accepted { IfOk result (λ a. IsAccepted bytes.now (view a.program) × (a.source ≡ units_of bytes.now)) }
+    ensures few { IfOk result (λ a. HasFewIds (view a.program)) }
     ensures refused { IfErr result (Refuses bytes.now) }
 {
     let source = decoded(alloc, bytes)?;
     let tokens = lexed(alloc, &source)?;
     let program = parsed(alloc, &source, tokens.items())?;
     checked(alloc, &source, &program)?;
+    few_ids();
     Ok(Accepted { source, program })
 }

@@ -3,17 +3,21 @@ ghost use Rattle.jl_analysis.specs.Rules.{all_rules};
 ghost use Rattle.jl_op.specs.Operations.{Operation};
 ghost use Rattle.jl_app.specs.Answers.{Due, IsAnswered, line_only, refused_only};
 ghost use Rattle.jl_app.specs.Refusals.{refusal_words};
+ghost use Rattle.jl_app.specs.declared.command.Command.TheVariants as Named;
 
 use crate::accept::{Unaccepted, accept};
 use crate::check::check;
 use crate::command::Command;
 use crate::execute::execute;
+use crate::instrument::instrument;
 use crate::lint::lint;
+use crate::listing::list_map;
 use crate::print::print;
 use crate::refusal::Refusal;
 use crate::status::Status;
 use jl_analysis::{Crowd, Findings};
 use jl_op::Observer;
+use jl_port::Shelf;
 use std::alloc::{AllocError, Global};
 
 /// A status, and the bytes that are written with it.
@@ -46,20 +50,26 @@ pub(crate) fn refused(alloc: Global, refusal: &Refusal) -> Result<Answer, AllocE
 }
 
 /// What a command answers to these bytes.
-pub(crate) fn respond(
+pub(crate) fn respond<H: Shelf>(
     alloc: Global,
     command: Command,
     bytes: &[u8],
+    shelf: &mut H,
     crowd: &mut Crowd,
 ) -> Result<Answer, AllocError>
     requires small { length bytes.now ≤ 1048576 }
     requires rules { ⟦<Crowd as Findings>⟧.rules crowd.old ≡ all_rules }
     requires fresh { ⟦<Crowd as Observer>⟧.stands_for crowd.old [] }
     ensures due { IfOk result (λ a. (due : Due)
-        × IsAnswered command bytes.now due
+        × IsAnswered command bytes.now (record {
+          handed = H.handed shelf.new;
+          lent = H.lent shelf.new;
+          same = shelf.new ≡ shelf.old;
+        }) due
         × (a.status ≡ due.status)
         × (a.bytes.items ≡ due.bytes)
         × ⟦<Crowd as Observer>⟧.stands_for crowd.new due.told) }
+    ensures shelf { (command ≡ Named.Lint → ⊥) → shelf.new ≡ shelf.old }
     ensures same_rules { ⟦<Crowd as Findings>⟧.rules crowd.new ≡ ⟦<Crowd as Findings>⟧.rules crowd.old }
 {
     let accepted = match accept(alloc, bytes) {
@@ -68,9 +78,11 @@ pub(crate) fn respond(
         Err(Unaccepted::NoMemory) => return Err(AllocError),
     };
     match command {
-        Command::Lint => lint(alloc, &accepted, crowd),
+        Command::Lint => lint(alloc, &accepted, shelf, crowd),
         Command::Check => check(alloc, &accepted.program),
         Command::Print => print(alloc, &accepted.program),
+        Command::Instrument => instrument(alloc, &accepted.program),
+        Command::Map => list_map(alloc, &accepted.source, &accepted.program),
         Command::Run => execute(alloc, &accepted.program),
     }
 }

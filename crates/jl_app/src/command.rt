@@ -11,6 +11,10 @@ pub enum Command {
     Check,
     /// Writes the canonical text of a script.
     Print,
+    /// Writes the text of the woven script.
+    Instrument,
+    /// Lists the operations of a script by their ids.
+    Map,
     /// Runs a script as it stands.
     Run,
 }
@@ -32,6 +36,12 @@ impl Command {
         }
         if *word == "print" {
             return Some(Command::Print);
+        }
+        if *word == "instrument" {
+            return Some(Command::Instrument);
+        }
+        if *word == "map" {
+            return Some(Command::Map);
         }
         if *word == "run" {
             return Some(Command::Run);

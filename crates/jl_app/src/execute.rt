@@ -16,7 +16,7 @@ use jl_value::Outcome;
 use std::alloc::{AllocError, Global};
 
 /// How a run ended, in words.
-fn ending_text(alloc: Global, outcome: &Outcome) -> Result<String, AllocError>
+pub(crate) fn ending_text(alloc: Global, outcome: &Outcome) -> Result<String, AllocError>
     ensures { IfOk result (λ text. string_bytes text ≡ ending_text outcome.now) }
 {
     match outcome {
@@ -39,7 +39,11 @@ fn ending_status(outcome: &Outcome) -> Status
 }
 
 /// The line that tells what was thrown and not caught, in UTF-8, if anything was.
-fn uncaught_line(alloc: Global, heap: &Heap, outcome: &Outcome) -> Result<String, AllocError>
+pub(crate) fn uncaught_line(
+    alloc: Global,
+    heap: &Heap,
+    outcome: &Outcome,
+) -> Result<String, AllocError>
     ensures { IfOk result (λ text. string_bytes text ≡ uncaught_line heap.now outcome.now) }
 {
     match outcome {
@@ -62,7 +66,7 @@ fn steps_line(alloc: Global, outcome: &Outcome, steps: u64) -> Result<String, Al
 }
 
 /// What a run printed, what it threw, and the last line.
-pub(crate) fn written(alloc: Global, run: &Run) -> Result<Vec<u8>, AllocError>
+fn written(alloc: Global, run: &Run) -> Result<Vec<u8>, AllocError>
     ensures { IfOk result (λ bytes. bytes.items ≡ run.now.output
         ++ (uncaught_line run.now.store.heap run.now.outcome ++ steps_line run.now.outcome run.now.steps)) }
 {

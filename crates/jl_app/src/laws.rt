@@ -1,11 +1,18 @@
 //! Laws over the definitions; each is the contract of a function that does nothing.
+ghost use Rattle.std.specs.Prelude.{◌≤◌, ℕ, List, length};
+ghost use Rattle.jl_ast.specs.Tree.{Program};
+ghost use Rattle.jl_text.specs.declared.span.Span.{Span};
+ghost use Rattle.jl_app.specs.WovenText.{woven_text};
+ghost use Rattle.jl_app.specs.inner.Woven.{IsWovenWell};
 
-ghost use Rattle.jl_effects.specs.Matching.{Simulates};
-ghost use Rattle.jl_effects.specs.Running.{any};
-ghost use Rattle.jl_app.specs.Answers.{own_run_of, woven_run_of};
-ghost use Rattle.jl_app.specs.Accepting.{OneReading};
+ghost use Rattle.jl_app.specs.Accepting.{IsAccepted, OneReading};
 ghost use Rattle.jl_app.specs.Refusals.{NeverBoth, AcceptedOrRefused};
-ghost use Rattle.jl_app.specs.Sums.{Script};
+
+use jl_machine::laws::built_runs_are_meant;
+use jl_meaning::laws::more_budget;
+use jl_quiet::laws::quiet_means;
+use jl_read_back::laws::{woven_keeps_rules, woven_reads_back};
+use jl_simulation::laws::accepted_scripts_simulate;
 
 /// No bytes are both accepted and refused.
 pub fn never_both()
@@ -17,15 +24,22 @@ pub fn accepted_or_refused()
     ensures { AcceptedOrRefused }
 {}
 
-/// No bytes are two scripts.
+/// No bytes are accepted as two programs.
 pub fn one_reading()
     ensures { OneReading }
 {}
 
-/// The woven script does what the script does by itself: its runs are over where those are, in the same way and with
-/// the same output, its hooks tell of the script's operations in order, and it takes at most 32 times as many steps
-/// and 64.
-#[tactic(auto, using(crate::proofs::Headline::script_simulates))]
-pub fn woven_scripts_simulate()
-    ensures { (s : Script) → Simulates any (own_run_of s) (woven_run_of s) }
-{}
+/// What an answer of `lint` rests on: the woven script of an accepted one simulates it, its text reads back as it, and
+/// its run is what it means.
+pub(crate) fn scripts_are_woven_well()
+    ensures { (bytes : List ℕ) (p : Program Span) → IsAccepted bytes p → length (woven_text p) ≤ 67108928
+        → IsWovenWell p }
+{
+    accepted_scripts_simulate();
+    built_runs_are_meant::<()>();
+    more_budget::<jl_text::Span>();
+    quiet_means::<()>();
+    jl_grammar::laws::one_reading();
+    woven_reads_back();
+    woven_keeps_rules();
+}

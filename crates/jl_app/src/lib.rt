@@ -6,23 +6,18 @@ mod answer;
 mod check;
 mod command;
 mod execute;
-mod form;
+mod instrument;
 pub mod laws;
 mod lint;
-mod outcome;
+mod listing;
 mod position;
 mod print;
+mod read_back;
 mod refusal;
 mod report;
-mod run;
 mod source;
 mod status;
 mod top;
-mod tree;
-mod weave;
 
 pub use status::Status;
 pub use top::jlint;
-
-#[cfg(test)]
-mod tests;

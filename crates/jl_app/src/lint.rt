@@ -1,29 +1,33 @@
-ghost use Rattle.std.specs.Prelude.{◌≡◌, ◌^◌, ◌<◌, List as Items, Some, [], ◌++◌, IfOk, OnOk};
+//! A script that runs woven, with its report.
+ghost use Rattle.std.specs.Prelude.{◌≡◌, ℕ, List as Items, All, [], ◌++◌, length, IfOk, OnOk};
 ghost use Rattle.std.specs.String.{string_bytes};
+ghost use Rattle.jl_analysis.specs.Rules.{IsRule, all_rules};
 ghost use Rattle.jl_ast.specs.View.{view};
-ghost use Rattle.jl_analysis.specs.Rules.{all_rules};
+ghost use Rattle.jl_effects.specs.Running.{state_of as world_of};
+ghost use Rattle.jl_simulation.specs.Plain.{HasFewIds};
 ghost use Rattle.jl_token.specs.Tokens.{Tokens};
 ghost use Rattle.jl_token.specs.declared.token.Token.{Token as OneToken};
-ghost use Rattle.jl_effects.specs.Running.{state_of as world_of};
-ghost use Rattle.jl_app.specs.Answers.{Due, IsLinted, IsRunAnswer, end_line, woven_run};
-ghost use Rattle.jl_app.specs.Form.{script_of};
-ghost use Rattle.jl_app.specs.Reporting.{Lines};
-ghost use Rattle.jl_app.specs.Sums.{parts, Script as PlainScript};
-ghost use Rattle.jl_app.specs.Texts.{outcome_text, outcome_status};
-ghost use Rattle.jl_app.specs.View.{view_script};
+ghost use Rattle.jl_app.specs.Answers.{Due, IsLinted, IsReported, end_line, hooked_run, linted, lint_status};
+ghost use Rattle.jl_app.specs.OwnRuns.{uncaught_line};
+ghost use Rattle.jl_app.specs.Reporting.{Lines, lines_text};
+ghost use Rattle.jl_app.specs.WovenText.{woven_text};
 
 use crate::accept::Accepted;
 use crate::answer::{Answer, line_only};
-use crate::form::script;
-use crate::outcome::{Outcome, Run};
+use crate::execute::{ending_text, uncaught_line};
+use crate::instrument::woven_text;
+use crate::listing::places;
+use crate::read_back::{Unread, read_back};
 use crate::report::{report, text};
-use crate::run::run;
-use crate::source::Source;
 use crate::status::Status;
-use crate::tree::Script;
-use crate::weave::weave;
 use jl_analysis::{Crowd, Findings};
-use jl_op::Observer;
+use jl_ast::Program;
+use jl_machine::{Run, run};
+use jl_map::map_of;
+use jl_op::{KindSet, Observer};
+use jl_port::Shelf;
+use jl_report::Line;
+use jl_value::Outcome;
 use std::alloc::{AllocError, Global};
 
 /// How many steps a script's own run has.
@@ -32,46 +36,45 @@ pub(crate) const BUDGET: u64 = 1_000_000;
 /// How many steps the run of a woven script has.
 const WOVEN_BUDGET: u64 = 32 * BUDGET + 64;
 
-/// How a run ended, in words.
-fn end_text(alloc: Global, outcome: Outcome) -> Result<String, AllocError>
-    ensures { IfOk result (λ text. string_bytes text ≡ outcome_text outcome) }
-{
-    match outcome {
-        Outcome::Normal => String::from_str(alloc, "normal"),
-        Outcome::Fault(fault) => format!(in alloc; "fault {fault}"),
-        Outcome::Spent => String::from_str(alloc, "spent"),
-    }
-}
-
-/// The last line of an answer with a run.
+/// The last line of an answer with a report.
 fn end_line(alloc: Global, run: &Run, reports: usize) -> Result<String, AllocError>
-    ensures { IfOk result (λ text. string_bytes text
-        ≡ end_line (outcome_text run.now.outcome) run.now.steps run.now.hooks reports) }
+    ensures { IfOk result (λ text. string_bytes text ≡ end_line run.now.outcome run.now.steps run.now.hooks reports) }
 {
-    let end = end_text(alloc, run.outcome)?;
+    let end = ending_text(alloc, &run.outcome)?;
     let steps = run.steps;
     let hooks = run.hooks;
     format!(in alloc; "jlint: {end} steps={steps} hooks={hooks} reports={reports}\n")
 }
 
-/// The status of a run with so many report lines.
-fn run_status(outcome: Outcome, reports: usize) -> Status
-    ensures { result ≡ outcome_status outcome reports }
+/// The status of a run with these report lines.
+fn lint_status(outcome: &Outcome, lines: &[Line]) -> Status
+    ensures { result ≡ lint_status outcome.now lines.now }
 {
     match outcome {
         Outcome::Normal => {
-            if reports == 0 {
+            if lines.is_empty() {
                 Status::Clean
             } else {
                 Status::Reports
             }
         }
+        Outcome::Thrown(_) => Status::Thrown,
         Outcome::Fault(_) => Status::Fault,
         Outcome::Spent => Status::Spent,
     }
 }
 
-/// The output of a run, its report and the last line.
+/// What a run threw, if it threw anything, and its last line.
+fn ending(alloc: Global, run: &Run, reports: usize) -> Result<String, AllocError>
+    ensures { IfOk result (λ text. string_bytes text ≡ uncaught_line run.now.store.heap run.now.outcome
+        ++ end_line run.now.outcome run.now.steps run.now.hooks reports) }
+{
+    let uncaught = uncaught_line(alloc, run.store.heap(), &run.outcome)?;
+    let end = end_line(alloc, run, reports)?;
+    format!(in alloc; "{uncaught}{end}")
+}
+
+/// The output of a run, two texts after it.
 pub(crate) fn joined(output: Vec<u8>, report: &[u8], end: &str) -> Result<Vec<u8>, AllocError>
     ensures { IfOk result (λ bytes. bytes.items ≡ output.items ++ (report.now ++ end.now)) }
 {
@@ -81,56 +84,76 @@ pub(crate) fn joined(output: Vec<u8>, report: &[u8], end: &str) -> Result<Vec<u8
     Ok(bytes)
 }
 
-/// Runs a script, and answers what it printed, the report, and the last line.
+/// What a run printed, the text of its report, what it threw, and the last line.
+fn written(alloc: Global, run: &Run, lines: &[Line]) -> Result<Vec<u8>, AllocError>
+    requires { All (λ x. IsRule x.rule) lines.now }
+    ensures { IfOk result (λ bytes. bytes.items ≡ run.now.output
+        ++ (lines_text lines.now ++ (uncaught_line run.now.store.heap run.now.outcome
+        ++ end_line run.now.outcome run.now.steps run.now.hooks (length lines.now)))) }
+{
+    let report = text(alloc, lines)?;
+    let ending = ending(alloc, run, lines.len())?;
+    joined(
+        Vec::from_slice(alloc, run.output.items())?,
+        &report,
+        &ending,
+    )
+}
+
+/// Runs the program that is read from the shelf, and answers what it printed, the report of its operations at the
+/// places of the script, and how it ended.
 fn run_answer(
     alloc: Global,
-    source: &Source,
-    script: &Script,
+    accepted: &Accepted,
+    woven: &Program,
     crowd: &mut Crowd,
 ) -> Result<Answer, AllocError>
-    requires parts { parts (view_script script.now).argument < 2 ^ 31 }
-    requires lexed { (tokens : Items OneToken) × Tokens source.now tokens }
+    requires few { HasFewIds (view accepted.now.program) }
+    requires lexed { (tokens : Items OneToken) × Tokens accepted.now.source tokens }
     requires rules { ⟦<Crowd as Findings>⟧.rules crowd.old ≡ all_rules }
     requires fresh { ⟦<Crowd as Observer>⟧.stands_for crowd.old [] }
-    ensures run { IfOk result (λ a. (lines : Lines)
-        × IsRunAnswer source.now (view_script script.now) lines a.status a.bytes.items) }
+    ensures run { IfOk result (λ a. (lines : Lines) × (hooks : ℕ)
+        × IsReported accepted.now.source (view accepted.now.program) (world_of (hooked_run (view woven.now))).hooks
+        lines hooks
+        × (a.status ≡ (linted (hooked_run (view woven.now)) lines hooks).status)
+        × (a.bytes.items ≡ (linted (hooked_run (view woven.now)) lines hooks).bytes)) }
     ensures told { OnOk result (⟦<Crowd as Observer>⟧.stands_for crowd.new
-        (world_of (woven_run (view_script script.now))).hooks) }
+        (world_of (hooked_run (view woven.now))).hooks) }
     ensures same_rules { ⟦<Crowd as Findings>⟧.rules crowd.new ≡ ⟦<Crowd as Findings>⟧.rules crowd.old }
 {
-    let mut places = vec![in alloc; 0, 0, script.at, script.at, script.print_at]?;
-    let woven = weave(alloc, &script.argument, &mut places)?;
-    let run = run(alloc, &woven, WOVEN_BUDGET, crowd)?;
-    let lines = report(alloc, source, &places, crowd)?;
-    let reports = lines.len();
-    let status = run_status(run.outcome, reports);
-    let report = text(alloc, &lines)?;
-    let end = end_line(alloc, &run, reports)?;
+    let places = places(alloc, &map_of(alloc, &accepted.program)?)?;
+    let run = run(alloc, woven, WOVEN_BUDGET, KindSet::all(), crowd)?;
+    let lines = report(alloc, &accepted.source, &places, crowd)?;
     Ok(Answer {
-        status,
-        bytes: joined(run.output, &report, &end)?,
+        status: lint_status(&run.outcome, &lines),
+        bytes: written(alloc, &run, &lines)?,
     })
 }
 
-/// What `lint` answers to an accepted script.
-pub(crate) fn lint(
+/// What `lint` answers to an accepted script: it hands the shelf the text of the woven script, and runs the program that
+/// it reads from what the shelf lends.
+pub(crate) fn lint<H: Shelf>(
     alloc: Global,
     accepted: &Accepted,
+    shelf: &mut H,
     crowd: &mut Crowd,
 ) -> Result<Answer, AllocError>
+    requires few { HasFewIds (view accepted.now.program) }
     requires lexed { (tokens : Items OneToken) × Tokens accepted.now.source tokens }
-    requires parts { (s : PlainScript) → script_of (view accepted.now.program) ≡ Some s → parts s.argument < 2 ^ 31 }
     requires rules { ⟦<Crowd as Findings>⟧.rules crowd.old ≡ all_rules }
     requires fresh { ⟦<Crowd as Observer>⟧.stands_for crowd.old [] }
+    ensures handed { OnOk result (H.handed shelf.new ≡ woven_text (view accepted.now.program)) }
     ensures due { IfOk result (λ a. (due : Due)
-        × IsLinted accepted.now.source (view accepted.now.program) due
+        × IsLinted accepted.now.source (view accepted.now.program) (H.lent shelf.new) due
         × (a.status ≡ due.status)
         × (a.bytes.items ≡ due.bytes)
         × ⟦<Crowd as Observer>⟧.stands_for crowd.new due.told) }
     ensures same_rules { ⟦<Crowd as Findings>⟧.rules crowd.new ≡ ⟦<Crowd as Findings>⟧.rules crowd.old }
 {
-    match script(alloc, &accepted.program)? {
-        Some(script) => run_answer(alloc, &accepted.source, &script, crowd),
-        None => line_only(alloc, Status::Refused, "refused NotYet"),
+    shelf.put(woven_text(alloc, &accepted.program)?);
+    match read_back(alloc, shelf.lend()) {
+        Ok(woven) => run_answer(alloc, accepted, &woven, crowd),
+        Err(Unread::NoProgram) => line_only(alloc, Status::Refused, "refused ReadBack"),
+        Err(Unread::NoMemory) => Err(AllocError),
     }
 }

@@ -1,21 +1,25 @@
-ghost use Rattle.std.specs.Prelude.{◌≡◌, ◌≤◌, ℕ, List, [], ◌∷◌, length, Option, Some, IfOk, IsErrOf};
+ghost use Rattle.std.specs.Prelude.{◌≡◌, ◌≤◌, [], ℕ, List, Some, length, IfOk, IsErrOf};
 ghost use Rattle.jl_analysis.specs.Rules.{all_rules};
-ghost use Rattle.jl_op.specs.Operations.{Operation};
-ghost use Rattle.jl_port.specs.Bytes.{Grows};
+ghost use Rattle.jl_ast.specs.Tree.{Program as Tree};
+ghost use Rattle.jl_machine.specs.Built.{MeetsNoGap};
 ghost use Rattle.jl_port.specs.Count.{HasRisen};
-ghost use Rattle.jl_app.specs.Accepting.{IsScript};
-ghost use Rattle.jl_app.specs.Answers.{Due, IsDue, own_run};
-ghost use Rattle.jl_app.specs.Commands.{texts, words_of};
-ghost use Rattle.jl_app.specs.Endings.{EndsWith, HasAnswered, IsAboutOwnRun};
-ghost use Rattle.jl_app.specs.Sums.{Script};
-ghost use Rattle.jl_effects.specs.Running.{IsOver};
 ghost use Rattle.jl_text.specs.Encoding.{units_of};
+ghost use Rattle.jl_text.specs.declared.span.Span.{Span};
+ghost use Rattle.jl_app.specs.Accepting.{IsAccepted};
+ghost use Rattle.jl_app.specs.Answers.{Due, IsDue};
+ghost use Rattle.jl_app.specs.Commands.{texts, words_of};
+ghost use Rattle.jl_app.specs.Endings.{EndsWith, HasAnswered};
+ghost use Rattle.jl_app.specs.Headline.{IsAboutScript, woven_run};
+ghost use Rattle.jl_app.specs.ReadBack.{most_units};
+ghost use Rattle.jl_app.specs.WovenText.{woven_text};
 ghost use Rattle.jl_app.specs.declared.command.Command.{Command as Named};
+ghost use Rattle.jl_app.specs.declared.command.Command.TheVariants as named;
 ghost use Rattle.jl_app.specs.declared.top.Unanswered.TheVariants.{NoMemory};
 
 use crate::accept::MOST_BYTES;
 use crate::answer::{Answer, line_only, refused, respond};
 use crate::command::Command;
+use crate::laws::{never_both, one_reading, scripts_are_woven_well};
 use crate::refusal::Refusal;
 use crate::status::Status;
 use jl_analysis::{Crowd, Findings};
@@ -39,22 +43,29 @@ impl From<AllocError> for Unanswered {
 }
 
 /// What is due to these words, read from the source where they are a command.
-fn due<S: Source>(
+fn due<S: Source, H: Shelf>(
     alloc: Global,
     words: &[&str],
     source: &mut S,
+    shelf: &mut H,
     crowd: &mut Crowd,
 ) -> Result<Answer, Unanswered>
     requires rules { ⟦<Crowd as Findings>⟧.rules crowd.old ≡ all_rules }
     requires fresh { ⟦<Crowd as Observer>⟧.stands_for crowd.old [] }
     ensures due { IfOk result (λ a. (due : Due)
-        × IsDue (texts words.now) (S.left source.old) due
+        × IsDue (texts words.now) (S.left source.old) (record {
+          handed = H.handed shelf.new;
+          lent = H.lent shelf.new;
+          same = shelf.new ≡ shelf.old;
+        }) due
         × (a.status ≡ due.status)
         × (a.bytes.items ≡ due.bytes)
         × ⟦<Crowd as Observer>⟧.stands_for crowd.new due.told) }
     ensures fault { IsErrOf result Unanswered.ReadFault → ((c : Named) × (texts words.now ≡ words_of c))
         × HasRisen (S.faults source.old) (S.faults source.new)
+        × (shelf.new ≡ shelf.old)
         × ⟦<Crowd as Observer>⟧.stands_for crowd.new [] }
+    ensures shelf { (texts words.now ≡ words_of named.Lint → ⊥) → shelf.new ≡ shelf.old }
     ensures unread { ((c : Named) → texts words.now ≡ words_of c → ⊥) → source.new ≡ source.old }
     ensures same_rules { ⟦<Crowd as Findings>⟧.rules crowd.new ≡ ⟦<Crowd as Findings>⟧.rules crowd.old }
 {
@@ -62,7 +73,7 @@ fn due<S: Source>(
         return Ok(line_only(alloc, Status::BadWords, "bad words")?);
     };
     match read_all(alloc, source, MOST_BYTES) {
-        Ok(bytes) => Ok(respond(alloc, command, &bytes, crowd)?),
+        Ok(bytes) => Ok(respond(alloc, command, &bytes, shelf, crowd)?),
         Err(ReadRefusal::TooLong) => Ok(refused(alloc, &Refusal::TooLong)?),
         Err(ReadRefusal::ReadFault) => Err(Unanswered::ReadFault),
         Err(ReadRefusal::NoMemory) => Err(Unanswered::NoMemory),
@@ -72,15 +83,16 @@ fn due<S: Source>(
 /// Runs the command that the words name, with the source as the script and the sink for the answer; all bytes of an
 /// answer are made before the first is written.
 ///
-/// `check` tells whether a script is accepted, `print` writes its canonical text, `run` runs it, and `lint` rewrites
-/// one of the form `print(SUM);`, runs that and reports. The shelf is for a text between its printing and its reading,
-/// and no command uses it yet.
+/// `check` tells whether a script is accepted, `print` writes its canonical text, `instrument` that of the woven script,
+/// `map` what the ids in that stand for, and `run` runs the script as it stands. `lint` hands the shelf the text that
+/// `instrument` writes, runs the program that it reads from what the shelf lends, and reports. No other command touches
+/// the shelf, and neither does a refusal that comes before.
 pub fn jlint<S: Source, K: Sink, H: Shelf>(
     alloc: Global,
     words: &[&str],
     source: &mut S,
     sink: &mut K,
-    _shelf: &mut H,
+    shelf: &mut H,
     crowd: &mut Crowd,
 ) -> Status
     requires rules { ⟦<Crowd as Findings>⟧.rules crowd.old ≡ all_rules }
@@ -91,24 +103,39 @@ pub fn jlint<S: Source, K: Sink, H: Shelf>(
       read_faults = (S.faults source.old, S.faults source.new);
       written = (K.written sink.old, K.written sink.new);
       write_faults = (K.faults sink.old, K.faults sink.new);
+      shelf = record {
+        handed = H.handed shelf.new;
+        lent = H.lent shelf.new;
+        same = shelf.new ≡ shelf.old;
+      };
       knows = λ told. ⟦<Crowd as Observer>⟧.stands_for crowd.new told;
     }) result }
-    // For a source that tells its bytes, the answer to a script is about the script's own run, where that is over.
-    ensures headline { (bytes : List ℕ) (s : Script) → S.left source.old ≡ Some bytes
-        → IsScript bytes s → texts words.now ≡ words_of Command.Lint
-        → IsOver (own_run s) → HasAnswered result → IsAboutOwnRun (record {
+    // For a source that tells its bytes and a shelf that lends what it was handed, the answer to an accepted script is
+    // about the script's own run, as long as its woven text is no longer than a shelf's may be and no builtin is called
+    // that is not built.
+    ensures headline { (bytes : List ℕ) (p : Tree Span) → S.left source.old ≡ Some bytes → IsAccepted bytes p
+        → texts words.now ≡ words_of named.Lint → H.lent shelf.new ≡ H.handed shelf.new → HasAnswered result
+        → length (woven_text p) ≤ most_units → MeetsNoGap (woven_run p) → IsAboutScript (record {
           words = texts words.now;
           held = S.left source.old;
           read_faults = (S.faults source.old, S.faults source.new);
           written = (K.written sink.old, K.written sink.new);
           write_faults = (K.faults sink.old, K.faults sink.new);
+          shelf = record {
+            handed = H.handed shelf.new;
+            lent = H.lent shelf.new;
+            same = shelf.new ≡ shelf.old;
+          };
           knows = λ told. ⟦<Crowd as Observer>⟧.stands_for crowd.new told;
-        }) (units_of bytes) s result }
+        }) (units_of bytes) p result }
     ensures unread { ((c : Named) → texts words.now ≡ words_of c → ⊥) → source.new ≡ source.old }
-    ensures shelf { _shelf.new ≡ _shelf.old }
+    ensures shelf { (texts words.now ≡ words_of named.Lint → ⊥) → shelf.new ≡ shelf.old }
     ensures same_rules { ⟦<Crowd as Findings>⟧.rules crowd.new ≡ ⟦<Crowd as Findings>⟧.rules crowd.old }
 {
-    let answer = match due(alloc, words, source, crowd) {
+    one_reading();
+    never_both();
+    scripts_are_woven_well();
+    let answer = match due(alloc, words, source, shelf, crowd) {
         Ok(answer) => answer,
         Err(Unanswered::ReadFault) => return Status::ReadFault,
         Err(Unanswered::NoMemory) => return Status::NoMemory,

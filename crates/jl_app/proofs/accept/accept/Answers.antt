@@ -1,6 +1,6 @@
 use Rattle.std.proofs.Common.{ap, length, arith}
 use Rattle.jl_token.proofs.Whole.{few_tokens}
-use Rattle.jl_app.proofs.Scripts.{units_within}
+use Rattle.jl_app.proofs.Sizes.{units_within}
 use Rattle.jl_app.proofs.accept.accept.Goals as goal
 
 pub parsed-requires : goal.parsed-requires
@@ -14,3 +14,6 @@ parsed-requires c =
       ap length text.1,
       ap length c.items.ensures,
     )
+
+pub returns-clause-few : goal.returns-clause-few
+returns-clause-few c = few_ids c.few_ids.ensures c.args.bytes.now _ (_)

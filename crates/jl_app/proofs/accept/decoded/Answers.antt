@@ -1,7 +1,7 @@
 use Rattle.std.proofs.Common.{refl, sym, subst, ap, length, arith}
 use Rattle.jl_app.specs.declared.refusal.Refusal.TheVariants.{NotUtf8}
 use Rattle.jl_app.specs.Refusals.{IsRefused, not_utf8}
-use Rattle.jl_app.proofs.Scripts.{units_within}
+use Rattle.jl_app.proofs.Sizes.{units_within}
 use Rattle.jl_app.proofs.accept.decoded.Goals as goal
 
 pub new-requires : goal.new-requires

@@ -1,21 +1,28 @@
-use Rattle.std.proofs.Common.{sym, subst}
+use Rattle.std.proofs.Common.{sym, subst, refl}
 use Rattle.std.proofs.lemmas.Result.{IfOk-weaker}
 use Rattle.jl_ast.specs.View.{view}
 use Rattle.jl_token.specs.Tokens.{Tokens}
-use Rattle.jl_app.specs.Answers.{refused_only, functions_line, counted, canonical_text, written, executed, ended, budget}
-use Rattle.jl_app.specs.Answers.{refused, accepted, IsAnswered, IsLinted}
+use Rattle.jl_app.specs.Answers.{budget, canonical_text, counted, ended, executed, functions_line, instrumented, listed}
+use Rattle.jl_app.specs.Answers.{listed_map, refused, refused_only, text, written}
 use Rattle.jl_app.specs.OwnRuns.{program_run}
 use Rattle.jl_app.specs.Refusals.{refusal_words}
-use Rattle.jl_app.proofs.Scripts.{script_small}
+use Rattle.jl_app.specs.declared.command.Command.TheVariants as commands
+use Rattle.jl_app.proofs.Answering.{answers, both_ok, same_source}
 use Rattle.jl_app.proofs.answer.respond.Goals as goal
+
+pub lint-requires-clause-few : goal.lint-requires-clause-few
+lint-requires-clause-few g c = c.in-Ok.ensures.few
 
 pub lint-requires-clause-lexed : goal.lint-requires-clause-lexed
 lint-requires-clause-lexed g c =
     let is = c.in-Ok.ensures.accepted in
     (is.0.tokens, subst (λ us. Tokens us is.0.tokens) (sym is.1) is.0.lexed)
 
-pub lint-requires-clause-parts : goal.lint-requires-clause-parts
-lint-requires-clause-parts g c = λ s is. script_small c.args.bytes.now _ s c.in-Ok.ensures.accepted.0 is
+pub instrument-requires : goal.instrument-requires
+instrument-requires g c = c.in-Ok.ensures.few
+
+pub list_map-requires : goal.list_map-requires
+list_map-requires g c = c.in-Ok.ensures.few
 
 pub returns-in-Err-Refused-clause-due : goal.returns-in-Err-Refused-clause-due
 returns-in-Err-Refused-clause-due g c =
@@ -25,7 +32,7 @@ returns-in-Err-Refused-clause-due g c =
     IfOk-weaker c.refused.result _ _
     (λ a answered. (
       refused_only (refusal_words cause),
-      refused cause why,
+      refused cause why refl,
       answered.0,
       answered.1,
       c.requires.fresh,
@@ -35,16 +42,15 @@ pub returns-in-Lint-clause-due : goal.returns-in-Lint-clause-due
 returns-in-Lint-clause-due g c =
     let p = view c.in-Ok.accepted.program in
     let is = c.in-Ok.ensures.accepted in
-    IfOk-weaker c.lint.result _ _
-    (λ a due. (
+    both_ok c.lint.result _ _
+    (λ a due handed. (
       due.0,
-      subst (λ x. IsAnswered x c.args.bytes.now due.0) (sym c.in-Lint.is)
-          (accepted p is.0 (subst (λ us. IsLinted us p due.0) is.1 due.1)),
+      answers _ commands.Lint p c.in-Lint.is is.0 (handed, same_source _ _ is.1 due.1),
       due.2,
       due.3,
       due.4,
     ))
-    c.lint.ensures.due
+    c.lint.ensures.due c.lint.ensures.handed
 
 pub returns-in-Check-clause-due : goal.returns-in-Check-clause-due
 returns-in-Check-clause-due g c =
@@ -52,8 +58,7 @@ returns-in-Check-clause-due g c =
     IfOk-weaker c.check.result _ _
     (λ a answered. (
       functions_line p,
-      subst (λ x. IsAnswered x c.args.bytes.now (functions_line p)) (sym c.in-Check.is)
-          (accepted p c.in-Ok.ensures.accepted.0 counted),
+      answers _ commands.Check p c.in-Check.is c.in-Ok.ensures.accepted.0 (refl, counted),
       answered.0,
       answered.1,
       c.requires.fresh,
@@ -66,13 +71,39 @@ returns-in-Print-clause-due g c =
     IfOk-weaker c.print.result _ _
     (λ a answered. (
       canonical_text p,
-      subst (λ x. IsAnswered x c.args.bytes.now (canonical_text p)) (sym c.in-Print.is)
-          (accepted p c.in-Ok.ensures.accepted.0 written),
+      answers _ commands.Print p c.in-Print.is c.in-Ok.ensures.accepted.0 (refl, written),
       answered.0,
       answered.1,
       c.requires.fresh,
     ))
     c.print.ensures
+
+pub returns-in-Instrument-clause-due : goal.returns-in-Instrument-clause-due
+returns-in-Instrument-clause-due g c =
+    let p = view c.in-Ok.accepted.program in
+    IfOk-weaker c.instrument.result _ _
+    (λ a answered. (
+      instrumented p,
+      answers _ commands.Instrument p c.in-Instrument.is c.in-Ok.ensures.accepted.0 (refl, text),
+      answered.0,
+      answered.1,
+      c.requires.fresh,
+    ))
+    c.instrument.ensures
+
+pub returns-in-Map-clause-due : goal.returns-in-Map-clause-due
+returns-in-Map-clause-due g c =
+    let p = view c.in-Ok.accepted.program in
+    let is = c.in-Ok.ensures.accepted in
+    IfOk-weaker c.list_map.result _ _
+    (λ a answered. (
+      listed_map c.in-Ok.accepted.source p,
+      answers _ commands.Map p c.in-Map.is is.0 (refl, listed),
+      answered.0,
+      answered.1,
+      c.requires.fresh,
+    ))
+    c.list_map.ensures
 
 pub returns-clause-due : goal.returns-clause-due
 returns-clause-due g c =
@@ -81,7 +112,7 @@ returns-clause-due g c =
     IfOk-weaker c.execute.result _ _
     (λ a answered. (
       due,
-      subst (λ x. IsAnswered x c.args.bytes.now due) (sym c.in-Run.is) (accepted p c.in-Ok.ensures.accepted.0 ended),
+      answers _ commands.Run p c.in-Run.is c.in-Ok.ensures.accepted.0 (refl, ended),
       answered.0,
       answered.1,
       c.requires.fresh,

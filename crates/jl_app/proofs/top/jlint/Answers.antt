@@ -7,7 +7,7 @@ use Rattle.jl_app.proofs.top.jlint.Goals as goal
 pub returns-in-Err-ReadFault-clause-ends : goal.returns-in-Err-ReadFault-clause-ends
 returns-in-Err-ReadFault-clause-ends g c =
     let fault = c.in-Err-ReadFault.ensures.fault (ap Err c.in-Err-ReadFault.field-0-is) in
-    read_failed fault.0.0 fault.0.1 fault.1 refl fault.2
+    read_failed fault.0.0 fault.0.1 fault.1 refl fault.2 fault.3
 
 pub returns-in-Err-NoMemory-clause-ends : goal.returns-in-Err-NoMemory-clause-ends
 returns-in-Err-NoMemory-clause-ends g c = no_memory refl
@@ -26,7 +26,9 @@ returns-clause-ends g c =
     failed.fault failed.proper failed.front due.4
 
 pub returns-in-Ok-write_all-clause-headline : goal.returns-in-Ok-write_all-clause-headline
-returns-in-Ok-write_all-clause-headline g c =
+returns-in-Ok-write_all-clause-headline g c = λ bytes p held is words lent answers fits gap.
     let due = c.in-Ok.ensures.due in
-    headline (ends_answered due.0 c.in-Ok.answer.status c.deref.result.now due.2 (c.deref.ensures.value ∙ due.3)
-    due.1 c.in-Ok-write_all.ensures.all due.4)
+    headline c.one_reading.ensures c.never_both.ensures
+    (ends_answered due.0 c.in-Ok.answer.status c.deref.result.now due.2 (c.deref.ensures.value ∙ due.3) due.1
+    c.in-Ok-write_all.ensures.all due.4)
+    bytes p (c.scripts_are_woven_well.ensures bytes p is fits) held is words lent answers gap

@@ -18,5 +18,15 @@ returns-then-eq-3 c =
 
 pub returns-then-eq-4 : goal.returns-then-eq-4
 returns-then-eq-4 c =
-    (is_word _ _ (codes "run") c.eq-4.result
+    (is_word _ _ (codes "instrument") c.eq-4.result
     (one_word c.args.words.now _ c.in-len1.len_at_least c.in-len1.len_below) c.eq-4.ensures).0 c.if-eq-4.true
+
+pub returns-then-eq-5 : goal.returns-then-eq-5
+returns-then-eq-5 c =
+    (is_word _ _ (codes "map") c.eq-5.result
+    (one_word c.args.words.now _ c.in-len1.len_at_least c.in-len1.len_below) c.eq-5.ensures).0 c.if-eq-5.true
+
+pub returns-then-eq-6 : goal.returns-then-eq-6
+returns-then-eq-6 c =
+    (is_word _ _ (codes "run") c.eq-6.result
+    (one_word c.args.words.now _ c.in-len1.len_at_least c.in-len1.len_below) c.eq-6.ensures).0 c.if-eq-6.true

@@ -1,0 +1,192 @@
+-- What is answered of a run that simulates another is about that other run.
+use Rattle.std.proofs.Common.{◌≡◌, ℕ, ◌+◌, ◌*◌, ◌-◌, ◌≤◌, ◌⊎◌, inl, inr, ◌++◌, List, [], ◌∷◌, length, filter, refl, sym, ap, ◌∙◌}
+use Rattle.std.proofs.Common.{subst, arith}
+use Rattle.jl_ast.specs.Tree.{Program}
+use Rattle.jl_effects.specs.Growing.{IsLonger, IsPrefix}
+use Rattle.jl_effects.specs.Matching.{Alike, IsWithin, SameSeen, Simulates, bound}
+use Rattle.jl_effects.specs.Running.{Ends, Fails, Finish, IsOver, Over, RunState, Spent, state_of as world_of, steps_taken}
+use Rattle.jl_effects.specs.Traces.{with_state, without_operations}
+use Rattle.jl_machine.specs.Runs.{ending_of}
+use Rattle.jl_meaning.specs.Mean as mean
+use Rattle.jl_meaning.specs.Store.{Store}
+use Rattle.jl_op.specs.Chosen.{every_kind, is_kept}
+use Rattle.jl_op.specs.Operations.{Operation}
+use Rattle.jl_port.specs.Bytes.{Grows}
+use Rattle.jl_text.specs.declared.span.Span.{Span}
+use Rattle.jl_value.specs.declared.ending.Completion.{Completion}
+use Rattle.jl_value.specs.declared.ending.Completion.TheVariants as completion
+use Rattle.jl_value.specs.declared.ending.Fault.{Fault}
+use Rattle.jl_value.specs.declared.ending.Outcome.TheVariants as ending
+use Rattle.jl_app.specs.Answers.{IsReported, end_line, lint_bytes, lint_status, woven_budget}
+use Rattle.jl_app.specs.Endings.{Call}
+use Rattle.jl_app.specs.Headline.{IsAbout, IsAboutBeginning}
+use Rattle.jl_app.specs.OwnRuns.{uncaught_line}
+use Rattle.jl_app.specs.Reporting.{Lines, lines_text}
+use Rattle.jl_app.specs.declared.status.Status.{Status}
+
+abbrev World : Type 0
+World = RunState Store Operation
+
+-- every operation is of some kind
+all_kept : (l : List Operation) → filter (is_kept every_kind) l ≡ l
+unfolding is_kept
+all_kept [] = refl
+all_kept (o ∷ l) = ap (λ r. o ∷ r) (all_kept l)
+
+same_ending : (e : Finish Fault Completion) (m n : ℕ) (v w : World) → ending_of (Over e m v) ≡ ending_of (Over e n w)
+same_ending (Ends completion.Normal) m n v w = refl
+same_ending (Ends (completion.Throw x)) m n v w = refl
+same_ending (Ends _) m n v w = refl
+same_ending (Fails f) m n v w = refl
+
+-- a run, but for what the script itself performs
+abbrev pub quiet : mean.Run → mean.Run
+quiet r = with_state without_operations r
+
+quiet_ending : (r : mean.Run) → ending_of (quiet r) ≡ ending_of r
+quiet_ending (Over e n w) = same_ending e n n (without_operations w) w
+quiet_ending (Spent w) = refl
+
+quiet_steps : (n : ℕ) (r : mean.Run) → steps_taken n (quiet r) ≡ steps_taken n r
+quiet_steps n (Over e k w) = refl
+quiet_steps n (Spent w) = refl
+
+quiet_world : (r : mean.Run) → world_of (quiet r) ≡ without_operations (world_of r)
+quiet_world (Over e k w) = refl
+quiet_world (Spent w) = refl
+
+-- runs that are alike
+
+alike_ending : (own other : mean.Run) → Alike (is_kept every_kind) own other → ending_of other ≡ ending_of own
+alike_ending (Over e m v) (Over f n w) a = ap (λ x. ending_of (Over x n w)) a.0 ∙ same_ending e n m w v
+alike_ending (Over e m v) (Spent w) a = absurd a
+alike_ending (Spent v) r a = absurd a
+
+alike_seen : (own other : mean.Run) → Alike (is_kept every_kind) own other
+    → SameSeen (is_kept every_kind) (world_of own) (world_of other)
+alike_seen (Over e m v) (Over f n w) a = a.1
+alike_seen (Over e m v) (Spent w) a = absurd a
+alike_seen (Spent v) r a = absurd a
+
+alike_over : (own other : mean.Run) → Alike (is_kept every_kind) own other → IsOver own × IsOver other
+alike_over (Over e m v) (Over f n w) a = (tt, tt)
+alike_over (Over e m v) (Spent w) a = absurd a
+alike_over (Spent v) r a = absurd a
+
+-- the bytes of the answer
+same_bytes : (own r : mean.Run) (lines : Lines) (steps count : ℕ) → (world_of r).output ≡ (world_of own).output
+    → (world_of r).store ≡ (world_of own).store → ending_of r ≡ ending_of own
+    → lint_bytes r lines steps count ≡ lint_bytes own lines steps count
+same_bytes own r lines steps count out store end =
+    ap (λ o. o ++ (lines_text lines ++ (uncaught_line (world_of r).store.heap (ending_of r)
+    ++ end_line (ending_of r) steps count (length lines)))) out
+    ∙ ap (λ (s : Store). (world_of own).output ++ (lines_text lines ++ (uncaught_line s.heap (ending_of r)
+    ++ end_line (ending_of r) steps count (length lines)))) store
+    ∙ ap (λ e. (world_of own).output ++ (lines_text lines ++ (uncaught_line (world_of own).store.heap e
+    ++ end_line e steps count (length lines)))) end
+
+-- more steps than a run needs are not taken
+same_steps : (n d : ℕ) (r longer : mean.Run) → IsOver r → IsLonger d r longer
+    → steps_taken (n + d) longer ≡ steps_taken n r
+same_steps n d (Over e left w) longer over is =
+    ap (steps_taken (n + d)) is ∙ (let same : (n + d) - (left + d) ≡ n - left = omega arith in same)
+same_steps n d (Spent w) longer over is = absurd over
+
+module _ {call : Call} (units : List ℕ) (p : Program Span) where
+  -- what is answered of a run that is alike, and took so many steps
+  about : (n steps : ℕ) (own other : mean.Run) (lines : Lines) (count : ℕ) → Alike (is_kept every_kind) own other
+      → IsReported units p (world_of (quiet other)).hooks lines count
+      → Grows call.written.0 call.written.1 (lint_bytes (quiet other) lines steps count)
+      → call.knows (world_of (quiet other)).hooks → steps_taken n own ≤ steps → steps ≤ 32 * steps_taken n own + 64
+      → IsAbout call units p n own (lint_status (ending_of (quiet other)) lines)
+  about n steps own other lines count alike report grows knows low high =
+      let seen = alike_seen own other alike in
+      let world = quiet_world other in
+      let end : ending_of (quiet other) ≡ ending_of own = quiet_ending other ∙ alike_ending own other alike in
+      let hooks : (world_of (quiet other)).hooks ≡ (world_of own).operations =
+      ap (λ (w : World). w.hooks) world ∙ seen.hooks ∙ all_kept (world_of own).operations in
+      record {
+        over = (alike_over own other alike).0;
+        lines = lines;
+        steps = steps;
+        count = count;
+        report = subst (λ ops. IsReported units p ops lines count) hooks report;
+        status = ap (λ e. lint_status e lines) end;
+        written = subst (λ bytes. Grows call.written.0 call.written.1 bytes)
+            (same_bytes own (quiet other) lines steps count (ap (λ (w : World). w.output) world ∙ seen.output)
+            (ap (λ (w : World). w.store) world ∙ seen.store) end)
+            grows;
+        no_fewer = low;
+        not_many_more = high;
+        told = subst (λ ops. call.knows ops) hooks knows;
+      }
+
+  module _ (first second : ℕ → mean.Run) (simulates : Simulates (is_kept every_kind) first second) (most : ℕ)
+      (lines : Lines) (count : ℕ)
+      (report : IsReported units p (world_of (quiet (second most))).hooks lines count)
+      (grows : Grows call.written.0 call.written.1
+      (lint_bytes (quiet (second most)) lines (steps_taken most (quiet (second most))) count))
+      (knows : call.knows (world_of (quiet (second most))).hooks) where
+    same_taken : steps_taken most (quiet (second most)) ≡ steps_taken most (second most)
+    same_taken = quiet_steps most (second most)
+
+    -- the first run is over within fewer steps
+    pub about_own : (n d : ℕ) → most ≡ bound n → most ≡ n + d → IsLonger d (first n) (first (n + d))
+        → IsOver (first n)
+        → IsAbout call units p n (first n) (lint_status (ending_of (quiet (second most))) lines)
+    about_own n d enough more longer over =
+        let alike : Alike (is_kept every_kind) (first n) (second most) =
+        subst (λ m. Alike (is_kept every_kind) (first n) (second m)) (sym enough) (simulates.follows n over) in
+        let ended = (alike_over (first n) (second most) alike).1 in
+        let taken : steps_taken most (first most) ≡ steps_taken n (first n) =
+        ap (λ m. steps_taken m (first m)) more ∙ same_steps n d (first n) (first (n + d)) over longer in
+        let told = same_taken in
+        let low = simulates.no_fewer most ended in
+        let high = simulates.not_many_more most ended in
+        about n (steps_taken most (quiet (second most))) (first n) (second most) lines count alike report grows knows
+        (omega arith) (omega arith)
+
+    -- the second one is over
+    about_most : IsOver (second most)
+        → IsAbout call units p most (first most) (lint_status (ending_of (quiet (second most))) lines)
+    about_most ended =
+        let alike = simulates.leads most ended in
+        let told = same_taken in
+        let low = simulates.no_fewer most ended in
+        let high = simulates.not_many_more most ended in
+        about most (steps_taken most (quiet (second most))) (first most) (second most) lines count alike report grows
+        knows (omega arith) (omega arith)
+
+    -- the second one is spent
+    about_beginning : (w : World) → second most ≡ Spent w → most ≡ woven_budget
+        → IsAboutBeginning call units p (first most) (lint_status (ending_of (quiet (second most))) lines)
+    about_beginning w is budget =
+        let spent : quiet (second most) ≡ Spent (without_operations w) = ap quiet is in
+        let within = simulates.within most w is in
+        record {
+          output = w.output;
+          operations = w.hooks;
+          lines = lines;
+          count = count;
+          printed = within.output;
+          performed = subst (λ ops. IsPrefix w.hooks ops) (all_kept (world_of (first most)).operations) within.hooks;
+          report = subst (λ (r : mean.Run). IsReported units p (world_of r).hooks lines count) spent report;
+          status = ap (λ (r : mean.Run). lint_status (ending_of r) lines) spent;
+          written = subst (λ n. Grows call.written.0 call.written.1
+              (w.output ++ (lines_text lines ++ end_line ending.Spent n count (length lines)))) budget
+              (subst (λ (r : mean.Run). Grows call.written.0 call.written.1
+              (lint_bytes r lines (steps_taken most r) count)) spent grows);
+          told = subst (λ (r : mean.Run). call.knows (world_of r).hooks) spent knows;
+        }
+
+    -- one of the two
+    pub about_script : most ≡ woven_budget
+        → IsAbout call units p most (first most) (lint_status (ending_of (quiet (second most))) lines)
+        ⊎ IsAboutBeginning call units p (first most) (lint_status (ending_of (quiet (second most))) lines)
+    about_script budget = go (second most) refl
+      where
+        go : (r : mean.Run) → second most ≡ r
+            → IsAbout call units p most (first most) (lint_status (ending_of (quiet (second most))) lines)
+            ⊎ IsAboutBeginning call units p (first most) (lint_status (ending_of (quiet (second most))) lines)
+        go (Over e left w) is = inl (about_most (subst (λ (x : mean.Run). IsOver x) (sym is) tt))
+        go (Spent w) is = inr (about_beginning w is budget)

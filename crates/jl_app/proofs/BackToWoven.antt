@@ -1,0 +1,60 @@
+-- The text of the woven script reads back as the woven script.
+use Rattle.std.proofs.Common.{◌≡◌, ◌∙◌, ◌≤◌, ap, sym, subst, refl, arith, length, true, ℕ, List, Option, None, Some}
+use Rattle.jl_ast.specs.Spans.{without_spans}
+use Rattle.jl_ast.specs.Tree.{Program}
+use Rattle.jl_grammar.specs.Laws.{OneReading}
+use Rattle.jl_grammar.specs.Program.{Reads}
+use Rattle.jl_op.specs.Chosen.{every_kind}
+use Rattle.jl_print.proofs.WithoutPlaces.{same_text}
+use Rattle.jl_print.specs.Layout.{text_of}
+use Rattle.jl_read_back.specs.EarlyErrors.{FirstIsReservedName, IsReservedName}
+use Rattle.jl_read_back.specs.Laws.{WovenReadsBack}
+use Rattle.jl_scope.specs.EarlyError.{first_early_error}
+use Rattle.jl_scope.specs.Kinds.{early, left_out, reserved_name, EarlyError}
+use Rattle.jl_simulation.specs.Weaving.{woven_program}
+use Rattle.jl_text.specs.Encoding.{units_of}
+use Rattle.jl_text.specs.declared.span.Span.{Span}
+use Rattle.jl_token.proofs.Whole.{tokens_are_unique}
+use Rattle.jl_token.specs.Tokens.{Tokens}
+use Rattle.jl_app.specs.Accepting.{IsAccepted}
+use Rattle.jl_app.specs.ReadBack.{IsReadBack, may_run}
+use Rattle.jl_app.specs.WovenText.{woven_text}
+use Rattle.jl_app.specs.inner.Woven.{ReadsBackAsWoven}
+use Rattle.jl_app.proofs.Legal.{nothing_wrong}
+use Rattle.jl_app.proofs.Placed.{with_places}
+use Rattle.jl_app.proofs.Sizes.{units_within}
+
+-- where only the name of the hooks is wrong, a program may run
+name_may : (o : Option EarlyError) → IsReservedName o → may_run o ≡ true
+name_may None is = refl
+name_may (Some (early rule at)) is = absurd is
+name_may (Some (left_out x at)) is = absurd is
+name_may (Some (reserved_name at)) is = refl
+
+pub back_to_woven : WovenReadsBack → FirstIsReservedName → OneReading → (bytes : List ℕ) (p : Program Span)
+    → length (woven_text p) ≤ 67108928 → IsAccepted bytes p → ReadsBackAsWoven p
+back_to_woven reads keeps one bytes p short is =
+    let placed = with_places (woven_program every_kind p) in
+    let within = units_within bytes is.decoded in
+    let few = is.short in
+    let back = (reads every_kind (units_of bytes) is.tokens 200 1000 p placed.0 is.lexed is.read (omega arith)
+    (omega arith) placed.1).back in
+    let text : text_of placed.0 ≡ woven_text p =
+    sym (same_text placed.0) ∙ ap (λ (w : Program (Unit {0})). text_of w) placed.1 in
+    let lexed : Tokens (woven_text p) back.tokens = subst (λ t. Tokens t back.tokens) text back.lexed in
+    record {
+      program = back.program;
+      read = record {
+        short = short;
+        tokens = back.tokens;
+        lexed = lexed;
+        read = back.read;
+        sound = name_may (first_early_error back.program)
+            (keeps every_kind p back.program (nothing_wrong bytes p is) (back.same ∙ placed.1));
+      };
+      same = λ q read.
+          let tokens = tokens_are_unique (woven_text p) read.tokens back.tokens read.lexed lexed in
+          let program = one back.tokens 1000 q back.program
+          (subst (λ ts. Reads ts 1000 q) tokens read.read) back.read in
+          ap (λ (r : Program Span). without_spans r) program ∙ back.same ∙ placed.1;
+    }

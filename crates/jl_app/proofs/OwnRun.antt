@@ -1,0 +1,68 @@
+-- What the laws of the lower crates come to for a script and its woven one.
+use Rattle.std.proofs.Common.{◌≡◌, ◌∙◌, ◌+◌, true, ap, sym, ℕ}
+use Rattle.jl_ast.specs.Spans.{without_spans}
+use Rattle.jl_ast.specs.Tree.{Program}
+use Rattle.jl_effects.specs.Growing.{IsLonger}
+use Rattle.jl_effects.specs.Matching.{Simulates}
+use Rattle.jl_effects.specs.Running.{nothing_done, run}
+use Rattle.jl_effects.specs.Traces.{quietly, with_state, without_operations}
+use Rattle.jl_machine.specs.Built.{MeetsNoGap, whole_mean}
+use Rattle.jl_machine.specs.Runs.{built_mean}
+use Rattle.jl_machine.specs.Starts.{without_ids}
+use Rattle.jl_meaning.specs.FunctionTable.{function_table}
+use Rattle.jl_meaning.specs.Mean.{language, mean, script}
+use Rattle.jl_meaning.specs.Realm.{realm}
+use Rattle.jl_op.specs.Chosen.{every_kind, is_kept, Kinds}
+use Rattle.jl_quiet.proofs.Bare.{without_again}
+use Rattle.jl_quiet.specs.QuietMean.{QuietMeans}
+use Rattle.jl_simulation.specs.Simulation.{WovenSimulates}
+use Rattle.jl_simulation.specs.Weaving.{woven_program}
+use Rattle.jl_state.specs.Jobs.{job}
+use Rattle.jl_text.specs.declared.span.Span.{Span}
+use Rattle.jl_app.specs.Answers.{woven_budget}
+use Rattle.jl_app.specs.Headline.{own_run, woven_mean, woven_run}
+use Rattle.jl_app.specs.OwnRuns.{program_run}
+
+pub own_simulates : (p : Program Span) → WovenSimulates every_kind p
+    → Simulates (is_kept every_kind) (own_run p) (woven_mean p)
+unfolding own_run woven_mean
+own_simulates p simulates = simulates
+
+pub own_longer : ((chosen : Kinds) (p : Program Span) (n d : ℕ)
+    → IsLonger d (mean chosen p n) (mean chosen p (n + d)))
+    → (p : Program Span) (n d : ℕ) → IsLonger d (own_run p n) (own_run p (n + d))
+unfolding own_run
+own_longer law p n d = law every_kind p n d
+
+-- without a gap, what is built of a program is what it means, as that looks from its hooks
+built_is_quiet : (w : Program (Unit {0})) (n : ℕ) → QuietMeans every_kind w
+    → whole_mean every_kind w n ≡ built_mean every_kind w n
+    → built_mean every_kind w n ≡ with_state without_operations (mean every_kind w n)
+unfolding whole_mean
+built_is_quiet w n means whole = sym whole ∙ sym (means n)
+
+pub woven_runs : ((chosen : Kinds) (w : Program (Unit {0})) → QuietMeans chosen w)
+    → ((chosen : Kinds) (w : Program (Unit {0})) (n : ℕ) → MeetsNoGap (built_mean chosen w n)
+    → whole_mean chosen w n ≡ built_mean chosen w n)
+    → (p : Program Span) → MeetsNoGap (woven_run p)
+    → woven_run p ≡ with_state without_operations (woven_mean p woven_budget)
+unfolding woven_run program_run woven_mean
+woven_runs means built p gap =
+    let w = woven_program every_kind p in
+    built_is_quiet w woven_budget (means every_kind w) (built every_kind w woven_budget gap)
+
+same_ids : (q : Program Span) (w : Program (Unit {0})) → without_spans q ≡ w → without_ids q ≡ without_ids w
+same_ids q w is = sym (without_again (λ s. tt) q) ∙ ap (λ (r : Program (Unit {0})). without_ids r) is
+
+same_built : (q : Program Span) (w : Program (Unit {0})) (n : ℕ) → without_spans q ≡ w
+    → built_mean every_kind q n ≡ built_mean every_kind w n
+unfolding built_mean
+same_built q w n is =
+    ap (λ (r : Program ℕ). run language (quietly (is_kept every_kind)) (job (function_table r)) n (script r)
+    (nothing_done realm)) (same_ids q w is)
+
+-- a program that is the woven one but for places runs as that one does
+pub same_run : (p q : Program Span) → without_spans q ≡ woven_program every_kind p
+    → program_run q woven_budget ≡ woven_run p
+unfolding woven_run program_run
+same_run p q is = same_built q (woven_program every_kind p) woven_budget is

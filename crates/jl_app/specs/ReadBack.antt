@@ -1,0 +1,30 @@
+-- The program that is read from the text that a shelf lends.
+use Rattle.std.specs.Prelude.{◌≡◌, ℕ, ◌≤◌, Bool, true, false, List, Option, Some, None, length}
+use Rattle.jl_ast.specs.Tree.{Program}
+use Rattle.jl_grammar.specs.Program.{Reads}
+use Rattle.jl_scope.specs.EarlyError.{first_early_error, EarlyError, early, left_out, reserved_name}
+use Rattle.jl_text.specs.declared.span.Span.{Span}
+use Rattle.jl_token.specs.declared.token.Token.{Token}
+use Rattle.jl_token.specs.Tokens.{Tokens}
+
+-- the most units that the text has, and the most levels of the program
+abbrev pub most_units : ℕ
+most_units = 67108928
+
+abbrev pub most_levels : ℕ
+most_levels = 1000
+
+-- of all that may be wrong with a program, this is only that it names the hooks, as a woven program does
+abbrev pub may_run : Option EarlyError → Bool
+may_run None = true
+may_run (Some (early rule s)) = false
+may_run (Some (left_out name s)) = false
+may_run (Some (reserved_name s)) = true
+
+-- the text reads as this program, in which no early rule is broken and no left-out name is used
+pub record IsReadBack (text : List ℕ) (p : Program Span) : Type 0 where
+  pub short : length text ≤ most_units
+  pub tokens : List Token
+  pub lexed : Tokens text tokens
+  pub read : Reads tokens most_levels p
+  pub sound : may_run (first_early_error p) ≡ true

@@ -1,0 +1,36 @@
+//! The text of the woven script.
+ghost use Rattle.std.specs.Prelude.{◌≡◌, IfOk};
+ghost use Rattle.jl_ast.specs.View.{view};
+ghost use Rattle.jl_simulation.specs.Plain.{HasFewIds};
+ghost use Rattle.jl_app.specs.Answers.{instrumented};
+ghost use Rattle.jl_app.specs.WovenText.{woven_text};
+
+use crate::answer::Answer;
+use crate::status::Status;
+use jl_ast::Program;
+use jl_op::KindSet;
+use jl_text::to_utf8;
+use jl_weave::weave;
+use std::alloc::{AllocError, Global};
+
+/// The canonical text of a program that is woven for operations of all kinds, in UTF-16 units.
+pub(crate) fn woven_text(alloc: Global, program: &Program) -> Result<Vec<u16>, AllocError>
+    requires { HasFewIds (view program.now) }
+    ensures { IfOk result (λ text. text.items ≡ woven_text (view program.now)) }
+{
+    let woven = weave(alloc, program, KindSet::all())?;
+    jl_print::print(alloc, &woven)
+}
+
+/// What `instrument` answers to a script that is accepted as this program.
+pub(crate) fn instrument(alloc: Global, program: &Program) -> Result<Answer, AllocError>
+    requires { HasFewIds (view program.now) }
+    ensures { IfOk result (λ a. (a.status ≡ (instrumented (view program.now)).status)
+        × (a.bytes.items ≡ (instrumented (view program.now)).bytes)) }
+{
+    let text = woven_text(alloc, program)?;
+    Ok(Answer {
+        status: Status::Clean,
+        bytes: to_utf8(alloc, &text)?,
+    })
+}

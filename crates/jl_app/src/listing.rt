@@ -1,0 +1,72 @@
+//! The map of a script, as lines.
+ghost use Rattle.std.specs.Prelude.{◌≡◌, IfOk};
+ghost use Rattle.std.specs.String.{string_bytes};
+ghost use Rattle.jl_ast.specs.View.{view};
+ghost use Rattle.jl_simulation.specs.Plain.{HasFewIds};
+ghost use Rattle.jl_app.specs.Answers.{listed_map};
+ghost use Rattle.jl_app.specs.MapLines.{begins, entry_line, map_lines};
+
+use crate::answer::Answer;
+use crate::source::Source;
+use crate::status::Status;
+use jl_ast::Program;
+use jl_map::map_of;
+use jl_op::{OpId, OpKind, OpMap};
+use jl_text::Span;
+use std::alloc::{AllocError, Global};
+
+/// The line of an entry of a map.
+fn entry_line(
+    alloc: Global,
+    source: &Source,
+    id: u32,
+    kind: OpKind,
+    part: Span,
+) -> Result<String, AllocError>
+    ensures { IfOk result (λ text. string_bytes text ≡ entry_line source.now id (kind, part)) }
+{
+    let name = kind.name();
+    let position = source.position(part.from);
+    format!(in alloc; "{id} {name} {position}\n")
+}
+
+/// The lines of a map, by rising ids.
+fn map_lines(alloc: Global, source: &Source, map: &OpMap) -> Result<Vec<u8>, AllocError>
+    ensures { IfOk result (λ text. text.items ≡ map_lines source.now map.now) }
+{
+    let mut text = Vec::new(alloc);
+    for before in 0..map.len() {
+        let id = OpId(before + 1);
+        let line = entry_line(alloc, source, before + 1, map.kind_of(id), map.place_of(id))?;
+        text.extend_from_slice(line.as_bytes())?;
+    }
+    Ok(text)
+}
+
+/// Where the parts begin that do the operations of a map, by rising ids.
+pub(crate) fn places(alloc: Global, map: &OpMap) -> Result<Vec<u32>, AllocError>
+    ensures { IfOk result (λ places. places.items ≡ begins map.now) }
+{
+    let mut places = Vec::new(alloc);
+    for before in 0..map.len() {
+        places.push(map.place_of(OpId(before + 1)).from)?;
+    }
+    Ok(places)
+}
+
+/// What `map` answers to the script in a source that is accepted as this program.
+pub(crate) fn list_map(
+    alloc: Global,
+    source: &Source,
+    program: &Program,
+) -> Result<Answer, AllocError>
+    requires { HasFewIds (view program.now) }
+    ensures { IfOk result (λ a. (a.status ≡ (listed_map source.now (view program.now)).status)
+        × (a.bytes.items ≡ (listed_map source.now (view program.now)).bytes)) }
+{
+    let map = map_of(alloc, program)?;
+    Ok(Answer {
+        status: Status::Clean,
+        bytes: map_lines(alloc, source, &map)?,
+    })
+}
