@@ -46,7 +46,7 @@ meets_no_gap (Over (Ends c) left w) lines tells = tt
 meets_no_gap (Spent w) lines tells = tt
 
 -- What holds of the answer to what the woven script means, without what it performs itself, holds of what `lint` answers.
-module _ {call : Call} (p : Program Span) (well : IsWovenWell p) (units : List ℕ) (Says : Status → Type 0) where
+module _ (call : Call) (p : Program Span) (well : IsWovenWell p) (units : List ℕ) (Says : Status → Type 0) where
   abbrev Holds : mean.Run → Lines → ℕ → Type 0
   Holds r lines count =
       IsReported units p (world_of r).hooks lines count
@@ -114,15 +114,15 @@ module _ {call : Call} {answer : Status} (one : OneReading) (never : NeverBoth) 
 
   in_time : IsOver (own_run p budget) → about p budget answer
   in_time over =
-      says_so p well (units_of bytes) (about p budget) one never ends bytes held is words lent answers refl tells
-      (λ lines count report grows knows. about_own (units_of bytes) p (own_run p) (woven_mean p) well.simulates
+      says_so call p well (units_of bytes) (about p budget) one never ends bytes held is words lent answers refl tells
+      (λ lines count report grows knows. about_own call (units_of bytes) p (own_run p) (woven_mean p) well.simulates
       woven_budget lines count report grows knows budget (31 * budget + 64) refl refl
       (well.longer budget (31 * budget + 64)) over)
 
   in_any_case : about_some p answer
   in_any_case =
-      says_so p well (units_of bytes) (about_some p) one never ends bytes held is words lent answers refl tells
-      (λ lines count report grows knows. about_script (units_of bytes) p (own_run p) (woven_mean p) well.simulates
+      says_so call p well (units_of bytes) (about_some p) one never ends bytes held is words lent answers refl tells
+      (λ lines count report grows knows. about_script call (units_of bytes) p (own_run p) (woven_mean p) well.simulates
       woven_budget lines count report grows knows refl)
 
   pub headline : IsAboutScript call (units_of bytes) p answer
