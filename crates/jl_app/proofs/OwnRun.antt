@@ -39,15 +39,24 @@ built_is_quiet : (w : Program (Unit {0})) (n : ℕ) → QuietMeans every_kind w
     → built_mean every_kind w n ≡ with_state without_operations (mean every_kind w n)
 built_is_quiet w n means built = sym built ∙ sym (means n)
 
+runs_with : ((chosen : Kinds) (w : Program (Unit {0})) → QuietMeans chosen w)
+    → ((chosen : Kinds) (w : Program (Unit {0})) (n : ℕ) → MeetsNoGap (built_mean chosen w n)
+    → quiet_mean chosen w n ≡ built_mean chosen w n)
+    → (p : Program Span) (n : ℕ) → MeetsNoGap (program_run (woven_program every_kind p) n)
+    → program_run (woven_program every_kind p) n ≡ with_state without_operations (woven_mean p n)
+unfolding program_run woven_mean
+runs_with means built p n gap =
+    let w = woven_program every_kind p in
+    built_is_quiet w n (means every_kind w) (built every_kind w n gap)
+
+-- so is the run of the woven script, whose steps stand in a word that is not opened here
 pub woven_runs : ((chosen : Kinds) (w : Program (Unit {0})) → QuietMeans chosen w)
     → ((chosen : Kinds) (w : Program (Unit {0})) (n : ℕ) → MeetsNoGap (built_mean chosen w n)
     → quiet_mean chosen w n ≡ built_mean chosen w n)
     → (p : Program Span) → MeetsNoGap (woven_run p)
     → woven_run p ≡ with_state without_operations (woven_mean p woven_budget)
-unfolding woven_run program_run woven_mean
-woven_runs means built p gap =
-    let w = woven_program every_kind p in
-    built_is_quiet w woven_budget (means every_kind w) (built every_kind w woven_budget gap)
+unfolding woven_run
+woven_runs means built p gap = runs_with means built p woven_budget gap
 
 same_ids : (q : Program Span) (w : Program (Unit {0})) → without_spans q ≡ w → without_ids q ≡ without_ids w
 same_ids q w is = sym (without_again (λ s. tt) q) ∙ ap (λ (r : Program (Unit {0})). without_ids r) is

@@ -9,7 +9,7 @@ use Rattle.jl_app.proofs.Linting.{is_linted, told}
 use Rattle.jl_app.proofs.lint.run_answer.Goals as goal
 
 pub returns-clause-run : goal.returns-clause-run
-returns-clause-run c =
+returns-clause-run g c =
     let run : Run = c.in_ok-run.run' in
     is_linted _ _ run c.all.result c.all.ensures (view c.args.woven.now)
     (c.in_ok-run.ensures.is [] c.requires.fresh) c.args.accepted.now.source (view c.args.accepted.now.program)
@@ -20,6 +20,6 @@ returns-clause-run c =
     ++ end_line run.outcome run.steps run.hooks (length l)))) c.deref-3.ensures.value)
 
 pub returns-clause-told : goal.returns-clause-told
-returns-clause-told c =
+returns-clause-told g c =
     told _ _ c.in_ok-run.run' c.all.result c.all.ensures (view c.args.woven.now)
     (c.in_ok-run.ensures.is [] c.requires.fresh)
