@@ -1,4 +1,4 @@
-use Rattle.std.proofs.Common.{ap, arith, length, rules, subst}
+use Rattle.std.proofs.Common.{◌∙◌, ap, arith, length, rules, subst, sym}
 use Rattle.jl_ast.specs.View.{view}
 use Rattle.jl_grammar.specs.Program.{Reads}
 use Rattle.jl_token.proofs.Whole.{few_tokens}
@@ -29,3 +29,8 @@ returns-clause-read c =
       sound = sound;
     })
     c.program_of.ensures.read c.program_of.ensures.sound
+
+pub returns-clause-only : goal.returns-clause-only
+returns-clause-only c = λ p read.
+    let same = c.in_ok-tokens.ensures.only read.tokens read.lexed in
+    c.program_of.ensures.only p (subst (λ ts. Reads ts 1000 p) (sym (c.items.ensures ∙ same)) read.read) read.sound
