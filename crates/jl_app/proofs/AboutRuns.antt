@@ -92,7 +92,7 @@ same_steps n d (Over e left w) longer over is =
     ap (steps_taken (n + d)) is ∙ (let same : (n + d) - (left + d) ≡ n - left = omega arith in same)
 same_steps n d (Spent w) longer over is = absurd over
 
-module _ {call : Call} (units : List ℕ) (p : Program Span) where
+module _ (call : Call) (units : List ℕ) (p : Program Span) where
   -- what is answered of a run that is alike, and took so many steps
   about : (n steps : ℕ) (own other : mean.Run) (lines : Lines) (count : ℕ) → Alike (is_kept every_kind) own other
       → IsReported units p (world_of (quiet other)).hooks lines count

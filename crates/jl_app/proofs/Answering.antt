@@ -29,3 +29,9 @@ same_source {p} {lent} {due} units same is linted = subst (λ us. IsLinted us p 
 pub always_ok : {T E K : Type 0} (r : Result T E) → K → OnOk r K
 always_ok (Ok x) k = k
 always_ok (Err e) k = tt
+
+-- two things that hold of the value
+pub both_hold : {T E : Type 0} (r : Result T E) (P Q R : T → Type 0) → ((x : T) → P x → Q x → R x) → IfOk r P
+    → IfOk r Q → IfOk r R
+both_hold (Ok x) P Q R f p q = f x p q
+both_hold (Err e) P Q R f p q = tt

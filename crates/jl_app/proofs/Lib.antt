@@ -13,4 +13,5 @@ pub mod Endings
 pub mod AboutRuns
 pub mod BackToWoven
 pub mod OwnRun
+pub mod WovenWell
 pub mod Headline

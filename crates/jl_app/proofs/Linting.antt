@@ -1,5 +1,5 @@
 -- The answer that the code makes of the run of a woven program is the one that is due.
-use Rattle.std.proofs.Common.{◌≡◌, ◌∙◌, ◌++◌, ◌<◌, ◌^◌, ◌==◌, ℕ, List, [], ◌∷◌, ap, false, length, refl, subst, true}
+use Rattle.std.proofs.Common.{◌≡◌, ◌∙◌, ◌++◌, ◌<◌, ◌^◌, ℕ, List, [], ap, length, subst, true}
 use Rattle.jl_ast.specs.Tree.{Program}
 use Rattle.jl_effects.specs.Running.{state_of as world_of, steps_taken}
 use Rattle.jl_machine.specs.Runs.{built_mean, ending_of, IsRun}
@@ -14,8 +14,6 @@ use Rattle.jl_app.specs.Answers.{IsReported, end_line, hooked_run, lint_status, 
 use Rattle.jl_app.specs.OwnRuns.{uncaught_line}
 use Rattle.jl_app.specs.Reporting.{IsReport, Lines, lines_text}
 use Rattle.jl_app.specs.declared.status.Status.{Status}
-use Rattle.jl_app.specs.declared.status.Status.TheVariants as status
-use Rattle.jl_value.specs.declared.ending.Outcome.TheVariants as ending
 use Rattle.jl_app.proofs.Executing.{of_all_kinds}
 
 module _ {O : Type 0} (stands_for : O → List Operation → Type 0) (o : O) (r : Run) (kinds : KindSet)
@@ -64,12 +62,3 @@ module _ {O : Type 0} (stands_for : O → List Operation → Type 0) (o : O) (r 
     st ∙ ap (λ e. lint_status e lines) is_hooked.outcome,
     same_bytes lines bytes b,
   )
-
--- the status of a run that ended normally
-pub no_lines : (lines : Lines) → (length lines == 0) ≡ true → lint_status ending.Normal lines ≡ status.Clean
-no_lines [] e = refl
-no_lines (line ∷ lines) e = absurd (cc)
-
-pub some_lines : (lines : Lines) → (length lines == 0) ≡ false → lint_status ending.Normal lines ≡ status.Reports
-some_lines [] e = absurd (cc)
-some_lines (line ∷ lines) e = refl

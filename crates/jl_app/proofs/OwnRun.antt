@@ -6,15 +6,14 @@ use Rattle.jl_effects.specs.Growing.{IsLonger}
 use Rattle.jl_effects.specs.Matching.{Simulates}
 use Rattle.jl_effects.specs.Running.{nothing_done, run}
 use Rattle.jl_effects.specs.Traces.{quietly, with_state, without_operations}
-use Rattle.jl_machine.specs.Built.{MeetsNoGap, whole_mean}
+use Rattle.jl_machine.specs.Built.{MeetsNoGap}
 use Rattle.jl_machine.specs.Runs.{built_mean}
-use Rattle.jl_machine.specs.Starts.{without_ids}
 use Rattle.jl_meaning.specs.FunctionTable.{function_table}
 use Rattle.jl_meaning.specs.Mean.{language, mean, script}
 use Rattle.jl_meaning.specs.Realm.{realm}
 use Rattle.jl_op.specs.Chosen.{every_kind, is_kept, Kinds}
 use Rattle.jl_quiet.proofs.Bare.{without_again}
-use Rattle.jl_quiet.specs.QuietMean.{QuietMeans}
+use Rattle.jl_quiet.specs.QuietMean.{QuietMeans, quiet_mean, without_ids}
 use Rattle.jl_simulation.specs.Simulation.{WovenSimulates}
 use Rattle.jl_simulation.specs.Weaving.{woven_program}
 use Rattle.jl_state.specs.Jobs.{job}
@@ -36,20 +35,28 @@ own_longer law p n d = law every_kind p n d
 
 -- without a gap, what is built of a program is what it means, as that looks from its hooks
 built_is_quiet : (w : Program (Unit {0})) (n : ℕ) → QuietMeans every_kind w
-    → whole_mean every_kind w n ≡ built_mean every_kind w n
+    → quiet_mean every_kind w n ≡ built_mean every_kind w n
     → built_mean every_kind w n ≡ with_state without_operations (mean every_kind w n)
-unfolding whole_mean
-built_is_quiet w n means whole = sym whole ∙ sym (means n)
+built_is_quiet w n means built = sym built ∙ sym (means n)
 
+runs_with : ((chosen : Kinds) (w : Program (Unit {0})) → QuietMeans chosen w)
+    → ((chosen : Kinds) (w : Program (Unit {0})) (n : ℕ) → MeetsNoGap (built_mean chosen w n)
+    → quiet_mean chosen w n ≡ built_mean chosen w n)
+    → (p : Program Span) (n : ℕ) → MeetsNoGap (program_run (woven_program every_kind p) n)
+    → program_run (woven_program every_kind p) n ≡ with_state without_operations (woven_mean p n)
+unfolding program_run woven_mean
+runs_with means built p n gap =
+    let w = woven_program every_kind p in
+    built_is_quiet w n (means every_kind w) (built every_kind w n gap)
+
+-- so is the run of the woven script, whose steps stand in a word that is not opened here
 pub woven_runs : ((chosen : Kinds) (w : Program (Unit {0})) → QuietMeans chosen w)
     → ((chosen : Kinds) (w : Program (Unit {0})) (n : ℕ) → MeetsNoGap (built_mean chosen w n)
-    → whole_mean chosen w n ≡ built_mean chosen w n)
+    → quiet_mean chosen w n ≡ built_mean chosen w n)
     → (p : Program Span) → MeetsNoGap (woven_run p)
     → woven_run p ≡ with_state without_operations (woven_mean p woven_budget)
-unfolding woven_run program_run woven_mean
-woven_runs means built p gap =
-    let w = woven_program every_kind p in
-    built_is_quiet w woven_budget (means every_kind w) (built every_kind w woven_budget gap)
+unfolding woven_run
+woven_runs means built p gap = runs_with means built p woven_budget gap
 
 same_ids : (q : Program Span) (w : Program (Unit {0})) → without_spans q ≡ w → without_ids q ≡ without_ids w
 same_ids q w is = sym (without_again (λ s. tt) q) ∙ ap (λ (r : Program (Unit {0})). without_ids r) is

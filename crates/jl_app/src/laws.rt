@@ -4,7 +4,6 @@ ghost use Rattle.jl_ast.specs.Tree.{Program};
 ghost use Rattle.jl_text.specs.declared.span.Span.{Span};
 ghost use Rattle.jl_app.specs.WovenText.{woven_text};
 ghost use Rattle.jl_app.specs.inner.Woven.{IsWovenWell};
-
 ghost use Rattle.jl_app.specs.Accepting.{IsAccepted, OneReading};
 ghost use Rattle.jl_app.specs.Refusals.{NeverBoth, AcceptedOrRefused};
 

@@ -1,7 +1,6 @@
 ghost use Rattle.std.specs.Prelude.{◌≡◌, ◌≤◌, [], ℕ, List, Some, length, IfOk, IsErrOf};
 ghost use Rattle.jl_analysis.specs.Rules.{all_rules};
 ghost use Rattle.jl_ast.specs.Tree.{Program as Tree};
-ghost use Rattle.jl_machine.specs.Built.{MeetsNoGap};
 ghost use Rattle.jl_port.specs.Count.{HasRisen};
 ghost use Rattle.jl_text.specs.Encoding.{units_of};
 ghost use Rattle.jl_text.specs.declared.span.Span.{Span};
@@ -9,7 +8,7 @@ ghost use Rattle.jl_app.specs.Accepting.{IsAccepted};
 ghost use Rattle.jl_app.specs.Answers.{Due, IsDue};
 ghost use Rattle.jl_app.specs.Commands.{texts, words_of};
 ghost use Rattle.jl_app.specs.Endings.{EndsWith, HasAnswered};
-ghost use Rattle.jl_app.specs.Headline.{IsAboutScript, woven_run};
+ghost use Rattle.jl_app.specs.Headline.{IsAboutScript, TellsNoGap};
 ghost use Rattle.jl_app.specs.ReadBack.{most_units};
 ghost use Rattle.jl_app.specs.WovenText.{woven_text};
 ghost use Rattle.jl_app.specs.declared.command.Command.{Command as Named};
@@ -111,11 +110,11 @@ pub fn jlint<S: Source, K: Sink, H: Shelf>(
       knows = λ told. ⟦<Crowd as Observer>⟧.stands_for crowd.new told;
     }) result }
     // For a source that tells its bytes and a shelf that lends what it was handed, the answer to an accepted script is
-    // about the script's own run, as long as its woven text is no longer than a shelf's may be and no builtin is called
-    // that is not built.
+    // about the script's own run, as long as its woven text is no longer than a shelf's may be and the answer tells of
+    // no builtin that is not built.
     ensures headline { (bytes : List ℕ) (p : Tree Span) → S.left source.old ≡ Some bytes → IsAccepted bytes p
         → texts words.now ≡ words_of named.Lint → H.lent shelf.new ≡ H.handed shelf.new → HasAnswered result
-        → length (woven_text p) ≤ most_units → MeetsNoGap (woven_run p) → IsAboutScript (record {
+        → length (woven_text p) ≤ most_units → TellsNoGap p result → IsAboutScript (record {
           words = texts words.now;
           held = S.left source.old;
           read_faults = (S.faults source.old, S.faults source.new);

@@ -1,6 +1,10 @@
-use Rattle.std.proofs.Common.{ap, length, arith}
+use Rattle.std.proofs.Common.{ap, length, subst, arith}
+use Rattle.jl_ast.specs.View.{view}
+use Rattle.jl_grammar.specs.Program.{Reads}
 use Rattle.jl_token.proofs.Whole.{few_tokens}
-use Rattle.jl_app.proofs.Sizes.{units_within}
+use Rattle.jl_token.specs.Tokens.{Tokens}
+use Rattle.jl_app.proofs.Refusing.{legal}
+use Rattle.jl_app.proofs.Sizes.{few_ids, units_within}
 use Rattle.jl_app.proofs.accept.accept.Goals as goal
 
 pub parsed-requires : goal.parsed-requires
@@ -16,4 +20,14 @@ parsed-requires c =
     )
 
 pub returns-clause-few : goal.returns-clause-few
-returns-clause-few c = few_ids c.few_ids.ensures c.args.bytes.now _ (_)
+returns-clause-few c =
+    let text = c.in_ok-source.ensures.text in
+    let program = view c.in_ok-program.program in
+    few_ids c.few_ids.ensures c.args.bytes.now program (record {
+      short = text.0.short;
+      decoded = text.0.decoded;
+      tokens = c.in_ok-tokens.tokens;
+      lexed = subst (λ us. Tokens us c.in_ok-tokens.tokens) text.1 c.in_ok-tokens.ensures.tokens;
+      read = subst (λ ts. Reads ts 200 program) c.items.ensures c.in_ok-program.ensures.read;
+      legal = legal program c.in_ok-checked.ensures.legal;
+    })

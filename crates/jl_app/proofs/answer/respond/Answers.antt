@@ -1,6 +1,7 @@
-use Rattle.std.proofs.Common.{sym, subst, refl}
+use Rattle.std.proofs.Common.{◌∙◌, ap, sym, subst, refl}
 use Rattle.std.proofs.lemmas.Result.{IfOk-weaker}
 use Rattle.jl_ast.specs.View.{view}
+use Rattle.jl_text.specs.Encoding.{units_of}
 use Rattle.jl_token.specs.Tokens.{Tokens}
 use Rattle.jl_app.specs.Answers.{budget, canonical_text, counted, ended, executed, functions_line, instrumented, listed}
 use Rattle.jl_app.specs.Answers.{listed_map, refused, refused_only, text, written}
@@ -95,12 +96,13 @@ pub returns-in-Map-clause-due : goal.returns-in-Map-clause-due
 returns-in-Map-clause-due g c =
     let p = view c.in-Ok.accepted.program in
     let is = c.in-Ok.ensures.accepted in
+    let units = units_of c.args.bytes.now in
     IfOk-weaker c.list_map.result _ _
     (λ a answered. (
-      listed_map c.in-Ok.accepted.source p,
+      listed_map units p,
       answers _ commands.Map p c.in-Map.is is.0 (refl, listed),
       answered.0,
-      answered.1,
+      answered.1 ∙ ap (λ us. (listed_map us p).bytes) is.1,
       c.requires.fresh,
     ))
     c.list_map.ensures

@@ -1,13 +1,23 @@
-use Rattle.std.proofs.Common.{◌∙◌, []}
+use Rattle.std.proofs.Common.{◌∙◌, ◌++◌, [], ap, length}
 use Rattle.jl_ast.specs.View.{view}
+use Rattle.jl_machine.specs.declared.ending.Run.{Run}
+use Rattle.jl_app.specs.Answers.{end_line, lint_status}
+use Rattle.jl_app.specs.MapLines.{begins}
+use Rattle.jl_app.specs.OwnRuns.{uncaught_line}
+use Rattle.jl_app.specs.Reporting.{lines_text}
 use Rattle.jl_app.proofs.Linting.{is_linted, told}
 use Rattle.jl_app.proofs.lint.run_answer.Goals as goal
 
 pub returns-clause-run : goal.returns-clause-run
 returns-clause-run g c =
-    is_linted _ _ c.in_ok-run.run' c.all.result c.all.ensures (view c.args.woven.now)
-    (c.in_ok-run.ensures.is [] c.requires.fresh) c.args.accepted.now.source (view c.args.accepted.now.program) _ _ _ _
-    _ (c.in_ok-lines.ensures.report) _ _
+    let run : Run = c.in_ok-run.run' in
+    is_linted _ _ run c.all.result c.all.ensures (view c.args.woven.now)
+    (c.in_ok-run.ensures.is [] c.requires.fresh) c.args.accepted.now.source (view c.args.accepted.now.program)
+    c.deref.result.now c.in_ok-lines.lines.items c.lint_status.result c.in_ok-written.field-0.items
+    (c.deref.ensures.value ∙ c.in_ok-places.ensures ∙ ap begins c.in_ok-map_of.ensures) c.in_ok-lines.ensures.report
+    (c.lint_status.ensures ∙ ap (λ l. lint_status run.outcome l) c.deref-2.ensures.value)
+    (c.in_ok-written.ensures ∙ ap (λ l. run.output ++ (lines_text l ++ (uncaught_line run.store.heap run.outcome
+    ++ end_line run.outcome run.steps run.hooks (length l)))) c.deref-3.ensures.value)
 
 pub returns-clause-told : goal.returns-clause-told
 returns-clause-told g c =

@@ -1,0 +1,51 @@
+-- What the laws of the lower crates say of an accepted script and its woven one, put together.
+use Rattle.std.proofs.Common.{◌≡◌, ◌<◌, ◌≤◌, ◌+◌, [], arith, length, ℕ, List}
+use Rattle.jl_ast.specs.Tree.{Program}
+use Rattle.jl_effects.specs.Growing.{IsLonger}
+use Rattle.jl_grammar.specs.Laws.{OneReading}
+use Rattle.jl_grammar.specs.Program.{Reads}
+use Rattle.jl_machine.specs.Built.{MeetsNoGap}
+use Rattle.jl_machine.specs.Runs.{built_mean}
+use Rattle.jl_meaning.specs.Mean.{mean}
+use Rattle.jl_op.specs.Chosen.{every_kind, Kinds}
+use Rattle.jl_quiet.specs.QuietMean.{QuietMeans, quiet_mean}
+use Rattle.jl_read_back.specs.EarlyErrors.{FirstIsReservedName}
+use Rattle.jl_read_back.specs.Laws.{WovenReadsBack}
+use Rattle.jl_scope.specs.EarlyErrors.{early_errors_of}
+use Rattle.jl_simulation.specs.Simulation.{WovenSimulates}
+use Rattle.jl_text.specs.Encoding.{units_of}
+use Rattle.jl_text.specs.declared.span.Span.{Span}
+use Rattle.jl_token.proofs.Whole.{few_tokens}
+use Rattle.jl_token.specs.declared.token.Token.{Token}
+use Rattle.jl_app.specs.Accepting.{IsAccepted}
+use Rattle.jl_app.specs.WovenText.{woven_text}
+use Rattle.jl_app.specs.inner.Woven.{IsWovenWell}
+use Rattle.jl_app.proofs.BackToWoven.{back_to_woven}
+use Rattle.jl_app.proofs.Legal.{nothing_wrong}
+use Rattle.jl_app.proofs.OwnRun.{own_longer, own_simulates, woven_runs}
+use Rattle.jl_app.proofs.Sizes.{units_within}
+
+-- an accepted script has few tokens
+few : (bytes : List ℕ) (p : Program Span) (is : IsAccepted bytes p) → length is.tokens < 1073741823
+few bytes p is =
+    omega (
+      arith,
+      few_tokens (units_of bytes) is.tokens is.lexed,
+      units_within bytes is.decoded,
+      is.short,
+    )
+
+pub woven_well : ((chosen : Kinds) (ts : List Token) (limit : ℕ) (p : Program Span) → Reads ts limit p
+    → early_errors_of p ≡ [] → length ts < 1073741823 → WovenSimulates chosen p)
+    → WovenReadsBack → FirstIsReservedName → OneReading
+    → ((chosen : Kinds) (w : Program (Unit {0})) → QuietMeans chosen w)
+    → ((chosen : Kinds) (w : Program (Unit {0})) (n : ℕ) → MeetsNoGap (built_mean chosen w n)
+    → quiet_mean chosen w n ≡ built_mean chosen w n)
+    → ((chosen : Kinds) (p : Program Span) (n d : ℕ) → IsLonger d (mean chosen p n) (mean chosen p (n + d)))
+    → (bytes : List ℕ) (p : Program Span) → IsAccepted bytes p → length (woven_text p) ≤ 67108928 → IsWovenWell p
+woven_well simulates reads keeps one means built longer bytes p is fits = record {
+  simulates = own_simulates p (simulates every_kind is.tokens 200 p is.read (nothing_wrong bytes p is) (few bytes p is));
+  back = back_to_woven reads keeps one bytes p fits is;
+  runs = woven_runs means built p;
+  longer = own_longer longer p;
+}
