@@ -1,0 +1,15 @@
+pub mod ListViews
+pub mod Targets
+pub mod Weaves
+pub mod Parts
+pub mod ExpressionForms
+pub mod StatementForms
+pub mod StatementViews
+pub mod Bodies
+pub mod Programs
+pub mod Walk
+pub mod ListsSeen
+pub mod Callees
+pub mod OtherKinds
+pub mod OtherCallees
+pub mod WalkedFunction

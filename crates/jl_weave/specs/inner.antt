@@ -1,0 +1,3 @@
+pub mod Bare
+pub mod Forms
+pub mod Woven

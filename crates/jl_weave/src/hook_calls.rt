@@ -1,0 +1,217 @@
+//! Calls of hooks: `J$.NAME(id, ..)`.
+#![tactic(auto, unfolding(jl_scope::specs::Names::hooks_name))]
+
+ghost use Rattle.std.specs.Prelude.{◌≡◌, ◌+◌, ◌<◌, ◌^◌, IfOk};
+ghost use Rattle.jl_ast.specs.Tree as tree;
+ghost use Rattle.jl_op.specs.Ids.{ident_with_id};
+ghost use Rattle.jl_scope.specs.Names.{hooks_name};
+ghost use Rattle.jl_meaning.specs.forms.Operators.{update_kind};
+ghost use Rattle.jl_simulation.specs.HookCalls.{assign, assign_hook, before_update, binary_hook, hook, hook_1, hook_2};
+ghost use Rattle.jl_simulation.specs.HookCalls.{hook_of_1, hook_of_2, no_exprs, read, unary_hook, update_hook, write};
+ghost use Rattle.jl_weave.specs.inner.Bare.{bare_expression, bare_expressions, bare_ident};
+
+use crate::nodes;
+use crate::words::word;
+use jl_ast::{BinOp, Expr, Ident};
+use jl_op::{UnKind, binary_sign};
+use jl_text::{List, NoMemory, Span, Text};
+use std::alloc::Global;
+
+/// A call of a hook with these arguments.
+fn hook_call(alloc: Global, hook: &str, arguments: List<Expr>, span: Span) -> Result<Expr, NoMemory>
+    ensures { IfOk result (λ made. bare_expression made
+        ≡ tree.call (tree.dot (tree.name hooks_name tt) hook.now tt) (bare_expressions arguments) tt) }
+{
+    let hooks = nodes::name(word(alloc, "J$")?, span);
+    let callee = nodes::dot(alloc, hooks, word(alloc, hook)?, span)?;
+    nodes::call(alloc, callee, arguments, span)
+}
+
+/// A call with its id alone.
+pub fn hook_0(alloc: Global, name: &str, id: u32, span: Span) -> Result<Expr, NoMemory>
+    ensures { IfOk result (λ made. bare_expression made ≡ hook name.now id no_exprs) }
+{
+    let mut arguments = List::new(alloc);
+    arguments.push(nodes::whole(id, span))?;
+    hook_call(alloc, name, arguments, span)
+}
+
+/// A call with its id and an argument.
+pub fn hook_1(alloc: Global, name: &str, id: u32, e: Expr, span: Span) -> Result<Expr, NoMemory>
+    ensures { IfOk result (λ made. bare_expression made ≡ hook_1 name.now id (bare_expression e)) }
+{
+    let mut arguments = List::new(alloc);
+    arguments.push(nodes::whole(id, span))?;
+    arguments.push(e)?;
+    hook_call(alloc, name, arguments, span)
+}
+
+/// A call with its id and two arguments.
+pub fn hook_2(
+    alloc: Global,
+    name: &str,
+    id: u32,
+    a: Expr,
+    b: Expr,
+    span: Span,
+) -> Result<Expr, NoMemory>
+    ensures { IfOk result (λ made. bare_expression made ≡ hook_2 name.now id (bare_expression a) (bare_expression b)) }
+{
+    let mut arguments = List::new(alloc);
+    arguments.push(nodes::whole(id, span))?;
+    arguments.push(a)?;
+    arguments.push(b)?;
+    hook_call(alloc, name, arguments, span)
+}
+
+/// A call with its id, a name or an operator, and an argument.
+pub fn hook_of_1(
+    alloc: Global,
+    name: &str,
+    id: u32,
+    word: Text,
+    e: Expr,
+    span: Span,
+) -> Result<Expr, NoMemory>
+    ensures { IfOk result (λ made. bare_expression made ≡ hook_of_1 name.now id word (bare_expression e)) }
+{
+    hook_2(alloc, name, id, nodes::string(word, span), e, span)
+}
+
+/// A call with its id, an operator, and two arguments.
+pub fn hook_of_2(
+    alloc: Global,
+    name: &str,
+    id: u32,
+    word: Text,
+    a: Expr,
+    b: Expr,
+    span: Span,
+) -> Result<Expr, NoMemory>
+    ensures { IfOk result (λ made. bare_expression made
+        ≡ hook_of_2 name.now id word (bare_expression a) (bare_expression b)) }
+{
+    let mut arguments = List::new(alloc);
+    arguments.push(nodes::whole(id, span))?;
+    arguments.push(nodes::string(word, span))?;
+    arguments.push(a)?;
+    arguments.push(b)?;
+    hook_call(alloc, name, arguments, span)
+}
+
+/// `J$.R(id, "x", x)`.
+pub fn read(alloc: Global, id: u32, x: &Text, span: Span) -> Result<Expr, NoMemory>
+    ensures { IfOk result (λ made. bare_expression made ≡ read id x.now) }
+{
+    let value = nodes::name(x.share(alloc)?, span);
+    hook_of_1(alloc, "R", id, x.share(alloc)?, value, span)
+}
+
+/// `J$.W(id, "x", e)`.
+pub fn write(alloc: Global, id: u32, x: &Text, e: Expr, span: Span) -> Result<Expr, NoMemory>
+    ensures { IfOk result (λ made. bare_expression made ≡ write id x.now (bare_expression e)) }
+{
+    hook_of_1(alloc, "W", id, x.share(alloc)?, e, span)
+}
+
+/// `x = J$.W(id, "x", e)`.
+pub fn assign(alloc: Global, x: Ident, id: u32, e: Expr, span: Span) -> Result<Expr, NoMemory>
+    ensures { IfOk result (λ made. bare_expression made
+        ≡ assign (ident_with_id (bare_ident x) id) id (bare_expression e)) }
+{
+    let value = write(alloc, id, &x.text, e, span)?;
+    nodes::assign(alloc, None, nodes::to_name(x), value, span)
+}
+
+/// `J$.U(id, "op", e)`.
+pub fn unary_hook(
+    alloc: Global,
+    id: u32,
+    kind: UnKind,
+    e: Expr,
+    span: Span,
+) -> Result<Expr, NoMemory>
+    ensures { IfOk result (λ made. bare_expression made ≡ unary_hook id kind (bare_expression e)) }
+{
+    hook_of_1(alloc, "U", id, word(alloc, kind.sign())?, e, span)
+}
+
+/// `J$.B(id, "op", a, b)`.
+pub fn binary_hook(
+    alloc: Global,
+    id: u32,
+    op: BinOp,
+    a: Expr,
+    b: Expr,
+    span: Span,
+) -> Result<Expr, NoMemory>
+    ensures { IfOk result (λ made. bare_expression made ≡ binary_hook id op (bare_expression a) (bare_expression b)) }
+{
+    let sign = word(alloc, binary_sign(op))?;
+    hook_of_2(alloc, "B", id, sign, a, b, span)
+}
+
+/// The operation of `++` or `--`.
+pub fn update_kind(up: bool) -> UnKind
+    ensures { result ≡ update_kind up }
+{
+    if up { UnKind::Up } else { UnKind::Down }
+}
+
+/// `J$.I(id, "op", o, k)`.
+pub fn update_hook(
+    alloc: Global,
+    id: u32,
+    up: bool,
+    base: Expr,
+    key: Expr,
+    span: Span,
+) -> Result<Expr, NoMemory>
+    ensures { IfOk result (λ made. bare_expression made
+        ≡ update_hook id up (bare_expression base) (bare_expression key)) }
+{
+    let sign = word(alloc, update_kind(up).sign())?;
+    hook_of_2(alloc, "I", id, sign, base, key, span)
+}
+
+/// `J$.P(id, o, k)(e)`, or `J$.A(id, "op", o, k)(e)`.
+pub fn assign_hook(
+    alloc: Global,
+    id: u32,
+    op: Option<BinOp>,
+    base: Expr,
+    key: Expr,
+    e: Expr,
+    span: Span,
+) -> Result<Expr, NoMemory>
+    ensures { IfOk result (λ made. bare_expression made
+        ≡ assign_hook id op (bare_expression base) (bare_expression key) (bare_expression e)) }
+{
+    let mut arguments = List::new(alloc);
+    arguments.push(e)?;
+    let opener = match op {
+        None => hook_2(alloc, "P", id, base, key, span)?,
+        Some(op) => {
+            let sign = word(alloc, binary_sign(op))?;
+            hook_of_2(alloc, "A", id, sign, base, key, span)?
+        }
+    };
+    nodes::call(alloc, opener, arguments, span)
+}
+
+/// The number before an update, by the one after it: `e - 1` or `e + 1`, and `e` where the update gives that.
+pub fn before_update(
+    alloc: Global,
+    up: bool,
+    prefix: bool,
+    e: Expr,
+    span: Span,
+) -> Result<Expr, NoMemory>
+    ensures { IfOk result (λ made. bare_expression made ≡ before_update up prefix (bare_expression e)) }
+{
+    if prefix {
+        return Ok(e);
+    }
+    let op = if up { BinOp::Sub } else { BinOp::Add };
+    nodes::binary(alloc, op, e, nodes::whole(1, span), span)
+}
