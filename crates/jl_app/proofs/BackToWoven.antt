@@ -8,7 +8,7 @@ use Rattle.jl_op.specs.Chosen.{every_kind}
 use Rattle.jl_print.proofs.WithoutPlaces.{same_text}
 use Rattle.jl_print.specs.Layout.{text_of}
 use Rattle.jl_read_back.specs.EarlyErrors.{FirstIsReservedName, IsReservedName}
-use Rattle.jl_read_back.specs.Laws.{WovenReadsBack}
+use Rattle.jl_read_back.specs.Laws.{WovenReadsBack, WovenTextIsBounded}
 use Rattle.jl_scope.specs.EarlyError.{first_early_error}
 use Rattle.jl_scope.specs.Kinds.{early, left_out, reserved_name, EarlyError}
 use Rattle.jl_simulation.specs.Weaving.{woven_program}
@@ -31,9 +31,9 @@ name_may (Some (early rule at)) is = absurd is
 name_may (Some (left_out x at)) is = absurd is
 name_may (Some (reserved_name at)) is = refl
 
-pub back_to_woven : WovenReadsBack → FirstIsReservedName → OneReading → (bytes : List ℕ) (p : Program Span)
-    → length (woven_text p) ≤ 67108928 → IsAccepted bytes p → ReadsBackAsWoven p
-back_to_woven reads keeps one bytes p short is =
+pub back_to_woven : WovenReadsBack → WovenTextIsBounded → FirstIsReservedName → OneReading → (bytes : List ℕ)
+    (p : Program Span) → IsAccepted bytes p → ReadsBackAsWoven p
+back_to_woven reads bounded keeps one bytes p is =
     let placed = with_places (woven_program every_kind p) in
     let within = units_within bytes is.decoded in
     let few = is.short in
@@ -41,11 +41,13 @@ back_to_woven reads keeps one bytes p short is =
     (omega arith) placed.1).back in
     let text : text_of placed.0 ≡ woven_text p =
     sym (same_text placed.0) ∙ ap (λ (w : Program (Unit {0})). text_of w) placed.1 in
+    let short = bounded every_kind (units_of bytes) is.tokens 200 p placed.0 is.lexed is.read (omega arith) placed.1 in
+    let same_length = ap (λ (us : List ℕ). length us) text in
     let lexed : Tokens (woven_text p) back.tokens = subst (λ t. Tokens t back.tokens) text back.lexed in
     record {
       program = back.program;
       read = record {
-        short = short;
+        short = omega arith;
         tokens = back.tokens;
         lexed = lexed;
         read = back.read;

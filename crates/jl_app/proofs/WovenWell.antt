@@ -10,7 +10,7 @@ use Rattle.jl_meaning.specs.Mean.{mean}
 use Rattle.jl_op.specs.Chosen.{every_kind, Kinds}
 use Rattle.jl_quiet.specs.QuietMean.{QuietMeans, quiet_mean}
 use Rattle.jl_read_back.specs.EarlyErrors.{FirstIsReservedName}
-use Rattle.jl_read_back.specs.Laws.{WovenReadsBack}
+use Rattle.jl_read_back.specs.Laws.{WovenReadsBack, WovenTextIsBounded}
 use Rattle.jl_scope.specs.EarlyErrors.{early_errors_of}
 use Rattle.jl_simulation.specs.Simulation.{WovenSimulates}
 use Rattle.jl_text.specs.Encoding.{units_of}
@@ -18,7 +18,6 @@ use Rattle.jl_text.specs.declared.span.Span.{Span}
 use Rattle.jl_token.proofs.Whole.{few_tokens}
 use Rattle.jl_token.specs.declared.token.Token.{Token}
 use Rattle.jl_app.specs.Accepting.{IsAccepted}
-use Rattle.jl_app.specs.WovenText.{woven_text}
 use Rattle.jl_app.specs.inner.Woven.{IsWovenWell}
 use Rattle.jl_app.proofs.BackToWoven.{back_to_woven}
 use Rattle.jl_app.proofs.Legal.{nothing_wrong}
@@ -37,15 +36,15 @@ few bytes p is =
 
 pub woven_well : ((chosen : Kinds) (ts : List Token) (limit : ℕ) (p : Program Span) → Reads ts limit p
     → early_errors_of p ≡ [] → length ts < 1073741823 → WovenSimulates chosen p)
-    → WovenReadsBack → FirstIsReservedName → OneReading
+    → WovenReadsBack → WovenTextIsBounded → FirstIsReservedName → OneReading
     → ((chosen : Kinds) (w : Program (Unit {0})) → QuietMeans chosen w)
     → ((chosen : Kinds) (w : Program (Unit {0})) (n : ℕ) → MeetsNoGap (built_mean chosen w n)
     → quiet_mean chosen w n ≡ built_mean chosen w n)
     → ((chosen : Kinds) (p : Program Span) (n d : ℕ) → IsLonger d (mean chosen p n) (mean chosen p (n + d)))
-    → (bytes : List ℕ) (p : Program Span) → IsAccepted bytes p → length (woven_text p) ≤ 67108928 → IsWovenWell p
-woven_well simulates reads keeps one means built longer bytes p is fits = record {
+    → (bytes : List ℕ) (p : Program Span) → IsAccepted bytes p → IsWovenWell p
+woven_well simulates reads bounded keeps one means built longer bytes p is = record {
   simulates = own_simulates p (simulates every_kind is.tokens 200 p is.read (nothing_wrong bytes p is) (few bytes p is));
-  back = back_to_woven reads keeps one bytes p fits is;
+  back = back_to_woven reads bounded keeps one bytes p is;
   runs = woven_runs means built p;
   longer = own_longer longer p;
 }

@@ -1,8 +1,7 @@
 //! Laws over the definitions; each is the contract of a function that does nothing.
-ghost use Rattle.std.specs.Prelude.{◌≤◌, ℕ, List, length};
+ghost use Rattle.std.specs.Prelude.{ℕ, List};
 ghost use Rattle.jl_ast.specs.Tree.{Program};
 ghost use Rattle.jl_text.specs.declared.span.Span.{Span};
-ghost use Rattle.jl_app.specs.WovenText.{woven_text};
 ghost use Rattle.jl_app.specs.inner.Woven.{IsWovenWell};
 ghost use Rattle.jl_app.specs.Accepting.{IsAccepted, OneReading};
 ghost use Rattle.jl_app.specs.Refusals.{NeverBoth, AcceptedOrRefused};
@@ -10,7 +9,7 @@ ghost use Rattle.jl_app.specs.Refusals.{NeverBoth, AcceptedOrRefused};
 use jl_machine::laws::built_runs_are_meant;
 use jl_meaning::laws::more_budget;
 use jl_quiet::laws::quiet_means;
-use jl_read_back::laws::{woven_keeps_rules, woven_reads_back};
+use jl_read_back::laws::{woven_keeps_rules, woven_reads_back, woven_text_is_bounded};
 use jl_simulation::laws::accepted_scripts_simulate;
 
 /// No bytes are both accepted and refused.
@@ -31,8 +30,7 @@ pub fn one_reading()
 /// What an answer of `lint` rests on: the woven script of an accepted one simulates it, its text reads back as it, and
 /// its run is what it means.
 pub(crate) fn scripts_are_woven_well()
-    ensures { (bytes : List ℕ) (p : Program Span) → IsAccepted bytes p → length (woven_text p) ≤ 67108928
-        → IsWovenWell p }
+    ensures { (bytes : List ℕ) (p : Program Span) → IsAccepted bytes p → IsWovenWell p }
 {
     accepted_scripts_simulate();
     built_runs_are_meant::<()>();
@@ -40,5 +38,6 @@ pub(crate) fn scripts_are_woven_well()
     quiet_means::<()>();
     jl_grammar::laws::one_reading();
     woven_reads_back();
+    woven_text_is_bounded();
     woven_keeps_rules();
 }
