@@ -1,6 +1,6 @@
--- How many units of a text a tree was read of, at least: its names and strings have theirs, and a form one, two or
--- four for the tokens that it has beside its parts. Only where that is less than what a form takes up when it is woven
--- do more of its tokens count.
+-- How many units a tree was read of, at least. A name, a key and a string count what they are long. A form counts one
+-- for its own tokens, where it has any; but `++` and `--`, and what computes and assigns, count two, and a function
+-- four: the brackets round its parameters and its body.
 use Rattle.std.specs.Prelude.{ℕ, ◌+◌, ◌-◌, max, Bool, true, false, List, [], ◌∷◌, length, Option, Some, None}
 use Rattle.jl_ast.specs.declared.ops.BinOp.{BinOp}
 use Rattle.jl_ast.specs.Tree.{Ident, Sort, Text, Tree, Forest, OptionalTree, this, name, number, string, boolean, null, array}

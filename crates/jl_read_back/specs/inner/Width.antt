@@ -1,5 +1,5 @@
--- How many units the tokens of a tree have at most, with one more after each token, and with the brackets and the
--- separator that may stand round it.
+-- How many units the tokens of a tree have at most, with one more after each: a numeral has sixteen digits, an operator
+-- has brackets round it, and what stands in a list has a separator.
 use Rattle.std.specs.Prelude.{ℕ, ◌+◌, ◌*◌, Bool, true, false, List, [], ◌∷◌, length, Option, Some, None}
 use Rattle.jl_ast.specs.Tree.{Ident, Sort, Text, Tree, Forest, OptionalTree, this, name, number, string, boolean, null, array}
 use Rattle.jl_ast.specs.Tree.{object, function_expression, dot, index, call, new, unary, update, binary, and, or}
