@@ -3,7 +3,7 @@ use Rattle.std.proofs.Common.{◌≡◌, ℕ, ◌+◌, ◌*◌, ◌-◌, ◌≤�
 use Rattle.std.proofs.Common.{subst, arith}
 use Rattle.jl_ast.specs.Tree.{Program}
 use Rattle.jl_effects.specs.Growing.{IsLonger, IsPrefix}
-use Rattle.jl_effects.specs.Matching.{Alike, IsWithin, SameSeen, Simulates, bound}
+use Rattle.jl_effects.specs.Matching.{Alike, SameSeen, Simulates, bound}
 use Rattle.jl_effects.specs.Running.{Ends, Fails, Finish, IsOver, Over, RunState, Spent, state_of as world_of, steps_taken}
 use Rattle.jl_effects.specs.Traces.{with_state, without_operations}
 use Rattle.jl_machine.specs.Runs.{ending_of}
@@ -22,7 +22,6 @@ use Rattle.jl_app.specs.Endings.{Call}
 use Rattle.jl_app.specs.Headline.{IsAbout, IsAboutBeginning}
 use Rattle.jl_app.specs.OwnRuns.{uncaught_line}
 use Rattle.jl_app.specs.Reporting.{Lines, lines_text}
-use Rattle.jl_app.specs.declared.status.Status.{Status}
 
 abbrev World : Type 0
 World = RunState Store Operation

@@ -1,4 +1,4 @@
--- The text of the woven script reads back as the woven script.
+-- The text of the woven script is short enough to be read back, and reads back as the woven script.
 use Rattle.std.proofs.Common.{◌≡◌, ◌∙◌, ◌≤◌, ap, sym, subst, refl, arith, length, true, ℕ, List, Option, None, Some}
 use Rattle.jl_ast.specs.Spans.{without_spans}
 use Rattle.jl_ast.specs.Tree.{Program}
@@ -17,7 +17,7 @@ use Rattle.jl_text.specs.declared.span.Span.{Span}
 use Rattle.jl_token.proofs.Whole.{tokens_are_unique}
 use Rattle.jl_token.specs.Tokens.{Tokens}
 use Rattle.jl_app.specs.Accepting.{IsAccepted}
-use Rattle.jl_app.specs.ReadBack.{IsReadBack, may_run}
+use Rattle.jl_app.specs.ReadBack.{may_run}
 use Rattle.jl_app.specs.WovenText.{woven_text}
 use Rattle.jl_app.specs.inner.Woven.{ReadsBackAsWoven}
 use Rattle.jl_app.proofs.Legal.{nothing_wrong}
@@ -31,6 +31,27 @@ name_may (Some (early rule at)) is = absurd is
 name_may (Some (left_out x at)) is = absurd is
 name_may (Some (reserved_name at)) is = refl
 
+-- the woven script with some places has the text of the woven script
+placed_text : (p : Program Span) → text_of (with_places (woven_program every_kind p)).0 ≡ woven_text p
+placed_text p =
+    let placed = with_places (woven_program every_kind p) in
+    sym (same_text placed.0) ∙ ap (λ (w : Program (Unit {0})). text_of w) placed.1
+
+-- which is short enough to be read back
+fits : WovenTextIsBounded → (bytes : List ℕ) (p : Program Span) → IsAccepted bytes p
+    → length (woven_text p) ≤ 67108928
+fits bounded bytes p is =
+    let placed = with_places (woven_program every_kind p) in
+    let within = units_within bytes is.decoded in
+    let few = is.short in
+    omega (
+      arith,
+      bounded every_kind (units_of bytes) is.tokens 200 p placed.0 is.lexed is.read (omega arith) placed.1,
+      ap length (placed_text p),
+      within,
+      few,
+    )
+
 pub back_to_woven : WovenReadsBack → WovenTextIsBounded → FirstIsReservedName → OneReading → (bytes : List ℕ)
     (p : Program Span) → IsAccepted bytes p → ReadsBackAsWoven p
 back_to_woven reads bounded keeps one bytes p is =
@@ -39,15 +60,12 @@ back_to_woven reads bounded keeps one bytes p is =
     let few = is.short in
     let back = (reads every_kind (units_of bytes) is.tokens 200 1000 p placed.0 is.lexed is.read (omega arith)
     (omega arith) placed.1).back in
-    let text : text_of placed.0 ≡ woven_text p =
-    sym (same_text placed.0) ∙ ap (λ (w : Program (Unit {0})). text_of w) placed.1 in
-    let short = bounded every_kind (units_of bytes) is.tokens 200 p placed.0 is.lexed is.read (omega arith) placed.1 in
-    let same_length = ap (λ (us : List ℕ). length us) text in
+    let text = placed_text p in
     let lexed : Tokens (woven_text p) back.tokens = subst (λ t. Tokens t back.tokens) text back.lexed in
     record {
       program = back.program;
       read = record {
-        short = omega arith;
+        short = fits bounded bytes p is;
         tokens = back.tokens;
         lexed = lexed;
         read = back.read;

@@ -1,5 +1,5 @@
 -- The answer of `lint` is about the script's own run.
-use Rattle.std.proofs.Common.{◌≡◌, ◌∙◌, ◌*◌, ◌+◌, ◌⊎◌, ℕ, List, [], ◌∷◌, Option, Some, ap, refl, sym, subst}
+use Rattle.std.proofs.Common.{◌≡◌, ◌∙◌, ◌*◌, ◌+◌, ◌⊎◌, ℕ, List, Some, ap, refl, sym, subst}
 use Rattle.std.specs.Prelude.{IfSome}
 use Rattle.jl_ast.specs.Tree.{Program}
 use Rattle.jl_effects.specs.Running.{Ends, Fails, IsOver, Over, Spent, state_of as world_of, steps_taken}
@@ -7,7 +7,6 @@ use Rattle.jl_effects.specs.Traces.{with_state, without_operations}
 use Rattle.jl_machine.specs.Built.{MeetsNoGap}
 use Rattle.jl_machine.specs.Runs.{ending_of}
 use Rattle.jl_meaning.specs.Mean as mean
-use Rattle.jl_op.specs.Operations.{Operation}
 use Rattle.jl_port.specs.Bytes.{Grows}
 use Rattle.jl_text.specs.Encoding.{units_of}
 use Rattle.jl_text.specs.declared.span.Span.{Span}

@@ -1,5 +1,5 @@
 -- Nothing is wrong with an accepted script.
-use Rattle.std.proofs.Common.{◌≡◌, ℕ, true, false, Bool, List, [], ◌∷◌, Option, Some, None, refl}
+use Rattle.std.proofs.Common.{◌≡◌, ℕ, true, false, Bool, List, [], ◌∷◌, Some, refl}
 use Rattle.std.specs.Prelude.{is_none, if◌then◌else◌}
 use Rattle.jl_ast.specs.Tree.{Program}
 use Rattle.jl_scope.specs.EarlyErrors.{early_errors_of}

@@ -1,7 +1,7 @@
 -- The answer that the code makes of the run of a woven program is the one that is due.
 use Rattle.std.proofs.Common.{◌≡◌, ◌∙◌, ◌++◌, ◌<◌, ◌^◌, ℕ, List, [], ap, length, subst, true}
 use Rattle.jl_ast.specs.Tree.{Program}
-use Rattle.jl_effects.specs.Running.{state_of as world_of, steps_taken}
+use Rattle.jl_effects.specs.Running.{state_of as world_of}
 use Rattle.jl_machine.specs.Runs.{built_mean, ending_of, IsRun}
 use Rattle.jl_machine.specs.declared.ending.Run.{Run}
 use Rattle.jl_meaning.specs.Store.{Store}

@@ -1,5 +1,5 @@
 -- What the laws of the lower crates say of an accepted script and its woven one, put together.
-use Rattle.std.proofs.Common.{◌≡◌, ◌<◌, ◌≤◌, ◌+◌, [], arith, length, ℕ, List}
+use Rattle.std.proofs.Common.{◌≡◌, ◌<◌, ◌+◌, [], arith, length, ℕ, List}
 use Rattle.jl_ast.specs.Tree.{Program}
 use Rattle.jl_effects.specs.Growing.{IsLonger}
 use Rattle.jl_grammar.specs.Laws.{OneReading}

@@ -1,4 +1,4 @@
-ghost use Rattle.std.specs.Prelude.{◌≡◌, ◌≤◌, [], ℕ, List, Some, length, IfOk, IsErrOf};
+ghost use Rattle.std.specs.Prelude.{◌≡◌, [], ℕ, List, Some, IfOk, IsErrOf};
 ghost use Rattle.jl_analysis.specs.Rules.{all_rules};
 ghost use Rattle.jl_ast.specs.Tree.{Program as Tree};
 ghost use Rattle.jl_port.specs.Count.{HasRisen};
@@ -108,7 +108,7 @@ pub fn jlint<S: Source, K: Sink, H: Shelf>(
       knows = λ told. ⟦<Crowd as Observer>⟧.stands_for crowd.new told;
     }) result }
     // For a source that tells its bytes and a shelf that lends what it was handed, the answer to an accepted script is
-    // about the script's own run, as long as the answer tells of no builtin that is not built.
+    // about the script's own run, as long as it tells of no builtin that is not built.
     ensures headline { (bytes : List ℕ) (p : Tree Span) → S.left source.old ≡ Some bytes → IsAccepted bytes p
         → texts words.now ≡ words_of named.Lint → H.lent shelf.new ≡ H.handed shelf.new → HasAnswered result
         → TellsNoGap p result → IsAboutScript (record {

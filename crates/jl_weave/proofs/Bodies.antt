@@ -2,18 +2,18 @@
 use Rattle.std.proofs.Common.{codes, if◌then◌else◌, ◌≡◌, ◌∙◌, ap, arith, refl, ℕ, ◌+◌, Bool, List, [], ◌∷◌, Option}
 use Rattle.std.proofs.Common.{false, map, option_map, true}
 use Rattle.jl_ast.specs.Tree as tree
-use Rattle.jl_ast.specs.Tree.{Forest, Ident, OptionalTree, Text, Tree}
+use Rattle.jl_ast.specs.Tree.{Forest, Ident, OptionalTree, Text}
 use Rattle.jl_op.specs.Chosen.{Kinds}
 use Rattle.jl_op.specs.Ids.{forest_id_count, forest_with_ids, ident_with_id, with_ids}
 use Rattle.jl_op.specs.declared.kind.OpKind.TheVariants as kind
 use Rattle.jl_simulation.specs.HookCalls.{and_last, begin_and_end, catch_and_go_on, enter_and_leave, hook, hook_of_1}
-use Rattle.jl_simulation.specs.HookCalls.{hook_statement, name_of, no_exprs, without_id, Stmt, Stmts, Woven}
+use Rattle.jl_simulation.specs.HookCalls.{hook_statement, name_of, no_exprs, without_id, Stmts, Woven}
 use Rattle.jl_simulation.specs.Weaving.{woven_code, woven_forest}
 use Rattle.jl_weave.specs.inner.Bare.{unplaced}
 use Rattle.jl_weave.specs.inner.Forms.{beginning_form, caught_form, ended_form, entry_form, first_if, is_begun}
 use Rattle.jl_weave.specs.inner.Forms.{is_entered, joined, left_form}
 use Rattle.jl_weave.proofs.Weaves.{Weaves, WeavesAfter, WeavesAll, WeavesHandler}
-use Rattle.jl_weave.proofs.Parts.{ap2, ap3, ap4}
+use Rattle.jl_weave.proofs.Parts.{ap2, ap4}
 use Rattle.jl_weave.proofs.StatementForms.{label_is}
 
 labels_are : {S : Type 0} (n : ℕ) (l : List (Ident S)) →

@@ -6,8 +6,7 @@ use Rattle.jl_ast.specs.declared.ops.UnOp.{UnOp}
 use Rattle.jl_ast.specs.declared.ops.UnOp.TheVariants as un
 use Rattle.jl_op.specs.Chosen.{Kinds}
 use Rattle.jl_op.specs.Ids.{callee_with_ids, id_count, member_ids, unary_id_count, with_ids}
-use Rattle.jl_op.specs.declared.kind.OpKind.TheVariants as kind
-use Rattle.jl_simulation.specs.HookCalls.{name_of, quoted, Expr}
+use Rattle.jl_simulation.specs.HookCalls.{quoted, Expr}
 use Rattle.jl_simulation.specs.Weaving.{woven, woven_callee, woven_member_delete}
 use Rattle.jl_weave.specs.inner.Forms.{callee_form, typeof_name_form, unary_form}
 use Rattle.jl_weave.proofs.Weaves.{Weaves, WeavesCallee}

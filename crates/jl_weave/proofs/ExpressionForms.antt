@@ -5,12 +5,12 @@ use Rattle.jl_ast.specs.Tree as tree
 use Rattle.jl_ast.specs.Tree.{Forest, Ident, Text, Tree}
 use Rattle.jl_ast.specs.declared.ops.BinOp.{BinOp}
 use Rattle.jl_op.specs.Chosen.{Kinds}
-use Rattle.jl_op.specs.Ids.{assignment_id_count, callee_with_ids, id_count, member_ids, with_ids}
+use Rattle.jl_op.specs.Ids.{assignment_id_count, id_count, with_ids}
 use Rattle.jl_op.specs.declared.kind.OpKind.TheVariants as kind
 use Rattle.jl_simulation.specs.HookCalls.{hook_1, quoted, Expr, Exprs, Woven}
 use Rattle.jl_simulation.specs.Weaving.{hooked_if, woven, woven_member, woven_method}
 use Rattle.jl_weave.specs.inner.Bare.{unplaced}
-use Rattle.jl_weave.specs.inner.Forms.{assignment_form, binary_form, callee_form, name_form, new_form, update_form}
+use Rattle.jl_weave.specs.inner.Forms.{assignment_form, binary_form, name_form, new_form, update_form}
 use Rattle.jl_weave.proofs.Weaves.{Weaves, WeavesAll, WeavesCallee, WeavesTest}
 use Rattle.jl_weave.proofs.Parts.{ap2, ap3, part, parts}
 

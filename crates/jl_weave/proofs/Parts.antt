@@ -3,10 +3,10 @@ use Rattle.std.proofs.Common.{◌≡◌, ◌∙◌, ap, subst, sym, ℕ, ◌+◌
 use Rattle.jl_ast.specs.Tree as tree
 use Rattle.jl_ast.specs.Tree.{Forest, OptionalTree, Sort, Tree}
 use Rattle.jl_op.specs.Chosen.{Kinds}
-use Rattle.jl_op.specs.Ids.{forest_id_count, forest_with_ids, id_count, optional_id_count, optional_with_ids, with_ids}
+use Rattle.jl_op.specs.Ids.{forest_with_ids, id_count, optional_with_ids, with_ids}
 use Rattle.jl_simulation.specs.HookCalls.{Woven}
 use Rattle.jl_simulation.specs.Weaving.{woven, woven_forest, woven_optional}
-use Rattle.jl_weave.proofs.Weaves.{Weaves, WeavesAfter, WeavesAll, WeavesCallee, WeavesIfPresent, WeavesTest}
+use Rattle.jl_weave.proofs.Weaves.{Weaves, WeavesAll, WeavesIfPresent}
 
 pub ap2 : {A B C : Type 0} (F : A → B → C) {a a' : A} {b b' : B} → a ≡ a' → b ≡ b' → F a b ≡ F a' b'
 ap2 F d e = cc (d, e)

@@ -3,7 +3,6 @@ use Rattle.std.proofs.Common.{◌≡◌, ◌∙◌, ap, rules, sym, ◌+◌, Boo
 use Rattle.jl_text.specs.declared.span.Span.{Span}
 use Rattle.jl_ast.specs.Spans.{tree_without_spans, without_spans}
 use Rattle.jl_ast.specs.Tree as tree
-use Rattle.jl_ast.specs.Tree.{Forest}
 use Rattle.jl_ast.specs.View.{view, view_body, view_functions, view_statements}
 use Rattle.jl_ast.specs.declared.tree.Body.{out-Body, roll-Body}
 use Rattle.jl_ast.specs.declared.tree.Entry.TheViews.{out-roll-Body}

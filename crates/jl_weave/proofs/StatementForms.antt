@@ -1,16 +1,16 @@
 -- The woven form of a statement, of its woven parts.
 use Rattle.std.proofs.Common.{codes, ◌≡◌, ◌∙◌, ap, arith, refl, ℕ, ◌+◌, Bool, None, Option, Some, option_map}
 use Rattle.jl_ast.specs.Tree as tree
-use Rattle.jl_ast.specs.Tree.{Forest, Ident, OptionalTree, Sort, Tree}
+use Rattle.jl_ast.specs.Tree.{Forest, Ident, OptionalTree, Tree}
 use Rattle.jl_op.specs.Chosen.{Kinds}
-use Rattle.jl_op.specs.Ids.{forest_id_count, forest_with_ids, handler_with_ids, ident_with_id, id_count, one_if_present}
+use Rattle.jl_op.specs.Ids.{forest_id_count, handler_with_ids, ident_with_id, id_count, one_if_present}
 use Rattle.jl_op.specs.Ids.{optional_id_count, optional_with_ids}
 use Rattle.jl_op.specs.declared.kind.OpKind.TheVariants as kind
 use Rattle.jl_simulation.specs.HookCalls.{hook_1, without_id, write, Expr, Stmt, Stmts, Woven}
-use Rattle.jl_simulation.specs.Weaving.{hooked_if, tested, woven, woven_forest, woven_optional, woven_test}
+use Rattle.jl_simulation.specs.Weaving.{hooked_if, tested, woven, woven_optional, woven_test}
 use Rattle.jl_weave.specs.inner.Bare.{unplaced}
-use Rattle.jl_weave.specs.inner.Forms.{caught_form, joined, told_if_present}
-use Rattle.jl_weave.proofs.Weaves.{Weaves, WeavesAfter, WeavesAll, WeavesHandler, WeavesIfPresent, WeavesTest}
+use Rattle.jl_weave.specs.inner.Forms.{told_if_present}
+use Rattle.jl_weave.proofs.Weaves.{Weaves, WeavesAll, WeavesHandler, WeavesIfPresent, WeavesTest}
 use Rattle.jl_weave.proofs.Parts.{ap2, ap3, ap4, part, part_if_present, parts}
 
 -- a name without its place has none once it has an id

@@ -6,7 +6,7 @@ use Rattle.jl_text.specs.declared.span.Span.{Span}
 use Rattle.jl_ast.specs.Tree as tree
 use Rattle.jl_ast.specs.Tree.{Forest, Sort, Tree}
 use Rattle.jl_op.specs.Chosen.{Kinds}
-use Rattle.jl_op.specs.Ids.{forest_id_count, forest_with_ids, id_count, with_ids}
+use Rattle.jl_op.specs.Ids.{forest_id_count, forest_with_ids, id_count}
 use Rattle.jl_simulation.specs.HookCalls.{Woven}
 use Rattle.jl_simulation.specs.Weaving.{woven, woven_forest}
 use Rattle.jl_weave.specs.inner.Bare.{bare_all}

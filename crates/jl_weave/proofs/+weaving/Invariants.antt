@@ -1,4 +1,4 @@
-use Rattle.std.proofs.Common.{[], ◌+◌, ◌*◌}
+use Rattle.std.proofs.Common.{◌+◌, ◌*◌}
 use Rattle.jl_ast.specs.Tree.{end}
 use Rattle.jl_weave.specs.inner.Bare.{bare_statements}
 use Rattle.jl_weave.specs.inner.Woven.{chosen_of}

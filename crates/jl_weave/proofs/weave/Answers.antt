@@ -1,6 +1,5 @@
-use Rattle.std.proofs.Common.{◌≡◌, ◌∙◌, ap, arith, ◌+◌}
+use Rattle.std.proofs.Common.{◌∙◌, ap, arith, ◌+◌}
 use Rattle.jl_ast.specs.View.{view_functions, view_statements}
-use Rattle.jl_ast.specs.declared.tree.Body.{out-Body}
 use Rattle.jl_op.specs.Ids.{forest_id_count}
 use Rattle.jl_op.specs.KindSets.{is_member}
 use Rattle.jl_weave.specs.inner.Bare.{bare_statements}
