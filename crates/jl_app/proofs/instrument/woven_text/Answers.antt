@@ -7,5 +7,6 @@ use Rattle.jl_app.proofs.instrument.woven_text.Goals as goal
 pub returns : goal.returns
 returns c =
     IfOk-weaker c.print.result _ _
-    (λ text is. is ∙ is_woven_text c.all.result c.all.ensures (view c.args.program.now) _ c.in_ok-woven.ensures)
+    (λ text is. is ∙ is_woven_text c.all.result c.all.ensures (view c.args.program.now) (view c.in_ok-woven.woven)
+    c.in_ok-woven.ensures)
     c.print.ensures
