@@ -82,11 +82,11 @@ fn of_three(
     lines_text(alloc, &report_of(alloc, &crowd, chosen, switched)?)
 }
 
-fn tell(alloc: Global, crowd: &mut Crowd, operations: &[&str]) -> Result<(), Fault> {
+fn tell<O: Observer>(alloc: Global, observer: &mut O, operations: &[&str]) -> Result<(), Fault> {
     for word in operations {
         let (id, name) = word.split_once(':').ok_or(Fault::Unreadable)?;
         let id = id.parse::<u32>().ok().ok_or(Fault::Unreadable)?;
-        crowd.see(OpId(id), &operation(alloc, name)?)?;
+        observer.see(OpId(id), &operation(alloc, name)?)?;
     }
     Ok(())
 }
