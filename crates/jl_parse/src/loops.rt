@@ -1,4 +1,5 @@
-//! The `for` statements (12.6.3, 12.6.4).
+//! The `for` statements (12.6.3, 12.6.4). What reads a part of a head stays a function of its own when it is compiled, so
+//! that it takes no room on the stack while the body is read, as deep as statements stand in one another.
 #![tactic(auto, using(jl_ast::proofs::Views::nodes))]
 
 ghost use Rattle.std.specs.Prelude.{◌≡◌, ◌&&◌, false, suc, true};
@@ -21,6 +22,7 @@ use jl_ast::{Expr, ExprKind, ForInit, Ident, Stmt};
 use std::alloc::Global;
 
 // An expression, or none before a semicolon.
+#[inline(never)]
 #[cycle(parser)]
 #[tactic(auto, unfolding(jl_grammar::specs::Reader::optional_at))]
 fn until_semicolon(
@@ -40,6 +42,7 @@ fn until_semicolon(
 }
 
 // An expression, or none before a `)`.
+#[inline(never)]
 #[cycle(parser)]
 #[tactic(auto, unfolding(jl_grammar::specs::Reader::optional_at))]
 fn until_close(alloc: Global, tokens: &Tokens, depth: Depth, at: usize) -> Read<Part<Option<Expr>>>
@@ -54,6 +57,7 @@ fn until_close(alloc: Global, tokens: &Tokens, depth: Depth, at: usize) -> Read<
 }
 
 // A `for` from its first semicolon on.
+#[inline(never)]
 #[cycle(parser)]
 #[tactic(auto, using(jl_ast::proofs::Views::nodes), unfolding(jl_grammar::specs::Reader::for_from))]
 fn for_rest(
@@ -114,6 +118,7 @@ fn is_name_in(tokens: &Tokens, at: usize) -> bool
 }
 
 // A `for` whose head begins with a `var`, which stands at `var`.
+#[inline(never)]
 #[cycle(parser)]
 #[tactic(auto, using(jl_ast::proofs::Views::nodes), unfolding(jl_grammar::specs::Reader::for_var_at))]
 fn for_var(alloc: Global, tokens: &Tokens, depth: Depth, at: usize, var: usize) -> Read<Part<Stmt>>
@@ -143,6 +148,7 @@ fn name(e: Part<Box<Expr>>, at: usize) -> Result<Ident, Stop>
 }
 
 // A `for` whose head begins with an expression, which stands at `first`.
+#[inline(never)]
 #[cycle(parser)]
 #[tactic(auto, using(jl_ast::proofs::Views::nodes), unfolding(jl_grammar::specs::Reader::for_expression_at))]
 fn for_expression(

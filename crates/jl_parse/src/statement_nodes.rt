@@ -167,6 +167,7 @@ pub fn while_node(
 }
 
 /// A `for` statement (12.6.3).
+#[inline(never)]
 pub fn for_node(
     tokens: &Tokens,
     depth: Depth,

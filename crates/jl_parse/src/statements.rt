@@ -317,6 +317,7 @@ fn throw_statement(alloc: Global, tokens: &Tokens, depth: Depth, at: usize) -> R
 }
 
 // A statement with a label (12.12), whose colon stands at `colon`.
+#[inline(never)]
 #[cycle(parser)]
 #[tactic(auto, unfolding(jl_grammar::specs::Reader::named_at))]
 fn labelled_statement(
@@ -338,6 +339,7 @@ fn labelled_statement(
 }
 
 // A statement that begins with an identifier: with a label (12.12), or an expression.
+#[inline(never)]
 #[cycle(parser)]
 #[tactic(auto, unfolding(jl_grammar::specs::Reader::named_at))]
 fn named_statement(alloc: Global, tokens: &Tokens, depth: Depth, at: usize) -> Read<Part<Stmt>>
@@ -408,6 +410,7 @@ pub fn statement(alloc: Global, tokens: &Tokens, depth: Depth, at: usize) -> Rea
 }
 
 // A statement that begins with a reserved word.
+#[inline(never)]
 #[cycle(parser)]
 #[tactic(auto, unfolding(jl_grammar::specs::Reader::statement_by))]
 fn word_statement(
