@@ -46,7 +46,7 @@ fn answer(alloc: Global, row: &str) -> Result<String, Fault> {
         "parse" => parsing::answer(alloc, words),
         "vars" | "arguments" | "strict" => hoisting::answer(alloc, call, words),
         "budget" | "output" | "hooks" => running::answer(alloc, call, words),
-        "bind" | "frames" => stores::answer(alloc, call, words),
+        "bind" => stores::answer(alloc, words),
         "report" => reports::answer(alloc, words),
         _ => Err(Fault::Unreadable),
     }
