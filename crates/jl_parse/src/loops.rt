@@ -1,5 +1,5 @@
-//! The `for` statements (12.6.3, 12.6.4). What reads a part of a head stays a function of its own when it is compiled, so
-//! that it takes no room on the stack while the body is read, as deep as statements stand in one another.
+//! The `for` statements (12.6.3, 12.6.4). What reads a part of a head stays a function of its own when it is compiled,
+//! so that it takes no room on the stack while the body is read, as deep as statements stand in one another.
 #![tactic(auto, using(jl_ast::proofs::Views::nodes))]
 
 ghost use Rattle.std.specs.Prelude.{◌≡◌, ◌&&◌, false, suc, true};
