@@ -17,6 +17,6 @@ pub use error::ErrorProgress;
 pub use function::FunctionProgress;
 pub use global::GlobalProgress;
 pub use number::NumberProgress;
-pub use object::ObjectProgress;
+pub use object::{DescriptorField, DescriptorUse, Integrity, NamedChange, ObjectProgress, OwnTest};
 pub use progress::Progress;
 pub use string::StringProgress;
