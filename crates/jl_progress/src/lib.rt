@@ -11,7 +11,10 @@ mod object;
 mod progress;
 mod string;
 
-pub use array::ArrayProgress;
+pub use array::{
+    AfterCopying, AfterMoving, AfterPutting, ArrayProgress, Copying, Joining, LengthFunction,
+    Moving, Reading, Reversing, Splicing,
+};
 pub use array_call::ArrayCallProgress;
 pub use error::ErrorProgress;
 pub use function::FunctionProgress;
