@@ -12,7 +12,7 @@ mod progress;
 mod string;
 
 pub use array::ArrayProgress;
-pub use array_call::ArrayCallProgress;
+pub use array_call::{ArrayCallProgress, Direction, LengthFor, Task, Walk, WalkFor};
 pub use error::ErrorProgress;
 pub use function::FunctionProgress;
 pub use global::GlobalProgress;
