@@ -1,0 +1,2 @@
+pub mod IndexNames
+pub mod Fills
