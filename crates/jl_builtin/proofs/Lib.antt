@@ -1,2 +1,3 @@
-pub mod IndexNames
+pub mod Elements
 pub mod Fills
+pub mod IndexNames
