@@ -1,0 +1,79 @@
+-- slice: its turns, and where they begin and end.
+use Rattle.std.proofs.Common.{◌≡◌, ◌≤◌, ◌<◌, ◌+◌, ◌-◌, ◌∙◌, ap, arith, false, pos, refl, subst, suc, sym, true, zero}
+use Rattle.std.proofs.Common.{Bool, None, Option, Some, ℕ, ℤ}
+use Rattle.std.specs.Prelude.{min}
+use mathlib.Core.Path.{fun_ext}
+use Rattle.jl_value.specs.declared.object.ObjId.{ObjId}
+use Rattle.jl_value.specs.declared.value.Value.{Value}
+use Rattle.jl_value.specs.declared.value.Value.TheVariants as value
+use Rattle.jl_effects.specs.Effects.{Step}
+use Rattle.jl_meaning.specs.Conversions.{to_integer}
+use Rattle.jl_meaning.specs.Parts.{give, ◌>>=◌, Algorithm}
+use Rattle.jl_meaning.specs.builtins.Arguments.{give_object}
+use Rattle.jl_meaning.specs.builtins.Elements.{add_if, add_index, copy_element, element, get_index, relative_index, to_end}
+use Rattle.jl_meaning.specs.builtins.Turns.{upward}
+use Rattle.jl_progress.specs.ArrayCalls.{copy_from, slice_to}
+use Rattle.jl_state.specs.Rest.{Works}
+use Rattle.jl_state.specs.declared.act.Act.{Act}
+use Rattle.jl_state.specs.declared.act.Act.TheVariants as act
+use Rattle.jl_state.specs.declared.state.State.{State}
+use Rattle.jl_algorithm.proofs.Chains.{bind_assoc}
+use Rattle.jl_builtin.specs.Values.{is_undefined}
+
+abbrev turn : ObjId → ℕ → ObjId → ℕ → Unit {0} → Algorithm (Unit {0})
+turn o start a k _ = copy_element o (start + k) a (0 + k)
+
+none_left : (count at : ℕ) → count ≤ at → count - at ≡ 0
+none_left count at over = omega (arith, over)
+
+one_left : (count at : ℕ) → at < count → count - at ≡ suc (count - (at + 1))
+one_left count at below = omega (arith, below)
+
+plain : (k : ℕ) → 0 + k ≡ k
+plain k = omega arith
+
+-- the turns are over
+pub copied : (s : State) (o : ObjId) (start : ℕ) (a : ObjId) (count at : ℕ) → count ≤ at
+    → Works s (copy_from o start a count at) s (act.Give (value.Obj a))
+copied s o start a count at over =
+    subst (λ n. Works s (upward (turn o start a) n at tt >>= λ _. give_object a) s (act.Give (value.Obj a)))
+    (sym (none_left count at over)) (record { is = λ kept told. refl })
+
+-- a turn begins
+pub copies : (o : ObjId) (start : ℕ) (a : ObjId) (count at : ℕ) → at < count
+    → Step (element o (start + at) >>= λ v. add_if a at v >>= λ _. copy_from o start a count (at + 1))
+    ≡ copy_from o start a count at
+copies o start a count at below =
+    sym (ap (λ n. upward (turn o start a) n at tt >>= last) (one_left count at below)
+    ∙ ap Step (bind_assoc (turn o start a at tt) (λ b. upward (turn o start a) (count - (at + 1)) (at + 1) b) last
+    ∙ bind_assoc (element o (start + at)) (add_if a (0 + at)) (λ _. copy_from o start a count (at + 1))
+    ∙ ap (λ m. element o (start + at) >>= λ v. add_if a m v >>= λ _. copy_from o start a count (at + 1)) (plain at)))
+  where
+    last : Unit {0} → Algorithm Value
+    last _ = give_object a
+
+-- an end that isn't given is the length
+least_same : (n : ℕ) → min n n ≡ n
+least_same n = omega arith
+
+pub ends_with_length : (s : State) (o a : ObjId) (length start : ℕ) (end : Value) (t : State) (b : Act)
+    → is_undefined end ≡ true → Works s (copy_from o start a (length - start) 0) t b
+    → Works s (slice_to o a length start end) t b
+ends_with_length s o a length start value.Undefined t b none leads =
+    subst (λ n. Works s (copy_from o start a (n - start) 0) t b) (sym (least_same length)) leads
+ends_with_length s o a length start value.Null t b none leads = absurd (let differ = none in cc)
+ends_with_length s o a length start (value.Bool v) t b none leads = absurd (let differ = none in cc)
+ends_with_length s o a length start (value.Num n) t b none leads = absurd (let differ = none in cc)
+ends_with_length s o a length start (value.Text x) t b none leads = absurd (let differ = none in cc)
+ends_with_length s o a length start (value.Obj id) t b none leads = absurd (let differ = none in cc)
+
+pub converts_end : (s : State) (o a : ObjId) (length start : ℕ) (end : Value) (t : State) (b : Act)
+    → is_undefined end ≡ false
+    → Works s (to_integer end >>= λ z. copy_from o start a (relative_index z length - start) 0) t b
+    → Works s (slice_to o a length start end) t b
+converts_end s o a length start value.Undefined t b there leads = absurd (let differ = there in cc)
+converts_end s o a length start value.Null t b there leads = leads
+converts_end s o a length start (value.Bool v) t b there leads = leads
+converts_end s o a length start (value.Num n) t b there leads = leads
+converts_end s o a length start (value.Text x) t b there leads = leads
+converts_end s o a length start (value.Obj id) t b there leads = leads
