@@ -1,3 +1,3 @@
-pub mod Elements
 pub mod Fills
 pub mod IndexNames
+pub mod Waits

@@ -32,15 +32,9 @@ nothing_to_search s d o length args v none is =
     subst (λ n. Works s (search d o n args) s (act.Give v)) (sym none)
     (subst (λ w. Works s (give w) s (act.Give v)) is (record { is = λ kept told. refl }))
 
-least_zero : (n : ℕ) → min 0 n ≡ 0
-least_zero n = omega arith
-
-least_last : (n : ℕ) → min (n + 1) (suc n) ≡ suc n
-least_last n = omega arith
-
 usual_place : (d : Direction) (n : ℕ) → place_from d (usual_from d (suc n)) (suc n) ≡ first_place d (suc n)
-usual_place direction.Up n = least_zero (suc n)
-usual_place direction.Down n = least_last n
+usual_place direction.Up n = omega arith
+usual_place direction.Down n = omega arith
 
 pub searches_all : (s : State) (d : Direction) (o : ObjId) (length : ℕ) (args : List Value) (x : Value) (at : ℕ)
     (t : State) (a : Act) → (length ≡ 0 → ⊥) → slice_get args 1 ≡ None → x ≡ argument_of args 0
@@ -93,7 +87,7 @@ search_begins direction.Up o length x at k is =
     ∙ ap Step (bind_assoc (element o k) (λ v. give (match_index x k v))
     (λ found. or_next (first_upward (match_turn o x) (length - (k + 1)) (k + 1)) found >>= last)))
 search_begins direction.Down o length x zero k is = absurd (let differ = is in cc)
-search_begins direction.Down o length x (suc n) k is = subst goal (let same = is in cc) here
+search_begins direction.Down o length x (suc n) k is = let same : n ≡ k = (let e = is in cc) in subst goal same here
   where
     goal : ℕ → Type 0
     goal m = Step (element o m >>= search_with direction.Down o length x m) ≡ search_from direction.Down o length x (suc n)

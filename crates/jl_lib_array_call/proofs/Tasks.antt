@@ -68,7 +68,7 @@ begins (task.Reduce so_far direction.Up) w at k is =
     ∙ ap Step (bind_assoc (element w.object k) (combined w k so_far)
     (λ last. turns (task.Reduce last direction.Up) w (k + 1))))
 begins (task.Reduce so_far direction.Down) w zero k is = absurd (let differ = is in cc)
-begins (task.Reduce so_far direction.Down) w (suc n) k is = subst goal (let same = is in cc) here
+begins (task.Reduce so_far direction.Down) w (suc n) k is = let same : n ≡ k = (let e = is in cc) in subst goal same here
   where
     goal : ℕ → Type 0
     goal m = Step (element w.object m >>= task_with (task.Reduce so_far direction.Down) w m)
