@@ -27,7 +27,6 @@ use Rattle.jl_state.specs.Steps.{RanOut, Took}
 use Rattle.jl_state.specs.declared.act.Act.{Act}
 use Rattle.jl_state.specs.declared.act.Act.TheVariants as act
 use Rattle.jl_state.specs.declared.state.State.{State}
-use Rattle.jl_state.proofs.Stores.{works_comes, works_failed, works_thrown, IsStored}
 
 -- an element is added, whatever becomes of it
 module _ (array : ObjId) (index : ℕ) (v : Value) (x : Name) (change : Change) (from to : Store)
@@ -50,24 +49,6 @@ module _ (array : ObjId) (index : ℕ) (v : Value) (x : Name) (change : Change) 
   pub index_failed : (f : AlgorithmFault) → answer ≡ ended.Fails f
       → Comes (add_index array index v) from to (Fails (fault_seen f))
   index_failed f is = comes_failed (λ _. give tt) (defines (ended.Fails f) is)
-
--- an algorithm of the store that gives nothing, and what follows it
-module _ (s t : State) (stored : IsStored s t) (p : Algorithm (Unit {0})) (q : Algorithm Value)
-    (answer : Finished (Unit {0})) (comes : Comes p s.store t.store (finished answer)) where
-  so : (end : Finished (Unit {0})) → answer ≡ end → Comes p s.store t.store (finished end)
-  so end is = subst (λ (f : Finished (Unit {0})). Comes p s.store t.store (finished f)) is comes
-
-  pub done_works : (u : State) (a : Act) → answer ≡ ended.Gives tt → Works t q u a → Works s (p >>= λ _. q) u a
-  done_works u a is leads = works_comes s t stored p tt (λ _. q) u a (so (ended.Gives tt) is) leads
-
-  pub thrown_works : (w : Value) → answer ≡ ended.Throws w → Works s (p >>= λ _. q) t (act.Complete (completion.Throw w))
-  thrown_works w is = works_thrown s t stored p w (λ _. q) (so (ended.Throws w) is)
-
-  pub failed_works : (f : AlgorithmFault) (g : Fault) → answer ≡ ended.Fails f → g ≡ fault_of (fault_seen f)
-      → Works s (p >>= λ _. q) t (act.Fault g)
-  failed_works f g is fault_is =
-      subst (λ h. Works s (p >>= λ _. q) t (act.Fault h)) (sym fault_is)
-      (works_failed s t stored p (fault_seen f) (λ _. q) (so (ended.Fails f) is))
 
 -- the values from an index on, as what fills an array with them
 abbrev pub filled : (array : ObjId) → (from : ℕ) → List Value → Algorithm Value

@@ -52,3 +52,5 @@ no_length_given heap address index x change is array_there same =
 
 pub one_kind_plain : (v : Value) (change : Change) → change ≡ plain_change v → IsOneKind change
 one_kind_plain v change is = subst IsOneKind (sym is) refl
+
+pub ruleset elements = (no_length_given, one_kind_plain)

@@ -1,3 +1,4 @@
+pub mod Ends
 pub mod Fills
 pub mod IndexNames
 pub mod Waits

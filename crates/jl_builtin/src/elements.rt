@@ -96,7 +96,8 @@ pub fn delete_index<'p>(
         (answered answer)) }
 {
     let name = index_name(alloc, index)?;
-    match delete(alloc, state, true, &Value::Obj(object), &name)? {
+    let answer = delete(alloc, state, true, &Value::Obj(object), &name)?;
+    match answer {
         Answer::Gives(_) => Ok(Answer::Gives(())),
         Answer::Throws(thrown) => Ok(Answer::Throws(thrown)),
     }

@@ -20,6 +20,7 @@ use std::alloc::Global;
 
 /// An element is defined that can be written, enumerated and configured, and nothing is done where that is rejected
 /// (15.4.5.1).
+#[tactic(auto, using(crate::proofs::IndexNames::elements))]
 pub fn add_index(
     alloc: Global,
     store: &mut Store,
@@ -31,7 +32,8 @@ pub fn add_index(
 {
     let name = index_name(alloc, index)?;
     let change = plain_change(v);
-    match store.define_own_property(array, &name, change)? {
+    let answer = store.define_own_property(array, &name, change)?;
+    match answer {
         Finished::Gives(_) => Ok(Finished::Gives(())),
         Finished::Throws(thrown) => Ok(Finished::Throws(thrown)),
         Finished::Fails(fault) => Ok(Finished::Fails(fault)),
@@ -51,7 +53,8 @@ pub fn fill_array<'p>(
         (add_in_turns array from (drop from values) then λ _. give_object array) state.new act) }
     ensures falls { IfOk result (λ act. Falls state.old 6 state.new act) }
 {
-    match value_from(alloc, values.items(), from)? {
+    let found = value_from(alloc, values.items(), from)?;
+    match found {
         None => Ok(Act::Give(Value::Obj(array))),
         Some((v, next)) => {
             if !state.spend() {
@@ -77,7 +80,8 @@ fn add_and_go_on<'p>(
         state.new act) }
     ensures falls { IfOk result (λ act. Falls state.old 10 state.new act) }
 {
-    match add_index(alloc, &mut state.store, array, index, v)? {
+    let answer = add_index(alloc, &mut state.store, array, index, v)?;
+    match answer {
         Finished::Gives(()) => {
             let progress = Progress::Fill {
                 array,

@@ -39,7 +39,6 @@ use Rattle.jl_state.specs.Rest.{Works}
 use Rattle.jl_state.specs.declared.act.Act.{Act}
 use Rattle.jl_state.specs.declared.act.Act.TheVariants as act
 use Rattle.jl_state.specs.declared.state.State.{State}
-use Rattle.jl_state.proofs.Stores.{works_comes, works_failed, works_thrown, IsStored}
 use Rattle.jl_algorithm.proofs.Throwing.{works_left_out}
 use Rattle.jl_lib_array_call.specs.inner.Arrays.{only_number}
 
@@ -97,25 +96,6 @@ module _ (s : State) (n : Number) (b : Bool) (is : b ≡ same_number (Some (pos 
       subst (λ c. Works s (of_length c n) t a) (sym so ∙ is)
       (works_left_out s RangeError (codes "bad array length")
       (λ length. array_of_length length >>= λ a. give (value.Obj a)) t a leads)
-
--- the array that was made is given
-
-module _ (s t : State) (stored : IsStored s t) (p : Algorithm ObjId) (answer : Finished ObjId)
-    (comes : Comes p s.store t.store (finished answer)) (k : ObjId → Algorithm Value) where
-  so : (end : Finished ObjId) → answer ≡ end → Comes p s.store t.store (finished end)
-  so end is = subst (λ (f : Finished ObjId). Comes p s.store t.store (finished f)) is comes
-
-  pub made_works : (id : ObjId) (u : State) (a : Act) → answer ≡ ended.Gives id → Works t (k id) u a → Works s (p >>= k) u a
-  made_works id u a is leads = works_comes s t stored p id k u a (so (ended.Gives id) is) leads
-
-  pub made_thrown : (w : Value) → answer ≡ ended.Throws w → Works s (p >>= k) t (act.Complete (completion.Throw w))
-  made_thrown w is = works_thrown s t stored p w k (so (ended.Throws w) is)
-
-  pub made_failed : (f : AlgorithmFault) (g : Fault) → answer ≡ ended.Fails f → g ≡ fault_of (fault_seen f)
-      → Works s (p >>= k) t (act.Fault g)
-  made_failed f g is fault_is =
-      subst (λ h. Works s (p >>= k) t (act.Fault h)) (sym fault_is)
-      (works_failed s t stored p (fault_seen f) k (so (ended.Fails f) is))
 
 length_is : length_name ≡ codes "length"
 unfolding length_name

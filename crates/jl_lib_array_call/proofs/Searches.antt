@@ -17,6 +17,7 @@ use Rattle.jl_progress.specs.ArrayCalls.{search_with, usual_from}
 use Rattle.jl_progress.specs.declared.array_call.Direction.{Direction}
 use Rattle.jl_progress.specs.declared.array_call.Direction.TheVariants as direction
 use Rattle.jl_state.specs.Rest.{Works}
+use Rattle.jl_state.specs.Steps.{RanOut, Took}
 use Rattle.jl_state.specs.declared.act.Act.{Act}
 use Rattle.jl_state.specs.declared.act.Act.TheVariants as act
 use Rattle.jl_state.specs.declared.state.State.{State}
@@ -115,3 +116,22 @@ search_passes s d o length x k at v b t a is so place leads =
     subst (λ (c : Bool). Works s (or_next (found_from d o length x (next_place d k)) (if c then Some k else None)
     >>= last) t a) (sym so ∙ is)
     (subst (λ n. Works s (search_from d o length x n) t a) place leads)
+
+-- the same of states
+
+pub search_goes_on : (s t : State) (d : Direction) (o : ObjId) (length : ℕ) (x : Value) (at k : ℕ) (u : State) (a : Act)
+    → index_at d at length ≡ Some k → Took s t → Works t (element o k >>= search_with d o length x k) u a
+    → Works s (search_from d o length x at) u a
+search_goes_on s t d o length x at k u a is took leads =
+    subst (λ p. Works s p u a) (search_begins d o length x at k is)
+    (took.works (element o k >>= search_with d o length x k) u a leads)
+
+pub search_spent : (s : State) (d : Direction) (o : ObjId) (length : ℕ) (x : Value) (at k : ℕ)
+    → index_at d at length ≡ Some k → RanOut s → Works s (search_from d o length x at) s act.Spent
+search_spent s d o length x at k is ran =
+    subst (λ p. Works s p s act.Spent) (search_begins d o length x at k is)
+    (ran.works (element o k >>= search_with d o length x k))
+
+pub search_misses : (s : State) (d : Direction) (o : ObjId) (length : ℕ) (x : Value) (k at : ℕ) (t : State) (a : Act)
+    → at ≡ next_place d k → Works s (search_from d o length x at) t a → Works s (search_with d o length x k None) t a
+search_misses s d o length x k at t a place leads = subst (λ n. Works s (search_from d o length x n) t a) place leads

@@ -14,6 +14,7 @@ use Rattle.jl_meaning.specs.builtins.Elements.{add_if, add_index, copy_element, 
 use Rattle.jl_meaning.specs.builtins.Turns.{upward}
 use Rattle.jl_progress.specs.ArrayCalls.{copy_from, slice_to}
 use Rattle.jl_state.specs.Rest.{Works}
+use Rattle.jl_state.specs.Steps.{RanOut, Took}
 use Rattle.jl_state.specs.declared.act.Act.{Act}
 use Rattle.jl_state.specs.declared.act.Act.TheVariants as act
 use Rattle.jl_state.specs.declared.state.State.{State}
@@ -77,3 +78,18 @@ converts_end s o a length start (value.Bool v) t b there leads = leads
 converts_end s o a length start (value.Num n) t b there leads = leads
 converts_end s o a length start (value.Text x) t b there leads = leads
 converts_end s o a length start (value.Obj id) t b there leads = leads
+
+-- the same of states
+
+pub copy_begins : (s t : State) (o : ObjId) (start : ℕ) (a : ObjId) (count at : ℕ) (u : State) (b : Act) → at < count
+    → Took s t → Works t (element o (start + at) >>= λ v. add_if a at v >>= λ _. copy_from o start a count (at + 1)) u b
+    → Works s (copy_from o start a count at) u b
+copy_begins s t o start a count at u b below took leads =
+    subst (λ p. Works s p u b) (copies o start a count at below)
+    (took.works (element o (start + at) >>= λ v. add_if a at v >>= λ _. copy_from o start a count (at + 1)) u b leads)
+
+pub copy_spent : (s : State) (o : ObjId) (start : ℕ) (a : ObjId) (count at : ℕ) → at < count → RanOut s
+    → Works s (copy_from o start a count at) s act.Spent
+copy_spent s o start a count at below ran =
+    subst (λ p. Works s p s act.Spent) (copies o start a count at below)
+    (ran.works (element o (start + at) >>= λ v. add_if a at v >>= λ _. copy_from o start a count (at + 1)))

@@ -33,7 +33,8 @@ pub(crate) fn array_constructor<'p>(
     ensures leads { IfOk result (λ act. Works state.old (array_by args.now) state.new act) }
     ensures falls { IfOk result (λ act. Falls state.old 3 state.new act) }
 {
-    match only_number(args) {
+    let number = only_number(args);
+    match number {
         Some(n) => Ok(array_of_number(alloc, state, n)?),
         None => Ok(array_of_values(alloc, state, args)?),
     }
@@ -57,7 +58,8 @@ fn array_of_number<'p>(alloc: Global, state: &mut State<'p>, n: Num) -> Result<A
     if !is_length(n) {
         return Ok(throw_native(alloc, state, ErrorKind::RangeError, "bad array length")?);
     }
-    match array_of_length(alloc, &mut state.store, n)? {
+    let answer = array_of_length(alloc, &mut state.store, n)?;
+    match answer {
         Finished::Gives(array) => Ok(Act::Give(Value::Obj(array))),
         Finished::Throws(thrown) => Ok(Act::Complete(Completion::Throw(thrown))),
         Finished::Fails(fault) => Ok(Act::Fault(fault_of(fault))),
@@ -84,7 +86,8 @@ fn array_of_values<'p>(
     ensures falls { IfOk result (λ act. Falls state.old 3 state.new act) }
 {
     let array = state.store.new_array()?;
-    match add_all(alloc, &mut state.store, array, values)? {
+    let answer = add_all(alloc, &mut state.store, array, values)?;
+    match answer {
         Finished::Gives(()) => Ok(Act::Give(Value::Obj(array))),
         Finished::Throws(thrown) => Ok(Act::Complete(Completion::Throw(thrown))),
         Finished::Fails(fault) => Ok(Act::Fault(fault_of(fault))),
@@ -102,7 +105,8 @@ fn add_all(
 {
     for index in 0..values.len() {
         let v = share(alloc, &values[index])?;
-        match add_index(alloc, store, array, index, v)? {
+        let answer = add_index(alloc, store, array, index, v)?;
+        match answer {
             Finished::Gives(()) => {}
             Finished::Throws(thrown) => return Ok(Finished::Throws(thrown)),
             Finished::Fails(fault) => return Ok(Finished::Fails(fault)),
@@ -122,7 +126,8 @@ pub(crate) fn array_of_length(
     let array = store.new_array()?;
     let name = word(alloc, "length")?;
     let change = value_change(Value::Num(length));
-    match store.define_own_property(array, &name, change)? {
+    let answer = store.define_own_property(array, &name, change)?;
+    match answer {
         Finished::Gives(_) => Ok(Finished::Gives(array)),
         Finished::Throws(thrown) => Ok(Finished::Throws(thrown)),
         Finished::Fails(fault) => Ok(Finished::Fails(fault)),

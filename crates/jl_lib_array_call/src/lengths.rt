@@ -31,8 +31,10 @@ pub(crate) fn begin_length<'p>(
     ensures leads { IfOk result (λ act. Works state.old (length_call purpose (call_of call)) state.new act) }
     ensures falls { IfOk result (λ act. Falls state.old 74 state.new act) }
 {
-    match state.store.to_object(&call.this)? {
-        Answer::Gives(object) => Ok(get_length(alloc, state, object, call.args, purpose)?),
+    let Invocation { this, args, .. } = call;
+    let answer = state.store.to_object(&this)?;
+    match answer {
+        Answer::Gives(object) => Ok(get_length(alloc, state, object, args, purpose)?),
         Answer::Throws(thrown) => Ok(Act::Complete(Completion::Throw(thrown))),
     }
 }

@@ -31,11 +31,13 @@ pub(crate) fn array_slice<'p>(
     ensures leads { IfOk result (λ act. Works state.old (array_slice (call_of call)) state.new act) }
     ensures falls { IfOk result (λ act. Falls state.old 74 state.new act) }
 {
-    match state.store.to_object(&call.this)? {
+    let Invocation { this, args, .. } = call;
+    let answer = state.store.to_object(&this)?;
+    match answer {
         Answer::Gives(object) => {
             let array = state.store.new_array()?;
             let purpose = LengthFor::Slice { array };
-            Ok(get_length(alloc, state, object, call.args, purpose)?)
+            Ok(get_length(alloc, state, object, args, purpose)?)
         }
         Answer::Throws(thrown) => Ok(Act::Complete(Completion::Throw(thrown))),
     }
@@ -219,7 +221,8 @@ pub(crate) fn step_copy_element<'p>(
         (array_call_after (ArrayCallProgress.CopyElement object start array count index) v) state.new act) }
     ensures falls { IfOk result (λ act. Falls state.old 9 state.new act) }
 {
-    match add_index(alloc, &mut state.store, array, index, v)? {
+    let answer = add_index(alloc, &mut state.store, array, index, v)?;
+    match answer {
         Finished::Gives(()) => Ok(next_copy(state, object, start, array, count, index)?),
         Finished::Throws(thrown) => Ok(Act::Complete(Completion::Throw(thrown))),
         Finished::Fails(fault) => Ok(Act::Fault(fault_of(fault))),

@@ -262,7 +262,8 @@ fn add_answer<'p>(
     ensures falls { IfOk result (λ act. Falls state.old 9 state.new act) }
 {
     let at = next_index(index)?;
-    match add_index(alloc, &mut state.store, array, index, v)? {
+    let answer = add_index(alloc, &mut state.store, array, index, v)?;
+    match answer {
         Finished::Gives(()) => Ok(go_on_walking(state, walk, Task::Map { array }, at)?),
         Finished::Throws(thrown) => Ok(Act::Complete(Completion::Throw(thrown))),
         Finished::Fails(fault) => Ok(Act::Fault(fault_of(fault))),
@@ -286,7 +287,8 @@ fn add_element<'p>(
 {
     let at = next_index(index)?;
     let next = next_index(to)?;
-    match add_index(alloc, &mut state.store, array, to, element)? {
+    let answer = add_index(alloc, &mut state.store, array, to, element)?;
+    match answer {
         Finished::Gives(()) => Ok(go_on_walking(
             state,
             walk,

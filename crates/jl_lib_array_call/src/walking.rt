@@ -33,7 +33,8 @@ pub(crate) fn begin_walk<'p>(
     ensures falls { IfOk result (λ act. Falls state.old 9 state.new act) }
 {
     let function = argument(alloc, args, 0)?;
-    match need_function(&mut state.store, &function)? {
+    let answer = need_function(&mut state.store, &function)?;
+    match answer {
         Answer::Throws(thrown) => Ok(Act::Complete(Completion::Throw(thrown))),
         Answer::Gives(function) => {
             let walk = Walk {
@@ -87,7 +88,8 @@ fn begin_map<'p>(alloc: Global, state: &mut State<'p>, walk: Walk) -> Result<Act
     ensures falls { IfOk result (λ act. Falls state.old 9 state.new act) }
 {
     let length = number(walk.length)?;
-    match array_of_length(alloc, &mut state.store, length)? {
+    let answer = array_of_length(alloc, &mut state.store, length)?;
+    match answer {
         Finished::Gives(array) => Ok(go_on_walking(state, walk, Task::Map { array }, 0)?),
         Finished::Throws(thrown) => Ok(Act::Complete(Completion::Throw(thrown))),
         Finished::Fails(fault) => Ok(Act::Fault(fault_of(fault))),
