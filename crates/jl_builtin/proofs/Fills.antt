@@ -1,32 +1,36 @@
--- Elements that are added to arrays.
-use Rattle.std.proofs.Common.{◌≡◌, ◌∙◌, ◌∷◌, ◌+◌, [], ℕ, Bool, List, drop, refl, sym, ap, subst}
-use Rattle.jl_value.specs.declared.ending.Completion.TheVariants as completion
-use Rattle.jl_value.specs.declared.ending.Fault.{Fault}
+-- Elements that are added to arrays, and elements and lengths of objects that are taken for arrays.
+use Rattle.std.proofs.Common.{◌≡◌, ◌+◌, ◌∙◌, ◌∷◌, codes, drop, pos, refl, subst, sym, true, ℕ}
+use Rattle.std.proofs.Common.{Bool, List, Option, Some}
+use Rattle.jl_num.specs.Arithmetic.{number_of}
+use Rattle.jl_num.specs.Number.{Number}
 use Rattle.jl_value.specs.declared.object.ObjId.{ObjId}
 use Rattle.jl_value.specs.declared.value.Value.{Value}
 use Rattle.jl_value.specs.declared.value.Value.TheVariants as value
+use Rattle.jl_heap.specs.Define.{length_name}
 use Rattle.jl_heap.specs.Objects.{Name}
 use Rattle.jl_heap.specs.declared.property.Change.{Change}
-use Rattle.jl_effects.specs.Effects.{Step}
 use Rattle.jl_effects.specs.Running.{Ends, Fails}
 use Rattle.jl_meaning.specs.Defining.{define_own_property, plain_change}
-use Rattle.jl_meaning.specs.Parts.{fault_of, give, gives, throws, ◌>>=◌, Algorithm}
+use Rattle.jl_meaning.specs.Parts.{give, gives, or_fault, throws, ◌>>=◌, Algorithm, NumberOutside}
+use Rattle.jl_meaning.specs.Putting.{delete, put}
 use Rattle.jl_meaning.specs.Store.{Store}
 use Rattle.jl_meaning.specs.builtins.Arguments.{give_object}
-use Rattle.jl_meaning.specs.builtins.Elements.{add_in_turns, add_index}
+use Rattle.jl_meaning.specs.builtins.Elements.{add_in_turns, add_index, delete_index, put_length}
 use Rattle.jl_meaning.specs.forms.Literals.{index_name}
-use Rattle.jl_store.specs.Answers.{fault_seen, finished}
+use Rattle.jl_store.specs.Answers.{answered, fault_seen, finished}
 use Rattle.jl_store.specs.Comes.{Comes}
 use Rattle.jl_store.specs.declared.answer.AlgorithmFault.{AlgorithmFault}
+use Rattle.jl_store.specs.declared.answer.Answer.{Answer}
+use Rattle.jl_store.specs.declared.answer.Answer.TheVariants.{Gives, Throws}
 use Rattle.jl_store.specs.declared.answer.Finished.{Finished}
 use Rattle.jl_store.specs.declared.answer.Finished.TheVariants as ended
 use Rattle.jl_store.proofs.Chains.{comes_failed, comes_on, comes_thrown}
 use Rattle.jl_store.proofs.Steps.{comes_to}
 use Rattle.jl_state.specs.Rest.{Works}
-use Rattle.jl_state.specs.Steps.{RanOut, Took}
+use Rattle.jl_state.specs.Steps.{Took}
 use Rattle.jl_state.specs.declared.act.Act.{Act}
-use Rattle.jl_state.specs.declared.act.Act.TheVariants as act
 use Rattle.jl_state.specs.declared.state.State.{State}
+use Rattle.jl_algorithm.proofs.Chains.{works_assoc}
 
 -- an element is added, whatever becomes of it
 module _ (array : ObjId) (index : ℕ) (v : Value) (x : Name) (change : Change) (from to : Store)
@@ -50,11 +54,50 @@ module _ (array : ObjId) (index : ℕ) (v : Value) (x : Name) (change : Change) 
       → Comes (add_index array index v) from to (Fails (fault_seen f))
   index_failed f is = comes_failed (λ _. give tt) (defines (ended.Fails f) is)
 
--- the values from an index on, as what fills an array with them
-abbrev pub filled : (array : ObjId) → (from : ℕ) → List Value → Algorithm Value
-filled array from vs = add_in_turns array from vs >>= λ _. give_object array
+-- an element is deleted
+module _ (o : ObjId) (index : ℕ) (x : Name) (from to : Store) (name_is : x ≡ index_name index) (answer : Answer Bool)
+    (comes : Comes (delete true (value.Obj o) x) from to (answered answer)) where
+  deletes : (end : Answer Bool) → answer ≡ end
+      → Comes (delete true (value.Obj o) (index_name index)) from to (answered end)
+  deletes end is =
+      subst (λ (b : Answer Bool). Comes (delete true (value.Obj o) (index_name index)) from to (answered b)) is
+      (subst (λ y. Comes (delete true (value.Obj o) y) from to (answered answer)) name_is comes)
 
-pub none_to_fill : (s : State) (array : ObjId) (from : ℕ) (values : List Value) → drop from values ≡ []
-    → Works s (filled array from (drop from values)) s (act.Give (value.Obj array))
-none_to_fill s array from values none =
-    subst (λ l. Works s (filled array from l) s (act.Give (value.Obj array))) (sym none) (record { is = λ kept told. refl })
+  pub index_deleted : (free : Bool) → answer ≡ Gives free → Comes (delete_index o index) from to (Ends (gives tt))
+  index_deleted free is = comes_on (λ _. give tt) (deletes (Gives free) is) comes_to
+
+  pub index_kept : (v : Value) → answer ≡ Throws v → Comes (delete_index o index) from to (Ends (throws v))
+  index_kept v is = comes_thrown (λ _. give tt) (deletes (Throws v) is)
+
+length_is : length_name ≡ codes "length"
+unfolding length_name
+length_is = refl
+
+-- a length is put that is a number
+pub puts_length : (s : State) (o : ObjId) (n : ℕ) (m : Number) (x : Name) (v : Value) (t : State) (a : Act)
+    → number_of (pos n) ≡ Some m → x ≡ codes "length"
+    → Works s (put true (value.Obj o) x (value.Num m) >>= λ _. give v) t a
+    → Works s (put_length o n >>= λ _. give v) t a
+puts_length s o n m x v t a is named leads =
+    subst (λ (q : Option Number). Works s (or_fault NumberOutside q >>= (λ m. give (value.Num m))
+    >>= (λ w. put true (value.Obj o) length_name w) >>= λ _. give v) t a) (sym is)
+    (subst (λ (y : Name). Works s (put true (value.Obj o) y (value.Num m) >>= λ _. give v) t a)
+    (named ∙ sym length_is) leads)
+
+-- a value becomes an element in a turn, before those that are left
+pub fills : (s t : State) (array : ObjId) (from next : ℕ) (values : List Value) (v : Value) (u : State) (a : Act)
+    → drop from values ≡ v ∷ drop next values → next ≡ from + 1 → Took s t
+    → Works t (add_index array from v >>= λ _. add_in_turns array next (drop next values)
+    >>= λ _. give_object array) u a
+    → Works s (add_in_turns array from (drop from values) >>= λ _. give_object array) u a
+fills s t array from next values v u a split follows took leads =
+    subst (λ l. Works s (add_in_turns array from l >>= last) u a) (sym split)
+    (took.works (add_index array from v >>= others (from + 1) >>= last) u a
+    (works_assoc t (add_index array from v) (others (from + 1)) last u a
+    (subst (λ n. Works t (add_index array from v >>= λ b. others n b >>= last) u a) follows leads)))
+  where
+    last : Unit {0} → Algorithm Value
+    last _ = give_object array
+
+    others : ℕ → Unit {0} → Algorithm (Unit {0})
+    others n _ = add_in_turns array n (drop next values)

@@ -1,7 +1,8 @@
 //! What builtins ask of their arguments.
-ghost use Rattle.std.specs.Prelude.{◌≡◌, slice_index_or, IfOk};
+ghost use Rattle.std.specs.Prelude.{◌≡◌, codes, slice_index_or, IfOk};
 ghost use Rattle.jl_builtin.specs.Values.{is_undefined};
-ghost use Rattle.jl_meaning.specs.builtins.Arguments.{function_if, need_function, need_object};
+ghost use Rattle.jl_meaning.specs.Errors.{throw_type_error};
+ghost use Rattle.jl_meaning.specs.builtins.Arguments.{need_function, need_object};
 ghost use Rattle.jl_store.specs.Answers.{answered};
 ghost use Rattle.jl_store.specs.Comes.{Comes};
 ghost use Rattle.jl_value.specs.declared.value.Value.TheVariants as value;
@@ -32,30 +33,32 @@ pub fn is_undefined(v: &Value) -> bool
 pub fn need_object(store: &mut Store, v: &Value) -> Result<Answer<ObjId>, NoMemory>
     ensures { IfOk result (λ answer. Comes (need_object v.now) store.old store.new (answered answer)) }
 {
-    if let Value::Obj(id) = v {
-        return Ok(Answer::Gives(*id));
-    }
-    let thrown = store.throw_type_error("not an object")?;
-    Ok(Answer::Throws(thrown))
+    let Value::Obj(id) = v else {
+        let thrown = store.throw_type_error("not an object")?;
+        return Ok(Answer::Throws(thrown));
+    };
+    Ok(Answer::Gives(*id))
 }
 
 /// The function that a value is (9.11). It throws a TypeError for any other value.
 pub fn need_function(store: &mut Store, v: &Value) -> Result<Answer<ObjId>, NoMemory>
     ensures { IfOk result (λ answer. Comes (need_function v.now) store.old store.new (answered answer)) }
 {
-    let callable = store.is_callable(v);
-    function_if(store, callable, v)
+    let Value::Obj(id) = v else {
+        return Ok(no_function(store)?);
+    };
+    if !store.is_callable(v) {
+        return Ok(no_function(store)?);
+    }
+    Ok(Answer::Gives(*id))
 }
 
-/// The object that a value is, if it can be called.
-fn function_if(store: &mut Store, callable: bool, v: &Value) -> Result<Answer<ObjId>, NoMemory>
-    ensures { IfOk result (λ answer. Comes (function_if callable v.now) store.old store.new (answered answer)) }
+/// Throws that a value is no function.
+#[tactic(auto, using(jl_store::proofs::Chains::error_comes))]
+fn no_function(store: &mut Store) -> Result<Answer<ObjId>, NoMemory>
+    ensures { IfOk result (λ answer. Comes (throw_type_error (codes "not a function")) store.old store.new
+        (answered answer)) }
 {
-    match v {
-        Value::Obj(id) if callable => Ok(Answer::Gives(*id)),
-        _ => {
-            let thrown = store.throw_type_error("not a function")?;
-            Ok(Answer::Throws(thrown))
-        }
-    }
+    let thrown = store.throw_type_error("not a function")?;
+    Ok(Answer::Throws(thrown))
 }

@@ -1,6 +1,6 @@
-pub mod Arrays
-pub mod Rows
+pub mod CalledRows
+pub mod NewArrays
 pub mod Searches
 pub mod Slices
-pub mod Tasks
+pub mod TaskTurns
 pub mod Turns

@@ -4,6 +4,7 @@ ghost use Rattle.jl_lib_array_call.specs.Rows.{length_call};
 ghost use Rattle.jl_meaning.specs.Parts.{◌>>=◌ as ◌then◌};
 ghost use Rattle.jl_meaning.specs.builtins.Elements.{get_length};
 ghost use Rattle.jl_progress.specs.ArrayCalls.{array_call_after, with_length};
+ghost use Rattle.jl_num.specs.Bits.{uint32_of};
 ghost use Rattle.jl_state.specs.Rank.{Falls};
 ghost use Rattle.jl_state.specs.Rest.{Works};
 ghost use Rattle.jl_state.specs.Words.{call_of};
@@ -13,7 +14,7 @@ use crate::slicing::slice;
 use crate::walking::begin_walk;
 use jl_algorithm::{get, to_primitive};
 use jl_builtin::number_of_primitive;
-use jl_num::to_uint32;
+use jl_num::{Num, to_uint32};
 use jl_progress::{ArrayCallProgress, LengthFor, Progress};
 use jl_state::{Act, AlgorithmFrame, Hint, Invocation, State};
 use jl_store::{Answer, word};
@@ -84,6 +85,7 @@ pub(crate) fn step_length<'p>(
 }
 
 /// Goes on with the length as a primitive value (9.6).
+#[tactic(auto, using(jl_builtin::proofs::Waits::number_outside))]
 pub(crate) fn step_length_primitive<'p>(
     alloc: Global,
     state: &mut State<'p>,
@@ -99,8 +101,14 @@ pub(crate) fn step_length_primitive<'p>(
     let Some(n) = number_of_primitive(p) else {
         return Ok(Act::Fault(Fault::NumberOutside));
     };
-    let length = to_uint32(n) as usize;
-    Ok(with_length(alloc, state, purpose, object, args, length)?)
+    Ok(with_length(alloc, state, purpose, object, &args, length_of(n))?)
+}
+
+/// A length of a number (9.6).
+fn length_of(n: Num) -> usize
+    ensures { result ≡ uint32_of n }
+{
+    to_uint32(n) as usize
 }
 
 /// What follows when the length is known.
@@ -109,13 +117,12 @@ fn with_length<'p>(
     state: &mut State<'p>,
     purpose: LengthFor,
     object: ObjId,
-    args: List<Value>,
+    args: &List<Value>,
     length: usize,
 ) -> Result<Act<'p>, NoMemory>
-    ensures leads { IfOk result (λ act. Works state.old (with_length purpose object args length) state.new act) }
+    ensures leads { IfOk result (λ act. Works state.old (with_length purpose object args.now length) state.new act) }
     ensures falls { IfOk result (λ act. Falls state.old 46 state.new act) }
 {
-    let args = args.items();
     match purpose {
         LengthFor::Slice { array } => Ok(slice(alloc, state, object, array, args, length)?),
         LengthFor::Search { direction } => {

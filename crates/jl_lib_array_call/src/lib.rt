@@ -2,6 +2,7 @@
 //! 15.4.4.14 to 15.4.4.22).
 #![tactic(auto)]
 
+mod arguments;
 mod arrays;
 mod lengths;
 mod places;

@@ -6,14 +6,15 @@ ghost use Rattle.jl_progress.specs.ArrayCalls.{array_call_after, next_place, sea
 ghost use Rattle.jl_state.specs.Rank.{Falls};
 ghost use Rattle.jl_state.specs.Rest.{Works};
 
+use crate::arguments::second;
 use crate::places::{first_place, index_at, next_place, place_from};
 use jl_algorithm::to_primitive;
 use jl_builtin::{argument, get_index, go_on, has_index, index_or_none, number_of_primitive};
 use jl_conv::strict_equal;
 use jl_progress::{ArrayCallProgress, Direction, Progress};
 use jl_state::{Act, AlgorithmFrame, Hint, State};
-use jl_text::NoMemory;
-use jl_value::{Fault, ObjId, Value, share};
+use jl_text::{List, NoMemory};
+use jl_value::{Fault, ObjId, Value};
 use std::alloc::Global;
 
 /// A search begins, when the length is known.
@@ -23,7 +24,7 @@ pub(crate) fn search<'p>(
     direction: Direction,
     object: ObjId,
     length: usize,
-    args: &[Value],
+    args: &List<Value>,
 ) -> Result<Act<'p>, NoMemory>
     ensures leads { IfOk result (λ act. Works state.old (search direction object length args.now) state.new act) }
     ensures falls { IfOk result (λ act. Falls state.old 28 state.new act) }
@@ -31,12 +32,11 @@ pub(crate) fn search<'p>(
     if length == 0 {
         return Ok(Act::Give(index_or_none(None)?));
     }
-    let sought = argument(alloc, args, 0)?;
-    let Some(from) = args.get(1) else {
+    let sought = argument(alloc, args.items(), 0)?;
+    let Some(from) = second(alloc, args)? else {
         let at = first_place(direction, length);
         return Ok(go_on_searching(state, object, length, sought, direction, at)?);
     };
-    let from = share(alloc, from)?;
     let progress = ArrayCallProgress::SearchFrom {
         object,
         length,
@@ -48,6 +48,7 @@ pub(crate) fn search<'p>(
 }
 
 /// Goes on with where a search begins, as a primitive value.
+#[tactic(auto, using(jl_builtin::proofs::Waits::number_outside))]
 pub(crate) fn step_search_from<'p>(
     state: &mut State<'p>,
     object: ObjId,

@@ -18,7 +18,7 @@ use jl_builtin::{
 use jl_progress::{ArrayCallProgress, LengthFor, Progress};
 use jl_state::{Act, AlgorithmFrame, Hint, Invocation, State};
 use jl_store::{Answer, Finished};
-use jl_text::NoMemory;
+use jl_text::{List, NoMemory};
 use jl_value::{Completion, Fault, ObjId, Value};
 use std::alloc::Global;
 
@@ -49,15 +49,15 @@ pub(crate) fn slice<'p>(
     state: &mut State<'p>,
     object: ObjId,
     array: ObjId,
-    args: &[Value],
+    args: &List<Value>,
     length: usize,
 ) -> Result<Act<'p>, NoMemory>
     ensures leads { IfOk result (λ act. Works state.old
         (with_length (LengthFor.Slice array) object args.now length) state.new act) }
     ensures falls { IfOk result (λ act. Falls state.old 46 state.new act) }
 {
-    let start = argument(alloc, args, 0)?;
-    let end = argument(alloc, args, 1)?;
+    let start = argument(alloc, args.items(), 0)?;
+    let end = argument(alloc, args.items(), 1)?;
     let progress = ArrayCallProgress::SliceStart {
         object,
         array,
@@ -69,6 +69,7 @@ pub(crate) fn slice<'p>(
 }
 
 /// Goes on with the start as a primitive value.
+#[tactic(auto, using(jl_builtin::proofs::Waits::number_outside))]
 pub(crate) fn step_slice_start<'p>(
     alloc: Global,
     state: &mut State<'p>,
@@ -116,6 +117,7 @@ fn slice_to<'p>(
 }
 
 /// Goes on with the end as a primitive value.
+#[tactic(auto, using(jl_builtin::proofs::Waits::number_outside))]
 pub(crate) fn step_slice_end<'p>(
     state: &mut State<'p>,
     object: ObjId,

@@ -1,22 +1,23 @@
 //! The functions that go through elements and call a function for each (15.4.4.16 to 15.4.4.22): how they begin, and their
 //! turns.
-ghost use Rattle.std.specs.Prelude.{◌≡◌, [], pos, slice_get, IfOk, Some};
+ghost use Rattle.std.specs.Prelude.{◌≡◌, [], pos, IfOk, Some};
 ghost use Rattle.jl_meaning.specs.Parts.{◌>>=◌ as ◌then◌};
 ghost use Rattle.jl_meaning.specs.builtins.Elements.{element};
 ghost use Rattle.jl_progress.specs.ArrayCalls.{begin_walk, task_with, turns, walk_of, with_length};
 ghost use Rattle.jl_state.specs.Rank.{Falls};
 ghost use Rattle.jl_state.specs.Rest.{Works};
 
+use crate::arguments::second;
 use crate::arrays::array_of_length;
 use crate::places::{direction_of, first_place, index_at, next_place};
 use crate::tasks::{end_task, go_on_walking};
 use jl_builtin::{argument, fault_of, get_index, has_index, need_function};
 use jl_num::Num;
-use jl_progress::{ArrayCallProgress, Progress, Task, Walk, WalkFor};
+use jl_progress::{ArrayCallProgress, LengthFor, Progress, Task, Walk, WalkFor};
 use jl_state::{Act, AlgorithmFrame, State};
 use jl_store::{Answer, Finished};
-use jl_text::NoMemory;
-use jl_value::{Completion, ObjId, Value, share};
+use jl_text::{List, NoMemory};
+use jl_value::{Completion, ObjId, Value};
 use std::alloc::Global;
 
 /// A walk begins, when the length is known (15.4.4.16, steps 4 and 5).
@@ -26,13 +27,13 @@ pub(crate) fn begin_walk<'p>(
     purpose: WalkFor,
     object: ObjId,
     length: usize,
-    args: &[Value],
+    args: &List<Value>,
 ) -> Result<Act<'p>, NoMemory>
     ensures leads { IfOk result (λ act. Works state.old
         (with_length (LengthFor.Walk purpose) object args.now length) state.new act) }
     ensures falls { IfOk result (λ act. Falls state.old 9 state.new act) }
 {
-    let function = argument(alloc, args, 0)?;
+    let function = argument(alloc, args.items(), 0)?;
     let answer = need_function(&mut state.store, &function)?;
     match answer {
         Answer::Throws(thrown) => Ok(Act::Complete(Completion::Throw(thrown))),
@@ -41,7 +42,7 @@ pub(crate) fn begin_walk<'p>(
                 object,
                 length,
                 function,
-                this: argument(alloc, args, 1)?,
+                this: argument(alloc, args.items(), 1)?,
             };
             Ok(begin_task(alloc, state, purpose, walk, args)?)
         }
@@ -54,7 +55,7 @@ fn begin_task<'p>(
     state: &mut State<'p>,
     purpose: WalkFor,
     walk: Walk,
-    args: &[Value],
+    args: &List<Value>,
 ) -> Result<Act<'p>, NoMemory>
     ensures leads { IfOk result (λ act. Works state.old (begin_walk purpose (walk_of walk) args.now) state.new act) }
     ensures falls { IfOk result (λ act. Falls state.old 9 state.new act) }
@@ -69,16 +70,6 @@ fn begin_task<'p>(
             let at = first_place(direction, walk.length);
             Ok(go_on_walking(state, walk, Task::Reduce { so_far, direction }, at)?)
         }
-    }
-}
-
-/// The second argument, if it is given.
-fn second(alloc: Global, args: &[Value]) -> Result<Option<Value>, NoMemory>
-    ensures { IfOk result (λ v. v ≡ slice_get args.now 1) }
-{
-    match args.get(1) {
-        Some(v) => Ok(Some(share(alloc, v)?)),
-        None => Ok(None),
     }
 }
 
