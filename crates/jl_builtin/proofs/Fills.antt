@@ -1,6 +1,7 @@
 -- Elements that are added to arrays, and elements and lengths of objects that are taken for arrays.
 use Rattle.std.proofs.Common.{◌≡◌, ◌+◌, ◌∙◌, ◌∷◌, codes, drop, pos, refl, subst, sym, true, ℕ}
 use Rattle.std.proofs.Common.{Bool, List, Option, Some}
+use Rattle.std.specs.Prelude.{IfSome, MatchOption}
 use Rattle.jl_num.specs.Arithmetic.{number_of}
 use Rattle.jl_num.specs.Number.{Number}
 use Rattle.jl_value.specs.declared.object.ObjId.{ObjId}
@@ -101,3 +102,18 @@ fills s t array from next values v u a split follows took leads =
 
     others : ℕ → Unit {0} → Algorithm (Unit {0})
     others n _ = add_in_turns array n (drop next values)
+
+-- the same of what was found from an index on
+pub fills_found : (s t : State) (array : ObjId) (from next : ℕ) (values list : List Value) (v : Value)
+    (found : Option (Value × ℕ)) (u : State) (a : Act) → list ≡ values
+    → MatchOption found (drop from list ≡ []) (λ r. drop from list ≡ r.0 ∷ drop r.1 list)
+    → IfSome found (λ r. r.1 ≡ from + 1) → found ≡ Some (v, next) → Took s t
+    → Works t (add_index array from v >>= λ _. add_in_turns array next (drop next values)
+    >>= λ _. give_object array) u a
+    → Works s (add_in_turns array from (drop from values) >>= λ _. give_object array) u a
+fills_found s t array from next values list v found u a same there follows is took leads =
+    fills s t array from next values v u a
+    (subst (λ l. drop from l ≡ v ∷ drop next l) same
+    (subst (λ (o : Option (Value × ℕ)). MatchOption o (drop from list ≡ []) (λ r. drop from list ≡ r.0 ∷ drop r.1 list)) is
+    there))
+    (subst (λ (o : Option (Value × ℕ)). IfSome o (λ r. r.1 ≡ from + 1)) is follows) took leads

@@ -1,25 +1,30 @@
 -- slice: its turns, and where they begin and end.
 use Rattle.std.proofs.Common.{◌≡◌, ◌≤◌, ◌<◌, ◌+◌, ◌-◌, ◌∙◌, ap, arith, false, pos, refl, subst, suc, sym, true, zero}
-use Rattle.std.proofs.Common.{Bool, None, Option, Some, ℕ, ℤ}
+use Rattle.std.proofs.Common.{Bool, List, None, Option, Some, ℕ, ℤ}
 use Rattle.std.specs.Prelude.{min}
 use mathlib.Core.Path.{fun_ext}
 use Rattle.jl_value.specs.declared.object.ObjId.{ObjId}
 use Rattle.jl_value.specs.declared.value.Value.{Value}
 use Rattle.jl_value.specs.declared.value.Value.TheVariants as value
 use Rattle.jl_effects.specs.Effects.{Step}
-use Rattle.jl_meaning.specs.Conversions.{to_integer}
+use Rattle.jl_meaning.specs.Conversions.{number_hint, to_integer, to_primitive}
 use Rattle.jl_meaning.specs.Parts.{give, ◌>>=◌, Algorithm}
 use Rattle.jl_meaning.specs.builtins.Arguments.{give_object}
 use Rattle.jl_meaning.specs.builtins.Elements.{add_if, add_index, copy_element, element, get_index, relative_index, to_end}
 use Rattle.jl_meaning.specs.builtins.Turns.{upward}
-use Rattle.jl_progress.specs.ArrayCalls.{copy_from, slice_to}
+use Rattle.jl_progress.specs.ArrayCalls.{argument_of, copy_from, slice_to, with_length}
+use Rattle.jl_progress.specs.declared.array_call.ArrayCallProgress.TheVariants as array_call
+use Rattle.jl_progress.specs.declared.array_call.LengthFor.TheVariants as length_for
+use Rattle.jl_progress.specs.declared.progress.Progress.TheVariants as progress
 use Rattle.jl_state.specs.Rest.{Works}
-use Rattle.jl_state.specs.Steps.{RanOut, Took}
+use Rattle.jl_state.specs.Steps.{AlgorithmWaits, RanOut, Took}
 use Rattle.jl_state.specs.declared.act.Act.{Act}
 use Rattle.jl_state.specs.declared.act.Act.TheVariants as act
+use Rattle.jl_state.specs.declared.algorithm_frame.AlgorithmFrame.TheVariants as algorithm
 use Rattle.jl_state.specs.declared.state.State.{State}
 use Rattle.jl_algorithm.proofs.Chains.{bind_assoc}
 use Rattle.jl_builtin.specs.Values.{is_undefined}
+use Rattle.jl_builtin.proofs.Waits.{integer_waits}
 
 abbrev turn : ObjId → ℕ → ObjId → ℕ → Unit {0} → Algorithm (Unit {0})
 turn o start a k _ = copy_element o (start + k) a (0 + k)
@@ -93,3 +98,14 @@ pub copy_spent : (s : State) (o : ObjId) (start : ℕ) (a : ObjId) (count at : �
 copy_spent s o start a count at below ran =
     subst (λ p. Works s p s act.Spent) (copies o start a count at below)
     (ran.works (element o (start + at) >>= λ v. add_if a at v >>= λ _. copy_from o start a count (at + 1)))
+
+-- the start is converted, and the end is kept
+pub converts_start : (s u : State) (o a : ObjId) (length : ℕ) (args : List Value) (v end : Value) (t : State) (b : Act)
+    → v ≡ argument_of args 0 → end ≡ argument_of args 1
+    → AlgorithmWaits s (algorithm.Builtin (progress.ArrayCall (array_call.SliceStart o a length end))) u
+    → Works u (to_primitive number_hint v) t b → Works s (with_length (length_for.Slice a) o args length) t b
+converts_start s u o a length args v end t b is kept waits leads =
+    subst (λ w. Works s (to_integer w >>= λ z. slice_to o a length (relative_index z length) (argument_of args 1)) t b) is
+    (subst (λ e. Works s (to_integer v >>= λ z. slice_to o a length (relative_index z length) e) t b) kept
+    (integer_waits s u (progress.ArrayCall (array_call.SliceStart o a length end))
+    (λ z. slice_to o a length (relative_index z length) end) v t b (λ w. refl) waits leads))

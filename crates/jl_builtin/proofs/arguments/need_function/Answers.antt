@@ -6,7 +6,7 @@ returns-in_default c = no_function_there _ _ _ c.args.v.now c.in_default.not-Obj
 
 pub returns-then-not-is_callable : goal.returns-then-not-is_callable
 returns-then-not-is_callable c =
-    not_callable _ _ _ c.args.v.now _ c.is_callable.ensures c.if-not-is_callable.true c.in_ok-no_function.ensures
+    not_callable _ _ _ c.args.v.now _ c.is_callable.ensures c.if-not-is_callable.true c.in_ok-no_function-2.ensures
 
 pub returns : goal.returns
 returns c = function_there _ c.args.v.now _ _ c.is_callable.ensures c.if-not-is_callable.false c.in-Obj.is
