@@ -27,7 +27,7 @@ use Rattle.jl_state.proofs.Stores.{works_comes}
 use Rattle.jl_algorithm.proofs.Chains.{bind_assoc}
 use Rattle.jl_algorithm.proofs.Throwing.{works_left_out}
 use Rattle.jl_operator.proofs.Operands.{text_waits}
-use Rattle.jl_function.specs.inner.Messages.{is_undefined}
+use Rattle.jl_builtin.specs.Values.{is_undefined}
 
 -- the error that was made is given
 pub gives_error : (s : State) (x : Store) (proto id : ObjId) (message : Option (List ℕ))

@@ -9,8 +9,8 @@ ghost use Rattle.jl_state.specs.Words.{call_of, table_of};
 
 use crate::bound::call_bound;
 use crate::builtins::begin_builtin;
-use crate::lists::{copy_of, with_values};
 use crate::script::begin_script;
+use jl_builtin::{copy_of, with_values};
 use jl_heap::Inner;
 use jl_state::{Act, Invocation, State};
 use jl_text::NoMemory;

@@ -1,7 +1,6 @@
 //! `Error`, the native errors, and `Error.prototype.toString` (15.11).
 ghost use Rattle.std.specs.Prelude.{◌≡◌, ◌≤◌, ◌++◌, [], codes, IfOk};
 ghost use Rattle.jl_conv.specs.Conversions.{text_of_value};
-ghost use Rattle.jl_function.specs.inner.Messages.{is_undefined};
 ghost use Rattle.jl_effects.specs.Running.{Ends};
 ghost use Rattle.jl_meaning.specs.Getting.{get};
 ghost use Rattle.jl_meaning.specs.Parts.{gives, ◌>>=◌ as ◌then◌};
@@ -15,8 +14,8 @@ ghost use Rattle.jl_state.specs.declared.state.State.{State as Machine};
 ghost use Rattle.jl_store.specs.Comes.{Comes};
 ghost use Rattle.jl_value.specs.declared.value.Value.TheVariants as value;
 
-use crate::lists::{first_argument, with_units};
 use jl_algorithm::{get, throw_native, to_primitive};
+use jl_builtin::{argument, is_undefined, with_units};
 use jl_heap::{Inner, Prop};
 use jl_operator::text_of;
 use jl_state::{Act, AlgorithmFrame, Hint, Invocation, Progress, State};
@@ -73,7 +72,7 @@ pub(crate) fn error_constructor<'p>(
     ensures leads { IfOk result (λ act. Works state.old (error_constructor proto (call_of call.now)) state.new act) }
     ensures falls { IfOk result (λ act. Falls state.old 22 state.new act) }
 {
-    let message = first_argument(alloc, call.args.items())?;
+    let message = argument(alloc, call.args.items(), 0)?;
     if is_undefined(&message) {
         return Ok(give_error(alloc, state, proto, None)?);
     }
@@ -227,10 +226,4 @@ fn with_colon(alloc: Global, name: &[u16], message: &[u16]) -> Result<List<u16>,
     let named = with_units(List::new(alloc), name)?;
     let colon = with_units(named, &[58, 32])?;
     with_units(colon, message)
-}
-
-fn is_undefined(v: &Value) -> bool
-    ensures { result ≡ is_undefined v.now }
-{
-    matches!(v, Value::Undefined)
 }

@@ -9,8 +9,8 @@ ghost use Rattle.jl_state.specs.AlgorithmFrames.{line_with};
 ghost use Rattle.jl_state.specs.Rank.{Falls};
 ghost use Rattle.jl_state.specs.Rest.{Works};
 
-use crate::lists::{copy_of, value_from, with_units};
 use jl_algorithm::to_primitive;
+use jl_builtin::{copy_of, value_from, with_units};
 use jl_operator::text_of;
 use jl_state::{Act, AlgorithmFrame, Hint, Progress, State};
 use jl_text::{List, NoMemory, to_utf8};

@@ -1,4 +1,4 @@
--- Arguments and properties that may be missing.
+-- Values that may be missing.
 use Rattle.std.specs.Prelude.{false, true, Bool}
 use Rattle.jl_value.specs.declared.value.Value.{Value}
 use Rattle.jl_value.specs.declared.value.Value.TheVariants as value
