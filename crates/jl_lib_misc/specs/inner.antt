@@ -1,0 +1,4 @@
+pub mod Extremes
+pub mod Messages
+pub mod Numbers
+pub mod Radix
