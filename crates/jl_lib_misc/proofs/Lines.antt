@@ -13,15 +13,16 @@ use Rattle.jl_meaning.specs.Conversions.{string_hint, to_primitive, to_string}
 use Rattle.jl_meaning.specs.Mean.{language}
 use Rattle.jl_meaning.specs.Parts.{give, lift, ◌>>=◌, Algorithm}
 use Rattle.jl_meaning.specs.builtins.Global.{print_line, print_others}
-use Rattle.jl_state.specs.AlgorithmFrames.{line_with}
+use Rattle.jl_progress.specs.Globals.{line_with}
+use Rattle.jl_progress.specs.Progress.{progress_after}
+use Rattle.jl_progress.specs.declared.global.GlobalProgress.TheVariants as global
+use Rattle.jl_progress.specs.declared.progress.Progress.TheVariants as progress
 use Rattle.jl_state.specs.Rest.{as_value, rest_of, run_in, run_state, Works}
-use Rattle.jl_state.specs.Steps.{AlgorithmWaits, Took}
+use Rattle.jl_state.specs.Steps.{Took}
 use Rattle.jl_state.specs.declared.act.Act.{Act}
 use Rattle.jl_state.specs.declared.act.Act.TheVariants as act
-use Rattle.jl_state.specs.declared.algorithm_frame.AlgorithmFrame.TheVariants as algorithm
-use Rattle.jl_state.specs.declared.algorithm_frame.Progress.TheVariants as progress
 use Rattle.jl_state.specs.declared.state.State.{State}
-use Rattle.jl_operator.proofs.Operands.{text_waits}
+use Rattle.jl_lib_misc.proofs.Conversions.{as_string}
 
 -- a line with its end, after what was printed
 
@@ -84,12 +85,11 @@ no_room s units bytes n m room is before more able none =
         ∙ ap (λ k. nat_le (length s.output + (k + 1)) 16777216) more
 
 -- an argument is converted, after a step
-pub converts_argument : (s t u : State) (line : List ℕ) (is_first : Bool) (v : Value) (args : List Value) (from : ℕ)
-    (w : State)
-    (a : Act) → Took s t → AlgorithmWaits t (algorithm.Builtin (progress.Print line is_first args from)) u
-    → Works u (to_primitive string_hint v) w a
-    → Works s (Step (to_string v >>= λ units. print_others (line_with line is_first units) (drop from args))) w a
-converts_argument s t u line is_first v args from w a took waits leads =
-    took.works (to_string v >>= λ units. print_others (line_with line is_first units) (drop from args)) w a
-    (text_waits t u w (algorithm.Builtin (progress.Print line is_first args from))
-    (λ units. print_others (line_with line is_first units) (drop from args)) v a (λ p. refl) waits leads)
+pub converts_argument : (s t : State) (line : List ℕ) (is_first : Bool) (v : Value) (args : List Value) (from : ℕ)
+    (u : State) (a : Act) → Took s t
+    → Works t (to_primitive string_hint v >>= progress_after (progress.Global (global.Print line is_first args from))) u a
+    → Works s (Step (to_string v >>= λ units. print_others (line_with line is_first units) (drop from args))) u a
+converts_argument s t line is_first v args from u a took leads =
+    took.works (to_string v >>= λ units. print_others (line_with line is_first units) (drop from args)) u a
+    (as_string t u a v (progress_after (progress.Global (global.Print line is_first args from)))
+    (λ units. print_others (line_with line is_first units) (drop from args)) (λ p. refl) leads)

@@ -1,4 +1,3 @@
 pub mod Extremes
-pub mod Messages
 pub mod Numbers
 pub mod Radix

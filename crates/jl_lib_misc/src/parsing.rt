@@ -35,14 +35,18 @@ fn without_front(units: &[u16]) -> &[u16]
 }
 
 /// The value of a unit as a digit; one that is no digit has 36.
+#[tactic(auto, unfolding(jl_token::specs::Characters::is_digit))]
 fn digit_of(unit: u16) -> u64
     ensures { result ≡ digit_of unit }
 {
-    match unit {
-        48..=57 => u64::from(unit - 48),
-        97..=122 => u64::from(unit - 87),
-        65..=90 => u64::from(unit - 55),
-        _ => 36,
+    if 48 <= unit && unit <= 57 {
+        u64::from(unit - 48)
+    } else if 97 <= unit && unit <= 122 {
+        u64::from(unit - 87)
+    } else if 65 <= unit && unit <= 90 {
+        u64::from(unit - 55)
+    } else {
+        36
     }
 }
 

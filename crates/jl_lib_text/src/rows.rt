@@ -1,6 +1,6 @@
 //! The builtins of strings by their rows, and how each goes on.
-ghost use Rattle.std.specs.Prelude.{◌≡◌, ◌+◌, ◌≤◌, ◌<◌, IfOk};
-ghost use Rattle.jl_lib_text.specs.inner.Rows.{method_of_row};
+ghost use Rattle.std.specs.Prelude.{◌≡◌, ◌+◌, ◌-◌, ◌≤◌, ◌<◌, slice_get, IfOk};
+ghost use Rattle.jl_lib_text.specs.inner.Rows.{methods};
 ghost use Rattle.jl_meaning.specs.builtins.Function.{names_of};
 ghost use Rattle.jl_meaning.specs.builtins.Table.{builtin};
 ghost use Rattle.jl_progress.specs.Strings.{rank_string, string_after};
@@ -23,24 +23,27 @@ use jl_text::NoMemory;
 use jl_value::Value;
 use std::alloc::Global;
 
+/// The methods that begin with `this` as a string, from row 55 on.
+const METHODS: [StringMethod; 11] = [
+    StringMethod::Unit(UnitForm::Text),
+    StringMethod::Unit(UnitForm::Code),
+    StringMethod::Concat,
+    StringMethod::Search(Search::First),
+    StringMethod::Search(Search::Last),
+    StringMethod::Cut(Cut::Slice),
+    StringMethod::Split,
+    StringMethod::Cut(Cut::Substring),
+    StringMethod::Case(LetterCase::Lower),
+    StringMethod::Case(LetterCase::Upper),
+    StringMethod::Trim,
+];
+
 /// The method in a row, if it begins with `this` as a string.
 fn method_of_row(row: u16) -> Option<StringMethod>
-    ensures { result ≡ method_of_row row }
+    requires { 55 ≤ row }
+    ensures { result ≡ slice_get methods (row - 55) }
 {
-    match row {
-        55 => Some(StringMethod::Unit(UnitForm::Text)),
-        56 => Some(StringMethod::Unit(UnitForm::Code)),
-        57 => Some(StringMethod::Concat),
-        58 => Some(StringMethod::Search(Search::First)),
-        59 => Some(StringMethod::Search(Search::Last)),
-        60 => Some(StringMethod::Cut(Cut::Slice)),
-        61 => Some(StringMethod::Split),
-        62 => Some(StringMethod::Cut(Cut::Substring)),
-        63 => Some(StringMethod::Case(LetterCase::Lower)),
-        64 => Some(StringMethod::Case(LetterCase::Upper)),
-        65 => Some(StringMethod::Trim),
-        _ => None,
-    }
+    METHODS.get(usize::from(row - 55)).copied()
 }
 
 /// Begins a builtin of this crate: `String`, and the functions of its prototype (15.5).
@@ -55,9 +58,6 @@ pub fn start<'p>(
         (builtin (names_of (table_of state.old.functions)) row (call_of call)) state.new act) }
     ensures falls { IfOk result (λ act. Falls state.old 400 state.new act) }
 {
-    if let Some(method) = method_of_row(row) {
-        return Ok(call_method(alloc, state, method, &call)?);
-    }
     if row == 51 {
         return Ok(string_constructor(alloc, state, &call)?);
     }
@@ -67,7 +67,10 @@ pub fn start<'p>(
     if row < 55 {
         return Ok(string_value(alloc, state, &call)?);
     }
-    Ok(unsupported(row))
+    match method_of_row(row) {
+        Some(method) => Ok(call_method(alloc, state, method, &call)?),
+        None => Ok(unsupported(row)),
+    }
 }
 
 /// Goes on with the value that a builtin of this crate waited for.

@@ -28,13 +28,13 @@ fn pieces_between(alloc: Global, separator: &Text, units: &Text) -> Result<List<
     requires { 0 < length separator.now }
     ensures { IfOk result (λ list. list ≡ map (λ part. value.Text part) (pieces separator.now units.now)) }
 {
+    let end = units.units().len();
     let mut list = List::new(alloc);
     let mut start = 0;
     while let Some(place) = units.find(separator, start) {
         list.push(Value::Text(units.slice(alloc, start, place)?))?;
         start = place + separator.units().len();
     }
-    let end = units.units().len();
     list.push(Value::Text(units.slice(alloc, start, end)?))?;
     Ok(list)
 }

@@ -2,12 +2,11 @@ use Rattle.std.proofs.Common.{ap, sym, ◌∙◌}
 use Rattle.std.specs.Prelude.{slice_index_or}
 use Rattle.jl_value.specs.declared.value.Value.TheVariants as value
 use Rattle.jl_state.specs.Words.{call_of}
-use Rattle.jl_function.proofs.Messages.{constructs_with}
-use Rattle.jl_function.proofs.errors.error_constructor.Goals as goal
+use Rattle.jl_lib_misc.proofs.Messages.{constructs_with}
+use Rattle.jl_lib_misc.proofs.errors.error_constructor.Goals as goal
 
 pub returns-clause-leads : goal.returns-clause-leads
 returns-clause-leads c =
-    constructs_with _ _ _ (call_of c.args.call.now) _ _ _
+    constructs_with _ _ (call_of c.args.call.now) _ _ _
     (c.in_ok-message.ensures ∙ ap (λ l. slice_index_or l 0 value.Undefined) c.items.ensures)
-    (sym c.is_undefined.ensures ∙ c.if-is_undefined.false) c.in_ok-push_algorithm.ensures.waits
-    c.in_ok-to_primitive.ensures.leads
+    (sym c.is_undefined.ensures ∙ c.if-is_undefined.false) c.in_ok-wait_for_string.ensures.leads

@@ -1,7 +1,7 @@
 use Rattle.std.proofs.Common.{rules}
 use Rattle.jl_state.specs.Words.{call_of}
-use Rattle.jl_function.proofs.Messages.{no_error_object}
-use Rattle.jl_function.proofs.errors.error_to_string.Goals as goal
+use Rattle.jl_lib_misc.proofs.Messages.{no_error_object}
+use Rattle.jl_lib_misc.proofs.errors.error_to_string.Goals as goal
 
 pub returns-in_default : goal.returns-in_default
 returns-in_default c = record {

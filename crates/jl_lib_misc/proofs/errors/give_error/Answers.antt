@@ -1,5 +1,5 @@
-use Rattle.jl_function.proofs.Messages.{gives_error}
-use Rattle.jl_function.proofs.errors.give_error.Goals as goal
+use Rattle.jl_lib_misc.proofs.Messages.{gives_error}
+use Rattle.jl_lib_misc.proofs.errors.give_error.Goals as goal
 
 pub returns-clause-leads : goal.returns-clause-leads
 returns-clause-leads c =

@@ -1,6 +1,6 @@
 use Rattle.std.proofs.Common.{refl}
 use Rattle.jl_store.proofs.Fresh.{is_free, names_new}
-use Rattle.jl_function.proofs.errors.new_error.Goals as goal
+use Rattle.jl_lib_misc.proofs.errors.new_error.Goals as goal
 
 pub add_property-requires : goal.add_property-requires
 add_property-requires c =

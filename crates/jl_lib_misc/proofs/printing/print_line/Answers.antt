@@ -1,6 +1,6 @@
 use Rattle.std.proofs.Common.{refl, ◌∙◌}
-use Rattle.jl_function.proofs.Lines.{no_room, prints}
-use Rattle.jl_function.proofs.printing.print_line.Goals as goal
+use Rattle.jl_lib_misc.proofs.Lines.{no_room, prints}
+use Rattle.jl_lib_misc.proofs.printing.print_line.Goals as goal
 
 pub returns-then-not-has_room-clause-leads : goal.returns-then-not-has_room-clause-leads
 returns-then-not-has_room-clause-leads c =

@@ -1,6 +1,6 @@
 use Rattle.std.proofs.Common.{sym, ◌∙◌}
-use Rattle.jl_function.proofs.Messages.{message_missing, message_waits}
-use Rattle.jl_function.proofs.errors.step_error_text.Goals as goal
+use Rattle.jl_lib_misc.proofs.Messages.{message_missing, message_waits}
+use Rattle.jl_lib_misc.proofs.errors.resume_message.Goals as goal
 
 pub returns-then-is_undefined-clause-leads : goal.returns-then-is_undefined-clause-leads
 returns-then-is_undefined-clause-leads c =
@@ -9,5 +9,5 @@ returns-then-is_undefined-clause-leads c =
 
 pub returns-clause-leads : goal.returns-clause-leads
 returns-clause-leads c =
-    message_waits _ _ _ _ _ _ (sym c.is_undefined.ensures ∙ c.if-is_undefined.false)
-    c.in_ok-push_algorithm.ensures.waits c.in_ok-to_primitive.ensures.leads
+    message_waits _ _ _ _ _ (sym c.is_undefined.ensures ∙ c.if-is_undefined.false)
+    c.in_ok-wait_for_string.ensures.leads

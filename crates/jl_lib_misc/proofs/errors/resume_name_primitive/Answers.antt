@@ -1,7 +1,7 @@
 use Rattle.std.proofs.Common.{subst}
 use Rattle.jl_state.specs.Rest.{Works}
-use Rattle.jl_function.proofs.Messages.{message_of}
-use Rattle.jl_function.proofs.errors.step_error_name_primitive.Goals as goal
+use Rattle.jl_lib_misc.proofs.Messages.{message_of}
+use Rattle.jl_lib_misc.proofs.errors.resume_name_primitive.Goals as goal
 
 pub returns-clause-leads : goal.returns-clause-leads
 returns-clause-leads c =

@@ -1,0 +1,5 @@
+pub mod Conversions
+pub mod Leading
+pub mod Lines
+pub mod Messages
+pub mod Starts

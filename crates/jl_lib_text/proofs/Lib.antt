@@ -1,0 +1,4 @@
+pub mod Conversions
+pub mod Methods
+pub mod Pieces
+pub mod Turns
