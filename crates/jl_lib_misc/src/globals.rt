@@ -1,36 +1,41 @@
 //! `parseInt`, `isNaN` and `isFinite` (15.1.2.2, 15.1.2.4, 15.1.2.5).
 ghost use Rattle.std.specs.Prelude.{◌≡◌, ◌+◌, ◌≤◌, IfOk};
-ghost use Rattle.jl_meaning.specs.Conversions.{to_number, to_string};
+ghost use Rattle.jl_meaning.specs.Conversions.{to_number};
 ghost use Rattle.jl_meaning.specs.Parts.{◌>>=◌ as ◌then◌};
 ghost use Rattle.jl_meaning.specs.Relations.{give_truth};
+ghost use Rattle.jl_meaning.specs.builtins.Arguments.{argument};
+ghost use Rattle.jl_meaning.specs.builtins.Global.{parse_int};
 ghost use Rattle.jl_progress.specs.Globals.{global_after, parse_in, passes, rank_global};
 ghost use Rattle.jl_progress.specs.declared.global.GlobalProgress.TheVariants as progress;
 ghost use Rattle.jl_state.specs.Rank.{rank_act, Falls};
 ghost use Rattle.jl_state.specs.Rest.{Works};
+ghost use Rattle.jl_state.specs.Words.{call_of};
 ghost use Rattle.jl_state.specs.declared.state.State.{State as Machine};
 
 use crate::parsing::parse_signed;
 use crate::printing::resume_print;
 use crate::waiting::{wait_for_number, wait_for_string};
+use jl_builtin::argument;
 use jl_num::{Num, NumberOutside, to_int32};
 use jl_operator::{number_of, text_of};
 use jl_progress::{GlobalProgress, NumberTest, Progress};
-use jl_state::{Act, State};
+use jl_state::{Act, Invocation, State};
 use jl_text::{NoMemory, Text};
 use jl_value::{Fault, Value};
 use std::alloc::Global;
 
-/// The string of `parseInt` is converted, whose radix waits.
-pub(crate) fn convert_numeral<'p>(
+/// `parseInt(string, radix)` (15.1.2.2).
+pub(crate) fn parse_int<'p>(
     alloc: Global,
     state: &mut State<'p>,
-    numeral: Value,
-    radix: Value,
+    call: &Invocation,
 ) -> Result<Act<'p>, NoMemory>
-    ensures leads { IfOk result (λ act. Works state.old
-        (to_string numeral then λ units. to_number radix then λ n. parse_in n units) state.new act) }
+    ensures leads { IfOk result (λ act. Works state.old (parse_int (call_of call.now)) state.new act) }
     ensures falls { IfOk result (λ act. Falls state.old 46 state.new act) }
 {
+    let args = call.args.items();
+    let numeral = argument(alloc, args, 0)?;
+    let radix = argument(alloc, args, 1)?;
     let progress = Progress::Global(GlobalProgress::Numeral { radix });
     Ok(wait_for_string(alloc, state, progress, numeral)?)
 }
@@ -61,19 +66,20 @@ fn give_parsed<'p>(radix: Num, units: &[u16]) -> Act<'p>
     }
 }
 
-/// A number is converted of which something is asked.
-pub(crate) fn convert_tested<'p>(
+/// `isNaN(number)` and `isFinite(number)` (15.1.2.4, 15.1.2.5).
+pub(crate) fn test_argument<'p>(
     alloc: Global,
     state: &mut State<'p>,
     test: NumberTest,
-    v: Value,
+    call: &Invocation,
 ) -> Result<Act<'p>, NoMemory>
     ensures leads { IfOk result (λ act. Works state.old
-        (to_number v then λ n. give_truth (passes test n)) state.new act) }
+        (to_number (argument (call_of call.now) 0) then λ n. give_truth (passes test n)) state.new act) }
     ensures falls { IfOk result (λ act. Falls state.old 22 state.new act) }
 {
+    let first = argument(alloc, call.args.items(), 0)?;
     let progress = Progress::Global(GlobalProgress::Test { test });
-    Ok(wait_for_number(alloc, state, progress, v)?)
+    Ok(wait_for_number(alloc, state, progress, first)?)
 }
 
 /// What is asked of a number; none is an infinity.

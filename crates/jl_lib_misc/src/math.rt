@@ -2,37 +2,39 @@
 ghost use Rattle.std.specs.Prelude.{◌≡◌, ◌≤◌, IfOk};
 ghost use Rattle.jl_meaning.specs.Conversions.{to_number};
 ghost use Rattle.jl_meaning.specs.Operators.{give_number};
-ghost use Rattle.jl_meaning.specs.Parts.{give, ◌>>=◌ as ◌then◌};
+ghost use Rattle.jl_meaning.specs.Parts.{◌>>=◌ as ◌then◌};
+ghost use Rattle.jl_meaning.specs.builtins.Math.{math_pow, on_argument};
 ghost use Rattle.jl_num.specs.Power.{power_of};
 ghost use Rattle.jl_progress.specs.Numbers.{number_after, of_number};
 ghost use Rattle.jl_progress.specs.declared.number.NumberProgress.TheVariants as progress;
 ghost use Rattle.jl_state.specs.Rank.{rank_act, Falls};
 ghost use Rattle.jl_state.specs.Rest.{Works};
+ghost use Rattle.jl_state.specs.Words.{call_of};
 ghost use Rattle.jl_state.specs.declared.state.State.{State as Machine};
-ghost use Rattle.jl_value.specs.declared.value.Value.TheVariants as value;
 
 use crate::waiting::wait_for_number;
+use jl_builtin::argument;
 use jl_num::{Num, NumberOutside, neg, pow};
 use jl_operator::number_of;
 use jl_progress::{NumberFunction, NumberProgress, Progress};
-use jl_state::{Act, State};
+use jl_state::{Act, Invocation, State};
 use jl_text::NoMemory;
 use jl_value::{Fault, Value};
 use std::alloc::Global;
 
-/// The argument of a function of one number is converted.
-pub(crate) fn convert_argument<'p>(
+/// A function of one number.
+pub(crate) fn on_argument<'p>(
     alloc: Global,
     state: &mut State<'p>,
     function: NumberFunction,
-    v: Value,
+    call: &Invocation,
 ) -> Result<Act<'p>, NoMemory>
-    ensures leads { IfOk result (λ act. Works state.old
-        (to_number v then λ n. give (value.Num (of_number function n))) state.new act) }
+    ensures leads { IfOk result (λ act. Works state.old (on_argument (of_number function) (call_of call.now)) state.new act) }
     ensures falls { IfOk result (λ act. Falls state.old 22 state.new act) }
 {
+    let first = argument(alloc, call.args.items(), 0)?;
     let progress = Progress::Number(NumberProgress::Argument { function });
-    Ok(wait_for_number(alloc, state, progress, v)?)
+    Ok(wait_for_number(alloc, state, progress, first)?)
 }
 
 /// What a function gives for a number.
@@ -61,17 +63,18 @@ pub(crate) fn resume_argument<'p>(
     }
 }
 
-/// The base of a power is converted, whose exponent waits (15.8.2.13).
-pub(crate) fn convert_base<'p>(
+/// `Math.pow(x, y)` (15.8.2.13).
+pub(crate) fn math_pow<'p>(
     alloc: Global,
     state: &mut State<'p>,
-    base: Value,
-    exponent: Value,
+    call: &Invocation,
 ) -> Result<Act<'p>, NoMemory>
-    ensures leads { IfOk result (λ act. Works state.old
-        (to_number base then λ x. to_number exponent then λ y. give_number (power_of x y)) state.new act) }
+    ensures leads { IfOk result (λ act. Works state.old (math_pow (call_of call.now)) state.new act) }
     ensures falls { IfOk result (λ act. Falls state.old 46 state.new act) }
 {
+    let args = call.args.items();
+    let base = argument(alloc, args, 0)?;
+    let exponent = argument(alloc, args, 1)?;
     let progress = Progress::Number(NumberProgress::Base { exponent });
     Ok(wait_for_number(alloc, state, progress, base)?)
 }

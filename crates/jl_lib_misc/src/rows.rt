@@ -12,14 +12,13 @@ ghost use Rattle.jl_state.specs.declared.state.State.{State as Machine};
 
 use crate::booleans::{boolean_constructor, boolean_to_string, boolean_value_of};
 use crate::errors::{error_constructor, error_to_string};
-use crate::globals::{convert_numeral, convert_tested};
-use crate::math::{convert_argument, convert_base, resume_argument, resume_base, resume_exponent};
+use crate::globals::{parse_int, test_argument};
+use crate::math::{math_pow, on_argument, resume_argument, resume_base, resume_exponent};
 use crate::numbers::{
     number_constructor, number_to_string, number_value_of, resume_given, resume_radix,
 };
 use crate::printing::print;
 use crate::several::{one_of_arguments, resume_extreme};
-use jl_builtin::argument;
 use jl_progress::{Extreme, NumberFunction, NumberProgress, NumberTest};
 use jl_state::{Act, Invocation, State};
 use jl_text::NoMemory;
@@ -51,16 +50,14 @@ fn start_global<'p>(
         (builtin names row (call_of call.now)) state.new act) }
     ensures falls { IfOk result (λ act. Falls state.old 46 state.new act) }
 {
-    let first = argument(alloc, call.args.items(), 0)?;
-    let second = argument(alloc, call.args.items(), 1)?;
     if row == 74 {
-        return Ok(convert_numeral(alloc, state, first, second)?);
+        return Ok(parse_int(alloc, state, call)?);
     }
     if row == 75 {
-        return Ok(convert_tested(alloc, state, NumberTest::IsNan, first)?);
+        return Ok(test_argument(alloc, state, NumberTest::IsNan, call)?);
     }
     if row == 76 {
-        return Ok(convert_tested(alloc, state, NumberTest::IsFinite, first)?);
+        return Ok(test_argument(alloc, state, NumberTest::IsFinite, call)?);
     }
     Ok(print(alloc, state, call.args.items())?)
 }
@@ -128,21 +125,19 @@ fn start_math<'p>(
         (builtin names row (call_of call.now)) state.new act) }
     ensures falls { IfOk result (λ act. Falls state.old 46 state.new act) }
 {
+    if row == 95 {
+        return Ok(on_argument(alloc, state, NumberFunction::Absolute, call)?);
+    }
     if row == 98 {
         return Ok(one_of_arguments(alloc, state, Extreme::Greatest, call.args.items())?);
     }
     if row == 99 {
         return Ok(one_of_arguments(alloc, state, Extreme::Least, call.args.items())?);
     }
-    let first = argument(alloc, call.args.items(), 0)?;
-    if row == 95 {
-        return Ok(convert_argument(alloc, state, NumberFunction::Absolute, first)?);
-    }
     if row == 100 {
-        let second = argument(alloc, call.args.items(), 1)?;
-        return Ok(convert_base(alloc, state, first, second)?);
+        return Ok(math_pow(alloc, state, call)?);
     }
-    Ok(convert_argument(alloc, state, NumberFunction::Whole, first)?)
+    Ok(on_argument(alloc, state, NumberFunction::Whole, call)?)
 }
 
 /// Begins a builtin of this crate.
