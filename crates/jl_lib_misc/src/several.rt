@@ -1,10 +1,7 @@
 //! `Math.max` and `Math.min` (15.8.2.11, 15.8.2.12).
-ghost use Rattle.std.specs.Prelude.{◌≡◌, ◌≤◌, drop, IfOk, Option, Some};
-ghost use Rattle.jl_effects.specs.Effects.{Step};
+ghost use Rattle.std.specs.Prelude.{◌≡◌, ◌≤◌, ◌∷◌, drop, IfOk, Option};
 ghost use Rattle.jl_lib_misc.specs.inner.Extremes.{next_extreme};
-ghost use Rattle.jl_meaning.specs.Conversions.{to_number};
 ghost use Rattle.jl_meaning.specs.Operators.{give_number};
-ghost use Rattle.jl_meaning.specs.Parts.{◌>>=◌ as ◌then◌};
 ghost use Rattle.jl_meaning.specs.builtins.Math.{one_of, one_of_all};
 ghost use Rattle.jl_progress.specs.Numbers.{number_after, pick_of};
 ghost use Rattle.jl_progress.specs.declared.number.NumberProgress.TheVariants as progress;
@@ -70,8 +67,7 @@ fn convert_next<'p>(
     from: usize,
 ) -> Result<Act<'p>, NoMemory>
     ensures leads { IfOk result (λ act. Works state.old
-        (Step (to_number v then λ n. one_of_all (pick_of extreme) (Some (next_extreme extreme so_far n)) (drop from args)))
-        state.new act) }
+        (one_of_all (pick_of extreme) so_far (v ∷ drop from args)) state.new act) }
     ensures falls { IfOk result (λ act. Falls state.old 1 state.new act) }
 {
     if !state.spend() {

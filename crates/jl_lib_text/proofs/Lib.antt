@@ -1,4 +1,7 @@
+pub mod Called
 pub mod Conversions
-pub mod Methods
+pub mod Letters
+pub mod Objects
 pub mod Pieces
+pub mod Receivers
 pub mod Turns

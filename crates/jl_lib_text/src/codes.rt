@@ -1,12 +1,6 @@
 //! `String.fromCharCode` (15.5.3.2).
-ghost use Rattle.std.specs.Prelude.{◌++◌, ◌∷◌, [], drop, IfOk};
-ghost use Rattle.jl_effects.specs.Effects.{Step};
-ghost use Rattle.jl_meaning.specs.Conversions.{to_number};
-ghost use Rattle.jl_meaning.specs.Errors.{string_within};
-ghost use Rattle.jl_meaning.specs.Parts.{◌>>=◌ as ◌then◌};
-ghost use Rattle.jl_meaning.specs.builtins.Arguments.{give_string};
-ghost use Rattle.jl_meaning.specs.builtins.String.{string_from_char_code, units_from};
-ghost use Rattle.jl_num.specs.Bits.{uint16_of};
+ghost use Rattle.std.specs.Prelude.{◌∷◌, drop, IfOk};
+ghost use Rattle.jl_meaning.specs.builtins.String.{string_from_char_code};
 ghost use Rattle.jl_progress.specs.Strings.{string_after};
 ghost use Rattle.jl_progress.specs.declared.string.StringProgress.TheVariants as progress;
 ghost use Rattle.jl_lib_text.specs.inner.Turns.{string_of_codes};
@@ -50,8 +44,7 @@ fn convert_code<'p>(
     args: List<Value>,
     from: usize,
 ) -> Result<Act<'p>, NoMemory>
-    ensures leads { IfOk result (λ act. Works state.old
-        (Step (to_number v then λ n. string_of_codes (units ++ uint16_of n ∷ []) (drop from args))) state.new act) }
+    ensures leads { IfOk result (λ act. Works state.old (string_of_codes units (v ∷ drop from args)) state.new act) }
     ensures falls { IfOk result (λ act. Falls state.old 1 state.new act) }
 {
     if !state.spend() {

@@ -1,10 +1,6 @@
 //! `concat` (15.5.4.6).
-ghost use Rattle.std.specs.Prelude.{◌≡◌, ◌≤◌, ◌++◌, drop, length, IfOk};
-ghost use Rattle.jl_effects.specs.Effects.{Step};
+ghost use Rattle.std.specs.Prelude.{◌≤◌, ◌∷◌, drop, length, IfOk};
 ghost use Rattle.jl_lib_text.specs.inner.Turns.{string_joined};
-ghost use Rattle.jl_meaning.specs.Conversions.{to_string};
-ghost use Rattle.jl_meaning.specs.Errors.{string_within};
-ghost use Rattle.jl_meaning.specs.Parts.{◌>>=◌ as ◌then◌};
 ghost use Rattle.jl_progress.specs.Strings.{string_after};
 ghost use Rattle.jl_progress.specs.declared.string.StringProgress.TheVariants as progress;
 ghost use Rattle.jl_state.specs.Rank.{Falls};
@@ -47,9 +43,7 @@ fn convert_next<'p>(
     args: List<Value>,
     from: usize,
 ) -> Result<Act<'p>, NoMemory>
-    ensures leads { IfOk result (λ act. Works state.old
-        (Step (to_string v then λ more. string_within (units ++ more) then λ all. string_joined all (drop from args)))
-        state.new act) }
+    ensures leads { IfOk result (λ act. Works state.old (string_joined units (v ∷ drop from args)) state.new act) }
     ensures falls { IfOk result (λ act. Falls state.old 1 state.new act) }
 {
     if !state.spend() {
