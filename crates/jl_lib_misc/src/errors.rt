@@ -1,6 +1,5 @@
 //! `Error`, the native errors, and `Error.prototype.toString` (15.11).
 ghost use Rattle.std.specs.Prelude.{◌≡◌, ◌≤◌, ◌+◌, ◌++◌, codes, IfOk};
-ghost use Rattle.jl_conv.specs.Conversions.{text_of_value};
 ghost use Rattle.jl_effects.specs.Running.{Ends};
 ghost use Rattle.jl_meaning.specs.Getting.{get};
 ghost use Rattle.jl_meaning.specs.Parts.{gives, ◌>>=◌ as ◌then◌};

@@ -1,6 +1,6 @@
 //! `Number`, and the functions of its prototype (15.7).
 ghost use Rattle.std.specs.Prelude.{◌≡◌, ◌≤◌, pos, IfOk, Some};
-ghost use Rattle.jl_meaning.specs.Conversions.{integer_of, to_integer};
+ghost use Rattle.jl_meaning.specs.Conversions.{to_integer};
 ghost use Rattle.jl_meaning.specs.Parts.{◌>>=◌ as ◌then◌};
 ghost use Rattle.jl_meaning.specs.builtins.Arguments.{unless_undefined, value_or_object};
 ghost use Rattle.jl_meaning.specs.builtins.Number.{number_constructor, number_inside, number_of_receiver};

@@ -1,5 +1,5 @@
 //! What `parseInt` reads of a string (15.1.2.2).
-ghost use Rattle.std.specs.Prelude.{◌≡◌, ◌≤◌, ◌<◌, pos, false, IfSome, MatchOption, Option, Some};
+ghost use Rattle.std.specs.Prelude.{◌≡◌, ◌≤◌, MatchOption, Option, Some};
 ghost use Rattle.std.specs.Result.{result_ok};
 ghost use Rattle.jl_conv.specs.Numerals.{is_space, signed, without_front};
 ghost use Rattle.jl_lib_misc.specs.inner.Radix.{IsWithin, leading_number};

@@ -1,5 +1,5 @@
 //! The builtins of this crate by their rows, and how those of numbers go on.
-ghost use Rattle.std.specs.Prelude.{◌≡◌, ◌+◌, ◌≤◌, ◌<◌, IfOk};
+ghost use Rattle.std.specs.Prelude.{◌+◌, ◌≤◌, ◌<◌, IfOk};
 ghost use Rattle.jl_effects.specs.Effects.{Fail};
 ghost use Rattle.jl_meaning.specs.Parts.{Unsupported};
 ghost use Rattle.jl_meaning.specs.builtins.Function.{names_of, FunctionNames};

@@ -1,5 +1,5 @@
 -- The rows of strings, and `this` as a string.
-use Rattle.std.proofs.Common.{◌≡◌, ◌≤◌, ◌∙◌, ◌∷◌, ◌+◌, ◌-◌, [], ap, arith, codes, length, refl, subst, suc, sym, zero}
+use Rattle.std.proofs.Common.{◌≡◌, ◌≤◌, ◌<◌, ◌∙◌, ◌∷◌, ◌+◌, ◌-◌, [], ap, arith, codes, length, refl, subst, suc, sym, zero}
 use Rattle.std.proofs.Common.{List, None, Option, Some, ℕ, ℤ}
 use Rattle.std.specs.Option.{option_map_or}
 use Rattle.std.specs.Prelude.{slice_get}
@@ -9,13 +9,14 @@ use Rattle.jl_value.specs.declared.value.Value.{Value}
 use Rattle.jl_value.specs.declared.value.Value.TheVariants as value
 use Rattle.jl_meaning.specs.Conversions.{check_object_coercible, integer_of, to_integer, to_number, to_string}
 use Rattle.jl_meaning.specs.Errors.{throw_error}
-use Rattle.jl_meaning.specs.Parts.{give, ◌>>=◌, Algorithm, Call}
+use Rattle.jl_effects.specs.Effects.{Fail}
+use Rattle.jl_meaning.specs.Parts.{give, ◌>>=◌, Algorithm, Call, Unsupported}
 use Rattle.jl_meaning.specs.FunctionObjects.{whole}
 use Rattle.jl_meaning.specs.builtins.Arguments.{argument, give_string, string_of_this}
 use Rattle.jl_meaning.specs.builtins.Elements.{clamped, index_or_none}
 use Rattle.jl_text.specs.Search.{first_place}
 use Rattle.jl_meaning.specs.builtins.Function.{FunctionNames}
-use Rattle.jl_meaning.specs.builtins.String.{unit_at_position}
+use Rattle.jl_meaning.specs.builtins.String.{string_constructor, string_from_char_code, string_value, unit_at_position}
 use Rattle.jl_meaning.specs.builtins.Table.{builtin, builtin_rows}
 use Rattle.jl_progress.specs.Strings.{method_of_string}
 use Rattle.jl_progress.specs.declared.string.StringMethod.{StringMethod}
@@ -67,14 +68,68 @@ each names c (suc (suc (suc (suc (suc (suc (suc (suc (suc zero))))))))) = refl
 each names c (suc (suc (suc (suc (suc (suc (suc (suc (suc (suc zero)))))))))) = refl
 each names c (suc (suc (suc (suc (suc (suc (suc (suc (suc (suc (suc n))))))))))) = tt
 
-module _ (s : State) (c : Call) (t : State) (a : Act) where
-  pub calls_row : (names : FunctionNames) (row : ℕ) (o : Option StringMethod) (m : StringMethod) → 55 ≤ row
-      → o ≡ slice_get methods (row - 55) → o ≡ Some m → Works s (called m c) t a → Works s (builtin names row c) t a
-  calls_row names row o m above is some leads =
-      let row_is : (row - 55) + 55 ≡ row = omega (arith, above) in
-      subst (λ r. Works s (builtin names r c) t a) row_is
-      (subst (λ q. Works s q t a) (subst (Does names c ((row - 55) + 55)) (sym is ∙ some) (each names c (row - 55)))
-      leads)
+-- the rows that have no such method
+
+module _ (names : FunctionNames) (c : Call) where
+  values_are : (n : ℕ) → n < 2 → builtin names (n + 53) c ≡ string_value c
+  unfolding builtin builtin_rows
+  values_are zero below = refl
+  values_are (suc zero) below = refl
+  values_are (suc (suc n)) below = absurd (omega (arith, below))
+
+  none_are : (n : ℕ) → n < 17 → slice_get methods n ≡ None → builtin names (n + 55) c ≡ Fail (Unsupported (n + 55))
+  unfolding builtin builtin_rows
+  none_are zero below none = absurd (let e = none in cc)
+  none_are (suc zero) below none = absurd (let e = none in cc)
+  none_are (suc (suc zero)) below none = absurd (let e = none in cc)
+  none_are (suc (suc (suc zero))) below none = absurd (let e = none in cc)
+  none_are (suc (suc (suc (suc zero)))) below none = absurd (let e = none in cc)
+  none_are (suc (suc (suc (suc (suc zero))))) below none = absurd (let e = none in cc)
+  none_are (suc (suc (suc (suc (suc (suc zero)))))) below none = absurd (let e = none in cc)
+  none_are (suc (suc (suc (suc (suc (suc (suc zero))))))) below none = absurd (let e = none in cc)
+  none_are (suc (suc (suc (suc (suc (suc (suc (suc zero)))))))) below none = absurd (let e = none in cc)
+  none_are (suc (suc (suc (suc (suc (suc (suc (suc (suc zero))))))))) below none = absurd (let e = none in cc)
+  none_are (suc (suc (suc (suc (suc (suc (suc (suc (suc (suc zero)))))))))) below none = absurd (let e = none in cc)
+  none_are (suc (suc (suc (suc (suc (suc (suc (suc (suc (suc (suc zero))))))))))) below none = refl
+  none_are (suc (suc (suc (suc (suc (suc (suc (suc (suc (suc (suc (suc zero)))))))))))) below none = refl
+  none_are (suc (suc (suc (suc (suc (suc (suc (suc (suc (suc (suc (suc (suc zero))))))))))))) below none = refl
+  none_are (suc (suc (suc (suc (suc (suc (suc (suc (suc (suc (suc (suc (suc (suc zero)))))))))))))) below none = refl
+  none_are (suc (suc (suc (suc (suc (suc (suc (suc (suc (suc (suc (suc (suc (suc (suc zero))))))))))))))) below none = refl
+  none_are (suc (suc (suc (suc (suc (suc (suc (suc (suc (suc (suc (suc (suc (suc (suc (suc zero)))))))))))))))) below none = refl
+  none_are (suc (suc (suc (suc (suc (suc (suc (suc (suc (suc (suc (suc (suc (suc (suc (suc (suc n))))))))))))))))) below none = absurd (omega (arith, below))
+
+module _ (s : State) (names : FunctionNames) (row : ℕ) (c : Call) (t : State) (a : Act) where
+  at_row : (n : ℕ) (p : Algorithm Value) → row ≡ n → builtin names n c ≡ p → Works s p t a
+      → Works s (builtin names row c) t a
+  at_row n p is row_is leads =
+      subst (λ r. Works s (builtin names r c) t a) (sym is) (subst (λ q. Works s q t a) (sym row_is) leads)
+
+  pub constructor_row : row ≡ 51 → Works s (string_constructor c) t a → Works s (builtin names row c) t a
+  unfolding builtin builtin_rows
+  constructor_row is leads = at_row 51 (string_constructor c) is refl leads
+
+  pub codes_row : row ≡ 52 → Works s (string_from_char_code c) t a → Works s (builtin names row c) t a
+  unfolding builtin builtin_rows
+  codes_row is leads = at_row 52 (string_from_char_code c) is refl leads
+
+  pub value_row : 53 ≤ row → row < 55 → Works s (string_value c) t a → Works s (builtin names row c) t a
+  value_row above below leads =
+      at_row ((row - 53) + 53) (string_value c) (omega (arith, above))
+      (values_are names c (row - 53) (omega (arith, above, below))) leads
+
+  pub method_row : (o : Option StringMethod) (m : StringMethod) → 55 ≤ row → o ≡ slice_get methods (row - 55)
+      → o ≡ Some m → Works s (called m c) t a → Works s (builtin names row c) t a
+  method_row o m above is some leads =
+      at_row ((row - 55) + 55) (called m c) (omega (arith, above))
+      (sym (subst (Does names c ((row - 55) + 55)) (sym is ∙ some) (each names c (row - 55)))) leads
+
+  pub unsupported_row : (o : Option StringMethod) → 55 ≤ row → row < 72 → o ≡ slice_get methods (row - 55)
+      → o ≡ None → Works s (Fail (Unsupported row)) t a → Works s (builtin names row c) t a
+  unsupported_row o above below is none leads =
+      let there : (row - 55) + 55 ≡ row = omega (arith, above) in
+      at_row ((row - 55) + 55) (Fail (Unsupported ((row - 55) + 55))) (sym there)
+      (none_are names c (row - 55) (omega (arith, above, below)) (sym is ∙ none))
+      (subst (λ r. Works s (Fail (Unsupported r)) t a) (sym there) leads)
 
 -- `this` as a string
 

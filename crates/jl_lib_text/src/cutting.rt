@@ -1,10 +1,11 @@
 //! `slice` and `substring` (15.5.4.13, 15.5.4.15).
 ghost use Rattle.std.specs.Prelude.{◌≡◌, ◌≤◌, length, pos, IfOk, Some};
-ghost use Rattle.jl_meaning.specs.Conversions.{integer_of, to_integer};
+ghost use Rattle.jl_meaning.specs.Conversions.{integer_of};
 ghost use Rattle.jl_meaning.specs.Parts.{◌>>=◌ as ◌then◌};
 ghost use Rattle.jl_meaning.specs.builtins.Arguments.{give_string};
 ghost use Rattle.jl_meaning.specs.builtins.Elements.{to_end};
-ghost use Rattle.jl_progress.specs.Strings.{string_after, units_cut};
+ghost use Rattle.jl_progress.specs.Strings.{method_of_string, string_after, units_cut};
+ghost use Rattle.jl_progress.specs.declared.string.StringMethod.TheVariants as method;
 ghost use Rattle.jl_progress.specs.declared.string.StringProgress.TheVariants as progress;
 ghost use Rattle.jl_state.specs.Rank.{rank_act, Falls};
 ghost use Rattle.jl_state.specs.Rest.{Works};
@@ -12,7 +13,7 @@ ghost use Rattle.jl_state.specs.declared.state.State.{State as Machine};
 
 use crate::texts::range_of;
 use crate::waiting::wait_for_number;
-use jl_builtin::{clamped, is_undefined, relative_index};
+use jl_builtin::{argument, clamped, is_undefined, relative_index};
 use jl_num::{Num, NumberOutside};
 use jl_operator::number_of;
 use jl_progress::{Cut, StringProgress};
@@ -27,14 +28,13 @@ pub(crate) fn convert_start<'p>(
     state: &mut State<'p>,
     cut: Cut,
     units: Text,
-    start: Value,
-    end: Value,
+    args: &[Value],
 ) -> Result<Act<'p>, NoMemory>
-    ensures leads { IfOk result (λ act. Works state.old
-        (to_integer start then λ a. to_end end (length units) then λ b. give_string (units_cut cut units a b))
-        state.new act) }
+    ensures leads { IfOk result (λ act. Works state.old (method_of_string (method.Cut cut) units args.now) state.new act) }
     ensures falls { IfOk result (λ act. Falls state.old 46 state.new act) }
 {
+    let start = argument(alloc, args, 0)?;
+    let end = argument(alloc, args, 1)?;
     let progress = StringProgress::Start { cut, units, end };
     Ok(wait_for_number(alloc, state, progress, start)?)
 }

@@ -17,7 +17,7 @@ use crate::spaces::give_trimmed;
 use crate::splitting::split;
 use crate::waiting::wait_for_string;
 use jl_algorithm::throw_native;
-use jl_builtin::{argument, copy_of};
+use jl_builtin::copy_of;
 use jl_operator::text_of;
 use jl_progress::{StringMethod, StringProgress};
 use jl_state::{Act, Invocation, State};
@@ -64,16 +64,12 @@ fn method_of_string<'p>(
     ensures leads { IfOk result (λ act. Works state.old (method_of_string method units args.now) state.new act) }
     ensures falls { IfOk result (λ act. Falls state.old 46 state.new act) }
 {
-    let first = argument(alloc, args, 0)?;
-    let second = argument(alloc, args, 1)?;
     match method {
-        StringMethod::Unit(form) => Ok(convert_position(alloc, state, form, units, first)?),
+        StringMethod::Unit(form) => Ok(convert_position(alloc, state, form, units, args)?),
         StringMethod::Concat => Ok(join_all(alloc, state, &units, args)?),
-        StringMethod::Search(search) => {
-            Ok(convert_part(alloc, state, search, units, first, second)?)
-        }
-        StringMethod::Cut(cut) => Ok(convert_start(alloc, state, cut, units, first, second)?),
-        StringMethod::Split => Ok(split(alloc, state, units, first, second)?),
+        StringMethod::Search(search) => Ok(convert_part(alloc, state, search, units, args)?),
+        StringMethod::Cut(cut) => Ok(convert_start(alloc, state, cut, units, args)?),
+        StringMethod::Split => Ok(split(alloc, state, units, args)?),
         StringMethod::Case(case) => Ok(give_in_case(alloc, case, &units)?),
         StringMethod::Trim => Ok(give_trimmed(alloc, &units)?),
     }

@@ -1,15 +1,16 @@
 //! `indexOf` and `lastIndexOf` (15.5.4.7, 15.5.4.8).
 ghost use Rattle.std.specs.Prelude.{◌≡◌, IfOk};
-ghost use Rattle.jl_meaning.specs.Conversions.{to_number, to_string};
+ghost use Rattle.jl_meaning.specs.Conversions.{to_number};
 ghost use Rattle.jl_meaning.specs.Parts.{give, ◌>>=◌ as ◌then◌};
 ghost use Rattle.jl_meaning.specs.builtins.String.{last_start};
-ghost use Rattle.jl_progress.specs.Strings.{place_of_part, string_after};
+ghost use Rattle.jl_progress.specs.Strings.{method_of_string, place_of_part, string_after};
+ghost use Rattle.jl_progress.specs.declared.string.StringMethod.TheVariants as method;
 ghost use Rattle.jl_progress.specs.declared.string.StringProgress.TheVariants as progress;
 ghost use Rattle.jl_state.specs.Rank.{Falls};
 ghost use Rattle.jl_state.specs.Rest.{Works};
 
 use crate::waiting::{wait_for_number, wait_for_string};
-use jl_builtin::{clamped, index_or_none};
+use jl_builtin::{argument, clamped, index_or_none};
 use jl_num::{Num, NumberOutside};
 use jl_operator::{number_of, text_of};
 use jl_progress::{Search, StringProgress};
@@ -24,13 +25,14 @@ pub(crate) fn convert_part<'p>(
     state: &mut State<'p>,
     search: Search,
     units: Text,
-    part: Value,
-    position: Value,
+    args: &[Value],
 ) -> Result<Act<'p>, NoMemory>
     ensures leads { IfOk result (λ act. Works state.old
-        (to_string part then λ part. to_number position then λ n. give (place_of_part search units part n)) state.new act) }
+        (method_of_string (method.Search search) units args.now) state.new act) }
     ensures falls { IfOk result (λ act. Falls state.old 46 state.new act) }
 {
+    let part = argument(alloc, args, 0)?;
+    let position = argument(alloc, args, 1)?;
     let progress = StringProgress::Part {
         search,
         units,

@@ -1,9 +1,10 @@
 //! `charAt` and `charCodeAt` (15.5.4.4, 15.5.4.5).
 ghost use Rattle.std.specs.Prelude.{◌≡◌, ◌≤◌, IfOk};
-ghost use Rattle.jl_meaning.specs.Conversions.{integer_of, to_integer};
-ghost use Rattle.jl_meaning.specs.Parts.{give, ◌>>=◌ as ◌then◌};
+ghost use Rattle.jl_meaning.specs.Conversions.{integer_of};
+ghost use Rattle.jl_meaning.specs.Parts.{give};
 ghost use Rattle.jl_meaning.specs.builtins.String.{unit_at_position};
-ghost use Rattle.jl_progress.specs.Strings.{string_after, unit_given};
+ghost use Rattle.jl_progress.specs.Strings.{method_of_string, string_after, unit_given};
+ghost use Rattle.jl_progress.specs.declared.string.StringMethod.TheVariants as method;
 ghost use Rattle.jl_progress.specs.declared.string.StringProgress.TheVariants as progress;
 ghost use Rattle.jl_state.specs.Rank.{rank_act, Falls};
 ghost use Rattle.jl_state.specs.Rest.{Works};
@@ -11,7 +12,7 @@ ghost use Rattle.jl_state.specs.declared.state.State.{State as Machine};
 
 use crate::texts::text_of_units;
 use crate::waiting::wait_for_number;
-use jl_builtin::integer_of;
+use jl_builtin::{argument, integer_of};
 use jl_num::{Num, NumberOutside};
 use jl_operator::number_of;
 use jl_progress::{StringProgress, UnitForm};
@@ -27,12 +28,12 @@ pub(crate) fn convert_position<'p>(
     state: &mut State<'p>,
     form: UnitForm,
     units: Text,
-    position: Value,
+    args: &[Value],
 ) -> Result<Act<'p>, NoMemory>
-    ensures leads { IfOk result (λ act. Works state.old
-        (to_integer position then λ z. give (unit_given form (unit_at_position units z))) state.new act) }
+    ensures leads { IfOk result (λ act. Works state.old (method_of_string (method.Unit form) units args.now) state.new act) }
     ensures falls { IfOk result (λ act. Falls state.old 22 state.new act) }
 {
+    let position = argument(alloc, args, 0)?;
     let progress = StringProgress::Position { form, units };
     Ok(wait_for_number(alloc, state, progress, position)?)
 }

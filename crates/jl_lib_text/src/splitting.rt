@@ -1,12 +1,12 @@
 //! `split` (15.5.4.14).
-ghost use Rattle.std.specs.Prelude.{◌≡◌, ◌<◌, ◌∷◌, [], drop, length, map, take, IfOk};
+ghost use Rattle.std.specs.Prelude.{◌≡◌, ◌<◌, ◌∷◌, [], length, map, take, IfOk};
 ghost use Rattle.jl_meaning.specs.Conversions.{to_uint32};
 ghost use Rattle.jl_meaning.specs.Parts.{◌>>=◌ as ◌then◌};
 ghost use Rattle.jl_meaning.specs.builtins.Arguments.{give_object, unless_undefined};
 ghost use Rattle.jl_meaning.specs.builtins.Elements.{add_in_turns};
 ghost use Rattle.jl_meaning.specs.builtins.String.{pieces};
-ghost use Rattle.jl_meaning.specs.forms.Literals.{new_array};
-ghost use Rattle.jl_progress.specs.Strings.{split_up_to, string_after};
+ghost use Rattle.jl_progress.specs.Strings.{method_of_string, split_up_to, string_after};
+ghost use Rattle.jl_progress.specs.declared.string.StringMethod.TheVariants as method;
 ghost use Rattle.jl_progress.specs.declared.string.StringProgress.TheVariants as progress;
 ghost use Rattle.jl_state.specs.Rank.{Falls};
 ghost use Rattle.jl_state.specs.Rest.{Works};
@@ -14,7 +14,7 @@ ghost use Rattle.jl_value.specs.declared.value.Value.TheVariants as value;
 
 use crate::texts::text_of_units;
 use crate::waiting::{wait_for_number, wait_for_string};
-use jl_builtin::{copy_of, fill_array, is_undefined};
+use jl_builtin::{argument, copy_of, fill_array, is_undefined};
 use jl_num::{NumberOutside, to_uint32};
 use jl_operator::{number_of, text_of};
 use jl_progress::StringProgress;
@@ -146,14 +146,13 @@ pub(crate) fn split<'p>(
     alloc: Global,
     state: &mut State<'p>,
     units: Text,
-    separator: Value,
-    limit: Value,
+    args: &[Value],
 ) -> Result<Act<'p>, NoMemory>
-    ensures leads { IfOk result (λ act. Works state.old
-        (new_array then λ array. unless_undefined 4294967295 to_uint32 limit then split_up_to units array separator)
-        state.new act) }
+    ensures leads { IfOk result (λ act. Works state.old (method_of_string method.Split units args.now) state.new act) }
     ensures falls { IfOk result (λ act. Falls state.old 46 state.new act) }
 {
+    let separator = argument(alloc, args, 0)?;
+    let limit = argument(alloc, args, 1)?;
     let array = state.store.new_array()?;
     Ok(convert_limit(alloc, state, units, array, separator, limit)?)
 }

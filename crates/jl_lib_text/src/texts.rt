@@ -7,7 +7,6 @@ ghost use Rattle.jl_state.specs.Rest.{Works};
 ghost use Rattle.jl_state.specs.declared.state.State.{State as Machine};
 
 use jl_state::Act;
-use jl_store::word;
 use jl_text::{NoMemory, Text, TextFault};
 use jl_value::{Builtin, Fault};
 use std::alloc::Global;
@@ -37,7 +36,7 @@ pub(crate) fn range_of(
     if from < to {
         return units.slice(alloc, from, to);
     }
-    word(alloc, "")
+    text_of_units(alloc, &[])
 }
 
 /// The fault of the builtin in a row.
