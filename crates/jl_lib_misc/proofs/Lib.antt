@@ -1,3 +1,4 @@
+pub mod Arguments
 pub mod Conversions
 pub mod Leading
 pub mod Lines

@@ -1,11 +1,11 @@
 //! `Number`, and the functions of its prototype (15.7).
-ghost use Rattle.std.specs.Prelude.{◌≡◌, ◌≤◌, pos, IfOk, Some};
+ghost use Rattle.std.specs.Prelude.{◌≡◌, ◌≤◌, pos, IfOk, IfSome, Some};
 ghost use Rattle.jl_meaning.specs.Conversions.{to_integer};
 ghost use Rattle.jl_meaning.specs.Parts.{◌>>=◌ as ◌then◌};
 ghost use Rattle.jl_meaning.specs.builtins.Arguments.{unless_undefined, value_or_object};
 ghost use Rattle.jl_meaning.specs.builtins.Number.{number_constructor, number_inside, number_of_receiver};
 ghost use Rattle.jl_meaning.specs.builtins.Number.{number_to_string, number_value_of, string_in_radix};
-ghost use Rattle.jl_lib_misc.specs.inner.Numbers.{number_or_object};
+ghost use Rattle.jl_lib_misc.specs.inner.Numbers.{number_or_object, radix_of};
 ghost use Rattle.jl_num.specs.Digits.{number_text};
 ghost use Rattle.jl_progress.specs.Numbers.{number_after};
 ghost use Rattle.jl_progress.specs.declared.number.NumberProgress.TheVariants as progress;
@@ -124,6 +124,20 @@ fn number_of_receiver(store: &Store, this: &Value) -> Option<Num>
     }
 }
 
+/// The text of ASCII characters, which are far fewer than a text may have.
+fn text_of_characters(alloc: Global, characters: &[u8]) -> Result<Text, NoMemory>
+    ensures { IfOk result (λ text. text ≡ characters.now) }
+{
+    let mut units = List::new(alloc);
+    for character in characters {
+        units.push(u16::from(*character))?;
+    }
+    match Text::from_units(alloc, units.items()) {
+        Ok(text) => Ok(text),
+        Err(TextFault::NoMemory | TextFault::TooLong) => Err(NoMemory),
+    }
+}
+
 /// The text of a number in a radix.
 fn text_in_radix(alloc: Global, n: Num, radix: u32) -> Result<Text, NoMemory>
     requires low { 2 ≤ radix }
@@ -131,13 +145,17 @@ fn text_in_radix(alloc: Global, n: Num, radix: u32) -> Result<Text, NoMemory>
     ensures { IfOk result (λ text. text ≡ number_text n radix) }
 {
     let characters = digits(alloc, n, radix)?;
-    let mut units = List::new(alloc);
-    for character in characters.as_slice() {
-        units.push(u16::from(*character))?;
-    }
-    match Text::from_units(alloc, units.items()) {
-        Ok(text) => Ok(text),
-        Err(TextFault::NoMemory | TextFault::TooLong) => Err(NoMemory),
+    text_of_characters(alloc, characters.as_slice())
+}
+
+/// The radix that an integer is, if it is one.
+fn radix_of(radix: i64) -> Option<u32>
+    ensures value { result ≡ radix_of radix }
+    ensures within { IfSome result (λ r. (2 ≤ r) × (r ≤ 36)) }
+{
+    match u32::try_from(radix) {
+        Ok(radix) if 2 <= radix && radix <= 36 => Some(radix),
+        _ => None,
     }
 }
 
@@ -151,10 +169,10 @@ fn give_in_radix<'p>(
     ensures leads { IfOk result (λ act. Works state.old (string_in_radix n radix) state.new act) }
     ensures falls { IfOk result (λ act. Falls state.old 3 state.new act) }
 {
-    if radix < 2 || radix > 36 {
-        return Ok(throw_native(alloc, state, ErrorKind::RangeError, "bad radix")?);
+    match radix_of(radix) {
+        Some(radix) => Ok(Act::Give(Value::Text(text_in_radix(alloc, n, radix)?))),
+        None => Ok(throw_native(alloc, state, ErrorKind::RangeError, "bad radix")?),
     }
-    Ok(Act::Give(Value::Text(text_in_radix(alloc, n, radix as u32)?)))
 }
 
 /// The radix is converted, or is 10 where it is undefined.
