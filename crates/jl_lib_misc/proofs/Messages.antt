@@ -1,5 +1,5 @@
 -- Names and messages of errors, which may be missing.
-use Rattle.std.proofs.Common.{◌≡◌, [], codes, refl, subst, sym, false, true, List, Option, Some, ℕ}
+use Rattle.std.proofs.Common.{◌≡◌, [], codes, refl, subst, sym, false, true, List, None, Option, Some, ℕ}
 use Rattle.jl_value.specs.declared.error_kind.ErrorKind.TheVariants.{TypeError}
 use Rattle.jl_value.specs.declared.object.ObjId.{ObjId}
 use Rattle.jl_value.specs.declared.value.Value.{Value}

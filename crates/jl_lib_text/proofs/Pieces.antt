@@ -118,7 +118,7 @@ within separator units start found inside is =
 pub all_pieces : {A : Type 0} (wrap : List ℕ → A) (separator units : List ℕ) → 0 < length separator
     → [] ++ map wrap (pieces_from separator 0 [] (drop 0 units)) ≡ map wrap (pieces separator units)
 all_pieces wrap [] units some = absurd (omega (arith, some))
-all_pieces wrap (s ∷ separator) units some = refl
+all_pieces wrap (s ∷ rest) units some = refl
 
 -- one piece more is made
 
