@@ -4,9 +4,9 @@ use Rattle.jl_lib_misc.proofs.numbers.convert_radix.Goals as goal
 
 pub returns-then-is_undefined-clause-leads : goal.returns-then-is_undefined-clause-leads
 returns-then-is_undefined-clause-leads c =
-    radix_missing _ _ _ _ _ (sym c.is_undefined.ensures ∙ c.if-is_undefined.true) c.in_ok-give_in_radix.ensures.leads
+    radix_missing _ _ _ c.args.number c.args.radix (sym c.is_undefined.ensures ∙ c.if-is_undefined.true) c.in_ok-give_in_radix.ensures.leads
 
 pub returns-clause-leads : goal.returns-clause-leads
 returns-clause-leads c =
-    radix_waits _ _ _ _ _ (sym c.is_undefined.ensures ∙ c.if-is_undefined.false)
+    radix_waits _ _ _ c.args.number c.args.radix (sym c.is_undefined.ensures ∙ c.if-is_undefined.false)
     c.in_ok-wait_for_number.ensures.leads
