@@ -1,5 +1,6 @@
 pub mod Arguments
 pub mod Conversions
+pub mod Founds
 pub mod Leading
 pub mod Lines
 pub mod Messages

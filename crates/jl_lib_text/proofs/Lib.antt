@@ -1,6 +1,7 @@
 pub mod Arguments
 pub mod Called
 pub mod Conversions
+pub mod Founds
 pub mod Letters
 pub mod Objects
 pub mod Pieces
