@@ -1,0 +1,13 @@
+pub mod Appended
+pub mod Converted
+pub mod Exchanged
+pub mod Found
+pub mod Joined
+pub mod Lengths
+pub mod Moved
+pub mod Orders
+pub mod Read
+pub mod Rows
+pub mod Stable
+pub mod Stored
+pub mod Turns

@@ -1,0 +1,165 @@
+-- Elements that are moved: `shift`, `unshift` and `splice` as moves from one index on to another.
+use Rattle.std.proofs.Common.{◌≡◌, ◌∙◌, ◌+◌, ◌-◌, ◌<◌, ◌≤◌, ap, arith, false, length, refl, subst, suc, sym, true, zero, List, ℕ}
+use mathlib.Core.Path.{fun_ext}
+use Rattle.std.specs.Prelude.{if◌then◌else◌, nat_lt, Bool}
+use Rattle.std.proofs.lemmas.Bool.{le-ltb, lt-ltb}
+use Rattle.jl_value.specs.declared.object.ObjId.{ObjId}
+use Rattle.jl_value.specs.declared.value.Value.{Value}
+use Rattle.jl_effects.specs.Effects.{Step}
+use Rattle.jl_meaning.specs.Parts.{give, ◌>>=◌, Algorithm}
+use Rattle.jl_meaning.specs.builtins.ArrayChanges.{give_nothing, make_room, pop_last, shift_first}
+use Rattle.jl_meaning.specs.builtins.Elements.{delete_index, get_index, move_element}
+use Rattle.jl_meaning.specs.builtins.Turns.{downward, upward}
+use Rattle.jl_progress.specs.Arrays.{after_moving, array_after, length_spliced, move_down, move_up, put_items, put_others}
+use Rattle.jl_progress.specs.Arrays.{splice_others, with_length, without_last}
+use Rattle.jl_progress.specs.declared.array.AfterMoving.TheVariants as moved
+use Rattle.jl_progress.specs.declared.array.AfterPutting.TheVariants as put
+use Rattle.jl_progress.specs.declared.array.ArrayProgress.TheVariants as array
+use Rattle.jl_progress.specs.declared.array.LengthFunction.TheVariants as for_length
+use Rattle.jl_progress.specs.declared.array.Moving.{Moving}
+use Rattle.jl_progress.specs.declared.array.Splicing.{Splicing}
+use Rattle.jl_state.specs.Rest.{Works}
+use Rattle.jl_state.specs.declared.act.Act.{Act}
+use Rattle.jl_state.specs.declared.state.State.{State}
+use Rattle.jl_algorithm.proofs.Chains.{bind_assoc, works_assoc}
+use Rattle.jl_lib_array.specs.inner.Rows.{close_gap, open_gap}
+
+-- pop and shift of what has elements, and of what has none
+
+pub pops_none : (s t : State) (a : Act) (o : ObjId) (n : ℕ) → n ≡ 0 → Works s (give_nothing o) t a
+    → Works s (pop_last o n) t a
+pops_none s t a o n none leads = subst (λ m. Works s (pop_last o m) t a) (sym none) leads
+
+pub pops_some : (s t : State) (a : Act) (o : ObjId) (n : ℕ) → (n ≡ 0 → ⊥)
+    → Works s (get_index o (n - 1) >>= array_after (array.PopElement o (n - 1))) t a → Works s (pop_last o n) t a
+pops_some s t a o zero some leads = absurd (some refl)
+pops_some s t a o (suc last) some leads = leads
+
+pub shifts_none : (s t : State) (a : Act) (o : ObjId) (n : ℕ) → n ≡ 0 → Works s (give_nothing o) t a
+    → Works s (shift_first o n) t a
+shifts_none s t a o n none leads = subst (λ m. Works s (shift_first o m) t a) (sym none) leads
+
+pub shifts_some : (s t : State) (a : Act) (o : ObjId) (n : ℕ) → (n ≡ 0 → ⊥)
+    → Works s (get_index o 0 >>= array_after (array.ShiftFirst o (n - 1))) t a → Works s (shift_first o n) t a
+shifts_some s t a o zero some leads = absurd (some refl)
+shifts_some s t a o (suc last) some leads = leads
+
+-- each element but the first goes to the index before
+
+one_closer : (o : ObjId) (k : ℕ) → move_element o (k + 1) (k + 0) ≡ move_element o (k + 1) (k + 1 - 1)
+one_closer o k = ap (move_element o (k + 1)) (omega arith)
+
+closer : (o : ObjId) (left k : ℕ)
+    → upward (λ i _. move_element o (i + 1) (i + 0)) left k tt
+    ≡ upward (λ i _. move_element o i (i - 1)) left (k + 1) tt
+closer o zero k = refl
+closer o (suc left) k =
+    ap (λ (p : Algorithm (Unit {0})). Step (p >>= λ _. upward (λ i _. move_element o (i + 1) (i + 0)) left (k + 1) tt))
+    (one_closer o k)
+    ∙ ap (λ (p : Algorithm (Unit {0})). Step (move_element o (k + 1) (k + 1 - 1) >>= λ _. p)) (closer o left (k + 1))
+
+pub shifts : (s t : State) (a : Act) (o : ObjId) (last : ℕ) (first : Value)
+    → Works s (move_up (record { object = o; from = 1; to = 0; left = last }) last 0
+    >>= λ _. without_last o last first) t a
+    → Works s (array_after (array.ShiftFirst o last) first) t a
+shifts s t a o last first leads =
+    subst (λ (p : Algorithm (Unit {0})). Works s (p >>= λ _. without_last o last first) t a) (closer o last 0) leads
+
+-- unshift: each element goes up by as many as come
+
+added : (o : ObjId) (n left : ℕ)
+    → downward (λ k _. move_element o (0 + k) (n + k)) left tt ≡ downward (λ k _. move_element o k (k + n)) left tt
+added o n left = ap (λ (f : ℕ → Unit {0} → Algorithm (Unit {0})). downward f left tt) (fun_ext (λ k. fun_ext (λ _. one k)))
+  where
+    one : (k : ℕ) → move_element o (0 + k) (n + k) ≡ move_element o k (k + n)
+    one k = ap (λ i. move_element o i (n + k)) (omega arith) ∙ ap (move_element o k) (omega arith)
+
+pub unshifts : (s t : State) (a : Act) (o : ObjId) (args : List Value) (len n m : ℕ) → n ≡ length args
+    → m ≡ len + n
+    → Works s (move_down (record { object = o; from = 0; to = n; left = len }) len
+    >>= λ _. put_others o 0 args (put.Unshift m)) t a
+    → Works s (with_length for_length.Unshift o args len) t a
+unshifts s t a o args len n m as_many sum leads =
+    subst (λ (p : Algorithm (Unit {0})). Works s (p >>= λ _. put_others o 0 args (put.Unshift (len + length args))) t a)
+    (added o (length args) len)
+    (subst (λ i. Works s (downward (λ k _. move_element o (0 + k) (i + k)) len tt
+    >>= λ _. put_others o 0 args (put.Unshift (len + i))) t a) as_many
+    (subst (λ i. Works s (downward (λ k _. move_element o (0 + k) (n + k)) len tt
+    >>= λ _. put_others o 0 args (put.Unshift i)) t a) sum leads))
+
+-- splice: room is made, or a gap closed
+
+module _ (s t : State) (a : Act) (x : Splicing) (n : ℕ) (as_many : n ≡ length x.items) where
+  abbrev closing : Algorithm (Unit {0})
+  closing = close_gap x
+
+  abbrev opening : Algorithm (Unit {0})
+  opening = open_gap x
+
+  pub splice_closes : n < x.removed → Works s (close_gap x >>= λ _. put_items x) t a → Works s (splice_others x) t a
+  splice_closes fewer leads =
+      subst (λ (b : Bool). Works s ((if b then closing
+      else (if nat_lt x.removed (length x.items) then opening else give tt)) >>= λ _. put_items x) t a)
+      (sym (lt-ltb (length x.items) x.removed (subst (λ m. m < x.removed) as_many fewer))) leads
+
+  pub splice_opens : x.removed ≤ n → x.removed < n → Works s (open_gap x >>= λ _. put_items x) t a
+      → Works s (splice_others x) t a
+  splice_opens no_fewer more leads =
+      subst (λ (b : Bool). Works s ((if b then closing
+      else (if nat_lt x.removed (length x.items) then opening else give tt)) >>= λ _. put_items x) t a)
+      (sym (le-ltb (length x.items) x.removed (subst (λ m. x.removed ≤ m) as_many no_fewer)))
+      (subst (λ (b : Bool). Works s ((if b then opening else give tt) >>= λ _. put_items x) t a)
+      (sym (lt-ltb x.removed (length x.items) (subst (λ m. x.removed < m) as_many more))) leads)
+
+  pub splice_stays : x.removed ≤ n → n ≤ x.removed → Works s (put_items x) t a → Works s (splice_others x) t a
+  splice_stays no_fewer no_more leads =
+      subst (λ (b : Bool). Works s ((if b then closing
+      else (if nat_lt x.removed (length x.items) then opening else give tt)) >>= λ _. put_items x) t a)
+      (sym (le-ltb (length x.items) x.removed (subst (λ m. x.removed ≤ m) as_many no_fewer)))
+      (subst (λ (b : Bool). Works s ((if b then opening else give tt) >>= λ _. put_items x) t a)
+      (sym (le-ltb x.removed (length x.items) (subst (λ m. m ≤ x.removed) as_many no_more))) leads)
+
+-- the gap is closed from the first element after it up, and opened from the last one down
+
+pub closes : (s t : State) (a : Act) (x : Splicing) (n left : ℕ) → n ≡ length x.items
+    → left ≡ x.length - x.removed - x.start
+    → Works s (move_up (record { object = x.object; from = x.removed; to = n; left = left }) left x.start
+    >>= λ _. after_moving x.object (moved.Delete x)) t a
+    → Works s (close_gap x >>= λ _. put_items x) t a
+closes s t a x n left as_many as_left leads =
+    works_assoc s
+    (upward (λ k _. move_element x.object (k + x.removed) (k + length x.items)) (x.length - x.removed - x.start)
+    x.start tt)
+    (λ _. downward (λ k _. delete_index x.object (length_spliced x + k)) (x.removed - length x.items) tt)
+    (λ _. put_items x) t a
+    (subst (λ l. Works s (upward (λ k _. move_element x.object (k + x.removed) (k + length x.items)) l x.start tt
+    >>= λ _. after_moving x.object (moved.Delete x)) t a) as_left
+    (subst (λ m. Works s (upward (λ k _. move_element x.object (k + x.removed) (k + m)) left x.start tt
+    >>= λ _. after_moving x.object (moved.Delete x)) t a) as_many leads))
+
+above : (o : ObjId) (start removed n left : ℕ)
+    → downward (λ k _. move_element o (start + removed + k) (start + n + k)) left tt
+    ≡ downward (λ k _. move_element o (start + k + removed) (start + k + n)) left tt
+above o start removed n left =
+    ap (λ (f : ℕ → Unit {0} → Algorithm (Unit {0})). downward f left tt) (fun_ext (λ k. fun_ext (λ _. one k)))
+  where
+    one : (k : ℕ)
+        → move_element o (start + removed + k) (start + n + k) ≡ move_element o (start + k + removed) (start + k + n)
+    one k =
+        ap (λ i. move_element o i (start + n + k)) (omega arith)
+        ∙ ap (move_element o (start + k + removed)) (omega arith)
+
+pub opens : (s t : State) (a : Act) (x : Splicing) (from to left : ℕ) → from ≡ x.start + x.removed
+    → to ≡ x.start + length x.items → left ≡ x.length - x.removed - x.start
+    → Works s (move_down (record { object = x.object; from = from; to = to; left = left }) left
+    >>= λ _. put_items x) t a
+    → Works s (open_gap x >>= λ _. put_items x) t a
+opens s t a x from to left is_from is_to as_left leads =
+    subst (λ (p : Algorithm (Unit {0})). Works s (p >>= λ _. put_items x) t a)
+    (above x.object x.start x.removed (length x.items) (x.length - x.removed - x.start))
+    (subst (λ l. Works s (turns (x.start + x.removed) (x.start + length x.items) l) t a) as_left
+    (subst (λ i. Works s (turns (x.start + x.removed) i left) t a) is_to
+    (subst (λ i. Works s (turns i to left) t a) is_from leads)))
+  where
+    turns : ℕ → ℕ → ℕ → Algorithm Value
+    turns i j l = downward (λ k _. move_element x.object (i + k) (j + k)) l tt >>= λ _. put_items x

@@ -1,0 +1,95 @@
+-- The rows of the table, as functions on an object.
+use Rattle.std.proofs.Common.{◌≡◌, ◌∙◌, ◌+◌, ◌-◌, ◌<◌, ◌≤◌, ◌≢◌, arith, false, refl, subst, suc, sym, true, zero, List, ℕ}
+use Rattle.jl_value.specs.declared.ending.Fault.TheVariants as fault
+use Rattle.jl_value.specs.declared.value.Value.{Value}
+use Rattle.jl_value.specs.declared.value.Value.TheVariants as value
+use Rattle.jl_effects.specs.Effects.{Fail}
+use Rattle.jl_meaning.specs.Conversions.{to_object}
+use Rattle.jl_meaning.specs.Parts.{◌>>=◌, Algorithm, Call, Unsupported}
+use Rattle.jl_meaning.specs.builtins.Arguments.{argument}
+use Rattle.jl_meaning.specs.builtins.ArrayChanges.{sort_by, sort_plainly}
+use Rattle.jl_meaning.specs.builtins.Function.{FunctionNames}
+use Rattle.jl_meaning.specs.builtins.Table.{builtin, builtin_rows}
+use Rattle.jl_builtin.specs.Values.{is_undefined}
+use Rattle.jl_state.specs.Rest.{Works}
+use Rattle.jl_state.specs.declared.act.Act.{Act}
+use Rattle.jl_state.specs.declared.act.Act.TheVariants as act
+use Rattle.jl_state.specs.declared.state.State.{State}
+use Rattle.jl_lib_array.specs.Rows.{IsArrayRow}
+use Rattle.jl_lib_array.specs.inner.Rows.{function_on}
+
+sorts_plainly : (v : Value) (c : Call) → is_undefined v ≡ true → sort_by v c ≡ sort_plainly c
+sorts_plainly value.Undefined c e = refl
+sorts_plainly value.Null c e = absurd (let differ = e in cc)
+sorts_plainly (value.Bool b) c e = absurd (let differ = e in cc)
+sorts_plainly (value.Num n) c e = absurd (let differ = e in cc)
+sorts_plainly (value.Text x) c e = absurd (let differ = e in cc)
+sorts_plainly (value.Obj id) c e = absurd (let differ = e in cc)
+
+sorts_not : (v : Value) (c : Call) → is_undefined v ≡ false → sort_by v c ≡ Fail (Unsupported 39)
+sorts_not value.Undefined c e = absurd (let differ = e in cc)
+sorts_not value.Null c e = refl
+sorts_not (value.Bool b) c e = refl
+sorts_not (value.Num n) c e = refl
+sorts_not (value.Text x) c e = refl
+sorts_not (value.Obj id) c e = refl
+
+module _ (names : FunctionNames) (c : Call) where
+  abbrev on_object : (row : ℕ) → Algorithm Value
+  on_object row = to_object c.this >>= λ o. function_on row o c.args
+
+  sort_is : is_undefined (argument c 0) ≡ true → builtin names 39 c ≡ on_object 39
+  unfolding builtin builtin_rows
+  sort_is none = sorts_plainly (argument c 0) c none
+
+  sort_is_not : is_undefined (argument c 0) ≡ false → builtin names 39 c ≡ Fail (Unsupported 39)
+  unfolding builtin builtin_rows
+  sort_is_not there = sorts_not (argument c 0) c there
+
+  locale_is_not : builtin names 31 c ≡ Fail (Unsupported 31)
+  unfolding builtin builtin_rows
+  locale_is_not = refl
+
+  row_is : (n : ℕ) → n < 12 → (n ≡ 1 → ⊥) → (n ≡ 8 → ⊥) → (n ≡ 9 → is_undefined (argument c 0) ≡ true)
+      → builtin names (n + 30) c ≡ on_object (n + 30)
+  unfolding builtin builtin_rows
+  row_is zero below no_locale no_slice plain = refl
+  row_is (suc zero) below no_locale no_slice plain = absurd (no_locale refl)
+  row_is (suc (suc zero)) below no_locale no_slice plain = refl
+  row_is (suc (suc (suc zero))) below no_locale no_slice plain = refl
+  row_is (suc (suc (suc (suc zero)))) below no_locale no_slice plain = refl
+  row_is (suc (suc (suc (suc (suc zero))))) below no_locale no_slice plain = refl
+  row_is (suc (suc (suc (suc (suc (suc zero)))))) below no_locale no_slice plain = refl
+  row_is (suc (suc (suc (suc (suc (suc (suc zero))))))) below no_locale no_slice plain = refl
+  row_is (suc (suc (suc (suc (suc (suc (suc (suc zero)))))))) below no_locale no_slice plain = absurd (no_slice refl)
+  row_is (suc (suc (suc (suc (suc (suc (suc (suc (suc zero))))))))) below no_locale no_slice plain =
+      sort_is (plain refl)
+  row_is (suc (suc (suc (suc (suc (suc (suc (suc (suc (suc zero)))))))))) below no_locale no_slice plain = refl
+  row_is (suc (suc (suc (suc (suc (suc (suc (suc (suc (suc (suc zero))))))))))) below no_locale no_slice plain = refl
+  row_is (suc (suc (suc (suc (suc (suc (suc (suc (suc (suc (suc (suc n)))))))))))) below no_locale no_slice plain =
+      absurd (omega (arith, below))
+
+  pub starts : (s t : State) (a : Act) (row : ℕ) → IsArrayRow row → (row ≡ 31 → ⊥)
+      → (row ≡ 39 → is_undefined (argument c 0) ≡ true) → Works s (on_object row) t a
+      → Works s (builtin names row c) t a
+  starts s t a row belongs no_locale plain leads =
+      let there : (row - 30) + 30 ≡ row = omega (arith, belongs.0) in
+      subst (λ r. Works s (builtin names r c) t a) there
+      (subst (λ p. Works s p t a)
+      (sym (row_is (row - 30) (omega (arith, belongs.0, belongs.1.0)) (λ e. no_locale (omega (arith, e, belongs.0)))
+      (λ e. belongs.1.1 (omega (arith, e, belongs.0))) (λ e. plain (omega (arith, e, belongs.0)))))
+      (subst (λ r. Works s (on_object r) t a) (sym there) leads))
+
+  pub no_locale : (s : State) (row : ℕ) → row ≡ 31
+      → Works s (builtin names row c) s (act.Fault (fault.Unsupported row))
+  no_locale s row is =
+      subst (λ r. Works s (builtin names r c) s (act.Fault (fault.Unsupported r))) (sym is)
+      (subst (λ p. Works s p s (act.Fault (fault.Unsupported 31))) (sym locale_is_not)
+      (record { is = λ kept told. refl }))
+
+  pub no_comparator : (s : State) (row : ℕ) → row ≡ 39 → is_undefined (argument c 0) ≡ false
+      → Works s (builtin names row c) s (act.Fault (fault.Unsupported row))
+  no_comparator s row is there =
+      subst (λ r. Works s (builtin names r c) s (act.Fault (fault.Unsupported r))) (sym is)
+      (subst (λ p. Works s p s (act.Fault (fault.Unsupported 39))) (sym (sort_is_not there))
+      (record { is = λ kept told. refl }))
