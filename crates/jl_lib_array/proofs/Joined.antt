@@ -1,5 +1,5 @@
 -- `join`: lines that are within the length of a string.
-use Rattle.std.proofs.Common.{◌≡◌, ◌∙◌, ◌+◌, ◌++◌, ◌-◌, [], ap, arith, codes, false, length, not, refl, subst, suc, sym, true}
+use Rattle.std.proofs.Common.{◌≡◌, ◌∙◌, ◌+◌, ◌++◌, ◌-◌, ◌≤◌, [], ap, arith, codes, false, length, not, refl, subst, suc, sym, true}
 use Rattle.std.proofs.Common.{zero, Bool, List, ℕ}
 use mathlib.Core.Path.{fun_ext}
 use Rattle.std.specs.Prelude.{if◌then◌else◌, nat_lt, slice_index_or}
@@ -30,6 +30,7 @@ use Rattle.jl_state.specs.declared.act.Act.TheVariants as act
 use Rattle.jl_state.specs.declared.state.State.{State}
 use Rattle.jl_algorithm.proofs.Chains.{bind_assoc}
 use Rattle.jl_lib_array.proofs.Converted.{string_converts}
+use Rattle.jl_lib_array.proofs.Turns.{one_more}
 
 -- a string that is short enough
 abbrev pub IsWithin : List ℕ → Type 0
@@ -111,11 +112,11 @@ pub joins_some : (s t : State) (a : Act) (o : ObjId) (n : ℕ) (separator : List
       k = 1;
     }))) t a
     → Works s (join_elements o n separator) t a
-joins_some s t a o zero separator some leads = absurd (some refl)
-joins_some s t a o (suc more) separator some leads =
-    subst (λ p. Works s p t a)
+joins_some s t a o n separator some leads =
+    subst (λ (m : ℕ). Works s (join_elements o m separator) t a) (one_more n some)
+    (subst (λ p. Works s p t a)
     (sym (bind_assoc (get_index o 0) string_or_empty
-    (λ first. upward (join_turn o separator) more 1 first >>= give_string))) leads
+    (λ first. upward (join_turn o separator) (n - 1) 1 first >>= give_string))) leads)
 
 -- whether a string after a line is short enough
 not_over : (b : Bool) → not b ≡ true → b ≡ false

@@ -23,6 +23,7 @@ use Rattle.jl_state.specs.declared.act.Act.{Act}
 use Rattle.jl_state.specs.declared.state.State.{State}
 use Rattle.jl_algorithm.proofs.Chains.{bind_assoc, works_assoc}
 use Rattle.jl_lib_array.specs.inner.Rows.{close_gap, open_gap}
+use Rattle.jl_lib_array.proofs.Turns.{one_more}
 
 -- pop and shift of what has elements, and of what has none
 
@@ -32,8 +33,7 @@ pops_none s t a o n none leads = subst (λ m. Works s (pop_last o m) t a) (sym n
 
 pub pops_some : (s t : State) (a : Act) (o : ObjId) (n : ℕ) → (n ≡ 0 → ⊥)
     → Works s (get_index o (n - 1) >>= array_after (array.PopElement o (n - 1))) t a → Works s (pop_last o n) t a
-pops_some s t a o zero some leads = absurd (some refl)
-pops_some s t a o (suc last) some leads = leads
+pops_some s t a o n some leads = subst (λ m. Works s (pop_last o m) t a) (one_more n some) leads
 
 pub shifts_none : (s t : State) (a : Act) (o : ObjId) (n : ℕ) → n ≡ 0 → Works s (give_nothing o) t a
     → Works s (shift_first o n) t a
@@ -41,13 +41,12 @@ shifts_none s t a o n none leads = subst (λ m. Works s (shift_first o m) t a) (
 
 pub shifts_some : (s t : State) (a : Act) (o : ObjId) (n : ℕ) → (n ≡ 0 → ⊥)
     → Works s (get_index o 0 >>= array_after (array.ShiftFirst o (n - 1))) t a → Works s (shift_first o n) t a
-shifts_some s t a o zero some leads = absurd (some refl)
-shifts_some s t a o (suc last) some leads = leads
+shifts_some s t a o n some leads = subst (λ m. Works s (shift_first o m) t a) (one_more n some) leads
 
 -- each element but the first goes to the index before
 
-one_closer : (o : ObjId) (k : ℕ) → move_element o (k + 1) (k + 0) ≡ move_element o (k + 1) (k + 1 - 1)
-one_closer o k = ap (move_element o (k + 1)) (omega arith)
+before : (k : ℕ) → k + 0 ≡ k + 1 - 1
+before k = omega arith
 
 closer : (o : ObjId) (left k : ℕ)
     → upward (λ i _. move_element o (i + 1) (i + 0)) left k tt
@@ -55,7 +54,7 @@ closer : (o : ObjId) (left k : ℕ)
 closer o zero k = refl
 closer o (suc left) k =
     ap (λ (p : Algorithm (Unit {0})). Step (p >>= λ _. upward (λ i _. move_element o (i + 1) (i + 0)) left (k + 1) tt))
-    (one_closer o k)
+    (ap (move_element o (k + 1)) (before k))
     ∙ ap (λ (p : Algorithm (Unit {0})). Step (move_element o (k + 1) (k + 1 - 1) >>= λ _. p)) (closer o left (k + 1))
 
 pub shifts : (s t : State) (a : Act) (o : ObjId) (last : ℕ) (first : Value)
@@ -67,12 +66,18 @@ shifts s t a o last first leads =
 
 -- unshift: each element goes up by as many as come
 
+from_zero : (k : ℕ) → 0 + k ≡ k
+from_zero k = omega arith
+
+after : (n k : ℕ) → n + k ≡ k + n
+after n k = omega arith
+
 added : (o : ObjId) (n left : ℕ)
     → downward (λ k _. move_element o (0 + k) (n + k)) left tt ≡ downward (λ k _. move_element o k (k + n)) left tt
 added o n left = ap (λ (f : ℕ → Unit {0} → Algorithm (Unit {0})). downward f left tt) (fun_ext (λ k. fun_ext (λ _. one k)))
   where
     one : (k : ℕ) → move_element o (0 + k) (n + k) ≡ move_element o k (k + n)
-    one k = ap (λ i. move_element o i (n + k)) (omega arith) ∙ ap (move_element o k) (omega arith)
+    one k = ap (λ i. move_element o i (n + k)) (from_zero k) ∙ ap (move_element o k) (after n k)
 
 pub unshifts : (s t : State) (a : Act) (o : ObjId) (args : List Value) (len n m : ℕ) → n ≡ length args
     → m ≡ len + n
@@ -137,6 +142,9 @@ closes s t a x n left as_many as_left leads =
     (subst (λ m. Works s (upward (λ k _. move_element x.object (k + x.removed) (k + m)) left x.start tt
     >>= λ _. after_moving x.object (moved.Delete x)) t a) as_many leads))
 
+within : (start n k : ℕ) → start + n + k ≡ start + k + n
+within start n k = omega arith
+
 above : (o : ObjId) (start removed n left : ℕ)
     → downward (λ k _. move_element o (start + removed + k) (start + n + k)) left tt
     ≡ downward (λ k _. move_element o (start + k + removed) (start + k + n)) left tt
@@ -146,8 +154,8 @@ above o start removed n left =
     one : (k : ℕ)
         → move_element o (start + removed + k) (start + n + k) ≡ move_element o (start + k + removed) (start + k + n)
     one k =
-        ap (λ i. move_element o i (start + n + k)) (omega arith)
-        ∙ ap (move_element o (start + k + removed)) (omega arith)
+        ap (λ i. move_element o i (start + n + k)) (within start removed k)
+        ∙ ap (move_element o (start + k + removed)) (within start n k)
 
 pub opens : (s t : State) (a : Act) (x : Splicing) (from to left : ℕ) → from ≡ x.start + x.removed
     → to ≡ x.start + length x.items → left ≡ x.length - x.removed - x.start

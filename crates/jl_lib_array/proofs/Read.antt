@@ -26,7 +26,7 @@ key_there (value.Text x) k e = sym (bind_assoc (to_string (value.Text x)) (λ x.
 key_there (value.Obj id) k e = sym (bind_assoc (to_string (value.Obj id)) (λ x. give (Some x)) k)
 
 module _ (s t : State) (a : Act) (r : Reading) (read : List KeyedValue) (v : Value) where
-  with_key : Option (List ℕ) → Algorithm (List KeyedValue)
+  abbrev with_key : Option (List ℕ) → Algorithm (List KeyedValue)
   with_key key = give (read ++ (key, v) ∷ [])
 
   -- the element is converted, which isn't undefined

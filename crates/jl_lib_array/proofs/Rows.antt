@@ -76,8 +76,8 @@ module _ (names : FunctionNames) (c : Call) where
       let there : (row - 30) + 30 ≡ row = omega (arith, belongs.0) in
       subst (λ r. Works s (builtin names r c) t a) there
       (subst (λ p. Works s p t a)
-      (sym (row_is (row - 30) (omega (arith, belongs.0, belongs.1.0)) (λ e. no_locale (omega (arith, e, belongs.0)))
-      (λ e. belongs.1.1 (omega (arith, e, belongs.0))) (λ e. plain (omega (arith, e, belongs.0)))))
+      (sym (row_is (row - 30) (omega (arith, belongs.0, belongs.1)) (λ e. no_locale (omega (arith, e, belongs.0)))
+      (λ e. belongs.2 (omega (arith, e, belongs.0))) (λ e. plain (omega (arith, e, belongs.0)))))
       (subst (λ r. Works s (on_object r) t a) (sym there) leads))
 
   pub no_locale : (s : State) (row : ℕ) → row ≡ 31

@@ -1,5 +1,5 @@
 -- Turns of loops: what is left where a step is taken, where none is left, and after the last turn.
-use Rattle.std.proofs.Common.{◌≡◌, ◌+◌, ◌-◌, ◌∷◌, [], refl, subst, suc, sym, zero, List, ℕ}
+use Rattle.std.proofs.Common.{◌≡◌, ◌+◌, ◌-◌, ◌∷◌, [], arith, refl, subst, suc, sym, zero, List, ℕ}
 use Rattle.jl_value.specs.declared.object.ObjId.{ObjId}
 use Rattle.jl_value.specs.declared.value.Value.{Value}
 use Rattle.jl_value.specs.declared.value.Value.TheVariants as value
@@ -20,6 +20,10 @@ use Rattle.jl_state.specs.declared.algorithm_frame.AlgorithmFrame.TheVariants as
 use Rattle.jl_state.specs.declared.state.State.{State}
 use Rattle.jl_algorithm.proofs.Chains.{bind_assoc, works_assoc}
 
+pub one_more : (n : ℕ) → (n ≡ 0 → ⊥) → suc (n - 1) ≡ n
+one_more zero some = absurd (some refl)
+one_more (suc n) some = omega arith
+
 -- a value is put, and then a turn begins
 pub puts_then : (s t u : State) (a : Act) (o : ObjId) (i : ℕ) (v : Value) (p : ArrayProgress)
     → AlgorithmWaits s (algorithm.Builtin (progress.Array p)) t
@@ -38,10 +42,10 @@ module _ {A : Type 0} (s u : State) (a : Act) (turn : ℕ → A → Algorithm A)
   pub upward_takes : (t : State) (left k : ℕ) (x : A) → (left ≡ 0 → ⊥) → Took s t
       → Works t (turn k x >>= λ b. upward turn (left - 1) (k + 1) b >>= l) u a
       → Works s (upward turn left k x >>= l) u a
-  upward_takes t zero k x some took leads = absurd (some refl)
-  upward_takes t (suc left) k x some took leads =
-      took.works (turn k x >>= (λ b. upward turn left (k + 1) b) >>= l) u a
-      (works_assoc t (turn k x) (λ b. upward turn left (k + 1) b) l u a leads)
+  upward_takes t left k x some took leads =
+      subst (λ n. Works s (upward turn n k x >>= l) u a) (one_more left some)
+      (took.works (turn k x >>= (λ b. upward turn (left - 1) (k + 1) b) >>= l) u a
+      (works_assoc t (turn k x) (λ b. upward turn (left - 1) (k + 1) b) l u a leads))
 
   pub upward_spent : (left k : ℕ) (x : A) → (left ≡ 0 → ⊥) → u ≡ s → RanOut s
       → Works s (upward turn left k x >>= l) u act.Spent
@@ -58,10 +62,10 @@ module _ {A : Type 0} (s u : State) (a : Act) (turn : ℕ → A → Algorithm A)
   pub downward_takes : (t : State) (left : ℕ) (x : A) → (left ≡ 0 → ⊥) → Took s t
       → Works t (turn (left - 1) x >>= λ b. downward turn (left - 1) b >>= l) u a
       → Works s (downward turn left x >>= l) u a
-  downward_takes t zero x some took leads = absurd (some refl)
-  downward_takes t (suc left) x some took leads =
-      took.works (turn left x >>= (λ b. downward turn left b) >>= l) u a
-      (works_assoc t (turn left x) (λ b. downward turn left b) l u a leads)
+  downward_takes t left x some took leads =
+      subst (λ n. Works s (downward turn n x >>= l) u a) (one_more left some)
+      (took.works (turn (left - 1) x >>= (λ b. downward turn (left - 1) b) >>= l) u a
+      (works_assoc t (turn (left - 1) x) (λ b. downward turn (left - 1) b) l u a leads))
 
   pub downward_spent : (left : ℕ) (x : A) → (left ≡ 0 → ⊥) → u ≡ s → RanOut s
       → Works s (downward turn left x >>= l) u act.Spent

@@ -28,7 +28,7 @@ fn upper_of(reversing: &Reversing) -> usize
 
 /// The turn after a turn.
 fn turn_after(reversing: Reversing) -> Result<ArrayProgress, NoMemory>
-    ensures { IfOk result (λ progress. array_after progress value.Undefined
+    ensures turn { IfOk result (λ progress. array_after progress value.Undefined
         ≡ reverse_others reversing reversing.left (reversing.lower + 1)) }
     ensures low { IfOk result (λ progress. rank_array progress ≡ 6) }
 {
