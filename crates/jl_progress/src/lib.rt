@@ -15,11 +15,11 @@ pub use array::{
     AfterCopying, AfterMoving, AfterPutting, ArrayProgress, Copying, Joining, LengthFunction,
     Moving, Reading, Reversing, Splicing,
 };
-pub use array_call::ArrayCallProgress;
+pub use array_call::{ArrayCallProgress, Direction, LengthFor, Task, Walk, WalkFor};
 pub use error::ErrorProgress;
 pub use function::FunctionProgress;
-pub use global::GlobalProgress;
-pub use number::NumberProgress;
-pub use object::ObjectProgress;
+pub use global::{GlobalProgress, NumberTest};
+pub use number::{Extreme, NumberFunction, NumberProgress};
+pub use object::{DescriptorField, DescriptorUse, Integrity, NamedChange, ObjectProgress, OwnTest};
 pub use progress::Progress;
-pub use string::StringProgress;
+pub use string::{Cut, LetterCase, Search, StringMethod, StringProgress, UnitForm};
