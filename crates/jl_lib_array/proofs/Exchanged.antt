@@ -4,9 +4,11 @@ use mathlib.Core.Path.{fun_ext}
 use Rattle.std.specs.Prelude.{if◌then◌else◌}
 use Rattle.jl_value.specs.declared.object.ObjId.{ObjId}
 use Rattle.jl_value.specs.declared.value.Value.{Value}
+use Rattle.jl_value.specs.declared.value.Value.TheVariants as value
 use Rattle.jl_effects.specs.Effects.{Look}
 use Rattle.jl_meaning.specs.Parts.{give, look, ◌>>=◌, Algorithm}
 use Rattle.jl_meaning.specs.Store.{Store}
+use Rattle.jl_meaning.specs.builtins.Arguments.{give_object}
 use Rattle.jl_meaning.specs.builtins.ArrayChanges.{exchange, reverse_turn}
 use Rattle.jl_meaning.specs.builtins.Elements.{delete_index, get_index, has_index, put_index, put_or_delete}
 use Rattle.jl_meaning.specs.builtins.Turns.{upward}
@@ -14,9 +16,12 @@ use Rattle.jl_progress.specs.Arrays.{array_after, reverse_others, upper_of}
 use Rattle.jl_progress.specs.declared.array.ArrayProgress.TheVariants as array
 use Rattle.jl_progress.specs.declared.array.Reversing.{Reversing}
 use Rattle.jl_state.specs.Rest.{Works}
+use Rattle.jl_state.specs.Steps.{RanOut, Took}
 use Rattle.jl_state.specs.declared.act.Act.{Act}
+use Rattle.jl_state.specs.declared.act.Act.TheVariants as act
 use Rattle.jl_state.specs.declared.state.State.{State}
 use Rattle.jl_algorithm.proofs.Chains.{bind_assoc, works_assoc}
+use Rattle.jl_lib_array.proofs.Turns.{upward_ends, upward_spent, upward_takes}
 
 module _ (o : ObjId) (lower upper : ℕ) (k : Unit {0} → Algorithm Value) where
   abbrev looked : Value → Value → Algorithm (Unit {0})
@@ -95,3 +100,28 @@ module _ (s t : State) (a : Act) (r : Reversing) (low high : Value) (has_low has
       exchanges
       (subst (λ b. Works s (exchange r.object r.lower (upper_of r) low high has_low b >>= rest) t a) (sym missing)
       (subst (λ b. Works s (exchange r.object r.lower (upper_of r) low high b false >>= rest) t a) (sym none) leads))
+
+-- turns in which two elements change places
+
+module _ (s u : State) (a : Act) (r : Reversing) where
+  abbrev turn : ℕ → Unit {0} → Algorithm (Unit {0})
+  turn k _ = reverse_turn r.object k (r.length - k - 1)
+
+  abbrev given : Unit {0} → Algorithm Value
+  given _ = give_object r.object
+
+  pub reverses_end : r.left ≡ 0
+      → Works s (reverse_others r r.left r.lower) s (act.Give (value.Obj r.object))
+  reverses_end none =
+      upward_ends s s (act.Give (value.Obj r.object)) turn given r.left r.lower tt none
+      (record { is = λ kept told. refl })
+
+  pub reverses_spent : (r.left ≡ 0 → ⊥) → u ≡ s → RanOut s
+      → Works s (reverse_others r r.left r.lower) u act.Spent
+  reverses_spent some same spent = upward_spent s u a turn given r.left r.lower tt some same spent
+
+  pub reverses_take : (t : State) → (r.left ≡ 0 → ⊥) → Took s t
+      → Works t (get_index r.object r.lower >>= array_after (array.ReverseLower (record r { left = r.left - 1 }))) u a
+      → Works s (reverse_others r r.left r.lower) u a
+  reverses_take t some took leads =
+      upward_takes s u a turn given t r.left r.lower tt some took (reverses t u a r r.lower (r.left - 1) leads)

@@ -25,12 +25,13 @@ use Rattle.jl_progress.specs.declared.array.ArrayProgress.TheVariants as array
 use Rattle.jl_progress.specs.declared.array.Joining.{Joining}
 use Rattle.jl_progress.specs.declared.array.LengthFunction.TheVariants as for_length
 use Rattle.jl_state.specs.Rest.{Works}
+use Rattle.jl_state.specs.Steps.{RanOut, Took}
 use Rattle.jl_state.specs.declared.act.Act.{Act}
 use Rattle.jl_state.specs.declared.act.Act.TheVariants as act
 use Rattle.jl_state.specs.declared.state.State.{State}
 use Rattle.jl_algorithm.proofs.Chains.{bind_assoc}
 use Rattle.jl_lib_array.proofs.Converted.{string_converts}
-use Rattle.jl_lib_array.proofs.Turns.{one_more}
+use Rattle.jl_lib_array.proofs.Turns.{one_more, upward_ends, upward_spent, upward_takes}
 
 -- a string that is short enough
 abbrev pub IsWithin : List ℕ → Type 0
@@ -238,3 +239,24 @@ module _ (s t : State) (a : Act) (o : ObjId) (args : List Value) (length : ℕ) 
       subst (λ w. Works s (separator_of w >>= join_elements o length) t a) is
       (subst (λ p. Works s p t a)
       (string_converts v (join_elements o length) ∙ separator_there v (join_elements o length) there) leads)
+
+-- turns in which an element is joined
+
+module _ (s u : State) (a : Act) (j : Joining) (line : List ℕ) where
+  abbrev turns : List ℕ → Algorithm Value
+  turns x = string_within x >>= give_string
+
+  pub joins_end : j.left ≡ 0 → Works s (string_within line >>= give_string) u a → Works s (join_others j line) u a
+  joins_end none leads = upward_ends s u a (join_turn j.object j.separator) turns j.left j.k line none leads
+
+  pub joins_spent : (j.left ≡ 0 → ⊥) → u ≡ s → RanOut s → Works s (join_others j line) u act.Spent
+  joins_spent some same spent =
+      upward_spent s u a (join_turn j.object j.separator) turns j.left j.k line some same spent
+
+  pub joins_take : (t : State) (k : ℕ) → (j.left ≡ 0 → ⊥) → Took s t → k ≡ j.k + 1
+      → Works t (join_turn j.object j.separator j.k line >>= join_others (record j { left = j.left - 1; k = k })) u a
+      → Works s (join_others j line) u a
+  joins_take t k some took more leads =
+      upward_takes s u a (join_turn j.object j.separator) turns t j.left j.k line some took
+      (subst (λ i. Works t (join_turn j.object j.separator j.k line
+      >>= join_others (record j { left = j.left - 1; k = i })) u a) more leads)

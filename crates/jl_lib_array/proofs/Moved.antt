@@ -8,10 +8,12 @@ use Rattle.jl_value.specs.declared.value.Value.{Value}
 use Rattle.jl_effects.specs.Effects.{Step}
 use Rattle.jl_meaning.specs.Parts.{give, ◌>>=◌, Algorithm}
 use Rattle.jl_meaning.specs.builtins.ArrayChanges.{give_nothing, make_room, pop_last, shift_first}
-use Rattle.jl_meaning.specs.builtins.Elements.{delete_index, get_index, move_element}
+use Rattle.jl_meaning.specs.builtins.Elements.{delete_index, get_index, has_index, move_element, put_index}
+use Rattle.jl_meaning.specs.builtins.Elements.{put_or_delete}
 use Rattle.jl_meaning.specs.builtins.Turns.{downward, upward}
 use Rattle.jl_progress.specs.Arrays.{after_moving, array_after, length_spliced, move_down, move_up, put_items, put_others}
 use Rattle.jl_progress.specs.Arrays.{splice_others, with_length, without_last}
+use Rattle.jl_progress.specs.declared.array.AfterMoving.{AfterMoving}
 use Rattle.jl_progress.specs.declared.array.AfterMoving.TheVariants as moved
 use Rattle.jl_progress.specs.declared.array.AfterPutting.TheVariants as put
 use Rattle.jl_progress.specs.declared.array.ArrayProgress.TheVariants as array
@@ -19,11 +21,15 @@ use Rattle.jl_progress.specs.declared.array.LengthFunction.TheVariants as for_le
 use Rattle.jl_progress.specs.declared.array.Moving.{Moving}
 use Rattle.jl_progress.specs.declared.array.Splicing.{Splicing}
 use Rattle.jl_state.specs.Rest.{Works}
+use Rattle.jl_state.specs.Steps.{RanOut, Took}
 use Rattle.jl_state.specs.declared.act.Act.{Act}
+use Rattle.jl_state.specs.declared.act.Act.TheVariants as act
 use Rattle.jl_state.specs.declared.state.State.{State}
 use Rattle.jl_algorithm.proofs.Chains.{bind_assoc, works_assoc}
 use Rattle.jl_lib_array.specs.inner.Rows.{close_gap, open_gap}
-use Rattle.jl_lib_array.proofs.Turns.{one_more}
+use Rattle.jl_lib_array.proofs.Found.{element_missing, element_there}
+use Rattle.jl_lib_array.proofs.Turns.{downward_ends, downward_spent, downward_takes, one_more, upward_ends, upward_spent}
+use Rattle.jl_lib_array.proofs.Turns.{upward_takes}
 
 -- pop and shift of what has elements, and of what has none
 
@@ -171,3 +177,96 @@ opens s t a x from to left is_from is_to as_left leads =
   where
     turns : ℕ → ℕ → ℕ → Algorithm Value
     turns i j l = downward (λ k _. move_element x.object (i + k) (j + k)) l tt >>= λ _. put_items x
+
+-- turns in which an element is moved
+
+module _ (s u : State) (a : Act) (m : Moving) (next : AfterMoving) where
+  abbrev then_next : Unit {0} → Algorithm Value
+  then_next _ = after_moving m.object next
+
+  abbrev turn_up : ℕ → Unit {0} → Algorithm (Unit {0})
+  turn_up k _ = move_element m.object (k + m.from) (k + m.to)
+
+  abbrev others_up : (left k : ℕ) → Algorithm Value
+  others_up left k = move_up m left k >>= then_next
+
+  abbrev turn_down : ℕ → Unit {0} → Algorithm (Unit {0})
+  turn_down k _ = move_element m.object (m.from + k) (m.to + k)
+
+  abbrev others_down : (left : ℕ) → Algorithm Value
+  others_down left = move_down m left >>= then_next
+
+  pub moves_up_end : (k : ℕ) → m.left ≡ 0 → Works s (after_moving m.object next) u a → Works s (others_up m.left k) u a
+  moves_up_end k none leads = upward_ends s u a turn_up then_next m.left k tt none leads
+
+  pub moves_up_spent : (k : ℕ) → (m.left ≡ 0 → ⊥) → u ≡ s → RanOut s → Works s (others_up m.left k) u act.Spent
+  moves_up_spent k some same spent = upward_spent s u a turn_up then_next m.left k tt some same spent
+
+  pub moves_up_take : (t : State) (k : ℕ) → (m.left ≡ 0 → ⊥) → Took s t
+      → Works t (move_element m.object (k + m.from) (k + m.to) >>= λ _. others_up (m.left - 1) (k + 1)) u a
+      → Works s (others_up m.left k) u a
+  moves_up_take t k some took leads = upward_takes s u a turn_up then_next t m.left k tt some took leads
+
+  pub moves_down_end : m.left ≡ 0 → Works s (after_moving m.object next) u a → Works s (others_down m.left) u a
+  moves_down_end none leads = downward_ends s u a turn_down then_next m.left tt none leads
+
+  pub moves_down_spent : (m.left ≡ 0 → ⊥) → u ≡ s → RanOut s → Works s (others_down m.left) u act.Spent
+  moves_down_spent some same spent = downward_spent s u a turn_down then_next m.left tt some same spent
+
+  pub moves_down_take : (t : State) → (m.left ≡ 0 → ⊥) → Took s t
+      → Works t (move_element m.object (m.from + (m.left - 1)) (m.to + (m.left - 1)) >>= λ _. others_down (m.left - 1))
+      u a
+      → Works s (others_down m.left) u a
+  moves_down_take t some took leads = downward_takes s u a turn_down then_next t m.left tt some took leads
+
+  -- an element that is there is got, and then put
+
+  pub moves_up_there : (k i : ℕ) (b : Bool) → i ≡ k + m.from → b ≡ has_index s.store m.object i → b ≡ true
+      → Works s (get_index m.object i >>= array_after (array.MoveUpElement m k next)) u a
+      → Works s (move_element m.object (k + m.from) (k + m.to) >>= λ _. others_up m.left (k + 1)) u a
+  moves_up_there k i b is found there leads =
+      subst (λ j. Works s (move_element m.object j (k + m.to) >>= λ _. others_up m.left (k + 1)) u a) is
+      (element_there s u a m.object i (put_or_delete m.object (k + m.to)) (λ _. others_up m.left (k + 1)) b found there
+      leads)
+
+  pub moves_up_element : (k to after : ℕ) (v : Value) → to ≡ k + m.to → after ≡ k + 1
+      → Works s (put_index m.object to v >>= λ _. others_up m.left after) u a
+      → Works s (array_after (array.MoveUpElement m k next) v) u a
+  moves_up_element k to after v is more leads =
+      subst (λ j. Works s (put_index m.object j v >>= λ _. others_up m.left (k + 1)) u a) is
+      (subst (λ j. Works s (put_index m.object to v >>= λ _. others_up m.left j) u a) more leads)
+
+  pub moves_down_there : (i : ℕ) (b : Bool) → i ≡ m.from + m.left → b ≡ has_index s.store m.object i → b ≡ true
+      → Works s (get_index m.object i >>= array_after (array.MoveDownElement m next)) u a
+      → Works s (move_element m.object (m.from + m.left) (m.to + m.left) >>= λ _. others_down m.left) u a
+  moves_down_there i b is found there leads =
+      subst (λ j. Works s (move_element m.object j (m.to + m.left) >>= λ _. others_down m.left) u a) is
+      (element_there s u a m.object i (put_or_delete m.object (m.to + m.left)) (λ _. others_down m.left) b found there
+      leads)
+
+  pub moves_down_element : (to : ℕ) (v : Value) → to ≡ m.to + m.left
+      → Works s (put_index m.object to v >>= λ _. others_down m.left) u a
+      → Works s (array_after (array.MoveDownElement m next) v) u a
+  moves_down_element to v is leads =
+      subst (λ j. Works s (put_index m.object j v >>= λ _. others_down m.left) u a) is leads
+
+  -- where there is none, the other is deleted
+
+  pub moves_up_missing : (k i to after : ℕ) (b : Bool) → i ≡ k + m.from → b ≡ has_index s.store m.object i
+      → b ≡ false → to ≡ k + m.to → after ≡ k + 1
+      → Works s (delete_index m.object to >>= λ _. others_up m.left after) u a
+      → Works s (move_element m.object (k + m.from) (k + m.to) >>= λ _. others_up m.left (k + 1)) u a
+  moves_up_missing k i to after b is found missing is_to more leads =
+      subst (λ j. Works s (move_element m.object j (k + m.to) >>= λ _. others_up m.left (k + 1)) u a) is
+      (element_missing s u a m.object i (put_or_delete m.object (k + m.to)) (λ _. others_up m.left (k + 1)) b found
+      missing
+      (subst (λ j. Works s (delete_index m.object j >>= λ _. others_up m.left (k + 1)) u a) is_to
+      (subst (λ j. Works s (delete_index m.object to >>= λ _. others_up m.left j) u a) more leads)))
+
+  pub moves_down_missing : (i to : ℕ) (b : Bool) → i ≡ m.from + m.left → b ≡ has_index s.store m.object i
+      → b ≡ false → to ≡ m.to + m.left → Works s (delete_index m.object to >>= λ _. others_down m.left) u a
+      → Works s (move_element m.object (m.from + m.left) (m.to + m.left) >>= λ _. others_down m.left) u a
+  moves_down_missing i to b is found missing is_to leads =
+      subst (λ j. Works s (move_element m.object j (m.to + m.left) >>= λ _. others_down m.left) u a) is
+      (element_missing s u a m.object i (put_or_delete m.object (m.to + m.left)) (λ _. others_down m.left) b found
+      missing (subst (λ j. Works s (delete_index m.object j >>= λ _. others_down m.left) u a) is_to leads))

@@ -97,7 +97,6 @@ pub(crate) fn string_for<'p>(
 }
 
 /// An element is put, and then the next turn begins.
-#[tactic(auto, using(crate::proofs::Turns::puts_then))]
 pub(crate) fn put_then<'p>(
     alloc: Global,
     state: &mut State<'p>,
