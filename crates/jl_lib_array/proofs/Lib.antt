@@ -9,6 +9,7 @@ pub mod Moved
 pub mod Orders
 pub mod PutLengths
 pub mod Read
+pub mod Spliced
 pub mod Stable
 pub mod Starts
 pub mod Stored
