@@ -1,5 +1,6 @@
 -- `concat`: items that are appended.
-use Rattle.std.proofs.Common.{◌≡◌, ◌∙◌, ◌+◌, ◌++◌, ◌∷◌, [], ap, codes, drop, false, refl, subst, sym, true, Bool, List, ℕ}
+use Rattle.std.proofs.Common.{◌≡◌, ◌∙◌, ◌+◌, ◌++◌, ◌∷◌, [], ap, codes, drop, false, refl, subst, sym, true, Bool}
+use Rattle.std.proofs.Common.{List, ℕ}
 use mathlib.Core.Path.{fun_ext}
 use Rattle.jl_value.specs.declared.object.ObjId.{ObjId}
 use Rattle.jl_value.specs.declared.value.Value.{Value}

@@ -1,5 +1,6 @@
 -- Values that are converted, and then gone on with.
-use Rattle.std.proofs.Common.{◌≡◌, ◌∙◌, ap, codes, false, refl, subst, sym, true, Bool, List, None, Option, Some, ℕ, ℤ, []}
+use Rattle.std.proofs.Common.{◌≡◌, ◌∙◌, ap, codes, false, refl, subst, sym, true, Bool, List, None, Option, Some, ℕ}
+use Rattle.std.proofs.Common.{ℤ, []}
 use Rattle.jl_num.specs.Bits.{uint32_of}
 use Rattle.jl_num.specs.Number.{Number}
 use Rattle.jl_value.specs.declared.ending.Fault.TheVariants as fault
@@ -9,7 +10,8 @@ use Rattle.jl_value.specs.declared.value.Value.TheVariants as value
 use Rattle.jl_conv.specs.Conversions.{number_of_value, text_of_value}
 use Rattle.jl_heap.specs.Define.{length_name}
 use Rattle.jl_heap.specs.Objects.{Name}
-use Rattle.jl_meaning.specs.Conversions.{integer_of, number_hint, string_hint, to_integer, to_number, to_primitive, to_string}
+use Rattle.jl_meaning.specs.Conversions.{integer_of, number_hint, string_hint, to_integer, to_number, to_primitive}
+use Rattle.jl_meaning.specs.Conversions.{to_string}
 use Rattle.jl_meaning.specs.Conversions.{to_uint32}
 use Rattle.jl_meaning.specs.Getting.{get}
 use Rattle.jl_meaning.specs.Parts.{give, or_fault, ◌>>=◌, Algorithm, NumberOutside}

@@ -34,7 +34,8 @@ module _ (s u : State) (a : Act) (c : Copying) (next : AfterCopying) where
   copies_spent some same spent = upward_spent s u a turn then_next c.left c.k tt some same spent
 
   pub copies_take : (t : State) → (c.left ≡ 0 → ⊥) → Took s t
-      → Works t (copy_element c.object (c.start + c.k) c.array (c.first + c.k) >>= λ _. others (c.left - 1) (c.k + 1)) u a
+      → Works t (copy_element c.object (c.start + c.k) c.array (c.first + c.k)
+      >>= λ _. others (c.left - 1) (c.k + 1)) u a
       → Works s (others c.left c.k) u a
   copies_take t some took leads = upward_takes s u a turn then_next t c.left c.k tt some took leads
 
@@ -44,7 +45,8 @@ module _ (s u : State) (a : Act) (c : Copying) (next : AfterCopying) where
       → Works s (copy_element c.object (c.start + c.k) c.array (c.first + c.k) >>= λ _. others c.left (c.k + 1)) u a
   copies_there i b is found there leads =
       subst (λ j. Works s (copy_element c.object j c.array (c.first + c.k) >>= λ _. others c.left (c.k + 1)) u a) is
-      (element_there s u a c.object i (add_if c.array (c.first + c.k)) (λ _. others c.left (c.k + 1)) b found there leads)
+      (element_there s u a c.object i (add_if c.array (c.first + c.k)) (λ _. others c.left (c.k + 1)) b found there
+      leads)
 
   -- and one that isn't is passed over
   pub copies_missing : (i k : ℕ) (b : Bool) → i ≡ c.start + c.k → b ≡ has_index s.store c.object i → b ≡ false

@@ -14,7 +14,8 @@ use Rattle.jl_state.specs.Steps.{RanOut, Took}
 use Rattle.jl_state.specs.declared.act.Act.{Act}
 use Rattle.jl_state.specs.declared.act.Act.TheVariants as act
 use Rattle.jl_state.specs.declared.state.State.{State}
-use Rattle.jl_lib_array.proofs.Turns.{downward_ends, downward_spent, downward_takes, upward_ends, upward_spent, upward_takes}
+use Rattle.jl_lib_array.proofs.Turns.{downward_ends, downward_spent, downward_takes, upward_ends, upward_spent}
+use Rattle.jl_lib_array.proofs.Turns.{upward_takes}
 
 -- up from an index, and then the object is given
 module _ (s u : State) (a : Act) (o : ObjId) (index left : ℕ) where

@@ -1,5 +1,6 @@
 -- `reverse`: two elements that change places.
-use Rattle.std.proofs.Common.{◌≡◌, ◌∙◌, ◌+◌, ◌-◌, ap, false, refl, subst, suc, sym, true, zero, Bool, None, Option, Some, ℕ}
+use Rattle.std.proofs.Common.{◌≡◌, ◌∙◌, ◌+◌, ◌-◌, ap, false, refl, subst, suc, sym, true, zero, Bool, None, Option}
+use Rattle.std.proofs.Common.{Some, ℕ}
 use mathlib.Core.Path.{fun_ext}
 use Rattle.std.specs.Prelude.{if◌then◌else◌}
 use Rattle.jl_value.specs.declared.object.ObjId.{ObjId}
@@ -53,53 +54,54 @@ reverses s t a r lower left leads =
 -- what is there of the two
 
 module _ (s t : State) (a : Act) (r : Reversing) (low high : Value) (has_low has_high : Bool)
-    (is_low : has_low ≡ has_index s.store r.object r.lower) (is_high : has_high ≡ has_index s.store r.object (upper_of r))
-    where
-  abbrev rest : Unit {0} → Algorithm Value
-  rest _ = reverse_others r r.left (r.lower + 1)
+    (is_low : has_low ≡ has_index s.store r.object r.lower)
+    (is_high : has_high ≡ has_index s.store r.object (upper_of r))
+  where
+    abbrev rest : Unit {0} → Algorithm Value
+    rest _ = reverse_others r r.left (r.lower + 1)
 
-  exchanges : Works s (exchange r.object r.lower (upper_of r) low high has_low has_high >>= rest) t a
-      → Works s (array_after (array.ReverseUpper r low) high) t a
-  exchanges leads =
-      let found =
-              subst (λ b. Works s (exchange r.object r.lower (upper_of r) low high (has_index s.store r.object r.lower) b
-              >>= rest) t a) is_high
-              (subst (λ b. Works s (exchange r.object r.lower (upper_of r) low high b has_high >>= rest) t a) is_low
-              leads)
-      in record { is = found.is }
+    exchanges : Works s (exchange r.object r.lower (upper_of r) low high has_low has_high >>= rest) t a
+        → Works s (array_after (array.ReverseUpper r low) high) t a
+    exchanges leads =
+        let found =
+        subst (λ b. Works s (exchange r.object r.lower (upper_of r) low high (has_index s.store r.object r.lower) b
+        >>= rest) t a) is_high
+        (subst (λ b. Works s (exchange r.object r.lower (upper_of r) low high b has_high >>= rest) t a) is_low
+        leads)
+        in record { is = found.is }
 
-  pub upper_there : has_high ≡ true → (kept : Option Value) → kept ≡ (if has_low then Some low else None)
-      → Works s (put_index r.object r.lower high >>= λ _. put_or_delete r.object (upper_of r) kept >>= rest) t a
-      → Works s (array_after (array.ReverseUpper r low) high) t a
-  upper_there there kept is leads =
-      exchanges
-      (subst (λ b. Works s (exchange r.object r.lower (upper_of r) low high has_low b >>= rest) t a) (sym there)
-      (subst (λ p. Works s p t a) (by has_low)
-      (subst (λ (l : Option Value). Works s (put_index r.object r.lower high
-      >>= λ _. put_or_delete r.object (upper_of r) l >>= rest) t a) is leads)))
-    where
-      by : (b : Bool)
-          → (put_index r.object r.lower high
-          >>= λ _. put_or_delete r.object (upper_of r) (if b then Some low else None) >>= rest)
-          ≡ (exchange r.object r.lower (upper_of r) low high b true >>= rest)
-      by true = sym (bind_assoc (put_index r.object r.lower high) (λ _. put_index r.object (upper_of r) low) rest)
-      by false = sym (bind_assoc (put_index r.object r.lower high) (λ _. delete_index r.object (upper_of r)) rest)
+    pub upper_there : has_high ≡ true → (kept : Option Value) → kept ≡ (if has_low then Some low else None)
+        → Works s (put_index r.object r.lower high >>= λ _. put_or_delete r.object (upper_of r) kept >>= rest) t a
+        → Works s (array_after (array.ReverseUpper r low) high) t a
+    upper_there there kept is leads =
+        exchanges
+        (subst (λ b. Works s (exchange r.object r.lower (upper_of r) low high has_low b >>= rest) t a) (sym there)
+        (subst (λ p. Works s p t a) (by has_low)
+        (subst (λ (l : Option Value). Works s (put_index r.object r.lower high
+        >>= λ _. put_or_delete r.object (upper_of r) l >>= rest) t a) is leads)))
+      where
+        by : (b : Bool)
+            → (put_index r.object r.lower high
+            >>= λ _. put_or_delete r.object (upper_of r) (if b then Some low else None) >>= rest)
+            ≡ (exchange r.object r.lower (upper_of r) low high b true >>= rest)
+        by true = sym (bind_assoc (put_index r.object r.lower high) (λ _. put_index r.object (upper_of r) low) rest)
+        by false = sym (bind_assoc (put_index r.object r.lower high) (λ _. delete_index r.object (upper_of r)) rest)
 
-  pub lower_there : has_high ≡ false → has_low ≡ true
-      → Works s (delete_index r.object r.lower >>= λ _. put_index r.object (upper_of r) low >>= rest) t a
-      → Works s (array_after (array.ReverseUpper r low) high) t a
-  lower_there missing there leads =
-      exchanges
-      (subst (λ b. Works s (exchange r.object r.lower (upper_of r) low high has_low b >>= rest) t a) (sym missing)
-      (subst (λ b. Works s (exchange r.object r.lower (upper_of r) low high b false >>= rest) t a) (sym there)
-      (works_assoc s (delete_index r.object r.lower) (λ _. put_index r.object (upper_of r) low) rest t a leads)))
+    pub lower_there : has_high ≡ false → has_low ≡ true
+        → Works s (delete_index r.object r.lower >>= λ _. put_index r.object (upper_of r) low >>= rest) t a
+        → Works s (array_after (array.ReverseUpper r low) high) t a
+    lower_there missing there leads =
+        exchanges
+        (subst (λ b. Works s (exchange r.object r.lower (upper_of r) low high has_low b >>= rest) t a) (sym missing)
+        (subst (λ b. Works s (exchange r.object r.lower (upper_of r) low high b false >>= rest) t a) (sym there)
+        (works_assoc s (delete_index r.object r.lower) (λ _. put_index r.object (upper_of r) low) rest t a leads)))
 
-  pub none_there : has_high ≡ false → has_low ≡ false → Works s (rest tt) t a
-      → Works s (array_after (array.ReverseUpper r low) high) t a
-  none_there missing none leads =
-      exchanges
-      (subst (λ b. Works s (exchange r.object r.lower (upper_of r) low high has_low b >>= rest) t a) (sym missing)
-      (subst (λ b. Works s (exchange r.object r.lower (upper_of r) low high b false >>= rest) t a) (sym none) leads))
+    pub none_there : has_high ≡ false → has_low ≡ false → Works s (rest tt) t a
+        → Works s (array_after (array.ReverseUpper r low) high) t a
+    none_there missing none leads =
+        exchanges
+        (subst (λ b. Works s (exchange r.object r.lower (upper_of r) low high has_low b >>= rest) t a) (sym missing)
+        (subst (λ b. Works s (exchange r.object r.lower (upper_of r) low high b false >>= rest) t a) (sym none) leads))
 
 -- turns in which two elements change places
 

@@ -1,5 +1,6 @@
 -- `join`: lines that are within the length of a string.
-use Rattle.std.proofs.Common.{◌≡◌, ◌∙◌, ◌+◌, ◌++◌, ◌-◌, ◌≤◌, [], ap, arith, codes, false, length, not, refl, subst, suc, sym, true}
+use Rattle.std.proofs.Common.{◌≡◌, ◌∙◌, ◌+◌, ◌++◌, ◌-◌, ◌≤◌, [], ap, arith, codes, false, length, not, refl, subst}
+use Rattle.std.proofs.Common.{suc, sym, true}
 use Rattle.std.proofs.Common.{zero, Bool, List, ℕ}
 use mathlib.Core.Path.{fun_ext}
 use Rattle.std.specs.Prelude.{if◌then◌else◌, nat_lt, slice_index_or}

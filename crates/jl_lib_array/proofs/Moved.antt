@@ -1,5 +1,6 @@
 -- Elements that are moved: `shift`, `unshift` and `splice` as moves from one index on to another.
-use Rattle.std.proofs.Common.{◌≡◌, ◌∙◌, ◌+◌, ◌-◌, ◌<◌, ◌≤◌, ap, arith, false, length, refl, subst, suc, sym, true, zero, List, ℕ}
+use Rattle.std.proofs.Common.{◌≡◌, ◌∙◌, ◌+◌, ◌-◌, ◌<◌, ◌≤◌, ap, arith, false, length, refl, subst, suc, sym, true}
+use Rattle.std.proofs.Common.{zero, List, ℕ}
 use mathlib.Core.Path.{fun_ext}
 use Rattle.std.specs.Prelude.{if◌then◌else◌, nat_lt, Bool}
 use Rattle.std.proofs.lemmas.Bool.{le-ltb, lt-ltb}
@@ -11,7 +12,8 @@ use Rattle.jl_meaning.specs.builtins.ArrayChanges.{give_nothing, make_room, pop_
 use Rattle.jl_meaning.specs.builtins.Elements.{delete_index, get_index, has_index, move_element, put_index}
 use Rattle.jl_meaning.specs.builtins.Elements.{put_or_delete}
 use Rattle.jl_meaning.specs.builtins.Turns.{downward, upward}
-use Rattle.jl_progress.specs.Arrays.{after_moving, array_after, length_spliced, move_down, move_up, put_items, put_others}
+use Rattle.jl_progress.specs.Arrays.{after_moving, array_after, length_spliced, move_down, move_up, put_items}
+use Rattle.jl_progress.specs.Arrays.{put_others}
 use Rattle.jl_progress.specs.Arrays.{splice_others, with_length, without_last}
 use Rattle.jl_progress.specs.declared.array.AfterMoving.{AfterMoving}
 use Rattle.jl_progress.specs.declared.array.AfterMoving.TheVariants as moved
@@ -28,7 +30,8 @@ use Rattle.jl_state.specs.declared.state.State.{State}
 use Rattle.jl_algorithm.proofs.Chains.{bind_assoc, works_assoc}
 use Rattle.jl_lib_array.specs.inner.Rows.{close_gap, open_gap}
 use Rattle.jl_lib_array.proofs.Found.{element_missing, element_there}
-use Rattle.jl_lib_array.proofs.Turns.{downward_ends, downward_spent, downward_takes, one_more, upward_ends, upward_spent}
+use Rattle.jl_lib_array.proofs.Turns.{downward_ends, downward_spent, downward_takes, one_more, upward_ends}
+use Rattle.jl_lib_array.proofs.Turns.{upward_spent}
 use Rattle.jl_lib_array.proofs.Turns.{upward_takes}
 
 -- pop and shift of what has elements, and of what has none
@@ -80,7 +83,8 @@ after n k = omega arith
 
 added : (o : ObjId) (n left : ℕ)
     → downward (λ k _. move_element o (0 + k) (n + k)) left tt ≡ downward (λ k _. move_element o k (k + n)) left tt
-added o n left = ap (λ (f : ℕ → Unit {0} → Algorithm (Unit {0})). downward f left tt) (fun_ext (λ k. fun_ext (λ _. one k)))
+added o n left =
+    ap (λ (f : ℕ → Unit {0} → Algorithm (Unit {0})). downward f left tt) (fun_ext (λ k. fun_ext (λ _. one k)))
   where
     one : (k : ℕ) → move_element o (0 + k) (n + k) ≡ move_element o k (k + n)
     one k = ap (λ i. move_element o i (n + k)) (from_zero k) ∙ ap (move_element o k) (after n k)

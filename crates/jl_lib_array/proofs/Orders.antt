@@ -1,5 +1,6 @@
 -- The order in which `sort` puts elements.
-use Rattle.std.proofs.Common.{◌≡◌, ◌∙◌, ◌∷◌, [], ap, cond, refl, sym, subst, false, true, Bool, List, None, Option, Some, ℕ}
+use Rattle.std.proofs.Common.{◌≡◌, ◌∙◌, ◌∷◌, [], ap, cond, refl, sym, subst, false, true, Bool, List, None, Option}
+use Rattle.std.proofs.Common.{Some, ℕ}
 use mathlib.Core.Path.{fun_ext}
 use Rattle.std.specs.Prelude.{if◌then◌else◌}
 use Rattle.std.specs.Cmp.{IsStrictWeakOrder}

@@ -1,5 +1,6 @@
 -- A list has one stable order by a test that ranks its elements.
-use Rattle.std.proofs.Common.{◌≡◌, ◌∙◌, ◌∷◌, ◌<◌, ◌≤◌, [], ap, arith, cond, refl, sym, subst, false, true, length, suc, Bool, List, ℕ}
+use Rattle.std.proofs.Common.{◌≡◌, ◌∙◌, ◌∷◌, ◌<◌, ◌≤◌, [], ap, arith, cond, refl, sym, subst, false, true, length}
+use Rattle.std.proofs.Common.{suc, Bool, List, ℕ}
 use Rattle.std.specs.Prelude.{get_or, not, ◌&&◌}
 use Rattle.std.specs.Cmp.{IsStrictWeakOrder}
 use Rattle.std.specs.List.{filter}

@@ -159,7 +159,13 @@ pub(crate) fn join_turn_begins<'p>(
     }
     let left = joining.left - 1;
     let k = sum(joining.k, 1)?;
-    Ok(join_one(alloc, state, joining.k, Joining { left, k, ..joining }, line)?)
+    Ok(join_one(
+        alloc,
+        state,
+        joining.k,
+        Joining { left, k, ..joining },
+        line,
+    )?)
 }
 
 /// The separator and the element at an index come last in a line, and then those that are left.

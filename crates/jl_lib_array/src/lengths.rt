@@ -135,11 +135,7 @@ fn push<'p>(
 }
 
 /// `reverse` of an object with this length (15.4.4.8).
-fn reverse<'p>(
-    state: &mut State<'p>,
-    object: ObjId,
-    length: usize,
-) -> Result<Act<'p>, NoMemory>
+fn reverse<'p>(state: &mut State<'p>, object: ObjId, length: usize) -> Result<Act<'p>, NoMemory>
     ensures leads { IfOk result (λ act. (args : List AnyValue) → Works state.old
         (with_length LengthFunction.Reverse object args length) state.new act) }
     ensures falls { IfOk result (λ act. Falls state.old 144 state.new act) }

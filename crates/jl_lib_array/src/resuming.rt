@@ -12,9 +12,7 @@ use crate::joining::{
     step_join_first_primitive, step_join_separator,
 };
 use crate::lengths::{step_length, step_length_primitive};
-use crate::moving::{
-    move_down_turn, move_up_turn, step_move_down_element, step_move_up_element,
-};
+use crate::moving::{move_down_turn, move_up_turn, step_move_down_element, step_move_up_element};
 use crate::putting::put_turn;
 use crate::reversing::{
     reverse_turn, step_reverse_exchange, step_reverse_lower, step_reverse_upper,
@@ -41,18 +39,29 @@ pub fn resume<'p>(
 {
     match progress {
         ArrayProgress::Join { object } => Ok(step_join_property(alloc, state, object, &v)?),
-        ArrayProgress::Length { function, object, args } => {
-            Ok(step_length(alloc, state, function, object, args, v)?)
-        }
-        ArrayProgress::LengthPrimitive { function, object, args } => {
-            Ok(step_length_primitive(alloc, state, function, object, args, &v)?)
-        }
-        ArrayProgress::ConcatItem { array, next, items, from } => {
-            Ok(append_items(alloc, state, array, next, items, from)?)
-        }
-        ArrayProgress::ConcatLength { array, next, item, items, from } => {
-            Ok(step_concat_length(state, array, next, item, items, from, &v)?)
-        }
+        ArrayProgress::Length {
+            function,
+            object,
+            args,
+        } => { Ok(step_length(alloc, state, function, object, args, v)?) }
+        ArrayProgress::LengthPrimitive {
+            function,
+            object,
+            args,
+        } => { Ok(step_length_primitive(alloc, state, function, object, args, &v)?) }
+        ArrayProgress::ConcatItem {
+            array,
+            next,
+            items,
+            from,
+        } => { Ok(append_items(alloc, state, array, next, items, from)?) }
+        ArrayProgress::ConcatLength {
+            array,
+            next,
+            item,
+            items,
+            from,
+        } => { Ok(step_concat_length(state, array, next, item, items, from, &v)?) }
         ArrayProgress::CopyTurn { copying, then } => Ok(copy_turn(alloc, state, copying, then)?),
         ArrayProgress::CopyElement { copying, then } => {
             Ok(step_copy_element(alloc, state, copying, then, v)?)
@@ -76,9 +85,13 @@ pub fn resume<'p>(
         ArrayProgress::PopElement { object, last } => {
             Ok(without_last(alloc, state, object, last, v)?)
         }
-        ArrayProgress::PutTurn { object, index, values, from, then } => {
-            Ok(put_turn(alloc, state, object, index, values, from, then)?)
-        }
+        ArrayProgress::PutTurn {
+            object,
+            index,
+            values,
+            from,
+            then,
+        } => { Ok(put_turn(alloc, state, object, index, values, from, then)?) }
         ArrayProgress::ReverseTurn { reversing } => Ok(reverse_turn(alloc, state, reversing)?),
         ArrayProgress::ReverseLower { reversing } => {
             Ok(step_reverse_lower(alloc, state, reversing, v)?)
@@ -108,16 +121,29 @@ pub fn resume<'p>(
         ArrayProgress::SortElement { reading, read } => {
             Ok(step_sort_element(alloc, state, reading, read, v)?)
         }
-        ArrayProgress::SortPrimitive { reading, read, element } => {
-            Ok(step_sort_primitive(alloc, state, reading, read, element, &v)?)
-        }
-        ArrayProgress::DeleteUp { object, index, left } => {
-            Ok(delete_up_turn(alloc, state, object, index, left)?)
-        }
-        ArrayProgress::SpliceStart { object, array, length, args } => {
-            Ok(step_splice_start(alloc, state, object, array, length, args, &v)?)
-        }
-        ArrayProgress::SpliceCount { object, array, length, start, args } => {
+        ArrayProgress::SortPrimitive {
+            reading,
+            read,
+            element,
+        } => { Ok(step_sort_primitive(alloc, state, reading, read, element, &v)?) }
+        ArrayProgress::DeleteUp {
+            object,
+            index,
+            left,
+        } => { Ok(delete_up_turn(alloc, state, object, index, left)?) }
+        ArrayProgress::SpliceStart {
+            object,
+            array,
+            length,
+            args,
+        } => { Ok(step_splice_start(alloc, state, object, array, length, args, &v)?) }
+        ArrayProgress::SpliceCount {
+            object,
+            array,
+            length,
+            start,
+            args,
+        } => {
             Ok(step_splice_count(alloc, state, object, array, length, start, args.items(), &v)?)
         }
         ArrayProgress::DeleteDown { splicing, left } => {

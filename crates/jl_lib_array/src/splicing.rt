@@ -10,7 +10,8 @@ ghost use Rattle.jl_state.specs.Rest.{Works};
 use crate::frames::{begin_turn, number_for, sum};
 use jl_builtin::{argument, clamped, number_of_primitive, relative_index, rest_of};
 use jl_progress::{
-    AfterCopying, AfterMoving, AfterPutting, ArrayProgress, Copying, LengthFunction, Moving, Splicing,
+    AfterCopying, AfterMoving, AfterPutting, ArrayProgress, Copying, LengthFunction, Moving,
+    Splicing,
 };
 use jl_state::{Act, State};
 use jl_text::{List, NoMemory};
@@ -189,10 +190,7 @@ fn move_apart<'p>(state: &mut State<'p>, splicing: Splicing) -> Result<Act<'p>, 
 }
 
 /// The elements that come are put, one a turn, and then the length.
-pub(crate) fn put_items<'p>(
-    state: &mut State<'p>,
-    splicing: Splicing,
-) -> Result<Act<'p>, NoMemory>
+pub(crate) fn put_items<'p>(state: &mut State<'p>, splicing: Splicing) -> Result<Act<'p>, NoMemory>
     ensures leads { IfOk result (λ act. Works state.old (put_items splicing) state.new act) }
     ensures falls { IfOk result (λ act. Falls state.old 54 state.new act) }
 {
