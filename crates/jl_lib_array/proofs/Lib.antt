@@ -14,3 +14,4 @@ pub mod Stable
 pub mod Starts
 pub mod Stored
 pub mod Turns
+pub mod Waiting
