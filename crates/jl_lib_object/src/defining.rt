@@ -1,16 +1,18 @@
 //! `Object.defineProperty`, `Object.defineProperties` and `Object.create` (15.2.3.5 to 15.2.3.7).
-ghost use Rattle.std.specs.Prelude.{◌≡◌, ◌+◌, ◌++◌, ◌∷◌, [], drop, length, IfOk};
+ghost use Rattle.std.specs.Prelude.{◌≡◌, ◌+◌, ◌∷◌, [], drop, length, IfOk, MatchOption};
 ghost use Rattle.jl_conv.specs.Conversions.{text_of_value};
 ghost use Rattle.jl_effects.specs.Effects.{Step};
+ghost use Rattle.jl_effects.specs.Running.{Ends};
 ghost use Rattle.jl_heap.specs.Define.{IsOneKind};
-ghost use Rattle.jl_lib_object.specs.inner.Parts.{define_and_give, define_by, read_descriptor};
+ghost use Rattle.jl_heap.specs.declared.inner.Inner.TheVariants as inner;
+ghost use Rattle.jl_lib_object.specs.inner.Parts.{create_with, define_and_give, define_by, read_descriptor};
 ghost use Rattle.jl_meaning.specs.Conversions.{to_string};
-ghost use Rattle.jl_meaning.specs.Parts.{◌>>=◌ as ◌then◌};
-ghost use Rattle.jl_meaning.specs.builtins.Arguments.{argument, give_object, unless_undefined};
+ghost use Rattle.jl_meaning.specs.Parts.{gives, new_object, ◌>>=◌ as ◌then◌};
+ghost use Rattle.jl_meaning.specs.builtins.Arguments.{define_or_throw, give_object, unless_undefined};
 ghost use Rattle.jl_meaning.specs.builtins.Descriptors.{enumerable_names};
-ghost use Rattle.jl_meaning.specs.builtins.Object.{changes_of, define_all, define_each, need_prototype};
+ghost use Rattle.jl_meaning.specs.builtins.Object.{changes_of, define_all, need_prototype};
 ghost use Rattle.jl_meaning.specs.builtins.Object.{object_create, object_define_properties, object_define_property};
-ghost use Rattle.jl_progress.specs.Objects.{after_descriptor, object_after, rank_definitions, rank_object, rank_use};
+ghost use Rattle.jl_progress.specs.Objects.{after_descriptor, rank_definitions, rank_use};
 ghost use Rattle.jl_state.specs.Rank.{Falls};
 ghost use Rattle.jl_state.specs.Rest.{Works};
 ghost use Rattle.jl_state.specs.Words.{call_of};
@@ -132,7 +134,7 @@ pub(crate) fn step_descriptor<'p>(
     Ok(to_property_descriptor(alloc, state, v, purpose)?)
 }
 
-/// The change of a property at an index is done, and then those after it (15.2.3.7, step 6).
+/// The change at an index is done, and then those after it (15.2.3.7, step 6), and the object is given.
 pub(crate) fn define_from<'p>(
     alloc: Global,
     state: &mut State<'p>,
@@ -145,10 +147,26 @@ pub(crate) fn define_from<'p>(
     ensures falls { IfOk result (λ act. Falls state.old
         (rank_definitions (length (drop from changes)) + 2) state.new act) }
 {
-    let Some(named) = changes.items().get(from) else {
-        return Ok(Act::Give(Value::Obj(object)));
-    };
-    let name = named.name().share(alloc)?;
+    match change_from(alloc, changes.items(), from)? {
+        None => Ok(Act::Give(Value::Obj(object))),
+        Some((named, next)) => Ok(define_one(alloc, state, object, &named, changes, next)?),
+    }
+}
+
+/// A change is done, and those from an index on wait.
+fn define_one<'p>(
+    alloc: Global,
+    state: &mut State<'p>,
+    object: ObjId,
+    named: &NamedChange,
+    changes: List<NamedChange>,
+    from: usize,
+) -> Result<Act<'p>, NoMemory>
+    ensures leads { IfOk result (λ act. Works state.old (define_or_throw object named.now.0 named.now.1
+        then λ _. define_and_give object (drop from changes)) state.new act) }
+    ensures falls { IfOk result (λ act. Falls state.old
+        (rank_definitions (length (drop from changes)) + 40) state.new act) }
+{
     let change = copy_of(alloc, named.change())?;
     let purpose = WrittenBy::Builtin {
         gives: Value::Undefined,
@@ -158,10 +176,34 @@ pub(crate) fn define_from<'p>(
         ObjectProgress::Define {
             object,
             changes,
-            from: from + 1,
+            from,
         },
     )?;
-    Ok(define_own_property(alloc, state, object, &name, change, purpose)?)
+    Ok(define_own_property(alloc, state, object, named.name(), change, purpose)?)
+}
+
+/// The change at an index and the next index, if there is one.
+fn change_from(
+    alloc: Global,
+    changes: &[NamedChange],
+    at: usize,
+) -> Result<Option<(NamedChange, usize)>, NoMemory>
+    ensures { IfOk result (λ found. MatchOption found (drop at changes.now ≡ [])
+        (λ r. drop at changes.now ≡ r.0 ∷ drop r.1 changes.now)) }
+{
+    match changes.get(at) {
+        None => Ok(None),
+        Some(named) => Ok(Some((named_copy(alloc, named)?, at + 1))),
+    }
+}
+
+/// The same change with the same name.
+fn named_copy(alloc: Global, named: &NamedChange) -> Result<NamedChange, NoMemory>
+    ensures { IfOk result (λ copy. copy ≡ named.now) }
+{
+    let name = named.name().share(alloc)?;
+    let change = copy_of(alloc, named.change())?;
+    Ok(NamedChange::new(name, change))
 }
 
 /// The same change.
@@ -250,6 +292,29 @@ fn define_given<'p>(
     Ok(define_all(alloc, state, object, v)?)
 }
 
+/// A new object of class Object with a prototype, or with none.
+fn new_object(store: &mut Store, proto: Option<ObjId>) -> Result<ObjId, NoMemory>
+    ensures { IfOk result (λ id. Comes (new_object Class.Object proto inner.Nothing) store.old store.new
+        (Ends (gives id))) }
+{
+    let id = store.new_object(Class::Object, proto, Inner::Nothing)?;
+    Ok(id)
+}
+
+/// A new object with a prototype gets the properties that are given.
+fn create_with<'p>(
+    alloc: Global,
+    state: &mut State<'p>,
+    proto: Option<ObjId>,
+    properties: &Value,
+) -> Result<Act<'p>, NoMemory>
+    ensures leads { IfOk result (λ act. Works state.old (create_with proto properties.now) state.new act) }
+    ensures falls { IfOk result (λ act. Falls state.old 9 state.new act) }
+{
+    let object = new_object(&mut state.store, proto)?;
+    Ok(define_given(alloc, state, object, properties)?)
+}
+
 /// `Object.create(O, Properties)` (15.2.3.5).
 pub(crate) fn object_create<'p>(
     alloc: Global,
@@ -263,10 +328,7 @@ pub(crate) fn object_create<'p>(
     let properties = argument_of(alloc, call, 1)?;
     match need_prototype(&mut state.store, &proto)? {
         Answer::Throws(thrown) => Ok(Act::Complete(Completion::Throw(thrown))),
-        Answer::Gives(proto) => {
-            let object = state.store.new_object(Class::Object, proto, Inner::Nothing)?;
-            Ok(define_given(alloc, state, object, &properties)?)
-        }
+        Answer::Gives(proto) => Ok(create_with(alloc, state, proto, &properties)?),
     }
 }
 

@@ -1,9 +1,9 @@
 //! Objects sealed, frozen, and closed to more properties (15.2.3.8 to 15.2.3.13).
 ghost use Rattle.std.specs.Option.{option_map_or};
-ghost use Rattle.std.specs.Prelude.{◌≡◌, ◌&&◌, drop, true, IfOk};
+ghost use Rattle.std.specs.Prelude.{◌≡◌, drop, true, IfOk};
 ghost use Rattle.jl_effects.specs.Effects.{Step};
 ghost use Rattle.jl_heap.specs.Define.{IsOneKind};
-ghost use Rattle.jl_lib_object.specs.inner.Parts.{restrict_and_give, stays_writable, test_and_give};
+ghost use Rattle.jl_lib_object.specs.inner.Parts.{restrict_and_give, stays_writable, test_and_give, test_one};
 ghost use Rattle.jl_meaning.specs.Parts.{give, ◌>>=◌ as ◌then◌};
 ghost use Rattle.jl_meaning.specs.Properties.{get_own_property};
 ghost use Rattle.jl_meaning.specs.builtins.Descriptors.{change_of, own_names};
@@ -19,8 +19,9 @@ use crate::describing::own_property;
 use crate::own_names::{name_from, own_names};
 use crate::waiting::{first_object, wait_object};
 use jl_algorithm::define_own_property;
+use jl_builtin::go_on;
 use jl_heap::{Change, Prop};
-use jl_progress::{Integrity, ObjectProgress};
+use jl_progress::{Integrity, ObjectProgress, Progress};
 use jl_state::{Act, Invocation, State, WrittenBy};
 use jl_store::{Answer, Found, Store};
 use jl_text::{List, NoMemory, Text};
@@ -239,27 +240,22 @@ fn test_one<'p>(
     names: List<Text>,
     from: usize,
 ) -> Result<Act<'p>, NoMemory>
-    ensures leads { IfOk result (λ act. Works state.old (Step (test_and_give integrity object
-        (holds && option_map_or (is_restricted_property integrity)
-        (get_own_property state.old.store object.0 name.now) true)
-        (drop from names))) state.new act) }
+    ensures leads { IfOk result (λ act. Works state.old
+        (Step (test_one integrity object holds name.now (drop from names))) state.new act) }
     ensures falls { IfOk result (λ act. Falls state.old 1 state.new act) }
 {
     if !state.spend() {
         return Ok(Act::Spent);
     }
     let kept = is_kept(&state.store, integrity, object, name);
-    wait_object(
-        state,
-        ObjectProgress::Test {
-            integrity,
-            object,
-            holds: holds && kept,
-            names,
-            from,
-        },
-    )?;
-    Ok(Act::Give(Value::Undefined))
+    let progress = ObjectProgress::Test {
+        integrity,
+        object,
+        holds: holds && kept,
+        names,
+        from,
+    };
+    Ok(go_on(state, Progress::Object(progress))?)
 }
 
 /// The properties of the names from an index on are tested, and whether more may be added.

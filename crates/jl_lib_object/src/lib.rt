@@ -2,7 +2,6 @@
 #![tactic(auto)]
 
 mod binding;
-mod builtins;
 mod calling;
 mod defining;
 mod describing;
@@ -12,8 +11,9 @@ mod integrity;
 mod objects;
 mod own_names;
 mod own_tests;
-mod rows;
+mod resuming;
+mod starting;
 mod waiting;
 
-pub use builtins::{resume_function, resume_object};
-pub use rows::{start_function, start_object};
+pub use resuming::{resume_function, resume_object};
+pub use starting::{start_function, start_object};

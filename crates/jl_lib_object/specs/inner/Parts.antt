@@ -1,17 +1,21 @@
 -- What builtins of objects do from one place on.
-use Rattle.std.specs.Prelude.{false, not, ◌&&◌, Bool, List, ℕ}
+use Rattle.std.specs.Option.{option_map_or}
+use Rattle.std.specs.Prelude.{false, not, true, ◌&&◌, Bool, List, Option, ℕ}
+use Rattle.jl_value.specs.declared.object.Class.TheVariants as class
 use Rattle.jl_value.specs.declared.object.ObjId.{ObjId}
 use Rattle.jl_value.specs.declared.value.Value.{Value}
 use Rattle.jl_value.specs.declared.value.Value.TheVariants as value
 use Rattle.jl_heap.specs.Objects.{object_at, Name}
+use Rattle.jl_heap.specs.declared.inner.Inner.TheVariants as inner
 use Rattle.jl_heap.specs.declared.property.Change.{Change}
 use Rattle.jl_meaning.specs.Getting.{get}
-use Rattle.jl_meaning.specs.Parts.{look, ◌>>=◌, Algorithm}
+use Rattle.jl_meaning.specs.Parts.{look, new_object, ◌>>=◌, Algorithm}
 use Rattle.jl_meaning.specs.Properties.{get_own_property}
-use Rattle.jl_meaning.specs.builtins.Arguments.{give_object}
+use Rattle.jl_meaning.specs.builtins.Arguments.{give_object, unless_undefined}
 use Rattle.jl_meaning.specs.builtins.Descriptors.{from_property_descriptor, to_property_descriptor}
 use Rattle.jl_meaning.specs.Relations.{give_truth}
-use Rattle.jl_meaning.specs.builtins.Object.{all_properties, define_each, forbid_extensions, redefine}
+use Rattle.jl_meaning.specs.builtins.Object.{all_properties, define_all, define_each, forbid_extensions}
+use Rattle.jl_meaning.specs.builtins.Object.{redefine}
 use Rattle.jl_meaning.specs.builtins.Turns.{each}
 use Rattle.jl_progress.specs.Objects.{after_descriptor, is_restricted_property, restricted_property}
 use Rattle.jl_progress.specs.declared.object.DescriptorUse.{DescriptorUse}
@@ -58,7 +62,21 @@ test_and_give level id holds names = do
   store ← look
   give_truth (closed && not (object_at store.heap id.0).extensible)
 
+-- the property of a name is tested first
+abbrev pub test_one : Integrity → ObjId → (holds : Bool) → Name → List Name → Algorithm Value
+test_one level id holds x names = do
+  store ← look
+  test_and_give level id
+      (holds && option_map_or (is_restricted_property level) (get_own_property store id.0 x) true) names
+
 -- whether a property that can be written still can when it is sealed or frozen
 abbrev pub stays_writable : Integrity → (writable : Bool) → Bool
 stays_writable integrity.Sealed writable = writable
 stays_writable integrity.Frozen writable = false
+
+-- a new object with a prototype gets the properties that are given (15.2.3.5, steps 2 to 4)
+abbrev pub create_with : Option ObjId → (properties : Value) → Algorithm Value
+create_with proto properties = do
+  id ← new_object class.Object proto inner.Nothing
+  _ ← unless_undefined tt (define_all id) properties
+  give_object id

@@ -1,0 +1,192 @@
+-- The fields of a property descriptor, one after another (8.10.5).
+use Rattle.std.proofs.Common.{◌≡◌, ◌∙◌, ap, false, refl, subst, sym, true, Bool, None, Option, Some}
+use Rattle.std.specs.Prelude.{option_map}
+use mathlib.Core.Path.{fun_ext}
+use Rattle.jl_value.specs.declared.object.ObjId.{ObjId}
+use Rattle.jl_value.specs.declared.value.Value.{Value}
+use Rattle.jl_value.specs.declared.value.Value.TheVariants as value
+use Rattle.jl_conv.specs.Conversions.{truth_of}
+use Rattle.jl_heap.specs.Objects.{Name}
+use Rattle.jl_heap.specs.declared.property.Change.{Change}
+use Rattle.jl_meaning.specs.Getting.{get}
+use Rattle.jl_meaning.specs.Parts.{give, ◌>>=◌, Algorithm}
+use Rattle.jl_meaning.specs.Properties.{has_property}
+use Rattle.jl_meaning.specs.builtins.Arguments.{need_function}
+use Rattle.jl_meaning.specs.builtins.Descriptors.{accessor_field, accessor_of, field, get_if, of_one_kind, truth_field}
+use Rattle.jl_progress.specs.Objects.{after_descriptor, change_after, change_from_configurable, change_from_get}
+use Rattle.jl_progress.specs.Objects.{change_from_set, change_from_value, change_from_writable, object_after}
+use Rattle.jl_progress.specs.declared.object.DescriptorField.{DescriptorField}
+use Rattle.jl_progress.specs.declared.object.DescriptorField.TheVariants as field_of
+use Rattle.jl_progress.specs.declared.object.DescriptorUse.{DescriptorUse}
+use Rattle.jl_progress.specs.declared.object.ObjectProgress.TheVariants as object
+use Rattle.jl_state.specs.Rest.{Works}
+use Rattle.jl_state.specs.declared.act.Act.{Act}
+use Rattle.jl_state.specs.declared.state.State.{State}
+use Rattle.jl_algorithm.proofs.Chains.{bind_assoc}
+use Rattle.jl_lib_object.specs.inner.Fields.{change_from, field_name, function_or_undefined, next_field, with_field}
+use Rattle.jl_lib_object.specs.inner.Fields.{without_field}
+
+-- one field, and what is done with it
+
+module _ (s : State) (d : ObjId) (x : Name) (r : Option Value → Algorithm Value) (t : State) (a : Act) (has : Bool)
+    (is : has ≡ has_property s.store d.0 x) where
+  skips_field : has ≡ false → Works s (r None) t a → Works s (field d x >>= r) t a
+  skips_field none leads =
+      record { is = (subst (λ b. Works s (get_if b d x >>= r) t a) (sym none ∙ is) leads).is }
+
+  gets_field : (k : Value → Algorithm Value) → ((v : Value) → k v ≡ r (Some v)) → has ≡ true
+      → Works s (get (value.Obj d) x >>= k) t a → Works s (field d x >>= r) t a
+  gets_field k same there leads = record {
+    is = (subst (λ b. Works s (get_if b d x >>= r) t a) (sym there ∙ is)
+        (subst (λ q. Works s q t a)
+        (ap (λ (g : Value → Algorithm Value). get (value.Obj d) x >>= g) (fun_ext same)
+        ∙ sym (bind_assoc (get (value.Obj d) x) (λ v. give (Some v)) r)) leads)).is;
+  }
+
+-- the continuations of fields
+
+module _ (d : ObjId) (x : Name) (r : Option Value → Algorithm Value) (k : Change → Algorithm Value) where
+  truth_is : (q : Option Bool → Algorithm Change)
+      → ((v : Option Value) → r v ≡ (q (option_map truth_of v) >>= k))
+      → (field d x >>= r) ≡ (truth_field d x >>= q >>= k)
+  truth_is q same =
+      ap (λ (g : Option Value → Algorithm Value). field d x >>= g) (fun_ext same)
+      ∙ sym (bind_assoc (field d x) (λ v. give (option_map truth_of v)) (λ e. q e >>= k))
+      ∙ sym (bind_assoc (truth_field d x) q k)
+
+  plain_is : (q : Option Value → Algorithm Change) → ((v : Option Value) → r v ≡ (q v >>= k))
+      → (field d x >>= r) ≡ (field d x >>= q >>= k)
+  plain_is q same =
+      ap (λ (g : Option Value → Algorithm Value). field d x >>= g) (fun_ext same) ∙ sym (bind_assoc (field d x) q k)
+
+  accessor_is : (q : Option (Option ObjId) → Algorithm Change)
+      → ((v : Option Value) → r v ≡ (accessor_of v >>= λ f. q f >>= k))
+      → (field d x >>= r) ≡ (accessor_field d x >>= q >>= k)
+  accessor_is q same =
+      ap (λ (g : Option Value → Algorithm Value). field d x >>= g) (fun_ext same)
+      ∙ sym (bind_assoc (field d x) (λ v. accessor_of v) (λ f. q f >>= k))
+      ∙ sym (bind_assoc (accessor_field d x) q k)
+
+-- a getter or a setter that is there
+
+accessor_there : (v : Value) → (function_or_undefined v >>= λ f. give (Some f)) ≡ accessor_of (Some v)
+accessor_there value.Undefined = refl
+accessor_there value.Null = bind_assoc (need_function value.Null) (λ f. give (Some f)) (λ f. give (Some f))
+accessor_there (value.Bool b) = bind_assoc (need_function (value.Bool b)) (λ f. give (Some f)) (λ f. give (Some f))
+accessor_there (value.Num n) = bind_assoc (need_function (value.Num n)) (λ f. give (Some f)) (λ f. give (Some f))
+accessor_there (value.Text x) = bind_assoc (need_function (value.Text x)) (λ f. give (Some f)) (λ f. give (Some f))
+accessor_there (value.Obj id) = bind_assoc (need_function (value.Obj id)) (λ f. give (Some f)) (λ f. give (Some f))
+
+accessor_given : (v : Value) (c : Option ObjId → Change) (l : Change → Algorithm Value)
+    (h : Option (Option ObjId) → Algorithm Value) → ((f : Option ObjId) → l (c f) ≡ h (Some f))
+    → (function_or_undefined v >>= (λ f. give (c f)) >>= l) ≡ (accessor_of (Some v) >>= h)
+accessor_given v c l h same =
+    bind_assoc (function_or_undefined v) (λ f. give (c f)) l
+    ∙ ap (λ (g : Option ObjId → Algorithm Value). function_or_undefined v >>= g) (fun_ext same)
+    ∙ sym (bind_assoc (function_or_undefined v) (λ f. give (Some f)) h)
+    ∙ ap (λ (p : Algorithm (Option (Option ObjId))). p >>= h) (accessor_there v)
+
+-- all fields
+
+module _ (d : ObjId) (change : Change) (purpose : DescriptorUse) where
+  abbrev later : Option DescriptorField → Change → Algorithm Value
+  later next c = change_from next d c >>= after_descriptor purpose
+
+  abbrev given_field : DescriptorField → Option Value → Algorithm Value
+  given_field which None = later (next_field which) (without_field which change)
+  given_field which (Some v) = with_field which v change >>= later (next_field which)
+
+  truth_given : (which : DescriptorField) (q : Option Bool → Algorithm Change)
+      → given_field which None ≡ (q None >>= after_descriptor purpose)
+      → ((v : Value) → given_field which (Some v) ≡ (q (Some (truth_of v)) >>= after_descriptor purpose))
+      → (v : Option Value) → given_field which v ≡ (q (option_map truth_of v) >>= after_descriptor purpose)
+  truth_given which q none some None = none
+  truth_given which q none some (Some v) = some v
+
+  value_given : (v : Option Value) → given_field field_of.Value v
+      ≡ (change_from_writable d (record change { value = v }) >>= after_descriptor purpose)
+  value_given None = refl
+  value_given (Some v) = refl
+
+  getter_given : (v : Option Value) → given_field field_of.Get v
+      ≡ (accessor_of v >>= λ f. change_from_set d (record change { get = f }) >>= after_descriptor purpose)
+  getter_given None = refl
+  getter_given (Some v) =
+      accessor_given v (λ f. record change { get = Some f }) (later (Some field_of.Set))
+      (λ f. change_from_set d (record change { get = f }) >>= after_descriptor purpose) (λ f. refl)
+
+  setter_given : (v : Option Value) → given_field field_of.Set v
+      ≡ (accessor_of v >>= λ f. of_one_kind (record change { set = f }) >>= after_descriptor purpose)
+  setter_given None = refl
+  setter_given (Some v) =
+      accessor_given v (λ f. record change { set = Some f }) (later None)
+      (λ f. of_one_kind (record change { set = f }) >>= after_descriptor purpose) (λ f. refl)
+
+  fields_are : (which : DescriptorField)
+      → (field d (field_name which) >>= given_field which) ≡ later (Some which) change
+  fields_are field_of.Enumerable =
+      truth_is d (field_name field_of.Enumerable) (given_field field_of.Enumerable) (after_descriptor purpose)
+      (λ e. change_from_configurable d (record change { enumerable = e }))
+      (truth_given field_of.Enumerable (λ e. change_from_configurable d (record change { enumerable = e })) refl
+      (λ v. refl))
+  fields_are field_of.Configurable =
+      truth_is d (field_name field_of.Configurable) (given_field field_of.Configurable) (after_descriptor purpose)
+      (λ e. change_from_value d (record change { configurable = e }))
+      (truth_given field_of.Configurable (λ e. change_from_value d (record change { configurable = e })) refl
+      (λ v. refl))
+  fields_are field_of.Value =
+      plain_is d (field_name field_of.Value) (given_field field_of.Value) (after_descriptor purpose)
+      (λ v. change_from_writable d (record change { value = v })) value_given
+  fields_are field_of.Writable =
+      truth_is d (field_name field_of.Writable) (given_field field_of.Writable) (after_descriptor purpose)
+      (λ e. change_from_get d (record change { writable = e }))
+      (truth_given field_of.Writable (λ e. change_from_get d (record change { writable = e })) refl (λ v. refl))
+  fields_are field_of.Get =
+      accessor_is d (field_name field_of.Get) (given_field field_of.Get) (after_descriptor purpose)
+      (λ f. change_from_set d (record change { get = f })) getter_given
+  fields_are field_of.Set =
+      accessor_is d (field_name field_of.Set) (given_field field_of.Set) (after_descriptor purpose)
+      (λ f. of_one_kind (record change { set = f })) setter_given
+
+  -- a field that was got
+  after_is : (which : DescriptorField) (v : Value)
+      → object_after (object.Field which d change purpose) v ≡ given_field which (Some v)
+  after_is field_of.Enumerable v = refl
+  after_is field_of.Configurable v = refl
+  after_is field_of.Value v = refl
+  after_is field_of.Writable v = refl
+  after_is field_of.Get v =
+      bind_assoc (accessor_of (Some v)) (λ f. change_from_set d (record change { get = f })) (after_descriptor purpose)
+      ∙ sym (getter_given (Some v))
+  after_is field_of.Set v =
+      bind_assoc (accessor_of (Some v)) (λ f. of_one_kind (record change { set = f })) (after_descriptor purpose)
+      ∙ sym (setter_given (Some v))
+
+  -- a field that is there is got
+  pub field_there : (s : State) (which : DescriptorField) (next : Option DescriptorField) (has : Bool) (t : State)
+      (a : Act) → next ≡ Some which → has ≡ has_property s.store d.0 (field_name which) → has ≡ true
+      → Works s (get (value.Obj d) (field_name which) >>= object_after (object.Field which d change purpose)) t a
+      → Works s (later next change) t a
+  field_there s which next has t a here is there leads =
+      subst (λ n. Works s (later n change) t a) (sym here)
+      (subst (λ p. Works s p t a) (fields_are which)
+      (gets_field s d (field_name which) (given_field which) t a has is
+      (object_after (object.Field which d change purpose)) (after_is which) there leads))
+
+  -- and one that isn't is passed over
+  pub field_absent : (s : State) (which : DescriptorField) (next following : Option DescriptorField) (has : Bool)
+      (less : Change) (t : State) (a : Act) → next ≡ Some which
+      → has ≡ has_property s.store d.0 (field_name which) → has ≡ false → less ≡ without_field which change
+      → following ≡ next_field which → Works s (later following less) t a → Works s (later next change) t a
+  field_absent s which next following has less t a here is absent less_is following_is leads =
+      subst (λ n. Works s (later n change) t a) (sym here)
+      (subst (λ p. Works s p t a) (fields_are which)
+      (skips_field s d (field_name which) (given_field which) t a has is absent
+      (subst (λ n. Works s (later n (without_field which change)) t a) following_is
+      (subst (λ c. Works s (later following c) t a) less_is leads))))
+
+  -- what follows a field that was got
+  pub field_got : (s : State) (which : DescriptorField) (v : Value) (t : State) (a : Act)
+      → Works s (with_field which v change >>= later (next_field which)) t a
+      → Works s (object_after (object.Field which d change purpose) v) t a
+  field_got s which v t a leads = subst (λ p. Works s p t a) (sym (after_is which v)) leads

@@ -1,0 +1,72 @@
+-- The names of own properties, as lists and in arrays (15.2.3.4, 15.2.3.14).
+use Rattle.std.proofs.Common.{◌≡◌, ◌++◌, ◌+◌, ◌∷◌, ◌∙◌, [], ap, arith, drop, length, map, refl, subst, sym, List, None, Some, ℕ}
+use Rattle.std.specs.List.{range_with_len}
+use Rattle.jl_value.specs.declared.object.ObjId.{ObjId}
+use Rattle.jl_value.specs.declared.value.Value.{Value}
+use Rattle.jl_props.specs.declared.entries.Entry.{Entry}
+use Rattle.jl_heap.specs.Objects.{names_of, object_at, units_of, Name, Objects}
+use Rattle.jl_heap.specs.declared.property.Prop.{Prop}
+use Rattle.jl_effects.specs.Running.{Ends}
+use Rattle.jl_meaning.specs.Parts.{gives, ◌>>=◌, Visit}
+use Rattle.jl_meaning.specs.Store.{Store}
+use Rattle.jl_meaning.specs.builtins.Arguments.{give_object}
+use Rattle.jl_meaning.specs.builtins.Descriptors.{own_names}
+use Rattle.jl_meaning.specs.builtins.Elements.{add_in_turns}
+use Rattle.jl_meaning.specs.builtins.Object.{array_of_names}
+use Rattle.jl_meaning.specs.forms.Literals.{index_name, new_array}
+use Rattle.jl_store.specs.Comes.{Comes}
+use Rattle.jl_state.specs.Rest.{Works}
+use Rattle.jl_state.specs.declared.act.Act.{Act}
+use Rattle.jl_state.specs.declared.state.State.{State}
+use Rattle.jl_state.proofs.Stores.{works_comes}
+use Rattle.jl_lib_object.specs.inner.Names.{name_of_entry, text_value}
+
+-- the names of the units, and those that are stored
+
+abbrev name_of_visit : Visit → Name
+name_of_visit v = v.name
+
+names_after : (l m : List Visit) → map name_of_visit (l ++ m) ≡ map name_of_visit l ++ map name_of_visit m
+names_after [] m = refl
+names_after (v ∷ l) m = ap (λ n. v.name ∷ n) (names_after l m)
+
+names_of_units : (holder : ℕ) (l : List ℕ)
+    → map name_of_visit (map (λ (i : ℕ). record { holder = holder; name = index_name i; serial = None }) l)
+    ≡ map index_name l
+names_of_units holder [] = refl
+names_of_units holder (i ∷ l) = ap (λ n. index_name i ∷ n) (names_of_units holder l)
+
+names_stored : (holder : ℕ) (l : List (Entry Prop))
+    → map name_of_visit (map (λ (e : Entry Prop). record { holder = holder; name = e.name; serial = Some e.serial }) l)
+    ≡ map name_of_entry (map (λ e. (e.name, e.serial)) l)
+names_stored holder [] = refl
+names_stored holder (e ∷ l) = ap (λ n. e.name ∷ n) (names_stored holder l)
+
+pub own_names_are : (store : Store) (place count : ℕ) (units names : List Name) (stored : List (Name × ℕ))
+    → units ≡ map index_name (range_with_len 0 count)
+    → count ≡ length (units_of (object_at store.heap place).class (object_at store.heap place).inner)
+    → stored ≡ names_of store.heap place → names ≡ units ++ map name_of_entry stored → names ≡ own_names store place
+own_names_are store place count units names stored units_are counted found is =
+    let object = object_at store.heap place in
+    let visits = λ (n : ℕ). map (λ (i : ℕ). record { holder = place; name = index_name i; serial = None })
+        (range_with_len 0 n) in
+    is
+    ∙ ap (λ l. l ++ map name_of_entry stored) units_are
+    ∙ ap (λ n. map index_name (range_with_len 0 n) ++ map name_of_entry stored) counted
+    ∙ ap (λ l. map index_name (range_with_len 0 (length (units_of object.class object.inner))) ++ map name_of_entry l) found
+    ∙ ap (λ l. l ++ map name_of_entry (names_of store.heap place))
+    (sym (names_of_units place (range_with_len 0 (length (units_of object.class object.inner)))))
+    ∙ ap (λ l. map name_of_visit (visits (length (units_of object.class object.inner))) ++ l)
+    (sym (names_stored place object.properties))
+    ∙ sym (names_after (visits (length (units_of object.class object.inner)))
+    (map (λ (e : Entry Prop). record { holder = place; name = e.name; serial = Some e.serial }) object.properties))
+
+-- an array of names is filled
+pub fills_names : (s : State) (x : Store) (array : ObjId) (names : List Name) (values : List Value) (t : State)
+    (a : Act) → values ≡ map text_value names → Comes new_array s.store x (Ends (gives array))
+    → Works (record s { store = x }) (add_in_turns array 0 (drop 0 values) >>= λ _. give_object array) t a
+    → Works s (array_of_names names) t a
+fills_names s x array names values t a is comes leads =
+    subst (λ l. Works s (new_array >>= λ id. add_in_turns id 0 l >>= λ _. give_object id) t a) is
+    (works_comes s (record s { store = x }) refl new_array array (λ id. add_in_turns id 0 values >>= λ _. give_object id)
+    t a comes leads)
