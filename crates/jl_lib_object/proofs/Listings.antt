@@ -1,5 +1,6 @@
 -- The names of own properties, as lists and in arrays (15.2.3.4, 15.2.3.14).
 use Rattle.std.proofs.Common.{◌≡◌, ◌++◌, ◌+◌, ◌∷◌, ◌∙◌, [], ap, arith, drop, length, map, refl, subst, sym, List, None, Some, ℕ}
+use Rattle.std.proofs.lemmas.List.{map-append}
 use Rattle.std.specs.List.{range_with_len}
 use Rattle.jl_value.specs.declared.object.ObjId.{ObjId}
 use Rattle.jl_value.specs.declared.value.Value.{Value}
@@ -25,10 +26,6 @@ use Rattle.jl_lib_object.specs.inner.Names.{name_of_entry, text_value}
 
 abbrev name_of_visit : Visit → Name
 name_of_visit v = v.name
-
-names_after : (l m : List Visit) → map name_of_visit (l ++ m) ≡ map name_of_visit l ++ map name_of_visit m
-names_after [] m = refl
-names_after (v ∷ l) m = ap (λ n. v.name ∷ n) (names_after l m)
 
 names_of_units : (holder : ℕ) (l : List ℕ)
     → map name_of_visit (map (λ (i : ℕ). record { holder = holder; name = index_name i; serial = None }) l)
@@ -58,7 +55,7 @@ own_names_are store place count units names stored units_are counted found is =
     (sym (names_of_units place (range_with_len 0 (length (units_of object.class object.inner)))))
     ∙ ap (λ l. map name_of_visit (visits (length (units_of object.class object.inner))) ++ l)
     (sym (names_stored place object.properties))
-    ∙ sym (names_after (visits (length (units_of object.class object.inner)))
+    ∙ sym (map-append name_of_visit (visits (length (units_of object.class object.inner)))
     (map (λ (e : Entry Prop). record { holder = place; name = e.name; serial = Some e.serial }) object.properties))
 
 -- an array of names is filled

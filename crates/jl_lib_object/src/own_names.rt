@@ -1,6 +1,6 @@
 //! The names of the own properties of objects, and `Object.getOwnPropertyNames` and `Object.keys` (15.2.3.4, 15.2.3.14).
 ghost use Rattle.std.specs.List.{range_with_len};
-ghost use Rattle.std.specs.Prelude.{◌≡◌, ◌++◌, ◌∷◌, [], drop, length, map, IfOk, MatchOption};
+ghost use Rattle.std.specs.Prelude.{◌≡◌, ◌++◌, ◌∷◌, [], drop, filter, length, map, IfOk, MatchOption};
 ghost use Rattle.jl_heap.specs.Objects.{object_at, units_of};
 ghost use Rattle.jl_lib_object.specs.inner.Names.{name_of_entry, text_value};
 ghost use Rattle.jl_meaning.specs.builtins.Descriptors.{enumerable_names, has_enumerable, own_names};
@@ -74,6 +74,24 @@ pub(crate) fn has_enumerable(store: &Store, id: ObjId, name: &Text) -> bool
     }
 }
 
+/// Those of the names whose own properties are enumerable.
+fn enumerable_among(
+    alloc: Global,
+    store: &Store,
+    id: ObjId,
+    all: &[Text],
+) -> Result<List<Text>, NoMemory>
+    ensures { IfOk result (λ names. names ≡ filter (has_enumerable store.now id.0) all.now) }
+{
+    let mut names = List::new(alloc);
+    for name in all {
+        if has_enumerable(store, id, name) {
+            names.push(name.share(alloc)?)?;
+        }
+    }
+    Ok(names)
+}
+
 /// The names of an object's own properties that are enumerable.
 pub(crate) fn enumerable_names(
     alloc: Global,
@@ -83,13 +101,7 @@ pub(crate) fn enumerable_names(
     ensures { IfOk result (λ names. names ≡ enumerable_names store.now id.0) }
 {
     let all = own_names(alloc, store, id)?;
-    let mut names = List::new(alloc);
-    for name in all.items() {
-        if has_enumerable(store, id, name) {
-            names.push(name.share(alloc)?)?;
-        }
-    }
-    Ok(names)
+    enumerable_among(alloc, store, id, all.items())
 }
 
 /// The name at an index and the next index, if there is one.
