@@ -6,23 +6,13 @@ use jl_value::ObjId;
 #[derive(Drop)]
 pub enum ErrorProgress {
     /// A new error waits for its message (15.11.1, 15.11.7).
-    NewMessage {
-        proto: ObjId,
-    },
+    NewMessage { proto: ObjId },
     /// `Error.prototype.toString` waits for the name (15.11.4.4).
-    Name {
-        object: ObjId,
-    },
+    Name { object: ObjId },
     /// It waits for the name as a primitive value.
-    NamePrimitive {
-        object: ObjId,
-    },
+    NamePrimitive { object: ObjId },
     /// It waits for the message.
-    Message {
-        name: Text,
-    },
+    Message { name: Text },
     /// It waits for the message as a primitive value.
-    MessagePrimitive {
-        name: Text,
-    },
+    MessagePrimitive { name: Text },
 }

@@ -11,12 +11,15 @@ mod object;
 mod progress;
 mod string;
 
-pub use array::ArrayProgress;
-pub use array_call::ArrayCallProgress;
+pub use array::{
+    AfterCopying, AfterMoving, AfterPutting, ArrayProgress, Copying, Joining, LengthFunction,
+    Moving, Reading, Reversing, Splicing,
+};
+pub use array_call::{ArrayCallProgress, Direction, LengthFor, Task, Walk, WalkFor};
 pub use error::ErrorProgress;
 pub use function::FunctionProgress;
-pub use global::GlobalProgress;
-pub use number::NumberProgress;
+pub use global::{GlobalProgress, NumberTest};
+pub use number::{Extreme, NumberFunction, NumberProgress};
 pub use object::{DescriptorField, DescriptorUse, Integrity, NamedChange, ObjectProgress, OwnTest};
 pub use progress::Progress;
-pub use string::StringProgress;
+pub use string::{Cut, LetterCase, Search, StringMethod, StringProgress, UnitForm};
