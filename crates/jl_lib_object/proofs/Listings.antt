@@ -27,14 +27,18 @@ use Rattle.jl_lib_object.specs.inner.Names.{name_of_entry, text_value}
 abbrev name_of_visit : Visit → Name
 name_of_visit v = v.name
 
-names_of_units : (holder : ℕ) (l : List ℕ)
-    → map name_of_visit (map (λ (i : ℕ). record { holder = holder; name = index_name i; serial = None }) l)
-    ≡ map index_name l
+abbrev unit_visit : (holder : ℕ) → ℕ → Visit
+unit_visit holder i = record { holder = holder; name = index_name i; serial = None }
+
+abbrev stored_visit : (holder : ℕ) → Entry Prop → Visit
+stored_visit holder e = record { holder = holder; name = e.name; serial = Some e.serial }
+
+names_of_units : (holder : ℕ) (l : List ℕ) → map name_of_visit (map (unit_visit holder) l) ≡ map index_name l
 names_of_units holder [] = refl
 names_of_units holder (i ∷ l) = ap (λ n. index_name i ∷ n) (names_of_units holder l)
 
 names_stored : (holder : ℕ) (l : List (Entry Prop))
-    → map name_of_visit (map (λ (e : Entry Prop). record { holder = holder; name = e.name; serial = Some e.serial }) l)
+    → map name_of_visit (map (stored_visit holder) l)
     ≡ map name_of_entry (map (λ e. (e.name, e.serial)) l)
 names_stored holder [] = refl
 names_stored holder (e ∷ l) = ap (λ n. e.name ∷ n) (names_stored holder l)
@@ -45,8 +49,7 @@ pub own_names_are : (store : Store) (place count : ℕ) (units names : List Name
     → stored ≡ names_of store.heap place → names ≡ units ++ map name_of_entry stored → names ≡ own_names store place
 own_names_are store place count units names stored units_are counted found is =
     let object = object_at store.heap place in
-    let visits = λ (n : ℕ). map (λ (i : ℕ). record { holder = place; name = index_name i; serial = None })
-        (range_with_len 0 n) in
+    let visits = λ (n : ℕ). map (unit_visit place) (range_with_len 0 n) in
     is
     ∙ ap (λ l. l ++ map name_of_entry stored) units_are
     ∙ ap (λ n. map index_name (range_with_len 0 n) ++ map name_of_entry stored) counted
@@ -56,7 +59,7 @@ own_names_are store place count units names stored units_are counted found is =
     ∙ ap (λ l. map name_of_visit (visits (length (units_of object.class object.inner))) ++ l)
     (sym (names_stored place object.properties))
     ∙ sym (map-append name_of_visit (visits (length (units_of object.class object.inner)))
-    (map (λ (e : Entry Prop). record { holder = place; name = e.name; serial = Some e.serial }) object.properties))
+    (map (stored_visit place) object.properties))
 
 -- an array of names is filled
 pub fills_names : (s : State) (x : Store) (array : ObjId) (names : List Name) (values : List Value) (t : State)

@@ -12,9 +12,8 @@ ghost use Rattle.jl_state.specs.Words.{call_of};
 use crate::objects::is_nothing;
 use crate::waiting::{argument_of, wait_function};
 use jl_algorithm::{get, to_primitive};
-use jl_builtin::{get_index, need_function, need_object, rest_of};
+use jl_builtin::{get_index, need_function, need_object, number_of_primitive, rest_of};
 use jl_num::to_uint32;
-use jl_operator::number_of;
 use jl_progress::FunctionProgress;
 use jl_state::{Act, Hint, Invocation, State};
 use jl_store::{Answer, word};
@@ -71,9 +70,7 @@ fn apply_from<'p>(
     ensures falls { IfOk result (λ act. Falls state.old 3 state.new act) }
 {
     if from < length {
-        return Ok(get_element(
-            alloc, state, function, this, list, args, from, length,
-        )?);
+        return Ok(get_element(alloc, state, function, this, list, args, from, length)?);
     }
     Ok(Act::Call(Invocation {
         callee: function,
@@ -101,9 +98,7 @@ pub(crate) fn step_element<'p>(
 {
     let mut args = args;
     args.push(v)?;
-    Ok(apply_from(
-        alloc, state, function, this, list, args, from, length,
-    )?)
+    Ok(apply_from(alloc, state, function, this, list, args, from, length)?)
 }
 
 /// Goes on with the length of a list of arguments, which is converted.
@@ -143,7 +138,7 @@ pub(crate) fn step_length_primitive<'p>(
         (function_after (FunctionProgress.LengthPrimitive function this list) p.now) state.new act) }
     ensures falls { IfOk result (λ act. Falls state.old 3 state.new act) }
 {
-    let Some(n) = number_of(p) else {
+    let Some(n) = number_of_primitive(p) else {
         return Ok(Act::Fault(Fault::NumberOutside));
     };
     let length = to_uint32(n) as usize;

@@ -83,7 +83,14 @@ fn read_changes<'p>(
     match name_from(alloc, names.items(), from)? {
         None => Ok(define_from(alloc, state, object, changes, 0)?),
         Some((name, next)) => Ok(get_descriptor(
-            alloc, state, object, descriptors, changes, name, names, next,
+            alloc,
+            state,
+            object,
+            descriptors,
+            changes,
+            name,
+            names,
+            next,
         )?),
     }
 }
@@ -396,5 +403,10 @@ pub(crate) fn step_defined_name<'p>(
     ensures falls { IfOk result (λ act. Falls state.old 82 state.new act) }
 {
     let name = text_of(alloc, p)?;
-    Ok(step_descriptor(alloc, state, DescriptorUse::One { object, name }, descriptor)?)
+    Ok(step_descriptor(
+        alloc,
+        state,
+        DescriptorUse::One { object, name },
+        descriptor,
+    )?)
 }

@@ -90,11 +90,7 @@ fn describe_data(
     let second = word(alloc, "writable")?;
     let third = word(alloc, "enumerable")?;
     let fourth = word(alloc, "configurable")?;
-    let id = store.new_object(
-        Class::Object,
-        Some(ObjId::OBJECT_PROTOTYPE),
-        Inner::Nothing,
-    )?;
+    let id = store.new_object(Class::Object, Some(ObjId::OBJECT_PROTOTYPE), Inner::Nothing)?;
     store.add_property(id, &first, open(value))?;
     store.add_property(id, &second, open(Value::Bool(writable)))?;
     store.add_property(id, &third, open(Value::Bool(enumerable)))?;
@@ -129,11 +125,7 @@ fn describe_accessor(
     let second = word(alloc, "set")?;
     let third = word(alloc, "enumerable")?;
     let fourth = word(alloc, "configurable")?;
-    let id = store.new_object(
-        Class::Object,
-        Some(ObjId::OBJECT_PROTOTYPE),
-        Inner::Nothing,
-    )?;
+    let id = store.new_object(Class::Object, Some(ObjId::OBJECT_PROTOTYPE), Inner::Nothing)?;
     store.add_property(id, &first, open(accessor_value(getter)))?;
     store.add_property(id, &second, open(accessor_value(setter)))?;
     store.add_property(id, &third, open(Value::Bool(enumerable)))?;

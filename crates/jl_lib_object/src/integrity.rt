@@ -173,7 +173,9 @@ pub(crate) fn restrict_from<'p>(
             state.store.prevent_extensions(object);
             Ok(Act::Give(Value::Obj(object)))
         }
-        Some((name, next)) => Ok(restrict_one(alloc, state, integrity, object, &name, names, next)?),
+        Some((name, next)) => Ok(restrict_one(
+            alloc, state, integrity, object, &name, names, next,
+        )?),
     }
 }
 

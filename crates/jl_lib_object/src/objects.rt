@@ -99,11 +99,7 @@ fn class_text(class: Class) -> &'static str
 }
 
 /// The text of what is an object, or converts to one.
-fn object_text<'p>(
-    alloc: Global,
-    state: &mut State<'p>,
-    v: &Value,
-) -> Result<Act<'p>, NoMemory>
+fn object_text<'p>(alloc: Global, state: &mut State<'p>, v: &Value) -> Result<Act<'p>, NoMemory>
     requires { is_nothing v.now ≡ false }
     ensures leads { IfOk result (λ act. Works state.old (class_text v.now) state.new act) }
     ensures falls { IfOk result (λ act. Falls state.old 3 state.new act) }

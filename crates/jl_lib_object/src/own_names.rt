@@ -145,11 +145,7 @@ fn array_of_names<'p>(
 }
 
 /// An array of the names of all own properties of an object.
-fn list_names<'p>(
-    alloc: Global,
-    state: &mut State<'p>,
-    id: ObjId,
-) -> Result<Act<'p>, NoMemory>
+fn list_names<'p>(alloc: Global, state: &mut State<'p>, id: ObjId) -> Result<Act<'p>, NoMemory>
     ensures leads { IfOk result (λ act. Works state.old
         (array_of_names (own_names state.old.store id.0)) state.new act) }
     ensures falls { IfOk result (λ act. Falls state.old 6 state.new act) }
@@ -159,11 +155,7 @@ fn list_names<'p>(
 }
 
 /// An array of the names of those that are enumerable.
-fn list_keys<'p>(
-    alloc: Global,
-    state: &mut State<'p>,
-    id: ObjId,
-) -> Result<Act<'p>, NoMemory>
+fn list_keys<'p>(alloc: Global, state: &mut State<'p>, id: ObjId) -> Result<Act<'p>, NoMemory>
     ensures leads { IfOk result (λ act. Works state.old
         (array_of_names (enumerable_names state.old.store id.0)) state.new act) }
     ensures falls { IfOk result (λ act. Falls state.old 6 state.new act) }

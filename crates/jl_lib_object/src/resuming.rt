@@ -110,8 +110,6 @@ pub fn resume_function<'p>(
             args,
             from,
             length,
-        } => Ok(step_element(
-            alloc, state, function, this, list, args, from, length, v,
-        )?),
+        } => Ok(step_element(alloc, state, function, this, list, args, from, length, v)?),
     }
 }

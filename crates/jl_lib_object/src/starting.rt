@@ -14,12 +14,9 @@ use crate::calling::{function_apply, function_call};
 use crate::defining::{object_create, object_define_properties, object_define_property};
 use crate::describing::object_get_own_property_descriptor;
 use crate::function_text::function_to_string;
-use crate::integrity::{
-    are_all, object_is_extensible, object_prevent_extensions, redefine_all,
-};
+use crate::integrity::{are_all, object_is_extensible, object_prevent_extensions, redefine_all};
 use crate::objects::{
-    object_call, object_get_prototype_of, object_is_prototype_of, object_to_string,
-    object_value_of,
+    object_call, object_get_prototype_of, object_is_prototype_of, object_to_string, object_value_of,
 };
 use crate::own_names::{object_get_own_property_names, object_keys};
 use crate::own_tests::this_has;

@@ -45,11 +45,7 @@ pub(crate) fn wait_function<'p>(
 }
 
 /// An argument of a call, or undefined where it isn't given.
-pub(crate) fn argument_of(
-    alloc: Global,
-    call: &Invocation,
-    index: usize,
-) -> Result<Value, NoMemory>
+pub(crate) fn argument_of(alloc: Global, call: &Invocation, index: usize) -> Result<Value, NoMemory>
     ensures { IfOk result (λ v. v ≡ argument (call_of call.now) index) }
 {
     argument(alloc, call.args.items(), index)
