@@ -24,11 +24,20 @@ use Rattle.jl_progress.specs.declared.progress.Progress.TheVariants as progress
 use Rattle.jl_state.specs.Rest.{Works}
 use Rattle.jl_state.specs.Steps.{AlgorithmWaits}
 use Rattle.jl_state.specs.declared.act.Act.{Act}
+use Rattle.jl_state.specs.declared.act.Act.TheVariants as act
 use Rattle.jl_state.specs.declared.algorithm_frame.AlgorithmFrame.TheVariants as algorithm
 use Rattle.jl_state.specs.declared.state.State.{State}
 use Rattle.jl_algorithm.proofs.Chains.{bind_assoc}
 use Rattle.jl_operator.proofs.Operands.{number_waits}
 use Rattle.jl_lib_object.specs.inner.Calls.{apply_by, apply_element, apply_list}
+
+-- a call, as an act
+pub calls_now : (s : State) (f : ObjId) (this v : Value) (args l : List Value) → this ≡ v → args ≡ l
+    → Works s (call f v l) s (act.Call (record { callee = f; this = this; args = args; by_new = false }))
+calls_now s f this v args l this_is args_are =
+    subst (λ w. Works s (call f w l) s (act.Call (record { callee = f; this = this; args = args; by_new = false }))) this_is
+    (subst (λ m. Works s (call f this m) s (act.Call (record { callee = f; this = this; args = args; by_new = false })))
+    args_are (record { is = λ kept told. refl }))
 
 module _ (f : ObjId) (this : Value) (list : ObjId) where
   abbrev called : List Value → Algorithm Value

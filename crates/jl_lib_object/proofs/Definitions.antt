@@ -2,28 +2,31 @@
 use Rattle.std.proofs.Common.{◌≡◌, ◌∙◌, ◌++◌, ◌∷◌, [], ap, codes, drop, false, refl, subst, sym, true, List, ℕ}
 use mathlib.Core.Path.{fun_ext}
 use Rattle.jl_value.specs.declared.ending.Completion.TheVariants as completion
+use Rattle.jl_value.specs.declared.error_kind.ErrorKind.TheVariants.{TypeError}
 use Rattle.jl_value.specs.declared.object.ObjId.{ObjId}
 use Rattle.jl_value.specs.declared.value.Value.{Value}
 use Rattle.jl_value.specs.declared.value.Value.TheVariants as value
 use Rattle.jl_heap.specs.Objects.{Name}
 use Rattle.jl_heap.specs.declared.property.Change.{Change}
 use Rattle.jl_effects.specs.Effects.{Step}
+use Rattle.jl_effects.specs.Running.{Ends}
 use Rattle.jl_meaning.specs.Conversions.{to_object}
 use Rattle.jl_meaning.specs.Defining.{define_own_property}
 use Rattle.jl_meaning.specs.Errors.{require}
 use Rattle.jl_meaning.specs.Getting.{get}
-use Rattle.jl_meaning.specs.Parts.{give, look, ◌>>=◌, Algorithm}
+use Rattle.jl_meaning.specs.Parts.{give, look, throws, ◌>>=◌, Algorithm}
 use Rattle.jl_meaning.specs.Store.{Store}
 use Rattle.jl_meaning.specs.builtins.Arguments.{define_or_throw, give_object, unless_undefined}
 use Rattle.jl_meaning.specs.builtins.Descriptors.{enumerable_names, to_property_descriptor}
-use Rattle.jl_meaning.specs.builtins.Object.{changes_of, define_all, define_each}
+use Rattle.jl_meaning.specs.builtins.Object.{changes_of, define_all, define_each, need_prototype}
 use Rattle.jl_progress.specs.Objects.{after_descriptor}
 use Rattle.jl_progress.specs.declared.object.DescriptorUse.{DescriptorUse}
 use Rattle.jl_progress.specs.declared.object.DescriptorUse.TheVariants as use_of
-use Rattle.jl_store.specs.Answers.{answered}
+use Rattle.jl_store.specs.Answers.{answered, MakesError}
 use Rattle.jl_store.specs.Comes.{Comes}
 use Rattle.jl_store.specs.declared.answer.Answer.{Answer}
 use Rattle.jl_store.specs.declared.answer.Answer.TheVariants.{Gives, Throws}
+use Rattle.jl_store.proofs.Chains.{error_comes}
 use Rattle.jl_state.specs.AlgorithmFrames.{after_define}
 use Rattle.jl_state.specs.Rest.{Works}
 use Rattle.jl_state.specs.declared.act.Act.{Act}
@@ -169,3 +172,13 @@ some_given s id (value.Bool b) t a is leads = leads
 some_given s id (value.Num n) t a is leads = leads
 some_given s id (value.Text y) t a is leads = leads
 some_given s id (value.Obj o) t a is leads = leads
+
+-- a value that is no prototype
+pub no_prototype : (s t : Store) (v thrown : Value) → ((id : ObjId) → v ≡ value.Obj id → ⊥) → (v ≡ value.Null → ⊥)
+    → MakesError TypeError (codes "not an object") s t thrown → Comes (need_prototype v) s t (Ends (throws thrown))
+no_prototype s t value.Undefined thrown no_object no_null makes = error_comes makes
+no_prototype s t value.Null thrown no_object no_null makes = absurd (no_null refl)
+no_prototype s t (value.Bool b) thrown no_object no_null makes = error_comes makes
+no_prototype s t (value.Num n) thrown no_object no_null makes = error_comes makes
+no_prototype s t (value.Text x) thrown no_object no_null makes = error_comes makes
+no_prototype s t (value.Obj id) thrown no_object no_null makes = absurd (no_object id refl)

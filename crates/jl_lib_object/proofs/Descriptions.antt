@@ -10,16 +10,28 @@ use Rattle.jl_heap.specs.Property.{is_configurable, is_enumerable}
 use Rattle.jl_heap.specs.declared.property.Prop.{Prop}
 use Rattle.jl_heap.specs.declared.property.Prop.TheVariants.{Accessor, Plain}
 use Rattle.jl_effects.specs.Running.{Ends}
-use Rattle.jl_meaning.specs.Parts.{gives}
+use Rattle.jl_meaning.specs.Conversions.{string_hint, to_object, to_primitive, to_string}
+use Rattle.jl_meaning.specs.Parts.{gives, look, ◌>>=◌, Algorithm, Call}
 use Rattle.jl_meaning.specs.Properties.{get_own_property}
+use Rattle.jl_meaning.specs.Relations.{give_truth}
 use Rattle.jl_meaning.specs.Store.{Store}
+use Rattle.jl_meaning.specs.builtins.Arguments.{argument}
 use Rattle.jl_meaning.specs.builtins.Descriptors.{from_property_descriptor}
+use Rattle.jl_meaning.specs.builtins.Object.{this_has}
+use Rattle.jl_progress.specs.Objects.{own_test_of}
+use Rattle.jl_progress.specs.declared.object.ObjectProgress.TheVariants as object
+use Rattle.jl_progress.specs.declared.object.OwnTest.{OwnTest}
+use Rattle.jl_progress.specs.declared.progress.Progress.TheVariants as progress
 use Rattle.jl_store.specs.Comes.{Comes}
 use Rattle.jl_store.specs.LookUps.{data_value, getter_of, setter_of}
 use Rattle.jl_state.specs.Rest.{Works}
+use Rattle.jl_state.specs.Steps.{AlgorithmWaits}
+use Rattle.jl_state.specs.declared.act.Act.{Act}
 use Rattle.jl_state.specs.declared.act.Act.TheVariants as act
+use Rattle.jl_state.specs.declared.algorithm_frame.AlgorithmFrame.TheVariants as algorithm
 use Rattle.jl_state.specs.declared.state.State.{State}
 use Rattle.jl_state.proofs.Stores.{works_ends}
+use Rattle.jl_operator.proofs.Operands.{text_waits}
 use Rattle.jl_lib_object.specs.inner.Parts.{describe_own}
 
 -- a property is what is asked of it
@@ -67,3 +79,17 @@ describes s t id x found p v is there comes = record {
   is = (subst (λ o. Works s (from_property_descriptor o) (record s { store = t }) (act.Give v)) (sym there ∙ is)
       (works_ends s (record s { store = t }) refl (from_property_descriptor (Some p)) (gives v) comes)).is;
 }
+
+-- an own property of `this` is asked for by its name
+pub asks_name : (s u : State) (test : OwnTest) (c : Call) (name this : Value) (t : State) (a : Act)
+    → name ≡ argument c 0 → this ≡ c.this
+    → AlgorithmWaits s (algorithm.Builtin (progress.Object (object.OwnName test this))) u
+    → Works u (to_primitive string_hint name) t a → Works s (this_has (own_test_of test) c) t a
+asks_name s u test c name this t a name_is this_is waits leads =
+    subst (λ v. Works s (to_string v >>= asked c.this) t a) name_is
+    (subst (λ w. Works s (to_string name >>= asked w) t a) this_is
+    (text_waits s u t (algorithm.Builtin (progress.Object (object.OwnName test this))) (asked this) name a (λ p. refl)
+    waits leads))
+  where
+    asked : Value → Name → Algorithm Value
+    asked w x = to_object w >>= λ id. look >>= λ store. give_truth (own_test_of test store id.0 x)

@@ -2,29 +2,44 @@
 use Rattle.std.proofs.Common.{◌≡◌, ◌∙◌, ap, false, refl, subst, sym, true, Bool, None, Option, Some}
 use Rattle.std.specs.Prelude.{option_map}
 use mathlib.Core.Path.{fun_ext}
+use Rattle.jl_value.specs.declared.ending.Completion.TheVariants as completion
 use Rattle.jl_value.specs.declared.object.ObjId.{ObjId}
 use Rattle.jl_value.specs.declared.value.Value.{Value}
 use Rattle.jl_value.specs.declared.value.Value.TheVariants as value
 use Rattle.jl_conv.specs.Conversions.{truth_of}
 use Rattle.jl_heap.specs.Objects.{Name}
+use Rattle.jl_heap.specs.Property.{no_change}
 use Rattle.jl_heap.specs.declared.property.Change.{Change}
+use Rattle.jl_effects.specs.Running.{Ends, Finish}
 use Rattle.jl_meaning.specs.Getting.{get}
-use Rattle.jl_meaning.specs.Parts.{give, ◌>>=◌, Algorithm}
+use Rattle.jl_meaning.specs.Parts.{give, gives, ◌>>=◌, Algorithm, AlgorithmFault}
+use Rattle.jl_meaning.specs.Parts as parts
 use Rattle.jl_meaning.specs.Properties.{has_property}
-use Rattle.jl_meaning.specs.builtins.Arguments.{need_function}
-use Rattle.jl_meaning.specs.builtins.Descriptors.{accessor_field, accessor_of, field, get_if, of_one_kind, truth_field}
-use Rattle.jl_progress.specs.Objects.{after_descriptor, change_after, change_from_configurable, change_from_get}
+use Rattle.jl_meaning.specs.Store.{Store}
+use Rattle.jl_meaning.specs.builtins.Arguments.{need_function, need_object}
+use Rattle.jl_meaning.specs.builtins.Descriptors.{accessor_field, accessor_of, field, get_if, of_one_kind}
+use Rattle.jl_meaning.specs.builtins.Descriptors.{to_property_descriptor, truth_field}
+use Rattle.jl_progress.specs.Objects.{after_descriptor, change_from_configurable, change_from_enumerable}
+use Rattle.jl_progress.specs.Objects.{change_from_get}
 use Rattle.jl_progress.specs.Objects.{change_from_set, change_from_value, change_from_writable, object_after}
 use Rattle.jl_progress.specs.declared.object.DescriptorField.{DescriptorField}
 use Rattle.jl_progress.specs.declared.object.DescriptorField.TheVariants as field_of
 use Rattle.jl_progress.specs.declared.object.DescriptorUse.{DescriptorUse}
 use Rattle.jl_progress.specs.declared.object.ObjectProgress.TheVariants as object
+use Rattle.jl_store.specs.Answers.{answered}
+use Rattle.jl_store.specs.Comes.{Comes}
+use Rattle.jl_store.specs.declared.answer.Answer.{Answer}
+use Rattle.jl_store.specs.declared.answer.Answer.TheVariants.{Gives, Throws}
+use Rattle.jl_store.proofs.Steps.{comes_to}
 use Rattle.jl_state.specs.Rest.{Works}
 use Rattle.jl_state.specs.declared.act.Act.{Act}
+use Rattle.jl_state.specs.declared.act.Act.TheVariants as act
 use Rattle.jl_state.specs.declared.state.State.{State}
 use Rattle.jl_algorithm.proofs.Chains.{bind_assoc}
+use Rattle.jl_builtin.specs.Values.{is_undefined}
 use Rattle.jl_lib_object.specs.inner.Fields.{change_from, field_name, function_or_undefined, next_field, with_field}
 use Rattle.jl_lib_object.specs.inner.Fields.{without_field}
+use Rattle.jl_lib_object.proofs.Ends.{goes_on, throws_on}
 
 -- one field, and what is done with it
 
@@ -190,3 +205,58 @@ module _ (d : ObjId) (change : Change) (purpose : DescriptorUse) where
       → Works s (with_field which v change >>= later (next_field which)) t a
       → Works s (object_after (object.Field which d change purpose) v) t a
   field_got s which v t a leads = subst (λ p. Works s p t a) (sym (after_is which v)) leads
+
+-- the first field, of a value that is an object
+
+module _ (s : State) (x : Store) (v : Value) (purpose : DescriptorUse) (answer : Answer ObjId)
+    (comes : Comes (need_object v) s.store x (answered answer)) where
+  abbrev from_first : ObjId → Algorithm Value
+  from_first d = change_from (Some field_of.Enumerable) d no_change >>= after_descriptor purpose
+
+  from_first_is : (need_object v >>= from_first) ≡ (to_property_descriptor v >>= after_descriptor purpose)
+  from_first_is =
+      sym (bind_assoc (need_object v) (λ d. change_from_enumerable d no_change) (after_descriptor purpose))
+
+  pub first_read : (d : ObjId) (none : Change) (t : State) (a : Act) → answer ≡ Gives d → none ≡ no_change
+      → Works (record s { store = x }) (later d none purpose (Some field_of.Enumerable) none) t a
+      → Works s (to_property_descriptor v >>= after_descriptor purpose) t a
+  first_read d none t a is none_is leads =
+      subst (λ p. Works s p t a) from_first_is
+      (goes_on s x (need_object v) from_first answer comes d t a is
+      (subst (λ c. Works (record s { store = x }) (later d c purpose (Some field_of.Enumerable) c) t a) none_is leads))
+
+  pub first_thrown : (w : Value) → answer ≡ Throws w
+      → Works s (to_property_descriptor v >>= after_descriptor purpose) (record s { store = x })
+      (act.Complete (completion.Throw w))
+  first_thrown w is =
+      subst (λ p. Works s p (record s { store = x }) (act.Complete (completion.Throw w))) from_first_is
+      (throws_on s x (need_object v) from_first answer comes w is)
+
+-- the field after one
+pub next_read : (s : State) (which : DescriptorField) (next : Option DescriptorField) (d : ObjId) (change : Change)
+    (purpose : DescriptorUse) (t : State) (a : Act) → next ≡ next_field which
+    → Works s (change_from next d change >>= after_descriptor purpose) t a
+    → Works s (change_from (next_field which) d change >>= after_descriptor purpose) t a
+next_read s which next d change purpose t a is leads =
+    subst (λ n. Works s (change_from n d change >>= after_descriptor purpose) t a) is leads
+
+-- a value that may be undefined
+
+pub undefined_read : (s : Store) (v : Value) → is_undefined v ≡ true
+    → Comes (function_or_undefined v) s s (Ends (gives None))
+undefined_read s value.Undefined is = comes_to
+undefined_read s value.Null is = absurd (let differ = is in cc)
+undefined_read s (value.Bool b) is = absurd (let differ = is in cc)
+undefined_read s (value.Num n) is = absurd (let differ = is in cc)
+undefined_read s (value.Text x) is = absurd (let differ = is in cc)
+undefined_read s (value.Obj id) is = absurd (let differ = is in cc)
+
+pub function_read : (s t : Store) (v : Value) (e : Finish AlgorithmFault (parts.Answer (Option ObjId)))
+    → is_undefined v ≡ false → Comes (need_function v >>= λ f. give (Some f)) s t e
+    → Comes (function_or_undefined v) s t e
+function_read s t value.Undefined e is comes = absurd (let differ = is in cc)
+function_read s t value.Null e is comes = comes
+function_read s t (value.Bool b) e is comes = comes
+function_read s t (value.Num n) e is comes = comes
+function_read s t (value.Text x) e is comes = comes
+function_read s t (value.Obj id) e is comes = comes

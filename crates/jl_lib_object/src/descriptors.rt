@@ -17,7 +17,7 @@ ghost use Rattle.jl_store.specs.Comes.{Comes};
 use crate::defining::use_change;
 use crate::waiting::wait_object;
 use jl_algorithm::{get, throw_native};
-use jl_builtin::{need_function, need_object};
+use jl_builtin::{is_undefined, need_function, need_object};
 use jl_conv::to_boolean;
 use jl_heap::Change;
 use jl_progress::{DescriptorField, DescriptorUse, ObjectProgress};
@@ -72,7 +72,7 @@ fn no_change() -> Change
 fn function_or_undefined(store: &mut Store, v: &Value) -> Result<Answer<Option<ObjId>>, NoMemory>
     ensures { IfOk result (λ answer. Comes (function_or_undefined v.now) store.old store.new (answered answer)) }
 {
-    if matches!(v, Value::Undefined) {
+    if is_undefined(v) {
         return Ok(Answer::Gives(None));
     }
     match need_function(store, v)? {

@@ -1,0 +1,10 @@
+use Rattle.jl_lib_object.proofs.Definitions.{changes_end, changes_next}
+use Rattle.jl_lib_object.proofs.defining.read_changes.Goals as goal
+
+pub returns-in-None-clause-leads : goal.returns-in-None-clause-leads
+returns-in-None-clause-leads c =
+    changes_end _ _ _ _ _ _ _ c.in-None.ensures c.in_ok-define_from-in-None.ensures.leads
+
+pub returns-in-Some-clause-leads : goal.returns-in-Some-clause-leads
+returns-in-Some-clause-leads c =
+    changes_next _ _ _ _ _ _ _ _ _ _ c.in-Some.ensures c.in_ok-get_descriptor-in-Some.ensures.leads

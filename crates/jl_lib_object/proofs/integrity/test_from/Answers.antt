@@ -1,0 +1,8 @@
+use Rattle.std.proofs.Common.{◌∙◌, ap}
+use Rattle.std.specs.Prelude.{not, ◌&&◌}
+use Rattle.jl_lib_object.proofs.Restrictions.{tested_all, tests_next}
+use Rattle.jl_lib_object.proofs.integrity.test_from.Goals as goal
+
+pub returns-in-Some-clause-leads : goal.returns-in-Some-clause-leads
+returns-in-Some-clause-leads c =
+    tests_next _ _ _ _ _ _ _ _ _ c.in-Some.ensures c.in_ok-test_one-in-Some.ensures.leads
