@@ -1,18 +1,20 @@
 -- Functions that are called with the elements of a list (15.3.4.3).
 use Rattle.std.proofs.Common.{◌≡◌, ◌<◌, ◌≤◌, ◌+◌, ◌++◌, ◌-◌, ◌∷◌, ◌∙◌, [], ap, arith, codes, false, refl, subst, suc, sym}
-use Rattle.std.proofs.Common.{true, zero, List, ℕ}
+use Rattle.std.proofs.Common.{true, zero, List, None, Some, ℕ}
 use mathlib.Core.Path.{fun_ext}
 use Rattle.jl_num.specs.Bits.{uint32_of}
 use Rattle.jl_num.specs.Number.{Number}
+use Rattle.jl_value.specs.declared.ending.Fault.TheVariants as fault
 use Rattle.jl_value.specs.declared.object.ObjId.{ObjId}
 use Rattle.jl_value.specs.declared.value.Value.{Value}
 use Rattle.jl_value.specs.declared.value.Value.TheVariants as value
+use Rattle.jl_conv.specs.Conversions.{number_of_value}
 use Rattle.jl_heap.specs.Define.{length_name}
 use Rattle.jl_heap.specs.Objects.{Name}
 use Rattle.jl_effects.specs.Effects.{Step}
 use Rattle.jl_meaning.specs.Conversions.{number_hint, to_number, to_primitive, to_uint32}
 use Rattle.jl_meaning.specs.Getting.{get}
-use Rattle.jl_meaning.specs.Parts.{call, give, ◌>>=◌, Algorithm}
+use Rattle.jl_meaning.specs.Parts.{call, give, or_fault, ◌>>=◌, Algorithm, NumberOutside}
 use Rattle.jl_meaning.specs.Relations.{is_nothing}
 use Rattle.jl_meaning.specs.builtins.Arguments.{need_object}
 use Rattle.jl_meaning.specs.builtins.Elements.{get_index, get_length}
@@ -71,6 +73,28 @@ module _ (f : ObjId) (this : Value) (list : ObjId) where
       subst (λ m. Works s (apply_by f this list m k args) t a) (sym (nothing_left n k above)) leads
 
   -- the length
+
+  pub outside : (s : State) (p : Value) → number_of_value p ≡ None
+      → Works s (function_after (function.LengthPrimitive f this list) p) s (act.Fault fault.NumberOutside)
+  outside s p none =
+      subst (λ o. Works s (or_fault NumberOutside o >>= λ n. apply_by f this list (uint32_of n) 0 []) s
+      (act.Fault fault.NumberOutside)) (sym none) (record { is = λ kept told. refl })
+
+  pub begins_at : (s : State) (p : Value) (n : Number) (m : ℕ) (args : List Value) (t : State) (a : Act)
+      → number_of_value p ≡ Some n → m ≡ uint32_of n → args ≡ []
+      → Works s (apply_by f this list (m - 0) 0 args) t a
+      → Works s (function_after (function.LengthPrimitive f this list) p) t a
+  begins_at s p n m args t a is counted none leads =
+      let whole : m - 0 ≡ m = omega arith in
+      subst (λ o. Works s (or_fault NumberOutside o >>= λ k. apply_by f this list (uint32_of k) 0 []) t a) (sym is)
+      (subst (λ k. Works s (apply_by f this list k 0 []) t a) (whole ∙ counted)
+      (subst (λ l. Works s (apply_by f this list (m - 0) 0 l) t a) none leads))
+
+  pub goes_on_with : (s : State) (args more : List Value) (from length : ℕ) (v : Value) (t : State) (a : Act)
+      → more ≡ args ++ v ∷ [] → Works s (apply_by f this list (length - from) from more) t a
+      → Works s (function_after (function.Element f this list args from length) v) t a
+  goes_on_with s args more from length v t a grown leads =
+      subst (λ l. Works s (apply_by f this list (length - from) from l) t a) grown leads
 
   counts : (v : Value) → (to_number v >>= λ n. apply_by f this list (uint32_of n) 0 [])
       ≡ function_after (function.Length f this list) v

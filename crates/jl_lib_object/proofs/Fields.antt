@@ -1,16 +1,19 @@
 -- The fields of a property descriptor, one after another (8.10.5).
-use Rattle.std.proofs.Common.{◌≡◌, ◌∙◌, ap, false, refl, subst, sym, true, Bool, None, Option, Some}
-use Rattle.std.specs.Prelude.{option_map}
+use Rattle.std.proofs.Common.{◌≡◌, ◌∙◌, ap, codes, false, refl, subst, sym, true, Bool, None, Option, Some}
+use Rattle.std.specs.Prelude.{if◌then◌else◌, not, option_map, ◌&&◌}
 use mathlib.Core.Path.{fun_ext}
 use Rattle.jl_value.specs.declared.ending.Completion.TheVariants as completion
+use Rattle.jl_value.specs.declared.error_kind.ErrorKind.TheVariants.{TypeError}
 use Rattle.jl_value.specs.declared.object.ObjId.{ObjId}
 use Rattle.jl_value.specs.declared.value.Value.{Value}
 use Rattle.jl_value.specs.declared.value.Value.TheVariants as value
 use Rattle.jl_conv.specs.Conversions.{truth_of}
+use Rattle.jl_heap.specs.Define.{IsOneKind}
 use Rattle.jl_heap.specs.Objects.{Name}
-use Rattle.jl_heap.specs.Property.{no_change}
+use Rattle.jl_heap.specs.Property.{is_accessor, is_data, no_change}
 use Rattle.jl_heap.specs.declared.property.Change.{Change}
 use Rattle.jl_effects.specs.Running.{Ends, Finish}
+use Rattle.jl_meaning.specs.Errors.{throw_type_error}
 use Rattle.jl_meaning.specs.Getting.{get}
 use Rattle.jl_meaning.specs.Parts.{give, gives, ◌>>=◌, Algorithm, AlgorithmFault}
 use Rattle.jl_meaning.specs.Parts as parts
@@ -36,6 +39,7 @@ use Rattle.jl_state.specs.declared.act.Act.{Act}
 use Rattle.jl_state.specs.declared.act.Act.TheVariants as act
 use Rattle.jl_state.specs.declared.state.State.{State}
 use Rattle.jl_algorithm.proofs.Chains.{bind_assoc}
+use Rattle.jl_algorithm.proofs.Throwing.{works_left_out}
 use Rattle.jl_builtin.specs.Values.{is_undefined}
 use Rattle.jl_lib_object.specs.inner.Fields.{change_from, field_name, function_or_undefined, next_field, with_field}
 use Rattle.jl_lib_object.specs.inner.Fields.{without_field}
@@ -260,3 +264,58 @@ function_read s t (value.Bool b) e is comes = comes
 function_read s t (value.Num n) e is comes = comes
 function_read s t (value.Text x) e is comes = comes
 function_read s t (value.Obj id) e is comes = comes
+
+-- a change with a field that is there
+
+module _ (s : Store) (which : DescriptorField) (v : Value) (change : Change) (b : Bool) where
+  pub enumerable_given : which ≡ field_of.Enumerable → b ≡ truth_of v
+      → Comes (with_field which v change) s s (Ends (gives (record change { enumerable = Some b })))
+  enumerable_given is told =
+      subst (λ w. Comes (with_field w v change) s s (Ends (gives (record change { enumerable = Some b })))) (sym is)
+      (subst (λ c. Comes (with_field field_of.Enumerable v change) s s
+      (Ends (gives (record change { enumerable = Some c })))) (sym told) comes_to)
+
+  pub configurable_given : which ≡ field_of.Configurable → b ≡ truth_of v
+      → Comes (with_field which v change) s s (Ends (gives (record change { configurable = Some b })))
+  configurable_given is told =
+      subst (λ w. Comes (with_field w v change) s s (Ends (gives (record change { configurable = Some b })))) (sym is)
+      (subst (λ c. Comes (with_field field_of.Configurable v change) s s
+      (Ends (gives (record change { configurable = Some c })))) (sym told) comes_to)
+
+  pub writable_given : which ≡ field_of.Writable → b ≡ truth_of v
+      → Comes (with_field which v change) s s (Ends (gives (record change { writable = Some b })))
+  writable_given is told =
+      subst (λ w. Comes (with_field w v change) s s (Ends (gives (record change { writable = Some b })))) (sym is)
+      (subst (λ c. Comes (with_field field_of.Writable v change) s s
+      (Ends (gives (record change { writable = Some c })))) (sym told) comes_to)
+
+pub value_got : (s : Store) (which : DescriptorField) (v : Value) (change : Change) → which ≡ field_of.Value
+    → Comes (with_field which v change) s s (Ends (gives (record change { value = Some v })))
+value_got s which v change is =
+    subst (λ w. Comes (with_field w v change) s s (Ends (gives (record change { value = Some v })))) (sym is) comes_to
+
+-- no field is left
+pub none_left : (s : State) (next : Option DescriptorField) (d : ObjId) (change : Change) (purpose : DescriptorUse)
+    (t : State) (a : Act) → next ≡ None → Works s (of_one_kind change >>= after_descriptor purpose) t a
+    → Works s (change_from next d change >>= after_descriptor purpose) t a
+none_left s next d change purpose t a none leads =
+    subst (λ n. Works s (change_from n d change >>= after_descriptor purpose) t a) (sym none) leads
+
+-- a change of one kind, and one that is not
+pub one_kind : (s : State) (change : Change) (purpose : DescriptorUse) (t : State) (a : Act)
+    → (is_data change && is_accessor change) ≡ false → Works s (after_descriptor purpose change) t a
+    → Works s (of_one_kind change >>= after_descriptor purpose) t a
+one_kind s change purpose t a is leads =
+    subst (λ b. Works s ((if b then throw_type_error (codes "bad descriptor") else give change)
+    >>= after_descriptor purpose) t a) (sym is) leads
+
+pub two_kinds : (s : State) (change : Change) (purpose : DescriptorUse) (t : State) (a : Act)
+    → (is_data change && is_accessor change) ≡ true → Works s (throw_type_error (codes "bad descriptor")) t a
+    → Works s (of_one_kind change >>= after_descriptor purpose) t a
+two_kinds s change purpose t a is leads =
+    subst (λ b. Works s ((if b then throw_type_error (codes "bad descriptor") else give change)
+    >>= after_descriptor purpose) t a) (sym is)
+    (works_left_out s TypeError (codes "bad descriptor") (after_descriptor purpose) t a leads)
+
+pub one_kind_is : (change : Change) → (is_data change && is_accessor change) ≡ false → IsOneKind change
+one_kind_is change is = ap not is

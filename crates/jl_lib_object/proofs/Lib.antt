@@ -6,5 +6,6 @@ pub mod Ends
 pub mod Fields
 pub mod FunctionNames
 pub mod Listings
+pub mod Ranks
 pub mod Restrictions
 pub mod Rows

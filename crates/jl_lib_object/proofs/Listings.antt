@@ -1,6 +1,11 @@
 -- The names of own properties, as lists and in arrays (15.2.3.4, 15.2.3.14).
-use Rattle.std.proofs.Common.{◌≡◌, ◌++◌, ◌+◌, ◌∷◌, ◌∙◌, [], ap, arith, drop, length, map, refl, subst, sym, List, None, Some, ℕ}
-use Rattle.std.proofs.lemmas.List.{map-append}
+use Rattle.std.proofs.Common.{◌≡◌, ◌<◌, ◌++◌, ◌+◌, ◌∷◌, ◌∙◌, [], append_assoc, ap, arith, drop, false, get_or, length}
+use Rattle.std.proofs.Common.{map, refl, subst, sym, take, true, Bool, List, None, Some, ℕ}
+use Rattle.std.proofs.lemmas.List.Elements.{filter_more}
+use Rattle.std.proofs.lemmas.List.FromFn.{map-range_with_len_more}
+use Rattle.std.specs.Prelude.{filter}
+use mathlib.Core.Bool.{cond}
+use Rattle.std.proofs.lemmas.List.{map-append, map_more}
 use Rattle.std.specs.List.{range_with_len}
 use Rattle.jl_value.specs.declared.object.ObjId.{ObjId}
 use Rattle.jl_value.specs.declared.value.Value.{Value}
@@ -70,3 +75,56 @@ fills_names s x array names values t a is comes leads =
     subst (λ l. Works s (new_array >>= λ id. add_in_turns id 0 l >>= λ _. give_object id) t a) is
     (works_comes s (record s { store = x }) refl new_array array (λ id. add_in_turns id 0 values >>= λ _. give_object id)
     t a comes leads)
+
+-- lists that grow by one
+
+append_none : {A : Type 0} (l : List A) → l ++ [] ≡ l
+append_none [] = refl
+append_none (x ∷ l) = ap (λ m. x ∷ m) (append_none l)
+
+pub units_more : (i : ℕ) (names more : List Name) (name : Name) → names ≡ map index_name (range_with_len 0 i)
+    → name ≡ index_name i → more ≡ names ++ name ∷ [] → more ≡ map index_name (range_with_len 0 (i + 1))
+units_more i names more name is same grown =
+    grown
+    ∙ ap (λ l. l ++ name ∷ []) is
+    ∙ ap (λ n. map index_name (range_with_len 0 i) ++ n ∷ []) same
+    ∙ sym (map-range_with_len_more index_name 0 i i (omega arith))
+
+pub stored_more : (before l more : List Name) (stored : List (Name × ℕ)) (i : ℕ) (e : Name × ℕ) (name : Name)
+    → l ≡ before ++ map name_of_entry (take i stored) → i < length stored → e ≡ get_or stored i e → name ≡ e.0
+    → more ≡ l ++ name ∷ [] → more ≡ before ++ map name_of_entry (take (i + 1) stored)
+stored_more before l more stored i e name is within here same grown =
+    grown
+    ∙ ap (λ m. m ++ name ∷ []) is
+    ∙ append_assoc before (map name_of_entry (take i stored)) (name ∷ [])
+    ∙ ap (λ n. before ++ (map name_of_entry (take i stored) ++ n ∷ [])) (same ∙ ap name_of_entry here)
+    ∙ ap (λ m. before ++ m) (sym (map_more name_of_entry stored i e within))
+
+pub values_more : (l more : List Value) (names : List Name) (i : ℕ) (x copy : Name)
+    → l ≡ map text_value (take i names) → i < length names → x ≡ get_or names i x → copy ≡ x
+    → more ≡ l ++ text_value copy ∷ [] → more ≡ map text_value (take (i + 1) names)
+values_more l more names i x copy is within here same grown =
+    grown
+    ∙ ap (λ m. m ++ text_value copy ∷ []) is
+    ∙ ap (λ y. map text_value (take i names) ++ text_value y ∷ []) (same ∙ here)
+    ∙ sym (map_more text_value names i x within)
+
+pub kept_more : (p : Name → Bool) (l more all : List Name) (i : ℕ) (x copy : Name) (b : Bool)
+    → l ≡ filter p (take i all) → i < length all → x ≡ get_or all i x → b ≡ p x → b ≡ true → copy ≡ x
+    → more ≡ l ++ copy ∷ [] → more ≡ filter p (take (i + 1) all)
+kept_more p l more all i x copy b is within here tests passes same grown =
+    grown
+    ∙ ap (λ m. m ++ copy ∷ []) is
+    ∙ ap (λ y. filter p (take i all) ++ y ∷ []) (same ∙ here)
+    ∙ ap (λ (c : Bool). filter p (take i all) ++ cond c (get_or all i x ∷ []) [])
+    (sym passes ∙ tests ∙ ap p here)
+    ∙ sym (filter_more p all i x within)
+
+pub passed_more : (p : Name → Bool) (l all : List Name) (i : ℕ) (x : Name) (b : Bool)
+    → l ≡ filter p (take i all) → i < length all → x ≡ get_or all i x → b ≡ p x → b ≡ false
+    → l ≡ filter p (take (i + 1) all)
+passed_more p l all i x b is within here tests fails =
+    is
+    ∙ sym (append_none (filter p (take i all)))
+    ∙ ap (λ (c : Bool). filter p (take i all) ++ cond c (get_or all i x ∷ []) []) (sym fails ∙ tests ∙ ap p here)
+    ∙ sym (filter_more p all i x within)

@@ -41,19 +41,21 @@ use Rattle.jl_lib_object.proofs.Definitions.{defines}
 
 -- what becomes of a property
 
-pub restricted_plain : (level : Integrity) (v : Value) (writable stays enumerable configurable : Bool)
-    → stays ≡ stays_writable level writable
-    → Plain v stays enumerable false ≡ restricted_property level (Plain v writable enumerable configurable)
-restricted_plain integrity.Sealed v writable stays enumerable configurable is =
-    ap (λ b. Plain v b enumerable false) is
-restricted_plain integrity.Frozen v writable stays enumerable configurable is =
-    ap (λ b. Plain v b enumerable false) is
+pub restricted_plain : (level : Integrity) (p : Prop) (v : Value) (writable stays enumerable configurable : Bool)
+    → p ≡ Plain v writable enumerable configurable → stays ≡ stays_writable level writable
+    → Plain v stays enumerable false ≡ restricted_property level p
+restricted_plain integrity.Sealed p v writable stays enumerable configurable is stays_so =
+    ap (λ b. Plain v b enumerable false) stays_so ∙ ap (restricted_property integrity.Sealed) (sym is)
+restricted_plain integrity.Frozen p v writable stays enumerable configurable is stays_so =
+    ap (λ b. Plain v b enumerable false) stays_so ∙ ap (restricted_property integrity.Frozen) (sym is)
 
-pub restricted_accessor : (level : Integrity) (getter setter : Option ObjId) (enumerable configurable : Bool)
-    → Accessor getter setter enumerable false
-    ≡ restricted_property level (Accessor getter setter enumerable configurable)
-restricted_accessor integrity.Sealed getter setter enumerable configurable = refl
-restricted_accessor integrity.Frozen getter setter enumerable configurable = refl
+pub restricted_accessor : (level : Integrity) (p : Prop) (getter setter : Option ObjId) (enumerable configurable : Bool)
+    → p ≡ Accessor getter setter enumerable configurable
+    → Accessor getter setter enumerable false ≡ restricted_property level p
+restricted_accessor integrity.Sealed p getter setter enumerable configurable is =
+    ap (restricted_property integrity.Sealed) (sym is)
+restricted_accessor integrity.Frozen p getter setter enumerable configurable is =
+    ap (restricted_property integrity.Frozen) (sym is)
 
 -- whether a property is frozen
 pub frozen_is : (p : Prop) → (not (is_writable (Some p)) && not (is_configurable p))
@@ -125,3 +127,14 @@ pub tests_next : (s : State) (level : Integrity) (id : ObjId) (holds : Bool) (le
     → Works s (test_and_give level id holds left) t a
 tests_next s level id holds left x rest t a is leads =
     subst (λ l. Works s (test_and_give level id holds l) t a) (sym is) leads
+
+-- a turn that tests a property
+pub tests_one : (s : State) (level : Integrity) (id : ObjId) (holds kept both : Bool) (x : Name) (names : List Name)
+    (t : State) (a : Act)
+    → kept ≡ option_map_or (is_restricted_property level) (get_own_property s.store id.0 x) true
+    → both ≡ (holds && kept) → Works s (test_and_give level id both names) t a
+    → Works s (test_one level id holds x names) t a
+tests_one s level id holds kept both x names t a kept_is both_is leads = record {
+  is = (subst (λ k. Works s (test_and_give level id (holds && k) names) t a) kept_is
+      (subst (λ b. Works s (test_and_give level id b names) t a) both_is leads)).is;
+}

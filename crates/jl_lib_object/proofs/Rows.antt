@@ -1,5 +1,6 @@
 -- The rows of objects and functions in the table of builtins.
 use Rattle.std.proofs.Common.{◌≡◌, refl, subst, sym, ℕ}
+use Rattle.jl_value.specs.declared.ending.Fault.TheVariants as fault
 use Rattle.jl_value.specs.declared.value.Value.{Value}
 use Rattle.jl_meaning.specs.Parts.{Algorithm, Call}
 use Rattle.jl_meaning.specs.builtins.Arguments.{unsupported}
@@ -16,14 +17,20 @@ use Rattle.jl_meaning.specs.builtins.Object.{object_to_string, object_value_of}
 use Rattle.jl_meaning.specs.builtins.Table.{builtin, builtin_rows}
 use Rattle.jl_state.specs.Rest.{Works}
 use Rattle.jl_state.specs.declared.act.Act.{Act}
+use Rattle.jl_state.specs.declared.act.Act.TheVariants as act
 use Rattle.jl_state.specs.declared.state.State.{State}
 
 -- the builtin of a row that is known
-pub begins_row : (s : State) (row n : ℕ) (c : Call) (p : Algorithm Value) (t : State) (a : Act) → row ≡ n
-    → ((names : FunctionNames) → builtin names n c ≡ p) → Works s p t a → (names : FunctionNames)
-    → Works s (builtin names row c) t a
-begins_row s row n c p t a is same leads names =
-    subst (λ r. Works s (builtin names r c) t a) (sym is) (subst (λ q. Works s q t a) (sym (same names)) leads)
+pub begins_row : (s : State) (names : FunctionNames) (row n : ℕ) (c : Call) (p : Algorithm Value) (t : State) (a : Act)
+    → row ≡ n → builtin names n c ≡ p → Works s p t a → Works s (builtin names row c) t a
+begins_row s names row n c p t a is same leads =
+    subst (λ r. Works s (builtin names r c) t a) (sym is) (subst (λ q. Works s q t a) (sym same) leads)
+
+-- one that isn't built
+pub unbuilt : (s : State) (row b : ℕ) (c : Call) → b ≡ row → Works s (unsupported row c) s (act.Fault (fault.Unsupported b))
+unbuilt s row b c is =
+    subst (λ n. Works s (unsupported row c) s (act.Fault (fault.Unsupported n))) (sym is)
+    (record { is = λ kept told. refl })
 
 pub row_0 : (names : FunctionNames) (c : Call) → builtin names 0 c ≡ object_call c
 unfolding builtin builtin_rows

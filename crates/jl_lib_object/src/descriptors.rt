@@ -1,7 +1,6 @@
 //! Property descriptors read from objects of a script (8.10.5).
-ghost use Rattle.std.specs.Prelude.{◌≡◌, ◌+◌, ◌*◌, IfOk};
-ghost use Rattle.jl_heap.specs.Define.{IsOneKind};
-ghost use Rattle.jl_heap.specs.Property.{no_change};
+ghost use Rattle.std.specs.Prelude.{◌≡◌, ◌+◌, ◌*◌, ◌&&◌, IfOk};
+ghost use Rattle.jl_heap.specs.Property.{is_accessor, is_data, no_change};
 ghost use Rattle.jl_lib_object.specs.inner.Fields.{change_from, field_name, fields_from, function_or_undefined};
 ghost use Rattle.jl_lib_object.specs.inner.Fields.{next_field, with_field, without_field};
 ghost use Rattle.jl_meaning.specs.Getting.{get};
@@ -135,8 +134,14 @@ fn with_field(
             writable: Some(to_boolean(&v)),
             ..change
         })),
-        DescriptorField::Get => with_getter(store, &v, change),
-        DescriptorField::Set => with_setter(store, &v, change),
+        DescriptorField::Get => {
+            let answer = with_getter(store, &v, change)?;
+            Ok(answer)
+        }
+        DescriptorField::Set => {
+            let answer = with_setter(store, &v, change)?;
+            Ok(answer)
+        }
     }
 }
 
@@ -235,6 +240,13 @@ fn read_fields<'p>(
     Ok(read_fields(alloc, state, next_field(field), descriptor, change, purpose)?)
 }
 
+/// Whether a change is data and accessor at once.
+fn is_both_kinds(change: &Change) -> bool
+    ensures { result ≡ (is_data change.now && is_accessor change.now) }
+{
+    change.is_data() && change.is_accessor()
+}
+
 /// A change that has been described, which may not be data and accessor at once (step 9).
 fn take_change<'p>(
     alloc: Global,
@@ -246,7 +258,7 @@ fn take_change<'p>(
         (of_one_kind change then after_descriptor purpose) state.new act) }
     ensures falls { IfOk result (λ act. Falls state.old (rank_use purpose) state.new act) }
 {
-    if change.is_data() && change.is_accessor() {
+    if is_both_kinds(&change) {
         return Ok(throw_native(alloc, state, ErrorKind::TypeError, "bad descriptor")?);
     }
     Ok(use_change(alloc, state, change, purpose)?)

@@ -1,6 +1,6 @@
 //! Objects sealed, frozen, and closed to more properties (15.2.3.8 to 15.2.3.13).
 ghost use Rattle.std.specs.Option.{option_map_or};
-ghost use Rattle.std.specs.Prelude.{◌≡◌, drop, true, IfOk};
+ghost use Rattle.std.specs.Prelude.{◌≡◌, ◌&&◌, drop, not, true, IfOk};
 ghost use Rattle.jl_effects.specs.Effects.{Step};
 ghost use Rattle.jl_heap.specs.Define.{IsOneKind};
 ghost use Rattle.jl_lib_object.specs.inner.Parts.{restrict_and_give, stays_writable, test_and_give, test_one};
@@ -211,13 +211,20 @@ pub(crate) fn redefine_all<'p>(
     }
 }
 
+/// Whether a property can neither be written nor configured.
+fn is_fixed(writable: bool, configurable: bool) -> bool
+    ensures { result ≡ (not writable && not configurable) }
+{
+    !writable && !configurable
+}
+
 /// Whether a property that was found is sealed or frozen.
 fn is_restricted(integrity: Integrity, found: &Found<'_>) -> bool
     ensures { result ≡ is_restricted_property integrity (property_found found.now) }
 {
     match integrity {
         Integrity::Sealed => !found.is_configurable(),
-        Integrity::Frozen => !found.is_writable() && !found.is_configurable(),
+        Integrity::Frozen => is_fixed(found.is_writable(), found.is_configurable()),
     }
 }
 
@@ -230,6 +237,13 @@ fn is_kept(store: &Store, integrity: Integrity, object: ObjId, name: &Text) -> b
         Some(found) => is_restricted(integrity, &found),
         None => true,
     }
+}
+
+/// Whether all so far hold, and this one too.
+fn both(holds: bool, next: bool) -> bool
+    ensures { result ≡ (holds && next) }
+{
+    holds && next
 }
 
 /// A turn takes a step, and a property is tested; those of the names from an index on wait.
@@ -253,7 +267,7 @@ fn test_one<'p>(
     let progress = ObjectProgress::Test {
         integrity,
         object,
-        holds: holds && kept,
+        holds: both(holds, kept),
         names,
         from,
     };
@@ -276,7 +290,7 @@ pub(crate) fn test_from<'p>(
 {
     match name_from(alloc, names.items(), from)? {
         None => {
-            let closed = holds && !state.store.is_extensible(object);
+            let closed = both(holds, !state.store.is_extensible(object));
             Ok(Act::Give(Value::Bool(closed)))
         }
         Some((name, next)) => Ok(test_one(state, integrity, object, holds, &name, names, next)?),

@@ -36,7 +36,8 @@ fn unit_names(alloc: Global, count: usize) -> Result<List<Text>, NoMemory>
 {
     let mut names = List::new(alloc);
     for index in 0..count {
-        names.push(index_name(alloc, index)?)?;
+        let name = index_name(alloc, index)?;
+        names.push(name)?;
     }
     Ok(names)
 }
@@ -50,7 +51,8 @@ fn with_stored(
     ensures { IfOk result (λ longer. longer ≡ names ++ map name_of_entry stored.now) }
 {
     for entry in stored {
-        names.push(entry.0.share(alloc)?)?;
+        let name = entry.0.share(alloc)?;
+        names.push(name)?;
     }
     Ok(names)
 }
@@ -86,7 +88,8 @@ fn enumerable_among(
     let mut names = List::new(alloc);
     for name in all {
         if has_enumerable(store, id, name) {
-            names.push(name.share(alloc)?)?;
+            let copy = name.share(alloc)?;
+            names.push(copy)?;
         }
     }
     Ok(names)
@@ -125,7 +128,8 @@ fn text_values(alloc: Global, names: &[Text]) -> Result<List<Value>, NoMemory>
 {
     let mut values = List::new(alloc);
     for name in names {
-        values.push(Value::Text(name.share(alloc)?))?;
+        let copy = name.share(alloc)?;
+        values.push(Value::Text(copy))?;
     }
     Ok(values)
 }

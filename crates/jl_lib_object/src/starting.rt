@@ -2,7 +2,7 @@
 ghost use Rattle.std.specs.Prelude.{◌≡◌, ◌≤◌, ◌<◌, IfOk};
 ghost use Rattle.jl_meaning.specs.Parts.{Call};
 ghost use Rattle.jl_meaning.specs.builtins.Arguments.{unsupported};
-ghost use Rattle.jl_meaning.specs.builtins.Function.{names_of, FunctionNames};
+ghost use Rattle.jl_meaning.specs.builtins.Function.{names_of};
 ghost use Rattle.jl_meaning.specs.builtins.Table.{builtin};
 ghost use Rattle.jl_state.specs.Rank.{rank_act, Falls};
 ghost use Rattle.jl_state.specs.Rest.{Works};
@@ -48,8 +48,8 @@ fn start_changing<'p>(
     call: &Invocation,
 ) -> Result<Act<'p>, NoMemory>
     requires { row < 10 }
-    ensures leads { IfOk result (λ act. (names : FunctionNames) → Works state.old
-        (builtin names row (call_of call.now)) state.new act) }
+    ensures leads { IfOk result (λ act. Works state.old
+        (builtin (names_of (table_of state.old.functions)) row (call_of call.now)) state.new act) }
     ensures falls { IfOk result (λ act. Falls state.old 96 state.new act) }
 {
     match row {
@@ -74,8 +74,8 @@ fn start_asking<'p>(
     call: &Invocation,
 ) -> Result<Act<'p>, NoMemory>
     requires { (10 ≤ row) × (row < 20) }
-    ensures leads { IfOk result (λ act. (names : FunctionNames) → Works state.old
-        (builtin names row (call_of call.now)) state.new act) }
+    ensures leads { IfOk result (λ act. Works state.old
+        (builtin (names_of (table_of state.old.functions)) row (call_of call.now)) state.new act) }
     ensures falls { IfOk result (λ act. Falls state.old 96 state.new act) }
 {
     match row {

@@ -48,7 +48,8 @@ pub(crate) fn wait_function<'p>(
 pub(crate) fn argument_of(alloc: Global, call: &Invocation, index: usize) -> Result<Value, NoMemory>
     ensures { IfOk result (λ v. v ≡ argument (call_of call.now) index) }
 {
-    argument(alloc, call.args.items(), index)
+    let v = argument(alloc, call.args.items(), index)?;
+    Ok(v)
 }
 
 /// The first argument of a call, which has to be an object.

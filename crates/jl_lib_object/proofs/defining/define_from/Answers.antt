@@ -1,4 +1,5 @@
 use Rattle.jl_lib_object.proofs.Definitions.{defined_all, defined_next}
+use Rattle.jl_lib_object.proofs.Ranks.{falls_next}
 use Rattle.jl_lib_object.proofs.defining.define_from.Goals as goal
 
 pub returns-in-None-clause-leads : goal.returns-in-None-clause-leads
@@ -7,3 +8,6 @@ returns-in-None-clause-leads c = defined_all _ _ _ c.in-None.ensures
 pub returns-in-Some-clause-leads : goal.returns-in-Some-clause-leads
 returns-in-Some-clause-leads c =
     defined_next _ _ _ _ _ _ _ _ c.in-Some.ensures c.in_ok-define_one-in-Some.ensures.leads
+
+pub returns-in-Some-clause-falls : goal.returns-in-Some-clause-falls
+returns-in-Some-clause-falls c = falls_next _ _ _ _ _ _ c.in-Some.ensures c.in_ok-define_one-in-Some.ensures.falls

@@ -1,4 +1,5 @@
 use Rattle.jl_lib_object.proofs.Definitions.{uses_next, uses_one}
+use Rattle.jl_lib_object.proofs.Ranks.{falls_longer}
 use Rattle.jl_lib_object.proofs.defining.use_change.Goals as goal
 
 pub returns-in-One-clause-leads : goal.returns-in-One-clause-leads

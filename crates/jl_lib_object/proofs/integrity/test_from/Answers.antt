@@ -3,6 +3,11 @@ use Rattle.std.specs.Prelude.{not, ◌&&◌}
 use Rattle.jl_lib_object.proofs.Restrictions.{tested_all, tests_next}
 use Rattle.jl_lib_object.proofs.integrity.test_from.Goals as goal
 
+pub returns-in-None-clause-leads : goal.returns-in-None-clause-leads
+returns-in-None-clause-leads c =
+    tested_all _ _ _ _ _ _ c.in-None.ensures
+    (c.both-closed.ensures ∙ ap (λ e. c.args.holds && not e) c.is_extensible.ensures)
+
 pub returns-in-Some-clause-leads : goal.returns-in-Some-clause-leads
 returns-in-Some-clause-leads c =
     tests_next _ _ _ _ _ _ _ _ _ c.in-Some.ensures c.in_ok-test_one-in-Some.ensures.leads
