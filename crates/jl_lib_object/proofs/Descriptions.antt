@@ -93,3 +93,11 @@ asks_name s u test c name this t a name_is this_is waits leads =
   where
     asked : Value → Name → Algorithm Value
     asked w x = to_object w >>= λ id. look >>= λ store. give_truth (own_test_of test store id.0 x)
+
+pub own_told : (s : State) (test : OwnTest) (id : ObjId) (name x : Name) (b : Bool)
+    → b ≡ own_test_of test s.store id.0 name → name ≡ x
+    → Works s (look >>= λ store. give_truth (own_test_of test store id.0 x)) s (act.Give (value.Bool b))
+own_told s test id name x b told same = record {
+  is = (subst (λ c. Works s (give_truth (own_test_of test s.store id.0 x)) s (act.Give (value.Bool c)))
+      (sym (told ∙ ap (λ y. own_test_of test s.store id.0 y) same)) (record { is = λ kept before. refl })).is;
+}

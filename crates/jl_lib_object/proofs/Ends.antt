@@ -2,7 +2,8 @@
 use Rattle.std.proofs.Common.{◌≡◌, refl, subst, sym}
 use Rattle.jl_value.specs.declared.ending.Completion.TheVariants as completion
 use Rattle.jl_value.specs.declared.value.Value.{Value}
-use Rattle.jl_meaning.specs.Parts.{give, look, ◌>>=◌, Algorithm}
+use Rattle.jl_effects.specs.Running.{Ends}
+use Rattle.jl_meaning.specs.Parts.{give, gives, look, throws, ◌>>=◌, Algorithm}
 use Rattle.jl_meaning.specs.Store.{Store}
 use Rattle.jl_store.specs.Answers.{answered}
 use Rattle.jl_store.specs.Comes.{Comes}
@@ -44,3 +45,16 @@ module _ {A : Type 0} (s : State) (x : Store) (p : Algorithm A) (k : A → Algor
   throws_on v is =
       works_thrown s (record s { store = x }) refl p v k
       (subst (λ (e : Answer A). Comes p s.store x (answered e)) is comes)
+
+-- what is done with a value, and with an equal one
+pub works_of : {A : Type 0} (s : State) (f : A → Algorithm Value) (x y : A) (t : State) (a : Act) → x ≡ y
+    → Works s (f x) t a → Works s (f y) t a
+works_of s f x y t a same leads = subst (λ z. Works s (f z) t a) same leads
+
+-- an answer that is known
+module _ {A : Type 0} (p : Algorithm A) (s t : Store) (answer : Answer A) (comes : Comes p s t (answered answer)) where
+  pub came : (b : A) → answer ≡ Gives b → Comes p s t (Ends (gives b))
+  came b is = subst (λ (e : Answer A). Comes p s t (answered e)) is comes
+
+  pub came_thrown : (v : Value) → answer ≡ Throws v → Comes p s t (Ends (throws v))
+  came_thrown v is = subst (λ (e : Answer A). Comes p s t (answered e)) is comes

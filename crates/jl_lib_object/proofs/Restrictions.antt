@@ -57,11 +57,26 @@ restricted_accessor integrity.Sealed p getter setter enumerable configurable is 
 restricted_accessor integrity.Frozen p getter setter enumerable configurable is =
     ap (restricted_property integrity.Frozen) (sym is)
 
--- whether a property is frozen
-pub frozen_is : (p : Prop) → (not (is_writable (Some p)) && not (is_configurable p))
+-- whether a property is sealed or frozen
+
+pub sealed_told : (level : Integrity) (p : Prop) (configurable : Bool) → level ≡ integrity.Sealed
+    → configurable ≡ is_configurable p → not configurable ≡ is_restricted_property level p
+sealed_told level p configurable is told = ap not told ∙ ap (λ l. is_restricted_property l p) (sym is)
+
+frozen_is : (p : Prop) → (not (is_writable (Some p)) && not (is_configurable p))
     ≡ is_restricted_property integrity.Frozen p
 frozen_is (Plain v writable enumerable configurable) = refl
 frozen_is (Accessor getter setter enumerable configurable) = refl
+
+pub frozen_told : (level : Integrity) (p : Prop) (writable configurable fixed : Bool) → level ≡ integrity.Frozen
+    → fixed ≡ (not writable && not configurable) → writable ≡ is_writable (Some p) → configurable ≡ is_configurable p
+    → fixed ≡ is_restricted_property level p
+frozen_told level p writable configurable fixed is told w c =
+    told
+    ∙ ap (λ b. not b && not configurable) w
+    ∙ ap (λ b. not (is_writable (Some p)) && not b) c
+    ∙ frozen_is p
+    ∙ ap (λ l. is_restricted_property l p) (sym is)
 
 -- a property is redefined
 

@@ -63,7 +63,8 @@ pub(crate) fn own_names(alloc: Global, store: &Store, id: ObjId) -> Result<List<
 {
     let stored = store.heap().names(id)?;
     let units = unit_names(alloc, unit_count(store, id))?;
-    with_stored(alloc, units, stored.items())
+    let all = with_stored(alloc, units, stored.items())?;
+    Ok(all)
 }
 
 /// Whether an object has an own property of a name that is enumerable.
@@ -104,7 +105,8 @@ pub(crate) fn enumerable_names(
     ensures { IfOk result (λ names. names ≡ enumerable_names store.now id.0) }
 {
     let all = own_names(alloc, store, id)?;
-    enumerable_among(alloc, store, id, all.items())
+    let names = enumerable_among(alloc, store, id, all.items())?;
+    Ok(names)
 }
 
 /// The name at an index and the next index, if there is one.

@@ -6,8 +6,8 @@ pub returns-in-Throws-clause-leads : goal.returns-in-Throws-clause-leads
 returns-in-Throws-clause-leads c =
     class_of_something _ _ _ _ c.requires (throws_on _ _ _ _ _ c.in_ok-thrown.ensures _ c.in-Throws.is)
 
-pub returns-in-Gives-clause-leads : goal.returns-in-Gives-clause-leads
-returns-in-Gives-clause-leads c =
+pub returns-in_ok-text-in-Gives-clause-leads : goal.returns-in_ok-text-in-Gives-clause-leads
+returns-in_ok-text-in-Gives-clause-leads c =
     class_of_something _ _ _ _ c.requires
     (goes_on _ _ _ _ _ c.in_ok-thrown.ensures _ _ _ c.in-Gives.is
-    (class_seen _ _ _ _ _ c.class_of.ensures c.class_text.ensures c.in_ok-text.ensures))
+    (class_seen _ _ _ _ _ c.class_of.ensures c.class_text.ensures c.in_ok-text-in-Gives.ensures))

@@ -7,4 +7,4 @@ pub returns : goal.returns
 returns c =
     own_names_are c.args.store.now c.args.id.0 _ _ _ _ c.in_ok-units.ensures c.unit_count.ensures
     (c.items.ensures ∙ c.in_ok-stored.ensures.names ∙ ap (λ h. names_of h c.args.id.0) c.heap.ensures)
-    c.in_ok-with_stored.ensures
+    c.in_ok-all.ensures
