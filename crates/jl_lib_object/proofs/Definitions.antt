@@ -22,6 +22,8 @@ use Rattle.jl_meaning.specs.builtins.Object.{changes_of, define_all, define_each
 use Rattle.jl_progress.specs.Objects.{after_descriptor}
 use Rattle.jl_progress.specs.declared.object.DescriptorUse.{DescriptorUse}
 use Rattle.jl_progress.specs.declared.object.DescriptorUse.TheVariants as use_of
+use Rattle.jl_progress.specs.declared.object.ObjectProgress.TheVariants as object
+use Rattle.jl_progress.specs.declared.progress.Progress.TheVariants as progress
 use Rattle.jl_store.specs.Answers.{answered, MakesError}
 use Rattle.jl_store.specs.Comes.{Comes}
 use Rattle.jl_store.specs.declared.answer.Answer.{Answer}
@@ -29,8 +31,10 @@ use Rattle.jl_store.specs.declared.answer.Answer.TheVariants.{Gives, Throws}
 use Rattle.jl_store.proofs.Chains.{error_comes}
 use Rattle.jl_state.specs.AlgorithmFrames.{after_define}
 use Rattle.jl_state.specs.Rest.{Works}
+use Rattle.jl_state.specs.Steps.{AlgorithmWaits}
 use Rattle.jl_state.specs.declared.act.Act.{Act}
 use Rattle.jl_state.specs.declared.act.Act.TheVariants as act
+use Rattle.jl_state.specs.declared.algorithm_frame.AlgorithmFrame.TheVariants as algorithm
 use Rattle.jl_state.specs.declared.algorithm_frame.WrittenBy.TheVariants.{Builtin}
 use Rattle.jl_state.specs.declared.state.State.{State}
 use Rattle.jl_algorithm.proofs.Chains.{bind_assoc, works_assoc}
@@ -107,6 +111,14 @@ changes_next s id d changes left x names from t a is leads =
         bind_assoc (get (value.Obj d) x) described (define_and_give id)
         ∙ ap (λ (k : Value → Algorithm Value). get (value.Obj d) x >>= k)
         (fun_ext (λ v. bind_assoc (to_property_descriptor v) more (define_and_give id)))
+
+-- a descriptor that is got
+pub gets_descriptor : (s u : State) (id d : ObjId) (changes : List (Name × Change)) (x key : Name) (names : List Name)
+    (from : ℕ) (t : State) (a : Act) → key ≡ x
+    → AlgorithmWaits s (algorithm.Builtin (progress.Object (object.Descriptor id d changes x names from))) u
+    → Works u (get (value.Obj d) key) t a → Works s (read_descriptor id d changes x names from) t a
+gets_descriptor s u id d changes x key names from t a same waits leads =
+    waits.works (get (value.Obj d) x) t a (subst (λ y. Works u (get (value.Obj d) y) t a) same leads)
 
 -- the properties that are defined
 
