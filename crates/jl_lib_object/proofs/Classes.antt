@@ -12,7 +12,7 @@ use Rattle.jl_meaning.specs.Parts.{give, look, ◌>>=◌, Algorithm, AlgorithmFa
 use Rattle.jl_meaning.specs.Parts as parts
 use Rattle.jl_meaning.specs.Relations.{is_nothing}
 use Rattle.jl_meaning.specs.Store.{Store}
-use Rattle.jl_meaning.specs.builtins.Object.{class_text, give_class, object_for}
+use Rattle.jl_meaning.specs.builtins.Object.{class_text, give_class, object_for, object_to_string}
 use Rattle.jl_meaning.specs.forms.Literals.{new_plain_object}
 use Rattle.jl_store.specs.Comes.{Comes}
 use Rattle.jl_state.specs.Rest.{Works}
@@ -61,3 +61,19 @@ class_of_something s (value.Bool b) t a is leads = leads
 class_of_something s (value.Num n) t a is leads = leads
 class_of_something s (value.Text x) t a is leads = leads
 class_of_something s (value.Obj id) t a is leads = leads
+
+-- undefined and null have texts of their own
+
+pub undefined_text : (s : State) (c : parts.Call) (made : List ℕ) → c.this ≡ value.Undefined
+    → made ≡ codes "[object Undefined]" → Works s (object_to_string c) s (act.Give (value.Text made))
+undefined_text s c made is made_is =
+    subst (λ v. Works s (class_text v) s (act.Give (value.Text made))) (sym is)
+    (subst (λ l. Works s (class_text value.Undefined) s (act.Give (value.Text l))) (sym made_is)
+    (record { is = λ kept told. refl }))
+
+pub null_text : (s : State) (c : parts.Call) (made : List ℕ) → c.this ≡ value.Null → made ≡ codes "[object Null]"
+    → Works s (object_to_string c) s (act.Give (value.Text made))
+null_text s c made is made_is =
+    subst (λ v. Works s (class_text v) s (act.Give (value.Text made))) (sym is)
+    (subst (λ l. Works s (class_text value.Null) s (act.Give (value.Text l))) (sym made_is)
+    (record { is = λ kept told. refl }))

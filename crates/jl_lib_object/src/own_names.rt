@@ -88,10 +88,11 @@ fn enumerable_among(
 {
     let mut names = List::new(alloc);
     for name in all {
-        if has_enumerable(store, id, name) {
-            let copy = name.share(alloc)?;
-            names.push(copy)?;
+        if !has_enumerable(store, id, name) {
+            continue;
         }
+        let copy = name.share(alloc)?;
+        names.push(copy)?;
     }
     Ok(names)
 }

@@ -12,7 +12,7 @@ pub returns-then-is_nothing-clause-leads : goal.returns-then-is_nothing-clause-l
 returns-then-is_nothing-clause-leads c =
     no_arguments _ _ _ _ _ _ (sym c.is_nothing.ensures ∙ c.if-is_nothing.true) (calls_now _ _ _ _ _ _ refl c.new.ensures)
 
-pub returns-clause-leads : goal.returns-clause-leads
-returns-clause-leads c =
+pub returns-in_ok-get_length-in-Gives-clause-leads : goal.returns-in_ok-get_length-in-Gives-clause-leads
+returns-in_ok-get_length-in-Gives-clause-leads c =
     has_arguments _ _ _ _ _ _ (sym c.is_nothing.ensures ∙ c.if-is_nothing.false)
     (goes_on _ _ _ _ _ c.in_ok-thrown.ensures _ _ _ c.in-Gives.is c.in_ok-get_length-in-Gives.ensures.leads)

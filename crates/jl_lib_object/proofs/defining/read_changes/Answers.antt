@@ -5,6 +5,6 @@ pub returns-in-None-clause-leads : goal.returns-in-None-clause-leads
 returns-in-None-clause-leads c =
     changes_end _ _ _ _ _ _ _ c.in-None.ensures c.in_ok-define_from-in-None.ensures.leads
 
-pub returns-in-Some-clause-leads : goal.returns-in-Some-clause-leads
-returns-in-Some-clause-leads c =
+pub returns-clause-leads : goal.returns-clause-leads
+returns-clause-leads c =
     changes_next _ _ _ _ _ _ _ _ _ _ c.in-Some.ensures c.in_ok-get_descriptor-in-Some.ensures.leads

@@ -8,11 +8,11 @@ returns-in-One-clause-leads c = uses_one _ _ _ _ _ _ _ c.in-One.is c.in_ok-defin
 pub returns-in-One-clause-falls : goal.returns-in-One-clause-falls
 returns-in-One-clause-falls c = falls_one _ _ _ _ _ _ c.in-One.is c.in_ok-define_own_property-in-One.ensures.falls
 
-pub returns-clause-leads : goal.returns-clause-leads
-returns-clause-leads c =
-    uses_next _ _ _ _ _ _ _ _ _ _ _ _ _ c.in-Next.is c.new.ensures c.in_ok-push.ensures.ok
+pub returns-in_ok-read_changes-in-Next-clause-leads : goal.returns-in_ok-read_changes-in-Next-clause-leads
+returns-in_ok-read_changes-in-Next-clause-leads c =
+    uses_next _ _ _ _ _ _ _ _ _ _ _ _ _ c.in-Next.is c.new.ensures c.in_ok-push-in-Next.ensures.ok
     c.in_ok-read_changes-in-Next.ensures.leads
 
-pub returns-clause-falls : goal.returns-clause-falls
-returns-clause-falls c =
-    falls_read _ _ _ _ _ _ _ _ _ _ _ _ c.in-Next.is c.in_ok-push.ensures.ok c.in_ok-read_changes-in-Next.ensures.falls
+pub returns-in_ok-read_changes-in-Next-clause-falls : goal.returns-in_ok-read_changes-in-Next-clause-falls
+returns-in_ok-read_changes-in-Next-clause-falls c =
+    falls_read _ _ _ _ _ _ _ _ _ _ _ _ c.in-Next.is c.in_ok-push-in-Next.ensures.ok c.in_ok-read_changes-in-Next.ensures.falls

@@ -9,4 +9,4 @@ returns-in-Some c =
 pub returns-in-None : goal.returns-in-None
 returns-in-None c =
     accessor_is _ _ _ _ _ _ c.in_ok-value.ensures c.in-None.is c.getter.ensures c.setter.ensures
-    c.is_enumerable.ensures c.is_configurable.ensures
+    c.is_enumerable-in-None.ensures c.is_configurable-in-None.ensures

@@ -20,9 +20,9 @@ returns-in-Writable c = writable_given _ _ _ _ _ c.in-Writable.is c.to_boolean-i
 pub returns-in-Get : goal.returns-in-Get
 returns-in-Get c =
     subst (λ w. Comes (with_field w c.args.v c.args.change) c.args.store.now c.with_getter.new.store
-    (answered c.in_ok-answer.answer)) (sym c.in-Get.is) c.in_ok-answer.ensures
+    (answered c.in_ok-answer-in-Get.answer)) (sym c.in-Get.is) c.in_ok-answer-in-Get.ensures
 
-pub returns-in-Set : goal.returns-in-Set
-returns-in-Set c =
+pub returns : goal.returns
+returns c =
     subst (λ w. Comes (with_field w c.args.v c.args.change) c.args.store.now c.with_setter.new.store
     (answered c.in_ok-answer-in-Set.answer)) (sym c.in-Set.is) c.in_ok-answer-in-Set.ensures

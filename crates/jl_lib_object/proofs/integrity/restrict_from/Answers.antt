@@ -5,6 +5,6 @@ pub returns-in-None-clause-leads : goal.returns-in-None-clause-leads
 returns-in-None-clause-leads c =
     restricted_all _ _ _ _ _ c.in-None.ensures c.prevent_extensions.ensures
 
-pub returns-in-Some-clause-leads : goal.returns-in-Some-clause-leads
-returns-in-Some-clause-leads c =
+pub returns-clause-leads : goal.returns-clause-leads
+returns-clause-leads c =
     restricts_next _ _ _ _ _ _ _ _ c.in-Some.ensures c.in_ok-restrict_one-in-Some.ensures.leads

@@ -8,6 +8,6 @@ returns-in-None-clause-leads c =
     tested_all _ _ _ _ _ _ c.in-None.ensures
     (c.both-closed.ensures ∙ ap (λ e. c.args.holds && not e) c.is_extensible.ensures)
 
-pub returns-in-Some-clause-leads : goal.returns-in-Some-clause-leads
-returns-in-Some-clause-leads c =
+pub returns-clause-leads : goal.returns-clause-leads
+returns-clause-leads c =
     tests_next _ _ _ _ _ _ _ _ _ c.in-Some.ensures c.in_ok-test_one-in-Some.ensures.leads
