@@ -65,6 +65,15 @@ defines_then s id x change v q t a leads =
     (sym (bind_assoc (define_own_property id x change) (λ done. require done (codes "cannot define")) (λ _. give v)))
     leads)
 
+-- the same of a name and its change
+pub defines_named : (s : State) (id : ObjId) (named : Name × Change) (x : Name) (change : Change) (v : Value)
+    (q : Algorithm Value) (t : State) (a : Act) → x ≡ named.0 → change ≡ named.1
+    → Works s (define_own_property id x change >>= after_define (Builtin v) >>= λ _. q) t a
+    → Works s (define_or_throw id named.0 named.1 >>= λ _. q) t a
+defines_named s id named x change v q t a x_is change_is leads =
+    subst (λ y. Works s (define_or_throw id y named.1 >>= λ _. q) t a) x_is
+    (subst (λ c. Works s (define_or_throw id x c >>= λ _. q) t a) change_is (defines_then s id x change v q t a leads))
+
 -- what a descriptor was read for
 
 pub uses_one : (s : State) (purpose : DescriptorUse) (id : ObjId) (x : Name) (change : Change) (t : State) (a : Act)

@@ -17,12 +17,12 @@ returns-in-Value c = value_got _ _ _ _ c.in-Value.is
 pub returns-in-Writable : goal.returns-in-Writable
 returns-in-Writable c = writable_given _ _ _ _ _ c.in-Writable.is c.to_boolean-in-Writable.ensures
 
-pub returns-in-Get : goal.returns-in-Get
-returns-in-Get c =
+pub returns-in_ok-answer-in-Get : goal.returns-in_ok-answer-in-Get
+returns-in_ok-answer-in-Get c =
     subst (λ w. Comes (with_field w c.args.v c.args.change) c.args.store.now c.with_getter.new.store
     (answered c.in_ok-answer-in-Get.answer)) (sym c.in-Get.is) c.in_ok-answer-in-Get.ensures
 
-pub returns : goal.returns
-returns c =
+pub returns-in_ok-answer-in-Set : goal.returns-in_ok-answer-in-Set
+returns-in_ok-answer-in-Set c =
     subst (λ w. Comes (with_field w c.args.v c.args.change) c.args.store.now c.with_setter.new.store
     (answered c.in_ok-answer-in-Set.answer)) (sym c.in-Set.is) c.in_ok-answer-in-Set.ensures
