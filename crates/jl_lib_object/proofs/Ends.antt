@@ -1,5 +1,6 @@
 -- What is done with what an algorithm gives that calls no function.
-use Rattle.std.proofs.Common.{◌≡◌, refl, subst, sym}
+use Rattle.std.proofs.Common.{◌≡◌, ◌∷◌, [], drop, refl, subst, sym, List, None, Option, Some, ℕ}
+use Rattle.std.specs.Prelude.{MatchOption}
 use Rattle.jl_value.specs.declared.ending.Completion.TheVariants as completion
 use Rattle.jl_value.specs.declared.value.Value.{Value}
 use Rattle.jl_effects.specs.Running.{Ends}
@@ -58,3 +59,15 @@ module _ {A : Type 0} (p : Algorithm A) (s t : Store) (answer : Answer A) (comes
 
   pub came_thrown : (v : Value) → answer ≡ Throws v → Comes p s t (Ends (throws v))
   came_thrown v is = subst (λ (e : Answer A). Comes p s t (answered e)) is comes
+
+-- what is found at an index of a list, and the next index
+
+pub nothing_found : {A : Type 0} (left all : List A) (found : Option (A × ℕ))
+    → MatchOption found (left ≡ []) (λ r. left ≡ r.0 ∷ drop r.1 all) → found ≡ None → left ≡ []
+nothing_found left all found told none =
+    subst (λ f. MatchOption f (left ≡ []) (λ r. left ≡ r.0 ∷ drop r.1 all)) none told
+
+pub next_found : {A : Type 0} (left all : List A) (found : Option (A × ℕ)) (x : A) (n : ℕ)
+    → MatchOption found (left ≡ []) (λ r. left ≡ r.0 ∷ drop r.1 all) → found ≡ Some (x, n) → left ≡ x ∷ drop n all
+next_found left all found x n told is =
+    subst (λ f. MatchOption f (left ≡ []) (λ r. left ≡ r.0 ∷ drop r.1 all)) is told

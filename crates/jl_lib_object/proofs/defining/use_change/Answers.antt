@@ -2,11 +2,13 @@ use Rattle.jl_lib_object.proofs.Definitions.{uses_next, uses_one}
 use Rattle.jl_lib_object.proofs.Ranks.{falls_one, falls_read}
 use Rattle.jl_lib_object.proofs.defining.use_change.Goals as goal
 
-pub returns-in-One-clause-leads : goal.returns-in-One-clause-leads
-returns-in-One-clause-leads c = uses_one _ _ _ _ _ _ _ c.in-One.is c.in_ok-define_own_property-in-One.ensures.leads
+pub returns-in_ok-define_own_property-in-One-clause-leads : goal.returns-in_ok-define_own_property-in-One-clause-leads
+returns-in_ok-define_own_property-in-One-clause-leads c =
+    uses_one _ _ _ _ _ _ _ c.in-One.is c.in_ok-define_own_property-in-One.ensures.leads
 
-pub returns-in-One-clause-falls : goal.returns-in-One-clause-falls
-returns-in-One-clause-falls c = falls_one _ _ _ _ _ _ c.in-One.is c.in_ok-define_own_property-in-One.ensures.falls
+pub returns-in_ok-define_own_property-in-One-clause-falls : goal.returns-in_ok-define_own_property-in-One-clause-falls
+returns-in_ok-define_own_property-in-One-clause-falls c =
+    falls_one _ _ _ _ _ _ c.in-One.is c.in_ok-define_own_property-in-One.ensures.falls
 
 pub returns-in_ok-read_changes-in-Next-clause-leads : goal.returns-in_ok-read_changes-in-Next-clause-leads
 returns-in_ok-read_changes-in-Next-clause-leads c =
