@@ -62,12 +62,16 @@ module _ {A : Type 0} (p : Algorithm A) (s t : Store) (answer : Answer A) (comes
 
 -- what is found at an index of a list, and the next index
 
-pub nothing_found : {A : Type 0} (left all : List A) (found : Option (A × ℕ))
-    → MatchOption found (left ≡ []) (λ r. left ≡ r.0 ∷ drop r.1 all) → found ≡ None → left ≡ []
-nothing_found left all found told none =
-    subst (λ f. MatchOption f (left ≡ []) (λ r. left ≡ r.0 ∷ drop r.1 all)) none told
+pub nothing_found : {A : Type 0} (at : ℕ) (items all : List A) (found : Option (A × ℕ)) → items ≡ all
+    → MatchOption found (drop at items ≡ []) (λ r. drop at items ≡ r.0 ∷ drop r.1 items) → found ≡ None
+    → drop at all ≡ []
+nothing_found at items all found same told none =
+    subst (λ l. drop at l ≡ []) same
+    (subst (λ f. MatchOption f (drop at items ≡ []) (λ r. drop at items ≡ r.0 ∷ drop r.1 items)) none told)
 
-pub next_found : {A : Type 0} (left all : List A) (found : Option (A × ℕ)) (x : A) (n : ℕ)
-    → MatchOption found (left ≡ []) (λ r. left ≡ r.0 ∷ drop r.1 all) → found ≡ Some (x, n) → left ≡ x ∷ drop n all
-next_found left all found x n told is =
-    subst (λ f. MatchOption f (left ≡ []) (λ r. left ≡ r.0 ∷ drop r.1 all)) is told
+pub next_found : {A : Type 0} (at : ℕ) (items all : List A) (found : Option (A × ℕ)) (x : A) (n : ℕ) → items ≡ all
+    → MatchOption found (drop at items ≡ []) (λ r. drop at items ≡ r.0 ∷ drop r.1 items) → found ≡ Some (x, n)
+    → drop at all ≡ x ∷ drop n all
+next_found at items all found x n same told is =
+    subst (λ l. drop at l ≡ x ∷ drop n l) same
+    (subst (λ f. MatchOption f (drop at items ≡ []) (λ r. drop at items ≡ r.0 ∷ drop r.1 items)) is told)
