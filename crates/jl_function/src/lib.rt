@@ -4,8 +4,6 @@
 mod bound;
 mod builtins;
 mod calls;
-mod errors;
-mod printing;
 mod results;
 mod script;
 
