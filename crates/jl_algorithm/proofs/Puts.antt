@@ -17,7 +17,7 @@ use Rattle.jl_state.specs.AlgorithmFrames.{after_define}
 use Rattle.jl_state.specs.Rest.{Works}
 use Rattle.jl_state.specs.declared.act.Act.{Act}
 use Rattle.jl_state.specs.declared.algorithm_frame.WrittenBy.{WrittenBy}
-use Rattle.jl_state.specs.declared.algorithm_frame.WrittenBy.TheVariants.{Put}
+use Rattle.jl_state.specs.declared.algorithm_frame.WrittenBy.TheVariants.{Builtin, Put}
 use Rattle.jl_state.specs.declared.state.State.{State}
 use Rattle.jl_algorithm.specs.declared.putting.Way.{Way}
 use Rattle.jl_algorithm.specs.inner.Ways.{found_setter, put_so, way_of}
@@ -87,6 +87,13 @@ rejects s true false given t a e f leads =
     works_left_out s TypeError (codes "cannot write") (λ _. give given) t a leads
 rejects s false done given t a e f leads = absurd (let differ = e in cc)
 rejects s true true given t a e f leads = absurd (let differ = f in cc)
+
+-- a definition of a builtin that isn't done throws
+pub rejects_definition : (s : State) (done : Bool) (given : Value) (t : State) (a : Act) → done ≡ false
+    → Works s (throw_error TypeError (codes "cannot define")) t a → Works s (after_define (Builtin given) done) t a
+rejects_definition s false given t a f leads =
+    works_left_out s TypeError (codes "cannot define") (λ _. give given) t a leads
+rejects_definition s true given t a f leads = absurd (let differ = f in cc)
 
 -- a setter has taken the value
 after_call : (throwing : Bool) (given : Value) → after_define (Put throwing given) true ≡ give given

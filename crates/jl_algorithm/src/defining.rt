@@ -95,7 +95,8 @@ pub(crate) fn define_now<'p>(
     Ok(after_define(alloc, state, purpose, done)?)
 }
 
-/// What follows when a property has been defined, or that was rejected: a put throws a TypeError if it is asked to.
+/// What follows when a property has been defined, or that was rejected: a put throws a TypeError if it is asked to,
+/// and a builtin always.
 pub(crate) fn after_define<'p>(
     alloc: Global,
     state: &mut State<'p>,
@@ -110,6 +111,12 @@ pub(crate) fn after_define<'p>(
         WrittenBy::Put { throwing, gives } => {
             if throwing && !done {
                 return Ok(throw_native(alloc, state, ErrorKind::TypeError, "cannot write")?);
+            }
+            Ok(Act::Give(gives))
+        }
+        WrittenBy::Builtin { gives } => {
+            if !done {
+                return Ok(throw_native(alloc, state, ErrorKind::TypeError, "cannot define")?);
             }
             Ok(Act::Give(gives))
         }

@@ -9,7 +9,7 @@ use Rattle.jl_op.specs.declared.kind.OpKind.{OpKind}
 use Rattle.jl_op.specs.declared.kind_set.KindSet.{KindSet}
 use Rattle.jl_effects.specs.Running.{state_of as world_of}
 use Rattle.jl_meaning.specs.Mean as mean
-use Rattle.jl_machine.specs.Runs.{built_mean, ending_of, IsRun}
+use Rattle.jl_machine.specs.Runs.{hooked_mean, ending_of, IsRun}
 use Rattle.jl_machine.specs.declared.ending.Run.{Run}
 use Rattle.jl_app.specs.Answers.{budget, executed}
 use Rattle.jl_app.specs.OwnRuns.{ending_status, program_run, steps_line, uncaught_line}
@@ -17,9 +17,9 @@ use Rattle.jl_app.specs.declared.status.Status.{Status}
 
 -- the run that records all kinds is the run of the program
 pub of_all_kinds : (kinds : KindSet) → ((kind : OpKind) → is_member kinds kind ≡ true) → (p : Program Span) (n : ℕ)
-    → built_mean (is_member kinds) p n ≡ program_run p n
+    → hooked_mean (is_member kinds) p n ≡ program_run p n
 unfolding program_run
-of_all_kinds kinds all p n = ap (λ chosen. built_mean chosen p n) (fun_ext all)
+of_all_kinds kinds all p n = ap (λ chosen. hooked_mean chosen p n) (fun_ext all)
 
 -- the status and the bytes, of what was answered
 is_executed : {O : Type 0} {stands_for : O → List Operation → Type 0} {before : List Operation} {o : O} {r : Run}
@@ -39,7 +39,7 @@ is_executed {r = r} ran answer bytes is st b = (
 -- the same of the run of a program that was told of all kinds
 pub all_executed : {O : Type 0} {stands_for : O → List Operation → Type 0} {before : List Operation} {o : O} {r : Run}
     (kinds : KindSet) → ((kind : OpKind) → is_member kinds kind ≡ true) → (p : Program Span) (answer : Status)
-    (bytes : List ℕ) → IsRun stands_for before budget (built_mean (is_member kinds) p budget) r o
+    (bytes : List ℕ) → IsRun stands_for before budget (hooked_mean (is_member kinds) p budget) r o
     → answer ≡ ending_status r.outcome
     → bytes ≡ r.output ++ (uncaught_line r.store.heap r.outcome ++ steps_line r.outcome r.steps)
     → (answer ≡ (executed (program_run p budget)).status) × (bytes ≡ (executed (program_run p budget)).bytes)

@@ -2,9 +2,8 @@
 use Rattle.std.proofs.Common.{◌≡◌, ◌∙◌, ◌*◌, ◌+◌, ◌⊎◌, ℕ, List, Some, ap, refl, sym, subst}
 use Rattle.std.specs.Prelude.{IfSome}
 use Rattle.jl_ast.specs.Tree.{Program}
-use Rattle.jl_effects.specs.Running.{Ends, Fails, IsOver, Over, Spent, state_of as world_of, steps_taken}
+use Rattle.jl_effects.specs.Running.{IsOver, state_of as world_of, steps_taken}
 use Rattle.jl_effects.specs.Traces.{with_state, without_operations}
-use Rattle.jl_machine.specs.Built.{MeetsNoGap}
 use Rattle.jl_machine.specs.Runs.{ending_of}
 use Rattle.jl_meaning.specs.Mean as mean
 use Rattle.jl_port.specs.Bytes.{Grows}
@@ -15,7 +14,7 @@ use Rattle.jl_app.specs.Answers.{Due, IsAnswered, IsLinted, IsReported, accepted
 use Rattle.jl_app.specs.Answers.{hooked_run, lint_bytes, lint_status, ran, refused, unread, woven_budget}
 use Rattle.jl_app.specs.Commands.{words_of}
 use Rattle.jl_app.specs.Endings.{Call, EndsWith, HasAnswered, answered, no_memory, read_failed, write_failed}
-use Rattle.jl_app.specs.Headline.{IsAbout, IsAboutBeginning, IsAboutScript, TellsNoGap, own_run, woven_mean}
+use Rattle.jl_app.specs.Headline.{IsAbout, IsAboutBeginning, IsAboutScript, own_run, woven_mean}
 use Rattle.jl_app.specs.Headline.{woven_run}
 use Rattle.jl_app.specs.ReadBack.{IsReadBack}
 use Rattle.jl_app.specs.Refusals.{NeverBoth}
@@ -24,7 +23,6 @@ use Rattle.jl_app.specs.WovenText.{woven_text}
 use Rattle.jl_app.specs.declared.command.Command.{Command}
 use Rattle.jl_app.specs.declared.command.Command.TheVariants.{Check, Instrument, Lint, Map, Print, Run}
 use Rattle.jl_app.specs.declared.status.Status.{Status}
-use Rattle.jl_app.specs.declared.status.Status.TheVariants.{Fault}
 use Rattle.jl_app.specs.inner.Woven.{IsWovenWell}
 use Rattle.jl_app.proofs.AboutRuns.{about_own, about_script}
 use Rattle.jl_app.proofs.OwnRun.{same_run}
@@ -36,13 +34,6 @@ is_lint Print e = absurd (cc)
 is_lint Instrument e = absurd (cc)
 is_lint Map e = absurd (cc)
 is_lint Run e = absurd (cc)
-
--- a run that is not ended by a fault meets no gap
-meets_no_gap : (r : mean.Run) (lines : Lines) → (lint_status (ending_of r) lines ≡ Fault → MeetsNoGap r)
-    → MeetsNoGap r
-meets_no_gap (Over (Fails f) left w) lines tells = tells refl
-meets_no_gap (Over (Ends c) left w) lines tells = tt
-meets_no_gap (Spent w) lines tells = tt
 
 -- What holds of the answer to what the woven script means, without what it performs itself, holds of what `lint` answers.
 module _ (call : Call) (p : Program Span) (well : IsWovenWell p) (units : List ℕ) (Says : Status → Type 0) where
@@ -56,54 +47,52 @@ module _ (call : Call) (p : Program Span) (well : IsWovenWell p) (units : List �
   HoldsOfMeaning =
       (lines : Lines) (count : ℕ) → Holds (with_state without_operations (woven_mean p woven_budget)) lines count
 
-  linted_says : (due : Due) → TellsNoGap p due.status → HoldsOfMeaning → call.shelf.lent ≡ woven_text p
+  linted_says : (due : Due) → HoldsOfMeaning → call.shelf.lent ≡ woven_text p
       → IsLinted units p call.shelf.lent due → Grows call.written.0 call.written.1 due.bytes → call.knows due.told
       → Says due.status
-  linted_says _ tells says lent (unread none) grows knows =
+  linted_says _ says lent (unread none) grows knows =
       absurd (none well.back.program (subst (λ t. IsReadBack t well.back.program) (sym lent) well.back.read))
-  linted_says _ tells says lent (ran q lines count read report) grows knows =
+  linted_says _ says lent (ran q lines count read report) grows knows =
       let back = subst (λ t. IsReadBack t q) lent read in
       let same = same_run p q (well.back.same q back) in
-      let gap = meets_no_gap (woven_run p) lines
-      (λ fault. tells (ap (λ (r : mean.Run). lint_status (ending_of r) lines) same ∙ fault)) in
-      let is : hooked_run q ≡ with_state without_operations (woven_mean p woven_budget) = same ∙ well.runs gap in
+      let is : hooked_run q ≡ with_state without_operations (woven_mean p woven_budget) = same ∙ well.runs in
       subst (λ (r : mean.Run). Holds r lines count) (sym is) (says lines count) report grows knows
 
   answer_says : (one : OneReading) (never : NeverBoth) (bytes : List ℕ) (due : Due) → IsAccepted bytes p
-      → units_of bytes ≡ units → TellsNoGap p due.status → HoldsOfMeaning → call.shelf.lent ≡ call.shelf.handed
+      → units_of bytes ≡ units → HoldsOfMeaning → call.shelf.lent ≡ call.shelf.handed
       → IsAnswered Lint bytes call.shelf due → Grows call.written.0 call.written.1 due.bytes → call.knows due.told
       → Says due.status
-  answer_says one never bytes _ is same tells says lent (refused cause why kept) grows knows =
+  answer_says one never bytes _ is same says lent (refused cause why kept) grows knows =
       absurd (never bytes p cause is why)
-  answer_says one never bytes due is same tells says lent (accepted q a responds) grows knows =
+  answer_says one never bytes due is same says lent (accepted q a responds) grows knows =
       let program = one bytes q p a is in
-      linted_says due tells says (lent ∙ responds.0 ∙ ap woven_text program)
+      linted_says due says (lent ∙ responds.0 ∙ ap woven_text program)
       (subst (λ us. IsLinted us p call.shelf.lent due) same
       (subst (λ x. IsLinted (units_of bytes) x call.shelf.lent due) program responds.1)) grows knows
 
   says_so : {answer : Status} → (one : OneReading) (never : NeverBoth) → EndsWith call answer → (bytes : List ℕ)
       → call.held ≡ Some bytes → IsAccepted bytes p → call.words ≡ words_of Lint
-      → call.shelf.lent ≡ call.shelf.handed → HasAnswered answer → units_of bytes ≡ units → TellsNoGap p answer
+      → call.shelf.lent ≡ call.shelf.handed → HasAnswered answer → units_of bytes ≡ units
       → HoldsOfMeaning → Says answer
-  says_so one never (answered due (bad_words other kept) grows knows) bytes held is words lent answers same tells says =
+  says_so one never (answered due (bad_words other kept) grows knows) bytes held is words lent answers same says =
       absurd (other Lint words)
   says_so one never (answered due (answered_to c read words2 told l) grows knows) bytes held is words lent answers same
-      tells says =
+      says =
       let all : bytes ≡ read = subst (λ h. IfSome h (λ all. all ≡ read)) held told in
       let command : c ≡ Lint = is_lint c (sym words2 ∙ words) in
-      answer_says one never bytes due is same tells says lent
+      answer_says one never bytes due is same says lent
       (subst (λ b. IsAnswered Lint b call.shelf due) (sym all)
       (subst (λ d. IsAnswered d read call.shelf due) command l)) grows knows
-  says_so one never (write_failed due n is2 risen less grows knows) bytes held is words lent answers same tells says =
+  says_so one never (write_failed due n is2 risen less grows knows) bytes held is words lent answers same says =
       absurd answers
-  says_so one never (read_failed c words2 risen same2 kept knows) bytes held is words lent answers same tells says =
+  says_so one never (read_failed c words2 risen same2 kept knows) bytes held is words lent answers same says =
       absurd answers
-  says_so one never (no_memory same2) bytes held is words lent answers same tells says = absurd answers
+  says_so one never (no_memory same2) bytes held is words lent answers same says = absurd answers
 
 module _ {call : Call} {answer : Status} (one : OneReading) (never : NeverBoth) (ends : EndsWith call answer)
     (bytes : List ℕ) (p : Program Span) (well : IsWovenWell p) (held : call.held ≡ Some bytes)
     (is : IsAccepted bytes p) (words : call.words ≡ words_of Lint) (lent : call.shelf.lent ≡ call.shelf.handed)
-    (answers : HasAnswered answer) (tells : TellsNoGap p answer) where
+    (answers : HasAnswered answer) where
   abbrev about : Program Span → ℕ → Status → Type 0
   about p n s = IsAbout call (units_of bytes) p n (own_run p n) s
 
@@ -113,14 +102,14 @@ module _ {call : Call} {answer : Status} (one : OneReading) (never : NeverBoth) 
 
   in_time : IsOver (own_run p budget) → about p budget answer
   in_time over =
-      says_so call p well (units_of bytes) (about p budget) one never ends bytes held is words lent answers refl tells
+      says_so call p well (units_of bytes) (about p budget) one never ends bytes held is words lent answers refl
       (λ lines count report grows knows. about_own call (units_of bytes) p (own_run p) (woven_mean p) well.simulates
       woven_budget lines count report grows knows budget (31 * budget + 64) refl refl
       (well.longer budget (31 * budget + 64)) over)
 
   in_any_case : about_some p answer
   in_any_case =
-      says_so call p well (units_of bytes) (about_some p) one never ends bytes held is words lent answers refl tells
+      says_so call p well (units_of bytes) (about_some p) one never ends bytes held is words lent answers refl
       (λ lines count report grows knows. about_script call (units_of bytes) p (own_run p) (woven_mean p) well.simulates
       woven_budget lines count report grows knows refl)
 

@@ -2,7 +2,7 @@
 use Rattle.std.proofs.Common.{◌≡◌, ◌∙◌, ◌++◌, ◌<◌, ◌^◌, ℕ, List, [], ap, length, subst, true}
 use Rattle.jl_ast.specs.Tree.{Program}
 use Rattle.jl_effects.specs.Running.{state_of as world_of}
-use Rattle.jl_machine.specs.Runs.{built_mean, ending_of, IsRun}
+use Rattle.jl_machine.specs.Runs.{hooked_mean, ending_of, IsRun}
 use Rattle.jl_machine.specs.declared.ending.Run.{Run}
 use Rattle.jl_meaning.specs.Store.{Store}
 use Rattle.jl_op.specs.KindSets.{is_member}
@@ -18,7 +18,7 @@ use Rattle.jl_app.proofs.Executing.{of_all_kinds}
 
 module _ {O : Type 0} (stands_for : O → List Operation → Type 0) (o : O) (r : Run) (kinds : KindSet)
     (all : (kind : OpKind) → is_member kinds kind ≡ true) (q : Program Span)
-    (is : IsRun stands_for [] woven_budget (built_mean (is_member kinds) q woven_budget) r o) where
+    (is : IsRun stands_for [] woven_budget (hooked_mean (is_member kinds) q woven_budget) r o) where
   is_hooked : IsRun stands_for [] woven_budget (hooked_run q) r o
   is_hooked = subst (λ ran. IsRun stands_for [] woven_budget ran r o) (of_all_kinds kinds all q woven_budget) is
 

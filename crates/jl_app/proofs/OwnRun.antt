@@ -6,8 +6,7 @@ use Rattle.jl_effects.specs.Growing.{IsLonger}
 use Rattle.jl_effects.specs.Matching.{Simulates}
 use Rattle.jl_effects.specs.Running.{nothing_done, run}
 use Rattle.jl_effects.specs.Traces.{quietly, with_state, without_operations}
-use Rattle.jl_machine.specs.Built.{MeetsNoGap}
-use Rattle.jl_machine.specs.Runs.{built_mean}
+use Rattle.jl_machine.specs.Runs.{hooked_mean}
 use Rattle.jl_meaning.specs.FunctionTable.{function_table}
 use Rattle.jl_meaning.specs.Mean.{language, mean, script}
 use Rattle.jl_meaning.specs.Realm.{realm}
@@ -16,7 +15,7 @@ use Rattle.jl_quiet.proofs.Bare.{without_again}
 use Rattle.jl_quiet.specs.QuietMean.{QuietMeans, quiet_mean, without_ids}
 use Rattle.jl_simulation.specs.Simulation.{WovenSimulates}
 use Rattle.jl_simulation.specs.Weaving.{woven_program}
-use Rattle.jl_state.specs.Jobs.{job}
+use Rattle.jl_meaning.specs.Jobs.{job}
 use Rattle.jl_text.specs.declared.span.Span.{Span}
 use Rattle.jl_app.specs.Answers.{woven_budget}
 use Rattle.jl_app.specs.Headline.{own_run, woven_mean, woven_run}
@@ -33,38 +32,34 @@ pub own_longer : ((chosen : Kinds) (p : Program Span) (n d : ℕ)
 unfolding own_run
 own_longer law p n d = law every_kind p n d
 
--- without a gap, what is built of a program is what it means, as that looks from its hooks
-built_is_quiet : (w : Program (Unit {0})) (n : ℕ) → QuietMeans every_kind w
-    → quiet_mean every_kind w n ≡ built_mean every_kind w n
-    → built_mean every_kind w n ≡ with_state without_operations (mean every_kind w n)
-built_is_quiet w n means built = sym built ∙ sym (means n)
+-- what the machine comes to is what the program means, as that looks from its hooks
+hooked_is_quiet : (w : Program (Unit {0})) (n : ℕ) → QuietMeans every_kind w
+    → quiet_mean every_kind w n ≡ hooked_mean every_kind w n
+    → hooked_mean every_kind w n ≡ with_state without_operations (mean every_kind w n)
+hooked_is_quiet w n means hooked = sym hooked ∙ sym (means n)
 
 runs_with : ((chosen : Kinds) (w : Program (Unit {0})) → QuietMeans chosen w)
-    → ((chosen : Kinds) (w : Program (Unit {0})) (n : ℕ) → MeetsNoGap (built_mean chosen w n)
-    → quiet_mean chosen w n ≡ built_mean chosen w n)
-    → (p : Program Span) (n : ℕ) → MeetsNoGap (program_run (woven_program every_kind p) n)
-    → program_run (woven_program every_kind p) n ≡ with_state without_operations (woven_mean p n)
+    → ((chosen : Kinds) (w : Program (Unit {0})) (n : ℕ) → quiet_mean chosen w n ≡ hooked_mean chosen w n)
+    → (p : Program Span) (n : ℕ) → program_run (woven_program every_kind p) n ≡ with_state without_operations (woven_mean p n)
 unfolding program_run woven_mean
-runs_with means built p n gap =
+runs_with means hooked p n =
     let w = woven_program every_kind p in
-    built_is_quiet w n (means every_kind w) (built every_kind w n gap)
+    hooked_is_quiet w n (means every_kind w) (hooked every_kind w n)
 
 -- so is the run of the woven script, whose steps stand in a word that is not opened here
 pub woven_runs : ((chosen : Kinds) (w : Program (Unit {0})) → QuietMeans chosen w)
-    → ((chosen : Kinds) (w : Program (Unit {0})) (n : ℕ) → MeetsNoGap (built_mean chosen w n)
-    → quiet_mean chosen w n ≡ built_mean chosen w n)
-    → (p : Program Span) → MeetsNoGap (woven_run p)
-    → woven_run p ≡ with_state without_operations (woven_mean p woven_budget)
+    → ((chosen : Kinds) (w : Program (Unit {0})) (n : ℕ) → quiet_mean chosen w n ≡ hooked_mean chosen w n)
+    → (p : Program Span) → woven_run p ≡ with_state without_operations (woven_mean p woven_budget)
 unfolding woven_run
-woven_runs means built p gap = runs_with means built p woven_budget gap
+woven_runs means hooked p = runs_with means hooked p woven_budget
 
 same_ids : (q : Program Span) (w : Program (Unit {0})) → without_spans q ≡ w → without_ids q ≡ without_ids w
 same_ids q w is = sym (without_again (λ s. tt) q) ∙ ap (λ (r : Program (Unit {0})). without_ids r) is
 
-same_built : (q : Program Span) (w : Program (Unit {0})) (n : ℕ) → without_spans q ≡ w
-    → built_mean every_kind q n ≡ built_mean every_kind w n
-unfolding built_mean
-same_built q w n is =
+same_hooked : (q : Program Span) (w : Program (Unit {0})) (n : ℕ) → without_spans q ≡ w
+    → hooked_mean every_kind q n ≡ hooked_mean every_kind w n
+unfolding hooked_mean
+same_hooked q w n is =
     ap (λ (r : Program ℕ). run language (quietly (is_kept every_kind)) (job (function_table r)) n (script r)
     (nothing_done realm)) (same_ids q w is)
 
@@ -72,4 +67,4 @@ same_built q w n is =
 pub same_run : (p q : Program Span) → without_spans q ≡ woven_program every_kind p
     → program_run q woven_budget ≡ woven_run p
 unfolding woven_run program_run
-same_run p q is = same_built q (woven_program every_kind p) woven_budget is
+same_run p q is = same_hooked q (woven_program every_kind p) woven_budget is

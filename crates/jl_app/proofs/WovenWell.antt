@@ -4,8 +4,7 @@ use Rattle.jl_ast.specs.Tree.{Program}
 use Rattle.jl_effects.specs.Growing.{IsLonger}
 use Rattle.jl_grammar.specs.Laws.{OneReading}
 use Rattle.jl_grammar.specs.Program.{Reads}
-use Rattle.jl_machine.specs.Built.{MeetsNoGap}
-use Rattle.jl_machine.specs.Runs.{built_mean}
+use Rattle.jl_machine.specs.Runs.{hooked_mean}
 use Rattle.jl_meaning.specs.Mean.{mean}
 use Rattle.jl_op.specs.Chosen.{every_kind, Kinds}
 use Rattle.jl_quiet.specs.QuietMean.{QuietMeans, quiet_mean}
@@ -38,13 +37,12 @@ pub woven_well : ((chosen : Kinds) (ts : List Token) (limit : ℕ) (p : Program 
     → early_errors_of p ≡ [] → length ts < 1073741823 → WovenSimulates chosen p)
     → WovenReadsBack → WovenTextIsBounded → FirstIsReservedName → OneReading
     → ((chosen : Kinds) (w : Program (Unit {0})) → QuietMeans chosen w)
-    → ((chosen : Kinds) (w : Program (Unit {0})) (n : ℕ) → MeetsNoGap (built_mean chosen w n)
-    → quiet_mean chosen w n ≡ built_mean chosen w n)
+    → ((chosen : Kinds) (w : Program (Unit {0})) (n : ℕ) → quiet_mean chosen w n ≡ hooked_mean chosen w n)
     → ((chosen : Kinds) (p : Program Span) (n d : ℕ) → IsLonger d (mean chosen p n) (mean chosen p (n + d)))
     → (bytes : List ℕ) (p : Program Span) → IsAccepted bytes p → IsWovenWell p
-woven_well simulates reads bounded keeps one means built longer bytes p is = record {
+woven_well simulates reads bounded keeps one means hooked longer bytes p is = record {
   simulates = own_simulates p (simulates every_kind is.tokens 200 p is.read (nothing_wrong bytes p is) (few bytes p is));
   back = back_to_woven reads bounded keeps one bytes p is;
-  runs = woven_runs means built p;
+  runs = woven_runs means hooked p;
   longer = own_longer longer p;
 }

@@ -3,7 +3,6 @@ use Rattle.std.specs.Prelude.{◌≡◌, ℕ, ◌≤◌, ◌*◌, ◌+◌, ◌++
 use Rattle.jl_ast.specs.Tree.{Program}
 use Rattle.jl_effects.specs.Growing.{IsPrefix}
 use Rattle.jl_effects.specs.Running.{IsOver, state_of as world_of, steps_taken}
-use Rattle.jl_machine.specs.Built.{MeetsNoGap}
 use Rattle.jl_machine.specs.Runs.{ending_of}
 use Rattle.jl_meaning.specs.Mean as mean
 use Rattle.jl_op.specs.Chosen.{every_kind}
@@ -30,10 +29,6 @@ woven_mean p n = mean.mean every_kind (woven_program every_kind p) n
 -- the run of the woven script
 unfoldable pub woven_run : Program Span → mean.Run
 woven_run p = program_run (woven_program every_kind p) woven_budget
-
--- The answer tells of no builtin that is not built: of no fault at all, or of another one.
-abbrev pub TellsNoGap : Program Span → (answer : Status) → Type 0
-TellsNoGap p answer = answer ≡ status.Fault → MeetsNoGap (woven_run p)
 
 -- The answer is about this run of the script p with n steps, which is over. The script stands in a source of these
 -- units. What was written begins with what the run printed; the lines are those of the run's operations, which the

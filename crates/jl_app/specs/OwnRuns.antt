@@ -9,13 +9,13 @@ use Rattle.jl_value.specs.declared.ending.Outcome.TheVariants as ending
 use Rattle.jl_heap.specs.Describe.{description_of}
 use Rattle.jl_heap.specs.Objects.{Objects}
 use Rattle.jl_meaning.specs.Mean.{Run}
-use Rattle.jl_machine.specs.Runs.{built_mean}
+use Rattle.jl_machine.specs.Runs.{hooked_mean}
 use Rattle.jl_app.specs.declared.status.Status.{Status}
 use Rattle.jl_app.specs.declared.status.Status.TheVariants as status
 
 -- the run of a program with so many steps; it calls no hook, so it is the same whichever kinds are recorded
 unfoldable pub program_run : {S : Type 0} → Program S → (steps : ℕ) → Run
-program_run p n = built_mean (λ kind. true) p n
+program_run p n = hooked_mean (λ kind. true) p n
 
 -- how it ended, in words
 abbrev pub ending_text : Ending → List ℕ

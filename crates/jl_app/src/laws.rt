@@ -6,7 +6,7 @@ ghost use Rattle.jl_app.specs.inner.Woven.{IsWovenWell};
 ghost use Rattle.jl_app.specs.Accepting.{IsAccepted, OneReading};
 ghost use Rattle.jl_app.specs.Refusals.{NeverBoth, AcceptedOrRefused};
 
-use jl_machine::laws::built_runs_are_meant;
+use jl_machine::laws::runs_are_meant;
 use jl_meaning::laws::more_budget;
 use jl_quiet::laws::quiet_means;
 use jl_read_back::laws::{woven_keeps_rules, woven_reads_back, woven_text_is_bounded};
@@ -33,7 +33,7 @@ pub(crate) fn scripts_are_woven_well()
     ensures { (bytes : List ℕ) (p : Program Span) → IsAccepted bytes p → IsWovenWell p }
 {
     accepted_scripts_simulate();
-    built_runs_are_meant::<()>();
+    runs_are_meant::<()>();
     more_budget::<jl_text::Span>();
     quiet_means::<()>();
     jl_grammar::laws::one_reading();

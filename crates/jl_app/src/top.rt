@@ -8,7 +8,7 @@ ghost use Rattle.jl_app.specs.Accepting.{IsAccepted};
 ghost use Rattle.jl_app.specs.Answers.{Due, IsDue};
 ghost use Rattle.jl_app.specs.Commands.{texts, words_of};
 ghost use Rattle.jl_app.specs.Endings.{EndsWith, HasAnswered};
-ghost use Rattle.jl_app.specs.Headline.{IsAboutScript, TellsNoGap};
+ghost use Rattle.jl_app.specs.Headline.{IsAboutScript};
 ghost use Rattle.jl_app.specs.declared.command.Command.{Command as Named};
 ghost use Rattle.jl_app.specs.declared.command.Command.TheVariants as named;
 ghost use Rattle.jl_app.specs.declared.top.Unanswered.TheVariants.{NoMemory};
@@ -108,10 +108,10 @@ pub fn jlint<S: Source, K: Sink, H: Shelf>(
       knows = λ told. ⟦<Crowd as Observer>⟧.stands_for crowd.new told;
     }) result }
     // For a source that tells its bytes and a shelf that lends what it was handed, the answer to an accepted script is
-    // about the script's own run, as long as it tells of no builtin that is not built.
+    // about the script's own run.
     ensures headline { (bytes : List ℕ) (p : Tree Span) → S.left source.old ≡ Some bytes → IsAccepted bytes p
         → texts words.now ≡ words_of named.Lint → H.lent shelf.new ≡ H.handed shelf.new → HasAnswered result
-        → TellsNoGap p result → IsAboutScript (record {
+        → IsAboutScript (record {
           words = texts words.now;
           held = S.left source.old;
           read_faults = (S.faults source.old, S.faults source.new);

@@ -18,7 +18,7 @@ use Rattle.jl_meaning.specs.Parts as parts
 use Rattle.jl_meaning.specs.Statements.{execute_all}
 use Rattle.jl_meaning.specs.Store.{Store}
 use Rattle.jl_meaning.specs.forms.Functions.{leave_function, result_of, run_body, run_function}
-use Rattle.jl_state.specs.Jobs.{job}
+use Rattle.jl_meaning.specs.Jobs.{job}
 use Rattle.jl_state.specs.Rest.{as_completion, as_value, handed, rest, rest_of, run_in, run_state, Completes, Gives}
 use Rattle.jl_state.specs.Rest.{Completion-given}
 use Rattle.jl_state.specs.Trees.{plain, plain_forest}

@@ -6,7 +6,7 @@ use Rattle.jl_effects.specs.Effects.{Look}
 use Rattle.jl_meaning.specs.FunctionObjects.{FunctionTable}
 use Rattle.jl_meaning.specs.Parts.{begin_call, give, Answer, CallOf, Part}
 use Rattle.jl_meaning.specs.Parts as parts
-use Rattle.jl_state.specs.Jobs.{begin_inside}
+use Rattle.jl_meaning.specs.Jobs.{call_inside}
 use Rattle.jl_state.specs.Rest.{Gives}
 use Rattle.jl_state.specs.Steps.{RanOut, Took}
 use Rattle.jl_state.specs.Words.{table_of}
@@ -17,7 +17,7 @@ use Rattle.jl_state.proofs.Steps.{begins_call}
 
 -- what a call does after its step
 abbrev entry : FunctionTable → parts.Call → Part (Answer Value)
-entry table call = Look (λ store. begin_inside table store.heap call (object_at store.heap call.callee.0).inner)
+entry table call = Look (λ store. call_inside table store.heap call (object_at store.heap call.callee.0).inner)
 
 pub spends : (s t : State) (call : parts.Call) → t ≡ s → RanOut s → Gives s (begin_call CallOf call) t act.Spent
 spends s t call same out =
@@ -26,7 +26,7 @@ spends s t call same out =
     (out.gives (entry (table_of s.functions) call)))
 
 pub begins : (s t : State) (call : parts.Call) (u : State) (a : Act) → Took s t → t.functions ≡ s.functions
-    → Gives t (begin_inside (table_of t.functions) t.store.heap call (object_at t.store.heap call.callee.0).inner) u a
+    → Gives t (call_inside (table_of t.functions) t.store.heap call (object_at t.store.heap call.callee.0).inner) u a
     → Gives s (begin_call CallOf call) u a
 begins s t call u a took functions leads =
     begins_call s call (entry (table_of s.functions) call) u a refl

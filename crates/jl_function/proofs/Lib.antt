@@ -2,6 +2,3 @@ pub mod Bodies
 pub mod Callees
 pub mod Constructions
 pub mod Entries
-pub mod Messages
-pub mod Lines
-pub mod Rows

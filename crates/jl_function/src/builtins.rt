@@ -1,77 +1,47 @@
-//! The builtins that are built, by their rows (clause 15).
-ghost use Rattle.std.specs.Prelude.{◌≡◌, ◌+◌, ◌≤◌, true, IfOk};
-ghost use Rattle.jl_meaning.specs.builtins.Function.{names_of, FunctionNames};
+//! Builtins, by their rows (clause 15).
+ghost use Rattle.std.specs.Prelude.{◌≡◌, ◌+◌, ◌≤◌, ◌<◌, IfOk};
+ghost use Rattle.jl_meaning.specs.builtins.Function.{names_of};
 ghost use Rattle.jl_meaning.specs.builtins.Table.{builtin};
-ghost use Rattle.jl_state.specs.AlgorithmFrames.{progress_after};
-ghost use Rattle.jl_state.specs.Jobs.{begin_builtin, is_built};
-ghost use Rattle.jl_state.specs.Rank.{Falls, rank_progress};
+ghost use Rattle.jl_progress.specs.Progress.{progress_after, rank_progress};
+ghost use Rattle.jl_state.specs.Rank.{Falls};
 ghost use Rattle.jl_state.specs.Rest.{Works};
 ghost use Rattle.jl_state.specs.Words.{call_of, table_of};
 
-use crate::errors::{
-    error_constructor, error_to_string, step_error_message, step_error_name,
-    step_error_name_primitive, step_error_text, step_error_text_primitive,
-};
-use crate::printing::{print, step_print};
-use jl_algorithm::throw_native;
-use jl_state::{Act, Invocation, Progress, State};
+use jl_builtin::fill_array;
+use jl_lib_array as array;
+use jl_lib_array_call as array_call;
+use jl_lib_misc as misc;
+use jl_lib_object::{resume_function, resume_object, start_function, start_object};
+use jl_lib_text as text;
+use jl_progress::Progress;
+use jl_state::{Act, Invocation, State};
 use jl_text::NoMemory;
-use jl_value::{Builtin, ErrorKind, Fault, ObjId, Value};
+use jl_value::{Builtin, Value};
 use std::alloc::Global;
 
-/// Whether the builtin of a row is built.
-#[tactic(auto, unfolding(jl_state::specs::Jobs::is_built))]
-fn is_built(row: u16) -> bool
-    ensures { result ≡ is_built row }
-{
-    row == 27 || row == 72 || row == 73 || (87 <= row && row <= 94)
-}
-
-/// A builtin is called. The call of one that isn't built ends the run.
-#[tactic(auto, unfolding(jl_state::specs::Jobs::begin_builtin))]
+/// A builtin is called.
 pub(crate) fn begin_builtin<'p>(
     alloc: Global,
     state: &mut State<'p>,
     called: Builtin,
-    call: &Invocation,
+    call: Invocation,
 ) -> Result<Act<'p>, NoMemory>
     ensures leads { IfOk result (λ act. Works state.old
-        (begin_builtin (names_of (table_of state.old.functions)) called (call_of call.now)) state.new act) }
-    ensures falls { IfOk result (λ act. Falls state.old 84 state.new act) }
+        (builtin (names_of (table_of state.old.functions)) called (call_of call)) state.new act) }
+    ensures falls { IfOk result (λ act. Falls state.old 400 state.new act) }
 {
     let row = called.row();
-    if !is_built(row) {
-        return Ok(Act::Fault(Fault::Unsupported(called)));
+    match row {
+        0..20 => Ok(start_object(alloc, state, row, call)?),
+        20..28 => Ok(start_function(alloc, state, row, call)?),
+        28 | 29 | 38 | 42..51 => Ok(array_call::start(alloc, state, row, call)?),
+        30..51 => Ok(array::start(alloc, state, row, call)?),
+        51..72 => Ok(text::start(alloc, state, row, call)?),
+        _ => Ok(misc::start(alloc, state, row, call)?),
     }
-    Ok(begin_row(alloc, state, row, call)?)
 }
 
-/// The builtin of a row is called.
-fn begin_row<'p>(
-    alloc: Global,
-    state: &mut State<'p>,
-    row: u16,
-    call: &Invocation,
-) -> Result<Act<'p>, NoMemory>
-    requires { is_built row ≡ true }
-    ensures leads { IfOk result (λ act. (names : FunctionNames) → Works state.old
-        (builtin names row (call_of call.now)) state.new act) }
-    ensures falls { IfOk result (λ act. Falls state.old 84 state.new act) }
-{
-    if row == 27 {
-        return Ok(throw_native(alloc, state, ErrorKind::TypeError, "forbidden")?);
-    }
-    if row == 94 {
-        return Ok(error_to_string(alloc, state, call)?);
-    }
-    // Of the rows below those of the errors, `print` and `console.log` are left.
-    if row < 87 {
-        return Ok(print(alloc, state, call.args.items())?);
-    }
-    Ok(error_constructor(alloc, state, ObjId(usize::from(row) - 80), call)?)
-}
-
-/// A builtin goes on with a value.
+/// A builtin goes on with the value that it waited for.
 pub fn step_progress<'p>(
     alloc: Global,
     state: &mut State<'p>,
@@ -82,20 +52,18 @@ pub fn step_progress<'p>(
     ensures falls { IfOk result (λ act. Falls state.old (rank_progress progress + 2) state.new act) }
 {
     match progress {
-        Progress::Print {
-            line,
-            is_first,
-            args,
+        Progress::Object(progress) => Ok(resume_object(alloc, state, progress, v)?),
+        Progress::Function(progress) => Ok(resume_function(alloc, state, progress, v)?),
+        Progress::Array(progress) => Ok(array::resume(alloc, state, progress, v)?),
+        Progress::ArrayCall(progress) => Ok(array_call::resume(alloc, state, progress, v)?),
+        Progress::String(progress) => Ok(text::resume(alloc, state, progress, v)?),
+        Progress::Global(progress) => Ok(misc::resume_global(alloc, state, progress, v)?),
+        Progress::Number(progress) => Ok(misc::resume_number(alloc, state, progress, v)?),
+        Progress::Error(progress) => Ok(misc::resume_error(alloc, state, progress, v)?),
+        Progress::Fill {
+            array,
+            values,
             from,
-        } => Ok(step_print(alloc, state, line, is_first, args, from, &v)?),
-        Progress::ErrorMessage { proto } => Ok(step_error_message(alloc, state, proto, &v)?),
-        Progress::ErrorName { object } => Ok(step_error_name(alloc, state, object, v)?),
-        Progress::ErrorNamePrimitive { object } => {
-            Ok(step_error_name_primitive(alloc, state, object, &v)?)
-        }
-        Progress::ErrorText { name } => Ok(step_error_text(alloc, state, name, v)?),
-        Progress::ErrorTextPrimitive { name } => {
-            Ok(step_error_text_primitive(alloc, state, name, &v)?)
-        }
+        } => Ok(fill_array(alloc, state, array, values, from)?),
     }
 }

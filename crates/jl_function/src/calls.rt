@@ -1,16 +1,16 @@
 //! Calls begun (13.2, 15.3.4.5).
 ghost use Rattle.std.specs.Prelude.{◌≡◌, IfOk};
 ghost use Rattle.jl_heap.specs.Objects.{object_at};
+ghost use Rattle.jl_meaning.specs.Jobs.{call_inside};
 ghost use Rattle.jl_meaning.specs.Parts.{begin_call, CallOf};
-ghost use Rattle.jl_state.specs.Jobs.{begin_inside};
 ghost use Rattle.jl_state.specs.Rank.{Falls};
 ghost use Rattle.jl_state.specs.Rest.{Gives};
 ghost use Rattle.jl_state.specs.Words.{call_of, table_of};
 
 use crate::bound::call_bound;
 use crate::builtins::begin_builtin;
-use crate::lists::{copy_of, with_values};
 use crate::script::begin_script;
+use jl_builtin::{copy_of, with_values};
 use jl_heap::Inner;
 use jl_state::{Act, Invocation, State};
 use jl_text::NoMemory;
@@ -33,16 +33,15 @@ pub fn begin_call<'p>(
 }
 
 /// The function of a call is entered, by what the callee is inside. An object that is no function gives undefined.
-#[tactic(auto, unfolding(jl_state::specs::Jobs::begin_inside))]
 fn begin_inside<'p>(
     alloc: Global,
     state: &mut State<'p>,
     call: Invocation,
 ) -> Result<Act<'p>, NoMemory>
     ensures leads { IfOk result (λ act. Gives state.old
-        (begin_inside (table_of state.old.functions) state.old.store.heap (call_of call)
+        (call_inside (table_of state.old.functions) state.old.store.heap (call_of call)
         (object_at state.old.store.heap call.callee.0).inner) state.new act) }
-    ensures falls { IfOk result (λ act. Falls state.old 84 state.new act) }
+    ensures falls { IfOk result (λ act. Falls state.old 400 state.new act) }
 {
     match state.store.inner_of(call.callee) {
         Inner::Script { function, env } => {
@@ -52,7 +51,7 @@ fn begin_inside<'p>(
         }
         Inner::Native(builtin) => {
             let builtin = *builtin;
-            Ok(begin_builtin(alloc, state, builtin, &call)?)
+            Ok(begin_builtin(alloc, state, builtin, call)?)
         }
         Inner::Bound { target, this, args } => {
             let target = *target;

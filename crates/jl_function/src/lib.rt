@@ -4,9 +4,6 @@
 mod bound;
 mod builtins;
 mod calls;
-mod errors;
-mod lists;
-mod printing;
 mod results;
 mod script;
 

@@ -18,7 +18,7 @@ use Rattle.jl_state.specs.declared.frame.Here.{Here}
 use Rattle.jl_state.specs.declared.state.State.{State}
 use Rattle.jl_store.specs.Plain.{code_in}
 use Rattle.jl_machine.specs.Going.{kept_by, over, Goes, GoesTo, Heard}
-use Rattle.jl_machine.specs.Runs.{built_mean, steps_of, IsRun}
+use Rattle.jl_machine.specs.Runs.{hooked_mean, steps_of, IsRun}
 use Rattle.jl_machine.specs.Starts.{program_body, IsStart}
 use Rattle.jl_machine.specs.declared.ending.Next.TheVariants as next
 use Rattle.jl_machine.specs.declared.ending.Run.{Run}
@@ -71,11 +71,11 @@ module _ {O : Type 0} (stands_for : O → List Operation → Type 0) (before : L
       (context_of s.calls (record { env = 0; strict = strict }))) t a
       → Goes stands_for kinds o 0 t a o' count u (next.Over end) → steps ≡ steps_of end budget u.left
       → stands_for o before
-      → IsRun stands_for before budget (built_mean (is_member kinds) p budget) (answer_of end u count steps) o'
+      → IsRun stands_for before budget (hooked_mean (is_member kinds) p budget) (answer_of end u count steps) o'
   runs kinds p strict s t u a end o o' count steps start is leads goes counted stands =
       let here_of : Bool → Here = λ b. record { env = 0; strict = b } in
       let same = leads.is (kept_by kinds) []
       ∙ begins (is_member kinds) p budget (here_of strict) s start (ap here_of (is ∙ sym (strict_plain p.body))) in
-      subst (λ n. IsRun stands_for before budget (built_mean (is_member kinds) p budget) (answer_of end u count n) o')
+      subst (λ n. IsRun stands_for before budget (hooked_mean (is_member kinds) p budget) (answer_of end u count n) o')
       (sym counted)
-      (ran kinds end t u a o o' count (built_mean (is_member kinds) p budget) goes same stands)
+      (ran kinds end t u a o o' count (hooked_mean (is_member kinds) p budget) goes same stands)

@@ -1,6 +1,5 @@
 pub mod Acts
 pub mod Continuing
-pub mod Cutting
 pub mod Ends
 pub mod Hearing
 pub mod Meanings

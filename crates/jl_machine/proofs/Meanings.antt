@@ -27,7 +27,7 @@ use Rattle.jl_meaning.specs.Realm.{realm}
 use Rattle.jl_meaning.specs.Statements.{execute_all}
 use Rattle.jl_meaning.specs.Store.{Store}
 use Rattle.jl_meaning.specs.forms.Functions.{run_body}
-use Rattle.jl_state.specs.Jobs.{job}
+use Rattle.jl_meaning.specs.Jobs.{job}
 use Rattle.jl_state.specs.Rest.{as_completion, rest, rest_of, run_in, Completes, Completion-given}
 use Rattle.jl_state.specs.Trees.{plain, plain_forest}
 use Rattle.jl_state.specs.Words.{context_of, table_of}
@@ -44,7 +44,7 @@ use Rattle.jl_store.specs.Plain.{code_in, plain_code}
 use Rattle.jl_store.specs.declared.answer.Answer.{Answer as Answered}
 use Rattle.jl_store.specs.declared.answer.Answer.TheVariants.{Gives, Throws}
 use Rattle.jl_store.proofs.Trees.{body_plain}
-use Rattle.jl_machine.specs.Runs.{built_mean}
+use Rattle.jl_machine.specs.Runs.{hooked_mean}
 use Rattle.jl_machine.specs.Starts.{program_body, IsStart}
 
 -- what a program declares is bound
@@ -168,8 +168,8 @@ pub begins : (chosen : Kinds) (p : Program Span) (budget : ℕ) (here : Here) (s
     → run_in (is_kept chosen) [] s
     (and_then (as_completion (program_body (table_of s.functions) (plain p.body) (code_in 0 here.strict)
     (context_of s.calls here))) (rest_of s))
-    ≡ built_mean chosen p budget
-unfolding built_mean
+    ≡ hooked_mean chosen p budget
+unfolding hooked_mean
 begins chosen p budget here s start is =
     begins_there (is_kept chosen) (plain p.body) budget here s start.store start.functions start.calls start.stack
     start.output start.left is

@@ -1,4 +1,3 @@
-pub mod Built
 pub mod Going
 pub mod Handed
 pub mod Runs

@@ -5,24 +5,17 @@ use Rattle.jl_value.specs.declared.ending.Completion.TheVariants as completion
 use Rattle.jl_value.specs.declared.ending.Fault.TheVariants.{Misuse}
 use Rattle.jl_value.specs.declared.ending.Outcome.{Outcome as Ending}
 use Rattle.jl_value.specs.declared.ending.Outcome.TheVariants as ending
-use Rattle.jl_op.specs.Chosen.{is_kept, Kinds}
+use Rattle.jl_op.specs.Chosen.{Kinds}
 use Rattle.jl_op.specs.Operations.{Operation}
-use Rattle.jl_effects.specs.Running.{nothing_done, run, state_of, steps_taken, Ends, Fails, Over, Spent}
-use Rattle.jl_effects.specs.Traces.{quietly}
-use Rattle.jl_meaning.specs.FunctionTable.{function_table}
-use Rattle.jl_meaning.specs.Mean.{language, script}
+use Rattle.jl_effects.specs.Running.{state_of, steps_taken, Ends, Fails, Over, Spent}
 use Rattle.jl_meaning.specs.Mean as mean
-use Rattle.jl_meaning.specs.Realm.{realm}
-use Rattle.jl_quiet.specs.QuietMean.{without_ids}
-use Rattle.jl_state.specs.Jobs.{job}
+use Rattle.jl_quiet.specs.QuietMean.{quiet_mean}
 use Rattle.jl_machine.specs.declared.ending.Run.{Run}
 
--- What a program comes to from the realm with so many steps, as it looks from its hooks, where a call of a builtin that
--- is not built ends the run.
-unfoldable pub built_mean : {S : Type 0} → Kinds → Program S → (steps : ℕ) → mean.Run
-built_mean chosen p n =
-    run language (quietly (is_kept chosen)) (job (function_table (without_ids p))) n (script (without_ids p))
-    (nothing_done realm)
+-- What a program means with so many steps, as it looks from its hooks. It is a word of its own, since the steps of a
+-- contract may be a numeral, of which no run is to be unfolded.
+unfoldable pub hooked_mean : {S : Type 0} → Kinds → Program S → (steps : ℕ) → mean.Run
+hooked_mean chosen p n = quiet_mean chosen p n
 
 -- how a run ended; a program ends normally or by what it throws
 abbrev pub ending_of : mean.Run → Ending

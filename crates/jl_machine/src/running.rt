@@ -3,7 +3,7 @@ ghost use Rattle.std.specs.Prelude.{◌≡◌, IfOk, List as Items, OnOk};
 ghost use Rattle.jl_ast.specs.View.{view};
 ghost use Rattle.jl_op.specs.KindSets.{is_member};
 ghost use Rattle.jl_op.specs.Operations.{Operation};
-ghost use Rattle.jl_machine.specs.Runs.{built_mean, steps_of, IsRun};
+ghost use Rattle.jl_machine.specs.Runs.{hooked_mean, steps_of, IsRun};
 
 use crate::advancing::run_to_end;
 use crate::ending::Run;
@@ -41,7 +41,7 @@ pub fn run<O: Observer>(
     observer: &mut O,
 ) -> Result<Run, NoMemory>
     ensures is { (before : Items Operation) → O.stands_for observer.old before → IfOk result (λ r.
-        IsRun O.stands_for before budget (built_mean (is_member kinds) (view program.now) budget) r observer.new) }
+        IsRun O.stands_for before budget (hooked_mean (is_member kinds) (view program.now) budget) r observer.new) }
     ensures accepted { OnOk result (O.has_refused observer.new ≡ O.has_refused observer.old) }
     ensures fixed { O.fixed observer.new ≡ O.fixed observer.old }
 {

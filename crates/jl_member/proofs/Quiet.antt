@@ -13,7 +13,7 @@ use Rattle.jl_value.specs.declared.ending.Completion.{Completion}
 use Rattle.jl_meaning.specs.Mean.{language}
 use Rattle.jl_meaning.specs.Parts.{given, gives, throws, ◌>>=◌, Answer, Part}
 use Rattle.jl_meaning.specs.Store.{Store}
-use Rattle.jl_state.specs.Jobs.{job}
+use Rattle.jl_meaning.specs.Jobs.{job}
 use Rattle.jl_state.specs.Rest.{as_value, handed, rest_after, rest_of, run_in, run_state, Gives}
 use Rattle.jl_state.specs.ToldFrames.{told_after}
 use Rattle.jl_state.specs.Words.{table_of}

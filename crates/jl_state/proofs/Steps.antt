@@ -22,7 +22,7 @@ use Rattle.jl_meaning.specs.Store.{Store}
 use Rattle.jl_state.specs.AlgorithmFrames.{algorithm_after}
 use Rattle.jl_state.specs.StatementFrames.{completion_after, statement_after}
 use Rattle.jl_state.specs.ValueFrames.{value_after}
-use Rattle.jl_state.specs.Jobs.{job}
+use Rattle.jl_meaning.specs.Jobs.{job}
 use Rattle.jl_state.specs.Rest.{as_completion, as_value, handed, rest, rest_of, run_in, run_state, Completes, Gives, Given, Works}
 use Rattle.jl_state.specs.Rest.{Completion-given}
 use Rattle.jl_state.specs.Steps.{AlgorithmWaits, CompletionWaits, StatementWaits, ValueWaits}

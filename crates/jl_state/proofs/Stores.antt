@@ -13,7 +13,7 @@ use Rattle.jl_meaning.specs.Mean.{language}
 use Rattle.jl_meaning.specs.Parts.{fault_of, given, gives, lift, throws, ◌>>=◌, Algorithm, AlgorithmFault, Answer, CallOf, Part}
 use Rattle.jl_store.specs.Comes.{Comes}
 use Rattle.jl_store.proofs.Chains.{comes_fails, comes_runs}
-use Rattle.jl_state.specs.Jobs.{job}
+use Rattle.jl_meaning.specs.Jobs.{job}
 use Rattle.jl_state.specs.Rest.{as_completion, as_value, handed, rest_after, rest_of, run_in, run_state, Completes, Gives}
 use Rattle.jl_state.specs.Rest.{Completion-given, Works}
 use Rattle.jl_state.specs.Words.{table_of}

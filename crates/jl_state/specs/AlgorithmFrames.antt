@@ -27,16 +27,13 @@ use Rattle.jl_meaning.specs.Parts.{give, look, or_fault}
 use Rattle.jl_meaning.specs.Parts.{◌>>=◌, Algorithm, NumberOutside}
 use Rattle.jl_meaning.specs.Properties.{has_property}
 use Rattle.jl_meaning.specs.Relations.{give_truth, has_prototype, negate_if, opposite, or_false, primitive_equality}
-use Rattle.jl_meaning.specs.builtins.Arguments.{give_object}
-use Rattle.jl_meaning.specs.builtins.Error.{name_and_message, new_error, string_or}
-use Rattle.jl_meaning.specs.builtins.Global.{print_others}
+pub use Rattle.jl_progress.specs.Primitives.{number_of_primitive}
+use Rattle.jl_progress.specs.Progress.{progress_after}
 use Rattle.jl_state.specs.declared.algorithm_frame.AlgorithmFrame.{AlgorithmFrame}
 use Rattle.jl_state.specs.declared.algorithm_frame.AlgorithmFrame.TheVariants as algorithm
 use Rattle.jl_state.specs.declared.algorithm_frame.Attributes.{Attributes}
 use Rattle.jl_state.specs.declared.algorithm_frame.Hint.{Hint}
 use Rattle.jl_state.specs.declared.algorithm_frame.Hint.TheVariants as hint
-use Rattle.jl_state.specs.declared.algorithm_frame.Progress.{Progress}
-use Rattle.jl_state.specs.declared.algorithm_frame.Progress.TheVariants as progress
 use Rattle.jl_state.specs.declared.algorithm_frame.WrittenBy.{WrittenBy}
 use Rattle.jl_state.specs.declared.algorithm_frame.WrittenBy.TheVariants as written_by
 
@@ -83,10 +80,6 @@ compared _ x y = do
   r ← or_fault NumberOutside (less_than x y)
   give_truth (or_false r)
 
--- a primitive value as a number (9.3)
-abbrev pub number_of_primitive : Value → Algorithm Number
-number_of_primitive p = or_fault NumberOutside (number_of_value p)
-
 -- what an operator makes of a number (11.3, 11.4)
 abbrev pub number_operand : UnKind → Number → Algorithm Value
 number_operand unary.Minus n = give_number (Some (negative_of n))
@@ -99,6 +92,9 @@ number_operand _ n = give_number (Some n)
 abbrev pub after_define : WrittenBy → Bool → Algorithm Value
 after_define (written_by.Put throwing given) done = do
   _ ← require (if throwing then done else true) (codes "cannot write")
+  give given
+after_define (written_by.Builtin given) done = do
+  _ ← require done (codes "cannot define")
   give given
 after_define written_by.Literal done = give value.Undefined
 
@@ -120,31 +116,7 @@ define_length array count attributes purpose n = do
   done ← define_with_number array length_name (data_change attributes length)
   after_define purpose done
 
--- a text after what a line has, and a space if it isn't the first
-abbrev pub line_with : (line : List ℕ) → (is_first : Bool) → List ℕ → List ℕ
-line_with line true units = units
-line_with line false units = line ++ 32 ∷ units
-
-abbrev pub progress_after : Progress → Value → Algorithm Value
-progress_after (progress.Print line is_first args from) p =
-    print_others (line_with line is_first (text_of_value p)) (drop from args)
-progress_after (progress.ErrorMessage proto) p = do
-  id ← new_error proto (Some (text_of_value p))
-  give_object id
-progress_after (progress.ErrorName object) v = do
-  name ← string_or (codes "Error") v
-  w ← get (value.Obj object) (codes "message")
-  message ← string_or [] w
-  name_and_message name message
-progress_after (progress.ErrorNamePrimitive object) p = do
-  w ← get (value.Obj object) (codes "message")
-  message ← string_or [] w
-  name_and_message (text_of_value p) message
-progress_after (progress.ErrorText name) w = do
-  message ← string_or [] w
-  name_and_message name message
-progress_after (progress.ErrorTextPrimitive name) p = name_and_message name (text_of_value p)
-
+-- what an algorithm does that waits for a value
 abbrev pub algorithm_after : AlgorithmFrame → Value → Algorithm Value
 algorithm_after (algorithm.Method object h is_second) method = do
   store ← look

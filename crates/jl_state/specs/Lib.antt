@@ -1,5 +1,4 @@
 pub mod AlgorithmFrames
-pub mod Jobs
 pub mod Rank
 pub mod Rest
 pub mod StatementFrames

@@ -1,5 +1,6 @@
 -- How much frames and acts may still do without a step. Each act that takes none lowers the sum.
 use Rattle.std.specs.Prelude.{length, ◌*◌, ◌+◌, ◌<◌, ◌≡◌, ◌≤◌, ◌∷◌, [], Bool, false, true, List, ℕ}
+use Rattle.jl_progress.specs.Progress.{rank_progress}
 use Rattle.jl_state.specs.Trees.{items_left}
 use Rattle.jl_state.specs.declared.act.Act.{Act}
 use Rattle.jl_state.specs.declared.act.Act.TheVariants as act
@@ -13,8 +14,6 @@ use Rattle.jl_state.specs.declared.value_frame.KeyFor.{KeyFor}
 use Rattle.jl_state.specs.declared.value_frame.KeyFor.TheVariants as key_for
 use Rattle.jl_state.specs.declared.statement_frame.Loop.{Loop}
 use Rattle.jl_state.specs.declared.statement_frame.Loop.TheVariants as loop
-use Rattle.jl_state.specs.declared.algorithm_frame.Progress.{Progress}
-use Rattle.jl_state.specs.declared.algorithm_frame.Progress.TheVariants as progress
 use Rattle.jl_state.specs.declared.statement_frame.StatementFrame.{StatementFrame}
 use Rattle.jl_state.specs.declared.statement_frame.StatementFrame.TheVariants as statement
 use Rattle.jl_state.specs.declared.frame.ToldFrame.{ToldFrame}
@@ -31,14 +30,6 @@ rank_method true = 5
 abbrev pub rank_method_result : (is_second : Bool) → ℕ
 rank_method_result false = 9
 rank_method_result true = 3
-
-abbrev pub rank_progress : Progress → ℕ
-rank_progress (progress.Print line is_first args from) = 6
-rank_progress (progress.ErrorMessage proto) = 6
-rank_progress (progress.ErrorName object) = 80
-rank_progress (progress.ErrorNamePrimitive object) = 60
-rank_progress (progress.ErrorText name) = 40
-rank_progress (progress.ErrorTextPrimitive name) = 6
 
 abbrev pub rank_algorithm : AlgorithmFrame → ℕ
 rank_algorithm (algorithm.Method object h is_second) = rank_method is_second

@@ -25,7 +25,7 @@ use Rattle.jl_state.specs.AlgorithmFrames.{algorithm_after}
 use Rattle.jl_state.specs.ToldFrames.{told_after}
 use Rattle.jl_state.specs.StatementFrames.{completion_after, statement_after}
 use Rattle.jl_state.specs.ValueFrames.{value_after}
-use Rattle.jl_state.specs.Jobs.{job}
+use Rattle.jl_meaning.specs.Jobs.{job}
 use Rattle.jl_state.specs.Trees.{plain}
 use Rattle.jl_state.specs.Words.{call_of, context_of, table_of, without_innermost}
 use Rattle.jl_state.specs.declared.act.Act.{Act}

@@ -2,7 +2,7 @@
 use jl_ast::BinOp;
 use jl_num::Num;
 use jl_op::UnKind;
-use jl_text::{List, Text};
+use jl_progress::Progress;
 use jl_value::{ObjId, Value};
 
 /// The type that is wanted of a conversion to a primitive value, if any (9.1).
@@ -26,41 +26,10 @@ pub struct Attributes {
 pub enum WrittenBy {
     /// A put (8.12.5), which throws where it isn't done and is asked to, and then gives a value.
     Put { throwing: bool, gives: Value },
+    /// A builtin, which throws where it isn't done, and then gives a value.
+    Builtin { gives: Value },
     /// A literal, which goes on.
     Literal,
-}
-
-/// What a builtin has done so far.
-#[derive(Drop)]
-pub enum Progress {
-    /// `print`: the line so far, without the space before the argument that is converted, whether that is the first, all
-    /// arguments, and the index of the one after it.
-    Print {
-        line: List<u16>,
-        is_first: bool,
-        args: List<Value>,
-        from: usize,
-    },
-    /// An error waits for its message (15.11.1, 15.11.7).
-    ErrorMessage {
-        proto: ObjId,
-    },
-    /// `Error.prototype.toString` waits for the name (15.11.4.4).
-    ErrorName {
-        object: ObjId,
-    },
-    /// It waits for the name as a primitive value.
-    ErrorNamePrimitive {
-        object: ObjId,
-    },
-    /// It waits for the message.
-    ErrorText {
-        name: Text,
-    },
-    /// It waits for the message as a primitive value.
-    ErrorTextPrimitive {
-        name: Text,
-    },
 }
 
 /// An algorithm of the standard that waits for a value, of a call or of a conversion to a primitive value.

@@ -15,7 +15,7 @@ mod statement_frame;
 mod value_frame;
 
 pub use act::{Act, Invocation};
-pub use algorithm_frame::{AlgorithmFrame, Attributes, Hint, Progress, WrittenBy};
+pub use algorithm_frame::{AlgorithmFrame, Attributes, Hint, WrittenBy};
 pub use calls::{Call, Calls};
 pub use frame::{Frame, Here, ToldFrame};
 pub use hook::{CallId, Hook, HookId, Opener, Pending};

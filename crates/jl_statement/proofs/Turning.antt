@@ -17,7 +17,7 @@ use Rattle.jl_meaning.specs.forms.Operators.{decide}
 use Rattle.jl_ast.specs.View.{view_expression, view_optional, view_statements}
 use Rattle.jl_ast.specs.declared.tree.Expr.{Expr}
 use Rattle.jl_ast.specs.declared.tree.Stmt.{Stmt}
-use Rattle.jl_state.specs.Jobs.{job}
+use Rattle.jl_meaning.specs.Jobs.{job}
 use Rattle.jl_state.specs.Rest.{Completes}
 use Rattle.jl_state.specs.StatementFrames.{after_loop_body, loop_body, next_turn, statement_after}
 use Rattle.jl_state.specs.Steps.{RanOut, Took}

@@ -25,7 +25,7 @@ use Rattle.jl_store.specs.Answers.{answered}
 use Rattle.jl_store.specs.Comes.{Comes}
 use Rattle.jl_store.specs.declared.answer.Answer.{Answer as Answered}
 use Rattle.jl_store.specs.declared.answer.Answer.TheVariants.{Gives, Throws}
-use Rattle.jl_state.specs.Jobs.{job}
+use Rattle.jl_meaning.specs.Jobs.{job}
 use Rattle.jl_state.specs.Rest.{Completes}
 use Rattle.jl_state.specs.StatementFrames.{statement_after}
 use Rattle.jl_state.specs.Steps.{RanOut, Took}

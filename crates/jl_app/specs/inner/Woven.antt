@@ -5,7 +5,6 @@ use Rattle.jl_ast.specs.Tree.{Program}
 use Rattle.jl_effects.specs.Growing.{IsLonger}
 use Rattle.jl_effects.specs.Matching.{Simulates}
 use Rattle.jl_effects.specs.Traces.{with_state, without_operations}
-use Rattle.jl_machine.specs.Built.{MeetsNoGap}
 use Rattle.jl_op.specs.Chosen.{every_kind, is_kept}
 use Rattle.jl_simulation.specs.Weaving.{woven_program}
 use Rattle.jl_text.specs.declared.span.Span.{Span}
@@ -20,10 +19,10 @@ pub record ReadsBackAsWoven (p : Program Span) : Type 0 where
   pub read : IsReadBack (woven_text p) program
   pub same : (q : Program Span) → IsReadBack (woven_text p) q → without_spans q ≡ woven_program every_kind p
 
--- the woven script simulates the script; its text reads back; its run is what it means, if that meets no builtin that is
--- not built; and the script's own run goes on as long as there are steps
+-- the woven script simulates the script; its text reads back; its run is what it means; and the script's own run goes on
+-- as long as there are steps
 pub record IsWovenWell (p : Program Span) : Type 0 where
   pub simulates : Simulates (is_kept every_kind) (own_run p) (woven_mean p)
   pub back : ReadsBackAsWoven p
-  pub runs : MeetsNoGap (woven_run p) → woven_run p ≡ with_state without_operations (woven_mean p woven_budget)
+  pub runs : woven_run p ≡ with_state without_operations (woven_mean p woven_budget)
   pub longer : (n d : ℕ) → IsLonger d (own_run p n) (own_run p (n + d))

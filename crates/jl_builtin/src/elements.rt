@@ -1,0 +1,117 @@
+//! Elements of objects that are taken for arrays (15.4.4).
+ghost use Rattle.std.specs.Prelude.{◌≡◌, pos, IfOk};
+ghost use Rattle.std.specs.Result.{result_ok};
+ghost use Rattle.jl_num.specs.Arithmetic.{number_of};
+ghost use Rattle.jl_meaning.specs.Parts.{give, ◌>>=◌ as ◌then◌};
+ghost use Rattle.jl_meaning.specs.builtins.Elements.{delete_index, get_index, has_index, put_index, put_length};
+ghost use Rattle.jl_state.specs.Rank.{Falls};
+ghost use Rattle.jl_state.specs.Rest.{Works};
+ghost use Rattle.jl_store.specs.Answers.{answered};
+ghost use Rattle.jl_store.specs.Comes.{Comes};
+
+use jl_algorithm::{delete, get, put};
+use jl_num::{Num, NumberOutside};
+use jl_state::{Act, State};
+use jl_store::{Answer, Store, index_name, word};
+use jl_text::NoMemory;
+use jl_value::{Fault, ObjId, Value};
+use std::alloc::Global;
+
+/// The element at an index is got, which may call a getter (8.12.3).
+pub fn get_index<'p>(
+    alloc: Global,
+    state: &mut State<'p>,
+    object: ObjId,
+    index: usize,
+) -> Result<Act<'p>, NoMemory>
+    ensures leads { IfOk result (λ act. Works state.old (get_index object index) state.new act) }
+    ensures falls { IfOk result (λ act. Falls state.old 4 state.new act) }
+{
+    let name = index_name(alloc, index)?;
+    Ok(get(alloc, state, &Value::Obj(object), &name)?)
+}
+
+/// A value is put at an index (8.12.5), and then another is given. It throws a TypeError where that isn't done.
+pub fn put_index<'p>(
+    alloc: Global,
+    state: &mut State<'p>,
+    object: ObjId,
+    index: usize,
+    v: Value,
+    gives: Value,
+) -> Result<Act<'p>, NoMemory>
+    ensures leads { IfOk result (λ act. Works state.old (put_index object index v then λ _. give gives) state.new act) }
+    ensures falls { IfOk result (λ act. Falls state.old 42 state.new act) }
+{
+    let name = index_name(alloc, index)?;
+    Ok(put(alloc, state, true, Value::Obj(object), &name, v, gives)?)
+}
+
+/// A length is put (8.12.5), and then a value is given. It throws a TypeError where that isn't done, and ends the run
+/// where the length is no number of a script.
+pub fn put_length<'p>(
+    alloc: Global,
+    state: &mut State<'p>,
+    object: ObjId,
+    length: usize,
+    gives: Value,
+) -> Result<Act<'p>, NoMemory>
+    ensures leads { IfOk result (λ act. Works state.old (put_length object length then λ _. give gives) state.new act) }
+    ensures falls { IfOk result (λ act. Falls state.old 42 state.new act) }
+{
+    let Ok(n) = number(length) else {
+        return Ok(Act::Fault(Fault::NumberOutside));
+    };
+    let name = word(alloc, "length")?;
+    Ok(put(
+        alloc,
+        state,
+        true,
+        Value::Obj(object),
+        &name,
+        Value::Num(n),
+        gives,
+    )?)
+}
+
+/// A length as a number of a script.
+fn number(length: usize) -> Result<Num, NumberOutside>
+    ensures { result_ok result ≡ number_of (pos length) }
+{
+    match i64::try_from(length) {
+        Ok(length) => Num::new(length),
+        Err(_) => Err(NumberOutside),
+    }
+}
+
+/// The element at an index is deleted (8.12.7). It throws a TypeError where that isn't done.
+pub fn delete_index<'p>(
+    alloc: Global,
+    state: &mut State<'p>,
+    object: ObjId,
+    index: usize,
+) -> Result<Answer<()>, NoMemory>
+    ensures stored { state.new ≡ record state.old { store = state.new.store } }
+    ensures comes { IfOk result (λ answer. Comes (delete_index object index) state.old.store state.new.store
+        (answered answer)) }
+{
+    let name = index_name(alloc, index)?;
+    let answer = delete(alloc, state, true, &Value::Obj(object), &name)?;
+    match answer {
+        Answer::Gives(_) => Ok(Answer::Gives(())),
+        Answer::Throws(thrown) => Ok(Answer::Throws(thrown)),
+    }
+}
+
+/// Whether an object has an element at an index, its own or an inherited one (8.12.6).
+pub fn has_index(
+    alloc: Global,
+    store: &Store,
+    object: ObjId,
+    index: usize,
+) -> Result<bool, NoMemory>
+    ensures { IfOk result (λ there. there ≡ has_index store.now object index) }
+{
+    let name = index_name(alloc, index)?;
+    Ok(store.has_property(object, &name))
+}

@@ -1,9 +1,0 @@
-use Rattle.std.proofs.Common.{subst}
-use Rattle.jl_state.specs.Rest.{Works}
-use Rattle.jl_function.proofs.Messages.{message_of}
-use Rattle.jl_function.proofs.errors.step_error_name_primitive.Goals as goal
-
-pub returns-clause-leads : goal.returns-clause-leads
-returns-clause-leads c =
-    subst (λ x. Works c.args.state.now (message_of c.args.object x) c.get_message.new.state c.in_ok-get_message.field-0)
-    c.in_ok-name.ensures c.in_ok-get_message.ensures.leads

@@ -1,8 +1,0 @@
-use Rattle.std.proofs.Common.{refl}
-use Rattle.jl_function.proofs.Lines.{converts_argument}
-use Rattle.jl_function.proofs.printing.print_argument.Goals as goal
-
-pub returns-clause-leads : goal.returns-clause-leads
-returns-clause-leads c =
-    converts_argument _ _ _ _ _ _ _ _ _ _ (c.if-not-spend.ensures.took refl) c.in_ok-push_algorithm.ensures.waits
-    c.in_ok-to_primitive.ensures.leads

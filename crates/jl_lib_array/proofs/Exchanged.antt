@@ -1,0 +1,129 @@
+-- `reverse`: two elements that change places.
+use Rattle.std.proofs.Common.{◌≡◌, ◌∙◌, ◌+◌, ◌-◌, ap, false, refl, subst, suc, sym, true, zero, Bool, None, Option}
+use Rattle.std.proofs.Common.{Some, ℕ}
+use mathlib.Core.Path.{fun_ext}
+use Rattle.std.specs.Prelude.{if◌then◌else◌}
+use Rattle.jl_value.specs.declared.object.ObjId.{ObjId}
+use Rattle.jl_value.specs.declared.value.Value.{Value}
+use Rattle.jl_value.specs.declared.value.Value.TheVariants as value
+use Rattle.jl_effects.specs.Effects.{Look}
+use Rattle.jl_meaning.specs.Parts.{give, look, ◌>>=◌, Algorithm}
+use Rattle.jl_meaning.specs.Store.{Store}
+use Rattle.jl_meaning.specs.builtins.Arguments.{give_object}
+use Rattle.jl_meaning.specs.builtins.ArrayChanges.{exchange, reverse_turn}
+use Rattle.jl_meaning.specs.builtins.Elements.{delete_index, get_index, has_index, put_index, put_or_delete}
+use Rattle.jl_meaning.specs.builtins.Turns.{upward}
+use Rattle.jl_progress.specs.Arrays.{array_after, reverse_others, upper_of}
+use Rattle.jl_progress.specs.declared.array.ArrayProgress.TheVariants as array
+use Rattle.jl_progress.specs.declared.array.Reversing.{Reversing}
+use Rattle.jl_state.specs.Rest.{Works}
+use Rattle.jl_state.specs.Steps.{RanOut, Took}
+use Rattle.jl_state.specs.declared.act.Act.{Act}
+use Rattle.jl_state.specs.declared.act.Act.TheVariants as act
+use Rattle.jl_state.specs.declared.state.State.{State}
+use Rattle.jl_algorithm.proofs.Chains.{bind_assoc, works_assoc}
+use Rattle.jl_lib_array.proofs.Turns.{upward_ends, upward_spent, upward_takes}
+
+module _ (o : ObjId) (lower upper : ℕ) (k : Unit {0} → Algorithm Value) where
+  abbrev looked : Value → Value → Algorithm (Unit {0})
+  looked low high = do
+    store ← look
+    exchange o lower upper low high (has_index store o lower) (has_index store o upper)
+
+  -- a turn gets the lower element, then the upper one
+  turn_is : (reverse_turn o lower upper >>= k)
+      ≡ (get_index o lower >>= λ low. get_index o upper >>= λ high. looked low high >>= k)
+  turn_is =
+      bind_assoc (get_index o lower) (λ low. get_index o upper >>= looked low) k
+      ∙ ap (λ (f : Value → Algorithm Value). get_index o lower >>= f)
+      (fun_ext (λ low. bind_assoc (get_index o upper) (looked low) k))
+
+-- a turn that was begun gets the lower element
+pub reverses : (s t : State) (a : Act) (r : Reversing) (lower left : ℕ)
+    → Works s (get_index r.object lower >>= array_after (array.ReverseLower (record {
+      object = r.object;
+      length = r.length;
+      lower = lower;
+      left = left;
+    }))) t a
+    → Works s (reverse_turn r.object lower (r.length - lower - 1) >>= λ _. reverse_others r left (lower + 1)) t a
+reverses s t a r lower left leads =
+    subst (λ p. Works s p t a)
+    (sym (turn_is r.object lower (r.length - lower - 1) (λ _. reverse_others r left (lower + 1)))) leads
+
+-- what is there of the two
+
+module _ (s t : State) (a : Act) (r : Reversing) (low high : Value) (has_low has_high : Bool)
+    (is_low : has_low ≡ has_index s.store r.object r.lower)
+    (is_high : has_high ≡ has_index s.store r.object (upper_of r))
+  where
+    abbrev rest : Unit {0} → Algorithm Value
+    rest _ = reverse_others r r.left (r.lower + 1)
+
+    exchanges : Works s (exchange r.object r.lower (upper_of r) low high has_low has_high >>= rest) t a
+        → Works s (array_after (array.ReverseUpper r low) high) t a
+    exchanges leads =
+        let found =
+        subst (λ b. Works s (exchange r.object r.lower (upper_of r) low high (has_index s.store r.object r.lower) b
+        >>= rest) t a) is_high
+        (subst (λ b. Works s (exchange r.object r.lower (upper_of r) low high b has_high >>= rest) t a) is_low
+        leads)
+        in record { is = found.is }
+
+    pub upper_there : has_high ≡ true → (kept : Option Value) → kept ≡ (if has_low then Some low else None)
+        → Works s (put_index r.object r.lower high >>= λ _. put_or_delete r.object (upper_of r) kept >>= rest) t a
+        → Works s (array_after (array.ReverseUpper r low) high) t a
+    upper_there there kept is leads =
+        exchanges
+        (subst (λ b. Works s (exchange r.object r.lower (upper_of r) low high has_low b >>= rest) t a) (sym there)
+        (subst (λ p. Works s p t a) (by has_low)
+        (subst (λ (l : Option Value). Works s (put_index r.object r.lower high
+        >>= λ _. put_or_delete r.object (upper_of r) l >>= rest) t a) is leads)))
+      where
+        by : (b : Bool)
+            → (put_index r.object r.lower high
+            >>= λ _. put_or_delete r.object (upper_of r) (if b then Some low else None) >>= rest)
+            ≡ (exchange r.object r.lower (upper_of r) low high b true >>= rest)
+        by true = sym (bind_assoc (put_index r.object r.lower high) (λ _. put_index r.object (upper_of r) low) rest)
+        by false = sym (bind_assoc (put_index r.object r.lower high) (λ _. delete_index r.object (upper_of r)) rest)
+
+    pub lower_there : has_high ≡ false → has_low ≡ true
+        → Works s (delete_index r.object r.lower >>= λ _. put_index r.object (upper_of r) low >>= rest) t a
+        → Works s (array_after (array.ReverseUpper r low) high) t a
+    lower_there missing there leads =
+        exchanges
+        (subst (λ b. Works s (exchange r.object r.lower (upper_of r) low high has_low b >>= rest) t a) (sym missing)
+        (subst (λ b. Works s (exchange r.object r.lower (upper_of r) low high b false >>= rest) t a) (sym there)
+        (works_assoc s (delete_index r.object r.lower) (λ _. put_index r.object (upper_of r) low) rest t a leads)))
+
+    pub none_there : has_high ≡ false → has_low ≡ false → Works s (rest tt) t a
+        → Works s (array_after (array.ReverseUpper r low) high) t a
+    none_there missing none leads =
+        exchanges
+        (subst (λ b. Works s (exchange r.object r.lower (upper_of r) low high has_low b >>= rest) t a) (sym missing)
+        (subst (λ b. Works s (exchange r.object r.lower (upper_of r) low high b false >>= rest) t a) (sym none) leads))
+
+-- turns in which two elements change places
+
+module _ (s u : State) (a : Act) (r : Reversing) where
+  abbrev turn : ℕ → Unit {0} → Algorithm (Unit {0})
+  turn k _ = reverse_turn r.object k (r.length - k - 1)
+
+  abbrev given : Unit {0} → Algorithm Value
+  given _ = give_object r.object
+
+  pub reverses_end : r.left ≡ 0
+      → Works s (reverse_others r r.left r.lower) s (act.Give (value.Obj r.object))
+  reverses_end none =
+      upward_ends s s (act.Give (value.Obj r.object)) turn given r.left r.lower tt none
+      (record { is = λ kept told. refl })
+
+  pub reverses_spent : (r.left ≡ 0 → ⊥) → u ≡ s → RanOut s
+      → Works s (reverse_others r r.left r.lower) u act.Spent
+  reverses_spent some same spent = upward_spent s u a turn given r.left r.lower tt some same spent
+
+  pub reverses_take : (t : State) → (r.left ≡ 0 → ⊥) → Took s t
+      → Works t (get_index r.object r.lower >>= array_after (array.ReverseLower (record r { left = r.left - 1 }))) u a
+      → Works s (reverse_others r r.left r.lower) u a
+  reverses_take t some took leads =
+      upward_takes s u a turn given t r.left r.lower tt some took (reverses t u a r r.lower (r.left - 1) leads)

@@ -1,0 +1,17 @@
+pub mod Appended
+pub mod Converted
+pub mod Copied
+pub mod Deleted
+pub mod Exchanged
+pub mod Found
+pub mod Joined
+pub mod Moved
+pub mod Orders
+pub mod PutLengths
+pub mod Read
+pub mod Spliced
+pub mod Stable
+pub mod Starts
+pub mod Stored
+pub mod Turns
+pub mod Waiting

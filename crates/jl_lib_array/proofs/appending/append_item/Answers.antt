@@ -1,0 +1,9 @@
+use Rattle.jl_lib_array.proofs.Appended.{appends_elements, appends_value}
+use Rattle.jl_lib_array.proofs.appending.append_item.Goals as goal
+
+pub returns-in-Some-clause-leads : goal.returns-in-Some-clause-leads
+returns-in-Some-clause-leads c =
+    appends_elements _ _ _ _ _ _ c.args.items _ _ c.in-Some.ensures.0 c.in-Some.ensures.1 c.in_ok-get_length.ensures.leads
+
+pub returns-clause-leads : goal.returns-clause-leads
+returns-clause-leads c = ?

@@ -1,0 +1,7 @@
+use Rattle.jl_lib_array.proofs.Appended.{copies_items}
+use Rattle.jl_lib_array.proofs.appending.step_concat_length.Goals as goal
+
+pub returns-clause-leads : goal.returns-clause-leads
+returns-clause-leads c =
+    copies_items _ _ _ c.args.array c.args.item c.args.next _ _ c.args.from c.args.items _ c.count_of.ensures
+    c.in_ok-after.ensures c.in_ok-begin_turn.ensures.leads

@@ -1,0 +1,17 @@
+use Rattle.jl_lib_array.proofs.Exchanged.{lower_there, none_there, upper_there}
+use Rattle.jl_lib_array.proofs.reversing.step_reverse_upper.Goals as goal
+
+pub returns-then-has_high-clause-leads : goal.returns-then-has_high-clause-leads
+returns-then-has_high-clause-leads c =
+    upper_there _ _ _ c.args.reversing c.args.low c.args.high _ _ c.in_ok-has_low.ensures ? c.if-has_high.true _
+    c.value_if.ensures c.in_ok-put_then.ensures.leads
+
+pub returns-then-has_low-clause-leads : goal.returns-then-has_low-clause-leads
+returns-then-has_low-clause-leads c =
+    lower_there _ _ _ c.args.reversing c.args.low c.args.high _ _ c.in_ok-has_low.ensures ? c.if-has_high.false
+    c.if-has_low.true c.in_ok-move_to_upper.ensures.leads
+
+pub returns-clause-leads : goal.returns-clause-leads
+returns-clause-leads c =
+    none_there _ _ _ c.args.reversing c.args.low c.args.high _ _ c.in_ok-has_low.ensures ? c.if-has_high.false
+    c.if-has_low.false ?

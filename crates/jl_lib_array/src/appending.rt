@@ -1,0 +1,171 @@
+//! `concat` (15.4.4.4): the object, and then the arguments, are appended to a new array, one a turn.
+ghost use Rattle.std.specs.Prelude.{◌≡◌, ◌∷◌, false, true, drop, IfOk, MatchOption};
+ghost use Rattle.jl_heap.specs.Define.{count_of, length_name};
+ghost use Rattle.jl_effects.specs.Effects.{Step};
+ghost use Rattle.jl_lib_array.specs.inner.Rows.{concat_on};
+ghost use Rattle.jl_meaning.specs.Getting.{get};
+ghost use Rattle.jl_meaning.specs.Parts.{◌>>=◌ as ◌then◌};
+ghost use Rattle.jl_meaning.specs.builtins.Arguments.{give_object};
+ghost use Rattle.jl_meaning.specs.builtins.Array.{append, append_all, is_array_value};
+ghost use Rattle.jl_progress.specs.Arrays.{array_after, rank_array};
+ghost use Rattle.jl_state.specs.Rank.{Falls};
+ghost use Rattle.jl_state.specs.Rest.{Works};
+ghost use Rattle.jl_value.specs.declared.value.Value.TheVariants as value;
+
+use crate::frames::{add_then, begin_turn, sum, wait};
+use jl_algorithm::get;
+use jl_builtin::{value_from, with_values};
+use jl_progress::{AfterCopying, ArrayProgress, Copying};
+use jl_state::{Act, State};
+use jl_store::{Store, word};
+use jl_text::{List, NoMemory};
+use jl_value::{Class, ObjId, Value};
+use std::alloc::Global;
+
+/// `concat` of an object and arguments.
+pub(crate) fn concat<'p>(
+    alloc: Global,
+    state: &mut State<'p>,
+    object: ObjId,
+    args: &[Value],
+) -> Result<Act<'p>, NoMemory>
+    ensures leads { IfOk result (λ act. Works state.old (concat_on object args.now) state.new act) }
+    ensures falls { IfOk result (λ act. Falls state.old 8 state.new act) }
+{
+    let array = state.store.new_array()?;
+    let mut items = List::new(alloc);
+    items.push(Value::Obj(object))?;
+    let items = with_values(alloc, items, args)?;
+    Ok(append_items(alloc, state, array, 0, items, 0)?)
+}
+
+/// The items from an index on are appended, one a turn, and then the array is given.
+pub(crate) fn append_items<'p>(
+    alloc: Global,
+    state: &mut State<'p>,
+    array: ObjId,
+    next: usize,
+    items: List<Value>,
+    from: usize,
+) -> Result<Act<'p>, NoMemory>
+    ensures leads { IfOk result (λ act. Works state.old
+        (append_all array next (drop from items) then λ _. give_object array) state.new act) }
+    ensures falls { IfOk result (λ act. Falls state.old 8 state.new act) }
+{
+    match value_from(alloc, items.items(), from)? {
+        None => Ok(Act::Give(Value::Obj(array))),
+        Some((v, after)) => {
+            if !state.spend() {
+                return Ok(Act::Spent);
+            }
+            Ok(append_item(alloc, state, array, next, v, items, after)?)
+        }
+    }
+}
+
+/// An item is appended, and then those from an index on.
+fn append_item<'p>(
+    alloc: Global,
+    state: &mut State<'p>,
+    array: ObjId,
+    next: usize,
+    v: Value,
+    items: List<Value>,
+    from: usize,
+) -> Result<Act<'p>, NoMemory>
+    ensures leads { IfOk result (λ act. Works state.old
+        (append array next v then λ m. append_all array m (drop from items) then λ _. give_object array)
+        state.new act) }
+    ensures falls { IfOk result (λ act. Falls state.old 100 state.new act) }
+{
+    if let Some(item) = array_item(&state.store, &v) {
+        let progress = ArrayProgress::ConcatLength {
+            array,
+            next,
+            item,
+            items,
+            from,
+        };
+        return Ok(get_length(alloc, state, item, progress)?);
+    }
+    let after = sum(next, 1)?;
+    let progress = ArrayProgress::ConcatItem {
+        array,
+        next: after,
+        items,
+        from,
+    };
+    Ok(add_then(alloc, state, array, next, v, progress)?)
+}
+
+/// The array that an item is, if it is one (15.4.4.4, step 5.b).
+fn array_item(store: &Store, v: &Value) -> Option<ObjId>
+    ensures { MatchOption result (is_array_value store.now.heap v.now ≡ false)
+        (λ id. (v.now ≡ value.Obj id) × (is_array_value store.now.heap v.now ≡ true)) }
+{
+    match v {
+        Value::Obj(id) if matches!(store.class_of(*id), Class::Array) => Some(*id),
+        _ => None,
+    }
+}
+
+/// The length of an item is got, for which `concat` waits.
+fn get_length<'p>(
+    alloc: Global,
+    state: &mut State<'p>,
+    item: ObjId,
+    progress: ArrayProgress,
+) -> Result<Act<'p>, NoMemory>
+    ensures leads { IfOk result (λ act. Works state.old
+        (get (value.Obj item) length_name then array_after progress) state.new act) }
+    ensures falls { IfOk result (λ act. Falls state.old (rank_array progress + 4) state.new act) }
+{
+    let name = word(alloc, "length")?;
+    wait(state, progress)?;
+    Ok(get(alloc, state, &Value::Obj(item), &name)?)
+}
+
+/// Goes on with the length of an item that is an array.
+pub(crate) fn step_concat_length<'p>(
+    state: &mut State<'p>,
+    array: ObjId,
+    next: usize,
+    item: ObjId,
+    items: List<Value>,
+    from: usize,
+    v: &Value,
+) -> Result<Act<'p>, NoMemory>
+    ensures leads { IfOk result (λ act. Works state.old
+        (array_after (ArrayProgress.ConcatLength array next item items from) v.now) state.new act) }
+    ensures falls { IfOk result (λ act. Falls state.old 92 state.new act) }
+{
+    let left = count_of(v);
+    let after = sum(next, left)?;
+    let copying = Copying {
+        object: item,
+        start: 0,
+        array,
+        first: next,
+        left,
+        k: 0,
+    };
+    let then = AfterCopying::Concat {
+        next: after,
+        items,
+        from,
+    };
+    Ok(begin_turn(state, ArrayProgress::CopyTurn { copying, then })?)
+}
+
+/// The number of elements that a length says.
+fn count_of(v: &Value) -> usize
+    ensures { result ≡ count_of v.now }
+{
+    match v {
+        Value::Num(n) => match n.value() {
+            Some(n) => usize::try_from(n).unwrap_or(0),
+            None => 0,
+        },
+        _ => 0,
+    }
+}

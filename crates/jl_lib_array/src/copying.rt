@@ -1,0 +1,110 @@
+//! Elements that become elements of a new array, one a turn (15.4.4.4, 15.4.4.12).
+ghost use Rattle.std.specs.Prelude.{◌≡◌, ◌+◌, IfOk};
+ghost use Rattle.jl_meaning.specs.Parts.{◌>>=◌ as ◌then◌};
+ghost use Rattle.jl_meaning.specs.builtins.Elements.{copy_element};
+ghost use Rattle.jl_progress.specs.Arrays.{after_copying, array_after, copy_others};
+ghost use Rattle.jl_state.specs.Rank.{Falls};
+ghost use Rattle.jl_state.specs.Rest.{Works};
+
+use crate::appending::append_items;
+use crate::frames::{add_then, begin_turn, get_for, sum};
+use crate::splicing::splice_others;
+use jl_builtin::has_index;
+use jl_progress::{AfterCopying, ArrayProgress, Copying};
+use jl_state::{Act, State};
+use jl_text::NoMemory;
+use jl_value::{ObjId, Value};
+use std::alloc::Global;
+
+/// A turn begins in which an element is copied, if any is left.
+pub(crate) fn copy_turn<'p>(
+    alloc: Global,
+    state: &mut State<'p>,
+    copying: Copying,
+    next: AfterCopying,
+) -> Result<Act<'p>, NoMemory>
+    ensures leads { IfOk result (λ act. Works state.old
+        (copy_others copying copying.left copying.k then λ _. after_copying copying.array next) state.new act) }
+    ensures falls { IfOk result (λ act. Falls state.old 82 state.new act) }
+{
+    if copying.left == 0 {
+        return Ok(after_copying(alloc, state, copying.array, next)?);
+    }
+    if !state.spend() {
+        return Ok(Act::Spent);
+    }
+    let left = copying.left - 1;
+    Ok(copy_element(alloc, state, Copying { left, ..copying }, next)?)
+}
+
+/// An element is copied, if there is one, and then those that are left after it.
+fn copy_element<'p>(
+    alloc: Global,
+    state: &mut State<'p>,
+    copying: Copying,
+    next: AfterCopying,
+) -> Result<Act<'p>, NoMemory>
+    ensures leads { IfOk result (λ act. Works state.old
+        (copy_element copying.object (copying.start + copying.k) copying.array (copying.first + copying.k)
+        then λ _. copy_others copying copying.left (copying.k + 1) then λ _. after_copying copying.array next)
+        state.new act) }
+    ensures falls { IfOk result (λ act. Falls state.old 100 state.new act) }
+{
+    let object = copying.object;
+    let index = sum(copying.start, copying.k)?;
+    if has_index(alloc, &state.store, object, index)? {
+        let progress = ArrayProgress::CopyElement {
+            copying,
+            then: next,
+        };
+        return Ok(get_for(alloc, state, object, index, progress)?);
+    }
+    let k = sum(copying.k, 1)?;
+    let copying = Copying { k, ..copying };
+    let progress = ArrayProgress::CopyTurn {
+        copying,
+        then: next,
+    };
+    Ok(begin_turn(state, progress)?)
+}
+
+/// Goes on with the element that is copied.
+pub(crate) fn step_copy_element<'p>(
+    alloc: Global,
+    state: &mut State<'p>,
+    copying: Copying,
+    next: AfterCopying,
+    v: Value,
+) -> Result<Act<'p>, NoMemory>
+    ensures leads { IfOk result (λ act. Works state.old
+        (array_after (ArrayProgress.CopyElement copying next) v) state.new act) }
+    ensures falls { IfOk result (λ act. Falls state.old 92 state.new act) }
+{
+    let array = copying.array;
+    let index = sum(copying.first, copying.k)?;
+    let k = sum(copying.k, 1)?;
+    let copying = Copying { k, ..copying };
+    let progress = ArrayProgress::CopyTurn {
+        copying,
+        then: next,
+    };
+    Ok(add_then(alloc, state, array, index, v, progress)?)
+}
+
+/// What follows when all elements have been copied.
+fn after_copying<'p>(
+    alloc: Global,
+    state: &mut State<'p>,
+    array: ObjId,
+    next: AfterCopying,
+) -> Result<Act<'p>, NoMemory>
+    ensures leads { IfOk result (λ act. Works state.old (after_copying array next) state.new act) }
+    ensures falls { IfOk result (λ act. Falls state.old 82 state.new act) }
+{
+    match next {
+        AfterCopying::Concat { next, items, from } => {
+            Ok(append_items(alloc, state, array, next, items, from)?)
+        }
+        AfterCopying::Splice(splicing) => Ok(splice_others(state, splicing)?),
+    }
+}

@@ -1,0 +1,152 @@
+//! What a function of arrays waits for, and what it does before its next turn.
+ghost use Rattle.std.specs.Prelude.{◌≡◌, ◌+◌, ◌∷◌, IfOk, OnOk};
+ghost use Rattle.jl_meaning.specs.Conversions.{number_hint, string_hint, to_primitive};
+ghost use Rattle.jl_meaning.specs.Parts.{◌>>=◌ as ◌then◌};
+ghost use Rattle.jl_meaning.specs.builtins.Elements.{add_index, delete_index, get_index, put_index};
+ghost use Rattle.jl_progress.specs.Arrays.{array_after, rank_array};
+ghost use Rattle.jl_state.specs.Rank.{Falls};
+ghost use Rattle.jl_state.specs.Rest.{Works};
+ghost use Rattle.jl_state.specs.Steps.{AlgorithmWaits};
+ghost use Rattle.jl_value.specs.declared.value.Value.TheVariants as value;
+
+use jl_algorithm::to_primitive;
+use jl_builtin::{add_index, delete_index, fault_of, get_index, go_on, put_index};
+use jl_progress::{ArrayProgress, Progress};
+use jl_state::{Act, AlgorithmFrame, Frame, Hint, State};
+use jl_store::{Answer, Finished};
+use jl_text::NoMemory;
+use jl_value::{Completion, ObjId, Value};
+use std::alloc::Global;
+
+/// The sum of two indices. No memory holds more elements than there are indices.
+pub(crate) fn sum(a: usize, b: usize) -> Result<usize, NoMemory>
+    ensures { IfOk result (λ n. n ≡ a + b) }
+{
+    match a.checked_add(b) {
+        Some(n) => Ok(n),
+        None => Err(NoMemory),
+    }
+}
+
+/// A function waits for a value.
+pub(crate) fn wait<'p>(state: &mut State<'p>, progress: ArrayProgress) -> Result<(), NoMemory>
+    ensures waits { OnOk result
+        (AlgorithmWaits state.old (AlgorithmFrame.Builtin (Progress.Array progress)) state.new) }
+    ensures pushed { OnOk result (state.new ≡ record state.old
+        { stack = Frame.Algorithm (AlgorithmFrame.Builtin (Progress.Array progress)) ∷ state.old.stack }) }
+{
+    state.push_algorithm(AlgorithmFrame::Builtin(Progress::Array(progress)))?;
+    Ok(())
+}
+
+/// The next turn begins.
+pub(crate) fn begin_turn<'p>(
+    state: &mut State<'p>,
+    progress: ArrayProgress,
+) -> Result<Act<'p>, NoMemory>
+    ensures leads { IfOk result (λ act. Works state.old (array_after progress value.Undefined) state.new act) }
+    ensures falls { IfOk result (λ act. Falls state.old (rank_array progress + 3) state.new act) }
+{
+    Ok(go_on(state, Progress::Array(progress))?)
+}
+
+/// An element is got, for which a function waits.
+pub(crate) fn get_for<'p>(
+    alloc: Global,
+    state: &mut State<'p>,
+    object: ObjId,
+    index: usize,
+    progress: ArrayProgress,
+) -> Result<Act<'p>, NoMemory>
+    ensures leads { IfOk result (λ act. Works state.old
+        (get_index object index then array_after progress) state.new act) }
+    ensures falls { IfOk result (λ act. Falls state.old (rank_array progress + 4) state.new act) }
+{
+    wait(state, progress)?;
+    Ok(get_index(alloc, state, object, index)?)
+}
+
+/// A value is converted that is to be a number, for which a function waits (9.1).
+pub(crate) fn number_for<'p>(
+    alloc: Global,
+    state: &mut State<'p>,
+    v: Value,
+    progress: ArrayProgress,
+) -> Result<Act<'p>, NoMemory>
+    ensures leads { IfOk result (λ act. Works state.old
+        (to_primitive number_hint v then array_after progress) state.new act) }
+    ensures falls { IfOk result (λ act. Falls state.old (rank_array progress + 16) state.new act) }
+{
+    wait(state, progress)?;
+    Ok(to_primitive(alloc, state, v, Hint::Number)?)
+}
+
+/// A value is converted that is to be a string, for which a function waits (9.1).
+pub(crate) fn string_for<'p>(
+    alloc: Global,
+    state: &mut State<'p>,
+    v: Value,
+    progress: ArrayProgress,
+) -> Result<Act<'p>, NoMemory>
+    ensures leads { IfOk result (λ act. Works state.old
+        (to_primitive string_hint v then array_after progress) state.new act) }
+    ensures falls { IfOk result (λ act. Falls state.old (rank_array progress + 16) state.new act) }
+{
+    wait(state, progress)?;
+    Ok(to_primitive(alloc, state, v, Hint::Text)?)
+}
+
+/// An element is put, and then the next turn begins.
+pub(crate) fn put_then<'p>(
+    alloc: Global,
+    state: &mut State<'p>,
+    object: ObjId,
+    index: usize,
+    v: Value,
+    progress: ArrayProgress,
+) -> Result<Act<'p>, NoMemory>
+    ensures leads { IfOk result (λ act. Works state.old
+        (put_index object index v then λ _. array_after progress value.Undefined) state.new act) }
+    ensures falls { IfOk result (λ act. Falls state.old (rank_array progress + 42) state.new act) }
+{
+    wait(state, progress)?;
+    Ok(put_index(alloc, state, object, index, v, Value::Undefined)?)
+}
+
+/// An element is deleted, and then the next turn begins.
+pub(crate) fn delete_then<'p>(
+    alloc: Global,
+    state: &mut State<'p>,
+    object: ObjId,
+    index: usize,
+    progress: ArrayProgress,
+) -> Result<Act<'p>, NoMemory>
+    ensures leads { IfOk result (λ act. Works state.old
+        (delete_index object index then λ _. array_after progress value.Undefined) state.new act) }
+    ensures falls { IfOk result (λ act. Falls state.old (rank_array progress + 3) state.new act) }
+{
+    match delete_index(alloc, state, object, index)? {
+        Answer::Gives(()) => Ok(begin_turn(state, progress)?),
+        Answer::Throws(thrown) => Ok(Act::Complete(Completion::Throw(thrown))),
+    }
+}
+
+/// An element of a new array is added, and then the next turn begins.
+pub(crate) fn add_then<'p>(
+    alloc: Global,
+    state: &mut State<'p>,
+    array: ObjId,
+    index: usize,
+    v: Value,
+    progress: ArrayProgress,
+) -> Result<Act<'p>, NoMemory>
+    ensures leads { IfOk result (λ act. Works state.old
+        (add_index array index v then λ _. array_after progress value.Undefined) state.new act) }
+    ensures falls { IfOk result (λ act. Falls state.old (rank_array progress + 3) state.new act) }
+{
+    match add_index(alloc, &mut state.store, array, index, v)? {
+        Finished::Gives(()) => Ok(begin_turn(state, progress)?),
+        Finished::Throws(thrown) => Ok(Act::Complete(Completion::Throw(thrown))),
+        Finished::Fails(fault) => Ok(Act::Fault(fault_of(fault))),
+    }
+}

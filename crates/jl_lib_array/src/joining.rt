@@ -1,0 +1,243 @@
+//! `join` (15.4.4.5). The line so far is handed on from turn to turn, so that no turn copies it.
+ghost use Rattle.std.specs.Prelude.{◌≡◌, ◌+◌, ◌++◌, length, nat_lt, not, IfOk};
+ghost use Rattle.jl_conv.specs.Conversions.{text_of_value};
+ghost use Rattle.jl_meaning.specs.Errors.{string_limit, string_within};
+ghost use Rattle.jl_meaning.specs.Parts.{◌>>=◌ as ◌then◌};
+ghost use Rattle.jl_meaning.specs.Relations.{is_nothing};
+ghost use Rattle.jl_meaning.specs.builtins.Array.{join_elements, join_turn};
+ghost use Rattle.jl_progress.specs.Arrays.{array_after, join_first, join_next, join_others, with_length};
+ghost use Rattle.jl_state.specs.Rank.{Falls};
+ghost use Rattle.jl_state.specs.Rest.{Works};
+
+use crate::frames::{begin_turn, get_for, string_for, sum};
+use jl_builtin::{argument, give_text, is_undefined, with_units};
+use jl_operator::text_of;
+use jl_progress::{ArrayProgress, Joining, LengthFunction};
+use jl_state::{Act, State};
+use jl_store::word;
+use jl_text::{List, MOST_UNITS, NoMemory, Text};
+use jl_value::{Fault, ObjId, Value};
+use std::alloc::Global;
+
+/// Whether so many units have room in a string after so many.
+fn has_room(line: usize, more: usize) -> bool
+    ensures { result ≡ not (nat_lt string_limit (line + more)) }
+{
+    line <= MOST_UNITS && more <= MOST_UNITS - line
+}
+
+fn is_nothing(v: &Value) -> bool
+    ensures { result ≡ is_nothing v.now }
+{
+    matches!(v, Value::Undefined | Value::Null)
+}
+
+/// `join` of an object with this length.
+pub(crate) fn join<'p>(
+    alloc: Global,
+    state: &mut State<'p>,
+    object: ObjId,
+    args: &[Value],
+    length: usize,
+) -> Result<Act<'p>, NoMemory>
+    ensures leads { IfOk result (λ act. Works state.old
+        (with_length LengthFunction.Join object args.now length) state.new act) }
+    ensures falls { IfOk result (λ act. Falls state.old 60 state.new act) }
+{
+    let separator = argument(alloc, args, 0)?;
+    if is_undefined(&separator) {
+        let comma = word(alloc, ",")?;
+        return Ok(join_elements(alloc, state, object, length, comma)?);
+    }
+    let progress = ArrayProgress::JoinSeparator { object, length };
+    Ok(string_for(alloc, state, separator, progress)?)
+}
+
+/// Goes on with the separator as a primitive value.
+pub(crate) fn step_join_separator<'p>(
+    alloc: Global,
+    state: &mut State<'p>,
+    object: ObjId,
+    length: usize,
+    p: &Value,
+) -> Result<Act<'p>, NoMemory>
+    ensures leads { IfOk result (λ act. Works state.old
+        (array_after (ArrayProgress.JoinSeparator object length) p.now) state.new act) }
+    ensures falls { IfOk result (λ act. Falls state.old 42 state.new act) }
+{
+    let separator = text_of(alloc, p)?;
+    Ok(join_elements(alloc, state, object, length, separator)?)
+}
+
+/// The elements are joined by a separator.
+fn join_elements<'p>(
+    alloc: Global,
+    state: &mut State<'p>,
+    object: ObjId,
+    length: usize,
+    separator: Text,
+) -> Result<Act<'p>, NoMemory>
+    ensures leads { IfOk result (λ act. Works state.old (join_elements object length separator) state.new act) }
+    ensures falls { IfOk result (λ act. Falls state.old 34 state.new act) }
+{
+    if length == 0 {
+        return Ok(Act::Give(Value::Text(word(alloc, "")?)));
+    }
+    let joining = Joining {
+        object,
+        separator,
+        left: length - 1,
+        k: 1,
+    };
+    let progress = ArrayProgress::JoinFirst { joining };
+    Ok(get_for(alloc, state, object, 0, progress)?)
+}
+
+/// Goes on with the first element.
+pub(crate) fn step_join_first<'p>(
+    alloc: Global,
+    state: &mut State<'p>,
+    joining: Joining,
+    v: Value,
+) -> Result<Act<'p>, NoMemory>
+    ensures leads { IfOk result (λ act. Works state.old
+        (array_after (ArrayProgress.JoinFirst joining) v) state.new act) }
+    ensures falls { IfOk result (λ act. Falls state.old 32 state.new act) }
+{
+    if is_nothing(&v) {
+        let first = word(alloc, "")?;
+        return Ok(join_first(alloc, state, joining, first)?);
+    }
+    let progress = ArrayProgress::JoinFirstPrimitive { joining };
+    Ok(string_for(alloc, state, v, progress)?)
+}
+
+/// Goes on with the first element as a primitive value.
+pub(crate) fn step_join_first_primitive<'p>(
+    alloc: Global,
+    state: &mut State<'p>,
+    joining: Joining,
+    p: &Value,
+) -> Result<Act<'p>, NoMemory>
+    ensures leads { IfOk result (λ act. Works state.old
+        (array_after (ArrayProgress.JoinFirstPrimitive joining) p.now) state.new act) }
+    ensures falls { IfOk result (λ act. Falls state.old 12 state.new act) }
+{
+    let first = text_of(alloc, p)?;
+    Ok(join_first(alloc, state, joining, first)?)
+}
+
+/// The line begins with the string of the first element.
+fn join_first<'p>(
+    alloc: Global,
+    state: &mut State<'p>,
+    joining: Joining,
+    first: Text,
+) -> Result<Act<'p>, NoMemory>
+    ensures leads { IfOk result (λ act. Works state.old (join_first joining first) state.new act) }
+    ensures falls { IfOk result (λ act. Falls state.old 12 state.new act) }
+{
+    let line = with_units(List::new(alloc), first.units())?;
+    Ok(begin_turn(state, ArrayProgress::JoinTurn { joining, line })?)
+}
+
+/// A turn begins, if any is left, and else the line is given.
+pub(crate) fn join_turn_begins<'p>(
+    alloc: Global,
+    state: &mut State<'p>,
+    joining: Joining,
+    line: List<u16>,
+) -> Result<Act<'p>, NoMemory>
+    ensures leads { IfOk result (λ act. Works state.old (join_others joining line) state.new act) }
+    ensures falls { IfOk result (λ act. Falls state.old 8 state.new act) }
+{
+    if joining.left == 0 {
+        return Ok(give_text(alloc, line.items())?);
+    }
+    if !state.spend() {
+        return Ok(Act::Spent);
+    }
+    let left = joining.left - 1;
+    let k = sum(joining.k, 1)?;
+    Ok(join_one(
+        alloc,
+        state,
+        joining.k,
+        Joining { left, k, ..joining },
+        line,
+    )?)
+}
+
+/// The separator and the element at an index come last in a line, and then those that are left.
+fn join_one<'p>(
+    alloc: Global,
+    state: &mut State<'p>,
+    index: usize,
+    joining: Joining,
+    line: List<u16>,
+) -> Result<Act<'p>, NoMemory>
+    ensures leads { IfOk result (λ act. Works state.old
+        (join_turn joining.object joining.separator index line then join_others joining) state.new act) }
+    ensures falls { IfOk result (λ act. Falls state.old 34 state.new act) }
+{
+    let object = joining.object;
+    let separator = joining.separator.units();
+    if !has_room(line.len(), separator.len()) {
+        return Ok(Act::Fault(Fault::StringTooLong));
+    }
+    let line = with_units(line, separator)?;
+    let progress = ArrayProgress::JoinElement { joining, line };
+    Ok(get_for(alloc, state, object, index, progress)?)
+}
+
+/// Goes on with an element.
+pub(crate) fn step_join_element<'p>(
+    alloc: Global,
+    state: &mut State<'p>,
+    joining: Joining,
+    line: List<u16>,
+    v: Value,
+) -> Result<Act<'p>, NoMemory>
+    ensures leads { IfOk result (λ act. Works state.old
+        (array_after (ArrayProgress.JoinElement joining line) v) state.new act) }
+    ensures falls { IfOk result (λ act. Falls state.old 32 state.new act) }
+{
+    if is_nothing(&v) {
+        return Ok(join_next(state, joining, line, &[])?);
+    }
+    let progress = ArrayProgress::JoinElementPrimitive { joining, line };
+    Ok(string_for(alloc, state, v, progress)?)
+}
+
+/// Goes on with an element as a primitive value.
+pub(crate) fn step_join_element_primitive<'p>(
+    alloc: Global,
+    state: &mut State<'p>,
+    joining: Joining,
+    line: List<u16>,
+    p: &Value,
+) -> Result<Act<'p>, NoMemory>
+    ensures leads { IfOk result (λ act. Works state.old
+        (array_after (ArrayProgress.JoinElementPrimitive joining line) p.now) state.new act) }
+    ensures falls { IfOk result (λ act. Falls state.old 12 state.new act) }
+{
+    let next = text_of(alloc, p)?;
+    Ok(join_next(state, joining, line, next.units())?)
+}
+
+/// The string of an element comes last in a line, and then those that are left.
+fn join_next<'p>(
+    state: &mut State<'p>,
+    joining: Joining,
+    line: List<u16>,
+    next: &[u16],
+) -> Result<Act<'p>, NoMemory>
+    ensures leads { IfOk result (λ act. Works state.old (join_next joining line next.now) state.new act) }
+    ensures falls { IfOk result (λ act. Falls state.old 12 state.new act) }
+{
+    if !has_room(line.len(), next.len()) {
+        return Ok(Act::Fault(Fault::StringTooLong));
+    }
+    let line = with_units(line, next)?;
+    Ok(begin_turn(state, ArrayProgress::JoinTurn { joining, line })?)
+}

@@ -1,0 +1,196 @@
+//! The functions that begin with the length of what they are called on (15.4.4.5 to 15.4.4.13).
+ghost use Rattle.std.specs.Prelude.{◌≡◌, IfOk, List};
+ghost use Rattle.jl_meaning.specs.Parts.{◌>>=◌ as ◌then◌};
+ghost use Rattle.jl_meaning.specs.builtins.Elements.{get_length};
+ghost use Rattle.jl_progress.specs.Arrays.{array_after, with_length};
+ghost use Rattle.jl_state.specs.Rank.{Falls};
+ghost use Rattle.jl_state.specs.Rest.{Works};
+ghost use Rattle.jl_value.specs.declared.value.Value.{Value as AnyValue};
+
+use crate::frames::{begin_turn, number_for, sum, wait};
+use crate::joining::join;
+use crate::shifting::{pop_last, shift_first};
+use crate::splicing::splice;
+use jl_algorithm::get;
+use jl_builtin::number_of_primitive;
+use jl_num::to_uint32;
+use jl_progress::{
+    AfterMoving, AfterPutting, ArrayProgress, LengthFunction, Moving, Reading, Reversing,
+};
+use jl_state::{Act, State};
+use jl_store::word;
+use jl_text::{List, NoMemory};
+use jl_value::{Fault, ObjId, Value};
+use std::alloc::Global;
+
+/// The length of an object is got, for which a function waits.
+pub(crate) fn begin_with_length<'p>(
+    alloc: Global,
+    state: &mut State<'p>,
+    function: LengthFunction,
+    object: ObjId,
+    args: List<Value>,
+) -> Result<Act<'p>, NoMemory>
+    ensures leads { IfOk result (λ act. Works state.old
+        (get_length object then with_length function object args) state.new act) }
+    ensures falls { IfOk result (λ act. Falls state.old 164 state.new act) }
+{
+    let name = word(alloc, "length")?;
+    wait(
+        state,
+        ArrayProgress::Length {
+            function,
+            object,
+            args,
+        },
+    )?;
+    Ok(get(alloc, state, &Value::Obj(object), &name)?)
+}
+
+/// Goes on with the length.
+pub(crate) fn step_length<'p>(
+    alloc: Global,
+    state: &mut State<'p>,
+    function: LengthFunction,
+    object: ObjId,
+    args: List<Value>,
+    v: Value,
+) -> Result<Act<'p>, NoMemory>
+    ensures leads { IfOk result (λ act. Works state.old
+        (array_after (ArrayProgress.Length function object args) v) state.new act) }
+    ensures falls { IfOk result (λ act. Falls state.old 162 state.new act) }
+{
+    let progress = ArrayProgress::LengthPrimitive {
+        function,
+        object,
+        args,
+    };
+    Ok(number_for(alloc, state, v, progress)?)
+}
+
+/// Goes on with the length as a primitive value.
+pub(crate) fn step_length_primitive<'p>(
+    alloc: Global,
+    state: &mut State<'p>,
+    function: LengthFunction,
+    object: ObjId,
+    args: List<Value>,
+    p: &Value,
+) -> Result<Act<'p>, NoMemory>
+    ensures leads { IfOk result (λ act. Works state.old
+        (array_after (ArrayProgress.LengthPrimitive function object args) p.now) state.new act) }
+    ensures falls { IfOk result (λ act. Falls state.old 144 state.new act) }
+{
+    match number_of_primitive(p) {
+        Some(n) => Ok(with_length(alloc, state, function, object, args, to_uint32(n) as usize)?),
+        None => Ok(Act::Fault(Fault::NumberOutside)),
+    }
+}
+
+/// What a function does with the length.
+fn with_length<'p>(
+    alloc: Global,
+    state: &mut State<'p>,
+    function: LengthFunction,
+    object: ObjId,
+    args: List<Value>,
+    length: usize,
+) -> Result<Act<'p>, NoMemory>
+    ensures leads { IfOk result (λ act. Works state.old (with_length function object args length) state.new act) }
+    ensures falls { IfOk result (λ act. Falls state.old 144 state.new act) }
+{
+    match function {
+        LengthFunction::Join => Ok(join(alloc, state, object, args.items(), length)?),
+        LengthFunction::Pop => Ok(pop_last(alloc, state, object, length)?),
+        LengthFunction::Push => Ok(push(state, object, args, length)?),
+        LengthFunction::Reverse => Ok(reverse(state, object, length)?),
+        LengthFunction::Shift => Ok(shift_first(alloc, state, object, length)?),
+        LengthFunction::Sort => Ok(sort(alloc, state, object, length)?),
+        LengthFunction::Splice { array } => {
+            Ok(splice(alloc, state, object, array, args, length)?)
+        }
+        LengthFunction::Unshift => Ok(unshift(state, object, args, length)?),
+    }
+}
+
+/// `push` of an object with this length (15.4.4.7).
+fn push<'p>(
+    state: &mut State<'p>,
+    object: ObjId,
+    args: List<Value>,
+    length: usize,
+) -> Result<Act<'p>, NoMemory>
+    ensures leads { IfOk result (λ act. Works state.old
+        (with_length LengthFunction.Push object args length) state.new act) }
+    ensures falls { IfOk result (λ act. Falls state.old 144 state.new act) }
+{
+    let progress = ArrayProgress::PutTurn {
+        object,
+        index: length,
+        values: args,
+        from: 0,
+        then: AfterPutting::Push,
+    };
+    Ok(begin_turn(state, progress)?)
+}
+
+/// `reverse` of an object with this length (15.4.4.8).
+fn reverse<'p>(state: &mut State<'p>, object: ObjId, length: usize) -> Result<Act<'p>, NoMemory>
+    ensures leads { IfOk result (λ act. (args : List AnyValue) → Works state.old
+        (with_length LengthFunction.Reverse object args length) state.new act) }
+    ensures falls { IfOk result (λ act. Falls state.old 144 state.new act) }
+{
+    let reversing = Reversing {
+        object,
+        length,
+        lower: 0,
+        left: length / 2,
+    };
+    Ok(begin_turn(state, ArrayProgress::ReverseTurn { reversing })?)
+}
+
+/// `sort` of an object with this length (15.4.4.11).
+fn sort<'p>(
+    alloc: Global,
+    state: &mut State<'p>,
+    object: ObjId,
+    length: usize,
+) -> Result<Act<'p>, NoMemory>
+    ensures leads { IfOk result (λ act. (args : List AnyValue) → Works state.old
+        (with_length LengthFunction.Sort object args length) state.new act) }
+    ensures falls { IfOk result (λ act. Falls state.old 144 state.new act) }
+{
+    let reading = Reading {
+        object,
+        length,
+        left: length,
+        k: 0,
+    };
+    let read = List::new(alloc);
+    Ok(begin_turn(state, ArrayProgress::SortTurn { reading, read })?)
+}
+
+/// `unshift` of an object with this length (15.4.4.13).
+fn unshift<'p>(
+    state: &mut State<'p>,
+    object: ObjId,
+    args: List<Value>,
+    length: usize,
+) -> Result<Act<'p>, NoMemory>
+    ensures leads { IfOk result (λ act. Works state.old
+        (with_length LengthFunction.Unshift object args length) state.new act) }
+    ensures falls { IfOk result (λ act. Falls state.old 144 state.new act) }
+{
+    let moving = Moving {
+        object,
+        from: 0,
+        to: args.len(),
+        left: length,
+    };
+    let after = sum(length, args.len())?;
+    let then = AfterMoving::Unshift {
+        args,
+        length: after,
+    };
+    Ok(begin_turn(state, ArrayProgress::MoveDown { moving, then })?)
+}

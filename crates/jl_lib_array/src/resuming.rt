@@ -1,0 +1,153 @@
+//! The functions go on with the values that they waited for.
+ghost use Rattle.std.specs.Prelude.{◌≡◌, ◌+◌, IfOk};
+ghost use Rattle.jl_progress.specs.Arrays.{array_after, rank_array};
+ghost use Rattle.jl_state.specs.Rank.{Falls};
+ghost use Rattle.jl_state.specs.Rest.{Works};
+
+use crate::appending::{append_items, step_concat_length};
+use crate::copying::{copy_turn, step_copy_element};
+use crate::deleting::{delete_down_turn, delete_up_turn};
+use crate::joining::{
+    join_turn_begins, step_join_element, step_join_element_primitive, step_join_first,
+    step_join_first_primitive, step_join_separator,
+};
+use crate::lengths::{step_length, step_length_primitive};
+use crate::moving::{move_down_turn, move_up_turn, step_move_down_element, step_move_up_element};
+use crate::putting::put_turn;
+use crate::reversing::{
+    reverse_turn, step_reverse_exchange, step_reverse_lower, step_reverse_upper,
+};
+use crate::shifting::{step_shift_first, without_last};
+use crate::sorting::{sort_turn, step_sort_element, step_sort_primitive};
+use crate::splicing::{step_splice_count, step_splice_start};
+use crate::strings::step_join_property;
+use jl_progress::ArrayProgress;
+use jl_state::{Act, State};
+use jl_text::NoMemory;
+use jl_value::Value;
+use std::alloc::Global;
+
+/// Goes on with the value that a function of this crate waited for.
+pub fn resume<'p>(
+    alloc: Global,
+    state: &mut State<'p>,
+    progress: ArrayProgress,
+    v: Value,
+) -> Result<Act<'p>, NoMemory>
+    ensures leads { IfOk result (λ act. Works state.old (array_after progress v) state.new act) }
+    ensures falls { IfOk result (λ act. Falls state.old (rank_array progress + 2) state.new act) }
+{
+    match progress {
+        ArrayProgress::Join { object } => Ok(step_join_property(alloc, state, object, &v)?),
+        ArrayProgress::Length {
+            function,
+            object,
+            args,
+        } => { Ok(step_length(alloc, state, function, object, args, v)?) }
+        ArrayProgress::LengthPrimitive {
+            function,
+            object,
+            args,
+        } => { Ok(step_length_primitive(alloc, state, function, object, args, &v)?) }
+        ArrayProgress::ConcatItem {
+            array,
+            next,
+            items,
+            from,
+        } => { Ok(append_items(alloc, state, array, next, items, from)?) }
+        ArrayProgress::ConcatLength {
+            array,
+            next,
+            item,
+            items,
+            from,
+        } => { Ok(step_concat_length(state, array, next, item, items, from, &v)?) }
+        ArrayProgress::CopyTurn { copying, then } => Ok(copy_turn(alloc, state, copying, then)?),
+        ArrayProgress::CopyElement { copying, then } => {
+            Ok(step_copy_element(alloc, state, copying, then, v)?)
+        }
+        ArrayProgress::JoinSeparator { object, length } => {
+            Ok(step_join_separator(alloc, state, object, length, &v)?)
+        }
+        ArrayProgress::JoinFirst { joining } => Ok(step_join_first(alloc, state, joining, v)?),
+        ArrayProgress::JoinFirstPrimitive { joining } => {
+            Ok(step_join_first_primitive(alloc, state, joining, &v)?)
+        }
+        ArrayProgress::JoinTurn { joining, line } => {
+            Ok(join_turn_begins(alloc, state, joining, line)?)
+        }
+        ArrayProgress::JoinElement { joining, line } => {
+            Ok(step_join_element(alloc, state, joining, line, v)?)
+        }
+        ArrayProgress::JoinElementPrimitive { joining, line } => {
+            Ok(step_join_element_primitive(alloc, state, joining, line, &v)?)
+        }
+        ArrayProgress::PopElement { object, last } => {
+            Ok(without_last(alloc, state, object, last, v)?)
+        }
+        ArrayProgress::PutTurn {
+            object,
+            index,
+            values,
+            from,
+            then,
+        } => { Ok(put_turn(alloc, state, object, index, values, from, then)?) }
+        ArrayProgress::ReverseTurn { reversing } => Ok(reverse_turn(alloc, state, reversing)?),
+        ArrayProgress::ReverseLower { reversing } => {
+            Ok(step_reverse_lower(alloc, state, reversing, v)?)
+        }
+        ArrayProgress::ReverseUpper { reversing, low } => {
+            Ok(step_reverse_upper(alloc, state, reversing, low, v)?)
+        }
+        ArrayProgress::ReverseExchange { reversing, low } => {
+            Ok(step_reverse_exchange(alloc, state, reversing, low)?)
+        }
+        ArrayProgress::ShiftFirst { object, last } => {
+            Ok(step_shift_first(state, object, last, v)?)
+        }
+        ArrayProgress::MoveUp { moving, k, then } => {
+            Ok(move_up_turn(alloc, state, moving, k, then)?)
+        }
+        ArrayProgress::MoveUpElement { moving, k, then } => {
+            Ok(step_move_up_element(alloc, state, moving, k, then, v)?)
+        }
+        ArrayProgress::MoveDown { moving, then } => {
+            Ok(move_down_turn(alloc, state, moving, then)?)
+        }
+        ArrayProgress::MoveDownElement { moving, then } => {
+            Ok(step_move_down_element(alloc, state, moving, then, v)?)
+        }
+        ArrayProgress::SortTurn { reading, read } => Ok(sort_turn(alloc, state, reading, read)?),
+        ArrayProgress::SortElement { reading, read } => {
+            Ok(step_sort_element(alloc, state, reading, read, v)?)
+        }
+        ArrayProgress::SortPrimitive {
+            reading,
+            read,
+            element,
+        } => { Ok(step_sort_primitive(alloc, state, reading, read, element, &v)?) }
+        ArrayProgress::DeleteUp {
+            object,
+            index,
+            left,
+        } => { Ok(delete_up_turn(alloc, state, object, index, left)?) }
+        ArrayProgress::SpliceStart {
+            object,
+            array,
+            length,
+            args,
+        } => { Ok(step_splice_start(alloc, state, object, array, length, args, &v)?) }
+        ArrayProgress::SpliceCount {
+            object,
+            array,
+            length,
+            start,
+            args,
+        } => {
+            Ok(step_splice_count(alloc, state, object, array, length, start, args.items(), &v)?)
+        }
+        ArrayProgress::DeleteDown { splicing, left } => {
+            Ok(delete_down_turn(alloc, state, splicing, left)?)
+        }
+    }
+}

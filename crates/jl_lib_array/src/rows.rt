@@ -1,0 +1,111 @@
+//! The functions by their rows, and how each begins.
+ghost use Rattle.std.specs.Prelude.{◌≡◌, ◌<◌, IfOk};
+ghost use Rattle.jl_lib_array.specs.Rows.{IsArrayRow};
+ghost use Rattle.jl_lib_array.specs.inner.Rows.{function_on, length_function, splice_on};
+ghost use Rattle.jl_meaning.specs.builtins.Function.{names_of};
+ghost use Rattle.jl_meaning.specs.builtins.Table.{builtin};
+ghost use Rattle.jl_state.specs.Rank.{Falls};
+ghost use Rattle.jl_state.specs.Rest.{Works};
+ghost use Rattle.jl_state.specs.Words.{call_of, table_of};
+
+use crate::appending::concat;
+use crate::lengths::begin_with_length;
+use crate::strings::array_to_string;
+use jl_builtin::{argument, is_undefined};
+use jl_progress::LengthFunction;
+use jl_state::{Act, Invocation, State};
+use jl_store::Answer;
+use jl_text::{List, NoMemory};
+use jl_value::{Builtin, Completion, Fault, ObjId, Value};
+use std::alloc::Global;
+
+/// The row of `toLocaleString`, which isn't built.
+const TO_LOCALE_STRING: u16 = 31;
+
+/// The row of `sort`, which isn't built with a function to compare by.
+const SORT: u16 = 39;
+
+/// Begins a function of this crate: one of the rows 30 to 41 but that of `slice`.
+pub fn start<'p>(
+    alloc: Global,
+    state: &mut State<'p>,
+    row: u16,
+    call: Invocation,
+) -> Result<Act<'p>, NoMemory>
+    requires belongs { IsArrayRow row }
+    ensures leads { IfOk result (λ act. Works state.old
+        (builtin (names_of (table_of state.old.functions)) row (call_of call)) state.new act) }
+    ensures falls { IfOk result (λ act. Falls state.old 400 state.new act) }
+{
+    if row == TO_LOCALE_STRING {
+        return Ok(unsupported(row));
+    }
+    if row == SORT && !is_undefined(&argument(alloc, call.args.items(), 0)?) {
+        return Ok(unsupported(row));
+    }
+    match state.store.to_object(&call.this)? {
+        Answer::Gives(object) => Ok(start_on(alloc, state, row, object, call.args)?),
+        Answer::Throws(thrown) => Ok(Act::Complete(Completion::Throw(thrown))),
+    }
+}
+
+/// The call of a builtin that isn't built ends the run.
+#[tactic(auto, unfolding(jl_value::specs::Builtins::builtin_names))]
+fn unsupported<'p>(row: u16) -> Act<'p>
+    requires { row < 42 }
+    ensures { result ≡ Act.Fault (Fault.Unsupported row) }
+{
+    Act::Fault(Fault::Unsupported(Builtin::at(row).unwrap()))
+}
+
+/// Begins a function on an object.
+fn start_on<'p>(
+    alloc: Global,
+    state: &mut State<'p>,
+    row: u16,
+    object: ObjId,
+    args: List<Value>,
+) -> Result<Act<'p>, NoMemory>
+    ensures leads { IfOk result (λ act. Works state.old (function_on row object args) state.new act) }
+    ensures falls { IfOk result (λ act. Falls state.old 164 state.new act) }
+{
+    if row == 30 {
+        return Ok(array_to_string(alloc, state, object)?);
+    }
+    if row == 32 {
+        return Ok(concat(alloc, state, object, args.items())?);
+    }
+    if row == 40 {
+        return Ok(splice_into_new(alloc, state, object, args)?);
+    }
+    Ok(begin_with_length(alloc, state, length_function(row), object, args)?)
+}
+
+/// `splice` of an object, with a new array for the elements that go (15.4.4.12).
+fn splice_into_new<'p>(
+    alloc: Global,
+    state: &mut State<'p>,
+    object: ObjId,
+    args: List<Value>,
+) -> Result<Act<'p>, NoMemory>
+    ensures leads { IfOk result (λ act. Works state.old (splice_on object args) state.new act) }
+    ensures falls { IfOk result (λ act. Falls state.old 164 state.new act) }
+{
+    let array = state.store.new_array()?;
+    Ok(begin_with_length(alloc, state, LengthFunction::Splice { array }, object, args)?)
+}
+
+/// The function of a row that begins with a length.
+fn length_function(row: u16) -> LengthFunction
+    ensures { result ≡ length_function row }
+{
+    match row {
+        33 => LengthFunction::Join,
+        34 => LengthFunction::Pop,
+        35 => LengthFunction::Push,
+        36 => LengthFunction::Reverse,
+        37 => LengthFunction::Shift,
+        39 => LengthFunction::Sort,
+        _ => LengthFunction::Unshift,
+    }
+}

@@ -1,0 +1,132 @@
+//! `sort` without a function to compare by (15.4.4.11): the elements are read one a turn, sorted, and put back one a
+//! turn, and then as many are deleted as there were holes.
+ghost use Rattle.std.specs.Prelude.{◌≡◌, ◌+◌, map, IfOk};
+ghost use Rattle.jl_meaning.specs.Parts.{◌>>=◌ as ◌then◌};
+ghost use Rattle.jl_meaning.specs.builtins.ArrayChanges.{read_turn, sort_by_keys, KeyedValue};
+ghost use Rattle.jl_progress.specs.Arrays.{array_after, put_others, sort_others};
+ghost use Rattle.jl_state.specs.Rank.{Falls};
+ghost use Rattle.jl_state.specs.Rest.{Works};
+ghost use Rattle.jl_value.specs.declared.value.Value.TheVariants as value;
+
+use crate::frames::{begin_turn, get_for, string_for, sum};
+use crate::ordering::{sort_elements, values_of};
+use jl_builtin::{has_index, is_undefined};
+use jl_operator::text_of;
+use jl_progress::{AfterPutting, ArrayProgress, Reading};
+use jl_state::{Act, State};
+use jl_text::{List, NoMemory, Text};
+use jl_value::{ObjId, Value, share};
+use std::alloc::Global;
+
+/// A turn begins in which an element is read, if any is left.
+pub(crate) fn sort_turn<'p>(
+    alloc: Global,
+    state: &mut State<'p>,
+    reading: Reading,
+    read: List<(Option<Text>, Value)>,
+) -> Result<Act<'p>, NoMemory>
+    ensures leads { IfOk result (λ act. Works state.old (sort_others reading read) state.new act) }
+    ensures falls { IfOk result (λ act. Falls state.old 62 state.new act) }
+{
+    if reading.left == 0 {
+        return Ok(put_sorted(alloc, state, reading.object, reading.length, read)?);
+    }
+    if !state.spend() {
+        return Ok(Act::Spent);
+    }
+    let index = reading.k;
+    let left = reading.left - 1;
+    let k = sum(index, 1)?;
+    Ok(read_element(alloc, state, index, Reading { left, k, ..reading }, read)?)
+}
+
+/// The element at an index is read, if there is one, and then those that are left.
+fn read_element<'p>(
+    alloc: Global,
+    state: &mut State<'p>,
+    index: usize,
+    reading: Reading,
+    read: List<(Option<Text>, Value)>,
+) -> Result<Act<'p>, NoMemory>
+    ensures leads { IfOk result (λ act. Works state.old
+        (read_turn reading.object index read then sort_others reading) state.new act) }
+    ensures falls { IfOk result (λ act. Falls state.old 104 state.new act) }
+{
+    let object = reading.object;
+    if has_index(alloc, &state.store, object, index)? {
+        let progress = ArrayProgress::SortElement { reading, read };
+        return Ok(get_for(alloc, state, object, index, progress)?);
+    }
+    Ok(begin_turn(state, ArrayProgress::SortTurn { reading, read })?)
+}
+
+/// Goes on with an element.
+pub(crate) fn step_sort_element<'p>(
+    alloc: Global,
+    state: &mut State<'p>,
+    reading: Reading,
+    read: List<(Option<Text>, Value)>,
+    v: Value,
+) -> Result<Act<'p>, NoMemory>
+    ensures leads { IfOk result (λ act. Works state.old
+        (array_after (ArrayProgress.SortElement reading read) v) state.new act) }
+    ensures falls { IfOk result (λ act. Falls state.old 102 state.new act) }
+{
+    if is_undefined(&v) {
+        let mut read = read;
+        read.push((None, v))?;
+        return Ok(begin_turn(state, ArrayProgress::SortTurn { reading, read })?);
+    }
+    let element = share(alloc, &v)?;
+    let progress = ArrayProgress::SortPrimitive {
+        reading,
+        read,
+        element,
+    };
+    Ok(string_for(alloc, state, v, progress)?)
+}
+
+/// Goes on with an element as a primitive value.
+pub(crate) fn step_sort_primitive<'p>(
+    alloc: Global,
+    state: &mut State<'p>,
+    reading: Reading,
+    read: List<(Option<Text>, Value)>,
+    element: Value,
+    p: &Value,
+) -> Result<Act<'p>, NoMemory>
+    ensures leads { IfOk result (λ act. Works state.old
+        (array_after (ArrayProgress.SortPrimitive reading read element) p.now) state.new act) }
+    ensures falls { IfOk result (λ act. Falls state.old 82 state.new act) }
+{
+    let text = text_of(alloc, p)?;
+    let mut read = read;
+    read.push((Some(text), element))?;
+    Ok(begin_turn(state, ArrayProgress::SortTurn { reading, read })?)
+}
+
+/// The elements that have been read are sorted, and put back one a turn.
+fn put_sorted<'p>(
+    alloc: Global,
+    state: &mut State<'p>,
+    object: ObjId,
+    length: usize,
+    read: List<(Option<Text>, Value)>,
+) -> Result<Act<'p>, NoMemory>
+    ensures leads { IfOk result (λ act. Works state.old
+        (put_others object 0 (map (λ (x : KeyedValue). x.1) (sort_by_keys read)) (AfterPutting.Sort length))
+        state.new act) }
+    ensures falls { IfOk result (λ act. Falls state.old 62 state.new act) }
+{
+    let mut sorted = read;
+    sort_elements(alloc, sorted.items_mut())?;
+    let values = values_of(alloc, sorted.items())?;
+    let progress = ArrayProgress::PutTurn {
+        object,
+        index: 0,
+        values,
+        from: 0,
+        then: AfterPutting::Sort { length },
+    };
+    Ok(begin_turn(state, progress)?)
+}

@@ -1,0 +1,210 @@
+//! `splice` (15.4.4.12).
+ghost use Rattle.std.specs.Prelude.{◌≡◌, ◌-◌, IfOk};
+ghost use Rattle.jl_lib_array.specs.inner.Rows.{close_gap, open_gap};
+ghost use Rattle.jl_meaning.specs.Parts.{◌>>=◌ as ◌then◌};
+ghost use Rattle.jl_meaning.specs.builtins.ArrayChanges.{splice_at};
+ghost use Rattle.jl_progress.specs.Arrays.{array_after, length_spliced, put_items, splice_others, with_length};
+ghost use Rattle.jl_state.specs.Rank.{Falls};
+ghost use Rattle.jl_state.specs.Rest.{Works};
+
+use crate::frames::{begin_turn, number_for, sum};
+use jl_builtin::{argument, clamped, number_of_primitive, relative_index, rest_of};
+use jl_progress::{
+    AfterCopying, AfterMoving, AfterPutting, ArrayProgress, Copying, LengthFunction, Moving,
+    Splicing,
+};
+use jl_state::{Act, State};
+use jl_text::{List, NoMemory};
+use jl_value::{Fault, ObjId, Value};
+use std::alloc::Global;
+
+/// The length that an object gets.
+pub(crate) fn length_spliced(splicing: &Splicing) -> Result<usize, NoMemory>
+    ensures { IfOk result (λ length. length ≡ length_spliced splicing.now) }
+{
+    let kept = splicing.length.saturating_sub(splicing.removed);
+    sum(kept, splicing.items.len())
+}
+
+/// `splice` of an object with this length.
+pub(crate) fn splice<'p>(
+    alloc: Global,
+    state: &mut State<'p>,
+    object: ObjId,
+    array: ObjId,
+    args: List<Value>,
+    length: usize,
+) -> Result<Act<'p>, NoMemory>
+    ensures leads { IfOk result (λ act. Works state.old
+        (with_length (LengthFunction.Splice array) object args length) state.new act) }
+    ensures falls { IfOk result (λ act. Falls state.old 136 state.new act) }
+{
+    let start = argument(alloc, args.items(), 0)?;
+    let progress = ArrayProgress::SpliceStart {
+        object,
+        array,
+        length,
+        args,
+    };
+    Ok(number_for(alloc, state, start, progress)?)
+}
+
+/// Goes on with the first argument as a primitive value.
+pub(crate) fn step_splice_start<'p>(
+    alloc: Global,
+    state: &mut State<'p>,
+    object: ObjId,
+    array: ObjId,
+    length: usize,
+    args: List<Value>,
+    p: &Value,
+) -> Result<Act<'p>, NoMemory>
+    ensures leads { IfOk result (λ act. Works state.old
+        (array_after (ArrayProgress.SpliceStart object array length args) p.now) state.new act) }
+    ensures falls { IfOk result (λ act. Falls state.old 122 state.new act) }
+{
+    let Some(n) = number_of_primitive(p) else {
+        return Ok(Act::Fault(Fault::NumberOutside));
+    };
+    let start = relative_index(n, length);
+    let count = argument(alloc, args.items(), 1)?;
+    let progress = ArrayProgress::SpliceCount {
+        object,
+        array,
+        length,
+        start,
+        args,
+    };
+    Ok(number_for(alloc, state, count, progress)?)
+}
+
+/// Goes on with the second argument as a primitive value.
+pub(crate) fn step_splice_count<'p>(
+    alloc: Global,
+    state: &mut State<'p>,
+    object: ObjId,
+    array: ObjId,
+    length: usize,
+    start: usize,
+    args: &[Value],
+    p: &Value,
+) -> Result<Act<'p>, NoMemory>
+    ensures leads { IfOk result (λ act. Works state.old
+        (array_after (ArrayProgress.SpliceCount object array length start args.now) p.now) state.new act) }
+    ensures falls { IfOk result (λ act. Falls state.old 92 state.new act) }
+{
+    let Some(n) = number_of_primitive(p) else {
+        return Ok(Act::Fault(Fault::NumberOutside));
+    };
+    let removed = clamped(n, length.saturating_sub(start));
+    let items = rest_of(alloc, args, 2)?;
+    let splicing = Splicing {
+        object,
+        array,
+        length,
+        start,
+        removed,
+        items,
+    };
+    Ok(copy_removed(state, splicing)?)
+}
+
+/// The elements that go are copied to the new array, one a turn.
+fn copy_removed<'p>(state: &mut State<'p>, splicing: Splicing) -> Result<Act<'p>, NoMemory>
+    ensures leads { IfOk result (λ act. Works state.old
+        (splice_at splicing.object splicing.array splicing.length splicing.start splicing.removed splicing.items)
+        state.new act) }
+    ensures falls { IfOk result (λ act. Falls state.old 92 state.new act) }
+{
+    let copying = Copying {
+        object: splicing.object,
+        start: splicing.start,
+        array: splicing.array,
+        first: 0,
+        left: splicing.removed,
+        k: 0,
+    };
+    let then = AfterCopying::Splice(splicing);
+    Ok(begin_turn(state, ArrayProgress::CopyTurn { copying, then })?)
+}
+
+/// The elements after those that go are moved, one a turn, to make room for those that come.
+pub(crate) fn splice_others<'p>(
+    state: &mut State<'p>,
+    splicing: Splicing,
+) -> Result<Act<'p>, NoMemory>
+    ensures leads { IfOk result (λ act. Works state.old (splice_others splicing) state.new act) }
+    ensures falls { IfOk result (λ act. Falls state.old 74 state.new act) }
+{
+    let added = splicing.items.len();
+    if added < splicing.removed {
+        return Ok(move_closer(state, splicing)?);
+    }
+    if splicing.removed < added {
+        return Ok(move_apart(state, splicing)?);
+    }
+    Ok(put_items(state, splicing)?)
+}
+
+/// How many elements stand after those that go.
+fn after_removed(splicing: &Splicing) -> usize
+    ensures { result ≡ splicing.now.length - splicing.now.removed - splicing.now.start }
+{
+    splicing
+        .length
+        .saturating_sub(splicing.removed)
+        .saturating_sub(splicing.start)
+}
+
+/// Fewer elements come than go: those after them are moved down, from the first one up.
+fn move_closer<'p>(state: &mut State<'p>, splicing: Splicing) -> Result<Act<'p>, NoMemory>
+    ensures leads { IfOk result (λ act. Works state.old
+        (close_gap splicing then λ _. put_items splicing) state.new act) }
+    ensures falls { IfOk result (λ act. Falls state.old 74 state.new act) }
+{
+    let moving = Moving {
+        object: splicing.object,
+        from: splicing.removed,
+        to: splicing.items.len(),
+        left: after_removed(&splicing),
+    };
+    let k = splicing.start;
+    let then = AfterMoving::Delete(splicing);
+    Ok(begin_turn(state, ArrayProgress::MoveUp { moving, k, then })?)
+}
+
+/// More elements come than go: those after them are moved up, from the last one down.
+fn move_apart<'p>(state: &mut State<'p>, splicing: Splicing) -> Result<Act<'p>, NoMemory>
+    ensures leads { IfOk result (λ act. Works state.old
+        (open_gap splicing then λ _. put_items splicing) state.new act) }
+    ensures falls { IfOk result (λ act. Falls state.old 74 state.new act) }
+{
+    let moving = Moving {
+        object: splicing.object,
+        from: sum(splicing.start, splicing.removed)?,
+        to: sum(splicing.start, splicing.items.len())?,
+        left: after_removed(&splicing),
+    };
+    let then = AfterMoving::Put(splicing);
+    Ok(begin_turn(state, ArrayProgress::MoveDown { moving, then })?)
+}
+
+/// The elements that come are put, one a turn, and then the length.
+pub(crate) fn put_items<'p>(state: &mut State<'p>, splicing: Splicing) -> Result<Act<'p>, NoMemory>
+    ensures leads { IfOk result (λ act. Works state.old (put_items splicing) state.new act) }
+    ensures falls { IfOk result (λ act. Falls state.old 54 state.new act) }
+{
+    let length = length_spliced(&splicing)?;
+    let then = AfterPutting::Splice {
+        array: splicing.array,
+        length,
+    };
+    let progress = ArrayProgress::PutTurn {
+        object: splicing.object,
+        index: splicing.start,
+        values: splicing.items,
+        from: 0,
+        then,
+    };
+    Ok(begin_turn(state, progress)?)
+}

@@ -1,0 +1,6 @@
+pub mod CalledRows
+pub mod NewArrays
+pub mod Searches
+pub mod Slices
+pub mod TaskTurns
+pub mod Turns

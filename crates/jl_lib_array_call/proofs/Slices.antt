@@ -1,0 +1,111 @@
+-- slice: its turns, and where they begin and end.
+use Rattle.std.proofs.Common.{◌≡◌, ◌≤◌, ◌<◌, ◌+◌, ◌-◌, ◌∙◌, ap, arith, false, pos, refl, subst, suc, sym, true, zero}
+use Rattle.std.proofs.Common.{Bool, List, None, Option, Some, ℕ, ℤ}
+use Rattle.std.specs.Prelude.{min}
+use mathlib.Core.Path.{fun_ext}
+use Rattle.jl_value.specs.declared.object.ObjId.{ObjId}
+use Rattle.jl_value.specs.declared.value.Value.{Value}
+use Rattle.jl_value.specs.declared.value.Value.TheVariants as value
+use Rattle.jl_effects.specs.Effects.{Step}
+use Rattle.jl_meaning.specs.Conversions.{number_hint, to_integer, to_primitive}
+use Rattle.jl_meaning.specs.Parts.{give, ◌>>=◌, Algorithm}
+use Rattle.jl_meaning.specs.builtins.Arguments.{give_object}
+use Rattle.jl_meaning.specs.builtins.Elements.{add_if, add_index, copy_element, element, get_index, relative_index, to_end}
+use Rattle.jl_meaning.specs.builtins.Turns.{upward}
+use Rattle.jl_progress.specs.ArrayCalls.{argument_of, copy_from, slice_to, with_length}
+use Rattle.jl_progress.specs.declared.array_call.ArrayCallProgress.TheVariants as array_call
+use Rattle.jl_progress.specs.declared.array_call.LengthFor.TheVariants as length_for
+use Rattle.jl_progress.specs.declared.progress.Progress.TheVariants as progress
+use Rattle.jl_state.specs.Rest.{Works}
+use Rattle.jl_state.specs.Steps.{AlgorithmWaits, RanOut, Took}
+use Rattle.jl_state.specs.declared.act.Act.{Act}
+use Rattle.jl_state.specs.declared.act.Act.TheVariants as act
+use Rattle.jl_state.specs.declared.algorithm_frame.AlgorithmFrame.TheVariants as algorithm
+use Rattle.jl_state.specs.declared.state.State.{State}
+use Rattle.jl_algorithm.proofs.Chains.{bind_assoc}
+use Rattle.jl_builtin.specs.Values.{is_undefined}
+use Rattle.jl_builtin.proofs.Waits.{integer_waits}
+
+abbrev turn : ObjId → ℕ → ObjId → ℕ → Unit {0} → Algorithm (Unit {0})
+turn o start a k _ = copy_element o (start + k) a (0 + k)
+
+none_left : (count at : ℕ) → count ≤ at → count - at ≡ 0
+none_left count at over = omega (arith, over)
+
+one_left : (count at : ℕ) → at < count → count - at ≡ suc (count - (at + 1))
+one_left count at below = omega (arith, below)
+
+plain : (k : ℕ) → 0 + k ≡ k
+plain k = omega arith
+
+-- the turns are over
+pub copied : (s : State) (o : ObjId) (start : ℕ) (a : ObjId) (count at : ℕ) → count ≤ at
+    → Works s (copy_from o start a count at) s (act.Give (value.Obj a))
+copied s o start a count at over =
+    subst (λ n. Works s (upward (turn o start a) n at tt >>= λ _. give_object a) s (act.Give (value.Obj a)))
+    (sym (none_left count at over)) (record { is = λ kept told. refl })
+
+-- a turn begins
+pub copies : (o : ObjId) (start : ℕ) (a : ObjId) (count at : ℕ) → at < count
+    → Step (element o (start + at) >>= λ v. add_if a at v >>= λ _. copy_from o start a count (at + 1))
+    ≡ copy_from o start a count at
+copies o start a count at below =
+    sym (ap (λ n. upward (turn o start a) n at tt >>= last) (one_left count at below)
+    ∙ ap Step (bind_assoc (turn o start a at tt) (λ b. upward (turn o start a) (count - (at + 1)) (at + 1) b) last
+    ∙ bind_assoc (element o (start + at)) (add_if a (0 + at)) (λ _. copy_from o start a count (at + 1))
+    ∙ ap (λ m. element o (start + at) >>= λ v. add_if a m v >>= λ _. copy_from o start a count (at + 1)) (plain at)))
+  where
+    last : Unit {0} → Algorithm Value
+    last _ = give_object a
+
+-- an end that isn't given is the length
+least_same : (n : ℕ) → min n n ≡ n
+least_same n = omega arith
+
+pub ends_with_length : (s : State) (o a : ObjId) (length start : ℕ) (end : Value) (t : State) (b : Act)
+    → is_undefined end ≡ true → Works s (copy_from o start a (length - start) 0) t b
+    → Works s (slice_to o a length start end) t b
+ends_with_length s o a length start value.Undefined t b none leads =
+    subst (λ n. Works s (copy_from o start a (n - start) 0) t b) (sym (least_same length)) leads
+ends_with_length s o a length start value.Null t b none leads = absurd (let differ = none in cc)
+ends_with_length s o a length start (value.Bool v) t b none leads = absurd (let differ = none in cc)
+ends_with_length s o a length start (value.Num n) t b none leads = absurd (let differ = none in cc)
+ends_with_length s o a length start (value.Text x) t b none leads = absurd (let differ = none in cc)
+ends_with_length s o a length start (value.Obj id) t b none leads = absurd (let differ = none in cc)
+
+pub converts_end : (s : State) (o a : ObjId) (length start : ℕ) (end : Value) (t : State) (b : Act)
+    → is_undefined end ≡ false
+    → Works s (to_integer end >>= λ z. copy_from o start a (relative_index z length - start) 0) t b
+    → Works s (slice_to o a length start end) t b
+converts_end s o a length start value.Undefined t b there leads = absurd (let differ = there in cc)
+converts_end s o a length start value.Null t b there leads = leads
+converts_end s o a length start (value.Bool v) t b there leads = leads
+converts_end s o a length start (value.Num n) t b there leads = leads
+converts_end s o a length start (value.Text x) t b there leads = leads
+converts_end s o a length start (value.Obj id) t b there leads = leads
+
+-- the same of states
+
+pub copy_begins : (s t : State) (o : ObjId) (start : ℕ) (a : ObjId) (count at : ℕ) (u : State) (b : Act) → at < count
+    → Took s t → Works t (element o (start + at) >>= λ v. add_if a at v >>= λ _. copy_from o start a count (at + 1)) u b
+    → Works s (copy_from o start a count at) u b
+copy_begins s t o start a count at u b below took leads =
+    subst (λ p. Works s p u b) (copies o start a count at below)
+    (took.works (element o (start + at) >>= λ v. add_if a at v >>= λ _. copy_from o start a count (at + 1)) u b leads)
+
+pub copy_spent : (s : State) (o : ObjId) (start : ℕ) (a : ObjId) (count at : ℕ) → at < count → RanOut s
+    → Works s (copy_from o start a count at) s act.Spent
+copy_spent s o start a count at below ran =
+    subst (λ p. Works s p s act.Spent) (copies o start a count at below)
+    (ran.works (element o (start + at) >>= λ v. add_if a at v >>= λ _. copy_from o start a count (at + 1)))
+
+-- the start is converted, and the end is kept
+pub converts_start : (s u : State) (o a : ObjId) (length : ℕ) (args : List Value) (v end : Value) (t : State) (b : Act)
+    → v ≡ argument_of args 0 → end ≡ argument_of args 1
+    → AlgorithmWaits s (algorithm.Builtin (progress.ArrayCall (array_call.SliceStart o a length end))) u
+    → Works u (to_primitive number_hint v) t b → Works s (with_length (length_for.Slice a) o args length) t b
+converts_start s u o a length args v end t b is kept waits leads =
+    subst (λ w. Works s (to_integer w >>= λ z. slice_to o a length (relative_index z length) (argument_of args 1)) t b) is
+    (subst (λ e. Works s (to_integer v >>= λ z. slice_to o a length (relative_index z length) e) t b) kept
+    (integer_waits s u (progress.ArrayCall (array_call.SliceStart o a length end))
+    (λ z. slice_to o a length (relative_index z length) end) v t b (λ w. refl) waits leads))

@@ -1,0 +1,8 @@
+use Rattle.std.proofs.Common.{refl, sym, ◌∙◌}
+use Rattle.jl_lib_array_call.proofs.Searches.{search_goes_on, search_over, search_spent}
+use Rattle.jl_lib_array_call.proofs.searching.search_turn.Goals as goal
+
+pub returns-clause-leads : goal.returns-clause-leads
+returns-clause-leads c = 
+    search_goes_on _ _ c.args.direction c.args.object c.args.length c.args.sought c.args.at _ _ _
+    (sym c.index_at.ensures ∙ c.in-Some.is) (c.if-not-spend.ensures.took refl) c.in_ok-search_element.ensures.leads

@@ -1,0 +1,9 @@
+use Rattle.std.proofs.Common.{refl, sym, ◌∙◌}
+use Rattle.jl_progress.specs.ArrayCalls.{walk_of}
+use Rattle.jl_lib_array_call.proofs.TaskTurns.{task_over, turn_begins, turn_spent}
+use Rattle.jl_lib_array_call.proofs.walking.turn.Goals as goal
+
+pub returns-clause-leads : goal.returns-clause-leads
+returns-clause-leads c = 
+    turn_begins _ (walk_of c.args.walk) _ _ c.args.task _ c.args.at _ _ c.direction_of.ensures
+    (sym c.index_at.ensures ∙ c.in-Some.is) (c.if-not-spend.ensures.took refl) c.in_ok-visit.ensures.leads

@@ -1,0 +1,151 @@
+//! The functions of this crate by their rows, and what goes on with a value.
+ghost use Rattle.std.specs.Prelude.{◌≡◌, ◌+◌, true, IfOk};
+ghost use Rattle.jl_lib_array_call.specs.Rows.{is_array_call, purpose_of};
+ghost use Rattle.jl_meaning.specs.builtins.Function.{names_of};
+ghost use Rattle.jl_meaning.specs.builtins.Table.{builtin};
+ghost use Rattle.jl_progress.specs.ArrayCalls.{array_call_after, rank_array_call};
+ghost use Rattle.jl_state.specs.Rank.{Falls};
+ghost use Rattle.jl_state.specs.Rest.{Works};
+ghost use Rattle.jl_state.specs.Words.{call_of, table_of};
+
+use crate::arrays::{array_constructor, array_is_array};
+use crate::lengths::{begin_length, step_length, step_length_primitive};
+use crate::searching::{search_turn, step_search_element, step_search_from};
+use crate::slicing::{array_slice, copy_turn, step_copy_element, step_slice_end, step_slice_start};
+use crate::tasks::{step_answer, step_element};
+use crate::walking::turn;
+use jl_progress::{ArrayCallProgress, Direction, LengthFor, WalkFor};
+use jl_state::{Act, Invocation, State};
+use jl_text::NoMemory;
+use jl_value::Value;
+use std::alloc::Global;
+
+/// What the length of `this` is asked for, by the row of the function that was called.
+fn purpose_of(row: u16) -> LengthFor
+    ensures { result ≡ purpose_of row }
+{
+    let purpose = match row {
+        42 => return LengthFor::Search {
+            direction: Direction::Up,
+        },
+        43 => return LengthFor::Search {
+            direction: Direction::Down,
+        },
+        44 => WalkFor::Any { wanted: false },
+        45 => WalkFor::Any { wanted: true },
+        46 => WalkFor::ForEach,
+        47 => WalkFor::Map,
+        48 => WalkFor::Filter,
+        49 => WalkFor::Reduce {
+            direction: Direction::Up,
+        },
+        _ => WalkFor::Reduce {
+            direction: Direction::Down,
+        },
+    };
+    LengthFor::Walk { purpose }
+}
+
+/// Begins a builtin of this crate.
+pub fn start<'p>(
+    alloc: Global,
+    state: &mut State<'p>,
+    row: u16,
+    call: Invocation,
+) -> Result<Act<'p>, NoMemory>
+    requires belongs { is_array_call row ≡ true }
+    ensures leads { IfOk result (λ act. Works state.old
+        (builtin (names_of (table_of state.old.functions)) row (call_of call)) state.new act) }
+    ensures falls { IfOk result (λ act. Falls state.old 400 state.new act) }
+{
+    if row == 28 {
+        return Ok(array_constructor(alloc, state, call.args.items())?);
+    }
+    if row == 29 {
+        return Ok(array_is_array(alloc, state, &call)?);
+    }
+    if row == 38 {
+        return Ok(array_slice(alloc, state, call)?);
+    }
+    Ok(begin_length(alloc, state, call, purpose_of(row))?)
+}
+
+/// Goes on with the value that a builtin of this crate waited for.
+pub fn resume<'p>(
+    alloc: Global,
+    state: &mut State<'p>,
+    progress: ArrayCallProgress,
+    v: Value,
+) -> Result<Act<'p>, NoMemory>
+    ensures leads { IfOk result (λ act. Works state.old (array_call_after progress v) state.new act) }
+    ensures falls { IfOk result (λ act. Falls state.old (rank_array_call progress + 2) state.new act) }
+{
+    match progress {
+        ArrayCallProgress::Length {
+            object,
+            args,
+            purpose,
+        } => Ok(step_length(alloc, state, object, args, purpose, v)?),
+        ArrayCallProgress::LengthPrimitive {
+            object,
+            args,
+            purpose,
+        } => Ok(step_length_primitive(alloc, state, object, args, purpose, &v)?),
+        ArrayCallProgress::SliceStart {
+            object,
+            array,
+            length,
+            end,
+        } => Ok(step_slice_start(alloc, state, object, array, length, end, &v)?),
+        ArrayCallProgress::SliceEnd {
+            object,
+            array,
+            length,
+            start,
+        } => Ok(step_slice_end(state, object, array, length, start, &v)?),
+        ArrayCallProgress::CopyTurn {
+            object,
+            start,
+            array,
+            count,
+            at,
+        } => Ok(copy_turn(alloc, state, object, start, array, count, at)?),
+        ArrayCallProgress::CopyElement {
+            object,
+            start,
+            array,
+            count,
+            index,
+        } => Ok(step_copy_element(alloc, state, object, start, array, count, index, v)?),
+        ArrayCallProgress::SearchFrom {
+            object,
+            length,
+            sought,
+            direction,
+        } => Ok(step_search_from(state, object, length, sought, direction, &v)?),
+        ArrayCallProgress::SearchTurn {
+            object,
+            length,
+            sought,
+            direction,
+            at,
+        } => Ok(search_turn(alloc, state, object, length, sought, direction, at)?),
+        ArrayCallProgress::SearchElement {
+            object,
+            length,
+            sought,
+            direction,
+            index,
+        } => Ok(step_search_element(state, object, length, sought, direction, index, &v)?),
+        ArrayCallProgress::Turn { walk, task, at } => Ok(turn(alloc, state, walk, task, at)?),
+        ArrayCallProgress::Element { walk, task, index } => {
+            Ok(step_element(alloc, state, walk, task, index, v)?)
+        }
+        ArrayCallProgress::Answer {
+            walk,
+            task,
+            index,
+            element,
+        } => Ok(step_answer(alloc, state, walk, task, index, element, v)?),
+    }
+}

@@ -1,0 +1,163 @@
+//! indexOf and lastIndexOf (15.4.4.14, 15.4.4.15).
+ghost use Rattle.std.specs.Prelude.{◌≡◌, IfOk};
+ghost use Rattle.jl_meaning.specs.Parts.{◌>>=◌ as ◌then◌};
+ghost use Rattle.jl_meaning.specs.builtins.Elements.{element};
+ghost use Rattle.jl_progress.specs.ArrayCalls.{array_call_after, next_place, search, search_from, search_with};
+ghost use Rattle.jl_state.specs.Rank.{Falls};
+ghost use Rattle.jl_state.specs.Rest.{Works};
+
+use crate::arguments::second;
+use crate::places::{first_place, index_at, next_place, place_from};
+use jl_algorithm::to_primitive;
+use jl_builtin::{argument, get_index, go_on, has_index, index_or_none, number_of_primitive};
+use jl_conv::strict_equal;
+use jl_progress::{ArrayCallProgress, Direction, Progress};
+use jl_state::{Act, AlgorithmFrame, Hint, State};
+use jl_text::{List, NoMemory};
+use jl_value::{Fault, ObjId, Value};
+use std::alloc::Global;
+
+/// A search begins, when the length is known.
+pub(crate) fn search<'p>(
+    alloc: Global,
+    state: &mut State<'p>,
+    direction: Direction,
+    object: ObjId,
+    length: usize,
+    args: &List<Value>,
+) -> Result<Act<'p>, NoMemory>
+    ensures leads { IfOk result (λ act. Works state.old (search direction object length args.now) state.new act) }
+    ensures falls { IfOk result (λ act. Falls state.old 28 state.new act) }
+{
+    if length == 0 {
+        return Ok(Act::Give(index_or_none(None)?));
+    }
+    let sought = argument(alloc, args.items(), 0)?;
+    let Some(from) = second(alloc, args)? else {
+        let at = first_place(direction, length);
+        return Ok(go_on_searching(state, object, length, sought, direction, at)?);
+    };
+    let progress = ArrayCallProgress::SearchFrom {
+        object,
+        length,
+        sought,
+        direction,
+    };
+    state.push_algorithm(AlgorithmFrame::Builtin(Progress::ArrayCall(progress)))?;
+    Ok(to_primitive(alloc, state, from, Hint::Number)?)
+}
+
+/// Goes on with where a search begins, as a primitive value.
+#[tactic(auto, using(jl_builtin::proofs::Waits::number_outside))]
+pub(crate) fn step_search_from<'p>(
+    state: &mut State<'p>,
+    object: ObjId,
+    length: usize,
+    sought: Value,
+    direction: Direction,
+    p: &Value,
+) -> Result<Act<'p>, NoMemory>
+    ensures leads { IfOk result (λ act. Works state.old
+        (array_call_after (ArrayCallProgress.SearchFrom object length sought direction) p.now) state.new act) }
+    ensures falls { IfOk result (λ act. Falls state.old 9 state.new act) }
+{
+    let Some(n) = number_of_primitive(p) else {
+        return Ok(Act::Fault(Fault::NumberOutside));
+    };
+    let at = place_from(direction, n, length);
+    Ok(go_on_searching(state, object, length, sought, direction, at)?)
+}
+
+/// The turns follow that begin at a place.
+fn go_on_searching<'p>(
+    state: &mut State<'p>,
+    object: ObjId,
+    length: usize,
+    sought: Value,
+    direction: Direction,
+    at: usize,
+) -> Result<Act<'p>, NoMemory>
+    ensures leads { IfOk result (λ act. Works state.old (search_from direction object length sought at) state.new act) }
+    ensures falls { IfOk result (λ act. Falls state.old 9 state.new act) }
+{
+    let progress = ArrayCallProgress::SearchTurn {
+        object,
+        length,
+        sought,
+        direction,
+        at,
+    };
+    Ok(go_on(state, Progress::ArrayCall(progress))?)
+}
+
+/// A turn begins, if one is left.
+pub(crate) fn search_turn<'p>(
+    alloc: Global,
+    state: &mut State<'p>,
+    object: ObjId,
+    length: usize,
+    sought: Value,
+    direction: Direction,
+    at: usize,
+) -> Result<Act<'p>, NoMemory>
+    ensures leads { IfOk result (λ act. Works state.old (search_from direction object length sought at) state.new act) }
+    ensures falls { IfOk result (λ act. Falls state.old 3 state.new act) }
+{
+    let Some(index) = index_at(direction, at, length) else {
+        return Ok(Act::Give(index_or_none(None)?));
+    };
+    if !state.spend() {
+        return Ok(Act::Spent);
+    }
+    Ok(search_element(alloc, state, object, length, sought, direction, index)?)
+}
+
+/// The element of a turn is got, if there is one.
+fn search_element<'p>(
+    alloc: Global,
+    state: &mut State<'p>,
+    object: ObjId,
+    length: usize,
+    sought: Value,
+    direction: Direction,
+    index: usize,
+) -> Result<Act<'p>, NoMemory>
+    ensures leads { IfOk result (λ act. Works state.old
+        (element object index then search_with direction object length sought index) state.new act) }
+    ensures falls { IfOk result (λ act. Falls state.old 16 state.new act) }
+{
+    if !has_index(alloc, &state.store, object, index)? {
+        let at = next_place(direction, index)?;
+        return Ok(go_on_searching(state, object, length, sought, direction, at)?);
+    }
+    let progress = ArrayCallProgress::SearchElement {
+        object,
+        length,
+        sought,
+        direction,
+        index,
+    };
+    state.push_algorithm(AlgorithmFrame::Builtin(Progress::ArrayCall(progress)))?;
+    Ok(get_index(alloc, state, object, index)?)
+}
+
+/// Goes on with the element at an index.
+pub(crate) fn step_search_element<'p>(
+    state: &mut State<'p>,
+    object: ObjId,
+    length: usize,
+    sought: Value,
+    direction: Direction,
+    index: usize,
+    v: &Value,
+) -> Result<Act<'p>, NoMemory>
+    ensures leads { IfOk result (λ act. Works state.old
+        (array_call_after (ArrayCallProgress.SearchElement object length sought direction index) v.now) state.new act) }
+    ensures falls { IfOk result (λ act. Falls state.old 9 state.new act) }
+{
+    if strict_equal(&sought, v) {
+        return Ok(Act::Give(index_or_none(Some(index))?));
+    }
+    let at = next_place(direction, index)?;
+    Ok(go_on_searching(state, object, length, sought, direction, at)?)
+}

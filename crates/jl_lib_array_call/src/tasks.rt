@@ -1,0 +1,301 @@
+//! What is done with elements, and with what the function gives for them (15.4.4.16 to 15.4.4.22).
+ghost use Rattle.std.specs.Prelude.{◌≡◌, ◌+◌, ◌++◌, ◌∷◌, [], IfOk, Some};
+ghost use Rattle.jl_lib_array_call.specs.inner.Tasks.{task_end};
+ghost use Rattle.jl_meaning.specs.FunctionObjects.{whole};
+ghost use Rattle.jl_meaning.specs.Parts.{◌>>=◌ as ◌then◌};
+ghost use Rattle.jl_meaning.specs.builtins.ArrayCallbacks.{called_with};
+ghost use Rattle.jl_meaning.specs.builtins.Elements.{add_index};
+ghost use Rattle.jl_progress.specs.ArrayCalls.{any_with, array_call_after, next_place, task_after, task_with};
+ghost use Rattle.jl_progress.specs.ArrayCalls.{turns, walk_of};
+ghost use Rattle.jl_state.specs.Rank.{Falls};
+ghost use Rattle.jl_state.specs.Rest.{Works};
+ghost use Rattle.jl_value.specs.declared.value.Value.TheVariants as value;
+
+use crate::places::{next_index, next_place};
+use jl_algorithm::throw_native;
+use jl_builtin::{add_index, fault_of, go_on};
+use jl_conv::to_boolean;
+use jl_progress::{ArrayCallProgress, Direction, Progress, Task, Walk};
+use jl_state::{Act, AlgorithmFrame, Invocation, State};
+use jl_store::{Finished, count};
+use jl_text::{List, NoMemory};
+use jl_value::{Completion, ErrorKind, ObjId, Value, share};
+use std::alloc::Global;
+
+/// The turns follow that begin at a place.
+pub(crate) fn go_on_walking<'p>(
+    state: &mut State<'p>,
+    walk: Walk,
+    task: Task,
+    at: usize,
+) -> Result<Act<'p>, NoMemory>
+    ensures leads { IfOk result (λ act. Works state.old (turns task (walk_of walk) at) state.new act) }
+    ensures falls { IfOk result (λ act. Falls state.old 9 state.new act) }
+{
+    let progress = ArrayCallProgress::Turn { walk, task, at };
+    Ok(go_on(state, Progress::ArrayCall(progress))?)
+}
+
+/// What a task comes to, when no turn is left.
+pub(crate) fn end_task<'p>(
+    alloc: Global,
+    state: &mut State<'p>,
+    task: Task,
+) -> Result<Act<'p>, NoMemory>
+    ensures leads { IfOk result (λ act. Works state.old (task_end task) state.new act) }
+    ensures falls { IfOk result (λ act. Falls state.old 3 state.new act) }
+{
+    match task {
+        Task::Any { wanted } => Ok(Act::Give(Value::Bool(!wanted))),
+        Task::ForEach => Ok(Act::Give(Value::Undefined)),
+        Task::Map { array } | Task::Filter { array, .. } => Ok(Act::Give(Value::Obj(array))),
+        Task::Reduce { so_far, .. } => match so_far {
+            Some(v) => Ok(Act::Give(v)),
+            None => Ok(throw_native(alloc, state, ErrorKind::TypeError, "empty array")?),
+        },
+    }
+}
+
+/// Goes on with the element at an index.
+pub(crate) fn step_element<'p>(
+    alloc: Global,
+    state: &mut State<'p>,
+    walk: Walk,
+    task: Task,
+    index: usize,
+    v: Value,
+) -> Result<Act<'p>, NoMemory>
+    ensures leads { IfOk result (λ act. Works state.old
+        (array_call_after (ArrayCallProgress.Element walk task index) v) state.new act) }
+    ensures falls { IfOk result (λ act. Falls state.old 14 state.new act) }
+{
+    match task {
+        Task::Any { wanted } => Ok(ask(alloc, state, walk, Task::Any { wanted }, index, v)?),
+        Task::ForEach => Ok(ask(alloc, state, walk, Task::ForEach, index, v)?),
+        Task::Map { array } => Ok(ask(alloc, state, walk, Task::Map { array }, index, v)?),
+        Task::Filter { array, to } => {
+            Ok(ask(alloc, state, walk, Task::Filter { array, to }, index, v)?)
+        }
+        Task::Reduce { so_far, direction } => {
+            Ok(combine(alloc, state, walk, so_far, direction, index, v)?)
+        }
+    }
+}
+
+/// The function is called for an element.
+fn ask<'p>(
+    alloc: Global,
+    state: &mut State<'p>,
+    walk: Walk,
+    task: Task,
+    index: usize,
+    v: Value,
+) -> Result<Act<'p>, NoMemory>
+    ensures leads { IfOk result (λ act. Works state.old (called_with (walk_of walk) index v
+        then task_after task (walk_of walk) index v) state.new act) }
+    ensures falls { IfOk result (λ act. Falls state.old 14 state.new act) }
+{
+    let element = share(alloc, &v)?;
+    let invocation = Invocation {
+        callee: walk.function,
+        this: share(alloc, &walk.this)?,
+        args: with_element(List::new(alloc), v, index, walk.object)?,
+        by_new: false,
+    };
+    let progress = ArrayCallProgress::Answer {
+        walk,
+        task,
+        index,
+        element,
+    };
+    state.push_algorithm(AlgorithmFrame::Builtin(Progress::ArrayCall(progress)))?;
+    Ok(Act::Call(invocation))
+}
+
+/// Arguments of a call for an element: those that there are, and then the element, its index and the object.
+fn with_element(
+    mut args: List<Value>,
+    v: Value,
+    index: usize,
+    object: ObjId,
+) -> Result<List<Value>, NoMemory>
+    ensures { IfOk result (λ list. list ≡ args ++ v ∷ whole index ∷ value.Obj object ∷ []) }
+{
+    args.push(v)?;
+    args.push(count(index)?)?;
+    args.push(Value::Obj(object))?;
+    Ok(args)
+}
+
+/// `reduce` and `reduceRight` go on with an element. The first one is there without a call where no value was given to
+/// begin with (15.4.4.21, step 8).
+fn combine<'p>(
+    alloc: Global,
+    state: &mut State<'p>,
+    walk: Walk,
+    so_far: Option<Value>,
+    direction: Direction,
+    index: usize,
+    v: Value,
+) -> Result<Act<'p>, NoMemory>
+    ensures leads { IfOk result (λ act. Works state.old
+        (task_with (Task.Reduce so_far direction) (walk_of walk) index (Some v)) state.new act) }
+    ensures falls { IfOk result (λ act. Falls state.old 14 state.new act) }
+{
+    match so_far {
+        None => Ok(go_on_reducing(state, walk, v, direction, index)?),
+        Some(so_far) => Ok(call_to_combine(alloc, state, walk, so_far, direction, index, v)?),
+    }
+}
+
+/// The turns of `reduce` or `reduceRight` follow that come after the one at an index.
+fn go_on_reducing<'p>(
+    state: &mut State<'p>,
+    walk: Walk,
+    so_far: Value,
+    direction: Direction,
+    index: usize,
+) -> Result<Act<'p>, NoMemory>
+    ensures leads { IfOk result (λ act. Works state.old
+        (turns (Task.Reduce (Some so_far) direction) (walk_of walk) (next_place direction index)) state.new act) }
+    ensures falls { IfOk result (λ act. Falls state.old 9 state.new act) }
+{
+    let at = next_place(direction, index)?;
+    let so_far = Some(so_far);
+    Ok(go_on_walking(state, walk, Task::Reduce { so_far, direction }, at)?)
+}
+
+/// The function is called with what there is so far and an element (15.4.4.21, step 9.c.ii).
+fn call_to_combine<'p>(
+    alloc: Global,
+    state: &mut State<'p>,
+    walk: Walk,
+    so_far: Value,
+    direction: Direction,
+    index: usize,
+    v: Value,
+) -> Result<Act<'p>, NoMemory>
+    ensures leads { IfOk result (λ act. Works state.old
+        (task_with (Task.Reduce (Some so_far) direction) (walk_of walk) index (Some v)) state.new act) }
+    ensures falls { IfOk result (λ act. Falls state.old 14 state.new act) }
+{
+    let mut args = List::new(alloc);
+    args.push(so_far)?;
+    let invocation = Invocation {
+        callee: walk.function,
+        this: Value::Undefined,
+        args: with_element(args, v, index, walk.object)?,
+        by_new: false,
+    };
+    let progress = ArrayCallProgress::Answer {
+        walk,
+        task: Task::Reduce {
+            so_far: None,
+            direction,
+        },
+        index,
+        element: Value::Undefined,
+    };
+    state.push_algorithm(AlgorithmFrame::Builtin(Progress::ArrayCall(progress)))?;
+    Ok(Act::Call(invocation))
+}
+
+/// Goes on with what the function gives for an element.
+pub(crate) fn step_answer<'p>(
+    alloc: Global,
+    state: &mut State<'p>,
+    walk: Walk,
+    task: Task,
+    index: usize,
+    element: Value,
+    v: Value,
+) -> Result<Act<'p>, NoMemory>
+    ensures leads { IfOk result (λ act. Works state.old
+        (array_call_after (ArrayCallProgress.Answer walk task index element) v) state.new act) }
+    ensures falls { IfOk result (λ act. Falls state.old 9 state.new act) }
+{
+    match task {
+        Task::Any { wanted } => Ok(answer_any(state, walk, wanted, index, &v)?),
+        Task::ForEach => Ok(go_on_walking(state, walk, Task::ForEach, next_index(index)?)?),
+        Task::Map { array } => Ok(add_answer(alloc, state, walk, array, index, v)?),
+        Task::Filter { array, to } => {
+            if to_boolean(&v) {
+                Ok(add_element(alloc, state, walk, array, to, index, element)?)
+            } else {
+                let task = Task::Filter { array, to };
+                Ok(go_on_walking(state, walk, task, next_index(index)?)?)
+            }
+        }
+        Task::Reduce { direction, .. } => Ok(go_on_reducing(state, walk, v, direction, index)?),
+    }
+}
+
+/// `every` and `some` end with an answer that is wanted, and go on with any other.
+fn answer_any<'p>(
+    state: &mut State<'p>,
+    walk: Walk,
+    wanted: bool,
+    index: usize,
+    v: &Value,
+) -> Result<Act<'p>, NoMemory>
+    ensures leads { IfOk result (λ act. Works state.old (any_with wanted (walk_of walk) index (Some v.now))
+        state.new act) }
+    ensures falls { IfOk result (λ act. Falls state.old 9 state.new act) }
+{
+    if to_boolean(v) == wanted {
+        return Ok(Act::Give(Value::Bool(wanted)));
+    }
+    Ok(go_on_walking(state, walk, Task::Any { wanted }, next_index(index)?)?)
+}
+
+/// `map` makes an answer the element at the same index of its array.
+fn add_answer<'p>(
+    alloc: Global,
+    state: &mut State<'p>,
+    walk: Walk,
+    array: ObjId,
+    index: usize,
+    v: Value,
+) -> Result<Act<'p>, NoMemory>
+    ensures leads { IfOk result (λ act. Works state.old
+        (add_index array index v then λ _. turns (Task.Map array) (walk_of walk) (index + 1)) state.new act) }
+    ensures falls { IfOk result (λ act. Falls state.old 9 state.new act) }
+{
+    let at = next_index(index)?;
+    let answer = add_index(alloc, &mut state.store, array, index, v)?;
+    match answer {
+        Finished::Gives(()) => Ok(go_on_walking(state, walk, Task::Map { array }, at)?),
+        Finished::Throws(thrown) => Ok(Act::Complete(Completion::Throw(thrown))),
+        Finished::Fails(fault) => Ok(Act::Fault(fault_of(fault))),
+    }
+}
+
+/// `filter` adds an element to its array.
+fn add_element<'p>(
+    alloc: Global,
+    state: &mut State<'p>,
+    walk: Walk,
+    array: ObjId,
+    to: usize,
+    index: usize,
+    element: Value,
+) -> Result<Act<'p>, NoMemory>
+    ensures leads { IfOk result (λ act. Works state.old
+        (add_index array to element then λ _. turns (Task.Filter array (to + 1)) (walk_of walk) (index + 1))
+        state.new act) }
+    ensures falls { IfOk result (λ act. Falls state.old 9 state.new act) }
+{
+    let at = next_index(index)?;
+    let next = next_index(to)?;
+    let answer = add_index(alloc, &mut state.store, array, to, element)?;
+    match answer {
+        Finished::Gives(()) => Ok(go_on_walking(
+            state,
+            walk,
+            Task::Filter { array, to: next },
+            at,
+        )?),
+        Finished::Throws(thrown) => Ok(Act::Complete(Completion::Throw(thrown))),
+        Finished::Fails(fault) => Ok(Act::Fault(fault_of(fault))),
+    }
+}

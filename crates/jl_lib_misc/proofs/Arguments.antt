@@ -1,0 +1,116 @@
+-- Builtins that begin with an argument.
+use Rattle.std.proofs.Common.{◌≡◌, ◌∙◌, ap, codes, false, negsuc, pos, refl, subst, sym, true, Bool, List, None, Option}
+use Rattle.std.proofs.Common.{Some, ℕ, ℤ}
+use Rattle.std.specs.Int.{is_in_range}
+use Rattle.std.specs.Prelude.{if◌then◌else◌, slice_index_or}
+use Rattle.jl_num.specs.Digits.{number_text}
+use Rattle.jl_num.specs.Number.{Number}
+use Rattle.jl_num.specs.Power.{power_of}
+use Rattle.jl_value.specs.declared.error_kind.ErrorKind.TheVariants.{RangeError}
+use Rattle.jl_value.specs.declared.value.Value.{Value}
+use Rattle.jl_value.specs.declared.value.Value.TheVariants as value
+use Rattle.jl_meaning.specs.Conversions.{integer_of, number_hint, string_hint, to_integer, to_number, to_primitive}
+use Rattle.jl_meaning.specs.Conversions.{to_string}
+use Rattle.jl_meaning.specs.Errors.{throw_error}
+use Rattle.jl_meaning.specs.Operators.{give_number}
+use Rattle.jl_meaning.specs.Parts.{give, ◌>>=◌, Algorithm, Call}
+use Rattle.jl_meaning.specs.Relations.{give_truth}
+use Rattle.jl_meaning.specs.builtins.Arguments.{argument, give_string, unless_undefined}
+use Rattle.jl_meaning.specs.builtins.Global.{parse_int}
+use Rattle.jl_meaning.specs.builtins.Math.{math_pow, on_argument}
+use Rattle.jl_meaning.specs.builtins.Number.{string_in_radix}
+use Rattle.jl_progress.specs.Globals.{parse_in, passes}
+use Rattle.jl_progress.specs.Numbers.{of_number}
+use Rattle.jl_progress.specs.Progress.{progress_after}
+use Rattle.jl_progress.specs.declared.global.GlobalProgress.TheVariants as global
+use Rattle.jl_progress.specs.declared.global.NumberTest.{NumberTest}
+use Rattle.jl_progress.specs.declared.number.NumberFunction.{NumberFunction}
+use Rattle.jl_progress.specs.declared.number.NumberProgress.TheVariants as number
+use Rattle.jl_progress.specs.declared.progress.Progress.TheVariants as progress
+use Rattle.jl_state.specs.Rest.{Works}
+use Rattle.jl_state.specs.declared.act.Act.{Act}
+use Rattle.jl_state.specs.declared.state.State.{State}
+use Rattle.jl_builtin.specs.Values.{is_undefined}
+use Rattle.jl_lib_misc.specs.inner.Numbers.{radix_of}
+use Rattle.jl_lib_misc.proofs.Conversions.{as_integer, as_number, as_string, missing, there}
+
+-- an argument by its index
+pub argument_is : (c : Call) (args : List Value) (i : ℕ) (v : Value) → args ≡ c.args
+    → v ≡ slice_index_or args i value.Undefined → v ≡ argument c i
+argument_is c args i v args_are is = is ∙ ap (λ l. slice_index_or l i value.Undefined) args_are
+
+module _ (s t : State) (a : Act) (c : Call) where
+  pub numeral_waits : (numeral radix : Value) → numeral ≡ argument c 0 → radix ≡ argument c 1
+      → Works s (to_primitive string_hint numeral >>= progress_after (progress.Global (global.Numeral radix))) t a
+      → Works s (parse_int c) t a
+  numeral_waits numeral radix numeral_is radix_is leads =
+      subst (λ (w : Value). Works s (to_string w >>= parsed (argument c 1)) t a) numeral_is
+      (subst (λ (w : Value). Works s (to_string numeral >>= parsed w) t a) radix_is
+      (as_string s t a numeral (progress_after (progress.Global (global.Numeral radix))) (parsed radix) (λ p. refl) leads))
+    where
+      parsed : Value → List ℕ → Algorithm Value
+      parsed w units = to_number w >>= λ n. parse_in n units
+
+  pub test_waits : (which : NumberTest) (v : Value) → v ≡ argument c 0
+      → Works s (to_primitive number_hint v >>= progress_after (progress.Global (global.Test which))) t a
+      → Works s (to_number (argument c 0) >>= λ n. give_truth (passes which n)) t a
+  test_waits which v is leads =
+      subst (λ (w : Value). Works s (to_number w >>= λ n. give_truth (passes which n)) t a) is
+      (as_number s t a v (progress_after (progress.Global (global.Test which))) (λ n. give_truth (passes which n))
+      (λ p. refl) leads)
+
+  pub argument_waits : (f : NumberFunction) (v : Value) → v ≡ argument c 0
+      → Works s (to_primitive number_hint v >>= progress_after (progress.Number (number.Argument f))) t a
+      → Works s (on_argument (of_number f) c) t a
+  argument_waits f v is leads =
+      subst (λ (w : Value). Works s (to_number w >>= λ n. give (value.Num (of_number f n))) t a) is
+      (as_number s t a v (progress_after (progress.Number (number.Argument f)))
+      (λ n. give (value.Num (of_number f n))) (λ p. refl) leads)
+
+  pub base_waits : (base exponent : Value) → base ≡ argument c 0 → exponent ≡ argument c 1
+      → Works s (to_primitive number_hint base >>= progress_after (progress.Number (number.Base exponent))) t a
+      → Works s (math_pow c) t a
+  base_waits base exponent base_is exponent_is leads =
+      subst (λ (w : Value). Works s (to_number w >>= raised (argument c 1)) t a) base_is
+      (subst (λ (w : Value). Works s (to_number base >>= raised w) t a) exponent_is
+      (as_number s t a base (progress_after (progress.Number (number.Base exponent))) (raised exponent) (λ p. refl) leads))
+    where
+      raised : Value → Number → Algorithm Value
+      raised w x = to_number w >>= λ y. give_number (power_of x y)
+
+-- the radix of a number's string
+module _ (s t : State) (a : Act) (n : Number) where
+  pub radix_missing : (radix : Value) → is_undefined radix ≡ true → Works s (string_in_radix n (pos 10)) t a
+      → Works s (unless_undefined (pos 10) to_integer radix >>= string_in_radix n) t a
+  radix_missing radix none leads = missing s t a (pos 10) to_integer radix (string_in_radix n) none leads
+
+  pub radix_waits : (radix : Value) → is_undefined radix ≡ false
+      → Works s (to_primitive number_hint radix >>= progress_after (progress.Number (number.Radix n))) t a
+      → Works s (unless_undefined (pos 10) to_integer radix >>= string_in_radix n) t a
+  radix_waits radix some leads =
+      there s t a (pos 10) to_integer radix (string_in_radix n) some
+      (as_integer s t a radix (progress_after (progress.Number (number.Radix n))) (string_in_radix n) (λ p. refl) leads)
+
+  -- the string in a radix, if it is one
+  abbrev string_if : Option ℕ → Algorithm Value
+  string_if None = throw_error RangeError (codes "bad radix")
+  string_if (Some r) = give_string (number_text n r)
+
+  chosen : (b : Bool) (r : ℕ) → string_if (if b then Some r else None)
+      ≡ (if b then give_string (number_text n r) else throw_error RangeError (codes "bad radix"))
+  chosen true r = refl
+  chosen false r = refl
+
+  string_is : (z : ℤ) → string_if (radix_of z) ≡ string_in_radix n z
+  string_is (negsuc r) = refl
+  string_is (pos r) = chosen (is_in_range 2 36 r) r
+
+  pub in_radix : (z : ℤ) (o : Option ℕ) (r : ℕ) → o ≡ radix_of z → o ≡ Some r
+      → Works s (give_string (number_text n r)) t a → Works s (string_in_radix n z) t a
+  in_radix z o r is some leads =
+      subst (λ q. Works s q t a) (ap string_if (sym some ∙ is) ∙ string_is z) leads
+
+  pub bad_radix : (z : ℤ) (o : Option ℕ) → o ≡ radix_of z → o ≡ None
+      → Works s (throw_error RangeError (codes "bad radix")) t a → Works s (string_in_radix n z) t a
+  bad_radix z o is none leads =
+      subst (λ q. Works s q t a) (ap string_if (sym none ∙ is) ∙ string_is z) leads

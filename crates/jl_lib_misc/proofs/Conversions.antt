@@ -1,0 +1,73 @@
+-- Values that are converted before a builtin goes on.
+use Rattle.std.proofs.Common.{◌≡◌, false, refl, subst, true, List, ℕ, ℤ}
+use mathlib.Core.Path.{fun_ext}
+use Rattle.jl_num.specs.Bits.{uint32_of}
+use Rattle.jl_num.specs.Number.{Number}
+use Rattle.jl_value.specs.declared.value.Value.{Value}
+use Rattle.jl_value.specs.declared.value.Value.TheVariants as value
+use Rattle.jl_conv.specs.Conversions.{text_of_value}
+use Rattle.jl_meaning.specs.Conversions.{integer_of, number_hint, string_hint, to_integer, to_number, to_primitive}
+use Rattle.jl_meaning.specs.Conversions.{to_string, to_uint32}
+use Rattle.jl_meaning.specs.Parts.{give, ◌>>=◌, Algorithm}
+use Rattle.jl_meaning.specs.builtins.Arguments.{unless_undefined}
+use Rattle.jl_progress.specs.Primitives.{number_of_primitive}
+use Rattle.jl_state.specs.Rest.{Works}
+use Rattle.jl_state.specs.declared.act.Act.{Act}
+use Rattle.jl_state.specs.declared.state.State.{State}
+use Rattle.jl_operator.proofs.Operands.{chained}
+use Rattle.jl_builtin.specs.Values.{is_undefined}
+
+module _ (s t : State) (a : Act) where
+  -- a value is to be a number, and what waits goes on with that
+  pub as_number : (v : Value) (f : Value → Algorithm Value) (k : Number → Algorithm Value)
+      → ((p : Value) → f p ≡ (number_of_primitive p >>= k)) → Works s (to_primitive number_hint v >>= f) t a
+      → Works s (to_number v >>= k) t a
+  unfolding to_number
+  as_number v f k after leads =
+      subst (λ q. Works s q t a) (chained (to_primitive number_hint v) number_of_primitive k)
+      (subst (λ (g : Value → Algorithm Value). Works s (to_primitive number_hint v >>= g) t a) (fun_ext after) leads)
+
+  -- a value is to be a string
+  pub as_string : (v : Value) (f : Value → Algorithm Value) (k : List ℕ → Algorithm Value)
+      → ((p : Value) → f p ≡ k (text_of_value p)) → Works s (to_primitive string_hint v >>= f) t a
+      → Works s (to_string v >>= k) t a
+  unfolding to_string
+  as_string v f k after leads =
+      subst (λ q. Works s q t a) (chained (to_primitive string_hint v) (λ p. give (text_of_value p)) k)
+      (subst (λ (g : Value → Algorithm Value). Works s (to_primitive string_hint v >>= g) t a) (fun_ext after) leads)
+
+  -- a value is to be an integer
+  pub as_integer : (v : Value) (f : Value → Algorithm Value) (k : ℤ → Algorithm Value)
+      → ((p : Value) → f p ≡ (number_of_primitive p >>= λ n. k (integer_of n)))
+      → Works s (to_primitive number_hint v >>= f) t a → Works s (to_integer v >>= k) t a
+  as_integer v f k after leads =
+      subst (λ q. Works s q t a) (chained (to_number v) (λ n. give (integer_of n)) k)
+      (as_number v f (λ n. k (integer_of n)) after leads)
+
+  -- a value is to be an integer of 32 bits
+  pub as_uint32 : (v : Value) (f : Value → Algorithm Value) (k : ℕ → Algorithm Value)
+      → ((p : Value) → f p ≡ (number_of_primitive p >>= λ n. k (uint32_of n)))
+      → Works s (to_primitive number_hint v >>= f) t a → Works s (to_uint32 v >>= k) t a
+  as_uint32 v f k after leads =
+      subst (λ q. Works s q t a) (chained (to_number v) (λ n. give (uint32_of n)) k)
+      (as_number v f (λ n. k (uint32_of n)) after leads)
+
+  -- a value that isn't undefined is converted
+  pub there : {A : Type 0} (other : A) (convert : Value → Algorithm A) (v : Value) (k : A → Algorithm Value)
+      → is_undefined v ≡ false → Works s (convert v >>= k) t a → Works s (unless_undefined other convert v >>= k) t a
+  there other convert value.Undefined k e leads = absurd (let differ = e in cc)
+  there other convert value.Null k e leads = leads
+  there other convert (value.Bool b) k e leads = leads
+  there other convert (value.Num n) k e leads = leads
+  there other convert (value.Text x) k e leads = leads
+  there other convert (value.Obj id) k e leads = leads
+
+  -- for one that is, there is something else
+  pub missing : {A : Type 0} (other : A) (convert : Value → Algorithm A) (v : Value) (k : A → Algorithm Value)
+      → is_undefined v ≡ true → Works s (k other) t a → Works s (unless_undefined other convert v >>= k) t a
+  missing other convert value.Undefined k e leads = leads
+  missing other convert value.Null k e leads = absurd (let differ = e in cc)
+  missing other convert (value.Bool b) k e leads = absurd (let differ = e in cc)
+  missing other convert (value.Num n) k e leads = absurd (let differ = e in cc)
+  missing other convert (value.Text x) k e leads = absurd (let differ = e in cc)
+  missing other convert (value.Obj id) k e leads = absurd (let differ = e in cc)

@@ -1,0 +1,121 @@
+-- Names and messages of errors, which may be missing.
+use Rattle.std.proofs.Common.{◌≡◌, [], codes, refl, subst, sym, false, true, List, None, Option, Some, ℕ}
+use Rattle.jl_value.specs.declared.error_kind.ErrorKind.TheVariants.{TypeError}
+use Rattle.jl_value.specs.declared.object.ObjId.{ObjId}
+use Rattle.jl_value.specs.declared.value.Value.{Value}
+use Rattle.jl_value.specs.declared.value.Value.TheVariants as value
+use Rattle.jl_effects.specs.Running.{Ends}
+use Rattle.jl_meaning.specs.Conversions.{string_hint, to_primitive, to_string}
+use Rattle.jl_meaning.specs.Errors.{throw_type_error}
+use Rattle.jl_meaning.specs.Getting.{get}
+use Rattle.jl_meaning.specs.Parts.{give, gives, ◌>>=◌, Algorithm}
+use Rattle.jl_meaning.specs.Parts as parts
+use Rattle.jl_meaning.specs.Store.{Store}
+use Rattle.jl_meaning.specs.builtins.Arguments.{argument, give_object, need_object}
+use Rattle.jl_meaning.specs.builtins.Error.{error_constructor, error_to_string, message_given, name_and_message}
+use Rattle.jl_meaning.specs.builtins.Error.{new_error}
+use Rattle.jl_store.specs.Comes.{Comes}
+use Rattle.jl_progress.specs.Errors.{error_after}
+use Rattle.jl_progress.specs.Progress.{progress_after}
+use Rattle.jl_progress.specs.declared.error.ErrorProgress.TheVariants as error
+use Rattle.jl_progress.specs.declared.progress.Progress.TheVariants as progress
+use Rattle.jl_state.specs.Rest.{Works}
+use Rattle.jl_state.specs.declared.act.Act.{Act}
+use Rattle.jl_state.specs.declared.act.Act.TheVariants as act
+use Rattle.jl_state.specs.declared.state.State.{State}
+use Rattle.jl_state.proofs.Stores.{works_comes}
+use Rattle.jl_algorithm.proofs.Chains.{bind_assoc}
+use Rattle.jl_algorithm.proofs.Throwing.{works_left_out}
+use Rattle.jl_builtin.specs.Values.{is_undefined}
+use Rattle.jl_lib_misc.proofs.Conversions.{as_string, missing, there}
+
+-- the error that was made is given
+pub gives_error : (s : State) (x : Store) (proto id : ObjId) (message : Option (List ℕ))
+    → Comes (new_error proto message) s.store x (Ends (gives id))
+    → Works s (new_error proto message >>= give_object) (record s { store = x }) (act.Give (value.Obj id))
+gives_error s x proto id message comes =
+    works_comes s (record s { store = x }) refl (new_error proto message) id give_object (record s { store = x })
+    (act.Give (value.Obj id)) comes (record { is = λ kept told. refl })
+
+-- a value that is there is converted
+
+message_there : (v : Value) (k : Option (List ℕ) → Algorithm Value) → is_undefined v ≡ false
+    → (to_string v >>= λ units. k (Some units)) ≡ (message_given v >>= k)
+message_there value.Undefined k e = absurd (let differ = e in cc)
+message_there value.Null k e = sym (bind_assoc (to_string value.Null) (λ units. give (Some units)) k)
+message_there (value.Bool b) k e = sym (bind_assoc (to_string (value.Bool b)) (λ units. give (Some units)) k)
+message_there (value.Num n) k e = sym (bind_assoc (to_string (value.Num n)) (λ units. give (Some units)) k)
+message_there (value.Text x) k e = sym (bind_assoc (to_string (value.Text x)) (λ units. give (Some units)) k)
+message_there (value.Obj id) k e = sym (bind_assoc (to_string (value.Obj id)) (λ units. give (Some units)) k)
+
+pub constructs_with : (s : State) (proto : ObjId) (c : parts.Call) (v : Value) (t : State) (a : Act)
+    → v ≡ argument c 0 → is_undefined v ≡ false
+    → Works s (to_primitive string_hint v >>= progress_after (progress.Error (error.NewMessage proto))) t a
+    → Works s (error_constructor proto c) t a
+constructs_with s proto c v t a is given leads =
+    subst (λ w. Works s (message_given w >>= k) t a) is
+    (subst (λ p. Works s p t a) (message_there v k given)
+    (as_string s t a v (progress_after (progress.Error (error.NewMessage proto))) (λ units. k (Some units)) (λ p. refl)
+    leads))
+  where
+    k : Option (List ℕ) → Algorithm Value
+    k m = new_error proto m >>= give_object
+
+pub constructs_without : (s : State) (proto : ObjId) (c : parts.Call) (v : Value) (t : State) (a : Act)
+    → v ≡ argument c 0 → is_undefined v ≡ true → Works s (new_error proto None >>= give_object) t a
+    → Works s (error_constructor proto c) t a
+constructs_without s proto c v t a is none leads =
+    subst (λ w. Works s (message_given w >>= k) t a) is
+    (missing s t a None (λ w. to_string w >>= λ units. give (Some units)) v k none leads)
+  where
+    k : Option (List ℕ) → Algorithm Value
+    k m = new_error proto m >>= give_object
+
+-- Error.prototype.toString
+
+pub no_error_object : (s : State) (c : parts.Call) (t : State) (a : Act) → ((id : ObjId) → c.this ≡ value.Obj id → ⊥)
+    → Works s (throw_type_error (codes "not an object")) t a → Works s (error_to_string c) t a
+no_error_object s c t a none leads = by c.this none
+  where
+    k : ObjId → Algorithm Value
+    k id = get (value.Obj id) (codes "name") >>= error_after (error.Name id)
+
+    thrown : Works s (throw_type_error (codes "not an object") >>= k) t a
+    thrown = works_left_out s TypeError (codes "not an object") k t a leads
+
+    by : (v : Value) → ((id : ObjId) → v ≡ value.Obj id → ⊥) → Works s (need_object v >>= k) t a
+    by (value.Obj id) differs = absurd (differs id refl)
+    by v differs = thrown
+
+abbrev pub message_of : ObjId → List ℕ → Algorithm Value
+message_of object name = get (value.Obj object) (codes "message") >>= error_after (error.Message name)
+
+pub name_missing : (s : State) (object : ObjId) (v : Value) (name : List ℕ) (t : State) (a : Act)
+    → is_undefined v ≡ true → name ≡ codes "Error" → Works s (message_of object name) t a
+    → Works s (error_after (error.Name object) v) t a
+name_missing s object v name t a none is leads =
+    missing s t a (codes "Error") to_string v (message_of object) none
+    (subst (λ x. Works s (message_of object x) t a) is leads)
+
+pub name_waits : (s : State) (object : ObjId) (v : Value) (t : State) (a : Act) → is_undefined v ≡ false
+    → Works s (to_primitive string_hint v >>= progress_after (progress.Error (error.NamePrimitive object))) t a
+    → Works s (error_after (error.Name object) v) t a
+name_waits s object v t a given leads =
+    there s t a (codes "Error") to_string v (message_of object) given
+    (as_string s t a v (progress_after (progress.Error (error.NamePrimitive object))) (message_of object) (λ p. refl)
+    leads)
+
+pub message_missing : (s : State) (name : List ℕ) (v : Value) (message : List ℕ) (t : State) (a : Act)
+    → is_undefined v ≡ true → message ≡ [] → Works s (name_and_message name message) t a
+    → Works s (error_after (error.Message name) v) t a
+message_missing s name v message t a none is leads =
+    missing s t a [] to_string v (name_and_message name) none
+    (subst (λ x. Works s (name_and_message name x) t a) is leads)
+
+pub message_waits : (s : State) (name : List ℕ) (v : Value) (t : State) (a : Act) → is_undefined v ≡ false
+    → Works s (to_primitive string_hint v >>= progress_after (progress.Error (error.MessagePrimitive name))) t a
+    → Works s (error_after (error.Message name) v) t a
+message_waits s name v t a given leads =
+    there s t a [] to_string v (name_and_message name) given
+    (as_string s t a v (progress_after (progress.Error (error.MessagePrimitive name))) (name_and_message name)
+    (λ p. refl) leads)

@@ -1,0 +1,13 @@
+use Rattle.std.proofs.Common.{subst, sym}
+use Rattle.jl_meaning.specs.builtins.Math.{one_of_all}
+use Rattle.jl_progress.specs.Numbers.{pick_of}
+use Rattle.jl_state.specs.Rest.{Works}
+use Rattle.jl_lib_misc.proofs.Founds.{some_from}
+use Rattle.jl_lib_misc.proofs.several.one_of_all.Goals as goal
+
+pub returns-clause-leads : goal.returns-clause-leads
+returns-clause-leads c =
+    subst (λ l. Works c.args.state.now (one_of_all (pick_of c.args.extreme) c.args.so_far l) c.convert_next.new.state
+    c.in_ok-convert_next-in-Some.field-0)
+    (sym (some_from c.args.from c.in-Some.next c.items.result.now c.args.args c.in-Some.v c.in_ok-value_from.field-0
+    c.items.ensures c.in_ok-value_from.ensures.found c.in-Some.is)) c.in_ok-convert_next-in-Some.ensures.leads

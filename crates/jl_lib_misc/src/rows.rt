@@ -1,0 +1,190 @@
+//! The builtins of this crate by their rows, and how those of numbers go on.
+ghost use Rattle.std.specs.Prelude.{◌+◌, ◌≤◌, ◌<◌, IfOk};
+ghost use Rattle.jl_effects.specs.Effects.{Fail};
+ghost use Rattle.jl_meaning.specs.Parts.{Unsupported};
+ghost use Rattle.jl_meaning.specs.builtins.Function.{names_of, FunctionNames};
+ghost use Rattle.jl_meaning.specs.builtins.Table.{builtin};
+ghost use Rattle.jl_progress.specs.Numbers.{number_after, rank_number};
+ghost use Rattle.jl_state.specs.Rank.{rank_act, Falls};
+ghost use Rattle.jl_state.specs.Rest.{Works};
+ghost use Rattle.jl_state.specs.Words.{call_of, table_of};
+ghost use Rattle.jl_state.specs.declared.state.State.{State as Machine};
+
+use crate::booleans::{boolean_constructor, boolean_to_string, boolean_value_of};
+use crate::errors::{error_constructor, error_to_string};
+use crate::globals::{parse_int, test_argument};
+use crate::math::{math_pow, on_argument, resume_argument, resume_base, resume_exponent};
+use crate::numbers::{
+    number_constructor, number_to_string, number_value_of, resume_given, resume_radix,
+};
+use crate::printing::print;
+use crate::several::{one_of_arguments, resume_extreme};
+use jl_progress::{Extreme, NumberFunction, NumberProgress, NumberTest};
+use jl_state::{Act, Invocation, State};
+use jl_text::NoMemory;
+use jl_value::{Builtin, Fault, ObjId, Value};
+use std::alloc::Global;
+
+/// The fault of the builtin in a row.
+#[tactic(auto, unfolding(jl_value::specs::Builtins::builtin_names))]
+fn unsupported<'p>(row: u16) -> Act<'p>
+    requires { row < 102 }
+    ensures leads { (s : Machine) → Works s (Fail (Unsupported row)) s result }
+    ensures low { rank_act result ≤ 2 }
+{
+    match Builtin::at(row) {
+        Some(builtin) => Act::Fault(Fault::Unsupported(builtin)),
+        None => unreachable!(),
+    }
+}
+
+/// Begins a function of the global object (15.1.2).
+fn start_global<'p>(
+    alloc: Global,
+    state: &mut State<'p>,
+    row: u16,
+    call: &Invocation,
+) -> Result<Act<'p>, NoMemory>
+    requires belongs { (72 ≤ row) × (row < 77) }
+    ensures leads { IfOk result (λ act. (names : FunctionNames) → Works state.old
+        (builtin names row (call_of call.now)) state.new act) }
+    ensures falls { IfOk result (λ act. Falls state.old 46 state.new act) }
+{
+    if row == 74 {
+        return Ok(parse_int(alloc, state, call)?);
+    }
+    if row == 75 {
+        return Ok(test_argument(alloc, state, NumberTest::IsNan, call)?);
+    }
+    if row == 76 {
+        return Ok(test_argument(alloc, state, NumberTest::IsFinite, call)?);
+    }
+    Ok(print(alloc, state, call.args.items())?)
+}
+
+/// Begins a builtin of numbers or booleans (15.6, 15.7).
+fn start_primitive<'p>(
+    alloc: Global,
+    state: &mut State<'p>,
+    row: u16,
+    call: &Invocation,
+) -> Result<Act<'p>, NoMemory>
+    requires belongs { (77 ≤ row) × (row < 87) }
+    ensures leads { IfOk result (λ act. (names : FunctionNames) → Works state.old
+        (builtin names row (call_of call.now)) state.new act) }
+    ensures falls { IfOk result (λ act. Falls state.old 22 state.new act) }
+{
+    if row == 77 {
+        return Ok(number_constructor(alloc, state, call)?);
+    }
+    if row == 78 {
+        return Ok(number_to_string(alloc, state, call)?);
+    }
+    if row == 79 {
+        return Ok(number_value_of(alloc, state, call)?);
+    }
+    if row == 84 {
+        return Ok(boolean_constructor(alloc, state, call)?);
+    }
+    if row == 85 {
+        return Ok(boolean_to_string(alloc, state, call)?);
+    }
+    if row == 86 {
+        return Ok(boolean_value_of(alloc, state, call)?);
+    }
+    Ok(unsupported(row))
+}
+
+/// Begins a builtin of errors (15.11).
+fn start_error<'p>(
+    alloc: Global,
+    state: &mut State<'p>,
+    row: u16,
+    call: &Invocation,
+) -> Result<Act<'p>, NoMemory>
+    requires belongs { (87 ≤ row) × (row < 95) }
+    ensures leads { IfOk result (λ act. (names : FunctionNames) → Works state.old
+        (builtin names row (call_of call.now)) state.new act) }
+    ensures falls { IfOk result (λ act. Falls state.old 84 state.new act) }
+{
+    if row == 94 {
+        return Ok(error_to_string(alloc, state, call)?);
+    }
+    Ok(error_constructor(alloc, state, ObjId(usize::from(row) - 80), call)?)
+}
+
+/// Begins a function of Math (15.8.2).
+fn start_math<'p>(
+    alloc: Global,
+    state: &mut State<'p>,
+    row: u16,
+    call: &Invocation,
+) -> Result<Act<'p>, NoMemory>
+    requires belongs { (95 ≤ row) × (row < 102) }
+    ensures leads { IfOk result (λ act. (names : FunctionNames) → Works state.old
+        (builtin names row (call_of call.now)) state.new act) }
+    ensures falls { IfOk result (λ act. Falls state.old 46 state.new act) }
+{
+    if row == 95 {
+        return Ok(on_argument(alloc, state, NumberFunction::Absolute, call)?);
+    }
+    if row == 98 {
+        return Ok(one_of_arguments(alloc, state, Extreme::Greatest, call.args.items())?);
+    }
+    if row == 99 {
+        return Ok(one_of_arguments(alloc, state, Extreme::Least, call.args.items())?);
+    }
+    if row == 100 {
+        return Ok(math_pow(alloc, state, call)?);
+    }
+    Ok(on_argument(alloc, state, NumberFunction::Whole, call)?)
+}
+
+/// Begins a builtin of this crate.
+pub fn start<'p>(
+    alloc: Global,
+    state: &mut State<'p>,
+    row: u16,
+    call: Invocation,
+) -> Result<Act<'p>, NoMemory>
+    requires belongs { (72 ≤ row) × (row < 102) }
+    ensures leads { IfOk result (λ act. Works state.old
+        (builtin (names_of (table_of state.old.functions)) row (call_of call)) state.new act) }
+    ensures falls { IfOk result (λ act. Falls state.old 400 state.new act) }
+{
+    if row < 77 {
+        return Ok(start_global(alloc, state, row, &call)?);
+    }
+    if row < 87 {
+        return Ok(start_primitive(alloc, state, row, &call)?);
+    }
+    if row < 95 {
+        return Ok(start_error(alloc, state, row, &call)?);
+    }
+    Ok(start_math(alloc, state, row, &call)?)
+}
+
+/// Goes on with the value that a builtin of numbers or of Math waited for.
+pub fn resume_number<'p>(
+    alloc: Global,
+    state: &mut State<'p>,
+    progress: NumberProgress,
+    v: Value,
+) -> Result<Act<'p>, NoMemory>
+    ensures leads { IfOk result (λ act. Works state.old (number_after progress v) state.new act) }
+    ensures falls { IfOk result (λ act. Falls state.old (rank_number progress + 2) state.new act) }
+{
+    match progress {
+        NumberProgress::Given { by_new } => Ok(resume_given(state, by_new, &v)?),
+        NumberProgress::Radix { number } => Ok(resume_radix(alloc, state, number, &v)?),
+        NumberProgress::Argument { function } => Ok(resume_argument(state, function, &v)?),
+        NumberProgress::Extreme {
+            extreme,
+            so_far,
+            args,
+            from,
+        } => Ok(resume_extreme(alloc, state, extreme, so_far, args, from, &v)?),
+        NumberProgress::Base { exponent } => Ok(resume_base(alloc, state, exponent, &v)?),
+        NumberProgress::Exponent { base } => Ok(resume_exponent(state, base, &v)?),
+    }
+}

@@ -1,0 +1,77 @@
+-- What is done with what an algorithm gives that calls no function.
+use Rattle.std.proofs.Common.{◌≡◌, ◌∷◌, [], drop, refl, subst, sym, List, None, Option, Some, ℕ}
+use Rattle.std.specs.Prelude.{MatchOption}
+use Rattle.jl_value.specs.declared.ending.Completion.TheVariants as completion
+use Rattle.jl_value.specs.declared.value.Value.{Value}
+use Rattle.jl_effects.specs.Running.{Ends}
+use Rattle.jl_meaning.specs.Parts.{give, gives, look, throws, ◌>>=◌, Algorithm}
+use Rattle.jl_meaning.specs.Store.{Store}
+use Rattle.jl_store.specs.Answers.{answered}
+use Rattle.jl_store.specs.Comes.{Comes}
+use Rattle.jl_store.specs.declared.answer.Answer.{Answer}
+use Rattle.jl_store.specs.declared.answer.Answer.TheVariants.{Gives, Throws}
+use Rattle.jl_state.specs.Rest.{Works}
+use Rattle.jl_state.specs.declared.act.Act.{Act}
+use Rattle.jl_state.specs.declared.act.Act.TheVariants as act
+use Rattle.jl_state.specs.declared.state.State.{State}
+use Rattle.jl_state.proofs.Stores.{works_comes, works_thrown}
+
+-- a value is given
+pub gives_now : (s : State) (v : Value) → Works s (give v) s (act.Give v)
+gives_now s v = record { is = λ kept told. refl }
+
+-- a value that the store tells is given
+pub gives_seen : (s : State) (f : Store → Value) (v : Value) → v ≡ f s.store
+    → Works s (look >>= λ store. give (f store)) s (act.Give v)
+gives_seen s f v is =
+    subst (λ w. Works s (look >>= λ store. give (f store)) s (act.Give w)) (sym is) (record { is = λ kept told. refl })
+
+-- what is done with the store as it is
+pub seen_on : (s : State) (k : Store → Algorithm Value) (t : State) (a : Act) → Works s (k s.store) t a
+    → Works s (look >>= k) t a
+seen_on s k t a leads = record { is = leads.is }
+
+module _ {A : Type 0} (s : State) (x : Store) (p : Algorithm A) (k : A → Algorithm Value) (answer : Answer A)
+    (comes : Comes p s.store x (answered answer)) where
+  -- what was given is gone on with
+  pub goes_on : (b : A) (t : State) (a : Act) → answer ≡ Gives b → Works (record s { store = x }) (k b) t a
+      → Works s (p >>= k) t a
+  goes_on b t a is leads =
+      works_comes s (record s { store = x }) refl p b k t a
+      (subst (λ (e : Answer A). Comes p s.store x (answered e)) is comes) leads
+
+  -- and what was thrown is thrown on
+  pub throws_on : (v : Value) → answer ≡ Throws v
+      → Works s (p >>= k) (record s { store = x }) (act.Complete (completion.Throw v))
+  throws_on v is =
+      works_thrown s (record s { store = x }) refl p v k
+      (subst (λ (e : Answer A). Comes p s.store x (answered e)) is comes)
+
+-- what is done with a value, and with an equal one
+pub works_of : {A : Type 0} (s : State) (f : A → Algorithm Value) (x y : A) (t : State) (a : Act) → x ≡ y
+    → Works s (f x) t a → Works s (f y) t a
+works_of s f x y t a same leads = subst (λ z. Works s (f z) t a) same leads
+
+-- an answer that is known
+module _ {A : Type 0} (p : Algorithm A) (s t : Store) (answer : Answer A) (comes : Comes p s t (answered answer)) where
+  pub came : (b : A) → answer ≡ Gives b → Comes p s t (Ends (gives b))
+  came b is = subst (λ (e : Answer A). Comes p s t (answered e)) is comes
+
+  pub came_thrown : (v : Value) → answer ≡ Throws v → Comes p s t (Ends (throws v))
+  came_thrown v is = subst (λ (e : Answer A). Comes p s t (answered e)) is comes
+
+-- what is found at an index of a list, and the next index
+
+pub nothing_found : {A : Type 0} (at : ℕ) (items all : List A) (found : Option (A × ℕ)) → items ≡ all
+    → MatchOption found (drop at items ≡ []) (λ r. drop at items ≡ r.0 ∷ drop r.1 items) → found ≡ None
+    → drop at all ≡ []
+nothing_found at items all found same told none =
+    subst (λ l. drop at l ≡ []) same
+    (subst (λ f. MatchOption f (drop at items ≡ []) (λ r. drop at items ≡ r.0 ∷ drop r.1 items)) none told)
+
+pub next_found : {A : Type 0} (at : ℕ) (items all : List A) (found : Option (A × ℕ)) (x : A) (n : ℕ) → items ≡ all
+    → MatchOption found (drop at items ≡ []) (λ r. drop at items ≡ r.0 ∷ drop r.1 items) → found ≡ Some (x, n)
+    → drop at all ≡ x ∷ drop n all
+next_found at items all found x n same told is =
+    subst (λ l. drop at l ≡ x ∷ drop n l) same
+    (subst (λ f. MatchOption f (drop at items ≡ []) (λ r. drop at items ≡ r.0 ∷ drop r.1 items)) is told)

@@ -1,0 +1,11 @@
+pub mod Applications
+pub mod Classes
+pub mod Definitions
+pub mod Descriptions
+pub mod Ends
+pub mod Fields
+pub mod FunctionNames
+pub mod Listings
+pub mod Ranks
+pub mod Restrictions
+pub mod Rows

@@ -1,0 +1,77 @@
+-- How much may be done without a step: fields of descriptors, and definitions.
+use Rattle.std.proofs.Common.{◌≡◌, ◌+◌, ◌++◌, ◌∙◌, ◌∷◌, [], ap, arith, length, refl, subst, suc, sym, List, Option, Some, ℕ}
+use Rattle.jl_value.specs.declared.object.ObjId.{ObjId}
+use Rattle.jl_heap.specs.Objects.{Name}
+use Rattle.jl_heap.specs.declared.property.Change.{Change}
+use Rattle.jl_progress.specs.Objects.{fields_after, rank_definitions, rank_use}
+use Rattle.jl_progress.specs.declared.object.DescriptorField.{DescriptorField}
+use Rattle.jl_progress.specs.declared.object.DescriptorField.TheVariants as field_of
+use Rattle.jl_progress.specs.declared.object.DescriptorUse.{DescriptorUse}
+use Rattle.jl_progress.specs.declared.object.DescriptorUse.TheVariants as use_of
+use Rattle.jl_state.specs.Rank.{Falls}
+use Rattle.jl_state.specs.declared.act.Act.{Act}
+use Rattle.jl_state.specs.declared.state.State.{State}
+use Rattle.jl_lib_object.specs.inner.Fields.{fields_from, next_field}
+
+-- after a field there is one less
+fields_less : (which : DescriptorField) → fields_from (next_field which) ≡ fields_after which
+fields_less field_of.Enumerable = refl
+fields_less field_of.Configurable = refl
+fields_less field_of.Value = refl
+fields_less field_of.Writable = refl
+fields_less field_of.Get = refl
+fields_less field_of.Set = refl
+
+pub less_left : (which : DescriptorField) (next following : Option DescriptorField) → next ≡ Some which
+    → following ≡ next_field which → fields_from next ≡ suc (fields_from following)
+less_left which next following is after_is =
+    let less : fields_from following ≡ fields_after which = ap fields_from after_is ∙ fields_less which in
+    ap fields_from is ∙ ap suc (sym less)
+
+pub left_after : (which : DescriptorField) (following : Option DescriptorField) → following ≡ next_field which
+    → fields_from following ≡ fields_after which
+left_after which following is = ap fields_from is ∙ fields_less which
+
+-- a greater bound
+pub falls_within : (s t : State) (a : Act) (m n k : ℕ) → n ≡ m + k → Falls s m t a → Falls s n t a
+falls_within s t a m n k is falls =
+    record { left = falls.left; lower = λ same. omega (arith, is, falls.lower same) }
+
+-- one definition more, which is done first
+pub falls_next : (s t : State) (a : Act) (left rest : List (Name × Change)) (named : Name × Change)
+    → left ≡ named ∷ rest → Falls s (rank_definitions (length rest) + 40) t a
+    → Falls s (rank_definitions (length left) + 2) t a
+falls_next s t a left rest named is falls =
+    subst (λ l. Falls s (rank_definitions (length l) + 2) t a) (sym is)
+    (falls_within s t a (rank_definitions (length rest) + 40) (rank_definitions (length (named ∷ rest)) + 2) 6
+    (omega arith) falls)
+
+longer : (l : List (Name × Change)) (named : Name × Change) → length (l ++ named ∷ []) ≡ length l + 1
+longer [] named = refl
+longer (m ∷ l) named = omega (arith, longer l named)
+
+-- one that was read
+pub falls_longer : (s t : State) (a : Act) (changes more : List (Name × Change)) (named : Name × Change)
+    → more ≡ changes ++ named ∷ [] → Falls s (rank_definitions (length more) + 2) t a
+    → Falls s (rank_definitions (length changes + 1) + 2) t a
+falls_longer s t a changes more named is falls =
+    subst (λ n. Falls s (rank_definitions n + 2) t a) (ap length is ∙ longer changes named) falls
+
+-- no change so far
+pub falls_none : (s t : State) (a : Act) (changes : List (Name × Change)) → changes ≡ []
+    → Falls s (rank_definitions (length changes) + 2) t a → Falls s 9 t a
+falls_none s t a changes none falls =
+    falls_within s t a 8 9 1 refl (subst (λ l. Falls s (rank_definitions (length l) + 2) t a) none falls)
+
+-- what a descriptor is read for
+
+pub falls_one : (s t : State) (a : Act) (purpose : DescriptorUse) (id : ObjId) (x : Name) → purpose ≡ use_of.One id x
+    → Falls s 40 t a → Falls s (rank_use purpose) t a
+falls_one s t a purpose id x is falls =
+    subst (λ p. Falls s (rank_use p) t a) (sym is) (falls_within s t a 40 44 4 refl falls)
+
+pub falls_read : (s t : State) (a : Act) (purpose : DescriptorUse) (id d : ObjId) (changes more : List (Name × Change))
+    (x : Name) (named : Name × Change) (names : List Name) (from : ℕ) → purpose ≡ use_of.Next id d changes x names from
+    → more ≡ changes ++ named ∷ [] → Falls s (rank_definitions (length more) + 2) t a → Falls s (rank_use purpose) t a
+falls_read s t a purpose id d changes more x named names from is grown falls =
+    subst (λ p. Falls s (rank_use p) t a) (sym is) (falls_longer s t a changes more named grown falls)

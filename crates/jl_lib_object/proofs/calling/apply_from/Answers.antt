@@ -1,0 +1,11 @@
+use Rattle.std.proofs.Common.{refl}
+use Rattle.jl_lib_object.proofs.Applications.{applies, applies_element, calls_now}
+use Rattle.jl_lib_object.proofs.calling.apply_from.Goals as goal
+
+pub returns-then-from-length-clause-leads : goal.returns-then-from-length-clause-leads
+returns-then-from-length-clause-leads c =
+    applies_element _ _ _ _ _ _ _ _ _ c.if-from-length.true c.in_ok-get_element.ensures.leads
+
+pub returns-clause-leads : goal.returns-clause-leads
+returns-clause-leads c =
+    applies _ _ _ _ _ _ _ _ _ c.if-from-length.false (calls_now _ _ _ _ _ _ refl refl)

@@ -1,0 +1,12 @@
+use Rattle.std.proofs.Common.{◌∙◌, sym}
+use Rattle.jl_lib_object.proofs.Applications.{begins_at, outside}
+use Rattle.jl_lib_object.proofs.calling.step_length_primitive.Goals as goal
+
+pub returns-in_default-clause-leads : goal.returns-in_default-clause-leads
+returns-in_default-clause-leads c =
+    outside _ _ _ _ _ (sym c.number_of_primitive.ensures ∙ c.in_default.is)
+
+pub returns-clause-leads : goal.returns-clause-leads
+returns-clause-leads c =
+    begins_at _ _ _ _ _ _ _ _ _ _ (sym c.number_of_primitive.ensures ∙ c.in-Some.is) c.to_uint32.ensures c.new.ensures
+    c.in_ok-apply_from.ensures.leads

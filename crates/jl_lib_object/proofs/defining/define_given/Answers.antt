@@ -1,0 +1,10 @@
+use Rattle.std.proofs.Common.{sym, ◌∙◌}
+use Rattle.jl_lib_object.proofs.Definitions.{none_given, some_given}
+use Rattle.jl_lib_object.proofs.defining.define_given.Goals as goal
+
+pub returns-then-is_undefined-clause-leads : goal.returns-then-is_undefined-clause-leads
+returns-then-is_undefined-clause-leads c = none_given _ _ _ (sym c.is_undefined.ensures ∙ c.if-is_undefined.true)
+
+pub returns-clause-leads : goal.returns-clause-leads
+returns-clause-leads c =
+    some_given _ _ _ _ _ (sym c.is_undefined.ensures ∙ c.if-is_undefined.false) c.in_ok-define_all.ensures.leads

@@ -1,0 +1,17 @@
+use Rattle.std.proofs.Common.{sym, ◌∙◌}
+use Rattle.jl_lib_object.proofs.Fields.{one_kind, one_kind_is, two_kinds}
+use Rattle.jl_lib_object.proofs.descriptors.take_change.Goals as goal
+
+pub returns-then-is_both_kinds-clause-leads : goal.returns-then-is_both_kinds-clause-leads
+returns-then-is_both_kinds-clause-leads c =
+    two_kinds _ c.args.change c.args.purpose _ _ (sym c.is_both_kinds.ensures ∙ c.if-is_both_kinds.true)
+    c.in_ok-throw_native.ensures.leads
+
+pub returns-clause-leads : goal.returns-clause-leads
+returns-clause-leads c =
+    one_kind _ c.args.change c.args.purpose _ _ (sym c.is_both_kinds.ensures ∙ c.if-is_both_kinds.false)
+    c.in_ok-use_change.ensures.leads
+
+pub use_change-requires : goal.use_change-requires
+use_change-requires c =
+    one_kind_is c.args.change (sym c.is_both_kinds.ensures ∙ c.if-is_both_kinds.false)

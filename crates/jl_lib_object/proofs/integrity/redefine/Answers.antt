@@ -1,0 +1,10 @@
+use Rattle.jl_lib_object.proofs.Restrictions.{redefines, redefines_none}
+use Rattle.jl_lib_object.proofs.integrity.redefine.Goals as goal
+
+pub returns-in_default-clause-leads : goal.returns-in_default-clause-leads
+returns-in_default-clause-leads c = redefines_none _ _ _ _ _ c.in_ok-property.ensures c.in_default.is
+
+pub returns-clause-leads : goal.returns-clause-leads
+returns-clause-leads c =
+    redefines _ _ _ _ _ _ _ _ _ _ c.in_ok-property.ensures c.in-Some.is c.restricted_property.ensures
+    c.change_of-change.ensures.value c.in_ok-define_own_property.ensures.leads

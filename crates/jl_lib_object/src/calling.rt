@@ -1,0 +1,243 @@
+//! `Function.prototype.apply` and `Function.prototype.call` (15.3.4.3, 15.3.4.4).
+ghost use Rattle.std.specs.Prelude.{◌≡◌, ◌-◌, ◌<◌, IfOk};
+ghost use Rattle.jl_effects.specs.Effects.{Step};
+ghost use Rattle.jl_lib_object.specs.inner.Calls.{apply_by, apply_element, apply_list};
+ghost use Rattle.jl_meaning.specs.Parts.{call, ◌>>=◌ as ◌then◌};
+ghost use Rattle.jl_meaning.specs.builtins.Function.{arguments_in, function_apply, function_call};
+ghost use Rattle.jl_progress.specs.Functions.{function_after};
+ghost use Rattle.jl_state.specs.Rank.{Falls};
+ghost use Rattle.jl_state.specs.Rest.{Works};
+ghost use Rattle.jl_state.specs.Words.{call_of};
+
+use crate::objects::is_nothing;
+use crate::waiting::{argument_of, wait_function};
+use jl_algorithm::{get, to_primitive};
+use jl_builtin::{get_index, need_function, need_object, number_of_primitive, rest_of};
+use jl_num::to_uint32;
+use jl_progress::FunctionProgress;
+use jl_state::{Act, Hint, Invocation, State};
+use jl_store::{Answer, word};
+use jl_text::{List, NoMemory};
+use jl_value::{Completion, Fault, ObjId, Value};
+use std::alloc::Global;
+
+/// An element of a list of arguments takes a step, and is got; the index is that of the one after it.
+fn get_element<'p>(
+    alloc: Global,
+    state: &mut State<'p>,
+    function: ObjId,
+    this: Value,
+    list: ObjId,
+    args: List<Value>,
+    at: usize,
+    length: usize,
+) -> Result<Act<'p>, NoMemory>
+    requires { at < length }
+    ensures leads { IfOk result (λ act. Works state.old
+        (Step (apply_element function this list args at length)) state.new act) }
+    ensures falls { IfOk result (λ act. Falls state.old 1 state.new act) }
+{
+    if !state.spend() {
+        return Ok(Act::Spent);
+    }
+    wait_function(
+        state,
+        FunctionProgress::Element {
+            function,
+            this,
+            list,
+            args,
+            from: at + 1,
+            length,
+        },
+    )?;
+    Ok(get_index(alloc, state, list, at)?)
+}
+
+/// A function is called with the arguments so far and those of a list from an index on.
+fn apply_from<'p>(
+    alloc: Global,
+    state: &mut State<'p>,
+    function: ObjId,
+    this: Value,
+    list: ObjId,
+    args: List<Value>,
+    from: usize,
+    length: usize,
+) -> Result<Act<'p>, NoMemory>
+    ensures leads { IfOk result (λ act. Works state.old
+        (apply_by function this list (length - from) from args) state.new act) }
+    ensures falls { IfOk result (λ act. Falls state.old 3 state.new act) }
+{
+    if from < length {
+        return Ok(get_element(alloc, state, function, this, list, args, from, length)?);
+    }
+    Ok(Act::Call(Invocation {
+        callee: function,
+        this,
+        args,
+        by_new: false,
+    }))
+}
+
+/// Goes on with an element of a list of arguments.
+pub(crate) fn step_element<'p>(
+    alloc: Global,
+    state: &mut State<'p>,
+    function: ObjId,
+    this: Value,
+    list: ObjId,
+    args: List<Value>,
+    from: usize,
+    length: usize,
+    v: Value,
+) -> Result<Act<'p>, NoMemory>
+    ensures leads { IfOk result (λ act. Works state.old
+        (function_after (FunctionProgress.Element function this list args from length) v) state.new act) }
+    ensures falls { IfOk result (λ act. Falls state.old 3 state.new act) }
+{
+    let mut args = args;
+    args.push(v)?;
+    Ok(apply_from(alloc, state, function, this, list, args, from, length)?)
+}
+
+/// Goes on with the length of a list of arguments, which is converted.
+pub(crate) fn step_length<'p>(
+    alloc: Global,
+    state: &mut State<'p>,
+    function: ObjId,
+    this: Value,
+    list: ObjId,
+    v: Value,
+) -> Result<Act<'p>, NoMemory>
+    ensures leads { IfOk result (λ act. Works state.old
+        (function_after (FunctionProgress.Length function this list) v) state.new act) }
+    ensures falls { IfOk result (λ act. Falls state.old 22 state.new act) }
+{
+    wait_function(
+        state,
+        FunctionProgress::LengthPrimitive {
+            function,
+            this,
+            list,
+        },
+    )?;
+    Ok(to_primitive(alloc, state, v, Hint::Number)?)
+}
+
+/// Goes on with that length, which has been converted.
+pub(crate) fn step_length_primitive<'p>(
+    alloc: Global,
+    state: &mut State<'p>,
+    function: ObjId,
+    this: Value,
+    list: ObjId,
+    p: &Value,
+) -> Result<Act<'p>, NoMemory>
+    ensures leads { IfOk result (λ act. Works state.old
+        (function_after (FunctionProgress.LengthPrimitive function this list) p.now) state.new act) }
+    ensures falls { IfOk result (λ act. Falls state.old 3 state.new act) }
+{
+    let Some(n) = number_of_primitive(p) else {
+        return Ok(Act::Fault(Fault::NumberOutside));
+    };
+    let length = to_uint32(n) as usize;
+    Ok(apply_from(
+        alloc,
+        state,
+        function,
+        this,
+        list,
+        List::new(alloc),
+        0,
+        length,
+    )?)
+}
+
+/// The length of a list of arguments is got.
+fn get_length<'p>(
+    alloc: Global,
+    state: &mut State<'p>,
+    function: ObjId,
+    this: Value,
+    list: ObjId,
+) -> Result<Act<'p>, NoMemory>
+    ensures leads { IfOk result (λ act. Works state.old (apply_list function this list) state.new act) }
+    ensures falls { IfOk result (λ act. Falls state.old 26 state.new act) }
+{
+    let name = word(alloc, "length")?;
+    wait_function(
+        state,
+        FunctionProgress::Length {
+            function,
+            this,
+            list,
+        },
+    )?;
+    Ok(get(alloc, state, &Value::Obj(list), &name)?)
+}
+
+/// A function is called with the arguments that a value has (15.3.4.3, steps 2 to 9).
+fn apply_values<'p>(
+    alloc: Global,
+    state: &mut State<'p>,
+    function: ObjId,
+    this: Value,
+    values: &Value,
+) -> Result<Act<'p>, NoMemory>
+    ensures leads { IfOk result (λ act. Works state.old
+        (arguments_in values.now then λ args. call function this args) state.new act) }
+    ensures falls { IfOk result (λ act. Falls state.old 26 state.new act) }
+{
+    if is_nothing(values) {
+        return Ok(Act::Call(Invocation {
+            callee: function,
+            this,
+            args: List::new(alloc),
+            by_new: false,
+        }));
+    }
+    match need_object(&mut state.store, values)? {
+        Answer::Throws(thrown) => Ok(Act::Complete(Completion::Throw(thrown))),
+        Answer::Gives(list) => Ok(get_length(alloc, state, function, this, list)?),
+    }
+}
+
+/// `Function.prototype.apply(thisArg, argArray)` (15.3.4.3).
+pub(crate) fn function_apply<'p>(
+    alloc: Global,
+    state: &mut State<'p>,
+    call: &Invocation,
+) -> Result<Act<'p>, NoMemory>
+    ensures leads { IfOk result (λ act. Works state.old (function_apply (call_of call.now)) state.new act) }
+    ensures falls { IfOk result (λ act. Falls state.old 26 state.new act) }
+{
+    let this = argument_of(alloc, call, 0)?;
+    let values = argument_of(alloc, call, 1)?;
+    match need_function(&mut state.store, &call.this)? {
+        Answer::Throws(thrown) => Ok(Act::Complete(Completion::Throw(thrown))),
+        Answer::Gives(function) => Ok(apply_values(alloc, state, function, this, &values)?),
+    }
+}
+
+/// `Function.prototype.call(thisArg, arg1, ..)` (15.3.4.4).
+pub(crate) fn function_call<'p>(
+    alloc: Global,
+    state: &mut State<'p>,
+    call: &Invocation,
+) -> Result<Act<'p>, NoMemory>
+    ensures leads { IfOk result (λ act. Works state.old (function_call (call_of call.now)) state.new act) }
+    ensures falls { IfOk result (λ act. Falls state.old 3 state.new act) }
+{
+    let this = argument_of(alloc, call, 0)?;
+    let args = rest_of(alloc, call.args.items(), 1)?;
+    match need_function(&mut state.store, &call.this)? {
+        Answer::Throws(thrown) => Ok(Act::Complete(Completion::Throw(thrown))),
+        Answer::Gives(callee) => Ok(Act::Call(Invocation {
+            callee,
+            this,
+            args,
+            by_new: false,
+        })),
+    }
+}

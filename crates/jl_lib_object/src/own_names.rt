@@ -1,0 +1,203 @@
+//! The names of the own properties of objects, and `Object.getOwnPropertyNames` and `Object.keys` (15.2.3.4, 15.2.3.14).
+ghost use Rattle.std.specs.List.{range_with_len};
+ghost use Rattle.std.specs.Prelude.{◌≡◌, ◌++◌, ◌∷◌, [], drop, filter, length, map, IfOk, MatchOption};
+ghost use Rattle.jl_heap.specs.Objects.{object_at, units_of};
+ghost use Rattle.jl_lib_object.specs.inner.Names.{name_of_entry, text_value};
+ghost use Rattle.jl_meaning.specs.builtins.Descriptors.{enumerable_names, has_enumerable, own_names};
+ghost use Rattle.jl_meaning.specs.builtins.Object.{array_of_names, object_get_own_property_names, object_keys};
+ghost use Rattle.jl_meaning.specs.forms.Literals.{index_name};
+ghost use Rattle.jl_state.specs.Rank.{Falls};
+ghost use Rattle.jl_state.specs.Rest.{Works};
+ghost use Rattle.jl_state.specs.Words.{call_of};
+
+use crate::waiting::first_object;
+use jl_builtin::fill_array;
+use jl_heap::Inner;
+use jl_state::{Act, Invocation, State};
+use jl_store::{Answer, Store, index_name};
+use jl_text::{List, NoMemory, Text};
+use jl_value::{Class, Completion, ObjId, Value};
+use std::alloc::Global;
+
+/// How many units an object has as properties, which is none but of a String object (15.5.5.2).
+fn unit_count(store: &Store, id: ObjId) -> usize
+    ensures { result ≡ length (units_of (object_at store.now.heap id.0).class (object_at store.now.heap id.0).inner) }
+{
+    let class = store.class_of(id);
+    match (&class, store.inner_of(id)) {
+        (Class::String, Inner::Wrapped(Value::Text(text))) => text.units().len(),
+        _ => 0,
+    }
+}
+
+/// The names of so many units.
+fn unit_names(alloc: Global, count: usize) -> Result<List<Text>, NoMemory>
+    ensures { IfOk result (λ names. names ≡ map index_name (range_with_len 0 count)) }
+{
+    let mut names = List::new(alloc);
+    for index in 0..count {
+        let name = index_name(alloc, index)?;
+        names.push(name)?;
+    }
+    Ok(names)
+}
+
+/// The names of properties after those of a list.
+fn with_stored(
+    alloc: Global,
+    mut names: List<Text>,
+    stored: &[(Text, u64)],
+) -> Result<List<Text>, NoMemory>
+    ensures { IfOk result (λ longer. longer ≡ names ++ map name_of_entry stored.now) }
+{
+    for entry in stored {
+        let name = entry.0.share(alloc)?;
+        names.push(name)?;
+    }
+    Ok(names)
+}
+
+/// The names of an object's own properties: the units of a String object, and then the stored ones by creation.
+pub(crate) fn own_names(alloc: Global, store: &Store, id: ObjId) -> Result<List<Text>, NoMemory>
+    ensures { IfOk result (λ names. names ≡ own_names store.now id.0) }
+{
+    let stored = store.heap().names(id)?;
+    let units = unit_names(alloc, unit_count(store, id))?;
+    let all = with_stored(alloc, units, stored.items())?;
+    Ok(all)
+}
+
+/// Whether an object has an own property of a name that is enumerable.
+pub(crate) fn has_enumerable(store: &Store, id: ObjId, name: &Text) -> bool
+    ensures { result ≡ has_enumerable store.now id.0 name.now }
+{
+    match store.get_own_property(id, name) {
+        Some(found) => found.is_enumerable(),
+        None => false,
+    }
+}
+
+/// Those of the names whose own properties are enumerable.
+fn enumerable_among(
+    alloc: Global,
+    store: &Store,
+    id: ObjId,
+    all: &[Text],
+) -> Result<List<Text>, NoMemory>
+    ensures { IfOk result (λ names. names ≡ filter (has_enumerable store.now id.0) all.now) }
+{
+    let mut names = List::new(alloc);
+    for name in all {
+        if !has_enumerable(store, id, name) {
+            continue;
+        }
+        let copy = name.share(alloc)?;
+        names.push(copy)?;
+    }
+    Ok(names)
+}
+
+/// The names of an object's own properties that are enumerable.
+pub(crate) fn enumerable_names(
+    alloc: Global,
+    store: &Store,
+    id: ObjId,
+) -> Result<List<Text>, NoMemory>
+    ensures { IfOk result (λ names. names ≡ enumerable_names store.now id.0) }
+{
+    let all = own_names(alloc, store, id)?;
+    let names = enumerable_among(alloc, store, id, all.items())?;
+    Ok(names)
+}
+
+/// The name at an index and the next index, if there is one.
+pub(crate) fn name_from(
+    alloc: Global,
+    names: &[Text],
+    at: usize,
+) -> Result<Option<(Text, usize)>, NoMemory>
+    ensures { IfOk result (λ found. MatchOption found (drop at names.now ≡ [])
+        (λ r. drop at names.now ≡ r.0 ∷ drop r.1 names.now)) }
+{
+    match names.get(at) {
+        None => Ok(None),
+        Some(name) => Ok(Some((name.share(alloc)?, at + 1))),
+    }
+}
+
+/// Names as values.
+fn text_values(alloc: Global, names: &[Text]) -> Result<List<Value>, NoMemory>
+    ensures { IfOk result (λ values. values ≡ map text_value names.now) }
+{
+    let mut values = List::new(alloc);
+    for name in names {
+        let copy = name.share(alloc)?;
+        values.push(Value::Text(copy))?;
+    }
+    Ok(values)
+}
+
+/// An array of names, which is filled one a turn.
+fn array_of_names<'p>(
+    alloc: Global,
+    state: &mut State<'p>,
+    names: &[Text],
+) -> Result<Act<'p>, NoMemory>
+    ensures leads { IfOk result (λ act. Works state.old (array_of_names names.now) state.new act) }
+    ensures falls { IfOk result (λ act. Falls state.old 6 state.new act) }
+{
+    let values = text_values(alloc, names)?;
+    let array = state.store.new_array()?;
+    Ok(fill_array(alloc, state, array, values, 0)?)
+}
+
+/// An array of the names of all own properties of an object.
+fn list_names<'p>(alloc: Global, state: &mut State<'p>, id: ObjId) -> Result<Act<'p>, NoMemory>
+    ensures leads { IfOk result (λ act. Works state.old
+        (array_of_names (own_names state.old.store id.0)) state.new act) }
+    ensures falls { IfOk result (λ act. Falls state.old 6 state.new act) }
+{
+    let names = own_names(alloc, &state.store, id)?;
+    Ok(array_of_names(alloc, state, names.items())?)
+}
+
+/// An array of the names of those that are enumerable.
+fn list_keys<'p>(alloc: Global, state: &mut State<'p>, id: ObjId) -> Result<Act<'p>, NoMemory>
+    ensures leads { IfOk result (λ act. Works state.old
+        (array_of_names (enumerable_names state.old.store id.0)) state.new act) }
+    ensures falls { IfOk result (λ act. Falls state.old 6 state.new act) }
+{
+    let names = enumerable_names(alloc, &state.store, id)?;
+    Ok(array_of_names(alloc, state, names.items())?)
+}
+
+/// `Object.getOwnPropertyNames(O)` (15.2.3.4).
+pub(crate) fn object_get_own_property_names<'p>(
+    alloc: Global,
+    state: &mut State<'p>,
+    call: &Invocation,
+) -> Result<Act<'p>, NoMemory>
+    ensures leads { IfOk result (λ act. Works state.old
+        (object_get_own_property_names (call_of call.now)) state.new act) }
+    ensures falls { IfOk result (λ act. Falls state.old 6 state.new act) }
+{
+    match first_object(alloc, &mut state.store, call)? {
+        Answer::Throws(thrown) => Ok(Act::Complete(Completion::Throw(thrown))),
+        Answer::Gives(id) => Ok(list_names(alloc, state, id)?),
+    }
+}
+
+/// `Object.keys(O)` (15.2.3.14).
+pub(crate) fn object_keys<'p>(
+    alloc: Global,
+    state: &mut State<'p>,
+    call: &Invocation,
+) -> Result<Act<'p>, NoMemory>
+    ensures leads { IfOk result (λ act. Works state.old (object_keys (call_of call.now)) state.new act) }
+    ensures falls { IfOk result (λ act. Falls state.old 6 state.new act) }
+{
+    match first_object(alloc, &mut state.store, call)? {
+        Answer::Throws(thrown) => Ok(Act::Complete(Completion::Throw(thrown))),
+        Answer::Gives(id) => Ok(list_keys(alloc, state, id)?),
+    }
+}

@@ -1,0 +1,115 @@
+//! How builtins of objects and functions go on with the value that they waited for.
+ghost use Rattle.std.specs.Prelude.{◌≡◌, ◌+◌, IfOk};
+ghost use Rattle.jl_progress.specs.Functions.{function_after, rank_function};
+ghost use Rattle.jl_progress.specs.Objects.{object_after, rank_object};
+ghost use Rattle.jl_state.specs.Rank.{Falls};
+ghost use Rattle.jl_state.specs.Rest.{Works};
+
+use crate::calling::{step_element, step_length, step_length_primitive};
+use crate::defining::{define_from, step_defined_name, step_descriptor};
+use crate::describing::step_described_name;
+use crate::descriptors::step_field;
+use crate::integrity::{restrict_from, test_from};
+use crate::own_tests::step_own_name;
+use jl_progress::{DescriptorUse, FunctionProgress, ObjectProgress};
+use jl_state::{Act, State};
+use jl_text::NoMemory;
+use jl_value::Value;
+use std::alloc::Global;
+
+/// Goes on with the value that a builtin of Object or its prototype waited for.
+pub fn resume_object<'p>(
+    alloc: Global,
+    state: &mut State<'p>,
+    progress: ObjectProgress,
+    v: Value,
+) -> Result<Act<'p>, NoMemory>
+    ensures leads { IfOk result (λ act. Works state.old (object_after progress v) state.new act) }
+    ensures falls { IfOk result (λ act. Falls state.old (rank_object progress + 2) state.new act) }
+{
+    match progress {
+        ObjectProgress::DescribedName { object } => {
+            Ok(step_described_name(alloc, state, object, &v)?)
+        }
+        ObjectProgress::DefinedName { object, descriptor } => {
+            Ok(step_defined_name(alloc, state, object, &descriptor, &v)?)
+        }
+        ObjectProgress::Field {
+            field,
+            descriptor,
+            change,
+            purpose,
+        } => Ok(step_field(alloc, state, field, descriptor, change, purpose, v)?),
+        ObjectProgress::Descriptor {
+            object,
+            descriptors,
+            changes,
+            name,
+            names,
+            from,
+        } => {
+            let purpose = DescriptorUse::Next {
+                object,
+                descriptors,
+                changes,
+                name,
+                names,
+                from,
+            };
+            Ok(step_descriptor(alloc, state, purpose, &v)?)
+        }
+        ObjectProgress::Define {
+            object,
+            changes,
+            from,
+        } => Ok(define_from(alloc, state, object, changes, from)?),
+        ObjectProgress::Restrict {
+            integrity,
+            object,
+            names,
+            from,
+        } => Ok(restrict_from(alloc, state, integrity, object, names, from)?),
+        ObjectProgress::Test {
+            integrity,
+            object,
+            holds,
+            names,
+            from,
+        } => Ok(test_from(alloc, state, integrity, object, holds, names, from)?),
+        ObjectProgress::OwnName { test, this } => {
+            Ok(step_own_name(alloc, state, test, &this, &v)?)
+        }
+    }
+}
+
+/// Goes on with the value that `Function.prototype.apply` waited for (15.3.4.3).
+pub fn resume_function<'p>(
+    alloc: Global,
+    state: &mut State<'p>,
+    progress: FunctionProgress,
+    v: Value,
+) -> Result<Act<'p>, NoMemory>
+    ensures leads { IfOk result (λ act. Works state.old (function_after progress v) state.new act) }
+    ensures falls { IfOk result (λ act. Falls state.old (rank_function progress + 2) state.new act) }
+{
+    match progress {
+        FunctionProgress::Length {
+            function,
+            this,
+            list,
+        } => Ok(step_length(alloc, state, function, this, list, v)?),
+        FunctionProgress::LengthPrimitive {
+            function,
+            this,
+            list,
+        } => Ok(step_length_primitive(alloc, state, function, this, list, &v)?),
+        FunctionProgress::Element {
+            function,
+            this,
+            list,
+            args,
+            from,
+            length,
+        } => Ok(step_element(alloc, state, function, this, list, args, from, length, v)?),
+    }
+}

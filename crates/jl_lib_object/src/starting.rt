@@ -1,0 +1,151 @@
+//! The builtins of objects and functions, by their rows.
+ghost use Rattle.std.specs.Prelude.{◌≡◌, ◌≤◌, ◌<◌, IfOk};
+ghost use Rattle.jl_meaning.specs.Parts.{Call};
+ghost use Rattle.jl_meaning.specs.builtins.Arguments.{unsupported};
+ghost use Rattle.jl_meaning.specs.builtins.Function.{names_of};
+ghost use Rattle.jl_meaning.specs.builtins.Table.{builtin};
+ghost use Rattle.jl_state.specs.Rank.{rank_act, Falls};
+ghost use Rattle.jl_state.specs.Rest.{Works};
+ghost use Rattle.jl_state.specs.Words.{call_of, table_of};
+ghost use Rattle.jl_state.specs.declared.state.State.{State as Machine};
+
+use crate::binding::function_bind;
+use crate::calling::{function_apply, function_call};
+use crate::defining::{object_create, object_define_properties, object_define_property};
+use crate::describing::object_get_own_property_descriptor;
+use crate::function_text::function_to_string;
+use crate::integrity::{are_all, object_is_extensible, object_prevent_extensions, redefine_all};
+use crate::objects::{
+    object_call, object_get_prototype_of, object_is_prototype_of, object_to_string, object_value_of,
+};
+use crate::own_names::{object_get_own_property_names, object_keys};
+use crate::own_tests::this_has;
+use jl_algorithm::throw_native;
+use jl_progress::{Integrity, OwnTest};
+use jl_state::{Act, Invocation, State};
+use jl_text::NoMemory;
+use jl_value::{Builtin, ErrorKind, Fault, Value};
+use std::alloc::Global;
+
+/// A builtin that is there, and isn't built, ends the run.
+#[tactic(auto, unfolding(jl_value::specs::Builtins::builtin_names))]
+fn unsupported<'p>(row: u16) -> Act<'p>
+    requires { row < 102 }
+    ensures leads { (s : Machine) (call : Call) → Works s (unsupported row call) s result }
+    ensures low { rank_act result ≤ 2 }
+{
+    match Builtin::at(row) {
+        Some(builtin) => Act::Fault(Fault::Unsupported(builtin)),
+        None => unreachable!(),
+    }
+}
+
+/// The builtin of a row of the constructor Object, up to `Object.preventExtensions`.
+fn start_changing<'p>(
+    alloc: Global,
+    state: &mut State<'p>,
+    row: u16,
+    call: &Invocation,
+) -> Result<Act<'p>, NoMemory>
+    requires { row < 10 }
+    ensures leads { IfOk result (λ act. Works state.old
+        (builtin (names_of (table_of state.old.functions)) row (call_of call.now)) state.new act) }
+    ensures falls { IfOk result (λ act. Falls state.old 96 state.new act) }
+{
+    match row {
+        0 => Ok(object_call(alloc, state, call)?),
+        1 => Ok(object_get_prototype_of(alloc, state, call)?),
+        2 => Ok(object_get_own_property_descriptor(alloc, state, call)?),
+        3 => Ok(object_get_own_property_names(alloc, state, call)?),
+        4 => Ok(object_create(alloc, state, call)?),
+        5 => Ok(object_define_property(alloc, state, call)?),
+        6 => Ok(object_define_properties(alloc, state, call)?),
+        7 => Ok(redefine_all(alloc, state, Integrity::Sealed, call)?),
+        8 => Ok(redefine_all(alloc, state, Integrity::Frozen, call)?),
+        _ => Ok(object_prevent_extensions(alloc, state, call)?),
+    }
+}
+
+/// The builtin of a row from `Object.isSealed` to those of the prototype of objects.
+fn start_asking<'p>(
+    alloc: Global,
+    state: &mut State<'p>,
+    row: u16,
+    call: &Invocation,
+) -> Result<Act<'p>, NoMemory>
+    requires { (10 ≤ row) × (row < 20) }
+    ensures leads { IfOk result (λ act. Works state.old
+        (builtin (names_of (table_of state.old.functions)) row (call_of call.now)) state.new act) }
+    ensures falls { IfOk result (λ act. Falls state.old 96 state.new act) }
+{
+    match row {
+        10 => Ok(are_all(alloc, state, Integrity::Sealed, call)?),
+        11 => Ok(are_all(alloc, state, Integrity::Frozen, call)?),
+        12 => Ok(object_is_extensible(alloc, state, call)?),
+        13 => Ok(object_keys(alloc, state, call)?),
+        14 => Ok(object_to_string(alloc, state, call)?),
+        15 => Ok(unsupported(row)),
+        16 => Ok(object_value_of(state, call)?),
+        17 => Ok(this_has(alloc, state, OwnTest::IsThere, call)?),
+        18 => Ok(object_is_prototype_of(alloc, state, call)?),
+        _ => Ok(this_has(alloc, state, OwnTest::IsEnumerable, call)?),
+    }
+}
+
+/// Begins a builtin of Object or its prototype.
+pub fn start_object<'p>(
+    alloc: Global,
+    state: &mut State<'p>,
+    row: u16,
+    call: Invocation,
+) -> Result<Act<'p>, NoMemory>
+    requires belongs { row < 20 }
+    ensures leads { IfOk result (λ act. Works state.old
+        (builtin (names_of (table_of state.old.functions)) row (call_of call)) state.new act) }
+    ensures falls { IfOk result (λ act. Falls state.old 400 state.new act) }
+{
+    if row < 10 {
+        Ok(start_changing(alloc, state, row, &call)?)
+    } else {
+        Ok(start_asking(alloc, state, row, &call)?)
+    }
+}
+
+/// The builtin of a row of functions.
+fn start_row<'p>(
+    alloc: Global,
+    state: &mut State<'p>,
+    row: u16,
+    call: &Invocation,
+) -> Result<Act<'p>, NoMemory>
+    requires { (20 ≤ row) × (row < 28) }
+    ensures leads { IfOk result (λ act. Works state.old
+        (builtin (names_of (table_of state.old.functions)) row (call_of call.now)) state.new act) }
+    ensures falls { IfOk result (λ act. Falls state.old 96 state.new act) }
+{
+    match row {
+        20 => Ok(Act::Fault(Fault::CodeFromText)),
+        21 => Ok(Act::Give(Value::Undefined)),
+        22 => Ok(function_to_string(alloc, state, call)?),
+        23 => Ok(function_apply(alloc, state, call)?),
+        24 => Ok(function_call(alloc, state, call)?),
+        25 => Ok(function_bind(alloc, state, call)?),
+        26 => Ok(unsupported(row)),
+        _ => Ok(throw_native(alloc, state, ErrorKind::TypeError, "forbidden")?),
+    }
+}
+
+/// Begins a builtin of functions: of Function, its prototype, or the one that throws a TypeError (13.2.3).
+pub fn start_function<'p>(
+    alloc: Global,
+    state: &mut State<'p>,
+    row: u16,
+    call: Invocation,
+) -> Result<Act<'p>, NoMemory>
+    requires belongs { (20 ≤ row) × (row < 28) }
+    ensures leads { IfOk result (λ act. Works state.old
+        (builtin (names_of (table_of state.old.functions)) row (call_of call)) state.new act) }
+    ensures falls { IfOk result (λ act. Falls state.old 400 state.new act) }
+{
+    Ok(start_row(alloc, state, row, &call)?)
+}

@@ -1,0 +1,13 @@
+-- Cases of letters (15.5.4.16, 15.5.4.18).
+use Rattle.std.specs.Prelude.{ℕ}
+use Rattle.jl_meaning.specs.builtins.String.{lower, upper}
+use Rattle.jl_progress.specs.declared.string.LetterCase.{LetterCase}
+use Rattle.jl_progress.specs.declared.string.LetterCase.TheVariants as letter_case
+
+abbrev pub letter_in : LetterCase → ℕ → ℕ
+letter_in letter_case.Lower u = lower u
+letter_in letter_case.Upper u = upper u
+
+abbrev pub row_of_case : LetterCase → ℕ
+row_of_case letter_case.Lower = 63
+row_of_case letter_case.Upper = 64

@@ -1,0 +1,124 @@
+//! `indexOf` and `lastIndexOf` (15.5.4.7, 15.5.4.8).
+ghost use Rattle.std.specs.Prelude.{◌≡◌, IfOk};
+ghost use Rattle.jl_meaning.specs.Conversions.{to_number};
+ghost use Rattle.jl_meaning.specs.Parts.{give, ◌>>=◌ as ◌then◌};
+ghost use Rattle.jl_meaning.specs.builtins.String.{last_start};
+ghost use Rattle.jl_progress.specs.Strings.{method_of_string, place_of_part, string_after};
+ghost use Rattle.jl_progress.specs.declared.string.StringMethod.TheVariants as method;
+ghost use Rattle.jl_progress.specs.declared.string.StringProgress.TheVariants as progress;
+ghost use Rattle.jl_state.specs.Rank.{Falls};
+ghost use Rattle.jl_state.specs.Rest.{Works};
+
+use crate::waiting::{wait_for_number, wait_for_string};
+use jl_builtin::{argument, clamped, index_or_none};
+use jl_num::{Num, NumberOutside};
+use jl_operator::{number_of, text_of};
+use jl_progress::{Search, StringProgress};
+use jl_state::{Act, State};
+use jl_text::{NoMemory, Text};
+use jl_value::{Fault, Value};
+use std::alloc::Global;
+
+/// A part is converted that is searched for from a position on, which waits.
+pub(crate) fn convert_part<'p>(
+    alloc: Global,
+    state: &mut State<'p>,
+    search: Search,
+    units: Text,
+    args: &[Value],
+) -> Result<Act<'p>, NoMemory>
+    ensures leads { IfOk result (λ act. Works state.old
+        (method_of_string (method.Search search) units args.now) state.new act) }
+    ensures falls { IfOk result (λ act. Falls state.old 46 state.new act) }
+{
+    let part = argument(alloc, args, 0)?;
+    let position = argument(alloc, args, 1)?;
+    let progress = StringProgress::Part {
+        search,
+        units,
+        position,
+    };
+    Ok(wait_for_string(alloc, state, progress, part)?)
+}
+
+/// The position is converted from which on a part is searched for.
+fn convert_place<'p>(
+    alloc: Global,
+    state: &mut State<'p>,
+    search: Search,
+    units: Text,
+    part: Text,
+    position: Value,
+) -> Result<Act<'p>, NoMemory>
+    ensures leads { IfOk result (λ act. Works state.old
+        (to_number position then λ n. give (place_of_part search units part n)) state.new act) }
+    ensures falls { IfOk result (λ act. Falls state.old 22 state.new act) }
+{
+    let progress = StringProgress::Place {
+        search,
+        units,
+        part,
+    };
+    Ok(wait_for_number(alloc, state, progress, position)?)
+}
+
+/// Goes on with the part that is searched for.
+pub(crate) fn resume_part<'p>(
+    alloc: Global,
+    state: &mut State<'p>,
+    search: Search,
+    units: Text,
+    position: Value,
+    p: &Value,
+) -> Result<Act<'p>, NoMemory>
+    ensures leads { IfOk result (λ act. Works state.old
+        (string_after (progress.Part search units position) p.now) state.new act) }
+    ensures falls { IfOk result (λ act. Falls state.old 22 state.new act) }
+{
+    let part = text_of(alloc, p)?;
+    Ok(convert_place(alloc, state, search, units, part, position)?)
+}
+
+/// Where a search for the last place begins; NaN stands for an infinity.
+fn last_start(n: Num, length: usize) -> usize
+    ensures { result ≡ last_start n length }
+{
+    match n.value() {
+        None => length,
+        Some(_) => clamped(n, length),
+    }
+}
+
+/// The place of a part, which is searched for from a position on, or -1.
+fn place_of_part(
+    search: Search,
+    units: &Text,
+    part: &Text,
+    position: Num,
+) -> Result<Value, NoMemory>
+    ensures { IfOk result (λ v. v ≡ place_of_part search units.now part.now position) }
+{
+    let length = units.units().len();
+    match search {
+        Search::First => index_or_none(units.find(part, clamped(position, length))),
+        Search::Last => index_or_none(units.find_last(part, last_start(position, length))),
+    }
+}
+
+/// Goes on with the position from which on a part is searched for.
+pub(crate) fn resume_place<'p>(
+    state: &mut State<'p>,
+    search: Search,
+    units: &Text,
+    part: &Text,
+    p: &Value,
+) -> Result<Act<'p>, NoMemory>
+    ensures leads { IfOk result (λ act. Works state.old
+        (string_after (progress.Place search units.now part.now) p.now) state.new act) }
+    ensures falls { IfOk result (λ act. Falls state.old 3 state.new act) }
+{
+    match number_of(p) {
+        Ok(position) => Ok(Act::Give(place_of_part(search, units, part, position)?)),
+        Err(NumberOutside) => Ok(Act::Fault(Fault::NumberOutside)),
+    }
+}

@@ -1,0 +1,94 @@
+//! `charAt` and `charCodeAt` (15.5.4.4, 15.5.4.5).
+ghost use Rattle.std.specs.Prelude.{◌≡◌, ◌≤◌, IfOk};
+ghost use Rattle.jl_meaning.specs.Conversions.{integer_of};
+ghost use Rattle.jl_meaning.specs.Parts.{give};
+ghost use Rattle.jl_meaning.specs.builtins.String.{unit_at_position};
+ghost use Rattle.jl_progress.specs.Strings.{method_of_string, string_after, unit_given};
+ghost use Rattle.jl_progress.specs.declared.string.StringMethod.TheVariants as method;
+ghost use Rattle.jl_progress.specs.declared.string.StringProgress.TheVariants as progress;
+ghost use Rattle.jl_state.specs.Rank.{rank_act, Falls};
+ghost use Rattle.jl_state.specs.Rest.{Works};
+ghost use Rattle.jl_state.specs.declared.state.State.{State as Machine};
+
+use crate::texts::text_of_units;
+use crate::waiting::wait_for_number;
+use jl_builtin::{argument, integer_of};
+use jl_num::{Num, NumberOutside};
+use jl_operator::number_of;
+use jl_progress::{StringProgress, UnitForm};
+use jl_state::{Act, State};
+use jl_store::{count, word};
+use jl_text::{NoMemory, Text};
+use jl_value::{Fault, Value};
+use std::alloc::Global;
+
+/// The position is converted at which a unit is given.
+pub(crate) fn convert_position<'p>(
+    alloc: Global,
+    state: &mut State<'p>,
+    form: UnitForm,
+    units: Text,
+    args: &[Value],
+) -> Result<Act<'p>, NoMemory>
+    ensures leads { IfOk result (λ act. Works state.old (method_of_string (method.Unit form) units args.now) state.new act) }
+    ensures falls { IfOk result (λ act. Falls state.old 22 state.new act) }
+{
+    let position = argument(alloc, args, 0)?;
+    let progress = StringProgress::Position { form, units };
+    Ok(wait_for_number(alloc, state, progress, position)?)
+}
+
+/// The unit at a position, if there is one.
+fn unit_at_position(units: &[u16], position: Num) -> Option<u16>
+    ensures { result ≡ unit_at_position units.now (integer_of position) }
+{
+    match usize::try_from(integer_of(position)) {
+        Ok(at) => units.get(at).copied(),
+        Err(_) => None,
+    }
+}
+
+/// A unit that was found as a string or as a number; else the empty string or NaN.
+fn unit_given(alloc: Global, form: UnitForm, unit: Option<u16>) -> Result<Value, NoMemory>
+    ensures { IfOk result (λ v. v ≡ unit_given form unit) }
+{
+    match (form, unit) {
+        (UnitForm::Text, Some(unit)) => Ok(Value::Text(text_of_units(alloc, &[unit])?)),
+        (UnitForm::Text, None) => Ok(Value::Text(word(alloc, "")?)),
+        (UnitForm::Code, Some(unit)) => count(usize::from(unit)),
+        (UnitForm::Code, None) => Ok(Value::Num(Num::NAN)),
+    }
+}
+
+/// The unit at a position is given.
+fn give_unit<'p>(
+    alloc: Global,
+    form: UnitForm,
+    units: &Text,
+    position: Num,
+) -> Result<Act<'p>, NoMemory>
+    ensures leads { IfOk result (λ act. (s : Machine) → Works s
+        (give (unit_given form (unit_at_position units.now (integer_of position)))) s act) }
+    ensures low { IfOk result (λ act. rank_act act ≤ 2) }
+{
+    let unit = unit_at_position(units.units(), position);
+    Ok(Act::Give(unit_given(alloc, form, unit)?))
+}
+
+/// Goes on with the position at which a unit is given.
+pub(crate) fn resume_position<'p>(
+    alloc: Global,
+    state: &mut State<'p>,
+    form: UnitForm,
+    units: Text,
+    p: &Value,
+) -> Result<Act<'p>, NoMemory>
+    ensures leads { IfOk result (λ act. Works state.old
+        (string_after (progress.Position form units) p.now) state.new act) }
+    ensures falls { IfOk result (λ act. Falls state.old 3 state.new act) }
+{
+    match number_of(p) {
+        Ok(position) => Ok(give_unit(alloc, form, &units, position)?),
+        Err(NumberOutside) => Ok(Act::Fault(Fault::NumberOutside)),
+    }
+}

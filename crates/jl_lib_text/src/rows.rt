@@ -1,0 +1,125 @@
+//! The builtins of strings by their rows, and how each goes on.
+ghost use Rattle.std.specs.Prelude.{◌≡◌, ◌+◌, ◌-◌, ◌≤◌, ◌<◌, slice_get, IfOk};
+ghost use Rattle.jl_lib_text.specs.inner.Rows.{methods};
+ghost use Rattle.jl_meaning.specs.builtins.Function.{names_of};
+ghost use Rattle.jl_meaning.specs.builtins.Table.{builtin};
+ghost use Rattle.jl_progress.specs.Strings.{rank_string, string_after};
+ghost use Rattle.jl_state.specs.Rank.{Falls};
+ghost use Rattle.jl_state.specs.Rest.{Works};
+ghost use Rattle.jl_state.specs.Words.{call_of, table_of};
+
+use crate::codes::{resume_char_code, string_from_char_code};
+use crate::constructing::{resume_given, string_constructor, string_value};
+use crate::cutting::{resume_end, resume_start};
+use crate::joining::resume_joined;
+use crate::methods::{call_method, resume_this};
+use crate::places::{resume_part, resume_place};
+use crate::positions::resume_position;
+use crate::splitting::{resume_limit, resume_separator};
+use crate::texts::unsupported;
+use jl_progress::{Cut, LetterCase, Search, StringMethod, StringProgress, UnitForm};
+use jl_state::{Act, Invocation, State};
+use jl_text::NoMemory;
+use jl_value::Value;
+use std::alloc::Global;
+
+/// The methods that begin with `this` as a string, from row 55 on.
+const METHODS: [StringMethod; 11] = [
+    StringMethod::Unit(UnitForm::Text),
+    StringMethod::Unit(UnitForm::Code),
+    StringMethod::Concat,
+    StringMethod::Search(Search::First),
+    StringMethod::Search(Search::Last),
+    StringMethod::Cut(Cut::Slice),
+    StringMethod::Split,
+    StringMethod::Cut(Cut::Substring),
+    StringMethod::Case(LetterCase::Lower),
+    StringMethod::Case(LetterCase::Upper),
+    StringMethod::Trim,
+];
+
+/// The method in a row, if it begins with `this` as a string.
+fn method_of_row(row: u16) -> Option<StringMethod>
+    requires { 55 ≤ row }
+    ensures { result ≡ slice_get methods (row - 55) }
+{
+    METHODS.get(usize::from(row - 55)).copied()
+}
+
+/// Begins a builtin of this crate: `String`, and the functions of its prototype (15.5).
+pub fn start<'p>(
+    alloc: Global,
+    state: &mut State<'p>,
+    row: u16,
+    call: Invocation,
+) -> Result<Act<'p>, NoMemory>
+    requires belongs { (51 ≤ row) × (row < 72) }
+    ensures leads { IfOk result (λ act. Works state.old
+        (builtin (names_of (table_of state.old.functions)) row (call_of call)) state.new act) }
+    ensures falls { IfOk result (λ act. Falls state.old 400 state.new act) }
+{
+    if row == 51 {
+        return Ok(string_constructor(alloc, state, &call)?);
+    }
+    if row == 52 {
+        return Ok(string_from_char_code(alloc, state, &call)?);
+    }
+    if row < 55 {
+        return Ok(string_value(alloc, state, &call)?);
+    }
+    match method_of_row(row) {
+        Some(method) => Ok(call_method(alloc, state, method, &call)?),
+        None => Ok(unsupported(row)),
+    }
+}
+
+/// Goes on with the value that a builtin of this crate waited for.
+pub fn resume<'p>(
+    alloc: Global,
+    state: &mut State<'p>,
+    progress: StringProgress,
+    v: Value,
+) -> Result<Act<'p>, NoMemory>
+    ensures leads { IfOk result (λ act. Works state.old (string_after progress v) state.new act) }
+    ensures falls { IfOk result (λ act. Falls state.old (rank_string progress + 2) state.new act) }
+{
+    match progress {
+        StringProgress::Given { by_new } => Ok(resume_given(alloc, state, by_new, &v)?),
+        StringProgress::CharCode { units, args, from } => {
+            Ok(resume_char_code(alloc, state, units, args, from, &v)?)
+        }
+        StringProgress::This { method, args } => Ok(resume_this(alloc, state, method, &args, &v)?),
+        StringProgress::Position { form, units } => {
+            Ok(resume_position(alloc, state, form, units, &v)?)
+        }
+        StringProgress::Joined { units, args, from } => {
+            Ok(resume_joined(alloc, state, units, args, from, &v)?)
+        }
+        StringProgress::Part {
+            search,
+            units,
+            position,
+        } => Ok(resume_part(alloc, state, search, units, position, &v)?),
+        StringProgress::Place {
+            search,
+            units,
+            part,
+        } => Ok(resume_place(state, search, &units, &part, &v)?),
+        StringProgress::Start { cut, units, end } => {
+            Ok(resume_start(alloc, state, cut, units, end, &v)?)
+        }
+        StringProgress::End { cut, units, start } => {
+            Ok(resume_end(alloc, state, cut, &units, start, &v)?)
+        }
+        StringProgress::Limit {
+            units,
+            array,
+            separator,
+        } => Ok(resume_limit(alloc, state, units, array, separator, &v)?),
+        StringProgress::Separator {
+            units,
+            array,
+            limit,
+        } => Ok(resume_separator(alloc, state, &units, array, limit, &v)?),
+    }
+}

@@ -1,0 +1,53 @@
+//! Strings that are no longer than one that there is.
+ghost use Rattle.std.specs.Prelude.{◌≡◌, ◌≤◌, ◌<◌, length, slice_range, IfOk};
+ghost use Rattle.jl_effects.specs.Effects.{Fail};
+ghost use Rattle.jl_meaning.specs.Parts.{Unsupported};
+ghost use Rattle.jl_state.specs.Rank.{rank_act};
+ghost use Rattle.jl_state.specs.Rest.{Works};
+ghost use Rattle.jl_state.specs.declared.state.State.{State as Machine};
+
+use jl_state::Act;
+use jl_text::{NoMemory, Text, TextFault};
+use jl_value::{Builtin, Fault};
+use std::alloc::Global;
+
+/// The string of these units.
+pub(crate) fn text_of_units(alloc: Global, units: &[u16]) -> Result<Text, NoMemory>
+    requires { length units.now ≤ 1048576 }
+    ensures { IfOk result (λ text. text ≡ units.now) }
+{
+    match Text::from_units(alloc, units) {
+        Ok(text) => Ok(text),
+        Err(TextFault::NoMemory) => Err(NoMemory),
+        Err(TextFault::TooLong) => unreachable!(),
+    }
+}
+
+/// The units from one place to the one before another; none where that isn't after the first.
+pub(crate) fn range_of(
+    alloc: Global,
+    units: &Text,
+    from: usize,
+    to: usize,
+) -> Result<Text, NoMemory>
+    requires { to ≤ length units.now }
+    ensures { IfOk result (λ text. text ≡ slice_range units.now from to) }
+{
+    if from < to {
+        return units.slice(alloc, from, to);
+    }
+    text_of_units(alloc, &[])
+}
+
+/// The fault of the builtin in a row.
+#[tactic(auto, unfolding(jl_value::specs::Builtins::builtin_names))]
+pub(crate) fn unsupported<'p>(row: u16) -> Act<'p>
+    requires { row < 102 }
+    ensures leads { (s : Machine) → Works s (Fail (Unsupported row)) s result }
+    ensures low { rank_act result ≤ 2 }
+{
+    match Builtin::at(row) {
+        Some(builtin) => Act::Fault(Fault::Unsupported(builtin)),
+        None => unreachable!(),
+    }
+}

@@ -1,0 +1,10 @@
+pub mod ArrayCalls
+pub mod Arrays
+pub mod Errors
+pub mod Functions
+pub mod Globals
+pub mod Numbers
+pub mod Objects
+pub mod Primitives
+pub mod Progress
+pub mod Strings
