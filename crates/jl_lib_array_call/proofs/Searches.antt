@@ -126,11 +126,12 @@ search_goes_on s t d o length x at k u a is took leads =
     subst (λ p. Works s p u a) (search_begins d o length x at k is)
     (took.works (element o k >>= search_with d o length x k) u a leads)
 
-pub search_spent : (s : State) (d : Direction) (o : ObjId) (length : ℕ) (x : Value) (at k : ℕ)
-    → index_at d at length ≡ Some k → RanOut s → Works s (search_from d o length x at) s act.Spent
-search_spent s d o length x at k is ran =
-    subst (λ p. Works s p s act.Spent) (search_begins d o length x at k is)
-    (ran.works (element o k >>= search_with d o length x k))
+pub search_spent : (s t : State) (d : Direction) (o : ObjId) (length : ℕ) (x : Value) (at k : ℕ)
+    → index_at d at length ≡ Some k → t ≡ s → RanOut s → Works s (search_from d o length x at) t act.Spent
+search_spent s t d o length x at k is same ran =
+    subst (λ (v : State). Works s (search_from d o length x at) v act.Spent) (sym same)
+    (subst (λ p. Works s p s act.Spent) (search_begins d o length x at k is)
+    (ran.works (element o k >>= search_with d o length x k)))
 
 pub search_misses : (s : State) (d : Direction) (o : ObjId) (length : ℕ) (x : Value) (k at : ℕ) (t : State) (a : Act)
     → at ≡ next_place d k → Works s (search_from d o length x at) t a → Works s (search_with d o length x k None) t a

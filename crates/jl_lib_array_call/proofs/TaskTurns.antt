@@ -201,11 +201,12 @@ module _ (s : State) (w : Walk) (u : State) (a : Act) where
       subst (λ c. Works s (add_chosen c a' to v >>= λ next. turns (task.Filter a' next) w (k + 1)) u a) (sym so ∙ is)
       (subst (λ n. Works s (turns (task.Filter a' to) w n) u a) place leads)
 
-pub turn_spent : (s : State) (w : Walk) (t : Task) (d : Direction) (at k : ℕ) → d ≡ direction_of t
-    → index_at d at w.length ≡ Some k → RanOut s → Works s (turns t w at) s act.Spent
-turn_spent s w t d at k is there ran =
-    subst (λ p. Works s p s act.Spent) (begins t w at k (subst (λ e. index_at e at w.length ≡ Some k) is there))
-    (ran.works (element w.object k >>= task_with t w k))
+pub turn_spent : (s v : State) (w : Walk) (t : Task) (d : Direction) (at k : ℕ) → d ≡ direction_of t
+    → index_at d at w.length ≡ Some k → v ≡ s → RanOut s → Works s (turns t w at) v act.Spent
+turn_spent s v w t d at k is there same ran =
+    subst (λ (x : State). Works s (turns t w at) x act.Spent) (sym same)
+    (subst (λ p. Works s p s act.Spent) (begins t w at k (subst (λ e. index_at e at w.length ≡ Some k) is there))
+    (ran.works (element w.object k >>= task_with t w k)))
 
 pub any_ends : (s : State) (w : Walk) (wanted : Bool) (k : ℕ) (v : Value) (b : Bool) → b ≡ truth_of v → b ≡ wanted
     → Works s (any_with wanted w k (Some v)) s (act.Give (value.Bool wanted))

@@ -34,6 +34,7 @@ pub(crate) fn begin_walk<'p>(
     ensures falls { IfOk result (λ act. Falls state.old 9 state.new act) }
 {
     let function = argument(alloc, args.items(), 0)?;
+    let this = argument(alloc, args.items(), 1)?;
     let answer = need_function(&mut state.store, &function)?;
     match answer {
         Answer::Throws(thrown) => Ok(Act::Complete(Completion::Throw(thrown))),
@@ -42,7 +43,7 @@ pub(crate) fn begin_walk<'p>(
                 object,
                 length,
                 function,
-                this: argument(alloc, args.items(), 1)?,
+                this,
             };
             Ok(begin_task(alloc, state, purpose, walk, args)?)
         }
@@ -142,7 +143,8 @@ fn visit<'p>(
     ensures falls { IfOk result (λ act. Falls state.old 24 state.new act) }
 {
     let object = walk.object;
-    if !has_index(alloc, &state.store, object, index)? {
+    let there = has_index(alloc, &state.store, object, index)?;
+    if !there {
         let at = next_place(direction_of(&task), index)?;
         return Ok(go_on_walking(state, walk, task, at)?);
     }

@@ -6,7 +6,7 @@ use Rattle.jl_builtin.proofs.Waits.{number_given}
 use Rattle.jl_lib_array_call.proofs.lengths.step_length_primitive.Goals as goal
 
 pub returns-clause-leads : goal.returns-clause-leads
-returns-clause-leads c = 
+returns-clause-leads c =
     number_given _ c.args.p.now _ _ (λ n. with_length c.args.purpose c.args.object c.args.args (uint32_of n)) _ _
     c.number_of_primitive.ensures c.in-Some.is
     (subst (λ m. Works c.args.state.now (with_length c.args.purpose c.args.object c.args.args m) _ _) c.length_of.ensures

@@ -7,7 +7,7 @@ use Rattle.jl_lib_array_call.proofs.Slices.{converts_start}
 use Rattle.jl_lib_array_call.proofs.slicing.slice.Goals as goal
 
 pub returns-clause-leads : goal.returns-clause-leads
-returns-clause-leads c = 
+returns-clause-leads c =
     converts_start _ _ c.args.object c.args.array c.args.length c.args.args.now _ _ _ _
     (c.in_ok-start.ensures ∙ ap (λ l. argument_of l 0) c.items.ensures)
     (c.in_ok-end.ensures ∙ ap (λ l. argument_of l 1) c.items-2.ensures)

@@ -7,7 +7,7 @@ use Rattle.jl_builtin.proofs.Waits.{number_given}
 use Rattle.jl_lib_array_call.proofs.slicing.step_slice_end.Goals as goal
 
 pub returns-clause-leads : goal.returns-clause-leads
-returns-clause-leads c = 
+returns-clause-leads c =
     number_given _ c.args.p.now _ _
     (λ n. copy_from c.args.object c.args.start c.args.array
     (relative_index (integer_of n) c.args.length - c.args.start) 0) _ _

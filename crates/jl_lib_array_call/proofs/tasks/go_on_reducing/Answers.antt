@@ -1,0 +1,7 @@
+use Rattle.jl_progress.specs.ArrayCalls.{walk_of}
+use Rattle.jl_lib_array_call.proofs.Answering.{place_is}
+use Rattle.jl_lib_array_call.proofs.tasks.go_on_reducing.Goals as goal
+
+pub returns-clause-leads : goal.returns-clause-leads
+returns-clause-leads c =
+    place_is _ (walk_of c.args.walk) _ _ _ _ _ c.in_ok-at.ensures c.in_ok-go_on_walking.ensures.leads
