@@ -1,6 +1,7 @@
 pub mod Answering
 pub mod CalledRows
 pub mod NewArrays
+pub mod Resuming
 pub mod Searches
 pub mod Slices
 pub mod TaskTurns

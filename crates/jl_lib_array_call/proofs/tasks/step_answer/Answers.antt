@@ -1,4 +1,5 @@
 use Rattle.jl_progress.specs.ArrayCalls.{walk_of}
+use Rattle.jl_progress.specs.declared.array_call.Task.TheVariants as task
 use Rattle.jl_lib_array_call.proofs.Answering.{after_is, place_is}
 use Rattle.jl_lib_array_call.proofs.tasks.step_answer.Goals as goal
 
@@ -9,7 +10,7 @@ returns-in-Any-clause-leads c =
 pub returns-in-ForEach-clause-leads : goal.returns-in-ForEach-clause-leads
 returns-in-ForEach-clause-leads c =
     after_is _ (walk_of c.args.walk) _ _ c.args.task _ c.args.index c.args.element c.args.v c.in-ForEach.is
-    (place_is _ (walk_of c.args.walk) _ _ _ _ _ c.in_ok-next_index-in-ForEach.ensures
+    (place_is _ (walk_of c.args.walk) _ _ task.ForEach _ _ c.in_ok-next_index-in-ForEach.ensures
     c.in_ok-go_on_walking-in-ForEach.ensures.leads)
 
 pub returns-in-Map-clause-leads : goal.returns-in-Map-clause-leads
