@@ -1,5 +1,5 @@
 -- What is done with an element, and with what the function gives for it.
-use Rattle.std.proofs.Common.{◌≡◌, ◌+◌, ◌++◌, ◌∙◌, ◌∷◌, [], ap, append_assoc, codes, false, refl, subst, sym, true, ℕ}
+use Rattle.std.proofs.Common.{◌≡◌, ◌++◌, ◌∙◌, ◌∷◌, [], ap, append_assoc, codes, false, refl, subst, sym, true, ℕ}
 use Rattle.std.proofs.Common.{Bool, List, None, Option, Some}
 use Rattle.std.specs.Prelude.{not}
 use Rattle.jl_value.specs.declared.error_kind.ErrorKind.TheVariants.{TypeError}

@@ -1,5 +1,5 @@
 -- How walks through elements begin.
-use Rattle.std.proofs.Common.{◌≡◌, pos, refl, subst, sym, List, Option, Some, ℕ}
+use Rattle.std.proofs.Common.{◌≡◌, pos, subst, sym, List, Option, Some, ℕ}
 use Rattle.std.specs.Prelude.{slice_get}
 use Rattle.jl_num.specs.Number.{Number}
 use Rattle.jl_value.specs.declared.ending.Completion.TheVariants as completion
@@ -34,24 +34,24 @@ use Rattle.jl_builtin.proofs.Ends.{answer_given, answer_thrown}
 
 -- the function is there, and its `this`, or the argument is none
 module _ (s t : State) (stored : IsStored s t) (purpose : WalkFor) (o : ObjId) (length : ℕ) (args : List Value)
-    (g : Value) (given : g ≡ argument_of args 0) (answer : Answer ObjId)
-    (comes : Comes (need_function g) s.store t.store (answered answer)) where
+    (answer : Answer ObjId) (comes : Comes (need_function (argument_of args 0)) s.store t.store (answered answer)) where
   abbrev begun : (this : Value) → ObjId → Algorithm Value
   begun this f = begin_walk purpose (record { object = o; length = length; function = f; this = this }) args
-
-  needed : Comes (need_function (argument_of args 0)) s.store t.store (answered answer)
-  needed = subst (λ v. Comes (need_function v) s.store t.store (answered answer)) given comes
 
   pub function_given : (f : ObjId) (this : Value) (u : State) (a : Act) → answer ≡ Gives f → this ≡ argument_of args 1
       → Works t (begun this f) u a → Works s (with_length (length_for.Walk purpose) o args length) u a
   function_given f this u a is this_is leads =
-      answer_given s t stored (need_function (argument_of args 0)) (begun (argument_of args 1)) answer needed f u a is
+      answer_given s t stored (need_function (argument_of args 0)) (begun (argument_of args 1)) answer comes f u a is
       (subst (λ v. Works t (begun v f) u a) this_is leads)
 
   pub no_function : (v : Value) → answer ≡ Throws v
       → Works s (with_length (length_for.Walk purpose) o args length) t (act.Complete (completion.Throw v))
   no_function v is =
-      answer_thrown s t stored (need_function (argument_of args 0)) (begun (argument_of args 1)) answer needed v is
+      answer_thrown s t stored (need_function (argument_of args 0)) (begun (argument_of args 1)) answer comes v is
+
+pub needed : (s t : Store) (args : List Value) (v : Value) (end : Finish AlgorithmFault (parts.Answer ObjId))
+    → v ≡ argument_of args 0 → Comes (need_function v) s t end → Comes (need_function (argument_of args 0)) s t end
+needed s t args v end is comes = subst (λ w. Comes (need_function w) s t end) is comes
 
 -- what a length is asked for, and what a walk is for
 

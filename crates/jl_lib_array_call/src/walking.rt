@@ -3,9 +3,12 @@
 ghost use Rattle.std.specs.Prelude.{◌≡◌, [], pos, IfOk, Some};
 ghost use Rattle.jl_meaning.specs.Parts.{◌>>=◌ as ◌then◌};
 ghost use Rattle.jl_meaning.specs.builtins.Elements.{element};
-ghost use Rattle.jl_progress.specs.ArrayCalls.{begin_walk, task_with, turns, walk_of, with_length};
+ghost use Rattle.jl_meaning.specs.builtins.Arguments.{need_function};
+ghost use Rattle.jl_progress.specs.ArrayCalls.{argument_of, begin_walk, task_with, turns, walk_of, with_length};
 ghost use Rattle.jl_state.specs.Rank.{Falls};
 ghost use Rattle.jl_state.specs.Rest.{Works};
+ghost use Rattle.jl_store.specs.Answers.{answered};
+ghost use Rattle.jl_store.specs.Comes.{Comes};
 
 use crate::arguments::second;
 use crate::arrays::array_of_length;
@@ -15,7 +18,7 @@ use jl_builtin::{argument, fault_of, get_index, has_index, need_function};
 use jl_num::Num;
 use jl_progress::{ArrayCallProgress, LengthFor, Progress, Task, Walk, WalkFor};
 use jl_state::{Act, AlgorithmFrame, State};
-use jl_store::{Answer, Finished};
+use jl_store::{Answer, Finished, Store};
 use jl_text::{List, NoMemory};
 use jl_value::{Completion, ObjId, Value};
 use std::alloc::Global;
@@ -33,12 +36,11 @@ pub(crate) fn begin_walk<'p>(
         (with_length (LengthFor.Walk purpose) object args.now length) state.new act) }
     ensures falls { IfOk result (λ act. Falls state.old 9 state.new act) }
 {
-    let function = argument(alloc, args.items(), 0)?;
-    let this = argument(alloc, args.items(), 1)?;
-    let answer = need_function(&mut state.store, &function)?;
+    let answer = function_in(alloc, &mut state.store, args)?;
     match answer {
         Answer::Throws(thrown) => Ok(Act::Complete(Completion::Throw(thrown))),
         Answer::Gives(function) => {
+            let this = argument(alloc, args.items(), 1)?;
             let walk = Walk {
                 object,
                 length,
@@ -48,6 +50,20 @@ pub(crate) fn begin_walk<'p>(
             Ok(begin_task(alloc, state, purpose, walk, args)?)
         }
     }
+}
+
+/// The function that the first argument is (15.4.4.16, step 4).
+fn function_in(
+    alloc: Global,
+    store: &mut Store,
+    args: &List<Value>,
+) -> Result<Answer<ObjId>, NoMemory>
+    ensures { IfOk result (λ answer. Comes (need_function (argument_of args.now 0)) store.old store.new
+        (answered answer)) }
+{
+    let v = argument(alloc, args.items(), 0)?;
+    let answer = need_function(store, &v)?;
+    Ok(answer)
 }
 
 /// What a walk is for begins, and the turns follow.

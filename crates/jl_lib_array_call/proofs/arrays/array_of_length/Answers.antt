@@ -7,7 +7,8 @@ define_own_property-requires-clause-one_kind c =
 
 pub define_own_property-requires-clause-primitive : goal.define_own_property-requires-clause-primitive
 define_own_property-requires-clause-primitive c =
-    number_given _ _ _ c.args.length _ c.value_change-change.ensures
+    number_given c.new_array.new.self.heap c.in_ok-array.array.0 c.in_ok-name.name c.args.length _
+    c.value_change-change.ensures
 
 pub returns-in-Gives : goal.returns-in-Gives
 returns-in-Gives c =

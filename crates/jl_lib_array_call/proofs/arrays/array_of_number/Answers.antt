@@ -23,8 +23,8 @@ returns-in-Throws-clause-leads c =
     (end_thrown c.args.state.now (record c.args.state.now { store = c.array_of_length.new.store }) refl
     (array_of_length (value.Num c.args.n)) give_object _ c.in_ok-answer.ensures _ c.in-Throws.is)
 
-pub returns-clause-leads : goal.returns-clause-leads
-returns-clause-leads c =
+pub returns-in-Fails-clause-leads : goal.returns-in-Fails-clause-leads
+returns-in-Fails-clause-leads c =
     fits_length _ c.args.n _ c.is_length.ensures _ _ c.if-not-is_length.false
     (end_failed c.args.state.now (record c.args.state.now { store = c.array_of_length.new.store }) refl
     (array_of_length (value.Num c.args.n)) give_object _ c.in_ok-answer.ensures _ _ c.in-Fails.is c.fault_of.ensures)

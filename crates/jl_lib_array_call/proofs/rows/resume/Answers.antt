@@ -2,12 +2,12 @@ use Rattle.std.proofs.Common.{arith}
 use Rattle.jl_lib_array_call.proofs.Resuming.{falls_resumed, resumes}
 use Rattle.jl_lib_array_call.proofs.rows.resume.Goals as goal
 
-pub returns-in_ok-step_length-in-Length-clause-leads : goal.returns-in_ok-step_length-in-Length-clause-leads
-returns-in_ok-step_length-in-Length-clause-leads c =
+pub returns-in-Length-clause-leads : goal.returns-in-Length-clause-leads
+returns-in-Length-clause-leads c =
     resumes _ _ _ c.args.progress _ c.in-Length.is c.args.v c.in_ok-step_length-in-Length.ensures.leads
 
-pub returns-in_ok-step_length-in-Length-clause-falls : goal.returns-in_ok-step_length-in-Length-clause-falls
-returns-in_ok-step_length-in-Length-clause-falls c =
+pub returns-in-Length-clause-falls : goal.returns-in-Length-clause-falls
+returns-in-Length-clause-falls c =
     falls_resumed _ _ _ c.args.progress _ c.in-Length.is _ (omega arith) c.in_ok-step_length-in-Length.ensures.falls
 
 pub returns-in-LengthPrimitive-clause-leads : goal.returns-in-LengthPrimitive-clause-leads
@@ -42,12 +42,12 @@ pub returns-in-CopyTurn-clause-falls : goal.returns-in-CopyTurn-clause-falls
 returns-in-CopyTurn-clause-falls c =
     falls_resumed _ _ _ c.args.progress _ c.in-CopyTurn.is _ (omega arith) c.in_ok-copy_turn-in-CopyTurn.ensures.falls
 
-pub returns-in_ok-step_copy_element-in-CopyElement-clause-leads : goal.returns-in_ok-step_copy_element-in-CopyElement-clause-leads
-returns-in_ok-step_copy_element-in-CopyElement-clause-leads c =
+pub returns-in-CopyElement-clause-leads : goal.returns-in-CopyElement-clause-leads
+returns-in-CopyElement-clause-leads c =
     resumes _ _ _ c.args.progress _ c.in-CopyElement.is c.args.v c.in_ok-step_copy_element-in-CopyElement.ensures.leads
 
-pub returns-in_ok-step_copy_element-in-CopyElement-clause-falls : goal.returns-in_ok-step_copy_element-in-CopyElement-clause-falls
-returns-in_ok-step_copy_element-in-CopyElement-clause-falls c =
+pub returns-in-CopyElement-clause-falls : goal.returns-in-CopyElement-clause-falls
+returns-in-CopyElement-clause-falls c =
     falls_resumed _ _ _ c.args.progress _ c.in-CopyElement.is _ (omega arith) c.in_ok-step_copy_element-in-CopyElement.ensures.falls
 
 pub returns-in-SearchFrom-clause-leads : goal.returns-in-SearchFrom-clause-leads
@@ -82,18 +82,18 @@ pub returns-in-Turn-clause-falls : goal.returns-in-Turn-clause-falls
 returns-in-Turn-clause-falls c =
     falls_resumed _ _ _ c.args.progress _ c.in-Turn.is _ (omega arith) c.in_ok-turn-in-Turn.ensures.falls
 
-pub returns-in_ok-step_element-in-Element-clause-leads : goal.returns-in_ok-step_element-in-Element-clause-leads
-returns-in_ok-step_element-in-Element-clause-leads c =
+pub returns-in-Element-clause-leads : goal.returns-in-Element-clause-leads
+returns-in-Element-clause-leads c =
     resumes _ _ _ c.args.progress _ c.in-Element.is c.args.v c.in_ok-step_element-in-Element.ensures.leads
 
-pub returns-in_ok-step_element-in-Element-clause-falls : goal.returns-in_ok-step_element-in-Element-clause-falls
-returns-in_ok-step_element-in-Element-clause-falls c =
+pub returns-in-Element-clause-falls : goal.returns-in-Element-clause-falls
+returns-in-Element-clause-falls c =
     falls_resumed _ _ _ c.args.progress _ c.in-Element.is _ (omega arith) c.in_ok-step_element-in-Element.ensures.falls
 
-pub returns-in_ok-step_answer-in-Answer-clause-leads : goal.returns-in_ok-step_answer-in-Answer-clause-leads
-returns-in_ok-step_answer-in-Answer-clause-leads c =
+pub returns-clause-leads : goal.returns-clause-leads
+returns-clause-leads c =
     resumes _ _ _ c.args.progress _ c.in-Answer.is c.args.v c.in_ok-step_answer-in-Answer.ensures.leads
 
-pub returns-in_ok-step_answer-in-Answer-clause-falls : goal.returns-in_ok-step_answer-in-Answer-clause-falls
-returns-in_ok-step_answer-in-Answer-clause-falls c =
+pub returns-clause-falls : goal.returns-clause-falls
+returns-clause-falls c =
     falls_resumed _ _ _ c.args.progress _ c.in-Answer.is _ (omega arith) c.in_ok-step_answer-in-Answer.ensures.falls

@@ -14,13 +14,13 @@ returns-then-length-eq0-clause-leads c =
 pub returns-in_default-clause-leads : goal.returns-in_default-clause-leads
 returns-in_default-clause-leads c =
     searches_all _ c.args.direction c.args.object c.args.length c.args.args.now _ _ _ _ c.if-length-eq0.false
-    (sym c.in_ok-second.ensures ∙ c.in_default.is) (c.in_ok-sought.ensures ∙ ap (λ l. argument_of l 0) c.items.ensures)
+    (sym c.in_ok-from.ensures ∙ c.in_default.is) (c.in_ok-sought.ensures ∙ ap (λ l. argument_of l 0) c.items.ensures)
     c.first_place-at.ensures c.in_ok-go_on_searching.ensures.leads
 
 pub returns-clause-leads : goal.returns-clause-leads
 returns-clause-leads c =
     searches_from _ c.args.direction c.args.object c.args.length c.args.args.now _ _ _ _ c.if-length-eq0.false
-    (sym c.in_ok-second.ensures ∙ c.in-Some.is) (c.in_ok-sought.ensures ∙ ap (λ l. argument_of l 0) c.items.ensures)
+    (sym c.in_ok-from.ensures ∙ c.in-Some.is) (c.in_ok-sought.ensures ∙ ap (λ l. argument_of l 0) c.items.ensures)
     (integer_waits _ _
     (progress.ArrayCall (array_call.SearchFrom c.args.object c.args.length c.in_ok-sought.sought c.args.direction))
     (λ z. search_from c.args.direction c.args.object c.args.length c.in_ok-sought.sought

@@ -18,12 +18,12 @@ returns-in-Gives-clause-leads c =
     (to_object c.args.call.this) (λ o. new_array >>= λ a. get_length o >>= with_length (length_for.Slice a) o c.args.call.args)
     _ c.in_ok-answer.ensures _ _ _ c.in-Gives.is
     (works_comes (record c.args.state.now { store = c.to_object.new.self })
-    (record c.args.state.now { store = c.new_array.new.self }) refl new_array c.in_ok-array.array
+    (record c.args.state.now { store = c.new_array.new.self }) refl new_array c.in_ok-array-in-Gives.array
     (λ a. get_length c.in-Gives.object >>= with_length (length_for.Slice a) c.in-Gives.object c.args.call.args)
-    _ _ c.in_ok-array.ensures c.in_ok-get_length-in-Gives.ensures.leads))
+    _ _ c.in_ok-array-in-Gives.ensures c.in_ok-get_length-in-Gives.ensures.leads))
 
-pub returns-in-Throws-clause-leads : goal.returns-in-Throws-clause-leads
-returns-in-Throws-clause-leads c =
+pub returns-clause-leads : goal.returns-in-Throws-clause-leads
+returns-clause-leads c =
     slice_begins _ (call_of c.args.call) _ _
     (answer_thrown c.args.state.now (record c.args.state.now { store = c.to_object.new.self }) refl
     (to_object c.args.call.this) (λ o. new_array >>= λ a. get_length o >>= with_length (length_for.Slice a) o c.args.call.args)

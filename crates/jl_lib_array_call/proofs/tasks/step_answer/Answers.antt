@@ -21,6 +21,6 @@ pub returns-in-Filter-clause-leads : goal.returns-in-Filter-clause-leads
 returns-in-Filter-clause-leads c =
     after_is _ (walk_of c.args.walk) _ _ c.args.task _ c.args.index c.args.element c.args.v c.in-Filter.is c.in_ok-answer_filter-in-Filter.ensures.leads
 
-pub returns-in-Reduce-clause-leads : goal.returns-in-Reduce-clause-leads
-returns-in-Reduce-clause-leads c =
+pub returns-clause-leads : goal.returns-clause-leads
+returns-clause-leads c =
     after_is _ (walk_of c.args.walk) _ _ c.args.task _ c.args.index c.args.element c.args.v c.in-Reduce.is c.in_ok-go_on_reducing-in-Reduce.ensures.leads

@@ -22,5 +22,5 @@ returns-in_ok-begin_filter-in-Filter-clause-leads c =
 
 pub returns-in_ok-go_on_walking-in-Reduce-clause-leads : goal.returns-in_ok-go_on_walking-in-Reduce-clause-leads
 returns-in_ok-go_on_walking-in-Reduce-clause-leads c =
-    reduces _ _ _ c.args.purpose _ (walk_of c.args.walk) c.args.args.now _ _ c.in-Reduce.is c.in_ok-so_far.ensures
+    reduces _ _ _ c.args.purpose _ (walk_of c.args.walk) c.args.args.now _ _ c.in-Reduce.is c.in_ok-so_far-in-Reduce.ensures
     c.first_place-at.ensures c.in_ok-go_on_walking-in-Reduce.ensures.leads

@@ -5,13 +5,11 @@ use Rattle.jl_lib_array_call.proofs.walking.begin_walk.Goals as goal
 
 pub returns-in-Throws-clause-leads : goal.returns-in-Throws-clause-leads
 returns-in-Throws-clause-leads c =
-    no_function c.args.state.now (record c.args.state.now { store = c.need_function.new.store }) refl c.args.purpose
-    c.args.object c.args.length c.args.args.now _ (c.in_ok-function.ensures ∙ ap (λ l. argument_of l 0) c.items.ensures) _
-    c.in_ok-answer.ensures _ c.in-Throws.is
+    no_function c.args.state.now (record c.args.state.now { store = c.function_in.new.store }) refl c.args.purpose
+    c.args.object c.args.length c.args.args.now _ c.in_ok-answer.ensures _ c.in-Throws.is
 
-pub returns-in-Gives-clause-leads : goal.returns-in-Gives-clause-leads
-returns-in-Gives-clause-leads c =
-    function_given c.args.state.now (record c.args.state.now { store = c.need_function.new.store }) refl c.args.purpose
-    c.args.object c.args.length c.args.args.now _ (c.in_ok-function.ensures ∙ ap (λ l. argument_of l 0) c.items.ensures) _
-    c.in_ok-answer.ensures _ _ _ _ c.in-Gives.is
-    (c.in_ok-this.ensures ∙ ap (λ l. argument_of l 1) c.items-2.ensures) c.in_ok-begin_task-in-Gives.ensures.leads
+pub returns-in_ok-begin_task-in-Gives-clause-leads : goal.returns-in_ok-begin_task-in-Gives-clause-leads
+returns-in_ok-begin_task-in-Gives-clause-leads c =
+    function_given c.args.state.now (record c.args.state.now { store = c.function_in.new.store }) refl c.args.purpose
+    c.args.object c.args.length c.args.args.now _ c.in_ok-answer.ensures _ _ _ _ c.in-Gives.is
+    (c.in_ok-this-in-Gives.ensures ∙ ap (λ l. argument_of l 1) c.items.ensures) c.in_ok-begin_task-in-Gives.ensures.leads
