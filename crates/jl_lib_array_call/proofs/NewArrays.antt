@@ -3,7 +3,6 @@ use Rattle.std.proofs.Common.{◌≡◌, ◌<◌, ◌+◌, ◌∙◌, ◌∷◌,
 use Rattle.std.proofs.Common.{add-one, drop-cons, true, Bool, List, None, Option, Some, ℕ}
 use Rattle.std.specs.Option.{option_map_or}
 use Rattle.std.specs.Prelude.{if◌then◌else◌}
-use Rattle.std.specs.Str.{bytes_eq}
 use Rattle.jl_num.specs.Bits.{uint32_of}
 use Rattle.jl_num.specs.Number.{Number}
 use Rattle.jl_value.specs.Same.{same_number}
@@ -20,7 +19,7 @@ use Rattle.jl_heap.specs.declared.property.Change.{Change}
 use Rattle.jl_effects.specs.Running.{Ends, Fails}
 use Rattle.jl_meaning.specs.Defining.{define_own_property, value_change}
 use Rattle.jl_meaning.specs.Errors.{throw_error}
-use Rattle.jl_meaning.specs.Parts.{fault_of, give, gives, throws, ◌>>=◌, Algorithm, Call}
+use Rattle.jl_meaning.specs.Parts.{give, gives, throws, ◌>>=◌, Algorithm, Call}
 use Rattle.jl_meaning.specs.Relations.{give_truth}
 use Rattle.jl_meaning.specs.Store.{Store}
 use Rattle.jl_meaning.specs.builtins.Array.{add_all, array_by, array_is_array, array_of_one, array_of_values}

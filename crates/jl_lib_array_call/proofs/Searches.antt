@@ -1,7 +1,7 @@
 -- indexOf and lastIndexOf: where they begin, and their turns.
-use Rattle.std.proofs.Common.{◌≡◌, ◌≤◌, ◌<◌, ◌+◌, ◌-◌, ◌∙◌, ap, arith, false, pos, refl, subst, suc, sym, true, zero}
-use Rattle.std.proofs.Common.{Bool, List, None, Option, Some, ℕ, ℤ}
-use Rattle.std.specs.Prelude.{if◌then◌else◌, min, slice_get}
+use Rattle.std.proofs.Common.{◌≡◌, ◌+◌, ◌-◌, ◌∙◌, ap, arith, false, refl, subst, suc, sym, true, zero}
+use Rattle.std.proofs.Common.{Bool, List, None, Option, Some, ℕ}
+use Rattle.std.specs.Prelude.{if◌then◌else◌, slice_get}
 use Rattle.jl_value.specs.declared.object.ObjId.{ObjId}
 use Rattle.jl_value.specs.declared.value.Value.{Value}
 use Rattle.jl_value.specs.declared.value.Value.TheVariants as value

@@ -1,6 +1,6 @@
 -- slice: its turns, and where they begin and end.
-use Rattle.std.proofs.Common.{◌≡◌, ◌≤◌, ◌<◌, ◌+◌, ◌-◌, ◌∙◌, ap, arith, false, pos, refl, subst, suc, sym, true, zero}
-use Rattle.std.proofs.Common.{Bool, List, None, Option, Some, ℕ, ℤ}
+use Rattle.std.proofs.Common.{◌≡◌, ◌≤◌, ◌<◌, ◌+◌, ◌-◌, ◌∙◌, ap, arith, false, refl, subst, suc, sym, true}
+use Rattle.std.proofs.Common.{Bool, List, Option, ℕ}
 use Rattle.std.specs.Prelude.{min}
 use mathlib.Core.Path.{fun_ext}
 use Rattle.jl_value.specs.declared.object.ObjId.{ObjId}

@@ -1,7 +1,7 @@
 -- Tasks of walks through elements, turn by turn.
 use Rattle.std.proofs.Common.{◌≡◌, ◌+◌, ◌-◌, ◌∙◌, ◌∷◌, [], ap, false, refl, subst, suc, sym, true, zero, ℕ}
 use Rattle.std.proofs.Common.{Bool, None, Option, Some}
-use Rattle.std.specs.Prelude.{if◌then◌else◌, is_some, nat_eq, not}
+use Rattle.std.specs.Prelude.{if◌then◌else◌, is_some, not}
 use Rattle.jl_value.specs.declared.object.ObjId.{ObjId}
 use Rattle.jl_value.specs.declared.value.Value.{Value}
 use Rattle.jl_value.specs.declared.value.Value.TheVariants as value

@@ -1,12 +1,11 @@
 -- Turns of loops over elements: the one that begins at a place, and those that follow.
-use Rattle.std.proofs.Common.{◌≡◌, ◌≤◌, ◌<◌, ◌+◌, ◌-◌, ◌∙◌, ap, arith, false, length, refl, subst, suc, sym, true, zero}
+use Rattle.std.proofs.Common.{◌≡◌, ◌+◌, ◌-◌, ◌∙◌, ap, arith, false, length, refl, suc, sym, true, zero}
 use Rattle.std.proofs.Common.{Bool, None, Option, Some, ℕ}
 use Rattle.std.proofs.lemmas.Bool.Decides.{nat_tests}
-use Rattle.std.specs.Prelude.{if◌then◌else◌, is_some, nat_lt}
-use Rattle.jl_value.specs.declared.object.ObjId.{ObjId}
+use Rattle.std.specs.Prelude.{if◌then◌else◌, nat_lt}
 use Rattle.jl_value.specs.declared.value.Value.{Value}
 use Rattle.jl_effects.specs.Effects.{Step}
-use Rattle.jl_meaning.specs.Parts.{give, ◌>>=◌, Algorithm}
+use Rattle.jl_meaning.specs.Parts.{◌>>=◌, Algorithm}
 use Rattle.jl_meaning.specs.builtins.Turns.{downward, first_downward, first_upward, or_next, upward}
 use Rattle.jl_algorithm.proofs.Chains.{bind_assoc}
 use Rattle.jl_lib_array_call.specs.inner.Places.{index_below}
