@@ -6,8 +6,6 @@ use Rattle.std.specs.Prelude.{if◌then◌else◌}
 use Rattle.jl_num.specs.Bits.{uint32_of}
 use Rattle.jl_num.specs.Number.{Number}
 use Rattle.jl_value.specs.Same.{same_number}
-use Rattle.jl_value.specs.declared.ending.Completion.TheVariants as completion
-use Rattle.jl_value.specs.declared.ending.Fault.{Fault}
 use Rattle.jl_value.specs.declared.error_kind.ErrorKind.TheVariants.{RangeError}
 use Rattle.jl_value.specs.declared.object.ObjId.{ObjId}
 use Rattle.jl_value.specs.declared.value.Value.{Value}

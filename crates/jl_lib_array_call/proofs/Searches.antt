@@ -4,7 +4,6 @@ use Rattle.std.proofs.Common.{Bool, List, None, Option, Some, ℕ}
 use Rattle.std.specs.Prelude.{if◌then◌else◌, slice_get}
 use Rattle.jl_value.specs.declared.object.ObjId.{ObjId}
 use Rattle.jl_value.specs.declared.value.Value.{Value}
-use Rattle.jl_value.specs.declared.value.Value.TheVariants as value
 use Rattle.jl_conv.specs.Comparisons.{strictly_equal}
 use Rattle.jl_effects.specs.Effects.{Step}
 use Rattle.jl_meaning.specs.Conversions.{to_integer}

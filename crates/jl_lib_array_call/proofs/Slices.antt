@@ -8,7 +8,7 @@ use Rattle.jl_value.specs.declared.value.Value.{Value}
 use Rattle.jl_value.specs.declared.value.Value.TheVariants as value
 use Rattle.jl_effects.specs.Effects.{Step}
 use Rattle.jl_meaning.specs.Conversions.{number_hint, to_integer, to_object, to_primitive}
-use Rattle.jl_meaning.specs.Parts.{give, ◌>>=◌, Algorithm, Call}
+use Rattle.jl_meaning.specs.Parts.{◌>>=◌, Algorithm, Call}
 use Rattle.jl_meaning.specs.builtins.Arguments.{give_object}
 use Rattle.jl_meaning.specs.builtins.Array.{array_slice}
 use Rattle.jl_meaning.specs.builtins.Elements.{add_if, copy_element, element, get_index, get_length, has_index}

@@ -15,7 +15,7 @@ use Rattle.jl_meaning.specs.builtins.ArrayCallbacks.{add_chosen, ask_turn, asked
 use Rattle.jl_meaning.specs.builtins.ArrayCallbacks.{combined, ends_at, filter_turn, for_each_turn, give_combined, map_turn}
 use Rattle.jl_meaning.specs.builtins.ArrayCallbacks.{reduce_turn, Walk}
 use Rattle.jl_meaning.specs.builtins.Elements.{add_if, add_index, element}
-use Rattle.jl_meaning.specs.builtins.Turns.{downward, first_upward, or_next, upward}
+use Rattle.jl_meaning.specs.builtins.Turns.{first_upward, or_next, upward}
 use Rattle.jl_progress.specs.ArrayCalls.{any_truth, any_with, next_place, task_after, task_with, turns}
 use Rattle.jl_progress.specs.declared.array_call.Direction.{Direction}
 use Rattle.jl_progress.specs.declared.array_call.Direction.TheVariants as direction

@@ -1,5 +1,5 @@
 -- Which turns there are.
-use Rattle.std.specs.Prelude.{if◌then◌else◌, nat_lt, suc, zero, ◌-◌, None, Option, Some, ℕ}
+use Rattle.std.specs.Prelude.{if◌then◌else◌, nat_lt, suc, zero, None, Option, Some, ℕ}
 use Rattle.jl_progress.specs.declared.array_call.Direction.{Direction}
 use Rattle.jl_progress.specs.declared.array_call.Direction.TheVariants as direction
 use Rattle.jl_progress.specs.declared.array_call.Task.{Task}

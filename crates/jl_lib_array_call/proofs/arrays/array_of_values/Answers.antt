@@ -21,7 +21,7 @@ returns-in-Throws-clause-leads c =
     (end_thrown (record c.args.state.now { store = c.new_array.new.self }) (record c.args.state.now { store = c.add_all.new.store })
     refl (add_all c.in_ok-array.array 0 c.args.values.now) (λ _. give_object c.in_ok-array.array) _ c.in_ok-answer.ensures _ c.in-Throws.is)
 
-pub returns-in-Fails-clause-leads : goal.returns-clause-leads
+pub returns-in-Fails-clause-leads : goal.returns-in-Fails-clause-leads
 returns-in-Fails-clause-leads c =
     works_comes c.args.state.now (record c.args.state.now { store = c.new_array.new.self }) refl new_array c.in_ok-array.array
     (λ a. add_all a 0 c.args.values.now >>= λ _. give_object a) _ _ c.in_ok-array.ensures

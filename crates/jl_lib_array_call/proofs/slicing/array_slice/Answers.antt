@@ -22,7 +22,7 @@ returns-in-Gives-clause-leads c =
     (λ a. get_length c.in-Gives.object >>= with_length (length_for.Slice a) c.in-Gives.object c.args.call.args)
     _ _ c.in_ok-array-in-Gives.ensures c.in_ok-get_length-in-Gives.ensures.leads))
 
-pub returns-clause-leads : goal.returns-in-Throws-clause-leads
+pub returns-clause-leads : goal.returns-clause-leads
 returns-clause-leads c =
     slice_begins _ (call_of c.args.call) _ _
     (answer_thrown c.args.state.now (record c.args.state.now { store = c.to_object.new.self }) refl

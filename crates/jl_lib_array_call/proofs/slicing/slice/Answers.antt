@@ -1,8 +1,5 @@
-use Rattle.std.proofs.Common.{ap, refl, subst, ◌∙◌}
-use Rattle.jl_meaning.specs.builtins.Elements.{relative_index}
-use Rattle.jl_progress.specs.ArrayCalls.{argument_of, slice_to}
-use Rattle.jl_progress.specs.declared.array_call.ArrayCallProgress.TheVariants as array_call
-use Rattle.jl_progress.specs.declared.progress.Progress.TheVariants as progress
+use Rattle.std.proofs.Common.{ap, ◌∙◌}
+use Rattle.jl_progress.specs.ArrayCalls.{argument_of}
 use Rattle.jl_lib_array_call.proofs.Slices.{converts_start}
 use Rattle.jl_lib_array_call.proofs.slicing.slice.Goals as goal
 
