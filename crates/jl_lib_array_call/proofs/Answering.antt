@@ -83,7 +83,8 @@ module _ (s : State) (t : Task) (so_far : Option Value) (d : Direction) (u : Sta
 pub calls_now : (s : State) (f : ObjId) (this v : Value) (args l : List Value) → this ≡ v → args ≡ l
     → Works s (call f v l) s (act.Call (record { callee = f; this = this; args = args; by_new = false }))
 calls_now s f this v args l this_is args_are =
-    subst (λ w. Works s (call f w l) s (act.Call (record { callee = f; this = this; args = args; by_new = false }))) this_is
+    subst (λ w. Works s (call f w l) s (act.Call (record { callee = f; this = this; args = args; by_new = false })))
+    this_is
     (subst (λ m. Works s (call f this m) s (act.Call (record { callee = f; this = this; args = args; by_new = false })))
     args_are (record { is = λ kept told. refl }))
 

@@ -1,5 +1,6 @@
 -- Arrays that are made.
-use Rattle.std.proofs.Common.{◌≡◌, ◌<◌, ◌+◌, ◌∙◌, ◌∷◌, [], ap, arith, codes, drop, false, get_or, length, pos, refl, subst, suc, sym}
+use Rattle.std.proofs.Common.{◌≡◌, ◌<◌, ◌+◌, ◌∙◌, ◌∷◌, [], ap, arith, codes, drop, false, get_or, length, pos, refl}
+use Rattle.std.proofs.Common.{subst, suc, sym}
 use Rattle.std.proofs.Common.{add-one, drop-cons, true, Bool, List, None, Option, Some, ℕ}
 use Rattle.std.specs.Option.{option_map_or}
 use Rattle.std.specs.Prelude.{if◌then◌else◌}
@@ -46,7 +47,8 @@ use Rattle.jl_lib_array_call.specs.inner.Arrays.{number_in, only_number}
 
 number_alone : (args : List Value) (n : Number) → only_number args ≡ Some n → array_of_one (value.Num n) ≡ array_by args
 number_alone [] n is = absurd (let differ = is in cc)
-number_alone (value.Num m ∷ []) n is = let same : n ≡ m = (let e = is in cc) in ap (λ k. array_of_one (value.Num k)) same
+number_alone (value.Num m ∷ []) n is =
+    let same : n ≡ m = (let e = is in cc) in ap (λ k. array_of_one (value.Num k)) same
 number_alone (value.Undefined ∷ []) n is = absurd (let differ = is in cc)
 number_alone (value.Null ∷ []) n is = absurd (let differ = is in cc)
 number_alone (value.Bool b ∷ []) n is = absurd (let differ = is in cc)

@@ -11,7 +11,8 @@ use Rattle.jl_meaning.specs.Parts.{give, ◌>>=◌, Algorithm}
 use Rattle.jl_meaning.specs.builtins.Array.{integer_or, match_index, match_turn}
 use Rattle.jl_meaning.specs.builtins.Elements.{element, index_or_none}
 use Rattle.jl_meaning.specs.builtins.Turns.{first_downward, first_upward, or_next}
-use Rattle.jl_progress.specs.ArrayCalls.{argument_of, first_place, found_from, next_place, place_from, search, search_from}
+use Rattle.jl_progress.specs.ArrayCalls.{argument_of, first_place, found_from, next_place, place_from, search}
+use Rattle.jl_progress.specs.ArrayCalls.{search_from}
 use Rattle.jl_progress.specs.ArrayCalls.{search_with, usual_from}
 use Rattle.jl_progress.specs.declared.array_call.Direction.{Direction}
 use Rattle.jl_progress.specs.declared.array_call.Direction.TheVariants as direction
@@ -42,7 +43,8 @@ pub searches_all : (s : State) (d : Direction) (o : ObjId) (length : ℕ) (args 
 searches_all s d o zero args x at t a some none is place leads = absurd (some refl)
 searches_all s d o (suc n) args x at t a some none is place leads = with (slice_get args 1) none
   where
-    from_start : Works s (search_from d o (suc n) (argument_of args 0) (place_from d (usual_from d (suc n)) (suc n))) t a
+    from_start : Works s (search_from d o (suc n) (argument_of args 0)
+        (place_from d (usual_from d (suc n)) (suc n))) t a
     from_start =
         subst (λ k. Works s (search_from d o (suc n) (argument_of args 0) k) t a) (place ∙ sym (usual_place d n))
         (subst (λ y. Works s (search_from d o (suc n) y at) t a) is leads)
@@ -90,7 +92,8 @@ search_begins direction.Down o length x zero k is = absurd (let differ = is in c
 search_begins direction.Down o length x (suc n) k is = let same : n ≡ k = (let e = is in cc) in subst goal same here
   where
     goal : ℕ → Type 0
-    goal m = Step (element o m >>= search_with direction.Down o length x m) ≡ search_from direction.Down o length x (suc n)
+    goal m = Step (element o m >>= search_with direction.Down o length x m)
+        ≡ search_from direction.Down o length x (suc n)
 
     here : goal n
     here =

@@ -107,7 +107,8 @@ copy_spent s t o start a count at below same ran =
 abbrev pub copied_on : (o : ObjId) (start : ℕ) (a : ObjId) (count k : ℕ) → Option Value → Algorithm Value
 copied_on o start a count k v = add_if a k v >>= λ _. copy_from o start a count (k + 1)
 
-pub copy_misses : (s : State) (o : ObjId) (start from : ℕ) (a : ObjId) (count k : ℕ) (there : Bool) (u : State) (b : Act)
+pub copy_misses : (s : State) (o : ObjId) (start from : ℕ) (a : ObjId) (count k : ℕ) (there : Bool) (u : State)
+    (b : Act)
     → from ≡ start + k → there ≡ has_index s.store o from → there ≡ false
     → Works s (copy_from o start a count (k + 1)) u b
     → Works s (element o (start + k) >>= copied_on o start a count k) u b
@@ -130,17 +131,18 @@ abbrev sliced : (left : ℕ → ℕ) → Call → Algorithm Value
 sliced left c = do
   o ← to_object c.this
   a ← new_array
-  length ← get_length o
+  size ← get_length o
   start ← to_integer (argument_of c.args 0)
-  end ← to_end (argument_of c.args 1) length
-  _ ← upward (turn o (relative_index start length) a) (left (relative_index end length - relative_index start length)) 0 tt
+  end ← to_end (argument_of c.args 1) size
+  _ ← upward (turn o (relative_index start size) a) (left (relative_index end size - relative_index start size)) 0 tt
   give_object a
 
 all_left : (n : ℕ) → n - 0 ≡ n
 all_left n = omega arith
 
 pub slice_begins : (s : State) (c : Call) (t : State) (b : Act)
-    → Works s (to_object c.this >>= λ o. new_array >>= λ a. get_length o >>= with_length (length_for.Slice a) o c.args) t b
+    → Works s (to_object c.this >>= λ o. new_array >>= λ a. get_length o >>= with_length (length_for.Slice a) o c.args)
+    t b
     → Works s (array_slice c) t b
 slice_begins s c t b leads = subst (λ left. Works s (sliced left c) t b) (fun_ext all_left) leads
 
@@ -150,7 +152,8 @@ pub converts_start : (s u : State) (o a : ObjId) (length : ℕ) (args : List Val
     → AlgorithmWaits s (algorithm.Builtin (progress.ArrayCall (array_call.SliceStart o a length end))) u
     → Works u (to_primitive number_hint v) t b → Works s (with_length (length_for.Slice a) o args length) t b
 converts_start s u o a length args v end t b is kept waits leads =
-    subst (λ w. Works s (to_integer w >>= λ z. slice_to o a length (relative_index z length) (argument_of args 1)) t b) is
+    subst (λ w. Works s (to_integer w >>= λ z. slice_to o a length (relative_index z length) (argument_of args 1)) t b)
+    is
     (subst (λ e. Works s (to_integer v >>= λ z. slice_to o a length (relative_index z length) e) t b) kept
     (integer_waits s u (progress.ArrayCall (array_call.SliceStart o a length end))
     (λ z. slice_to o a length (relative_index z length) end) v t b (λ w. refl) waits leads))

@@ -1,5 +1,5 @@
-//! The functions that go through elements and call a function for each (15.4.4.16 to 15.4.4.22): how they begin, and their
-//! turns.
+//! The functions that go through elements and call a function for each (15.4.4.16 to 15.4.4.22): how they begin, and
+//! their turns.
 ghost use Rattle.std.specs.Prelude.{◌≡◌, [], pos, IfOk, Some};
 ghost use Rattle.jl_meaning.specs.Parts.{◌>>=◌ as ◌then◌};
 ghost use Rattle.jl_meaning.specs.builtins.Elements.{element};

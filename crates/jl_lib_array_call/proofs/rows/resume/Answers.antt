@@ -12,11 +12,13 @@ returns-in-Length-clause-falls c =
 
 pub returns-in-LengthPrimitive-clause-leads : goal.returns-in-LengthPrimitive-clause-leads
 returns-in-LengthPrimitive-clause-leads c =
-    resumes _ _ _ c.args.progress _ c.in-LengthPrimitive.is c.args.v c.in_ok-step_length_primitive-in-LengthPrimitive.ensures.leads
+    resumes _ _ _ c.args.progress _ c.in-LengthPrimitive.is c.args.v
+    c.in_ok-step_length_primitive-in-LengthPrimitive.ensures.leads
 
 pub returns-in-LengthPrimitive-clause-falls : goal.returns-in-LengthPrimitive-clause-falls
 returns-in-LengthPrimitive-clause-falls c =
-    falls_resumed _ _ _ c.args.progress _ c.in-LengthPrimitive.is _ (omega arith) c.in_ok-step_length_primitive-in-LengthPrimitive.ensures.falls
+    falls_resumed _ _ _ c.args.progress _ c.in-LengthPrimitive.is _ (omega arith)
+    c.in_ok-step_length_primitive-in-LengthPrimitive.ensures.falls
 
 pub returns-in-SliceStart-clause-leads : goal.returns-in-SliceStart-clause-leads
 returns-in-SliceStart-clause-leads c =
@@ -24,7 +26,8 @@ returns-in-SliceStart-clause-leads c =
 
 pub returns-in-SliceStart-clause-falls : goal.returns-in-SliceStart-clause-falls
 returns-in-SliceStart-clause-falls c =
-    falls_resumed _ _ _ c.args.progress _ c.in-SliceStart.is _ (omega arith) c.in_ok-step_slice_start-in-SliceStart.ensures.falls
+    falls_resumed _ _ _ c.args.progress _ c.in-SliceStart.is _ (omega arith)
+    c.in_ok-step_slice_start-in-SliceStart.ensures.falls
 
 pub returns-in-SliceEnd-clause-leads : goal.returns-in-SliceEnd-clause-leads
 returns-in-SliceEnd-clause-leads c =
@@ -32,7 +35,8 @@ returns-in-SliceEnd-clause-leads c =
 
 pub returns-in-SliceEnd-clause-falls : goal.returns-in-SliceEnd-clause-falls
 returns-in-SliceEnd-clause-falls c =
-    falls_resumed _ _ _ c.args.progress _ c.in-SliceEnd.is _ (omega arith) c.in_ok-step_slice_end-in-SliceEnd.ensures.falls
+    falls_resumed _ _ _ c.args.progress _ c.in-SliceEnd.is _ (omega arith)
+    c.in_ok-step_slice_end-in-SliceEnd.ensures.falls
 
 pub returns-in-CopyTurn-clause-leads : goal.returns-in-CopyTurn-clause-leads
 returns-in-CopyTurn-clause-leads c =
@@ -48,7 +52,8 @@ returns-in-CopyElement-clause-leads c =
 
 pub returns-in-CopyElement-clause-falls : goal.returns-in-CopyElement-clause-falls
 returns-in-CopyElement-clause-falls c =
-    falls_resumed _ _ _ c.args.progress _ c.in-CopyElement.is _ (omega arith) c.in_ok-step_copy_element-in-CopyElement.ensures.falls
+    falls_resumed _ _ _ c.args.progress _ c.in-CopyElement.is _ (omega arith)
+    c.in_ok-step_copy_element-in-CopyElement.ensures.falls
 
 pub returns-in-SearchFrom-clause-leads : goal.returns-in-SearchFrom-clause-leads
 returns-in-SearchFrom-clause-leads c =
@@ -56,7 +61,8 @@ returns-in-SearchFrom-clause-leads c =
 
 pub returns-in-SearchFrom-clause-falls : goal.returns-in-SearchFrom-clause-falls
 returns-in-SearchFrom-clause-falls c =
-    falls_resumed _ _ _ c.args.progress _ c.in-SearchFrom.is _ (omega arith) c.in_ok-step_search_from-in-SearchFrom.ensures.falls
+    falls_resumed _ _ _ c.args.progress _ c.in-SearchFrom.is _ (omega arith)
+    c.in_ok-step_search_from-in-SearchFrom.ensures.falls
 
 pub returns-in-SearchTurn-clause-leads : goal.returns-in-SearchTurn-clause-leads
 returns-in-SearchTurn-clause-leads c =
@@ -64,15 +70,18 @@ returns-in-SearchTurn-clause-leads c =
 
 pub returns-in-SearchTurn-clause-falls : goal.returns-in-SearchTurn-clause-falls
 returns-in-SearchTurn-clause-falls c =
-    falls_resumed _ _ _ c.args.progress _ c.in-SearchTurn.is _ (omega arith) c.in_ok-search_turn-in-SearchTurn.ensures.falls
+    falls_resumed _ _ _ c.args.progress _ c.in-SearchTurn.is _ (omega arith)
+    c.in_ok-search_turn-in-SearchTurn.ensures.falls
 
 pub returns-in-SearchElement-clause-leads : goal.returns-in-SearchElement-clause-leads
 returns-in-SearchElement-clause-leads c =
-    resumes _ _ _ c.args.progress _ c.in-SearchElement.is c.args.v c.in_ok-step_search_element-in-SearchElement.ensures.leads
+    resumes _ _ _ c.args.progress _ c.in-SearchElement.is c.args.v
+    c.in_ok-step_search_element-in-SearchElement.ensures.leads
 
 pub returns-in-SearchElement-clause-falls : goal.returns-in-SearchElement-clause-falls
 returns-in-SearchElement-clause-falls c =
-    falls_resumed _ _ _ c.args.progress _ c.in-SearchElement.is _ (omega arith) c.in_ok-step_search_element-in-SearchElement.ensures.falls
+    falls_resumed _ _ _ c.args.progress _ c.in-SearchElement.is _ (omega arith)
+    c.in_ok-step_search_element-in-SearchElement.ensures.falls
 
 pub returns-in-Turn-clause-leads : goal.returns-in-Turn-clause-leads
 returns-in-Turn-clause-leads c =

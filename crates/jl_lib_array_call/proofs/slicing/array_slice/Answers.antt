@@ -15,7 +15,8 @@ pub returns-in-Gives-clause-leads : goal.returns-in-Gives-clause-leads
 returns-in-Gives-clause-leads c =
     slice_begins _ (call_of c.args.call) _ _
     (answer_given c.args.state.now (record c.args.state.now { store = c.to_object.new.self }) refl
-    (to_object c.args.call.this) (λ o. new_array >>= λ a. get_length o >>= with_length (length_for.Slice a) o c.args.call.args)
+    (to_object c.args.call.this) (λ o. new_array >>= λ a. get_length o >>= with_length (length_for.Slice a) o
+    c.args.call.args)
     _ c.in_ok-answer.ensures _ _ _ c.in-Gives.is
     (works_comes (record c.args.state.now { store = c.to_object.new.self })
     (record c.args.state.now { store = c.new_array.new.self }) refl new_array c.in_ok-array-in-Gives.array
@@ -26,5 +27,6 @@ pub returns-clause-leads : goal.returns-clause-leads
 returns-clause-leads c =
     slice_begins _ (call_of c.args.call) _ _
     (answer_thrown c.args.state.now (record c.args.state.now { store = c.to_object.new.self }) refl
-    (to_object c.args.call.this) (λ o. new_array >>= λ a. get_length o >>= with_length (length_for.Slice a) o c.args.call.args)
+    (to_object c.args.call.this) (λ o. new_array >>= λ a. get_length o >>= with_length (length_for.Slice a) o
+    c.args.call.args)
     _ c.in_ok-answer.ensures _ c.in-Throws.is)

@@ -12,7 +12,8 @@ returns-in_ok-go_on_walking-in-Gives-clause-leads c =
     (add_index c.args.array c.args.index c.args.v)
     (λ _. turns (task.Map c.args.array) (walk_of c.args.walk) (c.args.index + 1))
     _ c.in_ok-answer.ensures _ _ _ c.in-Gives.is
-    (place_is _ (walk_of c.args.walk) _ _ (task.Map c.args.array) _ _ c.in_ok-at.ensures c.in_ok-go_on_walking-in-Gives.ensures.leads)
+    (place_is _ (walk_of c.args.walk) _ _ (task.Map c.args.array) _ _ c.in_ok-at.ensures
+    c.in_ok-go_on_walking-in-Gives.ensures.leads)
 
 pub returns-in-Throws-clause-leads : goal.returns-in-Throws-clause-leads
 returns-in-Throws-clause-leads c =

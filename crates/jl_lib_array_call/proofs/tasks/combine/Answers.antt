@@ -12,5 +12,6 @@ returns-in_ok-go_on_reducing-in-None-clause-leads c =
 pub returns-in_ok-call_to_combine-in-Some-clause-leads : goal.returns-in_ok-call_to_combine-in-Some-clause-leads
 returns-in_ok-call_to_combine-in-Some-clause-leads c =
     task_is _ (walk_of c.args.walk) _ _ (task.Reduce c.args.so_far c.args.direction)
-    (task.Reduce (Some c.in-Some.so_far) c.args.direction) c.args.index (Some c.args.v) (ap (λ o. task.Reduce o c.args.direction) c.in-Some.is)
+    (task.Reduce (Some c.in-Some.so_far) c.args.direction) c.args.index (Some c.args.v)
+    (ap (λ o. task.Reduce o c.args.direction) c.in-Some.is)
     c.in_ok-call_to_combine-in-Some.ensures.leads

@@ -6,4 +6,5 @@ use Rattle.jl_lib_array_call.proofs.tasks.go_on_reducing.Goals as goal
 
 pub returns-clause-leads : goal.returns-clause-leads
 returns-clause-leads c =
-    place_is _ (walk_of c.args.walk) _ _ (task.Reduce (Some c.args.so_far) c.args.direction) _ _ c.in_ok-at.ensures c.in_ok-go_on_walking.ensures.leads
+    place_is _ (walk_of c.args.walk) _ _ (task.Reduce (Some c.args.so_far) c.args.direction) _ _ c.in_ok-at.ensures
+    c.in_ok-go_on_walking.ensures.leads

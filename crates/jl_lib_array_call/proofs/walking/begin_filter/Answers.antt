@@ -7,5 +7,6 @@ use Rattle.jl_lib_array_call.proofs.walking.begin_filter.Goals as goal
 
 pub returns-clause-leads : goal.returns-clause-leads
 returns-clause-leads c =
-    works_comes c.args.state.now (record c.args.state.now { store = c.new_array.new.self }) refl new_array c.in_ok-array.array
+    works_comes c.args.state.now (record c.args.state.now { store = c.new_array.new.self }) refl new_array
+    c.in_ok-array.array
     (λ a. turns (task.Filter a 0) (walk_of c.args.walk) 0) _ _ c.in_ok-array.ensures c.in_ok-go_on_walking.ensures.leads

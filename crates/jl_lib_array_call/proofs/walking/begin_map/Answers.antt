@@ -27,4 +27,5 @@ returns-in-Fails-clause-leads c =
     end_failed c.args.state.now (record c.args.state.now { store = c.array_of_length.new.store }) refl
     (array_of_length (whole c.args.walk.length))
     (λ a. turns (task.Map a) (walk_of c.args.walk) 0)
-    _ (counted _ _ _ c.args.walk.length _ c.in_ok-length.ensures c.in_ok-answer.ensures) _ _ c.in-Fails.is c.fault_of.ensures
+    _ (counted _ _ _ c.args.walk.length _ c.in_ok-length.ensures c.in_ok-answer.ensures) _ _ c.in-Fails.is
+    c.fault_of.ensures

@@ -12,4 +12,5 @@ pub returns-in_ok-begin_task-in-Gives-clause-leads : goal.returns-in_ok-begin_ta
 returns-in_ok-begin_task-in-Gives-clause-leads c =
     function_given c.args.state.now (record c.args.state.now { store = c.function_in.new.store }) refl c.args.purpose
     c.args.object c.args.length c.args.args.now _ c.in_ok-answer.ensures _ _ _ _ c.in-Gives.is
-    (c.in_ok-this-in-Gives.ensures ∙ ap (λ l. argument_of l 1) c.items.ensures) c.in_ok-begin_task-in-Gives.ensures.leads
+    (c.in_ok-this-in-Gives.ensures ∙ ap (λ l. argument_of l 1) c.items.ensures)
+    c.in_ok-begin_task-in-Gives.ensures.leads

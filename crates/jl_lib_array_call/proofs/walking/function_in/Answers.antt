@@ -5,4 +5,5 @@ use Rattle.jl_lib_array_call.proofs.walking.function_in.Goals as goal
 
 pub returns : goal.returns
 returns c =
-    needed _ _ c.args.args.now _ _ (c.in_ok-v.ensures ∙ ap (λ l. argument_of l 0) c.items.ensures) c.in_ok-answer.ensures
+    needed _ _ c.args.args.now _ _ (c.in_ok-v.ensures ∙ ap (λ l. argument_of l 0) c.items.ensures)
+    c.in_ok-answer.ensures
