@@ -15,7 +15,8 @@ use Rattle.jl_meaning.specs.builtins.Arguments.{argument, give_object, need_func
 use Rattle.jl_meaning.specs.builtins.Array.{array_constructor, array_index_of, array_is_array, array_last_index_of}
 use Rattle.jl_meaning.specs.builtins.Array.{array_slice, index_within, last_index_within}
 use Rattle.jl_meaning.specs.builtins.ArrayCallbacks.{any_element, array_every, array_filter, array_for_each, array_map}
-use Rattle.jl_meaning.specs.builtins.ArrayCallbacks.{array_reduce, array_reduce_right, array_some, ask_turn, filter_turn}
+use Rattle.jl_meaning.specs.builtins.ArrayCallbacks.{array_reduce, array_reduce_right, array_some, ask_turn}
+use Rattle.jl_meaning.specs.builtins.ArrayCallbacks.{filter_turn}
 use Rattle.jl_meaning.specs.builtins.ArrayCallbacks.{for_each_turn, give_combined, map_turn, reduce_turn, walk, Walk}
 use Rattle.jl_meaning.specs.builtins.Elements.{array_of_length, get_length}
 use Rattle.jl_meaning.specs.builtins.Function.{FunctionNames}

@@ -1,14 +1,12 @@
 -- Arrays that are made.
-use Rattle.std.proofs.Common.{◌≡◌, ◌<◌, ◌+◌, ◌∙◌, ◌∷◌, [], ap, codes, drop, false, get_or, length, pos, refl, subst, suc, sym}
+use Rattle.std.proofs.Common.{◌≡◌, ◌<◌, ◌+◌, ◌∙◌, ◌∷◌, [], ap, arith, codes, drop, false, get_or, length, pos, refl}
+use Rattle.std.proofs.Common.{subst, suc, sym}
 use Rattle.std.proofs.Common.{add-one, drop-cons, true, Bool, List, None, Option, Some, ℕ}
 use Rattle.std.specs.Option.{option_map_or}
 use Rattle.std.specs.Prelude.{if◌then◌else◌}
-use Rattle.std.specs.Str.{bytes_eq}
 use Rattle.jl_num.specs.Bits.{uint32_of}
 use Rattle.jl_num.specs.Number.{Number}
 use Rattle.jl_value.specs.Same.{same_number}
-use Rattle.jl_value.specs.declared.ending.Completion.TheVariants as completion
-use Rattle.jl_value.specs.declared.ending.Fault.{Fault}
 use Rattle.jl_value.specs.declared.error_kind.ErrorKind.TheVariants.{RangeError}
 use Rattle.jl_value.specs.declared.object.ObjId.{ObjId}
 use Rattle.jl_value.specs.declared.value.Value.{Value}
@@ -20,10 +18,12 @@ use Rattle.jl_heap.specs.declared.property.Change.{Change}
 use Rattle.jl_effects.specs.Running.{Ends, Fails}
 use Rattle.jl_meaning.specs.Defining.{define_own_property, value_change}
 use Rattle.jl_meaning.specs.Errors.{throw_error}
-use Rattle.jl_meaning.specs.Parts.{fault_of, give, gives, throws, ◌>>=◌, Algorithm}
+use Rattle.jl_meaning.specs.Parts.{give, gives, throws, ◌>>=◌, Algorithm, Call}
+use Rattle.jl_meaning.specs.Relations.{give_truth}
 use Rattle.jl_meaning.specs.Store.{Store}
-use Rattle.jl_meaning.specs.builtins.Array.{add_all, array_by, array_of_one, array_of_values}
-use Rattle.jl_meaning.specs.builtins.Arguments.{give_object}
+use Rattle.jl_meaning.specs.builtins.Array.{add_all, array_by, array_is_array, array_of_one, array_of_values}
+use Rattle.jl_meaning.specs.builtins.Array.{is_array_value}
+use Rattle.jl_meaning.specs.builtins.Arguments.{argument, give_object}
 use Rattle.jl_meaning.specs.builtins.Elements.{add_index, array_of_length}
 use Rattle.jl_meaning.specs.forms.Literals.{new_array}
 use Rattle.jl_store.specs.Answers.{fault_seen, finished}
@@ -39,25 +39,22 @@ use Rattle.jl_state.specs.Rest.{Works}
 use Rattle.jl_state.specs.declared.act.Act.{Act}
 use Rattle.jl_state.specs.declared.act.Act.TheVariants as act
 use Rattle.jl_state.specs.declared.state.State.{State}
+use Rattle.jl_state.proofs.Steps.{looks}
 use Rattle.jl_algorithm.proofs.Throwing.{works_left_out}
-use Rattle.jl_lib_array_call.specs.inner.Arrays.{only_number}
+use Rattle.jl_lib_array_call.specs.inner.Arrays.{number_in, only_number}
 
 -- an argument that is a number, alone
 
 number_alone : (args : List Value) (n : Number) → only_number args ≡ Some n → array_of_one (value.Num n) ≡ array_by args
 number_alone [] n is = absurd (let differ = is in cc)
-number_alone (value.Num m ∷ []) n is = let same : n ≡ m = (let e = is in cc) in ap (λ k. array_of_one (value.Num k)) same
+number_alone (value.Num m ∷ []) n is =
+    let same : n ≡ m = (let e = is in cc) in ap (λ k. array_of_one (value.Num k)) same
 number_alone (value.Undefined ∷ []) n is = absurd (let differ = is in cc)
 number_alone (value.Null ∷ []) n is = absurd (let differ = is in cc)
 number_alone (value.Bool b ∷ []) n is = absurd (let differ = is in cc)
 number_alone (value.Text x ∷ []) n is = absurd (let differ = is in cc)
 number_alone (value.Obj id ∷ []) n is = absurd (let differ = is in cc)
-number_alone (value.Num m ∷ w ∷ vs) n is = absurd (let differ = is in cc)
-number_alone (value.Undefined ∷ w ∷ vs) n is = absurd (let differ = is in cc)
-number_alone (value.Null ∷ w ∷ vs) n is = absurd (let differ = is in cc)
-number_alone (value.Bool b ∷ w ∷ vs) n is = absurd (let differ = is in cc)
-number_alone (value.Text x ∷ w ∷ vs) n is = absurd (let differ = is in cc)
-number_alone (value.Obj id ∷ w ∷ vs) n is = absurd (let differ = is in cc)
+number_alone (v ∷ w ∷ vs) n is = absurd (let differ = is in cc)
 
 no_number : (args : List Value) → only_number args ≡ None → array_of_values args ≡ array_by args
 no_number [] is = refl
@@ -68,6 +65,19 @@ no_number (value.Bool b ∷ []) is = refl
 no_number (value.Text x ∷ []) is = refl
 no_number (value.Obj id ∷ []) is = refl
 no_number (v ∷ w ∷ vs) is = refl
+
+-- the only argument, and others
+
+pub alone : (args : List Value) (v : Value) (o : Option Number) → length args ≡ 1 → v ≡ get_or args 0 v
+    → o ≡ number_in v → o ≡ only_number args
+alone [] v o one is there = absurd (let differ = one in cc)
+alone (w ∷ []) v o one is there = there ∙ ap number_in is
+alone (w ∷ x ∷ vs) v o one is there = absurd (omega (arith, one))
+
+pub not_alone : (args : List Value) → (length args ≡ 1 → ⊥) → None ≡ only_number args
+not_alone [] differs = refl
+not_alone (v ∷ []) differs = absurd (differs refl)
+not_alone (v ∷ w ∷ vs) differs = refl
 
 pub constructs_length : (s : State) (args : List Value) (o : Option Number) (n : Number) (t : State) (a : Act)
     → o ≡ only_number args → o ≡ Some n → Works s (array_of_one (value.Num n)) t a → Works s (array_by args) t a
@@ -96,6 +106,13 @@ module _ (s : State) (n : Number) (b : Bool) (is : b ≡ same_number (Some (pos 
       subst (λ c. Works s (of_length c n) t a) (sym so ∙ is)
       (works_left_out s RangeError (codes "bad array length")
       (λ length. array_of_length length >>= λ a. give (value.Obj a)) t a leads)
+
+-- whether a value is an array
+pub tests_array : (s : State) (c : Call) (v : Value) (b : Bool) → v ≡ argument c 0 → b ≡ is_array_value s.store.heap v
+    → Works s (array_is_array c) s (act.Give (value.Bool b))
+tests_array s c v b is truth =
+    looks s (λ store. give_truth (is_array_value store.heap (argument c 0))) (give_truth b) s (act.Give (value.Bool b))
+    (ap give_truth (truth ∙ ap (is_array_value s.store.heap) is)) (record { is = λ kept told. refl })
 
 length_is : length_name ≡ codes "length"
 unfolding length_name
@@ -142,8 +159,11 @@ module _ (from made to : Store) (a : ObjId) (n : Number) (x : Name) (change : Ch
 -- elements, one after another
 module _ {s t u : Store} (a : ObjId) (i : ℕ) (values : List Value) (v : Value)
     (before : Leaves (add_all a 0 values) s (add_all a i (drop i values)) t) (within : i < length values)
-    (is : v ≡ get_or values i v) (answer : Finished (Unit {0}))
+    (item : Value) (there : item ≡ get_or values i item) (shared : v ≡ item) (answer : Finished (Unit {0}))
     (comes : Comes (add_index a i v) t u (finished answer)) where
+  is : v ≡ get_or values i v
+  is = subst (λ w. w ≡ get_or values i w) (sym shared) there
+
   split : drop i values ≡ v ∷ drop (i + 1) values
   split =
       drop-cons values i v within ∙ ap (λ w. w ∷ drop (suc i) values) (sym is)
@@ -166,9 +186,7 @@ module _ {s t u : Store} (a : ObjId) (i : ℕ) (values : List Value) (v : Value)
       → Comes (add_all a 0 values) s u (Fails (fault_seen f))
   element_failed f same = next_failed (add_all a (i + 1) (drop (i + 1) values)) left (so (ended.Fails f) same)
 
-pub elements_done : {s t : Store} (a : ObjId) (values : List Value)
-    → Leaves (add_all a 0 values) s (add_all a (length values) (drop (length values) values)) t
-    → Comes (add_all a 0 values) s t (Ends (gives tt))
-elements_done {s} {t} a values before =
-    all_done (subst (λ l. Leaves (add_all a 0 values) s (add_all a (length values) l) t)
-    (none_left values (length values) refl) before)
+pub elements_done : {s t : Store} (a : ObjId) (i : ℕ) (values : List Value) → length values ≡ i
+    → Leaves (add_all a 0 values) s (add_all a i (drop i values)) t → Comes (add_all a 0 values) s t (Ends (gives tt))
+elements_done {s} {t} a i values over before =
+    all_done (subst (λ l. Leaves (add_all a 0 values) s (add_all a i l) t) (none_left values i over) before)

@@ -1,10 +1,9 @@
 -- indexOf and lastIndexOf: where they begin, and their turns.
-use Rattle.std.proofs.Common.{◌≡◌, ◌≤◌, ◌<◌, ◌+◌, ◌-◌, ◌∙◌, ap, arith, false, pos, refl, subst, suc, sym, true, zero}
-use Rattle.std.proofs.Common.{Bool, List, None, Option, Some, ℕ, ℤ}
-use Rattle.std.specs.Prelude.{if◌then◌else◌, min, slice_get}
+use Rattle.std.proofs.Common.{◌≡◌, ◌+◌, ◌-◌, ◌∙◌, ap, arith, false, refl, subst, suc, sym, true, zero}
+use Rattle.std.proofs.Common.{Bool, List, None, Option, Some, ℕ}
+use Rattle.std.specs.Prelude.{if◌then◌else◌, slice_get}
 use Rattle.jl_value.specs.declared.object.ObjId.{ObjId}
 use Rattle.jl_value.specs.declared.value.Value.{Value}
-use Rattle.jl_value.specs.declared.value.Value.TheVariants as value
 use Rattle.jl_conv.specs.Comparisons.{strictly_equal}
 use Rattle.jl_effects.specs.Effects.{Step}
 use Rattle.jl_meaning.specs.Conversions.{to_integer}
@@ -12,7 +11,8 @@ use Rattle.jl_meaning.specs.Parts.{give, ◌>>=◌, Algorithm}
 use Rattle.jl_meaning.specs.builtins.Array.{integer_or, match_index, match_turn}
 use Rattle.jl_meaning.specs.builtins.Elements.{element, index_or_none}
 use Rattle.jl_meaning.specs.builtins.Turns.{first_downward, first_upward, or_next}
-use Rattle.jl_progress.specs.ArrayCalls.{argument_of, first_place, found_from, next_place, place_from, search, search_from}
+use Rattle.jl_progress.specs.ArrayCalls.{argument_of, first_place, found_from, next_place, place_from, search}
+use Rattle.jl_progress.specs.ArrayCalls.{search_from}
 use Rattle.jl_progress.specs.ArrayCalls.{search_with, usual_from}
 use Rattle.jl_progress.specs.declared.array_call.Direction.{Direction}
 use Rattle.jl_progress.specs.declared.array_call.Direction.TheVariants as direction
@@ -43,7 +43,8 @@ pub searches_all : (s : State) (d : Direction) (o : ObjId) (length : ℕ) (args 
 searches_all s d o zero args x at t a some none is place leads = absurd (some refl)
 searches_all s d o (suc n) args x at t a some none is place leads = with (slice_get args 1) none
   where
-    from_start : Works s (search_from d o (suc n) (argument_of args 0) (place_from d (usual_from d (suc n)) (suc n))) t a
+    from_start : Works s (search_from d o (suc n) (argument_of args 0)
+        (place_from d (usual_from d (suc n)) (suc n))) t a
     from_start =
         subst (λ k. Works s (search_from d o (suc n) (argument_of args 0) k) t a) (place ∙ sym (usual_place d n))
         (subst (λ y. Works s (search_from d o (suc n) y at) t a) is leads)
@@ -91,7 +92,8 @@ search_begins direction.Down o length x zero k is = absurd (let differ = is in c
 search_begins direction.Down o length x (suc n) k is = let same : n ≡ k = (let e = is in cc) in subst goal same here
   where
     goal : ℕ → Type 0
-    goal m = Step (element o m >>= search_with direction.Down o length x m) ≡ search_from direction.Down o length x (suc n)
+    goal m = Step (element o m >>= search_with direction.Down o length x m)
+        ≡ search_from direction.Down o length x (suc n)
 
     here : goal n
     here =
@@ -126,11 +128,12 @@ search_goes_on s t d o length x at k u a is took leads =
     subst (λ p. Works s p u a) (search_begins d o length x at k is)
     (took.works (element o k >>= search_with d o length x k) u a leads)
 
-pub search_spent : (s : State) (d : Direction) (o : ObjId) (length : ℕ) (x : Value) (at k : ℕ)
-    → index_at d at length ≡ Some k → RanOut s → Works s (search_from d o length x at) s act.Spent
-search_spent s d o length x at k is ran =
-    subst (λ p. Works s p s act.Spent) (search_begins d o length x at k is)
-    (ran.works (element o k >>= search_with d o length x k))
+pub search_spent : (s t : State) (d : Direction) (o : ObjId) (length : ℕ) (x : Value) (at k : ℕ)
+    → index_at d at length ≡ Some k → t ≡ s → RanOut s → Works s (search_from d o length x at) t act.Spent
+search_spent s t d o length x at k is same ran =
+    subst (λ (v : State). Works s (search_from d o length x at) v act.Spent) (sym same)
+    (subst (λ p. Works s p s act.Spent) (search_begins d o length x at k is)
+    (ran.works (element o k >>= search_with d o length x k)))
 
 pub search_misses : (s : State) (d : Direction) (o : ObjId) (length : ℕ) (x : Value) (k at : ℕ) (t : State) (a : Act)
     → at ≡ next_place d k → Works s (search_from d o length x at) t a → Works s (search_with d o length x k None) t a

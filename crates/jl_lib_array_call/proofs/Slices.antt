@@ -1,17 +1,20 @@
 -- slice: its turns, and where they begin and end.
-use Rattle.std.proofs.Common.{◌≡◌, ◌≤◌, ◌<◌, ◌+◌, ◌-◌, ◌∙◌, ap, arith, false, pos, refl, subst, suc, sym, true, zero}
-use Rattle.std.proofs.Common.{Bool, List, None, Option, Some, ℕ, ℤ}
+use Rattle.std.proofs.Common.{◌≡◌, ◌≤◌, ◌<◌, ◌+◌, ◌-◌, ◌∙◌, ap, arith, false, refl, subst, suc, sym, true}
+use Rattle.std.proofs.Common.{Bool, List, Option, ℕ}
 use Rattle.std.specs.Prelude.{min}
 use mathlib.Core.Path.{fun_ext}
 use Rattle.jl_value.specs.declared.object.ObjId.{ObjId}
 use Rattle.jl_value.specs.declared.value.Value.{Value}
 use Rattle.jl_value.specs.declared.value.Value.TheVariants as value
 use Rattle.jl_effects.specs.Effects.{Step}
-use Rattle.jl_meaning.specs.Conversions.{number_hint, to_integer, to_primitive}
-use Rattle.jl_meaning.specs.Parts.{give, ◌>>=◌, Algorithm}
+use Rattle.jl_meaning.specs.Conversions.{number_hint, to_integer, to_object, to_primitive}
+use Rattle.jl_meaning.specs.Parts.{◌>>=◌, Algorithm, Call}
 use Rattle.jl_meaning.specs.builtins.Arguments.{give_object}
-use Rattle.jl_meaning.specs.builtins.Elements.{add_if, add_index, copy_element, element, get_index, relative_index, to_end}
+use Rattle.jl_meaning.specs.builtins.Array.{array_slice}
+use Rattle.jl_meaning.specs.builtins.Elements.{add_if, copy_element, element, get_index, get_length, has_index}
+use Rattle.jl_meaning.specs.builtins.Elements.{relative_index, to_end}
 use Rattle.jl_meaning.specs.builtins.Turns.{upward}
+use Rattle.jl_meaning.specs.forms.Literals.{new_array}
 use Rattle.jl_progress.specs.ArrayCalls.{argument_of, copy_from, slice_to, with_length}
 use Rattle.jl_progress.specs.declared.array_call.ArrayCallProgress.TheVariants as array_call
 use Rattle.jl_progress.specs.declared.array_call.LengthFor.TheVariants as length_for
@@ -24,7 +27,7 @@ use Rattle.jl_state.specs.declared.algorithm_frame.AlgorithmFrame.TheVariants as
 use Rattle.jl_state.specs.declared.state.State.{State}
 use Rattle.jl_algorithm.proofs.Chains.{bind_assoc}
 use Rattle.jl_builtin.specs.Values.{is_undefined}
-use Rattle.jl_builtin.proofs.Waits.{integer_waits}
+use Rattle.jl_builtin.proofs.Waits.{element_missing, element_waits, integer_waits}
 
 abbrev turn : ObjId → ℕ → ObjId → ℕ → Unit {0} → Algorithm (Unit {0})
 turn o start a k _ = copy_element o (start + k) a (0 + k)
@@ -93,11 +96,55 @@ copy_begins s t o start a count at u b below took leads =
     subst (λ p. Works s p u b) (copies o start a count at below)
     (took.works (element o (start + at) >>= λ v. add_if a at v >>= λ _. copy_from o start a count (at + 1)) u b leads)
 
-pub copy_spent : (s : State) (o : ObjId) (start : ℕ) (a : ObjId) (count at : ℕ) → at < count → RanOut s
-    → Works s (copy_from o start a count at) s act.Spent
-copy_spent s o start a count at below ran =
-    subst (λ p. Works s p s act.Spent) (copies o start a count at below)
-    (ran.works (element o (start + at) >>= λ v. add_if a at v >>= λ _. copy_from o start a count (at + 1)))
+pub copy_spent : (s t : State) (o : ObjId) (start : ℕ) (a : ObjId) (count at : ℕ) → at < count → t ≡ s → RanOut s
+    → Works s (copy_from o start a count at) t act.Spent
+copy_spent s t o start a count at below same ran =
+    subst (λ (v : State). Works s (copy_from o start a count at) v act.Spent) (sym same)
+    (subst (λ p. Works s p s act.Spent) (copies o start a count at below)
+    (ran.works (element o (start + at) >>= λ v. add_if a at v >>= λ _. copy_from o start a count (at + 1))))
+
+-- an element of a turn, at an index of the object
+abbrev pub copied_on : (o : ObjId) (start : ℕ) (a : ObjId) (count k : ℕ) → Option Value → Algorithm Value
+copied_on o start a count k v = add_if a k v >>= λ _. copy_from o start a count (k + 1)
+
+pub copy_misses : (s : State) (o : ObjId) (start from : ℕ) (a : ObjId) (count k : ℕ) (there : Bool) (u : State)
+    (b : Act)
+    → from ≡ start + k → there ≡ has_index s.store o from → there ≡ false
+    → Works s (copy_from o start a count (k + 1)) u b
+    → Works s (element o (start + k) >>= copied_on o start a count k) u b
+copy_misses s o start from a count k there u b place is so leads =
+    subst (λ n. Works s (element o n >>= copied_on o start a count k) u b) place
+    (element_missing s o from there (copied_on o start a count k) u b is so leads)
+
+pub copy_waits : (s t : State) (o : ObjId) (start from : ℕ) (a : ObjId) (count k : ℕ) (there : Bool) (u : State)
+    (b : Act) → from ≡ start + k → there ≡ has_index s.store o from → there ≡ true
+    → AlgorithmWaits s (algorithm.Builtin (progress.ArrayCall (array_call.CopyElement o start a count k))) t
+    → Works t (get_index o from) u b → Works s (element o (start + k) >>= copied_on o start a count k) u b
+copy_waits s t o start from a count k there u b place is so waits leads =
+    subst (λ n. Works s (element o n >>= copied_on o start a count k) u b) place
+    (element_waits s t (progress.ArrayCall (array_call.CopyElement o start a count k)) o from there
+    (copied_on o start a count k) u b is so (λ v. refl) waits leads)
+
+-- it begins: its array is made before the length is asked for
+
+abbrev sliced : (left : ℕ → ℕ) → Call → Algorithm Value
+sliced left c = do
+  o ← to_object c.this
+  a ← new_array
+  size ← get_length o
+  start ← to_integer (argument_of c.args 0)
+  end ← to_end (argument_of c.args 1) size
+  _ ← upward (turn o (relative_index start size) a) (left (relative_index end size - relative_index start size)) 0 tt
+  give_object a
+
+all_left : (n : ℕ) → n - 0 ≡ n
+all_left n = omega arith
+
+pub slice_begins : (s : State) (c : Call) (t : State) (b : Act)
+    → Works s (to_object c.this >>= λ o. new_array >>= λ a. get_length o >>= with_length (length_for.Slice a) o c.args)
+    t b
+    → Works s (array_slice c) t b
+slice_begins s c t b leads = subst (λ left. Works s (sliced left c) t b) (fun_ext all_left) leads
 
 -- the start is converted, and the end is kept
 pub converts_start : (s u : State) (o a : ObjId) (length : ℕ) (args : List Value) (v end : Value) (t : State) (b : Act)
@@ -105,7 +152,8 @@ pub converts_start : (s u : State) (o a : ObjId) (length : ℕ) (args : List Val
     → AlgorithmWaits s (algorithm.Builtin (progress.ArrayCall (array_call.SliceStart o a length end))) u
     → Works u (to_primitive number_hint v) t b → Works s (with_length (length_for.Slice a) o args length) t b
 converts_start s u o a length args v end t b is kept waits leads =
-    subst (λ w. Works s (to_integer w >>= λ z. slice_to o a length (relative_index z length) (argument_of args 1)) t b) is
+    subst (λ w. Works s (to_integer w >>= λ z. slice_to o a length (relative_index z length) (argument_of args 1)) t b)
+    is
     (subst (λ e. Works s (to_integer v >>= λ z. slice_to o a length (relative_index z length) e) t b) kept
     (integer_waits s u (progress.ArrayCall (array_call.SliceStart o a length end))
     (λ z. slice_to o a length (relative_index z length) end) v t b (λ w. refl) waits leads))

@@ -1,7 +1,7 @@
 -- Tasks of walks through elements, turn by turn.
 use Rattle.std.proofs.Common.{◌≡◌, ◌+◌, ◌-◌, ◌∙◌, ◌∷◌, [], ap, false, refl, subst, suc, sym, true, zero, ℕ}
 use Rattle.std.proofs.Common.{Bool, None, Option, Some}
-use Rattle.std.specs.Prelude.{if◌then◌else◌, is_some, nat_eq, not}
+use Rattle.std.specs.Prelude.{if◌then◌else◌, is_some, not}
 use Rattle.jl_value.specs.declared.object.ObjId.{ObjId}
 use Rattle.jl_value.specs.declared.value.Value.{Value}
 use Rattle.jl_value.specs.declared.value.Value.TheVariants as value
@@ -12,10 +12,11 @@ use Rattle.jl_meaning.specs.Parts.{call, give, ◌>>=◌, Algorithm}
 use Rattle.jl_meaning.specs.Relations.{give_truth}
 use Rattle.jl_meaning.specs.builtins.Arguments.{give_object}
 use Rattle.jl_meaning.specs.builtins.ArrayCallbacks.{add_chosen, ask_turn, asked_if, called_with, choose}
-use Rattle.jl_meaning.specs.builtins.ArrayCallbacks.{combined, ends_at, filter_turn, for_each_turn, give_combined, map_turn}
+use Rattle.jl_meaning.specs.builtins.ArrayCallbacks.{combined, ends_at, filter_turn, for_each_turn, give_combined}
+use Rattle.jl_meaning.specs.builtins.ArrayCallbacks.{map_turn}
 use Rattle.jl_meaning.specs.builtins.ArrayCallbacks.{reduce_turn, Walk}
 use Rattle.jl_meaning.specs.builtins.Elements.{add_if, add_index, element}
-use Rattle.jl_meaning.specs.builtins.Turns.{downward, first_upward, or_next, upward}
+use Rattle.jl_meaning.specs.builtins.Turns.{first_upward, or_next, upward}
 use Rattle.jl_progress.specs.ArrayCalls.{any_truth, any_with, next_place, task_after, task_with, turns}
 use Rattle.jl_progress.specs.declared.array_call.Direction.{Direction}
 use Rattle.jl_progress.specs.declared.array_call.Direction.TheVariants as direction
@@ -29,13 +30,15 @@ use Rattle.jl_state.specs.declared.state.State.{State}
 use Rattle.jl_algorithm.proofs.Chains.{bind_assoc}
 use Rattle.jl_lib_array_call.specs.inner.Places.{direction_of, index_at}
 use Rattle.jl_lib_array_call.specs.inner.Tasks.{task_end}
-use Rattle.jl_lib_array_call.proofs.Turns.{downward_turn, first_upward_over, first_upward_turn, upward_over, upward_turn}
+use Rattle.jl_lib_array_call.proofs.Turns.{downward_turn, first_upward_over, first_upward_turn, upward_over}
+use Rattle.jl_lib_array_call.proofs.Turns.{upward_turn}
 
 -- no turn is left
 
 over : (t : Task) (w : Walk) (at : ℕ) → index_at (direction_of t) at w.length ≡ None → task_end t ≡ turns t w at
 over (task.Any wanted) w at none =
-    sym (first_upward_over (ask_turn wanted w) (λ found. give_truth (any_truth wanted (is_some found))) w.length at none)
+    sym (first_upward_over (ask_turn wanted w) (λ found. give_truth (any_truth wanted (is_some found)))
+    w.length at none)
 over task.ForEach w at none =
     sym (upward_over (for_each_turn w) (λ _. give value.Undefined) w.length at tt none)
 over (task.Map a) w at none = sym (upward_over (map_turn w a) (λ _. give_object a) w.length at tt none)
@@ -66,7 +69,8 @@ begins (task.Map a) w at k is =
     sym (upward_turn (map_turn w a) (λ _. give_object a) w.length at k tt is
     ∙ ap Step (bind_assoc (element w.object k >>= asked_if w k) (add_if a k)
     (λ b. upward (map_turn w a) (w.length - (k + 1)) (k + 1) b >>= λ _. give_object a)
-    ∙ bind_assoc (element w.object k) (asked_if w k) (λ answer. add_if a k answer >>= λ _. turns (task.Map a) w (k + 1))))
+    ∙ bind_assoc (element w.object k) (asked_if w k)
+    (λ answer. add_if a k answer >>= λ _. turns (task.Map a) w (k + 1))))
 begins (task.Filter a to) w at k is =
     sym (upward_turn (filter_turn w a) (λ _. give_object a) w.length at k to is
     ∙ ap Step (bind_assoc (element w.object k) (choose w a k to) (λ next. turns (task.Filter a next) w (k + 1))))
@@ -75,7 +79,8 @@ begins (task.Reduce so_far direction.Up) w at k is =
     ∙ ap Step (bind_assoc (element w.object k) (combined w k so_far)
     (λ last. turns (task.Reduce last direction.Up) w (k + 1))))
 begins (task.Reduce so_far direction.Down) w zero k is = absurd (let differ = is in cc)
-begins (task.Reduce so_far direction.Down) w (suc n) k is = let same : n ≡ k = (let e = is in cc) in subst goal same here
+begins (task.Reduce so_far direction.Down) w (suc n) k is =
+    let same : n ≡ k = (let e = is in cc) in subst goal same here
   where
     goal : ℕ → Type 0
     goal m = Step (element w.object m >>= task_with (task.Reduce so_far direction.Down) w m)
@@ -201,11 +206,12 @@ module _ (s : State) (w : Walk) (u : State) (a : Act) where
       subst (λ c. Works s (add_chosen c a' to v >>= λ next. turns (task.Filter a' next) w (k + 1)) u a) (sym so ∙ is)
       (subst (λ n. Works s (turns (task.Filter a' to) w n) u a) place leads)
 
-pub turn_spent : (s : State) (w : Walk) (t : Task) (d : Direction) (at k : ℕ) → d ≡ direction_of t
-    → index_at d at w.length ≡ Some k → RanOut s → Works s (turns t w at) s act.Spent
-turn_spent s w t d at k is there ran =
-    subst (λ p. Works s p s act.Spent) (begins t w at k (subst (λ e. index_at e at w.length ≡ Some k) is there))
-    (ran.works (element w.object k >>= task_with t w k))
+pub turn_spent : (s v : State) (w : Walk) (t : Task) (d : Direction) (at k : ℕ) → d ≡ direction_of t
+    → index_at d at w.length ≡ Some k → v ≡ s → RanOut s → Works s (turns t w at) v act.Spent
+turn_spent s v w t d at k is there same ran =
+    subst (λ (x : State). Works s (turns t w at) x act.Spent) (sym same)
+    (subst (λ p. Works s p s act.Spent) (begins t w at k (subst (λ e. index_at e at w.length ≡ Some k) is there))
+    (ran.works (element w.object k >>= task_with t w k)))
 
 pub any_ends : (s : State) (w : Walk) (wanted : Bool) (k : ℕ) (v : Value) (b : Bool) → b ≡ truth_of v → b ≡ wanted
     → Works s (any_with wanted w k (Some v)) s (act.Give (value.Bool wanted))

@@ -1,14 +1,23 @@
 -- Turns of loops over elements: the one that begins at a place, and those that follow.
-use Rattle.std.proofs.Common.{◌≡◌, ◌≤◌, ◌<◌, ◌+◌, ◌-◌, ◌∙◌, ap, arith, false, length, refl, subst, suc, sym, true, zero}
+use Rattle.std.proofs.Common.{◌≡◌, ◌+◌, ◌-◌, ◌∙◌, ap, arith, false, length, refl, suc, sym, true, zero}
 use Rattle.std.proofs.Common.{Bool, None, Option, Some, ℕ}
 use Rattle.std.proofs.lemmas.Bool.Decides.{nat_tests}
-use Rattle.std.specs.Prelude.{if◌then◌else◌, is_some, nat_lt}
-use Rattle.jl_value.specs.declared.object.ObjId.{ObjId}
+use Rattle.std.specs.Prelude.{if◌then◌else◌, nat_lt}
 use Rattle.jl_value.specs.declared.value.Value.{Value}
 use Rattle.jl_effects.specs.Effects.{Step}
-use Rattle.jl_meaning.specs.Parts.{give, ◌>>=◌, Algorithm}
+use Rattle.jl_meaning.specs.Parts.{◌>>=◌, Algorithm}
 use Rattle.jl_meaning.specs.builtins.Turns.{downward, first_downward, first_upward, or_next, upward}
 use Rattle.jl_algorithm.proofs.Chains.{bind_assoc}
+use Rattle.jl_lib_array_call.specs.inner.Places.{index_below}
+
+-- the index below a place
+
+pub none_below : (at : ℕ) → at ≡ 0 → None ≡ index_below at
+none_below at over = sym (ap index_below over)
+
+pub index_is_below : (at : ℕ) → (at ≡ 0 → ⊥) → Some (at - 1) ≡ index_below at
+index_is_below zero more = absurd (more refl)
+index_is_below (suc k) more = ap Some (omega arith)
 
 -- the index of a turn that goes up, and how many are left
 

@@ -1,6 +1,6 @@
 //! Array and Array.isArray (15.4.1 to 15.4.3).
 ghost use Rattle.std.specs.Prelude.{◌≡◌, pos, IfOk, Some};
-ghost use Rattle.jl_lib_array_call.specs.inner.Arrays.{only_number};
+ghost use Rattle.jl_lib_array_call.specs.inner.Arrays.{number_in, only_number};
 ghost use Rattle.jl_meaning.specs.Defining.{value_change};
 ghost use Rattle.jl_meaning.specs.builtins.Array.{add_all, array_by, array_is_array, array_of_one, array_of_values};
 ghost use Rattle.jl_meaning.specs.builtins.Array.{is_array_value};
@@ -44,8 +44,18 @@ pub(crate) fn array_constructor<'p>(
 fn only_number(args: &[Value]) -> Option<Num>
     ensures { result ≡ only_number args.now }
 {
-    match args {
-        [Value::Num(n)] => Some(*n),
+    if args.len() == 1 {
+        return number_in(&args[0]);
+    }
+    None
+}
+
+/// The number that a value is, if it is one.
+fn number_in(v: &Value) -> Option<Num>
+    ensures { result ≡ number_in v.now }
+{
+    match v {
+        Value::Num(n) => Some(*n),
         _ => None,
     }
 }
@@ -70,8 +80,15 @@ fn array_of_number<'p>(alloc: Global, state: &mut State<'p>, n: Num) -> Result<A
 fn is_length(n: Num) -> bool
     ensures { result ≡ same_number (Some (pos (uint32_of n))) n }
 {
+    is_count(n, to_uint32(n))
+}
+
+/// Whether a number is this count.
+fn is_count(n: Num, count: u32) -> bool
+    ensures { result ≡ same_number (Some (pos count)) n }
+{
     match n.value() {
-        Some(z) => i64::from(to_uint32(n)) == z,
+        Some(n) => i64::from(count) == n,
         None => false,
     }
 }

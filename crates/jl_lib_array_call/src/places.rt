@@ -1,6 +1,6 @@
 //! Where turns begin, and their indices.
 ghost use Rattle.std.specs.Prelude.{◌≡◌, ◌+◌, ◌-◌, IfOk};
-ghost use Rattle.jl_lib_array_call.specs.inner.Places.{direction_of, index_at};
+ghost use Rattle.jl_lib_array_call.specs.inner.Places.{direction_of, index_at, index_below};
 ghost use Rattle.jl_meaning.specs.Conversions.{integer_of};
 ghost use Rattle.jl_meaning.specs.builtins.Array.{indices_up_to};
 ghost use Rattle.jl_progress.specs.ArrayCalls.{first_place, next_place, place_from};
@@ -16,8 +16,18 @@ pub(crate) fn index_at(direction: Direction, at: usize, length: usize) -> Option
 {
     match direction {
         Direction::Up => { if at < length { Some(at) } else { None } }
-        Direction::Down => at.checked_sub(1),
+        Direction::Down => index_below(at),
     }
+}
+
+/// The index below a place, if there is one.
+fn index_below(at: usize) -> Option<usize>
+    ensures { result ≡ index_below at }
+{
+    if at == 0 {
+        return None;
+    }
+    Some(at - 1)
 }
 
 /// Where the first of all turns begins.

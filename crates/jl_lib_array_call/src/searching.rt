@@ -126,7 +126,8 @@ fn search_element<'p>(
         (element object index then search_with direction object length sought index) state.new act) }
     ensures falls { IfOk result (λ act. Falls state.old 16 state.new act) }
 {
-    if !has_index(alloc, &state.store, object, index)? {
+    let there = has_index(alloc, &state.store, object, index)?;
+    if !there {
         let at = next_place(direction, index)?;
         return Ok(go_on_searching(state, object, length, sought, direction, at)?);
     }

@@ -194,7 +194,8 @@ fn copy_element<'p>(
     ensures falls { IfOk result (λ act. Falls state.old 16 state.new act) }
 {
     let from = sum(start, index)?;
-    if !has_index(alloc, &state.store, object, from)? {
+    let there = has_index(alloc, &state.store, object, from)?;
+    if !there {
         return Ok(next_copy(state, object, start, array, count, index)?);
     }
     let progress = ArrayCallProgress::CopyElement {

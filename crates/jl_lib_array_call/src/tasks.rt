@@ -48,7 +48,8 @@ pub(crate) fn end_task<'p>(
     match task {
         Task::Any { wanted } => Ok(Act::Give(Value::Bool(!wanted))),
         Task::ForEach => Ok(Act::Give(Value::Undefined)),
-        Task::Map { array } | Task::Filter { array, .. } => Ok(Act::Give(Value::Obj(array))),
+        Task::Map { array } => Ok(Act::Give(Value::Obj(array))),
+        Task::Filter { array, .. } => Ok(Act::Give(Value::Obj(array))),
         Task::Reduce { so_far, .. } => match so_far {
             Some(v) => Ok(Act::Give(v)),
             None => Ok(throw_native(alloc, state, ErrorKind::TypeError, "empty array")?),
@@ -96,10 +97,12 @@ fn ask<'p>(
     ensures falls { IfOk result (λ act. Falls state.old 14 state.new act) }
 {
     let element = share(alloc, &v)?;
+    let this = share(alloc, &walk.this)?;
+    let args = with_element(List::new(alloc), v, index, walk.object)?;
     let invocation = Invocation {
         callee: walk.function,
-        this: share(alloc, &walk.this)?,
-        args: with_element(List::new(alloc), v, index, walk.object)?,
+        this,
+        args,
         by_new: false,
     };
     let progress = ArrayCallProgress::Answer {
@@ -179,12 +182,13 @@ fn call_to_combine<'p>(
         (task_with (Task.Reduce (Some so_far) direction) (walk_of walk) index (Some v)) state.new act) }
     ensures falls { IfOk result (λ act. Falls state.old 14 state.new act) }
 {
-    let mut args = List::new(alloc);
-    args.push(so_far)?;
+    let mut before = List::new(alloc);
+    before.push(so_far)?;
+    let args = with_element(before, v, index, walk.object)?;
     let invocation = Invocation {
         callee: walk.function,
         this: Value::Undefined,
-        args: with_element(args, v, index, walk.object)?,
+        args,
         by_new: false,
     };
     let progress = ArrayCallProgress::Answer {
@@ -219,12 +223,7 @@ pub(crate) fn step_answer<'p>(
         Task::ForEach => Ok(go_on_walking(state, walk, Task::ForEach, next_index(index)?)?),
         Task::Map { array } => Ok(add_answer(alloc, state, walk, array, index, v)?),
         Task::Filter { array, to } => {
-            if to_boolean(&v) {
-                Ok(add_element(alloc, state, walk, array, to, index, element)?)
-            } else {
-                let task = Task::Filter { array, to };
-                Ok(go_on_walking(state, walk, task, next_index(index)?)?)
-            }
+            Ok(answer_filter(alloc, state, walk, array, to, index, element, &v)?)
         }
         Task::Reduce { direction, .. } => Ok(go_on_reducing(state, walk, v, direction, index)?),
     }
@@ -242,10 +241,34 @@ fn answer_any<'p>(
         state.new act) }
     ensures falls { IfOk result (λ act. Falls state.old 9 state.new act) }
 {
-    if to_boolean(v) == wanted {
+    let truth = to_boolean(v);
+    if truth == wanted {
         return Ok(Act::Give(Value::Bool(wanted)));
     }
-    Ok(go_on_walking(state, walk, Task::Any { wanted }, next_index(index)?)?)
+    let at = next_index(index)?;
+    Ok(go_on_walking(state, walk, Task::Any { wanted }, at)?)
+}
+
+/// `filter` keeps the element for a true answer.
+fn answer_filter<'p>(
+    alloc: Global,
+    state: &mut State<'p>,
+    walk: Walk,
+    array: ObjId,
+    to: usize,
+    index: usize,
+    element: Value,
+    v: &Value,
+) -> Result<Act<'p>, NoMemory>
+    ensures leads { IfOk result (λ act. Works state.old
+        (task_after (Task.Filter array to) (walk_of walk) index element v.now) state.new act) }
+    ensures falls { IfOk result (λ act. Falls state.old 9 state.new act) }
+{
+    if to_boolean(v) {
+        return Ok(add_element(alloc, state, walk, array, to, index, element)?);
+    }
+    let at = next_index(index)?;
+    Ok(go_on_walking(state, walk, Task::Filter { array, to }, at)?)
 }
 
 /// `map` makes an answer the element at the same index of its array.

@@ -1,11 +1,14 @@
-//! The functions that go through elements and call a function for each (15.4.4.16 to 15.4.4.22): how they begin, and their
-//! turns.
+//! The functions that go through elements and call a function for each (15.4.4.16 to 15.4.4.22): how they begin, and
+//! their turns.
 ghost use Rattle.std.specs.Prelude.{◌≡◌, [], pos, IfOk, Some};
 ghost use Rattle.jl_meaning.specs.Parts.{◌>>=◌ as ◌then◌};
 ghost use Rattle.jl_meaning.specs.builtins.Elements.{element};
-ghost use Rattle.jl_progress.specs.ArrayCalls.{begin_walk, task_with, turns, walk_of, with_length};
+ghost use Rattle.jl_meaning.specs.builtins.Arguments.{need_function};
+ghost use Rattle.jl_progress.specs.ArrayCalls.{argument_of, begin_walk, task_with, turns, walk_of, with_length};
 ghost use Rattle.jl_state.specs.Rank.{Falls};
 ghost use Rattle.jl_state.specs.Rest.{Works};
+ghost use Rattle.jl_store.specs.Answers.{answered};
+ghost use Rattle.jl_store.specs.Comes.{Comes};
 
 use crate::arguments::second;
 use crate::arrays::array_of_length;
@@ -15,7 +18,7 @@ use jl_builtin::{argument, fault_of, get_index, has_index, need_function};
 use jl_num::Num;
 use jl_progress::{ArrayCallProgress, LengthFor, Progress, Task, Walk, WalkFor};
 use jl_state::{Act, AlgorithmFrame, State};
-use jl_store::{Answer, Finished};
+use jl_store::{Answer, Finished, Store};
 use jl_text::{List, NoMemory};
 use jl_value::{Completion, ObjId, Value};
 use std::alloc::Global;
@@ -33,20 +36,34 @@ pub(crate) fn begin_walk<'p>(
         (with_length (LengthFor.Walk purpose) object args.now length) state.new act) }
     ensures falls { IfOk result (λ act. Falls state.old 9 state.new act) }
 {
-    let function = argument(alloc, args.items(), 0)?;
-    let answer = need_function(&mut state.store, &function)?;
+    let answer = function_in(alloc, &mut state.store, args)?;
     match answer {
         Answer::Throws(thrown) => Ok(Act::Complete(Completion::Throw(thrown))),
         Answer::Gives(function) => {
+            let this = argument(alloc, args.items(), 1)?;
             let walk = Walk {
                 object,
                 length,
                 function,
-                this: argument(alloc, args.items(), 1)?,
+                this,
             };
             Ok(begin_task(alloc, state, purpose, walk, args)?)
         }
     }
+}
+
+/// The function that the first argument is (15.4.4.16, step 4).
+fn function_in(
+    alloc: Global,
+    store: &mut Store,
+    args: &List<Value>,
+) -> Result<Answer<ObjId>, NoMemory>
+    ensures { IfOk result (λ answer. Comes (need_function (argument_of args.now 0)) store.old store.new
+        (answered answer)) }
+{
+    let v = argument(alloc, args.items(), 0)?;
+    let answer = need_function(store, &v)?;
+    Ok(answer)
 }
 
 /// What a walk is for begins, and the turns follow.
@@ -142,7 +159,8 @@ fn visit<'p>(
     ensures falls { IfOk result (λ act. Falls state.old 24 state.new act) }
 {
     let object = walk.object;
-    if !has_index(alloc, &state.store, object, index)? {
+    let there = has_index(alloc, &state.store, object, index)?;
+    if !there {
         let at = next_place(direction_of(&task), index)?;
         return Ok(go_on_walking(state, walk, task, at)?);
     }

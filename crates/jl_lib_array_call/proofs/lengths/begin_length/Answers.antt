@@ -7,13 +7,13 @@ use Rattle.jl_builtin.proofs.Ends.{answer_given, answer_thrown}
 use Rattle.jl_lib_array_call.proofs.lengths.begin_length.Goals as goal
 
 pub returns-in-Gives-clause-leads : goal.returns-in-Gives-clause-leads
-returns-in-Gives-clause-leads c = 
+returns-in-Gives-clause-leads c =
     answer_given c.args.state.now (record c.args.state.now { store = c.to_object.new.self }) refl
     (to_object c.args.call.this) (λ o. get_length o >>= with_length c.args.purpose o c.args.call.args)
     _ c.in_ok-answer.ensures _ _ _ c.in-Gives.is c.in_ok-get_length-in-Gives.ensures.leads
 
 pub returns-clause-leads : goal.returns-clause-leads
-returns-clause-leads c = 
+returns-clause-leads c =
     answer_thrown c.args.state.now (record c.args.state.now { store = c.to_object.new.self }) refl
     (to_object c.args.call.this) (λ o. get_length o >>= with_length c.args.purpose o c.args.call.args)
     _ c.in_ok-answer.ensures _ c.in-Throws.is

@@ -6,7 +6,7 @@ use Rattle.jl_builtin.proofs.Waits.{length_waits}
 use Rattle.jl_lib_array_call.proofs.lengths.get_length.Goals as goal
 
 pub returns-clause-leads : goal.returns-clause-leads
-returns-clause-leads c = 
+returns-clause-leads c =
     length_waits _ _ (progress.ArrayCall (array_call.Length c.args.object c.args.args c.args.purpose)) c.args.object _
     (with_length c.args.purpose c.args.object c.args.args) _ _ c.in_ok-name.ensures (λ v. refl)
     c.in_ok-push_algorithm.ensures.waits c.in_ok-get.ensures.leads

@@ -7,7 +7,7 @@ use Rattle.jl_builtin.proofs.Waits.{builtin_waits}
 use Rattle.jl_lib_array_call.proofs.lengths.step_length.Goals as goal
 
 pub returns-clause-leads : goal.returns-clause-leads
-returns-clause-leads c = 
+returns-clause-leads c =
     builtin_waits _ _ (progress.ArrayCall (array_call.LengthPrimitive c.args.object c.args.args c.args.purpose))
     (λ n. with_length c.args.purpose c.args.object c.args.args (uint32_of n)) c.args.v _ _ (λ w. refl)
     c.in_ok-push_algorithm.ensures.waits c.in_ok-to_primitive.ensures.leads

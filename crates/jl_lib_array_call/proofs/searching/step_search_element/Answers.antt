@@ -2,11 +2,11 @@ use Rattle.jl_lib_array_call.proofs.Searches.{search_found, search_passes}
 use Rattle.jl_lib_array_call.proofs.searching.step_search_element.Goals as goal
 
 pub returns-then-strict_equal-clause-leads : goal.returns-then-strict_equal-clause-leads
-returns-then-strict_equal-clause-leads c = 
+returns-then-strict_equal-clause-leads c =
     search_found _ c.args.direction c.args.object c.args.length c.args.sought c.args.index c.args.v.now _ _
     c.strict_equal.ensures c.if-strict_equal.true c.in_ok-index_or_none.ensures
 
 pub returns-clause-leads : goal.returns-clause-leads
-returns-clause-leads c = 
+returns-clause-leads c =
     search_passes _ c.args.direction c.args.object c.args.length c.args.sought c.args.index _ c.args.v.now _ _ _
     c.strict_equal.ensures c.if-strict_equal.false c.in_ok-at.ensures c.in_ok-go_on_searching.ensures.leads

@@ -1,13 +1,10 @@
-use Rattle.std.proofs.Common.{ap, refl, subst, ◌∙◌}
-use Rattle.jl_meaning.specs.builtins.Elements.{relative_index}
-use Rattle.jl_progress.specs.ArrayCalls.{argument_of, slice_to}
-use Rattle.jl_progress.specs.declared.array_call.ArrayCallProgress.TheVariants as array_call
-use Rattle.jl_progress.specs.declared.progress.Progress.TheVariants as progress
+use Rattle.std.proofs.Common.{ap, ◌∙◌}
+use Rattle.jl_progress.specs.ArrayCalls.{argument_of}
 use Rattle.jl_lib_array_call.proofs.Slices.{converts_start}
 use Rattle.jl_lib_array_call.proofs.slicing.slice.Goals as goal
 
 pub returns-clause-leads : goal.returns-clause-leads
-returns-clause-leads c = 
+returns-clause-leads c =
     converts_start _ _ c.args.object c.args.array c.args.length c.args.args.now _ _ _ _
     (c.in_ok-start.ensures ∙ ap (λ l. argument_of l 0) c.items.ensures)
     (c.in_ok-end.ensures ∙ ap (λ l. argument_of l 1) c.items-2.ensures)

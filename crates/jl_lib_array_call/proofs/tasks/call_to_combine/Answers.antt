@@ -1,0 +1,13 @@
+use Rattle.std.proofs.Common.{◌++◌, ◌∙◌, ◌∷◌, [], ap}
+use Rattle.jl_value.specs.declared.value.Value.TheVariants as value
+use Rattle.jl_meaning.specs.FunctionObjects.{whole}
+use Rattle.jl_lib_array_call.proofs.Answering.{combines_now}
+use Rattle.jl_lib_array_call.proofs.tasks.call_to_combine.Goals as goal
+
+pub returns-clause-leads : goal.returns-clause-leads
+returns-clause-leads c =
+    combines_now _ _ c.args.walk c.args.so_far c.args.v c.args.direction c.args.index _
+    (c.in_ok-args.ensures
+    ∙ ap (λ l. l ++ c.args.v ∷ whole c.args.index ∷ value.Obj c.args.walk.object ∷ [])
+    (c.in_ok-push.ensures.ok ∙ ap (λ l. l ++ c.args.so_far ∷ []) c.new-before.ensures))
+    c.in_ok-push_algorithm.ensures.waits

@@ -1,0 +1,11 @@
+use Rattle.std.proofs.Common.{refl}
+use Rattle.jl_lib_array_call.proofs.Answering.{any_over, nothing_reduced}
+use Rattle.jl_lib_array_call.proofs.tasks.end_task.Goals as goal
+
+pub returns-in-Any-clause-leads : goal.returns-in-Any-clause-leads
+returns-in-Any-clause-leads c =
+    any_over _ c.args.task _ c.in-Any.is
+
+pub returns-in_ok-throw_native-in-None-clause-leads : goal.returns-in_ok-throw_native-in-None-clause-leads
+returns-in_ok-throw_native-in-None-clause-leads c =
+    nothing_reduced _ c.args.task _ _ _ _ c.in-Reduce.is _ c.in-None.is refl c.in_ok-throw_native-in-None.ensures.leads
