@@ -26,9 +26,9 @@ returns-clause-ends g c =
     failed.fault failed.proper failed.front due.4
 
 pub returns-in-Ok-write_all-clause-headline : goal.returns-in-Ok-write_all-clause-headline
-returns-in-Ok-write_all-clause-headline g c = λ bytes p held is words lent answers tells.
+returns-in-Ok-write_all-clause-headline g c = λ bytes p held is words lent answers.
     let due = c.in-Ok.ensures.due in
     headline c.one_reading.ensures c.never_both.ensures
     (ends_answered due.0 c.in-Ok.answer.status c.deref.result.now due.2 (c.deref.ensures.value ∙ due.3) due.1
     c.in-Ok-write_all.ensures.all due.4)
-    bytes p (c.scripts_are_woven_well.ensures bytes p is) held is words lent answers tells
+    bytes p (c.scripts_are_woven_well.ensures bytes p is) held is words lent answers
