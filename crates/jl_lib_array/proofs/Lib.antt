@@ -1,4 +1,5 @@
 pub mod Appended
+pub mod Called
 pub mod Converted
 pub mod Copied
 pub mod Deleted

@@ -125,7 +125,8 @@ pub(crate) fn delete_then<'p>(
         (delete_index object index then λ _. array_after progress value.Undefined) state.new act) }
     ensures falls { IfOk result (λ act. Falls state.old (rank_array progress + 3) state.new act) }
 {
-    match delete_index(alloc, state, object, index)? {
+    let answer = delete_index(alloc, state, object, index)?;
+    match answer {
         Answer::Gives(()) => Ok(begin_turn(state, progress)?),
         Answer::Throws(thrown) => Ok(Act::Complete(Completion::Throw(thrown))),
     }
@@ -144,7 +145,8 @@ pub(crate) fn add_then<'p>(
         (add_index array index v then λ _. array_after progress value.Undefined) state.new act) }
     ensures falls { IfOk result (λ act. Falls state.old (rank_array progress + 3) state.new act) }
 {
-    match add_index(alloc, &mut state.store, array, index, v)? {
+    let answer = add_index(alloc, &mut state.store, array, index, v)?;
+    match answer {
         Finished::Gives(()) => Ok(begin_turn(state, progress)?),
         Finished::Throws(thrown) => Ok(Act::Complete(Completion::Throw(thrown))),
         Finished::Fails(fault) => Ok(Act::Fault(fault_of(fault))),

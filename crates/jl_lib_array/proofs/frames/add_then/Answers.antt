@@ -1,14 +1,24 @@
 use Rattle.std.proofs.Common.{refl}
-use Rattle.jl_lib_array.proofs.Stored.{finish_fails, finish_gives, finish_throws}
+use Rattle.jl_value.specs.declared.value.Value.TheVariants as value
+use Rattle.jl_meaning.specs.builtins.Elements.{add_index}
+use Rattle.jl_progress.specs.Arrays.{array_after}
+use Rattle.jl_builtin.proofs.Ends.{end_failed, end_given, end_thrown}
 use Rattle.jl_lib_array.proofs.frames.add_then.Goals as goal
 
-pub returns-in-Gives-clause-leads : goal.returns-in-Gives-clause-leads
-returns-in-Gives-clause-leads c =
-    finish_gives _ _ refl _ _ _ _ _ _ c.in-Gives.is c.in_ok-add_index.ensures c.in_ok-begin_turn.ensures.leads
+pub returns-in_ok-begin_turn-in-Gives-clause-leads : goal.returns-in_ok-begin_turn-in-Gives-clause-leads
+returns-in_ok-begin_turn-in-Gives-clause-leads c =
+    end_given c.args.state.now (record c.args.state.now { store = c.add_index.new.store }) refl
+    (add_index c.args.array c.args.index c.args.v) (λ _. array_after c.args.progress value.Undefined)
+    _ c.in_ok-answer.ensures _ _ _ c.in-Gives.is c.in_ok-begin_turn-in-Gives.ensures.leads
 
 pub returns-in-Throws-clause-leads : goal.returns-in-Throws-clause-leads
-returns-in-Throws-clause-leads c = finish_throws _ _ refl _ _ _ _ c.in-Throws.is c.in_ok-add_index.ensures
+returns-in-Throws-clause-leads c =
+    end_thrown c.args.state.now (record c.args.state.now { store = c.add_index.new.store }) refl
+    (add_index c.args.array c.args.index c.args.v) (λ _. array_after c.args.progress value.Undefined)
+    _ c.in_ok-answer.ensures _ c.in-Throws.is
 
 pub returns-in-Fails-clause-leads : goal.returns-in-Fails-clause-leads
 returns-in-Fails-clause-leads c =
-    finish_fails _ _ refl _ _ _ _ _ c.in-Fails.is c.fault_of.ensures c.in_ok-add_index.ensures
+    end_failed c.args.state.now (record c.args.state.now { store = c.add_index.new.store }) refl
+    (add_index c.args.array c.args.index c.args.v) (λ _. array_after c.args.progress value.Undefined)
+    _ c.in_ok-answer.ensures _ _ c.in-Fails.is c.fault_of.ensures
