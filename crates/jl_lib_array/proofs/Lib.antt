@@ -1,5 +1,6 @@
 pub mod Appended
 pub mod Called
+pub mod Cases
 pub mod Converted
 pub mod Copied
 pub mod Deleted
