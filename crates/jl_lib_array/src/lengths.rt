@@ -189,13 +189,14 @@ fn unshift<'p>(
         (with_length LengthFunction.Unshift object args length) state.new act) }
     ensures falls { IfOk result (λ act. Falls state.old 144 state.new act) }
 {
+    let added = args.len();
+    let after = sum(length, added)?;
     let moving = Moving {
         object,
         from: 0,
-        to: args.len(),
+        to: added,
         left: length,
     };
-    let after = sum(length, args.len())?;
     let then = AfterMoving::Unshift {
         args,
         length: after,

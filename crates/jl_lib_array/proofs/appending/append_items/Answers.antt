@@ -11,7 +11,7 @@ returns-in-None-clause-leads c =
 
 pub returns-then-not-spend-clause-leads : goal.returns-then-not-spend-clause-leads
 returns-then-not-spend-clause-leads c =
-    appends_spent c.args.state.now _ c.args.array c.args.next (drop c.args.from c.args.items)
+    appends_spent c.args.state.now c.args.array c.args.next _ (drop c.args.from c.args.items)
     (drop c.in-Some.after c.args.items) c.in-Some.v
     (some_from c.args.from c.in-Some.after c.items.result.now c.args.items c.in-Some.v c.in_ok-value_from.field-0
     c.items.ensures c.in_ok-value_from.ensures.found c.in-Some.is)
