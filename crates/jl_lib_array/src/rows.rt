@@ -65,10 +65,13 @@ fn is_built(alloc: Global, row: u16, args: &[Value]) -> Result<bool, NoMemory>
 /// The call of a builtin that isn't built ends the run.
 #[tactic(auto, unfolding(jl_value::specs::Builtins::builtin_names))]
 fn unsupported<'p>(row: u16) -> Act<'p>
-    requires { row < 42 }
+    requires { row < 102 }
     ensures { result ≡ Act.Fault (Fault.Unsupported row) }
 {
-    Act::Fault(Fault::Unsupported(Builtin::at(row).unwrap()))
+    match Builtin::at(row) {
+        Some(builtin) => Act::Fault(Fault::Unsupported(builtin)),
+        None => unreachable!(),
+    }
 }
 
 /// Begins a function on an object.
