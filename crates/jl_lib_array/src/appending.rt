@@ -161,11 +161,11 @@ pub(crate) fn step_concat_length<'p>(
 fn count_of(v: &Value) -> usize
     ensures { result ≡ count_of v.now }
 {
-    match v {
-        Value::Num(n) => match n.value() {
-            Some(n) => usize::try_from(n).unwrap_or(0),
-            None => 0,
-        },
+    let Value::Num(number) = v else {
+        return 0;
+    };
+    match number.value() {
+        Some(count) if count >= 0 => count as usize,
         _ => 0,
     }
 }
