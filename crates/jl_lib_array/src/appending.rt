@@ -1,5 +1,5 @@
 //! `concat` (15.4.4.4): the object, and then the arguments, are appended to a new array, one a turn.
-ghost use Rattle.std.specs.Prelude.{◌≡◌, ◌∷◌, false, true, drop, IfOk, MatchOption};
+ghost use Rattle.std.specs.Prelude.{◌≡◌, ◌+◌, ◌∷◌, false, true, drop, IfOk, MatchOption};
 ghost use Rattle.jl_heap.specs.Define.{count_of, length_name};
 ghost use Rattle.jl_effects.specs.Effects.{Step};
 ghost use Rattle.jl_lib_array.specs.inner.Rows.{concat_on};
