@@ -24,14 +24,13 @@ pub one_more : (n : ℕ) → (n ≡ 0 → ⊥) → suc (n - 1) ≡ n
 one_more zero some = absurd (some refl)
 one_more (suc n) some = omega arith
 
--- a value is put, and then a turn begins
-pub puts_then : (s t u : State) (a : Act) (o : ObjId) (i : ℕ) (v : Value) (p : ArrayProgress)
+-- something is done, and then a turn begins
+pub then_turn : {A : Type 0} (s t u : State) (a : Act) (q : Algorithm A) (p : ArrayProgress)
     → AlgorithmWaits s (algorithm.Builtin (progress.Array p)) t
-    → Works t (put_index o i v >>= λ _. give value.Undefined) u a
-    → Works s (put_index o i v >>= λ _. array_after p value.Undefined) u a
-puts_then s t u a o i v p waits leads =
-    subst (λ q. Works s q u a) (bind_assoc (put_index o i v) (λ _. give value.Undefined) (array_after p))
-    (waits.works (put_index o i v >>= λ _. give value.Undefined) u a leads)
+    → Works t (q >>= λ _. give value.Undefined) u a → Works s (q >>= λ _. array_after p value.Undefined) u a
+then_turn s t u a q p waits leads =
+    subst (λ r. Works s r u a) (bind_assoc q (λ _. give value.Undefined) (array_after p))
+    (waits.works (q >>= λ _. give value.Undefined) u a leads)
 
 module _ {A : Type 0} (s u : State) (a : Act) (turn : ℕ → A → Algorithm A) (l : A → Algorithm Value) where
   -- turns up

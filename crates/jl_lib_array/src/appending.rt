@@ -120,8 +120,8 @@ fn get_length<'p>(
         (get (value.Obj item) length_name then array_after progress) state.new act) }
     ensures falls { IfOk result (λ act. Falls state.old (rank_array progress + 4) state.new act) }
 {
-    let name = word(alloc, "length")?;
     wait(state, progress)?;
+    let name = word(alloc, "length")?;
     Ok(get(alloc, state, &Value::Obj(item), &name)?)
 }
 
