@@ -116,7 +116,7 @@ front (x ∷ l) rest = ap (λ k. x ∷ k) (front l rest)
 
 pub sorts_in_place : (l lent after : List KeyedValue) → lent ≡ l → after ≡ sort_by_keys lent
     → refill (length l) l after ≡ sort_by_keys l
-sorts_in_place l lent after same sorted = 
+sorts_in_place l lent after same sorted =
     let changed : after ≡ sort_by_keys l = sorted ∙ ap sort_by_keys same in
     ap (λ n. take n (after ++ drop (length after) l)) (sym (sorted_length l) ∙ ap length (sym changed))
     ∙ front after (drop (length after) l)

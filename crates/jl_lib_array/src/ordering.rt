@@ -37,10 +37,7 @@ pub(crate) fn in_order(
 }
 
 /// Elements are put in order.
-fn sort_elements(
-    alloc: Global,
-    elements: &mut [(Option<Text>, Value)],
-) -> Result<(), NoMemory>
+fn sort_elements(alloc: Global, elements: &mut [(Option<Text>, Value)]) -> Result<(), NoMemory>
     ensures { OnOk result (elements.new ≡ sort_by_keys elements.old) }
 {
     elements.sort_by(alloc, |a, b| order_of(a, b))?;
