@@ -7,8 +7,8 @@ returns-in_ok-without_last-in-Shift-clause-leads c =
 
 pub returns-in_ok-begin_turn-in-Delete-clause-leads : goal.returns-in_ok-begin_turn-in-Delete-clause-leads
 returns-in_ok-begin_turn-in-Delete-clause-leads c =
-    moved_delete _ _ _ c.args.object c.args.next _ _ _ c.in-Delete.is c.len-in-Delete.ensures
-    c.saturating_sub-left-in-Delete.ensures c.in_ok-begin_turn-in-Delete.ensures.leads
+    moved_delete _ _ _ c.args.object c.args.next _ _ _ c.in-Delete.is c.len.ensures
+    c.saturating_sub-left.ensures c.in_ok-begin_turn-in-Delete.ensures.leads
 
 pub returns-in_ok-put_items-in-Put-clause-leads : goal.returns-in_ok-put_items-in-Put-clause-leads
 returns-in_ok-put_items-in-Put-clause-leads c =

@@ -7,5 +7,5 @@ returns-in_ok-put_above-in-Some-clause-leads c =
 
 pub returns-in_ok-delete_then-in-None-clause-leads : goal.returns-in_ok-delete_then-in-None-clause-leads
 returns-in_ok-delete_then-in-None-clause-leads c =
-    deletes_exchanged _ _ _ c.args.reversing c.args.low _ _ c.in-None.is c.upper_of-upper.ensures
+    deletes_exchanged _ _ _ c.args.reversing c.args.low _ c.in_ok-progress-in-None.progress c.in-None.is c.upper_of-upper.ensures
     c.in_ok-progress-in-None.ensures.turn c.in_ok-delete_then-in-None.ensures.leads

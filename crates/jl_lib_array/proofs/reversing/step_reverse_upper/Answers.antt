@@ -19,4 +19,4 @@ pub returns-clause-leads : goal.returns-clause-leads
 returns-clause-leads c =
     none_there _ _ _ c.args.reversing c.args.low c.args.high _ _ c.in_ok-has_low.ensures
     (c.in_ok-has_high.ensures ∙ ap (has_index c.args.state.now.store c.args.reversing.object) c.upper_of.ensures)
-    c.if-has_high.false c.if-has_low.false _ c.in_ok-turn_after.ensures.turn c.in_ok-begin_turn.ensures.leads
+    c.if-has_high.false c.if-has_low.false c.in_ok-turn_after.field-0 c.in_ok-turn_after.ensures.turn c.in_ok-begin_turn.ensures.leads
