@@ -14,6 +14,5 @@ pub mod Read
 pub mod Spliced
 pub mod Stable
 pub mod Starts
-pub mod Stored
 pub mod Turns
 pub mod Waiting
