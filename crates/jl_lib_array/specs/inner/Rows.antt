@@ -1,5 +1,6 @@
 -- The functions of arrays that change or copy, after ToObject of what they are called on.
-use Rattle.std.specs.Prelude.{codes, false, if◌then◌else◌, length, slice_index_or, true, ◌+◌, ◌-◌, ◌==◌, ◌∷◌, Bool, List, ℕ}
+use Rattle.std.specs.Prelude.{codes, false, if◌then◌else◌, length, slice_index_or, true, ◌+◌, ◌-◌, ◌==◌, ◌∷◌, Bool}
+use Rattle.std.specs.Prelude.{List, ℕ}
 use Rattle.jl_value.specs.declared.object.ObjId.{ObjId}
 use Rattle.jl_value.specs.declared.value.Value.{Value}
 use Rattle.jl_value.specs.declared.value.Value.TheVariants as value

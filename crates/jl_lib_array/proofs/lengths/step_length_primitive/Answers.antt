@@ -16,5 +16,5 @@ returns-clause-leads c =
     number_given c.args.state.now c.args.p.now _ _
     (λ n. with_length c.args.function c.args.object c.args.args (uint32_of n)) _ _ c.number_of_primitive.ensures
     c.in-Some.is
-    (subst (λ m. Works c.args.state.now (with_length c.args.function c.args.object c.args.args m) c.with_length.new.state
-    c.in_ok-with_length.field-0) c.length_of.ensures c.in_ok-with_length.ensures.leads)
+    (subst (λ m. Works c.args.state.now (with_length c.args.function c.args.object c.args.args m)
+    c.with_length.new.state c.in_ok-with_length.field-0) c.length_of.ensures c.in_ok-with_length.ensures.leads)
