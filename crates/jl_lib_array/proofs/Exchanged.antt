@@ -1,18 +1,15 @@
 -- `reverse`: two elements that change places.
-use Rattle.std.proofs.Common.{◌≡◌, ◌∙◌, ◌+◌, ◌-◌, ap, false, refl, subst, suc, sym, true, zero, Bool, None, Option}
+use Rattle.std.proofs.Common.{◌≡◌, ◌∙◌, ◌+◌, ◌-◌, ap, false, refl, subst, sym, true, Bool, None, Option}
 use Rattle.std.proofs.Common.{Some, ℕ}
 use mathlib.Core.Path.{fun_ext}
 use Rattle.std.specs.Prelude.{if◌then◌else◌}
 use Rattle.jl_value.specs.declared.object.ObjId.{ObjId}
 use Rattle.jl_value.specs.declared.value.Value.{Value}
 use Rattle.jl_value.specs.declared.value.Value.TheVariants as value
-use Rattle.jl_effects.specs.Effects.{Look}
-use Rattle.jl_meaning.specs.Parts.{give, look, ◌>>=◌, Algorithm}
-use Rattle.jl_meaning.specs.Store.{Store}
+use Rattle.jl_meaning.specs.Parts.{look, ◌>>=◌, Algorithm}
 use Rattle.jl_meaning.specs.builtins.Arguments.{give_object}
 use Rattle.jl_meaning.specs.builtins.ArrayChanges.{exchange, reverse_turn}
 use Rattle.jl_meaning.specs.builtins.Elements.{delete_index, get_index, has_index, put_index, put_or_delete}
-use Rattle.jl_meaning.specs.builtins.Turns.{upward}
 use Rattle.jl_progress.specs.Arrays.{array_after, reverse_others, upper_of}
 use Rattle.jl_progress.specs.declared.array.ArrayProgress.{ArrayProgress}
 use Rattle.jl_progress.specs.declared.array.ArrayProgress.TheVariants as array

@@ -8,7 +8,7 @@ use Rattle.jl_value.specs.declared.object.ObjId.{ObjId}
 use Rattle.jl_value.specs.declared.value.Value.{Value}
 use Rattle.jl_effects.specs.Effects.{Step}
 use Rattle.jl_meaning.specs.Parts.{give, ◌>>=◌, Algorithm}
-use Rattle.jl_meaning.specs.builtins.ArrayChanges.{give_nothing, make_room, pop_last, shift_first}
+use Rattle.jl_meaning.specs.builtins.ArrayChanges.{give_nothing, pop_last, shift_first}
 use Rattle.jl_meaning.specs.builtins.Elements.{delete_index, get_index, has_index, move_element, put_index}
 use Rattle.jl_meaning.specs.builtins.Elements.{put_or_delete}
 use Rattle.jl_meaning.specs.builtins.Turns.{downward, upward}
@@ -28,7 +28,7 @@ use Rattle.jl_state.specs.Steps.{RanOut, Took}
 use Rattle.jl_state.specs.declared.act.Act.{Act}
 use Rattle.jl_state.specs.declared.act.Act.TheVariants as act
 use Rattle.jl_state.specs.declared.state.State.{State}
-use Rattle.jl_algorithm.proofs.Chains.{bind_assoc, works_assoc}
+use Rattle.jl_algorithm.proofs.Chains.{works_assoc}
 use Rattle.jl_lib_array.specs.inner.Rows.{close_gap, open_gap}
 use Rattle.jl_lib_array.proofs.Found.{element_missing, element_there}
 use Rattle.jl_lib_array.proofs.Turns.{downward_ends, downward_spent, downward_takes, one_more, upward_ends}

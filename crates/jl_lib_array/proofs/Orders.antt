@@ -1,5 +1,5 @@
 -- The order in which `sort` puts elements.
-use Rattle.std.proofs.Common.{◌≡◌, ◌∙◌, ◌+◌, ◌++◌, ◌∷◌, [], ap, cond, drop, length, refl, suc, sym, subst, take}
+use Rattle.std.proofs.Common.{◌≡◌, ◌∙◌, ◌++◌, ◌∷◌, [], ap, cond, drop, length, refl, suc, sym, subst, take}
 use Rattle.std.proofs.Common.{false, true, Bool, List, None, Option, Some, ℕ}
 use mathlib.Core.Path.{fun_ext}
 use Rattle.std.specs.Prelude.{if◌then◌else◌}

@@ -1,5 +1,5 @@
 -- `sort`: elements that are read, each with the string that it is compared by.
-use Rattle.std.proofs.Common.{◌≡◌, ◌∙◌, ◌+◌, ◌-◌, ◌++◌, ◌∷◌, [], ap, false, map, refl, subst, sym, true, Bool, List, None}
+use Rattle.std.proofs.Common.{◌≡◌, ◌∙◌, ◌+◌, ◌-◌, ◌++◌, ◌∷◌, [], ap, false, map, subst, sym, true, Bool, List, None}
 use Rattle.std.proofs.Common.{Option, Some, ℕ}
 use Rattle.jl_value.specs.declared.value.Value.{Value}
 use Rattle.jl_value.specs.declared.value.Value.TheVariants as value
