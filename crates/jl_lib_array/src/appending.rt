@@ -39,26 +39,26 @@ pub(crate) fn concat<'p>(
     Ok(append_items(alloc, state, array, 0, items, 0)?)
 }
 
-/// The items from an index on are appended, one a turn, and then the array is given.
+/// The values from an index on are appended, one a turn, and then the array is given.
 pub(crate) fn append_items<'p>(
     alloc: Global,
     state: &mut State<'p>,
     array: ObjId,
     next: usize,
-    items: List<Value>,
+    values: List<Value>,
     from: usize,
 ) -> Result<Act<'p>, NoMemory>
     ensures leads { IfOk result (λ act. Works state.old
-        (append_all array next (drop from items) then λ _. give_object array) state.new act) }
+        (append_all array next (drop from values) then λ _. give_object array) state.new act) }
     ensures falls { IfOk result (λ act. Falls state.old 8 state.new act) }
 {
-    match value_from(alloc, items.items(), from)? {
+    match value_from(alloc, values.items(), from)? {
         None => Ok(Act::Give(Value::Obj(array))),
         Some((v, after)) => {
             if !state.spend() {
                 return Ok(Act::Spent);
             }
-            Ok(append_item(alloc, state, array, next, v, items, after)?)
+            Ok(append_item(alloc, state, array, next, v, values, after)?)
         }
     }
 }

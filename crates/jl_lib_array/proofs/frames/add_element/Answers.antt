@@ -15,7 +15,7 @@ returns-in-Throws-clause-leads c =
     end_thrown c.args.state.now (record c.args.state.now { store = c.add_index.new.store }) refl
     (add_index c.args.array c.args.index c.args.v) (λ _. give value.Undefined) _ c.in_ok-answer.ensures _ c.in-Throws.is
 
-pub returns-clause-leads : goal.returns-clause-leads
-returns-clause-leads c =
+pub returns-in-Fails-clause-leads : goal.returns-in-Fails-clause-leads
+returns-in-Fails-clause-leads c =
     end_failed c.args.state.now (record c.args.state.now { store = c.add_index.new.store }) refl
     (add_index c.args.array c.args.index c.args.v) (λ _. give value.Undefined) _ c.in_ok-answer.ensures _ _ c.in-Fails.is c.fault_of.ensures

@@ -10,7 +10,7 @@ returns-in-Gives-clause-leads c =
     answer_given c.args.state.now _ c.delete_index.ensures.stored (delete_index c.args.object c.args.index)
     (λ _. give value.Undefined) _ c.in_ok-answer.ensures.comes _ _ _ c.in-Gives.is (record { is = λ kept told. refl })
 
-pub returns-clause-leads : goal.returns-clause-leads
-returns-clause-leads c =
+pub returns-in-Throws-clause-leads : goal.returns-in-Throws-clause-leads
+returns-in-Throws-clause-leads c =
     answer_thrown c.args.state.now _ c.delete_index.ensures.stored (delete_index c.args.object c.args.index)
     (λ _. give value.Undefined) _ c.in_ok-answer.ensures.comes _ c.in-Throws.is

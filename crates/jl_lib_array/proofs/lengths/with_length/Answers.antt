@@ -14,8 +14,8 @@ returns-in-Pop-clause-leads c =
     c.in-Pop.is refl
     c.in_ok-pop_last-in-Pop.ensures.leads
 
-pub returns-in_ok-push-in-Push-clause-leads : goal.returns-in_ok-push-in-Push-clause-leads
-returns-in_ok-push-in-Push-clause-leads c =
+pub returns-in-Push-clause-leads : goal.returns-in-Push-clause-leads
+returns-in-Push-clause-leads c =
     with_function c.args.state.now _ _ c.args.function _ c.args.object c.args.args c.args.args c.args.length
     c.in-Push.is refl
     c.in_ok-push-in-Push.ensures.leads
@@ -38,14 +38,14 @@ returns-in-Sort-clause-leads c =
     c.in-Sort.is refl
     (c.in_ok-sort-in-Sort.ensures.leads c.args.args)
 
-pub returns-in_ok-splice-in-Splice-clause-leads : goal.returns-in_ok-splice-in-Splice-clause-leads
-returns-in_ok-splice-in-Splice-clause-leads c =
+pub returns-in-Splice-clause-leads : goal.returns-in-Splice-clause-leads
+returns-in-Splice-clause-leads c =
     with_function c.args.state.now _ _ c.args.function _ c.args.object c.args.args c.args.args c.args.length
     c.in-Splice.is refl
     c.in_ok-splice-in-Splice.ensures.leads
 
-pub returns-in_ok-unshift-in-Unshift-clause-leads : goal.returns-in_ok-unshift-in-Unshift-clause-leads
-returns-in_ok-unshift-in-Unshift-clause-leads c =
+pub returns-clause-leads : goal.returns-clause-leads
+returns-clause-leads c =
     with_function c.args.state.now _ _ c.args.function _ c.args.object c.args.args c.args.args c.args.length
     c.in-Unshift.is refl
     c.in_ok-unshift-in-Unshift.ensures.leads

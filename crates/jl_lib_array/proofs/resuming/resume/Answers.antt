@@ -10,8 +10,8 @@ returns-in-Join c = record {
       c.in_ok-step_join_property-in-Join.ensures.falls;
 }
 
-pub returns-in_ok-step_length-in-Length : goal.returns-in_ok-step_length-in-Length
-returns-in_ok-step_length-in-Length c = record {
+pub returns-in-Length : goal.returns-in-Length
+returns-in-Length c = record {
   leads = resumes c.args.state.now _ _ c.args.progress _ c.args.v c.in-Length.is
       c.in_ok-step_length-in-Length.ensures.leads;
   falls = falls_at c.args.state.now _ _ c.args.progress _ 162 c.in-Length.is (omega arith)
@@ -50,8 +50,8 @@ returns-in-CopyTurn c = record {
       c.in_ok-copy_turn-in-CopyTurn.ensures.falls;
 }
 
-pub returns-in_ok-step_copy_element-in-CopyElement : goal.returns-in_ok-step_copy_element-in-CopyElement
-returns-in_ok-step_copy_element-in-CopyElement c = record {
+pub returns-in-CopyElement : goal.returns-in-CopyElement
+returns-in-CopyElement c = record {
   leads = resumes c.args.state.now _ _ c.args.progress _ c.args.v c.in-CopyElement.is
       c.in_ok-step_copy_element-in-CopyElement.ensures.leads;
   falls = falls_at c.args.state.now _ _ c.args.progress _ 92 c.in-CopyElement.is (omega arith)
@@ -66,8 +66,8 @@ returns-in-JoinSeparator c = record {
       c.in_ok-step_join_separator-in-JoinSeparator.ensures.falls;
 }
 
-pub returns-in_ok-step_join_first-in-JoinFirst : goal.returns-in_ok-step_join_first-in-JoinFirst
-returns-in_ok-step_join_first-in-JoinFirst c = record {
+pub returns-in-JoinFirst : goal.returns-in-JoinFirst
+returns-in-JoinFirst c = record {
   leads = resumes c.args.state.now _ _ c.args.progress _ c.args.v c.in-JoinFirst.is
       c.in_ok-step_join_first-in-JoinFirst.ensures.leads;
   falls = falls_at c.args.state.now _ _ c.args.progress _ 32 c.in-JoinFirst.is (omega arith)
@@ -90,8 +90,8 @@ returns-in-JoinTurn c = record {
       c.in_ok-join_turn_begins-in-JoinTurn.ensures.falls;
 }
 
-pub returns-in_ok-step_join_element-in-JoinElement : goal.returns-in_ok-step_join_element-in-JoinElement
-returns-in_ok-step_join_element-in-JoinElement c = record {
+pub returns-in-JoinElement : goal.returns-in-JoinElement
+returns-in-JoinElement c = record {
   leads = resumes c.args.state.now _ _ c.args.progress _ c.args.v c.in-JoinElement.is
       c.in_ok-step_join_element-in-JoinElement.ensures.leads;
   falls = falls_at c.args.state.now _ _ c.args.progress _ 32 c.in-JoinElement.is (omega arith)
@@ -106,8 +106,8 @@ returns-in-JoinElementPrimitive c = record {
       c.in_ok-step_join_element_primitive-in-JoinElementPrimitive.ensures.falls;
 }
 
-pub returns-in_ok-without_last-in-PopElement : goal.returns-in_ok-without_last-in-PopElement
-returns-in_ok-without_last-in-PopElement c = record {
+pub returns-in-PopElement : goal.returns-in-PopElement
+returns-in-PopElement c = record {
   leads = resumes c.args.state.now _ _ c.args.progress _ c.args.v c.in-PopElement.is
       c.in_ok-without_last-in-PopElement.ensures.leads;
   falls = falls_at c.args.state.now _ _ c.args.progress _ 42 c.in-PopElement.is (omega arith)
@@ -130,16 +130,16 @@ returns-in-ReverseTurn c = record {
       c.in_ok-reverse_turn-in-ReverseTurn.ensures.falls;
 }
 
-pub returns-in_ok-step_reverse_lower-in-ReverseLower : goal.returns-in_ok-step_reverse_lower-in-ReverseLower
-returns-in_ok-step_reverse_lower-in-ReverseLower c = record {
+pub returns-in-ReverseLower : goal.returns-in-ReverseLower
+returns-in-ReverseLower c = record {
   leads = resumes c.args.state.now _ _ c.args.progress _ c.args.v c.in-ReverseLower.is
       c.in_ok-step_reverse_lower-in-ReverseLower.ensures.leads;
   falls = falls_at c.args.state.now _ _ c.args.progress _ 112 c.in-ReverseLower.is (omega arith)
       c.in_ok-step_reverse_lower-in-ReverseLower.ensures.falls;
 }
 
-pub returns-in_ok-step_reverse_upper-in-ReverseUpper : goal.returns-in_ok-step_reverse_upper-in-ReverseUpper
-returns-in_ok-step_reverse_upper-in-ReverseUpper c = record {
+pub returns-in-ReverseUpper : goal.returns-in-ReverseUpper
+returns-in-ReverseUpper c = record {
   leads = resumes c.args.state.now _ _ c.args.progress _ c.args.v c.in-ReverseUpper.is
       c.in_ok-step_reverse_upper-in-ReverseUpper.ensures.leads;
   falls = falls_at c.args.state.now _ _ c.args.progress _ 102 c.in-ReverseUpper.is (omega arith)
@@ -154,8 +154,8 @@ returns-in-ReverseExchange c = record {
       c.in_ok-step_reverse_exchange-in-ReverseExchange.ensures.falls;
 }
 
-pub returns-in_ok-step_shift_first-in-ShiftFirst : goal.returns-in_ok-step_shift_first-in-ShiftFirst
-returns-in_ok-step_shift_first-in-ShiftFirst c = record {
+pub returns-in-ShiftFirst : goal.returns-in-ShiftFirst
+returns-in-ShiftFirst c = record {
   leads = resumes c.args.state.now _ _ c.args.progress _ c.args.v c.in-ShiftFirst.is
       c.in_ok-step_shift_first-in-ShiftFirst.ensures.leads;
   falls = falls_at c.args.state.now _ _ c.args.progress _ 82 c.in-ShiftFirst.is (omega arith)
@@ -170,8 +170,8 @@ returns-in-MoveUp c = record {
       c.in_ok-move_up_turn-in-MoveUp.ensures.falls;
 }
 
-pub returns-in_ok-step_move_up_element-in-MoveUpElement : goal.returns-in_ok-step_move_up_element-in-MoveUpElement
-returns-in_ok-step_move_up_element-in-MoveUpElement c = record {
+pub returns-in-MoveUpElement : goal.returns-in-MoveUpElement
+returns-in-MoveUpElement c = record {
   leads = resumes c.args.state.now _ _ c.args.progress _ c.args.v c.in-MoveUpElement.is
       c.in_ok-step_move_up_element-in-MoveUpElement.ensures.leads;
   falls = falls_at c.args.state.now _ _ c.args.progress _ 122 c.in-MoveUpElement.is (omega arith)
@@ -186,9 +186,8 @@ returns-in-MoveDown c = record {
       c.in_ok-move_down_turn-in-MoveDown.ensures.falls;
 }
 
-pub returns-in_ok-step_move_down_element-in-MoveDownElement :
-    goal.returns-in_ok-step_move_down_element-in-MoveDownElement
-returns-in_ok-step_move_down_element-in-MoveDownElement c = record {
+pub returns-in-MoveDownElement : goal.returns-in-MoveDownElement
+returns-in-MoveDownElement c = record {
   leads = resumes c.args.state.now _ _ c.args.progress _ c.args.v c.in-MoveDownElement.is
       c.in_ok-step_move_down_element-in-MoveDownElement.ensures.leads;
   falls = falls_at c.args.state.now _ _ c.args.progress _ 122 c.in-MoveDownElement.is (omega arith)
@@ -203,8 +202,8 @@ returns-in-SortTurn c = record {
       c.in_ok-sort_turn-in-SortTurn.ensures.falls;
 }
 
-pub returns-in_ok-step_sort_element-in-SortElement : goal.returns-in_ok-step_sort_element-in-SortElement
-returns-in_ok-step_sort_element-in-SortElement c = record {
+pub returns-in-SortElement : goal.returns-in-SortElement
+returns-in-SortElement c = record {
   leads = resumes c.args.state.now _ _ c.args.progress _ c.args.v c.in-SortElement.is
       c.in_ok-step_sort_element-in-SortElement.ensures.leads;
   falls = falls_at c.args.state.now _ _ c.args.progress _ 102 c.in-SortElement.is (omega arith)
