@@ -2,10 +2,9 @@
 use Rattle.std.proofs.Common.{◌≡◌, ◌+◌, ◌≤◌, arith, subst, sym, List, ℕ}
 use Rattle.jl_value.specs.declared.object.ObjId.{ObjId}
 use Rattle.jl_value.specs.declared.value.Value.{Value}
-use Rattle.jl_progress.specs.Arrays.{after_copying, after_putting, array_after, rank_array, with_length}
-use Rattle.jl_progress.specs.declared.array.AfterCopying.{AfterCopying}
-use Rattle.jl_progress.specs.declared.array.AfterPutting.{AfterPutting}
+use Rattle.jl_progress.specs.Arrays.{array_after, rank_array, with_length}
 use Rattle.jl_progress.specs.declared.array.ArrayProgress.{ArrayProgress}
+use Rattle.jl_progress.specs.declared.array.ArrayProgress.TheVariants as progress
 use Rattle.jl_progress.specs.declared.array.LengthFunction.{LengthFunction}
 use Rattle.jl_state.specs.Rank.{Falls}
 use Rattle.jl_state.specs.Rest.{Works}
@@ -29,10 +28,10 @@ module _ (s t : State) (a : Act) where
       subst (λ h. Works s (with_length h o args n) t a) (sym is)
       (subst (λ (k : List Value). Works s (with_length g o k n) t a) same leads)
 
-  pub copied_so : (o : ObjId) (x y : AfterCopying) → x ≡ y → Works s (after_copying o y) t a
-      → Works s (after_copying o x) t a
-  copied_so o x y is leads = subst (λ z. Works s (after_copying o z) t a) (sym is) leads
-
-  pub put_so : (o : ObjId) (n : ℕ) (x y : AfterPutting) → x ≡ y → Works s (after_putting o y n) t a
-      → Works s (after_putting o x n) t a
-  put_so o n x y is leads = subst (λ z. Works s (after_putting o z n) t a) (sym is) leads
+  -- the second argument of splice, with the arguments as a slice
+  pub resumes_count : (p : ArrayProgress) (o array : ObjId) (n start : ℕ) (args l : List Value) (v : Value)
+      → p ≡ progress.SpliceCount o array n start args → l ≡ args
+      → Works s (array_after (progress.SpliceCount o array n start l) v) t a → Works s (array_after p v) t a
+  resumes_count p o array n start args l v is same leads =
+      resumes p (progress.SpliceCount o array n start args) v is
+      (subst (λ (k : List Value). Works s (array_after (progress.SpliceCount o array n start k) v) t a) same leads)

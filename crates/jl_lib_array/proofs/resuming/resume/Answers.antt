@@ -1,5 +1,5 @@
 use Rattle.std.proofs.Common.{arith}
-use Rattle.jl_lib_array.proofs.Cases.{falls_at, resumes}
+use Rattle.jl_lib_array.proofs.Cases.{falls_at, resumes, resumes_count}
 use Rattle.jl_lib_array.proofs.resuming.resume.Goals as goal
 
 pub returns-in-Join : goal.returns-in-Join
@@ -236,7 +236,7 @@ returns-in-SpliceStart c = record {
 
 pub returns-in-SpliceCount : goal.returns-in-SpliceCount
 returns-in-SpliceCount c = record {
-  leads = resumes c.args.state.now _ _ c.args.progress _ c.args.v c.in-SpliceCount.is
+  leads = resumes_count c.args.state.now _ _ c.args.progress _ _ _ _ _ _ c.args.v c.in-SpliceCount.is c.items.ensures
       c.in_ok-step_splice_count-in-SpliceCount.ensures.leads;
   falls = falls_at c.args.state.now _ _ c.args.progress _ 92 c.in-SpliceCount.is (omega arith)
       c.in_ok-step_splice_count-in-SpliceCount.ensures.falls;

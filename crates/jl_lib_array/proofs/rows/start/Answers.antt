@@ -14,8 +14,8 @@ returns-then-not-built-clause-leads c =
     (ap (λ (l : List Value). is_built c.args.row l) (sym c.items.ensures) ∙ sym c.in_ok-built.ensures
     ∙ c.if-not-built.true) c.unsupported.ensures
 
-pub returns-in_ok-start_on-in-Gives-clause-leads : goal.returns-in_ok-start_on-in-Gives-clause-leads
-returns-in_ok-start_on-in-Gives-clause-leads c =
+pub returns-in-Gives-clause-leads : goal.returns-in-Gives-clause-leads
+returns-in-Gives-clause-leads c =
     starts (names_of (table_of c.args.state.now.functions)) (call_of c.args.call) c.args.state.now _ _ c.args.row
     c.requires.belongs
     (ap (λ (l : List Value). is_built c.args.row l) (sym c.items.ensures) ∙ sym c.in_ok-built.ensures
@@ -24,8 +24,8 @@ returns-in_ok-start_on-in-Gives-clause-leads c =
     (to_object c.args.call.this) (λ o. function_on c.args.row o c.args.call.args) _ c.in_ok-answer.ensures _ _ _
     c.in-Gives.is c.in_ok-start_on-in-Gives.ensures.leads)
 
-pub returns-in-Throws-clause-leads : goal.returns-in-Throws-clause-leads
-returns-in-Throws-clause-leads c =
+pub returns-clause-leads : goal.returns-clause-leads
+returns-clause-leads c =
     starts (names_of (table_of c.args.state.now.functions)) (call_of c.args.call) c.args.state.now _ _ c.args.row
     c.requires.belongs
     (ap (λ (l : List Value). is_built c.args.row l) (sym c.items.ensures) ∙ sym c.in_ok-built.ensures
