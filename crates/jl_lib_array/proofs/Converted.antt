@@ -1,6 +1,5 @@
 -- Values that are converted, and then gone on with.
-use Rattle.std.proofs.Common.{◌≡◌, ◌∙◌, codes, refl, subst, sym, List, Some, ℕ}
-use Rattle.std.proofs.Common.{ℤ}
+use Rattle.std.proofs.Common.{◌≡◌, ◌∙◌, codes, refl, subst, sym, List, Some, ℕ, ℤ}
 use Rattle.jl_num.specs.Bits.{uint32_of}
 use Rattle.jl_num.specs.Number.{Number}
 use Rattle.jl_value.specs.declared.object.ObjId.{ObjId}

@@ -1,8 +1,6 @@
 -- Elements that are copied to a new array, one a turn.
-use Rattle.std.proofs.Common.{◌≡◌, ◌+◌, ◌-◌, false, refl, subst, sym, true, Bool, Option, ℕ}
-use Rattle.jl_value.specs.declared.object.ObjId.{ObjId}
+use Rattle.std.proofs.Common.{◌≡◌, ◌+◌, ◌-◌, false, subst, true, Bool, ℕ}
 use Rattle.jl_value.specs.declared.value.Value.{Value}
-use Rattle.jl_value.specs.declared.value.Value.TheVariants as value
 use Rattle.jl_meaning.specs.Parts.{◌>>=◌, Algorithm}
 use Rattle.jl_meaning.specs.builtins.Elements.{add_if, add_index, copy_element, get_index, has_index}
 use Rattle.jl_progress.specs.Arrays.{after_copying, array_after, copy_others}

@@ -1,7 +1,6 @@
 -- Elements that are there, and that are not.
-use Rattle.std.proofs.Common.{◌≡◌, ◌∙◌, ◌∷◌, [], ap, drop, false, refl, subst, sym, true, Bool, List, None, Option}
+use Rattle.std.proofs.Common.{◌≡◌, ◌∙◌, ◌∷◌, [], ap, drop, false, subst, sym, true, Bool, List, None, Option}
 use Rattle.std.proofs.Common.{Some, ℕ}
-use mathlib.Core.Path.{fun_ext}
 use Rattle.std.specs.Prelude.{MatchOption}
 use Rattle.jl_value.specs.declared.object.ObjId.{ObjId}
 use Rattle.jl_value.specs.declared.value.Value.{Value}

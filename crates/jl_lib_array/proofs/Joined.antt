@@ -1,5 +1,5 @@
 -- `join`: lines that are within the length of a string.
-use Rattle.std.proofs.Common.{◌≡◌, ◌∙◌, ◌+◌, ◌++◌, ◌-◌, ◌≤◌, [], ap, arith, codes, false, length, not, refl, subst}
+use Rattle.std.proofs.Common.{◌≡◌, ◌∙◌, ◌+◌, ◌++◌, ◌-◌, ◌≤◌, [], ap, codes, false, length, not, refl, subst}
 use Rattle.std.proofs.Common.{suc, sym, true}
 use Rattle.std.proofs.Common.{zero, Bool, List, ℕ}
 use mathlib.Core.Path.{fun_ext}
@@ -21,7 +21,7 @@ use Rattle.jl_meaning.specs.builtins.Array.{element_string, join_elements, join_
 use Rattle.jl_meaning.specs.builtins.Elements.{get_index}
 use Rattle.jl_meaning.specs.builtins.Turns.{upward}
 use Rattle.jl_builtin.specs.Values.{is_undefined}
-use Rattle.jl_progress.specs.Arrays.{array_after, join_first, join_next, join_others, with_length}
+use Rattle.jl_progress.specs.Arrays.{array_after, join_first, join_others, with_length}
 use Rattle.jl_progress.specs.declared.array.ArrayProgress.TheVariants as array
 use Rattle.jl_progress.specs.declared.array.Joining.{Joining}
 use Rattle.jl_progress.specs.declared.array.LengthFunction.TheVariants as for_length
@@ -73,9 +73,6 @@ module _ (o : ObjId) (separator : List ℕ) where
       (fun_ext (λ x. ap (λ (f : List ℕ → Algorithm Value). element_string o i >>= f)
       (fun_ext (λ y. within_alike (x ++ y) k l alike))))
       ∙ sym (apart i line l)
-
-  checked : List ℕ → Algorithm Value
-  checked line = string_within line >>= give_string
 
   -- a line that is short enough stays so
   stays_within : (left k : ℕ) (line : List ℕ) → IsWithin line

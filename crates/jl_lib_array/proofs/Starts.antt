@@ -1,5 +1,5 @@
 -- The rows of the table, as functions on an object.
-use Rattle.std.proofs.Common.{◌≡◌, ◌∙◌, ◌+◌, ◌-◌, ◌<◌, ◌≤◌, ◌≢◌, arith, false, refl, subst, suc, sym, true, zero}
+use Rattle.std.proofs.Common.{◌≡◌, ◌+◌, ◌-◌, ◌<◌, arith, false, refl, subst, suc, sym, true, zero}
 use Rattle.std.proofs.Common.{eqb, inl, inr, ◌⊎◌, List, ℕ}
 use Rattle.std.specs.Prelude.{if◌then◌else◌, ◌==◌}
 use Rattle.std.proofs.lemmas.Bool.Decides.{eqb_tells, nat_tests}
