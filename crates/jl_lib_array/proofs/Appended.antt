@@ -1,12 +1,11 @@
 -- `concat`: items that are appended.
-use Rattle.std.proofs.Common.{◌≡◌, ◌∙◌, ◌+◌, ◌++◌, ◌∷◌, [], ap, codes, drop, false, refl, subst, sym, true, Bool}
+use Rattle.std.proofs.Common.{◌≡◌, ◌∙◌, ◌+◌, ◌++◌, ◌∷◌, [], ap, drop, false, subst, sym, true, Bool}
 use Rattle.std.proofs.Common.{List, ℕ}
 use mathlib.Core.Path.{fun_ext}
 use Rattle.jl_value.specs.declared.object.ObjId.{ObjId}
 use Rattle.jl_value.specs.declared.value.Value.{Value}
 use Rattle.jl_value.specs.declared.value.Value.TheVariants as value
 use Rattle.jl_heap.specs.Define.{count_of, length_name}
-use Rattle.jl_heap.specs.Objects.{Name}
 use Rattle.jl_effects.specs.Running.{Ends}
 use Rattle.jl_meaning.specs.Getting.{get}
 use Rattle.jl_meaning.specs.Parts.{give, gives, ◌>>=◌, Algorithm}
@@ -35,10 +34,11 @@ module _ (s t : State) (a : Act) (o : ObjId) (n : ℕ) (v : Value) (items : List
       let found = subst (λ c. Works s (append_array c o n v >>= others) t a) is leads in record { is = found.is }
 
   -- an item that is no array is an element
-  pub appends_value : is_array_value s.store.heap v ≡ false
-      → Works s (add_index o n v >>= λ _. others (n + 1)) t a → Works s (append o n v >>= others) t a
-  appends_value no_array leads =
-      looked false (sym no_array) (works_assoc s (add_index o n v) (λ _. give (n + 1)) others t a leads)
+  pub appends_value : (after : ℕ) → is_array_value s.store.heap v ≡ false → after ≡ n + 1
+      → Works s (add_index o n v >>= λ _. others after) t a → Works s (append o n v >>= others) t a
+  appends_value after no_array more leads =
+      looked false (sym no_array) (works_assoc s (add_index o n v) (λ _. give (n + 1)) others t a
+      (subst (λ m. Works s (add_index o n v >>= λ _. others m) t a) more leads))
 
   -- of an array the length is got, and then its elements are copied
   pub appends_elements : (e : ObjId) → v ≡ value.Obj e → is_array_value s.store.heap v ≡ true
@@ -68,12 +68,6 @@ concats s t u a o id args items first stored comes begins are leads =
     (λ array. append_all array 0 (value.Obj o ∷ args) >>= λ _. give_object array) u a comes
     (subst (λ (l : List Value). Works t (append_all id 0 (l ++ args) >>= λ _. give_object id) u a) begins
     (subst (λ (l : List Value). Works t (append_all id 0 l >>= λ _. give_object id) u a) are leads))
-
--- the length of an item is got
-pub item_length : (s t : State) (a : Act) (e : ObjId) (x : Name) (k : Value → Algorithm Value) → x ≡ codes "length"
-    → Works s (get (value.Obj e) x >>= k) t a → Works s (get (value.Obj e) length_name >>= k) t a
-unfolding length_name
-item_length s t a e x k is leads = subst (λ y. Works s (get (value.Obj e) y >>= k) t a) is leads
 
 -- its elements are copied
 pub copies_items : (s t : State) (a : Act) (o e : ObjId) (n left after from : ℕ) (items : List Value) (v : Value)

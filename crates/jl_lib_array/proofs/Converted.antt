@@ -1,9 +1,7 @@
 -- Values that are converted, and then gone on with.
-use Rattle.std.proofs.Common.{◌≡◌, ◌∙◌, ap, codes, false, refl, subst, sym, true, Bool, List, None, Option, Some, ℕ}
-use Rattle.std.proofs.Common.{ℤ, []}
+use Rattle.std.proofs.Common.{◌≡◌, ◌∙◌, codes, refl, subst, sym, List, Some, ℕ, ℤ}
 use Rattle.jl_num.specs.Bits.{uint32_of}
 use Rattle.jl_num.specs.Number.{Number}
-use Rattle.jl_value.specs.declared.ending.Fault.TheVariants as fault
 use Rattle.jl_value.specs.declared.object.ObjId.{ObjId}
 use Rattle.jl_value.specs.declared.value.Value.{Value}
 use Rattle.jl_value.specs.declared.value.Value.TheVariants as value
@@ -19,7 +17,6 @@ use Rattle.jl_meaning.specs.builtins.Elements.{get_length}
 use Rattle.jl_progress.specs.Primitives.{number_of_primitive}
 use Rattle.jl_state.specs.Rest.{Works}
 use Rattle.jl_state.specs.declared.act.Act.{Act}
-use Rattle.jl_state.specs.declared.act.Act.TheVariants as act
 use Rattle.jl_state.specs.declared.state.State.{State}
 use Rattle.jl_algorithm.proofs.Chains.{bind_assoc, works_assoc}
 use Rattle.jl_operator.proofs.Operands.{chained}
@@ -50,20 +47,24 @@ length_is : length_name ≡ codes "length"
 unfolding length_name
 length_is = refl
 
+-- a property is got by its name, for which a function waits
+pub named_got : (s u : State) (a : Act) (o : ObjId) (x y : Name) (k : Value → Algorithm Value) → x ≡ y
+    → Works s (get (value.Obj o) x >>= k) u a → Works s (get (value.Obj o) y >>= k) u a
+named_got s u a o x y k is leads = subst (λ z. Works s (get (value.Obj o) z >>= k) u a) is leads
+
+pub length_of_item : (s u : State) (a : Act) (o : ObjId) (x : Name) (k : Value → Algorithm Value)
+    → x ≡ codes "length" → Works s (get (value.Obj o) x >>= k) u a
+    → Works s (get (value.Obj o) length_name >>= k) u a
+length_of_item s u a o x k is leads = named_got s u a o x length_name k (is ∙ sym length_is) leads
+
 pub length_got : (s u : State) (a : Act) (o : ObjId) (x : Name) (k : ℕ → Algorithm Value) → x ≡ codes "length"
     → Works s (get (value.Obj o) x >>= λ v. to_uint32 v >>= k) u a → Works s (get_length o >>= k) u a
 length_got s u a o x k is leads =
     works_assoc s (get (value.Obj o) length_name) to_uint32 k u a
-    (subst (λ y. Works s (get (value.Obj o) y >>= λ v. to_uint32 v >>= k) u a) (is ∙ sym length_is) leads)
+    (length_of_item s u a o x (λ v. to_uint32 v >>= k) is leads)
 
--- a primitive value that is a number, and one that is none of a script
+-- a primitive value that is a number
 
 pub number_there : (s u : State) (a : Act) (p : Value) (n : Number) (k : Number → Algorithm Value)
     → Some n ≡ number_of_value p → Works s (k n) u a → Works s (number_of_primitive p >>= k) u a
 number_there s u a p n k is leads = subst (λ o. Works s (or_fault NumberOutside o >>= k) u a) is leads
-
-pub number_missing : (s : State) (p : Value) (k : Number → Algorithm Value) → None ≡ number_of_value p
-    → Works s (number_of_primitive p >>= k) s (act.Fault fault.NumberOutside)
-number_missing s p k is =
-    subst (λ o. Works s (or_fault NumberOutside o >>= k) s (act.Fault fault.NumberOutside)) is
-    (record { is = λ kept told. refl })

@@ -1,8 +1,6 @@
 -- Elements that are copied to a new array, one a turn.
-use Rattle.std.proofs.Common.{◌≡◌, ◌+◌, ◌-◌, false, refl, subst, sym, true, Bool, Option, ℕ}
-use Rattle.jl_value.specs.declared.object.ObjId.{ObjId}
+use Rattle.std.proofs.Common.{◌≡◌, ◌+◌, ◌-◌, false, subst, true, Bool, ℕ}
 use Rattle.jl_value.specs.declared.value.Value.{Value}
-use Rattle.jl_value.specs.declared.value.Value.TheVariants as value
 use Rattle.jl_meaning.specs.Parts.{◌>>=◌, Algorithm}
 use Rattle.jl_meaning.specs.builtins.Elements.{add_if, add_index, copy_element, get_index, has_index}
 use Rattle.jl_progress.specs.Arrays.{after_copying, array_after, copy_others}
@@ -29,9 +27,6 @@ module _ (s u : State) (a : Act) (c : Copying) (next : AfterCopying) where
 
   pub copies_end : c.left ≡ 0 → Works s (after_copying c.array next) u a → Works s (others c.left c.k) u a
   copies_end none leads = upward_ends s u a turn then_next c.left c.k tt none leads
-
-  pub copies_spent : (c.left ≡ 0 → ⊥) → u ≡ s → RanOut s → Works s (others c.left c.k) u act.Spent
-  copies_spent some same spent = upward_spent s u a turn then_next c.left c.k tt some same spent
 
   pub copies_take : (t : State) → (c.left ≡ 0 → ⊥) → Took s t
       → Works t (copy_element c.object (c.start + c.k) c.array (c.first + c.k)
@@ -64,3 +59,9 @@ module _ (s u : State) (a : Act) (c : Copying) (next : AfterCopying) where
   copies_element i k v is more leads =
       subst (λ j. Works s (add_index c.array j v >>= λ _. others c.left (c.k + 1)) u a) is
       (subst (λ j. Works s (add_index c.array i v >>= λ _. others c.left j) u a) more leads)
+
+pub copies_spent : (s u : State) (c : Copying) (next : AfterCopying) → (c.left ≡ 0 → ⊥) → u ≡ s → RanOut s
+    → Works s (copy_others c c.left c.k >>= λ _. after_copying c.array next) u act.Spent
+copies_spent s u c next some same spent =
+    upward_spent s u act.Spent (λ k _. copy_element c.object (c.start + k) c.array (c.first + k))
+    (λ _. after_copying c.array next) c.left c.k tt some same spent

@@ -1,19 +1,17 @@
 -- `reverse`: two elements that change places.
-use Rattle.std.proofs.Common.{◌≡◌, ◌∙◌, ◌+◌, ◌-◌, ap, false, refl, subst, suc, sym, true, zero, Bool, None, Option}
+use Rattle.std.proofs.Common.{◌≡◌, ◌∙◌, ◌+◌, ◌-◌, ap, false, refl, subst, sym, true, Bool, None, Option}
 use Rattle.std.proofs.Common.{Some, ℕ}
 use mathlib.Core.Path.{fun_ext}
 use Rattle.std.specs.Prelude.{if◌then◌else◌}
 use Rattle.jl_value.specs.declared.object.ObjId.{ObjId}
 use Rattle.jl_value.specs.declared.value.Value.{Value}
 use Rattle.jl_value.specs.declared.value.Value.TheVariants as value
-use Rattle.jl_effects.specs.Effects.{Look}
-use Rattle.jl_meaning.specs.Parts.{give, look, ◌>>=◌, Algorithm}
-use Rattle.jl_meaning.specs.Store.{Store}
+use Rattle.jl_meaning.specs.Parts.{look, ◌>>=◌, Algorithm}
 use Rattle.jl_meaning.specs.builtins.Arguments.{give_object}
 use Rattle.jl_meaning.specs.builtins.ArrayChanges.{exchange, reverse_turn}
 use Rattle.jl_meaning.specs.builtins.Elements.{delete_index, get_index, has_index, put_index, put_or_delete}
-use Rattle.jl_meaning.specs.builtins.Turns.{upward}
 use Rattle.jl_progress.specs.Arrays.{array_after, reverse_others, upper_of}
+use Rattle.jl_progress.specs.declared.array.ArrayProgress.{ArrayProgress}
 use Rattle.jl_progress.specs.declared.array.ArrayProgress.TheVariants as array
 use Rattle.jl_progress.specs.declared.array.Reversing.{Reversing}
 use Rattle.jl_state.specs.Rest.{Works}
@@ -96,12 +94,14 @@ module _ (s t : State) (a : Act) (r : Reversing) (low high : Value) (has_low has
         (subst (λ b. Works s (exchange r.object r.lower (upper_of r) low high b false >>= rest) t a) (sym there)
         (works_assoc s (delete_index r.object r.lower) (λ _. put_index r.object (upper_of r) low) rest t a leads)))
 
-    pub none_there : has_high ≡ false → has_low ≡ false → Works s (rest tt) t a
+    pub none_there : has_high ≡ false → has_low ≡ false → (after : ArrayProgress)
+        → array_after after value.Undefined ≡ rest tt → Works s (array_after after value.Undefined) t a
         → Works s (array_after (array.ReverseUpper r low) high) t a
-    none_there missing none leads =
+    none_there missing none after is leads =
         exchanges
         (subst (λ b. Works s (exchange r.object r.lower (upper_of r) low high has_low b >>= rest) t a) (sym missing)
-        (subst (λ b. Works s (exchange r.object r.lower (upper_of r) low high b false >>= rest) t a) (sym none) leads))
+        (subst (λ b. Works s (exchange r.object r.lower (upper_of r) low high b false >>= rest) t a) (sym none)
+        (subst (λ p. Works s p t a) is leads)))
 
 -- turns in which two elements change places
 
@@ -127,3 +127,39 @@ module _ (s u : State) (a : Act) (r : Reversing) where
       → Works s (reverse_others r r.left r.lower) u a
   reverses_take t some took leads =
       upward_takes s u a turn given t r.left r.lower tt some took (reverses t u a r r.lower (r.left - 1) leads)
+
+-- the lower element has been got, and the upper one is
+pub gets_upper : (s t : State) (a : Act) (r : Reversing) (low : Value) (upper : ℕ) → upper ≡ upper_of r
+    → Works s (get_index r.object upper >>= array_after (array.ReverseUpper r low)) t a
+    → Works s (array_after (array.ReverseLower r) low) t a
+gets_upper s t a r low upper is leads =
+    subst (λ i. Works s (get_index r.object i >>= array_after (array.ReverseUpper r low)) t a) is leads
+
+-- the turn after this one, once the upper index has got its element, or lost it
+
+module _ (s t : State) (a : Act) (r : Reversing) where
+  abbrev next_turns : Unit {0} → Algorithm Value
+  next_turns _ = reverse_others r r.left (r.lower + 1)
+
+  pub puts_above : (low : Value) (upper : ℕ) (after : ArrayProgress) → upper ≡ upper_of r
+      → array_after after value.Undefined ≡ reverse_others r r.left (r.lower + 1)
+      → Works s (put_index r.object upper low >>= λ _. array_after after value.Undefined) t a
+      → Works s (put_index r.object (upper_of r) low >>= λ _. reverse_others r r.left (r.lower + 1)) t a
+  puts_above low upper after is turn leads =
+      subst (λ i. Works s (put_index r.object i low >>= next_turns) t a) is
+      (subst (λ p. Works s (put_index r.object upper low >>= λ _. p) t a) turn leads)
+
+  pub puts_exchanged : (kept : Option Value) (low : Value) → kept ≡ Some low
+      → Works s (put_index r.object (upper_of r) low >>= λ _. reverse_others r r.left (r.lower + 1)) t a
+      → Works s (array_after (array.ReverseExchange r kept) value.Undefined) t a
+  puts_exchanged kept low is leads =
+      subst (λ (l : Option Value). Works s (array_after (array.ReverseExchange r l) value.Undefined) t a) (sym is) leads
+
+  pub deletes_exchanged : (kept : Option Value) (upper : ℕ) (after : ArrayProgress) → kept ≡ None
+      → upper ≡ upper_of r → array_after after value.Undefined ≡ reverse_others r r.left (r.lower + 1)
+      → Works s (delete_index r.object upper >>= λ _. array_after after value.Undefined) t a
+      → Works s (array_after (array.ReverseExchange r kept) value.Undefined) t a
+  deletes_exchanged kept upper after none is turn leads =
+      subst (λ (l : Option Value). Works s (array_after (array.ReverseExchange r l) value.Undefined) t a) (sym none)
+      (subst (λ i. Works s (delete_index r.object i >>= next_turns) t a) is
+      (subst (λ p. Works s (delete_index r.object upper >>= λ _. p) t a) turn leads))

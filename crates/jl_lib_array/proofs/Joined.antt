@@ -1,5 +1,5 @@
 -- `join`: lines that are within the length of a string.
-use Rattle.std.proofs.Common.{◌≡◌, ◌∙◌, ◌+◌, ◌++◌, ◌-◌, ◌≤◌, [], ap, arith, codes, false, length, not, refl, subst}
+use Rattle.std.proofs.Common.{◌≡◌, ◌∙◌, ◌+◌, ◌++◌, ◌-◌, ◌≤◌, [], ap, codes, false, length, not, refl, subst}
 use Rattle.std.proofs.Common.{suc, sym, true}
 use Rattle.std.proofs.Common.{zero, Bool, List, ℕ}
 use mathlib.Core.Path.{fun_ext}
@@ -21,7 +21,7 @@ use Rattle.jl_meaning.specs.builtins.Array.{element_string, join_elements, join_
 use Rattle.jl_meaning.specs.builtins.Elements.{get_index}
 use Rattle.jl_meaning.specs.builtins.Turns.{upward}
 use Rattle.jl_builtin.specs.Values.{is_undefined}
-use Rattle.jl_progress.specs.Arrays.{array_after, join_first, join_next, join_others, with_length}
+use Rattle.jl_progress.specs.Arrays.{array_after, join_first, join_others, with_length}
 use Rattle.jl_progress.specs.declared.array.ArrayProgress.TheVariants as array
 use Rattle.jl_progress.specs.declared.array.Joining.{Joining}
 use Rattle.jl_progress.specs.declared.array.LengthFunction.TheVariants as for_length
@@ -74,9 +74,6 @@ module _ (o : ObjId) (separator : List ℕ) where
       (fun_ext (λ y. within_alike (x ++ y) k l alike))))
       ∙ sym (apart i line l)
 
-  checked : List ℕ → Algorithm Value
-  checked line = string_within line >>= give_string
-
   -- a line that is short enough stays so
   stays_within : (left k : ℕ) (line : List ℕ) → IsWithin line
       → (upward (join_turn o separator) left k line >>= give_string)
@@ -90,12 +87,13 @@ module _ (o : ObjId) (separator : List ℕ) where
       ∙ sym (bind_assoc (join_turn o separator k line) (upward (join_turn o separator) left (k + 1))
       (λ y. string_within y >>= give_string)))
 
-pub joins_first : (s t : State) (a : Act) (j : Joining) (first line : List ℕ) → line ≡ [] ++ first
-    → length first ≤ 1048576 → Works s (join_others j line) t a → Works s (join_first j first) t a
-joins_first s t a j first line is short leads =
+pub joins_first : (s t : State) (a : Act) (j : Joining) (first line empty units : List ℕ) → empty ≡ []
+    → units ≡ first → line ≡ empty ++ units → length first ≤ 1048576 → Works s (join_others j line) t a
+    → Works s (join_first j first) t a
+joins_first s t a j first line empty units none same is short leads =
     subst (λ p. Works s p t a)
     (sym (stays_within j.object j.separator j.left j.k first (le-ltb string_limit (length first) short)))
-    (subst (λ l. Works s (join_others j l) t a) is leads)
+    (subst (λ l. Works s (join_others j l) t a) (is ∙ ap (λ (l : List ℕ). l ++ units) none ∙ same) leads)
 
 -- the first element is got, if there is one
 
@@ -159,17 +157,21 @@ module _ (line next : List ℕ) (n m : ℕ) (room : Bool) (before : n ≡ length
       over = over_so _ (sym (room_is line next n m room before more is) ∙ none)
 
 -- a turn gets its element, after the separator
-module _ (j : Joining) (i : ℕ) (line : List ℕ) (n m : ℕ) (room : Bool) (before : n ≡ length line)
-    (more : m ≡ length j.separator) (is : room ≡ not (nat_lt string_limit (n + m))) where
+module _ (j : Joining) (i : ℕ) (line units : List ℕ) (n m : ℕ) (room : Bool) (before : n ≡ length line)
+    (are : units ≡ j.separator) (many : m ≡ length units) (is : room ≡ not (nat_lt string_limit (n + m))) where
+  more : m ≡ length j.separator
+  more = many ∙ ap length are
+
   abbrev rest_of_turn : List ℕ → Algorithm Value
   rest_of_turn x = element_string j.object i >>= λ y. string_within (x ++ y) >>= join_others j
 
-  pub joins_one : (s t : State) (a : Act) (longer : List ℕ) → room ≡ true → longer ≡ line ++ j.separator
+  pub joins_one : (s t : State) (a : Act) (longer : List ℕ) → room ≡ true → longer ≡ line ++ units
       → Works s (get_index j.object i >>= array_after (array.JoinElement j longer)) t a
       → Works s (join_turn j.object j.separator i line >>= join_others j) t a
   joins_one s t a longer there same leads =
       subst (λ p. Works s p t a) (sym (apart j.object j.separator i line (join_others j)))
-      (has_room line j.separator n m room before more is s t a rest_of_turn longer there same
+      (has_room line j.separator n m room before more is s t a rest_of_turn longer there
+      (same ∙ ap (λ (l : List ℕ). line ++ l) are)
       (subst (λ p. Works s p t a)
       (sym (bind_assoc (get_index j.object i) string_or_empty (λ y. string_within (longer ++ y) >>= join_others j)))
       leads))
@@ -243,21 +245,24 @@ module _ (s t : State) (a : Act) (o : ObjId) (args : List Value) (length : ℕ) 
 
 -- turns in which an element is joined
 
-module _ (s u : State) (a : Act) (j : Joining) (line : List ℕ) where
+module _ (s u : State) (j : Joining) (line : List ℕ) where
   abbrev turns : List ℕ → Algorithm Value
   turns x = string_within x >>= give_string
 
-  pub joins_end : j.left ≡ 0 → Works s (string_within line >>= give_string) u a → Works s (join_others j line) u a
-  joins_end none leads = upward_ends s u a (join_turn j.object j.separator) turns j.left j.k line none leads
+  pub joins_end : (a : Act) (units : List ℕ) → j.left ≡ 0 → units ≡ line
+      → Works s (string_within units >>= give_string) u a → Works s (join_others j line) u a
+  joins_end a units none same leads =
+      upward_ends s u a (join_turn j.object j.separator) turns j.left j.k line none
+      (subst (λ l. Works s (turns l) u a) same leads)
 
   pub joins_spent : (j.left ≡ 0 → ⊥) → u ≡ s → RanOut s → Works s (join_others j line) u act.Spent
   joins_spent some same spent =
-      upward_spent s u a (join_turn j.object j.separator) turns j.left j.k line some same spent
+      upward_spent s u act.Spent (join_turn j.object j.separator) turns j.left j.k line some same spent
 
-  pub joins_take : (t : State) (k : ℕ) → (j.left ≡ 0 → ⊥) → Took s t → k ≡ j.k + 1
+  pub joins_take : (a : Act) (t : State) (k : ℕ) → (j.left ≡ 0 → ⊥) → Took s t → k ≡ j.k + 1
       → Works t (join_turn j.object j.separator j.k line >>= join_others (record j { left = j.left - 1; k = k })) u a
       → Works s (join_others j line) u a
-  joins_take t k some took more leads =
+  joins_take a t k some took more leads =
       upward_takes s u a (join_turn j.object j.separator) turns t j.left j.k line some took
       (subst (λ i. Works t (join_turn j.object j.separator j.k line
       >>= join_others (record j { left = j.left - 1; k = i })) u a) more leads)

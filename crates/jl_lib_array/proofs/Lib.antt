@@ -1,4 +1,6 @@
 pub mod Appended
+pub mod Called
+pub mod Cases
 pub mod Converted
 pub mod Copied
 pub mod Deleted
@@ -12,6 +14,5 @@ pub mod Read
 pub mod Spliced
 pub mod Stable
 pub mod Starts
-pub mod Stored
 pub mod Turns
 pub mod Waiting

@@ -8,11 +8,12 @@ use Rattle.jl_value.specs.declared.object.ObjId.{ObjId}
 use Rattle.jl_value.specs.declared.value.Value.{Value}
 use Rattle.jl_effects.specs.Effects.{Step}
 use Rattle.jl_meaning.specs.Parts.{give, ◌>>=◌, Algorithm}
-use Rattle.jl_meaning.specs.builtins.ArrayChanges.{give_nothing, make_room, pop_last, shift_first}
+use Rattle.jl_meaning.specs.builtins.ArrayChanges.{give_nothing, pop_last, shift_first}
 use Rattle.jl_meaning.specs.builtins.Elements.{delete_index, get_index, has_index, move_element, put_index}
 use Rattle.jl_meaning.specs.builtins.Elements.{put_or_delete}
 use Rattle.jl_meaning.specs.builtins.Turns.{downward, upward}
-use Rattle.jl_progress.specs.Arrays.{after_moving, array_after, length_spliced, move_down, move_up, put_items}
+use Rattle.jl_progress.specs.Arrays.{after_moving, array_after, delete_end, length_spliced, move_down, move_up}
+use Rattle.jl_progress.specs.Arrays.{put_items}
 use Rattle.jl_progress.specs.Arrays.{put_others}
 use Rattle.jl_progress.specs.Arrays.{splice_others, with_length, without_last}
 use Rattle.jl_progress.specs.declared.array.AfterMoving.{AfterMoving}
@@ -27,7 +28,7 @@ use Rattle.jl_state.specs.Steps.{RanOut, Took}
 use Rattle.jl_state.specs.declared.act.Act.{Act}
 use Rattle.jl_state.specs.declared.act.Act.TheVariants as act
 use Rattle.jl_state.specs.declared.state.State.{State}
-use Rattle.jl_algorithm.proofs.Chains.{bind_assoc, works_assoc}
+use Rattle.jl_algorithm.proofs.Chains.{works_assoc}
 use Rattle.jl_lib_array.specs.inner.Rows.{close_gap, open_gap}
 use Rattle.jl_lib_array.proofs.Found.{element_missing, element_there}
 use Rattle.jl_lib_array.proofs.Turns.{downward_ends, downward_spent, downward_takes, one_more, upward_ends}
@@ -274,3 +275,27 @@ module _ (s u : State) (a : Act) (m : Moving) (next : AfterMoving) where
       subst (λ j. Works s (move_element m.object j (m.to + m.left) >>= λ _. others_down m.left) u a) is
       (element_missing s u a m.object i (put_or_delete m.object (m.to + m.left)) (λ _. others_down m.left) b found
       missing (subst (λ j. Works s (delete_index m.object j >>= λ _. others_down m.left) u a) is_to leads))
+
+-- what follows when all have been moved
+
+module _ (s t : State) (a : Act) (o : ObjId) (next : AfterMoving) where
+  abbrev follows : AfterMoving → Type 0
+  follows n = Works s (after_moving o n) t a
+
+  pub moved_shift : (first : Value) (last : ℕ) → next ≡ moved.Shift first last
+      → Works s (without_last o last first) t a → Works s (after_moving o next) t a
+  moved_shift first last is leads = subst follows (sym is) leads
+
+  pub moved_delete : (x : Splicing) (n left : ℕ) → next ≡ moved.Delete x → n ≡ length x.items → left ≡ x.removed - n
+      → Works s (delete_end x left) t a → Works s (after_moving o next) t a
+  moved_delete x n left is as_many as_left leads =
+      subst follows (sym is)
+      (subst (λ m. Works s (delete_end x (x.removed - m)) t a) as_many
+      (subst (λ m. Works s (delete_end x m) t a) as_left leads))
+
+  pub moved_put : (x : Splicing) → next ≡ moved.Put x → Works s (put_items x) t a → Works s (after_moving o next) t a
+  moved_put x is leads = subst follows (sym is) leads
+
+  pub moved_unshift : (args : List Value) (len : ℕ) → next ≡ moved.Unshift args len
+      → Works s (put_others o 0 args (put.Unshift len)) t a → Works s (after_moving o next) t a
+  moved_unshift args len is leads = subst follows (sym is) leads

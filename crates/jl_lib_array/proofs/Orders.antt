@@ -1,11 +1,11 @@
 -- The order in which `sort` puts elements.
-use Rattle.std.proofs.Common.{◌≡◌, ◌∙◌, ◌∷◌, [], ap, cond, refl, sym, subst, false, true, Bool, List, None, Option}
-use Rattle.std.proofs.Common.{Some, ℕ}
+use Rattle.std.proofs.Common.{◌≡◌, ◌∙◌, ◌++◌, ◌∷◌, [], ap, cond, drop, length, refl, suc, sym, subst, take}
+use Rattle.std.proofs.Common.{false, true, Bool, List, None, Option, Some, ℕ}
 use mathlib.Core.Path.{fun_ext}
 use Rattle.std.specs.Prelude.{if◌then◌else◌}
 use Rattle.std.specs.Cmp.{IsStrictWeakOrder}
 use Rattle.std.specs.Cmp.Lexicographic.{slice_cmp}
-use Rattle.std.specs.List.{filter}
+use Rattle.std.specs.List.{filter, refill}
 use Rattle.std.specs.List.Sorted.{ties, IsSortedBy, IsStableBy}
 use Rattle.std.specs.Ordering.{is_lt, nat_cmp}
 use Rattle.std.proofs.lemmas.Cmp.{nat_list_cmp_total}
@@ -94,3 +94,30 @@ sorted_kept (x ∷ l) w =
 pub sorts_alike : (xs ys : List KeyedValue) → IsSortedBy before ys → IsStableBy before xs ys → ys ≡ sort_by_keys xs
 sorts_alike xs ys sorted stable =
     stably before ranks xs ys (sort_by_keys xs) sorted stable (sorted_in_order xs) (sorted_kept xs)
+
+-- as many elements come back as were lent
+
+inserted_length : (x : KeyedValue) (l : List KeyedValue) → length (insert_in_order x l) ≡ suc (length l)
+inserted_length x [] = refl
+inserted_length x (y ∷ l) = by (inserted_length x l) (before y x)
+  where
+    by : length (insert_in_order x l) ≡ suc (length l) → (b : Bool)
+        → length (if b then y ∷ insert_in_order x l else x ∷ y ∷ l) ≡ suc (suc (length l))
+    by longer true = ap suc longer
+    by longer false = refl
+
+sorted_length : (l : List KeyedValue) → length (sort_by_keys l) ≡ length l
+sorted_length [] = refl
+sorted_length (x ∷ l) = inserted_length x (sort_by_keys l) ∙ ap suc (sorted_length l)
+
+front : (l rest : List KeyedValue) → take (length l) (l ++ rest) ≡ l
+front [] rest = refl
+front (x ∷ l) rest = ap (λ k. x ∷ k) (front l rest)
+
+pub sorts_in_place : (l lent after : List KeyedValue) → lent ≡ l → after ≡ sort_by_keys lent
+    → refill (length l) l after ≡ sort_by_keys l
+sorts_in_place l lent after same sorted =
+    let changed : after ≡ sort_by_keys l = sorted ∙ ap sort_by_keys same in
+    ap (λ n. take n (after ++ drop (length after) l)) (sym (sorted_length l) ∙ ap length (sym changed))
+    ∙ front after (drop (length after) l)
+    ∙ changed

@@ -1,8 +1,7 @@
 -- A length that is put, and then given.
-use Rattle.std.proofs.Common.{◌≡◌, refl, subst, sym, false, true, Bool, None, Option, Some, ℕ, pos}
+use Rattle.std.proofs.Common.{◌≡◌, refl, subst, false, true, Bool, None, Some, ℕ, pos}
 use Rattle.std.specs.Prelude.{if◌then◌else◌}
-use Rattle.jl_num.specs.Arithmetic.{number_of}
-use Rattle.jl_num.specs.Number.{is_number, Number}
+use Rattle.jl_num.specs.Number.{is_number}
 use Rattle.jl_value.specs.declared.object.ObjId.{ObjId}
 use Rattle.jl_value.specs.declared.value.Value.{Value}
 use Rattle.jl_value.specs.declared.value.Value.TheVariants as value

@@ -1,5 +1,5 @@
 -- `sort`: elements that are read, each with the string that it is compared by.
-use Rattle.std.proofs.Common.{◌≡◌, ◌∙◌, ◌+◌, ◌-◌, ◌++◌, ◌∷◌, [], false, map, refl, subst, sym, true, Bool, List, None}
+use Rattle.std.proofs.Common.{◌≡◌, ◌∙◌, ◌+◌, ◌-◌, ◌++◌, ◌∷◌, [], ap, false, map, subst, sym, true, Bool, List, None}
 use Rattle.std.proofs.Common.{Option, Some, ℕ}
 use Rattle.jl_value.specs.declared.value.Value.{Value}
 use Rattle.jl_value.specs.declared.value.Value.TheVariants as value
@@ -46,6 +46,14 @@ module _ (s t : State) (a : Act) (r : Reading) (read : List KeyedValue) (v : Val
       ∙ key_there v (λ key. sort_others r (read ++ (key, v) ∷ [])) there
       ∙ sym (bind_assoc (key_of v) with_key (sort_others r)))
       (subst (λ w. Works s (to_primitive string_hint v >>= array_after (array.SortPrimitive r read w)) t a) same leads)
+
+-- its string has been read
+pub reads_primitive : (s t : State) (a : Act) (r : Reading) (read longer : List KeyedValue) (v p : Value)
+    (text : List ℕ) → text ≡ text_of_value p → longer ≡ read ++ (Some text, v) ∷ [] → Works s (sort_others r longer) t a
+    → Works s (array_after (array.SortPrimitive r read v) p) t a
+reads_primitive s t a r read longer v p text text_is is leads =
+    subst (λ (l : List KeyedValue). Works s (sort_others r l) t a)
+    (is ∙ ap (λ (x : List ℕ). read ++ (Some x, v) ∷ []) text_is) leads
 
 -- undefined has none
 pub reads_undefined : (s t : State) (a : Act) (r : Reading) (read longer : List KeyedValue) (v : Value)

@@ -1,5 +1,5 @@
 -- `splice`: its arguments, and the elements that it puts.
-use Rattle.std.proofs.Common.{◌≡◌, ◌∙◌, ◌-◌, ap, drop, refl, subst, List, Some, ℕ, ℤ}
+use Rattle.std.proofs.Common.{◌≡◌, ◌∙◌, ◌-◌, ap, drop, subst, List, Some, ℕ, ℤ}
 use Rattle.std.specs.Prelude.{slice_index_or}
 use Rattle.jl_num.specs.Number.{Number}
 use Rattle.jl_value.specs.declared.object.ObjId.{ObjId}

@@ -1,8 +1,8 @@
 -- The rows of the table, as functions on an object.
-use Rattle.std.proofs.Common.{◌≡◌, ◌∙◌, ◌+◌, ◌-◌, ◌<◌, ◌≤◌, ◌≢◌, arith, false, refl, subst, suc, sym, true, zero}
-use Rattle.std.proofs.Common.{List, ℕ}
+use Rattle.std.proofs.Common.{◌≡◌, ◌+◌, ◌-◌, ◌<◌, arith, false, refl, subst, suc, sym, true, zero}
+use Rattle.std.proofs.Common.{eqb, inl, inr, ◌⊎◌, List, ℕ}
 use Rattle.std.specs.Prelude.{if◌then◌else◌, ◌==◌}
-use Rattle.std.proofs.lemmas.Bool.Decides.{nat_tests}
+use Rattle.std.proofs.lemmas.Bool.Decides.{eqb_tells, nat_tests}
 use Rattle.jl_value.specs.declared.ending.Fault.TheVariants as fault
 use Rattle.jl_value.specs.declared.object.ObjId.{ObjId}
 use Rattle.jl_value.specs.declared.value.Value.{Value}
@@ -28,10 +28,13 @@ use Rattle.jl_state.specs.declared.act.Act.TheVariants as act
 use Rattle.jl_state.specs.declared.state.State.{State}
 use Rattle.jl_state.proofs.Stores.{works_comes, IsStored}
 use Rattle.jl_lib_array.specs.Rows.{IsArrayRow}
-use Rattle.jl_lib_array.specs.inner.Rows.{concat_on, function_on, length_function, splice_on, string_on}
+use Rattle.jl_lib_array.specs.inner.Rows.{concat_on, function_on, is_built, length_function, splice_on, string_on}
 
 differs : (n m : ℕ) → (n ≡ m → ⊥) → (n == m) ≡ false
 differs n m other = grind (arith, nat_tests)
+
+not_locale : (row : ℕ) (args : List Value) → is_built row args ≡ true → row ≡ 31 → ⊥
+not_locale row args built e = let differ : false ≡ true = subst (λ r. is_built r args ≡ true) e built in cc
 
 sorts_plainly : (v : Value) (c : Call) → is_undefined v ≡ true → sort_by v c ≡ sort_plainly c
 sorts_plainly value.Undefined c e = refl
@@ -84,30 +87,60 @@ module _ (names : FunctionNames) (c : Call) where
   row_is (suc (suc (suc (suc (suc (suc (suc (suc (suc (suc (suc (suc n)))))))))))) below no_locale no_slice plain =
       absurd (omega (arith, below))
 
-  pub starts : (s t : State) (a : Act) (row : ℕ) → IsArrayRow row → (row ≡ 31 → ⊥)
-      → (row ≡ 39 → is_undefined (argument c 0) ≡ true) → Works s (on_object row) t a
-      → Works s (builtin names row c) t a
-  starts s t a row belongs no_locale plain leads =
+  -- what is built
+  pub starts : (s t : State) (a : Act) (row : ℕ) → IsArrayRow row → is_built row c.args ≡ true
+      → Works s (on_object row) t a → Works s (builtin names row c) t a
+  starts s t a row belongs built leads =
       let there : (row - 30) + 30 ≡ row = omega (arith, belongs.0) in
+      let no_locale : row ≡ 31 → ⊥ = not_locale row c.args built in
+      let plain : row ≡ 39 → is_undefined (argument c 0) ≡ true = λ e. subst (λ r. is_built r c.args ≡ true) e built in
       subst (λ r. Works s (builtin names r c) t a) there
       (subst (λ p. Works s p t a)
       (sym (row_is (row - 30) (omega (arith, belongs.0, belongs.1)) (λ e. no_locale (omega (arith, e, belongs.0)))
       (λ e. belongs.2 (omega (arith, e, belongs.0))) (λ e. plain (omega (arith, e, belongs.0)))))
       (subst (λ r. Works s (on_object r) t a) (sym there) leads))
 
-  pub no_locale : (s : State) (row : ℕ) → row ≡ 31
+  no_locale : (s : State) (row : ℕ) → row ≡ 31
       → Works s (builtin names row c) s (act.Fault (fault.Unsupported row))
   no_locale s row is =
       subst (λ r. Works s (builtin names r c) s (act.Fault (fault.Unsupported r))) (sym is)
       (subst (λ p. Works s p s (act.Fault (fault.Unsupported 31))) (sym locale_is_not)
       (record { is = λ kept told. refl }))
 
-  pub no_comparator : (s : State) (row : ℕ) → row ≡ 39 → is_undefined (argument c 0) ≡ false
+  no_comparator : (s : State) (row : ℕ) → row ≡ 39 → is_undefined (argument c 0) ≡ false
       → Works s (builtin names row c) s (act.Fault (fault.Unsupported row))
   no_comparator s row is there =
       subst (λ r. Works s (builtin names r c) s (act.Fault (fault.Unsupported r))) (sym is)
       (subst (λ p. Works s p s (act.Fault (fault.Unsupported 39))) (sym (sort_is_not there))
       (record { is = λ kept told. refl }))
+
+  sort_missing : (row : ℕ) → (row ≡ 31 → ⊥) → is_built row c.args ≡ false
+      → (row ≡ 39) × (is_undefined (argument c 0) ≡ false)
+  sort_missing row other missing = by (eqb_tells row 39)
+    where
+      later : (if row == 39 then is_undefined (argument c 0) else true) ≡ false
+      later =
+          subst (λ b. (if b then false else (if row == 39 then is_undefined (argument c 0) else true)) ≡ false)
+          (differs row 31 other) missing
+
+      by : ((eqb row 39 ≡ true) × (row ≡ 39)) ⊎ ((eqb row 39 ≡ false) × (row ≡ 39 → ⊥))
+          → (row ≡ 39) × (is_undefined (argument c 0) ≡ false)
+      by (inl is) = (is.1, subst (λ r. (if r == 39 then is_undefined (argument c 0) else true) ≡ false) is.1 later)
+      by (inr more) =
+          absurd (let differ : true ≡ false = subst (λ b. (if b then is_undefined (argument c 0) else true) ≡ false)
+          (differs row 39 more.1) later in cc)
+
+  -- and what isn't
+  pub starts_not : (s : State) (a : Act) (row : ℕ) → is_built row c.args ≡ false
+      → a ≡ act.Fault (fault.Unsupported row) → Works s (builtin names row c) s a
+  starts_not s a row missing is =
+      subst (λ b. Works s (builtin names row c) s b) (sym is) (by (eqb_tells row 31))
+    where
+      by : ((eqb row 31 ≡ true) × (row ≡ 31)) ⊎ ((eqb row 31 ≡ false) × (row ≡ 31 → ⊥))
+          → Works s (builtin names row c) s (act.Fault (fault.Unsupported row))
+      by (inl same) = no_locale s row same.1
+      by (inr other) =
+          let sort = sort_missing row other.1 missing in no_comparator s row sort.0 sort.1
 
 -- a function on an object, by its row
 

@@ -24,14 +24,13 @@ pub one_more : (n : ℕ) → (n ≡ 0 → ⊥) → suc (n - 1) ≡ n
 one_more zero some = absurd (some refl)
 one_more (suc n) some = omega arith
 
--- a value is put, and then a turn begins
-pub puts_then : (s t u : State) (a : Act) (o : ObjId) (i : ℕ) (v : Value) (p : ArrayProgress)
+-- something is done, and then a turn begins
+pub then_turn : {A : Type 0} (s t u : State) (a : Act) (q : Algorithm A) (p : ArrayProgress)
     → AlgorithmWaits s (algorithm.Builtin (progress.Array p)) t
-    → Works t (put_index o i v >>= λ _. give value.Undefined) u a
-    → Works s (put_index o i v >>= λ _. array_after p value.Undefined) u a
-puts_then s t u a o i v p waits leads =
-    subst (λ q. Works s q u a) (bind_assoc (put_index o i v) (λ _. give value.Undefined) (array_after p))
-    (waits.works (put_index o i v >>= λ _. give value.Undefined) u a leads)
+    → Works t (q >>= λ _. give value.Undefined) u a → Works s (q >>= λ _. array_after p value.Undefined) u a
+then_turn s t u a q p waits leads =
+    subst (λ r. Works s r u a) (bind_assoc q (λ _. give value.Undefined) (array_after p))
+    (waits.works (q >>= λ _. give value.Undefined) u a leads)
 
 module _ {A : Type 0} (s u : State) (a : Act) (turn : ℕ → A → Algorithm A) (l : A → Algorithm Value) where
   -- turns up
@@ -88,15 +87,15 @@ module _ (s u : State) (a : Act) (o : ObjId) (index : ℕ) (next : AfterPutting)
       (took.works (put_index o index v >>= (λ _. put_all o (index + 1) rest) >>= after_putting o next) u a
       (works_assoc t (put_index o index v) (λ _. put_all o (index + 1) rest) (after_putting o next) u a leads))
 
-  pub puts_spent : (values rest : List Value) (v : Value) → values ≡ v ∷ rest → u ≡ s → RanOut s
-      → Works s (put_others o index values next) u act.Spent
-  puts_spent values rest v is same spent =
-      subst (λ l. Works s (put_others o index l next) u act.Spent) (sym is)
-      (subst (λ w. Works s (put_others o index (v ∷ rest) next) w act.Spent) (sym same)
-      (spent.works (put_index o index v >>= (λ _. put_all o (index + 1) rest) >>= after_putting o next)))
+pub puts_spent : (s u : State) (o : ObjId) (index : ℕ) (next : AfterPutting) (values rest : List Value) (v : Value)
+    → values ≡ v ∷ rest → u ≡ s → RanOut s → Works s (put_others o index values next) u act.Spent
+puts_spent s u o index next values rest v is same spent =
+    subst (λ l. Works s (put_others o index l next) u act.Spent) (sym is)
+    (subst (λ w. Works s (put_others o index (v ∷ rest) next) w act.Spent) (sym same)
+    (spent.works (put_index o index v >>= (λ _. put_all o (index + 1) rest) >>= after_putting o next)))
 
 -- items that are appended
-module _ (s u : State) (a : Act) (array : ObjId) (n : ℕ) where
+module _ (s : State) (array : ObjId) (n : ℕ) where
   abbrev given_array : Unit {0} → Algorithm Value
   given_array _ = give_object array
 
@@ -106,17 +105,17 @@ module _ (s u : State) (a : Act) (array : ObjId) (n : ℕ) where
       subst (λ l. Works s (append_all array n l >>= given_array) s (act.Give (value.Obj array))) (sym none)
       (record { is = λ kept told. refl })
 
-  pub appends_take : (t : State) (items rest : List Value) (v : Value) → items ≡ v ∷ rest → Took s t
+  pub appends_take : (t u : State) (a : Act) (items rest : List Value) (v : Value) → items ≡ v ∷ rest → Took s t
       → Works t (append array n v >>= λ m. append_all array m rest >>= given_array) u a
       → Works s (append_all array n items >>= given_array) u a
-  appends_take t items rest v is took leads =
+  appends_take t u a items rest v is took leads =
       subst (λ l. Works s (append_all array n l >>= given_array) u a) (sym is)
       (took.works (append array n v >>= (λ m. append_all array m rest) >>= given_array) u a
       (works_assoc t (append array n v) (λ m. append_all array m rest) given_array u a leads))
 
-  pub appends_spent : (items rest : List Value) (v : Value) → items ≡ v ∷ rest → u ≡ s → RanOut s
+  pub appends_spent : (u : State) (items rest : List Value) (v : Value) → items ≡ v ∷ rest → u ≡ s → RanOut s
       → Works s (append_all array n items >>= given_array) u act.Spent
-  appends_spent items rest v is same spent =
+  appends_spent u items rest v is same spent =
       subst (λ l. Works s (append_all array n l >>= given_array) u act.Spent) (sym is)
       (subst (λ w. Works s (append_all array n (v ∷ rest) >>= given_array) w act.Spent) (sym same)
       (spent.works (append array n v >>= (λ m. append_all array m rest) >>= given_array)))

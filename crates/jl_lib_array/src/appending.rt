@@ -1,5 +1,5 @@
 //! `concat` (15.4.4.4): the object, and then the arguments, are appended to a new array, one a turn.
-ghost use Rattle.std.specs.Prelude.{◌≡◌, ◌∷◌, false, true, drop, IfOk, MatchOption};
+ghost use Rattle.std.specs.Prelude.{◌≡◌, ◌+◌, ◌∷◌, false, true, drop, IfOk, MatchOption};
 ghost use Rattle.jl_heap.specs.Define.{count_of, length_name};
 ghost use Rattle.jl_effects.specs.Effects.{Step};
 ghost use Rattle.jl_lib_array.specs.inner.Rows.{concat_on};
@@ -39,26 +39,26 @@ pub(crate) fn concat<'p>(
     Ok(append_items(alloc, state, array, 0, items, 0)?)
 }
 
-/// The items from an index on are appended, one a turn, and then the array is given.
+/// The values from an index on are appended, one a turn, and then the array is given.
 pub(crate) fn append_items<'p>(
     alloc: Global,
     state: &mut State<'p>,
     array: ObjId,
     next: usize,
-    items: List<Value>,
+    values: List<Value>,
     from: usize,
 ) -> Result<Act<'p>, NoMemory>
     ensures leads { IfOk result (λ act. Works state.old
-        (append_all array next (drop from items) then λ _. give_object array) state.new act) }
+        (append_all array next (drop from values) then λ _. give_object array) state.new act) }
     ensures falls { IfOk result (λ act. Falls state.old 8 state.new act) }
 {
-    match value_from(alloc, items.items(), from)? {
+    match value_from(alloc, values.items(), from)? {
         None => Ok(Act::Give(Value::Obj(array))),
         Some((v, after)) => {
             if !state.spend() {
                 return Ok(Act::Spent);
             }
-            Ok(append_item(alloc, state, array, next, v, items, after)?)
+            Ok(append_item(alloc, state, array, next, v, values, after)?)
         }
     }
 }
@@ -120,8 +120,8 @@ fn get_length<'p>(
         (get (value.Obj item) length_name then array_after progress) state.new act) }
     ensures falls { IfOk result (λ act. Falls state.old (rank_array progress + 4) state.new act) }
 {
-    let name = word(alloc, "length")?;
     wait(state, progress)?;
+    let name = word(alloc, "length")?;
     Ok(get(alloc, state, &Value::Obj(item), &name)?)
 }
 
@@ -161,11 +161,11 @@ pub(crate) fn step_concat_length<'p>(
 fn count_of(v: &Value) -> usize
     ensures { result ≡ count_of v.now }
 {
-    match v {
-        Value::Num(n) => match n.value() {
-            Some(n) => usize::try_from(n).unwrap_or(0),
-            None => 0,
-        },
+    let Value::Num(number) = v else {
+        return 0;
+    };
+    match number.value() {
+        Some(count) if count >= 0 => count as usize,
         _ => 0,
     }
 }

@@ -52,7 +52,8 @@ fn copy_element<'p>(
 {
     let object = copying.object;
     let index = sum(copying.start, copying.k)?;
-    if has_index(alloc, &state.store, object, index)? {
+    let there = has_index(alloc, &state.store, object, index)?;
+    if there {
         let progress = ArrayProgress::CopyElement {
             copying,
             then: next,

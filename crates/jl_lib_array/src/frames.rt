@@ -1,7 +1,7 @@
 //! What a function of arrays waits for, and what it does before its next turn.
 ghost use Rattle.std.specs.Prelude.{◌≡◌, ◌+◌, ◌∷◌, IfOk, OnOk};
 ghost use Rattle.jl_meaning.specs.Conversions.{number_hint, string_hint, to_primitive};
-ghost use Rattle.jl_meaning.specs.Parts.{◌>>=◌ as ◌then◌};
+ghost use Rattle.jl_meaning.specs.Parts.{give, ◌>>=◌ as ◌then◌};
 ghost use Rattle.jl_meaning.specs.builtins.Elements.{add_index, delete_index, get_index, put_index};
 ghost use Rattle.jl_progress.specs.Arrays.{array_after, rank_array};
 ghost use Rattle.jl_state.specs.Rank.{Falls};
@@ -125,8 +125,24 @@ pub(crate) fn delete_then<'p>(
         (delete_index object index then λ _. array_after progress value.Undefined) state.new act) }
     ensures falls { IfOk result (λ act. Falls state.old (rank_array progress + 3) state.new act) }
 {
-    match delete_index(alloc, state, object, index)? {
-        Answer::Gives(()) => Ok(begin_turn(state, progress)?),
+    wait(state, progress)?;
+    Ok(delete_element(alloc, state, object, index)?)
+}
+
+/// An element is deleted, and undefined is given.
+fn delete_element<'p>(
+    alloc: Global,
+    state: &mut State<'p>,
+    object: ObjId,
+    index: usize,
+) -> Result<Act<'p>, NoMemory>
+    ensures leads { IfOk result (λ act. Works state.old
+        (delete_index object index then λ _. give value.Undefined) state.new act) }
+    ensures falls { IfOk result (λ act. Falls state.old 3 state.new act) }
+{
+    let answer = delete_index(alloc, state, object, index)?;
+    match answer {
+        Answer::Gives(()) => Ok(Act::Give(Value::Undefined)),
         Answer::Throws(thrown) => Ok(Act::Complete(Completion::Throw(thrown))),
     }
 }
@@ -144,8 +160,25 @@ pub(crate) fn add_then<'p>(
         (add_index array index v then λ _. array_after progress value.Undefined) state.new act) }
     ensures falls { IfOk result (λ act. Falls state.old (rank_array progress + 3) state.new act) }
 {
-    match add_index(alloc, &mut state.store, array, index, v)? {
-        Finished::Gives(()) => Ok(begin_turn(state, progress)?),
+    wait(state, progress)?;
+    Ok(add_element(alloc, state, array, index, v)?)
+}
+
+/// An element of a new array is added, and undefined is given.
+fn add_element<'p>(
+    alloc: Global,
+    state: &mut State<'p>,
+    array: ObjId,
+    index: usize,
+    v: Value,
+) -> Result<Act<'p>, NoMemory>
+    ensures leads { IfOk result (λ act. Works state.old
+        (add_index array index v then λ _. give value.Undefined) state.new act) }
+    ensures falls { IfOk result (λ act. Falls state.old 3 state.new act) }
+{
+    let answer = add_index(alloc, &mut state.store, array, index, v)?;
+    match answer {
+        Finished::Gives(()) => Ok(Act::Give(Value::Undefined)),
         Finished::Throws(thrown) => Ok(Act::Complete(Completion::Throw(thrown))),
         Finished::Fails(fault) => Ok(Act::Fault(fault_of(fault))),
     }

@@ -1,5 +1,6 @@
 //! The functions that begin with the length of what they are called on (15.4.4.5 to 15.4.4.13).
 ghost use Rattle.std.specs.Prelude.{◌≡◌, IfOk, List};
+ghost use Rattle.jl_num.specs.Bits.{uint32_of};
 ghost use Rattle.jl_meaning.specs.Parts.{◌>>=◌ as ◌then◌};
 ghost use Rattle.jl_meaning.specs.builtins.Elements.{get_length};
 ghost use Rattle.jl_progress.specs.Arrays.{array_after, with_length};
@@ -13,7 +14,7 @@ use crate::shifting::{pop_last, shift_first};
 use crate::splicing::splice;
 use jl_algorithm::get;
 use jl_builtin::number_of_primitive;
-use jl_num::to_uint32;
+use jl_num::{Num, to_uint32};
 use jl_progress::{
     AfterMoving, AfterPutting, ArrayProgress, LengthFunction, Moving, Reading, Reversing,
 };
@@ -81,10 +82,17 @@ pub(crate) fn step_length_primitive<'p>(
         (array_after (ArrayProgress.LengthPrimitive function object args) p.now) state.new act) }
     ensures falls { IfOk result (λ act. Falls state.old 144 state.new act) }
 {
-    match number_of_primitive(p) {
-        Some(n) => Ok(with_length(alloc, state, function, object, args, to_uint32(n) as usize)?),
-        None => Ok(Act::Fault(Fault::NumberOutside)),
-    }
+    let Some(n) = number_of_primitive(p) else {
+        return Ok(Act::Fault(Fault::NumberOutside));
+    };
+    Ok(with_length(alloc, state, function, object, args, length_of(n))?)
+}
+
+/// The length that a number says (9.6).
+fn length_of(n: Num) -> usize
+    ensures { result ≡ uint32_of n }
+{
+    to_uint32(n) as usize
 }
 
 /// What a function does with the length.
@@ -181,13 +189,14 @@ fn unshift<'p>(
         (with_length LengthFunction.Unshift object args length) state.new act) }
     ensures falls { IfOk result (λ act. Falls state.old 144 state.new act) }
 {
+    let added = args.len();
+    let after = sum(length, added)?;
     let moving = Moving {
         object,
         from: 0,
-        to: args.len(),
+        to: added,
         left: length,
     };
-    let after = sum(length, args.len())?;
     let then = AfterMoving::Unshift {
         args,
         length: after,

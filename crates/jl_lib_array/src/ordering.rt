@@ -25,11 +25,19 @@ fn order_of(a: &(Option<Text>, Value), b: &(Option<Text>, Value)) -> Ordering
     }
 }
 
-/// Elements are put in order; those with equal strings stay in the order in which they stand.
-pub(crate) fn sort_elements(
+/// The elements in order; those with equal strings stay in the order in which they stand.
+pub(crate) fn in_order(
     alloc: Global,
-    elements: &mut [(Option<Text>, Value)],
-) -> Result<(), NoMemory>
+    mut elements: List<(Option<Text>, Value)>,
+) -> Result<List<(Option<Text>, Value)>, NoMemory>
+    ensures { IfOk result (λ sorted. sorted ≡ sort_by_keys elements) }
+{
+    sort_elements(alloc, elements.items_mut())?;
+    Ok(elements)
+}
+
+/// Elements are put in order.
+fn sort_elements(alloc: Global, elements: &mut [(Option<Text>, Value)]) -> Result<(), NoMemory>
     ensures { OnOk result (elements.new ≡ sort_by_keys elements.old) }
 {
     elements.sort_by(alloc, |a, b| order_of(a, b))?;

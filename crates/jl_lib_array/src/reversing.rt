@@ -125,7 +125,8 @@ fn move_to_upper<'p>(
         then λ _. reverse_others reversing reversing.left (reversing.lower + 1)) state.new act) }
     ensures falls { IfOk result (λ act. Falls state.old 52 state.new act) }
 {
-    match delete_index(alloc, state, reversing.object, reversing.lower)? {
+    let answer = delete_index(alloc, state, reversing.object, reversing.lower)?;
+    match answer {
         Answer::Gives(()) => Ok(put_above(alloc, state, reversing, low)?),
         Answer::Throws(thrown) => Ok(Act::Complete(Completion::Throw(thrown))),
     }

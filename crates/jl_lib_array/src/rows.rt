@@ -1,7 +1,7 @@
 //! The functions by their rows, and how each begins.
 ghost use Rattle.std.specs.Prelude.{◌≡◌, ◌<◌, IfOk};
 ghost use Rattle.jl_lib_array.specs.Rows.{IsArrayRow};
-ghost use Rattle.jl_lib_array.specs.inner.Rows.{function_on, length_function, splice_on};
+ghost use Rattle.jl_lib_array.specs.inner.Rows.{function_on, is_built, length_function, splice_on};
 ghost use Rattle.jl_meaning.specs.builtins.Function.{names_of};
 ghost use Rattle.jl_meaning.specs.builtins.Table.{builtin};
 ghost use Rattle.jl_state.specs.Rank.{Falls};
@@ -37,25 +37,41 @@ pub fn start<'p>(
         (builtin (names_of (table_of state.old.functions)) row (call_of call)) state.new act) }
     ensures falls { IfOk result (λ act. Falls state.old 400 state.new act) }
 {
-    if row == TO_LOCALE_STRING {
+    let built = is_built(alloc, row, call.args.items())?;
+    if !built {
         return Ok(unsupported(row));
     }
-    if row == SORT && !is_undefined(&argument(alloc, call.args.items(), 0)?) {
-        return Ok(unsupported(row));
-    }
-    match state.store.to_object(&call.this)? {
+    let answer = state.store.to_object(&call.this)?;
+    match answer {
         Answer::Gives(object) => Ok(start_on(alloc, state, row, object, call.args)?),
         Answer::Throws(thrown) => Ok(Act::Complete(Completion::Throw(thrown))),
     }
 }
 
+/// Whether a function is built: all are but `toLocaleString`, and `sort` with a function to compare by.
+fn is_built(alloc: Global, row: u16, args: &[Value]) -> Result<bool, NoMemory>
+    ensures { IfOk result (λ built. built ≡ is_built row args.now) }
+{
+    if row == TO_LOCALE_STRING {
+        return Ok(false);
+    }
+    if row == SORT {
+        let comparator = argument(alloc, args, 0)?;
+        return Ok(is_undefined(&comparator));
+    }
+    Ok(true)
+}
+
 /// The call of a builtin that isn't built ends the run.
 #[tactic(auto, unfolding(jl_value::specs::Builtins::builtin_names))]
 fn unsupported<'p>(row: u16) -> Act<'p>
-    requires { row < 42 }
+    requires { row < 102 }
     ensures { result ≡ Act.Fault (Fault.Unsupported row) }
 {
-    Act::Fault(Fault::Unsupported(Builtin::at(row).unwrap()))
+    match Builtin::at(row) {
+        Some(builtin) => Act::Fault(Fault::Unsupported(builtin)),
+        None => unreachable!(),
+    }
 }
 
 /// Begins a function on an object.

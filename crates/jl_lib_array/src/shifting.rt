@@ -37,7 +37,8 @@ pub(crate) fn without_last<'p>(
     ensures leads { IfOk result (λ act. Works state.old (without_last object last gives) state.new act) }
     ensures falls { IfOk result (λ act. Falls state.old 42 state.new act) }
 {
-    match delete_index(alloc, state, object, last)? {
+    let answer = delete_index(alloc, state, object, last)?;
+    match answer {
         Answer::Gives(()) => Ok(put_length(alloc, state, object, last, gives)?),
         Answer::Throws(thrown) => Ok(Act::Complete(Completion::Throw(thrown))),
     }

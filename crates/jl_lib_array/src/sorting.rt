@@ -9,7 +9,7 @@ ghost use Rattle.jl_state.specs.Rest.{Works};
 ghost use Rattle.jl_value.specs.declared.value.Value.TheVariants as value;
 
 use crate::frames::{begin_turn, get_for, string_for, sum};
-use crate::ordering::{sort_elements, values_of};
+use crate::ordering::{in_order, values_of};
 use jl_builtin::{has_index, is_undefined};
 use jl_operator::text_of;
 use jl_progress::{AfterPutting, ArrayProgress, Reading};
@@ -118,8 +118,7 @@ fn put_sorted<'p>(
         state.new act) }
     ensures falls { IfOk result (λ act. Falls state.old 62 state.new act) }
 {
-    let mut sorted = read;
-    sort_elements(alloc, sorted.items_mut())?;
+    let sorted = in_order(alloc, read)?;
     let values = values_of(alloc, sorted.items())?;
     let progress = ArrayProgress::PutTurn {
         object,

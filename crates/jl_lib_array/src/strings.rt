@@ -64,5 +64,8 @@ fn callee_of(callable: bool, join: &Value) -> ObjId
 fn standard_to_string() -> ObjId
     ensures { result ≡ standard_to_string }
 {
-    Builtin::at(14).unwrap().place()
+    match Builtin::at(14) {
+        Some(builtin) => builtin.place(),
+        None => unreachable!(),
+    }
 }

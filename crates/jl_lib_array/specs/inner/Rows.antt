@@ -1,5 +1,6 @@
 -- The functions of arrays that change or copy, after ToObject of what they are called on.
-use Rattle.std.specs.Prelude.{codes, if◌then◌else◌, length, true, ◌+◌, ◌-◌, ◌==◌, ◌∷◌, Bool, List, ℕ}
+use Rattle.std.specs.Prelude.{codes, false, if◌then◌else◌, length, slice_index_or, true, ◌+◌, ◌-◌, ◌==◌, ◌∷◌, Bool}
+use Rattle.std.specs.Prelude.{List, ℕ}
 use Rattle.jl_value.specs.declared.object.ObjId.{ObjId}
 use Rattle.jl_value.specs.declared.value.Value.{Value}
 use Rattle.jl_value.specs.declared.value.Value.TheVariants as value
@@ -10,6 +11,7 @@ use Rattle.jl_meaning.specs.builtins.Array.{append_all, standard_to_string}
 use Rattle.jl_meaning.specs.builtins.Elements.{delete_index, get_length, move_element}
 use Rattle.jl_meaning.specs.builtins.Turns.{downward, upward}
 use Rattle.jl_meaning.specs.forms.Literals.{new_array}
+use Rattle.jl_builtin.specs.Values.{is_undefined}
 use Rattle.jl_progress.specs.Arrays.{array_after, with_length}
 use Rattle.jl_progress.specs.declared.array.ArrayProgress.TheVariants as array
 use Rattle.jl_progress.specs.declared.array.LengthFunction.{LengthFunction}
@@ -35,6 +37,12 @@ splice_on o args = do
   a ← new_array
   length ← get_length o
   with_length (for_length.Splice a) o args length
+
+-- all functions are built but `toLocaleString`, and `sort` with a function to compare by
+abbrev pub is_built : (row : ℕ) → List Value → Bool
+is_built row args =
+    if row == 31 then false
+    else (if row == 39 then is_undefined (slice_index_or args 0 value.Undefined) else true)
 
 abbrev pub length_function : (row : ℕ) → LengthFunction
 length_function row =

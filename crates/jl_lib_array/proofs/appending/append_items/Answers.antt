@@ -1,14 +1,26 @@
-use Rattle.std.proofs.Common.{refl}
+use Rattle.std.proofs.Common.{drop, refl}
+use Rattle.jl_lib_array.proofs.Found.{none_from, some_from}
 use Rattle.jl_lib_array.proofs.Turns.{appends_end, appends_spent, appends_take}
 use Rattle.jl_lib_array.proofs.appending.append_items.Goals as goal
 
 pub returns-in-None-clause-leads : goal.returns-in-None-clause-leads
-returns-in-None-clause-leads c = appends_end _ _ _ _ _ _ c.in-None.ensures.found
+returns-in-None-clause-leads c =
+    appends_end c.args.state.now c.args.array c.args.next (drop c.args.from c.args.values)
+    (none_from c.args.from c.items.result.now c.args.values c.in_ok-value_from.field-0 c.items.ensures
+    c.in_ok-value_from.ensures.found c.in-None.is)
 
 pub returns-then-not-spend-clause-leads : goal.returns-then-not-spend-clause-leads
 returns-then-not-spend-clause-leads c =
-    appends_spent _ _ _ _ _ _ _ _ c.in-Some.ensures.found (c.if-not-spend.ensures.same refl) (c.if-not-spend.ensures.ran_out refl)
+    appends_spent c.args.state.now c.args.array c.args.next _ (drop c.args.from c.args.values)
+    (drop c.in-Some.after c.args.values) c.in-Some.v
+    (some_from c.args.from c.in-Some.after c.items.result.now c.args.values c.in-Some.v c.in_ok-value_from.field-0
+    c.items.ensures c.in_ok-value_from.ensures.found c.in-Some.is)
+    (c.if-not-spend.ensures.same refl) (c.if-not-spend.ensures.ran_out refl)
 
-pub returns-in-Some-clause-leads : goal.returns-in-Some-clause-leads
-returns-in-Some-clause-leads c =
-    appends_take _ _ _ _ _ _ _ _ _ c.in-Some.ensures.found (c.if-not-spend.ensures.took refl) c.in_ok-append_item.ensures.leads
+pub returns-clause-leads : goal.returns-clause-leads
+returns-clause-leads c =
+    appends_take c.args.state.now c.args.array c.args.next _ _ _ (drop c.args.from c.args.values)
+    (drop c.in-Some.after c.args.values) c.in-Some.v
+    (some_from c.args.from c.in-Some.after c.items.result.now c.args.values c.in-Some.v c.in_ok-value_from.field-0
+    c.items.ensures c.in_ok-value_from.ensures.found c.in-Some.is)
+    (c.if-not-spend.ensures.took refl) c.in_ok-append_item-in-Some.ensures.leads

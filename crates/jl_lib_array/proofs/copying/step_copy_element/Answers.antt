@@ -3,5 +3,5 @@ use Rattle.jl_lib_array.proofs.copying.step_copy_element.Goals as goal
 
 pub returns-clause-leads : goal.returns-clause-leads
 returns-clause-leads c =
-    copies_element _ _ _ c.args.copying c.args.next _ _ c.args.v c.in_ok-index.ensures c.in_ok-k.ensures
-    c.in_ok-add_then.ensures.leads
+    copies_element c.args.state.now _ _ c.args.copying c.args.next _ _ c.args.v c.in_ok-index.ensures
+    c.in_ok-k.ensures c.in_ok-add_then.ensures.leads

@@ -1,12 +1,13 @@
-use Rattle.jl_lib_array.proofs.Stored.{answer_gives, answer_throws}
+use Rattle.jl_meaning.specs.builtins.Elements.{delete_index}
+use Rattle.jl_lib_array.proofs.Turns.{then_turn}
+use Rattle.jl_lib_array.proofs.Waiting.{falls_waiting}
 use Rattle.jl_lib_array.proofs.frames.delete_then.Goals as goal
 
-pub returns-in-Gives-clause-leads : goal.returns-in-Gives-clause-leads
-returns-in-Gives-clause-leads c =
-    answer_gives _ _ c.in_ok-delete_index.ensures.stored _ _ _ _ _ _ c.in-Gives.is
-    c.in_ok-delete_index.ensures.comes c.in_ok-begin_turn.ensures.leads
+pub returns-clause-leads : goal.returns-clause-leads
+returns-clause-leads c =
+    then_turn c.args.state.now _ _ _ (delete_index c.args.object c.args.index) c.args.progress
+    c.in_ok-wait.ensures.waits c.in_ok-delete_element.ensures.leads
 
-pub returns-in-Throws-clause-leads : goal.returns-in-Throws-clause-leads
-returns-in-Throws-clause-leads c =
-    answer_throws _ _ c.in_ok-delete_index.ensures.stored _ _ _ _ c.in-Throws.is
-    c.in_ok-delete_index.ensures.comes
+pub returns-clause-falls : goal.returns-clause-falls
+returns-clause-falls c =
+    falls_waiting _ _ _ _ c.args.progress _ c.in_ok-wait.ensures.pushed c.in_ok-delete_element.ensures.falls

@@ -1,10 +1,12 @@
-use Rattle.jl_lib_array.proofs.Turns.{puts_then}
+use Rattle.jl_meaning.specs.builtins.Elements.{put_index}
+use Rattle.jl_lib_array.proofs.Turns.{then_turn}
 use Rattle.jl_lib_array.proofs.Waiting.{falls_waiting}
 use Rattle.jl_lib_array.proofs.frames.put_then.Goals as goal
 
 pub returns-clause-leads : goal.returns-clause-leads
 returns-clause-leads c =
-    puts_then _ _ _ _ _ _ _ _ c.in_ok-wait.ensures.waits c.in_ok-put_index.ensures.leads
+    then_turn c.args.state.now _ _ _ (put_index c.args.object c.args.index c.args.v) c.args.progress
+    c.in_ok-wait.ensures.waits c.in_ok-put_index.ensures.leads
 
 pub returns-clause-falls : goal.returns-clause-falls
 returns-clause-falls c =

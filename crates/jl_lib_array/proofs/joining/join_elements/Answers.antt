@@ -2,8 +2,10 @@ use Rattle.jl_lib_array.proofs.Joined.{joins_none, joins_some}
 use Rattle.jl_lib_array.proofs.joining.join_elements.Goals as goal
 
 pub returns-then-length-eq0-clause-leads : goal.returns-then-length-eq0-clause-leads
-returns-then-length-eq0-clause-leads c = joins_none _ _ _ _ _ c.if-length-eq0.true c.in_ok-word.ensures
+returns-then-length-eq0-clause-leads c =
+    joins_none c.args.state.now c.args.object c.args.length c.args.separator _ c.if-length-eq0.true c.in_ok-word.ensures
 
 pub returns-clause-leads : goal.returns-clause-leads
 returns-clause-leads c =
-    joins_some _ _ _ c.args.object c.args.length c.args.separator c.if-length-eq0.false c.in_ok-get_for.ensures.leads
+    joins_some c.args.state.now _ _ c.args.object c.args.length c.args.separator c.if-length-eq0.false
+    c.in_ok-get_for.ensures.leads

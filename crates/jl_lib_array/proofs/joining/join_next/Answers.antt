@@ -1,15 +1,14 @@
-use Rattle.std.proofs.Common.{sym, ◌∙◌}
-use Rattle.jl_progress.specs.Arrays.{join_others}
 use Rattle.std.proofs.Common.{refl}
+use Rattle.jl_progress.specs.Arrays.{join_others}
 use Rattle.jl_lib_array.proofs.Joined.{has_room, no_room}
 use Rattle.jl_lib_array.proofs.joining.join_next.Goals as goal
 
 pub returns-then-not-has_room-clause-leads : goal.returns-then-not-has_room-clause-leads
 returns-then-not-has_room-clause-leads c =
-    no_room c.args.line c.args.next.now _ _ _ c.len.ensures ? c.has_room.ensures _ (join_others c.args.joining)
-    c.if-not-has_room.true
+    no_room c.args.line c.args.next.now _ _ _ c.len.ensures refl c.has_room.ensures c.args.state.now
+    (join_others c.args.joining) c.if-not-has_room.true
 
 pub returns-clause-leads : goal.returns-clause-leads
 returns-clause-leads c =
-    has_room c.args.line c.args.next.now _ _ _ c.len.ensures ? c.has_room.ensures _ _ _ (join_others c.args.joining)
-    _ c.if-not-has_room.false c.in_ok-line.ensures c.in_ok-begin_turn.ensures.leads
+    has_room c.args.line c.args.next.now _ _ _ c.len.ensures refl c.has_room.ensures c.args.state.now _ _
+    (join_others c.args.joining) _ c.if-not-has_room.false c.in_ok-line.ensures c.in_ok-begin_turn.ensures.leads

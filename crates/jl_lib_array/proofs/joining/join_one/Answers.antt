@@ -1,13 +1,14 @@
-use Rattle.std.proofs.Common.{sym, ◌∙◌}
+use Rattle.std.proofs.Common.{refl}
 use Rattle.jl_lib_array.proofs.Joined.{joins_none_more, joins_one}
 use Rattle.jl_lib_array.proofs.joining.join_one.Goals as goal
 
 pub returns-then-not-has_room-clause-leads : goal.returns-then-not-has_room-clause-leads
 returns-then-not-has_room-clause-leads c =
-    joins_none_more c.args.joining c.args.index c.args.line _ _ _ c.len.ensures ? c.has_room.ensures
-    _ c.if-not-has_room.true
+    joins_none_more c.args.joining c.args.index c.args.line _ _ _ _ c.len.ensures c.units-separator.ensures.same refl
+    c.has_room.ensures c.args.state.now c.if-not-has_room.true
 
 pub returns-clause-leads : goal.returns-clause-leads
 returns-clause-leads c =
-    joins_one c.args.joining c.args.index c.args.line _ _ _ c.len.ensures ? c.has_room.ensures _ _ _ _
-    c.if-not-has_room.false ? c.in_ok-get_for.ensures.leads
+    joins_one c.args.joining c.args.index c.args.line _ _ _ _ c.len.ensures c.units-separator.ensures.same refl
+    c.has_room.ensures c.args.state.now _ _ _ c.if-not-has_room.false c.in_ok-line.ensures
+    c.in_ok-get_for.ensures.leads

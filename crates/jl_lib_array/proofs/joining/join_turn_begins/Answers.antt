@@ -2,15 +2,17 @@ use Rattle.std.proofs.Common.{refl}
 use Rattle.jl_lib_array.proofs.Joined.{joins_end, joins_spent, joins_take}
 use Rattle.jl_lib_array.proofs.joining.join_turn_begins.Goals as goal
 
-pub returns-then-left-eq0-clause-leads : goal.returns-then-left-eq0-clause-leads
-returns-then-left-eq0-clause-leads c =
-    joins_end _ _ _ c.args.joining c.args.line c.if-left-eq0.true ?
+pub returns-then-joining-eq0-clause-leads : goal.returns-then-joining-eq0-clause-leads
+returns-then-joining-eq0-clause-leads c =
+    joins_end c.args.state.now _ c.args.joining c.args.line _ _ c.if-joining-eq0.true c.items.ensures
+    (c.in_ok-give_text.ensures.leads c.args.state.now)
 
 pub returns-then-not-spend-clause-leads : goal.returns-then-not-spend-clause-leads
 returns-then-not-spend-clause-leads c =
-    joins_spent _ _ _ c.args.joining c.args.line c.if-left-eq0.false (c.if-not-spend.ensures.same refl) (c.if-not-spend.ensures.ran_out refl)
+    joins_spent c.args.state.now _ c.args.joining c.args.line c.if-joining-eq0.false (c.if-not-spend.ensures.same refl)
+    (c.if-not-spend.ensures.ran_out refl)
 
 pub returns-clause-leads : goal.returns-clause-leads
 returns-clause-leads c =
-    joins_take _ _ _ c.args.joining c.args.line _ _ c.if-left-eq0.false (c.if-not-spend.ensures.took refl) c.in_ok-k.ensures
-    c.in_ok-join_one.ensures.leads
+    joins_take c.args.state.now _ c.args.joining c.args.line _ _ _ c.if-joining-eq0.false
+    (c.if-not-spend.ensures.took refl) c.in_ok-k.ensures c.in_ok-join_one.ensures.leads

@@ -6,5 +6,6 @@ use Rattle.jl_lib_array.proofs.lengths.step_length.Goals as goal
 
 pub returns-clause-leads : goal.returns-clause-leads
 returns-clause-leads c =
-    subst (λ p. Works _ p _ _) (uint32_converts c.args.v (with_length c.args.function c.args.object c.args.args))
+    subst (λ p. Works c.args.state.now p c.number_for.new.state c.in_ok-number_for.field-0)
+    (uint32_converts c.args.v (with_length c.args.function c.args.object c.args.args))
     c.in_ok-number_for.ensures.leads

@@ -7,4 +7,4 @@ pub returns : goal.returns
 returns c =
     sorts_alike _ _
     (c.in_ok-sort_by.ensures.sorted before ranks (answers_always _ _ _ (λ f a r g called. search rules)))
-    (c.in_ok-sort_by.ensures.stable before ranks (answers_always _ _ _ (λ f a r g called. search rules)))
+    (c.sort_by.ensures.stable before ranks (answers_always _ _ _ (λ f a r g called. search rules)))

@@ -1,15 +1,18 @@
 use Rattle.std.proofs.Common.{refl}
+use Rattle.jl_state.specs.declared.act.Act.TheVariants as act
 use Rattle.jl_lib_array.proofs.Exchanged.{reverses_end, reverses_spent, reverses_take}
 use Rattle.jl_lib_array.proofs.reversing.reverse_turn.Goals as goal
 
-pub returns-then-left-eq0-clause-leads : goal.returns-then-left-eq0-clause-leads
-returns-then-left-eq0-clause-leads c =
-    reverses_end _ _ _ c.args.reversing c.if-left-eq0.true
+pub returns-then-reversing-eq0-clause-leads : goal.returns-then-reversing-eq0-clause-leads
+returns-then-reversing-eq0-clause-leads c =
+    reverses_end _ c.args.state.now act.Spent c.args.reversing c.if-reversing-eq0.true
 
 pub returns-then-not-spend-clause-leads : goal.returns-then-not-spend-clause-leads
 returns-then-not-spend-clause-leads c =
-    reverses_spent _ _ _ c.args.reversing c.if-left-eq0.false (c.if-not-spend.ensures.same refl) (c.if-not-spend.ensures.ran_out refl)
+    reverses_spent _ _ act.Spent c.args.reversing c.if-reversing-eq0.false (c.if-not-spend.ensures.same refl)
+    (c.if-not-spend.ensures.ran_out refl)
 
 pub returns-clause-leads : goal.returns-clause-leads
 returns-clause-leads c =
-    reverses_take _ _ _ c.args.reversing _ c.if-left-eq0.false (c.if-not-spend.ensures.took refl) c.in_ok-get_for.ensures.leads
+    reverses_take _ _ _ c.args.reversing _ c.if-reversing-eq0.false (c.if-not-spend.ensures.took refl)
+    c.in_ok-get_for.ensures.leads

@@ -1,12 +1,12 @@
 use Rattle.jl_lib_array.proofs.Read.{reads_missing, reads_there}
 use Rattle.jl_lib_array.proofs.sorting.read_element.Goals as goal
 
-pub returns-then-has_index-clause-leads : goal.returns-then-has_index-clause-leads
-returns-then-has_index-clause-leads c =
-    reads_there _ _ _ c.args.reading c.args.read c.args.index _ c.in_ok-has_index.ensures c.if-has_index.true
+pub returns-then-branch-clause-leads : goal.returns-then-branch-clause-leads
+returns-then-branch-clause-leads c =
+    reads_there _ _ _ c.args.reading c.args.read c.args.index _ c.in_ok-has_index.ensures c.if-branch.true
     c.in_ok-get_for.ensures.leads
 
 pub returns-clause-leads : goal.returns-clause-leads
 returns-clause-leads c =
-    reads_missing _ _ _ c.args.reading c.args.read c.args.index _ c.in_ok-has_index.ensures c.if-has_index.false
+    reads_missing _ _ _ c.args.reading c.args.read c.args.index _ c.in_ok-has_index.ensures c.if-branch.false
     c.in_ok-begin_turn.ensures.leads

@@ -1,0 +1,10 @@
+use Rattle.std.proofs.Common.{codes}
+use Rattle.jl_progress.specs.Arrays.{array_after}
+use Rattle.jl_progress.specs.declared.array.ArrayProgress.TheVariants as array
+use Rattle.jl_lib_array.proofs.Converted.{named_got}
+use Rattle.jl_lib_array.proofs.strings.array_to_string.Goals as goal
+
+pub returns-clause-leads : goal.returns-clause-leads
+returns-clause-leads c =
+    named_got c.args.state.now _ _ c.args.object _ (codes "join") (array_after (array.Join c.args.object))
+    c.in_ok-name.ensures (c.in_ok-wait.ensures.waits.works _ _ _ c.in_ok-get.ensures.leads)
