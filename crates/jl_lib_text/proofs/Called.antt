@@ -7,7 +7,8 @@ use mathlib.Core.Path.{fun_ext}
 use Rattle.jl_value.specs.declared.error_kind.ErrorKind.TheVariants.{TypeError}
 use Rattle.jl_value.specs.declared.value.Value.{Value}
 use Rattle.jl_value.specs.declared.value.Value.TheVariants as value
-use Rattle.jl_meaning.specs.Conversions.{check_object_coercible, integer_of, to_integer, to_number, to_string}
+use Rattle.jl_meaning.specs.Conversions.{check_object_coercible, integer_of, string_hint, to_integer, to_number}
+use Rattle.jl_meaning.specs.Conversions.{to_primitive, to_string}
 use Rattle.jl_meaning.specs.Errors.{throw_error}
 use Rattle.jl_effects.specs.Effects.{Fail}
 use Rattle.jl_meaning.specs.Parts.{give, ◌>>=◌, Algorithm, Call, Unsupported}
@@ -18,13 +19,15 @@ use Rattle.jl_text.specs.Search.{first_place}
 use Rattle.jl_meaning.specs.builtins.Function.{FunctionNames}
 use Rattle.jl_meaning.specs.builtins.String.{string_constructor, string_from_char_code, string_value, unit_at_position}
 use Rattle.jl_meaning.specs.builtins.Table.{builtin, builtin_rows}
-use Rattle.jl_progress.specs.Strings.{method_of_string}
+use Rattle.jl_progress.specs.Strings.{method_of_string, string_after}
 use Rattle.jl_progress.specs.declared.string.StringMethod.{StringMethod}
+use Rattle.jl_progress.specs.declared.string.StringProgress.TheVariants as progress
 use Rattle.jl_state.specs.Rest.{Works}
 use Rattle.jl_state.specs.declared.act.Act.{Act}
 use Rattle.jl_state.specs.declared.state.State.{State}
 use Rattle.jl_operator.proofs.Operands.{chained}
 use Rattle.jl_lib_text.specs.inner.Rows.{methods}
+use Rattle.jl_lib_text.proofs.Conversions.{as_string}
 
 -- rows
 
@@ -133,7 +136,7 @@ module _ (s : State) (names : FunctionNames) (row : ℕ) (c : Call) (t : State) 
 
 -- `this` as a string
 
-abbrev string_of : Value → Algorithm (List ℕ)
+abbrev pub string_of : Value → Algorithm (List ℕ)
 string_of v = check_object_coercible v >>= λ _. to_string v
 
 module _ (s : State) (k : List ℕ → Algorithm Value) (t : State) (a : Act) where
@@ -149,7 +152,7 @@ module _ (s : State) (k : List ℕ → Algorithm Value) (t : State) (a : Act) wh
   refuses_null v is leads =
       subst (λ (w : Value). Works s (string_of w >>= k) t a) (sym is) (record { is = leads.is })
 
-  pub converts : (v : Value) → (v ≡ value.Undefined → ⊥) → (v ≡ value.Null → ⊥) → Works s (to_string v >>= k) t a
+  converts : (v : Value) → (v ≡ value.Undefined → ⊥) → (v ≡ value.Null → ⊥) → Works s (to_string v >>= k) t a
       → Works s (string_of v >>= k) t a
   unfolding check_object_coercible
   converts value.Undefined no_undefined no_null leads = absurd (no_undefined refl)
@@ -158,3 +161,16 @@ module _ (s : State) (k : List ℕ → Algorithm Value) (t : State) (a : Act) wh
   converts (value.Num n) no_undefined no_null leads = leads
   converts (value.Text x) no_undefined no_null leads = leads
   converts (value.Obj id) no_undefined no_null leads = leads
+
+-- what a method does waits for it
+pub method_waits : (s : State) (m : StringMethod) (c : Call) (args : List Value) (v : Value) (t : State) (a : Act)
+    → (c.this ≡ value.Undefined → ⊥) → (c.this ≡ value.Null → ⊥) → args ≡ c.args → v ≡ c.this
+    → Works s (to_primitive string_hint v >>= string_after (progress.This m args)) t a → Works s (called m c) t a
+method_waits s m c args v t a no_undefined no_null args_are v_is leads =
+    converts s (λ units. method_of_string m units c.args) t a c.this no_undefined no_null
+    (as_string s t a c.this (string_after (progress.This m c.args)) (λ units. method_of_string m units c.args)
+    (λ p. refl)
+    (subst (λ (l : List Value). Works s (to_primitive string_hint c.this >>= string_after (progress.This m l)) t a)
+    args_are
+    (subst (λ (w : Value). Works s (to_primitive string_hint w >>= string_after (progress.This m args)) t a) v_is
+    leads)))
