@@ -1,5 +1,6 @@
 -- The rows of strings, and `this` as a string.
-use Rattle.std.proofs.Common.{◌≡◌, ◌≤◌, ◌<◌, ◌∙◌, ◌∷◌, ◌+◌, ◌-◌, [], ap, arith, codes, length, refl, subst, suc, sym, zero}
+use Rattle.std.proofs.Common.{◌≡◌, ◌≤◌, ◌<◌, ◌∙◌, ◌∷◌, ◌+◌, ◌-◌, [], ap, arith, codes, length, refl, subst, suc, sym}
+use Rattle.std.proofs.Common.{zero}
 use Rattle.std.proofs.Common.{List, None, Option, Some, ℕ, ℤ}
 use Rattle.std.specs.Option.{option_map_or}
 use Rattle.std.specs.Prelude.{slice_get}
@@ -80,26 +81,30 @@ module _ (names : FunctionNames) (c : Call) where
   values_are (suc zero) below = refl
   values_are (suc (suc n)) below = absurd (omega (arith, below))
 
-  none_are : (n : ℕ) → n < 17 → slice_get methods n ≡ None → builtin names (n + 55) c ≡ Fail (Unsupported (n + 55))
+  unsupported_are : (n : ℕ) → n < 6 → builtin names (n + 66) c ≡ Fail (Unsupported (n + 66))
   unfolding builtin builtin_rows
-  none_are zero below none = absurd (let e = none in cc)
-  none_are (suc zero) below none = absurd (let e = none in cc)
-  none_are (suc (suc zero)) below none = absurd (let e = none in cc)
-  none_are (suc (suc (suc zero))) below none = absurd (let e = none in cc)
-  none_are (suc (suc (suc (suc zero)))) below none = absurd (let e = none in cc)
-  none_are (suc (suc (suc (suc (suc zero))))) below none = absurd (let e = none in cc)
-  none_are (suc (suc (suc (suc (suc (suc zero)))))) below none = absurd (let e = none in cc)
-  none_are (suc (suc (suc (suc (suc (suc (suc zero))))))) below none = absurd (let e = none in cc)
-  none_are (suc (suc (suc (suc (suc (suc (suc (suc zero)))))))) below none = absurd (let e = none in cc)
-  none_are (suc (suc (suc (suc (suc (suc (suc (suc (suc zero))))))))) below none = absurd (let e = none in cc)
-  none_are (suc (suc (suc (suc (suc (suc (suc (suc (suc (suc zero)))))))))) below none = absurd (let e = none in cc)
-  none_are (suc (suc (suc (suc (suc (suc (suc (suc (suc (suc (suc zero))))))))))) below none = refl
-  none_are (suc (suc (suc (suc (suc (suc (suc (suc (suc (suc (suc (suc zero)))))))))))) below none = refl
-  none_are (suc (suc (suc (suc (suc (suc (suc (suc (suc (suc (suc (suc (suc zero))))))))))))) below none = refl
-  none_are (suc (suc (suc (suc (suc (suc (suc (suc (suc (suc (suc (suc (suc (suc zero)))))))))))))) below none = refl
-  none_are (suc (suc (suc (suc (suc (suc (suc (suc (suc (suc (suc (suc (suc (suc (suc zero))))))))))))))) below none = refl
-  none_are (suc (suc (suc (suc (suc (suc (suc (suc (suc (suc (suc (suc (suc (suc (suc (suc zero)))))))))))))))) below none = refl
-  none_are (suc (suc (suc (suc (suc (suc (suc (suc (suc (suc (suc (suc (suc (suc (suc (suc (suc n))))))))))))))))) below none = absurd (omega (arith, below))
+  unsupported_are zero below = refl
+  unsupported_are (suc zero) below = refl
+  unsupported_are (suc (suc zero)) below = refl
+  unsupported_are (suc (suc (suc zero))) below = refl
+  unsupported_are (suc (suc (suc (suc zero)))) below = refl
+  unsupported_are (suc (suc (suc (suc (suc zero))))) below = refl
+  unsupported_are (suc (suc (suc (suc (suc (suc n)))))) below = absurd (omega (arith, below))
+
+-- there is no method after the last
+past_methods : (n : ℕ) → slice_get methods n ≡ None → 11 ≤ n
+past_methods zero none = absurd (let e = none in cc)
+past_methods (suc zero) none = absurd (let e = none in cc)
+past_methods (suc (suc zero)) none = absurd (let e = none in cc)
+past_methods (suc (suc (suc zero))) none = absurd (let e = none in cc)
+past_methods (suc (suc (suc (suc zero)))) none = absurd (let e = none in cc)
+past_methods (suc (suc (suc (suc (suc zero))))) none = absurd (let e = none in cc)
+past_methods (suc (suc (suc (suc (suc (suc zero)))))) none = absurd (let e = none in cc)
+past_methods (suc (suc (suc (suc (suc (suc (suc zero))))))) none = absurd (let e = none in cc)
+past_methods (suc (suc (suc (suc (suc (suc (suc (suc zero)))))))) none = absurd (let e = none in cc)
+past_methods (suc (suc (suc (suc (suc (suc (suc (suc (suc zero))))))))) none = absurd (let e = none in cc)
+past_methods (suc (suc (suc (suc (suc (suc (suc (suc (suc (suc zero)))))))))) none = absurd (let e = none in cc)
+past_methods (suc (suc (suc (suc (suc (suc (suc (suc (suc (suc (suc n))))))))))) none = omega arith
 
 module _ (s : State) (names : FunctionNames) (row : ℕ) (c : Call) (t : State) (a : Act) where
   at_row : (n : ℕ) (p : Algorithm Value) → row ≡ n → builtin names n c ≡ p → Works s p t a
@@ -129,9 +134,10 @@ module _ (s : State) (names : FunctionNames) (row : ℕ) (c : Call) (t : State) 
   pub unsupported_row : (o : Option StringMethod) → 55 ≤ row → row < 72 → o ≡ slice_get methods (row - 55)
       → o ≡ None → Works s (Fail (Unsupported row)) t a → Works s (builtin names row c) t a
   unsupported_row o above below is none leads =
-      let there : (row - 55) + 55 ≡ row = omega (arith, above) in
-      at_row ((row - 55) + 55) (Fail (Unsupported ((row - 55) + 55))) (sym there)
-      (none_are names c (row - 55) (omega (arith, above, below)) (sym is ∙ none))
+      let past : 11 ≤ row - 55 = past_methods (row - 55) (sym is ∙ none) in
+      let there : (row - 66) + 66 ≡ row = omega (arith, above, past) in
+      at_row ((row - 66) + 66) (Fail (Unsupported ((row - 66) + 66))) (sym there)
+      (unsupported_are names c (row - 66) (omega (arith, below, past)))
       (subst (λ r. Works s (Fail (Unsupported r)) t a) (sym there) leads)
 
 -- `this` as a string

@@ -1,5 +1,6 @@
 -- Pieces of a text between the places of a separator.
-use Rattle.std.proofs.Common.{◌≡◌, ◌∙◌, ◌∷◌, ◌++◌, ◌+◌, ◌-◌, ◌<◌, ◌≤◌, ◌⊎◌, [], append_assoc, ap, arith, cond, drop, inl, inr, length, refl, subst, suc, sym, take}
+use Rattle.std.proofs.Common.{◌≡◌, ◌∙◌, ◌∷◌, ◌++◌, ◌+◌, ◌-◌, ◌<◌, ◌≤◌, ◌⊎◌, [], append_assoc, ap, arith, cond, drop}
+use Rattle.std.proofs.Common.{inl, inr, length, refl, subst, suc, sym, take}
 use Rattle.std.proofs.Common.{zero, Bool, List, None, Option, Some, false, true, ℕ}
 use Rattle.std.proofs.Common.{length-drop, map}
 use Rattle.std.proofs.lemmas.Bool.{le-leb}
@@ -72,7 +73,8 @@ module _ (s : ℕ) (rest : List ℕ) where
         ∙ later.is
         ∙ ap (λ p. p ∷ pieces_from separator 0 [] (drop (later.gap + length separator) us))
         (one_more piece (take later.gap us) u)
-        ∙ ap (λ n. (piece ++ u ∷ take later.gap us) ∷ pieces_from separator 0 [] (drop n (u ∷ us))) (one_further later.gap);
+        ∙ ap (λ n. (piece ++ u ∷ take later.gap us) ∷ pieces_from separator 0 [] (drop n (u ∷ us)))
+        (one_further later.gap);
   }
 
   pub ends : (l piece : List ℕ) (at place : ℕ) → place_in l separator at ≡ Some place → Ends separator piece l at place

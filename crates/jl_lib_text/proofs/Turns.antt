@@ -1,5 +1,6 @@
 -- Builtins that take their arguments one a turn.
-use Rattle.std.proofs.Common.{◌≡◌, ◌≤◌, ◌<◌, ◌∙◌, ◌∷◌, ◌++◌, [], ap, drop, length, nat_lt, refl, subst, sym, Bool, List, ℕ}
+use Rattle.std.proofs.Common.{◌≡◌, ◌≤◌, ◌<◌, ◌∙◌, ◌∷◌, ◌++◌, [], ap, drop, length, nat_lt, refl, subst, sym, Bool, List}
+use Rattle.std.proofs.Common.{ℕ}
 use Rattle.std.proofs.Common.{if◌then◌else◌}
 use Rattle.std.proofs.lemmas.Bool.{le-ltb, lt-ltb}
 use mathlib.Core.Path.{fun_ext}
@@ -49,14 +50,16 @@ joined_from : (units : List ℕ) (v : Value) (vs : List Value)
 joined_from units v vs =
     ap Step (ap (λ (g : List ℕ → Algorithm Value). to_string v >>= g)
     (fun_ext (λ more. chained (string_within (units ++ more)) (λ all. concat_all all vs) (λ all. give_string all)))
-    ∙ chained (to_string v) (λ more. string_within (units ++ more) >>= λ all. concat_all all vs) (λ all. give_string all))
+    ∙ chained (to_string v) (λ more. string_within (units ++ more) >>= λ all. concat_all all vs)
+    (λ all. give_string all))
 
 pub joined_waits : (s t : State) (units : List ℕ) (v : Value) (args : List Value) (from : ℕ) (u : State) (a : Act)
     → Took s t → Works t (to_primitive string_hint v >>= string_after (progress.Joined units args from)) u a
     → Works s (string_joined units (v ∷ drop from args)) u a
 joined_waits s t units v args from u a took leads =
     subst (λ q. Works s q u a) (joined_from units v (drop from args))
-    (took.works (to_string v >>= λ more. string_within (units ++ more) >>= λ all. string_joined all (drop from args)) u a
+    (took.works (to_string v >>= λ more. string_within (units ++ more) >>= λ all. string_joined all (drop from args))
+    u a
     (as_string t u a v (string_after (progress.Joined units args from))
     (λ more. string_within (units ++ more) >>= λ all. string_joined all (drop from args)) (λ p. refl) leads))
 

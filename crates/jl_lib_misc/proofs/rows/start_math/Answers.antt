@@ -17,5 +17,6 @@ returns-then-row-eq100-clause-leads c = takes_power _ _ _ _ _ c.if-row-eq100.tru
 
 pub returns-clause-leads : goal.returns-clause-leads
 returns-clause-leads c =
-    takes_whole _ _ _ _ _ c.requires.belongs.0 c.requires.belongs.1 c.if-row-eq95.false c.if-row-eq98.false c.if-row-eq99.false
+    takes_whole _ _ _ _ _ c.requires.belongs.0 c.requires.belongs.1 c.if-row-eq95.false c.if-row-eq98.false
+    c.if-row-eq99.false
     c.if-row-eq100.false c.in_ok-on_argument-2.ensures.leads

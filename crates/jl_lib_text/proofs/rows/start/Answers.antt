@@ -13,7 +13,8 @@ returns-then-row-eq52-clause-leads c =
 
 pub returns-then-row-lt55-clause-leads : goal.returns-then-row-lt55-clause-leads
 returns-then-row-lt55-clause-leads c =
-    value_row _ _ _ _ _ _ (omega (arith, c.requires.belongs.0, c.if-row-eq51.false, c.if-row-eq52.false)) c.if-row-lt55.true
+    value_row _ _ _ _ _ _ (omega (arith, c.requires.belongs.0, c.if-row-eq51.false, c.if-row-eq52.false))
+    c.if-row-lt55.true
     c.in_ok-string_value.ensures.leads
 
 pub returns-in-Some-clause-leads : goal.returns-in-Some-clause-leads
