@@ -20,7 +20,7 @@ returns-then-row-lt55-clause-leads c =
 pub returns-in-Some-clause-leads : goal.returns-in-Some-clause-leads
 returns-in-Some-clause-leads c =
     method_row _ _ _ (call_of c.args.call) _ _ _ c.in-Some.method (omega (arith, c.if-row-lt55.false))
-    c.method_of_row.ensures c.in-Some.is c.in_ok-call_method.ensures.leads
+    c.method_of_row.ensures c.in-Some.is c.in_ok-call_method-in-Some.ensures.leads
 
 pub returns-clause-leads : goal.returns-clause-leads
 returns-clause-leads c =
