@@ -1,4 +1,4 @@
-use Rattle.std.proofs.Common.{◌∷◌, ◌++◌, ◌+◌, [], ap, arith, drop, length, map, slice_range, subst, sym, ◌∙◌}
+use Rattle.std.proofs.Common.{◌∷◌, ◌++◌, ◌+◌, [], ap, arith, drop, length, map, slice_range, sym, ◌∙◌}
 use Rattle.jl_meaning.specs.builtins.String.{pieces_from}
 use Rattle.jl_value.specs.declared.value.Value.TheVariants as value
 use Rattle.jl_lib_text.proofs.Pieces.{end_piece, next_piece}
