@@ -46,7 +46,8 @@ module _ (s t : State) (a : Act) (c : Call) where
   numeral_waits numeral radix numeral_is radix_is leads =
       subst (λ (w : Value). Works s (to_string w >>= parsed (argument c 1)) t a) numeral_is
       (subst (λ (w : Value). Works s (to_string numeral >>= parsed w) t a) radix_is
-      (as_string s t a numeral (progress_after (progress.Global (global.Numeral radix))) (parsed radix) (λ p. refl) leads))
+      (as_string s t a numeral (progress_after (progress.Global (global.Numeral radix))) (parsed radix) (λ p. refl)
+      leads))
     where
       parsed : Value → List ℕ → Algorithm Value
       parsed w units = to_number w >>= λ n. parse_in n units
@@ -73,7 +74,8 @@ module _ (s t : State) (a : Act) (c : Call) where
   base_waits base exponent base_is exponent_is leads =
       subst (λ (w : Value). Works s (to_number w >>= raised (argument c 1)) t a) base_is
       (subst (λ (w : Value). Works s (to_number base >>= raised w) t a) exponent_is
-      (as_number s t a base (progress_after (progress.Number (number.Base exponent))) (raised exponent) (λ p. refl) leads))
+      (as_number s t a base (progress_after (progress.Number (number.Base exponent))) (raised exponent) (λ p. refl)
+      leads))
     where
       raised : Value → Number → Algorithm Value
       raised w x = to_number w >>= λ y. give_number (power_of x y)

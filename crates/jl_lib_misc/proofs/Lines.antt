@@ -87,7 +87,8 @@ no_room s units bytes n m room is before more able none =
 -- an argument is converted, after a step
 pub converts_argument : (s t : State) (line : List ℕ) (is_first : Bool) (v : Value) (args : List Value) (from : ℕ)
     (u : State) (a : Act) → Took s t
-    → Works t (to_primitive string_hint v >>= progress_after (progress.Global (global.Print line is_first args from))) u a
+    → Works t (to_primitive string_hint v
+    >>= progress_after (progress.Global (global.Print line is_first args from))) u a
     → Works s (Step (to_string v >>= λ units. print_others (line_with line is_first units) (drop from args))) u a
 converts_argument s t line is_first v args from u a took leads =
     took.works (to_string v >>= λ units. print_others (line_with line is_first units) (drop from args)) u a

@@ -23,6 +23,7 @@ pub extreme_waits : (s t : State) (which : Extreme) (so_far : Option Number) (v 
     >>= progress_after (progress.Number (number.Extreme which so_far args from))) u a
     → Works s (one_of_all (pick_of which) so_far (v ∷ drop from args)) u a
 extreme_waits s t which so_far v args from u a took leads =
-    took.works (to_number v >>= λ n. one_of_all (pick_of which) (Some (next_extreme which so_far n)) (drop from args)) u a
+    took.works (to_number v >>= λ n. one_of_all (pick_of which) (Some (next_extreme which so_far n)) (drop from args))
+    u a
     (as_number t u a v (progress_after (progress.Number (number.Extreme which so_far args from)))
     (λ n. one_of_all (pick_of which) (Some (next_extreme which so_far n)) (drop from args)) (λ p. refl) leads)

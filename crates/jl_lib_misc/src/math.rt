@@ -29,7 +29,8 @@ pub(crate) fn on_argument<'p>(
     function: NumberFunction,
     call: &Invocation,
 ) -> Result<Act<'p>, NoMemory>
-    ensures leads { IfOk result (λ act. Works state.old (on_argument (of_number function) (call_of call.now)) state.new act) }
+    ensures leads { IfOk result (λ act. Works state.old
+        (on_argument (of_number function) (call_of call.now)) state.new act) }
     ensures falls { IfOk result (λ act. Falls state.old 22 state.new act) }
 {
     let first = argument(alloc, call.args.items(), 0)?;

@@ -79,6 +79,7 @@ pub(crate) fn number_constructor<'p>(
     }
 }
 
+/// The number that `Number` stands for without an argument.
 fn zero() -> Num
     ensures { result ≡ Some (pos 0) }
 {

@@ -17,6 +17,7 @@ const PLUS: u16 = 0x2b;
 
 const MINUS: u16 = 0x2d;
 
+/// Whether a unit is white space or ends a line (7.2, 7.3).
 fn is_space(unit: u16) -> bool
     ensures { result ≡ is_space unit }
 {

@@ -1,5 +1,6 @@
 -- The rows of strings, and `this` as a string.
-use Rattle.std.proofs.Common.{◌≡◌, ◌≤◌, ◌<◌, ◌∙◌, ◌∷◌, ◌+◌, ◌-◌, [], ap, arith, codes, length, refl, subst, suc, sym, zero}
+use Rattle.std.proofs.Common.{◌≡◌, ◌≤◌, ◌<◌, ◌∙◌, ◌∷◌, ◌+◌, ◌-◌, [], ap, arith, codes, length, refl, subst, suc, sym}
+use Rattle.std.proofs.Common.{zero}
 use Rattle.std.proofs.Common.{List, None, Option, Some, ℕ, ℤ}
 use Rattle.std.specs.Option.{option_map_or}
 use Rattle.std.specs.Prelude.{slice_get}
@@ -7,7 +8,8 @@ use mathlib.Core.Path.{fun_ext}
 use Rattle.jl_value.specs.declared.error_kind.ErrorKind.TheVariants.{TypeError}
 use Rattle.jl_value.specs.declared.value.Value.{Value}
 use Rattle.jl_value.specs.declared.value.Value.TheVariants as value
-use Rattle.jl_meaning.specs.Conversions.{check_object_coercible, integer_of, to_integer, to_number, to_string}
+use Rattle.jl_meaning.specs.Conversions.{check_object_coercible, integer_of, string_hint, to_integer, to_number}
+use Rattle.jl_meaning.specs.Conversions.{to_primitive, to_string}
 use Rattle.jl_meaning.specs.Errors.{throw_error}
 use Rattle.jl_effects.specs.Effects.{Fail}
 use Rattle.jl_meaning.specs.Parts.{give, ◌>>=◌, Algorithm, Call, Unsupported}
@@ -18,13 +20,15 @@ use Rattle.jl_text.specs.Search.{first_place}
 use Rattle.jl_meaning.specs.builtins.Function.{FunctionNames}
 use Rattle.jl_meaning.specs.builtins.String.{string_constructor, string_from_char_code, string_value, unit_at_position}
 use Rattle.jl_meaning.specs.builtins.Table.{builtin, builtin_rows}
-use Rattle.jl_progress.specs.Strings.{method_of_string}
+use Rattle.jl_progress.specs.Strings.{method_of_string, string_after}
 use Rattle.jl_progress.specs.declared.string.StringMethod.{StringMethod}
+use Rattle.jl_progress.specs.declared.string.StringProgress.TheVariants as progress
 use Rattle.jl_state.specs.Rest.{Works}
 use Rattle.jl_state.specs.declared.act.Act.{Act}
 use Rattle.jl_state.specs.declared.state.State.{State}
 use Rattle.jl_operator.proofs.Operands.{chained}
 use Rattle.jl_lib_text.specs.inner.Rows.{methods}
+use Rattle.jl_lib_text.proofs.Conversions.{as_string}
 
 -- rows
 
@@ -77,26 +81,30 @@ module _ (names : FunctionNames) (c : Call) where
   values_are (suc zero) below = refl
   values_are (suc (suc n)) below = absurd (omega (arith, below))
 
-  none_are : (n : ℕ) → n < 17 → slice_get methods n ≡ None → builtin names (n + 55) c ≡ Fail (Unsupported (n + 55))
+  unsupported_are : (n : ℕ) → n < 6 → builtin names (n + 66) c ≡ Fail (Unsupported (n + 66))
   unfolding builtin builtin_rows
-  none_are zero below none = absurd (let e = none in cc)
-  none_are (suc zero) below none = absurd (let e = none in cc)
-  none_are (suc (suc zero)) below none = absurd (let e = none in cc)
-  none_are (suc (suc (suc zero))) below none = absurd (let e = none in cc)
-  none_are (suc (suc (suc (suc zero)))) below none = absurd (let e = none in cc)
-  none_are (suc (suc (suc (suc (suc zero))))) below none = absurd (let e = none in cc)
-  none_are (suc (suc (suc (suc (suc (suc zero)))))) below none = absurd (let e = none in cc)
-  none_are (suc (suc (suc (suc (suc (suc (suc zero))))))) below none = absurd (let e = none in cc)
-  none_are (suc (suc (suc (suc (suc (suc (suc (suc zero)))))))) below none = absurd (let e = none in cc)
-  none_are (suc (suc (suc (suc (suc (suc (suc (suc (suc zero))))))))) below none = absurd (let e = none in cc)
-  none_are (suc (suc (suc (suc (suc (suc (suc (suc (suc (suc zero)))))))))) below none = absurd (let e = none in cc)
-  none_are (suc (suc (suc (suc (suc (suc (suc (suc (suc (suc (suc zero))))))))))) below none = refl
-  none_are (suc (suc (suc (suc (suc (suc (suc (suc (suc (suc (suc (suc zero)))))))))))) below none = refl
-  none_are (suc (suc (suc (suc (suc (suc (suc (suc (suc (suc (suc (suc (suc zero))))))))))))) below none = refl
-  none_are (suc (suc (suc (suc (suc (suc (suc (suc (suc (suc (suc (suc (suc (suc zero)))))))))))))) below none = refl
-  none_are (suc (suc (suc (suc (suc (suc (suc (suc (suc (suc (suc (suc (suc (suc (suc zero))))))))))))))) below none = refl
-  none_are (suc (suc (suc (suc (suc (suc (suc (suc (suc (suc (suc (suc (suc (suc (suc (suc zero)))))))))))))))) below none = refl
-  none_are (suc (suc (suc (suc (suc (suc (suc (suc (suc (suc (suc (suc (suc (suc (suc (suc (suc n))))))))))))))))) below none = absurd (omega (arith, below))
+  unsupported_are zero below = refl
+  unsupported_are (suc zero) below = refl
+  unsupported_are (suc (suc zero)) below = refl
+  unsupported_are (suc (suc (suc zero))) below = refl
+  unsupported_are (suc (suc (suc (suc zero)))) below = refl
+  unsupported_are (suc (suc (suc (suc (suc zero))))) below = refl
+  unsupported_are (suc (suc (suc (suc (suc (suc n)))))) below = absurd (omega (arith, below))
+
+-- there is no method after the last
+past_methods : (n : ℕ) → slice_get methods n ≡ None → 11 ≤ n
+past_methods zero none = absurd (let e = none in cc)
+past_methods (suc zero) none = absurd (let e = none in cc)
+past_methods (suc (suc zero)) none = absurd (let e = none in cc)
+past_methods (suc (suc (suc zero))) none = absurd (let e = none in cc)
+past_methods (suc (suc (suc (suc zero)))) none = absurd (let e = none in cc)
+past_methods (suc (suc (suc (suc (suc zero))))) none = absurd (let e = none in cc)
+past_methods (suc (suc (suc (suc (suc (suc zero)))))) none = absurd (let e = none in cc)
+past_methods (suc (suc (suc (suc (suc (suc (suc zero))))))) none = absurd (let e = none in cc)
+past_methods (suc (suc (suc (suc (suc (suc (suc (suc zero)))))))) none = absurd (let e = none in cc)
+past_methods (suc (suc (suc (suc (suc (suc (suc (suc (suc zero))))))))) none = absurd (let e = none in cc)
+past_methods (suc (suc (suc (suc (suc (suc (suc (suc (suc (suc zero)))))))))) none = absurd (let e = none in cc)
+past_methods (suc (suc (suc (suc (suc (suc (suc (suc (suc (suc (suc n))))))))))) none = omega arith
 
 module _ (s : State) (names : FunctionNames) (row : ℕ) (c : Call) (t : State) (a : Act) where
   at_row : (n : ℕ) (p : Algorithm Value) → row ≡ n → builtin names n c ≡ p → Works s p t a
@@ -126,14 +134,15 @@ module _ (s : State) (names : FunctionNames) (row : ℕ) (c : Call) (t : State) 
   pub unsupported_row : (o : Option StringMethod) → 55 ≤ row → row < 72 → o ≡ slice_get methods (row - 55)
       → o ≡ None → Works s (Fail (Unsupported row)) t a → Works s (builtin names row c) t a
   unsupported_row o above below is none leads =
-      let there : (row - 55) + 55 ≡ row = omega (arith, above) in
-      at_row ((row - 55) + 55) (Fail (Unsupported ((row - 55) + 55))) (sym there)
-      (none_are names c (row - 55) (omega (arith, above, below)) (sym is ∙ none))
+      let past : 11 ≤ row - 55 = past_methods (row - 55) (sym is ∙ none) in
+      let there : (row - 66) + 66 ≡ row = omega (arith, above, past) in
+      at_row ((row - 66) + 66) (Fail (Unsupported ((row - 66) + 66))) (sym there)
+      (unsupported_are names c (row - 66) (omega (arith, below, past)))
       (subst (λ r. Works s (Fail (Unsupported r)) t a) (sym there) leads)
 
 -- `this` as a string
 
-abbrev string_of : Value → Algorithm (List ℕ)
+abbrev pub string_of : Value → Algorithm (List ℕ)
 string_of v = check_object_coercible v >>= λ _. to_string v
 
 module _ (s : State) (k : List ℕ → Algorithm Value) (t : State) (a : Act) where
@@ -149,7 +158,7 @@ module _ (s : State) (k : List ℕ → Algorithm Value) (t : State) (a : Act) wh
   refuses_null v is leads =
       subst (λ (w : Value). Works s (string_of w >>= k) t a) (sym is) (record { is = leads.is })
 
-  pub converts : (v : Value) → (v ≡ value.Undefined → ⊥) → (v ≡ value.Null → ⊥) → Works s (to_string v >>= k) t a
+  converts : (v : Value) → (v ≡ value.Undefined → ⊥) → (v ≡ value.Null → ⊥) → Works s (to_string v >>= k) t a
       → Works s (string_of v >>= k) t a
   unfolding check_object_coercible
   converts value.Undefined no_undefined no_null leads = absurd (no_undefined refl)
@@ -158,3 +167,16 @@ module _ (s : State) (k : List ℕ → Algorithm Value) (t : State) (a : Act) wh
   converts (value.Num n) no_undefined no_null leads = leads
   converts (value.Text x) no_undefined no_null leads = leads
   converts (value.Obj id) no_undefined no_null leads = leads
+
+-- what a method does waits for it
+pub method_waits : (s : State) (m : StringMethod) (c : Call) (args : List Value) (v : Value) (t : State) (a : Act)
+    → (c.this ≡ value.Undefined → ⊥) → (c.this ≡ value.Null → ⊥) → args ≡ c.args → v ≡ c.this
+    → Works s (to_primitive string_hint v >>= string_after (progress.This m args)) t a → Works s (called m c) t a
+method_waits s m c args v t a no_undefined no_null args_are v_is leads =
+    converts s (λ units. method_of_string m units c.args) t a c.this no_undefined no_null
+    (as_string s t a c.this (string_after (progress.This m c.args)) (λ units. method_of_string m units c.args)
+    (λ p. refl)
+    (subst (λ (l : List Value). Works s (to_primitive string_hint c.this >>= string_after (progress.This m l)) t a)
+    args_are
+    (subst (λ (w : Value). Works s (to_primitive string_hint w >>= string_after (progress.This m args)) t a) v_is
+    leads)))

@@ -1,5 +1,5 @@
 -- Values that are converted before a builtin goes on.
-use Rattle.std.proofs.Common.{◌≡◌, false, refl, subst, true, List, ℕ, ℤ}
+use Rattle.std.proofs.Common.{◌≡◌, false, subst, true, List, ℕ, ℤ}
 use mathlib.Core.Path.{fun_ext}
 use Rattle.jl_num.specs.Bits.{uint32_of}
 use Rattle.jl_num.specs.Number.{Number}

@@ -2,7 +2,6 @@ pub mod Arguments
 pub mod Called
 pub mod Conversions
 pub mod Founds
-pub mod Letters
 pub mod Objects
 pub mod Pieces
 pub mod Receivers

@@ -1,12 +1,11 @@
 -- Strings and the objects that stand for them.
-use Rattle.std.proofs.Common.{◌≡◌, ◌∷◌, ◌∙◌, [], drop, false, refl, subst, sym, true, Bool, List, None, Option, Some, ℕ}
+use Rattle.std.proofs.Common.{◌≡◌, ◌∷◌, ◌∙◌, drop, refl, subst, sym, true, Bool, List, ℕ}
 use Rattle.jl_value.specs.declared.object.ObjId.{ObjId}
 use Rattle.jl_value.specs.declared.value.Value.{Value}
 use Rattle.jl_value.specs.declared.value.Value.TheVariants as value
 use Rattle.jl_effects.specs.Running.{Ends}
-use Rattle.jl_meaning.specs.Conversions.{new_string_object, string_hint, to_primitive, to_string}
-use Rattle.jl_meaning.specs.Errors.{throw_type_error}
-use Rattle.jl_meaning.specs.Parts.{gives, ◌>>=◌, Algorithm, Call}
+use Rattle.jl_meaning.specs.Conversions.{new_string_object, string_hint, to_primitive}
+use Rattle.jl_meaning.specs.Parts.{gives, ◌>>=◌, Call}
 use Rattle.jl_meaning.specs.Store.{Store}
 use Rattle.jl_meaning.specs.builtins.Arguments.{give_object}
 use Rattle.jl_meaning.specs.builtins.String.{string_constructor, string_given, string_or_object}
@@ -36,11 +35,6 @@ module _ (s : State) (c : Call) (args : List Value) (by_new : Bool) (t : State) 
   given l is leads =
       subst (λ k. Works s (string_given k >>= string_or_object c.by_new) t a) (sym is ∙ args_are)
       (subst (λ b. Works s (string_given l >>= string_or_object b) t a) new_is leads)
-
-  pub constructs_none : (units : List ℕ) → drop 0 args ≡ [] → units ≡ []
-      → Works s (string_or_object by_new units) t a → Works s (string_constructor c) t a
-  constructs_none units is empty leads =
-      given [] is (subst (λ x. Works s (string_or_object by_new x) t a) empty leads)
 
   pub constructs_with : (v : Value) (rest : List Value) → drop 0 args ≡ v ∷ rest
       → Works s (to_primitive string_hint v >>= string_after (progress.Given by_new)) t a

@@ -1,5 +1,6 @@
 -- Pieces of a text between the places of a separator.
-use Rattle.std.proofs.Common.{◌≡◌, ◌∙◌, ◌∷◌, ◌++◌, ◌+◌, ◌-◌, ◌<◌, ◌≤◌, ◌⊎◌, [], append_assoc, ap, arith, cond, drop, inl, inr, length, refl, subst, suc, sym, take}
+use Rattle.std.proofs.Common.{◌≡◌, ◌∙◌, ◌∷◌, ◌++◌, ◌+◌, ◌-◌, ◌<◌, ◌≤◌, [], append_assoc, ap, arith, drop}
+use Rattle.std.proofs.Common.{length, refl, suc, sym, take}
 use Rattle.std.proofs.Common.{zero, Bool, List, None, Option, Some, false, true, ℕ}
 use Rattle.std.proofs.Common.{length-drop, map}
 use Rattle.std.proofs.lemmas.Bool.{le-leb}
@@ -7,7 +8,7 @@ use Rattle.std.proofs.lemmas.List.{drop-drop, take_all}
 use Rattle.std.specs.Prelude.{if◌then◌else◌, nat_eq, slice_range}
 use Rattle.std.specs.List.{starts_with}
 use Rattle.jl_text.specs.Search.{first_place, place_in}
-use Rattle.jl_meaning.specs.builtins.String.{pieces, pieces_from}
+use Rattle.jl_meaning.specs.builtins.String.{pieces_from}
 
 -- what is still to be passed
 passed : (separator : List ℕ) (left : ℕ) (piece l : List ℕ)
@@ -72,7 +73,8 @@ module _ (s : ℕ) (rest : List ℕ) where
         ∙ later.is
         ∙ ap (λ p. p ∷ pieces_from separator 0 [] (drop (later.gap + length separator) us))
         (one_more piece (take later.gap us) u)
-        ∙ ap (λ n. (piece ++ u ∷ take later.gap us) ∷ pieces_from separator 0 [] (drop n (u ∷ us))) (one_further later.gap);
+        ∙ ap (λ n. (piece ++ u ∷ take later.gap us) ∷ pieces_from separator 0 [] (drop n (u ∷ us)))
+        (one_further later.gap);
   }
 
   pub ends : (l piece : List ℕ) (at place : ℕ) → place_in l separator at ≡ Some place → Ends separator piece l at place
@@ -113,12 +115,6 @@ within : (separator units : List ℕ) (start : ℕ) (found : Option ℕ) → sta
     → first_place units separator start ≡ found → place_in (drop start units) separator start ≡ found
 within separator units start found inside is =
     ap (place_if separator units start) (sym (le-leb start (length units) inside)) ∙ is
-
--- what a loop has made, and what is left, is all
-pub all_pieces : {A : Type 0} (wrap : List ℕ → A) (separator units : List ℕ) → 0 < length separator
-    → [] ++ map wrap (pieces_from separator 0 [] (drop 0 units)) ≡ map wrap (pieces separator units)
-all_pieces wrap [] units some = absurd (omega (arith, some))
-all_pieces wrap (s ∷ rest) units some = refl
 
 -- one piece more is made
 

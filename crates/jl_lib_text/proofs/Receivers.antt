@@ -1,5 +1,5 @@
--- What `this` stands for.
-use Rattle.std.proofs.Common.{◌≡◌, ◌∙◌, ap, codes, subst, sym, None, Option, Some}
+-- A `this` that isn't what is asked for.
+use Rattle.std.proofs.Common.{◌≡◌, ◌∙◌, ap, codes, sym, None, Option}
 use Rattle.jl_value.specs.declared.error_kind.ErrorKind.TheVariants.{TypeError}
 use Rattle.jl_value.specs.declared.value.Value.{Value}
 use Rattle.jl_effects.specs.Effects.{Look}
@@ -15,14 +15,7 @@ use Rattle.jl_algorithm.proofs.Throwing.{works_left_out}
 
 module _ {A : Type 0} (s : State) (find : Store → Option A) (found : Option A) (k : A → Algorithm Value) (t : State)
     (a : Act) (is : found ≡ find s.store) where
-  -- it is what is asked for
-  pub receives : (x : A) → found ≡ Some x → Works s (k x) t a
-      → Works s (Look (λ store. need_receiver (find store) >>= k)) t a
-  receives x there leads =
-      looks s (λ store. need_receiver (find store) >>= k) (k x) t a (ap (λ o. need_receiver o >>= k) (sym there ∙ is))
-      leads
-
-  -- or a TypeError is thrown
+  -- a TypeError is thrown
   pub refuses : found ≡ None → Works s (throw_type_error (codes "wrong receiver")) t a
       → Works s (Look (λ store. need_receiver (find store) >>= k)) t a
   refuses none leads =

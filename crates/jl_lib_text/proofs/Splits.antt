@@ -1,5 +1,5 @@
 -- `split`, when its array has been made.
-use Rattle.std.proofs.Common.{◌≡◌, ◌∷◌, ◌∙◌, [], ap, drop, false, map, refl, subst, sym, take, true, List, ℕ}
+use Rattle.std.proofs.Common.{◌≡◌, ◌∷◌, ◌∙◌, [], ap, drop, false, map, refl, subst, take, true, List, ℕ}
 use Rattle.std.proofs.lemmas.List.{take-map}
 use Rattle.jl_value.specs.declared.object.ObjId.{ObjId}
 use Rattle.jl_value.specs.declared.value.Value.{Value}

@@ -1,16 +1,13 @@
 -- Builtins that take their arguments one a turn.
-use Rattle.std.proofs.Common.{◌≡◌, ◌≤◌, ◌<◌, ◌∙◌, ◌∷◌, ◌++◌, [], ap, drop, length, nat_lt, refl, subst, sym, Bool, List, ℕ}
-use Rattle.std.proofs.Common.{if◌then◌else◌}
-use Rattle.std.proofs.lemmas.Bool.{le-ltb, lt-ltb}
+use Rattle.std.proofs.Common.{◌≡◌, ◌∙◌, ◌∷◌, ◌++◌, [], ap, drop, refl, subst, List}
+use Rattle.std.proofs.Common.{ℕ}
 use mathlib.Core.Path.{fun_ext}
 use Rattle.jl_num.specs.Bits.{uint16_of}
-use Rattle.jl_value.specs.declared.ending.Fault.TheVariants as fault
 use Rattle.jl_value.specs.declared.value.Value.{Value}
-use Rattle.jl_conv.specs.Conversions.{text_of_value}
-use Rattle.jl_effects.specs.Effects.{Fail, Step}
+use Rattle.jl_effects.specs.Effects.{Step}
 use Rattle.jl_meaning.specs.Conversions.{number_hint, string_hint, to_number, to_primitive, to_string}
-use Rattle.jl_meaning.specs.Errors.{string_limit, string_within}
-use Rattle.jl_meaning.specs.Parts.{give, ◌>>=◌, Algorithm, StringTooLong}
+use Rattle.jl_meaning.specs.Errors.{string_within}
+use Rattle.jl_meaning.specs.Parts.{◌>>=◌, Algorithm}
 use Rattle.jl_meaning.specs.builtins.Arguments.{give_string}
 use Rattle.jl_meaning.specs.builtins.String.{concat_all, units_from}
 use Rattle.jl_progress.specs.Strings.{string_after}
@@ -18,7 +15,6 @@ use Rattle.jl_progress.specs.declared.string.StringProgress.TheVariants as progr
 use Rattle.jl_state.specs.Rest.{Works}
 use Rattle.jl_state.specs.Steps.{Took}
 use Rattle.jl_state.specs.declared.act.Act.{Act}
-use Rattle.jl_state.specs.declared.act.Act.TheVariants as act
 use Rattle.jl_state.specs.declared.state.State.{State}
 use Rattle.jl_operator.proofs.Operands.{chained}
 use Rattle.jl_lib_text.specs.inner.Turns.{string_joined, string_of_codes}
@@ -49,38 +45,15 @@ joined_from : (units : List ℕ) (v : Value) (vs : List Value)
 joined_from units v vs =
     ap Step (ap (λ (g : List ℕ → Algorithm Value). to_string v >>= g)
     (fun_ext (λ more. chained (string_within (units ++ more)) (λ all. concat_all all vs) (λ all. give_string all)))
-    ∙ chained (to_string v) (λ more. string_within (units ++ more) >>= λ all. concat_all all vs) (λ all. give_string all))
+    ∙ chained (to_string v) (λ more. string_within (units ++ more) >>= λ all. concat_all all vs)
+    (λ all. give_string all))
 
 pub joined_waits : (s t : State) (units : List ℕ) (v : Value) (args : List Value) (from : ℕ) (u : State) (a : Act)
     → Took s t → Works t (to_primitive string_hint v >>= string_after (progress.Joined units args from)) u a
     → Works s (string_joined units (v ∷ drop from args)) u a
 joined_waits s t units v args from u a took leads =
     subst (λ q. Works s q u a) (joined_from units v (drop from args))
-    (took.works (to_string v >>= λ more. string_within (units ++ more) >>= λ all. string_joined all (drop from args)) u a
+    (took.works (to_string v >>= λ more. string_within (units ++ more) >>= λ all. string_joined all (drop from args))
+    u a
     (as_string t u a v (string_after (progress.Joined units args from))
     (λ more. string_within (units ++ more) >>= λ all. string_joined all (drop from args)) (λ p. refl) leads))
-
--- the units so far are too many, or not
-
-abbrev within_if : (too_long : Bool) → List ℕ → (List ℕ → Algorithm Value) → Algorithm Value
-within_if too_long units k = (if too_long then Fail StringTooLong else give units) >>= k
-
-module _ (s : State) (units text all : List ℕ) (args : List Value) (from : ℕ) (p : Value)
-    (text_is : text ≡ text_of_value p) (all_are : all ≡ units ++ text) where
-  both : all ≡ units ++ text_of_value p
-  both = all_are ∙ ap (λ x. units ++ x) text_is
-
-  pub joins_too_many : 1048576 < length all
-      → Works s (string_after (progress.Joined units args from) p) s (act.Fault fault.StringTooLong)
-  joins_too_many over =
-      subst (λ x. Works s (string_within x >>= λ y. string_joined y (drop from args)) s (act.Fault fault.StringTooLong))
-      both
-      (subst (λ b. Works s (within_if b all (λ y. string_joined y (drop from args))) s (act.Fault fault.StringTooLong))
-      (sym (lt-ltb string_limit (length all) over)) (record { is = λ kept told. refl }))
-
-  pub joins : (t : State) (a : Act) → length all ≤ 1048576 → Works s (string_joined all (drop from args)) t a
-      → Works s (string_after (progress.Joined units args from) p) t a
-  joins t a short leads =
-      subst (λ x. Works s (string_within x >>= λ y. string_joined y (drop from args)) t a) both
-      (subst (λ b. Works s (within_if b all (λ y. string_joined y (drop from args))) t a)
-      (sym (le-ltb string_limit (length all) short)) leads)

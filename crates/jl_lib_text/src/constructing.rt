@@ -1,7 +1,8 @@
 //! `String`, and the strings that `String` objects stand for (15.5.1, 15.5.2, 15.5.4.2, 15.5.4.3).
 ghost use Rattle.std.specs.Prelude.{◌≡◌, IfOk};
 ghost use Rattle.jl_conv.specs.Conversions.{text_of_value};
-ghost use Rattle.jl_meaning.specs.builtins.String.{string_constructor, string_inside, string_of_receiver, string_or_object, string_value};
+ghost use Rattle.jl_meaning.specs.builtins.String.{string_constructor, string_inside, string_of_receiver};
+ghost use Rattle.jl_meaning.specs.builtins.String.{string_or_object, string_value};
 ghost use Rattle.jl_state.specs.Rank.{Falls};
 ghost use Rattle.jl_state.specs.Rest.{Works};
 ghost use Rattle.jl_state.specs.Words.{call_of};

@@ -30,7 +30,8 @@ pub(crate) fn convert_start<'p>(
     units: Text,
     args: &[Value],
 ) -> Result<Act<'p>, NoMemory>
-    ensures leads { IfOk result (λ act. Works state.old (method_of_string (method.Cut cut) units args.now) state.new act) }
+    ensures leads { IfOk result (λ act. Works state.old
+        (method_of_string (method.Cut cut) units args.now) state.new act) }
     ensures falls { IfOk result (λ act. Falls state.old 46 state.new act) }
 {
     let start = argument(alloc, args, 0)?;

@@ -30,7 +30,8 @@ pub(crate) fn convert_position<'p>(
     units: Text,
     args: &[Value],
 ) -> Result<Act<'p>, NoMemory>
-    ensures leads { IfOk result (λ act. Works state.old (method_of_string (method.Unit form) units args.now) state.new act) }
+    ensures leads { IfOk result (λ act. Works state.old
+        (method_of_string (method.Unit form) units args.now) state.new act) }
     ensures falls { IfOk result (λ act. Falls state.old 22 state.new act) }
 {
     let position = argument(alloc, args, 0)?;

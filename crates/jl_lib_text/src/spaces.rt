@@ -13,6 +13,7 @@ use jl_text::{NoMemory, Text};
 use jl_value::Value;
 use std::alloc::Global;
 
+/// Whether a unit is white space or ends a line (7.2, 7.3).
 fn is_space(unit: u16) -> bool
     ensures { result ≡ is_space unit }
 {

@@ -4,7 +4,8 @@ use Rattle.jl_lib_misc.proofs.errors.resume_message.Goals as goal
 
 pub returns-then-is_undefined-clause-leads : goal.returns-then-is_undefined-clause-leads
 returns-then-is_undefined-clause-leads c =
-    message_missing _ c.args.name c.args.v _ _ _ (sym c.is_undefined.ensures ∙ c.if-is_undefined.true) c.in_ok-message.ensures
+    message_missing _ c.args.name c.args.v _ _ _ (sym c.is_undefined.ensures ∙ c.if-is_undefined.true)
+    c.in_ok-message.ensures
     (c.in_ok-name_and_message.ensures.leads c.args.state.now)
 
 pub returns-clause-leads : goal.returns-clause-leads

@@ -4,7 +4,8 @@ use Rattle.jl_lib_misc.proofs.numbers.convert_radix.Goals as goal
 
 pub returns-then-is_undefined-clause-leads : goal.returns-then-is_undefined-clause-leads
 returns-then-is_undefined-clause-leads c =
-    radix_missing _ _ _ c.args.number c.args.radix (sym c.is_undefined.ensures ∙ c.if-is_undefined.true) c.in_ok-give_in_radix.ensures.leads
+    radix_missing _ _ _ c.args.number c.args.radix (sym c.is_undefined.ensures ∙ c.if-is_undefined.true)
+    c.in_ok-give_in_radix.ensures.leads
 
 pub returns-clause-leads : goal.returns-clause-leads
 returns-clause-leads c =

@@ -4,4 +4,5 @@ use Rattle.jl_lib_misc.proofs.printing.print_argument.Goals as goal
 
 pub returns-clause-leads : goal.returns-clause-leads
 returns-clause-leads c =
-    converts_argument _ _ c.args.line c.args.is_first c.args.v c.args.args c.args.from _ _ (c.if-not-spend.ensures.took refl) c.in_ok-wait_for_string.ensures.leads
+    converts_argument _ _ c.args.line c.args.is_first c.args.v c.args.args c.args.from _ _
+    (c.if-not-spend.ensures.took refl) c.in_ok-wait_for_string.ensures.leads

@@ -8,5 +8,6 @@ returns-then-row-eq94-clause-leads c =
 
 pub returns-clause-leads : goal.returns-clause-leads
 returns-clause-leads c =
-    makes_error _ _ _ _ _ _ c.requires.0 (omega (arith, c.requires.1, c.if-row-eq94.false)) c.from.ensures
+    makes_error _ _ _ _ _ _ c.requires.belongs.0 (omega (arith, c.requires.belongs.1, c.if-row-eq94.false))
+    c.from.ensures
     c.in_ok-error_constructor.ensures.leads

@@ -13,9 +13,9 @@ returns-then-row-eq76-clause-leads c = tests_finite _ _ _ _ _ c.if-row-eq76.true
 
 pub returns-clause-leads : goal.returns-clause-leads
 returns-clause-leads c =
-    prints_row _ _ _ _ _ _ c.requires.0 (omega (
+    prints_row _ _ _ _ _ _ c.requires.belongs.0 (omega (
       arith,
-      c.requires.1,
+      c.requires.belongs.1,
       c.if-row-eq74.false,
       c.if-row-eq75.false,
       c.if-row-eq76.false,

@@ -10,12 +10,13 @@ returns-then-row-eq98-clause-leads c =
 
 pub returns-then-row-eq99-clause-leads : goal.returns-then-row-eq99-clause-leads
 returns-then-row-eq99-clause-leads c =
-    takes_least _ _ _ _ _ _ c.if-row-eq99.true c.items-2.ensures c.in_ok-one_of_arguments-2.ensures.leads
+    takes_least _ _ _ _ _ _ c.if-row-eq99.true c.items-then-row-eq99.ensures c.in_ok-one_of_arguments-2.ensures.leads
 
 pub returns-then-row-eq100-clause-leads : goal.returns-then-row-eq100-clause-leads
 returns-then-row-eq100-clause-leads c = takes_power _ _ _ _ _ c.if-row-eq100.true c.in_ok-math_pow.ensures.leads
 
 pub returns-clause-leads : goal.returns-clause-leads
 returns-clause-leads c =
-    takes_whole _ _ _ _ _ c.requires.0 c.requires.1 c.if-row-eq95.false c.if-row-eq98.false c.if-row-eq99.false
+    takes_whole _ _ _ _ _ c.requires.belongs.0 c.requires.belongs.1 c.if-row-eq95.false c.if-row-eq98.false
+    c.if-row-eq99.false
     c.if-row-eq100.false c.in_ok-on_argument-2.ensures.leads

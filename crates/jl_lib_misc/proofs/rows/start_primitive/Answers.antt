@@ -31,9 +31,9 @@ pub returns-clause-leads : goal.returns-clause-leads
 returns-clause-leads c =
     unsupported_row _ _ _ _ _ (omega (
       arith,
-      c.requires.0,
+      c.requires.belongs.0,
       c.if-row-eq77.false,
       c.if-row-eq78.false,
       c.if-row-eq79.false,
-    )) (omega (arith, c.requires.1, c.if-row-eq84.false, c.if-row-eq85.false, c.if-row-eq86.false))
+    )) (omega (arith, c.requires.belongs.1, c.if-row-eq84.false, c.if-row-eq85.false, c.if-row-eq86.false))
     (c.unsupported.ensures.leads c.args.state.now)

@@ -2,8 +2,15 @@ use Rattle.std.proofs.Common.{subst, sym}
 use Rattle.jl_meaning.specs.builtins.Math.{one_of_all}
 use Rattle.jl_progress.specs.Numbers.{pick_of}
 use Rattle.jl_state.specs.Rest.{Works}
-use Rattle.jl_lib_misc.proofs.Founds.{some_from}
+use Rattle.jl_lib_misc.proofs.Founds.{none_from, some_from}
 use Rattle.jl_lib_misc.proofs.several.one_of_all.Goals as goal
+
+pub returns-in-None-clause-leads : goal.returns-in-None-clause-leads
+returns-in-None-clause-leads c =
+    subst (λ l. Works c.args.state.now (one_of_all (pick_of c.args.extreme) c.args.so_far l) c.args.state.now
+    c.give_extreme.result)
+    (sym (none_from c.args.from c.items.result.now c.args.args c.in_ok-value_from.field-0 c.items.ensures
+    c.in_ok-value_from.ensures.found c.in-None.is)) (c.give_extreme.ensures.leads c.args.state.now)
 
 pub returns-clause-leads : goal.returns-clause-leads
 returns-clause-leads c =

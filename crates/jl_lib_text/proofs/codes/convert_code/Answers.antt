@@ -4,4 +4,5 @@ use Rattle.jl_lib_text.proofs.codes.convert_code.Goals as goal
 
 pub returns-clause-leads : goal.returns-clause-leads
 returns-clause-leads c =
-    code_waits _ _ c.args.units c.args.v c.args.args c.args.from _ _ (c.if-not-spend.ensures.took refl) c.in_ok-wait_for_number.ensures.leads
+    code_waits _ _ c.args.units c.args.v c.args.args c.args.from _ _ (c.if-not-spend.ensures.took refl)
+    c.in_ok-wait_for_number.ensures.leads

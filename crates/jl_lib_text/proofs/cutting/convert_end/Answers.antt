@@ -4,10 +4,12 @@ use Rattle.jl_lib_text.proofs.cutting.convert_end.Goals as goal
 
 pub returns-then-is_undefined-clause-leads : goal.returns-then-is_undefined-clause-leads
 returns-then-is_undefined-clause-leads c =
-    end_missing _ _ _ c.args.units c.args.cut c.args.start _ c.args.end (sym c.is_undefined.ensures ∙ c.if-is_undefined.true) c.length_of-length.ensures
+    end_missing _ _ _ c.args.units c.args.cut c.args.start _ c.args.end
+    (sym c.is_undefined.ensures ∙ c.if-is_undefined.true) c.length_of-length.ensures
     (c.in_ok-give_cut.ensures.leads c.args.state.now)
 
 pub returns-clause-leads : goal.returns-clause-leads
 returns-clause-leads c =
-    end_waits _ _ _ c.args.units c.args.cut c.args.start c.args.end (sym c.is_undefined.ensures ∙ c.if-is_undefined.false)
+    end_waits _ _ _ c.args.units c.args.cut c.args.start c.args.end
+    (sym c.is_undefined.ensures ∙ c.if-is_undefined.false)
     c.in_ok-wait_for_number.ensures.leads

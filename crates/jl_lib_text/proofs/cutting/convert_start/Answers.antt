@@ -3,4 +3,5 @@ use Rattle.jl_lib_text.proofs.cutting.convert_start.Goals as goal
 
 pub returns-clause-leads : goal.returns-clause-leads
 returns-clause-leads c =
-    start_waits _ _ _ c.args.units c.args.args.now c.args.cut _ _ c.in_ok-start.ensures c.in_ok-end.ensures c.in_ok-wait_for_number.ensures.leads
+    start_waits _ _ _ c.args.units c.args.args.now c.args.cut _ _ c.in_ok-start.ensures c.in_ok-end.ensures
+    c.in_ok-wait_for_number.ensures.leads

@@ -4,4 +4,5 @@ use Rattle.jl_lib_text.proofs.joining.convert_next.Goals as goal
 
 pub returns-clause-leads : goal.returns-clause-leads
 returns-clause-leads c =
-    joined_waits _ _ c.args.units c.args.v c.args.args c.args.from _ _ (c.if-not-spend.ensures.took refl) c.in_ok-wait_for_string.ensures.leads
+    joined_waits _ _ c.args.units c.args.v c.args.args c.args.from _ _ (c.if-not-spend.ensures.took refl)
+    c.in_ok-wait_for_string.ensures.leads

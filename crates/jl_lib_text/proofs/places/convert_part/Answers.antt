@@ -3,4 +3,5 @@ use Rattle.jl_lib_text.proofs.places.convert_part.Goals as goal
 
 pub returns-clause-leads : goal.returns-clause-leads
 returns-clause-leads c =
-    part_waits _ _ _ c.args.units c.args.args.now c.args.search _ _ c.in_ok-part.ensures c.in_ok-position.ensures c.in_ok-wait_for_string.ensures.leads
+    part_waits _ _ _ c.args.units c.args.args.now c.args.search _ _ c.in_ok-part.ensures c.in_ok-position.ensures
+    c.in_ok-wait_for_string.ensures.leads

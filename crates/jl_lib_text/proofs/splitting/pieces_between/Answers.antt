@@ -1,4 +1,4 @@
-use Rattle.std.proofs.Common.{◌∷◌, ◌++◌, ◌+◌, [], ap, arith, drop, length, map, slice_range, subst, sym, ◌∙◌}
+use Rattle.std.proofs.Common.{◌∷◌, ◌++◌, ◌+◌, [], ap, arith, drop, length, map, slice_range, sym, ◌∙◌}
 use Rattle.jl_meaning.specs.builtins.String.{pieces_from}
 use Rattle.jl_value.specs.declared.value.Value.TheVariants as value
 use Rattle.jl_lib_text.proofs.Pieces.{end_piece, next_piece}
@@ -24,7 +24,8 @@ loop-place-preserved c =
           ∙ ap (λ n. (c.loop-place.list ++ value.Text (slice_range units c.loop-place.start c.in-Some.place) ∷ [])
           ++ map (λ part. value.Text part) (pieces_from separator 0 [] (drop (c.in-Some.place + n) units))) length_is
           ∙ next_piece (λ part. value.Text part) c.loop-place.list _ separator units c.loop-place.start c.in-Some.place
-          c.requires c.loop-place.invariant.within (sym c.find.ensures.value ∙ c.in-Some.is) c.loop-place.invariant.rest;
+          c.requires c.loop-place.invariant.within (sym c.find.ensures.value ∙ c.in-Some.is)
+          c.loop-place.invariant.rest;
     }
 
 pub returns : goal.returns

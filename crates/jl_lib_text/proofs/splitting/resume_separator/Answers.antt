@@ -4,5 +4,6 @@ use Rattle.jl_lib_text.proofs.splitting.resume_separator.Goals as goal
 
 pub returns-clause-leads : goal.returns-clause-leads
 returns-clause-leads c =
-    separated _ _ _ c.args.units.now c.args.array c.args.limit c.args.p.now _ _ c.in_ok-separator.ensures (c.items.ensures ∙ c.in_ok-pieces.ensures)
+    separated _ _ _ c.args.units.now c.args.array c.args.limit c.args.p.now _ _ c.in_ok-separator.ensures
+    (c.items.ensures ∙ c.in_ok-pieces.ensures)
     c.in_ok-fill_with_pieces.ensures.leads
