@@ -10,7 +10,8 @@ returns-in-None-clause-leads c =
 
 pub returns-clause-leads : goal.returns-clause-leads
 returns-clause-leads c =
-    defined_next _ _ _ _ _ _ _ _ (next_found c.args.from _ c.args.changes _ _ _ c.items.ensures c.in_ok-change_from.ensures c.in-Some.is)
+    defined_next _ _ _ _ c.args.changes c.in-Some.next _ _
+    (next_found c.args.from _ c.args.changes _ _ _ c.items.ensures c.in_ok-change_from.ensures c.in-Some.is)
     c.in_ok-define_one-in-Some.ensures.leads
 
 pub returns-clause-falls : goal.returns-clause-falls

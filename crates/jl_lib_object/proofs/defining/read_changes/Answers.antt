@@ -10,5 +10,6 @@ returns-in-None-clause-leads c =
 
 pub returns-clause-leads : goal.returns-clause-leads
 returns-clause-leads c =
-    changes_next _ _ _ _ _ _ _ _ _ _ (next_found c.args.from _ c.args.names _ _ _ c.items.ensures c.in_ok-name_from.ensures c.in-Some.is)
+    changes_next _ _ _ _ _ _ c.args.names c.in-Some.next _ _
+    (next_found c.args.from _ c.args.names _ _ _ c.items.ensures c.in_ok-name_from.ensures c.in-Some.is)
     c.in_ok-get_descriptor-in-Some.ensures.leads

@@ -1,3 +1,4 @@
+use Rattle.std.proofs.Common.{◌∙◌}
 use Rattle.jl_lib_object.proofs.FunctionNames.{no_receiver, receiver}
 use Rattle.jl_state.specs.Words.{call_of}
 use Rattle.jl_lib_object.proofs.function_text.function_to_string.Goals as goal
@@ -8,5 +9,6 @@ returns-in_default-clause-leads c =
 
 pub returns-clause-leads : goal.returns-clause-leads
 returns-clause-leads c =
-    receiver _ _ (call_of c.args.call.now) _ _ _ _ _ c.in_ok-name.ensures c.in-Some.is c.in_ok-text.ensures
+    receiver _ _ (call_of c.args.call.now) _ _ _ _ _ c.in_ok-name.ensures c.in-Some.is
+    (c.items.ensures ∙ c.in_ok-text.ensures)
     (c.in_ok-give_text.ensures.leads _)
