@@ -39,7 +39,7 @@ use Rattle.jl_lib_object.specs.inner.Calls.{after_dot, function_text, script_nam
 pub no_dot : (path : List ℕ) → position_or_len is_dot path ≡ length path → path ≡ after_dot path
 no_dot path is =
     let none : list_any is_dot path ≡ false =
-      list_any_none is_dot path (λ k d below. fails_before_first is_dot path k d (omega (arith, is, below))) in
+    list_any_none is_dot path (λ k d below. fails_before_first is_dot path k d (omega (arith, is, below))) in
     subst (λ b. path ≡ (if b then after_first is_dot path else path)) (sym none) refl
 
 -- the name of a function of the script

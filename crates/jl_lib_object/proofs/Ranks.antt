@@ -4,6 +4,7 @@ use Rattle.std.proofs.Common.{Option, Some, ℕ}
 use Rattle.jl_value.specs.declared.object.ObjId.{ObjId}
 use Rattle.jl_heap.specs.Objects.{Name}
 use Rattle.jl_heap.specs.declared.property.Change.{Change}
+use Rattle.jl_meaning.specs.Store.{Store}
 use Rattle.jl_progress.specs.Objects.{fields_after, rank_definitions, rank_object, rank_use}
 use Rattle.jl_progress.specs.declared.object.DescriptorField.{DescriptorField}
 use Rattle.jl_progress.specs.declared.object.DescriptorField.TheVariants as field_of
@@ -104,13 +105,15 @@ module _ (s t : State) (a : Act) (which : DescriptorField) (purpose : Descriptor
       falls_within s t a (rank_use purpose + (4 * fields_from following + 4))
       (rank_use purpose + (4 * fields_from next + 4)) (omega (arith, less_left which next following is after_is)) falls
 
-  -- those after one that was got
-  pub falls_after : (d : ObjId) (change : Change) (following : Option DescriptorField) → following ≡ next_field which
-      → Falls s (rank_use purpose + (4 * fields_from following + 4)) t a
+  -- those after one that was got, in a store that may have changed
+  pub falls_after : (x : Store) (d : ObjId) (change : Change) (following : Option DescriptorField)
+      → following ≡ next_field which
+      → Falls (record s { store = x }) (rank_use purpose + (4 * fields_from following + 4)) t a
       → Falls s (rank_object (object.Field which d change purpose) + 2) t a
-  falls_after d change following is falls =
-      falls_within s t a (rank_use purpose + (4 * fields_from following + 4))
-      (rank_use purpose + (4 * fields_after which + 4) + 2) (omega (arith, left_after which following is)) falls
+  falls_after x d change following is falls = record {
+    left = falls.left;
+    lower = λ same. omega (arith, left_after which following is, falls.lower same);
+  }
 
 -- what is left when no field is
 pub falls_read_all : (s t : State) (a : Act) (purpose : DescriptorUse) (next : Option DescriptorField)

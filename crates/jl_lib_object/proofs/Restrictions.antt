@@ -124,7 +124,8 @@ pub restricts_next : (s : State) (level : Integrity) (id : ObjId) (left : List N
 restricts_next s level id left x rest t a is leads =
     subst (λ l. Works s (restrict_and_give level id l) t a) (sym is)
     (subst (λ (p : Algorithm Value). Works s (Step p) t a)
-    (sym (bind_assoc (redefine (restricted_property level) id x) (λ _. each (redefine (restricted_property level) id) rest)
+    (sym (bind_assoc (redefine (restricted_property level) id x)
+    (λ _. each (redefine (restricted_property level) id) rest)
     (λ _. forbid_extensions id >>= λ _. give_object id))) leads)
 
 -- properties are tested

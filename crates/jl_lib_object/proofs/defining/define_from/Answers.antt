@@ -6,7 +6,8 @@ use Rattle.jl_lib_object.proofs.defining.define_from.Goals as goal
 
 pub returns-in-None-clause-leads : goal.returns-in-None-clause-leads
 returns-in-None-clause-leads c =
-    defined_all _ _ _ (nothing_found c.args.from _ c.args.changes _ c.items.ensures c.in_ok-change_from.ensures c.in-None.is)
+    defined_all _ _ _ (nothing_found c.args.from _ c.args.changes _ c.items.ensures c.in_ok-change_from.ensures
+    c.in-None.is)
 
 pub returns-clause-leads : goal.returns-clause-leads
 returns-clause-leads c =
@@ -16,5 +17,6 @@ returns-clause-leads c =
 
 pub returns-clause-falls : goal.returns-clause-falls
 returns-clause-falls c =
-    falls_next _ _ _ _ _ _ (next_found c.args.from _ c.args.changes _ _ _ c.items.ensures c.in_ok-change_from.ensures c.in-Some.is)
+    falls_next _ _ _ _ _ _ (next_found c.args.from _ c.args.changes _ _ _ c.items.ensures c.in_ok-change_from.ensures
+    c.in-Some.is)
     c.in_ok-define_one-in-Some.ensures.falls

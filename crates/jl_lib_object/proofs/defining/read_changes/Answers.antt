@@ -5,7 +5,8 @@ use Rattle.jl_lib_object.proofs.defining.read_changes.Goals as goal
 
 pub returns-in-None-clause-leads : goal.returns-in-None-clause-leads
 returns-in-None-clause-leads c =
-    changes_end _ _ _ _ _ _ _ (nothing_found c.args.from _ c.args.names _ c.items.ensures c.in_ok-name_from.ensures c.in-None.is)
+    changes_end _ _ _ _ _ _ _ (nothing_found c.args.from _ c.args.names _ c.items.ensures c.in_ok-name_from.ensures
+    c.in-None.is)
     c.in_ok-define_from-in-None.ensures.leads
 
 pub returns-clause-leads : goal.returns-clause-leads

@@ -5,7 +5,8 @@ use Rattle.jl_lib_object.proofs.function_text.function_to_string.Goals as goal
 
 pub returns-in_default-clause-leads : goal.returns-in_default-clause-leads
 returns-in_default-clause-leads c =
-    no_receiver _ _ (call_of c.args.call.now) _ _ _ c.in_ok-name.ensures c.in_default.is c.in_ok-throw_native.ensures.leads
+    no_receiver _ _ (call_of c.args.call.now) _ _ _ c.in_ok-name.ensures c.in_default.is
+    c.in_ok-throw_native.ensures.leads
 
 pub returns-clause-leads : goal.returns-clause-leads
 returns-clause-leads c =
