@@ -1,7 +1,7 @@
 -- Functions that are called with the elements of a list (15.3.4.3).
 use Rattle.std.proofs.Common.{◌≡◌, ◌<◌, ◌≤◌, ◌+◌, ◌++◌, ◌-◌, ◌∷◌, ◌∙◌, [], ap, arith, codes, false, refl, subst, suc}
 use Rattle.std.proofs.Common.{sym}
-use Rattle.std.proofs.Common.{true, zero, List, None, Some, ℕ}
+use Rattle.std.proofs.Common.{true, List, None, Some, ℕ}
 use mathlib.Core.Path.{fun_ext}
 use Rattle.jl_num.specs.Bits.{uint32_of}
 use Rattle.jl_num.specs.Number.{Number}

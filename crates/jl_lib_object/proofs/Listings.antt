@@ -10,7 +10,7 @@ use Rattle.std.specs.List.{range_with_len}
 use Rattle.jl_value.specs.declared.object.ObjId.{ObjId}
 use Rattle.jl_value.specs.declared.value.Value.{Value}
 use Rattle.jl_props.specs.declared.entries.Entry.{Entry}
-use Rattle.jl_heap.specs.Objects.{names_of, object_at, units_of, Name, Objects}
+use Rattle.jl_heap.specs.Objects.{names_of, object_at, units_of, Name}
 use Rattle.jl_heap.specs.declared.property.Prop.{Prop}
 use Rattle.jl_effects.specs.Running.{Ends}
 use Rattle.jl_meaning.specs.Parts.{gives, ◌>>=◌, Visit}

@@ -2,7 +2,6 @@
 use Rattle.std.proofs.Common.{◌≡◌, ◌∙◌, ◌∷◌, [], ap, refl, subst, sym, false, true, Bool, List, None, Option, Some}
 use Rattle.std.specs.Option.{option_map_or}
 use Rattle.std.specs.Prelude.{not, ◌&&◌}
-use mathlib.Core.Path.{fun_ext}
 use Rattle.jl_value.specs.declared.object.ObjId.{ObjId}
 use Rattle.jl_value.specs.declared.value.Value.{Value}
 use Rattle.jl_value.specs.declared.value.Value.TheVariants as value
@@ -15,13 +14,12 @@ use Rattle.jl_heap.specs.declared.property.Prop.TheVariants.{Accessor, Plain}
 use Rattle.jl_effects.specs.Effects.{Step}
 use Rattle.jl_meaning.specs.Changes.{PreventExtensions}
 use Rattle.jl_meaning.specs.Defining.{define_own_property}
-use Rattle.jl_meaning.specs.Parts.{give, look, ◌>>=◌, Algorithm}
+use Rattle.jl_meaning.specs.Parts.{give, ◌>>=◌, Algorithm}
 use Rattle.jl_meaning.specs.Properties.{get_own_property}
-use Rattle.jl_meaning.specs.Relations.{give_truth}
 use Rattle.jl_meaning.specs.Store.{Store}
 use Rattle.jl_meaning.specs.builtins.Arguments.{give_object}
 use Rattle.jl_meaning.specs.builtins.Descriptors.{change_of}
-use Rattle.jl_meaning.specs.builtins.Object.{all_properties, forbid_extensions, redefine, redefine_if}
+use Rattle.jl_meaning.specs.builtins.Object.{forbid_extensions, redefine, redefine_if}
 use Rattle.jl_meaning.specs.builtins.Turns.{each}
 use Rattle.jl_progress.specs.Objects.{is_restricted_property, restricted_property}
 use Rattle.jl_progress.specs.declared.object.Integrity.{Integrity}

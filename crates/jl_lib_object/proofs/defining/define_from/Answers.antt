@@ -1,4 +1,3 @@
-use Rattle.std.proofs.Common.{drop}
 use Rattle.jl_lib_object.proofs.Definitions.{defined_all, defined_next}
 use Rattle.jl_lib_object.proofs.Ranks.{falls_next}
 use Rattle.jl_lib_object.proofs.Ends.{next_found, nothing_found}

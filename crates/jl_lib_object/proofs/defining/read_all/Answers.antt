@@ -1,4 +1,3 @@
-use Rattle.std.proofs.Common.{[]}
 use Rattle.jl_meaning.specs.Parts.{◌>>=◌}
 use Rattle.jl_meaning.specs.builtins.Descriptors.{enumerable_names}
 use Rattle.jl_meaning.specs.builtins.Object.{changes_of}

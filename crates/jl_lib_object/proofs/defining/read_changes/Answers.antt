@@ -1,4 +1,3 @@
-use Rattle.std.proofs.Common.{drop}
 use Rattle.jl_lib_object.proofs.Definitions.{changes_end, changes_next}
 use Rattle.jl_lib_object.proofs.Ends.{next_found, nothing_found}
 use Rattle.jl_lib_object.proofs.defining.read_changes.Goals as goal

@@ -1,5 +1,5 @@
-use Rattle.std.proofs.Common.{◌∙◌, ap, refl, true}
-use Rattle.jl_heap.specs.declared.property.Prop.TheVariants.{Accessor, Plain}
+use Rattle.std.proofs.Common.{refl}
+use Rattle.jl_heap.specs.declared.property.Prop.TheVariants.{Plain}
 use Rattle.jl_meaning.specs.Parts.{◌>>=◌}
 use Rattle.jl_meaning.specs.builtins.Arguments.{give_object}
 use Rattle.jl_meaning.specs.builtins.Descriptors.{add_fields, fields}

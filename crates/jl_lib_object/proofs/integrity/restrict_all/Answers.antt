@@ -1,4 +1,3 @@
-use Rattle.std.proofs.Common.{true}
 use Rattle.jl_lib_object.specs.inner.Parts.{restrict_and_give}
 use Rattle.jl_lib_object.proofs.Ends.{works_of}
 use Rattle.jl_lib_object.proofs.integrity.restrict_all.Goals as goal

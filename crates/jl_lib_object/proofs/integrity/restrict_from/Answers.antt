@@ -1,4 +1,3 @@
-use Rattle.std.proofs.Common.{drop}
 use Rattle.jl_lib_object.proofs.Restrictions.{restricted_all, restricts_next}
 use Rattle.jl_lib_object.proofs.Ends.{next_found, nothing_found}
 use Rattle.jl_lib_object.proofs.integrity.restrict_from.Goals as goal

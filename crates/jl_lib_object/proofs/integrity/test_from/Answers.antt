@@ -1,4 +1,4 @@
-use Rattle.std.proofs.Common.{◌∙◌, ap, drop}
+use Rattle.std.proofs.Common.{◌∙◌, ap}
 use Rattle.std.specs.Prelude.{not, ◌&&◌}
 use Rattle.jl_lib_object.proofs.Restrictions.{tested_all, tests_next}
 use Rattle.jl_lib_object.proofs.Ends.{next_found, nothing_found}

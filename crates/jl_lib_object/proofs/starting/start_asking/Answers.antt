@@ -1,4 +1,4 @@
-use Rattle.std.proofs.Common.{arith, refl}
+use Rattle.std.proofs.Common.{arith}
 use Rattle.jl_meaning.specs.builtins.Function.{names_of}
 use Rattle.jl_state.specs.Words.{call_of, table_of}
 use Rattle.jl_lib_object.proofs.Rows.{begins_row, not_built, row_10, row_11, row_12, row_13, row_14, row_15, row_16}

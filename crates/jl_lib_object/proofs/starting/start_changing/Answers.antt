@@ -1,7 +1,7 @@
-use Rattle.std.proofs.Common.{arith, refl}
+use Rattle.std.proofs.Common.{arith}
 use Rattle.jl_meaning.specs.builtins.Function.{names_of}
 use Rattle.jl_state.specs.Words.{call_of, table_of}
-use Rattle.jl_lib_object.proofs.Rows.{begins_row, not_built, row_0, row_1, row_2, row_3, row_4, row_5, row_6, row_7}
+use Rattle.jl_lib_object.proofs.Rows.{begins_row, row_0, row_1, row_2, row_3, row_4, row_5, row_6, row_7}
 use Rattle.jl_lib_object.proofs.Rows.{row_8, row_9}
 use Rattle.jl_lib_object.proofs.starting.start_changing.Goals as goal
 
