@@ -5,7 +5,7 @@ use Rattle.std.specs.Prelude.{[], codes, if◌then◌else◌, slice_index_or, �
 use Rattle.jl_value.specs.declared.object.ObjId.{ObjId}
 use Rattle.jl_value.specs.declared.value.Value.{Value}
 use Rattle.jl_heap.specs.Objects.{Name}
-use Rattle.jl_meaning.specs.Parts.{call, Algorithm}
+use Rattle.jl_meaning.specs.Parts.{call, ◌>>=◌, Algorithm}
 use Rattle.jl_meaning.specs.builtins.Elements.{get_index, get_length}
 use Rattle.jl_meaning.specs.Realm.{is_dot}
 use Rattle.jl_meaning.specs.builtins.Function.{append_element, FunctionNames}

@@ -6,7 +6,7 @@ use Rattle.jl_value.specs.declared.value.Value.TheVariants as value
 use Rattle.jl_conv.specs.Conversions.{truth_of}
 use Rattle.jl_heap.specs.Objects.{Name}
 use Rattle.jl_heap.specs.declared.property.Change.{Change}
-use Rattle.jl_meaning.specs.Parts.{give, Algorithm}
+use Rattle.jl_meaning.specs.Parts.{give, ◌>>=◌, Algorithm}
 use Rattle.jl_meaning.specs.builtins.Arguments.{need_function}
 use Rattle.jl_meaning.specs.builtins.Descriptors.{of_one_kind}
 use Rattle.jl_progress.specs.Objects.{change_from_configurable, change_from_enumerable, change_from_get}

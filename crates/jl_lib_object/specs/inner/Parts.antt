@@ -9,7 +9,7 @@ use Rattle.jl_heap.specs.Objects.{object_at, Name}
 use Rattle.jl_heap.specs.declared.inner.Inner.TheVariants as inner
 use Rattle.jl_heap.specs.declared.property.Change.{Change}
 use Rattle.jl_meaning.specs.Getting.{get}
-use Rattle.jl_meaning.specs.Parts.{look, new_object, Algorithm}
+use Rattle.jl_meaning.specs.Parts.{look, new_object, ◌>>=◌, Algorithm}
 use Rattle.jl_meaning.specs.Properties.{get_own_property}
 use Rattle.jl_meaning.specs.builtins.Arguments.{give_object, unless_undefined}
 use Rattle.jl_meaning.specs.builtins.Descriptors.{from_property_descriptor, to_property_descriptor}
