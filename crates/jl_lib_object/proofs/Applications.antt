@@ -1,6 +1,7 @@
 -- Functions that are called with the elements of a list (15.3.4.3).
-use Rattle.std.proofs.Common.{◌≡◌, ◌<◌, ◌≤◌, ◌+◌, ◌++◌, ◌-◌, ◌∷◌, ◌∙◌, [], ap, arith, codes, false, refl, subst, suc, sym}
-use Rattle.std.proofs.Common.{true, zero, List, None, Some, ℕ}
+use Rattle.std.proofs.Common.{◌≡◌, ◌<◌, ◌≤◌, ◌+◌, ◌++◌, ◌-◌, ◌∷◌, ◌∙◌, [], ap, arith, codes, false, refl, subst, suc}
+use Rattle.std.proofs.Common.{sym}
+use Rattle.std.proofs.Common.{true, List, None, Some, ℕ}
 use mathlib.Core.Path.{fun_ext}
 use Rattle.jl_num.specs.Bits.{uint32_of}
 use Rattle.jl_num.specs.Number.{Number}
@@ -37,7 +38,8 @@ use Rattle.jl_lib_object.specs.inner.Calls.{apply_by, apply_element, apply_list}
 pub calls_now : (s : State) (f : ObjId) (this v : Value) (args l : List Value) → this ≡ v → args ≡ l
     → Works s (call f v l) s (act.Call (record { callee = f; this = this; args = args; by_new = false }))
 calls_now s f this v args l this_is args_are =
-    subst (λ w. Works s (call f w l) s (act.Call (record { callee = f; this = this; args = args; by_new = false }))) this_is
+    subst (λ w. Works s (call f w l) s (act.Call (record { callee = f; this = this; args = args; by_new = false })))
+    this_is
     (subst (λ m. Works s (call f this m) s (act.Call (record { callee = f; this = this; args = args; by_new = false })))
     args_are (record { is = λ kept told. refl }))
 

@@ -6,7 +6,7 @@ use Rattle.jl_value.specs.declared.object.ObjId.{ObjId}
 use Rattle.jl_value.specs.declared.value.Value.{Value}
 use Rattle.jl_value.specs.declared.value.Value.TheVariants as value
 use Rattle.jl_heap.specs.Objects.{object_at}
-use Rattle.jl_effects.specs.Running.{Ends, Finish}
+use Rattle.jl_effects.specs.Running.{Finish}
 use Rattle.jl_meaning.specs.Conversions.{to_object}
 use Rattle.jl_meaning.specs.Parts.{give, look, ◌>>=◌, Algorithm, AlgorithmFault}
 use Rattle.jl_meaning.specs.Parts as parts

@@ -39,7 +39,7 @@ use Rattle.jl_state.specs.declared.algorithm_frame.WrittenBy.TheVariants.{Builti
 use Rattle.jl_state.specs.declared.state.State.{State}
 use Rattle.jl_algorithm.proofs.Chains.{bind_assoc, works_assoc}
 use Rattle.jl_builtin.specs.Values.{is_undefined}
-use Rattle.jl_lib_object.specs.inner.Parts.{define_and_give, define_by, read_descriptor}
+use Rattle.jl_lib_object.specs.inner.Parts.{define_and_give, read_descriptor}
 use Rattle.jl_lib_object.proofs.Ends.{goes_on, throws_on}
 
 -- a value that is given after an algorithm doesn't count where what follows is the same

@@ -1,6 +1,5 @@
 -- Own properties, and objects that describe them (8.10.4).
 use Rattle.std.proofs.Common.{◌≡◌, ◌∙◌, ap, refl, subst, sym, Bool, None, Option, Some}
-use Rattle.std.specs.Option.{option_map}
 use Rattle.jl_value.specs.declared.object.ObjId.{ObjId}
 use Rattle.jl_value.specs.declared.value.Value.{Value}
 use Rattle.jl_value.specs.declared.value.Value.TheVariants as value

@@ -26,11 +26,6 @@ pub gives_seen : (s : State) (f : Store → Value) (v : Value) → v ≡ f s.sto
 gives_seen s f v is =
     subst (λ w. Works s (look >>= λ store. give (f store)) s (act.Give w)) (sym is) (record { is = λ kept told. refl })
 
--- what is done with the store as it is
-pub seen_on : (s : State) (k : Store → Algorithm Value) (t : State) (a : Act) → Works s (k s.store) t a
-    → Works s (look >>= k) t a
-seen_on s k t a leads = record { is = leads.is }
-
 module _ {A : Type 0} (s : State) (x : Store) (p : Algorithm A) (k : A → Algorithm Value) (answer : Answer A)
     (comes : Comes p s.store x (answered answer)) where
   -- what was given is gone on with

@@ -8,4 +8,5 @@ pub mod FunctionNames
 pub mod Listings
 pub mod Ranks
 pub mod Restrictions
+pub mod Resumed
 pub mod Rows

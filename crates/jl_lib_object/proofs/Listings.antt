@@ -10,7 +10,7 @@ use Rattle.std.specs.List.{range_with_len}
 use Rattle.jl_value.specs.declared.object.ObjId.{ObjId}
 use Rattle.jl_value.specs.declared.value.Value.{Value}
 use Rattle.jl_props.specs.declared.entries.Entry.{Entry}
-use Rattle.jl_heap.specs.Objects.{names_of, object_at, units_of, Name, Objects}
+use Rattle.jl_heap.specs.Objects.{names_of, object_at, units_of, Name}
 use Rattle.jl_heap.specs.declared.property.Prop.{Prop}
 use Rattle.jl_effects.specs.Running.{Ends}
 use Rattle.jl_meaning.specs.Parts.{gives, ◌>>=◌, Visit}
@@ -58,7 +58,8 @@ own_names_are store place count units names stored units_are counted found is =
     is
     ∙ ap (λ l. l ++ map name_of_entry stored) units_are
     ∙ ap (λ n. map index_name (range_with_len 0 n) ++ map name_of_entry stored) counted
-    ∙ ap (λ l. map index_name (range_with_len 0 (length (units_of object.class object.inner))) ++ map name_of_entry l) found
+    ∙ ap (λ l. map index_name (range_with_len 0 (length (units_of object.class object.inner))) ++ map name_of_entry l)
+    found
     ∙ ap (λ l. l ++ map name_of_entry (names_of store.heap place))
     (sym (names_of_units place (range_with_len 0 (length (units_of object.class object.inner)))))
     ∙ ap (λ l. map name_of_visit (visits (length (units_of object.class object.inner))) ++ l)
@@ -73,7 +74,8 @@ pub fills_names : (s : State) (x : Store) (array : ObjId) (names : List Name) (v
     → Works s (array_of_names names) t a
 fills_names s x array names values t a is comes leads =
     subst (λ l. Works s (new_array >>= λ id. add_in_turns id 0 l >>= λ _. give_object id) t a) is
-    (works_comes s (record s { store = x }) refl new_array array (λ id. add_in_turns id 0 values >>= λ _. give_object id)
+    (works_comes s (record s { store = x }) refl new_array array
+    (λ id. add_in_turns id 0 values >>= λ _. give_object id)
     t a comes leads)
 
 -- lists that grow by one

@@ -1,13 +1,16 @@
 -- How much may be done without a step: fields of descriptors, and definitions.
-use Rattle.std.proofs.Common.{◌≡◌, ◌+◌, ◌++◌, ◌∙◌, ◌∷◌, [], ap, arith, length, refl, subst, suc, sym, List, Option, Some, ℕ}
+use Rattle.std.proofs.Common.{◌≡◌, ◌≤◌, ◌+◌, ◌*◌, ◌++◌, ◌∙◌, ◌∷◌, [], ap, arith, length, refl, subst, suc, sym, List}
+use Rattle.std.proofs.Common.{Option, Some, ℕ}
 use Rattle.jl_value.specs.declared.object.ObjId.{ObjId}
 use Rattle.jl_heap.specs.Objects.{Name}
 use Rattle.jl_heap.specs.declared.property.Change.{Change}
-use Rattle.jl_progress.specs.Objects.{fields_after, rank_definitions, rank_use}
+use Rattle.jl_meaning.specs.Store.{Store}
+use Rattle.jl_progress.specs.Objects.{fields_after, rank_definitions, rank_object, rank_use}
 use Rattle.jl_progress.specs.declared.object.DescriptorField.{DescriptorField}
 use Rattle.jl_progress.specs.declared.object.DescriptorField.TheVariants as field_of
 use Rattle.jl_progress.specs.declared.object.DescriptorUse.{DescriptorUse}
 use Rattle.jl_progress.specs.declared.object.DescriptorUse.TheVariants as use_of
+use Rattle.jl_progress.specs.declared.object.ObjectProgress.TheVariants as object
 use Rattle.jl_state.specs.Rank.{Falls}
 use Rattle.jl_state.specs.declared.act.Act.{Act}
 use Rattle.jl_state.specs.declared.state.State.{State}
@@ -28,14 +31,14 @@ less_left which next following is after_is =
     let less : fields_from following ≡ fields_after which = ap fields_from after_is ∙ fields_less which in
     ap fields_from is ∙ ap suc (sym less)
 
-pub left_after : (which : DescriptorField) (following : Option DescriptorField) → following ≡ next_field which
+left_after : (which : DescriptorField) (following : Option DescriptorField) → following ≡ next_field which
     → fields_from following ≡ fields_after which
 left_after which following is = ap fields_from is ∙ fields_less which
 
 -- a greater bound
-pub falls_within : (s t : State) (a : Act) (m n k : ℕ) → n ≡ m + k → Falls s m t a → Falls s n t a
-falls_within s t a m n k is falls =
-    record { left = falls.left; lower = λ same. omega (arith, is, falls.lower same) }
+falls_within : (s t : State) (a : Act) (m n : ℕ) → m ≤ n → Falls s m t a → Falls s n t a
+falls_within s t a m n within falls =
+    record { left = falls.left; lower = λ same. omega (arith, within, falls.lower same) }
 
 -- one definition more, which is done first
 pub falls_next : (s t : State) (a : Act) (left rest : List (Name × Change)) (named : Name × Change)
@@ -43,7 +46,7 @@ pub falls_next : (s t : State) (a : Act) (left rest : List (Name × Change)) (na
     → Falls s (rank_definitions (length left) + 2) t a
 falls_next s t a left rest named is falls =
     subst (λ l. Falls s (rank_definitions (length l) + 2) t a) (sym is)
-    (falls_within s t a (rank_definitions (length rest) + 40) (rank_definitions (length (named ∷ rest)) + 2) 6
+    (falls_within s t a (rank_definitions (length rest) + 40) (rank_definitions (length (named ∷ rest)) + 2)
     (omega arith) falls)
 
 longer : (l : List (Name × Change)) (named : Name × Change) → length (l ++ named ∷ []) ≡ length l + 1
@@ -61,17 +64,59 @@ falls_longer s t a changes more named is falls =
 pub falls_none : (s t : State) (a : Act) (changes : List (Name × Change)) → changes ≡ []
     → Falls s (rank_definitions (length changes) + 2) t a → Falls s 9 t a
 falls_none s t a changes none falls =
-    falls_within s t a 8 9 1 refl (subst (λ l. Falls s (rank_definitions (length l) + 2) t a) none falls)
+    falls_within s t a 8 9 (omega arith) (subst (λ l. Falls s (rank_definitions (length l) + 2) t a) none falls)
 
 -- what a descriptor is read for
 
 pub falls_one : (s t : State) (a : Act) (purpose : DescriptorUse) (id : ObjId) (x : Name) → purpose ≡ use_of.One id x
     → Falls s 40 t a → Falls s (rank_use purpose) t a
 falls_one s t a purpose id x is falls =
-    subst (λ p. Falls s (rank_use p) t a) (sym is) (falls_within s t a 40 44 4 refl falls)
+    subst (λ p. Falls s (rank_use p) t a) (sym is) (falls_within s t a 40 44 (omega arith) falls)
 
 pub falls_read : (s t : State) (a : Act) (purpose : DescriptorUse) (id d : ObjId) (changes more : List (Name × Change))
     (x : Name) (named : Name × Change) (names : List Name) (from : ℕ) → purpose ≡ use_of.Next id d changes x names from
     → more ≡ changes ++ named ∷ [] → Falls s (rank_definitions (length more) + 2) t a → Falls s (rank_use purpose) t a
 falls_read s t a purpose id d changes more x named names from is grown falls =
     subst (λ p. Falls s (rank_use p) t a) (sym is) (falls_longer s t a changes more named grown falls)
+
+-- an error that is thrown in place of that
+pub falls_thrown : (s t : State) (a : Act) (purpose : DescriptorUse) → Falls s 3 t a → Falls s (rank_use purpose) t a
+falls_thrown s t a (use_of.One id x) falls = falls_within s t a 3 44 (omega arith) falls
+falls_thrown s t a (use_of.Next id d changes x names from) falls =
+    falls_within s t a 3 (rank_definitions (length changes + 1) + 2) (omega arith) falls
+
+-- fields that are read
+
+module _ (s t : State) (a : Act) (which : DescriptorField) (purpose : DescriptorUse) where
+  -- a field that is there, which is got
+  pub falls_there : (d : ObjId) (change : Change) (next : Option DescriptorField) → next ≡ Some which
+      → Falls s (rank_object (object.Field which d change purpose) + 4) t a
+      → Falls s (rank_use purpose + (4 * fields_from next + 4)) t a
+  falls_there d change next is falls =
+      subst (λ n. Falls s (rank_use purpose + (4 * fields_from n + 4)) t a) (sym is)
+      (falls_within s t a (rank_use purpose + (4 * fields_after which + 4) + 4)
+      (rank_use purpose + (4 * suc (fields_after which) + 4)) (omega arith) falls)
+
+  -- those after one that isn't there
+  pub falls_absent : (next following : Option DescriptorField) → next ≡ Some which → following ≡ next_field which
+      → Falls s (rank_use purpose + (4 * fields_from following + 4)) t a
+      → Falls s (rank_use purpose + (4 * fields_from next + 4)) t a
+  falls_absent next following is after_is falls =
+      falls_within s t a (rank_use purpose + (4 * fields_from following + 4))
+      (rank_use purpose + (4 * fields_from next + 4)) (omega (arith, less_left which next following is after_is)) falls
+
+  -- those after one that was got, in a store that may have changed
+  pub falls_after : (x : Store) (d : ObjId) (change : Change) (following : Option DescriptorField)
+      → following ≡ next_field which
+      → Falls (record s { store = x }) (rank_use purpose + (4 * fields_from following + 4)) t a
+      → Falls s (rank_object (object.Field which d change purpose) + 2) t a
+  falls_after x d change following is falls = record {
+    left = falls.left;
+    lower = λ same. omega (arith, left_after which following is, falls.lower same);
+  }
+
+-- what is left when no field is
+pub falls_read_all : (s t : State) (a : Act) (purpose : DescriptorUse) (next : Option DescriptorField)
+    → Falls s (rank_use purpose) t a → Falls s (rank_use purpose + (4 * fields_from next + 4)) t a
+falls_read_all s t a purpose next falls =
+    falls_within s t a (rank_use purpose) (rank_use purpose + (4 * fields_from next + 4)) (omega arith) falls

@@ -2,7 +2,6 @@
 use Rattle.std.proofs.Common.{◌≡◌, ◌∙◌, ◌∷◌, [], ap, refl, subst, sym, false, true, Bool, List, None, Option, Some}
 use Rattle.std.specs.Option.{option_map_or}
 use Rattle.std.specs.Prelude.{not, ◌&&◌}
-use mathlib.Core.Path.{fun_ext}
 use Rattle.jl_value.specs.declared.object.ObjId.{ObjId}
 use Rattle.jl_value.specs.declared.value.Value.{Value}
 use Rattle.jl_value.specs.declared.value.Value.TheVariants as value
@@ -15,13 +14,12 @@ use Rattle.jl_heap.specs.declared.property.Prop.TheVariants.{Accessor, Plain}
 use Rattle.jl_effects.specs.Effects.{Step}
 use Rattle.jl_meaning.specs.Changes.{PreventExtensions}
 use Rattle.jl_meaning.specs.Defining.{define_own_property}
-use Rattle.jl_meaning.specs.Parts.{give, look, ◌>>=◌, Algorithm}
+use Rattle.jl_meaning.specs.Parts.{give, ◌>>=◌, Algorithm}
 use Rattle.jl_meaning.specs.Properties.{get_own_property}
-use Rattle.jl_meaning.specs.Relations.{give_truth}
 use Rattle.jl_meaning.specs.Store.{Store}
 use Rattle.jl_meaning.specs.builtins.Arguments.{give_object}
 use Rattle.jl_meaning.specs.builtins.Descriptors.{change_of}
-use Rattle.jl_meaning.specs.builtins.Object.{all_properties, forbid_extensions, redefine, redefine_if}
+use Rattle.jl_meaning.specs.builtins.Object.{forbid_extensions, redefine, redefine_if}
 use Rattle.jl_meaning.specs.builtins.Turns.{each}
 use Rattle.jl_progress.specs.Objects.{is_restricted_property, restricted_property}
 use Rattle.jl_progress.specs.declared.object.Integrity.{Integrity}
@@ -124,7 +122,8 @@ pub restricts_next : (s : State) (level : Integrity) (id : ObjId) (left : List N
 restricts_next s level id left x rest t a is leads =
     subst (λ l. Works s (restrict_and_give level id l) t a) (sym is)
     (subst (λ (p : Algorithm Value). Works s (Step p) t a)
-    (sym (bind_assoc (redefine (restricted_property level) id x) (λ _. each (redefine (restricted_property level) id) rest)
+    (sym (bind_assoc (redefine (restricted_property level) id x)
+    (λ _. each (redefine (restricted_property level) id) rest)
     (λ _. forbid_extensions id >>= λ _. give_object id))) leads)
 
 -- properties are tested

@@ -32,7 +32,8 @@ pub not_built : (s : State) (row n : ℕ) (c : Call) (a : Act) → row ≡ n →
     → Works s (unsupported n c) s a
 not_built s row n c a is leads = subst (λ r. Works s (unsupported r c) s a) is leads
 
-pub unbuilt : (s : State) (row b : ℕ) (c : Call) → b ≡ row → Works s (unsupported row c) s (act.Fault (fault.Unsupported b))
+pub unbuilt : (s : State) (row b : ℕ) (c : Call) → b ≡ row
+    → Works s (unsupported row c) s (act.Fault (fault.Unsupported b))
 unbuilt s row b c is =
     subst (λ n. Works s (unsupported row c) s (act.Fault (fault.Unsupported n))) (sym is)
     (record { is = λ kept told. refl })

@@ -1,4 +1,4 @@
-//! The names of the own properties of objects, and `Object.getOwnPropertyNames` and `Object.keys` (15.2.3.4, 15.2.3.14).
+//! The names of the own properties of objects; `Object.getOwnPropertyNames`, `Object.keys` (15.2.3.4, 15.2.3.14).
 ghost use Rattle.std.specs.List.{range_with_len};
 ghost use Rattle.std.specs.Prelude.{◌≡◌, ◌++◌, ◌∷◌, [], drop, filter, length, map, IfOk, MatchOption};
 ghost use Rattle.jl_heap.specs.Objects.{object_at, units_of};

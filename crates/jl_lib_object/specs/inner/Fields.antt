@@ -8,7 +8,7 @@ use Rattle.jl_heap.specs.Objects.{Name}
 use Rattle.jl_heap.specs.declared.property.Change.{Change}
 use Rattle.jl_meaning.specs.Parts.{give, ◌>>=◌, Algorithm}
 use Rattle.jl_meaning.specs.builtins.Arguments.{need_function}
-use Rattle.jl_meaning.specs.builtins.Descriptors.{accessor_of, of_one_kind}
+use Rattle.jl_meaning.specs.builtins.Descriptors.{of_one_kind}
 use Rattle.jl_progress.specs.Objects.{change_from_configurable, change_from_enumerable, change_from_get}
 use Rattle.jl_progress.specs.Objects.{change_from_set, change_from_value, change_from_writable, fields_after}
 use Rattle.jl_progress.specs.declared.object.DescriptorField.{DescriptorField}

@@ -12,6 +12,7 @@ returns-in-Throws-clause-leads c = throws_on _ _ _ _ _ c.in_ok-thrown.ensures _ 
 pub returns-in_ok-give_bound-in-Gives-clause-leads : goal.returns-in_ok-give_bound-in-Gives-clause-leads
 returns-in_ok-give_bound-in-Gives-clause-leads c =
     goes_on _ _ _ _ _ c.in_ok-thrown.ensures _ _ _ c.in-Gives.is
-    (works_of _ (λ l. create_bound c.in-Gives.target (argument (call_of c.args.call.now) 0) l >>= give_object) _ _ _ _ (c.in_ok-args.ensures ∙ ap (drop 1) c.items.ensures)
+    (works_of _ (λ l. create_bound c.in-Gives.target (argument (call_of c.args.call.now) 0) l >>= give_object) _ _ _ _
+    (c.in_ok-args.ensures ∙ ap (drop 1) c.items.ensures)
     (works_of _ (λ v. create_bound c.in-Gives.target v c.in_ok-args.args >>= give_object) _ _ _ _ c.in_ok-this.ensures
     (c.in_ok-give_bound-in-Gives.ensures.leads)))

@@ -10,7 +10,8 @@ returns-in-Throws-clause-leads c =
 
 pub returns-then-is_nothing-clause-leads : goal.returns-then-is_nothing-clause-leads
 returns-then-is_nothing-clause-leads c =
-    no_arguments _ _ _ _ _ _ (sym c.is_nothing.ensures ∙ c.if-is_nothing.true) (calls_now _ _ _ _ _ _ refl c.new.ensures)
+    no_arguments _ _ _ _ _ _ (sym c.is_nothing.ensures ∙ c.if-is_nothing.true)
+    (calls_now _ _ _ _ _ _ refl c.new.ensures)
 
 pub returns-in_ok-get_length-in-Gives-clause-leads : goal.returns-in_ok-get_length-in-Gives-clause-leads
 returns-in_ok-get_length-in-Gives-clause-leads c =

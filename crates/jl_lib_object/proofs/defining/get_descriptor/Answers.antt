@@ -5,4 +5,5 @@ use Rattle.jl_lib_object.proofs.defining.get_descriptor.Goals as goal
 pub returns-clause-leads : goal.returns-clause-leads
 returns-clause-leads c =
     (c.if-not-spend.ensures.took refl).works _ _ _
-    (gets_descriptor _ _ _ _ _ _ _ _ _ _ _ c.in_ok-key.ensures c.in_ok-wait_object.ensures.waits c.in_ok-get.ensures.leads)
+    (gets_descriptor _ _ _ _ _ _ _ _ _ _ _ c.in_ok-key.ensures c.in_ok-wait_object.ensures.waits
+    c.in_ok-get.ensures.leads)

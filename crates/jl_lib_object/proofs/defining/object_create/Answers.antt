@@ -8,12 +8,14 @@ use Rattle.jl_lib_object.proofs.defining.object_create.Goals as goal
 
 pub returns-in-Throws-clause-leads : goal.returns-in-Throws-clause-leads
 returns-in-Throws-clause-leads c =
-    works_of _ (λ v. need_prototype v >>= λ proto. create_with proto (argument (call_of c.args.call.now) 1)) _ _ _ _ c.in_ok-proto.ensures
+    works_of _ (λ v. need_prototype v >>= λ proto. create_with proto (argument (call_of c.args.call.now) 1)) _ _ _ _
+    c.in_ok-proto.ensures
     (throws_on _ _ _ _ _ c.in_ok-thrown.ensures _ c.in-Throws.is)
 
 pub returns-clause-leads : goal.returns-clause-leads
 returns-clause-leads c =
-    works_of _ (λ v. need_prototype v >>= λ proto. create_with proto (argument (call_of c.args.call.now) 1)) _ _ _ _ c.in_ok-proto.ensures
+    works_of _ (λ v. need_prototype v >>= λ proto. create_with proto (argument (call_of c.args.call.now) 1)) _ _ _ _
+    c.in_ok-proto.ensures
     (goes_on _ _ _ _ _ c.in_ok-thrown.ensures _ _ _ c.in-Gives.is
     (works_of _ (λ v. create_with c.in-Gives.proto v) _ _ _ _ c.in_ok-properties.ensures
     (c.in_ok-create_with-in-Gives.ensures.leads)))

@@ -10,5 +10,6 @@ returns-in-Throws-clause-leads c = throws_on _ _ _ _ _ c.in_ok-thrown.ensures _ 
 pub returns-clause-leads : goal.returns-clause-leads
 returns-clause-leads c =
     goes_on _ _ _ _ _ c.in_ok-thrown.ensures _ _ _ c.in-Gives.is
-    (works_of _ (λ v. define_all c.in-Gives.object v >>= λ _. give_object c.in-Gives.object) _ _ _ _ c.in_ok-properties.ensures
+    (works_of _ (λ v. define_all c.in-Gives.object v >>= λ _. give_object c.in-Gives.object) _ _ _ _
+    c.in_ok-properties.ensures
     (c.in_ok-define_all-in-Gives.ensures.leads))

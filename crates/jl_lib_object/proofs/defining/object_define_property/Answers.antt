@@ -13,6 +13,8 @@ returns-in-Throws-clause-leads c = throws_on _ _ _ _ _ c.in_ok-thrown.ensures _ 
 pub returns-in_ok-convert_name-in-Gives-clause-leads : goal.returns-in_ok-convert_name-in-Gives-clause-leads
 returns-in_ok-convert_name-in-Gives-clause-leads c =
     goes_on _ _ _ _ _ c.in_ok-thrown.ensures _ _ _ c.in-Gives.is
-    (works_of _ (λ v. to_string v >>= λ x. define_by (use_of.One c.in-Gives.object x) (argument (call_of c.args.call.now) 2)) _ _ _ _ c.in_ok-name.ensures
-    (works_of _ (λ d. to_string c.in_ok-name.name >>= λ x. define_by (use_of.One c.in-Gives.object x) d) _ _ _ _ c.in_ok-descriptor.ensures
+    (works_of _ (λ v. to_string v >>= λ x. define_by (use_of.One c.in-Gives.object x)
+    (argument (call_of c.args.call.now) 2)) _ _ _ _ c.in_ok-name.ensures
+    (works_of _ (λ d. to_string c.in_ok-name.name >>= λ x. define_by (use_of.One c.in-Gives.object x) d) _ _ _ _
+    c.in_ok-descriptor.ensures
     (c.in_ok-convert_name-in-Gives.ensures.leads)))

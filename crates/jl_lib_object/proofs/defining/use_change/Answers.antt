@@ -17,4 +17,5 @@ returns-in_ok-read_changes-in-Next-clause-leads c =
 
 pub returns-in_ok-read_changes-in-Next-clause-falls : goal.returns-in_ok-read_changes-in-Next-clause-falls
 returns-in_ok-read_changes-in-Next-clause-falls c =
-    falls_read _ _ _ _ _ _ _ _ _ _ _ _ c.in-Next.is c.in_ok-push-in-Next.ensures.ok c.in_ok-read_changes-in-Next.ensures.falls
+    falls_read _ _ _ _ _ _ _ _ _ _ _ _ c.in-Next.is c.in_ok-push-in-Next.ensures.ok
+    c.in_ok-read_changes-in-Next.ensures.falls

@@ -35,10 +35,15 @@ add_property-requires-4 c =
 
 pub returns : goal.returns
 returns c =
-    comes_new _ _ _ c.in_ok-id.id (λ id. add_fields id (fields (Accessor c.args.getter c.args.setter c.args.enumerable c.args.configurable)) >>= λ _. give_object id) c.in_ok-id.ensures.next
+    comes_new _ _ _ c.in_ok-id.id
+    (λ id. add_fields id (fields (Accessor c.args.getter c.args.setter c.args.enumerable c.args.configurable))
+    >>= λ _. give_object id)
+    c.in_ok-id.ensures.next
     c.in_ok-id.ensures.made
-    (comes_added c.in_ok-id.id c.in_ok-first.ensures (c.open.ensures ∙ ap (λ v. Plain v true true true) c.accessor_value.ensures) c.in_ok-add_property.ensures.made
-    (comes_added c.in_ok-id.id c.in_ok-second.ensures (c.open-2.ensures ∙ ap (λ v. Plain v true true true) c.accessor_value-2.ensures) c.in_ok-add_property-2.ensures.made
+    (comes_added c.in_ok-id.id c.in_ok-first.ensures
+    (c.open.ensures ∙ ap (λ v. Plain v true true true) c.accessor_value.ensures) c.in_ok-add_property.ensures.made
+    (comes_added c.in_ok-id.id c.in_ok-second.ensures
+    (c.open-2.ensures ∙ ap (λ v. Plain v true true true) c.accessor_value-2.ensures) c.in_ok-add_property-2.ensures.made
     (comes_added c.in_ok-id.id c.in_ok-third.ensures c.open-3.ensures c.in_ok-add_property-3.ensures.made
     (comes_added c.in_ok-id.id c.in_ok-fourth.ensures c.open-4.ensures c.in_ok-add_property-4.ensures.made
     comes_to))))

@@ -1,5 +1,5 @@
-use Rattle.std.proofs.Common.{◌∙◌, ap, refl, true}
-use Rattle.jl_heap.specs.declared.property.Prop.TheVariants.{Accessor, Plain}
+use Rattle.std.proofs.Common.{refl}
+use Rattle.jl_heap.specs.declared.property.Prop.TheVariants.{Plain}
 use Rattle.jl_meaning.specs.Parts.{◌>>=◌}
 use Rattle.jl_meaning.specs.builtins.Arguments.{give_object}
 use Rattle.jl_meaning.specs.builtins.Descriptors.{add_fields, fields}
@@ -35,7 +35,10 @@ add_property-requires-4 c =
 
 pub returns : goal.returns
 returns c =
-    comes_new _ _ _ c.in_ok-id.id (λ id. add_fields id (fields (Plain c.args.value c.args.writable c.args.enumerable c.args.configurable)) >>= λ _. give_object id) c.in_ok-id.ensures.next
+    comes_new _ _ _ c.in_ok-id.id
+    (λ id. add_fields id (fields (Plain c.args.value c.args.writable c.args.enumerable c.args.configurable))
+    >>= λ _. give_object id)
+    c.in_ok-id.ensures.next
     c.in_ok-id.ensures.made
     (comes_added c.in_ok-id.id c.in_ok-first.ensures c.open.ensures c.in_ok-add_property.ensures.made
     (comes_added c.in_ok-id.id c.in_ok-second.ensures c.open-2.ensures c.in_ok-add_property-2.ensures.made

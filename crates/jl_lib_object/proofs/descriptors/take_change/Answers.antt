@@ -1,5 +1,6 @@
 use Rattle.std.proofs.Common.{sym, ◌∙◌}
 use Rattle.jl_lib_object.proofs.Fields.{one_kind, one_kind_is, two_kinds}
+use Rattle.jl_lib_object.proofs.Ranks.{falls_thrown}
 use Rattle.jl_lib_object.proofs.descriptors.take_change.Goals as goal
 
 pub returns-then-is_both_kinds-clause-leads : goal.returns-then-is_both_kinds-clause-leads
@@ -15,3 +16,6 @@ returns-clause-leads c =
 pub use_change-requires : goal.use_change-requires
 use_change-requires c =
     one_kind_is c.args.change (sym c.is_both_kinds.ensures ∙ c.if-is_both_kinds.false)
+
+pub returns-then-is_both_kinds-clause-falls : goal.returns-then-is_both_kinds-clause-falls
+returns-then-is_both_kinds-clause-falls c = falls_thrown _ _ _ c.args.purpose c.in_ok-throw_native.ensures.falls

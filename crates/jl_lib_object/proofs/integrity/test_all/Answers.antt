@@ -5,4 +5,5 @@ use Rattle.jl_lib_object.proofs.integrity.test_all.Goals as goal
 
 pub returns-clause-leads : goal.returns-clause-leads
 returns-clause-leads c =
-    works_of _ (test_and_give c.args.integrity c.args.object true) _ _ _ _ c.in_ok-names.ensures c.in_ok-test_from.ensures.leads
+    works_of _ (test_and_give c.args.integrity c.args.object true) _ _ _ _ c.in_ok-names.ensures
+    c.in_ok-test_from.ensures.leads

@@ -7,4 +7,5 @@ returns-in_ok-word-in-Undefined-clause-leads c =
     undefined_text _ (call_of c.args.call.now) _ c.in-Undefined.is c.in_ok-word-in-Undefined.ensures
 
 pub returns-in_ok-word-in-Null-clause-leads : goal.returns-in_ok-word-in-Null-clause-leads
-returns-in_ok-word-in-Null-clause-leads c = null_text _ (call_of c.args.call.now) _ c.in-Null.is c.in_ok-word-in-Null.ensures
+returns-in_ok-word-in-Null-clause-leads c =
+    null_text _ (call_of c.args.call.now) _ c.in-Null.is c.in_ok-word-in-Null.ensures

@@ -1,5 +1,5 @@
 use Rattle.jl_lib_object.proofs.Rows.{unbuilt}
 use Rattle.jl_lib_object.proofs.starting.unsupported.Goals as goal
 
-pub returns-in-Some-clause-leads : goal.returns-in-Some-clause-leads
-returns-in-Some-clause-leads c = λ s call. unbuilt _ _ _ _ c.in-Some.ensures.same
+pub returns-clause-leads : goal.returns-clause-leads
+returns-clause-leads c = λ s call. unbuilt s _ _ call c.in-Some.ensures.same
