@@ -1,5 +1,6 @@
 //! Builtins, by their rows (clause 15).
 ghost use Rattle.std.specs.Prelude.{◌≡◌, ◌+◌, ◌≤◌, ◌<◌, IfOk};
+ghost use Rattle.jl_lib_array_call.specs.Rows.{is_array_call};
 ghost use Rattle.jl_meaning.specs.builtins.Function.{names_of};
 ghost use Rattle.jl_meaning.specs.builtins.Table.{builtin};
 ghost use Rattle.jl_progress.specs.Progress.{progress_after, rank_progress};
@@ -19,7 +20,36 @@ use jl_text::NoMemory;
 use jl_value::{Builtin, Value};
 use std::alloc::Global;
 
+/// Whether the builtin of a row is one of jl_lib_array_call.
+#[tactic(auto, unfolding(jl_lib_array_call::specs::Rows::is_array_call))]
+fn is_array_call(row: u16) -> bool
+    ensures { result ≡ is_array_call row }
+{
+    row == 28 || row == 29 || row == 38 || (42 <= row && row <= 50)
+}
+
+/// A builtin of arrays is called (15.4).
+#[tactic(auto, using(crate::proofs::Rows::changes_or_copies))]
+fn begin_array<'p>(
+    alloc: Global,
+    state: &mut State<'p>,
+    row: u16,
+    call: Invocation,
+) -> Result<Act<'p>, NoMemory>
+    requires low { 28 ≤ row }
+    requires high { row < 51 }
+    ensures leads { IfOk result (λ act. Works state.old
+        (builtin (names_of (table_of state.old.functions)) row (call_of call)) state.new act) }
+    ensures falls { IfOk result (λ act. Falls state.old 400 state.new act) }
+{
+    if is_array_call(row) {
+        return Ok(array_call::start(alloc, state, row, call)?);
+    }
+    Ok(array::start(alloc, state, row, call)?)
+}
+
 /// A builtin is called.
+#[tactic(auto, unfolding(jl_value::specs::Builtins::builtin_names))]
 pub(crate) fn begin_builtin<'p>(
     alloc: Global,
     state: &mut State<'p>,
@@ -31,14 +61,19 @@ pub(crate) fn begin_builtin<'p>(
     ensures falls { IfOk result (λ act. Falls state.old 400 state.new act) }
 {
     let row = called.row();
-    match row {
-        0..20 => Ok(start_object(alloc, state, row, call)?),
-        20..28 => Ok(start_function(alloc, state, row, call)?),
-        28 | 29 | 38 | 42..51 => Ok(array_call::start(alloc, state, row, call)?),
-        30..51 => Ok(array::start(alloc, state, row, call)?),
-        51..72 => Ok(text::start(alloc, state, row, call)?),
-        _ => Ok(misc::start(alloc, state, row, call)?),
+    if row < 20 {
+        return Ok(start_object(alloc, state, row, call)?);
     }
+    if row < 28 {
+        return Ok(start_function(alloc, state, row, call)?);
+    }
+    if row < 51 {
+        return Ok(begin_array(alloc, state, row, call)?);
+    }
+    if row < 72 {
+        return Ok(text::start(alloc, state, row, call)?);
+    }
+    Ok(misc::start(alloc, state, row, call)?)
 }
 
 /// A builtin goes on with the value that it waited for.
