@@ -1,5 +1,5 @@
 -- Objects that values convert to, and their classes (15.2.1, 15.2.4.2).
-use Rattle.std.proofs.Common.{◌≡◌, ◌++◌, codes, false, refl, subst, sym, true, Bool, List, ℕ}
+use Rattle.std.proofs.Common.{◌≡◌, ◌++◌, codes, false, refl, subst, sym, true, List, ℕ}
 use Rattle.jl_value.specs.Texts.{class_name}
 use Rattle.jl_value.specs.declared.object.Class.{Class}
 use Rattle.jl_value.specs.declared.object.ObjId.{ObjId}
