@@ -1,12 +1,23 @@
 -- What frames and acts may do without a step.
 use Rattle.std.proofs.Common.{◌≡◌, ◌+◌, ◌<◌, ◌≤◌, ◌∷◌, ap, arith, false, subst, sym, true, List, ℕ}
-use Rattle.jl_state.specs.Rank.{rank, rank_act, rank_algorithm, rank_key, rank_progress}
+use Rattle.jl_progress.specs.Objects.{rank_object}
+use Rattle.jl_progress.specs.Progress.{rank_progress}
+use Rattle.jl_progress.specs.declared.array.ArrayProgress.{ArrayProgress}
+use Rattle.jl_progress.specs.declared.array_call.ArrayCallProgress.{ArrayCallProgress}
+use Rattle.jl_progress.specs.declared.error.ErrorProgress.{ErrorProgress}
+use Rattle.jl_progress.specs.declared.function.FunctionProgress.{FunctionProgress}
+use Rattle.jl_progress.specs.declared.global.GlobalProgress.{GlobalProgress}
+use Rattle.jl_progress.specs.declared.number.NumberProgress.{NumberProgress}
+use Rattle.jl_progress.specs.declared.object.ObjectProgress.{ObjectProgress}
+use Rattle.jl_progress.specs.declared.object.ObjectProgress.TheVariants as object
+use Rattle.jl_progress.specs.declared.progress.Progress.{Progress}
+use Rattle.jl_progress.specs.declared.progress.Progress.TheVariants as progress
+use Rattle.jl_progress.specs.declared.string.StringProgress.{StringProgress}
+use Rattle.jl_state.specs.Rank.{rank, rank_act, rank_algorithm, rank_key}
 use Rattle.jl_state.specs.Rank.{rank_statement, rank_test, rank_value, ranks, Falls}
 use Rattle.jl_state.specs.declared.act.Act.{Act}
 use Rattle.jl_state.specs.declared.algorithm_frame.AlgorithmFrame.{AlgorithmFrame}
 use Rattle.jl_state.specs.declared.algorithm_frame.AlgorithmFrame.TheVariants as algorithm
-use Rattle.jl_state.specs.declared.algorithm_frame.Progress.{Progress}
-use Rattle.jl_state.specs.declared.algorithm_frame.Progress.TheVariants as progress
 use Rattle.jl_state.specs.declared.frame.Frame.{Frame}
 use Rattle.jl_state.specs.declared.frame.Frame.TheVariants as frame
 use Rattle.jl_state.specs.declared.state.State.{State}
@@ -42,9 +53,46 @@ value_waits (waiting.Entries object rest here) = omega arith
 value_waits (waiting.Key purpose) = key_waits purpose
 value_waits f = omega arith
 
+-- a builtin that waits may still do something, whichever family it is of
+
+object_waits : (p : ObjectProgress) → 0 < rank_object p
+object_waits (object.DescribedName id) = omega arith
+object_waits (object.Field field so_far change purpose) = omega arith
+object_waits (object.Descriptor id descriptors changes name names from) = omega arith
+object_waits (object.Define id changes from) = omega arith
+object_waits p = omega arith
+
+function_waits : (p : FunctionProgress) → 0 < rank_progress (progress.Function p)
+function_waits p = omega arith
+
+array_waits : (p : ArrayProgress) → 0 < rank_progress (progress.Array p)
+array_waits p = omega arith
+
+array_call_waits : (p : ArrayCallProgress) → 0 < rank_progress (progress.ArrayCall p)
+array_call_waits p = omega arith
+
+string_waits : (p : StringProgress) → 0 < rank_progress (progress.String p)
+string_waits p = omega arith
+
+global_waits : (p : GlobalProgress) → 0 < rank_progress (progress.Global p)
+global_waits p = omega arith
+
+number_waits : (p : NumberProgress) → 0 < rank_progress (progress.Number p)
+number_waits p = omega arith
+
+error_waits : (p : ErrorProgress) → 0 < rank_progress (progress.Error p)
+error_waits p = omega arith
+
 progress_waits : (p : Progress) → 0 < rank_progress p
-progress_waits (progress.ErrorName object) = omega arith
-progress_waits p = omega arith
+progress_waits (progress.Object p) = object_waits p
+progress_waits (progress.Function p) = function_waits p
+progress_waits (progress.Array p) = array_waits p
+progress_waits (progress.ArrayCall p) = array_call_waits p
+progress_waits (progress.String p) = string_waits p
+progress_waits (progress.Global p) = global_waits p
+progress_waits (progress.Number p) = number_waits p
+progress_waits (progress.Error p) = error_waits p
+progress_waits (progress.Fill array values from) = omega arith
 
 algorithm_waits : (f : AlgorithmFrame) → 0 < rank_algorithm f
 algorithm_waits (algorithm.Method object h false) = omega arith
