@@ -1,18 +1,32 @@
 -- What frames and acts may do without a step.
 use Rattle.std.proofs.Common.{◌≡◌, ◌+◌, ◌<◌, ◌≤◌, ◌∷◌, ap, arith, false, subst, sym, true, List, ℕ}
+use Rattle.jl_progress.specs.Functions.{rank_function}
+use Rattle.jl_progress.specs.Arrays.{rank_array}
+use Rattle.jl_progress.specs.ArrayCalls.{rank_array_call}
+use Rattle.jl_progress.specs.Strings.{rank_string}
+use Rattle.jl_progress.specs.Globals.{rank_global}
+use Rattle.jl_progress.specs.Numbers.{rank_number}
+use Rattle.jl_progress.specs.Errors.{rank_error}
 use Rattle.jl_progress.specs.Objects.{rank_object}
 use Rattle.jl_progress.specs.Progress.{rank_progress}
 use Rattle.jl_progress.specs.declared.array.ArrayProgress.{ArrayProgress}
+use Rattle.jl_progress.specs.declared.array.ArrayProgress.TheVariants as array
 use Rattle.jl_progress.specs.declared.array_call.ArrayCallProgress.{ArrayCallProgress}
+use Rattle.jl_progress.specs.declared.array_call.ArrayCallProgress.TheVariants as array_call
 use Rattle.jl_progress.specs.declared.error.ErrorProgress.{ErrorProgress}
+use Rattle.jl_progress.specs.declared.error.ErrorProgress.TheVariants as error
 use Rattle.jl_progress.specs.declared.function.FunctionProgress.{FunctionProgress}
+use Rattle.jl_progress.specs.declared.function.FunctionProgress.TheVariants as function
 use Rattle.jl_progress.specs.declared.global.GlobalProgress.{GlobalProgress}
+use Rattle.jl_progress.specs.declared.global.GlobalProgress.TheVariants as global
 use Rattle.jl_progress.specs.declared.number.NumberProgress.{NumberProgress}
+use Rattle.jl_progress.specs.declared.number.NumberProgress.TheVariants as number
 use Rattle.jl_progress.specs.declared.object.ObjectProgress.{ObjectProgress}
 use Rattle.jl_progress.specs.declared.object.ObjectProgress.TheVariants as object
 use Rattle.jl_progress.specs.declared.progress.Progress.{Progress}
 use Rattle.jl_progress.specs.declared.progress.Progress.TheVariants as progress
 use Rattle.jl_progress.specs.declared.string.StringProgress.{StringProgress}
+use Rattle.jl_progress.specs.declared.string.StringProgress.TheVariants as string
 use Rattle.jl_state.specs.Rank.{rank, rank_act, rank_algorithm, rank_key}
 use Rattle.jl_state.specs.Rank.{rank_statement, rank_test, rank_value, ranks, Falls}
 use Rattle.jl_state.specs.declared.act.Act.{Act}
@@ -62,25 +76,32 @@ object_waits (object.Descriptor id descriptors changes name names from) = omega 
 object_waits (object.Define id changes from) = omega arith
 object_waits p = omega arith
 
-function_waits : (p : FunctionProgress) → 0 < rank_progress (progress.Function p)
+function_waits : (p : FunctionProgress) → 0 < rank_function p
+function_waits (function.Length f this list) = omega arith
 function_waits p = omega arith
 
-array_waits : (p : ArrayProgress) → 0 < rank_progress (progress.Array p)
+array_waits : (p : ArrayProgress) → 0 < rank_array p
+array_waits (array.Join object) = omega arith
 array_waits p = omega arith
 
-array_call_waits : (p : ArrayCallProgress) → 0 < rank_progress (progress.ArrayCall p)
+array_call_waits : (p : ArrayCallProgress) → 0 < rank_array_call p
+array_call_waits (array_call.Turn walk task at) = omega arith
 array_call_waits p = omega arith
 
-string_waits : (p : StringProgress) → 0 < rank_progress (progress.String p)
+string_waits : (p : StringProgress) → 0 < rank_string p
+string_waits (string.Given by_new) = omega arith
 string_waits p = omega arith
 
-global_waits : (p : GlobalProgress) → 0 < rank_progress (progress.Global p)
+global_waits : (p : GlobalProgress) → 0 < rank_global p
+global_waits (global.Radix units) = omega arith
 global_waits p = omega arith
 
-number_waits : (p : NumberProgress) → 0 < rank_progress (progress.Number p)
+number_waits : (p : NumberProgress) → 0 < rank_number p
+number_waits (number.Given by_new) = omega arith
 number_waits p = omega arith
 
-error_waits : (p : ErrorProgress) → 0 < rank_progress (progress.Error p)
+error_waits : (p : ErrorProgress) → 0 < rank_error p
+error_waits (error.Name object) = omega arith
 error_waits p = omega arith
 
 progress_waits : (p : Progress) → 0 < rank_progress p
