@@ -1,21 +1,16 @@
 -- Builtins that begin with an argument.
-use Rattle.std.proofs.Common.{◌≡◌, ◌∙◌, ap, codes, false, negsuc, pos, refl, subst, sym, true, Bool, List, None, Option}
-use Rattle.std.proofs.Common.{Some, ℕ, ℤ}
-use Rattle.std.specs.Int.{is_in_range}
-use Rattle.std.specs.Prelude.{if◌then◌else◌, slice_index_or}
-use Rattle.jl_num.specs.Digits.{number_text}
+use Rattle.std.proofs.Common.{◌≡◌, ◌∙◌, ap, false, pos, refl, subst, true, List, ℕ}
+use Rattle.std.specs.Prelude.{slice_index_or}
 use Rattle.jl_num.specs.Number.{Number}
 use Rattle.jl_num.specs.Power.{power_of}
-use Rattle.jl_value.specs.declared.error_kind.ErrorKind.TheVariants.{RangeError}
 use Rattle.jl_value.specs.declared.value.Value.{Value}
 use Rattle.jl_value.specs.declared.value.Value.TheVariants as value
-use Rattle.jl_meaning.specs.Conversions.{integer_of, number_hint, string_hint, to_integer, to_number, to_primitive}
+use Rattle.jl_meaning.specs.Conversions.{number_hint, string_hint, to_integer, to_number, to_primitive}
 use Rattle.jl_meaning.specs.Conversions.{to_string}
-use Rattle.jl_meaning.specs.Errors.{throw_error}
 use Rattle.jl_meaning.specs.Operators.{give_number}
 use Rattle.jl_meaning.specs.Parts.{give, ◌>>=◌, Algorithm, Call}
 use Rattle.jl_meaning.specs.Relations.{give_truth}
-use Rattle.jl_meaning.specs.builtins.Arguments.{argument, give_string, unless_undefined}
+use Rattle.jl_meaning.specs.builtins.Arguments.{argument, unless_undefined}
 use Rattle.jl_meaning.specs.builtins.Global.{parse_int}
 use Rattle.jl_meaning.specs.builtins.Math.{math_pow, on_argument}
 use Rattle.jl_meaning.specs.builtins.Number.{string_in_radix}
@@ -31,7 +26,6 @@ use Rattle.jl_state.specs.Rest.{Works}
 use Rattle.jl_state.specs.declared.act.Act.{Act}
 use Rattle.jl_state.specs.declared.state.State.{State}
 use Rattle.jl_builtin.specs.Values.{is_undefined}
-use Rattle.jl_lib_misc.specs.inner.Numbers.{radix_of}
 use Rattle.jl_lib_misc.proofs.Conversions.{as_integer, as_number, as_string, missing, there}
 
 -- an argument by its index
@@ -92,27 +86,3 @@ module _ (s t : State) (a : Act) (n : Number) where
   radix_waits radix some leads =
       there s t a (pos 10) to_integer radix (string_in_radix n) some
       (as_integer s t a radix (progress_after (progress.Number (number.Radix n))) (string_in_radix n) (λ p. refl) leads)
-
-  -- the string in a radix, if it is one
-  abbrev string_if : Option ℕ → Algorithm Value
-  string_if None = throw_error RangeError (codes "bad radix")
-  string_if (Some r) = give_string (number_text n r)
-
-  chosen : (b : Bool) (r : ℕ) → string_if (if b then Some r else None)
-      ≡ (if b then give_string (number_text n r) else throw_error RangeError (codes "bad radix"))
-  chosen true r = refl
-  chosen false r = refl
-
-  string_is : (z : ℤ) → string_if (radix_of z) ≡ string_in_radix n z
-  string_is (negsuc r) = refl
-  string_is (pos r) = chosen (is_in_range 2 36 r) r
-
-  pub in_radix : (z : ℤ) (o : Option ℕ) (r : ℕ) → o ≡ radix_of z → o ≡ Some r
-      → Works s (give_string (number_text n r)) t a → Works s (string_in_radix n z) t a
-  in_radix z o r is some leads =
-      subst (λ q. Works s q t a) (ap string_if (sym some ∙ is) ∙ string_is z) leads
-
-  pub bad_radix : (z : ℤ) (o : Option ℕ) → o ≡ radix_of z → o ≡ None
-      → Works s (throw_error RangeError (codes "bad radix")) t a → Works s (string_in_radix n z) t a
-  bad_radix z o is none leads =
-      subst (λ q. Works s q t a) (ap string_if (sym none ∙ is) ∙ string_is z) leads

@@ -1,13 +1,12 @@
 -- Values that are converted before a builtin goes on.
-use Rattle.std.proofs.Common.{◌≡◌, false, refl, subst, true, List, ℕ, ℤ}
+use Rattle.std.proofs.Common.{◌≡◌, false, subst, true, List, ℕ, ℤ}
 use mathlib.Core.Path.{fun_ext}
-use Rattle.jl_num.specs.Bits.{uint32_of}
 use Rattle.jl_num.specs.Number.{Number}
 use Rattle.jl_value.specs.declared.value.Value.{Value}
 use Rattle.jl_value.specs.declared.value.Value.TheVariants as value
 use Rattle.jl_conv.specs.Conversions.{text_of_value}
 use Rattle.jl_meaning.specs.Conversions.{integer_of, number_hint, string_hint, to_integer, to_number, to_primitive}
-use Rattle.jl_meaning.specs.Conversions.{to_string, to_uint32}
+use Rattle.jl_meaning.specs.Conversions.{to_string}
 use Rattle.jl_meaning.specs.Parts.{give, ◌>>=◌, Algorithm}
 use Rattle.jl_meaning.specs.builtins.Arguments.{unless_undefined}
 use Rattle.jl_progress.specs.Primitives.{number_of_primitive}
@@ -43,14 +42,6 @@ module _ (s t : State) (a : Act) where
   as_integer v f k after leads =
       subst (λ q. Works s q t a) (chained (to_number v) (λ n. give (integer_of n)) k)
       (as_number v f (λ n. k (integer_of n)) after leads)
-
-  -- a value is to be an integer of 32 bits
-  pub as_uint32 : (v : Value) (f : Value → Algorithm Value) (k : ℕ → Algorithm Value)
-      → ((p : Value) → f p ≡ (number_of_primitive p >>= λ n. k (uint32_of n)))
-      → Works s (to_primitive number_hint v >>= f) t a → Works s (to_uint32 v >>= k) t a
-  as_uint32 v f k after leads =
-      subst (λ q. Works s q t a) (chained (to_number v) (λ n. give (uint32_of n)) k)
-      (as_number v f (λ n. k (uint32_of n)) after leads)
 
   -- a value that isn't undefined is converted
   pub there : {A : Type 0} (other : A) (convert : Value → Algorithm A) (v : Value) (k : A → Algorithm Value)

@@ -1,6 +1,5 @@
 -- Numbers and booleans, and the objects that stand for them.
-use Rattle.std.proofs.Common.{◌≡◌, ◌∷◌, ◌∙◌, [], drop, pos, refl, subst, sym, true, Bool, List, Some}
-use Rattle.jl_num.specs.Number.{Number}
+use Rattle.std.proofs.Common.{◌≡◌, ◌∷◌, ◌∙◌, drop, refl, subst, sym, true, Bool, List}
 use Rattle.jl_value.specs.declared.object.Class.{Class}
 use Rattle.jl_value.specs.declared.object.ObjId.{ObjId}
 use Rattle.jl_value.specs.declared.value.Value.{Value}
@@ -39,11 +38,6 @@ module _ (s : State) (c : Call) (args : List Value) (by_new : Bool) (t : State) 
   given l is leads =
       subst (λ k. Works s (number_given k >>= number_or_object c.by_new) t a) (sym is ∙ args_are)
       (subst (λ b. Works s (number_given l >>= number_or_object b) t a) new_is leads)
-
-  pub constructs_none : (n : Number) → drop 0 args ≡ [] → n ≡ Some (pos 0) → Works s (number_or_object by_new n) t a
-      → Works s (number_constructor c) t a
-  constructs_none n is zero_is leads =
-      given [] is (subst (λ m. Works s (number_or_object by_new m) t a) zero_is leads)
 
   pub constructs_with : (v : Value) (rest : List Value) → drop 0 args ≡ v ∷ rest
       → Works s (to_primitive number_hint v >>= progress_after (progress.Number (number.Given by_new))) t a

@@ -1,5 +1,5 @@
 -- What `this` stands for.
-use Rattle.std.proofs.Common.{◌≡◌, ◌∙◌, ap, codes, subst, sym, None, Option, Some}
+use Rattle.std.proofs.Common.{◌≡◌, ◌∙◌, ap, codes, sym, None, Option, Some}
 use Rattle.jl_value.specs.declared.error_kind.ErrorKind.TheVariants.{TypeError}
 use Rattle.jl_value.specs.declared.value.Value.{Value}
 use Rattle.jl_effects.specs.Effects.{Look}

@@ -1,5 +1,5 @@
 -- The rows of this crate.
-use Rattle.std.proofs.Common.{◌≡◌, ◌+◌, ◌-◌, ◌<◌, ◌≤◌, ap, arith, refl, subst, suc, sym, zero, List, None, ℕ}
+use Rattle.std.proofs.Common.{◌≡◌, ◌+◌, ◌-◌, ◌<◌, ◌≤◌, arith, refl, subst, suc, sym, zero, List, None, ℕ}
 use Rattle.jl_meaning.specs.Conversions.{to_number}
 use Rattle.jl_meaning.specs.Parts.{◌>>=◌, Algorithm, Call, Unsupported}
 use Rattle.jl_meaning.specs.Relations.{give_truth}
