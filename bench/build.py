@@ -4,8 +4,9 @@
 usage: bench/build.py
 
 They stand outside of the gate, since the proof of such a program takes minutes: it reads all libraries below. Their
-files end in `.rt.txt`, since the gate refuses a `.rt` file that no check of it reads. This makes a clone of the last commit with these programs as crates and without edits, runs `rt ci` there, and keeps what it built.
-Of the proofs it takes what an earlier run on this machine kept. The status is that of `rt ci`.
+files end in `.rt.txt`, since the gate refuses a `.rt` file that no check of it reads. This makes a clone of the last
+commit with these programs as crates and without edits, runs `rt ci` there, and keeps what it built. Of the proofs it
+takes what an earlier run on this machine kept. The status is that of `rt ci`.
 """
 import os
 import shutil
