@@ -1,0 +1,22 @@
+//! Laws over the definitions; each is the contract of a function that does nothing.
+ghost use Rattle.std.specs.Prelude.{◌≡◌, [], ℕ};
+ghost use Rattle.jl_text.specs.declared.span.Span.{Span};
+ghost use Rattle.jl_ast.specs.Tree.{Program};
+ghost use Rattle.jl_effects.specs.Keeping.{FailsAllowed};
+ghost use Rattle.jl_meaning.specs.Mean.{IsNoMisuse, mean};
+ghost use Rattle.jl_op.specs.Chosen.{Kinds};
+ghost use Rattle.jl_quiet.specs.QuietMean.{quiet_mean};
+ghost use Rattle.jl_scope.specs.EarlyErrors.{early_errors_of};
+
+/// No run of a script without early errors ends by the fault Misuse, with however many steps: none of its jumps leaves
+/// its function or the program (12.7 to 12.9), and it doesn't name the object with the hooks.
+pub fn accepted_never_misuses()
+    ensures { (chosen : Kinds) (p : Program Span) → early_errors_of p ≡ [] → (n : ℕ)
+        → FailsAllowed IsNoMisuse (mean chosen p n) }
+{}
+
+/// Nor does what is seen of it from its hooks.
+pub fn quietly_never_misuses()
+    ensures { (chosen : Kinds) (p : Program Span) → early_errors_of p ≡ [] → (n : ℕ)
+        → FailsAllowed IsNoMisuse (quiet_mean chosen p n) }
+{}
