@@ -33,7 +33,7 @@ def lay_out(clone):
         shutil.copytree(os.path.join(PROGRAMS, name), crate)
         os.makedirs(os.path.join(crate, 'src'))
         os.rename(os.path.join(crate, 'main.rt.txt'), os.path.join(crate, 'src', 'main.rt'))
-    with open(os.path.join(PROGRAMS, 'crates.txt'), encoding='utf-8') as added:
+    with open(os.path.join(PROGRAMS, 'uses.txt'), encoding='utf-8') as added:
         with open(os.path.join(clone, 'crates.txt'), 'a', encoding='utf-8') as lines:
             lines.write('\n' + added.read())
 
