@@ -1,10 +1,9 @@
 -- A script without early errors is sound.
-use Rattle.std.proofs.Common.{◌≡◌, ℕ, ◌+◌, []}
+use Rattle.std.proofs.Common.{◌≡◌, ℕ, ◌+◌, [], Bool, true, false}
 use Rattle.jl_text.specs.declared.span.Span.{Span}
 use Rattle.jl_ast.specs.Tree as tree
 use Rattle.jl_ast.specs.Tree.{Forest, OptionalTree, Sort, Text, Tree}
 use Rattle.jl_ast.specs.declared.ops.UnOp.TheVariants as un
-use Rattle.std.proofs.Common.{Bool, true, false}
 use Rattle.jl_scope.specs.EarlyErrors.{early_errors, for_in_early_errors, forest_early_errors}
 use Rattle.jl_scope.specs.EarlyErrors.{identifier_early_errors, optional_early_errors, read_early_errors}
 use Rattle.jl_scope.specs.EarlyErrors.{target_early_errors, written_early_errors}

@@ -1,6 +1,6 @@
 -- What a change keeps: an object that is there stays there, and the operation of a literal that has made it stays.
-use Rattle.std.proofs.Common.{◌≡◌, ◌∙◌, ℕ, zero, suc, ◌<◌, ◌≤◌, List, [], ◌∷◌, ◌++◌, length, Bool, true, false, Option}
-use Rattle.std.proofs.Common.{Some, None, refl, sym, ap, subst, arith, length-append, get_or, set}
+use Rattle.std.proofs.Common.{◌≡◌, ◌∙◌, ℕ, zero, suc, ◌<◌, ◌≤◌, List, [], ◌∷◌, length, Bool, true, false, Option}
+use Rattle.std.proofs.Common.{Some, None, refl, ap, arith, length-append}
 use Rattle.std.specs.Prelude.{if◌then◌else◌, slice_index_or, slice_set}
 use Rattle.std.proofs.lemmas.List.{get_or_append_left, length-set}
 use Rattle.std.proofs.Math.Seq.{get_or-append_seam}
@@ -14,9 +14,9 @@ use Rattle.jl_value.specs.Indices.{index_of}
 use Rattle.jl_heap.specs.Define.{counted, define_array_element, define_array_length, define_on, define_ordinary}
 use Rattle.jl_heap.specs.Define.{define_own_property, defined_at, defined_shorter, shortened_to, store_property}
 use Rattle.jl_heap.specs.Define.{is_array, length_name, with_length, with_new_property}
-use Rattle.jl_heap.specs.Headers.{unmap_argument, unmapped_inside, without_extensions}
+use Rattle.jl_heap.specs.Headers.{unmapped_inside}
 use Rattle.jl_heap.specs.NewObject.{proto_there, with_bare_object, with_new_object}
-use Rattle.jl_heap.specs.Objects.{absent_object, delete_property, deleted_if, object_at, own, own_or_unit, with_object}
+use Rattle.jl_heap.specs.Objects.{absent_object, deleted_if, object_at, own, own_or_unit, with_object}
 use Rattle.jl_heap.specs.Objects.{with_properties, Name, Object, Objects}
 use Rattle.jl_heap.specs.Property.{is_configurable, is_same, revised}
 use Rattle.jl_heap.specs.declared.inner.Inner.{Inner}
@@ -168,7 +168,9 @@ bare_stays : (h : Objects) (kind : Class) (proto : Option ObjId) (i : Inner)
     → Stays h (with_bare_object h kind proto i)
 bare_stays h kind proto i = record {
   no_fewer = let n = length-append h.objects (made_object h kind proto i ∷ []) in omega (arith, n);
-  same = λ id there. ap (λ o. made_by id o) (get_or_append_left h.objects (made_object h kind proto i ∷ []) absent_object id.0 there);
+  same = λ id there.
+      ap (λ o. made_by id o)
+      (get_or_append_left h.objects (made_object h kind proto i ∷ []) absent_object id.0 there);
 }
 
 new_stays : (h : Objects) (kind : Class) (proto : Option ObjId) (i : Inner)

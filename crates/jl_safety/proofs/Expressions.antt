@@ -1,5 +1,5 @@
 -- Sound expressions fail by no Misuse.
-use Rattle.std.proofs.Common.{◌≡◌, ℕ, zero, suc, ◌+◌, ◌++◌, List, [], ◌∷◌, Bool, true, false, Option, Some, None}
+use Rattle.std.proofs.Common.{◌≡◌, ℕ, ◌+◌, ◌++◌, List, [], ◌∷◌, Bool, true, false, Option, Some, None}
 use Rattle.std.proofs.Common.{refl, sym, subst}
 use Rattle.std.specs.Prelude.{if◌then◌else◌}
 use Rattle.jl_num.specs.Number.{Number}
@@ -20,7 +20,7 @@ use Rattle.jl_meaning.specs.Noting.{performs}
 use Rattle.jl_meaning.specs.Parts.{◌>>=◌, Answer, Context, Expr, Exprs, Part}
 use Rattle.jl_meaning.specs.forms.Calls.{call_member, call_value}
 use Rattle.jl_meaning.specs.forms.HookCalls.{count, form_named, form_of, form_of_member, no_hook, hooks, openers}
-use Rattle.jl_meaning.specs.forms.HookCalls.{shape_named, CalleeForm}
+use Rattle.jl_meaning.specs.forms.HookCalls.{shape_named}
 use Rattle.jl_meaning.specs.forms.Hooks.{call_by_form, call_of_call, Arguments}
 use Rattle.jl_meaning.specs.forms.Literals.{accessor_change, literal, put_element}
 use Rattle.jl_meaning.specs.forms.Names.{is_hooks}
@@ -31,7 +31,7 @@ use Rattle.jl_safety.proofs.Forms.{decide_safe, delete_safe, deletion_safe, entr
 use Rattle.jl_safety.proofs.Forms.{operate_safe, read_member_safe, read_safe, typeof_safe, update_expression_safe}
 use Rattle.jl_safety.proofs.Forms.{update_name_safe}
 use Rattle.jl_safety.proofs.Literals.{array_safe, function_safe, object_safe}
-use Rattle.jl_safety.proofs.Relation.{algorithm, bind, lift_then, look_safe, ok, perform_safe, pick_safe, step_safe, Safe}
+use Rattle.jl_safety.proofs.Relation.{algorithm, bind, lift_then, ok, perform_safe, pick_safe, step_safe, Safe}
 
 -- no member of a sound expression is a hook
 no_member : (o : Expr) (k : Name) → IsSound o → form_of_member o k ≡ no_hook
@@ -134,8 +134,8 @@ module _ (table : FunctionTable) where
         bind (evaluate_safe o h.0 c) (λ base. bind (evaluate_safe k h.1 c) (λ key.
         call_member_safe table at id base key y))
     callee_safe (tree.call f inner at) h l id c {p = p} x args y =
-        subst (λ form. Safe (call_of_call table c form inner (λ literals. evaluate_all table literals [] inner c) (count l)
-        (args 0) (call_value table id p (args 0)))) (sym (no_form f h.0)) (call_value_safe table id x y)
+        subst (λ form. Safe (call_of_call table c form inner (λ literals. evaluate_all table literals [] inner c)
+        (count l) (args 0) (call_value table id p (args 0)))) (sym (no_form f h.0)) (call_value_safe table id x y)
     callee_safe f h l id c x args y = call_value_safe table id x y
 
     deleted_safe : (e : Expr) → IsSound e → (id : ℕ) (c : Context) {p : Part (Answer Value)} → Safe p
@@ -155,7 +155,8 @@ module _ (table : FunctionTable) where
     assigned_safe (tree.to_dot a k at) h o id c y =
         bind (evaluate_safe a h c) (λ base. assign_member_safe id c base (value.Text k) o y)
     assigned_safe (tree.to_index a k at) h o id c y =
-        bind (evaluate_safe a h.0 c) (λ base. bind (evaluate_safe k h.1 c) (λ key. assign_member_safe id c base key o y))
+        bind (evaluate_safe a h.0 c) (λ base. bind (evaluate_safe k h.1 c) (λ key.
+        assign_member_safe id c base key o y))
 
     updated_safe : (t : Tree ℕ tree.target) → IsSound t → (up prefix : Bool) (id : ℕ) (c : Context)
         → Safe (evaluate_update table t up prefix id c)

@@ -1,7 +1,6 @@
 -- Forms of expressions fail by no Misuse, where no name is that of the hooks.
-use Rattle.std.proofs.Common.{◌≡◌, ℕ, ◌+◌, List, [], Bool, true, false, Option, Some, None}
+use Rattle.std.proofs.Common.{◌≡◌, ℕ, ◌+◌, List, Bool, true, false, Option, Some, None}
 use Rattle.std.specs.Prelude.{if◌then◌else◌}
-use Rattle.jl_num.specs.Number.{Number}
 use Rattle.jl_ast.specs.declared.ops.BinOp.{BinOp}
 use Rattle.jl_value.specs.declared.ending.Fault.TheVariants.{Misuse}
 use Rattle.jl_value.specs.declared.value.Value.{Value}

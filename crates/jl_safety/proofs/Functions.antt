@@ -1,5 +1,5 @@
 -- Calls of sound functions fail by no Misuse: no body completes with a Break or a Continue.
-use Rattle.std.proofs.Common.{◌≡◌, ℕ, Bool, true, false, List, [], ◌∷◌, slice_get, zero, suc, Option, Some, None}
+use Rattle.std.proofs.Common.{ℕ, Bool, true, Some, None}
 use Rattle.std.specs.Prelude.{if◌then◌else◌}
 use Rattle.jl_ast.specs.Tree as tree
 use Rattle.jl_value.specs.declared.ending.Completion.{Completion}
@@ -9,12 +9,13 @@ use Rattle.jl_value.specs.declared.value.Value.TheVariants as value
 use Rattle.jl_conv.specs.Conversions.{is_object}
 use Rattle.jl_meaning.specs.FunctionObjects.{FunctionTable, ScriptFunction}
 use Rattle.jl_meaning.specs.Parts.{Call, Code, Context, Func}
-use Rattle.jl_meaning.specs.forms.Functions.{begin_script, call_script, construct_script, enter_function}
+use Rattle.jl_meaning.specs.forms.Functions.{begin_script, call_script, enter_function}
 use Rattle.jl_meaning.specs.forms.Functions.{leave_function, new_instance, result_of, run_body, run_function}
 use Rattle.jl_meaning.specs.forms.Functions.{this_within}
 use Rattle.jl_safety.specs.inner.Jumps.{nothing_around, CodeFits, MayComplete}
 use Rattle.jl_safety.specs.inner.Sound.{IsSound}
-use Rattle.jl_safety.proofs.Relation.{answer_then, bind, lift_then, ok, perform_safe, pick_safe, thrown, Completes, Safe}
+use Rattle.jl_safety.proofs.Relation.{answer_then, bind, lift_then, ok, perform_safe, pick_safe, thrown, Completes}
+use Rattle.jl_safety.proofs.Relation.{Safe}
 use Rattle.jl_safety.proofs.Statements.{execute_all_safe}
 
 -- what a body gives that nothing stands round

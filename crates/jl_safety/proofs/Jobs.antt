@@ -1,16 +1,13 @@
 -- The jobs of a sound script fail by no Misuse.
-use Rattle.std.proofs.Common.{ℕ, zero, suc, List, [], ◌∷◌, slice_get}
+use Rattle.std.proofs.Common.{ℕ, zero, suc, [], ◌∷◌, ◌++◌, slice_get}
 use Rattle.jl_value.specs.declared.value.Value.TheVariants as value
 use Rattle.jl_heap.specs.Objects.{object_at, Objects}
 use Rattle.jl_heap.specs.declared.inner.Inner.{Inner}
 use Rattle.jl_heap.specs.declared.inner.Inner.TheVariants as inner
-use Rattle.std.specs.Prelude.{◌++◌}
+use Rattle.jl_effects.specs.Effects.{End}
 use Rattle.jl_meaning.specs.FunctionObjects.{has_construct, FunctionTable}
 use Rattle.jl_meaning.specs.Jobs.{begin_known, call_bound, call_inside, job}
-use Rattle.jl_meaning.specs.Parts.{gives, throws, Answer, Call}
-use Rattle.jl_value.specs.declared.value.Value.{Value}
-use Rattle.jl_effects.specs.Effects.{End}
-use Rattle.jl_meaning.specs.Parts.{completion_of}
+use Rattle.jl_meaning.specs.Parts.{completion_of, Call}
 use Rattle.jl_meaning.specs.Store.{Store}
 use Rattle.jl_meaning.specs.builtins.Function.{names_of}
 use Rattle.jl_meaning.specs.builtins.Table.{builtin}
@@ -33,7 +30,8 @@ module _ (table : FunctionTable) where
     inside_safe heap call (inner.Script number env) = known_safe table all number env call
     inside_safe heap call (inner.Native row) = algorithm (builtin (names_of table) row call)
     inside_safe heap call (inner.Bound target this args) =
-        algorithm (call_bound (has_construct (object_at heap target.0).inner) target this (args ++ call.args) call.by_new)
+        algorithm (call_bound (has_construct (object_at heap target.0).inner) target this (args ++ call.args)
+        call.by_new)
     inside_safe heap call _ = ok value.Undefined
 
     called : (s : Store) (call : Call)

@@ -12,3 +12,4 @@ mod Turns
 mod Functions
 mod Jobs
 mod Programs
+mod Woven

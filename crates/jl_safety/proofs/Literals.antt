@@ -1,5 +1,5 @@
 -- Literals of arrays, objects and functions: what a literal has made is still of its kind when the literal is done.
-use Rattle.std.proofs.Common.{◌≡◌, ℕ, length, Bool, Option, Some, None, refl, sym, ap, ◌∙◌, subst}
+use Rattle.std.proofs.Common.{◌≡◌, ℕ, length, Bool, Option, Some, None, refl, sym, ap, subst}
 use Rattle.std.specs.Prelude.{codes, false, true, if◌then◌else◌}
 use Rattle.jl_value.specs.declared.object.Class.TheVariants as class
 use Rattle.jl_value.specs.declared.object.ObjId.{ObjId}
@@ -11,7 +11,7 @@ use Rattle.jl_heap.specs.declared.inner.Inner.TheVariants as inner
 use Rattle.jl_heap.specs.declared.property.Prop.TheVariants.{Plain}
 use Rattle.jl_op.specs.declared.op.Op.{Op}
 use Rattle.jl_op.specs.declared.op.Op.TheVariants as op
-use Rattle.jl_effects.specs.Effects.{and_then, Step}
+use Rattle.jl_effects.specs.Effects.{Step}
 use Rattle.jl_effects.proofs.Chains.{row-and_then}
 use Rattle.jl_meaning.specs.Changes.{apply, NewBinding, NewEnvironment, NewObject, StoreChange}
 use Rattle.jl_meaning.specs.Defining.{define_own_property, value_change}
@@ -19,7 +19,8 @@ use Rattle.jl_meaning.specs.FunctionObjects.{add_poison, create_function, functi
 use Rattle.jl_meaning.specs.FunctionObjects.{make_function, make_function_expression, make_named, whole}
 use Rattle.jl_meaning.specs.Intrinsics.{array_prototype, function_prototype, object_prototype}
 use Rattle.jl_meaning.specs.Noting.{note_or_misuse, performs}
-use Rattle.jl_meaning.specs.Parts.{add_property, change_store, fault_of, give, given, gives, lift, new_object, throws, ◌>>=◌}
+use Rattle.jl_meaning.specs.Parts.{add_property, change_store, fault_of, give, given, gives, lift, new_object, throws}
+use Rattle.jl_meaning.specs.Parts.{◌>>=◌}
 use Rattle.jl_meaning.specs.Parts.{Algorithm, Answer, CallOf, Func, Part}
 use Rattle.jl_meaning.specs.Store.{next_environment, next_object, Store}
 use Rattle.jl_meaning.specs.forms.Literals.{end_array, literal_of, literal_op, new_array, new_plain_object, of_array}
@@ -37,7 +38,8 @@ literal_done form id v made s t e kept =
 
 -- OBJECTS
 pub object_safe : (id : ℕ) (f : ObjId → Part (Answer (Unit {0}))) → ((o : ObjId) → Safe (f o))
-    → Safe (Step (lift new_plain_object >>= (λ object. f object >>= (λ done. literal_of of_object id (value.Obj object)))))
+    → Safe (Step (lift new_plain_object >>= (λ object. f object >>= (λ done.
+    literal_of of_object id (value.Obj object)))))
 object_safe id f x = record { at = λ s.
     let o : ObjId = next_object s in
     let c = NewObject class.Object (Some object_prototype) inner.Nothing in
@@ -60,8 +62,8 @@ array_done : (id n : ℕ) (array : ObjId) (s t : Store) → Keeps s t → IsMade
     → From t (λ r u. Keeps s u) (end_array id array n)
 unfolding end_array
 array_done id n array s t new m =
-    from_then t (λ r u. Keeps t u) (λ r u. Keeps s u) (lift define) (given (λ done. literal_of of_array id (value.Obj array)))
-    (lift_from define t) on
+    from_then t (λ r u. Keeps t u) (λ r u. Keeps s u) (lift define)
+    (given (λ done. literal_of of_array id (value.Obj array))) (lift_from define t) on
   where
     define : Algorithm Bool
     define = define_own_property array length_name (value_change (whole n))

@@ -1,5 +1,5 @@
 -- Loops and jumps: where the body of a loop has gone, and what is left of a completion outside of what takes it.
-use Rattle.std.proofs.Common.{◌≡◌, ◌∙◌, ℕ, List, [], ◌∷◌, ◌++◌, Bool, true, false, ◌||◌, Option, Some, None, refl, sym}
+use Rattle.std.proofs.Common.{◌≡◌, ◌∙◌, ℕ, List, [], ◌∷◌, ◌++◌, Bool, true, false, ◌||◌, Some, None, refl, sym}
 use Rattle.std.specs.Prelude.{if◌then◌else◌}
 use Rattle.std.specs.Str.{bytes_eq}
 use Rattle.std.proofs.lemmas.List.Folds.{list_any-append}
@@ -12,9 +12,8 @@ use Rattle.jl_value.specs.declared.value.Value.{Value}
 use Rattle.jl_heap.specs.Objects.{Name}
 use Rattle.jl_effects.specs.Effects.{End}
 use Rattle.jl_meaning.specs.Changes.{apply, NewBinding, NewEnvironment}
-use Rattle.jl_meaning.specs.Completions.{normal}
 use Rattle.jl_meaning.specs.Conversions.{to_object}
-use Rattle.jl_meaning.specs.Parts.{for_in_loop, lift, Answer, Context, Loop, Part, Stmts, Visit}
+use Rattle.jl_meaning.specs.Parts.{for_in_loop, Context, Loop, Part, Stmts, Visit}
 use Rattle.jl_meaning.specs.Relations.{is_nothing}
 use Rattle.jl_meaning.specs.Store.{next_environment}
 use Rattle.jl_meaning.specs.forms.Jumps.{after_labelled, return_value, throw_value}
@@ -25,7 +24,7 @@ use Rattle.jl_meaning.specs.forms.Switch.{after_switch}
 use Rattle.jl_meaning.specs.forms.Try.{begin_catch, unless_abrupt}
 use Rattle.jl_safety.specs.inner.Jumps.{in_a_loop, in_a_switch, under_label, AllJumpsFit, Around, MayComplete}
 use Rattle.jl_safety.specs.inner.Sound.{AreSound}
-use Rattle.jl_safety.proofs.Changes.{keeps_change, keeps_same, keeps_then}
+use Rattle.jl_safety.proofs.Changes.{keeps_change, keeps_then}
 use Rattle.jl_safety.proofs.Relation.{algorithm, completed, look_completes, normally, perform_completes, pick_completes}
 use Rattle.jl_safety.proofs.Relation.{sound_turn, value_then, Completes, LoopIsSound, Safe}
 

@@ -1,5 +1,5 @@
 -- No run of a script without early errors ends by the fault Misuse.
-use Rattle.std.proofs.Common.{◌≡◌, ℕ, [], true, false, Some, None, subst}
+use Rattle.std.proofs.Common.{◌≡◌, ℕ, [], false, Some, None, subst}
 use Rattle.jl_text.specs.declared.span.Span.{Span}
 use Rattle.jl_ast.specs.Tree.{Program}
 use Rattle.jl_scope.specs.EarlyErrors.{early_errors_of}
@@ -8,19 +8,17 @@ use Rattle.jl_scope.specs.Scope.{in_program}
 use Rattle.jl_value.specs.declared.ending.Completion.{Completion}
 use Rattle.jl_value.specs.declared.ending.Completion.TheVariants as completion
 use Rattle.jl_op.specs.Chosen.{is_kept, Kinds}
-use Rattle.jl_op.specs.Ids.{program_with_ids, with_ids}
-use Rattle.jl_op.specs.Operations.{Operation}
+use Rattle.jl_op.specs.Ids.{program_with_ids}
 use Rattle.jl_effects.specs.Keeping.{FailsAllowed}
-use Rattle.jl_effects.specs.Running.{keeping, nothing_done, Ends, Fails, Outcome, Over, Recorded, Spent}
+use Rattle.jl_effects.specs.Running.{keeping, nothing_done, Ends, Fails, Over, Spent}
 use Rattle.jl_effects.specs.Traces.{with_state, without_operations}
 use Rattle.jl_effects.proofs.Steady.{steady_run}
 use Rattle.jl_meaning.specs.DeclarationBinding.{declare_program}
-use Rattle.jl_meaning.specs.FunctionTable.{function_table, functions_in}
+use Rattle.jl_meaning.specs.FunctionTable.{function_table}
 use Rattle.jl_meaning.specs.Jobs.{job}
-use Rattle.jl_meaning.specs.Mean.{end_of, global_context, language, mean, run_of, run_program, script, IsNoMisuse, Run}
-use Rattle.jl_meaning.specs.Parts.{Code}
+use Rattle.jl_meaning.specs.Mean.{end_of, global_context, language, mean, run_of, script, IsNoMisuse, Run}
 use Rattle.jl_meaning.specs.Realm.{realm}
-use Rattle.jl_quiet.specs.QuietMean.{quiet_mean, QuietMeans}
+use Rattle.jl_quiet.specs.QuietMean.{quiet_mean}
 use Rattle.jl_quiet.proofs.Programs.{quiet_means}
 use Rattle.jl_safety.specs.inner.Jumps.{nothing_around, CodeFits, MayComplete}
 use Rattle.jl_safety.specs.inner.Sound.{IsSound}
@@ -48,7 +46,8 @@ program_safe : (p : Program ℕ) → IsSound p.body → CodeFits false p.body
 program_safe p h j =
     value_then (algorithm (declare_program p.body (global_context p))) (λ done.
     perform_completes (completion_then
-    (sequence (code_safe (function_table p) false p.body h j (global_context p)) (perform_completes normally)) end_safe))
+    (sequence (code_safe (function_table p) false p.body h j (global_context p)) (perform_completes normally))
+    end_safe))
 
 table_sound : (p : Program ℕ) → IsSound p.body → AllSound (function_table p)
 unfolding function_table
@@ -79,8 +78,7 @@ same_fault (Over (Ends a) left w) h = tt
 same_fault (Over (Fails f) left w) h = h
 same_fault (Spent w) h = tt
 
-pub quietly_never_misuses : (chosen : Kinds) (p : Program Span) → early_errors_of p ≡ [] → (n : ℕ)
+pub also_quietly : {S : Type 0} (chosen : Kinds) (p : Program S) (n : ℕ) → FailsAllowed IsNoMisuse (mean chosen p n)
     → FailsAllowed IsNoMisuse (quiet_mean chosen p n)
-quietly_never_misuses chosen p e n =
-    subst (FailsAllowed IsNoMisuse) (quiet_means chosen p n)
-    (same_fault (mean chosen p n) (accepted_never_misuses chosen p e n))
+also_quietly chosen p n h =
+    subst (FailsAllowed IsNoMisuse) (quiet_means chosen p n) (same_fault (mean chosen p n) h)

@@ -1,21 +1,23 @@
--- Parts of a sound script: none fails by Misuse, and statements complete only as what stands round them allows. How such
--- parts are put together.
-use Rattle.std.proofs.Common.{◌≡◌, ℕ, List, Bool, true, false, refl, sym, subst}
+-- Parts of a sound script: none fails by Misuse, and statements complete only as what stands round them allows. How
+-- such parts are put together.
+use Rattle.std.proofs.Common.{◌≡◌, List, Bool, true, false, refl}
 use Rattle.std.specs.Prelude.{if◌then◌else◌}
 use Rattle.jl_ast.specs.Tree.{Text}
 use Rattle.jl_value.specs.declared.ending.Completion.{Completion}
 use Rattle.jl_value.specs.declared.ending.Completion.TheVariants as completion
 use Rattle.jl_value.specs.declared.value.Value.{Value}
 use Rattle.jl_op.specs.Operations.{Operation}
-use Rattle.jl_effects.specs.Effects.{and_then, Begin, End, Fail, Look, Perform, Step}
+use Rattle.jl_effects.specs.Effects.{and_then, End, Look, Perform, Step}
 use Rattle.jl_effects.specs.inner.Steady.{IsSteady}
 use Rattle.jl_effects.proofs.Steady.{row_steady, steady_then, steady_weaken}
 use Rattle.jl_meaning.specs.Changes.{apply}
 use Rattle.jl_meaning.specs.Completions.{ends_as, if_normal, normal, on_given, then_do}
 use Rattle.jl_meaning.specs.Mean.{IsNoMisuse}
 use Rattle.jl_meaning.specs.Parts.{answer_of, begin_call, do_loop, fault_of, for_in_loop, for_loop, give, given, gives}
-use Rattle.jl_meaning.specs.Parts.{lift, throw, throws, while_loop, ◌>>=◌, Algorithm, AlgorithmFault, Answer, Call, CallOf}
-use Rattle.jl_meaning.specs.Parts.{CodeFromText, Job, Loop, NumberOutside, Part, StringTooLong, Turn, TurnOf, Unsupported}
+use Rattle.jl_meaning.specs.Parts.{lift, throw, throws, while_loop, ◌>>=◌, Algorithm, AlgorithmFault, Answer, Call}
+use Rattle.jl_meaning.specs.Parts.{CallOf}
+use Rattle.jl_meaning.specs.Parts.{CodeFromText, Job, Loop, NumberOutside, Part, StringTooLong, Turn, TurnOf}
+use Rattle.jl_meaning.specs.Parts.{Unsupported}
 use Rattle.jl_meaning.specs.Store.{Store}
 use Rattle.jl_meaning.specs.forms.Names.{is_hooks}
 use Rattle.jl_safety.specs.inner.Jumps.{in_a_loop, AllJumpsFit, Around, MayComplete}

@@ -1,6 +1,6 @@
 -- In a script without early errors each jump has where to go.
 use Rattle.std.proofs.Common.{◌≡◌, ℕ, ◌+◌, List, [], ◌∷◌, ◌++◌, Bool, true, false, not, ◌&&◌, ◌||◌, Option, Some, None}
-use Rattle.std.proofs.Common.{refl, sym, ◌∙◌, subst}
+use Rattle.std.proofs.Common.{refl, ◌∙◌}
 use Rattle.std.specs.Prelude.{if◌then◌else◌}
 use Rattle.std.proofs.lemmas.List.Folds.{list_any-append}
 use Rattle.jl_text.specs.declared.span.Span.{Span}
@@ -8,12 +8,11 @@ use Rattle.jl_ast.specs.Tree as tree
 use Rattle.jl_ast.specs.Tree.{Forest, Ident, OptionalTree, Text, Tree}
 use Rattle.jl_scope.specs.EarlyErrors.{break_early_errors, broken_if, continue_early_errors, early_errors}
 use Rattle.jl_scope.specs.EarlyErrors.{forest_early_errors, optional_early_errors, return_early_errors}
-use Rattle.jl_scope.specs.Kinds.{early}
 use Rattle.jl_scope.specs.Names.{among, same_text}
 use Rattle.jl_scope.specs.Scope as around
 use Rattle.jl_scope.specs.Scope.{has_label, has_loop_label, in_catch, in_function_of, in_program, is_loop, Scope}
 use Rattle.jl_scope.specs.declared.rules.EarlyRule.{EarlyRule}
-use Rattle.jl_op.specs.Ids.{forest_with_ids, handler_with_ids, ident_with_id, optional_with_ids, with_ids}
+use Rattle.jl_op.specs.Ids.{forest_with_ids, handler_with_ids, optional_with_ids, with_ids}
 use Rattle.jl_safety.specs.inner.Jumps.{in_a_loop, in_a_switch, nothing_around, under_label, AllJumpsFit, Around}
 use Rattle.jl_safety.specs.inner.Jumps.{BranchFits, ClausesFit, CodeFits, HandlerFits, JumpsFit}
 
@@ -119,7 +118,8 @@ labelled {of_loop = of_loop} {own = own} {s = s} {a = a} x g = record {
   breaks = g.breaks;
   labels = λ y e. also (same_text y x) (has_label y s.labels) (among y a.labels) (g.labels y) e;
   loops = λ y e.
-      labelled_loop of_loop (same_text y x) (among y own) (has_loop_label y s.labels) (among y a.loop_labels) (g.loops y) e;
+      labelled_loop of_loop (same_text y x) (among y own) (has_loop_label y s.labels) (among y a.loop_labels)
+      (g.loops y) e;
 }
 
 in_function : (s : Scope) (x : Option (Ident Span)) (params : List (Ident Span)) (b : Tree Span tree.code)
@@ -142,16 +142,16 @@ in_global_code b = record {
 }
 
 -- JUMPS
-continue_fits : (s : Scope) (a : Around) (own : List Text) → Agrees false own s a → (x : Option (Ident Span)) (at : Span)
-    → continue_early_errors s x at ≡ [] → (n : ℕ) → JumpsFit a own (with_ids n (tree.continue x at))
+continue_fits : (s : Scope) (a : Around) (own : List Text) → Agrees false own s a → (x : Option (Ident Span))
+    (at : Span) → continue_early_errors s x at ≡ [] → (n : ℕ) → JumpsFit a own (with_ids n (tree.continue x at))
 unfolding continue_early_errors
 continue_fits s a own g None at e n = g.continues (is_met s.in_loop _ at e)
 continue_fits s a own g (Some x) at e n =
     no_other (among x.text own) (among x.text a.loop_labels)
     (g.loops x.text (is_met (has_loop_label x.text s.labels) _ at (none _ _ e).0))
 
-break_fits : {of_loop : Bool} (s : Scope) (a : Around) (own : List Text) → Agrees of_loop own s a → (x : Option (Ident Span))
-    (at : Span) → break_early_errors s x at ≡ [] → (n : ℕ) → JumpsFit a own (with_ids n (tree.break x at))
+break_fits : {of_loop : Bool} (s : Scope) (a : Around) (own : List Text) → Agrees of_loop own s a
+    → (x : Option (Ident Span)) (at : Span) → break_early_errors s x at ≡ [] → (n : ℕ) → JumpsFit a own (with_ids n (tree.break x at))
 unfolding break_early_errors
 break_fits s a own g None at e n = g.breaks (is_met s.can_break _ at e)
 break_fits s a own g (Some x) at e n = g.labels x.text (is_met (has_label x.text s.labels) _ at (none _ _ e).0)

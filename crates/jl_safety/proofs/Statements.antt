@@ -1,5 +1,5 @@
 -- Sound statements whose jumps fit complete only as what stands round them allows, and fail by no Misuse.
-use Rattle.std.proofs.Common.{◌≡◌, ℕ, ◌+◌, List, [], ◌∷◌, Bool, Option, Some, None, zero, suc}
+use Rattle.std.proofs.Common.{ℕ, ◌+◌, List, [], ◌∷◌, Option, Some, None, zero, suc}
 use Rattle.std.specs.Option.{option_or}
 use Rattle.jl_ast.specs.Tree as tree
 use Rattle.jl_ast.specs.Tree.{Forest, OptionalTree, Text, Tree}
@@ -84,7 +84,8 @@ module _ (table : FunctionTable) where
     execute_safe (tree.switch e l id) a own h j c =
         step_completes (value_then (evaluate_safe table e h.0 c) (λ v.
         value_then (select_safe 0 l h.1 v c) (λ selected.
-        ending after_switch (from_safe (option_or selected (default_of l)) l (in_a_switch a) h.1 j c) (switch_takes a))))
+        ending after_switch (from_safe (option_or selected (default_of l)) l (in_a_switch a) h.1 j c)
+        (switch_takes a))))
     execute_safe (tree.try l b f id) a own h j c =
         step_completes (completion_then (execute_all_safe l a h.0 j.0 c) (λ tried t.
         completion_then (handle_safe b a h.1 j.1 tried t c) (λ handled e.

@@ -1,5 +1,5 @@
 -- The functions of a sound tree are sound.
-use Rattle.std.proofs.Common.{ℕ, List, [], ◌∷◌, ◌++◌, Bool}
+use Rattle.std.proofs.Common.{ℕ, [], ◌∷◌, ◌++◌, Bool}
 use Rattle.jl_ast.specs.Tree as tree
 use Rattle.jl_ast.specs.Tree.{Forest, OptionalTree, Sort, Tree}
 use Rattle.jl_scope.specs.Hoisting.{strict_in}
@@ -26,7 +26,8 @@ mutual
   functions_sound strict (tree.new f l id) h = both _ _ (functions_sound strict f h.0) (forests strict l h.1)
   functions_sound strict (tree.unary o e id) h = functions_sound strict e h
   functions_sound strict (tree.update up prefix t id) h = functions_sound strict t h
-  functions_sound strict (tree.binary o a b id) h = both _ _ (functions_sound strict a h.0) (functions_sound strict b h.1)
+  functions_sound strict (tree.binary o a b id) h =
+      both _ _ (functions_sound strict a h.0) (functions_sound strict b h.1)
   functions_sound strict (tree.and a b id) h = both _ _ (functions_sound strict a h.0) (functions_sound strict b h.1)
   functions_sound strict (tree.or a b id) h = both _ _ (functions_sound strict a h.0) (functions_sound strict b h.1)
   functions_sound strict (tree.conditional a b c id) h =

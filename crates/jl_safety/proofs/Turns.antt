@@ -1,5 +1,5 @@
 -- Turns of sound loops fail by no Misuse, and complete only as what stands round the loop allows.
-use Rattle.std.proofs.Common.{◌≡◌, ℕ, List, true}
+use Rattle.std.proofs.Common.{ℕ, List, true}
 use Rattle.jl_ast.specs.Tree as tree
 use Rattle.jl_ast.specs.Tree.{OptionalTree, Text}
 use Rattle.jl_value.specs.declared.value.Value.TheVariants as value

@@ -1,6 +1,6 @@
--- Where statements may jump to: what stands round a statement, how it may complete there (8.9), and that each jump in it
--- has where to go.
-use Rattle.std.specs.Prelude.{[], false, true, ◌++◌, ◌∷◌, ◌≡◌, Bool, List, None, Option, Some, ℕ}
+-- Where statements may jump to: what stands round a statement, how it may complete there (8.9), and that each jump in
+-- it has where to go.
+use Rattle.std.specs.Prelude.{[], false, true, ◌++◌, ◌∷◌, ◌≡◌, Bool, List, None, Some, ℕ}
 use Rattle.jl_ast.specs.Tree.{Forest, OptionalTree, Text}
 use Rattle.jl_ast.specs.Tree as tree
 use Rattle.jl_scope.specs.Names.{among}
