@@ -40,13 +40,14 @@ literal_done form id v made s t e kept =
 pub object_safe : (id : ℕ) (f : ObjId → Part (Answer (Unit {0}))) → ((o : ObjId) → Safe (f o))
     → Safe (Step (lift new_plain_object >>= (λ object. f object >>= (λ done.
     literal_of of_object id (value.Obj object)))))
-object_safe id f x = record { at = λ s.
-    let o : ObjId = next_object s in
-    let c = NewObject class.Object (Some object_prototype) inner.Nothing in
-    from_then (apply c s) (λ r t. Keeps (apply c s) t) (λ r t. Keeps s t) (f o)
-    (given (λ done. literal_of of_object id (value.Obj o))) ((x o).at (apply c s))
-    (λ r t kept. on s o (apply c s) (keeps_change c s)
-    (new_made s.heap class.Object (Some object_prototype) inner.Nothing (op.ObjectLiteral o) refl) r t kept);
+object_safe id f x = record {
+  at = λ s.
+      let o : ObjId = next_object s in
+      let c = NewObject class.Object (Some object_prototype) inner.Nothing in
+      from_then (apply c s) (λ r t. Keeps (apply c s) t) (λ r t. Keeps s t) (f o)
+      (given (λ done. literal_of of_object id (value.Obj o))) ((x o).at (apply c s))
+      (λ r t kept. on s o (apply c s) (keeps_change c s)
+      (new_made s.heap class.Object (Some object_prototype) inner.Nothing (op.ObjectLiteral o) refl) r t kept);
 }
   where
     on : (s : Store) (o : ObjId) (made : Store) → Keeps s made → IsMade o (op.ObjectLiteral o) made.heap
@@ -67,6 +68,7 @@ array_done id n array s t new m =
   where
     define : Algorithm Bool
     define = define_own_property array length_name (value_change (whole n))
+
     on : (r : Answer Bool) (u : Store) → Keeps t u
         → From u (λ r u. Keeps s u) (given (λ done. literal_of of_array id (value.Obj array)) r)
     on (gives a) u kept =
@@ -76,13 +78,14 @@ array_done id n array s t new m =
 
 pub array_safe : (id : ℕ) (f : ObjId → Part (Answer ℕ)) → ((o : ObjId) → Safe (f o))
     → Safe (Step (lift new_array >>= (λ array. f array >>= (λ n. end_array id array n))))
-array_safe id f x = record { at = λ s.
-    let o : ObjId = next_object s in
-    let c = NewObject class.Array (Some array_prototype) inner.Nothing in
-    from_then (apply c s) (λ r t. Keeps (apply c s) t) (λ r t. Keeps s t) (f o)
-    (given (λ n. end_array id o n)) ((x o).at (apply c s))
-    (λ r t kept. on s o (apply c s) (keeps_change c s)
-    (new_made s.heap class.Array (Some array_prototype) inner.Nothing (op.ArrayLiteral o) refl) r t kept);
+array_safe id f x = record {
+  at = λ s.
+      let o : ObjId = next_object s in
+      let c = NewObject class.Array (Some array_prototype) inner.Nothing in
+      from_then (apply c s) (λ r t. Keeps (apply c s) t) (λ r t. Keeps s t) (f o)
+      (given (λ n. end_array id o n)) ((x o).at (apply c s))
+      (λ r t kept. on s o (apply c s) (keeps_change c s)
+      (new_made s.heap class.Array (Some array_prototype) inner.Nothing (op.ArrayLiteral o) refl) r t kept);
 }
   where
     on : (s : Store) (o : ObjId) (made : Store) → Keeps s made → IsMade o (op.ArrayLiteral o) made.heap
@@ -117,17 +120,20 @@ created strict number params env s =
   where
     f : ObjId
     f = next_object s
+
     c : StoreChange
     c = NewObject class.Function (Some function_prototype) (inner.Script number env)
+
     t : Store
     t = apply c s
+
     on : (r : Answer (Unit {0})) (u : Store) → Keeps t u
         → From u (λ r w. FunctionIsMade s r w) (lift (given (λ done. give f) r))
     on (gives a) u kept = (
       keeps_then s t u (keeps_change c s) kept,
       number,
       still_made (new_made s.heap class.Function (Some function_prototype) (inner.Script number env)
-      (op.FunctionLiteral f number) refl) kept.heap,
+          (op.FunctionLiteral f number) refl) kept.heap,
     )
     on (throws v) u kept = keeps_then s t u (keeps_change c s) kept
 
@@ -144,17 +150,21 @@ named outer env f (Some x) s =
   where
     t : Store
     t = apply (NewEnvironment env) s
+
     make : Algorithm ObjId
     make = make_function outer (next_environment s) f
+
     bound : ObjId → StoreChange
     bound id = NewBinding (next_environment s) (record { name = x; value = value.Obj id; mutable = false })
+
     bind_name : ObjId → Algorithm ObjId
     bind_name id = change_store (bound id) >>= (λ done. give id)
+
     on : (r : Answer ObjId) (u : Store) → FunctionIsMade t r u
         → From u (λ r w. FunctionIsMade s r w) (lift (given bind_name r))
     on (gives id) u h = (
       keeps_then s t (apply (bound id) u) (keeps_change (NewEnvironment env) s)
-      (keeps_then t u (apply (bound id) u) h.0 (keeps_change (bound id) u)),
+          (keeps_then t u (apply (bound id) u) h.0 (keeps_change (bound id) u)),
       h.1,
       still_made h.2 (keeps_change (bound id) u).heap,
     )
@@ -163,10 +173,11 @@ named outer env f (Some x) s =
 pub function_safe : (id : ℕ) (outer : Bool) (env : ℕ) (f : Func)
     → Safe (lift (make_function_expression outer env f) >>= (λ object. literal_of of_function id (value.Obj object)))
 unfolding make_function_expression
-function_safe id outer env f = record { at = λ s.
-    from_then s (λ r t. FunctionIsMade s r t) (λ r t. Keeps s t) (lift (make_named outer env f (function_name f)))
-    (given (λ object. literal_of of_function id (value.Obj object))) (named outer env f (function_name f) s)
-    (λ r t h. on s r t h);
+function_safe id outer env f = record {
+  at = λ s.
+      from_then s (λ r t. FunctionIsMade s r t) (λ r t. Keeps s t) (lift (make_named outer env f (function_name f)))
+      (given (λ object. literal_of of_function id (value.Obj object))) (named outer env f (function_name f) s)
+      (λ r t h. on s r t h);
 }
   where
     on : (s : Store) (r : Answer ObjId) (t : Store) → FunctionIsMade s r t

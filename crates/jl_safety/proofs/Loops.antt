@@ -73,6 +73,7 @@ label_takes a x (completion.Break (Some y)) h = at (bytes_eq x y) refl
         let same : bytes_eq x y ≡ true = (bytes_eq-Decides x y).1 (sym ((bytes_eq-Decides y x).0 e)) in
         absurd (let no = sym same ∙ differ in cc)
     other false e differ h = h
+
     at : (b : Bool) → bytes_eq x y ≡ b → MayComplete a (if b then completion.Normal else completion.Break (Some y))
     at true e = tt
     at false e = other (bytes_eq y x) refl e h
@@ -99,10 +100,11 @@ throw_safe id v = perform_completes (completed tt)
 -- a `catch` begins with a new environment
 pub catch_safe : (id env : ℕ) (x : Name) (v : Value) → Safe (begin_catch id env x v)
 unfolding begin_catch
-catch_safe id env x v = record { at = λ s.
-    let t = apply (NewEnvironment env) s in
-    let b = NewBinding (next_environment s) (record { name = x; value = v; mutable = true }) in
-    keeps_then s t (apply b t) (keeps_change (NewEnvironment env) s) (keeps_change b t);
+catch_safe id env x v = record {
+  at = λ s.
+      let t = apply (NewEnvironment env) s in
+      let b = NewBinding (next_environment s) (record { name = x; value = v; mutable = true }) in
+      keeps_then s t (apply b t) (keeps_change (NewEnvironment env) s) (keeps_change b t);
 }
 
 -- LOOPS
