@@ -151,7 +151,8 @@ continue_fits s a own g (Some x) at e n =
     (g.loops x.text (is_met (has_loop_label x.text s.labels) _ at (none _ _ e).0))
 
 break_fits : {of_loop : Bool} (s : Scope) (a : Around) (own : List Text) → Agrees of_loop own s a
-    → (x : Option (Ident Span)) (at : Span) → break_early_errors s x at ≡ [] → (n : ℕ) → JumpsFit a own (with_ids n (tree.break x at))
+    → (x : Option (Ident Span)) (at : Span) → break_early_errors s x at ≡ [] → (n : ℕ)
+    → JumpsFit a own (with_ids n (tree.break x at))
 unfolding break_early_errors
 break_fits s a own g None at e n = g.breaks (is_met s.can_break _ at e)
 break_fits s a own g (Some x) at e n = g.labels x.text (is_met (has_label x.text s.labels) _ at (none _ _ e).0)

@@ -1,4 +1,4 @@
-//! No run of an accepted script ends by the fault Misuse.
+//! No run of an accepted script, or of its woven one, ends by the fault Misuse: definitions and laws.
 #![tactic(auto)]
 
 pub mod laws;
