@@ -1,7 +1,7 @@
 #!/usr/bin/env python3
 """Times of lexing: four kinds of source at 64 KiB, 256 KiB and 1 MiB, and the ratios from each size to the next.
 
-Run it at the top of the repository after `rt run` in crates/jl_lex_bench. A step of four in size should cost at most five
+Run it at the top of the repository after `tools/programs.py jl_lex_bench`. A step of four in size should cost at most five
 in time."""
 
 import os
@@ -9,7 +9,7 @@ import subprocess
 import sys
 import time
 
-PROGRAM = os.path.join("crates", "jl_lex_bench", "out", "jl_lex_bench")
+PROGRAM = os.path.join("programs", "out", "jl_lex_bench")
 SIZES = [64 * 1024, 256 * 1024, 1024 * 1024]
 KINDS = {
     "names and punctuators": "if (first.second[third] >>>= fourth) { fifth(sixth, seventh); }\n",
@@ -35,7 +35,7 @@ def seconds(source, turns):
 
 def main():
     if not os.path.exists(PROGRAM):
-        sys.exit("no " + PROGRAM + ": run `rt run` in crates/jl_lex_bench first")
+        sys.exit("no " + PROGRAM + ": run tools/programs.py jl_lex_bench first")
     print(f"{'kind':24}{'64 KiB':>12}{'256 KiB':>12}{'1 MiB':>12}{'ratios':>16}")
     for kind, line in KINDS.items():
         found = []

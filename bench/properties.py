@@ -2,7 +2,7 @@
 """Times of calls of jl_props on one object of 1,000, 10,000 and 100,000 properties, in microseconds of the processor
 a call.
 
-Run it at the top of the repository after `rt run` in crates/jl_props_bench. A store finds names by an ordered map,
+Run it at the top of the repository after `tools/programs.py jl_props_bench`. A store finds names by an ordered map,
 whose steps grow with the logarithm of the number of names, which is 1.67 times as great at 100,000 as at 1,000. With
 that divided out no call should cost more than twice at 100,000 of what it costs at 1,000; the exit status is 1 where one
 does. That is judged where names come in their order: rising ones, and nested ones, which have a hundred units in common
@@ -19,7 +19,7 @@ import resource
 import subprocess
 import sys
 
-PROGRAM = os.path.join("crates", "jl_props_bench", "out", "jl_props_bench")
+PROGRAM = os.path.join("programs", "out", "jl_props_bench")
 COUNTS = [1000, 10000, 100000]
 LIMIT = 2.0
 
@@ -42,7 +42,7 @@ def microseconds(call, kind, count):
 
 def main():
     if not os.path.exists(PROGRAM):
-        sys.exit("no " + PROGRAM + ": run `rt run` in crates/jl_props_bench first")
+        sys.exit("no " + PROGRAM + ": run tools/programs.py jl_props_bench first")
     log = math.log(COUNTS[-1]) / math.log(COUNTS[0])
     worst = 0.0
     heads = "".join(f"{count:12}" for count in COUNTS)

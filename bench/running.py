@@ -2,7 +2,7 @@
 """What the machine takes to run a script: nanoseconds of the processor for a step, and the memory at the most, for scripts
 of three sizes each; and beside it how many times as long as node that is, where node is there.
 
-Run it at the top of the repository after `rt ci`, which makes the program `jl_machine_bench`: it runs a script as `jlint
+Run it at the top of the repository after `tools/programs.py jl_machine_bench`, which makes the program `jl_machine_bench`: it runs a script as `jlint
 run` does, with as many steps as it is told. The time of an empty script is taken off first. A script is judged by the
 cost of a step at its greatest size over that at a tenth of it: what is linear gives about 1, what is quadratic about 10.
 Where one gives more than 2, the exit status is 1. A join copies both texts, so that of joins is above it."""
@@ -14,7 +14,7 @@ import subprocess
 import sys
 import tempfile
 
-PROGRAM = os.path.join("crates", "jl_machine_bench", "out", "jl_machine_bench")
+PROGRAM = os.path.join("programs", "out", "jl_machine_bench")
 RUN = [PROGRAM, "100000000"]
 LIMIT = 2.0
 PRELUDE = "var print = function () { console.log([].slice.call(arguments).join(' ')); };\n"
@@ -59,7 +59,7 @@ def least(command, text, prepare=None):
 
 def main():
     if not os.path.exists(PROGRAM):
-        sys.exit("no " + PROGRAM + ": run rt ci first")
+        sys.exit("no " + PROGRAM + ": run tools/programs.py jl_machine_bench first")
     node = shutil.which("node")
     empty = least(RUN, "")[0]
     bare = least([node, "-"], PRELUDE)[0] if node else 0.0

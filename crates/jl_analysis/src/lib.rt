@@ -23,6 +23,3 @@ pub use names::{RULE_COUNT, rule_name, rule_named};
 pub use rule::Rule;
 pub use rule_set::RuleSet;
 pub use tally::Tally;
-
-#[cfg(test)]
-mod tests;

@@ -152,32 +152,3 @@ pub fn is_reserved(units: &[u16]) -> bool
 {
     reserved_word(units).is_some()
 }
-
-#[cfg(test)]
-mod tests {
-    use super::*;
-    use std::test::Fail;
-
-    #[test]
-    fn words_are_reserved_by_all_their_units(rt: HostRuntime) -> Result<(), Fail> {
-        let rows: [(&[u8], bool); 9] = [
-            (b"break", true),
-            (b"super", true),
-            (b"null", true),
-            (b"instanceof", true),
-            (b"", false),
-            (b"brea", false),
-            (b"breaks", false),
-            (b"Break", false),
-            (b"get", false),
-        ];
-        for (spelling, reserved) in rows {
-            let mut units = Vec::new(rt.alloc());
-            for byte in spelling {
-                units.push(*byte as u16)?;
-            }
-            assert_eq!(rt; is_reserved(&units), reserved);
-        }
-        Ok(())
-    }
-}

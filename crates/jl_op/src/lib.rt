@@ -23,6 +23,3 @@ pub use observer::{Nobody, Observer};
 pub use op::{Op, OpId};
 pub use sign::{UnKind, binary_sign};
 pub use trace::op_text;
-
-#[cfg(test)]
-mod tests;

@@ -11,6 +11,3 @@ pub use line::{Line, line_text};
 pub use off_comments::off;
 pub use off_list::Off;
 pub use reports::{report, report_at};
-
-#[cfg(test)]
-mod tests;

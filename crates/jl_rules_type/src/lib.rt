@@ -40,6 +40,3 @@ pub use typeof_text::{ComparesTypeof, TypeofText};
 mod bits_of_nothing;
 
 pub use bits_of_nothing::{BitsOfNothing, TakesBitsOfNothing};
-
-#[cfg(test)]
-mod tests;

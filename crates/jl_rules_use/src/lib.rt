@@ -26,6 +26,3 @@ pub use object_prototype_write::{ObjectPrototypeWrite, WritesObjectPrototype};
 pub use odd_prototype::{OddPrototype, SetsOddPrototype};
 pub use shadow_write::{ShadowWrite, ShadowsByWrite};
 pub use wrapper_made::{MakesWrapper, WrapperMade};
-
-#[cfg(test)]
-mod tests;

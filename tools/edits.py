@@ -1,0 +1,43 @@
+#!/usr/bin/env python3
+"""Tries the edits of `edits/`: wrong code of the large crates, which the prover has to refuse.
+
+usage: tools/edits.py [NAME..]      NAME is a crate that has a folder there; all of them where none is given
+
+Each edit of a crate costs the gate about as much as the proof of that crate. So the gate tries those in `must-fail/` of
+the small crates, and this script tries the others: in a clone of the last commit, by `rt ci NAME..`, which takes of the
+proofs what an earlier run on this machine kept. Run it for a crate before a change of it is handed in. The status is that
+of `rt ci`, whose last line says how many were refused as they have to be.
+"""
+import os
+import shutil
+import subprocess
+import sys
+import tempfile
+
+TOP = os.path.dirname(os.path.dirname(os.path.abspath(__file__)))
+EDITS = os.path.join(TOP, 'edits')
+
+
+def lay_out(clone, names):
+    """Has the clone try the edits of these crates, and no others."""
+    for crate in os.listdir(os.path.join(clone, 'crates')):
+        shutil.rmtree(os.path.join(clone, 'crates', crate, 'must-fail'), ignore_errors=True)
+    for name in names:
+        shutil.copytree(os.path.join(EDITS, name), os.path.join(clone, 'crates', name, 'must-fail'))
+
+
+def main():
+    names = sys.argv[1:] or sorted(os.listdir(EDITS))
+    missing = [name for name in names if not os.path.isdir(os.path.join(EDITS, name))]
+    if missing:
+        print('no edits of ' + ', '.join(missing))
+        return 2
+    with tempfile.TemporaryDirectory(prefix='jlint-edits-') as folder:
+        clone = os.path.join(folder, 'repository')
+        subprocess.run(['git', 'clone', '--quiet', TOP, clone], check=True)
+        lay_out(clone, names)
+        return subprocess.run(['rt', 'ci', *names], cwd=clone, check=False).returncode
+
+
+if __name__ == '__main__':
+    sys.exit(main())

@@ -1,0 +1,65 @@
+#!/usr/bin/env python3
+"""Proves, builds and runs programs of `programs/`: rows of calls with the answers that are due, and what benchmarks time.
+
+usage: tools/programs.py [NAME..]      all of them where none is named
+
+They stand outside of the gate, since the proof of a program that calls many crates takes minutes. Their files end in `.rs`,
+since the gate refuses a `.rt` file that no check of it reads. This makes a clone of the last commit with these programs
+as crates and without edits, and runs `rt ci` there, which takes of the proofs what an earlier run on this machine kept,
+and compares what each program prints with its `stdout`. The programs that it built are then in `programs/out`. The
+status is that of `rt ci`.
+"""
+import os
+import shutil
+import subprocess
+import sys
+import tempfile
+
+TOP = os.path.dirname(os.path.dirname(os.path.abspath(__file__)))
+PROGRAMS = os.path.join(TOP, 'programs')
+OUT = os.path.join(PROGRAMS, 'out')
+
+
+def libraries():
+    """The line of each program in a list of crates."""
+    with open(os.path.join(PROGRAMS, 'uses.txt'), encoding='utf-8') as lines:
+        return {line.partition(':')[0]: line for line in lines if not line.startswith('#')}
+
+
+def lay_out(clone, names):
+    """Makes crates of the programs, and leaves the edits out."""
+    for crate in os.listdir(os.path.join(clone, 'crates')):
+        shutil.rmtree(os.path.join(clone, 'crates', crate, 'must-fail'), ignore_errors=True)
+    for name in names:
+        crate = os.path.join(clone, 'crates', name)
+        shutil.copytree(os.path.join(PROGRAMS, name), crate)
+        for file in os.listdir(os.path.join(crate, 'src')):
+            path = os.path.join(crate, 'src', file)
+            os.rename(path, os.path.splitext(path)[0] + '.rt')
+    used = libraries()
+    with open(os.path.join(clone, 'crates.txt'), 'a', encoding='utf-8') as lines:
+        lines.writelines(used[name] for name in names)
+
+
+def main():
+    names = sys.argv[1:] or sorted(libraries())
+    missing = [name for name in names if name not in libraries()]
+    if missing:
+        print('no programs ' + ', '.join(missing))
+        return 2
+    with tempfile.TemporaryDirectory(prefix='jlint-programs-') as folder:
+        clone = os.path.join(folder, 'repository')
+        subprocess.run(['git', 'clone', '--quiet', TOP, clone], check=True)
+        shutil.rmtree(os.path.join(clone, 'programs'))
+        lay_out(clone, names)
+        status = subprocess.run(['rt', 'ci'], cwd=clone, check=False).returncode
+        os.makedirs(OUT, exist_ok=True)
+        for name in names:
+            built = os.path.join(clone, 'crates', name, 'out', name)
+            if os.path.exists(built):
+                shutil.copy2(built, OUT)
+    return status
+
+
+if __name__ == '__main__':
+    sys.exit(main())
