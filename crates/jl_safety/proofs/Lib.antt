@@ -1,0 +1,15 @@
+mod Scopes
+mod Accepted
+mod Tables
+mod Changes
+mod Relation
+mod Literals
+mod Forms
+mod Expressions
+mod Loops
+mod Statements
+mod Turns
+mod Functions
+mod Jobs
+mod Programs
+mod Woven
