@@ -3,11 +3,11 @@
 
 usage: tools/programs.py [NAME..]      all of them where none is named
 
-They stand outside of the gate, since the proof of a program that calls many crates takes minutes. Their files end in `.rs`
-and `.txt`, since the gate refuses a `.rt` or `.antt` file that no check of it reads. This makes a clone of the last commit with these programs
-as crates and without edits, and runs `rt ci` there, which takes of the proofs what an earlier run on this machine kept,
-and compares what each program prints with its `stdout`. The programs that it built are then in `programs/out`. The
-status is that of `rt ci`.
+They stand outside of the gate, since the proof of a program that calls many crates takes minutes. Their files end in
+`.rs` and `.txt`, since the gate refuses a `.rt` or `.antt` file that no check of it reads. This makes a clone of the
+last commit with these programs as crates and without edits, and runs `rt ci` there, which takes of the proofs what an
+earlier run on this machine kept, and compares what each program prints with its `stdout`. The programs that it built
+are then in `programs/out`. The status is that of `rt ci`.
 """
 import os
 import shutil
