@@ -3,11 +3,11 @@
 
 usage: tools/programs.py [NAME..]      all of them where none is named
 
-They stand outside of the gate, since the proof of a program that calls many crates takes minutes. Their files end in `.rs`,
-since the gate refuses a `.rt` file that no check of it reads. This makes a clone of the last commit with these programs
-as crates and without edits, and runs `rt ci` there, which takes of the proofs what an earlier run on this machine kept,
-and compares what each program prints with its `stdout`. The programs that it built are then in `programs/out`. The
-status is that of `rt ci`.
+They stand outside of the gate, since the proof of a program that calls many crates takes minutes. Their files end in
+`.rs` and `.txt`, since the gate refuses a `.rt` or `.antt` file that no check of it reads. This makes a clone of the
+last commit with these programs as crates and without edits, and runs `rt ci` there, which takes of the proofs what an
+earlier run on this machine kept, and compares what each program prints with its `stdout`. The programs that it built
+are then in `programs/out`. The status is that of `rt ci`.
 """
 import os
 import shutil
@@ -18,6 +18,8 @@ import tempfile
 TOP = os.path.dirname(os.path.dirname(os.path.abspath(__file__)))
 PROGRAMS = os.path.join(TOP, 'programs')
 OUT = os.path.join(PROGRAMS, 'out')
+# What the endings of their files stand for.
+ENDINGS = {'.rs': '.rt', '.txt': '.antt'}
 
 
 def libraries():
@@ -33,9 +35,11 @@ def lay_out(clone, names):
     for name in names:
         crate = os.path.join(clone, 'crates', name)
         shutil.copytree(os.path.join(PROGRAMS, name), crate)
-        for file in os.listdir(os.path.join(crate, 'src')):
-            path = os.path.join(crate, 'src', file)
-            os.rename(path, os.path.splitext(path)[0] + '.rt')
+        for folder, _, files in os.walk(crate):
+            for file in files:
+                stem, ending = os.path.splitext(file)
+                if ending in ENDINGS:
+                    os.rename(os.path.join(folder, file), os.path.join(folder, stem + ENDINGS[ending]))
     used = libraries()
     with open(os.path.join(clone, 'crates.txt'), 'a', encoding='utf-8') as lines:
         lines.writelines(used[name] for name in names)

@@ -9,8 +9,6 @@ A row is a line `CALL SCRIPT => STATUS ANSWER`; other lines are passed over. CAL
     canonical   what `print` answers, where it answers the same to that answer
     but_end X   what the command X answers, without its last line
     words       what the program answers to these words, and no script
-    no_input X  what the command X answers where standard input can't be read
-    no_output X what the command X answers to a script where nothing can be written
 
 In scripts and answers `\\n`, `\\r` and `\\\\` are as in JavaScript, `\\xHH` is a byte, `\\s` a space, `\\e` nothing, and
 `\\{COUNT*PIECE}` that many times the piece. Ends with status 1 where a row is answered otherwise.
@@ -46,16 +44,6 @@ def given(program, call, rest):
     """What is answered to a row, or None where two answers that are to be alike differ."""
     if call == 'words':
         return answer(program, rest.split(' ') if rest else [], b'')
-    if call == 'no_input':
-        folder = os.open(TOP, os.O_RDONLY)
-        run = subprocess.run([program, rest], stdin=folder, stdout=subprocess.PIPE, check=False)
-        os.close(folder)
-        return run.returncode, run.stdout
-    if call == 'no_output':
-        command, script = rest.split(' ', 1)
-        with open('/dev/full', 'wb') as full:
-            run = subprocess.run([program, command], input=unescape(script), stdout=full, check=False)
-        return run.returncode, b''
     if call == 'but_end':
         command, script = rest.split(' ', 1)
         status, written = answer(program, [command], unescape(script))

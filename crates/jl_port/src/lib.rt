@@ -7,6 +7,8 @@
 mod adapters;
 mod memory;
 mod shelf;
+#[cfg(test)]
+mod tests;
 mod traits;
 mod whole;
 
