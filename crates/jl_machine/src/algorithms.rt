@@ -33,42 +33,40 @@ pub(crate) fn step_algorithm<'p>(
             object,
             hint,
             is_second,
-        } => Ok(step_method(alloc, state, object, hint, is_second, v)?),
+        } => step_method(alloc, state, object, hint, is_second, v),
         AlgorithmFrame::MethodResult {
             object,
             hint,
             is_second,
-        } => Ok(step_method_result(alloc, state, object, hint, is_second, v)?),
-        AlgorithmFrame::LeftNumber { op, right } => {
-            Ok(step_left_number(alloc, state, op, right, v)?)
-        }
-        AlgorithmFrame::RightNumber { op, left } => Ok(step_right_number(state, op, left, v)?),
-        AlgorithmFrame::LeftSummand { right } => Ok(step_left_summand(alloc, state, right, v)?),
-        AlgorithmFrame::RightSummand { left } => Ok(step_right_summand(alloc, state, left, v)?),
+        } => step_method_result(alloc, state, object, hint, is_second, v),
+        AlgorithmFrame::LeftNumber { op, right } => { step_left_number(alloc, state, op, right, v) }
+        AlgorithmFrame::RightNumber { op, left } => step_right_number(state, op, left, v),
+        AlgorithmFrame::LeftSummand { right } => step_left_summand(alloc, state, right, v),
+        AlgorithmFrame::RightSummand { left } => step_right_summand(alloc, state, left, v),
         AlgorithmFrame::LeftCompared { op, right } => {
-            Ok(step_left_compared(alloc, state, op, right, v)?)
+            step_left_compared(alloc, state, op, right, v)
         }
-        AlgorithmFrame::RightCompared { op, left } => Ok(step_right_compared(state, op, left, v)?),
+        AlgorithmFrame::RightCompared { op, left } => step_right_compared(state, op, left, v),
         AlgorithmFrame::EqualTo { other, is_negative } => {
-            Ok(step_equal_to(state, other, is_negative, v)?)
+            step_equal_to(state, other, is_negative, v)
         }
-        AlgorithmFrame::InstanceOf { value } => Ok(step_instance_of(alloc, state, value, v)?),
-        AlgorithmFrame::In { object } => Ok(step_in(alloc, state, object, v)?),
-        AlgorithmFrame::NumberOperand { op } => Ok(step_number_operand(state, op, v)?),
+        AlgorithmFrame::InstanceOf { value } => step_instance_of(alloc, state, value, v),
+        AlgorithmFrame::In { object } => step_in(alloc, state, object, v),
+        AlgorithmFrame::NumberOperand { op } => step_number_operand(state, op, v),
         AlgorithmFrame::LengthCount {
             array,
             length,
             attributes,
             purpose,
-        } => Ok(step_length_count(alloc, state, array, length, attributes, purpose, v)?),
+        } => step_length_count(alloc, state, array, length, attributes, purpose, v),
         AlgorithmFrame::LengthNumber {
             array,
             count,
             attributes,
             purpose,
-        } => Ok(step_length_number(alloc, state, array, count, attributes, purpose, v)?),
-        AlgorithmFrame::TypeOf => Ok(step_type_of(alloc, state, v)?),
+        } => step_length_number(alloc, state, array, count, attributes, purpose, v),
+        AlgorithmFrame::TypeOf => step_type_of(alloc, state, v),
         AlgorithmFrame::Then(given) => Ok(Act::Give(given)),
-        AlgorithmFrame::Builtin(progress) => Ok(step_progress(alloc, state, progress, v)?),
+        AlgorithmFrame::Builtin(progress) => step_progress(alloc, state, progress, v),
     }
 }
