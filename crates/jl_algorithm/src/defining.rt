@@ -36,7 +36,7 @@ pub fn define_own_property<'p>(
     ensures falls { IfOk result (λ act. Falls state.old 40 state.new act) }
 {
     if is_array_length(&state.store, id, name) {
-        return Ok(define_length(alloc, state, id, name, change, purpose)?);
+        return define_length(alloc, state, id, name, change, purpose);
     }
     Ok(define_now(alloc, state, id, name, change, purpose)?)
 }
@@ -72,7 +72,7 @@ fn define_length<'p>(
         },
         purpose,
     })?;
-    Ok(to_primitive(alloc, state, v, Hint::Number)?)
+    to_primitive(alloc, state, v, Hint::Number)
 }
 
 /// [[DefineOwnProperty]] of a change in which a length of an array is a number already, and then what the property is

@@ -21,7 +21,7 @@ pub fn throw_native<'p>(
     ensures falls { IfOk result (λ act. Falls state.old 3 state.new act) }
 {
     let message = word(alloc, message)?;
-    Ok(throw_error(state, kind, message)?)
+    throw_error(state, kind, message)
 }
 
 /// Throws a new error of this kind with a message (15.11.1.1, 15.11.7.4).

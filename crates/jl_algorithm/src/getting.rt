@@ -25,7 +25,7 @@ pub fn get<'p>(
 {
     match state.store.property_of_value(base, name) {
         None => Ok(Act::Give(Value::Undefined)),
-        Some(property) => Ok(value_of_property(alloc, base, &property)?),
+        Some(property) => value_of_property(alloc, base, &property),
     }
 }
 

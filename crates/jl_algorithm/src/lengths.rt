@@ -64,7 +64,7 @@ pub fn step_length_number<'p>(
     let Some(n) = number_of(&v) else {
         return Ok(Act::Fault(Fault::NumberOutside));
     };
-    Ok(define_length(alloc, state, array, count, attributes, purpose, n)?)
+    define_length(alloc, state, array, count, attributes, purpose, n)
 }
 
 /// The length of an array is defined, where the number is this count (15.4.5.1, step 3.d).

@@ -39,8 +39,8 @@ pub fn get_value<'p>(
         Reference::InEnvironment(env) => {
             Ok(Act::Give(bound_value(alloc, &state.store, env, name)?))
         }
-        Reference::OnGlobalObject => Ok(get(alloc, state, &Value::Obj(ObjId::GLOBAL), name)?),
-        Reference::Unresolvable => Ok(throw_not_defined(alloc, state, name)?),
+        Reference::OnGlobalObject => get(alloc, state, &Value::Obj(ObjId::GLOBAL), name),
+        Reference::Unresolvable => throw_not_defined(alloc, state, name),
     }
 }
 
@@ -57,7 +57,7 @@ pub fn get_name<'p>(
     ensures falls { IfOk result (λ act. Falls state.old 4 state.new act) }
 {
     let reference = state.store.identifier_reference(env, name);
-    Ok(get_value(alloc, state, name, reference)?)
+    get_value(alloc, state, name, reference)
 }
 
 /// PutValue to what a name refers to (8.7.2), and then a value is given. In strict code it throws a ReferenceError
@@ -78,15 +78,13 @@ pub fn put_value<'p>(
 {
     let global = Value::Obj(ObjId::GLOBAL);
     match reference {
-        Reference::InEnvironment(env) => Ok(put_binding(
-            alloc, state, strict, env, name, v, gives,
-        )?),
-        Reference::OnGlobalObject => Ok(put(alloc, state, strict, global, name, v, gives)?),
+        Reference::InEnvironment(env) => put_binding(alloc, state, strict, env, name, v, gives),
+        Reference::OnGlobalObject => put(alloc, state, strict, global, name, v, gives),
         Reference::Unresolvable => {
             if strict {
                 return Ok(throw_not_defined(alloc, state, name)?);
             }
-            Ok(put(alloc, state, false, global, name, v, gives)?)
+            put(alloc, state, false, global, name, v, gives)
         }
     }
 }
@@ -175,7 +173,7 @@ fn type_of_value<'p>(
     ensures falls { IfOk result (λ act. Falls state.old 10 state.new act) }
 {
     state.push_algorithm(AlgorithmFrame::TypeOf)?;
-    Ok(get_value(alloc, state, name, reference)?)
+    get_value(alloc, state, name, reference)
 }
 
 /// Goes on with the value of a name whose type is asked for (11.4.3).
@@ -204,7 +202,7 @@ pub fn delete_name<'p>(
     match state.store.identifier_reference(env, name) {
         Reference::InEnvironment(_) => Ok(Answer::Gives(false)),
         Reference::OnGlobalObject => {
-            Ok(delete(alloc, state, strict, &Value::Obj(ObjId::GLOBAL), name)?)
+            delete(alloc, state, strict, &Value::Obj(ObjId::GLOBAL), name)
         }
         Reference::Unresolvable => Ok(Answer::Gives(true)),
     }

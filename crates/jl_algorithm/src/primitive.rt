@@ -28,7 +28,7 @@ pub fn to_primitive<'p>(
     ensures falls { IfOk result (λ act. Falls state.old 16 state.new act) }
 {
     match v {
-        Value::Obj(object) => Ok(try_method(alloc, state, object, hint, false)?),
+        Value::Obj(object) => try_method(alloc, state, object, hint, false),
         Value::Undefined | Value::Null | Value::Bool(_) | Value::Num(_) | Value::Text(_) => {
             Ok(Act::Give(v))
         }
@@ -50,10 +50,10 @@ pub fn step_method<'p>(
     ensures falls { IfOk result (λ act. Falls state.old (rank_method is_second) state.new act) }
 {
     if !state.store.is_callable(&v) {
-        return Ok(after_none(alloc, state, object, hint, is_second)?);
+        return after_none(alloc, state, object, hint, is_second);
     }
     let Value::Obj(callee) = v else {
-        return Ok(after_none(alloc, state, object, hint, is_second)?);
+        return after_none(alloc, state, object, hint, is_second);
     };
     state.push_algorithm(AlgorithmFrame::MethodResult {
         object,
@@ -82,7 +82,7 @@ pub fn step_method_result<'p>(
     ensures falls { IfOk result (λ act. Falls state.old (rank_method_result is_second) state.new act) }
 {
     match v {
-        Value::Obj(_) => Ok(after_none(alloc, state, object, hint, is_second)?),
+        Value::Obj(_) => after_none(alloc, state, object, hint, is_second),
         Value::Undefined | Value::Null | Value::Bool(_) | Value::Num(_) | Value::Text(_) => {
             Ok(Act::Give(v))
         }
@@ -109,7 +109,7 @@ fn try_method<'p>(
         hint,
         is_second,
     })?;
-    Ok(get(alloc, state, &Value::Obj(object), &name)?)
+    get(alloc, state, &Value::Obj(object), &name)
 }
 
 /// What follows a method that gave no primitive value: the second is tried, or an error thrown (8.12.8).
@@ -125,9 +125,9 @@ fn after_none<'p>(
     ensures falls { IfOk result (λ act. Falls state.old (rank_method_result is_second) state.new act) }
 {
     if is_second {
-        Ok(throw_native(alloc, state, ErrorKind::TypeError, "no primitive value")?)
+        throw_native(alloc, state, ErrorKind::TypeError, "no primitive value")
     } else {
-        Ok(try_method(alloc, state, object, hint, true)?)
+        try_method(alloc, state, object, hint, true)
     }
 }
 

@@ -75,7 +75,7 @@ fn put_on_object<'p>(
 {
     match state.store.set_value(id, name, v) {
         Ok(()) => Ok(after_define(alloc, state, WrittenBy::Put { throwing, gives }, true)?),
-        Err(v) => Ok(put_by_look_up(alloc, state, id, name, v, throwing, gives)?),
+        Err(v) => put_by_look_up(alloc, state, id, name, v, throwing, gives),
     }
 }
 
@@ -117,17 +117,15 @@ fn put_so<'p>(
     ensures falls { IfOk result (λ act. Falls state.old 42 state.new act) }
 {
     match way {
-        Way::Refused => {
-            Ok(after_define(alloc, state, WrittenBy::Put { throwing, gives }, false)?)
-        }
+        Way::Refused => { after_define(alloc, state, WrittenBy::Put { throwing, gives }, false) }
         Way::Changed => {
             let purpose = WrittenBy::Put { throwing, gives };
-            Ok(define_own_property(alloc, state, id, name, value_change(v), purpose)?)
+            define_own_property(alloc, state, id, name, value_change(v), purpose)
         }
-        Way::Called(setter) => Ok(call_setter(alloc, state, setter, Value::Obj(id), v, gives)?),
+        Way::Called(setter) => call_setter(alloc, state, setter, Value::Obj(id), v, gives),
         Way::Added => {
             let purpose = WrittenBy::Put { throwing, gives };
-            Ok(define_own_property(alloc, state, id, name, plain_change(v), purpose)?)
+            define_own_property(alloc, state, id, name, plain_change(v), purpose)
         }
     }
 }
@@ -150,7 +148,7 @@ fn put_on_primitive<'p>(
 {
     match found_setter(&state.store.property_of_value(&base, name)) {
         Some(setter) => Ok(call_setter(alloc, state, setter, base, v, gives)?),
-        None => Ok(after_define(alloc, state, WrittenBy::Put { throwing, gives }, false)?),
+        None => after_define(alloc, state, WrittenBy::Put { throwing, gives }, false),
     }
 }
 

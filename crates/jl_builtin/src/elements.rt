@@ -28,7 +28,7 @@ pub fn get_index<'p>(
     ensures falls { IfOk result (λ act. Falls state.old 4 state.new act) }
 {
     let name = index_name(alloc, index)?;
-    Ok(get(alloc, state, &Value::Obj(object), &name)?)
+    get(alloc, state, &Value::Obj(object), &name)
 }
 
 /// A value is put at an index (8.12.5), and then another is given. It throws a TypeError where that isn't done.
@@ -44,7 +44,7 @@ pub fn put_index<'p>(
     ensures falls { IfOk result (λ act. Falls state.old 42 state.new act) }
 {
     let name = index_name(alloc, index)?;
-    Ok(put(alloc, state, true, Value::Obj(object), &name, v, gives)?)
+    put(alloc, state, true, Value::Obj(object), &name, v, gives)
 }
 
 /// A length is put (8.12.5), and then a value is given. It throws a TypeError where that isn't done, and ends the run

@@ -55,7 +55,7 @@ pub fn step_argument<'p>(
 {
     let mut values = so_far;
     values.push(v)?;
-    Ok(evaluate_rest(alloc, state, purpose, values, rest, here)?)
+    evaluate_rest(alloc, state, purpose, values, rest, here)
 }
 
 /// The arguments that are left are evaluated, and then something is done with all values.
@@ -75,7 +75,7 @@ fn evaluate_rest<'p>(
     ensures falls { IfOk result (λ act. Falls state.old 134 state.new act) }
 {
     match split_first(rest) {
-        None => Ok(use_arguments(alloc, state, purpose, so_far, here)?),
+        None => use_arguments(alloc, state, purpose, so_far, here),
         Some((e, rest)) => {
             let frame = ValueFrame::Argument {
                 purpose,
@@ -107,17 +107,17 @@ fn use_arguments<'p>(
             by_new,
         } => {
             let id = HookId::own().call();
-            Ok(invoke(alloc, state, false, id, callee, this, values, by_new)?)
+            invoke(alloc, state, false, id, callee, this, values, by_new)
         }
         ArgumentsFor::Hook { id, hook } => {
             if !state.spend() {
                 return Ok(Act::Spent);
             }
-            Ok(enter_hook(alloc, state, id, hook, &values, here)?)
+            enter_hook(alloc, state, id, hook, &values, here)
         }
-        ArgumentsFor::Opener { id, opener, second } => Ok(start_opener(
+        ArgumentsFor::Opener { id, opener, second } => start_opener(
             alloc, state, id, opener, &values, second, here,
-        )?),
-        ArgumentsFor::Close(pending) => Ok(close(alloc, state, pending, values, here)?),
+        ),
+        ArgumentsFor::Close(pending) => close(alloc, state, pending, values, here),
     }
 }

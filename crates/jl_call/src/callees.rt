@@ -37,7 +37,7 @@ pub fn step_callee<'p>(
         this,
         by_new,
     };
-    Ok(start_arguments(alloc, state, purpose, args, 0, here)?)
+    start_arguments(alloc, state, purpose, args, 0, here)
 }
 
 /// The object of a method has been evaluated (11.2.3).
@@ -55,7 +55,7 @@ pub fn step_callee_dot_base<'p>(
     ensures falls { IfOk result (λ act. Falls state.old 202 state.new act) }
 {
     let key = Value::Text(key.share(alloc)?);
-    Ok(call_member(alloc, state, v, key, args, here)?)
+    call_member(alloc, state, v, key, args, here)
 }
 
 /// The object of a method has been evaluated (11.2.3).
@@ -94,7 +94,7 @@ pub fn step_callee_index_key<'p>(
         (ValueFrame.CalleeIndexKey base args.entry here) v) state.new act) }
     ensures falls { IfOk result (λ act. Falls state.old 202 state.new act) }
 {
-    Ok(call_member(alloc, state, base, v, args, here)?)
+    call_member(alloc, state, base, v, args, here)
 }
 
 /// o[k](..), where o and k have been evaluated: the value of the member is got before the arguments are evaluated

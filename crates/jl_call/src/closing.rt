@@ -46,7 +46,7 @@ pub(crate) fn start_closing<'p>(
         list: args,
         from: 0,
     }) {
-        None => Ok(close(alloc, state, pending, values, here)?),
+        None => close(alloc, state, pending, values, here),
         Some((e, rest)) => {
             let frame = ValueFrame::Argument {
                 purpose: ArgumentsFor::Close(pending),
@@ -76,7 +76,7 @@ pub(crate) fn close<'p>(
     match pending {
         Pending::Put { id, base, name } => {
             let value = first_of(alloc, &values)?;
-            Ok(put_pending(alloc, state, id, here.strict, base, name, value)?)
+            put_pending(alloc, state, id, here.strict, base, name, value)
         }
         Pending::Assign {
             id,
@@ -86,12 +86,12 @@ pub(crate) fn close<'p>(
             held,
         } => {
             let operand = first_of(alloc, &values)?;
-            Ok(assign_pending(alloc, state, id, here.strict, op, base, name, held, operand)?)
+            assign_pending(alloc, state, id, here.strict, op, base, name, held, operand)
         }
-        Pending::Call { id, callee, this } => Ok(invoke(
+        Pending::Call { id, callee, this } => invoke(
             alloc, state, true, id, callee, this, values, false,
-        )?),
-        Pending::New { id, callee } => Ok(invoke(
+        ),
+        Pending::New { id, callee } => invoke(
             alloc,
             state,
             true,
@@ -100,7 +100,7 @@ pub(crate) fn close<'p>(
             Value::Undefined,
             values,
             true,
-        )?),
+        ),
     }
 }
 
@@ -119,7 +119,7 @@ fn put_pending<'p>(
     ensures falls { IfOk result (λ act. Falls state.old 56 state.new act) }
 {
     let gives = share(alloc, &value)?;
-    Ok(put_member(
+    put_member(
         alloc,
         state,
         true,
@@ -129,7 +129,7 @@ fn put_pending<'p>(
         name,
         value,
         gives,
-    )?)
+    )
 }
 
 /// A hook puts what an operator makes of the value that a member had and another one, and gives it (11.13.2).
@@ -157,7 +157,7 @@ fn assign_pending<'p>(
         name,
         strict,
     })?;
-    Ok(operate(alloc, state, true, id.second(), op, held, operand)?)
+    operate(alloc, state, true, id.second(), op, held, operand)
 }
 
 /// A hook has got the value that an assignment computes with (11.13.2).
@@ -184,7 +184,7 @@ pub fn step_compute_pending<'p>(
         name,
         held: v,
     };
-    Ok(start_closing(alloc, state, pending, args, here)?)
+    start_closing(alloc, state, pending, args, here)
 }
 
 /// A hook has got the method of a call (11.2.3).
@@ -207,5 +207,5 @@ pub fn step_method_pending<'p>(
         callee: v,
         this: base,
     };
-    Ok(start_closing(alloc, state, pending, args, here)?)
+    start_closing(alloc, state, pending, args, here)
 }

@@ -37,24 +37,24 @@ pub(crate) fn enter_hook<'p>(
     ensures falls { IfOk result (λ act. Falls state.old 150 state.new act) }
 {
     match hook {
-        Hook::EntersScript => Ok(emit(state, id.first(), Op::ScriptEnter, Value::Undefined)?),
-        Hook::ExitsScript => Ok(emit(state, id.first(), Op::ScriptExit, Value::Undefined)?),
-        Hook::EntersFunction => Ok(emit_entry(state, id)?),
-        Hook::ExitsFunction => Ok(emit_exit(state, id)?),
-        Hook::Makes => Ok(emit_literal(state, id, first_of(alloc, values)?)?),
-        Hook::Reads(name) => Ok(emit_value(alloc, state, id, ValueNote::Read(name), values)?),
-        Hook::Writes(name) => Ok(emit_value(alloc, state, id, ValueNote::Write(name), values)?),
-        Hook::Types(name) => Ok(emit_type(alloc, state, id, name, first_of(alloc, values)?)?),
-        Hook::Catches(name) => Ok(emit_value(alloc, state, id, ValueNote::Catch(name), values)?),
-        Hook::Tests => Ok(emit_value(alloc, state, id, ValueNote::Test, values)?),
-        Hook::Visits => Ok(emit_value(alloc, state, id, ValueNote::Visit, values)?),
-        Hook::Returns => Ok(emit_value(alloc, state, id, ValueNote::Return, values)?),
-        Hook::Throws => Ok(emit_value(alloc, state, id, ValueNote::Throw, values)?),
-        Hook::Binary(op) => Ok(enter_binary(alloc, state, id, op, values)?),
-        Hook::Unary(op) => Ok(enter_unary(alloc, state, id, op, first_of(alloc, values)?)?),
-        Hook::Gets => Ok(enter_get(alloc, state, id, values)?),
-        Hook::Deletes => Ok(enter_delete(alloc, state, id, here.strict, values)?),
-        Hook::Updates { up } => Ok(enter_update(alloc, state, id, here.strict, up, values)?),
+        Hook::EntersScript => emit(state, id.first(), Op::ScriptEnter, Value::Undefined),
+        Hook::ExitsScript => emit(state, id.first(), Op::ScriptExit, Value::Undefined),
+        Hook::EntersFunction => emit_entry(state, id),
+        Hook::ExitsFunction => emit_exit(state, id),
+        Hook::Makes => emit_literal(state, id, first_of(alloc, values)?),
+        Hook::Reads(name) => emit_value(alloc, state, id, ValueNote::Read(name), values),
+        Hook::Writes(name) => emit_value(alloc, state, id, ValueNote::Write(name), values),
+        Hook::Types(name) => emit_type(alloc, state, id, name, first_of(alloc, values)?),
+        Hook::Catches(name) => emit_value(alloc, state, id, ValueNote::Catch(name), values),
+        Hook::Tests => emit_value(alloc, state, id, ValueNote::Test, values),
+        Hook::Visits => emit_value(alloc, state, id, ValueNote::Visit, values),
+        Hook::Returns => emit_value(alloc, state, id, ValueNote::Return, values),
+        Hook::Throws => emit_value(alloc, state, id, ValueNote::Throw, values),
+        Hook::Binary(op) => enter_binary(alloc, state, id, op, values),
+        Hook::Unary(op) => enter_unary(alloc, state, id, op, first_of(alloc, values)?),
+        Hook::Gets => enter_get(alloc, state, id, values),
+        Hook::Deletes => enter_delete(alloc, state, id, here.strict, values),
+        Hook::Updates { up } => enter_update(alloc, state, id, here.strict, up, values),
     }
 }
 
@@ -72,7 +72,7 @@ fn enter_binary<'p>(
 {
     let left = first_of(alloc, values)?;
     let right = second_of(alloc, values)?;
-    Ok(operate(alloc, state, true, id.first(), op, left, right)?)
+    operate(alloc, state, true, id.first(), op, left, right)
 }
 
 /// A hook of a member that is got (11.2.1).
@@ -89,7 +89,7 @@ fn enter_get<'p>(
 {
     let base = first_of(alloc, values)?;
     let noted = Noted { emits: true, id };
-    Ok(name_member(alloc, state, values, KeyFor::Get { noted, base })?)
+    name_member(alloc, state, values, KeyFor::Get { noted, base })
 }
 
 /// A hook of a member that is deleted (11.4.1).
@@ -107,5 +107,5 @@ fn enter_delete<'p>(
     let base = first_of(alloc, values)?;
     let key = second_of(alloc, values)?;
     let noted = Noted { emits: true, id };
-    Ok(delete_member(alloc, state, noted, strict, base, key)?)
+    delete_member(alloc, state, noted, strict, base, key)
 }

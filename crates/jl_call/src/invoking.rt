@@ -40,9 +40,9 @@ pub fn invoke<'p>(
                 args,
                 by_new,
             };
-            Ok(invoke_function(alloc, state, emits, id, call)?)
+            invoke_function(alloc, state, emits, id, call)
         }
-        None => Ok(throw_native(alloc, state, ErrorKind::TypeError, no_function(by_new))?),
+        None => throw_native(alloc, state, ErrorKind::TypeError, no_function(by_new)),
     }
 }
 
@@ -83,5 +83,5 @@ fn tell_call<'p>(
         args: seen_values(alloc, &state.store, &call.args)?,
         by_new: call.by_new,
     };
-    Ok(emit_for(state, id.pre(), told, ToldFrame::Invoke { id, call })?)
+    emit_for(state, id.pre(), told, ToldFrame::Invoke { id, call })
 }

@@ -30,7 +30,7 @@ pub fn step_key<'p>(
     ensures falls { IfOk result (λ act. Falls state.old (rank_key purpose.entry + 2) state.new act) }
 {
     let name = text_of(alloc, &v)?;
-    Ok(use_name(alloc, state, purpose, name)?)
+    use_name(alloc, state, purpose, name)
 }
 
 /// Something is done with the name of a member.
@@ -45,47 +45,45 @@ fn use_name<'p>(
     ensures falls { IfOk result (λ act. Falls state.old (rank_key purpose.entry + 2) state.new act) }
 {
     match purpose {
-        KeyFor::Get { noted, base } => Ok(get_by_key(alloc, state, noted, base, name)?),
-        KeyFor::Call { base, args, here } => {
-            Ok(call_by_key(alloc, state, base, args, here, name)?)
-        }
+        KeyFor::Get { noted, base } => get_by_key(alloc, state, noted, base, name),
+        KeyFor::Call { base, args, here } => { call_by_key(alloc, state, base, args, here, name) }
         KeyFor::Assign {
             base,
             op,
             value,
             here,
-        } => Ok(assign_by_key(alloc, state, base, op, value, here, name)?),
+        } => assign_by_key(alloc, state, base, op, value, here, name),
         KeyFor::Delete {
             noted,
             base,
             strict,
-        } => Ok(delete_by_key(alloc, state, noted, base, strict, name)?),
+        } => delete_by_key(alloc, state, noted, base, strict, name),
         KeyFor::Update {
             noted,
             base,
             up,
             prefix,
             strict,
-        } => Ok(update_by_key(alloc, state, noted, base, up, prefix, strict, name)?),
+        } => update_by_key(alloc, state, noted, base, up, prefix, strict, name),
         KeyFor::Put {
             id,
             base,
             args,
             here,
-        } => Ok(start_closing(alloc, state, Pending::Put { id, base, name }, args, here)?),
+        } => start_closing(alloc, state, Pending::Put { id, base, name }, args, here),
         KeyFor::Compute {
             id,
             op,
             base,
             args,
             here,
-        } => Ok(compute_by_key(alloc, state, id, op, base, args, here, name)?),
+        } => compute_by_key(alloc, state, id, op, base, args, here, name),
         KeyFor::Method {
             id,
             base,
             args,
             here,
-        } => Ok(method_by_key(alloc, state, id, base, args, here, name)?),
+        } => method_by_key(alloc, state, id, base, args, here, name),
     }
 }
 
@@ -114,7 +112,7 @@ fn call_by_key<'p>(
         emits: false,
         id: HookId::own(),
     };
-    Ok(get_member(alloc, state, noted, object, name)?)
+    get_member(alloc, state, noted, object, name)
 }
 
 /// A hook gets the value of a member, with which an assignment computes (11.13.2).
@@ -143,7 +141,7 @@ fn compute_by_key<'p>(
         args,
         here,
     })?;
-    Ok(get_member(alloc, state, Noted { emits: true, id }, object, key)?)
+    get_member(alloc, state, Noted { emits: true, id }, object, key)
 }
 
 /// A hook gets the value of a member, which its second call calls (11.2.3).
@@ -168,7 +166,7 @@ fn method_by_key<'p>(
         args,
         here,
     })?;
-    Ok(get_member(alloc, state, Noted { emits: true, id }, object, name)?)
+    get_member(alloc, state, Noted { emits: true, id }, object, name)
 }
 
 /// The name of the member is found that a hook is asked for, of which it gets the base and the key.
@@ -185,5 +183,5 @@ pub(crate) fn name_member<'p>(
 {
     let base = first_of(alloc, values)?;
     let key = second_of(alloc, values)?;
-    Ok(member_name(alloc, state, &base, key, purpose)?)
+    member_name(alloc, state, &base, key, purpose)
 }

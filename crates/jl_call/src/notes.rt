@@ -68,7 +68,7 @@ pub(crate) fn emit_value<'p>(
 {
     let value = first_of(alloc, values)?;
     let told = op_of(note, state.store.seen(&value)?);
-    Ok(emit(state, id.first(), told, value)?)
+    emit(state, id.first(), told, value)
 }
 
 /// A hook emits that the call that is running was entered. Where none is, it is misused.
@@ -88,7 +88,7 @@ pub(crate) fn emit_entry<'p>(state: &mut State<'p>, id: HookId) -> Result<Act<'p
                 args: call.args as u64,
                 by_new: call.by_new,
             };
-            Ok(emit(state, id.first(), told, Value::Undefined)?)
+            emit(state, id.first(), told, Value::Undefined)
         }
     }
 }
@@ -107,7 +107,7 @@ pub(crate) fn emit_exit<'p>(state: &mut State<'p>, id: HookId) -> Result<Act<'p>
             let told = Op::FunctionExit {
                 function: call.function,
             };
-            Ok(emit(state, id.first(), told, Value::Undefined)?)
+            emit(state, id.first(), told, Value::Undefined)
         }
     }
 }
@@ -127,7 +127,7 @@ pub(crate) fn emit_type<'p>(
     match v {
         Value::Text(result) => {
             let given = Value::Text(result.share(alloc)?);
-            Ok(emit(state, id.first(), Op::TypeofName { name, result }, given)?)
+            emit(state, id.first(), Op::TypeofName { name, result }, given)
         }
         Value::Undefined | Value::Null | Value::Bool(_) | Value::Num(_) | Value::Obj(_) => {
             Ok(Act::Fault(Fault::Misuse))
@@ -146,7 +146,7 @@ pub(crate) fn emit_literal<'p>(
     ensures falls { IfOk result (λ act. Falls state.old 6 state.new act) }
 {
     match literal_op(&state.store, &v)? {
-        Some(told) => Ok(emit(state, id.first(), told, v)?),
+        Some(told) => emit(state, id.first(), told, v),
         None => Ok(Act::Fault(Fault::Misuse)),
     }
 }

@@ -62,7 +62,7 @@ pub(crate) fn target_of(
     ensures { IfOk result (λ target. target ≡ callee_of (table_of functions.now) inner.now) }
 {
     match inner {
-        Inner::Script { function, .. } => Ok(script_target(functions, *function)?),
+        Inner::Script { function, .. } => script_target(functions, *function),
         Inner::Native(builtin) => Ok(Callee::Native(*builtin)),
         _ => Ok(bound_target()),
     }
@@ -84,7 +84,7 @@ fn script_target(functions: &List<ScriptFunction<'_>>, function: u32) -> Result<
     ensures { IfOk result (λ target. target ≡ script_callee function (slice_get (table_of functions.now) function)) }
 {
     match functions.items().get(function as usize) {
-        Some(called) => Ok(described(function, called)?),
+        Some(called) => described(function, called),
         None => Ok(Callee::Script {
             function,
             params: 0,

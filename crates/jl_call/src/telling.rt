@@ -42,8 +42,8 @@ pub fn step_told<'p>(
             value,
             strict,
             gives,
-        } => Ok(emit_put(alloc, state, id, strict, base, name, value, gives)?),
-        ToldFrame::Invoke { id, call } => Ok(make_call(state, id, call)?),
+        } => emit_put(alloc, state, id, strict, base, name, value, gives),
+        ToldFrame::Invoke { id, call } => make_call(state, id, call),
     }
 }
 
@@ -88,7 +88,7 @@ fn emit_put<'p>(
         strict,
         gives,
     };
-    Ok(emit_for(state, id, told, frame)?)
+    emit_for(state, id, told, frame)
 }
 
 /// What operations tell of a member of this name.

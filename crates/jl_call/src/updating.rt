@@ -36,14 +36,14 @@ pub(crate) fn enter_unary<'p>(
     ensures falls { IfOk result (λ act. Falls state.old 46 state.new act) }
 {
     match op {
-        UnKind::Up => Ok(update_value(alloc, state, id, true, v)?),
-        UnKind::Down => Ok(update_value(alloc, state, id, false, v)?),
+        UnKind::Up => update_value(alloc, state, id, true, v),
+        UnKind::Down => update_value(alloc, state, id, false, v),
         UnKind::Minus
         | UnKind::Plus
         | UnKind::Not
         | UnKind::Tilde
         | UnKind::Typeof
-        | UnKind::Void => Ok(operate_on(alloc, state, true, id.first(), op, v)?),
+        | UnKind::Void => operate_on(alloc, state, true, id.first(), op, v),
     }
 }
 
@@ -61,7 +61,7 @@ fn update_value<'p>(
 {
     let held = share(alloc, &v)?;
     state.push_value(ValueFrame::UpdateOperandPrimitive { id, up, held })?;
-    Ok(to_primitive(alloc, state, v, Hint::Number)?)
+    to_primitive(alloc, state, v, Hint::Number)
 }
 
 /// The operand of a hook of `++` or `--` is a primitive value (11.3).
@@ -79,7 +79,7 @@ pub fn step_update_operand_primitive<'p>(
     ensures falls { IfOk result (λ act. Falls state.old 12 state.new act) }
 {
     match number_of(&v) {
-        Ok(n) => Ok(emit_next(state, id, update_kind(up), held, n)?),
+        Ok(n) => emit_next(state, id, update_kind(up), held, n),
         Err(NumberOutside) => Ok(Act::Fault(Fault::NumberOutside)),
     }
 }
@@ -98,7 +98,7 @@ fn emit_next<'p>(
     ensures falls { IfOk result (λ act. Falls state.old 12 state.new act) }
 {
     match next_number(op, n) {
-        Ok(next) => Ok(emit_unary(state, id, op, held, Value::Num(next))?),
+        Ok(next) => emit_unary(state, id, op, held, Value::Num(next)),
         Err(NumberOutside) => Ok(Act::Fault(Fault::NumberOutside)),
     }
 }
@@ -116,7 +116,7 @@ fn emit_unary<'p>(
         state.new act) }
     ensures falls { IfOk result (λ act. Falls state.old 6 state.new act) }
 {
-    Ok(step_emit_unary(state, id.first(), op, operand, v)?)
+    step_emit_unary(state, id.first(), op, operand, v)
 }
 
 /// The kind of `++`, or of `--` with `false`.
@@ -143,5 +143,5 @@ pub(crate) fn enter_update<'p>(
     let noted = Noted { emits: true, id };
     let base = first_of(alloc, values)?;
     let key = second_of(alloc, values)?;
-    Ok(update_member(alloc, state, noted, strict, up, true, base, key)?)
+    update_member(alloc, state, noted, strict, up, true, base, key)
 }

@@ -59,7 +59,7 @@ fn begin<'p>(
         ExprKind::This => Ok(Act::Give(this_value(alloc, &state.calls)?)),
         ExprKind::Name(name) => Ok(read_name(alloc, state, name, here)?),
         ExprKind::Num(number) => Ok(give_number(*number)),
-        ExprKind::Str(text) => Ok(give_text(alloc, text)?),
+        ExprKind::Str(text) => give_text(alloc, text),
         ExprKind::Bool(truth) => Ok(give_boolean(*truth)),
         ExprKind::Null => Ok(give_null()),
         ExprKind::Array(items) => Ok(begin_array(alloc, state, items, here)?),
@@ -114,7 +114,7 @@ fn this_value(alloc: Global, calls: &Calls) -> Result<Value, NoMemory>
     ensures { IfOk result (λ v. v ≡ this_in calls.now) }
 {
     match calls.innermost() {
-        Some(call) => Ok(share(alloc, &call.this)?),
+        Some(call) => share(alloc, &call.this),
         None => Ok(Value::Obj(ObjId::GLOBAL)),
     }
 }
@@ -133,11 +133,11 @@ fn begin_unary<'p>(
     ensures left { IfOk result (λ _. state.new.left ≤ state.old.left) }
 {
     match op {
-        UnOp::Typeof => Ok(begin_typeof(alloc, state, operand, here)?),
-        UnOp::Delete => Ok(begin_delete(alloc, state, operand, here)?),
+        UnOp::Typeof => begin_typeof(alloc, state, operand, here),
+        UnOp::Delete => begin_delete(alloc, state, operand, here),
         _ => {
             let op = unary_kind(op);
-            Ok(state.evaluate(ValueFrame::Operand { op }, operand, here)?)
+            state.evaluate(ValueFrame::Operand { op }, operand, here)
         }
     }
 }
@@ -171,7 +171,7 @@ fn begin_typeof<'p>(
     ensures left { IfOk result (λ _. state.new.left ≤ state.old.left) }
 {
     match &operand.kind {
-        ExprKind::Name(name) => Ok(typeof_name(alloc, state, name, here)?),
+        ExprKind::Name(name) => typeof_name(alloc, state, name, here),
         _ => {
             let op = UnKind::Typeof;
             Ok(state.evaluate(ValueFrame::Operand { op }, operand, here)?)
@@ -195,7 +195,7 @@ fn begin_delete<'p>(
 {
     let strict = here.strict;
     match &operand.kind {
-        ExprKind::Name(name) => Ok(delete_name(alloc, state, name, here)?),
+        ExprKind::Name(name) => delete_name(alloc, state, name, here),
         ExprKind::Dot(object, key) => {
             Ok(evaluate_boxed(
                 state,
@@ -212,7 +212,7 @@ fn begin_delete<'p>(
                 here,
             )?)
         }
-        _ => Ok(state.evaluate(ValueFrame::DeleteValue, operand, here)?),
+        _ => state.evaluate(ValueFrame::DeleteValue, operand, here),
     }
 }
 
@@ -231,7 +231,7 @@ fn begin_update<'p>(
     ensures left { IfOk result (λ _. state.new.left ≤ state.old.left) }
 {
     match target {
-        Target::Name(name) => Ok(update_name(alloc, state, &name.text, up, prefix, here)?),
+        Target::Name(name) => update_name(alloc, state, &name.text, up, prefix, here),
         Target::Dot(object, key, _) => {
             let frame = ValueFrame::UpdateDotBase {
                 key,
@@ -270,7 +270,7 @@ fn begin_assignment<'p>(
     ensures left { IfOk result (λ _. state.new.left ≤ state.old.left) }
 {
     match target {
-        Target::Name(name) => Ok(assign_to_name(alloc, state, op, &name.text, value, here)?),
+        Target::Name(name) => assign_to_name(alloc, state, op, &name.text, value, here),
         Target::Dot(object, key, _) => {
             let frame = ValueFrame::AssignDotBase {
                 key,
@@ -308,6 +308,6 @@ fn assign_to_name<'p>(
 {
     match op {
         None => Ok(assign_name(alloc, state, name, value, here)?),
-        Some(op) => Ok(compute_name(alloc, state, name, op, value, here)?),
+        Some(op) => compute_name(alloc, state, name, op, value, here),
     }
 }

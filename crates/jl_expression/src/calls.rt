@@ -75,7 +75,7 @@ pub(crate) fn begin_new<'p>(
         args,
         here,
     };
-    Ok(evaluate_boxed(state, frame, constructor, here)?)
+    evaluate_boxed(state, frame, constructor, here)
 }
 
 /// A call of what is no member: it is evaluated first.
@@ -97,7 +97,7 @@ fn call_value<'p>(
         args,
         here,
     };
-    Ok(state.evaluate(frame, callee, here)?)
+    state.evaluate(frame, callee, here)
 }
 
 /// A call of `o.k`, by what that member is.
@@ -142,12 +142,12 @@ fn call_by_form<'p>(
     match form {
         CalleeForm::Hook(shape) => {
             let call = hook_call(alloc, shape, args)?;
-            Ok(call_hook(alloc, state, call, args, here)?)
+            call_hook(alloc, state, call, args, here)
         }
         CalleeForm::Opener(_) => Ok(Act::Fault(Fault::Misuse)),
         CalleeForm::NoHook => {
             let frame = ValueFrame::CalleeDotBase { key, args, here };
-            Ok(evaluate_boxed(state, frame, object, here)?)
+            evaluate_boxed(state, frame, object, here)
         }
     }
 }
@@ -170,7 +170,7 @@ fn call_hook<'p>(
         None => Ok(Act::Fault(Fault::Misuse)),
         Some(HookCall { id, hook, literals }) => {
             let purpose = ArgumentsFor::Hook { id, hook };
-            Ok(start_arguments(alloc, state, purpose, args, literals, here)?)
+            start_arguments(alloc, state, purpose, args, literals, here)
         }
     }
 }
@@ -201,9 +201,9 @@ fn call_of_call<'p>(
     ensures left { IfOk result (λ _. state.new.left ≤ state.old.left) }
 {
     match form_of(inner) {
-        CalleeForm::Opener(shape) => Ok(call_opener(alloc, state, shape, first, args, here)?),
-        CalleeForm::Hook(_) => Ok(call_value(state, callee, args, here)?),
-        CalleeForm::NoHook => Ok(call_value(state, callee, args, here)?),
+        CalleeForm::Opener(shape) => call_opener(alloc, state, shape, first, args, here),
+        CalleeForm::Hook(_) => call_value(state, callee, args, here),
+        CalleeForm::NoHook => call_value(state, callee, args, here),
     }
 }
 
@@ -230,7 +230,7 @@ fn call_opener<'p>(
         return Ok(Act::Fault(Fault::Misuse));
     }
     let call = opener_call(shape, first);
-    Ok(call_pair(alloc, state, call, first, second, here)?)
+    call_pair(alloc, state, call, first, second, here)
 }
 
 /// A pair of calls takes a step, and begins.
@@ -283,7 +283,7 @@ fn begin_pair<'p>(
             },
         ) => {
             let purpose = ArgumentsFor::Opener { id, opener, second };
-            Ok(start_arguments(alloc, state, purpose, first, literals, here)?)
+            start_arguments(alloc, state, purpose, first, literals, here)
         }
     }
 }

@@ -30,7 +30,7 @@ pub(crate) fn call_bound<'p>(
 {
     let constructs = has_construct(state.store.inner_of(target));
     if by_new && !constructs {
-        return Ok(throw_native(alloc, state, ErrorKind::TypeError, "not a constructor")?);
+        return throw_native(alloc, state, ErrorKind::TypeError, "not a constructor");
     }
     Ok(Act::Call(Invocation {
         callee: target,

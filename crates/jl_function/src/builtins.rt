@@ -43,9 +43,9 @@ fn begin_array<'p>(
     ensures falls { IfOk result (λ act. Falls state.old 400 state.new act) }
 {
     if is_array_call(row) {
-        return Ok(array_call::start(alloc, state, row, call)?);
+        return array_call::start(alloc, state, row, call);
     }
-    Ok(array::start(alloc, state, row, call)?)
+    array::start(alloc, state, row, call)
 }
 
 /// A builtin is called.
@@ -62,18 +62,18 @@ pub(crate) fn begin_builtin<'p>(
 {
     let row = called.row();
     if row < 20 {
-        return Ok(start_object(alloc, state, row, call)?);
+        return start_object(alloc, state, row, call);
     }
     if row < 28 {
-        return Ok(start_function(alloc, state, row, call)?);
+        return start_function(alloc, state, row, call);
     }
     if row < 51 {
-        return Ok(begin_array(alloc, state, row, call)?);
+        return begin_array(alloc, state, row, call);
     }
     if row < 72 {
-        return Ok(text::start(alloc, state, row, call)?);
+        return text::start(alloc, state, row, call);
     }
-    Ok(misc::start(alloc, state, row, call)?)
+    misc::start(alloc, state, row, call)
 }
 
 /// A builtin goes on with the value that it waited for.
@@ -87,18 +87,18 @@ pub fn step_progress<'p>(
     ensures falls { IfOk result (λ act. Falls state.old (rank_progress progress + 2) state.new act) }
 {
     match progress {
-        Progress::Object(progress) => Ok(resume_object(alloc, state, progress, v)?),
-        Progress::Function(progress) => Ok(resume_function(alloc, state, progress, v)?),
-        Progress::Array(progress) => Ok(array::resume(alloc, state, progress, v)?),
-        Progress::ArrayCall(progress) => Ok(array_call::resume(alloc, state, progress, v)?),
-        Progress::String(progress) => Ok(text::resume(alloc, state, progress, v)?),
-        Progress::Global(progress) => Ok(misc::resume_global(alloc, state, progress, v)?),
-        Progress::Number(progress) => Ok(misc::resume_number(alloc, state, progress, v)?),
-        Progress::Error(progress) => Ok(misc::resume_error(alloc, state, progress, v)?),
+        Progress::Object(progress) => resume_object(alloc, state, progress, v),
+        Progress::Function(progress) => resume_function(alloc, state, progress, v),
+        Progress::Array(progress) => array::resume(alloc, state, progress, v),
+        Progress::ArrayCall(progress) => array_call::resume(alloc, state, progress, v),
+        Progress::String(progress) => text::resume(alloc, state, progress, v),
+        Progress::Global(progress) => misc::resume_global(alloc, state, progress, v),
+        Progress::Number(progress) => misc::resume_number(alloc, state, progress, v),
+        Progress::Error(progress) => misc::resume_error(alloc, state, progress, v),
         Progress::Fill {
             array,
             values,
             from,
-        } => Ok(fill_array(alloc, state, array, values, from)?),
+        } => fill_array(alloc, state, array, values, from),
     }
 }

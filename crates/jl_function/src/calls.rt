@@ -47,18 +47,18 @@ fn begin_inside<'p>(
         Inner::Script { function, env } => {
             let function = *function;
             let env = *env;
-            Ok(begin_script(alloc, state, function, env, call)?)
+            begin_script(alloc, state, function, env, call)
         }
         Inner::Native(builtin) => {
             let builtin = *builtin;
-            Ok(begin_builtin(alloc, state, builtin, call)?)
+            begin_builtin(alloc, state, builtin, call)
         }
         Inner::Bound { target, this, args } => {
             let target = *target;
             let this = share(alloc, this)?;
             let bound = copy_of(alloc, args.items())?;
             let args = with_values(alloc, bound, call.args.items())?;
-            Ok(call_bound(alloc, state, target, this, args, call.by_new)?)
+            call_bound(alloc, state, target, this, args, call.by_new)
         }
         _ => Ok(Act::Give(Value::Undefined)),
     }

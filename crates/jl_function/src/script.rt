@@ -48,7 +48,7 @@ fn this_within(
     if is_nothing(v) {
         return Ok(Answer::Gives(Value::Obj(ObjId::GLOBAL)));
     }
-    Ok(this_as_object(store, v)?)
+    this_as_object(store, v)
 }
 
 /// ToObject of a value, as a value.
@@ -185,9 +185,9 @@ pub(crate) fn begin_script<'p>(
     ensures falls { IfOk result (λ act. Falls state.old 64 state.new act) }
 {
     if call.by_new {
-        Ok(construct_if_known(alloc, state, number, env, call)?)
+        construct_if_known(alloc, state, number, env, call)
     } else {
-        Ok(call_if_known(alloc, state, number, env, &call)?)
+        call_if_known(alloc, state, number, env, &call)
     }
 }
 

@@ -149,7 +149,7 @@ fn hook_asked(alloc: Global, shape: HookShape, args: &List<Expr>) -> Result<Opti
         }
         HookShape::Worded(hook, evaluated) => {
             if args.len() == 2 + usize::from(evaluated) {
-                Ok(hook_of_word(alloc, hook, word_in(args))?)
+                hook_of_word(alloc, hook, word_in(args))
             } else {
                 Ok(None)
             }
@@ -192,7 +192,7 @@ fn hook_of_word(
 {
     match word {
         None => Ok(None),
-        Some(word) => Ok(worded_hook(alloc, hook, word)?),
+        Some(word) => worded_hook(alloc, hook, word),
     }
 }
 

@@ -104,8 +104,8 @@ fn after_copying<'p>(
 {
     match next {
         AfterCopying::Concat { next, items, from } => {
-            Ok(append_items(alloc, state, array, next, items, from)?)
+            append_items(alloc, state, array, next, items, from)
         }
-        AfterCopying::Splice(splicing) => Ok(splice_others(state, splicing)?),
+        AfterCopying::Splice(splicing) => splice_others(state, splicing),
     }
 }

@@ -47,7 +47,7 @@ pub(crate) fn begin_turn<'p>(
     ensures leads { IfOk result (λ act. Works state.old (array_after progress value.Undefined) state.new act) }
     ensures falls { IfOk result (λ act. Falls state.old (rank_array progress + 3) state.new act) }
 {
-    Ok(go_on(state, Progress::Array(progress))?)
+    go_on(state, Progress::Array(progress))
 }
 
 /// An element is got, for which a function waits.

@@ -139,7 +139,7 @@ fn push<'p>(
         from: 0,
         then: AfterPutting::Push,
     };
-    Ok(begin_turn(state, progress)?)
+    begin_turn(state, progress)
 }
 
 /// `reverse` of an object with this length (15.4.4.8).
@@ -154,7 +154,7 @@ fn reverse<'p>(state: &mut State<'p>, object: ObjId, length: usize) -> Result<Ac
         lower: 0,
         left: length / 2,
     };
-    Ok(begin_turn(state, ArrayProgress::ReverseTurn { reversing })?)
+    begin_turn(state, ArrayProgress::ReverseTurn { reversing })
 }
 
 /// `sort` of an object with this length (15.4.4.11).
@@ -175,7 +175,7 @@ fn sort<'p>(
         k: 0,
     };
     let read = List::new(alloc);
-    Ok(begin_turn(state, ArrayProgress::SortTurn { reading, read })?)
+    begin_turn(state, ArrayProgress::SortTurn { reading, read })
 }
 
 /// `unshift` of an object with this length (15.4.4.13).

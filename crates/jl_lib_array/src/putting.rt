@@ -78,10 +78,10 @@ fn after_putting<'p>(
     ensures falls { IfOk result (λ act. Falls state.old 52 state.new act) }
 {
     match next {
-        AfterPutting::Push => Ok(give_length(alloc, state, object, index)?),
-        AfterPutting::Unshift { length } => Ok(give_length(alloc, state, object, length)?),
+        AfterPutting::Push => give_length(alloc, state, object, index),
+        AfterPutting::Unshift { length } => give_length(alloc, state, object, length),
         AfterPutting::Splice { array, length } => {
-            Ok(put_length(alloc, state, object, length, Value::Obj(array))?)
+            put_length(alloc, state, object, length, Value::Obj(array))
         }
         AfterPutting::Sort { length } => {
             let left = length.saturating_sub(index);
@@ -90,7 +90,7 @@ fn after_putting<'p>(
                 index,
                 left,
             };
-            Ok(begin_turn(state, progress)?)
+            begin_turn(state, progress)
         }
     }
 }

@@ -23,7 +23,7 @@ fn give_nothing<'p>(
     ensures leads { IfOk result (λ act. Works state.old (give_nothing object) state.new act) }
     ensures falls { IfOk result (λ act. Falls state.old 42 state.new act) }
 {
-    Ok(put_length(alloc, state, object, 0, Value::Undefined)?)
+    put_length(alloc, state, object, 0, Value::Undefined)
 }
 
 /// The last element is deleted, the length without it put, and a value given.

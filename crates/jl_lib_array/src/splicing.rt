@@ -23,7 +23,7 @@ pub(crate) fn length_spliced(splicing: &Splicing) -> Result<usize, NoMemory>
     ensures { IfOk result (λ length. length ≡ length_spliced splicing.now) }
 {
     let kept = splicing.length.saturating_sub(splicing.removed);
-    Ok(sum(kept, splicing.items.len())?)
+    sum(kept, splicing.items.len())
 }
 
 /// `splice` of an object with this length.

@@ -87,7 +87,7 @@ fn go_on_searching<'p>(
         direction,
         at,
     };
-    Ok(go_on(state, Progress::ArrayCall(progress))?)
+    go_on(state, Progress::ArrayCall(progress))
 }
 
 /// A turn begins, if one is left.

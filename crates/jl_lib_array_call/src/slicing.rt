@@ -154,7 +154,7 @@ fn begin_copy<'p>(
         count: end.saturating_sub(start),
         at: 0,
     };
-    Ok(go_on(state, Progress::ArrayCall(progress))?)
+    go_on(state, Progress::ArrayCall(progress))
 }
 
 /// A turn begins, if one is left (step 10).
@@ -252,5 +252,5 @@ fn next_copy<'p>(
         count,
         at: next_index(index)?,
     };
-    Ok(go_on(state, Progress::ArrayCall(progress))?)
+    go_on(state, Progress::ArrayCall(progress))
 }

@@ -33,7 +33,7 @@ pub(crate) fn go_on_walking<'p>(
     ensures falls { IfOk result (λ act. Falls state.old 9 state.new act) }
 {
     let progress = ArrayCallProgress::Turn { walk, task, at };
-    Ok(go_on(state, Progress::ArrayCall(progress))?)
+    go_on(state, Progress::ArrayCall(progress))
 }
 
 /// What a task comes to, when no turn is left.

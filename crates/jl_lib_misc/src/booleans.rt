@@ -31,7 +31,7 @@ pub(crate) fn boolean_constructor<'p>(
 {
     let first = argument(alloc, call.args.items(), 0)?;
     let truth = Value::Bool(to_boolean(&first));
-    Ok(value_or_object(state, call.by_new, Class::Boolean, BOOLEAN_PROTOTYPE, truth)?)
+    value_or_object(state, call.by_new, Class::Boolean, BOOLEAN_PROTOTYPE, truth)
 }
 
 /// The truth value that an object stands for, if it is a `Boolean` object.

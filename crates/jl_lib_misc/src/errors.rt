@@ -94,7 +94,7 @@ fn resume_new_message<'p>(
     ensures falls { IfOk result (λ act. Falls state.old 3 state.new act) }
 {
     let text = text_of(alloc, p)?;
-    Ok(give_error(alloc, state, proto, Some(text))?)
+    give_error(alloc, state, proto, Some(text))
 }
 
 /// `Error.prototype.toString()` (15.11.4.4).
@@ -113,7 +113,7 @@ pub(crate) fn error_to_string<'p>(
     let name = word(alloc, "name")?;
     let progress = Progress::Error(ErrorProgress::Name { object });
     state.push_algorithm(AlgorithmFrame::Builtin(progress))?;
-    Ok(get(alloc, state, &Value::Obj(object), &name)?)
+    get(alloc, state, &Value::Obj(object), &name)
 }
 
 /// Goes on with the name of an error (steps 3 and 4).
@@ -163,7 +163,7 @@ fn get_message<'p>(
     let message = word(alloc, "message")?;
     let progress = Progress::Error(ErrorProgress::Message { name });
     state.push_algorithm(AlgorithmFrame::Builtin(progress))?;
-    Ok(get(alloc, state, &Value::Obj(object), &message)?)
+    get(alloc, state, &Value::Obj(object), &message)
 }
 
 /// Goes on with the message of an error (steps 6 and 7).
@@ -196,7 +196,7 @@ fn resume_message_primitive<'p>(
     ensures falls { IfOk result (λ act. Falls state.old 3 state.new act) }
 {
     let message = text_of(alloc, p)?;
-    Ok(name_and_message(alloc, name, message)?)
+    name_and_message(alloc, name, message)
 }
 
 /// A name and a message, with a colon between where neither is empty (steps 8 to 10).
@@ -238,14 +238,14 @@ pub fn resume_error<'p>(
     ensures falls { IfOk result (λ act. Falls state.old (rank_error progress + 2) state.new act) }
 {
     match progress {
-        ErrorProgress::NewMessage { proto } => Ok(resume_new_message(alloc, state, proto, &v)?),
-        ErrorProgress::Name { object } => Ok(resume_name(alloc, state, object, v)?),
+        ErrorProgress::NewMessage { proto } => resume_new_message(alloc, state, proto, &v),
+        ErrorProgress::Name { object } => resume_name(alloc, state, object, v),
         ErrorProgress::NamePrimitive { object } => {
-            Ok(resume_name_primitive(alloc, state, object, &v)?)
+            resume_name_primitive(alloc, state, object, &v)
         }
-        ErrorProgress::Message { name } => Ok(resume_message(alloc, state, name, v)?),
+        ErrorProgress::Message { name } => resume_message(alloc, state, name, v),
         ErrorProgress::MessagePrimitive { name } => {
-            Ok(resume_message_primitive(alloc, state, name, &v)?)
+            resume_message_primitive(alloc, state, name, &v)
         }
     }
 }

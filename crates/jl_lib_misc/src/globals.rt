@@ -147,9 +147,9 @@ pub fn resume_global<'p>(
             is_first,
             args,
             from,
-        } => Ok(resume_print(alloc, state, line, is_first, args, from, &v)?),
-        GlobalProgress::Numeral { radix } => Ok(resume_numeral(alloc, state, radix, &v)?),
-        GlobalProgress::Radix { units } => Ok(resume_radix(state, &units, &v)?),
-        GlobalProgress::Test { test } => Ok(resume_test(state, test, &v)?),
+        } => resume_print(alloc, state, line, is_first, args, from, &v),
+        GlobalProgress::Numeral { radix } => resume_numeral(alloc, state, radix, &v),
+        GlobalProgress::Radix { units } => resume_radix(state, &units, &v),
+        GlobalProgress::Test { test } => resume_test(state, test, &v),
     }
 }

@@ -106,7 +106,7 @@ pub(crate) fn resume_base<'p>(
     ensures falls { IfOk result (λ act. Falls state.old 22 state.new act) }
 {
     match number_of(p) {
-        Ok(base) => Ok(convert_exponent(alloc, state, base, exponent)?),
+        Ok(base) => convert_exponent(alloc, state, base, exponent),
         Err(NumberOutside) => Ok(Act::Fault(Fault::NumberOutside)),
     }
 }

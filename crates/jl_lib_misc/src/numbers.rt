@@ -51,13 +51,13 @@ fn number_or_object<'p>(state: &mut State<'p>, by_new: bool, n: Num) -> Result<A
     ensures leads { IfOk result (λ act. Works state.old (number_or_object by_new n) state.new act) }
     ensures falls { IfOk result (λ act. Falls state.old 3 state.new act) }
 {
-    Ok(value_or_object(
+    value_or_object(
         state,
         by_new,
         Class::Number,
         NUMBER_PROTOTYPE,
         Value::Num(n),
-    )?)
+    )
 }
 
 /// `Number(value)` and `new Number(value)` (15.7.1.1, 15.7.2.1).
@@ -71,7 +71,7 @@ pub(crate) fn number_constructor<'p>(
 {
     let by_new = call.by_new;
     match value_from(alloc, call.args.items(), 0)? {
-        None => Ok(number_or_object(state, by_new, zero())?),
+        None => number_or_object(state, by_new, zero()),
         Some((v, _)) => {
             let progress = Progress::Number(NumberProgress::Given { by_new });
             Ok(wait_for_number(alloc, state, progress, v)?)
@@ -99,7 +99,7 @@ pub(crate) fn resume_given<'p>(
     ensures falls { IfOk result (λ act. Falls state.old 3 state.new act) }
 {
     match number_of(p) {
-        Ok(n) => Ok(number_or_object(state, by_new, n)?),
+        Ok(n) => number_or_object(state, by_new, n),
         Err(NumberOutside) => Ok(Act::Fault(Fault::NumberOutside)),
     }
 }
@@ -172,7 +172,7 @@ fn give_in_radix<'p>(
 {
     match radix_of(radix) {
         Some(radix) => Ok(Act::Give(Value::Text(text_in_radix(alloc, n, radix)?))),
-        None => Ok(throw_native(alloc, state, ErrorKind::RangeError, "bad radix")?),
+        None => throw_native(alloc, state, ErrorKind::RangeError, "bad radix"),
     }
 }
 
@@ -206,7 +206,7 @@ pub(crate) fn number_to_string<'p>(
     match number_of_receiver(&state.store, &call.this) {
         Some(n) => {
             let radix = argument(alloc, call.args.items(), 0)?;
-            Ok(convert_radix(alloc, state, n, radix)?)
+            convert_radix(alloc, state, n, radix)
         }
         None => Ok(throw_native(alloc, state, ErrorKind::TypeError, "wrong receiver")?),
     }
@@ -223,7 +223,7 @@ pub(crate) fn resume_radix<'p>(
     ensures falls { IfOk result (λ act. Falls state.old 3 state.new act) }
 {
     match number_of(p) {
-        Ok(radix) => Ok(give_in_radix(alloc, state, number, integer_of(radix))?),
+        Ok(radix) => give_in_radix(alloc, state, number, integer_of(radix)),
         Err(NumberOutside) => Ok(Act::Fault(Fault::NumberOutside)),
     }
 }

@@ -108,8 +108,8 @@ fn print_others<'p>(
     ensures falls { IfOk result (λ act. Falls state.old 3 state.new act) }
 {
     match value_from(alloc, args.items(), from)? {
-        None => Ok(print_line(alloc, state, line.items())?),
-        Some((v, next)) => Ok(print_argument(alloc, state, line, false, v, args, next)?),
+        None => print_line(alloc, state, line.items()),
+        Some((v, next)) => print_argument(alloc, state, line, false, v, args, next),
     }
 }
 
@@ -125,8 +125,8 @@ pub(crate) fn print<'p>(
     let line = List::new(alloc);
     let args = copy_of(alloc, args)?;
     match value_from(alloc, args.items(), 0)? {
-        None => Ok(print_line(alloc, state, line.items())?),
-        Some((v, next)) => Ok(print_argument(alloc, state, line, true, v, args, next)?),
+        None => print_line(alloc, state, line.items()),
+        Some((v, next)) => print_argument(alloc, state, line, true, v, args, next),
     }
 }
 
@@ -146,5 +146,5 @@ pub(crate) fn resume_print<'p>(
 {
     let text = text_of(alloc, p)?;
     let line = line_with(alloc, line, is_first, text.units())?;
-    Ok(print_others(alloc, state, line, args, from)?)
+    print_others(alloc, state, line, args, from)
 }

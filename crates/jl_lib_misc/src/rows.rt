@@ -153,15 +153,15 @@ pub fn start<'p>(
     ensures falls { IfOk result (λ act. Falls state.old 400 state.new act) }
 {
     if row < 77 {
-        return Ok(start_global(alloc, state, row, &call)?);
+        return start_global(alloc, state, row, &call);
     }
     if row < 87 {
-        return Ok(start_primitive(alloc, state, row, &call)?);
+        return start_primitive(alloc, state, row, &call);
     }
     if row < 95 {
-        return Ok(start_error(alloc, state, row, &call)?);
+        return start_error(alloc, state, row, &call);
     }
-    Ok(start_math(alloc, state, row, &call)?)
+    start_math(alloc, state, row, &call)
 }
 
 /// Goes on with the value that a builtin of numbers or of Math waited for.
@@ -175,16 +175,16 @@ pub fn resume_number<'p>(
     ensures falls { IfOk result (λ act. Falls state.old (rank_number progress + 2) state.new act) }
 {
     match progress {
-        NumberProgress::Given { by_new } => Ok(resume_given(state, by_new, &v)?),
-        NumberProgress::Radix { number } => Ok(resume_radix(alloc, state, number, &v)?),
-        NumberProgress::Argument { function } => Ok(resume_argument(state, function, &v)?),
+        NumberProgress::Given { by_new } => resume_given(state, by_new, &v),
+        NumberProgress::Radix { number } => resume_radix(alloc, state, number, &v),
+        NumberProgress::Argument { function } => resume_argument(state, function, &v),
         NumberProgress::Extreme {
             extreme,
             so_far,
             args,
             from,
-        } => Ok(resume_extreme(alloc, state, extreme, so_far, args, from, &v)?),
-        NumberProgress::Base { exponent } => Ok(resume_base(alloc, state, exponent, &v)?),
-        NumberProgress::Exponent { base } => Ok(resume_exponent(state, base, &v)?),
+        } => resume_extreme(alloc, state, extreme, so_far, args, from, &v),
+        NumberProgress::Base { exponent } => resume_base(alloc, state, exponent, &v),
+        NumberProgress::Exponent { base } => resume_exponent(state, base, &v),
     }
 }

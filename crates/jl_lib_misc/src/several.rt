@@ -113,7 +113,7 @@ pub(crate) fn one_of_arguments<'p>(
     ensures falls { IfOk result (λ act. Falls state.old 3 state.new act) }
 {
     let args = copy_of(alloc, args)?;
-    Ok(one_of_all(alloc, state, extreme, None, args, 0)?)
+    one_of_all(alloc, state, extreme, None, args, 0)
 }
 
 /// Goes on with an argument that has been converted.
@@ -133,7 +133,7 @@ pub(crate) fn resume_extreme<'p>(
     match number_of(p) {
         Ok(n) => {
             let next = next_extreme(extreme, so_far, n);
-            Ok(one_of_all(alloc, state, extreme, Some(next), args, from)?)
+            one_of_all(alloc, state, extreme, Some(next), args, from)
         }
         Err(NumberOutside) => Ok(Act::Fault(Fault::NumberOutside)),
     }

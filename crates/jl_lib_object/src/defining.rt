@@ -138,7 +138,7 @@ pub(crate) fn step_descriptor<'p>(
     ensures leads { IfOk result (λ act. Works state.old (define_by purpose v.now) state.new act) }
     ensures falls { IfOk result (λ act. Falls state.old (rank_use purpose + 28) state.new act) }
 {
-    Ok(to_property_descriptor(alloc, state, v, purpose)?)
+    to_property_descriptor(alloc, state, v, purpose)
 }
 
 /// The change at an index is done, and then those after it (15.2.3.7, step 6), and the object is given.

@@ -214,7 +214,7 @@ fn get_field<'p>(
             purpose,
         },
     )?;
-    Ok(get(alloc, state, &Value::Obj(descriptor), &name)?)
+    get(alloc, state, &Value::Obj(descriptor), &name)
 }
 
 /// The fields of a descriptor from one on, and then what it is read for.
@@ -231,13 +231,13 @@ fn read_fields<'p>(
     ensures falls { IfOk result (λ act. Falls state.old (rank_use purpose + (4 * fields_from next + 4)) state.new act) }
 {
     let Some(field) = next else {
-        return Ok(take_change(alloc, state, change, purpose)?);
+        return take_change(alloc, state, change, purpose);
     };
     if has_field(alloc, &state.store, descriptor, field)? {
-        return Ok(get_field(alloc, state, field, descriptor, change, purpose)?);
+        return get_field(alloc, state, field, descriptor, change, purpose);
     }
     let change = without_field(field, change);
-    Ok(read_fields(alloc, state, next_field(field), descriptor, change, purpose)?)
+    read_fields(alloc, state, next_field(field), descriptor, change, purpose)
 }
 
 /// Whether a change is data and accessor at once.

@@ -125,7 +125,7 @@ pub(crate) fn object_to_string<'p>(
     match &call.this {
         Value::Undefined => Ok(Act::Give(Value::Text(word(alloc, "[object Undefined]")?))),
         Value::Null => Ok(Act::Give(Value::Text(word(alloc, "[object Null]")?))),
-        _ => Ok(object_text(alloc, state, &call.this)?),
+        _ => object_text(alloc, state, &call.this),
     }
 }
 
@@ -174,7 +174,7 @@ pub(crate) fn object_is_prototype_of<'p>(
 {
     let v = argument_of(alloc, call, 0)?;
     match &v {
-        Value::Obj(id) => Ok(is_prototype_of_object(state, call, *id)?),
+        Value::Obj(id) => is_prototype_of_object(state, call, *id),
         _ => Ok(Act::Give(Value::Bool(false))),
     }
 }

@@ -97,12 +97,12 @@ pub fn resume_function<'p>(
             function,
             this,
             list,
-        } => Ok(step_length(alloc, state, function, this, list, v)?),
+        } => step_length(alloc, state, function, this, list, v),
         FunctionProgress::LengthPrimitive {
             function,
             this,
             list,
-        } => Ok(step_length_primitive(alloc, state, function, this, list, &v)?),
+        } => step_length_primitive(alloc, state, function, this, list, &v),
         FunctionProgress::Element {
             function,
             this,
@@ -110,6 +110,6 @@ pub fn resume_function<'p>(
             args,
             from,
             length,
-        } => Ok(step_element(alloc, state, function, this, list, args, from, length, v)?),
+        } => step_element(alloc, state, function, this, list, args, from, length, v),
     }
 }

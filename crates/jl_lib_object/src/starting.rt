@@ -105,9 +105,9 @@ pub fn start_object<'p>(
     ensures falls { IfOk result (λ act. Falls state.old 400 state.new act) }
 {
     if row < 10 {
-        Ok(start_changing(alloc, state, row, &call)?)
+        start_changing(alloc, state, row, &call)
     } else {
-        Ok(start_asking(alloc, state, row, &call)?)
+        start_asking(alloc, state, row, &call)
     }
 }
 
@@ -147,5 +147,5 @@ pub fn start_function<'p>(
         (builtin (names_of (table_of state.old.functions)) row (call_of call)) state.new act) }
     ensures falls { IfOk result (λ act. Falls state.old 400 state.new act) }
 {
-    Ok(start_row(alloc, state, row, &call)?)
+    start_row(alloc, state, row, &call)
 }

@@ -65,7 +65,7 @@ pub(crate) fn string_from_char_code<'p>(
 {
     let units = List::new(alloc);
     let args = copy_of(alloc, call.args.items())?;
-    Ok(string_of_codes(alloc, state, units, args, 0)?)
+    string_of_codes(alloc, state, units, args, 0)
 }
 
 /// Goes on with an argument that has been converted.
@@ -84,7 +84,7 @@ pub(crate) fn resume_char_code<'p>(
     match number_of(p) {
         Ok(n) => {
             let units = with_units(units, &[to_uint16(n)])?;
-            Ok(string_of_codes(alloc, state, units, args, from)?)
+            string_of_codes(alloc, state, units, args, from)
         }
         Err(NumberOutside) => Ok(Act::Fault(Fault::NumberOutside)),
     }

@@ -48,7 +48,7 @@ pub(crate) fn string_constructor<'p>(
     match value_from(alloc, call.args.items(), 0)? {
         None => {
             let empty = word(alloc, "")?;
-            Ok(string_or_object(state, by_new, empty)?)
+            string_or_object(state, by_new, empty)
         }
         Some((v, _)) => {
             let progress = StringProgress::Given { by_new };
@@ -68,7 +68,7 @@ pub(crate) fn resume_given<'p>(
     ensures falls { IfOk result (λ act. Falls state.old 3 state.new act) }
 {
     let units = text_of(alloc, p)?;
-    Ok(string_or_object(state, by_new, units)?)
+    string_or_object(state, by_new, units)
 }
 
 /// The string that an object stands for, if it is a `String` object.

@@ -118,7 +118,7 @@ pub(crate) fn resume_start<'p>(
     ensures falls { IfOk result (λ act. Falls state.old 22 state.new act) }
 {
     match number_of(p) {
-        Ok(start) => Ok(convert_end(alloc, state, cut, units, start, end)?),
+        Ok(start) => convert_end(alloc, state, cut, units, start, end),
         Err(NumberOutside) => Ok(Act::Fault(Fault::NumberOutside)),
     }
 }
@@ -137,7 +137,7 @@ pub(crate) fn resume_end<'p>(
     ensures falls { IfOk result (λ act. Falls state.old 3 state.new act) }
 {
     match number_of(p) {
-        Ok(end) => Ok(give_cut(alloc, cut, units, start, end)?),
+        Ok(end) => give_cut(alloc, cut, units, start, end),
         Err(NumberOutside) => Ok(Act::Fault(Fault::NumberOutside)),
     }
 }

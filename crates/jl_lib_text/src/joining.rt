@@ -65,7 +65,7 @@ pub(crate) fn join_all<'p>(
 {
     let units = with_units(List::new(alloc), units.units())?;
     let args = copy_of(alloc, args)?;
-    Ok(string_joined(alloc, state, units, args, 0)?)
+    string_joined(alloc, state, units, args, 0)
 }
 
 /// Goes on with an argument that has been converted.
@@ -86,5 +86,5 @@ pub(crate) fn resume_joined<'p>(
     if units.len() > MOST_UNITS {
         return Ok(Act::Fault(Fault::StringTooLong));
     }
-    Ok(string_joined(alloc, state, units, args, from)?)
+    string_joined(alloc, state, units, args, from)
 }

@@ -65,13 +65,13 @@ fn method_of_string<'p>(
     ensures falls { IfOk result (λ act. Falls state.old 46 state.new act) }
 {
     match method {
-        StringMethod::Unit(form) => Ok(convert_position(alloc, state, form, units, args)?),
-        StringMethod::Concat => Ok(join_all(alloc, state, &units, args)?),
-        StringMethod::Search(search) => Ok(convert_part(alloc, state, search, units, args)?),
-        StringMethod::Cut(cut) => Ok(convert_start(alloc, state, cut, units, args)?),
-        StringMethod::Split => Ok(split(alloc, state, units, args)?),
-        StringMethod::Case(case) => Ok(give_in_case(alloc, case, &units)?),
-        StringMethod::Trim => Ok(give_trimmed(alloc, &units)?),
+        StringMethod::Unit(form) => convert_position(alloc, state, form, units, args),
+        StringMethod::Concat => join_all(alloc, state, &units, args),
+        StringMethod::Search(search) => convert_part(alloc, state, search, units, args),
+        StringMethod::Cut(cut) => convert_start(alloc, state, cut, units, args),
+        StringMethod::Split => split(alloc, state, units, args),
+        StringMethod::Case(case) => give_in_case(alloc, case, &units),
+        StringMethod::Trim => give_trimmed(alloc, &units),
     }
 }
 
@@ -88,5 +88,5 @@ pub(crate) fn resume_this<'p>(
     ensures falls { IfOk result (λ act. Falls state.old 46 state.new act) }
 {
     let units = text_of(alloc, p)?;
-    Ok(method_of_string(alloc, state, method, units, args.items())?)
+    method_of_string(alloc, state, method, units, args.items())
 }

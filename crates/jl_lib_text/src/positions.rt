@@ -89,7 +89,7 @@ pub(crate) fn resume_position<'p>(
     ensures falls { IfOk result (λ act. Falls state.old 3 state.new act) }
 {
     match number_of(p) {
-        Ok(position) => Ok(give_unit(alloc, form, &units, position)?),
+        Ok(position) => give_unit(alloc, form, &units, position),
         Err(NumberOutside) => Ok(Act::Fault(Fault::NumberOutside)),
     }
 }

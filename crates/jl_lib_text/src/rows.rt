@@ -84,42 +84,42 @@ pub fn resume<'p>(
     ensures falls { IfOk result (λ act. Falls state.old (rank_string progress + 2) state.new act) }
 {
     match progress {
-        StringProgress::Given { by_new } => Ok(resume_given(alloc, state, by_new, &v)?),
+        StringProgress::Given { by_new } => resume_given(alloc, state, by_new, &v),
         StringProgress::CharCode { units, args, from } => {
-            Ok(resume_char_code(alloc, state, units, args, from, &v)?)
+            resume_char_code(alloc, state, units, args, from, &v)
         }
-        StringProgress::This { method, args } => Ok(resume_this(alloc, state, method, &args, &v)?),
+        StringProgress::This { method, args } => resume_this(alloc, state, method, &args, &v),
         StringProgress::Position { form, units } => {
-            Ok(resume_position(alloc, state, form, units, &v)?)
+            resume_position(alloc, state, form, units, &v)
         }
         StringProgress::Joined { units, args, from } => {
-            Ok(resume_joined(alloc, state, units, args, from, &v)?)
+            resume_joined(alloc, state, units, args, from, &v)
         }
         StringProgress::Part {
             search,
             units,
             position,
-        } => Ok(resume_part(alloc, state, search, units, position, &v)?),
+        } => resume_part(alloc, state, search, units, position, &v),
         StringProgress::Place {
             search,
             units,
             part,
-        } => Ok(resume_place(state, search, &units, &part, &v)?),
+        } => resume_place(state, search, &units, &part, &v),
         StringProgress::Start { cut, units, end } => {
-            Ok(resume_start(alloc, state, cut, units, end, &v)?)
+            resume_start(alloc, state, cut, units, end, &v)
         }
         StringProgress::End { cut, units, start } => {
-            Ok(resume_end(alloc, state, cut, &units, start, &v)?)
+            resume_end(alloc, state, cut, &units, start, &v)
         }
         StringProgress::Limit {
             units,
             array,
             separator,
-        } => Ok(resume_limit(alloc, state, units, array, separator, &v)?),
+        } => resume_limit(alloc, state, units, array, separator, &v),
         StringProgress::Separator {
             units,
             array,
             limit,
-        } => Ok(resume_separator(alloc, state, &units, array, limit, &v)?),
+        } => resume_separator(alloc, state, &units, array, limit, &v),
     }
 }

@@ -173,7 +173,7 @@ pub(crate) fn resume_limit<'p>(
     match number_of(p) {
         Ok(limit) => {
             let limit = to_uint32(limit);
-            Ok(convert_separator(alloc, state, units, array, separator, limit)?)
+            convert_separator(alloc, state, units, array, separator, limit)
         }
         Err(NumberOutside) => Ok(Act::Fault(Fault::NumberOutside)),
     }

@@ -25,7 +25,7 @@ pub(crate) fn wait_for_number<'p>(
     ensures falls { IfOk result (λ act. Falls state.old (rank_string progress + 16) state.new act) }
 {
     state.push_algorithm(AlgorithmFrame::Builtin(Progress::String(progress)))?;
-    Ok(to_primitive(alloc, state, v, Hint::Number)?)
+    to_primitive(alloc, state, v, Hint::Number)
 }
 
 /// A value is converted to a primitive one that is to be a string, for which a builtin waits (9.8).
@@ -40,5 +40,5 @@ pub(crate) fn wait_for_string<'p>(
     ensures falls { IfOk result (λ act. Falls state.old (rank_string progress + 16) state.new act) }
 {
     state.push_algorithm(AlgorithmFrame::Builtin(Progress::String(progress)))?;
-    Ok(to_primitive(alloc, state, v, Hint::Text)?)
+    to_primitive(alloc, state, v, Hint::Text)
 }

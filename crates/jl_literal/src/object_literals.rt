@@ -57,7 +57,7 @@ pub fn step_entry_value<'p>(
     ensures falls { IfOk result (λ act. Falls state.old (60 * length (items_left rest.entry) + 112) state.new act) }
 {
     let change = plain_change(v);
-    Ok(define_entry(alloc, state, object, key, change, rest, here)?)
+    define_entry(alloc, state, object, key, change, rest, here)
 }
 
 /// An object literal goes on when a property has been defined.
@@ -73,7 +73,7 @@ pub fn step_entries<'p>(
         (ValueFrame.Entries object rest.entry here) v) state.new act) }
     ensures falls { IfOk result (λ act. Falls state.old (60 * length (items_left rest.entry) + 62) state.new act) }
 {
-    Ok(equip(alloc, state, object, rest, here)?)
+    equip(alloc, state, object, rest, here)
 }
 
 /// The properties that are left.

@@ -101,7 +101,7 @@ pub fn step_operand<'p>(
         (ValueFrame.Operand op) v) state.new act) }
     ensures falls { IfOk result (λ act. Falls state.old 52 state.new act) }
 {
-    Ok(operate_on(alloc, state, false, OpId(0), op, v)?)
+    operate_on(alloc, state, false, OpId(0), op, v)
 }
 
 /// An operator goes on with the value of its left operand (11.5 to 11.10).
@@ -131,7 +131,7 @@ pub fn step_right_operand<'p>(
         (ValueFrame.RightOperand op left) v) state.new act) }
     ensures falls { IfOk result (λ act. Falls state.old 52 state.new act) }
 {
-    Ok(operate(alloc, state, false, OpId(0), op, left, v)?)
+    operate(alloc, state, false, OpId(0), op, left, v)
 }
 
 /// An expression is evaluated, and its value is given on.

@@ -37,7 +37,7 @@ fn advance<'p, O: Observer>(
             Ok(Next::Act(begin_statement(alloc, state, t, here, labels)?))
         }
         Act::Give(v) => Ok(Next::Act(give_value(alloc, state, v)?)),
-        Act::Complete(how) => Ok(give_completion(alloc, state, how)?),
+        Act::Complete(how) => give_completion(alloc, state, how),
         Act::Call(call) => Ok(Next::Act(begin_call(alloc, state, call)?)),
         Act::Emit(id, op) => {
             tell(kinds, observer, hooks, id, op)?;

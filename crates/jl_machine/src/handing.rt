@@ -30,9 +30,9 @@ fn continue_with_value<'p>(
     ensures falls { IfOk result (λ act. Falls state.old (rank frame.entry + 2) state.new act) }
 {
     match frame {
-        Frame::Value(frame) => Ok(step_value(alloc, state, frame, v)?),
-        Frame::Algorithm(frame) => Ok(step_algorithm(alloc, state, frame, v)?),
-        Frame::Statement(frame) => Ok(step_statement(alloc, state, frame, v)?),
+        Frame::Value(frame) => step_value(alloc, state, frame, v),
+        Frame::Algorithm(frame) => step_algorithm(alloc, state, frame, v),
+        Frame::Statement(frame) => step_statement(alloc, state, frame, v),
         Frame::Completion(_) => Ok(Act::Fault(Fault::Misuse)),
         Frame::Told(_) => Ok(Act::Fault(Fault::Misuse)),
         Frame::Body => Ok(Act::Fault(Fault::Misuse)),
@@ -130,7 +130,7 @@ pub(crate) fn give_value<'p>(
 {
     match state.stack.pop() {
         None => Ok(Act::Fault(Fault::Misuse)),
-        Some(frame) => Ok(continue_with_value(alloc, state, frame, v)?),
+        Some(frame) => continue_with_value(alloc, state, frame, v),
     }
 }
 
@@ -158,7 +158,7 @@ pub(crate) fn resume<'p>(alloc: Global, state: &mut State<'p>) -> Result<Act<'p>
 {
     match state.stack.pop() {
         None => Ok(Act::Fault(Fault::Misuse)),
-        Some(frame) => Ok(continue_by_itself(alloc, state, frame)?),
+        Some(frame) => continue_by_itself(alloc, state, frame),
     }
 }
 

@@ -58,7 +58,7 @@ pub fn assign_by_key<'p>(
     ensures falls { IfOk result (λ act. Falls state.old 160 state.new act) }
 {
     match op {
-        Some(op) => Ok(compute_by_key(alloc, state, base, op, value, here, name)?),
+        Some(op) => compute_by_key(alloc, state, base, op, value, here, name),
         None => {
             let frame = ValueFrame::PutMember {
                 emits: false,
@@ -111,7 +111,7 @@ pub fn step_assign_dot_base<'p>(
     ensures falls { IfOk result (λ act. Falls state.old 190 state.new act) }
 {
     let key = Value::Text(key.share(alloc)?);
-    Ok(assign_member(alloc, state, v, key, op, value, here)?)
+    assign_member(alloc, state, v, key, op, value, here)
 }
 
 /// An assignment to `o[k]` goes on with o.
@@ -133,7 +133,7 @@ pub fn step_assign_index_base<'p>(
         value,
         here,
     };
-    Ok(state.evaluate(frame, key, here)?)
+    state.evaluate(frame, key, here)
 }
 
 /// An assignment to `o[k]` goes on with k.
@@ -150,7 +150,7 @@ pub fn step_assign_index_key<'p>(
         (ValueFrame.AssignIndexKey base op value.entry here) v) state.new act) }
     ensures falls { IfOk result (λ act. Falls state.old 190 state.new act) }
 {
-    Ok(assign_member(alloc, state, base, v, op, value, here)?)
+    assign_member(alloc, state, base, v, op, value, here)
 }
 
 /// `o[k] op= e` goes on with the value of the member.
@@ -199,5 +199,5 @@ pub fn step_compute_member_operand<'p>(
         name,
         strict,
     })?;
-    Ok(operate(alloc, state, false, OpId(1), op, held, v)?)
+    operate(alloc, state, false, OpId(1), op, held, v)
 }

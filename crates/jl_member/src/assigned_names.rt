@@ -138,5 +138,5 @@ pub fn step_compute_name_operand<'p>(
         reference,
         strict,
     })?;
-    Ok(operate(alloc, state, false, OpId(1), op, held, v)?)
+    operate(alloc, state, false, OpId(1), op, held, v)
 }

@@ -83,7 +83,7 @@ fn note_deleted<'p>(
         name,
         result: free,
     };
-    Ok(emit(state, noted.id.first(), told, Value::Bool(free))?)
+    emit(state, noted.id.first(), told, Value::Bool(free))
 }
 
 /// `delete` of what is no reference gives true (11.4.1, step 2).
@@ -108,7 +108,7 @@ pub fn step_delete_dot_base<'p>(
     ensures falls { IfOk result (λ act. Falls state.old 30 state.new act) }
 {
     let key = Value::Text(key.share(alloc)?);
-    Ok(delete_own(alloc, state, strict, v, key)?)
+    delete_own(alloc, state, strict, v, key)
 }
 
 /// `delete o[k]` goes on with o.
@@ -141,7 +141,7 @@ pub fn step_delete_index_key<'p>(
         (ValueFrame.DeleteIndexKey base strict) v) state.new act) }
     ensures falls { IfOk result (λ act. Falls state.old 30 state.new act) }
 {
-    Ok(delete_own(alloc, state, strict, base, v)?)
+    delete_own(alloc, state, strict, base, v)
 }
 
 /// `delete o[k]`, where the script performs it.

@@ -33,7 +33,7 @@ pub fn put_member<'p>(
     ensures falls { IfOk result (λ act. Falls state.old 56 state.new act) }
 {
     if emits {
-        Ok(emit_and_put(alloc, state, id, strict, base, name, v, gives)?)
+        emit_and_put(alloc, state, id, strict, base, name, v, gives)
     } else {
         Ok(put(alloc, state, strict, base, &name, v, gives)?)
     }
@@ -86,5 +86,5 @@ pub fn step_put_member<'p>(
     ensures falls { IfOk result (λ act. Falls state.old 60 state.new act) }
 {
     let given = share(alloc, &v)?;
-    Ok(put_member(alloc, state, emits, id, strict, base, name, v, given)?)
+    put_member(alloc, state, emits, id, strict, base, name, v, given)
 }

@@ -41,7 +41,7 @@ pub fn get_member<'p>(
     ensures falls { IfOk result (λ act. Falls state.old 14 state.new act) }
 {
     if noted.emits {
-        Ok(get_and_emit(alloc, state, noted.id.first(), base, name)?)
+        get_and_emit(alloc, state, noted.id.first(), base, name)
     } else {
         Ok(get(alloc, state, &base, &name)?)
     }
@@ -80,7 +80,7 @@ pub fn get_by_key<'p>(
         (KeyFor.Get noted base) name) state.new act) }
     ensures falls { IfOk result (λ act. Falls state.old 16 state.new act) }
 {
-    Ok(get_member(alloc, state, noted, base, name)?)
+    get_member(alloc, state, noted, base, name)
 }
 
 /// o[k] (11.2.1).
@@ -112,7 +112,7 @@ pub fn step_dot_base<'p>(
     ensures falls { IfOk result (λ act. Falls state.old 40 state.new act) }
 {
     let key = Value::Text(key.share(alloc)?);
-    Ok(read_member(alloc, state, v, key)?)
+    read_member(alloc, state, v, key)
 }
 
 /// `o[k]` goes on with o.
@@ -140,5 +140,5 @@ pub fn step_index_key<'p>(
         (ValueFrame.IndexKey base) v) state.new act) }
     ensures falls { IfOk result (λ act. Falls state.old 40 state.new act) }
 {
-    Ok(read_member(alloc, state, base, v)?)
+    read_member(alloc, state, base, v)
 }

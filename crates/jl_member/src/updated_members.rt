@@ -110,7 +110,7 @@ pub fn step_update_dot_base<'p>(
     ensures falls { IfOk result (λ act. Falls state.old 150 state.new act) }
 {
     let key = Value::Text(key.share(alloc)?);
-    Ok(update_expression(alloc, state, strict, up, prefix, v, key)?)
+    update_expression(alloc, state, strict, up, prefix, v, key)
 }
 
 /// `++` or `--` of `o[k]` goes on with o.
@@ -133,7 +133,7 @@ pub fn step_update_index_base<'p>(
         prefix,
         strict: here.strict,
     };
-    Ok(state.evaluate(frame, key, here)?)
+    state.evaluate(frame, key, here)
 }
 
 /// `++` or `--` of `o[k]` goes on with k.
@@ -150,7 +150,7 @@ pub fn step_update_index_key<'p>(
         (ValueFrame.UpdateIndexKey base up prefix strict) v) state.new act) }
     ensures falls { IfOk result (λ act. Falls state.old 150 state.new act) }
 {
-    Ok(update_expression(alloc, state, strict, up, prefix, base, v)?)
+    update_expression(alloc, state, strict, up, prefix, base, v)
 }
 
 /// Goes on with the value of the member, which is converted to a primitive one.
@@ -232,7 +232,7 @@ fn put_next<'p>(
     let id = noted.id.third();
     let value = Value::Num(next);
     if !noted.emits {
-        return Ok(put_member(alloc, state, false, id, strict, base, name, value, gives)?);
+        return put_member(alloc, state, false, id, strict, base, name, value, gives);
     }
     let told = Op::Unary {
         op: update_kind(up),

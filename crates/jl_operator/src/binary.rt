@@ -28,14 +28,14 @@ pub fn binary_result<'p>(
     ensures falls { IfOk result (λ act. Falls state.old 40 state.new act) }
 {
     match op {
-        BinOp::Add => Ok(sum(alloc, state, a, b)?),
+        BinOp::Add => sum(alloc, state, a, b),
         BinOp::Less | BinOp::Greater | BinOp::LessEq | BinOp::GreaterEq => {
             Ok(compare(alloc, state, op, a, b)?)
         }
-        BinOp::InstanceOf => Ok(instance_of(alloc, state, a, &b)?),
-        BinOp::In => Ok(in_object(alloc, state, a, &b)?),
-        BinOp::Equal => Ok(equal(alloc, state, false, a, b)?),
-        BinOp::NotEqual => Ok(equal(alloc, state, true, a, b)?),
+        BinOp::InstanceOf => instance_of(alloc, state, a, &b),
+        BinOp::In => in_object(alloc, state, a, &b),
+        BinOp::Equal => equal(alloc, state, false, a, b),
+        BinOp::NotEqual => equal(alloc, state, true, a, b),
         BinOp::StrictEqual => Ok(strictly_equal(false, &a, &b)),
         BinOp::StrictNotEqual => Ok(strictly_equal(true, &a, &b)),
         BinOp::Mul

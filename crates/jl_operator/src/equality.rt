@@ -140,9 +140,9 @@ pub(crate) fn equal<'p>(
     ensures falls { IfOk result (λ act. Falls state.old 40 state.new act) }
 {
     if is_object(&a) {
-        Ok(object_equals(alloc, state, is_negative, a, b)?)
+        object_equals(alloc, state, is_negative, a, b)
     } else {
-        Ok(primitive_equals(alloc, state, is_negative, a, b)?)
+        primitive_equals(alloc, state, is_negative, a, b)
     }
 }
 

@@ -25,14 +25,14 @@ fn has_instance<'p>(
     ensures falls { IfOk result (λ act. Falls state.old 10 state.new act) }
 {
     let Some(f) = f else {
-        return Ok(throw_native(alloc, state, ErrorKind::TypeError, "not a function")?);
+        return throw_native(alloc, state, ErrorKind::TypeError, "not a function");
     };
     if !is_object(&v) {
         return Ok(Act::Give(Value::Bool(false)));
     }
     let name = word(alloc, "prototype")?;
     state.push_algorithm(AlgorithmFrame::InstanceOf { value: v })?;
-    Ok(get(alloc, state, &Value::Obj(f), &name)?)
+    get(alloc, state, &Value::Obj(f), &name)
 }
 
 /// Whether an object is an instance of a function with this prototype (15.3.5.3, steps 3 and 4).
@@ -67,7 +67,7 @@ fn has_prototype<'p>(
     ensures falls { IfOk result (λ act. Falls state.old 5 state.new act) }
 {
     match value {
-        Value::Obj(object) => Ok(is_instance(alloc, state, *object, proto)?),
+        Value::Obj(object) => is_instance(alloc, state, *object, proto),
         _ => Ok(throw_native(alloc, state, ErrorKind::TypeError, "not an object")?),
     }
 }
@@ -83,7 +83,7 @@ pub fn step_instance_of<'p>(
         (algorithm_after (AlgorithmFrame.InstanceOf value) v) state.new act) }
     ensures falls { IfOk result (λ act. Falls state.old 5 state.new act) }
 {
-    Ok(has_prototype(alloc, state, &value, &v)?)
+    has_prototype(alloc, state, &value, &v)
 }
 
 /// `a instanceof b` (11.8.6).
@@ -99,9 +99,9 @@ pub(crate) fn instance_of<'p>(
     match b {
         Value::Obj(f) => {
             let target = state.store.target_of(*f);
-            Ok(has_instance(alloc, state, target, a)?)
+            has_instance(alloc, state, target, a)
         }
-        _ => Ok(throw_native(alloc, state, ErrorKind::TypeError, "not a function")?),
+        _ => throw_native(alloc, state, ErrorKind::TypeError, "not a function"),
     }
 }
 
@@ -145,7 +145,7 @@ pub(crate) fn in_object<'p>(
     ensures falls { IfOk result (λ act. Falls state.old 40 state.new act) }
 {
     match b {
-        Value::Obj(object) => Ok(convert_name(alloc, state, a, *object)?),
+        Value::Obj(object) => convert_name(alloc, state, a, *object),
         _ => Ok(throw_native(alloc, state, ErrorKind::TypeError, "not an object")?),
     }
 }

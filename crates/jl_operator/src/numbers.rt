@@ -88,7 +88,7 @@ pub fn step_left_number<'p>(
     ensures falls { IfOk result (λ act. Falls state.old 22 state.new act) }
 {
     match number_of(&v) {
-        Ok(x) => Ok(with_left(alloc, state, op, x, right)?),
+        Ok(x) => with_left(alloc, state, op, x, right),
         Err(NumberOutside) => Ok(Act::Fault(Fault::NumberOutside)),
     }
 }

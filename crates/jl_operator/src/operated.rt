@@ -47,7 +47,7 @@ pub fn step_emit_binary<'p>(
         right: state.store.seen(&right)?,
         result: state.store.seen(&v)?,
     };
-    Ok(emit(state, id, told, v)?)
+    emit(state, id, told, v)
 }
 
 /// A hook emits what an operator on one operand gave.
@@ -67,7 +67,7 @@ pub fn step_emit_unary<'p>(
         operand: state.store.seen(&operand)?,
         result: state.store.seen(&v)?,
     };
-    Ok(emit(state, id, told, v)?)
+    emit(state, id, told, v)
 }
 
 /// A hook emits that a member was got, and what was found.
@@ -89,7 +89,7 @@ pub fn step_emit_get<'p>(
         value: state.store.seen(&v)?,
         found,
     };
-    Ok(emit(state, id, told, v)?)
+    emit(state, id, told, v)
 }
 
 /// A hook emits what a call gave.
@@ -107,7 +107,7 @@ pub fn step_emit_invoke<'p>(
         callee,
         result: state.store.seen(&v)?,
     };
-    Ok(emit(state, id, told, v)?)
+    emit(state, id, told, v)
 }
 
 /// An operator between two values, which a hook emits or the script performs with this id.

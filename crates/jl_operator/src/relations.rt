@@ -91,7 +91,7 @@ pub fn step_left_compared<'p>(
     ensures falls { IfOk result (λ act. Falls state.old 22 state.new act) }
 {
     state.push_algorithm(AlgorithmFrame::RightCompared { op, left: v })?;
-    Ok(to_primitive(alloc, state, right, Hint::Number)?)
+    to_primitive(alloc, state, right, Hint::Number)
 }
 
 /// The primitive values of both operands, the left one first, are compared (11.8.5).
@@ -107,5 +107,5 @@ pub(crate) fn compare<'p>(
     ensures falls { IfOk result (λ act. Falls state.old 40 state.new act) }
 {
     state.push_algorithm(AlgorithmFrame::LeftCompared { op, right: b })?;
-    Ok(to_primitive(alloc, state, a, Hint::Number)?)
+    to_primitive(alloc, state, a, Hint::Number)
 }

@@ -102,7 +102,7 @@ pub fn step_left_summand<'p>(
     ensures falls { IfOk result (λ act. Falls state.old 22 state.new act) }
 {
     state.push_algorithm(AlgorithmFrame::RightSummand { left: v })?;
-    Ok(to_primitive(alloc, state, right, Hint::None)?)
+    to_primitive(alloc, state, right, Hint::None)
 }
 
 /// Goes on with the right summand.
@@ -130,5 +130,5 @@ pub(crate) fn sum<'p>(
     ensures falls { IfOk result (λ act. Falls state.old 40 state.new act) }
 {
     state.push_algorithm(AlgorithmFrame::LeftSummand { right: b })?;
-    Ok(to_primitive(alloc, state, a, Hint::None)?)
+    to_primitive(alloc, state, a, Hint::None)
 }

@@ -97,7 +97,7 @@ pub fn unary_result<'p>(
 {
     match op {
         UnKind::Minus | UnKind::Plus | UnKind::Tilde | UnKind::Up | UnKind::Down => {
-            Ok(on_number(alloc, state, op, v)?)
+            on_number(alloc, state, op, v)
         }
         UnKind::Not => Ok(Act::Give(Value::Bool(!to_boolean(&v)))),
         UnKind::Typeof => {

@@ -55,7 +55,7 @@ fn begin_kind<'p>(
 {
     match &t.kind {
         StmtKind::Var(list) => {
-            Ok(declare_variables(alloc, state, Remaining { list, from: 0 }, here)?)
+            declare_variables(alloc, state, Remaining { list, from: 0 }, here)
         }
         StmtKind::Empty => Ok(Act::Complete(Completion::Normal)),
         StmtKind::Debugger => Ok(Act::Complete(Completion::Normal)),
@@ -71,11 +71,11 @@ fn begin_kind<'p>(
         }
         StmtKind::DoWhile(body, test) => {
             let kind = Loop::Do { body, test };
-            Ok(begin_turn(alloc, state, LoopTurn { kind, here, labels })?)
+            begin_turn(alloc, state, LoopTurn { kind, here, labels })
         }
         StmtKind::While(test, body) => {
             let kind = Loop::While { test, body };
-            Ok(begin_turn(alloc, state, LoopTurn { kind, here, labels })?)
+            begin_turn(alloc, state, LoopTurn { kind, here, labels })
         }
         StmtKind::For(init, test, update, body) => {
             let kind = Loop::For { test, update, body };
@@ -102,14 +102,14 @@ fn begin_kind<'p>(
         StmtKind::Break(label) => Ok(Act::Complete(Completion::Break(label_text(alloc, label)?))),
         StmtKind::Return(None) => Ok(Act::Complete(Completion::Return(Value::Undefined))),
         StmtKind::Return(Some(e)) => Ok(state.evaluate_for(StatementFrame::Return, e, here)?),
-        StmtKind::Labelled(label, inner) => Ok(begin_labelled(
+        StmtKind::Labelled(label, inner) => begin_labelled(
             alloc,
             state,
             &label.text,
             inner,
             here,
             labels,
-        )?),
+        ),
         StmtKind::Switch(e, cases) => {
             Ok(state.evaluate_for(StatementFrame::Switch { cases, here }, e, here)?)
         }

@@ -30,7 +30,7 @@ pub(crate) fn begin_branch<'p>(
 {
     match list {
         None => Ok(Act::Complete(Completion::Normal)),
-        Some(list) => Ok(begin_statements(alloc, state, list, here)?),
+        Some(list) => begin_statements(alloc, state, list, here),
     }
 }
 

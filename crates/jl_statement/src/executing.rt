@@ -68,7 +68,7 @@ pub fn begin_statements<'p>(
         (context_of state.old.calls here)) state.new act) }
     ensures falls { IfOk result (λ act. Falls state.old (14) state.new act) }
 {
-    Ok(begin_remaining(alloc, state, Remaining { list, from: 0 }, here)?)
+    begin_remaining(alloc, state, Remaining { list, from: 0 }, here)
 }
 
 /// The statements that are left of a list begin, where the one before them has completed normally (12.1).
@@ -85,7 +85,7 @@ pub(crate) fn step_statements<'p>(
     ensures falls { IfOk result (λ act. Falls state.old 12 state.new act) }
 {
     match how {
-        Completion::Normal => Ok(begin_remaining(alloc, state, rest, here)?),
+        Completion::Normal => begin_remaining(alloc, state, rest, here),
         Completion::Return(v) => Ok(Act::Complete(Completion::Return(v))),
         Completion::Throw(v) => Ok(Act::Complete(Completion::Throw(v))),
         Completion::Break(label) => Ok(Act::Complete(Completion::Break(label))),

@@ -159,7 +159,7 @@ fn visit_object<'p>(
 {
     let visits = visits_of(alloc, &state.store, object)?;
     let visits = Visits { visits, from: 0 };
-    Ok(visit_next(alloc, state, variable, visits, body, here, labels)?)
+    visit_next(alloc, state, variable, visits, body, here, labels)
 }
 
 /// Whether a value is undefined or null.

@@ -30,11 +30,11 @@ pub(crate) fn begin_for<'p>(
     ensures left { IfOk result (λ _. state.new.left ≤ state.old.left) }
 {
     match init {
-        ForInit::Nothing => Ok(begin_turn(alloc, state, turn)?),
+        ForInit::Nothing => begin_turn(alloc, state, turn),
         ForInit::Expr(e) => {
             let here = turn.here;
             Ok(state.evaluate_for(StatementFrame::ForExpression { turn }, e, here)?)
         }
-        ForInit::Var(list) => Ok(declare_head(alloc, state, Remaining { list, from: 0 }, turn)?),
+        ForInit::Var(list) => declare_head(alloc, state, Remaining { list, from: 0 }, turn),
     }
 }

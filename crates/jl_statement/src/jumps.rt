@@ -59,7 +59,7 @@ pub(crate) fn begin_labelled<'p>(
     ensures left { IfOk result (λ _. state.new.left ≤ state.old.left) }
 {
     let labels = with_label(alloc, label, labels)?;
-    Ok(execute_for(state, CompletionFrame::Labelled { label }, t, here, labels)?)
+    execute_for(state, CompletionFrame::Labelled { label }, t, here, labels)
 }
 
 /// `return` completes with its value (12.9).

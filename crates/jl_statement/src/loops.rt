@@ -92,7 +92,7 @@ fn take_turn<'p>(
             body,
         } => {
             let name = word(alloc, "")?;
-            Ok(put_visited(alloc, state, variable, name, visits, body, here, labels)?)
+            put_visited(alloc, state, variable, name, visits, body, here, labels)
         }
     }
 }
@@ -118,7 +118,7 @@ fn turn_for<'p>(
     let turn = LoopTurn { kind, here, labels };
     match test {
         Some(test) => Ok(state.evaluate_for(StatementFrame::Test { turn }, test, here)?),
-        None => Ok(begin_body(alloc, state, turn)?),
+        None => begin_body(alloc, state, turn),
     }
 }
 
@@ -169,7 +169,7 @@ pub(crate) fn step_body<'p>(
 {
     match after_body(turn.labels.items(), how) {
         Some(how) => Ok(Act::Complete(how)),
-        None => Ok(go_on(alloc, state, turn)?),
+        None => go_on(alloc, state, turn),
     }
 }
 
@@ -189,7 +189,7 @@ fn go_on<'p>(alloc: Global, state: &mut State<'p>, turn: LoopTurn<'p>) -> Result
         }
         Loop::While { test, body } => {
             let kind = Loop::While { test, body };
-            Ok(begin_turn(alloc, state, LoopTurn { kind, here, labels })?)
+            begin_turn(alloc, state, LoopTurn { kind, here, labels })
         }
         Loop::For { test, update, body } => Ok(go_on_for(
             alloc, state, test, update, body, here, labels,
@@ -198,7 +198,7 @@ fn go_on<'p>(alloc: Global, state: &mut State<'p>, turn: LoopTurn<'p>) -> Result
             variable,
             visits,
             body,
-        } => Ok(visit_next(alloc, state, variable, visits, body, here, labels)?),
+        } => visit_next(alloc, state, variable, visits, body, here, labels),
     }
 }
 
@@ -223,6 +223,6 @@ fn go_on_for<'p>(
     let turn = LoopTurn { kind, here, labels };
     match update {
         Some(update) => Ok(state.evaluate_for(StatementFrame::Update { turn }, update, here)?),
-        None => Ok(begin_turn(alloc, state, turn)?),
+        None => begin_turn(alloc, state, turn),
     }
 }

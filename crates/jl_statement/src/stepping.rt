@@ -32,34 +32,32 @@ pub fn step_statement<'p>(
 {
     match frame {
         StatementFrame::Expression => Ok(Act::Complete(Completion::Normal)),
-        StatementFrame::Variables { rest, here } => Ok(declare_variables(
-            alloc, state, rest, here,
-        )?),
-        StatementFrame::ForHead { rest, turn } => Ok(declare_head(alloc, state, rest, turn)?),
-        StatementFrame::ForExpression { turn } => Ok(begin_turn(alloc, state, turn)?),
+        StatementFrame::Variables { rest, here } => declare_variables(alloc, state, rest, here),
+        StatementFrame::ForHead { rest, turn } => declare_head(alloc, state, rest, turn),
+        StatementFrame::ForExpression { turn } => begin_turn(alloc, state, turn),
         StatementFrame::If {
             then,
             otherwise,
             here,
-        } => Ok(step_if(alloc, state, then, otherwise, here, v)?),
+        } => step_if(alloc, state, then, otherwise, here, v),
         StatementFrame::ForInObject {
             variable,
             body,
             here,
             labels,
-        } => Ok(step_for_in_object(alloc, state, variable, body, here, labels, v)?),
-        StatementFrame::ForInBody { turn } => Ok(begin_body(alloc, state, turn)?),
-        StatementFrame::Test { turn } => Ok(step_test(alloc, state, turn, v)?),
-        StatementFrame::Update { turn } => Ok(begin_turn(alloc, state, turn)?),
-        StatementFrame::Return => Ok(step_return(state, v)?),
-        StatementFrame::Throw => Ok(step_throw(state, v)?),
-        StatementFrame::Switch { cases, here } => Ok(step_switch(alloc, state, cases, here, v)?),
+        } => step_for_in_object(alloc, state, variable, body, here, labels, v),
+        StatementFrame::ForInBody { turn } => begin_body(alloc, state, turn),
+        StatementFrame::Test { turn } => step_test(alloc, state, turn, v),
+        StatementFrame::Update { turn } => begin_turn(alloc, state, turn),
+        StatementFrame::Return => step_return(state, v),
+        StatementFrame::Throw => step_throw(state, v),
+        StatementFrame::Switch { cases, here } => step_switch(alloc, state, cases, here, v),
         StatementFrame::CaseTest {
             value,
             index,
             cases,
             here,
-        } => Ok(step_case_test(alloc, state, value, index, cases, here, v)?),
+        } => step_case_test(alloc, state, value, index, cases, here, v),
     }
 }
 
@@ -75,20 +73,20 @@ pub fn step_completion<'p>(
     ensures falls { IfOk result (λ act. Falls state.old (rank_completion frame.entry + 2) state.new act) }
 {
     match frame {
-        CompletionFrame::Statements { rest, here } => Ok(step_statements(
+        CompletionFrame::Statements { rest, here } => step_statements(
             alloc, state, rest, here, how,
-        )?),
-        CompletionFrame::Clauses { rest, here } => Ok(step_clauses(alloc, state, rest, here, how)?),
+        ),
+        CompletionFrame::Clauses { rest, here } => step_clauses(alloc, state, rest, here, how),
         CompletionFrame::Switch => Ok(Act::Complete(after_switch(how))),
         CompletionFrame::Labelled { label } => Ok(Act::Complete(after_labelled(label, how))),
-        CompletionFrame::LoopBody { turn } => Ok(step_body(alloc, state, turn, how)?),
+        CompletionFrame::LoopBody { turn } => step_body(alloc, state, turn, how),
         CompletionFrame::TryBlock {
             catch,
             finally,
             here,
-        } => Ok(step_try(alloc, state, catch, finally, here, how)?),
+        } => step_try(alloc, state, catch, finally, here, how),
         CompletionFrame::CatchBlock { finally, here } => {
-            Ok(begin_finally(alloc, state, finally, how, here)?)
+            begin_finally(alloc, state, finally, how, here)
         }
         CompletionFrame::FinallyBlock { before } => Ok(Act::Complete(unless_abrupt(before, how))),
     }

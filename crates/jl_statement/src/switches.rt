@@ -81,7 +81,7 @@ pub(crate) fn step_clauses<'p>(
     ensures falls { IfOk result (λ act. Falls state.old (14 * length (items_left rest.entry) + 12) state.new act) }
 {
     match how {
-        Completion::Normal => Ok(begin_clauses(alloc, state, rest, here)?),
+        Completion::Normal => begin_clauses(alloc, state, rest, here),
         Completion::Return(v) => Ok(Act::Complete(Completion::Return(v))),
         Completion::Throw(v) => Ok(Act::Complete(Completion::Throw(v))),
         Completion::Break(label) => Ok(Act::Complete(Completion::Break(label))),
@@ -149,7 +149,7 @@ pub(crate) fn step_switch<'p>(
         state.new act) }
     ensures falls { IfOk result (λ act. Falls state.old (20 * length cases.now + 62) state.new act) }
 {
-    Ok(select_from(alloc, state, v, 0, cases, here)?)
+    select_from(alloc, state, v, 0, cases, here)
 }
 
 /// A `switch` goes on with the value of a case (12.11).

@@ -118,28 +118,16 @@ fn after_block<'p>(
     ensures falls { IfOk result (λ act. Falls state.old 52 state.new act) }
 {
     match how {
-        Completion::Throw(thrown) => Ok(begin_catch(alloc, state, handler, finally, here, thrown)?),
-        Completion::Normal => Ok(begin_finally(alloc, state, finally, Completion::Normal, here)?),
-        Completion::Return(v) => Ok(begin_finally(
-            alloc,
-            state,
-            finally,
-            Completion::Return(v),
-            here,
-        )?),
-        Completion::Break(x) => Ok(begin_finally(
-            alloc,
-            state,
-            finally,
-            Completion::Break(x),
-            here,
-        )?),
-        Completion::Continue(x) => Ok(begin_finally(
+        Completion::Throw(thrown) => begin_catch(alloc, state, handler, finally, here, thrown),
+        Completion::Normal => begin_finally(alloc, state, finally, Completion::Normal, here),
+        Completion::Return(v) => begin_finally(alloc, state, finally, Completion::Return(v), here),
+        Completion::Break(x) => begin_finally(alloc, state, finally, Completion::Break(x), here),
+        Completion::Continue(x) => begin_finally(
             alloc,
             state,
             finally,
             Completion::Continue(x),
             here,
-        )?),
+        ),
     }
 }

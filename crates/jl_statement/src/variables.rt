@@ -73,7 +73,7 @@ pub(crate) fn declare_head<'p>(
 {
     let here = turn.here;
     match first_initialised(rest) {
-        None => Ok(begin_turn(alloc, state, turn)?),
+        None => begin_turn(alloc, state, turn),
         Some((name, value, rest)) => {
             state.push_statement(StatementFrame::ForHead { rest, turn })?;
             Ok(assign_name(alloc, state, name, value, here)?)
