@@ -1,12 +1,14 @@
 //! Numerals without a sign (9.3.1). The digits are kept as a number without the zeros at its end, which are counted.
-ghost use Rattle.std.specs.Prelude.{◌≡◌, ◌≢◌, ◌+◌, ◌-◌, ◌*◌, ◌^◌, ◌<◌, ◌≤◌, ◌==◌, ◌||◌, ◌++◌, ℕ, true, false, pos, drop, length, codes, Option, Some, MatchOption};
+ghost use Rattle.std.specs.Prelude.{◌≡◌, ◌≢◌, ◌+◌, ◌-◌, ◌*◌, ◌^◌, ◌<◌, ◌≤◌, ◌==◌, ◌||◌, ◌++◌, ℕ, true, false, pos};
+ghost use Rattle.std.specs.Prelude.{drop, length, codes, Option, Some, MatchOption};
 ghost use Rattle.std.specs.List.{list_all, list_any, before_first, after_first};
 ghost use Rattle.std.specs.Result.{result_ok};
 ghost use Rattle.std.specs.Str.{bytes_eq};
 ghost use Rattle.jl_num.specs.Arithmetic.{number_of};
 ghost use Rattle.jl_token.specs.Characters.{is_digit, is_hex_digit, hex_digit_value, decimal_from, hex_from};
 ghost use Rattle.jl_lex.specs.Amounts.{Stands};
-ghost use Rattle.jl_conv.specs.Numerals.{are_digits, is_point, is_exponent_letter, signed, exact_value, raises, lowers, exponent_of, decimal_number, hexadecimal_number};
+ghost use Rattle.jl_conv.specs.Numerals.{are_digits, is_point, is_exponent_letter, signed, exact_value, raises, lowers};
+ghost use Rattle.jl_conv.specs.Numerals.{exponent_of, decimal_number, hexadecimal_number};
 ghost use Rattle.jl_conv.specs.Amounts.{Agree, Powers, IsExponent};
 
 use jl_lex::{is_digit, is_hex_digit};

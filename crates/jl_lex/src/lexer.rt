@@ -1,4 +1,5 @@
-ghost use Rattle.std.specs.Prelude.{◌≡◌, ◌+◌, ◌-◌, ◌<◌, ◌≤◌, ◌==◌, ◌&&◌, ◌||◌, ◌^◌, ◌⊎◌, ◌∷◌, ◌++◌, ℕ, List as Items, drop, length, IfOk, IfErr, MatchResult};
+ghost use Rattle.std.specs.Prelude.{◌≡◌, ◌+◌, ◌-◌, ◌<◌, ◌≤◌, ◌==◌, ◌&&◌, ◌||◌, ◌^◌, ◌⊎◌, ◌∷◌, ◌++◌, ℕ, List as Items};
+ghost use Rattle.std.specs.Prelude.{drop, length, IfOk, IfErr, MatchResult};
 ghost use Rattle.jl_token.specs.Characters.{is_digit, is_identifier_start, first_is};
 ghost use Rattle.jl_token.specs.Scanner.{scan, scan_word};
 ghost use Rattle.jl_token.specs.Tokens.{Piece, piece, tokens_among, Tokens, BadAt};

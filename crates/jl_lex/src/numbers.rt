@@ -1,9 +1,12 @@
 //! Numbers (7.8.3). A literal is valued in one pass over its digits, whatever its length and its exponent: its digits are
 //! kept without the zeros at their end, which are counted, and no more of them than a number of a script can have.
-ghost use Rattle.std.specs.Prelude.{◌≡◌, ◌+◌, ◌-◌, ◌*◌, ◌<◌, ◌≤◌, ◌==◌, ◌&&◌, ◌||◌, ◌^◌, nat_le, if◌then◌else◌, ℕ, List, Some, None, true, drop, length, IfSome, MatchOption};
+ghost use Rattle.std.specs.Prelude.{◌≡◌, ◌+◌, ◌-◌, ◌*◌, ◌<◌, ◌≤◌, ◌==◌, ◌&&◌, ◌||◌, ◌^◌, nat_le, if◌then◌else◌, ℕ};
+ghost use Rattle.std.specs.Prelude.{List, Some, None, true, drop, length, IfSome, MatchOption};
 ghost use Rattle.jl_token.specs.Characters.{is_digit, is_hex_digit, decimal_from, first_is};
-ghost use Rattle.jl_token.specs.Scanner.{many, one_unit, some_digits, exponent, exponent_by, with_exponent, after_fraction, after_whole, after_zero, hex_literal, numeral, number_end};
-ghost use Rattle.jl_lex.specs.Amounts.{scaled, add_digit, add_digits, value_from, if_number, capped_from, hex_capped_from, NumeralFrom, ExponentFrom, Stands};
+ghost use Rattle.jl_token.specs.Scanner.{many, one_unit, some_digits, exponent, exponent_by, with_exponent};
+ghost use Rattle.jl_token.specs.Scanner.{after_fraction, after_whole, after_zero, hex_literal, numeral, number_end};
+ghost use Rattle.jl_lex.specs.Amounts.{scaled, add_digit, add_digits, value_from, if_number, capped_from};
+ghost use Rattle.jl_lex.specs.Amounts.{hex_capped_from, NumeralFrom, ExponentFrom, Stands};
 ghost use Rattle.jl_lex.specs.Answers.{IsFrom};
 
 use crate::characters::{is_at, is_digit, is_digit_at, unit_at};

@@ -10,7 +10,8 @@ use Rattle.jl_heap.specs.declared.inner.Inner.TheVariants as inner
 use Rattle.jl_op.specs.Chosen.{is_kept, Kinds}
 use Rattle.jl_op.specs.Operations.{Operation}
 use Rattle.jl_effects.specs.Effects.{and_then, Begin, Change, Emit, End, Fail, Look, Perform, Print, Step}
-use Rattle.jl_effects.specs.Running.{has_room, nothing_done, run, run_to, step, with_hook, with_line, with_operation, with_store}
+use Rattle.jl_effects.specs.Running.{has_room, nothing_done, run, run_to, step, with_hook, with_line, with_operation}
+use Rattle.jl_effects.specs.Running.{with_store}
 use Rattle.jl_effects.specs.Running.{Outcome, Recorded, RunState}
 use Rattle.jl_effects.specs.Traces.{quietly}
 use Rattle.jl_meaning.specs.FunctionObjects.{FunctionTable}

@@ -1,4 +1,5 @@
-ghost use Rattle.jl_num.specs.Laws.{ResultsAreNumbers, QuotientsAreExact, RemaindersAreExact, PowersMultiply, IntegersStandForNumbers, DigitsWriteNumbers};
+ghost use Rattle.jl_num.specs.Laws.{ResultsAreNumbers, QuotientsAreExact, RemaindersAreExact, PowersMultiply};
+ghost use Rattle.jl_num.specs.Laws.{IntegersStandForNumbers, DigitsWriteNumbers};
 
 /// What an operation on numbers of a script gives is one.
 pub fn results_are_numbers()

@@ -1,4 +1,5 @@
-ghost use Rattle.std.specs.Prelude.{◌≡◌, ◌+◌, ◌^◌, ◌<◌, ◌≤◌, length, take, IfOk, IfErr, IfSome, OnOk, OnErr, IsErrOf, vec_len};
+ghost use Rattle.std.specs.Prelude.{◌≡◌, ◌+◌, ◌^◌, ◌<◌, ◌≤◌, length, take, IfOk, IfErr, IfSome, OnOk, OnErr, IsErrOf};
+ghost use Rattle.std.specs.Prelude.{vec_len};
 ghost use Rattle.jl_port.specs.declared.whole.ReadRefusal.TheVariants.{ReadFault, NoMemory};
 ghost use Rattle.jl_port.specs.Bytes.{Takes, TakesCount, TakesAtMost, Grows, IsAtEnd};
 ghost use Rattle.jl_port.specs.Count.{HasRisen};

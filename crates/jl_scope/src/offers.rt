@@ -5,9 +5,12 @@ ghost use Rattle.std.specs.Prelude.{◌≡◌, option_map};
 ghost use Rattle.jl_ast.specs.View.{view_ident, view_expression};
 ghost use Rattle.jl_scope.specs.Kinds.{first_from};
 ghost use Rattle.jl_scope.specs.Steps.{scope_of};
-ghost use Rattle.jl_scope.specs.EarlyErrors.{identifier_early_errors, written_early_errors, free_early_errors, read_early_errors};
-ghost use Rattle.jl_scope.specs.EarlyErrors.{target_early_errors, label_early_errors, break_early_errors, continue_early_errors};
-ghost use Rattle.jl_scope.specs.EarlyErrors.{return_early_errors, delete_early_errors, is_name, is_delete, for_in_early_errors};
+ghost use Rattle.jl_scope.specs.EarlyErrors.{identifier_early_errors, written_early_errors, free_early_errors};
+ghost use Rattle.jl_scope.specs.EarlyErrors.{read_early_errors};
+ghost use Rattle.jl_scope.specs.EarlyErrors.{target_early_errors, label_early_errors, break_early_errors};
+ghost use Rattle.jl_scope.specs.EarlyErrors.{continue_early_errors};
+ghost use Rattle.jl_scope.specs.EarlyErrors.{return_early_errors, delete_early_errors, is_name, is_delete};
+ghost use Rattle.jl_scope.specs.EarlyErrors.{for_in_early_errors};
 
 use crate::found::{Finding, Found};
 use crate::names::{is_among, is_hooks_name, is_left_out, is_strict_name, is_strict_word};

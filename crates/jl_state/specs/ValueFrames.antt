@@ -22,7 +22,8 @@ use Rattle.jl_meaning.specs.FunctionObjects.{FunctionTable}
 use Rattle.jl_meaning.specs.FunctionObjects as functions
 use Rattle.jl_meaning.specs.Noting.{emits, note, note_value, performs}
 use Rattle.jl_meaning.specs.Operators.{give_next}
-use Rattle.jl_meaning.specs.Parts.{begin_call, do_loop, for_in_loop, for_loop, gives, give, lift, look, new_object, or_fault, while_loop}
+use Rattle.jl_meaning.specs.Parts.{begin_call, do_loop, for_in_loop, for_loop, gives, give, lift, look, new_object}
+use Rattle.jl_meaning.specs.Parts.{or_fault, while_loop}
 use Rattle.jl_meaning.specs.Parts.{◌>>=◌, Algorithm, Answer, CallOf, Context, NumberOutside, Part}
 use Rattle.jl_meaning.specs.Parts as parts
 use Rattle.jl_meaning.specs.Putting.{delete}

@@ -1,10 +1,14 @@
 -- A scanner as plain functions, which computes with which input element units begin. It is a step of the proof: the
 -- lexer's code answers what it answers, and lemmas tie it to `Begins` and `Fault`. No public clause stands on it.
-use Rattle.std.specs.Prelude.{ℕ, zero, suc, ◌+◌, ◌*◌, ◌/◌, ◌%◌, ◌^◌, Bool, true, false, ◌==◌, ◌&&◌, ◌||◌, nat_le, List, [], ◌∷◌, ◌++◌, length, Option, Some, None, pos, if◌then◌else◌}
+use Rattle.std.specs.Prelude.{ℕ, zero, suc, ◌+◌, ◌*◌, ◌/◌, ◌%◌, ◌^◌, Bool, true, false, ◌==◌, ◌&&◌, ◌||◌, nat_le, List}
+use Rattle.std.specs.Prelude.{[], ◌∷◌, ◌++◌, length, Option, Some, None, pos, if◌then◌else◌}
 use Rattle.std.specs.List.{list_any}
-use Rattle.jl_token.specs.Characters.{is_white_space, is_line_terminator, is_on_line, is_identifier_start, is_identifier_part, is_digit, is_hex_digit, decimal_from, hex_from, are_hex_digits, hex_number, is_quote, single_escape, first_is}
+use Rattle.jl_token.specs.Characters.{is_white_space, is_line_terminator, is_on_line, is_identifier_start}
+use Rattle.jl_token.specs.Characters.{is_identifier_part, is_digit, is_hex_digit, decimal_from, hex_from}
+use Rattle.jl_token.specs.Characters.{are_hex_digits, hex_number, is_quote, single_escape, first_is}
 use Rattle.jl_token.specs.Punctuators.{punctuator_units, all_punctuators}
-use Rattle.jl_token.specs.Elements.{Element, White, LineEnd, LineComment, BlockComment, Word, name_text, is_escaped, string_text, is_plain}
+use Rattle.jl_token.specs.Elements.{Element, White, LineEnd, LineComment, BlockComment, Word, name_text, is_escaped}
+use Rattle.jl_token.specs.Elements.{string_text, is_plain}
 use Rattle.jl_token.specs.Tokens.{Piece, piece, place}
 use Rattle.jl_token.specs.declared.punct.Punct.{Punct}
 use Rattle.jl_token.specs.declared.token.TokenKind.TheVariants as kinds
