@@ -1,5 +1,5 @@
-//! Numbers (7.8.3). A literal is valued in one pass over its digits, whatever its length and its exponent: its digits are
-//! kept without the zeros at their end, which are counted, and no more of them than a number of a script can have.
+//! Numbers (7.8.3). A literal is valued in one pass over its digits, whatever its length and its exponent: its digits
+//! are kept without the zeros at their end, which are counted, and no more of them than a number of a script can have.
 ghost use Rattle.std.specs.Prelude.{◌≡◌, ◌+◌, ◌-◌, ◌*◌, ◌<◌, ◌≤◌, ◌==◌, ◌&&◌, ◌||◌, ◌^◌, nat_le, if◌then◌else◌, ℕ};
 ghost use Rattle.std.specs.Prelude.{List, Some, None, true, drop, length, IfSome, MatchOption};
 ghost use Rattle.jl_token.specs.Characters.{is_digit, is_hex_digit, decimal_from, first_is};

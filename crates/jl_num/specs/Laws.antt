@@ -30,7 +30,8 @@ pub record GiveNumbers (a b : Number) : Type 0 where
 abbrev pub ResultsAreNumbers : Type 0
 ResultsAreNumbers = (a b : Number) → IsNumber a → IsNumber b → GiveNumbers a b
 
--- a quotient is the number of a script whose product with the divisor is the dividend, and there is one where any such is
+-- a quotient is the number of a script whose product with the divisor is the dividend, and there is one where any such
+-- is
 abbrev pub QuotientsAreExact : Type 0
 QuotientsAreExact =
     (a b q : ℤ) → b ≢ pos 0 → (quotient_of (Some a) (Some b) ≡ Some (Some q)) ↔ ((q *ℤ b ≡ a) × IsNumber (Some q))

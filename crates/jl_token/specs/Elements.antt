@@ -1,7 +1,7 @@
 -- The input elements of a script (clause 7): with which of them a row of units begins, and which units are left.
 -- The relations here speak of any prefix of the units; that the longest prefix is taken is said in `Tokens`.
--- Units stand here by their numbers: 10 LF, 13 CR, 42 `*`, 43 `+`, 45 `-`, 46 `.`, 47 `/`, 48 `0`, 92 a backslash, 117 `u`,
--- 69 and 101 `E` and `e`, 88 and 120 `X` and `x`.
+-- Units stand here by their numbers: 10 LF, 13 CR, 42 `*`, 43 `+`, 45 `-`, 46 `.`, 47 `/`, 48 `0`, 92 a backslash, 117
+-- `u`, 69 and 101 `E` and `e`, 88 and 120 `X` and `x`.
 use Rattle.std.specs.Prelude.{◌≡◌, ◌≤◌, ℕ, ◌+◌, ◌*◌, ◌^◌, Bool, true, false, ◌==◌, ◌&&◌, ◌||◌, List, [], ◌∷◌, ◌++◌}
 use Rattle.std.specs.Prelude.{length, map, Some, pos}
 use Rattle.std.specs.List.{list_any, list_all, flat_map}
