@@ -51,7 +51,8 @@ abbrev mutual
   functions_in (if_else a b c s) = functions_in a + functions_in_forest b + functions_in_optional c
   functions_in (do_while a b s) = functions_in_forest a + functions_in b
   functions_in (while a b s) = functions_in a + functions_in_forest b
-  functions_in (for a b c d s) = functions_in a + functions_in_optional b + functions_in_optional c + functions_in_forest d
+  functions_in (for a b c d s) = functions_in a + functions_in_optional b + functions_in_optional c
+      + functions_in_forest d
   functions_in (for_in is_var a b c s) = functions_in b + functions_in_forest c
   functions_in (continue a s) = 0
   functions_in (break a s) = 0

@@ -127,7 +127,8 @@ fn digit_value(unit: u16) -> u64
 fn with_digit(amount: Amount, digit: u64) -> Amount
     requires digit { digit < 10 }
     requires few { amount.zeros < 2 ^ 63 }
-    ensures amount { (m : ℕ) → Stands amount.coefficient amount.zeros m → Stands result.coefficient result.zeros (m * 10 + digit) }
+    ensures amount { (m : ℕ) → Stands amount.coefficient amount.zeros m
+        → Stands result.coefficient result.zeros (m * 10 + digit) }
     ensures few { result.zeros ≤ amount.zeros + 1 }
 {
     if amount.coefficient == 0 {
@@ -168,7 +169,8 @@ fn power_of_ten(exponent: u64) -> u64
 fn read(amount: Amount, digits: &[u16]) -> Amount
     requires digits { list_all is_digit digits.now ≡ true }
     requires few { amount.zeros + length digits.now < 2 ^ 63 }
-    ensures amount { (m : ℕ) → Stands amount.coefficient amount.zeros m → Stands result.coefficient result.zeros (decimal_from m digits.now) }
+    ensures amount { (m : ℕ) → Stands amount.coefficient amount.zeros m
+        → Stands result.coefficient result.zeros (decimal_from m digits.now) }
     ensures few { result.zeros ≤ amount.zeros + length digits.now }
 {
     let mut read = amount;
@@ -180,7 +182,8 @@ fn read(amount: Amount, digits: &[u16]) -> Amount
 
 // The exponent of what stands after its letter, or 0.
 fn exponent_from(after_letter: Option<&[u16]>) -> Option<Exponent>
-    ensures { MatchOption after_letter.entry (IsExponent result (Some (0, 0))) (λ units. IsExponent result (exponent_of units.now)) }
+    ensures { MatchOption after_letter.entry (IsExponent result (Some (0, 0))) (λ units. IsExponent result
+        (exponent_of units.now)) }
 {
     match after_letter {
         Some(units) => signed_exponent(units),

@@ -154,7 +154,8 @@ pub fn is_digit_at(units: &[u16], at: usize) -> bool
 /// The place after a line terminator whose first unit stands before a place: a LF after a CR belongs to it.
 pub fn line_terminator_end(units: &[u16], at: usize, unit: u16) -> usize
     requires { at ≤ length units.now }
-    ensures rest { drop result units.now ≡ (if unit == 13 then after_line_feed (drop at units.now) else drop at units.now) }
+    ensures rest { drop result units.now ≡ (if unit == 13 then after_line_feed (drop at units.now)
+        else drop at units.now) }
     ensures later { at ≤ result }
     ensures within { result ≤ length units.now }
 {

@@ -158,7 +158,8 @@ fn value(amount: Amount, raise: u64, lower: u64) -> Option<u64>
 fn exponent_digits(units: &[u16], at: usize) -> Option<Power>
     requires { at ≤ length units.now }
     ensures digits { MatchOption result (some_digits is_digit (drop at units.now) ≡ None)
-        (λ x. (some_digits is_digit (drop at units.now) ≡ Some ((many (one_unit is_digit) (drop at units.now)).0, drop x.end units.now))
+        (λ x. (some_digits is_digit (drop at units.now) ≡ Some ((many (one_unit is_digit)
+            (drop at units.now)).0, drop x.end units.now))
         × (x.number ≡ capped_from 0 (many (one_unit is_digit) (drop at units.now)).0)) }
     ensures small { IfSome result (λ x. (x.number ≤ 10995116277769) × (at ≤ x.end) × (x.end ≤ length units.now)) }
 {
@@ -194,7 +195,8 @@ fn capped(number: u64, unit: u16) -> u64
 fn exponent_after(units: &[u16], at: usize, from: usize, lowers: bool) -> Exponent
     requires order { at ≤ from }
     requires within { from ≤ length units.now }
-    ensures read { ExponentFrom units.now at result (exponent_by (drop at units.now) lowers (some_digits is_digit (drop from units.now))) }
+    ensures read { ExponentFrom units.now at result (exponent_by (drop at units.now) lowers (some_digits is_digit
+        (drop from units.now))) }
     ensures small { result.raise ≤ 10995116277769 }
     ensures small_too { result.lower ≤ 10995116277769 }
 {
@@ -324,7 +326,8 @@ fn if_number(number: u64) -> Option<u64>
 fn hex(units: &[u16], at: usize) -> Option<Numeral>
     requires { at ≤ length units.now }
     ensures { MatchOption result (some_digits is_hex_digit (drop at units.now) ≡ None)
-        (λ n. (us : List ℕ) → NumeralFrom units.now at n (hex_literal us (some_digits is_hex_digit (drop at units.now)))) }
+        (λ n. (us : List ℕ) → NumeralFrom units.now at n (hex_literal us (some_digits is_hex_digit
+            (drop at units.now)))) }
 {
     let Some(_first) = hex_at(units, at) else {
         return None;

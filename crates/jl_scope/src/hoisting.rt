@@ -173,7 +173,8 @@ fn add_declarators<'a>(
     declarators: &'a [(Ident, Option<Expr>)],
     names: &mut Vec<&'a Text>,
 ) -> Result<(), NoMemory>
-    ensures { OnOk result (Adds (declared_in_forest (view_declarators declarators.now)) names.old.items names.new.items) }
+    ensures { OnOk result (Adds (declared_in_forest
+        (view_declarators declarators.now)) names.old.items names.new.items) }
 {
     for d in declarators {
         names.push(&d.0.text)?;

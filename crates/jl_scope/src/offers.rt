@@ -93,7 +93,8 @@ impl<'a> Found<'a> {
     /// A `break` with its label.
     #[tactic(auto, using(crate::proofs::Firsts::lists), unfolding(crate::specs::EarlyErrors::break_early_errors))]
     pub(crate) fn break_to(&mut self, label: &Option<Ident>, at: Span, s: &Scope<'_>)
-        ensures { self.new ≡ first_from self.old (break_early_errors (scope_of s.now) (option_map view_ident label.now) at) }
+        ensures { self.new ≡ first_from self.old (break_early_errors (scope_of s.now)
+            (option_map view_ident label.now) at) }
     {
         match label {
             None => self.offer_if(!s.can_break, EarlyRule::BreakOutside, at),
@@ -108,7 +109,8 @@ impl<'a> Found<'a> {
     /// A `continue` with its label.
     #[tactic(auto, using(crate::proofs::Firsts::lists), unfolding(crate::specs::EarlyErrors::continue_early_errors))]
     pub(crate) fn continue_to(&mut self, label: &Option<Ident>, at: Span, s: &Scope<'_>)
-        ensures { self.new ≡ first_from self.old (continue_early_errors (scope_of s.now) (option_map view_ident label.now) at) }
+        ensures { self.new ≡ first_from self.old (continue_early_errors (scope_of s.now)
+            (option_map view_ident label.now) at) }
     {
         match label {
             None => self.offer_if(!s.in_loop, EarlyRule::ContinueOutside, at),
@@ -131,7 +133,8 @@ impl<'a> Found<'a> {
     /// A prefix operator with its operand.
     #[tactic(auto, using(crate::proofs::Firsts::lists), unfolding(crate::specs::EarlyErrors::delete_early_errors))]
     pub(crate) fn delete(&mut self, op: UnOp, operand: &Expr, at: Span, s: &Scope<'_>)
-        ensures { self.new ≡ first_from self.old (delete_early_errors (scope_of s.now) op (view_expression operand.now) at) }
+        ensures { self.new ≡ first_from self.old (delete_early_errors (scope_of s.now) op
+            (view_expression operand.now) at) }
     {
         let deletes = s.strict && is_delete(op) && is_name(operand);
         self.offer_if(deletes, EarlyRule::StrictDelete, at);

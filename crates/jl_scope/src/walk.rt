@@ -167,7 +167,8 @@ fn walk_labelled<'a>(
     s: &Scope<'_>,
     found: &mut Found<'a>,
 ) -> Result<(), NoMemory>
-    ensures { OnOk result (found.new ≡ first_from found.old (label_early_errors (scope_of s.now) name.now.text name.now.span
+    ensures { OnOk result (found.new ≡ first_from found.old (label_early_errors
+        (scope_of s.now) name.now.text name.now.span
         ++ early_errors (under_label (scope_of s.now) name.now.text (is_loop (view_statement labelled.now)))
         (view_statement labelled.now))) }
 {
@@ -191,7 +192,8 @@ fn walk_catch<'a>(
     s: &Scope<'_>,
     found: &mut Found<'a>,
 ) -> Result<(), NoMemory>
-    ensures { OnOk result (found.new ≡ first_from found.old (written_early_errors (scope_of s.now) name.now.text name.now.span
+    ensures { OnOk result (found.new ≡ first_from found.old (written_early_errors
+        (scope_of s.now) name.now.text name.now.span
         ++ forest_early_errors (in_catch (scope_of s.now) name.now.text) (view_statements body.now))) }
 {
     found.written(&name.text, name.span, s);

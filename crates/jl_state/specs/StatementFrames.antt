@@ -88,7 +88,8 @@ module _ (table : FunctionTable) (calls : List Call) where
 
   -- what follows the body of a loop that has completed and goes on
   abbrev after_turn : LoopTurn → Loop → Part Completion
-  after_turn t (loop.Do l e) = completions.◌>>=◌ (test_loop table (tree.present (plain (view_expression e.now))) 0 (context t.here))
+  after_turn t (loop.Do l e) = completions.◌>>=◌ (test_loop table (tree.present (plain (view_expression e.now))) 0
+      (context t.here))
       (λ truth. if truth then next_turn t else normal)
   after_turn t (loop.While e l) = next_turn t
   after_turn t (loop.For e u l) =

@@ -68,4 +68,5 @@ all_punctuators = ShiftRightUnsignedAssign
     ∷ LessEqual ∷ GreaterEqual ∷ Equal ∷ NotEqual ∷ PlusPlus ∷ MinusMinus ∷ ShiftLeft ∷ ShiftRight ∷ AndAnd ∷ OrOr
     ∷ PlusAssign ∷ MinusAssign ∷ StarAssign ∷ PercentAssign ∷ AndAssign ∷ OrAssign ∷ CaretAssign ∷ SlashAssign
     ∷ LeftBrace ∷ RightBrace ∷ LeftParen ∷ RightParen ∷ LeftBracket ∷ RightBracket ∷ Dot ∷ Semicolon ∷ Comma
-    ∷ Less ∷ Greater ∷ Plus ∷ Minus ∷ Star ∷ Percent ∷ And ∷ Or ∷ Caret ∷ Bang ∷ Tilde ∷ Question ∷ Colon ∷ Assign ∷ Slash ∷ []
+    ∷ Less ∷ Greater ∷ Plus ∷ Minus ∷ Star ∷ Percent ∷ And ∷ Or ∷ Caret ∷ Bang ∷ Tilde ∷ Question ∷ Colon ∷ Assign
+        ∷ Slash ∷ []
