@@ -158,8 +158,11 @@ fn value(amount: Amount, raise: u64, lower: u64) -> Option<u64>
 fn exponent_digits(units: &[u16], at: usize) -> Option<Power>
     requires { at ≤ length units.now }
     ensures digits { MatchOption result (some_digits is_digit (drop at units.now) ≡ None)
-        (λ x. (some_digits is_digit (drop at units.now) ≡ Some ((many (one_unit is_digit)
-            (drop at units.now)).0, drop x.end units.now))
+        (λ x. (some_digits is_digit (drop at units.now) ≡ Some (
+          (many (one_unit is_digit)
+              (drop at units.now)).0,
+          drop x.end units.now,
+        ))
         × (x.number ≡ capped_from 0 (many (one_unit is_digit) (drop at units.now)).0)) }
     ensures small { IfSome result (λ x. (x.number ≤ 10995116277769) × (at ≤ x.end) × (x.end ≤ length units.now)) }
 {
@@ -327,7 +330,7 @@ fn hex(units: &[u16], at: usize) -> Option<Numeral>
     requires { at ≤ length units.now }
     ensures { MatchOption result (some_digits is_hex_digit (drop at units.now) ≡ None)
         (λ n. (us : List ℕ) → NumeralFrom units.now at n (hex_literal us (some_digits is_hex_digit
-            (drop at units.now)))) }
+        (drop at units.now)))) }
 {
     let Some(_first) = hex_at(units, at) else {
         return None;
