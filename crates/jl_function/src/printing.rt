@@ -80,7 +80,7 @@ fn print_argument<'p>(
 ) -> Result<Act<'p>, NoMemory>
     ensures leads { IfOk result (λ act. Works state.old
         (Step (to_string v then λ units. print_others (line_with line is_first units)
-            (drop from args))) state.new act) }
+        (drop from args))) state.new act) }
     ensures falls { IfOk result (λ act. Falls state.old 1 state.new act) }
 {
     if !state.spend() {

@@ -45,7 +45,7 @@ one_unit allowed (u ∷ us) = if allowed u then Some (u, us) else None
 unfoldable pub name_escape : (ℕ → Bool) → List ℕ → Option ((ℕ × Bool) × List ℕ)
 name_escape allowed (v ∷ a ∷ b ∷ c ∷ d ∷ us) =
     if v == 117 && are_hex_digits a b c d && allowed (hex_number a b c d)
-        then Some ((hex_number a b c d, true), us) else None
+    then Some ((hex_number a b c d, true), us) else None
 name_escape allowed _ = None
 
 unfoldable pub letter : (ℕ → Bool) → List ℕ → Option ((ℕ × Bool) × List ℕ)
@@ -171,7 +171,7 @@ other_escape u us =
     (if u == 120 then hex_escape us else
     (if u == 117 then unicode_escape us else
     (if is_digit u then (if u == 48 && (if first_is is_digit us then false else true)
-        then Some ((0 ∷ [], false), us) else
+    then Some ((0 ∷ [], false), us) else
     None) else
     Some ((u ∷ [], false), us))))
 
@@ -241,7 +241,7 @@ scan (u ∷ us) =
     if is_white_space u then found White us else
     (if is_line_terminator u then found LineEnd (if u == 13 then after_line_feed us else us) else
     (if u == 47 && first_is (λ v. v == 47) us then found LineComment (many (one_unit is_on_line)
-        (after_first us)).1 else
+    (after_first us)).1 else
     (if u == 47 && first_is (λ v. v == 42) us then block_end (many before_close (after_first us)) else
     scan_word u us)))
 
