@@ -1,10 +1,12 @@
 -- What is answered of a run that simulates another is about that other run.
-use Rattle.std.proofs.Common.{◌≡◌, ℕ, ◌+◌, ◌*◌, ◌-◌, ◌≤◌, ◌⊎◌, inl, inr, ◌++◌, List, [], ◌∷◌, length, filter, refl, sym, ap, ◌∙◌}
+use Rattle.std.proofs.Common.{◌≡◌, ℕ, ◌+◌, ◌*◌, ◌-◌, ◌≤◌, ◌⊎◌, inl, inr, ◌++◌, List, [], ◌∷◌, length, filter, refl, sym}
+use Rattle.std.proofs.Common.{ap, ◌∙◌}
 use Rattle.std.proofs.Common.{subst, arith}
 use Rattle.jl_ast.specs.Tree.{Program}
 use Rattle.jl_effects.specs.Growing.{IsLonger, IsPrefix}
 use Rattle.jl_effects.specs.Matching.{Alike, SameSeen, Simulates, bound}
-use Rattle.jl_effects.specs.Running.{Ends, Fails, Finish, IsOver, Over, RunState, Spent, state_of as world_of, steps_taken}
+use Rattle.jl_effects.specs.Running.{Ends, Fails, Finish, IsOver, Over, RunState, Spent, state_of as world_of}
+use Rattle.jl_effects.specs.Running.{steps_taken}
 use Rattle.jl_effects.specs.Traces.{with_state, without_operations}
 use Rattle.jl_machine.specs.Runs.{ending_of}
 use Rattle.jl_meaning.specs.Mean as mean

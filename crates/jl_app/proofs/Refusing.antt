@@ -17,7 +17,7 @@ use Rattle.jl_parse.specs.Refusals.{IsPlace, at_end}
 use Rattle.jl_scope.specs.declared.rules.EarlyRule.{EarlyRule}
 use Rattle.jl_grammar.proofs.One.{one_reading, reader_tells}
 use Rattle.jl_grammar.specs.Program.{Reads, last_end}
-use Rattle.jl_grammar.specs.Reader.{program_at}
+use Rattle.jl_grammar.specs.ReaderLevels.{program_at}
 use Rattle.jl_scope.specs.EarlyError.{EarlyError, first_early_error, early, left_out, reserved_name}
 use Rattle.jl_app.specs.declared.refusal.Refusal.{Refusal}
 use Rattle.jl_app.specs.declared.refusal.Refusal.TheVariants as refusals

@@ -130,8 +130,8 @@ fn run_answer(
     })
 }
 
-/// What `lint` answers to an accepted script: it hands the shelf the text of the woven script, and runs the program that
-/// it reads from what the shelf lends.
+/// What `lint` answers to an accepted script: it hands the shelf the text of the woven script, and runs the program
+/// that it reads from what the shelf lends.
 pub(crate) fn lint<H: Shelf>(
     alloc: Global,
     accepted: &Accepted,

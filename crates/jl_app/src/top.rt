@@ -80,7 +80,8 @@ fn due<S: Source, H: Shelf>(
 /// Runs the command that the words name, with the source as the script and the sink for the answer; all bytes of an
 /// answer are made before the first is written.
 ///
-/// `check` tells whether a script is accepted, `print` writes its canonical text, `instrument` that of the woven script,
+/// `check` tells whether a script is accepted, `print` writes its canonical text, `instrument` that of the woven
+/// script,
 /// `map` what the ids in that stand for, and `run` runs the script as it stands. `lint` hands the shelf the text that
 /// `instrument` writes, runs the program that it reads from what the shelf lends, and reports. No other command touches
 /// the shelf, and neither does a refusal that comes before.

@@ -1,7 +1,8 @@
 -- How high a tree is. Expressions, statements, targets that are members, accessors and function declarations are
 -- nodes; a function expression and its function are one node. A node is one more than the highest of its parts.
 use Rattle.std.specs.Prelude.{ℕ, ◌+◌, max}
-use Rattle.jl_ast.specs.Tree.{Program, Sort, Tree, Forest, OptionalTree, this, name, number, string, boolean, null, array}
+use Rattle.jl_ast.specs.Tree.{Program, Sort, Tree, Forest, OptionalTree, this, name, number, string, boolean, null}
+use Rattle.jl_ast.specs.Tree.{array}
 use Rattle.jl_ast.specs.Tree.{object, function_expression, dot, index, call, new, unary, update, binary, and, or}
 use Rattle.jl_ast.specs.Tree.{conditional, assign, comma, to_name, to_dot, to_index, hole, filled, value, getter}
 use Rattle.jl_ast.specs.Tree.{setter, function, body, var, empty, expression, block, if_else, do_while, while, for}

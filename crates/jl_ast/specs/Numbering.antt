@@ -1,7 +1,8 @@
 -- The numbers of functions: a function before those inside it, and the function declarations of a body before the
 -- functions of its statements; otherwise in the order of the text.
 use Rattle.std.specs.Prelude.{ℕ, ◌+◌}
-use Rattle.jl_ast.specs.Tree.{Program, Sort, Tree, Forest, OptionalTree, this, name, number, string, boolean, null, array}
+use Rattle.jl_ast.specs.Tree.{Program, Sort, Tree, Forest, OptionalTree, this, name, number, string, boolean, null}
+use Rattle.jl_ast.specs.Tree.{array}
 use Rattle.jl_ast.specs.Tree.{object, function_expression, dot, index, call, new, unary, update, binary, and, or}
 use Rattle.jl_ast.specs.Tree.{conditional, assign, comma, to_name, to_dot, to_index, hole, filled, value, getter}
 use Rattle.jl_ast.specs.Tree.{setter, function, body, var, empty, expression, block, if_else, do_while, while, for}
@@ -50,7 +51,8 @@ abbrev mutual
   functions_in (if_else a b c s) = functions_in a + functions_in_forest b + functions_in_optional c
   functions_in (do_while a b s) = functions_in_forest a + functions_in b
   functions_in (while a b s) = functions_in a + functions_in_forest b
-  functions_in (for a b c d s) = functions_in a + functions_in_optional b + functions_in_optional c + functions_in_forest d
+  functions_in (for a b c d s) = functions_in a + functions_in_optional b + functions_in_optional c
+      + functions_in_forest d
   functions_in (for_in is_var a b c s) = functions_in b + functions_in_forest c
   functions_in (continue a s) = 0
   functions_in (break a s) = 0

@@ -1,6 +1,7 @@
 -- The same tree with its places renamed, and without places.
 use Rattle.std.specs.Prelude.{map, option_map}
-use Rattle.jl_ast.specs.Tree.{Ident, Program, Sort, expr, stmt, func, target, Tree, Forest, OptionalTree, this, name, number}
+use Rattle.jl_ast.specs.Tree.{Ident, Program, Sort, expr, stmt, func, target, Tree, Forest, OptionalTree, this, name}
+use Rattle.jl_ast.specs.Tree.{number}
 use Rattle.jl_ast.specs.Tree.{string, boolean, null, array, object, function_expression, dot, index, call, new}
 use Rattle.jl_ast.specs.Tree.{unary, update, binary, and, or, conditional, assign, comma, to_name, to_dot, to_index}
 use Rattle.jl_ast.specs.Tree.{hole, filled, value, getter, setter, function, body, var, empty, expression, block}

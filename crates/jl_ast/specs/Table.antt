@@ -1,7 +1,8 @@
 -- The functions of a tree in the order in which they are numbered: a function before those inside it, and the
 -- function declarations of a body before the functions of its statements; otherwise in the order of the text.
 use Rattle.std.specs.Prelude.{ℕ, List, [], ◌∷◌, ◌++◌}
-use Rattle.jl_ast.specs.Tree.{Program, Sort, func, Tree, Forest, OptionalTree, this, name, number, string, boolean, null}
+use Rattle.jl_ast.specs.Tree.{Program, Sort, func, Tree, Forest, OptionalTree, this, name, number, string, boolean}
+use Rattle.jl_ast.specs.Tree.{null}
 use Rattle.jl_ast.specs.Tree.{array, object, function_expression, dot, index, call, new, unary, update, binary}
 use Rattle.jl_ast.specs.Tree.{and, or, conditional, assign, comma, to_name, to_dot, to_index, hole, filled}
 use Rattle.jl_ast.specs.Tree.{value, getter, setter, function, body, var, empty, expression, block, if_else}

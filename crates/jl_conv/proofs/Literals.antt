@@ -1,5 +1,7 @@
 -- The definition by parts, and the productions.
-use Rattle.std.proofs.Common.{◌≡◌, refl, sym, ap, ◌∙◌, subst, ℕ, ◌+◌, ◌<◌, pos, Bool, true, false, ◌==◌, ◌&&◌, List, [], ◌∷◌, ◌++◌, length, take, drop, Option, Some, arith, append-nil, append_assoc, length-append, ⊎_elim}
+use Rattle.std.proofs.Common.{◌≡◌, refl, sym, ap, ◌∙◌, subst, ℕ, ◌+◌, ◌<◌, pos, Bool, true, false, ◌==◌, ◌&&◌, List, []}
+use Rattle.std.proofs.Common.{◌∷◌, ◌++◌, length, take, drop, Option, Some, arith, append-nil, append_assoc}
+use Rattle.std.proofs.Common.{length-append, ⊎_elim}
 use Rattle.std.proofs.lemmas.List.{take_at, drop_at}
 use Rattle.std.proofs.lemmas.List.Folds.{list_all-append, list_any-append}
 use Rattle.std.specs.Prelude.{codes}
@@ -12,8 +14,11 @@ use Rattle.jl_token.specs.Elements.{Many, no_more, one_more, OneUnit, unit, Digi
 use Rattle.jl_token.specs.Elements as elements
 use Rattle.jl_token.proofs.Tests.{or_cases, or_false, is_unit}
 use Rattle.jl_token.proofs.Units.{digits}
-use Rattle.jl_conv.specs.Numerals.{are_digits, raises, lowers, exponent_of, is_exponent_letter, is_point, significand, whole_part, fraction_part, exponent_part, parts_number, decimal_number, exact_value, is_hexadecimal_letter, literal_number, text_number}
-use Rattle.jl_conv.specs.Literals.{Unsigned, whole, with_point, from_point, Literal, unsigned, infinity, plus_infinity, minus_infinity, hexadecimal}
+use Rattle.jl_conv.specs.Numerals.{are_digits, raises, lowers, exponent_of, is_exponent_letter, is_point, significand}
+use Rattle.jl_conv.specs.Numerals.{whole_part, fraction_part, exponent_part, parts_number, decimal_number, exact_value}
+use Rattle.jl_conv.specs.Numerals.{is_hexadecimal_letter, literal_number, text_number}
+use Rattle.jl_conv.specs.Literals.{Unsigned, whole, with_point, from_point, Literal, unsigned, infinity, plus_infinity}
+use Rattle.jl_conv.specs.Literals.{minus_infinity, hexadecimal}
 use Rattle.jl_conv.specs.Literals as literals
 use Rattle.jl_conv.specs.Laws.{LiteralsHaveTheirValue}
 use Rattle.jl_conv.proofs.Splits.{both, passes_at, some_passes, none_passes}

@@ -1,5 +1,7 @@
 -- What converts to another number than NaN is a literal by the productions.
-use Rattle.std.proofs.Common.{◌≡◌, ◌≢◌, refl, sym, ap, ◌∙◌, subst, ℕ, ◌+◌, ◌<◌, Bool, true, false, not, ◌==◌, ◌&&◌, ◌||◌, cond, List, [], ◌∷◌, ◌++◌, length, get_or, drop, Option, Some, None, ◌⊎◌, inl, inr, arith, append-nil, append_assoc, ⊎_elim}
+use Rattle.std.proofs.Common.{◌≡◌, ◌≢◌, refl, sym, ap, ◌∙◌, subst, ℕ, ◌+◌, ◌<◌, Bool, true, false, not, ◌==◌, ◌&&◌}
+use Rattle.std.proofs.Common.{◌||◌, cond, List, [], ◌∷◌, ◌++◌, length, get_or, drop, Option, Some, None, ◌⊎◌, inl, inr}
+use Rattle.std.proofs.Common.{arith, append-nil, append_assoc, ⊎_elim}
 use Rattle.std.proofs.lemmas.List.Folds.{list_all-append}
 use Rattle.std.proofs.lemmas.List.Sums.{split_at_first, passes_at_first}
 use Rattle.std.proofs.lemmas.Slice.Eq.{bytes_eq-Decides}
@@ -10,8 +12,11 @@ use Rattle.jl_token.specs.Characters.{is_digit, is_hex_digit, decimal_from, firs
 use Rattle.jl_token.specs.Elements.{Many, no_more, one_more, OneUnit, unit, Digits, Exponent, no_exponent, no_sign}
 use Rattle.jl_token.specs.Elements as elements
 use Rattle.jl_token.proofs.Tests.{true_or_false, and_true, is_unit, some_pair}
-use Rattle.jl_conv.specs.Numerals.{trimmed, are_digits, raises, lowers, exponent_of, is_exponent_letter, is_point, significand, whole_part, fraction_part, exponent_part, parts_number, decimal_number, is_hexadecimal_letter, hexadecimal_number, literal_number, text_number}
-use Rattle.jl_conv.specs.Literals.{Unsigned, whole, with_point, from_point, Literal, unsigned, infinity, plus_infinity, minus_infinity, hexadecimal}
+use Rattle.jl_conv.specs.Numerals.{trimmed, are_digits, raises, lowers, exponent_of, is_exponent_letter, is_point}
+use Rattle.jl_conv.specs.Numerals.{significand, whole_part, fraction_part, exponent_part, parts_number, decimal_number}
+use Rattle.jl_conv.specs.Numerals.{is_hexadecimal_letter, hexadecimal_number, literal_number, text_number}
+use Rattle.jl_conv.specs.Literals.{Unsigned, whole, with_point, from_point, Literal, unsigned, infinity, plus_infinity}
+use Rattle.jl_conv.specs.Literals.{minus_infinity, hexadecimal}
 use Rattle.jl_conv.specs.Literals as literals
 use Rattle.jl_conv.specs.Laws.{OnlyLiteralsHaveOne}
 use Rattle.jl_conv.proofs.Splits.{both}

@@ -1,5 +1,7 @@
 -- The text of a number converts to that number.
-use Rattle.std.proofs.Common.{◌≡◌, refl, sym, ap, ◌∙◌, ℕ, zero, suc, ◌+◌, ◌-◌, ◌*◌, ◌/◌, ◌%◌, ◌<◌, ◌≤◌, pos, negsuc, Bool, true, false, ◌==◌, ◌&&◌, List, [], ◌∷◌, length, get_or, drop, Some, None, arith, add-one, append-nil, length-append, ⊎_elim}
+use Rattle.std.proofs.Common.{◌≡◌, refl, sym, ap, ◌∙◌, ℕ, zero, suc, ◌+◌, ◌-◌, ◌*◌, ◌/◌, ◌%◌, ◌<◌, ◌≤◌, pos, negsuc}
+use Rattle.std.proofs.Common.{Bool, true, false, ◌==◌, ◌&&◌, List, [], ◌∷◌, length, get_or, drop, Some, None, arith}
+use Rattle.std.proofs.Common.{add-one, append-nil, length-append, ⊎_elim}
 use Rattle.std.proofs.lemmas.Bool.{cases_lt}
 use Rattle.std.proofs.lemmas.Bool.Decides.{nat_tests}
 use Rattle.std.proofs.lemmas.List.{take_all, drop_all}
@@ -14,7 +16,9 @@ use Rattle.jl_num.proofs.Quotient.{small_size}
 use Rattle.jl_token.specs.Characters.{is_white_space, is_line_terminator, is_digit, decimal_from, first_is}
 use Rattle.jl_token.proofs.Tests.{or_false, both_false}
 use Rattle.jl_token.proofs.Units.{units, all_below, digits, each_digit}
-use Rattle.jl_conv.specs.Numerals.{is_space, without_end, trimmed, are_digits, signed, exact_value, is_exponent_letter, is_point, whole_part, fraction_part, exponent_part, parts_number, decimal_number, is_hexadecimal_letter, literal_number, text_number}
+use Rattle.jl_conv.specs.Numerals.{is_space, without_end, trimmed, are_digits, signed, exact_value, is_exponent_letter}
+use Rattle.jl_conv.specs.Numerals.{is_point, whole_part, fraction_part, exponent_part, parts_number, decimal_number}
+use Rattle.jl_conv.specs.Numerals.{is_hexadecimal_letter, literal_number, text_number}
 use Rattle.jl_conv.specs.Laws.{TextsReadBack}
 use Rattle.jl_conv.proofs.Splits.{passes_at, none_passes}
 use Rattle.jl_conv.proofs.Values.{value_is, decimal_from-append}

@@ -1,5 +1,7 @@
 -- The exact value of an amount with an exponent.
-use Rattle.std.proofs.Common.{◌≡◌, ◌≢◌, refl, sym, ap, ◌∙◌, subst, ℕ, zero, suc, ◌+◌, ◌-◌, ◌*◌, ◌^◌, ◌<◌, ◌≤◌, min, ℤ, pos, ◌*ℤ◌, unsigned_abs, Bool, true, false, Bor, List, [], ◌∷◌, ◌++◌, length, Option, Some, None, ◌⊎◌, inl, inr, arith, ⊎_elim}
+use Rattle.std.proofs.Common.{◌≡◌, ◌≢◌, refl, sym, ap, ◌∙◌, subst, ℕ, zero, suc, ◌+◌, ◌-◌, ◌*◌, ◌^◌, ◌<◌, ◌≤◌, min, ℤ}
+use Rattle.std.proofs.Common.{pos, ◌*ℤ◌, unsigned_abs, Bool, true, false, Bor, List, [], ◌∷◌, ◌++◌, length, Option}
+use Rattle.std.proofs.Common.{Some, None, ◌⊎◌, inl, inr, arith, ⊎_elim}
 use Rattle.std.proofs.lemmas.Int.{ints, unsigned_abs-mul}
 use Rattle.std.proofs.lemmas.Nat.{pow-add}
 use Rattle.std.proofs.lemmas.Bool.{cases_lt}
@@ -19,8 +21,10 @@ use Rattle.jl_lex.proofs.AmountLemmas.{whole_value}
 use Rattle.jl_conv.specs.Numerals.{signed, exact_value}
 use Rattle.jl_token.specs.Characters.{is_digit, decimal_from}
 use Rattle.jl_conv.specs.declared.decimal.Exponent.{Exponent}
-use Rattle.jl_conv.specs.Numerals.{are_digits, raises, lowers, is_exponent_letter, exponent_of, exponent_part, whole_part, fraction_part, parts_number, decimal_number}
-use Rattle.jl_conv.specs.Amounts.{Agree, equal, reached, Sized, known, high, low, IsExponent, Powers, exactly, above, below}
+use Rattle.jl_conv.specs.Numerals.{are_digits, raises, lowers, is_exponent_letter, exponent_of, exponent_part}
+use Rattle.jl_conv.specs.Numerals.{whole_part, fraction_part, parts_number, decimal_number}
+use Rattle.jl_conv.specs.Amounts.{Agree, equal, reached, Sized, known, high, low, IsExponent, Powers, exactly, above}
+use Rattle.jl_conv.specs.Amounts.{below}
 
 not_zero : (l : ℕ) → pos (10 ^ l) ≢ pos 0
 not_zero l e = let h = ten_pos l in let is : 10 ^ l ≡ 0 = ap unsigned_abs e in absurd (omega arith)

@@ -11,7 +11,8 @@ pub data Unsigned : List ℕ → ℕ → ℕ → ℕ → Type 0 where
   whole : {us mid ds : List ℕ} {r l : ℕ} → Digits is_digit us ds mid → Exponent mid r l [] →
       Unsigned us (decimal_from 0 ds) r l
   with_point : {us mid ds fs end : List ℕ} {r l : ℕ} → Digits is_digit us ds (46 ∷ mid) →
-      Many (OneUnit is_digit) mid fs end → Exponent end r l [] → Unsigned us (decimal_from 0 (ds ++ fs)) r (length fs + l)
+      Many (OneUnit is_digit) mid fs end → Exponent end r l []
+      → Unsigned us (decimal_from 0 (ds ++ fs)) r (length fs + l)
   from_point : {us fs end : List ℕ} {r l : ℕ} → Digits is_digit us fs end → Exponent end r l [] →
       Unsigned (46 ∷ us) (decimal_from 0 fs) r (length fs + l)
 

@@ -1,11 +1,13 @@
 -- The number that a string converts to (9.3.1), in whole numbers: none where it is outside.
 -- Units stand here by their numbers: 43 `+`, 45 `-`, 46 `.`, 48 `0`, 69 and 101 `E` and `e`, 88 and 120 `X` and `x`.
-use Rattle.std.specs.Prelude.{ℕ, ◌+◌, ◌-◌, ◌*◌, ◌^◌, ℤ, pos, neg_ℤ, Bool, true, false, ◌==◌, ◌&&◌, ◌||◌, List, [], ◌∷◌, ◌++◌, length, take, drop, codes, Option, Some, None, if◌then◌else◌}
+use Rattle.std.specs.Prelude.{ℕ, ◌+◌, ◌-◌, ◌*◌, ◌^◌, ℤ, pos, neg_ℤ, Bool, true, false, ◌==◌, ◌&&◌, ◌||◌, List, [], ◌∷◌}
+use Rattle.std.specs.Prelude.{◌++◌, length, take, drop, codes, Option, Some, None, if◌then◌else◌}
 use Rattle.std.specs.List.{list_all, list_any, prefix_len, suffix_len, before_first, after_first}
 use Rattle.std.specs.Str.{bytes_eq}
 use Rattle.jl_num.specs.Number.{Number}
 use Rattle.jl_num.specs.Arithmetic.{number_of, quotient_of}
-use Rattle.jl_token.specs.Characters.{is_white_space, is_line_terminator, is_digit, is_hex_digit, decimal_from, hex_from, first_is}
+use Rattle.jl_token.specs.Characters.{is_white_space, is_line_terminator, is_digit, is_hex_digit, decimal_from}
+use Rattle.jl_token.specs.Characters.{hex_from, first_is}
 
 -- StrWhiteSpaceChar: white space (7.2) or a line terminator (7.3)
 abbrev pub is_space : ℕ → Bool

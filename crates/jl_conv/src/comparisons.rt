@@ -33,8 +33,8 @@ pub fn strict_equal(a: &Value, b: &Value) -> bool
     }
 }
 
-/// `a == b` (11.9.3) for two values that are no objects, or two objects. Refused exactly where a text is converted whose
-/// number is outside.
+/// `a == b` (11.9.3) for two values that are no objects, or two objects. Refused exactly where a text is converted
+/// whose number is outside.
 pub fn primitive_equal(a: &Value, b: &Value) -> Result<bool, NumberOutside>
     requires { is_object a.now ≡ is_object b.now }
     ensures { result_ok result ≡ loosely_equal a.now b.now }

@@ -1,7 +1,8 @@
 ghost use Rattle.std.specs.Prelude.{◌≡◌, ◌≤◌, false, length, IfOk};
 ghost use Rattle.std.specs.Result.{result_ok};
 ghost use Rattle.jl_num.specs.Digits.{number_text};
-ghost use Rattle.jl_conv.specs.Conversions.{is_object, truth_of, type_text, bool_number, number_of_value, text_of_value};
+ghost use Rattle.jl_conv.specs.Conversions.{is_object, truth_of, type_text, bool_number, number_of_value};
+ghost use Rattle.jl_conv.specs.Conversions.{text_of_value};
 
 use crate::numerals::text_to_num;
 use jl_num::{Num, NumberOutside, digits};

@@ -1,12 +1,14 @@
 //! Numerals without a sign (9.3.1). The digits are kept as a number without the zeros at its end, which are counted.
-ghost use Rattle.std.specs.Prelude.{◌≡◌, ◌≢◌, ◌+◌, ◌-◌, ◌*◌, ◌^◌, ◌<◌, ◌≤◌, ◌==◌, ◌||◌, ◌++◌, ℕ, true, false, pos, drop, length, codes, Option, Some, MatchOption};
+ghost use Rattle.std.specs.Prelude.{◌≡◌, ◌≢◌, ◌+◌, ◌-◌, ◌*◌, ◌^◌, ◌<◌, ◌≤◌, ◌==◌, ◌||◌, ◌++◌, ℕ, true, false, pos};
+ghost use Rattle.std.specs.Prelude.{drop, length, codes, Option, Some, MatchOption};
 ghost use Rattle.std.specs.List.{list_all, list_any, before_first, after_first};
 ghost use Rattle.std.specs.Result.{result_ok};
 ghost use Rattle.std.specs.Str.{bytes_eq};
 ghost use Rattle.jl_num.specs.Arithmetic.{number_of};
 ghost use Rattle.jl_token.specs.Characters.{is_digit, is_hex_digit, hex_digit_value, decimal_from, hex_from};
 ghost use Rattle.jl_lex.specs.Amounts.{Stands};
-ghost use Rattle.jl_conv.specs.Numerals.{are_digits, is_point, is_exponent_letter, signed, exact_value, raises, lowers, exponent_of, decimal_number, hexadecimal_number};
+ghost use Rattle.jl_conv.specs.Numerals.{are_digits, is_point, is_exponent_letter, signed, exact_value, raises, lowers};
+ghost use Rattle.jl_conv.specs.Numerals.{exponent_of, decimal_number, hexadecimal_number};
 ghost use Rattle.jl_conv.specs.Amounts.{Agree, Powers, IsExponent};
 
 use jl_lex::{is_digit, is_hex_digit};
@@ -125,7 +127,8 @@ fn digit_value(unit: u16) -> u64
 fn with_digit(amount: Amount, digit: u64) -> Amount
     requires digit { digit < 10 }
     requires few { amount.zeros < 2 ^ 63 }
-    ensures amount { (m : ℕ) → Stands amount.coefficient amount.zeros m → Stands result.coefficient result.zeros (m * 10 + digit) }
+    ensures amount { (m : ℕ) → Stands amount.coefficient amount.zeros m
+        → Stands result.coefficient result.zeros (m * 10 + digit) }
     ensures few { result.zeros ≤ amount.zeros + 1 }
 {
     if amount.coefficient == 0 {
@@ -166,7 +169,8 @@ fn power_of_ten(exponent: u64) -> u64
 fn read(amount: Amount, digits: &[u16]) -> Amount
     requires digits { list_all is_digit digits.now ≡ true }
     requires few { amount.zeros + length digits.now < 2 ^ 63 }
-    ensures amount { (m : ℕ) → Stands amount.coefficient amount.zeros m → Stands result.coefficient result.zeros (decimal_from m digits.now) }
+    ensures amount { (m : ℕ) → Stands amount.coefficient amount.zeros m
+        → Stands result.coefficient result.zeros (decimal_from m digits.now) }
     ensures few { result.zeros ≤ amount.zeros + length digits.now }
 {
     let mut read = amount;
@@ -178,7 +182,8 @@ fn read(amount: Amount, digits: &[u16]) -> Amount
 
 // The exponent of what stands after its letter, or 0.
 fn exponent_from(after_letter: Option<&[u16]>) -> Option<Exponent>
-    ensures { MatchOption after_letter.entry (IsExponent result (Some (0, 0))) (λ units. IsExponent result (exponent_of units.now)) }
+    ensures { MatchOption after_letter.entry (IsExponent result (Some (0, 0))) (λ units. IsExponent result
+        (exponent_of units.now)) }
 {
     match after_letter {
         Some(units) => signed_exponent(units),

@@ -14,8 +14,8 @@ const MINUS: u16 = 0x2d;
 const ZERO: u16 = 0x30;
 
 /// The number that a text converts to (9.3.1): 0 where it is empty or has spaces only, and NaN where it is no numeral.
-/// Refused exactly where it is a numeral whose value is infinite, has a fraction or is of more than 2^53 - 1 in size. It
-/// looks at each unit a few times.
+/// Refused exactly where it is a numeral whose value is infinite, has a fraction or is of more than 2^53 - 1 in size.
+/// It looks at each unit a few times.
 #[tactic(auto, unfolding(crate::specs::Numerals::text_number))]
 pub fn text_to_num(units: &[u16]) -> Result<Num, NumberOutside>
     ensures { result_ok result ≡ text_number units.now }

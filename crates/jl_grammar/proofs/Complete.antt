@@ -36,7 +36,8 @@ use Rattle.jl_grammar.specs.Reads.{no_directive}
 use Rattle.jl_grammar.specs.Brackets.{opened}
 use Rattle.jl_grammar.specs.Next.{is_identifier, is_open_brace, is_semicolon, is_colon, is_label, bars_expression}
 use Rattle.jl_grammar.specs.Operators.{infix_node, infix_precedence}
-use Rattle.jl_grammar.specs.Reader.{Read, Deeper, deeper, names_from, parameters_at, statements_from, block_at}
+use Rattle.jl_grammar.specs.Reader.{Read, Deeper, names_from, parameters_at, statements_from, block_at}
+use Rattle.jl_grammar.specs.ReaderLevels.{deeper}
 use Rattle.jl_grammar.specs.Reader.{elements_from, body_from, rest_at, items_from, entry_at, entries_from}
 use Rattle.jl_grammar.specs.Reader.{primary_at, arguments_from, arguments_at, left_from, left_at, postfix_at}
 use Rattle.jl_grammar.specs.Reader.{unary_at, binary_from, binary_at, conditional_at, assignment_at, comma_from}

@@ -15,7 +15,8 @@ use Rattle.jl_grammar.specs.Reader.{comma_from, expression_at, head_at, sub_at, 
 use Rattle.jl_grammar.specs.Reader.{var_at, express_at, else_from, if_at, do_at, while_at, optional_at, for_from}
 use Rattle.jl_grammar.specs.Reader.{for_in_from, for_var_at, for_expression_at, for_at, continue_at, break_at}
 use Rattle.jl_grammar.specs.Reader.{return_by, return_at, throw_at, clauses_from, switch_at, catch_at, finally_from}
-use Rattle.jl_grammar.specs.Reader.{try_at, named_at, statement_by, statement_at, made, deeper, program_at}
+use Rattle.jl_grammar.specs.Reader.{try_at, named_at, statement_by, statement_at, made}
+use Rattle.jl_grammar.specs.ReaderLevels.{deeper, program_at}
 use Rattle.jl_grammar.proofs.Sample.{read, program, word, number, string, odd_string, terminal, below, ident, a, b, c}
 use Rattle.jl_grammar.proofs.Sample.{d, f, x, y}
 

@@ -14,7 +14,8 @@ use Rattle.jl_grammar.specs.Brackets.{opened}
 use Rattle.jl_grammar.specs.Next.{keyword, is_question, is_comma, updates_at, target_of}
 use Rattle.jl_grammar.specs.Operators.{InfixOperator, plain, both, either, infix_node, continues, assigns, updates}
 use Rattle.jl_grammar.specs.Reads.{Expr, Stmt, Code, AssignsAt, IsTarget}
-use Rattle.jl_grammar.specs.Reader.{Read, Deeper, deeper, expression_at, assignment_at, unary_at, binary_at}
+use Rattle.jl_grammar.specs.Reader.{Read, Deeper, expression_at, assignment_at, unary_at, binary_at}
+use Rattle.jl_grammar.specs.ReaderLevels.{deeper}
 use Rattle.jl_grammar.specs.Reader.{conditional_at, left_at, statement_at, rest_at}
 use Rattle.jl_grammar.specs.Tokens.{At, terminal_at, line_at}
 use Rattle.jl_grammar.proofs.Expressions.{no_postfix_step, no_prefix_step, binary_step, binary_stop}

@@ -12,7 +12,8 @@ use Rattle.jl_grammar.specs.declared.terminal.Terminal.TheVariants as terminals
 use Rattle.jl_grammar.specs.Brackets.{bracket, opened}
 use Rattle.jl_grammar.specs.Laws.{OneReading, LimitsAgree, ReaderTells}
 use Rattle.jl_grammar.specs.Program.{Reads, program_of}
-use Rattle.jl_grammar.specs.Reader.{body_from, deeper, is_shallow, program_at}
+use Rattle.jl_grammar.specs.Reader.{body_from}
+use Rattle.jl_grammar.specs.ReaderLevels.{deeper, is_shallow, program_at}
 use Rattle.jl_grammar.specs.Reads.{Code, ReadsBody}
 use Rattle.jl_grammar.specs.Tokens.{terminal_at}
 use Rattle.jl_grammar.proofs.Holds.{both_true}

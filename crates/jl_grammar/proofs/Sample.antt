@@ -7,7 +7,7 @@ use Rattle.jl_token.specs.declared.punct.Punct.{Punct}
 use Rattle.jl_token.specs.declared.token.Token.{Token}
 use Rattle.jl_token.specs.declared.token.TokenKind.{TokenKind}
 use Rattle.jl_token.specs.declared.token.TokenKind.TheVariants as kinds
-use Rattle.jl_grammar.specs.Reader.{program_at}
+use Rattle.jl_grammar.specs.ReaderLevels.{program_at}
 
 -- a token with whether a line ends before it
 abbrev pub Placeless : Type 0

@@ -25,7 +25,8 @@ use Rattle.jl_grammar.specs.Reader.{is_catch, ends_at, label_at, closed, head_at
 use Rattle.jl_grammar.specs.Reader.{declarations_from, var_at, express_at, else_from, if_at, do_at, while_at}
 use Rattle.jl_grammar.specs.Reader.{optional_at, for_from, for_in_from, for_var_at, for_expression_at, for_at}
 use Rattle.jl_grammar.specs.Reader.{continue_at, break_at, return_by, return_at, throw_at, clauses_from, switch_at}
-use Rattle.jl_grammar.specs.Reader.{catch_at, finally_from, try_at, named_at, statement_by, statement_at, deeper}
+use Rattle.jl_grammar.specs.Reader.{catch_at, finally_from, try_at, named_at, statement_by, statement_at}
+use Rattle.jl_grammar.specs.ReaderLevels.{deeper}
 use Rattle.jl_grammar.specs.Reader.{Deeper}
 use Rattle.jl_grammar.specs.Tokens.{At, terminal_at, line_at, span}
 use Rattle.jl_grammar.proofs.Holds.{Holds, nothing, just, after, weaken, test, when_true, both_true}

@@ -9,7 +9,7 @@ use Rattle.jl_grammar.specs.declared.terminal.Terminal.TheVariants as terminals
 use Rattle.jl_grammar.specs.Next.{is_directive}
 use Rattle.jl_grammar.specs.Nodes.{nodes}
 use Rattle.jl_grammar.specs.Program.{Reads}
-use Rattle.jl_grammar.specs.Reader.{program_at}
+use Rattle.jl_grammar.specs.ReaderLevels.{program_at}
 use Rattle.jl_grammar.specs.Reads.{EndsAt, ReadsExpression, ReadsStatement, Stmt}
 use Rattle.jl_grammar.specs.Tokens.{At, span, text_at}
 

@@ -2,12 +2,12 @@
 -- speaks of it. Each function reads from a place and gives what it read with the place after it. What begins later than
 -- the whole, as a right operand or what is in brackets, is read one level deeper. A node is refused as soon as it is
 -- higher than the levels that are left for it, of which brackets that may still open have their share.
-use Rattle.std.specs.Prelude.{ℕ, zero, suc, pred, ◌*◌, ◌-◌, nat_eq, Bool, true, false, not, ◌&&◌, ◌||◌, List, [], ◌∷◌}
-use Rattle.std.specs.Prelude.{length, Option, Some, None, option_and_then, nat_le, if◌then◌else◌}
+use Rattle.std.specs.Prelude.{ℕ, zero, suc, pred, ◌*◌, ◌-◌, nat_eq, Bool, true, false, ◌&&◌, List, [], ◌∷◌}
+use Rattle.std.specs.Prelude.{length, Option, Some, None, nat_le, if◌then◌else◌}
 use Rattle.jl_ast.specs.declared.ops.BinOp.{BinOp}
 use Rattle.jl_ast.specs.declared.ops.UnOp.{UnOp}
-use Rattle.jl_ast.specs.Height.{height, program_height}
-use Rattle.jl_ast.specs.Tree.{Ident, Program, Tree, Forest, OptionalTree, Text}
+use Rattle.jl_ast.specs.Height.{program_height}
+use Rattle.jl_ast.specs.Tree.{Ident, Program, Tree, Forest, OptionalTree}
 use Rattle.jl_ast.specs.Tree as tree
 use Rattle.jl_text.specs.declared.span.Span.{Span}
 use Rattle.jl_token.specs.declared.punct.Punct.TheVariants as puncts
@@ -16,7 +16,7 @@ use Rattle.jl_grammar.specs.declared.terminal.Terminal.{Terminal}
 use Rattle.jl_grammar.specs.declared.terminal.Terminal.TheVariants as terminals
 use Rattle.jl_grammar.specs.declared.word.Word.TheVariants as words
 use Rattle.jl_grammar.specs.Next.{is_identifier, is_name, is_key, is_open_paren, is_open_brace, is_semicolon}
-use Rattle.jl_grammar.specs.Next.{is_comma, is_colon, is_question, is_equals, is_else, is_finally, ends_statement}
+use Rattle.jl_grammar.specs.Next.{is_comma, is_colon, is_question, is_equals, is_else, is_finally}
 use Rattle.jl_grammar.specs.Next.{ends_list, continues_left, is_directive, target_of}
 use Rattle.jl_grammar.specs.Operators.{InfixOperator, infix_operator, infix_node, infix_precedence, continues}
 use Rattle.jl_grammar.specs.Operators.{assign_operator, unary_operator}
@@ -25,112 +25,10 @@ use Rattle.jl_grammar.specs.Brackets.{opened}
 use Rattle.jl_grammar.specs.Program.{program_of}
 use Rattle.jl_grammar.specs.Reads.{Expr, Exprs, Stmt, Stmts, Code}
 use Rattle.jl_grammar.specs.Tokens.{terminal_at, line_at, text_at, number_at, strict_at, span, ident_at, key_ident_at}
-
-infixl 10 ◌>>=◌
-abbrev pub ◌>>=◌ : {A B : Type 0} → Option A → (A → Option B) → Option B
-o >>= f = option_and_then f o
-
--- what was read, and the place after it
-abbrev pub Read : Type 0 → Type 0
-Read A = Option (A × ℕ)
-
-abbrev pub done : {A : Type 0} → A → ℕ → Read A
-done t j = Some (t, j)
-
--- a node that ends before j, of which the parts may be so high, and what comes after it
-unfoldable pub made : {x : tree.Sort} {B : Type 0} → ℕ → Tree Span x → ℕ → (Tree Span x → ℕ → Option B) → Option B
-made most t j go = if nat_le (height t) (suc most) then go t j else None
-
-abbrev pub is_close_paren : Terminal → Bool
-is_close_paren (terminals.Punct puncts.RightParen) = true
-is_close_paren _ = false
-
-abbrev pub is_close_bracket : Terminal → Bool
-is_close_bracket (terminals.Punct puncts.RightBracket) = true
-is_close_bracket _ = false
-
-abbrev pub is_close_brace : Terminal → Bool
-is_close_brace (terminals.Punct puncts.RightBrace) = true
-is_close_brace _ = false
-
-abbrev pub is_function : Terminal → Bool
-is_function (terminals.Word words.Function) = true
-is_function _ = false
-
-abbrev pub is_new : Terminal → Bool
-is_new (terminals.Word words.New) = true
-is_new _ = false
-
-abbrev pub is_while : Terminal → Bool
-is_while (terminals.Word words.While) = true
-is_while _ = false
-
-abbrev pub is_in : Terminal → Bool
-is_in (terminals.Word words.In) = true
-is_in _ = false
-
-abbrev pub is_var : Terminal → Bool
-is_var (terminals.Word words.Var) = true
-is_var _ = false
-
-abbrev pub is_case : Terminal → Bool
-is_case (terminals.Word words.Case) = true
-is_case _ = false
-
-abbrev pub is_default : Terminal → Bool
-is_default (terminals.Word words.Default) = true
-is_default _ = false
-
-abbrev pub is_catch : Terminal → Bool
-is_catch (terminals.Word words.Catch) = true
-is_catch _ = false
-
--- the name that an expression is
-abbrev pub name_of : Expr → Option (Ident Span)
-name_of (tree.name t s) = Some (record { text = t; at = s })
-name_of _ = None
-
--- a body after a directive, which may make it strict
-abbrev pub with_directive : Bool → Code → Code
-with_directive strict (tree.body s fs ws) = tree.body (strict || s) fs ws
-
--- how high the parts of a node that begins at a place may be, and what is read one level deeper
-pub record Deeper : Type 0 where
-  pub room : ℕ → ℕ
-  pub expression : Bool → ℕ → Read Expr
-  pub assignment : Bool → ℕ → Read Expr
-  pub unary : ℕ → Read Expr
-  pub binary : Bool → ℕ → ℕ → Read Expr
-  pub member : ℕ → Read Expr
-  pub statement : ℕ → Read Stmt
-  pub rest : ℕ → Read (List (Ident Span) × Code)
-
--- the place after a semicolon that is there or is inserted
-unfoldable pub ends_at : List Token → ℕ → Option ℕ
-ends_at ts i = if is_semicolon (terminal_at ts i) then Some (suc i) else
-    (if ends_statement (terminal_at ts i) || line_at ts i then Some i else None)
-
--- at most n names and the bracket after them
-unfoldable pub names_from : List Token → ℕ → ℕ → Read (List (Ident Span))
-names_from ts zero i = None
-names_from ts (suc n) i =
-    if is_identifier (terminal_at ts i)
-    then (if is_close_paren (terminal_at ts (suc i))
-    then Some (ident_at ts i ∷ [], suc (suc i))
-    else (if is_comma (terminal_at ts (suc i))
-    then (names_from ts n (suc (suc i)) >>= λ r. Some (ident_at ts i ∷ r.0, r.1))
-    else None))
-    else None
-
-unfoldable pub parameters_at : List Token → ℕ → Read (List (Ident Span))
-parameters_at ts i = if is_close_paren (terminal_at ts i) then Some ([], suc i) else names_from ts (length ts) i
-
--- the label of a `continue` or `break`, or none, and the end of the statement
-unfoldable pub label_at : List Token → ℕ → Read (Option (Ident Span))
-label_at ts i =
-    if is_identifier (terminal_at ts i) && not (line_at ts i)
-    then (ends_at ts (suc i) >>= λ k. Some (Some (ident_at ts i), k))
-    else (ends_at ts i >>= λ k. Some (None, k))
+pub use Rattle.jl_grammar.specs.Reading.{◌>>=◌, Read, done, made, is_close_paren, is_close_bracket, is_close_brace}
+pub use Rattle.jl_grammar.specs.Reading.{is_function, is_new, is_while, is_in, is_var, is_case, is_default, is_catch}
+pub use Rattle.jl_grammar.specs.Reading.{name_of, with_directive, Deeper, ends_at, names_from, parameters_at}
+pub use Rattle.jl_grammar.specs.Reading.{label_at}
 
 module _ (ts : List Token) (d : Deeper) where
   -- an expression and the `)` after it
@@ -582,48 +480,3 @@ module _ (ts : List Token) (d : Deeper) where
 
   unfoldable pub statement_at : ℕ → Read Stmt
   statement_at i = statement_by i (terminal_at ts i)
-
--- with f levels left of which brackets that may still open have their share, where so many may be open
-abbrev pub room_at : List Token → ℕ → ℕ → ℕ → ℕ
-room_at ts brackets f i = f - (brackets - opened ts i)
-
-abbrev where_room : {A : Type 0} → ℕ → Read A → Read A
-where_room most r = if nat_le 1 most then r else None
-
--- what is read with f more levels, where so many brackets may be open
-unfoldable pub deeper : List Token → ℕ → ℕ → Deeper
-deeper ts brackets zero = record {
-  room = λ i. 0;
-  expression = λ no_in i. None;
-  assignment = λ no_in i. None;
-  unary = λ i. None;
-  binary = λ no_in m i. None;
-  member = λ i. None;
-  statement = λ i. None;
-  rest = λ i. None;
-}
-deeper ts brackets (suc f) = record {
-  room = λ i. room_at ts brackets (suc f) i;
-  expression =
-      λ no_in i. where_room (room_at ts brackets (suc f) i) (expression_at ts (deeper ts brackets f) no_in f i);
-  assignment =
-      λ no_in i. where_room (room_at ts brackets (suc f) i) (assignment_at ts (deeper ts brackets f) no_in f i);
-  unary = λ i. where_room (room_at ts brackets (suc f) i) (unary_at ts (deeper ts brackets f) f i);
-  binary = λ no_in m i. where_room (room_at ts brackets (suc f) i) (binary_at ts (deeper ts brackets f) no_in f m i);
-  member = λ i. where_room (room_at ts brackets (suc f) i) (left_at ts (deeper ts brackets f) false f i);
-  statement = λ i. where_room (room_at ts brackets (suc f) i) (statement_at ts (deeper ts brackets f) i);
-  rest = λ i. where_room (room_at ts brackets (suc f) i) (rest_at ts (deeper ts brackets f) i);
-}
-
-abbrev pub is_shallow : List Token → ℕ → ℕ → Bool
-is_shallow ts most zero = true
-is_shallow ts most (suc n) = nat_le (opened ts (suc n)) most && is_shallow ts most n
-
--- the program that the tokens are, if they are one within the limit
-unfoldable pub program_at : List Token → ℕ → Option (Program Span)
-program_at ts limit =
-    if is_shallow ts (2 * limit) (length ts)
-    then (body_from ts (deeper ts (2 * limit) (3 * limit)) (length ts) 0 >>= λ x.
-    if nat_eq x.1 (length ts) && nat_le (program_height (program_of ts x.0)) limit then Some
-    (program_of ts x.0) else None)
-    else None

@@ -10,9 +10,12 @@ use Rattle.jl_value.specs.Indices.{index_of}
 use Rattle.jl_value.specs.declared.object.Class.{Class}
 use Rattle.jl_value.specs.declared.object.Class.TheVariants as class
 use Rattle.jl_value.specs.declared.value.Value.{Value}
-use Rattle.jl_heap.specs.Define.{IsOneKind, counted, count_of, define_own_property, defined_at, define_array_length, define_on, define_ordinary, defined_shorter, is_array, is_writable, kept_open, length_name, length_of, shortened_to, store_property, with_length}
+use Rattle.jl_heap.specs.Define.{IsOneKind, counted, count_of, define_own_property, defined_at, define_array_length}
+use Rattle.jl_heap.specs.Define.{define_on, define_ordinary, defined_shorter, is_array, is_writable, kept_open}
+use Rattle.jl_heap.specs.Define.{length_name, length_of, shortened_to, store_property, with_length}
 use Rattle.jl_heap.specs.Laws.{KeepsObject}
-use Rattle.jl_heap.specs.Objects.{Objects, delete_property, deleted_if, object_at, own, own_or_unit, unit_at, unit_property, units_of, with_properties}
+use Rattle.jl_heap.specs.Objects.{Objects, delete_property, deleted_if, object_at, own, own_or_unit, unit_at}
+use Rattle.jl_heap.specs.Objects.{unit_property, units_of, with_properties}
 use Rattle.jl_heap.specs.Property.{is_configurable, is_same, revised}
 use Rattle.jl_heap.specs.declared.inner.Inner.{Inner}
 use Rattle.jl_heap.specs.declared.property.Change.{Change}

@@ -4,7 +4,8 @@ use Rattle.std.specs.Prelude.{IsSome, IsTrue, Option, None, Some, if◌then◌el
 use Rattle.std.specs.Option.{option_map}
 use Rattle.jl_value.specs.Indices.{index_of}
 use Rattle.jl_value.proofs.Numerals.{index_of_is}
-use Rattle.jl_heap.specs.Define.{is_array, length_name, define_on, define_ordinary, store_property, with_new_property, with_property}
+use Rattle.jl_heap.specs.Define.{is_array, length_name, define_on, define_ordinary, store_property, with_new_property}
+use Rattle.jl_heap.specs.Define.{with_property}
 use Rattle.jl_heap.specs.Objects.{Objects, object_at, own, own_or_unit}
 use Rattle.jl_heap.specs.Property.{is_same, made, revised}
 use Rattle.jl_heap.specs.declared.property.Change.{Change}

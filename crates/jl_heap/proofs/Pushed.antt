@@ -1,5 +1,6 @@
 -- What a heap is seen as after an object was added.
-use Rattle.std.proofs.Common.{◌≡◌, ◌∙◌, ℕ, zero, suc, ◌+◌, Bool, true, false, not, ◌||◌, List, [], ◌∷◌, ◌++◌, length, get_or, refl, ap, sym, subst, arith, length-append}
+use Rattle.std.proofs.Common.{◌≡◌, ◌∙◌, ℕ, zero, suc, ◌+◌, Bool, true, false, not, ◌||◌, List, [], ◌∷◌, ◌++◌, length}
+use Rattle.std.proofs.Common.{get_or, refl, ap, sym, subst, arith, length-append}
 use Rattle.std.specs.Prelude.{IsTrue, MatchOption, OnErr, OnOk, Option, None, Some, Result, Ok, Err, is_some, slice_get}
 use Rattle.std.specs.Str.{bytes_eq}
 use Rattle.jl_props.specs.Entries.{with_new}

@@ -8,7 +8,8 @@ use Rattle.jl_value.specs.declared.value.Value.TheVariants as value
 use Rattle.jl_heap.specs.Define.{IsOneKind, define_on, define_ordinary, store_property}
 use Rattle.jl_heap.specs.Objects.{Objects, own, own_or_unit, unit_at, unit_property}
 use Rattle.jl_heap.specs.declared.property.Defined.TheVariants.{Done, Rejected}
-use Rattle.jl_heap.specs.Property.{is_accessor, is_data, is_refused, is_same, revised, stays, turned, turns, with_fields}
+use Rattle.jl_heap.specs.Property.{is_accessor, is_data, is_refused, is_same, revised, stays, turned, turns}
+use Rattle.jl_heap.specs.Property.{with_fields}
 use Rattle.jl_heap.specs.declared.property.Change.{Change}
 use Rattle.jl_heap.specs.declared.property.Prop.{Prop}
 use Rattle.jl_heap.specs.declared.property.Prop.TheVariants.{Plain}

@@ -1,5 +1,6 @@
 -- A property that can be neither configured nor written is as it was after any change on its object.
-use Rattle.std.proofs.Common.{◌≡◌, ◌≢◌, ◌∙◌, ℕ, ◌+◌, ◌≤◌, Bool, true, false, not, ◌&&◌, List, [], ◌∷◌, refl, ap, sym, arith}
+use Rattle.std.proofs.Common.{◌≡◌, ◌≢◌, ◌∙◌, ℕ, ◌+◌, ◌≤◌, Bool, true, false, not, ◌&&◌, List, [], ◌∷◌, refl, ap, sym}
+use Rattle.std.proofs.Common.{arith}
 use Rattle.std.specs.Prelude.{Option, None, Some, nat_le, nat_lt, if◌then◌else◌}
 use Rattle.std.specs.Option.{option_map, option_map_or, option_or, unwrap_or}
 use Rattle.std.specs.Str.{bytes_eq}
@@ -8,7 +9,10 @@ use Rattle.jl_props.specs.Entries.{has_name}
 use Rattle.jl_props.specs.declared.entries.Entry.{Entry}
 use Rattle.jl_value.specs.Indices.{index_of}
 use Rattle.jl_value.specs.declared.value.Value.{Value}
-use Rattle.jl_heap.specs.Define.{IsOneKind, counted, count_of, entries_outside, define_own_property, defined_at, define_array_length, define_on, define_ordinary, defined_shorter, index_after, is_array, is_between, is_writable, kept_open, length_name, length_of, reachable_length, shorten_array, shortened_to, store_property, with_count, with_length}
+use Rattle.jl_heap.specs.Define.{IsOneKind, counted, count_of, entries_outside, define_own_property, defined_at}
+use Rattle.jl_heap.specs.Define.{define_array_length, define_on, define_ordinary, defined_shorter, index_after}
+use Rattle.jl_heap.specs.Define.{is_array, is_between, is_writable, kept_open, length_name, length_of, reachable_length}
+use Rattle.jl_heap.specs.Define.{shorten_array, shortened_to, store_property, with_count, with_length}
 use Rattle.jl_heap.specs.Objects.{Objects, object_at, own, own_or_unit, unit_at, unit_property}
 use Rattle.jl_heap.specs.Property.{is_same, revised}
 use Rattle.jl_heap.specs.declared.property.Change.{Change}

@@ -1,5 +1,6 @@
 -- The loops that shorten an array do what its definition says.
-use Rattle.std.proofs.Common.{◌≡◌, ◌∙◌, ℕ, zero, suc, ◌<◌, ◌≤◌, Bool, true, false, cond, not, ◌&&◌, List, [], ◌∷◌, length, get_or, refl, ap, sym, subst, arith}
+use Rattle.std.proofs.Common.{◌≡◌, ◌∙◌, ℕ, zero, suc, ◌<◌, ◌≤◌, Bool, true, false, cond, not, ◌&&◌, List, [], ◌∷◌}
+use Rattle.std.proofs.Common.{length, get_or, refl, ap, sym, subst, arith}
 use Rattle.std.proofs.Math.ListN.{set}
 use Rattle.std.specs.Prelude.{All, IsSome, Option, None, Some, nat_le, nat_lt, if◌then◌else◌}
 use Rattle.std.specs.List.{filter}
@@ -13,7 +14,8 @@ use Rattle.jl_value.specs.Indices.{index_of}
 use Rattle.jl_props.specs.Entries.{IsInOrder, has_name, with_item, without}
 use Rattle.jl_props.specs.declared.entries.Entry.{Entry}
 use Rattle.jl_props.proofs.LawsLemmas.{finds_each}
-use Rattle.jl_heap.specs.Define.{entries_outside, index_after, is_between, length_name, reachable_length, shorten_array, with_count, with_property}
+use Rattle.jl_heap.specs.Define.{entries_outside, index_after, is_between, length_name, reachable_length, shorten_array}
+use Rattle.jl_heap.specs.Define.{with_count, with_property}
 use Rattle.jl_heap.specs.Objects.{Object, Objects, object_at, own, with_properties}
 use Rattle.jl_heap.specs.Steps.{Covers, is_listed, reached_over, without_elements}
 use Rattle.jl_heap.specs.declared.property.Defined.TheVariants.{Done, Rejected}

@@ -1,6 +1,7 @@
 -- What a change of a value alone makes of a property that can be written.
 use Rattle.std.proofs.Common.{◌≡◌, ◌∙◌, ℕ, Bool, true, false, List, [], ◌∷◌, refl, ap, sym, arith}
-use Rattle.std.specs.Prelude.{Option, Some, None, Result, Ok, Err, IsOk, OnOk, OnErr, IsTrue, ◌↔◌, nat_le, nat_lt, if◌then◌else◌}
+use Rattle.std.specs.Prelude.{Option, Some, None, Result, Ok, Err, IsOk, OnOk, OnErr, IsTrue, ◌↔◌, nat_le, nat_lt}
+use Rattle.std.specs.Prelude.{if◌then◌else◌}
 use Rattle.std.specs.Option.{option_map_or}
 use Rattle.std.specs.Str.{bytes_eq}
 use Rattle.std.proofs.lemmas.Bool.{false≢true}
@@ -14,7 +15,8 @@ use Rattle.jl_value.specs.declared.value.Value.{Value}
 use Rattle.jl_value.specs.Indices.{index_of}
 use Rattle.jl_value.specs.Laws.{SameValuesAreEqual}
 use Rattle.jl_value.specs.Same.{same_value}
-use Rattle.jl_heap.specs.Define.{define_on, define_ordinary, define_own_property, defined_at, is_array, is_writable, keeps_length, length_name, takes_value_alone, length_of, with_property}
+use Rattle.jl_heap.specs.Define.{define_on, define_ordinary, define_own_property, defined_at, is_array, is_writable}
+use Rattle.jl_heap.specs.Define.{keeps_length, length_name, takes_value_alone, length_of, with_property}
 use Rattle.jl_heap.specs.Objects.{Objects, object_at, own, with_properties}
 use Rattle.jl_heap.specs.Property.{value_change, with_value}
 use Rattle.jl_heap.specs.declared.property.Defined.TheVariants.{Done}

@@ -116,7 +116,8 @@ abbrev pub shorten_array : Objects → ℕ → Prop → ℕ → ℕ → Bool →
 shorten_array heap place length low high stays_writable =
     let entries = (object_at heap place).properties in
     let end = reachable_length low high entries in (
-      with_properties heap place (with_item (entries_outside end high entries) length_name (with_count end stays_writable length)),
+      with_properties heap place (with_item (entries_outside end high entries) length_name
+          (with_count end stays_writable length)),
       (if nat_le end low then Done else Rejected),
     )
 

@@ -41,7 +41,8 @@ OthersStay =
 abbrev pub UnitsStay : Type 0
 UnitsStay =
     (heap : Objects) (place : ℕ) (name : Name) (change : Change) (unit : ℕ) → IsOneKind change →
-    unit_at heap place name ≡ Some unit → own heap place name ≡ None → (define_own_property heap place name change).0 ≡ heap
+    unit_at heap place name ≡ Some unit → own heap place name ≡ None
+    → (define_own_property heap place name change).0 ≡ heap
 
 -- whether a property is there that can't be configured
 abbrev pub is_non_configurable : Option Prop → Bool
@@ -62,4 +63,8 @@ abbrev pub CutsOneByOne : Type 0
 CutsOneByOne =
     (low more : ℕ) (entries : List (Entry Prop)) → IsInOrder entries → low + more ≤ 4294967295 →
     delete_elements_down low more entries
-    ≡ (reachable_length low (low + more) entries, entries_outside (reachable_length low (low + more) entries) (low + more) entries)
+    ≡ (
+      reachable_length low (low + more) entries,
+      entries_outside (reachable_length low (low + more) entries) (low
+          + more) entries,
+    )

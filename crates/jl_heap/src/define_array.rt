@@ -12,7 +12,8 @@ use jl_text::{NoMemory, Text};
 use jl_value::{Class, ObjId, array_index};
 
 impl Heap {
-    ghost use Rattle.jl_heap.specs.Define.{FitsLength, IsLength, IsOneKind, define_own_property, define_array_element, define_array_length};
+    ghost use Rattle.jl_heap.specs.Define.{FitsLength, IsLength, IsOneKind, define_own_property, define_array_element};
+    ghost use Rattle.jl_heap.specs.Define.{define_array_length};
     ghost use Rattle.jl_heap.specs.Define.{defined_shorter, is_array, length_name};
     ghost use Rattle.jl_heap.specs.Objects.{object_at, own};
     ghost use Rattle.jl_value.specs.Indices.{index_of};

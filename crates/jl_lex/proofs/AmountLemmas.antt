@@ -1,5 +1,7 @@
 -- What digits that were read stand for.
-use Rattle.std.proofs.Common.{◌≡◌, refl, sym, ap, ◌∙◌, subst, ℕ, zero, suc, ◌+◌, ◌-◌, ◌*◌, ◌%◌, ◌^◌, ◌<◌, ◌≤◌, ◌⊎◌, inl, inr, Bool, true, false, ◌==◌, nat_le, List, [], ◌∷◌, Option, Some, None, if◌then◌else◌, arith}
+use Rattle.std.proofs.Common.{◌≡◌, refl, sym, ap, ◌∙◌, subst, ℕ, zero, suc, ◌+◌, ◌-◌, ◌*◌, ◌%◌, ◌^◌, ◌<◌, ◌≤◌, ◌⊎◌, inl}
+use Rattle.std.proofs.Common.{inr, Bool, true, false, ◌==◌, nat_le, List, [], ◌∷◌, Option, Some, None, if◌then◌else◌}
+use Rattle.std.proofs.Common.{arith}
 use Rattle.std.proofs.Math.Nat.{pow-suc}
 use Rattle.std.proofs.lemmas.Nat.{pow-add}
 use Rattle.std.proofs.lemmas.Bool.{le-leb, eqb-true}
@@ -11,7 +13,8 @@ use Rattle.jl_lex.proofs.Loops.{unit_more, unit_stop, unit_end}
 use Rattle.jl_token.proofs.Tests.{true_or_false, other_unit, is_unit}
 use Rattle.jl_token.proofs.Units.{digit_bounds}
 use Rattle.jl_token.proofs.Values.{value_sound, value_complete}
-use Rattle.jl_lex.specs.Amounts.{scaled, add_digit, add_digits, if_number, value_from, capped_from, Exponents, the_same, is_high, is_low, Large, Stands, exact, beyond}
+use Rattle.jl_lex.specs.Amounts.{scaled, add_digit, add_digits, if_number, value_from, capped_from, Exponents, the_same}
+use Rattle.jl_lex.specs.Amounts.{is_high, is_low, Large, Stands, exact, beyond}
 use Rattle.jl_lex.proofs.Powers.{ten_pos, ten_more, cancel, times_ten, last_digit, assoc, at_least, far}
 
 past : (n : ℕ) → nat_le n 9007199254740991 ≡ false → 9007199254740991 < n

@@ -1,9 +1,13 @@
 -- The steps of the lexer, over plain lists.
-use Rattle.std.proofs.Common.{◌≡◌, refl, sym, ap, ◌∙◌, ℕ, ◌+◌, ◌-◌, ◌≤◌, Bool, true, false, ◌&&◌, ◌||◌, ◌==◌, List, [], ◌∷◌, drop, length, Some, None, Result, Ok, Err, if◌then◌else◌, arith, length-drop}
-use Rattle.jl_token.specs.Characters.{is_white_space, is_line_terminator, is_on_line, is_identifier_start, is_digit, is_quote, first_is}
+use Rattle.std.proofs.Common.{◌≡◌, refl, sym, ap, ◌∙◌, ℕ, ◌+◌, ◌-◌, ◌≤◌, Bool, true, false, ◌&&◌, ◌||◌, ◌==◌, List, []}
+use Rattle.std.proofs.Common.{◌∷◌, drop, length, Some, None, Result, Ok, Err, if◌then◌else◌, arith, length-drop}
+use Rattle.jl_token.specs.Characters.{is_white_space, is_line_terminator, is_on_line, is_identifier_start, is_digit}
+use Rattle.jl_token.specs.Characters.{is_quote, first_is}
 use Rattle.jl_token.specs.Punctuators.{all_punctuators}
 use Rattle.jl_token.specs.Elements.{White, LineEnd, LineComment, Word}
-use Rattle.jl_token.specs.Scanner.{Outcome, found, bad, many, one_unit, letter, name_from, before_close, block_end, numeral, number_end, after_line_feed, string_end, character, first_punctuator, punctuator_found, after_first, scan, scan_word}
+use Rattle.jl_token.specs.Scanner.{Outcome, found, bad, many, one_unit, letter, name_from, before_close, block_end}
+use Rattle.jl_token.specs.Scanner.{numeral, number_end, after_line_feed, string_end, character, first_punctuator}
+use Rattle.jl_token.specs.Scanner.{punctuator_found, after_first, scan, scan_word}
 use Rattle.jl_token.specs.declared.token.BadKind.TheVariants as faults
 use Rattle.jl_token.specs.declared.token.TokenKind.TheVariants as kinds
 use Rattle.jl_token.specs.declared.punct.Punct.{Punct}

@@ -1,5 +1,6 @@
 -- What was read of the pieces of a text so far, and the answer where no piece is left, or none can be formed.
-use Rattle.std.proofs.Common.{◌≡◌, refl, sym, ap, ◌∙◌, subst, ℕ, ◌+◌, ◌≤◌, ◌⊎◌, inl, inr, Bool, false, List, [], ◌∷◌, ◌++◌, drop, length, Some, Result, Ok, Err, MatchResult, IfOk, IfErr, arith, length-drop}
+use Rattle.std.proofs.Common.{◌≡◌, refl, sym, ap, ◌∙◌, subst, ℕ, ◌+◌, ◌≤◌, ◌⊎◌, inl, inr, Bool, false, List, [], ◌∷◌}
+use Rattle.std.proofs.Common.{◌++◌, drop, length, Some, Result, Ok, Err, MatchResult, IfOk, IfErr, arith, length-drop}
 use Rattle.std.proofs.lemmas.List.{append-nil}
 use Rattle.std.specs.Global.{Vec}
 use Rattle.jl_token.specs.Elements.{Element, Many}

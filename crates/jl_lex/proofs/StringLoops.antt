@@ -1,10 +1,14 @@
 -- The steps of a string's functions, over plain lists.
-use Rattle.std.proofs.Common.{◌≡◌, refl, sym, ap, ◌∙◌, ℕ, ◌+◌, ◌*◌, ◌<◌, ◌≤◌, Bool, true, false, ◌&&◌, ◌==◌, List, [], ◌∷◌, ◌++◌, drop, length, Option, Some, None, if◌then◌else◌, arith, append_assoc, length-drop, zero-add, nat_le}
+use Rattle.std.proofs.Common.{◌≡◌, refl, sym, ap, ◌∙◌, ℕ, ◌+◌, ◌*◌, ◌<◌, ◌≤◌, Bool, true, false, ◌&&◌, ◌==◌, List, []}
+use Rattle.std.proofs.Common.{◌∷◌, ◌++◌, drop, length, Option, Some, None, if◌then◌else◌, arith, append_assoc}
+use Rattle.std.proofs.Common.{length-drop, zero-add, nat_le}
 use Rattle.std.proofs.lemmas.List.{drop-drop, append-nil}
 use Rattle.std.proofs.lemmas.Bool.Decides.{nat_tests}
-use Rattle.jl_token.specs.Characters.{is_line_terminator, is_digit, is_hex_digit, hex_digit_value, are_hex_digits, hex_number, single_escape, is_quote, first_is}
+use Rattle.jl_token.specs.Characters.{is_line_terminator, is_digit, is_hex_digit, hex_digit_value, are_hex_digits}
+use Rattle.jl_token.specs.Characters.{hex_number, single_escape, is_quote, first_is}
 use Rattle.jl_token.specs.Elements.{Word, string_text, is_plain}
-use Rattle.jl_token.specs.Scanner.{Outcome, found, bad, many, after_line_feed, hex_escape, unicode_escape, other_escape, escape_by, escape, character, string_stop, string_done, string_end}
+use Rattle.jl_token.specs.Scanner.{Outcome, found, bad, many, after_line_feed, hex_escape, unicode_escape, other_escape}
+use Rattle.jl_token.specs.Scanner.{escape_by, escape, character, string_stop, string_done, string_end}
 use Rattle.jl_token.specs.declared.token.BadKind.TheVariants as faults
 use Rattle.jl_token.specs.declared.token.TokenKind.TheVariants as kinds
 use Rattle.jl_token.proofs.Rows.{many_step, many_stop}

@@ -1,6 +1,7 @@
 -- How the lexer values a numeric literal: its digits without the zeros at their end, and how many these are. No
 -- public clause stands on it.
-use Rattle.std.specs.Prelude.{◌≡◌, ◌<◌, ◌≤◌, ℕ, zero, suc, ◌+◌, ◌-◌, ◌*◌, ◌%◌, ◌^◌, drop, length, ◌==◌, nat_le, List, [], ◌∷◌, Option, Some, None, if◌then◌else◌}
+use Rattle.std.specs.Prelude.{◌≡◌, ◌<◌, ◌≤◌, ℕ, zero, suc, ◌+◌, ◌-◌, ◌*◌, ◌%◌, ◌^◌, drop, length, ◌==◌, nat_le, List}
+use Rattle.std.specs.Prelude.{[], ◌∷◌, Option, Some, None, if◌then◌else◌}
 use Rattle.jl_token.specs.Characters.{hex_digit_value}
 use Rattle.jl_token.specs.Scanner.{value_of}
 use Rattle.jl_lex.specs.declared.numbers.Numeral.{Numeral}

@@ -1,6 +1,7 @@
 -- What the lexer's functions read of a part of an element, in the words of the plain scanner. No public clause stands
 -- on it.
-use Rattle.std.specs.Prelude.{◌≡◌, ◌<◌, ◌≤◌, ℕ, ◌+◌, ◌*◌, Bool, true, false, List, [], ◌∷◌, drop, length, Option, Some, None, if◌then◌else◌}
+use Rattle.std.specs.Prelude.{◌≡◌, ◌<◌, ◌≤◌, ℕ, ◌+◌, ◌*◌, Bool, true, false, List, [], ◌∷◌, drop, length, Option, Some}
+use Rattle.std.specs.Prelude.{None, if◌then◌else◌}
 use Rattle.jl_token.specs.Characters.{is_identifier_start, is_identifier_part, is_hex_digit, hex_digit_value}
 use Rattle.jl_lex.specs.declared.names.Letter.{Letter}
 use Rattle.jl_lex.specs.declared.strings.Character.{Character}

@@ -1,7 +1,9 @@
 //! Which units are what (6, 7.2, 7.3, 7.6, 7.8), and what stands at a place.
 ghost use Rattle.std.specs.Prelude.{◌≡◌, ◌+◌, ◌<◌, ◌≤◌, ◌==◌, ◌∷◌, [], drop, length, MatchOption, if◌then◌else◌};
 ghost use Rattle.jl_token.specs.Scanner.{after_line_feed};
-ghost use Rattle.jl_token.specs.Characters.{category, is_space, is_letter, is_mark, is_white_space, is_line_terminator, is_identifier_start, is_identifier_part, is_digit, is_hex_digit, hex_digit_value, is_quote, first_is};
+ghost use Rattle.jl_token.specs.Characters.{category, is_space, is_letter, is_mark, is_white_space, is_line_terminator};
+ghost use Rattle.jl_token.specs.Characters.{is_identifier_start, is_identifier_part, is_digit, is_hex_digit};
+ghost use Rattle.jl_token.specs.Characters.{hex_digit_value, is_quote, first_is};
 
 use unicode::properties::GeneralCategory;
 
@@ -152,7 +154,8 @@ pub fn is_digit_at(units: &[u16], at: usize) -> bool
 /// The place after a line terminator whose first unit stands before a place: a LF after a CR belongs to it.
 pub fn line_terminator_end(units: &[u16], at: usize, unit: u16) -> usize
     requires { at ≤ length units.now }
-    ensures rest { drop result units.now ≡ (if unit == 13 then after_line_feed (drop at units.now) else drop at units.now) }
+    ensures rest { drop result units.now ≡ (if unit == 13 then after_line_feed (drop at units.now)
+        else drop at units.now) }
     ensures later { at ≤ result }
     ensures within { result ≤ length units.now }
 {

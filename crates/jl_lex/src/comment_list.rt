@@ -1,5 +1,6 @@
 //! The comments of a text (7.4).
-ghost use Rattle.std.specs.Prelude.{◌≡◌, ◌<◌, ◌^◌, ◌⊎◌, ◌∷◌, ◌++◌, ℕ, List as Items, length, IfOk, IfErr, OnOk, MatchResult};
+ghost use Rattle.std.specs.Prelude.{◌≡◌, ◌<◌, ◌^◌, ◌⊎◌, ◌∷◌, ◌++◌, ℕ, List as Items, length, IfOk, IfErr, OnOk};
+ghost use Rattle.std.specs.Prelude.{MatchResult};
 ghost use Rattle.jl_token.specs.Tokens.{Piece, piece, comments_among, Comments, BadAt};
 ghost use Rattle.jl_token.specs.declared.token.Comment.{Comment as OneComment};
 ghost use Rattle.jl_token.specs.declared.token.BadKind.{BadKind as Kind};

@@ -5,8 +5,8 @@ ghost use Rattle.jl_lex.specs.declared.element.Stop.TheVariants.{NoMemory};
 use jl_token::{BadKind, TokenKind};
 use std::alloc::{AllocError, AllocFailed};
 
-/// An input element (7): a comment that goes to the end of its line, one between `/*` and `*/` by whether it holds a line
-/// terminator, a token by its kind.
+/// An input element (7): a comment that goes to the end of its line, one between `/*` and `*/` by whether it holds a
+/// line terminator, a token by its kind.
 #[derive(Drop)]
 pub enum Element {
     White,

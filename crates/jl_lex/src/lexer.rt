@@ -1,4 +1,5 @@
-ghost use Rattle.std.specs.Prelude.{◌≡◌, ◌+◌, ◌-◌, ◌<◌, ◌≤◌, ◌==◌, ◌&&◌, ◌||◌, ◌^◌, ◌⊎◌, ◌∷◌, ◌++◌, ℕ, List as Items, drop, length, IfOk, IfErr, MatchResult};
+ghost use Rattle.std.specs.Prelude.{◌≡◌, ◌+◌, ◌-◌, ◌<◌, ◌≤◌, ◌==◌, ◌&&◌, ◌||◌, ◌^◌, ◌⊎◌, ◌∷◌, ◌++◌, ℕ, List as Items};
+ghost use Rattle.std.specs.Prelude.{drop, length, IfOk, IfErr, MatchResult};
 ghost use Rattle.jl_token.specs.Characters.{is_digit, is_identifier_start, first_is};
 ghost use Rattle.jl_token.specs.Scanner.{scan, scan_word};
 ghost use Rattle.jl_token.specs.Tokens.{Piece, piece, tokens_among, Tokens, BadAt};
@@ -21,13 +22,16 @@ use crate::strings::string;
 use jl_text::{List, Span};
 use jl_token::{BadKind, Token, TokenKind};
 use std::alloc::{AllocError, AllocFailed, Global};
+use thiserror::Error;
 
 /// Why there are no tokens, and no list of comments.
-#[derive(Debug, Drop)]
+#[derive(Debug, Drop, Error)]
 pub enum LexRefusal {
     /// The first input element that can't be formed begins at this unit, and this is why.
+    #[error("no input element can be formed at unit {at}")]
     BadInput { at: u32, kind: BadKind },
     /// No memory was left.
+    #[error("out of memory")]
     NoMemory,
 }
 

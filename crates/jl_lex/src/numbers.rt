@@ -1,9 +1,12 @@
-//! Numbers (7.8.3). A literal is valued in one pass over its digits, whatever its length and its exponent: its digits are
-//! kept without the zeros at their end, which are counted, and no more of them than a number of a script can have.
-ghost use Rattle.std.specs.Prelude.{◌≡◌, ◌+◌, ◌-◌, ◌*◌, ◌<◌, ◌≤◌, ◌==◌, ◌&&◌, ◌||◌, ◌^◌, nat_le, if◌then◌else◌, ℕ, List, Some, None, true, drop, length, IfSome, MatchOption};
+//! Numbers (7.8.3). A literal is valued in one pass over its digits, whatever its length and its exponent: its digits
+//! are kept without the zeros at their end, which are counted, and no more of them than a number of a script can have.
+ghost use Rattle.std.specs.Prelude.{◌≡◌, ◌+◌, ◌-◌, ◌*◌, ◌<◌, ◌≤◌, ◌==◌, ◌&&◌, ◌||◌, ◌^◌, nat_le, if◌then◌else◌, ℕ};
+ghost use Rattle.std.specs.Prelude.{List, Some, None, true, drop, length, IfSome, MatchOption};
 ghost use Rattle.jl_token.specs.Characters.{is_digit, is_hex_digit, decimal_from, first_is};
-ghost use Rattle.jl_token.specs.Scanner.{many, one_unit, some_digits, exponent, exponent_by, with_exponent, after_fraction, after_whole, after_zero, hex_literal, numeral, number_end};
-ghost use Rattle.jl_lex.specs.Amounts.{scaled, add_digit, add_digits, value_from, if_number, capped_from, hex_capped_from, NumeralFrom, ExponentFrom, Stands};
+ghost use Rattle.jl_token.specs.Scanner.{many, one_unit, some_digits, exponent, exponent_by, with_exponent};
+ghost use Rattle.jl_token.specs.Scanner.{after_fraction, after_whole, after_zero, hex_literal, numeral, number_end};
+ghost use Rattle.jl_lex.specs.Amounts.{scaled, add_digit, add_digits, value_from, if_number, capped_from};
+ghost use Rattle.jl_lex.specs.Amounts.{hex_capped_from, NumeralFrom, ExponentFrom, Stands};
 ghost use Rattle.jl_lex.specs.Answers.{IsFrom};
 
 use crate::characters::{is_at, is_digit, is_digit_at, unit_at};
@@ -155,7 +158,11 @@ fn value(amount: Amount, raise: u64, lower: u64) -> Option<u64>
 fn exponent_digits(units: &[u16], at: usize) -> Option<Power>
     requires { at ≤ length units.now }
     ensures digits { MatchOption result (some_digits is_digit (drop at units.now) ≡ None)
-        (λ x. (some_digits is_digit (drop at units.now) ≡ Some ((many (one_unit is_digit) (drop at units.now)).0, drop x.end units.now))
+        (λ x. (some_digits is_digit (drop at units.now) ≡ Some (
+          (many (one_unit is_digit)
+              (drop at units.now)).0,
+          drop x.end units.now,
+        ))
         × (x.number ≡ capped_from 0 (many (one_unit is_digit) (drop at units.now)).0)) }
     ensures small { IfSome result (λ x. (x.number ≤ 10995116277769) × (at ≤ x.end) × (x.end ≤ length units.now)) }
 {
@@ -191,7 +198,8 @@ fn capped(number: u64, unit: u16) -> u64
 fn exponent_after(units: &[u16], at: usize, from: usize, lowers: bool) -> Exponent
     requires order { at ≤ from }
     requires within { from ≤ length units.now }
-    ensures read { ExponentFrom units.now at result (exponent_by (drop at units.now) lowers (some_digits is_digit (drop from units.now))) }
+    ensures read { ExponentFrom units.now at result (exponent_by (drop at units.now) lowers (some_digits is_digit
+        (drop from units.now))) }
     ensures small { result.raise ≤ 10995116277769 }
     ensures small_too { result.lower ≤ 10995116277769 }
 {
@@ -321,7 +329,8 @@ fn if_number(number: u64) -> Option<u64>
 fn hex(units: &[u16], at: usize) -> Option<Numeral>
     requires { at ≤ length units.now }
     ensures { MatchOption result (some_digits is_hex_digit (drop at units.now) ≡ None)
-        (λ n. (us : List ℕ) → NumeralFrom units.now at n (hex_literal us (some_digits is_hex_digit (drop at units.now)))) }
+        (λ n. (us : List ℕ) → NumeralFrom units.now at n (hex_literal us (some_digits is_hex_digit
+        (drop at units.now)))) }
 {
     let Some(_first) = hex_at(units, at) else {
         return None;

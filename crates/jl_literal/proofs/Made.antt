@@ -18,7 +18,8 @@ use Rattle.jl_meaning.specs.FunctionObjects.{make_function_expression, script_nu
 use Rattle.jl_meaning.specs.Noting.{note_or_misuse, performs}
 use Rattle.jl_meaning.specs.Parts.{gives, lift, ◌>>=◌}
 use Rattle.jl_meaning.specs.Store.{Store}
-use Rattle.jl_meaning.specs.forms.Literals.{function_literal, literal_of, literal_op, object_literal, of_array, of_function}
+use Rattle.jl_meaning.specs.forms.Literals.{function_literal, literal_of, literal_op, object_literal, of_array}
+use Rattle.jl_meaning.specs.forms.Literals.{of_function}
 use Rattle.jl_meaning.specs.forms.Literals.{literal, of_object}
 use Rattle.jl_store.specs.Comes.{Comes}
 use Rattle.jl_store.specs.Plain.{plain_function}

@@ -30,9 +30,9 @@ fn steps_taken(outcome: &Outcome, budget: u64, left: u64) -> u64
 }
 
 /// Runs a program from the objects that a run begins with (clauses 10 to 15), with at most so many steps, and tells the
-/// observer of each operation that hooks emit and that is of one of these kinds. Gives how the run ended, what the script
-/// printed, in UTF-8, the store as the script left it, how many steps were taken, and how many operations the observer was
-/// told of. Its one error is that memory is wanting, to the run or to the observer.
+/// observer of each operation that hooks emit and that is of one of these kinds. Gives how the run ended, what the
+/// script printed, in UTF-8, the store as the script left it, how many steps were taken, and how many operations the
+/// observer was told of. Its one error is that memory is wanting, to the run or to the observer.
 pub fn run<O: Observer>(
     alloc: Global,
     program: &Program,

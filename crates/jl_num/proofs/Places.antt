@@ -1,5 +1,7 @@
 -- The digits of a number, one place at a time.
-use Rattle.std.proofs.Common.{◌≡◌, ℕ, zero, suc, ◌+◌, ◌/◌, ◌%◌, ◌<◌, ◌≤◌, List, [], ◌∷◌, ◌++◌, reverse, true, false, nat_lt, refl, sym, ap, ◌∙◌, arith, append_assoc, add-one, ⊎_elim, ℤ, pos, unsigned_abs, Some}
+use Rattle.std.proofs.Common.{◌≡◌, ℕ, zero, suc, ◌+◌, ◌/◌, ◌%◌, ◌<◌, ◌≤◌, List, [], ◌∷◌, ◌++◌, reverse, true, false}
+use Rattle.std.proofs.Common.{nat_lt, refl, sym, ap, ◌∙◌, arith, append_assoc, add-one, ⊎_elim, ℤ, pos, unsigned_abs}
+use Rattle.std.proofs.Common.{Some}
 use Rattle.std.specs.Prelude.{int_lt}
 use Rattle.std.proofs.Math.Nat.{div-lt_self}
 use Rattle.std.proofs.lemmas.Bool.{cases_lt}

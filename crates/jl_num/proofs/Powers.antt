@@ -1,5 +1,6 @@
 -- Powers of 0, 1 and -1, and powers that are outside.
-use Rattle.std.proofs.Common.{◌≡◌, ℕ, zero, suc, ◌*◌, ◌%◌, ◌^◌, ◌<◌, ◌≤◌, ℤ, pos, negsuc, neg_ℤ, Some, None, true, false, Bool, refl, ap, ◌∙◌, arith, unsigned_abs, cond, ◌+◌, ◌*ℤ◌, add-one, ⊎_elim}
+use Rattle.std.proofs.Common.{◌≡◌, ℕ, zero, suc, ◌*◌, ◌%◌, ◌^◌, ◌<◌, ◌≤◌, ℤ, pos, negsuc, neg_ℤ, Some, None, true}
+use Rattle.std.proofs.Common.{false, Bool, refl, ap, ◌∙◌, arith, unsigned_abs, cond, ◌+◌, ◌*ℤ◌, add-one, ⊎_elim}
 use Rattle.std.proofs.lemmas.Bool.{cases_eq}
 use Rattle.std.proofs.Math.Nat.{pow-zero, pow-suc, pow-le-pow_left, pow-le-pow_right}
 use Rattle.std.specs.Prelude.{if◌then◌else◌, ◌==◌}

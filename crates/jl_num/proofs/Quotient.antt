@@ -1,5 +1,6 @@
 -- What the code's `/` and `%` give at two numbers of a script, the second not 0.
-use Rattle.std.proofs.Common.{◌≡◌, ◌≢◌, ℕ, ◌+◌, ◌*◌, ◌^◌, ◌<◌, ◌≤◌, ℤ, pos, negsuc, ◌*ℤ◌, Some, None, true, false, refl, sym, ap, ◌∙◌, arith, w64, FitsSigned, to_z, of_z, unsigned_abs, Bool, zero, suc}
+use Rattle.std.proofs.Common.{◌≡◌, ◌≢◌, ℕ, ◌+◌, ◌*◌, ◌^◌, ◌<◌, ◌≤◌, ℤ, pos, negsuc, ◌*ℤ◌, Some, None, true, false, refl}
+use Rattle.std.proofs.Common.{sym, ap, ◌∙◌, arith, w64, FitsSigned, to_z, of_z, unsigned_abs, Bool, zero, suc}
 use Rattle.std.specs.Bool.{Decides}
 use Rattle.std.proofs.lemmas.Int.{ints, to_z-of_z, quot-rem, rem_is, quot_is, unsigned_abs-mul, fits_signed_from_abs}
 use Rattle.std.proofs.lemmas.Bool.Decides.{Decides-int_eq}

@@ -1,5 +1,6 @@
 -- What an operation gives is a number of a script.
-use Rattle.std.proofs.Common.{◌≡◌, ℕ, zero, suc, ◌*◌, ◌%◌, ◌^◌, ◌<◌, ℤ, pos, negsuc, ◌≤ℤ◌, ◌<ℤ◌, Some, None, Bool, true, false, arith, bit_and}
+use Rattle.std.proofs.Common.{◌≡◌, ℕ, zero, suc, ◌*◌, ◌%◌, ◌^◌, ◌<◌, ℤ, pos, negsuc, ◌≤ℤ◌, ◌<ℤ◌, Some, None, Bool, true}
+use Rattle.std.proofs.Common.{false, arith, bit_and}
 use Rattle.std.proofs.lemmas.Int.{ints}
 use Rattle.std.proofs.lemmas.Nat.{mod_below, and_le_l, or_lt, xor_lt}
 use Rattle.std.proofs.Math.Nat.{div-le_self}
@@ -11,7 +12,8 @@ use Rattle.jl_num.specs.Arithmetic.{number_of, negative_of}
 use Rattle.jl_num.specs.Power.{power_of, inverse_power_of}
 use Rattle.jl_num.specs.Bits.{uint32_of, int32_of, distance_of, left_shift_of, right_shift_of, unsigned_right_shift_of}
 use Rattle.jl_num.specs.Laws.{ResultsAreNumbers}
-use Rattle.jl_num.proofs.Exact.{given, nan_given, sum_gives, difference_gives, product_gives, quotient_gives, remainder_given}
+use Rattle.jl_num.proofs.Exact.{given, nan_given, sum_gives, difference_gives, product_gives, quotient_gives}
+use Rattle.jl_num.proofs.Exact.{remainder_given}
 use Rattle.jl_num.proofs.Integers.{below_32, is_signed, signed_is_number}
 
 negative_given : (a : Number) → IsNumber a → IsNumber (negative_of a)

@@ -1,5 +1,6 @@
--- Arithmetic on the numbers of a script (11.4.7, 11.5, 11.6.3). An operation gives a number, or none where its result is outside:
--- an infinity, a fraction, or a whole number of more than 2^53 - 1 in size. With NaN every operation gives NaN.
+-- Arithmetic on the numbers of a script (11.4.7, 11.5, 11.6.3). An operation gives a number, or none where its result
+-- is outside: an infinity, a fraction, or a whole number of more than 2^53 - 1 in size. With NaN every operation gives
+-- NaN.
 use Rattle.std.specs.Prelude.{ℤ, pos, ◌+ℤ◌, ◌-ℤ◌, ◌*ℤ◌, neg_ℤ, int_div, int_rem, Option, Some, None, if◌then◌else◌}
 use Rattle.std.specs.Ordering.{int_eq}
 use Rattle.jl_num.specs.Number.{Number, is_number}
@@ -26,8 +27,8 @@ product_of None _ = Some None
 product_of (Some _) None = Some None
 product_of (Some a) (Some b) = number_of (a *ℤ b)
 
--- a / b (11.5.2): NaN where both are 0, outside where b alone is, and else the q whose product with b is a, outside where
--- no whole number is that q
+-- a / b (11.5.2): NaN where both are 0, outside where b alone is, and else the q whose product with b is a, outside
+-- where no whole number is that q
 abbrev pub quotient_of : Number → Number → Option Number
 quotient_of None _ = Some None
 quotient_of (Some _) None = Some None

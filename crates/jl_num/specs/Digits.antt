@@ -1,5 +1,6 @@
 -- The text of a number in a radix (9.8.1, 15.7.4.2), as the codes of its characters.
-use Rattle.std.specs.Prelude.{ℕ, zero, suc, ◌+◌, ◌/◌, ◌%◌, pos, int_lt, unsigned_abs, List, [], ◌∷◌, ◌++◌, Some, None, true, false, nat_lt, if◌then◌else◌}
+use Rattle.std.specs.Prelude.{ℕ, zero, suc, ◌+◌, ◌/◌, ◌%◌, pos, int_lt, unsigned_abs, List, [], ◌∷◌, ◌++◌, Some, None}
+use Rattle.std.specs.Prelude.{true, false, nat_lt, if◌then◌else◌}
 use Rattle.jl_num.specs.Number.{Number}
 
 -- the character of a digit: `0` to `9`, then `a` to `z`

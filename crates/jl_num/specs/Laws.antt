@@ -1,11 +1,13 @@
 -- What the definitions of the arithmetic, of the bits and of the digits come to.
-use Rattle.std.specs.Prelude.{◌≡◌, ◌≢◌, ◌↔◌, ℕ, ◌+◌, ◌-◌, ◌^◌, ◌<◌, ◌≤◌, ℤ, pos, negsuc, ◌+ℤ◌, ◌*ℤ◌, ◌≤ℤ◌, ◌<ℤ◌, unsigned_abs, Some, slice_index}
+use Rattle.std.specs.Prelude.{◌≡◌, ◌≢◌, ◌↔◌, ℕ, ◌+◌, ◌-◌, ◌^◌, ◌<◌, ◌≤◌, ℤ, pos, negsuc, ◌+ℤ◌, ◌*ℤ◌, ◌≤ℤ◌, ◌<ℤ◌}
+use Rattle.std.specs.Prelude.{unsigned_abs, Some, slice_index}
 use Rattle.std.specs.Int.{int_pow}
 use Rattle.std.specs.Str.Parse.{digits_value}
 use Rattle.jl_num.specs.Number.{Number, IsNumber}
 use Rattle.jl_num.specs.Arithmetic.{sum_of, difference_of, product_of, quotient_of, remainder_of, negative_of}
 use Rattle.jl_num.specs.Power.{power_of}
-use Rattle.jl_num.specs.Bits.{uint32_of, uint16_of, int32_of, left_shift_of, right_shift_of, unsigned_right_shift_of, and_of, or_of, xor_of, complement_of}
+use Rattle.jl_num.specs.Bits.{uint32_of, uint16_of, int32_of, left_shift_of, right_shift_of, unsigned_right_shift_of}
+use Rattle.jl_num.specs.Bits.{and_of, or_of, xor_of, complement_of}
 use Rattle.jl_num.specs.Digits.{digits_of}
 
 -- what an operation gives is a number of a script
@@ -28,7 +30,8 @@ pub record GiveNumbers (a b : Number) : Type 0 where
 abbrev pub ResultsAreNumbers : Type 0
 ResultsAreNumbers = (a b : Number) → IsNumber a → IsNumber b → GiveNumbers a b
 
--- a quotient is the number of a script whose product with the divisor is the dividend, and there is one where any such is
+-- a quotient is the number of a script whose product with the divisor is the dividend, and there is one where any such
+-- is
 abbrev pub QuotientsAreExact : Type 0
 QuotientsAreExact =
     (a b q : ℤ) → b ≢ pos 0 → (quotient_of (Some a) (Some b) ≡ Some (Some q)) ↔ ((q *ℤ b ≡ a) × IsNumber (Some q))

@@ -1,5 +1,6 @@
 ghost use Rattle.std.specs.Prelude.{◌≡◌, ◌<◌, ◌^◌, ◌%◌, Some, pos};
-ghost use Rattle.jl_num.specs.Bits.{uint32_of, uint16_of, int32_of, signed_of, distance_of, left_shift_of, right_shift_of, unsigned_right_shift_of, and_of, or_of, xor_of, complement_of};
+ghost use Rattle.jl_num.specs.Bits.{uint32_of, uint16_of, int32_of, signed_of, distance_of, left_shift_of};
+ghost use Rattle.jl_num.specs.Bits.{right_shift_of, unsigned_right_shift_of, and_of, or_of, xor_of, complement_of};
 
 use crate::num::Num;
 

@@ -1,5 +1,5 @@
-//! The numbers of a script: NaN, and the whole numbers of at most 2^53 - 1 in size, with their arithmetic, their bits, their
-//! order and their text.
+//! The numbers of a script: NaN, and the whole numbers of at most 2^53 - 1 in size, with their arithmetic, their bits,
+//! their order and their text.
 #![tactic(auto)]
 
 mod arithmetic;

@@ -4,8 +4,8 @@ ghost use Rattle.jl_num.specs.Digits.{digit_code, number_text};
 use crate::num::Num;
 use std::alloc::{AllocError, Global};
 
-/// The text of a number in a radix of 2 to 36 (9.8.1, 15.7.4.2): `NaN`, or its digits in lower case, after a `-` where it
-/// is below zero.
+/// The text of a number in a radix of 2 to 36 (9.8.1, 15.7.4.2): `NaN`, or its digits in lower case, after a `-` where
+/// it is below zero.
 pub fn digits(alloc: Global, a: Num, radix: u32) -> Result<Vec<u8>, AllocError>
     requires low { 2 ≤ radix }
     requires high { radix ≤ 36 }

@@ -8,7 +8,8 @@ use Rattle.jl_ast.specs.declared.tree.Function.{Function}
 use Rattle.jl_ast.specs.declared.tree.Ident.{Ident}
 use Rattle.jl_ast.specs.declared.tree.Stmt.{Stmt}
 use Rattle.jl_ast.specs.Numbering.{functions_in, functions_in_optional, numbered_tree, numbered_optional}
-use Rattle.jl_ast.specs.Tree.{Tree, clause, decl, entry, expr, filled, func, hole, item, stmt, OptionalTree, absent, present}
+use Rattle.jl_ast.specs.Tree.{Tree, clause, decl, entry, expr, filled, func, hole, item, stmt, OptionalTree, absent}
+use Rattle.jl_ast.specs.Tree.{present}
 use Rattle.jl_ast.specs.View.{view_expression, view_expressions, view_items, view_entry, view_entries}
 use Rattle.jl_ast.specs.View.{view_function, view_functions, view_statement, view_statements, view_declarator}
 use Rattle.jl_ast.specs.View.{view_declarators, view_case, view_cases, view_optional}

@@ -1,5 +1,6 @@
 -- How the text of a map grows by rows.
-use Rattle.std.proofs.Common.{◌≡◌, ℕ, ◌+◌, ◌<◌, List, [], ◌∷◌, ◌++◌, length, get_or, take, sym, ap, ◌∙◌, arith, append_assoc, append-nil, add-one, length-take}
+use Rattle.std.proofs.Common.{◌≡◌, ℕ, ◌+◌, ◌<◌, List, [], ◌∷◌, ◌++◌, length, get_or, take, sym, ap, ◌∙◌, arith}
+use Rattle.std.proofs.Common.{append_assoc, append-nil, add-one, length-take}
 use Rattle.std.proofs.Math.Seq.{take-suc}
 use Rattle.jl_op.specs.Map.{MapRow, id_after, row_line, lines_after, map_lines}
 use Rattle.jl_text.specs.Places.{LineTable}

@@ -1,4 +1,5 @@
-ghost use Rattle.std.specs.Prelude.{◌≡◌, ◌<◌, ◌-◌, ◌^◌, [], ◌∷◌, ◌++◌, All, Some, length, slice_get, IfOk, OnOk, OnErr, option_map};
+ghost use Rattle.std.specs.Prelude.{◌≡◌, ◌<◌, ◌-◌, ◌^◌, [], ◌∷◌, ◌++◌, All, Some, length, slice_get, IfOk, OnOk, OnErr};
+ghost use Rattle.std.specs.Prelude.{option_map};
 ghost use Rattle.std.specs.String.{string_bytes};
 ghost use Rattle.jl_op.specs.Map.{HasRow, BeginsIn, id_after, row_line, map_lines};
 
@@ -71,8 +72,8 @@ impl OpMap {
     }
 }
 
-/// The text of a map, in UTF-8: a line `ID KIND LINE:COLUMN` for each row, by rising id. A place is looked up in a number
-/// of steps in the order of the logarithm of the number of lines.
+/// The text of a map, in UTF-8: a line `ID KIND LINE:COLUMN` for each row, by rising id. A place is looked up in a
+/// number of steps in the order of the logarithm of the number of lines.
 pub fn map_text(alloc: Global, map: &OpMap, lines: &Lines) -> Result<Vec<u8>, AllocError>
     requires { All (BeginsIn lines.now) map.now }
     ensures { IfOk result (λ text. text.items ≡ map_lines lines.now map.now) }

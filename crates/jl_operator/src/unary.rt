@@ -20,8 +20,8 @@ use jl_text::NoMemory;
 use jl_value::{Fault, Value};
 use std::alloc::Global;
 
-/// The number after another one, or before it with `UnKind::Down` (11.3, 11.4.4, 11.4.5). Refused exactly where it is no
-/// number of a script.
+/// The number after another one, or before it with `UnKind::Down` (11.3, 11.4.4, 11.4.5). Refused exactly where it is
+/// no number of a script.
 pub fn next_number(op: UnKind, n: Num) -> Result<Num, NumberOutside>
     ensures { result_ok result ≡ (if is_script_number n then next_number op n else None) }
 {

@@ -2,7 +2,8 @@
 use Rattle.std.proofs.Common.{◌≡◌, ℕ, zero, suc, ◌-◌, Bool, refl, arith}
 use Rattle.std.specs.Prelude.{List, None, false, true, nat_le}
 use Rattle.jl_token.specs.declared.token.Token.{Token}
-use Rattle.jl_grammar.specs.Reader.{deeper, expression_at, assignment_at, unary_at, binary_at, left_at, statement_at}
+use Rattle.jl_grammar.specs.Reader.{expression_at, assignment_at, unary_at, binary_at, left_at, statement_at}
+use Rattle.jl_grammar.specs.ReaderLevels.{deeper}
 use Rattle.jl_grammar.specs.Reader.{rest_at}
 
 pub no_expression : (ts : List Token) (b d : ℕ) (no_in : Bool) (i : ℕ) → nat_le 1 ((deeper ts b d).room i) ≡ false

@@ -12,7 +12,8 @@ use Rattle.jl_text.specs.declared.span.Span.{Span}
 use Rattle.jl_token.specs.declared.token.Token.{Token}
 use Rattle.jl_grammar.specs.Brackets.{bracket, opened}
 use Rattle.jl_grammar.specs.Program.{Reads, last_end, program_of}
-use Rattle.jl_grammar.specs.Reader.{body_from, deeper, is_shallow, program_at}
+use Rattle.jl_grammar.specs.Reader.{body_from}
+use Rattle.jl_grammar.specs.ReaderLevels.{deeper, is_shallow, program_at}
 use Rattle.jl_grammar.specs.Reads.{Code}
 use Rattle.jl_grammar.specs.Tokens.{from_at, terminal_at}
 use Rattle.jl_grammar.proofs.CountedNodes.{counted}

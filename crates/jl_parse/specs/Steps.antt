@@ -15,7 +15,8 @@ use Rattle.jl_ast.specs.declared.tree.Ident.{Ident as CodeIdent}
 use Rattle.jl_ast.specs.declared.tree.Stmt.{Stmt as CodeStmt}
 use Rattle.jl_grammar.specs.Brackets.{opened}
 use Rattle.jl_grammar.specs.Next.{is_colon, is_identifier}
-use Rattle.jl_grammar.specs.Reader.{◌>>=◌, Deeper, Read, deeper, done, is_case, is_default, made, statements_from}
+use Rattle.jl_grammar.specs.Reader.{◌>>=◌, Deeper, Read, done, is_case, is_default, made, statements_from}
+use Rattle.jl_grammar.specs.ReaderLevels.{deeper}
 use Rattle.jl_grammar.specs.Reads.{Code, Expr, Stmt, Stmts}
 use Rattle.jl_grammar.specs.Tokens.{ident_at, terminal_at, span}
 use Rattle.jl_grammar.specs.declared.terminal.Terminal.{Terminal}

@@ -27,7 +27,7 @@ use jl_text::List;
 use std::alloc::Global;
 
 // The parameters of a function after its `(`, and the `)` after them.
-#[tactic(auto, using(crate::proofs::Lists::parameters_loop), unfolding(jl_grammar::specs::Reader::parameters_at))]
+#[tactic(auto, using(crate::proofs::Lists::parameters_loop), unfolding(jl_grammar::specs::Reading::parameters_at))]
 fn parameters(alloc: Global, tokens: &Tokens, at: usize) -> Read<List<Ident>>
     ensures { Gives (λ x. (map view_ident x.0, x.1)) result (parameters_at tokens.now at) }
 {

@@ -2,14 +2,17 @@ ghost use Rattle.std.specs.Prelude.{◌≡◌};
 ghost use Rattle.jl_parse.specs.declared.refusal.Stop.TheVariants.{NoMemory};
 
 use std::alloc::{AllocError, AllocFailed};
+use thiserror::Error;
 
 /// Why no program is read.
-#[derive(Debug, Drop)]
+#[derive(Debug, Drop, Error)]
 pub enum ParseRefusal {
     /// The tokens are no program within the limit: no more can be read at this unit of the source, where a token begins
     /// or the last one ends.
+    #[error("no program can be read on at unit {at}")]
     Unreadable { at: u32 },
     /// No memory was left.
+    #[error("out of memory")]
     NoMemory,
 }
 

@@ -37,7 +37,7 @@ use jl_token::Punct;
 use std::alloc::Global;
 
 /// The place after a semicolon that is there or is inserted (7.9.1).
-#[tactic(auto, unfolding(jl_grammar::specs::Reader::ends_at))]
+#[tactic(auto, unfolding(jl_grammar::specs::Reading::ends_at))]
 pub fn ends(tokens: &Tokens, at: usize) -> Option<usize>
     ensures { result ≡ ends_at tokens.now at }
 {
@@ -239,7 +239,7 @@ fn while_statement(alloc: Global, tokens: &Tokens, depth: Depth, at: usize) -> R
 }
 
 // The label of a `continue` or `break`, if there is one, and the end of the statement (12.7, 12.8).
-#[tactic(auto, unfolding(jl_grammar::specs::Reader::label_at))]
+#[tactic(auto, unfolding(jl_grammar::specs::Reading::label_at))]
 fn label(alloc: Global, tokens: &Tokens, at: usize) -> Read<Option<Ident>>
     ensures { Gives (λ x. (option_map view_ident x.0, x.1)) result (label_at tokens.now at) }
 {

@@ -1,4 +1,5 @@
-ghost use Rattle.std.specs.Prelude.{◌≡◌, ◌+◌, ◌^◌, ◌<◌, ◌≤◌, length, take, IfOk, IfErr, IfSome, OnOk, OnErr, IsErrOf, vec_len};
+ghost use Rattle.std.specs.Prelude.{◌≡◌, ◌+◌, ◌^◌, ◌<◌, ◌≤◌, length, take, IfOk, IfErr, IfSome, OnOk, OnErr, IsErrOf};
+ghost use Rattle.std.specs.Prelude.{vec_len};
 ghost use Rattle.jl_port.specs.declared.whole.ReadRefusal.TheVariants.{ReadFault, NoMemory};
 ghost use Rattle.jl_port.specs.Bytes.{Takes, TakesCount, TakesAtMost, Grows, IsAtEnd};
 ghost use Rattle.jl_port.specs.Count.{HasRisen};
@@ -59,8 +60,8 @@ pub struct WriteFault {
 ///
 /// It is `TooLong` where `limit` + 1 bytes were read, and `ReadFault` only where a fault of the source
 /// came in this call and at most `limit` bytes were read before. A read asks for 4,096 bytes, or for
-/// as many as `limit` + 1 still lacks where these are fewer, and there are at most `limit` + 1 reads. Whatever the answer, the source has lost
-/// what was read from it.
+/// as many as `limit` + 1 still lacks where these are fewer, and there are at most `limit` + 1 reads. Whatever the
+/// answer, the source has lost what was read from it.
 pub fn read_all<S: Source>(
     alloc: Global,
     source: &mut S,

@@ -1,5 +1,6 @@
 -- What is written of a program doesn't depend on where its nodes stand.
-use Rattle.std.proofs.Common.{◌≡◌, ◌∙◌, ℕ, Bool, true, false, List, [], ◌∷◌, ◌++◌, Option, Some, None, map, option_map, refl, ap}
+use Rattle.std.proofs.Common.{◌≡◌, ◌∙◌, ℕ, Bool, true, false, List, [], ◌∷◌, ◌++◌, Option, Some, None, map, option_map}
+use Rattle.std.proofs.Common.{refl, ap}
 use Rattle.std.specs.Prelude.{codes, not, pred, ◌||◌, if◌then◌else◌, nat_le}
 use Rattle.jl_ast.specs.Spans.{ident, map_tree, map_forest, map_optional, without_spans}
 use Rattle.jl_ast.specs.Tree as tree
@@ -8,11 +9,13 @@ use Rattle.jl_token.specs.declared.punct.Punct.TheVariants as puncts
 use Rattle.jl_token.specs.declared.token.TokenKind.{TokenKind}
 use Rattle.jl_print.specs.CanonicalTokens.{begins_otherwise, close_paren, colon, comma, directive, further}
 use Rattle.jl_print.specs.CanonicalTokens.{further_arguments, further_names, is_name, is_string, items_after, last_item}
-use Rattle.jl_print.specs.CanonicalTokens.{open_paren, optional_name, parameters, semicolon, tokens_after, tokens_of_all}
+use Rattle.jl_print.specs.CanonicalTokens.{open_paren, optional_name, parameters, semicolon, tokens_after}
+use Rattle.jl_print.specs.CanonicalTokens.{tokens_of_all}
 use Rattle.jl_print.specs.CanonicalTokens.{tokens_of_arguments, tokens_of_declarators, tokens_of_entries}
 use Rattle.jl_print.specs.CanonicalTokens.{tokens_of_items, tokens_of_node, tokens_of_optional}
 use Rattle.jl_print.specs.Layout.{layout_of, text_of}
-use Rattle.jl_print.specs.Pieces.{assign_punct, in_parens, in_parens_unless, key, name, operator, prefix_operator, punct}
+use Rattle.jl_print.specs.Pieces.{assign_punct, in_parens, in_parens_unless, key, name, operator, prefix_operator}
+use Rattle.jl_print.specs.Pieces.{punct}
 use Rattle.jl_print.specs.Pieces.{update_operator, within_braces}
 use Rattle.jl_print.specs.Precedence.{fits, is_in, operator_precedence, precedence_of}
 

@@ -6,15 +6,18 @@ ghost use Rattle.jl_ast.specs.View.{view};
 ghost use Rattle.jl_print.specs.Layout.{text_of};
 
 mod alone;
+mod expression_walk;
 pub mod laws;
 mod layout;
+mod name_lists;
+mod operator_words;
 mod piece;
 mod precedence;
-mod walk;
+mod statement_walk;
 
 use crate::layout::lay_out;
 use crate::piece::Pieces;
-use crate::walk::add_body;
+use crate::statement_walk::add_body;
 use jl_ast::Program;
 use jl_text::NoMemory;
 use std::alloc::Global;

@@ -1,5 +1,5 @@
--- What the functions of arrays that look, search, or call a function for each element do with the value that they waited
--- for (15.4.4.10, 15.4.4.14 to 15.4.4.22).
+-- What the functions of arrays that look, search, or call a function for each element do with the value that they
+-- waited for (15.4.4.10, 15.4.4.14 to 15.4.4.22).
 use Rattle.std.specs.Prelude.{false, is_some, not, pos, slice_get, slice_index_or, true, zero, ◌+◌, ◌-◌, Bool, List}
 use Rattle.std.specs.Prelude.{None, Option, Some, ℕ, ℤ}
 use Rattle.jl_num.specs.Bits.{uint32_of}

@@ -11,7 +11,8 @@ use Rattle.jl_meaning.specs.Errors.{string_within}
 use Rattle.jl_meaning.specs.Getting.{is_callable}
 use Rattle.jl_meaning.specs.Parts.{give, look, ◌>>=◌, Algorithm}
 use Rattle.jl_meaning.specs.builtins.Arguments.{give_object, give_string}
-use Rattle.jl_meaning.specs.builtins.Array.{append_all, call_if, join_elements, join_turn, separator_of, string_or_empty}
+use Rattle.jl_meaning.specs.builtins.Array.{append_all, call_if, join_elements, join_turn, separator_of}
+use Rattle.jl_meaning.specs.builtins.Array.{string_or_empty}
 use Rattle.jl_meaning.specs.builtins.ArrayChanges.{exchange, make_room, pop_last, read_turn, reverse_turn, shift_first}
 use Rattle.jl_meaning.specs.builtins.ArrayChanges.{sort_by_keys, splice_at, with_element, KeyedValue}
 use Rattle.jl_meaning.specs.builtins.Elements.{add_index, clamped, copy, copy_element, delete_index, get_index}

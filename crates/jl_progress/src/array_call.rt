@@ -71,8 +71,8 @@ pub enum Task {
     },
 }
 
-/// What such a function has done so far. Where a turn begins, `at` is its index, or where turns go down one more than its
-/// index.
+/// What such a function has done so far. Where a turn begins, `at` is its index, or where turns go down one more than
+/// its index.
 #[derive(Drop)]
 pub enum ArrayCallProgress {
     /// It waits for the length (15.4.4.10, step 3).

@@ -1,5 +1,6 @@
 -- What keeps entries indexed: the names' serials stay those of the entries.
-use Rattle.std.proofs.Common.{inl, ◌≡◌, refl, sym, ap, ◌∙◌, ℕ, ◌<◌, Bool, true, false, cond, Option, List, [], ◌∷◌, ◌++◌, Some, None, subst}
+use Rattle.std.proofs.Common.{inl, ◌≡◌, refl, sym, ap, ◌∙◌, ℕ, ◌<◌, Bool, true, false, cond, Option, List, [], ◌∷◌}
+use Rattle.std.proofs.Common.{◌++◌, Some, None, subst}
 use Rattle.std.specs.Prelude.{◌≢◌, ◌⊎◌, IsNone}
 use Rattle.std.specs.BTreeMap.{BTreeMap, get, is_at, insert_entry, values}
 use Rattle.std.specs.Cmp.Lexicographic.{slice_cmp}
@@ -18,7 +19,8 @@ use Rattle.jl_props.specs.declared.entries.Entry.{Entry}
 use Rattle.jl_props.specs.Entries.{has_name, entry_named, with_item, without, IsInOrder}
 use Rattle.jl_props.specs.inner.Indexed.{IsIndexed}
 use Rattle.jl_props.proofs.EntriesLemmas.{none_found, with_new-IsInOrder, without-IsInOrder, with_item-IsInOrder}
-use Rattle.jl_props.proofs.IndexedLemmas.{OwnSerial, Agrees, agrees, looked_up, removed, written, inserted, keys_below, All-remove_entry, own-set_value}
+use Rattle.jl_props.proofs.IndexedLemmas.{OwnSerial, Agrees, agrees, looked_up, removed, written, inserted, keys_below}
+use Rattle.jl_props.proofs.IndexedLemmas.{All-remove_entry, own-set_value}
 use Rattle.jl_props.proofs.OneLemmas.{filter-none, map-none}
 use Rattle.jl_props.proofs.LawsLemmas.{new_found, other_new, removed_gone, other_removed}
 

@@ -17,7 +17,8 @@ use Rattle.jl_grammar.specs.Words.{same_text, word_of}
 use Rattle.jl_num.specs.Digits.{number_text}
 use Rattle.jl_token.specs.Elements.{block_comment, carriage_return_line_feed, continuation, digits, escaped}
 use Rattle.jl_token.specs.Elements.{from_point, hex, hex_escape, identifier_name, itself, line_comment, line_terminator}
-use Rattle.jl_token.specs.Elements.{long_continuation, minus, name, name_text, no_exponent, no_more, no_sign, non_escape}
+use Rattle.jl_token.specs.Elements.{long_continuation, minus, name, name_text, no_exponent, no_more, no_sign}
+use Rattle.jl_token.specs.Elements.{non_escape}
 use Rattle.jl_token.specs.Elements.{nonzero, null, numeric_literal, one_more, plain, plus, punctuator, single, string}
 use Rattle.jl_token.specs.Elements.{string_literal, string_text, unicode_escape, unit, white_space, whole, with_point}
 use Rattle.jl_token.specs.Elements.{zero_digit, before_close, BeforeClose, BlockComment, Character, Digits, Element}

@@ -7,7 +7,8 @@ ghost use Rattle.jl_meaning.specs.Changes.{NewObject};
 ghost use Rattle.jl_meaning.specs.Realm.{realm};
 ghost use Rattle.jl_realm.specs.Global.{HasGlobalObject};
 ghost use Rattle.jl_realm.specs.inner.Steps.{address, all_ready, applied, changes_of, function_made, function_named};
-ghost use Rattle.jl_realm.specs.inner.Steps.{inner_of, inside_fits, property_added, row_fits, rows, rows_fit, step_fits};
+ghost use Rattle.jl_realm.specs.inner.Steps.{inner_of, inside_fits, property_added, row_fits, rows, rows_fit};
+ghost use Rattle.jl_realm.specs.inner.Steps.{step_fits};
 ghost use Rattle.jl_realm.specs.inner.Steps.{value_fits, value_of, word_text};
 
 use crate::builtins::{builtin, length, name, place};

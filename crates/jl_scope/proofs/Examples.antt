@@ -10,8 +10,10 @@ use Rattle.jl_scope.specs.declared.rules.EarlyRule.TheVariants as rules
 use Rattle.jl_scope.specs.EarlyError.{early, left_out, reserved_name, first_early_error}
 use Rattle.jl_scope.specs.Names.{left_out_names, strict_words, strict_names, hooks_name}
 use Rattle.jl_scope.specs.Scope.{is_left_out}
-use Rattle.jl_scope.specs.EarlyErrors.{identifier_early_errors, written_early_errors, free_early_errors, read_early_errors}
-use Rattle.jl_scope.specs.EarlyErrors.{target_early_errors, label_early_errors, break_early_errors, continue_early_errors}
+use Rattle.jl_scope.specs.EarlyErrors.{identifier_early_errors, written_early_errors, free_early_errors}
+use Rattle.jl_scope.specs.EarlyErrors.{read_early_errors}
+use Rattle.jl_scope.specs.EarlyErrors.{target_early_errors, label_early_errors, break_early_errors}
+use Rattle.jl_scope.specs.EarlyErrors.{continue_early_errors}
 use Rattle.jl_scope.specs.EarlyErrors.{return_early_errors, delete_early_errors}
 
 abbrev at : ℕ → ℕ → Span

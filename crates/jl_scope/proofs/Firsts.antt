@@ -1,5 +1,6 @@
 -- The first of several lists of early errors.
-use Rattle.std.proofs.Common.{◌≡◌, ℕ, suc, ◌+◌, ◌<◌, List, [], ◌∷◌, ◌++◌, ◌&&◌, map, Option, Some, None, option_map, Result, OnOk, length, get_or, drop}
+use Rattle.std.proofs.Common.{◌≡◌, ℕ, suc, ◌+◌, ◌<◌, List, [], ◌∷◌, ◌++◌, ◌&&◌, map, Option, Some, None, option_map}
+use Rattle.std.proofs.Common.{Result, OnOk, length, get_or, drop}
 use Rattle.std.proofs.Common.{ap, refl, sym, ◌∙◌, add-one}
 use Rattle.std.proofs.lemmas.Result.{on_ok_weaker}
 use Rattle.std.proofs.Math.Seq.{drop-cons}
@@ -11,7 +12,8 @@ use Rattle.jl_ast.specs.Tree as ident
 use Rattle.jl_ast.specs.View.{view_ident, view_expression, view_optional, item}
 use Rattle.jl_scope.specs.declared.rules.EarlyRule.TheVariants.{StrictParam}
 use Rattle.jl_scope.specs.Names.{among, with_name}
-use Rattle.jl_scope.specs.EarlyErrors.{early_errors, forest_early_errors, optional_early_errors, broken_if, written_early_errors}
+use Rattle.jl_scope.specs.EarlyErrors.{early_errors, forest_early_errors, optional_early_errors, broken_if}
+use Rattle.jl_scope.specs.EarlyErrors.{written_early_errors}
 use Rattle.jl_scope.specs.EarlyErrors.{parameter_early_errors}
 use Rattle.jl_scope.specs.Kinds.{EarlyError, first_from, sooner}
 use Rattle.jl_scope.specs.Scope.{Scope}

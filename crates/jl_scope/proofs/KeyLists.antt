@@ -1,5 +1,6 @@
 -- The keys of an object literal, of which each kind is a set of names.
-use Rattle.std.proofs.Common.{◌≡◌, ℕ, ◌+◌, ◌<◌, List, ◌++◌, ◌&&◌, ◌||◌, Option, length, get_or, drop, ap, refl, sym, ◌∙◌}
+use Rattle.std.proofs.Common.{◌≡◌, ℕ, ◌+◌, ◌<◌, List, ◌++◌, ◌&&◌, ◌||◌, Option, length, get_or, drop, ap, refl, sym}
+use Rattle.std.proofs.Common.{◌∙◌}
 use Rattle.jl_text.specs.declared.span.Span.{Span}
 use Rattle.jl_ast.specs.declared.tree.Entry.{Entry}
 use Rattle.jl_ast.specs.Tree.{Tree, Forest, entry, value, getter, setter, end, more}

@@ -29,7 +29,8 @@ identifier_early_errors s x at =
     broken_if (s.strict && among x strict_words) rules.StrictWord at
     ++ (if same_text x hooks_name then reserved_name at ∷ [] else [])
 
--- a name that is bound, assigned or updated: not `eval` or `arguments` in strict code (11.3 to 11.13, 12.2.1, 12.14.1, 13.1)
+-- a name that is bound, assigned or updated: not `eval` or `arguments` in strict code (11.3 to 11.13, 12.2.1, 12.14.1,
+-- 13.1)
 unfoldable pub written_early_errors : Scope → Text → Span → List EarlyError
 written_early_errors s x at =
     broken_if (s.strict && among x strict_names) rules.StrictName at ++ identifier_early_errors s x at

@@ -1,7 +1,8 @@
 -- What a body declares (10.5): its variables, and its functions. Functions inside it declare nothing for it.
 -- S is what says where a node stands.
 use Rattle.std.specs.Prelude.{Bool, ◌||◌, List, [], ◌∷◌, ◌++◌, map, Option, Some, None, if◌then◌else◌}
-use Rattle.jl_ast.specs.Tree.{Text, Ident, Sort, Tree, Forest, OptionalTree, func, code, function, body, var, block, if_else}
+use Rattle.jl_ast.specs.Tree.{Text, Ident, Sort, Tree, Forest, OptionalTree, func, code, function, body, var, block}
+use Rattle.jl_ast.specs.Tree.{if_else}
 use Rattle.jl_ast.specs.Tree.{do_while, while, for, for_in, labelled, switch, try, init_var, declarator, case}
 use Rattle.jl_ast.specs.Tree.{branch_of, catch, end, more, absent, present}
 use Rattle.jl_scope.specs.Names.{with_names}

@@ -6,7 +6,8 @@ ghost use Rattle.jl_scope.specs.Kinds.{first_from};
 ghost use Rattle.jl_scope.specs.Names.{among, with_name};
 ghost use Rattle.jl_scope.specs.Steps.{scope_of};
 ghost use Rattle.jl_scope.specs.NameSets.{SameNames};
-ghost use Rattle.jl_scope.specs.EarlyErrors.{head_early_errors, parameter_early_errors, broken_if, written_early_errors};
+ghost use Rattle.jl_scope.specs.EarlyErrors.{head_early_errors, parameter_early_errors, broken_if};
+ghost use Rattle.jl_scope.specs.EarlyErrors.{written_early_errors};
 
 use crate::found::Found;
 use crate::name_set::NameSet;

@@ -22,8 +22,8 @@ pub fn is_strict(outer: bool, body: &Body) -> bool
 }
 
 /// The names of the variables that a body declares (10.5), in the order of their first declarations, each once. What
-/// functions in it declare is theirs. It takes the logarithm of their number for each name that is declared, beside a walk
-/// over the body, and is refused for want of memory alone.
+/// functions in it declare is theirs. It takes the logarithm of their number for each name that is declared, beside a
+/// walk over the body, and is refused for want of memory alone.
 pub fn vars(alloc: Global, body: &Body) -> Result<Vec<Text>, NoMemory>
     ensures { IfOk result (λ names. names.items ≡ variables (view_body body.now)) }
 {
@@ -173,7 +173,8 @@ fn add_declarators<'a>(
     declarators: &'a [(Ident, Option<Expr>)],
     names: &mut Vec<&'a Text>,
 ) -> Result<(), NoMemory>
-    ensures { OnOk result (Adds (declared_in_forest (view_declarators declarators.now)) names.old.items names.new.items) }
+    ensures { OnOk result (Adds (declared_in_forest
+        (view_declarators declarators.now)) names.old.items names.new.items) }
 {
     for d in declarators {
         names.push(&d.0.text)?;

@@ -5,9 +5,12 @@ ghost use Rattle.std.specs.Prelude.{◌≡◌, option_map};
 ghost use Rattle.jl_ast.specs.View.{view_ident, view_expression};
 ghost use Rattle.jl_scope.specs.Kinds.{first_from};
 ghost use Rattle.jl_scope.specs.Steps.{scope_of};
-ghost use Rattle.jl_scope.specs.EarlyErrors.{identifier_early_errors, written_early_errors, free_early_errors, read_early_errors};
-ghost use Rattle.jl_scope.specs.EarlyErrors.{target_early_errors, label_early_errors, break_early_errors, continue_early_errors};
-ghost use Rattle.jl_scope.specs.EarlyErrors.{return_early_errors, delete_early_errors, is_name, is_delete, for_in_early_errors};
+ghost use Rattle.jl_scope.specs.EarlyErrors.{identifier_early_errors, written_early_errors, free_early_errors};
+ghost use Rattle.jl_scope.specs.EarlyErrors.{read_early_errors};
+ghost use Rattle.jl_scope.specs.EarlyErrors.{target_early_errors, label_early_errors, break_early_errors};
+ghost use Rattle.jl_scope.specs.EarlyErrors.{continue_early_errors};
+ghost use Rattle.jl_scope.specs.EarlyErrors.{return_early_errors, delete_early_errors, is_name, is_delete};
+ghost use Rattle.jl_scope.specs.EarlyErrors.{for_in_early_errors};
 
 use crate::found::{Finding, Found};
 use crate::names::{is_among, is_hooks_name, is_left_out, is_strict_name, is_strict_word};
@@ -90,7 +93,8 @@ impl<'a> Found<'a> {
     /// A `break` with its label.
     #[tactic(auto, using(crate::proofs::Firsts::lists), unfolding(crate::specs::EarlyErrors::break_early_errors))]
     pub(crate) fn break_to(&mut self, label: &Option<Ident>, at: Span, s: &Scope<'_>)
-        ensures { self.new ≡ first_from self.old (break_early_errors (scope_of s.now) (option_map view_ident label.now) at) }
+        ensures { self.new ≡ first_from self.old (break_early_errors (scope_of s.now)
+            (option_map view_ident label.now) at) }
     {
         match label {
             None => self.offer_if(!s.can_break, EarlyRule::BreakOutside, at),
@@ -105,7 +109,8 @@ impl<'a> Found<'a> {
     /// A `continue` with its label.
     #[tactic(auto, using(crate::proofs::Firsts::lists), unfolding(crate::specs::EarlyErrors::continue_early_errors))]
     pub(crate) fn continue_to(&mut self, label: &Option<Ident>, at: Span, s: &Scope<'_>)
-        ensures { self.new ≡ first_from self.old (continue_early_errors (scope_of s.now) (option_map view_ident label.now) at) }
+        ensures { self.new ≡ first_from self.old (continue_early_errors (scope_of s.now)
+            (option_map view_ident label.now) at) }
     {
         match label {
             None => self.offer_if(!s.in_loop, EarlyRule::ContinueOutside, at),
@@ -128,7 +133,8 @@ impl<'a> Found<'a> {
     /// A prefix operator with its operand.
     #[tactic(auto, using(crate::proofs::Firsts::lists), unfolding(crate::specs::EarlyErrors::delete_early_errors))]
     pub(crate) fn delete(&mut self, op: UnOp, operand: &Expr, at: Span, s: &Scope<'_>)
-        ensures { self.new ≡ first_from self.old (delete_early_errors (scope_of s.now) op (view_expression operand.now) at) }
+        ensures { self.new ≡ first_from self.old (delete_early_errors (scope_of s.now) op
+            (view_expression operand.now) at) }
     {
         let deletes = s.strict && is_delete(op) && is_name(operand);
         self.offer_if(deletes, EarlyRule::StrictDelete, at);

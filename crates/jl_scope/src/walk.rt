@@ -4,7 +4,8 @@ ghost use Rattle.std.specs.Prelude.{◌≡◌, ◌++◌, OnOk};
 ghost use Rattle.jl_ast.specs.View.{view_body, view_function, view_functions, view_statement, view_statements};
 ghost use Rattle.jl_ast.specs.View.{view_init, view_declarators, view_cases, view_optional, view_expression};
 ghost use Rattle.jl_ast.specs.View.{view_expressions, view_target, view_items, view_entry, view_entries};
-ghost use Rattle.jl_scope.specs.EarlyErrors.{early_errors, forest_early_errors, optional_early_errors, label_early_errors, written_early_errors};
+ghost use Rattle.jl_scope.specs.EarlyErrors.{early_errors, forest_early_errors, optional_early_errors};
+ghost use Rattle.jl_scope.specs.EarlyErrors.{label_early_errors, written_early_errors};
 ghost use Rattle.jl_scope.specs.Scope.{is_loop, under_label, in_catch};
 ghost use Rattle.jl_scope.specs.Kinds.{first_from};
 ghost use Rattle.jl_scope.specs.Steps.{scope_of};
@@ -166,7 +167,8 @@ fn walk_labelled<'a>(
     s: &Scope<'_>,
     found: &mut Found<'a>,
 ) -> Result<(), NoMemory>
-    ensures { OnOk result (found.new ≡ first_from found.old (label_early_errors (scope_of s.now) name.now.text name.now.span
+    ensures { OnOk result (found.new ≡ first_from found.old (label_early_errors
+        (scope_of s.now) name.now.text name.now.span
         ++ early_errors (under_label (scope_of s.now) name.now.text (is_loop (view_statement labelled.now)))
         (view_statement labelled.now))) }
 {
@@ -190,7 +192,8 @@ fn walk_catch<'a>(
     s: &Scope<'_>,
     found: &mut Found<'a>,
 ) -> Result<(), NoMemory>
-    ensures { OnOk result (found.new ≡ first_from found.old (written_early_errors (scope_of s.now) name.now.text name.now.span
+    ensures { OnOk result (found.new ≡ first_from found.old (written_early_errors
+        (scope_of s.now) name.now.text name.now.span
         ++ forest_early_errors (in_catch (scope_of s.now) name.now.text) (view_statements body.now))) }
 {
     found.written(&name.text, name.span, s);

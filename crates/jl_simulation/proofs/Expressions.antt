@@ -41,8 +41,10 @@ use Rattle.jl_simulation.proofs.Chosen.{first_not, none_of, second_not, split, N
 use Rattle.jl_simulation.proofs.Entries.{entry_to, getter_to, setter_to}
 use Rattle.jl_simulation.proofs.HookCalls.{hook_plain_1, hook_plain_2, hook_worded_1, hook_worded_2, opener_plain_1}
 use Rattle.jl_simulation.proofs.HookCalls.{opener_plain_2, opener_worded_2}
-use Rattle.jl_simulation.proofs.HookNames.{asks_assign, asks_binary, asks_unary, asks_update, form_A, form_B, form_C, form_F}
-use Rattle.jl_simulation.proofs.HookNames.{form_G, form_I, form_M, form_N, form_P, form_R, form_T, form_U, form_W, form_Y}
+use Rattle.jl_simulation.proofs.HookNames.{asks_assign, asks_binary, asks_unary, asks_update, form_A, form_B, form_C}
+use Rattle.jl_simulation.proofs.HookNames.{form_F}
+use Rattle.jl_simulation.proofs.HookNames.{form_G, form_I, form_M, form_N, form_P, form_R, form_T, form_U, form_W}
+use Rattle.jl_simulation.proofs.HookNames.{form_Y}
 use Rattle.jl_simulation.proofs.HookNames.{form_Z, word_A, word_B, word_I, word_U}
 use Rattle.jl_simulation.proofs.HookedNames.{computed_hook, had_back_hook, updated_hook}
 use Rattle.jl_simulation.proofs.Literals.{array_as_is, array_told, function_as_is, function_told, literal_silent}
@@ -55,7 +57,8 @@ use Rattle.jl_simulation.proofs.Members.{update_index_silent}
 use Rattle.jl_simulation.proofs.Names.{assign_name_silent, assign_name_told, compute_name_silent, compute_name_told}
 use Rattle.jl_simulation.proofs.Names.{delete_name_match, name_silent, name_told, typeof_name_silent, typeof_name_told}
 use Rattle.jl_simulation.proofs.Names.{update_name_silent}
-use Rattle.jl_simulation.proofs.Operators.{binary_silent, binary_told, comma_match, decide_silent, decide_told, unary_silent}
+use Rattle.jl_simulation.proofs.Operators.{binary_silent, binary_told, comma_match, decide_silent, decide_told}
+use Rattle.jl_simulation.proofs.Operators.{unary_silent}
 use Rattle.jl_simulation.proofs.Operators.{unary_told}
 use Rattle.jl_simulation.proofs.Relation.{Matched, algorithm, bind, bind_both, done, even, pick, EvenMatch}
 use Rattle.jl_simulation.proofs.Relation.{ExpressionMatch}

@@ -40,7 +40,8 @@ use Rattle.jl_simulation.proofs.Chosen.{first_not, second_not, split}
 use Rattle.jl_simulation.proofs.Declarations.{enter_same, function_of}
 use Rattle.jl_simulation.proofs.HookCalls.{hook_plain_0}
 use Rattle.jl_simulation.proofs.HookNames.{form_E, form_L}
-use Rattle.jl_simulation.proofs.Relation.{algorithm, bind, bind_both, followed, lifted, pick, quiet, Matched, StatementMatch}
+use Rattle.jl_simulation.proofs.Relation.{algorithm, bind, bind_both, followed, lifted, pick, quiet, Matched}
+use Rattle.jl_simulation.proofs.Relation.{StatementMatch}
 use Rattle.jl_simulation.proofs.Statements.{execute_all_match}
 
 -- an algorithm in a part, one thing after another

@@ -22,7 +22,8 @@ use Rattle.jl_meaning.specs.forms.HookCalls.{makes}
 use Rattle.jl_meaning.specs.forms.Hooks.{enter_hook}
 use Rattle.jl_meaning.specs.forms.Literals.{end_array, literal, literal_of, literal_op, new_array, new_plain_object}
 use Rattle.jl_meaning.specs.forms.Literals.{of_array, of_function, of_object}
-use Rattle.jl_simulation.proofs.Relation.{Matched, done, bind, algorithm, lifted, bind2, quiet, ExpressionMatch, EvenMatch}
+use Rattle.jl_simulation.proofs.Relation.{Matched, done, bind, algorithm, lifted, bind2, quiet, ExpressionMatch}
+use Rattle.jl_simulation.proofs.Relation.{EvenMatch}
 
 -- T of a value
 abbrev pub tell_literal : (id : ℕ) → Context → Value → Part (Answer Value)

@@ -17,7 +17,8 @@ use Rattle.jl_op.specs.declared.kind.OpKind.{OpKind}
 use Rattle.jl_op.specs.declared.kind.OpKind.TheVariants as kind
 use Rattle.jl_meaning.specs.Parts.{Code, Expr}
 use Rattle.jl_simulation.specs.HookCalls as weaving
-use Rattle.jl_simulation.specs.HookCalls.{before_update, hook, hook_1, hook_of_1, hook_statement, name_of, without_id, Woven}
+use Rattle.jl_simulation.specs.HookCalls.{before_update, hook, hook_1, hook_of_1, hook_statement, name_of, without_id}
+use Rattle.jl_simulation.specs.HookCalls.{Woven}
 use Rattle.jl_simulation.specs.Weaving as weave
 use Rattle.jl_simulation.specs.Weaving.{woven, woven_assignment, woven_body, woven_callee, woven_delete, woven_forest}
 use Rattle.jl_simulation.specs.Weaving.{woven_optional, woven_test, woven_typeof, woven_update}

@@ -15,7 +15,8 @@ use Rattle.jl_meaning.specs.Completions.{on_given}
 use Rattle.jl_meaning.specs.Expressions.{evaluate}
 use Rattle.jl_meaning.specs.FunctionObjects.{FunctionTable}
 use Rattle.jl_meaning.specs.Mean.{language}
-use Rattle.jl_meaning.specs.Parts.{answer_of, begin_call, completion_of, fault_of, give, given, gives, lift, throws, ◌>>=◌}
+use Rattle.jl_meaning.specs.Parts.{answer_of, begin_call, completion_of, fault_of, give, given, gives, lift, throws}
+use Rattle.jl_meaning.specs.Parts.{◌>>=◌}
 use Rattle.jl_meaning.specs.Parts.{Algorithm, Answer, CallOf, Job, Part}
 use Rattle.jl_meaning.specs.Parts as parts
 use Rattle.jl_meaning.specs.Store.{Store}
@@ -23,7 +24,8 @@ use Rattle.jl_state.specs.AlgorithmFrames.{algorithm_after}
 use Rattle.jl_state.specs.StatementFrames.{completion_after, statement_after}
 use Rattle.jl_state.specs.ValueFrames.{value_after}
 use Rattle.jl_meaning.specs.Jobs.{job}
-use Rattle.jl_state.specs.Rest.{as_completion, as_value, handed, rest, rest_of, run_in, run_state, Completes, Gives, Given, Works}
+use Rattle.jl_state.specs.Rest.{as_completion, as_value, handed, rest, rest_of, run_in, run_state, Completes, Gives}
+use Rattle.jl_state.specs.Rest.{Given, Works}
 use Rattle.jl_state.specs.Rest.{Completion-given}
 use Rattle.jl_state.specs.Steps.{AlgorithmWaits, CompletionWaits, StatementWaits, ValueWaits}
 use Rattle.jl_state.specs.Trees.{plain}

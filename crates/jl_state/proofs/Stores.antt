@@ -10,11 +10,13 @@ use Rattle.jl_effects.specs.Traces.{quietly}
 use Rattle.jl_effects.proofs.Chains.{and_then-assoc, row-and_then}
 use Rattle.jl_meaning.specs.Completions.{on_given}
 use Rattle.jl_meaning.specs.Mean.{language}
-use Rattle.jl_meaning.specs.Parts.{fault_of, given, gives, lift, throws, ◌>>=◌, Algorithm, AlgorithmFault, Answer, CallOf, Part}
+use Rattle.jl_meaning.specs.Parts.{fault_of, given, gives, lift, throws, ◌>>=◌, Algorithm, AlgorithmFault, Answer}
+use Rattle.jl_meaning.specs.Parts.{CallOf, Part}
 use Rattle.jl_store.specs.Comes.{Comes}
 use Rattle.jl_store.proofs.Chains.{comes_fails, comes_runs}
 use Rattle.jl_meaning.specs.Jobs.{job}
-use Rattle.jl_state.specs.Rest.{as_completion, as_value, handed, rest_after, rest_of, run_in, run_state, Completes, Gives}
+use Rattle.jl_state.specs.Rest.{as_completion, as_value, handed, rest_after, rest_of, run_in, run_state, Completes}
+use Rattle.jl_state.specs.Rest.{Gives}
 use Rattle.jl_state.specs.Rest.{Completion-given, Works}
 use Rattle.jl_state.specs.Words.{table_of}
 use Rattle.jl_state.specs.declared.act.Act.{Act}

@@ -2,7 +2,8 @@
 use Rattle.std.specs.Prelude.{[], codes, drop, false, if◌then◌else◌, pos, true, ◌++◌, ◌∷◌, Bool}
 use Rattle.std.specs.Prelude.{List, None, Option, Some, ℕ}
 use Rattle.jl_num.specs.Arithmetic.{difference_of, negative_of, product_of, quotient_of, remainder_of}
-use Rattle.jl_num.specs.Bits.{and_of, complement_of, left_shift_of, or_of, right_shift_of, uint32_of, unsigned_right_shift_of}
+use Rattle.jl_num.specs.Bits.{and_of, complement_of, left_shift_of, or_of, right_shift_of, uint32_of}
+use Rattle.jl_num.specs.Bits.{unsigned_right_shift_of}
 use Rattle.jl_num.specs.Bits.{xor_of}
 use Rattle.jl_num.specs.Number.{Number}
 use Rattle.jl_ast.specs.declared.ops.BinOp.{BinOp}
@@ -17,7 +18,8 @@ use Rattle.jl_heap.specs.Objects.{Name}
 use Rattle.jl_heap.specs.declared.property.Change.{Change}
 use Rattle.jl_op.specs.declared.sign.UnKind.{UnKind}
 use Rattle.jl_op.specs.declared.sign.UnKind.TheVariants as unary
-use Rattle.jl_meaning.specs.Conversions.{or_else, primitive_found, primitive_of_method, to_number, to_primitive, try_method}
+use Rattle.jl_meaning.specs.Conversions.{or_else, primitive_found, primitive_of_method, to_number, to_primitive}
+use Rattle.jl_meaning.specs.Conversions.{try_method}
 use Rattle.jl_meaning.specs.Conversions.{no_hint, number_hint}
 use Rattle.jl_meaning.specs.Defining.{define_with_number, length_within}
 use Rattle.jl_meaning.specs.Errors.{require}

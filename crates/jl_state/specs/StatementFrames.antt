@@ -20,10 +20,12 @@ use Rattle.jl_meaning.specs.Completions.{ends_as, if_normal, normal, then_do}
 use Rattle.jl_meaning.specs.Completions as completions
 use Rattle.jl_meaning.specs.FunctionObjects.{FunctionTable}
 use Rattle.jl_meaning.specs.Noting.{note_value, performs}
-use Rattle.jl_meaning.specs.Parts.{begin_call, do_loop, for_in_loop, for_loop, gives, give, lift, look, new_object, or_fault, while_loop}
+use Rattle.jl_meaning.specs.Parts.{begin_call, do_loop, for_in_loop, for_loop, gives, give, lift, look, new_object}
+use Rattle.jl_meaning.specs.Parts.{or_fault, while_loop}
 use Rattle.jl_meaning.specs.Parts.{◌>>=◌, Algorithm, Answer, CallOf, Context, NumberOutside, Part}
 use Rattle.jl_meaning.specs.Parts as parts
-use Rattle.jl_meaning.specs.Statements.{execute_all, execute_branch, execute_from, handle, select, test_loop, update_loop}
+use Rattle.jl_meaning.specs.Statements.{execute_all, execute_branch, execute_from, handle, select, test_loop}
+use Rattle.jl_meaning.specs.Statements.{update_loop}
 use Rattle.jl_meaning.specs.forms.Jumps.{after_labelled, return_value, throw_value}
 use Rattle.jl_meaning.specs.forms.Loops.{after_body, begin_turn, visit_all, visit_next}
 use Rattle.jl_meaning.specs.forms.Operators.{decide}
@@ -86,7 +88,8 @@ module _ (table : FunctionTable) (calls : List Call) where
 
   -- what follows the body of a loop that has completed and goes on
   abbrev after_turn : LoopTurn → Loop → Part Completion
-  after_turn t (loop.Do l e) = completions.◌>>=◌ (test_loop table (tree.present (plain (view_expression e.now))) 0 (context t.here))
+  after_turn t (loop.Do l e) = completions.◌>>=◌ (test_loop table (tree.present (plain (view_expression e.now))) 0
+      (context t.here))
       (λ truth. if truth then next_turn t else normal)
   after_turn t (loop.While e l) = next_turn t
   after_turn t (loop.For e u l) =

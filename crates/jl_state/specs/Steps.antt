@@ -1,5 +1,5 @@
--- What the calls of a state do to what is left to do: each turns what holds of the state after it into what holds of the
--- state before.
+-- What the calls of a state do to what is left to do: each turns what holds of the state after it into what holds of
+-- the state before.
 use Rattle.jl_value.specs.declared.ending.Completion.{Completion}
 use Rattle.jl_value.specs.declared.value.Value.{Value}
 use Rattle.jl_effects.specs.Effects.{and_then, Step}

@@ -22,7 +22,8 @@ use Rattle.jl_meaning.specs.FunctionObjects.{FunctionTable}
 use Rattle.jl_meaning.specs.FunctionObjects as functions
 use Rattle.jl_meaning.specs.Noting.{emits, note, note_value, performs}
 use Rattle.jl_meaning.specs.Operators.{give_next}
-use Rattle.jl_meaning.specs.Parts.{begin_call, do_loop, for_in_loop, for_loop, gives, give, lift, look, new_object, or_fault, while_loop}
+use Rattle.jl_meaning.specs.Parts.{begin_call, do_loop, for_in_loop, for_loop, gives, give, lift, look, new_object}
+use Rattle.jl_meaning.specs.Parts.{or_fault, while_loop}
 use Rattle.jl_meaning.specs.Parts.{◌>>=◌, Algorithm, Answer, CallOf, Context, NumberOutside, Part}
 use Rattle.jl_meaning.specs.Parts as parts
 use Rattle.jl_meaning.specs.Putting.{delete}
@@ -109,7 +110,8 @@ module _ (table : FunctionTable) (calls : List Call) where
   arguments_after (arguments_for.Close pending) here vs = close table (context here) (pending_of pending) vs
 
   -- [[Construct]] of a function of the script goes on with the prototype (13.2.2, steps 5 to 10)
-  abbrev construct_with : Option functions.ScriptFunction → (env : ℕ) → parts.Call → (proto : Value) → Part (Answer Value)
+  abbrev construct_with : Option functions.ScriptFunction → (env : ℕ) → parts.Call → (proto : Value)
+      → Part (Answer Value)
   construct_with None env call proto = give value.Undefined
   construct_with (Some f) env call proto = do
     id ← lift (new_object class.Object (Some (prototype_for proto)) inner.Nothing)
@@ -235,7 +237,8 @@ module _ (table : FunctionTable) (calls : List Call) where
   value_after (waiting.UpdateMemberPrimitive noted base x up prefix strict held) p = do
     n ← lift (number_of_primitive p)
     w ← lift (give_next (update_kind up) n)
-    _ ← note (noting noted.emits) (noted.id.id + 1) (λ heap. op.Unary (update_kind up) (seen_of heap held) (seen_of heap w))
+    _ ← note (noting noted.emits) (noted.id.id + 1) (λ heap. op.Unary (update_kind up) (seen_of heap held)
+        (seen_of heap w))
     _ ← put_member (noting noted.emits) (noted.id.id + 2) strict base x w
     give (if prefix then w else value.Num n)
   value_after (waiting.UpdateOperandPrimitive id up held) p = do

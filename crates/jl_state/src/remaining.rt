@@ -13,7 +13,8 @@ pub struct Remaining<'p, T> {
 
 /// The first of the items that are left, if there is one, and those after it.
 pub fn split_first<'p, T>(items: Remaining<'p, T>) -> Option<(&'p T, Remaining<'p, T>)>
-    ensures { MatchOption result (items_left items.entry ≡ []) (λ r. items_left items.entry ≡ r.0.now ∷ items_left r.1) }
+    ensures { MatchOption result (items_left items.entry ≡ []) (λ r. items_left items.entry
+        ≡ r.0.now ∷ items_left r.1) }
 {
     let list = items.list.items();
     let first = list.get(items.from)?;

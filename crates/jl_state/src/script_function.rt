@@ -13,5 +13,6 @@ pub struct ScriptFunction<'p> {
     pub function: &'p Function,
     pub is_strict: bool,
     pub declared: Declared,
-    ghost declares: { Declares (function_body (plain_function function.now)) declared.variables.items declared.mentions_arguments },
+    ghost declares: { Declares (function_body
+        (plain_function function.now)) declared.variables.items declared.mentions_arguments },
 }

@@ -23,7 +23,8 @@ impl<'p> Model for Stack<'p> {
 
     ghost Value = { List Frame };
 
-    ghost coded = { Prim.hlevel (codes, case_of.the_row.coded, entry_of.the_row.coded, expr_of.the_row.coded, stmt_of.the_row.coded) };
+    ghost coded = { Prim.hlevel
+        (codes, case_of.the_row.coded, entry_of.the_row.coded, expr_of.the_row.coded, stmt_of.the_row.coded) };
 
     ghost view = { λ s. reverse s.frames.items };
 }

@@ -74,7 +74,10 @@ impl<'p> State<'p> {
     /// A statement waits for a value.
     pub fn push_statement(&mut self, frame: StatementFrame<'p>) -> Result<(), NoMemory>
         ensures waits { OnOk result (StatementWaits self.old frame.entry self.new) }
-        ensures pushed { OnOk result (self.new ≡ record self.old { stack = Frame.Statement frame.entry ∷ self.old.stack }) }
+        ensures pushed { OnOk result (self.new ≡ record self.old {
+          stack = Frame.Statement frame.entry
+              ∷ self.old.stack;
+        }) }
     {
         self.stack.push(Frame::Statement(frame))?;
         Ok(())
@@ -83,7 +86,10 @@ impl<'p> State<'p> {
     /// A statement waits for the completion of another.
     pub fn push_completion(&mut self, frame: CompletionFrame<'p>) -> Result<(), NoMemory>
         ensures waits { OnOk result (CompletionWaits self.old frame.entry self.new) }
-        ensures pushed { OnOk result (self.new ≡ record self.old { stack = Frame.Completion frame.entry ∷ self.old.stack }) }
+        ensures pushed { OnOk result (self.new ≡ record self.old {
+          stack = Frame.Completion frame.entry
+              ∷ self.old.stack;
+        }) }
     {
         self.stack.push(Frame::Completion(frame))?;
         Ok(())
@@ -114,7 +120,8 @@ impl<'p> State<'p> {
         here: Here,
     ) -> Result<Act<'p>, NoMemory>
         ensures leads { IfOk result (λ act. Completes self.old
-            (and_then (evaluate (table_of self.old.functions) (plain (view_expression e.now)) (context_of self.old.calls here))
+            (and_then (evaluate (table_of self.old.functions) (plain (view_expression e.now))
+            (context_of self.old.calls here))
             (on_given (statement_after (table_of self.old.functions) self.old.calls frame.entry))) self.new act) }
         ensures pushed { IfOk result (λ act. (act ≡ Act.Evaluate e.entry here)
             × (self.new ≡ record self.old { stack = Frame.Statement frame.entry ∷ self.old.stack })) }

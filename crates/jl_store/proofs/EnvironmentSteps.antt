@@ -5,7 +5,8 @@ use Rattle.std.proofs.lemmas.Bool.{eqb-true, eqb-false, ltb-true}
 use Rattle.std.proofs.lemmas.List.{set-get_or, set_past}
 use Rattle.std.proofs.lemmas.Option.{get_or_from_slice_get, slice_get_within}
 use Rattle.std.specs.Prelude.{IsNone}
-use Rattle.std.specs.Prelude.{Err, IfSome, IsTrue, None, Ok, OnErr, OnOk, Option, Result, Some, map, nat_lt, option_map, slice_get}
+use Rattle.std.specs.Prelude.{Err, IfSome, IsTrue, None, Ok, OnErr, OnOk, Option, Result, Some, map, nat_lt, option_map}
+use Rattle.std.specs.Prelude.{slice_get}
 use Rattle.std.specs.Prelude.{if◌then◌else◌}
 use Rattle.jl_props.proofs.LawsLemmas.{finds_each}
 use Rattle.jl_props.specs.Entries.{entry_named, with_item, with_new}
@@ -21,7 +22,8 @@ use Rattle.jl_store.specs.declared.environments.Environments.TheInside.{Inside}
 use Rattle.jl_store.specs.inner.Inside.{binding_of_entry, environment_with, environments_inside}
 use Rattle.jl_store.specs.inner.Inside.{is_before, IsKept}
 use Rattle.jl_store.proofs.BindingEntries.{binding_found, bindings_with_new, rebound_is, unbound_stays}
-use Rattle.jl_store.proofs.Seen.{environments-at, environments-past, environments-push, environments-put, environments-same}
+use Rattle.jl_store.proofs.Seen.{environments-at, environments-past, environments-push, environments-put}
+use Rattle.jl_store.proofs.Seen.{environments-same}
 use Rattle.jl_store.proofs.Seen.{length-environments}
 
 past_end : {A : Type 0} (xs : List A) (k : ℕ) → slice_get xs k ≡ None → length xs ≤ k

@@ -1,7 +1,8 @@
 -- Lengths of arrays that are asked for.
 use Rattle.std.proofs.Common.{◌≡◌, ◌∙◌, ℕ, ◌%◌, Bool, true, false, ap, arith, refl, subst, sym}
 use Rattle.std.proofs.lemmas.Bool.Decides.{nat_tests}
-use Rattle.std.specs.Prelude.{if◌then◌else◌, codes, IfSome, IsSome, IsTrue, nat_lt, negsuc, pos, ◌&&◌, None, Option, Some}
+use Rattle.std.specs.Prelude.{if◌then◌else◌, codes, IfSome, IsSome, IsTrue, nat_lt, negsuc, pos, ◌&&◌, None, Option}
+use Rattle.std.specs.Prelude.{Some}
 use Rattle.std.specs.Ordering.{int_eq}
 use Rattle.std.specs.Str.{bytes_eq}
 use Rattle.jl_num.specs.Bits.{uint32_of}

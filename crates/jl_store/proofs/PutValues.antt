@@ -15,7 +15,8 @@ use Rattle.jl_effects.specs.Running.{Ends}
 use Rattle.jl_meaning.specs.Changes.{DefineProperty}
 use Rattle.jl_meaning.specs.Defining.{define_own_property, define_with_number, value_change, with_length}
 use Rattle.jl_meaning.specs.Parts.{gives, ◌>>=◌}
-use Rattle.jl_meaning.specs.Properties.{can_put, get_own_property, get_property, holding, inherited_property, mapped_parameter}
+use Rattle.jl_meaning.specs.Properties.{can_put, get_own_property, get_property, holding, inherited_property}
+use Rattle.jl_meaning.specs.Properties.{mapped_parameter}
 use Rattle.jl_meaning.specs.Properties.{own_or_inherited, parameter_value}
 use Rattle.jl_meaning.specs.Putting.{put_if}
 use Rattle.jl_meaning.specs.Store.{binding_of, Store}

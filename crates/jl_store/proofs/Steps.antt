@@ -7,7 +7,8 @@ use Rattle.jl_heap.specs.declared.inner.Inner.{Inner}
 use Rattle.jl_heap.specs.declared.property.Prop.{Prop}
 use Rattle.jl_effects.specs.Running.{Ends, Finish}
 use Rattle.jl_meaning.specs.Changes.{NewObject, NewProperty, StoreChange}
-use Rattle.jl_meaning.specs.Parts.{add_property, change_store, give, gives, new_object, ◌>>=◌, Algorithm, AlgorithmFault, Answer}
+use Rattle.jl_meaning.specs.Parts.{add_property, change_store, give, gives, new_object, ◌>>=◌, Algorithm}
+use Rattle.jl_meaning.specs.Parts.{AlgorithmFault, Answer}
 use Rattle.jl_meaning.specs.Store.{next_object, Store}
 use Rattle.jl_store.specs.Changes.{after}
 use Rattle.jl_store.specs.Comes.{leads, Comes}

@@ -1,10 +1,12 @@
 -- Lines by their starts.
-use Rattle.std.proofs.Common.{◌≡◌, ℕ, zero, suc, ◌+◌, ◌-◌, ◌<◌, ◌≤◌, Bool, true, false, cond, List, [], ◌∷◌, refl, sym, ap, ◌∙◌, length, get_or, nat_le, arith}
+use Rattle.std.proofs.Common.{◌≡◌, ℕ, zero, suc, ◌+◌, ◌-◌, ◌<◌, ◌≤◌, Bool, true, false, cond, List, [], ◌∷◌, refl, sym}
+use Rattle.std.proofs.Common.{ap, ◌∙◌, length, get_or, nat_le, arith}
 use Rattle.std.proofs.lemmas.Bool.{le-leb, lt-leb}
 use Rattle.std.proofs.lemmas.List.Sums.{sum_by-cons}
 use Rattle.std.specs.List.{All, count_by}
 use Rattle.std.specs.List.Sorted.{IsNonDecreasing, IsPartitionPoint}
-use Rattle.jl_text.specs.Places.{ends_line, starts_after, line_table, line_col, position_from, position_of, line_at, IsLineTable}
+use Rattle.jl_text.specs.Places.{ends_line, starts_after, line_table, line_col, position_from, position_of, line_at}
+use Rattle.jl_text.specs.Places.{IsLineTable}
 
 IsNonDecreasing-cons : (x : ℕ) (xs : List ℕ) → All (λ y. x < y) xs → IsNonDecreasing xs → IsNonDecreasing (x ∷ xs)
 IsNonDecreasing-cons x xs low rising zero zero d order within = omega arith

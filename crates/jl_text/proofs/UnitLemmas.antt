@@ -1,15 +1,18 @@
 -- Units in UTF-16 and back.
-use Rattle.std.proofs.Common.{◌≡◌, ℕ, ◌+◌, ◌-◌, ◌*◌, ◌<◌, ◌⊎◌, inl, inr, List, [], ◌∷◌, ◌++◌, true, false, not, refl, sym, ap, ◌∙◌, get_or, arith, Some, None, is_some, ◌&&◌, map, ◌^◌, Option}
+use Rattle.std.proofs.Common.{◌≡◌, ℕ, ◌+◌, ◌-◌, ◌*◌, ◌<◌, ◌⊎◌, inl, inr, List, [], ◌∷◌, ◌++◌, true, false, not, refl}
+use Rattle.std.proofs.Common.{sym, ap, ◌∙◌, get_or, arith, Some, None, is_some, ◌&&◌, map, ◌^◌, Option}
 use Rattle.std.specs.Prelude.{All}
 use Rattle.std.specs.List.{list_any}
 use Rattle.std.proofs.lemmas.Str.{chars-encodes, utf16_chars-nil, utf16_chars_lone, utf16_chars_pair}
-use Rattle.std.proofs.str.Utf16.{IsPair, one_unit, pair_units, lone_unit_char_low, lone_unit_char_high, lone_unit_char_surrogate}
+use Rattle.std.proofs.str.Utf16.{IsPair, one_unit, pair_units, lone_unit_char_low, lone_unit_char_high}
+use Rattle.std.proofs.str.Utf16.{lone_unit_char_surrogate}
 use Rattle.std.proofs.str.Digits.{high_scalar}
 use Rattle.std.proofs.lemmas.Bool.{cases_lt}
 use Rattle.std.proofs.lemmas.List.Elements.{All-head, All-tail}
 use Rattle.std.specs.Option.{unwrap_or}
 use Rattle.std.specs.Char.Escape.{encode_utf16}
-use Rattle.std.specs.Char.Utf16.{utf16_chars, utf16_lossy_chars, has_unpaired_surrogate, surrogate_pair_char, lone_unit_char}
+use Rattle.std.specs.Char.Utf16.{utf16_chars, utf16_lossy_chars, has_unpaired_surrogate, surrogate_pair_char}
+use Rattle.std.specs.Char.Utf16.{lone_unit_char}
 use lib.Utf8.{scalar, scalars, low_scalar}
 use Rattle.jl_text.specs.Encoding.{encode_utf16_all, UnitsComeBack}
 

@@ -1,5 +1,6 @@
 -- Lines and columns of the places in a source. Both count from 1, and a column counts units.
-use Rattle.std.specs.Prelude.{◌≡◌, ℕ, zero, suc, ◌+◌, ◌-◌, ◌<◌, ◌≤◌, Bool, not, ◌||◌, ◌==◌, nat_le, List, [], ◌∷◌, length, slice_index, count_by, if◌then◌else◌}
+use Rattle.std.specs.Prelude.{◌≡◌, ℕ, zero, suc, ◌+◌, ◌-◌, ◌<◌, ◌≤◌, Bool, not, ◌||◌, ◌==◌, nat_le, List, [], ◌∷◌}
+use Rattle.std.specs.Prelude.{length, slice_index, count_by, if◌then◌else◌}
 use Rattle.std.specs.List.Sorted.{IsNonDecreasing}
 
 -- a line ends with the unit u, which `next` follows: LF, CR, U+2028 or U+2029 (7.3), and CR LF, which is one

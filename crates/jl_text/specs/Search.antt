@@ -1,5 +1,6 @@
 -- Where one text stands in another.
-use Rattle.std.specs.Prelude.{◌≡◌, ℕ, zero, suc, ◌+◌, ◌<◌, ◌≤◌, ◌&&◌, nat_eq, nat_le, List, [], ◌∷◌, length, drop, slice_range, Option, None, Some, MatchOption, if◌then◌else◌}
+use Rattle.std.specs.Prelude.{◌≡◌, ℕ, zero, suc, ◌+◌, ◌<◌, ◌≤◌, ◌&&◌, nat_eq, nat_le, List, [], ◌∷◌, length, drop}
+use Rattle.std.specs.Prelude.{slice_range, Option, None, Some, MatchOption, if◌then◌else◌}
 use Rattle.std.specs.List.{starts_with}
 
 -- `part` stands in `units` at the place `at`

@@ -1,11 +1,20 @@
 -- Against each element that could be formed, the scanner finds a fault, a longer element or that one.
-use Rattle.std.proofs.Common.{◌≡◌, refl, sym, ap, subst, ℕ, suc, ◌<◌, ◌≤◌, Bool, true, false, ◌&&◌, ◌||◌, ◌==◌, nat_le, List, [], ◌∷◌, ◌++◌, length, Option, Some, None, pos, if◌then◌else◌, arith}
+use Rattle.std.proofs.Common.{◌≡◌, refl, sym, ap, subst, ℕ, suc, ◌<◌, ◌≤◌, Bool, true, false, ◌&&◌, ◌||◌, ◌==◌, nat_le}
+use Rattle.std.proofs.Common.{List, [], ◌∷◌, ◌++◌, length, Option, Some, None, pos, if◌then◌else◌, arith}
 use Rattle.std.proofs.lemmas.Bool.{le-leb}
 use Rattle.std.specs.List.{list_any}
-use Rattle.jl_token.specs.Characters.{is_white_space, is_line_terminator, is_on_line, is_identifier_start, is_identifier_part, is_digit, is_quote, first_is}
+use Rattle.jl_token.specs.Characters.{is_white_space, is_line_terminator, is_on_line, is_identifier_start}
+use Rattle.jl_token.specs.Characters.{is_identifier_part, is_digit, is_quote, first_is}
 use Rattle.jl_token.specs.Punctuators.{punctuator_units, all_punctuators}
-use Rattle.jl_token.specs.Elements.{Element, LineEnd, LineComment, BlockComment, Word, Many, OneUnit, Letter, Name, name, BeforeClose, Numeral, HasValue, Character, StringLiteral, string, name_text, is_escaped, string_text, is_plain, Front, white_space, line_terminator, carriage_return_line_feed, line_comment, block_comment, identifier_name, punctuator, numeric_literal, string_literal}
-use Rattle.jl_token.specs.Scanner.{Outcome, found, bad, many, one_unit, letter, name_from, name_done, name_end, before_close, block_end, numeral, number_end, number_of, value_of, is_some_of, after_fraction, after_line_feed, string_done, string_stop, character, first_punctuator, punctuator_found, after_first, scan_word, scan}
+use Rattle.jl_token.specs.Elements.{Element, LineEnd, LineComment, BlockComment, Word, Many, OneUnit, Letter, Name}
+use Rattle.jl_token.specs.Elements.{name, BeforeClose, Numeral, HasValue, Character, StringLiteral, string, name_text}
+use Rattle.jl_token.specs.Elements.{is_escaped, string_text, is_plain, Front, white_space, line_terminator}
+use Rattle.jl_token.specs.Elements.{carriage_return_line_feed, line_comment, block_comment, identifier_name, punctuator}
+use Rattle.jl_token.specs.Elements.{numeric_literal, string_literal}
+use Rattle.jl_token.specs.Scanner.{Outcome, found, bad, many, one_unit, letter, name_from, name_done, name_end}
+use Rattle.jl_token.specs.Scanner.{before_close, block_end, numeral, number_end, number_of, value_of, is_some_of}
+use Rattle.jl_token.specs.Scanner.{after_fraction, after_line_feed, string_done, string_stop, character}
+use Rattle.jl_token.specs.Scanner.{first_punctuator, punctuator_found, after_first, scan_word, scan}
 use Rattle.jl_token.specs.declared.token.TokenKind.TheVariants as kinds
 use Rattle.jl_token.specs.declared.token.BadKind.{BadKind}
 use Rattle.jl_token.specs.declared.punct.Punct.{Punct}
@@ -14,10 +23,13 @@ use Rattle.jl_token.proofs.Tests.{or_false, and_true, never_both, is_unit}
 use Rattle.jl_token.proofs.Units.{units}
 use Rattle.jl_token.proofs.Parts.{reads_before_close, reads_start, reads_part}
 use Rattle.jl_token.proofs.Strings.{reads_character}
-use Rattle.jl_token.proofs.Numbers.{choose, row_shorter, longer, same, against, units_shorter, fraction_rest, goes_on, longer_numeral, same_numeral, numeral_against, numeral_begins, found_numeral}
+use Rattle.jl_token.proofs.Numbers.{choose, row_shorter, longer, same, against, units_shorter, fraction_rest, goes_on}
+use Rattle.jl_token.proofs.Numbers.{longer_numeral, same_numeral, numeral_against, numeral_begins, found_numeral}
 use Rattle.jl_token.proofs.Values.{value_complete}
-use Rattle.jl_token.proofs.Table.{longer as longer_punctuator, same as same_punctuator, longest, is_other, goes_well, each_goes_well}
-use Rattle.jl_token.proofs.Branches.{scan_white, scan_line, scan_line_comment, scan_block_comment, scan_string, scan_number, scan_letter}
+use Rattle.jl_token.proofs.Table.{longer as longer_punctuator, same as same_punctuator, longest, is_other, goes_well}
+use Rattle.jl_token.proofs.Table.{each_goes_well}
+use Rattle.jl_token.proofs.Branches.{scan_white, scan_line, scan_line_comment, scan_block_comment, scan_string}
+use Rattle.jl_token.proofs.Branches.{scan_number, scan_letter}
 
 pub data Covers : Outcome → Element → List ℕ → Type 0 where
   a_fault : {k : BadKind} {e : Element} {rest : List ℕ} → Covers (bad k) e rest

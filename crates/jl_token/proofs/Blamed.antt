@@ -1,10 +1,19 @@
 -- Where a fault stands, the scanner finds it.
-use Rattle.std.proofs.Common.{◌≡◌, refl, sym, ap, ◌∙◌, subst, ℕ, ◌<◌, inl, inr, Bool, true, false, ◌&&◌, ◌||◌, ◌==◌, nat_le, List, [], ◌∷◌, length, Option, Some, None, arith}
+use Rattle.std.proofs.Common.{◌≡◌, refl, sym, ap, ◌∙◌, subst, ℕ, ◌<◌, inl, inr, Bool, true, false, ◌&&◌, ◌||◌, ◌==◌}
+use Rattle.std.proofs.Common.{nat_le, List, [], ◌∷◌, length, Option, Some, None, arith}
 use Rattle.std.proofs.lemmas.Bool.Decides.{nat_tests}
-use Rattle.jl_token.specs.Characters.{is_identifier_start, is_identifier_part, is_digit, are_hex_digits, hex_number, hex_digit_value, is_quote, first_is}
-use Rattle.jl_token.specs.Elements.{Element, Many, no_more, unit, digits as some, zero_digit, nonzero, no_exponent, whole, Letter, itself, escaped, Name, name, BeforeClose, HasValue, Character, string, name_text, string_text, Front, identifier_name, punctuator, numeric_literal, string_literal}
-use Rattle.jl_token.specs.Faults.{Unclosed, at_end, at_last_backslash, at_line_terminator, No, LongestNumeral, Fault, unclosed_string, unclosed_comment, string_escape, name_escape, first_escape, digit_follows, name_follows, no_number, long_name, long_string, no_element}
-use Rattle.jl_token.specs.Scanner.{Outcome, bad, many, letter, name_from, name_done, name_end, before_close, block_end, number_end, number_of, value_of, is_some_of, string_done, string_end, string_stop, character, escape, scan}
+use Rattle.jl_token.specs.Characters.{is_identifier_start, is_identifier_part, is_digit, are_hex_digits, hex_number}
+use Rattle.jl_token.specs.Characters.{hex_digit_value, is_quote, first_is}
+use Rattle.jl_token.specs.Elements.{Element, Many, no_more, unit, digits as some, zero_digit, nonzero, no_exponent}
+use Rattle.jl_token.specs.Elements.{whole, Letter, itself, escaped, Name, name, BeforeClose, HasValue, Character}
+use Rattle.jl_token.specs.Elements.{string, name_text, string_text, Front, identifier_name, punctuator, numeric_literal}
+use Rattle.jl_token.specs.Elements.{string_literal}
+use Rattle.jl_token.specs.Faults.{Unclosed, at_end, at_last_backslash, at_line_terminator, No, LongestNumeral, Fault}
+use Rattle.jl_token.specs.Faults.{unclosed_string, unclosed_comment, string_escape, name_escape, first_escape}
+use Rattle.jl_token.specs.Faults.{digit_follows, name_follows, no_number, long_name, long_string, no_element}
+use Rattle.jl_token.specs.Scanner.{Outcome, bad, many, letter, name_from, name_done, name_end, before_close, block_end}
+use Rattle.jl_token.specs.Scanner.{number_end, number_of, value_of, is_some_of, string_done, string_end, string_stop}
+use Rattle.jl_token.specs.Scanner.{character, escape, scan}
 use Rattle.jl_token.specs.declared.token.BadKind.{BadKind}
 use Rattle.jl_token.specs.declared.token.BadKind.TheVariants as faults
 use Rattle.jl_token.specs.declared.punct.Punct.TheVariants.{Dot, Slash}
@@ -13,7 +22,8 @@ use Rattle.jl_token.proofs.Tests.{or_cases, and_true, true_or_false, not_true, n
 use Rattle.jl_token.proofs.Units.{units, lines, quotes, digit_bounds}
 use Rattle.jl_token.proofs.Parts.{reads_before_close, reads_start, reads_part}
 use Rattle.jl_token.proofs.Strings.{reads_character, at_backslash}
-use Rattle.jl_token.proofs.Numbers.{choose, numeral_sound, numeral_against, longer_numeral, same_numeral, numeral_begins, begins_at, found_numeral}
+use Rattle.jl_token.proofs.Numbers.{choose, numeral_sound, numeral_against, longer_numeral, same_numeral}
+use Rattle.jl_token.proofs.Numbers.{numeral_begins, begins_at, found_numeral}
 use Rattle.jl_token.proofs.Values.{value_sound}
 use Rattle.jl_token.proofs.Branches.{scan_block_comment, scan_string, scan_number, scan_letter, scan_backslash}
 use Rattle.jl_token.proofs.Found.{Right, right_element, right_fault, close_here, positive, scan_right}

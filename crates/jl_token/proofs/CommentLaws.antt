@@ -1,7 +1,8 @@
 -- The laws on the comments of a text.
 use Rattle.std.proofs.Common.{refl, sym, ap, ◌∙◌, subst, ℕ, ◌+◌, ◌≤◌, Bool, List, [], length, arith}
 use Rattle.jl_token.specs.Characters.{is_on_line}
-use Rattle.jl_token.specs.Elements.{White, LineEnd, LineComment, BlockComment, Word, Many, no_more, one_more, Front, line_comment, block_comment}
+use Rattle.jl_token.specs.Elements.{White, LineEnd, LineComment, BlockComment, Word, Many, no_more, one_more, Front}
+use Rattle.jl_token.specs.Elements.{line_comment, block_comment}
 use Rattle.jl_token.specs.Tokens.{Piece, place, OnePiece, one_piece, comments_among, CommentsInOrder}
 use Rattle.jl_token.specs.Tokens.{CommentsAreUnique, CommentsWhereTokens, CommentsAreInOrder}
 use Rattle.jl_token.proofs.Numbers.{row_shorter}

@@ -1,12 +1,22 @@
 -- What the scanner finds stands there.
-use Rattle.std.proofs.Common.{◌≡◌, refl, sym, ap, ◌∙◌, subst, ℕ, suc, ◌⊎◌, inl, inr, Bool, true, false, ◌&&◌, ◌||◌, ◌==◌, nat_le, List, [], ◌∷◌, ◌++◌, length, Option, Some, None, if◌then◌else◌, arith}
+use Rattle.std.proofs.Common.{◌≡◌, refl, sym, ap, ◌∙◌, subst, ℕ, suc, ◌⊎◌, inl, inr, Bool, true, false, ◌&&◌, ◌||◌}
+use Rattle.std.proofs.Common.{◌==◌, nat_le, List, [], ◌∷◌, ◌++◌, length, Option, Some, None, if◌then◌else◌, arith}
 use Rattle.std.proofs.lemmas.Bool.{leb-true, le-leb}
 use Rattle.std.proofs.lemmas.Bool.Decides.{nat_tests}
-use Rattle.jl_token.specs.Characters.{is_white_space, is_line_terminator, is_on_line, is_identifier_start, is_identifier_part, is_digit, is_quote, first_is}
+use Rattle.jl_token.specs.Characters.{is_white_space, is_line_terminator, is_on_line, is_identifier_start}
+use Rattle.jl_token.specs.Characters.{is_identifier_part, is_digit, is_quote, first_is}
 use Rattle.jl_token.specs.Punctuators.{punctuator_units, all_punctuators}
-use Rattle.jl_token.specs.Elements.{Element, LineEnd, LineComment, Many, Letter, itself, escaped, Name, name, BeforeClose, Character, string, name_text, string_text, is_plain, Front, white_space, line_terminator, carriage_return_line_feed, line_comment, block_comment, identifier_name, punctuator, numeric_literal, string_literal}
-use Rattle.jl_token.specs.Faults.{at_end, at_last_backslash, at_line_terminator, LongestNumeral, Fault, unclosed_string, unclosed_comment, string_escape, name_escape, first_escape, digit_follows, name_follows, no_number, long_name, long_string, no_element}
-use Rattle.jl_token.specs.Scanner.{Outcome, found, bad, many, one_unit, letter, name_from, name_done, name_end, before_close, block_end, numeral, number_end, number_of, value_of, is_some_of, after_line_feed, string_done, string_end, string_stop, character, first_punctuator, punctuator_found, after_first, scan_word, scan}
+use Rattle.jl_token.specs.Elements.{Element, LineEnd, LineComment, Many, Letter, itself, escaped, Name, name}
+use Rattle.jl_token.specs.Elements.{BeforeClose, Character, string, name_text, string_text, is_plain, Front}
+use Rattle.jl_token.specs.Elements.{white_space, line_terminator, carriage_return_line_feed, line_comment}
+use Rattle.jl_token.specs.Elements.{block_comment, identifier_name, punctuator, numeric_literal, string_literal}
+use Rattle.jl_token.specs.Faults.{at_end, at_last_backslash, at_line_terminator, LongestNumeral, Fault, unclosed_string}
+use Rattle.jl_token.specs.Faults.{unclosed_comment, string_escape, name_escape, first_escape, digit_follows}
+use Rattle.jl_token.specs.Faults.{name_follows, no_number, long_name, long_string, no_element}
+use Rattle.jl_token.specs.Scanner.{Outcome, found, bad, many, one_unit, letter, name_from, name_done, name_end}
+use Rattle.jl_token.specs.Scanner.{before_close, block_end, numeral, number_end, number_of, value_of, is_some_of}
+use Rattle.jl_token.specs.Scanner.{after_line_feed, string_done, string_end, string_stop, character, first_punctuator}
+use Rattle.jl_token.specs.Scanner.{punctuator_found, after_first, scan_word, scan}
 use Rattle.jl_token.specs.declared.token.BadKind.{BadKind}
 use Rattle.jl_token.specs.declared.token.BadKind.TheVariants as faults
 use Rattle.jl_token.specs.declared.punct.Punct.{Punct}

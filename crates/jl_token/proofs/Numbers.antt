@@ -1,8 +1,13 @@
 -- The reader of a numeric literal finds the longest one.
-use Rattle.std.proofs.Common.{◌≡◌, refl, sym, ap, subst, ℕ, ◌+◌, ◌<◌, ◌≤◌, ◌⊎◌, inl, inr, Bool, true, false, ◌&&◌, ◌||◌, ◌==◌, List, [], ◌∷◌, ◌++◌, length, Option, Some, None, if◌then◌else◌, arith, zero-add}
+use Rattle.std.proofs.Common.{◌≡◌, refl, sym, ap, subst, ℕ, ◌+◌, ◌<◌, ◌≤◌, ◌⊎◌, inl, inr, Bool, true, false, ◌&&◌, ◌||◌}
+use Rattle.std.proofs.Common.{◌==◌, List, [], ◌∷◌, ◌++◌, length, Option, Some, None, if◌then◌else◌, arith, zero-add}
 use Rattle.jl_token.specs.Characters.{is_digit, is_hex_digit, decimal_from, first_is}
-use Rattle.jl_token.specs.Elements.{Many, no_more, one_more, OneUnit, unit, Digits, digits as some, WholeDigits, zero_digit, nonzero, Exponent, no_exponent, no_sign, plus, minus, Numeral, whole, with_point, from_point, hex}
-use Rattle.jl_token.specs.Scanner.{many, with_first, one_unit, some_digits, raised, exponent_by, exponent_sign, exponent, with_exponent, after_fraction, after_whole, hex_literal, after_zero, from_whole, numeral}
+use Rattle.jl_token.specs.Elements.{Many, no_more, one_more, OneUnit, unit, Digits, digits as some, WholeDigits}
+use Rattle.jl_token.specs.Elements.{zero_digit, nonzero, Exponent, no_exponent, no_sign, plus, minus, Numeral, whole}
+use Rattle.jl_token.specs.Elements.{with_point, from_point, hex}
+use Rattle.jl_token.specs.Scanner.{many, with_first, one_unit, some_digits, raised, exponent_by, exponent_sign}
+use Rattle.jl_token.specs.Scanner.{exponent, with_exponent, after_fraction, after_whole, hex_literal, after_zero}
+use Rattle.jl_token.specs.Scanner.{from_whole, numeral}
 use Rattle.jl_token.proofs.Rows.{prepend, many_step, many_complete, many_whole, many_sound}
 use Rattle.jl_token.proofs.Tests.{or_cases, or_false, and_true, true_or_false, never_both, is_unit}
 use Rattle.jl_token.proofs.Units.{units, digits}

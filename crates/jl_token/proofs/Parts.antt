@@ -1,5 +1,6 @@
 -- The readers of one part find what the relations of one part tell of.
-use Rattle.std.proofs.Common.{◌≡◌, refl, sym, subst, ℕ, ◌<◌, Bool, true, false, ◌&&◌, ◌==◌, List, [], ◌∷◌, length, Option, Some, None, if◌then◌else◌, arith}
+use Rattle.std.proofs.Common.{◌≡◌, refl, sym, subst, ℕ, ◌<◌, Bool, true, false, ◌&&◌, ◌==◌, List, [], ◌∷◌, length}
+use Rattle.std.proofs.Common.{Option, Some, None, if◌then◌else◌, arith}
 use Rattle.jl_token.specs.Characters.{is_identifier_start, is_identifier_part, are_hex_digits, hex_number, first_is}
 use Rattle.jl_token.specs.Elements.{OneUnit, unit, Letter, itself, escaped, BeforeClose, before_close as one_before}
 use Rattle.jl_token.specs.Scanner.{one_unit, letter, name_escape, before_close}

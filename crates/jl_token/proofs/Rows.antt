@@ -1,5 +1,6 @@
 -- A row of parts, and a reader of one part that finds exactly what the relation of one part tells of.
-use Rattle.std.proofs.Common.{◌≡◌, refl, ap, ◌∙◌, ℕ, zero, suc, ◌<◌, ◌≤◌, List, [], ◌∷◌, length, Option, Some, None, arith}
+use Rattle.std.proofs.Common.{◌≡◌, refl, ap, ◌∙◌, ℕ, zero, suc, ◌<◌, ◌≤◌, List, [], ◌∷◌, length, Option, Some, None}
+use Rattle.std.proofs.Common.{arith}
 use Rattle.jl_token.specs.Elements.{Many, no_more, one_more}
 use Rattle.jl_token.specs.Scanner.{many, many_within, many_by, with_first}
 

@@ -1,8 +1,12 @@
 -- The reader of a string's character finds what the relation tells of.
-use Rattle.std.proofs.Common.{◌≡◌, refl, sym, ap, ◌∙◌, subst, ℕ, ◌<◌, ◌⊎◌, inl, inr, Bool, true, false, ◌&&◌, ◌||◌, ◌==◌, List, [], ◌∷◌, length, Option, Some, None, if◌then◌else◌, arith}
-use Rattle.jl_token.specs.Characters.{is_line_terminator, is_digit, is_hex_digit, are_hex_digits, is_quote, single_escape, is_escape_character, first_is}
-use Rattle.jl_token.specs.Elements.{Character, plain, single, non_escape, null, hex_escape as hex_pair, unicode_escape as hex_four, continuation, long_continuation}
-use Rattle.jl_token.specs.Scanner.{after_line_feed, hex_escape, unicode_escape, other_escape, escape_by, escape, character}
+use Rattle.std.proofs.Common.{◌≡◌, refl, sym, ap, ◌∙◌, subst, ℕ, ◌<◌, ◌⊎◌, inl, inr, Bool, true, false, ◌&&◌, ◌||◌}
+use Rattle.std.proofs.Common.{◌==◌, List, [], ◌∷◌, length, Option, Some, None, if◌then◌else◌, arith}
+use Rattle.jl_token.specs.Characters.{is_line_terminator, is_digit, is_hex_digit, are_hex_digits, is_quote}
+use Rattle.jl_token.specs.Characters.{single_escape, is_escape_character, first_is}
+use Rattle.jl_token.specs.Elements.{Character, plain, single, non_escape, null, hex_escape as hex_pair}
+use Rattle.jl_token.specs.Elements.{unicode_escape as hex_four, continuation, long_continuation}
+use Rattle.jl_token.specs.Scanner.{after_line_feed, hex_escape, unicode_escape, other_escape, escape_by, escape}
+use Rattle.jl_token.specs.Scanner.{character}
 use Rattle.jl_token.proofs.Rows.{Reads}
 use Rattle.jl_token.proofs.Tests.{or_false, both_false, and_true, true_or_false, never_both, is_unit, other_unit}
 use Rattle.jl_token.proofs.Units.{units, quotes, each_line_terminator}

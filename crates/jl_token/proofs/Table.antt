@@ -1,12 +1,22 @@
 -- The table of punctuators: the first that fits is the longest that fits.
-use Rattle.std.proofs.Common.{◌≡◌, refl, sym, ap, ◌∙◌, subst, ℕ, ◌<◌, ◌≤◌, ◌⊎◌, inl, inr, Bool, true, false, ◌&&◌, ◌||◌, ◌==◌, nat_le, List, [], ◌∷◌, ◌++◌, length, Option, Some, None, if◌then◌else◌, arith}
+use Rattle.std.proofs.Common.{◌≡◌, refl, sym, ap, ◌∙◌, subst, ℕ, ◌<◌, ◌≤◌, ◌⊎◌, inl, inr, Bool, true, false, ◌&&◌, ◌||◌}
+use Rattle.std.proofs.Common.{◌==◌, nat_le, List, [], ◌∷◌, ◌++◌, length, Option, Some, None, if◌then◌else◌, arith}
 use Rattle.std.proofs.lemmas.Bool.{leb-true}
 use Rattle.std.proofs.Common.{length-append, append-nil}
-use Rattle.jl_token.specs.Characters.{is_white_space, is_line_terminator, is_identifier_start, is_digit, is_quote, first_is}
+use Rattle.jl_token.specs.Characters.{is_white_space, is_line_terminator, is_identifier_start, is_digit, is_quote}
+use Rattle.jl_token.specs.Characters.{first_is}
 use Rattle.jl_token.specs.Punctuators.{punctuator_units, all_punctuators}
 use Rattle.jl_token.specs.Scanner.{strip, or_else, first_punctuator}
 use Rattle.jl_token.specs.declared.punct.Punct.{Punct}
-use Rattle.jl_token.specs.declared.punct.Punct.TheVariants.{LeftBrace, RightBrace, LeftParen, RightParen, LeftBracket, RightBracket, Dot, Semicolon, Comma, Less, Greater, LessEqual, GreaterEqual, Equal, NotEqual, StrictEqual, StrictNotEqual, Plus, Minus, Star, Percent, PlusPlus, MinusMinus, ShiftLeft, ShiftRight, ShiftRightUnsigned, And, Or, Caret, Bang, Tilde, AndAnd, OrOr, Question, Colon, Assign, PlusAssign, MinusAssign, StarAssign, PercentAssign, ShiftLeftAssign, ShiftRightAssign, ShiftRightUnsignedAssign, AndAssign, OrAssign, CaretAssign, Slash, SlashAssign}
+use Rattle.jl_token.specs.declared.punct.Punct.TheVariants.{LeftBrace, RightBrace, LeftParen, RightParen, LeftBracket}
+use Rattle.jl_token.specs.declared.punct.Punct.TheVariants.{RightBracket, Dot, Semicolon, Comma, Less, Greater}
+use Rattle.jl_token.specs.declared.punct.Punct.TheVariants.{LessEqual, GreaterEqual, Equal, NotEqual, StrictEqual}
+use Rattle.jl_token.specs.declared.punct.Punct.TheVariants.{StrictNotEqual, Plus, Minus, Star, Percent, PlusPlus}
+use Rattle.jl_token.specs.declared.punct.Punct.TheVariants.{MinusMinus, ShiftLeft, ShiftRight, ShiftRightUnsigned, And}
+use Rattle.jl_token.specs.declared.punct.Punct.TheVariants.{Or, Caret, Bang, Tilde, AndAnd, OrOr, Question, Colon}
+use Rattle.jl_token.specs.declared.punct.Punct.TheVariants.{Assign, PlusAssign, MinusAssign, StarAssign, PercentAssign}
+use Rattle.jl_token.specs.declared.punct.Punct.TheVariants.{ShiftLeftAssign, ShiftRightAssign, ShiftRightUnsignedAssign}
+use Rattle.jl_token.specs.declared.punct.Punct.TheVariants.{AndAssign, OrAssign, CaretAssign, Slash, SlashAssign}
 use Rattle.jl_token.proofs.Tests.{and_true, is_unit, some_pair}
 use Rattle.jl_token.proofs.Units.{units}
 

@@ -1,12 +1,15 @@
 -- The kinds of units don't overlap.
-use Rattle.std.proofs.Common.{◌≡◌, refl, sym, subst, ℕ, zero, suc, ◌+◌, ◌-◌, ◌<◌, ◌≤◌, ◌⊎◌, inl, inr, Bool, true, false, ◌&&◌, ◌||◌, ◌==◌, arith}
+use Rattle.std.proofs.Common.{◌≡◌, refl, sym, subst, ℕ, zero, suc, ◌+◌, ◌-◌, ◌<◌, ◌≤◌, ◌⊎◌, inl, inr, Bool, true, false}
+use Rattle.std.proofs.Common.{◌&&◌, ◌||◌, ◌==◌, arith}
 use Rattle.std.proofs.Math.Bool.{not}
 use Rattle.std.proofs.lemmas.Bool.{leb-true}
 use Rattle.std.proofs.lemmas.Bool.Decides.{leb_tells}
 use Rattle.unicode.proofs.CategoryComputing.{ucd_category}
 use Rattle.ucd_category.specs.declared.GeneralCategory.{GeneralCategory}
 use Rattle.ucd_category.specs.declared.GeneralCategory.TheVariants.{SpaceSeparator}
-use Rattle.jl_token.specs.Characters.{is_surrogate, category, is_space, is_letter, is_mark, is_white_space, is_line_terminator, is_on_line, is_identifier_start, is_identifier_part, is_digit, is_hex_digit, is_quote}
+use Rattle.jl_token.specs.Characters.{is_surrogate, category, is_space, is_letter, is_mark, is_white_space}
+use Rattle.jl_token.specs.Characters.{is_line_terminator, is_on_line, is_identifier_start, is_identifier_part, is_digit}
+use Rattle.jl_token.specs.Characters.{is_hex_digit, is_quote}
 use Rattle.jl_token.proofs.Tests.{or_cases, both_false, and_true, not_true, never_both, is_unit, other_unit}
 
 -- a test of each number below a bound, computed

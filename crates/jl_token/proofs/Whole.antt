@@ -1,10 +1,19 @@
 -- The scanner's pieces are the pieces of the text, and so the tokens of a text are found, and are the only ones.
-use Rattle.std.proofs.Common.{◌≡◌, refl, sym, ap, ◌∙◌, subst, ℕ, ◌+◌, ◌<◌, ◌≤◌, ◌⊎◌, inl, inr, Bool, true, false, ◌||◌, List, [], ◌∷◌, length, Some, None, arith, length-append}
+use Rattle.std.proofs.Common.{◌≡◌, refl, sym, ap, ◌∙◌, subst, ℕ, ◌+◌, ◌<◌, ◌≤◌, ◌⊎◌, inl, inr, Bool, true, false, ◌||◌}
+use Rattle.std.proofs.Common.{List, [], ◌∷◌, length, Some, None, arith, length-append}
 use Rattle.jl_token.specs.Characters.{is_digit, is_hex_digit, is_on_line}
 use Rattle.jl_token.specs.Punctuators.{punctuator_units}
-use Rattle.jl_token.specs.Elements.{Element, White, LineEnd, LineComment, BlockComment, Word, Many, no_more, one_more, OneUnit, Name, name, Digits, digits, WholeDigits, zero_digit, nonzero, Exponent, no_exponent, no_sign, plus, minus, Numeral, whole, with_point, from_point, hex, StringLiteral, string, Front, white_space, line_terminator, carriage_return_line_feed, line_comment, block_comment, identifier_name, punctuator, numeric_literal, string_literal}
-use Rattle.jl_token.specs.Faults.{Fault, unclosed_string, unclosed_comment, string_escape, name_escape, first_escape, digit_follows, name_follows, no_number, long_name, long_string, no_element}
-use Rattle.jl_token.specs.Tokens.{Begins, Piece, piece, place, OnePiece, one_piece, tokens_among, Tokens, BadAt, InOrder, TokensAreUnique, BadPlaceIsUnique, TokensOrBad, NeverBoth, SpansAreInOrder, FewTokens}
+use Rattle.jl_token.specs.Elements.{Element, White, LineEnd, LineComment, BlockComment, Word, Many, no_more, one_more}
+use Rattle.jl_token.specs.Elements.{OneUnit, Name, name, Digits, digits, WholeDigits, zero_digit, nonzero, Exponent}
+use Rattle.jl_token.specs.Elements.{no_exponent, no_sign, plus, minus, Numeral, whole, with_point, from_point, hex}
+use Rattle.jl_token.specs.Elements.{StringLiteral, string, Front, white_space, line_terminator}
+use Rattle.jl_token.specs.Elements.{carriage_return_line_feed, line_comment, block_comment, identifier_name, punctuator}
+use Rattle.jl_token.specs.Elements.{numeric_literal, string_literal}
+use Rattle.jl_token.specs.Faults.{Fault, unclosed_string, unclosed_comment, string_escape, name_escape, first_escape}
+use Rattle.jl_token.specs.Faults.{digit_follows, name_follows, no_number, long_name, long_string, no_element}
+use Rattle.jl_token.specs.Tokens.{Begins, Piece, piece, place, OnePiece, one_piece, tokens_among, Tokens, BadAt}
+use Rattle.jl_token.specs.Tokens.{InOrder, TokensAreUnique, BadPlaceIsUnique, TokensOrBad, NeverBoth, SpansAreInOrder}
+use Rattle.jl_token.specs.Tokens.{FewTokens}
 use Rattle.jl_token.specs.Scanner.{Outcome, found, bad, many, scan_word, scan, piece_found, next_piece}
 use Rattle.jl_token.specs.declared.punct.Punct.{Punct}
 use Rattle.jl_token.specs.declared.token.BadKind.{BadKind}

@@ -1,10 +1,14 @@
 -- The input elements of a script (clause 7): with which of them a row of units begins, and which units are left.
 -- The relations here speak of any prefix of the units; that the longest prefix is taken is said in `Tokens`.
--- Units stand here by their numbers: 10 LF, 13 CR, 42 `*`, 43 `+`, 45 `-`, 46 `.`, 47 `/`, 48 `0`, 92 a backslash, 117 `u`,
--- 69 and 101 `E` and `e`, 88 and 120 `X` and `x`.
-use Rattle.std.specs.Prelude.{◌≡◌, ◌≤◌, ℕ, ◌+◌, ◌*◌, ◌^◌, Bool, true, false, ◌==◌, ◌&&◌, ◌||◌, List, [], ◌∷◌, ◌++◌, length, map, Some, pos}
+-- Units stand here by their numbers: 10 LF, 13 CR, 42 `*`, 43 `+`, 45 `-`, 46 `.`, 47 `/`, 48 `0`, 92 a backslash, 117
+-- `u`, 69 and 101 `E` and `e`, 88 and 120 `X` and `x`.
+use Rattle.std.specs.Prelude.{◌≡◌, ◌≤◌, ℕ, ◌+◌, ◌*◌, ◌^◌, Bool, true, false, ◌==◌, ◌&&◌, ◌||◌, List, [], ◌∷◌, ◌++◌}
+use Rattle.std.specs.Prelude.{length, map, Some, pos}
 use Rattle.std.specs.List.{list_any, list_all, flat_map}
-use Rattle.jl_token.specs.Characters.{is_white_space, is_line_terminator, is_on_line, is_identifier_start, is_identifier_part, is_digit, is_hex_digit, decimal_from, hex_from, are_hex_digits, hex_number, is_quote, single_escape, is_escape_character, first_is}
+use Rattle.jl_token.specs.Characters.{is_white_space, is_line_terminator, is_on_line, is_identifier_start}
+use Rattle.jl_token.specs.Characters.{is_identifier_part, is_digit, is_hex_digit, decimal_from, hex_from}
+use Rattle.jl_token.specs.Characters.{are_hex_digits, hex_number, is_quote, single_escape, is_escape_character}
+use Rattle.jl_token.specs.Characters.{first_is}
 use Rattle.jl_token.specs.Punctuators.{punctuator_units}
 use Rattle.jl_token.specs.declared.punct.Punct.{Punct}
 use Rattle.jl_token.specs.declared.token.TokenKind.{TokenKind}

@@ -1,7 +1,9 @@
 -- Where the units begin with no input element of a script: which fault stands there.
 use Rattle.std.specs.Prelude.{◌≡◌, ◌<◌, ◌≤◌, ℕ, Bool, true, false, ◌==◌, List, [], ◌∷◌, length}
-use Rattle.jl_token.specs.Characters.{is_line_terminator, is_identifier_start, is_identifier_part, is_digit, is_quote, first_is}
-use Rattle.jl_token.specs.Elements.{Element, Many, Letter, Name, BeforeClose, Numeral, HasValue, Character, StringLiteral, Front, name_text, string_text}
+use Rattle.jl_token.specs.Characters.{is_line_terminator, is_identifier_start, is_identifier_part, is_digit, is_quote}
+use Rattle.jl_token.specs.Characters.{first_is}
+use Rattle.jl_token.specs.Elements.{Element, Many, Letter, Name, BeforeClose, Numeral, HasValue, Character}
+use Rattle.jl_token.specs.Elements.{StringLiteral, Front, name_text, string_text}
 use Rattle.jl_token.specs.declared.token.BadKind.{BadKind}
 use Rattle.jl_token.specs.declared.token.BadKind.TheVariants as faults
 

@@ -1,7 +1,15 @@
 -- The table of punctuators (7.7): the units of each.
 use Rattle.std.specs.Prelude.{ℕ, List, [], ◌∷◌, codes}
 use Rattle.jl_token.specs.declared.punct.Punct.{Punct}
-use Rattle.jl_token.specs.declared.punct.Punct.TheVariants.{LeftBrace, RightBrace, LeftParen, RightParen, LeftBracket, RightBracket, Dot, Semicolon, Comma, Less, Greater, LessEqual, GreaterEqual, Equal, NotEqual, StrictEqual, StrictNotEqual, Plus, Minus, Star, Percent, PlusPlus, MinusMinus, ShiftLeft, ShiftRight, ShiftRightUnsigned, And, Or, Caret, Bang, Tilde, AndAnd, OrOr, Question, Colon, Assign, PlusAssign, MinusAssign, StarAssign, PercentAssign, ShiftLeftAssign, ShiftRightAssign, ShiftRightUnsignedAssign, AndAssign, OrAssign, CaretAssign, Slash, SlashAssign}
+use Rattle.jl_token.specs.declared.punct.Punct.TheVariants.{LeftBrace, RightBrace, LeftParen, RightParen, LeftBracket}
+use Rattle.jl_token.specs.declared.punct.Punct.TheVariants.{RightBracket, Dot, Semicolon, Comma, Less, Greater}
+use Rattle.jl_token.specs.declared.punct.Punct.TheVariants.{LessEqual, GreaterEqual, Equal, NotEqual, StrictEqual}
+use Rattle.jl_token.specs.declared.punct.Punct.TheVariants.{StrictNotEqual, Plus, Minus, Star, Percent, PlusPlus}
+use Rattle.jl_token.specs.declared.punct.Punct.TheVariants.{MinusMinus, ShiftLeft, ShiftRight, ShiftRightUnsigned, And}
+use Rattle.jl_token.specs.declared.punct.Punct.TheVariants.{Or, Caret, Bang, Tilde, AndAnd, OrOr, Question, Colon}
+use Rattle.jl_token.specs.declared.punct.Punct.TheVariants.{Assign, PlusAssign, MinusAssign, StarAssign, PercentAssign}
+use Rattle.jl_token.specs.declared.punct.Punct.TheVariants.{ShiftLeftAssign, ShiftRightAssign, ShiftRightUnsignedAssign}
+use Rattle.jl_token.specs.declared.punct.Punct.TheVariants.{AndAssign, OrAssign, CaretAssign, Slash, SlashAssign}
 
 abbrev pub punctuator_units : Punct → List ℕ
 punctuator_units LeftBrace = codes "{"
@@ -60,4 +68,5 @@ all_punctuators = ShiftRightUnsignedAssign
     ∷ LessEqual ∷ GreaterEqual ∷ Equal ∷ NotEqual ∷ PlusPlus ∷ MinusMinus ∷ ShiftLeft ∷ ShiftRight ∷ AndAnd ∷ OrOr
     ∷ PlusAssign ∷ MinusAssign ∷ StarAssign ∷ PercentAssign ∷ AndAssign ∷ OrAssign ∷ CaretAssign ∷ SlashAssign
     ∷ LeftBrace ∷ RightBrace ∷ LeftParen ∷ RightParen ∷ LeftBracket ∷ RightBracket ∷ Dot ∷ Semicolon ∷ Comma
-    ∷ Less ∷ Greater ∷ Plus ∷ Minus ∷ Star ∷ Percent ∷ And ∷ Or ∷ Caret ∷ Bang ∷ Tilde ∷ Question ∷ Colon ∷ Assign ∷ Slash ∷ []
+    ∷ Less ∷ Greater ∷ Plus ∷ Minus ∷ Star ∷ Percent ∷ And ∷ Or ∷ Caret ∷ Bang ∷ Tilde ∷ Question ∷ Colon ∷ Assign
+    ∷ Slash ∷ []

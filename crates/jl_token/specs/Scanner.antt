@@ -1,10 +1,14 @@
 -- A scanner as plain functions, which computes with which input element units begin. It is a step of the proof: the
 -- lexer's code answers what it answers, and lemmas tie it to `Begins` and `Fault`. No public clause stands on it.
-use Rattle.std.specs.Prelude.{ℕ, zero, suc, ◌+◌, ◌*◌, ◌/◌, ◌%◌, ◌^◌, Bool, true, false, ◌==◌, ◌&&◌, ◌||◌, nat_le, List, [], ◌∷◌, ◌++◌, length, Option, Some, None, pos, if◌then◌else◌}
+use Rattle.std.specs.Prelude.{ℕ, zero, suc, ◌+◌, ◌*◌, ◌/◌, ◌%◌, ◌^◌, Bool, true, false, ◌==◌, ◌&&◌, ◌||◌, nat_le, List}
+use Rattle.std.specs.Prelude.{[], ◌∷◌, ◌++◌, length, Option, Some, None, pos, if◌then◌else◌}
 use Rattle.std.specs.List.{list_any}
-use Rattle.jl_token.specs.Characters.{is_white_space, is_line_terminator, is_on_line, is_identifier_start, is_identifier_part, is_digit, is_hex_digit, decimal_from, hex_from, are_hex_digits, hex_number, is_quote, single_escape, first_is}
+use Rattle.jl_token.specs.Characters.{is_white_space, is_line_terminator, is_on_line, is_identifier_start}
+use Rattle.jl_token.specs.Characters.{is_identifier_part, is_digit, is_hex_digit, decimal_from, hex_from}
+use Rattle.jl_token.specs.Characters.{are_hex_digits, hex_number, is_quote, single_escape, first_is}
 use Rattle.jl_token.specs.Punctuators.{punctuator_units, all_punctuators}
-use Rattle.jl_token.specs.Elements.{Element, White, LineEnd, LineComment, BlockComment, Word, name_text, is_escaped, string_text, is_plain}
+use Rattle.jl_token.specs.Elements.{Element, White, LineEnd, LineComment, BlockComment, Word, name_text, is_escaped}
+use Rattle.jl_token.specs.Elements.{string_text, is_plain}
 use Rattle.jl_token.specs.Tokens.{Piece, piece, place}
 use Rattle.jl_token.specs.declared.punct.Punct.{Punct}
 use Rattle.jl_token.specs.declared.token.TokenKind.TheVariants as kinds
@@ -40,7 +44,8 @@ one_unit allowed (u ∷ us) = if allowed u then Some (u, us) else None
 
 unfoldable pub name_escape : (ℕ → Bool) → List ℕ → Option ((ℕ × Bool) × List ℕ)
 name_escape allowed (v ∷ a ∷ b ∷ c ∷ d ∷ us) =
-    if v == 117 && are_hex_digits a b c d && allowed (hex_number a b c d) then Some ((hex_number a b c d, true), us) else None
+    if v == 117 && are_hex_digits a b c d && allowed (hex_number a b c d)
+    then Some ((hex_number a b c d, true), us) else None
 name_escape allowed _ = None
 
 unfoldable pub letter : (ℕ → Bool) → List ℕ → Option ((ℕ × Bool) × List ℕ)
@@ -165,7 +170,8 @@ other_escape u us =
     if is_line_terminator u then Some (([], false), (if u == 13 then after_line_feed us else us)) else
     (if u == 120 then hex_escape us else
     (if u == 117 then unicode_escape us else
-    (if is_digit u then (if u == 48 && (if first_is is_digit us then false else true) then Some ((0 ∷ [], false), us) else
+    (if is_digit u then (if u == 48 && (if first_is is_digit us then false else true)
+    then Some ((0 ∷ [], false), us) else
     None) else
     Some ((u ∷ [], false), us))))
 
@@ -234,7 +240,8 @@ scan [] = bad faults.BadCharacter
 scan (u ∷ us) =
     if is_white_space u then found White us else
     (if is_line_terminator u then found LineEnd (if u == 13 then after_line_feed us else us) else
-    (if u == 47 && first_is (λ v. v == 47) us then found LineComment (many (one_unit is_on_line) (after_first us)).1 else
+    (if u == 47 && first_is (λ v. v == 47) us then found LineComment (many (one_unit is_on_line)
+    (after_first us)).1 else
     (if u == 47 && first_is (λ v. v == 42) us then block_end (many before_close (after_first us)) else
     scan_word u us)))
 

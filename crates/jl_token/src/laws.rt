@@ -1,7 +1,8 @@
 //! What holds of the tokens and the comments of each text.
 #![tactic(auto)]
 
-ghost use Rattle.jl_token.specs.Tokens.{TokensAreUnique, BadPlaceIsUnique, TokensOrBad, NeverBoth, SpansAreInOrder, FewTokens};
+ghost use Rattle.jl_token.specs.Tokens.{TokensAreUnique, BadPlaceIsUnique, TokensOrBad, NeverBoth, SpansAreInOrder};
+ghost use Rattle.jl_token.specs.Tokens.{FewTokens};
 ghost use Rattle.jl_token.specs.Tokens.{CommentsAreUnique, CommentsWhereTokens, CommentsAreInOrder};
 
 /// A text has one list of tokens at most.

@@ -14,7 +14,8 @@ pub struct Token {
 /// What a token is.
 #[derive(Drop)]
 pub enum TokenKind {
-    /// An identifier name (7.6) by its value; `escaped` where it is written with a `\u` escape. Reserved words are names.
+    /// An identifier name (7.6) by its value; `escaped` where it is written with a `\u` escape. Reserved words are
+    /// names.
     Name { text: Text, escaped: bool },
     /// A punctuator (7.7).
     Punct(Punct),
@@ -24,8 +25,8 @@ pub enum TokenKind {
     Str { text: Text, plain: bool },
 }
 
-/// A comment of a script (7.4), and where it stands. One that goes to the end of its line begins with `//` and ends before
-/// the line terminator; any other one stands between `/*` and `*/`.
+/// A comment of a script (7.4), and where it stands. One that goes to the end of its line begins with `//` and ends
+/// before the line terminator; any other one stands between `/*` and `*/`.
 #[derive(Clone, Copy, PartialEq, Eq, Debug)]
 pub struct Comment {
     pub span: Span,

@@ -13,8 +13,8 @@ bound_row = 26
 abbrev pub print_row : ℕ
 print_row = 72
 
--- the object of a row other than that of `bound`: sixteen objects come first, of which `Function.prototype` is the third,
--- and then the functions of the other rows in their order
+-- the object of a row other than that of `bound`: sixteen objects come first, of which `Function.prototype` is the
+-- third, and then the functions of the other rows in their order
 abbrev pub place_of_builtin : ℕ → ObjId
 place_of_builtin row = record {
   0 = if row == function_prototype_row then 2

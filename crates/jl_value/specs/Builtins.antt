@@ -4,8 +4,8 @@ use Rattle.std.specs.Prelude.{ℕ, List, [], ◌∷◌, codes, slice_get, unwrap
 -- a function's row is its place here, from 0
 unfoldable pub builtin_names : List (List ℕ)
 builtin_names =
-    -- of objects and functions (15.2, 15.3). `bound` is any function that `bind` made (15.3.4.5), and `thrower` the one that throws
-    -- a TypeError (13.2.3)
+    -- of objects and functions (15.2, 15.3). `bound` is any function that `bind` made (15.3.4.5), and `thrower` the one
+    -- that throws a TypeError (13.2.3)
     codes "Object" ∷
     codes "Object.getPrototypeOf" ∷ codes "Object.getOwnPropertyDescriptor" ∷ codes "Object.getOwnPropertyNames" ∷
     codes "Object.create" ∷ codes "Object.defineProperty" ∷ codes "Object.defineProperties" ∷ codes "Object.seal" ∷

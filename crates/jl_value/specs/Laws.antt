@@ -19,4 +19,5 @@ OneIndex = (units : List ℕ) (m n : ℕ) → IsIndex units m → IsIndex units 
 
 -- no name has two rows
 abbrev pub OneRow : Type 0
-OneRow = (i j : ℕ) (name : List ℕ) → slice_get builtin_names i ≡ Some name → slice_get builtin_names j ≡ Some name → i ≡ j
+OneRow = (i j : ℕ) (name : List ℕ) → slice_get builtin_names i ≡ Some name → slice_get builtin_names j ≡ Some name
+    → i ≡ j

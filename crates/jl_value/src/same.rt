@@ -3,7 +3,8 @@ ghost use Rattle.jl_value.specs.Same.{same_value};
 
 use crate::value::Value;
 
-/// Whether two values are the same (9.12): NaN is the same as NaN, and there is one zero. Of texts all units are compared.
+/// Whether two values are the same (9.12): NaN is the same as NaN, and there is one zero. Of texts all units are
+/// compared.
 pub fn same_value(a: &Value, b: &Value) -> bool
     ensures { result ≡ same_value a.now b.now }
 {

@@ -1,5 +1,5 @@
-//! The walk over statements (clause 12). Each function gives the woven part, of one whose ids are the next ones; that of
-//! a form is handed the statement with its parts.
+//! The walk over statements (clause 12). Each function gives the woven part, of one whose ids are the next ones; that
+//! of a form is handed the statement with its parts.
 #![tactic(auto, using(jl_ast::proofs::Views::nodes))]
 
 ghost use Rattle.std.specs.Prelude.{◌≡◌, ◌+◌, IfOk, OnOk};

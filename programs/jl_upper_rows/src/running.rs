@@ -7,8 +7,8 @@ use jl_op::{KindSet, Nobody};
 use jl_value::Outcome;
 use std::alloc::Global;
 
-/// `BUDGET SCRIPT`: of `budget` what the script prints, how it ends and how many steps it takes, of `output` how it ends
-/// and how many bytes it prints, and of `hooks` how many operations its hooks tell of, with each budget from 0 on.
+/// `BUDGET SCRIPT`: of `budget` what the script prints, how it ends and how many steps it takes, of `output` how it
+/// ends and how many bytes it prints, and of `hooks` how many operations its hooks tell of, with each budget from 0 on.
 pub fn answer(alloc: Global, call: &str, words: &str) -> Result<String, Fault> {
     let (budget, script) = words.split_once(' ').ok_or(Fault::Unreadable)?;
     let budget = budget.parse::<u64>().ok().ok_or(Fault::Unreadable)?;

@@ -3,7 +3,8 @@
 -- four: the brackets round its parameters and its body.
 use Rattle.std.specs.Prelude.{ℕ, ◌+◌, ◌-◌, max, Bool, true, false, List, [], ◌∷◌, length, Option, Some, None}
 use Rattle.jl_ast.specs.declared.ops.BinOp.{BinOp}
-use Rattle.jl_ast.specs.Tree.{Ident, Sort, Text, Tree, Forest, OptionalTree, this, name, number, string, boolean, null, array}
+use Rattle.jl_ast.specs.Tree.{Ident, Sort, Text, Tree, Forest, OptionalTree, this, name, number, string, boolean, null}
+use Rattle.jl_ast.specs.Tree.{array}
 use Rattle.jl_ast.specs.Tree.{object, function_expression, dot, index, call, new, unary, update, binary, and, or}
 use Rattle.jl_ast.specs.Tree.{conditional, assign, comma, to_name, to_dot, to_index, hole, filled, value, getter}
 use Rattle.jl_ast.specs.Tree.{setter, function, body, var, empty, expression, block, if_else, do_while, while, for}

@@ -1,7 +1,8 @@
 -- How many units the tokens of a tree have at most, with one more after each: a numeral has sixteen digits, an operator
 -- has brackets round it, and what stands in a list has a separator.
 use Rattle.std.specs.Prelude.{ℕ, ◌+◌, ◌*◌, Bool, true, false, List, [], ◌∷◌, length, Option, Some, None}
-use Rattle.jl_ast.specs.Tree.{Ident, Sort, Text, Tree, Forest, OptionalTree, this, name, number, string, boolean, null, array}
+use Rattle.jl_ast.specs.Tree.{Ident, Sort, Text, Tree, Forest, OptionalTree, this, name, number, string, boolean, null}
+use Rattle.jl_ast.specs.Tree.{array}
 use Rattle.jl_ast.specs.Tree.{object, function_expression, dot, index, call, new, unary, update, binary, and, or}
 use Rattle.jl_ast.specs.Tree.{conditional, assign, comma, to_name, to_dot, to_index, hole, filled, value, getter}
 use Rattle.jl_ast.specs.Tree.{setter, function, body, var, empty, expression, block, if_else, do_while, while, for}

@@ -11,7 +11,8 @@ use Rattle.jl_op.specs.declared.kind.OpKind.{OpKind}
 use Rattle.jl_op.specs.declared.kind.OpKind.TheVariants as kind
 use Rattle.jl_meaning.specs.forms.Operators.{unary_kind, update_kind}
 use Rattle.jl_simulation.specs.HookCalls.{assign, assign_hook, before_update, binary_hook, hook, hook_1, hook_of_1}
-use Rattle.jl_simulation.specs.HookCalls.{hook_statement, name_of, no_exprs, quoted, read, unary_hook, update_hook, write}
+use Rattle.jl_simulation.specs.HookCalls.{hook_statement, name_of, no_exprs, quoted, read, unary_hook, update_hook}
+use Rattle.jl_simulation.specs.HookCalls.{write}
 use Rattle.jl_simulation.specs.HookCalls.{and_last, Expr, Exprs, Stmt, Stmts, Woven}
 use Rattle.jl_simulation.specs.Weaving.{calls, hooked_if}
 use Rattle.jl_weave.specs.inner.Bare.{bare_expression}

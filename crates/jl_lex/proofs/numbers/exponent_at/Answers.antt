@@ -1,5 +1,6 @@
 use Rattle.std.proofs.Common.{drop}
-use Rattle.jl_lex.proofs.NumberLoops.{exponent_none, exponent_plus, exponent_minus, exponent_plain, exponent_from, exponent_absent}
+use Rattle.jl_lex.proofs.NumberLoops.{exponent_none, exponent_plus, exponent_minus, exponent_plain, exponent_from}
+use Rattle.jl_lex.proofs.NumberLoops.{exponent_absent}
 use Rattle.jl_lex.proofs.numbers.exponent_at.Goals as goal
 
 pub returns-then-not-is_exponent_letter_at-clause-read : goal.returns-then-not-is_exponent_letter_at-clause-read

@@ -2,7 +2,8 @@ use Rattle.std.proofs.Common.{◌∷◌, [], drop, ap, sym, ◌∙◌, List, ℕ
 use Rattle.jl_token.specs.Characters.{is_digit}
 use Rattle.jl_token.specs.Scanner.{many, one_unit, after_whole}
 use Rattle.jl_lex.proofs.AmountLemmas.{none_stands}
-use Rattle.jl_lex.proofs.NumberLoops.{numeral_from, begin_zero, begin_point, begin_digit, digit_first, first_stands, first_zeros}
+use Rattle.jl_lex.proofs.NumberLoops.{numeral_from, begin_zero, begin_point, begin_digit, digit_first, first_stands}
+use Rattle.jl_lex.proofs.NumberLoops.{first_zeros}
 use Rattle.jl_lex.proofs.numbers.numeral_after.Goals as goal
 
 pub returns-then-unit-eq48 : goal.returns-then-unit-eq48

@@ -1,5 +1,6 @@
 use Rattle.std.proofs.Common.{◌+◌, drop, arith}
-use Rattle.jl_lex.proofs.StringLoops.{character_end, character_mark, character_line, character_escape, character_plain, character_from}
+use Rattle.jl_lex.proofs.StringLoops.{character_end, character_mark, character_line, character_escape, character_plain}
+use Rattle.jl_lex.proofs.StringLoops.{character_from}
 use Rattle.jl_lex.proofs.strings.character_at.Goals as goal
 
 pub returns-in_default : goal.returns-in_default

@@ -1,5 +1,6 @@
 use Rattle.std.proofs.Common.{◌+◌, drop, sym, ◌∙◌, arith}
-use Rattle.jl_lex.proofs.StringLoops.{other_line, other_hex_none, other_hex, other_unicode_none, other_unicode, other_itself, other_digit, other_octal, other_null, escaped_from}
+use Rattle.jl_lex.proofs.StringLoops.{other_line, other_hex_none, other_hex, other_unicode_none, other_unicode}
+use Rattle.jl_lex.proofs.StringLoops.{other_itself, other_digit, other_octal, other_null, escaped_from}
 use Rattle.jl_lex.proofs.strings.other_escape_at.Goals as goal
 
 pub returns-then-is_line_terminator : goal.returns-then-is_line_terminator

@@ -1,6 +1,7 @@
 use Rattle.jl_effects.proofs.Faults.{row_fails}
 use Rattle.jl_meaning.specs.Mean.{IsNoMisuse, language}
-use Rattle.jl_meaning.specs.Parts.{AlgorithmFault, CallOf, CodeFromText, fault_of, NumberOutside, StringTooLong, Unsupported}
+use Rattle.jl_meaning.specs.Parts.{AlgorithmFault, CallOf, CodeFromText, fault_of, NumberOutside, StringTooLong}
+use Rattle.jl_meaning.specs.Parts.{Unsupported}
 use Rattle.jl_meaning.proofs.laws.rows_never_misuse.Goals as goal
 
 own_faults : (e : AlgorithmFault) → IsNoMisuse (fault_of e)

@@ -1,6 +1,6 @@
 use Rattle.std.proofs.Common.{◌≡◌, ◌≤◌, true}
 use Rattle.jl_grammar.specs.Brackets.{opened}
-use Rattle.jl_grammar.specs.Reader.{is_shallow}
+use Rattle.jl_grammar.specs.ReaderLevels.{is_shallow}
 use Rattle.jl_parse.proofs.whole.deep_bracket.Given as goal
 
 abbrev pub invariant-loop-at : goal.invariant-loop-at

@@ -2,7 +2,7 @@ use Rattle.std.proofs.Common.{◌≡◌, rules}
 use Rattle.std.specs.Prelude.{None, Some}
 use Rattle.jl_ast.specs.Numbering.{numbered}
 use Rattle.jl_ast.specs.View.{view}
-use Rattle.jl_grammar.specs.Reader.{program_at}
+use Rattle.jl_grammar.specs.ReaderLevels.{program_at}
 use Rattle.jl_parse.proofs.Limits.{none_read, read_by, the_one}
 use Rattle.jl_parse.proofs.whole.parse.Goals as goal
 

@@ -15,7 +15,8 @@ use Rattle.jl_scope.specs.Steps.{scope_of}
 use Rattle.jl_scope.proofs.Firsts.{turn, then_part, last_part, held_there, held_absent, item_is}
 use Rattle.jl_scope.proofs.walk.+walk.Goals as goal
 use Rattle.jl_scope.proofs.walk.+walk.Goals.{walk_items-in-Some+in_ok-walk_expression-in-Some, walk_items-in-None}
-use Rattle.jl_scope.proofs.walk.+walk.Goals.{walk_declarators-in-Some+in_ok-walk_expression-in-Some, walk_declarators-in-None}
+use Rattle.jl_scope.proofs.walk.+walk.Goals.{walk_declarators-in-Some+in_ok-walk_expression-in-Some}
+use Rattle.jl_scope.proofs.walk.+walk.Goals.{walk_declarators-in-None}
 
 pub walk_functions-loop-f-preserved : goal.walk_functions-loop-f-preserved
 walk_functions-loop-f-preserved t c =

@@ -1,6 +1,7 @@
 use Rattle.std.proofs.Common.{◌≤◌, ◌+◌, ◌-◌, Some, cond, sym, ap, ◌∙◌, arith}
 use Rattle.jl_text.specs.Search.{StandsAt, place_below}
-use Rattle.jl_text.proofs.SearchLemmas.{place_below-step, last_place-past, StandsAt-from_test, not-StandsAt, holds_before}
+use Rattle.jl_text.proofs.SearchLemmas.{place_below-step, last_place-past, StandsAt-from_test, not-StandsAt}
+use Rattle.jl_text.proofs.SearchLemmas.{holds_before}
 use Rattle.jl_text.proofs.search.last_place.Goals as goal
 
 pub returns-then-part-units-clause-value : goal.returns-then-part-units-clause-value

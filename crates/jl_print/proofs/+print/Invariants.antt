@@ -4,7 +4,7 @@ use Rattle.jl_ast.specs.View.{view_entries, view_expressions}
 use Rattle.jl_print.specs.CanonicalTokens.{tokens_of_all, tokens_of_arguments, tokens_of_entries}
 use Rattle.jl_print.specs.CanonicalTokens.{tokens_of_declarators, tokens_of_items}
 use Rattle.jl_print.proofs.Writing.{arguments_from, entries_from, declarators_from}
-use Rattle.jl_print.proofs.walk.+print.Given as goal
+use Rattle.jl_print.proofs.+print.Given as goal
 
 abbrev pub invariant-add_functions-loop-f : goal.invariant-add_functions-loop-f
 invariant-add_functions-loop-f l =

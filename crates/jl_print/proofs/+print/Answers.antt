@@ -6,7 +6,7 @@ use Rattle.jl_print.specs.Kinds.{comma_unless, initializer, item_with_comma}
 use Rattle.jl_print.specs.Pieces.{name}
 use Rattle.jl_print.specs.CanonicalTokens.{tokens_of_node, tokens_of_items}
 use Rattle.jl_print.proofs.Writing.{nodes_by_parts, declarators_from, declarator_at, item_at}
-use Rattle.jl_print.proofs.walk.+print.Goals as goal
+use Rattle.jl_print.proofs.+print.Goals as goal
 
 pub add_expression-returns-in_ok-add_items-in-Array : goal.add_expression-returns-in_ok-add_items-in-Array
 unfolding tokens_of_node

@@ -1,7 +1,7 @@
 use Rattle.std.proofs.Common.{◌≡◌, ◌++◌, drop, map}
 use Rattle.jl_ast.specs.View.{view_ident}
 use Rattle.jl_print.specs.CanonicalTokens.{further_names}
-use Rattle.jl_print.proofs.walk.add_further_names.Given as goal
+use Rattle.jl_print.proofs.name_lists.add_further_names.Given as goal
 
 abbrev pub invariant-loop-name : goal.invariant-loop-name
 invariant-loop-name l =
