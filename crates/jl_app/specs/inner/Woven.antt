@@ -19,8 +19,8 @@ pub record ReadsBackAsWoven (p : Program Span) : Type 0 where
   pub read : IsReadBack (woven_text p) program
   pub same : (q : Program Span) → IsReadBack (woven_text p) q → without_spans q ≡ woven_program every_kind p
 
--- the woven script simulates the script; its text reads back; its run is what it means; and the script's own run goes on
--- as long as there are steps
+-- the woven script simulates the script; its text reads back; its run is what it means; and the script's own run goes
+-- on as long as there are steps
 pub record IsWovenWell (p : Program Span) : Type 0 where
   pub simulates : Simulates (is_kept every_kind) (own_run p) (woven_mean p)
   pub back : ReadsBackAsWoven p
