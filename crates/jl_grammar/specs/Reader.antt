@@ -25,10 +25,10 @@ use Rattle.jl_grammar.specs.Brackets.{opened}
 use Rattle.jl_grammar.specs.Program.{program_of}
 use Rattle.jl_grammar.specs.Reads.{Expr, Exprs, Stmt, Stmts, Code}
 use Rattle.jl_grammar.specs.Tokens.{terminal_at, line_at, text_at, number_at, strict_at, span, ident_at, key_ident_at}
-pub use Rattle.jl_grammar.specs.Reading.{◌>>=◌, Read, done, made, is_close_paren, is_close_bracket, is_close_brace}
+pub use Rattle.jl_grammar.specs.Reading.{◌>>=◌, Read, done, is_close_paren, is_close_bracket, is_close_brace}
 pub use Rattle.jl_grammar.specs.Reading.{is_function, is_new, is_while, is_in, is_var, is_case, is_default, is_catch}
-pub use Rattle.jl_grammar.specs.Reading.{name_of, with_directive, Deeper, ends_at, names_from, parameters_at}
-pub use Rattle.jl_grammar.specs.Reading.{label_at}
+pub use Rattle.jl_grammar.specs.Reading.{name_of, with_directive, Deeper}
+unfoldable pub use Rattle.jl_grammar.specs.Reading.{made, ends_at, names_from, parameters_at, label_at}
 
 module _ (ts : List Token) (d : Deeper) where
   -- an expression and the `)` after it
