@@ -24,8 +24,7 @@ use Rattle.jl_app.specs.Refusals.{IsRefused, refusal_words}
 use Rattle.jl_app.specs.Reporting.{Lines, IsReport, lines_text}
 use Rattle.jl_app.specs.Tracing.{hooks_line, trace_lines}
 use Rattle.jl_app.specs.WovenText.{kinds_of, woven_text}
-use Rattle.jl_app.specs.declared.form.Form.{Form}
-use Rattle.jl_app.specs.declared.form.Form.TheVariants as forms
+use Rattle.jl_app.specs.Forms.{form_of}
 use Rattle.jl_app.specs.declared.refusal.Refusal.{Refusal}
 use Rattle.jl_app.specs.declared.status.Status.{Status}
 use Rattle.jl_app.specs.declared.status.Status.TheVariants as status
@@ -172,11 +171,6 @@ pub data IsTraced (p : Program Span) (budget : ℕ) : Due → Type 0 where
 -- what `exec` answers to a woven text that is read as the program q, with this budget: its run as it stands
 pub data IsTracedAlone (q : Program Span) (budget : ℕ) : Due → Type 0 where
   ended_alone : IsTracedAlone q budget (traced (program_run q budget) budget)
-
--- what a command reads: `exec` a woven text, and each other a script
-abbrev pub form_of : Asked → Form
-form_of (exec budget) = forms.WovenText
-form_of _ = forms.Script
 
 -- What a command answers to a source of these units that is read as this program. `lint` hands the shelf the text of the
 -- script that is woven for the kinds that its rules look at; no other command touches it.

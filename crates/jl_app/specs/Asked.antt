@@ -37,10 +37,14 @@ abbrev pub at_most : ℕ → Option ℕ → Option ℕ
 at_most most None = None
 at_most most (Some n) = if nat_le n most then Some n else None
 
+-- the greatest budget
+abbrev pub most_budget : ℕ
+most_budget = 1000000000
+
 -- the budget, where the option has this value or is not given
 abbrev pub budget_in : Option Text → Option ℕ
 budget_in None = Some 1000000
-budget_in (Some text) = at_most 1000000000 (number_in text)
+budget_in (Some text) = at_most most_budget (number_in text)
 
 -- the rule is one of these
 abbrev pub is_among : List ℕ → (rule : ℕ) → Bool

@@ -1,8 +1,14 @@
 -- What a source has to be.
 use Rattle.std.specs.Prelude.{ℕ, Bool, true, false, Option, Some, None}
 use Rattle.jl_scope.specs.EarlyError.{EarlyError, early, left_out, reserved_name}
+use Rattle.jl_app.specs.Asked.{Asked, exec}
 use Rattle.jl_app.specs.declared.form.Form.{Form}
 use Rattle.jl_app.specs.declared.form.Form.TheVariants as forms
+
+-- what a command reads: `exec` a woven text, and each other a script
+abbrev pub form_of : Asked → Form
+form_of (exec budget) = forms.WovenText
+form_of _ = forms.Script
 
 -- the most bytes that it has
 abbrev pub most_bytes : Form → ℕ

@@ -1,9 +1,9 @@
 ghost use Rattle.std.specs.Prelude.{◌≡◌, ◌≤◌, ℕ, List, [], ◌∷◌, length, IfOk};
 ghost use Rattle.jl_analysis.specs.Rules.{all_rules};
 ghost use Rattle.jl_op.specs.Operations.{Operation};
-ghost use Rattle.jl_app.specs.Answers.{Due, IsAnswered, form_of, line_only, refused_only};
+ghost use Rattle.jl_app.specs.Answers.{Due, IsAnswered, line_only, refused_only};
 ghost use Rattle.jl_app.specs.Asked.{Asked, lint};
-ghost use Rattle.jl_app.specs.Forms.{most_bytes};
+ghost use Rattle.jl_app.specs.Forms.{form_of, most_bytes};
 ghost use Rattle.jl_app.specs.Meant.{Means};
 ghost use Rattle.jl_app.specs.Refusals.{refusal_words};
 

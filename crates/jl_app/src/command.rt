@@ -1,6 +1,6 @@
 ghost use Rattle.std.specs.Prelude.{◌≡◌};
-ghost use Rattle.jl_app.specs.Answers.{form_of};
 ghost use Rattle.jl_app.specs.Asked.{Asked};
+ghost use Rattle.jl_app.specs.Forms.{form_of};
 ghost use Rattle.jl_app.specs.Meant.{Means};
 
 use crate::form::Form;

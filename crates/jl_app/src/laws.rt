@@ -13,7 +13,7 @@ use jl_meaning::laws::{kept_hooks, more_budget};
 use jl_quiet::laws::quiet_means;
 use jl_read_back::laws::{woven_keeps_rules, woven_reads_back, woven_text_is_bounded};
 use jl_simulation::laws::accepted_scripts_simulate;
-use jl_text::units_come_back;
+use jl_text::laws::units_come_back;
 
 /// No bytes are both read as a sound program and refused.
 pub fn never_both()
