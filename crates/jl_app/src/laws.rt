@@ -13,7 +13,6 @@ use jl_meaning::laws::{kept_hooks, more_budget};
 use jl_quiet::laws::quiet_means;
 use jl_read_back::laws::{woven_keeps_rules, woven_reads_back, woven_text_is_bounded};
 use jl_simulation::laws::accepted_scripts_simulate;
-use jl_text::laws::units_come_back;
 
 /// No bytes are both read as a sound program and refused.
 pub fn never_both()
@@ -47,14 +46,15 @@ pub(crate) fn scripts_are_woven_well()
 }
 
 /// The woven text stands alone: what `exec` answers to the bytes that `instrument` writes is what `trace` answers to the
-/// script, status included, for every accepted script whose woven text is not longer than `exec` reads.
+/// script, status included, for every accepted script whose woven text comes back from these bytes, where `exec` reads as
+/// many.
 pub fn text_stands_alone()
     ensures { TextStandsAlone }
 {
     one_reading();
     never_both();
+    jl_grammar::laws::one_reading();
     woven_reads_back();
     woven_text_is_bounded();
     woven_keeps_rules();
-    units_come_back();
 }
