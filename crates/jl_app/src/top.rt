@@ -16,6 +16,7 @@ use crate::laws::{never_both, one_reading, scripts_are_woven_well};
 use crate::refusal::Refusal;
 use crate::status::Status;
 use crate::words::{WordsRefusal, words as asked};
+use jl_analysis::laws::needed_is_enough;
 use jl_analysis::{Crowd, Findings};
 use jl_op::Observer;
 use jl_port::{ReadRefusal, Shelf, Sink, Source, read_all, write_all};
@@ -137,6 +138,7 @@ pub fn jlint<S: Source, K: Sink, H: Shelf>(
     one_reading();
     never_both();
     scripts_are_woven_well();
+    needed_is_enough();
     let answer = match due(alloc, words, source, shelf, crowd) {
         Ok(answer) => answer,
         Err(Unanswered::ReadFault) => return Status::ReadFault,
