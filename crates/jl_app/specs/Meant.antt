@@ -7,25 +7,28 @@ use Rattle.jl_app.specs.Asked.{Asked, check, exec, instrument, is_among, lint, m
 use Rattle.jl_app.specs.Asked.{print, run, trace}
 use Rattle.jl_app.specs.declared.command.Command.{Command}
 use Rattle.jl_app.specs.declared.command.Command.TheVariants as commands
+use Rattle.jl_app.specs.declared.form.Form.{Form}
+use Rattle.jl_app.specs.declared.form.Form.TheVariants as forms
 
 -- the choice of the rules with these numbers
 abbrev pub IsChoice : RuleSet → List ℕ → Type 0
 IsChoice set chosen = (rule : ℕ) → IsRule rule → is_chosen set rule ≡ is_among chosen rule
 
--- the budget is none that is too great
-abbrev pub IsBudget : ℕ → Type 0
-IsBudget budget = budget ≤ most_budget
+pub data Means : Command → Asked → Type 0 where
+  means_lint : (budget : ℕ) (set : RuleSet) (chosen : List ℕ) → budget ≤ most_budget → IsChoice set chosen
+      → Means (commands.Lint budget set) (lint budget chosen)
+  means_run : (budget : ℕ) → budget ≤ most_budget → Means (commands.Run budget) (run budget)
+  means_check : Means commands.Check check
+  means_print : Means commands.Print print
+  means_instrument : Means commands.Instrument instrument
+  means_map : Means commands.Map map_of_ids
+  means_trace : (budget : ℕ) → budget ≤ most_budget → Means (commands.Trace budget) (trace budget)
+  means_exec : (budget : ℕ) → budget ≤ most_budget → Means (commands.Exec budget) (exec budget)
 
-abbrev pub Means : Command → Asked → Type 0
-Means (commands.Lint budget rules) (lint most chosen) = (budget ≡ most) × IsBudget budget × IsChoice rules chosen
-Means (commands.Run budget) (run most) = budget ≡ most
-Means commands.Check check = Unit {0}
-Means commands.Print print = Unit {0}
-Means commands.Instrument instrument = Unit {0}
-Means commands.Map map_of_ids = Unit {0}
-Means (commands.Trace budget) (trace most) = (budget ≡ most) × IsBudget budget
-Means (commands.Exec budget) (exec most) = budget ≡ most
-Means _ _ = ⊥
+-- what it reads: `exec` a woven text, and each other a script
+abbrev pub form_of_command : Command → Form
+form_of_command (commands.Exec budget) = forms.WovenText
+form_of_command _ = forms.Script
 
 -- the same, where there may be none
 abbrev pub MeansIfAny : Option Command → Option Asked → Type 0

@@ -1,7 +1,5 @@
 ghost use Rattle.std.specs.Prelude.{◌≡◌};
-ghost use Rattle.jl_app.specs.Asked.{Asked};
-ghost use Rattle.jl_app.specs.Forms.{form_of};
-ghost use Rattle.jl_app.specs.Meant.{Means};
+ghost use Rattle.jl_app.specs.Meant.{form_of_command};
 
 use crate::form::Form;
 use jl_analysis::RuleSet;
@@ -30,11 +28,17 @@ pub enum Command {
 impl Command {
     /// What the command reads.
     pub fn form(self) -> Form
-        ensures { (a : Asked) → Means self a → result ≡ form_of a }
+        ensures { result ≡ form_of_command self }
     {
         match self {
             Command::Exec { .. } => Form::WovenText,
-            _ => Form::Script,
+            Command::Lint { .. }
+            | Command::Run { .. }
+            | Command::Check
+            | Command::Print
+            | Command::Instrument
+            | Command::Map
+            | Command::Trace { .. } => Form::Script,
         }
     }
 }
