@@ -20,3 +20,5 @@ pub mod StandsAlone
 pub mod WovenWell
 pub mod Headline
 pub mod WordLemmas
+pub mod Numbers
+pub mod RuleWords

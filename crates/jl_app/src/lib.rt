@@ -3,6 +3,7 @@
 
 mod accept;
 mod answer;
+mod asking;
 mod check;
 mod command;
 mod execute;
@@ -21,9 +22,8 @@ mod status;
 mod top;
 mod trace;
 mod tracer;
-mod words;
 
+pub use asking::{WordsRefusal, words};
 pub use command::Command;
 pub use status::Status;
 pub use top::jlint;
-pub use words::{WordsRefusal, words};

@@ -12,10 +12,10 @@ ghost use Rattle.jl_app.specs.Headline.{IsAboutScript};
 ghost use Rattle.jl_app.specs.declared.top.Unanswered.TheVariants.{NoMemory};
 
 use crate::answer::{Answer, line_only, refused, respond};
+use crate::asking::{WordsRefusal, words as asked};
 use crate::laws::{never_both, one_reading, scripts_are_woven_well};
 use crate::refusal::Refusal;
 use crate::status::Status;
-use crate::words::{WordsRefusal, words as asked};
 use jl_analysis::laws::needed_is_enough;
 use jl_analysis::{Crowd, Findings};
 use jl_op::Observer;

@@ -4,7 +4,7 @@ use Rattle.jl_app.specs.Asked.{texts}
 use Rattle.jl_app.specs.Meant.{MeansIfAny}
 use Rattle.jl_app.proofs.WordLemmas.{line_is_free, line_is_simple, matched_is, no_kinds, none_asked, refused_is}
 use Rattle.jl_app.proofs.WordLemmas.{same_err}
-use Rattle.jl_app.proofs.words.words.Goals as goal
+use Rattle.jl_app.proofs.asking.words.Goals as goal
 
 pub returns-in-Some-clause-asked : goal.returns-in-Some-clause-asked
 returns-in-Some-clause-asked c =

@@ -4,7 +4,7 @@ use Rattle.clap.specs.Words.{App, app_of, new_app, rule_of, with_rule}
 use Rattle.clap.specs.Simple.{app_of_fields}
 use Rattle.jl_app.specs.CommandLine.{command_argument, option_argument, without_flags}
 use Rattle.jl_app.proofs.WordLemmas.{made_line}
-use Rattle.jl_app.proofs.words.command_line.Goals as goal
+use Rattle.jl_app.proofs.asking.command_line.Goals as goal
 
 pub returns : goal.returns
 returns c =

@@ -1,4 +1,4 @@
-//! The words of the command line.
+//! What the words of the command line ask for.
 ghost use Rattle.std.specs.Prelude.{◌≡◌, ◌==◌, ℕ, List, None, Some, codes, IfOk, IsErrOf, option_and_then, option_map};
 ghost use Rattle.std.specs.List.{slice_split};
 ghost use Rattle.std.specs.Str.{all_ascii_digits};
@@ -8,7 +8,7 @@ ghost use Rattle.jl_app.specs.Asked.{asked, budget_in, is_among, is_number, name
 ghost use Rattle.jl_app.specs.Asked.{with_names, with_rule, without_options, without_rules};
 ghost use Rattle.jl_app.specs.CommandLine.{command_line};
 ghost use Rattle.jl_app.specs.Meant.{IsChoice, IsChoiceIfAny, MeansIfAny};
-ghost use Rattle.jl_app.specs.declared.words.WordsRefusal.TheVariants.{BadWords, NoMemory};
+ghost use Rattle.jl_app.specs.declared.asking.WordsRefusal.TheVariants.{BadWords, NoMemory};
 
 use crate::command::Command;
 use clap::error::ErrorKind;
@@ -87,7 +87,7 @@ fn command_line<'a>(alloc: Global) -> Result<clap::Command<'a>, AllocError>
 }
 
 /// The command that was matched.
-fn matched(matches: &ArgMatches) -> Option<Command>
+fn matched(matches: &ArgMatches<'_>) -> Option<Command>
     ensures { MeansIfAny result (option_and_then (λ name. named name
         (first_value (found_of matches.now) (codes "budget")) (first_value (found_of matches.now) (codes "rules")))
         (first_value (found_of matches.now) (codes "command"))) }
