@@ -24,9 +24,13 @@ impl Observer for Tracer {
         if self.refused {
             return Err(AllocError);
         }
-        let written = self.write(id, op);
-        self.refused = written.is_err();
-        written
+        match self.write(id, op) {
+            Ok(()) => Ok(()),
+            Err(error) => {
+                self.refused = true;
+                Err(error)
+            }
+        }
     }
 }
 
@@ -52,7 +56,8 @@ impl Tracer {
 
     /// Writes the line of one more operation.
     fn write(&mut self, id: OpId, op: &Op) -> Result<(), AllocError>
-        ensures { OnOk result (self.new.lines.items ≡ self.old.lines.items ++ trace_line (id, op.now)) }
+        ensures line { OnOk result (self.new.lines.items ≡ self.old.lines.items ++ trace_line (id, op.now)) }
+        ensures same { self.new.refused ≡ self.old.refused }
     {
         let line = line(self.alloc, id, op)?;
         self.lines.extend_from_slice(&line)?;
