@@ -22,3 +22,4 @@ pub mod Headline
 pub mod WordLemmas
 pub mod Numbers
 pub mod RuleWords
+pub mod NamedCommands

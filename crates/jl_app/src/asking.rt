@@ -4,7 +4,7 @@ ghost use Rattle.std.specs.List.{slice_split};
 ghost use Rattle.std.specs.Str.{all_ascii_digits};
 ghost use Rattle.clap.specs.Words.{app_of, first_value, found_of};
 ghost use Rattle.jl_report.specs.Off.{rule_with};
-ghost use Rattle.jl_app.specs.Asked.{asked, budget_in, is_among, is_number, named, number_in, rules_in, texts};
+ghost use Rattle.jl_app.specs.Asked.{asked, budget_in, is_number, named, number_in, rules_in, texts};
 ghost use Rattle.jl_app.specs.Asked.{with_names, with_rule, without_options, without_rules};
 ghost use Rattle.jl_app.specs.CommandLine.{command_line};
 ghost use Rattle.jl_app.specs.Meant.{IsChoice, IsChoiceIfAny, MeansIfAny};
