@@ -22,12 +22,17 @@ pub record HoldsText (p : Program Span) : Type 0 where
   pub back : units_of (instrumented_bytes p) ≡ woven_text every_kind p
   pub short : length (instrumented_bytes p) ≤ most_bytes forms.WovenText
 
+-- a shelf that is as it was, with these texts
+abbrev pub as_it_was : (handed lent : List ℕ) → OnShelf
+as_it_was handed lent = record { handed = handed; lent = lent; same = Unit {0} }
+
 -- The woven text stands alone: what `exec`, with the steps that a woven script has, answers to the bytes that
 -- `instrument` writes of an accepted script is what `trace` answers to the script.
-pub record TextStandsAlone : Type 1 where
-  pub from_trace : (bytes : List ℕ) (p : Program Span) (budget : ℕ) (shelf : OnShelf) (due : Due) → IsAccepted bytes p
-      → HoldsText p → IsAnswered (trace budget) bytes shelf due
-      → IsAnswered (exec (woven_budget budget)) (instrumented_bytes p) shelf due
-  pub from_exec : (bytes : List ℕ) (p : Program Span) (budget : ℕ) (shelf : OnShelf) (due : Due) → IsAccepted bytes p
-      → HoldsText p → IsAnswered (exec (woven_budget budget)) (instrumented_bytes p) shelf due
-      → IsAnswered (trace budget) bytes shelf due
+pub record TextStandsAlone : Type 0 where
+  pub from_trace : (bytes : List ℕ) (p : Program Span) (budget : ℕ) (handed lent : List ℕ) (due : Due)
+      → IsAccepted bytes p → HoldsText p → IsAnswered (trace budget) bytes (as_it_was handed lent) due
+      → IsAnswered (exec (woven_budget budget)) (instrumented_bytes p) (as_it_was handed lent) due
+  pub from_exec : (bytes : List ℕ) (p : Program Span) (budget : ℕ) (handed lent : List ℕ) (due : Due)
+      → IsAccepted bytes p → HoldsText p
+      → IsAnswered (exec (woven_budget budget)) (instrumented_bytes p) (as_it_was handed lent) due
+      → IsAnswered (trace budget) bytes (as_it_was handed lent) due
