@@ -32,12 +32,12 @@ budget_bound None n e = let same = some_same e in omega (arith, same)
 budget_bound (Some text) n e = at_most_is most_budget (number_in text) n (sym e)
 
 -- what holds of a word holds of a name that is the word
-pub by_name : {r : Option Command} (name word : Text) (f : Text → Option Asked) → true ≡ bytes_eq name word
+pub by_name : (r : Option Command) (name word : Text) (f : Text → Option Asked) → true ≡ bytes_eq name word
     → MeansIfAny r (f word) → MeansIfAny r (f name)
-by_name {r} name word f is m =
+by_name r name word f is m =
     subst (λ n. MeansIfAny r (f n)) (sym ((bytes_eq-Decides name word).0 (sym is))) m
 
 -- a command with a budget
-pub with_budget : {r : Option Command} (f : ℕ → Asked) (o p : Option ℕ) → p ≡ o
+pub with_budget : (r : Option Command) (f : ℕ → Asked) (o p : Option ℕ) → p ≡ o
     → MeansIfAny r (option_map f p) → MeansIfAny r (option_map f o)
-with_budget {r} f o p is m = subst (λ x. MeansIfAny r (option_map f x)) is m
+with_budget r f o p is m = subst (λ x. MeansIfAny r (option_map f x)) is m

@@ -32,18 +32,18 @@ read_number text r parses is =
     (omega (arith, digits_value_short own text 10 parts.1 (few_digits (length text) size.1)))
 
 -- so the number is the text's
-pub is_number_in : {E : Type 0} (text : List ℕ) (n : ℕ) → ParsesUnsigned {E} 64 10 text (Ok n) → is_number text ≡ true
+pub is_number_in : {E : Type 0} (text : List ℕ) (n : ℕ) → ParsesUnsigned {E = E} 64 10 text (Ok n) → is_number text ≡ true
     → Some n ≡ number_in text
-is_number_in {E} text n parses is =
-    let value : n ≡ digits_value 10 text = same_ok (read_number {E} text (Ok n) parses is) in
+is_number_in {E = E} text n parses is =
+    let value : n ≡ digits_value 10 text = same_ok (read_number {E = E} text (Ok n) parses is) in
     ap Some value ∙ sym (ap (λ b. if b then Some (digits_value 10 text) else None) is)
   where
-    same_ok : {a b : ℕ} → Ok {ℕ} {E} a ≡ Ok b → a ≡ b
+    same_ok : {a b : ℕ} → Ok {T = ℕ} {E = E} a ≡ Ok b → a ≡ b
     same_ok e = cc
 
-pub no_refusal : {E : Type 0} (text : List ℕ) (e : E) → ParsesUnsigned {E} 64 10 text (Err e) → is_number text ≡ true
+pub no_refusal : {E : Type 0} (text : List ℕ) (e : E) → ParsesUnsigned {E = E} 64 10 text (Err e) → is_number text ≡ true
     → ⊥
-no_refusal {E} text e parses is = let both = read_number {E} text (Err e) parses is in absurd (cc)
+no_refusal {E = E} text e parses is = let both = read_number {E = E} text (Err e) parses is in absurd (cc)
 
 -- digits, one by one
 pub digits_turn : (bytes : List ℕ) (at d : ℕ) → at < length bytes

@@ -23,37 +23,39 @@ has_name : (name : List ℕ) (first : ℕ) (names : List (List ℕ)) (rule : ℕ
     → position_from (bytes_eq name) first names ≡ Some rule
     → (k : ℕ) × (rule ≡ first + k) × (slice_get names k ≡ Some name)
 has_name name first [] rule e = absurd (cc)
-has_name name first (x ∷ names) rule e = by_test (bytes_eq name x) refl
+has_name name first (x ∷ names) rule e = by_test (bytes_eq name x) refl (has_name name (first + 1) names rule)
   where
     by_test : (b : Bool) → bytes_eq name x ≡ b
+        → (position_from (bytes_eq name) (first + 1) names ≡ Some rule
+        → (k : ℕ) × (rule ≡ (first + 1) + k) × (slice_get names k ≡ Some name))
         → (k : ℕ) × (rule ≡ first + k) × (slice_get (x ∷ names) k ≡ Some name)
-    by_test true is =
+    by_test true is later =
         let here : Some first ≡ Some rule =
         sym (ap (λ b. cond b (Some first) (position_from (bytes_eq name) (first + 1) names)) is) ∙ e in
         let same : first ≡ rule = cc in
         (0, omega (arith, same), ap Some (sym ((bytes_eq-Decides name x).0 is)))
-    by_test false is =
-        let later : position_from (bytes_eq name) (first + 1) names ≡ Some rule =
-        sym (ap (λ b. cond b (Some first) (position_from (bytes_eq name) (first + 1) names)) is) ∙ e in
-        let found = has_name name (first + 1) names rule later in
+    by_test false is later =
+        let found = later (sym (ap (λ b. cond b (Some first) (position_from (bytes_eq name) (first + 1) names)) is)
+        ∙ e) in
         (suc found.0, omega (arith, found.1), found.2)
 
 -- it stands nowhere
 lacks_name : (name : List ℕ) (first : ℕ) (names : List (List ℕ)) → position_from (bytes_eq name) first names ≡ None
     → (k : ℕ) → slice_get names k ≡ Some name → ⊥
 lacks_name name first [] e k at = absurd (cc)
-lacks_name name first (x ∷ names) e k at = by_test (bytes_eq name x) refl k at
+lacks_name name first (x ∷ names) e k at =
+    by_test (bytes_eq name x) refl k at (λ later j there. lacks_name name (first + 1) names later j there)
   where
-    by_test : (b : Bool) → bytes_eq name x ≡ b → (k : ℕ) → slice_get (x ∷ names) k ≡ Some name → ⊥
-    by_test true is k at =
+    by_test : (b : Bool) → bytes_eq name x ≡ b → (k : ℕ) → slice_get (x ∷ names) k ≡ Some name
+        → (position_from (bytes_eq name) (first + 1) names ≡ None → (j : ℕ) → slice_get names j ≡ Some name → ⊥) → ⊥
+    by_test true is k at later =
         let none : Some first ≡ None =
         sym (ap (λ b. cond b (Some first) (position_from (bytes_eq name) (first + 1) names)) is) ∙ e in absurd (cc)
-    by_test false is zero at =
+    by_test false is zero at later =
         let same : x ≡ name = cc in
         let both : false ≡ true = sym is ∙ (bytes_eq-Decides name x).1 (sym same) in absurd (cc)
-    by_test false is (suc k) at =
-        lacks_name name (first + 1) names
-        (sym (ap (λ b. cond b (Some first) (position_from (bytes_eq name) (first + 1) names)) is) ∙ e) k at
+    by_test false is (suc k) at later =
+        later (sym (ap (λ b. cond b (Some first) (position_from (bytes_eq name) (first + 1) names)) is) ∙ e) k at
 
 rule_has : (name : List ℕ) (rule : ℕ) → rule_with name ≡ Some rule → name_at rule ≡ Some name
 rule_has name rule e =
@@ -126,13 +128,13 @@ one_more_chosen before after chosen rule choice this others other is =
 -- a rule that is there already, or one that is not
 pub there_already : (set : RuleSet) (chosen : List ℕ) (rule : ℕ) → IsChoice set chosen → IsRule rule
     → is_chosen set rule ≡ true → with_rule chosen (Some rule) ≡ None
-there_already set chosen rule choice is yes =
-    ap (λ b. if b then None else Some (chosen ++ rule ∷ [])) (sym (choice rule is) ∙ yes)
+there_already set chosen rule choice is there =
+    ap (λ b. if b then None else Some (chosen ++ rule ∷ [])) (sym (choice rule is) ∙ there)
 
 pub not_there : (set : RuleSet) (chosen : List ℕ) (rule : ℕ) → IsChoice set chosen → IsRule rule
     → is_chosen set rule ≡ false → with_rule chosen (Some rule) ≡ Some (chosen ++ rule ∷ [])
-not_there set chosen rule choice is no =
-    ap (λ b. if b then None else Some (chosen ++ rule ∷ [])) (sym (choice rule is) ∙ no)
+not_there set chosen rule choice is missing =
+    ap (λ b. if b then None else Some (chosen ++ rule ∷ [])) (sym (choice rule is) ∙ missing)
 
 -- the names of a text: the first, and those that follow the first comma
 pub names_turn : (chosen text front back : List ℕ) → front ≡ before_first (λ b. b == 44) text

@@ -6,6 +6,7 @@ use Rattle.clap.proofs.OnLiterals.{clap_on_literals}
 use Rattle.clap.proofs.WalkLemmas.{first_value-rows}
 use Rattle.clap.specs.Words.{App, HasKind, IsAmong, Kinds, kind_of}
 use Rattle.clap.specs.declared.error.Error.{Error}
+use Rattle.clap.specs.declared.error.kind.ErrorKind.{ErrorKind}
 use Rattle.clap.specs.declared.error.kind.ErrorKind.TheVariants as kind
 use Rattle.clap.specs.Words.{fault_of, first_of, first_value, is_simple, is_simple_and_free, matches_of, rows_of, with_rule}
 use Rattle.clap.specs.declared.parser.matches.Found.{Found}
@@ -62,16 +63,21 @@ matched_is words found taken rows =
     (given (codes "command") words)) (value (codes "budget")) (value (codes "rules")))
 
 -- words that clap refuses ask for nothing
-pub refused_is : (words : List Text) → (fault_of command_line words ≡ [] → ⊥) → asked words ≡ None
+refused_by : (words : List Text) (one : ErrorKind) (more : Kinds) → fault_of command_line words ≡ one ∷ more
+    → asked words ≡ None
 unfolding asked is_refused
-refused_is words some = by_kinds (fault_of command_line words) refl
-  where
-    by_kinds : (kinds : Kinds) → fault_of command_line words ≡ kinds → asked words ≡ None
-    by_kinds [] e = absurd (some e)
-    by_kinds (one ∷ more) e =
-        ap (λ (ks : Kinds). if not (length ks == 0) then None else option_and_then
-        (λ name. named name (given (codes "budget") words) (given (codes "rules") words))
-        (given (codes "command") words)) e
+refused_by words one more e =
+    ap (λ (ks : Kinds). if not (length ks == 0) then None else option_and_then
+    (λ name. named name (given (codes "budget") words) (given (codes "rules") words))
+    (given (codes "command") words)) e
+
+by_kinds : (words : List Text) (kinds : Kinds) → fault_of command_line words ≡ kinds
+    → (fault_of command_line words ≡ [] → ⊥) → asked words ≡ None
+by_kinds words [] e some = absurd (some e)
+by_kinds words (one ∷ more) e some = refused_by words one more e
+
+pub refused_is : (words : List Text) → (fault_of command_line words ≡ [] → ⊥) → asked words ≡ None
+refused_is words some = by_kinds words (fault_of command_line words) refl some
 
 -- what means nothing is nothing
 pub none_asked : (o : Option Asked) → MeansIfAny None o → o ≡ None
@@ -84,5 +90,5 @@ no_kinds kinds e (inl memory) none other = other memory
 no_kinds kinds e (inr among) none other = subst (λ ks. IsAmong (kind_of e) ks) none among
 
 -- of two equal errors
-pub same_err : {T E : Type 0} {a b : E} → Err {T} {E} a ≡ Err b → a ≡ b
+pub same_err : {T E : Type 0} {a b : E} → Err {T = T} {E = E} a ≡ Err b → a ≡ b
 same_err e = cc

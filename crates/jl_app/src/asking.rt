@@ -98,7 +98,7 @@ fn matched(matches: &ArgMatches<'_>) -> Option<Command>
 
 /// The command with this name, where its options have these values.
 fn named(name: &str, budget: Option<&str>, rules: Option<&str>) -> Option<Command>
-    ensures { MeansIfAny result (named name.now (option_map (λ s. s.now) budget) (option_map (λ s. s.now) rules)) }
+    ensures { MeansIfAny result (named name.now (option_map (λ s. s.now) budget.entry) (option_map (λ s. s.now) rules.entry)) }
 {
     if name == "lint" {
         let budget = budget_in(budget)?;
@@ -113,7 +113,7 @@ fn named(name: &str, budget: Option<&str>, rules: Option<&str>) -> Option<Comman
 
 /// The command with this name that reports by no rules, where its budget has this value.
 fn without_rules(name: &str, budget: Option<&str>) -> Option<Command>
-    ensures { MeansIfAny result (without_rules name.now (option_map (λ s. s.now) budget)) }
+    ensures { MeansIfAny result (without_rules name.now (option_map (λ s. s.now) budget.entry)) }
 {
     if name == "run" {
         let budget = budget_in(budget)?;
@@ -154,7 +154,7 @@ fn without_options(name: &str) -> Option<Command>
 
 /// The budget, where the option has this value or is not given.
 fn budget_in(value: Option<&str>) -> Option<u64>
-    ensures { result ≡ budget_in (option_map (λ s. s.now) value) }
+    ensures { result ≡ budget_in (option_map (λ s. s.now) value.entry) }
 {
     let Some(text) = value else {
         return Some(BUDGET);
@@ -201,7 +201,7 @@ fn are_digits(bytes: &[u8]) -> bool
 
 /// The chosen rules, where the option has this value or is not given.
 fn rules_in(value: Option<&str>) -> Option<RuleSet>
-    ensures { IsChoiceIfAny result (rules_in (option_map (λ s. s.now) value)) }
+    ensures { IsChoiceIfAny result (rules_in (option_map (λ s. s.now) value.entry)) }
 {
     match value {
         Some(names) => with_names(RuleSet::none(), names),
