@@ -3,11 +3,13 @@
 
 usage: tools/rows.py [PROGRAM]      PROGRAM is ./jlint at the top where none is given
 
-A row is a line `CALL SCRIPT => STATUS ANSWER`; other lines are passed over. CALL is a command, or one of
+A row is a line `CALL SCRIPT => STATUS ANSWER`; other lines are passed over. CALL is a command, a command with its
+options between brackets, as `[run --budget 7]`, or one of
 
-    each        what all commands answer alike
+    each        what all commands that read a script answer alike
     canonical   what `print` answers, where it answers the same to that answer
     but_end X   what the command X answers, without its last line
+    alone       what `trace` answers, where `exec` with its steps answers the same to what `instrument` writes
     words       what the program answers to these words, and no script
 
 In scripts and answers `\\n`, `\\r` and `\\\\` are as in JavaScript, `\\xHH` is a byte, `\\s` a space, `\\e` nothing, and
@@ -19,7 +21,7 @@ import subprocess
 import sys
 
 TOP = os.path.dirname(os.path.dirname(os.path.abspath(__file__)))
-COMMANDS = ['check', 'print', 'instrument', 'map', 'run', 'lint']
+COMMANDS = ['check', 'print', 'instrument', 'map', 'run', 'lint', 'trace']
 ESCAPE = re.compile(rb'\\(?:x([0-9A-Fa-f]{2})|\{(\d+)\*([^}]*)\}|(.))', re.S)
 SINGLE = {b'n': b'\n', b'r': b'\r', b's': b' ', b'e': b'', b'\\': b'\\'}
 
@@ -49,6 +51,12 @@ def given(program, call, rest):
         status, written = answer(program, [command], unescape(script))
         return status, b''.join(written.splitlines(keepends=True)[:-1])
     script = unescape(rest)
+    if call.startswith('['):
+        return answer(program, call[1:-1].split(' '), script)
+    if call == 'alone':
+        traced = answer(program, ['trace'], script)
+        woven = answer(program, ['instrument'], script)[1]
+        return traced if answer(program, ['exec', '--budget', '32000064'], woven) == traced else None
     if call == 'each':
         answers = [answer(program, [command], script) for command in COMMANDS]
         return answers[0] if all(other == answers[0] for other in answers) else None
@@ -66,7 +74,8 @@ def main():
             row, arrow, due = line.rstrip('\n').partition(' => ')
             if not arrow:
                 continue
-            call, _, rest = row.partition(' ')
+            call, _, rest = row.partition('] ' if row.startswith('[') else ' ')
+            call += ']' if row.startswith('[') else ''
             status, _, text = due.partition(' ')
             rows += 1
             told = given(program, call, rest)

@@ -1,7 +1,8 @@
 -- What is answered of a run that simulates another is about that other run.
-use Rattle.std.proofs.Common.{◌≡◌, ℕ, ◌+◌, ◌*◌, ◌-◌, ◌≤◌, ◌⊎◌, inl, inr, ◌++◌, List, [], ◌∷◌, length, filter, refl, sym}
-use Rattle.std.proofs.Common.{ap, ◌∙◌}
+use Rattle.std.proofs.Common.{◌≡◌, ℕ, ◌+◌, ◌*◌, ◌-◌, ◌≤◌, ◌⊎◌, inl, inr, ◌++◌, Bool, List, [], ◌∷◌, length, filter, refl}
+use Rattle.std.proofs.Common.{sym, ap, ◌∙◌}
 use Rattle.std.proofs.Common.{subst, arith}
+use Rattle.jl_analysis.specs.Laws.{NeededIsEnough}
 use Rattle.jl_ast.specs.Tree.{Program}
 use Rattle.jl_effects.specs.Growing.{IsLonger, IsPrefix}
 use Rattle.jl_effects.specs.Matching.{Alike, SameSeen, Simulates, bound}
@@ -11,28 +12,23 @@ use Rattle.jl_effects.specs.Traces.{with_state, without_operations}
 use Rattle.jl_machine.specs.Runs.{ending_of}
 use Rattle.jl_meaning.specs.Mean as mean
 use Rattle.jl_meaning.specs.Store.{Store}
-use Rattle.jl_op.specs.Chosen.{every_kind, is_kept}
+use Rattle.jl_op.specs.Chosen.{is_kept}
 use Rattle.jl_op.specs.Operations.{Operation}
 use Rattle.jl_port.specs.Bytes.{Grows}
 use Rattle.jl_text.specs.declared.span.Span.{Span}
 use Rattle.jl_value.specs.declared.ending.Completion.{Completion}
 use Rattle.jl_value.specs.declared.ending.Completion.TheVariants as completion
 use Rattle.jl_value.specs.declared.ending.Fault.{Fault}
-use Rattle.jl_value.specs.declared.ending.Outcome.TheVariants as ending
-use Rattle.jl_app.specs.Answers.{IsReported, end_line, lint_bytes, lint_status, woven_budget}
+use Rattle.jl_app.specs.Answers.{IsReported, end_line, lint_bytes, lint_status, places}
 use Rattle.jl_app.specs.Endings.{Call}
-use Rattle.jl_app.specs.Headline.{IsAbout, IsAboutBeginning}
+use Rattle.jl_app.specs.Headline.{IsAbout, IsAboutBeginning, kept_of}
 use Rattle.jl_app.specs.OwnRuns.{uncaught_line}
 use Rattle.jl_app.specs.Reporting.{Lines, lines_text}
+use Rattle.jl_app.specs.WovenText.{kinds_of}
+use Rattle.jl_app.proofs.Reported.{all_reported}
 
 abbrev World : Type 0
 World = RunState Store Operation
-
--- every operation is of some kind
-all_kept : (l : List Operation) → filter (is_kept every_kind) l ≡ l
-unfolding is_kept
-all_kept [] = refl
-all_kept (o ∷ l) = ap (λ r. o ∷ r) (all_kept l)
 
 same_ending : (e : Finish Fault Completion) (m n : ℕ) (v w : World) → ending_of (Over e m v) ≡ ending_of (Over e n w)
 same_ending (Ends completion.Normal) m n v w = refl
@@ -58,21 +54,21 @@ quiet_world (Spent w) = refl
 
 -- runs that are alike
 
-alike_ending : (own other : mean.Run) → Alike (is_kept every_kind) own other → ending_of other ≡ ending_of own
-alike_ending (Over e m v) (Over f n w) a = ap (λ x. ending_of (Over x n w)) a.0 ∙ same_ending e n m w v
-alike_ending (Over e m v) (Spent w) a = absurd a
-alike_ending (Spent v) r a = absurd a
+module _ (kept : Operation → Bool) where
+  alike_ending : (own other : mean.Run) → Alike kept own other → ending_of other ≡ ending_of own
+  alike_ending (Over e m v) (Over f n w) a = ap (λ x. ending_of (Over x n w)) a.0 ∙ same_ending e n m w v
+  alike_ending (Over e m v) (Spent w) a = absurd a
+  alike_ending (Spent v) r a = absurd a
 
-alike_seen : (own other : mean.Run) → Alike (is_kept every_kind) own other
-    → SameSeen (is_kept every_kind) (world_of own) (world_of other)
-alike_seen (Over e m v) (Over f n w) a = a.1
-alike_seen (Over e m v) (Spent w) a = absurd a
-alike_seen (Spent v) r a = absurd a
+  alike_seen : (own other : mean.Run) → Alike kept own other → SameSeen kept (world_of own) (world_of other)
+  alike_seen (Over e m v) (Over f n w) a = a.1
+  alike_seen (Over e m v) (Spent w) a = absurd a
+  alike_seen (Spent v) r a = absurd a
 
-alike_over : (own other : mean.Run) → Alike (is_kept every_kind) own other → IsOver own × IsOver other
-alike_over (Over e m v) (Over f n w) a = (tt, tt)
-alike_over (Over e m v) (Spent w) a = absurd a
-alike_over (Spent v) r a = absurd a
+  alike_over : (own other : mean.Run) → Alike kept own other → IsOver own × IsOver other
+  alike_over (Over e m v) (Over f n w) a = (tt, tt)
+  alike_over (Over e m v) (Spent w) a = absurd a
+  alike_over (Spent v) r a = absurd a
 
 -- the bytes of the answer
 same_bytes : (own r : mean.Run) (lines : Lines) (steps count : ℕ) → (world_of r).output ≡ (world_of own).output
@@ -93,25 +89,39 @@ same_steps n d (Over e left w) longer over is =
     ap (steps_taken (n + d)) is ∙ (let same : (n + d) - (left + d) ≡ n - left = omega arith in same)
 same_steps n d (Spent w) longer over is = absurd over
 
-module _ (call : Call) (units : List ℕ) (p : Program Span) where
+-- the report of the operations that are kept is that of all
+reported : NeededIsEnough → (units : List ℕ) (p : Program Span) (chosen : List ℕ) (operations : List Operation)
+    (lines : Lines) (count : ℕ)
+    → IsReported units p chosen (kept_of chosen operations) (kept_of chosen operations) lines count
+    → IsReported units p chosen (kept_of chosen operations) operations lines count
+reported enough units p chosen operations lines count is = record {
+  counted = is.counted;
+  report = λ few. all_reported enough units (places p) chosen operations lines (is.report few);
+}
+
+module _ (enough : NeededIsEnough) (call : Call) (units : List ℕ) (p : Program Span) (chosen : List ℕ) where
+  abbrev kept : Operation → Bool
+  kept = is_kept (kinds_of chosen)
+
   -- what is answered of a run that is alike, and took so many steps
-  about : (n steps : ℕ) (own other : mean.Run) (lines : Lines) (count : ℕ) → Alike (is_kept every_kind) own other
-      → IsReported units p (world_of (quiet other)).hooks lines count
+  about : (n steps : ℕ) (own other : mean.Run) (lines : Lines) (count : ℕ) → Alike kept own other
+      → IsReported units p chosen (world_of (quiet other)).hooks (world_of (quiet other)).hooks lines count
       → Grows call.written.0 call.written.1 (lint_bytes (quiet other) lines steps count)
       → call.knows (world_of (quiet other)).hooks → steps_taken n own ≤ steps → steps ≤ 32 * steps_taken n own + 64
-      → IsAbout call units p n own (lint_status (ending_of (quiet other)) lines)
+      → IsAbout call units p chosen n own (lint_status (ending_of (quiet other)) lines)
   about n steps own other lines count alike report grows knows low high =
-      let seen = alike_seen own other alike in
+      let seen = alike_seen kept own other alike in
       let world = quiet_world other in
-      let end : ending_of (quiet other) ≡ ending_of own = quiet_ending other ∙ alike_ending own other alike in
-      let hooks : (world_of (quiet other)).hooks ≡ (world_of own).operations =
-      ap (λ (w : World). w.hooks) world ∙ seen.hooks ∙ all_kept (world_of own).operations in
+      let end : ending_of (quiet other) ≡ ending_of own = quiet_ending other ∙ alike_ending kept own other alike in
+      let hooks : (world_of (quiet other)).hooks ≡ kept_of chosen (world_of own).operations =
+      ap (λ (w : World). w.hooks) world ∙ seen.hooks in
       record {
-        over = (alike_over own other alike).0;
+        over = (alike_over kept own other alike).0;
         lines = lines;
         steps = steps;
         count = count;
-        report = subst (λ ops. IsReported units p ops lines count) hooks report;
+        report = reported enough units p chosen (world_of own).operations lines count
+            (subst (λ ops. IsReported units p chosen ops ops lines count) hooks report);
         status = ap (λ e. lint_status e lines) end;
         written = subst (λ bytes. Grows call.written.0 call.written.1 bytes)
             (same_bytes own (quiet other) lines steps count (ap (λ (w : World). w.output) world ∙ seen.output)
@@ -122,9 +132,10 @@ module _ (call : Call) (units : List ℕ) (p : Program Span) where
         told = subst (λ ops. call.knows ops) hooks knows;
       }
 
-  module _ (first second : ℕ → mean.Run) (simulates : Simulates (is_kept every_kind) first second) (most : ℕ)
+  module _ (first second : ℕ → mean.Run) (simulates : Simulates kept first second) (most : ℕ)
       (lines : Lines) (count : ℕ)
-      (report : IsReported units p (world_of (quiet (second most))).hooks lines count)
+      (report : IsReported units p chosen (world_of (quiet (second most))).hooks (world_of (quiet (second most))).hooks
+      lines count)
       (grows : Grows call.written.0 call.written.1
       (lint_bytes (quiet (second most)) lines (steps_taken most (quiet (second most))) count))
       (knows : call.knows (world_of (quiet (second most))).hooks) where
@@ -134,11 +145,11 @@ module _ (call : Call) (units : List ℕ) (p : Program Span) where
     -- the first run is over within fewer steps
     pub about_own : (n d : ℕ) → most ≡ bound n → most ≡ n + d → IsLonger d (first n) (first (n + d))
         → IsOver (first n)
-        → IsAbout call units p n (first n) (lint_status (ending_of (quiet (second most))) lines)
-    about_own n d enough more longer over =
-        let alike : Alike (is_kept every_kind) (first n) (second most) =
-        subst (λ m. Alike (is_kept every_kind) (first n) (second m)) (sym enough) (simulates.follows n over) in
-        let ended = (alike_over (first n) (second most) alike).1 in
+        → IsAbout call units p chosen n (first n) (lint_status (ending_of (quiet (second most))) lines)
+    about_own n d enough_steps more longer over =
+        let alike : Alike kept (first n) (second most) =
+        subst (λ m. Alike kept (first n) (second m)) (sym enough_steps) (simulates.follows n over) in
+        let ended = (alike_over kept (first n) (second most) alike).1 in
         let taken : steps_taken most (first most) ≡ steps_taken n (first n) =
         ap (λ m. steps_taken m (first m)) more ∙ same_steps n d (first n) (first (n + d)) over longer in
         let told = same_taken in
@@ -149,7 +160,7 @@ module _ (call : Call) (units : List ℕ) (p : Program Span) where
 
     -- the second one is over
     about_most : IsOver (second most)
-        → IsAbout call units p most (first most) (lint_status (ending_of (quiet (second most))) lines)
+        → IsAbout call units p chosen most (first most) (lint_status (ending_of (quiet (second most))) lines)
     about_most ended =
         let alike = simulates.leads most ended in
         let told = same_taken in
@@ -159,9 +170,9 @@ module _ (call : Call) (units : List ℕ) (p : Program Span) where
         knows (omega arith) (omega arith)
 
     -- the second one is spent
-    about_beginning : (w : World) → second most ≡ Spent w → most ≡ woven_budget
-        → IsAboutBeginning call units p (first most) (lint_status (ending_of (quiet (second most))) lines)
-    about_beginning w is budget =
+    about_beginning : (w : World) → second most ≡ Spent w
+        → IsAboutBeginning call units p chosen most (first most) (lint_status (ending_of (quiet (second most))) lines)
+    about_beginning w is =
         let spent : quiet (second most) ≡ Spent (without_operations w) = ap quiet is in
         let within = simulates.within most w is in
         record {
@@ -170,24 +181,23 @@ module _ (call : Call) (units : List ℕ) (p : Program Span) where
           lines = lines;
           count = count;
           printed = within.output;
-          performed = subst (λ ops. IsPrefix w.hooks ops) (all_kept (world_of (first most)).operations) within.hooks;
-          report = subst (λ (r : mean.Run). IsReported units p (world_of r).hooks lines count) spent report;
+          performed = within.hooks;
+          report = subst (λ (r : mean.Run). IsReported units p chosen (world_of r).hooks (world_of r).hooks lines count)
+              spent report;
           status = ap (λ (r : mean.Run). lint_status (ending_of r) lines) spent;
-          written = subst (λ n. Grows call.written.0 call.written.1
-              (w.output ++ (lines_text lines ++ end_line ending.Spent n count (length lines)))) budget
-              (subst (λ (r : mean.Run). Grows call.written.0 call.written.1
-              (lint_bytes r lines (steps_taken most r) count)) spent grows);
+          written = subst (λ (r : mean.Run). Grows call.written.0 call.written.1
+              (lint_bytes r lines (steps_taken most r) count)) spent grows;
           told = subst (λ (r : mean.Run). call.knows (world_of r).hooks) spent knows;
         }
 
     -- one of the two
-    pub about_script : most ≡ woven_budget
-        → IsAbout call units p most (first most) (lint_status (ending_of (quiet (second most))) lines)
-        ⊎ IsAboutBeginning call units p (first most) (lint_status (ending_of (quiet (second most))) lines)
-    about_script budget = go (second most) refl
+    pub about_script :
+        IsAbout call units p chosen most (first most) (lint_status (ending_of (quiet (second most))) lines)
+        ⊎ IsAboutBeginning call units p chosen most (first most) (lint_status (ending_of (quiet (second most))) lines)
+    about_script = go (second most) refl
       where
         go : (r : mean.Run) → second most ≡ r
-            → IsAbout call units p most (first most) (lint_status (ending_of (quiet (second most))) lines)
-            ⊎ IsAboutBeginning call units p (first most) (lint_status (ending_of (quiet (second most))) lines)
+            → IsAbout call units p chosen most (first most) (lint_status (ending_of (quiet (second most))) lines)
+            ⊎ IsAboutBeginning call units p chosen most (first most) (lint_status (ending_of (quiet (second most))) lines)
         go (Over e left w) is = inl (about_most (subst (λ (x : mean.Run). IsOver x) (sym is) tt))
-        go (Spent w) is = inr (about_beginning w is budget)
+        go (Spent w) is = inr (about_beginning w is)

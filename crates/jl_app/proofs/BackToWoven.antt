@@ -4,7 +4,7 @@ use Rattle.jl_ast.specs.Spans.{without_spans}
 use Rattle.jl_ast.specs.Tree.{Program}
 use Rattle.jl_grammar.specs.Laws.{OneReading}
 use Rattle.jl_grammar.specs.Program.{Reads}
-use Rattle.jl_op.specs.Chosen.{every_kind}
+use Rattle.jl_op.specs.Chosen.{Kinds}
 use Rattle.jl_print.proofs.WithoutPlaces.{same_text}
 use Rattle.jl_print.specs.Layout.{text_of}
 use Rattle.jl_read_back.specs.EarlyErrors.{FirstIsReservedName, IsReservedName}
@@ -32,48 +32,49 @@ name_may (Some (left_out x at)) is = absurd is
 name_may (Some (reserved_name at)) is = refl
 
 -- the woven script with some places has the text of the woven script
-placed_text : (p : Program Span) → text_of (with_places (woven_program every_kind p)).0 ≡ woven_text p
-placed_text p =
-    let placed = with_places (woven_program every_kind p) in
+placed_text : (kinds : Kinds) (p : Program Span)
+    → text_of (with_places (woven_program kinds p)).0 ≡ woven_text kinds p
+placed_text kinds p =
+    let placed = with_places (woven_program kinds p) in
     sym (same_text placed.0) ∙ ap (λ (w : Program (Unit {0})). text_of w) placed.1
 
 -- which is short enough to be read back
-fits : WovenTextIsBounded → (bytes : List ℕ) (p : Program Span) → IsAccepted bytes p
-    → length (woven_text p) ≤ 67108928
-fits bounded bytes p is =
-    let placed = with_places (woven_program every_kind p) in
+fits : WovenTextIsBounded → (kinds : Kinds) (bytes : List ℕ) (p : Program Span) → IsAccepted bytes p
+    → length (woven_text kinds p) ≤ 67108928
+fits bounded kinds bytes p is =
+    let placed = with_places (woven_program kinds p) in
     let within = units_within bytes is.decoded in
     let few = is.short in
     omega (
       arith,
-      bounded every_kind (units_of bytes) is.tokens 200 p placed.0 is.lexed is.read (omega arith) placed.1,
-      ap length (placed_text p),
+      bounded kinds (units_of bytes) is.tokens 200 p placed.0 is.lexed is.read (omega arith) placed.1,
+      ap length (placed_text kinds p),
       within,
       few,
     )
 
-pub back_to_woven : WovenReadsBack → WovenTextIsBounded → FirstIsReservedName → OneReading → (bytes : List ℕ)
-    (p : Program Span) → IsAccepted bytes p → ReadsBackAsWoven p
-back_to_woven reads bounded keeps one bytes p is =
-    let placed = with_places (woven_program every_kind p) in
+pub back_to_woven : WovenReadsBack → WovenTextIsBounded → FirstIsReservedName → OneReading → (kinds : Kinds)
+    (bytes : List ℕ) (p : Program Span) → IsAccepted bytes p → ReadsBackAsWoven kinds p
+back_to_woven reads bounded keeps one kinds bytes p is =
+    let placed = with_places (woven_program kinds p) in
     let within = units_within bytes is.decoded in
     let few = is.short in
-    let back = (reads every_kind (units_of bytes) is.tokens 200 1000 p placed.0 is.lexed is.read (omega arith)
+    let back = (reads kinds (units_of bytes) is.tokens 200 1000 p placed.0 is.lexed is.read (omega arith)
     (omega arith) placed.1).back in
-    let text = placed_text p in
-    let lexed : Tokens (woven_text p) back.tokens = subst (λ t. Tokens t back.tokens) text back.lexed in
+    let text = placed_text kinds p in
+    let lexed : Tokens (woven_text kinds p) back.tokens = subst (λ t. Tokens t back.tokens) text back.lexed in
     record {
       program = back.program;
       read = record {
-        short = fits bounded bytes p is;
+        short = fits bounded kinds bytes p is;
         tokens = back.tokens;
         lexed = lexed;
         read = back.read;
         sound = name_may (first_early_error back.program)
-            (keeps every_kind p back.program (nothing_wrong bytes p is) (back.same ∙ placed.1));
+            (keeps kinds p back.program (nothing_wrong bytes p is) (back.same ∙ placed.1));
       };
       same = λ q read.
-          let tokens = tokens_are_unique (woven_text p) read.tokens back.tokens read.lexed lexed in
+          let tokens = tokens_are_unique (woven_text kinds p) read.tokens back.tokens read.lexed lexed in
           let program = one back.tokens 1000 q back.program
           (subst (λ ts. Reads ts 1000 q) tokens read.read) back.read in
           ap (λ (r : Program Span). without_spans r) program ∙ back.same ∙ placed.1;

@@ -17,18 +17,6 @@ use Rattle.jl_app.specs.Endings.{Call, EndsWith, answered, write_failed}
 pub never : (b : Bool) → b ≡ false → IsTrue b → ⊥
 never b e h = cc
 
--- one word
-pub one_word : (words : List (Bor (List ℕ))) (d : Bor (List ℕ)) → 1 ≤ length words → length words < 2 → map (λ w. w.now) words ≡ (get_or words 0 d).now ∷ []
-one_word [] d n m = absurd (omega arith)
-one_word (w ∷ []) d n m = refl
-one_word (w ∷ v ∷ words) d n m = absurd (omega arith)
-
--- it is this word exactly where the test says so
-pub is_word : (words : List (List ℕ)) (word text : List ℕ) (b : Bool) → words ≡ word ∷ [] → b ≡ bytes_eq word text → (IsTrue b → words ≡ text ∷ []) × (words ≡ text ∷ [] → IsTrue b)
-is_word words word text b w e =
-    let test : Decides b (word ≡ text) = slice_eq-Decides Decides-eqb word text b e in
-    (λ t. w ∙ ap (λ x. x ∷ []) (test.0 t), λ f. test.1 (ap (λ l. get_or l 0 word) (sym w ∙ f)))
-
 pub told_same : (held : Option (List ℕ)) (bytes read : List ℕ) → read ≡ bytes → IfSome held (λ all. bytes ≡ all) → IfSome held (λ all. all ≡ read)
 told_same None bytes read e h = tt
 told_same (Some all) bytes read e h = sym (e ∙ h)

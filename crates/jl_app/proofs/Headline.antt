@@ -1,6 +1,7 @@
 -- The answer of `lint` is about the script's own run.
-use Rattle.std.proofs.Common.{◌≡◌, ◌∙◌, ◌*◌, ◌+◌, ◌⊎◌, ℕ, List, Some, ap, refl, sym, subst}
+use Rattle.std.proofs.Common.{◌≡◌, ◌∙◌, ◌*◌, ◌+◌, ◌⊎◌, ℕ, List, Some, ap, refl, sym, subst, arith}
 use Rattle.std.specs.Prelude.{IfSome}
+use Rattle.jl_analysis.specs.Laws.{NeededIsEnough}
 use Rattle.jl_ast.specs.Tree.{Program}
 use Rattle.jl_effects.specs.Running.{IsOver, state_of as world_of, steps_taken}
 use Rattle.jl_effects.specs.Traces.{with_state, without_operations}
@@ -10,108 +11,111 @@ use Rattle.jl_port.specs.Bytes.{Grows}
 use Rattle.jl_text.specs.Encoding.{units_of}
 use Rattle.jl_text.specs.declared.span.Span.{Span}
 use Rattle.jl_app.specs.Accepting.{IsAccepted, OneReading}
-use Rattle.jl_app.specs.Answers.{Due, IsAnswered, IsLinted, IsReported, accepted, answered_to, bad_words, budget}
+use Rattle.jl_app.specs.Answers.{Due, IsAnswered, IsLinted, IsReported, accepted, answered_to, bad_words}
 use Rattle.jl_app.specs.Answers.{hooked_run, lint_bytes, lint_status, ran, refused, unread, woven_budget}
-use Rattle.jl_app.specs.Commands.{words_of}
+use Rattle.jl_app.specs.Asked.{Asked, asked, lint}
 use Rattle.jl_app.specs.Endings.{Call, EndsWith, HasAnswered, answered, no_memory, read_failed, write_failed}
-use Rattle.jl_app.specs.Headline.{IsAbout, IsAboutBeginning, IsAboutScript, own_run, woven_mean}
-use Rattle.jl_app.specs.Headline.{woven_run}
+use Rattle.jl_app.specs.Headline.{IsAbout, IsAboutBeginning, IsAboutScript, own_run, woven_mean, woven_run}
 use Rattle.jl_app.specs.ReadBack.{IsReadBack}
 use Rattle.jl_app.specs.Refusals.{NeverBoth}
 use Rattle.jl_app.specs.Reporting.{Lines}
-use Rattle.jl_app.specs.WovenText.{woven_text}
-use Rattle.jl_app.specs.declared.command.Command.{Command}
-use Rattle.jl_app.specs.declared.command.Command.TheVariants.{Check, Instrument, Lint, Map, Print, Run}
+use Rattle.jl_app.specs.WovenText.{kinds_of, woven_text}
+use Rattle.jl_app.specs.declared.form.Form.TheVariants as forms
 use Rattle.jl_app.specs.declared.status.Status.{Status}
 use Rattle.jl_app.specs.inner.Woven.{IsWovenWell}
 use Rattle.jl_app.proofs.AboutRuns.{about_own, about_script}
 use Rattle.jl_app.proofs.OwnRun.{same_run}
 
-is_lint : (c : Command) → words_of c ≡ words_of Lint → c ≡ Lint
-is_lint Lint e = refl
-is_lint Check e = absurd (cc)
-is_lint Print e = absurd (cc)
-is_lint Instrument e = absurd (cc)
-is_lint Map e = absurd (cc)
-is_lint Run e = absurd (cc)
+same_asked : {a b : Asked} → Some a ≡ Some b → a ≡ b
+same_asked e = cc
 
 -- What holds of the answer to what the woven script means, without what it performs itself, holds of what `lint` answers.
-module _ (call : Call) (p : Program Span) (well : IsWovenWell p) (units : List ℕ) (Says : Status → Type 0) where
+module _ (call : Call) (p : Program Span) (budget : ℕ) (chosen : List ℕ) (well : IsWovenWell (kinds_of chosen) p)
+    (units : List ℕ) (Says : Status → Type 0) where
+  abbrev steps : ℕ
+  steps = woven_budget budget
+
   abbrev Holds : mean.Run → Lines → ℕ → Type 0
   Holds r lines count =
-      IsReported units p (world_of r).hooks lines count
-      → Grows call.written.0 call.written.1 (lint_bytes r lines (steps_taken woven_budget r) count)
+      IsReported units p chosen (world_of r).hooks (world_of r).hooks lines count
+      → Grows call.written.0 call.written.1 (lint_bytes r lines (steps_taken steps r) count)
       → call.knows (world_of r).hooks → Says (lint_status (ending_of r) lines)
 
   abbrev HoldsOfMeaning : Type 0
   HoldsOfMeaning =
-      (lines : Lines) (count : ℕ) → Holds (with_state without_operations (woven_mean p woven_budget)) lines count
+      (lines : Lines) (count : ℕ)
+      → Holds (with_state without_operations (woven_mean (kinds_of chosen) p steps)) lines count
 
-  linted_says : (due : Due) → HoldsOfMeaning → call.shelf.lent ≡ woven_text p
-      → IsLinted units p call.shelf.lent due → Grows call.written.0 call.written.1 due.bytes → call.knows due.told
-      → Says due.status
+  linted_says : (due : Due) → HoldsOfMeaning → call.shelf.lent ≡ woven_text (kinds_of chosen) p
+      → IsLinted units p budget chosen call.shelf.lent due → Grows call.written.0 call.written.1 due.bytes
+      → call.knows due.told → Says due.status
   linted_says _ says lent (unread none) grows knows =
       absurd (none well.back.program (subst (λ t. IsReadBack t well.back.program) (sym lent) well.back.read))
   linted_says _ says lent (ran q lines count read report) grows knows =
       let back = subst (λ t. IsReadBack t q) lent read in
-      let same = same_run p q (well.back.same q back) in
-      let is : hooked_run q ≡ with_state without_operations (woven_mean p woven_budget) = same ∙ well.runs in
+      let same = same_run (kinds_of chosen) p q steps (well.back.same q back) in
+      let is : hooked_run (kinds_of chosen) q steps
+      ≡ with_state without_operations (woven_mean (kinds_of chosen) p steps) = same ∙ well.runs steps in
       subst (λ (r : mean.Run). Holds r lines count) (sym is) (says lines count) report grows knows
 
   answer_says : (one : OneReading) (never : NeverBoth) (bytes : List ℕ) (due : Due) → IsAccepted bytes p
       → units_of bytes ≡ units → HoldsOfMeaning → call.shelf.lent ≡ call.shelf.handed
-      → IsAnswered Lint bytes call.shelf due → Grows call.written.0 call.written.1 due.bytes → call.knows due.told
-      → Says due.status
+      → IsAnswered (lint budget chosen) bytes call.shelf due → Grows call.written.0 call.written.1 due.bytes
+      → call.knows due.told → Says due.status
   answer_says one never bytes _ is same says lent (refused cause why kept) grows knows =
-      absurd (never bytes p cause is why)
+      absurd (never forms.Script bytes p cause is why)
   answer_says one never bytes due is same says lent (accepted q a responds) grows knows =
-      let program = one bytes q p a is in
-      linted_says due says (lent ∙ responds.0 ∙ ap woven_text program)
-      (subst (λ us. IsLinted us p call.shelf.lent due) same
-      (subst (λ x. IsLinted (units_of bytes) x call.shelf.lent due) program responds.1)) grows knows
+      let program = one forms.Script bytes q p a is in
+      linted_says due says (lent ∙ responds.0 ∙ ap (woven_text (kinds_of chosen)) program)
+      (subst (λ us. IsLinted us p budget chosen call.shelf.lent due) same
+      (subst (λ x. IsLinted (units_of bytes) x budget chosen call.shelf.lent due) program responds.1)) grows knows
 
   says_so : {answer : Status} → (one : OneReading) (never : NeverBoth) → EndsWith call answer → (bytes : List ℕ)
-      → call.held ≡ Some bytes → IsAccepted bytes p → call.words ≡ words_of Lint
+      → call.held ≡ Some bytes → IsAccepted bytes p → asked call.words ≡ Some (lint budget chosen)
       → call.shelf.lent ≡ call.shelf.handed → HasAnswered answer → units_of bytes ≡ units
       → HoldsOfMeaning → Says answer
-  says_so one never (answered due (bad_words other kept) grows knows) bytes held is words lent answers same says =
-      absurd (other Lint words)
-  says_so one never (answered due (answered_to c read words2 told l) grows knows) bytes held is words lent answers same
+  says_so one never (answered due (bad_words none kept) grows knows) bytes held is words lent answers same says =
+      let both = sym none ∙ words in absurd (cc)
+  says_so one never (answered due (answered_to a read words2 told l) grows knows) bytes held is words lent answers same
       says =
       let all : bytes ≡ read = subst (λ h. IfSome h (λ all. all ≡ read)) held told in
-      let command : c ≡ Lint = is_lint c (sym words2 ∙ words) in
+      let command : a ≡ lint budget chosen = same_asked (sym words2 ∙ words) in
       answer_says one never bytes due is same says lent
-      (subst (λ b. IsAnswered Lint b call.shelf due) (sym all)
+      (subst (λ b. IsAnswered (lint budget chosen) b call.shelf due) (sym all)
       (subst (λ d. IsAnswered d read call.shelf due) command l)) grows knows
   says_so one never (write_failed due n is2 risen less grows knows) bytes held is words lent answers same says =
       absurd answers
-  says_so one never (read_failed c words2 risen same2 kept knows) bytes held is words lent answers same says =
+  says_so one never (read_failed a words2 risen same2 kept knows) bytes held is words lent answers same says =
       absurd answers
   says_so one never (no_memory same2) bytes held is words lent answers same says = absurd answers
 
-module _ {call : Call} {answer : Status} (one : OneReading) (never : NeverBoth) (ends : EndsWith call answer)
-    (bytes : List ℕ) (p : Program Span) (well : IsWovenWell p) (held : call.held ≡ Some bytes)
-    (is : IsAccepted bytes p) (words : call.words ≡ words_of Lint) (lent : call.shelf.lent ≡ call.shelf.handed)
+module _ {call : Call} {answer : Status} (enough : NeededIsEnough) (one : OneReading) (never : NeverBoth)
+    (ends : EndsWith call answer) (bytes : List ℕ) (p : Program Span) (budget : ℕ) (chosen : List ℕ)
+    (well : IsWovenWell (kinds_of chosen) p) (held : call.held ≡ Some bytes) (is : IsAccepted bytes p)
+    (words : asked call.words ≡ Some (lint budget chosen)) (lent : call.shelf.lent ≡ call.shelf.handed)
     (answers : HasAnswered answer) where
   abbrev about : Program Span → ℕ → Status → Type 0
-  about p n s = IsAbout call (units_of bytes) p n (own_run p n) s
+  about p n s = IsAbout call (units_of bytes) p chosen n (own_run p n) s
 
   abbrev about_some : Program Span → Status → Type 0
   about_some p s =
-      about p woven_budget s ⊎ IsAboutBeginning call (units_of bytes) p (own_run p woven_budget) s
+      about p (woven_budget budget) s
+      ⊎ IsAboutBeginning call (units_of bytes) p chosen (woven_budget budget) (own_run p (woven_budget budget)) s
 
   in_time : IsOver (own_run p budget) → about p budget answer
   in_time over =
-      says_so call p well (units_of bytes) (about p budget) one never ends bytes held is words lent answers refl
-      (λ lines count report grows knows. about_own call (units_of bytes) p (own_run p) (woven_mean p) well.simulates
-      woven_budget lines count report grows knows budget (31 * budget + 64) refl refl
-      (well.longer budget (31 * budget + 64)) over)
+      says_so call p budget chosen well (units_of bytes) (about p budget) one never ends bytes held is words lent answers
+      refl
+      (λ lines count report grows knows. about_own enough call (units_of bytes) p chosen (own_run p)
+      (woven_mean (kinds_of chosen) p) well.simulates (woven_budget budget) lines count report grows knows budget
+      (31 * budget + 64) refl (omega arith) (well.longer budget (31 * budget + 64)) over)
 
   in_any_case : about_some p answer
   in_any_case =
-      says_so call p well (units_of bytes) (about_some p) one never ends bytes held is words lent answers refl
-      (λ lines count report grows knows. about_script call (units_of bytes) p (own_run p) (woven_mean p) well.simulates
-      woven_budget lines count report grows knows refl)
+      says_so call p budget chosen well (units_of bytes) (about_some p) one never ends bytes held is words lent answers
+      refl
+      (λ lines count report grows knows. about_script enough call (units_of bytes) p chosen (own_run p)
+      (woven_mean (kinds_of chosen) p) well.simulates (woven_budget budget) lines count report grows knows)
 
-  pub headline : IsAboutScript call (units_of bytes) p answer
+  pub headline : IsAboutScript call (units_of bytes) p budget chosen answer
   headline = record { in_time = in_time; in_any_case = in_any_case }

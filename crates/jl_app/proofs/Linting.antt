@@ -1,5 +1,5 @@
 -- The answer that the code makes of the run of a woven program is the one that is due.
-use Rattle.std.proofs.Common.{◌≡◌, ◌∙◌, ◌++◌, ◌<◌, ◌^◌, ℕ, List, [], ap, length, subst, true}
+use Rattle.std.proofs.Common.{◌≡◌, ◌∙◌, ◌++◌, ◌<◌, ◌^◌, ℕ, List, [], ap, length, subst}
 use Rattle.jl_ast.specs.Tree.{Program}
 use Rattle.jl_effects.specs.Running.{state_of as world_of}
 use Rattle.jl_machine.specs.Runs.{hooked_mean, ending_of, IsRun}
@@ -10,28 +10,29 @@ use Rattle.jl_op.specs.Operations.{Operation}
 use Rattle.jl_op.specs.declared.kind.OpKind.{OpKind}
 use Rattle.jl_op.specs.declared.kind_set.KindSet.{KindSet}
 use Rattle.jl_text.specs.declared.span.Span.{Span}
-use Rattle.jl_app.specs.Answers.{IsReported, end_line, hooked_run, lint_status, linted, places, woven_budget}
+use Rattle.jl_app.specs.Answers.{IsReported, end_line, hooked_run, lint_status, linted, places}
 use Rattle.jl_app.specs.OwnRuns.{uncaught_line}
 use Rattle.jl_app.specs.Reporting.{IsReport, Lines, lines_text}
+use Rattle.jl_app.specs.WovenText.{kinds_of}
 use Rattle.jl_app.specs.declared.status.Status.{Status}
-use Rattle.jl_app.proofs.Executing.{of_all_kinds}
+use Rattle.jl_app.proofs.Executing.{of_these_kinds}
 
-module _ {O : Type 0} (stands_for : O → List Operation → Type 0) (o : O) (r : Run) (kinds : KindSet)
-    (all : (kind : OpKind) → is_member kinds kind ≡ true) (q : Program Span)
-    (is : IsRun stands_for [] woven_budget (hooked_mean (is_member kinds) q woven_budget) r o) where
-  is_hooked : IsRun stands_for [] woven_budget (hooked_run q) r o
-  is_hooked = subst (λ ran. IsRun stands_for [] woven_budget ran r o) (of_all_kinds kinds all q woven_budget) is
+module _ {O : Type 0} (stands_for : O → List Operation → Type 0) (o : O) (r : Run) (set : KindSet) (chosen : List ℕ)
+    (same : (kind : OpKind) → is_member set kind ≡ kinds_of chosen kind) (q : Program Span) (steps : ℕ)
+    (is : IsRun stands_for [] steps (hooked_mean (is_member set) q steps) r o) where
+  is_hooked : IsRun stands_for [] steps (hooked_run (kinds_of chosen) q steps) r o
+  is_hooked = subst (λ ran. IsRun stands_for [] steps ran r o) (of_these_kinds set (kinds_of chosen) same q steps) is
 
   -- the observer was told of what the hooks told of
-  pub told : stands_for o (world_of (hooked_run q)).hooks
+  pub told : stands_for o (world_of (hooked_run (kinds_of chosen) q steps)).hooks
   told = is_hooked.told
 
   pub same_bytes : (lines : Lines) (bytes : List ℕ)
       → bytes ≡ r.output ++ (lines_text lines ++ (uncaught_line r.store.heap r.outcome
       ++ end_line r.outcome r.steps r.hooks (length lines)))
-      → bytes ≡ (linted (hooked_run q) lines r.hooks).bytes
+      → bytes ≡ (linted (hooked_run (kinds_of chosen) q steps) steps lines r.hooks).bytes
   same_bytes lines bytes b =
-      let ran = hooked_run q in
+      let ran = hooked_run (kinds_of chosen) q steps in
       b ∙ ap (λ x. x ++ (lines_text lines ++ (uncaught_line r.store.heap r.outcome
       ++ end_line r.outcome r.steps r.hooks (length lines)))) is_hooked.output
       ∙ ap (λ (s : Store). (world_of ran).output ++ (lines_text lines ++ (uncaught_line s.heap r.outcome
@@ -44,20 +45,23 @@ module _ {O : Type 0} (stands_for : O → List Operation → Type 0) (o : O) (r 
   -- the report, the status and the bytes
   pub is_linted : (units : List ℕ) (p : Program Span) (begun : List ℕ) (lines : Lines) (answer : Status)
       (bytes : List ℕ) → begun ≡ places p
-      → ((told : List Operation) → stands_for o told → length told < 2 ^ 64 → IsReport units begun told lines)
+      → ((told : List Operation) → stands_for o told → length told < 2 ^ 64 → IsReport units begun chosen told lines)
       → answer ≡ lint_status r.outcome lines
       → bytes ≡ r.output ++ (lines_text lines ++ (uncaught_line r.store.heap r.outcome
       ++ end_line r.outcome r.steps r.hooks (length lines)))
-      → (lines : Lines) × (hooks : ℕ) × IsReported units p (world_of (hooked_run q)).hooks lines hooks
-      × (answer ≡ (linted (hooked_run q) lines hooks).status)
-      × (bytes ≡ (linted (hooked_run q) lines hooks).bytes)
-  is_linted units p begun lines answer bytes same report st b = (
+      → (lines : Lines) × (hooks : ℕ)
+      × IsReported units p chosen (world_of (hooked_run (kinds_of chosen) q steps)).hooks
+      (world_of (hooked_run (kinds_of chosen) q steps)).hooks lines hooks
+      × (answer ≡ (linted (hooked_run (kinds_of chosen) q steps) steps lines hooks).status)
+      × (bytes ≡ (linted (hooked_run (kinds_of chosen) q steps) steps lines hooks).bytes)
+  is_linted units p begun lines answer bytes begins report st b = (
     lines,
     r.hooks,
     record {
       counted = is_hooked.hooks;
-      report = λ few. subst (λ places. IsReport units places (world_of (hooked_run q)).hooks lines) same
-          (report (world_of (hooked_run q)).hooks told few);
+      report = λ few.
+          subst (λ places. IsReport units places chosen (world_of (hooked_run (kinds_of chosen) q steps)).hooks lines)
+          begins (report (world_of (hooked_run (kinds_of chosen) q steps)).hooks told few);
     },
     st ∙ ap (λ e. lint_status e lines) is_hooked.outcome,
     same_bytes lines bytes b,

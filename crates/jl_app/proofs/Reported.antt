@@ -1,12 +1,16 @@
--- The text of a report grows by that of a line; and the report of all rules is the one that is due.
+-- The text of a report grows by that of a line; and the report of the operations that chosen rules look at is that of all.
 use Rattle.std.proofs.Common.{◌≡◌, ℕ, ◌<◌, ◌^◌, ◌++◌, List, [], ◌∷◌, length, take, get_or, ◌+◌, refl, sym, ap, ◌∙◌}
 use Rattle.std.proofs.Common.{subst}
 use Rattle.std.proofs.Common.{arith, append_assoc, append-nil, add-one}
 use Rattle.std.proofs.Math.Seq.{take-suc}
 use Rattle.jl_op.specs.Operations.{Operation}
+use Rattle.jl_analysis.specs.Laws.{NeededIsEnough}
+use Rattle.jl_report.specs.Off.{off_by}
 use Rattle.jl_report.specs.Texts.{line_bytes}
 use Rattle.jl_report.specs.declared.line.Line.{Line}
-use Rattle.jl_app.specs.Reporting.{Lines, lines_text}
+use Rattle.jl_app.specs.Headline.{kept_of}
+use Rattle.jl_app.specs.Reporting.{IsReport, Lines, lines_text, positions}
+use Rattle.jl_app.proofs.ChosenRules.{of_kept}
 
 lines_text-push : (lines : Lines) (line : Line)
     → lines_text (lines ++ line ∷ []) ≡ lines_text lines ++ (line_bytes line ++ 10 ∷ [])
@@ -26,3 +30,12 @@ one_more_line lines at d text written next within so_far line grown =
     ∙ sym (lines_text-push (take at lines) (get_or lines at d))
     ∙ ap lines_text (sym (take-suc lines at d within))
     ∙ ap (λ n. lines_text (take n lines)) (sym (add-one at))
+
+-- the report of the operations that chosen rules look at, but for what comments switch off, is that of all
+pub all_reported : NeededIsEnough → (units places chosen : List ℕ) (operations : List Operation) (lines : Lines)
+    → IsReport units places chosen (kept_of chosen operations) lines → IsReport units places chosen operations lines
+all_reported enough units places chosen operations lines is = record {
+  comments = is.comments;
+  are = is.are;
+  report = of_kept enough chosen (off_by units is.comments) (positions units places) operations lines is.report;
+}

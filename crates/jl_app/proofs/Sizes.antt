@@ -1,5 +1,5 @@
--- Accepted scripts are small.
-use Rattle.std.proofs.Common.{ℕ, ◌+◌, ◌*◌, ◌≤◌, inl, inr, List, [], ◌∷◌, length, ap, arith, length-append}
+-- Sources are small.
+use Rattle.std.proofs.Common.{ℕ, ◌+◌, ◌*◌, ◌≤◌, ◌<◌, inl, inr, List, [], ◌∷◌, length, ap, arith, length-append}
 use Rattle.std.proofs.lemmas.Str.{encodes-chars, length-encode, len_utf8_bounds}
 use Rattle.std.proofs.lemmas.Bool.{cases_lt}
 use Rattle.std.proofs.lemmas.Bool.Decides.{nat_tests}
@@ -17,7 +17,10 @@ use Rattle.jl_text.specs.Encoding.{encode_utf16_all, units_of}
 use Rattle.jl_text.specs.declared.span.Span.{Span}
 use Rattle.jl_token.proofs.Whole.{few_tokens}
 use Rattle.jl_token.specs.declared.token.Token.{Token}
-use Rattle.jl_app.specs.Accepting.{IsAccepted}
+use Rattle.jl_app.specs.Accepting.{IsRead}
+use Rattle.jl_app.specs.Forms.{most_bytes, most_levels}
+use Rattle.jl_app.specs.declared.form.Form.{Form}
+use Rattle.jl_app.specs.declared.form.Form.TheVariants as forms
 
 -- A text has no more units than bytes.
 
@@ -45,15 +48,26 @@ few_units_all (c ∷ cs) =
 pub units_within : (bytes : List ℕ) → IsUtf8 bytes → length (units_of bytes) ≤ length bytes
 units_within bytes utf8 = omega (arith, few_units_all (chars bytes), ap length (encodes-chars bytes utf8))
 
--- so an accepted script has few ids
+-- of neither form are there more bytes than this
+few_bytes : (form : Form) (n : ℕ) → n ≤ most_bytes form → n ≤ 67108928
+few_bytes forms.Script n few = omega arith
+few_bytes forms.WovenText n few = few
+
+-- so the program of a source has few ids
 pub few_ids : ((ts : List Token) (limit : ℕ) (p : Program Span) → Reads ts limit p
-    → length (id_map p) ≤ 4 * length ts + 2) → (bytes : List ℕ) (p : Program Span) → IsAccepted bytes p → HasFewIds p
-few_ids law bytes p is =
+    → length (id_map p) ≤ 4 * length ts + 2) → (form : Form) (bytes : List ℕ) (p : Program Span) → IsRead form bytes p
+    → HasFewIds p
+few_ids law form bytes p is =
     omega (
       arith,
       map_length p,
-      law is.tokens 200 p is.read,
+      law is.tokens (most_levels form) p is.read,
       few_tokens (units_of bytes) is.tokens is.lexed,
       units_within bytes is.decoded,
-      is.short,
+      few_bytes form (length bytes) is.short,
     )
+
+-- and its units are fewer than those of which the lines are kept
+pub few_units_of : (form : Form) (bytes : List ℕ) → IsUtf8 bytes → length bytes ≤ most_bytes form
+    → length (units_of bytes) < 4294967295
+few_units_of form bytes utf8 short = omega (arith, units_within bytes utf8, few_bytes form (length bytes) short)

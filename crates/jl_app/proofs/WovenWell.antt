@@ -2,11 +2,12 @@
 use Rattle.std.proofs.Common.{◌≡◌, ◌<◌, ◌+◌, [], arith, length, ℕ, List}
 use Rattle.jl_ast.specs.Tree.{Program}
 use Rattle.jl_effects.specs.Growing.{IsLonger}
+use Rattle.jl_effects.specs.Traces.{keep_hooks, with_state}
 use Rattle.jl_grammar.specs.Laws.{OneReading}
 use Rattle.jl_grammar.specs.Program.{Reads}
 use Rattle.jl_machine.specs.Runs.{hooked_mean}
 use Rattle.jl_meaning.specs.Mean.{mean}
-use Rattle.jl_op.specs.Chosen.{every_kind, Kinds}
+use Rattle.jl_op.specs.Chosen.{every_kind, is_kept, Kinds}
 use Rattle.jl_quiet.specs.QuietMean.{QuietMeans, quiet_mean}
 use Rattle.jl_read_back.specs.EarlyErrors.{FirstIsReservedName}
 use Rattle.jl_read_back.specs.Laws.{WovenReadsBack, WovenTextIsBounded}
@@ -39,10 +40,13 @@ pub woven_well : ((chosen : Kinds) (ts : List Token) (limit : ℕ) (p : Program 
     → ((chosen : Kinds) (w : Program (Unit {0})) → QuietMeans chosen w)
     → ((chosen : Kinds) (w : Program (Unit {0})) (n : ℕ) → quiet_mean chosen w n ≡ hooked_mean chosen w n)
     → ((chosen : Kinds) (p : Program Span) (n d : ℕ) → IsLonger d (mean chosen p n) (mean chosen p (n + d)))
-    → (bytes : List ℕ) (p : Program Span) → IsAccepted bytes p → IsWovenWell p
-woven_well simulates reads bounded keeps one means hooked longer bytes p is = record {
-  simulates = own_simulates p (simulates every_kind is.tokens 200 p is.read (nothing_wrong bytes p is) (few bytes p is));
-  back = back_to_woven reads bounded keeps one bytes p is;
-  runs = woven_runs means hooked p;
+    → ((kinds : Kinds) (p : Program Span) (n : ℕ)
+    → mean kinds p n ≡ with_state (keep_hooks (is_kept kinds)) (mean every_kind p n))
+    → (kinds : Kinds) (bytes : List ℕ) (p : Program Span) → IsAccepted bytes p → IsWovenWell kinds p
+woven_well simulates reads bounded keeps one means hooked longer kept kinds bytes p is = record {
+  simulates = own_simulates kept kinds p
+      (simulates kinds is.tokens 200 p is.read (nothing_wrong bytes p is) (few bytes p is));
+  back = back_to_woven reads bounded keeps one kinds bytes p is;
+  runs = woven_runs means hooked kinds p;
   longer = own_longer longer p;
 }

@@ -1,20 +1,20 @@
 -- What the answer of `lint` says of the script's own run.
-use Rattle.std.specs.Prelude.{◌≡◌, ℕ, ◌≤◌, ◌*◌, ◌+◌, ◌++◌, ◌⊎◌, List, length}
+use Rattle.std.specs.Prelude.{◌≡◌, ℕ, ◌≤◌, ◌*◌, ◌+◌, ◌++◌, ◌⊎◌, List, filter, length}
 use Rattle.jl_ast.specs.Tree.{Program}
 use Rattle.jl_effects.specs.Growing.{IsPrefix}
 use Rattle.jl_effects.specs.Running.{IsOver, state_of as world_of, steps_taken}
 use Rattle.jl_machine.specs.Runs.{ending_of}
 use Rattle.jl_meaning.specs.Mean as mean
-use Rattle.jl_op.specs.Chosen.{every_kind}
+use Rattle.jl_op.specs.Chosen.{every_kind, is_kept, Kinds}
 use Rattle.jl_op.specs.Operations.{Operation}
 use Rattle.jl_port.specs.Bytes.{Grows}
 use Rattle.jl_simulation.specs.Weaving.{woven_program}
 use Rattle.jl_text.specs.declared.span.Span.{Span}
 use Rattle.jl_value.specs.declared.ending.Outcome.TheVariants as ending
-use Rattle.jl_app.specs.Answers.{IsReported, budget, end_line, lint_bytes, lint_status, woven_budget}
+use Rattle.jl_app.specs.Answers.{IsReported, end_line, hooked_run, lint_bytes, lint_status, woven_budget}
 use Rattle.jl_app.specs.Endings.{Call}
-use Rattle.jl_app.specs.OwnRuns.{program_run}
 use Rattle.jl_app.specs.Reporting.{Lines, lines_text}
+use Rattle.jl_app.specs.WovenText.{kinds_of}
 use Rattle.jl_app.specs.declared.status.Status.{Status}
 use Rattle.jl_app.specs.declared.status.Status.TheVariants as status
 
@@ -22,51 +22,58 @@ use Rattle.jl_app.specs.declared.status.Status.TheVariants as status
 unfoldable pub own_run : Program Span → (steps : ℕ) → mean.Run
 own_run p n = mean.mean every_kind p n
 
--- what its woven script means, with so many steps
-unfoldable pub woven_mean : Program Span → (steps : ℕ) → mean.Run
-woven_mean p n = mean.mean every_kind (woven_program every_kind p) n
+-- what its script that is woven for these kinds means, with so many steps
+unfoldable pub woven_mean : Kinds → Program Span → (steps : ℕ) → mean.Run
+woven_mean kinds p n = mean.mean kinds (woven_program kinds p) n
 
--- the run of the woven script
-unfoldable pub woven_run : Program Span → mean.Run
-woven_run p = program_run (woven_program every_kind p) woven_budget
+-- the run of that
+unfoldable pub woven_run : Kinds → Program Span → (steps : ℕ) → mean.Run
+woven_run kinds p n = hooked_run kinds (woven_program kinds p) n
+
+-- those of the operations whose kind one of the rules with these numbers looks at, in their order
+abbrev pub kept_of : (chosen : List ℕ) → List Operation → List Operation
+kept_of chosen operations = filter (is_kept (kinds_of chosen)) operations
 
 -- The answer is about this run of the script p with n steps, which is over. The script stands in a source of these
--- units. What was written begins with what the run printed; the lines are those of the run's operations, which the
--- crowd was told of; the end and the status are those of the run; and the steps that are told are no fewer than the
--- run's, and not many more.
-pub record IsAbout (call : Call) (units : List ℕ) (p : Program Span) (n : ℕ) (own : mean.Run) (answer : Status)
-    : Type 0 where
+-- units. What was written begins with what the run printed; the lines are those of all of the run's operations by the
+-- rules with these numbers; the crowd was told of those operations whose kind one of these rules looks at, and they are
+-- counted; the end and the status are those of the run; and the steps that are told are no fewer than the run's, and not
+-- many more.
+pub record IsAbout (call : Call) (units : List ℕ) (p : Program Span) (chosen : List ℕ) (n : ℕ) (own : mean.Run)
+    (answer : Status) : Type 0 where
   pub over : IsOver own
   pub lines : Lines
   pub steps : ℕ
   pub count : ℕ
-  pub report : IsReported units p (world_of own).operations lines count
+  pub report : IsReported units p chosen (kept_of chosen (world_of own).operations) (world_of own).operations lines count
   pub status : answer ≡ lint_status (ending_of own) lines
   pub written : Grows call.written.0 call.written.1 (lint_bytes own lines steps count)
   pub no_fewer : steps_taken n own ≤ steps
   pub not_many_more : steps ≤ 32 * steps_taken n own + 64
-  pub told : call.knows (world_of own).operations
+  pub told : call.knows (kept_of chosen (world_of own).operations)
 
--- The steps of the woven script were spent, and the answer is about the beginning of this run of the script p: what was
--- written begins with the first that the run printed; and the lines are those of the first of its operations, which the
--- crowd was told of.
-pub record IsAboutBeginning (call : Call) (units : List ℕ) (p : Program Span) (own : mean.Run) (answer : Status)
-    : Type 0 where
+-- The steps of the woven script, which are so many, were spent, and the answer is about the beginning of this run of the
+-- script p: what was written begins with the first that the run printed; and the lines are those of the first of its
+-- operations whose kind one of the rules looks at, which the crowd was told of.
+pub record IsAboutBeginning (call : Call) (units : List ℕ) (p : Program Span) (chosen : List ℕ) (n : ℕ) (own : mean.Run)
+    (answer : Status) : Type 0 where
   pub output : List ℕ
   pub operations : List Operation
   pub lines : Lines
   pub count : ℕ
   pub printed : IsPrefix output (world_of own).output
-  pub performed : IsPrefix operations (world_of own).operations
-  pub report : IsReported units p operations lines count
+  pub performed : IsPrefix operations (kept_of chosen (world_of own).operations)
+  pub report : IsReported units p chosen operations operations lines count
   pub status : answer ≡ status.Spent
   pub written : Grows call.written.0 call.written.1
-      (output ++ (lines_text lines ++ end_line ending.Spent woven_budget count (length lines)))
+      (output ++ (lines_text lines ++ end_line ending.Spent n count (length lines)))
   pub told : call.knows operations
 
 -- What the answer says of the script's own run: all, where that is over within the budget; and in any case all, or the
 -- beginning, of its run with as many steps as the woven script has.
-pub record IsAboutScript (call : Call) (units : List ℕ) (p : Program Span) (answer : Status) : Type 0 where
-  pub in_time : IsOver (own_run p budget) → IsAbout call units p budget (own_run p budget) answer
-  pub in_any_case : IsAbout call units p woven_budget (own_run p woven_budget) answer
-      ⊎ IsAboutBeginning call units p (own_run p woven_budget) answer
+pub record IsAboutScript (call : Call) (units : List ℕ) (p : Program Span) (budget : ℕ) (chosen : List ℕ)
+    (answer : Status) : Type 0 where
+  pub in_time : IsOver (own_run p budget) → IsAbout call units p chosen budget (own_run p budget) answer
+  pub in_any_case :
+      IsAbout call units p chosen (woven_budget budget) (own_run p (woven_budget budget)) answer
+      ⊎ IsAboutBeginning call units p chosen (woven_budget budget) (own_run p (woven_budget budget)) answer

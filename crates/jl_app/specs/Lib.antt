@@ -1,3 +1,7 @@
+pub mod CommandLine
+pub mod Asked
+pub mod Meant
+pub mod Forms
 pub mod OwnRuns
 pub mod Positions
 pub mod Reporting
@@ -5,11 +9,12 @@ pub mod Codes
 pub mod Accepting
 pub mod Refusals
 pub mod Refused
-pub mod Commands
 pub mod MapLines
 pub mod WovenText
 pub mod ReadBack
+pub mod Tracing
 pub mod Answers
 pub mod Endings
 pub mod Headline
+pub mod Laws
 pub mod inner

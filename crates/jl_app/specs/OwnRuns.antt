@@ -1,5 +1,5 @@
--- A program that runs as it stands, with nothing woven into it: its run, and how its end is told.
-use Rattle.std.specs.Prelude.{[], codes, true, ◌++◌, ◌∷◌, List, ℕ}
+-- A program that runs as it stands: its run, and how its end is told.
+use Rattle.std.specs.Prelude.{[], codes, ◌++◌, ◌∷◌, List, ℕ}
 use Rattle.std.specs.Fmt.{decimal}
 use Rattle.jl_text.specs.Encoding.{bytes_of}
 use Rattle.jl_ast.specs.Tree.{Program}
@@ -10,12 +10,13 @@ use Rattle.jl_heap.specs.Describe.{description_of}
 use Rattle.jl_heap.specs.Objects.{Objects}
 use Rattle.jl_meaning.specs.Mean.{Run}
 use Rattle.jl_machine.specs.Runs.{hooked_mean}
+use Rattle.jl_op.specs.Chosen.{every_kind}
 use Rattle.jl_app.specs.declared.status.Status.{Status}
 use Rattle.jl_app.specs.declared.status.Status.TheVariants as status
 
--- the run of a program with so many steps; it calls no hook, so it is the same whichever kinds are recorded
+-- the run of a program with so many steps, whose hooks, if it calls any, tell of operations of all kinds
 unfoldable pub program_run : {S : Type 0} → Program S → (steps : ℕ) → Run
-program_run p n = hooked_mean (λ kind. true) p n
+program_run p n = hooked_mean every_kind p n
 
 -- how it ended, in words
 abbrev pub ending_text : Ending → List ℕ

@@ -1,11 +1,13 @@
 -- The program that is read from the text that a shelf lends.
-use Rattle.std.specs.Prelude.{◌≡◌, ℕ, ◌≤◌, Bool, true, false, List, Option, Some, None, length}
+use Rattle.std.specs.Prelude.{◌≡◌, ℕ, ◌≤◌, Bool, true, List, Option, length}
 use Rattle.jl_ast.specs.Tree.{Program}
 use Rattle.jl_grammar.specs.Program.{Reads}
-use Rattle.jl_scope.specs.EarlyError.{first_early_error, EarlyError, early, left_out, reserved_name}
+use Rattle.jl_scope.specs.EarlyError.{first_early_error, EarlyError}
 use Rattle.jl_text.specs.declared.span.Span.{Span}
 use Rattle.jl_token.specs.declared.token.Token.{Token}
 use Rattle.jl_token.specs.Tokens.{Tokens}
+use Rattle.jl_app.specs.Forms.{is_sound}
+use Rattle.jl_app.specs.declared.form.Form.TheVariants as forms
 
 -- the most units that the text has, and the most levels of the program
 abbrev pub most_units : ℕ
@@ -16,10 +18,7 @@ most_levels = 1000
 
 -- of all that may be wrong with a program, this is only that it names the hooks, as a woven program does
 abbrev pub may_run : Option EarlyError → Bool
-may_run None = true
-may_run (Some (early rule s)) = false
-may_run (Some (left_out name s)) = false
-may_run (Some (reserved_name s)) = true
+may_run first = is_sound forms.WovenText first
 
 -- the text reads as this program, in which no early rule is broken and no left-out name is used
 pub record IsReadBack (text : List ℕ) (p : Program Span) : Type 0 where

@@ -1,5 +1,5 @@
 -- The report of a script that stands in a source, and how it is written.
-use Rattle.std.specs.Prelude.{ℕ, List, [], ◌∷◌, ◌++◌, map, true}
+use Rattle.std.specs.Prelude.{ℕ, List, [], ◌∷◌, ◌++◌, map}
 use Rattle.jl_op.specs.Operations.{Operation}
 use Rattle.jl_report.specs.Off.{off_by}
 use Rattle.jl_report.specs.Reports.{Place}
@@ -9,6 +9,7 @@ use Rattle.jl_report.specs.declared.line.Line.{Line}
 use Rattle.jl_text.specs.Places.{position_of}
 use Rattle.jl_token.specs.declared.token.Comment.{Comment}
 use Rattle.jl_token.specs.Tokens.{Comments}
+use Rattle.jl_app.specs.Asked.{is_among}
 
 abbrev pub Lines : Type 0
 Lines = List Line
@@ -17,12 +18,12 @@ Lines = List Line
 abbrev pub positions : (units : List ℕ) → (places : List ℕ) → List Place
 positions units places = map (position_of units) places
 
--- These are the lines of the report of all rules, but for what the comments of the source switch off, on these
--- operations, whose ids have these places in the source.
-pub record IsReport (units places : List ℕ) (operations : List Operation) (lines : Lines) : Type 0 where
+-- These are the lines of the report of the rules with these numbers, but for what the comments of the source switch off,
+-- on these operations, whose ids have these places in the source.
+pub record IsReport (units places chosen : List ℕ) (operations : List Operation) (lines : Lines) : Type 0 where
   pub comments : List Comment
   pub are : Comments units comments
-  pub report : reports.IsReport (λ rule. true) (off_by units comments) (positions units places) operations lines
+  pub report : reports.IsReport (is_among chosen) (off_by units comments) (positions units places) operations lines
 
 -- the text of a report: each line, and LF
 abbrev pub lines_text : Lines → List ℕ

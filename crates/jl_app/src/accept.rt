@@ -1,14 +1,17 @@
-ghost use Rattle.std.specs.Prelude.{◌≡◌, ◌≤◌, ◌<◌, ◌^◌, ℕ, List as Items, None, length, IfOk, IfErr, OnOk};
+ghost use Rattle.std.specs.Prelude.{◌≡◌, ◌≤◌, ◌<◌, ◌^◌, ℕ, List as Items, true, length, IfOk, IfErr, OnOk};
 ghost use Rattle.jl_ast.specs.View.{view};
 ghost use Rattle.jl_grammar.specs.Program.{Reads};
 ghost use Rattle.jl_scope.specs.EarlyError.{first_early_error};
 ghost use Rattle.jl_simulation.specs.Plain.{HasFewIds};
 ghost use Rattle.jl_text.specs.Encoding.{units_of};
 ghost use Rattle.jl_token.specs.Tokens.{Tokens};
-ghost use Rattle.jl_app.specs.Accepting.{IsAccepted, IsText, HasTokens, IsProgram};
+ghost use Rattle.jl_app.specs.Accepting.{IsRead, IsText, HasTokens, IsProgram};
+ghost use Rattle.jl_app.specs.Forms.{is_sound, most_bytes, most_levels};
 ghost use Rattle.jl_app.specs.Refused.{Refuses};
 ghost use Rattle.jl_app.specs.declared.accept.Unaccepted.TheVariants.{NoMemory};
+ghost use Rattle.jl_app.specs.declared.form.Form.{Form as Kind};
 
+use crate::form::Form;
 use crate::refusal::Refusal;
 use crate::source::Source;
 use jl_ast::Program;
@@ -20,13 +23,7 @@ use jl_text::{List, Utf8Fault, from_utf8};
 use jl_token::Token;
 use std::alloc::{AllocError, Global};
 
-/// The most bytes that a script has.
-pub(crate) const MOST_BYTES: usize = 1_048_576;
-
-/// The most levels that a program has.
-const MOST_LEVELS: u32 = 200;
-
-/// An accepted script: its text, and the program that it is read as.
+/// A source that is accepted: its text, and the program that it is read as.
 #[derive(Drop)]
 pub(crate) struct Accepted {
     pub(crate) source: Source,
@@ -49,10 +46,10 @@ impl From<AllocError> for Unaccepted {
 }
 
 /// The text of these bytes.
-fn decoded(alloc: Global, bytes: &[u8]) -> Result<Source, Unaccepted>
-    requires { length bytes.now ≤ 1048576 }
-    ensures text { IfOk result (λ source. IsText bytes.now × (source ≡ units_of bytes.now)) }
-    ensures refused { IfErr result (Refuses bytes.now) }
+fn decoded(alloc: Global, form: Form, bytes: &[u8]) -> Result<Source, Unaccepted>
+    requires { length bytes.now ≤ most_bytes form }
+    ensures text { IfOk result (λ source. IsText form bytes.now × (source ≡ units_of bytes.now)) }
+    ensures refused { IfErr result (Refuses form bytes.now) }
 {
     match from_utf8(alloc, bytes) {
         Ok(units) => Ok(Source::new(alloc, units)?),
@@ -64,7 +61,8 @@ fn decoded(alloc: Global, bytes: &[u8]) -> Result<Source, Unaccepted>
 /// Its tokens.
 fn lexed(alloc: Global, source: &Source) -> Result<List<Token>, Unaccepted>
     ensures tokens { IfOk result (λ tokens. Tokens source.now tokens) }
-    ensures refused { (bytes : Items ℕ) → IsText bytes → source.now ≡ units_of bytes → IfErr result (Refuses bytes) }
+    ensures refused { (form : Kind) (bytes : Items ℕ) → IsText form bytes → source.now ≡ units_of bytes
+        → IfErr result (Refuses form bytes) }
 {
     match lex(alloc, source.units()) {
         Ok(tokens) => Ok(tokens),
@@ -77,13 +75,18 @@ fn lexed(alloc: Global, source: &Source) -> Result<List<Token>, Unaccepted>
 }
 
 /// The program that they read as.
-fn parsed(alloc: Global, source: &Source, tokens: &[Token]) -> Result<Program, Unaccepted>
+fn parsed(
+    alloc: Global,
+    form: Form,
+    source: &Source,
+    tokens: &[Token],
+) -> Result<Program, Unaccepted>
     requires { length tokens.now < 2 ^ 32 }
-    ensures read { IfOk result (λ program. Reads tokens.now 200 (view program)) }
-    ensures refused { (bytes : Items ℕ) → HasTokens bytes tokens.now → source.now ≡ units_of bytes
-        → IfErr result (Refuses bytes) }
+    ensures read { IfOk result (λ program. Reads tokens.now (most_levels form) (view program)) }
+    ensures refused { (bytes : Items ℕ) → HasTokens form bytes tokens.now → source.now ≡ units_of bytes
+        → IfErr result (Refuses form bytes) }
 {
-    match parse(alloc, tokens, MOST_LEVELS) {
+    match parse(alloc, tokens, form.most_levels()) {
         Ok(program) => Ok(program),
         Err(ParseRefusal::Unreadable { at }) => {
             let at = source.position(at);
@@ -93,11 +96,11 @@ fn parsed(alloc: Global, source: &Source, tokens: &[Token]) -> Result<Program, U
     }
 }
 
-/// Whether it breaks no early rule and uses no name that it must not.
-fn checked(alloc: Global, source: &Source, program: &Program) -> Result<(), Unaccepted>
-    ensures legal { OnOk result (first_early_error (view program.now) ≡ None) }
-    ensures refused { (bytes : Items ℕ) → IsProgram bytes (view program.now) → source.now ≡ units_of bytes
-        → IfErr result (Refuses bytes) }
+/// Whether it breaks no early rule and uses no name that it must not. Where it may name the hooks, that is passed over.
+fn checked(alloc: Global, form: Form, source: &Source, program: &Program) -> Result<(), Unaccepted>
+    ensures sound { OnOk result (is_sound form (first_early_error (view program.now)) ≡ true) }
+    ensures refused { (bytes : Items ℕ) → IsProgram form bytes (view program.now) → source.now ≡ units_of bytes
+        → IfErr result (Refuses form bytes) }
 {
     match check(alloc, program) {
         Ok(()) => Ok(()),
@@ -110,6 +113,9 @@ fn checked(alloc: Global, source: &Source, program: &Program) -> Result<(), Unac
             Err(Unaccepted::Refused(Refusal::LeftOut { name, at }))
         }
         Err(ScopeRefusal::ReservedName { span }) => {
+            if form.may_name_hooks() {
+                return Ok(());
+            }
             let at = source.position(span.from);
             Err(Unaccepted::Refused(Refusal::ReservedName { at }))
         }
@@ -119,16 +125,16 @@ fn checked(alloc: Global, source: &Source, program: &Program) -> Result<(), Unac
 
 /// The program that these bytes are accepted as, with its text. Its cost is that of the lexer, the parser and the check
 /// of names together; it goes as deep as the program is high.
-pub(crate) fn accept(alloc: Global, bytes: &[u8]) -> Result<Accepted, Unaccepted>
-    requires { length bytes.now ≤ 1048576 }
-    ensures accepted { IfOk result (λ a. IsAccepted bytes.now (view a.program) × (a.source ≡ units_of bytes.now)) }
+pub(crate) fn accept(alloc: Global, form: Form, bytes: &[u8]) -> Result<Accepted, Unaccepted>
+    requires { length bytes.now ≤ most_bytes form }
+    ensures accepted { IfOk result (λ a. IsRead form bytes.now (view a.program) × (a.source ≡ units_of bytes.now)) }
     ensures few { IfOk result (λ a. HasFewIds (view a.program)) }
-    ensures refused { IfErr result (Refuses bytes.now) }
+    ensures refused { IfErr result (Refuses form bytes.now) }
 {
-    let source = decoded(alloc, bytes)?;
+    let source = decoded(alloc, form, bytes)?;
     let tokens = lexed(alloc, &source)?;
-    let program = parsed(alloc, &source, tokens.items())?;
-    checked(alloc, &source, &program)?;
+    let program = parsed(alloc, form, &source, tokens.items())?;
+    checked(alloc, form, &source, &program)?;
     few_ids();
     Ok(Accepted { source, program })
 }

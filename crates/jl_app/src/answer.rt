@@ -1,9 +1,11 @@
-ghost use Rattle.std.specs.Prelude.{◌≡◌, ◌≤◌, [], ◌∷◌, length, IfOk};
+ghost use Rattle.std.specs.Prelude.{◌≡◌, ◌≤◌, ℕ, List, [], ◌∷◌, length, IfOk};
 ghost use Rattle.jl_analysis.specs.Rules.{all_rules};
 ghost use Rattle.jl_op.specs.Operations.{Operation};
 ghost use Rattle.jl_app.specs.Answers.{Due, IsAnswered, line_only, refused_only};
+ghost use Rattle.jl_app.specs.Asked.{Asked, lint};
+ghost use Rattle.jl_app.specs.Forms.{form_of, most_bytes};
+ghost use Rattle.jl_app.specs.Meant.{Means};
 ghost use Rattle.jl_app.specs.Refusals.{refusal_words};
-ghost use Rattle.jl_app.specs.declared.command.Command.TheVariants as Named;
 
 use crate::accept::{Unaccepted, accept};
 use crate::check::check;
@@ -15,6 +17,7 @@ use crate::listing::list_map;
 use crate::print::print;
 use crate::refusal::Refusal;
 use crate::status::Status;
+use crate::trace::{trace, trace_alone};
 use jl_analysis::{Crowd, Findings};
 use jl_op::Observer;
 use jl_port::Shelf;
@@ -57,32 +60,36 @@ pub(crate) fn respond<H: Shelf>(
     shelf: &mut H,
     crowd: &mut Crowd,
 ) -> Result<Answer, AllocError>
-    requires small { length bytes.now ≤ 1048576 }
+    requires small { (a : Asked) → Means command a → length bytes.now ≤ most_bytes (form_of a) }
+    requires meant { (a : Asked) × Means command a }
     requires rules { ⟦<Crowd as Findings>⟧.rules crowd.old ≡ all_rules }
     requires fresh { ⟦<Crowd as Observer>⟧.stands_for crowd.old [] }
-    ensures due { IfOk result (λ a. (due : Due)
-        × IsAnswered command bytes.now (record {
+    ensures due { (a : Asked) → Means command a → IfOk result (λ given. (due : Due)
+        × IsAnswered a bytes.now (record {
           handed = H.handed shelf.new;
           lent = H.lent shelf.new;
           same = shelf.new ≡ shelf.old;
         }) due
-        × (a.status ≡ due.status)
-        × (a.bytes.items ≡ due.bytes)
+        × (given.status ≡ due.status)
+        × (given.bytes.items ≡ due.bytes)
         × ⟦<Crowd as Observer>⟧.stands_for crowd.new due.told) }
-    ensures shelf { (command ≡ Named.Lint → ⊥) → shelf.new ≡ shelf.old }
+    ensures shelf { ((budget : ℕ) (chosen : List ℕ) → Means command (lint budget chosen) → ⊥)
+        → shelf.new ≡ shelf.old }
     ensures same_rules { ⟦<Crowd as Findings>⟧.rules crowd.new ≡ ⟦<Crowd as Findings>⟧.rules crowd.old }
 {
-    let accepted = match accept(alloc, bytes) {
+    let accepted = match accept(alloc, command.form(), bytes) {
         Ok(accepted) => accepted,
         Err(Unaccepted::Refused(refusal)) => return refused(alloc, &refusal),
         Err(Unaccepted::NoMemory) => return Err(AllocError),
     };
     match command {
-        Command::Lint => lint(alloc, &accepted, shelf, crowd),
+        Command::Lint { budget, rules } => lint(alloc, &accepted, budget, rules, shelf, crowd),
+        Command::Run { budget } => execute(alloc, &accepted.program, budget),
         Command::Check => check(alloc, &accepted.program),
         Command::Print => print(alloc, &accepted.program),
         Command::Instrument => instrument(alloc, &accepted.program),
         Command::Map => list_map(alloc, &accepted.source, &accepted.program),
-        Command::Run => execute(alloc, &accepted.program),
+        Command::Trace { budget } => trace(alloc, &accepted.program, budget),
+        Command::Exec { budget } => trace_alone(alloc, &accepted.program, budget),
     }
 }

@@ -1,12 +1,16 @@
-ghost use Rattle.std.specs.Prelude.{◌≡◌, MatchOption};
-ghost use Rattle.jl_app.specs.Commands.{texts, words_of};
-ghost use Rattle.jl_app.specs.declared.command.Command.{Command as Named};
+ghost use Rattle.std.specs.Prelude.{◌≡◌};
+ghost use Rattle.jl_app.specs.Meant.{form_of_command};
 
-/// What the program can be asked for.
+use crate::form::Form;
+use jl_analysis::RuleSet;
+
+/// What the program can be asked for. A budget is the most steps of a script's run, from 0 to 1,000,000,000.
 #[derive(Clone, Copy)]
 pub enum Command {
-    /// Runs a script and reports what was odd.
-    Lint,
+    /// Runs a script woven, and reports what was odd by the chosen rules.
+    Lint { budget: u64, rules: RuleSet },
+    /// Runs a script as it stands.
+    Run { budget: u64 },
     /// Tells whether a script is accepted.
     Check,
     /// Writes the canonical text of a script.
@@ -15,37 +19,26 @@ pub enum Command {
     Instrument,
     /// Lists the operations of a script by their ids.
     Map,
-    /// Runs a script as it stands.
-    Run,
+    /// Runs a script woven, and tells each of its operations.
+    Trace { budget: u64 },
+    /// Runs a woven text as it stands, and tells each of its operations.
+    Exec { budget: u64 },
 }
 
 impl Command {
-    /// The command that these words are, which is one word, its name.
-    pub fn of(words: &[&str]) -> Option<Command>
-        ensures { MatchOption result ((c : Named) → texts words.now ≡ words_of c → ⊥)
-            (λ c. texts words.now ≡ words_of c) }
+    /// What the command reads.
+    pub fn form(self) -> Form
+        ensures { result ≡ form_of_command self }
     {
-        let [word] = words else {
-            return None;
-        };
-        if *word == "lint" {
-            return Some(Command::Lint);
+        match self {
+            Command::Exec { .. } => Form::WovenText,
+            Command::Lint { .. }
+            | Command::Run { .. }
+            | Command::Check
+            | Command::Print
+            | Command::Instrument
+            | Command::Map
+            | Command::Trace { .. } => Form::Script,
         }
-        if *word == "check" {
-            return Some(Command::Check);
-        }
-        if *word == "print" {
-            return Some(Command::Print);
-        }
-        if *word == "instrument" {
-            return Some(Command::Instrument);
-        }
-        if *word == "map" {
-            return Some(Command::Map);
-        }
-        if *word == "run" {
-            return Some(Command::Run);
-        }
-        None
     }
 }

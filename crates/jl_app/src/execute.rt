@@ -2,11 +2,11 @@
 ghost use Rattle.std.specs.Prelude.{◌≡◌, ◌++◌, IfOk};
 ghost use Rattle.std.specs.String.{string_bytes};
 ghost use Rattle.jl_ast.specs.View.{view};
-ghost use Rattle.jl_app.specs.Answers.{budget, executed};
+ghost use Rattle.jl_app.specs.Answers.{executed};
 ghost use Rattle.jl_app.specs.OwnRuns.{ending_status, ending_text, program_run, steps_line, uncaught_line};
 
 use crate::answer::Answer;
-use crate::lint::{BUDGET, joined};
+use crate::lint::joined;
 use crate::status::Status;
 use jl_ast::Program;
 use jl_heap::Heap;
@@ -27,7 +27,8 @@ pub(crate) fn ending_text(alloc: Global, outcome: &Outcome) -> Result<String, Al
     }
 }
 
-fn ending_status(outcome: &Outcome) -> Status
+/// The status of a run that ended so.
+pub(crate) fn ending_status(outcome: &Outcome) -> Status
     ensures { result ≡ ending_status outcome.now }
 {
     match outcome {
@@ -79,12 +80,12 @@ fn written(alloc: Global, run: &Run) -> Result<Vec<u8>, AllocError>
     )
 }
 
-/// What `run` answers to a script that is accepted as this program.
-pub(crate) fn execute(alloc: Global, program: &Program) -> Result<Answer, AllocError>
-    ensures { IfOk result (λ a. (a.status ≡ (executed (program_run (view program.now) budget)).status)
-        × (a.bytes.items ≡ (executed (program_run (view program.now) budget)).bytes)) }
+/// What `run` answers to a script that is accepted as this program, with at most so many steps.
+pub(crate) fn execute(alloc: Global, program: &Program, budget: u64) -> Result<Answer, AllocError>
+    ensures { IfOk result (λ a. (a.status ≡ (executed (program_run (view program.now) budget) budget).status)
+        × (a.bytes.items ≡ (executed (program_run (view program.now) budget) budget).bytes)) }
 {
-    let run = run(alloc, program, BUDGET, KindSet::all(), &mut Nobody)?;
+    let run = run(alloc, program, budget, KindSet::all(), &mut Nobody)?;
     Ok(Answer {
         status: ending_status(&run.outcome),
         bytes: written(alloc, &run)?,

@@ -1,6 +1,7 @@
 //! The text of the woven script.
 ghost use Rattle.std.specs.Prelude.{◌≡◌, IfOk};
 ghost use Rattle.jl_ast.specs.View.{view};
+ghost use Rattle.jl_op.specs.KindSets.{is_member};
 ghost use Rattle.jl_simulation.specs.Plain.{HasFewIds};
 ghost use Rattle.jl_app.specs.Answers.{instrumented};
 ghost use Rattle.jl_app.specs.WovenText.{woven_text};
@@ -13,12 +14,16 @@ use jl_text::to_utf8;
 use jl_weave::weave;
 use std::alloc::{AllocError, Global};
 
-/// The canonical text of a program that is woven for operations of all kinds, in UTF-16 units.
-pub(crate) fn woven_text(alloc: Global, program: &Program) -> Result<Vec<u16>, AllocError>
+/// The canonical text of a program that is woven for operations of these kinds, in UTF-16 units.
+pub(crate) fn woven_text(
+    alloc: Global,
+    program: &Program,
+    kinds: KindSet,
+) -> Result<Vec<u16>, AllocError>
     requires { HasFewIds (view program.now) }
-    ensures { IfOk result (λ text. text.items ≡ woven_text (view program.now)) }
+    ensures { IfOk result (λ text. text.items ≡ woven_text (is_member kinds) (view program.now)) }
 {
-    let woven = weave(alloc, program, KindSet::all())?;
+    let woven = weave(alloc, program, kinds)?;
     jl_print::print(alloc, &woven)
 }
 
@@ -28,7 +33,7 @@ pub(crate) fn instrument(alloc: Global, program: &Program) -> Result<Answer, All
     ensures { IfOk result (λ a. (a.status ≡ (instrumented (view program.now)).status)
         × (a.bytes.items ≡ (instrumented (view program.now)).bytes)) }
 {
-    let text = woven_text(alloc, program)?;
+    let text = woven_text(alloc, program, KindSet::all())?;
     Ok(Answer {
         status: Status::Clean,
         bytes: to_utf8(alloc, &text)?,

@@ -1,41 +1,58 @@
 //! Laws over the definitions; each is the contract of a function that does nothing.
 ghost use Rattle.std.specs.Prelude.{ℕ, List};
 ghost use Rattle.jl_ast.specs.Tree.{Program};
+ghost use Rattle.jl_op.specs.Chosen.{Kinds};
 ghost use Rattle.jl_text.specs.declared.span.Span.{Span};
 ghost use Rattle.jl_app.specs.inner.Woven.{IsWovenWell};
+ghost use Rattle.jl_app.specs.Laws.{TextStandsAlone};
 ghost use Rattle.jl_app.specs.Accepting.{IsAccepted, OneReading};
 ghost use Rattle.jl_app.specs.Refusals.{NeverBoth, AcceptedOrRefused};
 
 use jl_machine::laws::runs_are_meant;
-use jl_meaning::laws::more_budget;
+use jl_meaning::laws::{kept_hooks, more_budget};
 use jl_quiet::laws::quiet_means;
 use jl_read_back::laws::{woven_keeps_rules, woven_reads_back, woven_text_is_bounded};
 use jl_simulation::laws::accepted_scripts_simulate;
 
-/// No bytes are both accepted and refused.
+/// No bytes are both read as a sound program and refused.
 pub fn never_both()
     ensures { NeverBoth }
 {}
 
-/// All bytes are accepted or refused.
+/// All bytes are read as a sound program, or refused.
 pub fn accepted_or_refused()
     ensures { AcceptedOrRefused }
 {}
 
-/// No bytes are accepted as two programs.
+/// No bytes are read as two programs.
 pub fn one_reading()
     ensures { OneReading }
 {}
 
-/// What an answer of `lint` rests on: the woven script of an accepted one simulates it, its text is short enough for a
-/// shelf and reads back as it, and its run is what it means.
+/// What an answer of `lint` rests on, for every set of kinds: the woven script of an accepted one simulates it, its text
+/// is short enough for a shelf and reads back as it, and its run is what it means.
 pub(crate) fn scripts_are_woven_well()
-    ensures { (bytes : List ℕ) (p : Program Span) → IsAccepted bytes p → IsWovenWell p }
+    ensures { (kinds : Kinds) (bytes : List ℕ) (p : Program Span) → IsAccepted bytes p → IsWovenWell kinds p }
 {
     accepted_scripts_simulate();
     runs_are_meant::<()>();
     more_budget::<jl_text::Span>();
+    kept_hooks::<jl_text::Span>();
     quiet_means::<()>();
+    jl_grammar::laws::one_reading();
+    woven_reads_back();
+    woven_text_is_bounded();
+    woven_keeps_rules();
+}
+
+/// The woven text stands alone: what `exec` answers to the bytes that `instrument` writes is what `trace` answers to the
+/// script, status included, for every accepted script whose woven text comes back from these bytes, where `exec` reads as
+/// many.
+pub fn text_stands_alone()
+    ensures { TextStandsAlone }
+{
+    one_reading();
+    never_both();
     jl_grammar::laws::one_reading();
     woven_reads_back();
     woven_text_is_bounded();

@@ -3,9 +3,11 @@
 
 mod accept;
 mod answer;
+mod asking;
 mod check;
 mod command;
 mod execute;
+mod form;
 mod instrument;
 pub mod laws;
 mod lint;
@@ -18,6 +20,10 @@ mod report;
 mod source;
 mod status;
 mod top;
+mod trace;
+mod tracer;
 
+pub use asking::{WordsRefusal, words};
+pub use command::Command;
 pub use status::Status;
 pub use top::jlint;

@@ -1,5 +1,5 @@
 //! A script that runs woven, with its report.
-ghost use Rattle.std.specs.Prelude.{◌≡◌, ℕ, List as Items, All, [], ◌++◌, length, IfOk, OnOk};
+ghost use Rattle.std.specs.Prelude.{◌≡◌, ◌≤◌, ℕ, List as Items, All, [], ◌++◌, length, IfOk, OnOk};
 ghost use Rattle.std.specs.String.{string_bytes};
 ghost use Rattle.jl_analysis.specs.Rules.{IsRule, all_rules};
 ghost use Rattle.jl_ast.specs.View.{view};
@@ -8,9 +8,11 @@ ghost use Rattle.jl_simulation.specs.Plain.{HasFewIds};
 ghost use Rattle.jl_token.specs.Tokens.{Tokens};
 ghost use Rattle.jl_token.specs.declared.token.Token.{Token as OneToken};
 ghost use Rattle.jl_app.specs.Answers.{Due, IsLinted, IsReported, end_line, hooked_run, linted, lint_status};
+ghost use Rattle.jl_app.specs.Answers.{woven_budget};
+ghost use Rattle.jl_app.specs.Meant.{IsChoice};
 ghost use Rattle.jl_app.specs.OwnRuns.{uncaught_line};
 ghost use Rattle.jl_app.specs.Reporting.{Lines, lines_text};
-ghost use Rattle.jl_app.specs.WovenText.{woven_text};
+ghost use Rattle.jl_app.specs.WovenText.{kinds_of, woven_text};
 
 use crate::accept::Accepted;
 use crate::answer::{Answer, line_only};
@@ -20,21 +22,23 @@ use crate::listing::places;
 use crate::read_back::{Unread, read_back};
 use crate::report::{report, text};
 use crate::status::Status;
-use jl_analysis::{Crowd, Findings};
+use jl_analysis::{Crowd, Findings, RuleSet, needs};
 use jl_ast::Program;
 use jl_machine::{Run, run};
 use jl_map::map_of;
-use jl_op::{KindSet, Observer};
+use jl_op::Observer;
 use jl_port::Shelf;
 use jl_report::Line;
 use jl_value::Outcome;
 use std::alloc::{AllocError, Global};
 
-/// How many steps a script's own run has.
-pub(crate) const BUDGET: u64 = 1_000_000;
-
-/// How many steps the run of a woven script has.
-const WOVEN_BUDGET: u64 = 32 * BUDGET + 64;
+/// The steps of a woven script's run, where the script's own run has so many.
+pub(crate) fn woven_budget(budget: u64) -> u64
+    requires { budget ≤ 1000000000 }
+    ensures { result ≡ woven_budget budget }
+{
+    32 * budget + 64
+}
 
 /// The last line of an answer with a report.
 fn end_line(alloc: Global, run: &Run, reports: usize) -> Result<String, AllocError>
@@ -100,59 +104,70 @@ fn written(alloc: Global, run: &Run, lines: &[Line]) -> Result<Vec<u8>, AllocErr
     )
 }
 
-/// Runs the program that is read from the shelf, and answers what it printed, the report of its operations at the
-/// places of the script, and how it ended.
+/// Runs the program that is read from the shelf, and answers what it printed, the report of its operations by the chosen
+/// rules at the places of the script, and how it ended.
 fn run_answer(
     alloc: Global,
     accepted: &Accepted,
     woven: &Program,
+    budget: u64,
+    rules: RuleSet,
     crowd: &mut Crowd,
 ) -> Result<Answer, AllocError>
     requires few { HasFewIds (view accepted.now.program) }
     requires lexed { (tokens : Items OneToken) × Tokens accepted.now.source tokens }
+    requires budget { budget ≤ 1000000000 }
     requires rules { ⟦<Crowd as Findings>⟧.rules crowd.old ≡ all_rules }
     requires fresh { ⟦<Crowd as Observer>⟧.stands_for crowd.old [] }
-    ensures run { IfOk result (λ a. (lines : Lines) × (hooks : ℕ)
-        × IsReported accepted.now.source (view accepted.now.program) (world_of (hooked_run (view woven.now))).hooks
-        lines hooks
-        × (a.status ≡ (linted (hooked_run (view woven.now)) lines hooks).status)
-        × (a.bytes.items ≡ (linted (hooked_run (view woven.now)) lines hooks).bytes)) }
-    ensures told { OnOk result (⟦<Crowd as Observer>⟧.stands_for crowd.new
-        (world_of (hooked_run (view woven.now))).hooks) }
+    ensures run { (chosen : Items ℕ) → IsChoice rules chosen → IfOk result (λ a. (lines : Lines) × (hooks : ℕ)
+        × IsReported accepted.now.source (view accepted.now.program) chosen
+        (world_of (hooked_run (kinds_of chosen) (view woven.now) (woven_budget budget))).hooks
+        (world_of (hooked_run (kinds_of chosen) (view woven.now) (woven_budget budget))).hooks lines hooks
+        × (a.status ≡ (linted (hooked_run (kinds_of chosen) (view woven.now) (woven_budget budget))
+        (woven_budget budget) lines hooks).status)
+        × (a.bytes.items ≡ (linted (hooked_run (kinds_of chosen) (view woven.now) (woven_budget budget))
+        (woven_budget budget) lines hooks).bytes)) }
+    ensures told { (chosen : Items ℕ) → IsChoice rules chosen → OnOk result (⟦<Crowd as Observer>⟧.stands_for crowd.new
+        (world_of (hooked_run (kinds_of chosen) (view woven.now) (woven_budget budget))).hooks) }
     ensures same_rules { ⟦<Crowd as Findings>⟧.rules crowd.new ≡ ⟦<Crowd as Findings>⟧.rules crowd.old }
 {
     let places = places(alloc, &map_of(alloc, &accepted.program)?)?;
-    let run = run(alloc, woven, WOVEN_BUDGET, KindSet::all(), crowd)?;
-    let lines = report(alloc, &accepted.source, &places, crowd)?;
+    let run = run(alloc, woven, woven_budget(budget), needs(rules), crowd)?;
+    let lines = report(alloc, &accepted.source, &places, rules, crowd)?;
     Ok(Answer {
         status: lint_status(&run.outcome, &lines),
         bytes: written(alloc, &run, &lines)?,
     })
 }
 
-/// What `lint` answers to an accepted script: it hands the shelf the text of the woven script, and runs the program
-/// that it reads from what the shelf lends.
+/// What `lint` answers to an accepted script, with this budget and these rules: it hands the shelf the text of the
+/// script that is woven for the kinds that the rules look at, and runs the program that it reads from what the shelf
+/// lends.
 pub(crate) fn lint<H: Shelf>(
     alloc: Global,
     accepted: &Accepted,
+    budget: u64,
+    rules: RuleSet,
     shelf: &mut H,
     crowd: &mut Crowd,
 ) -> Result<Answer, AllocError>
     requires few { HasFewIds (view accepted.now.program) }
     requires lexed { (tokens : Items OneToken) × Tokens accepted.now.source tokens }
+    requires budget { budget ≤ 1000000000 }
     requires rules { ⟦<Crowd as Findings>⟧.rules crowd.old ≡ all_rules }
     requires fresh { ⟦<Crowd as Observer>⟧.stands_for crowd.old [] }
-    ensures handed { OnOk result (H.handed shelf.new ≡ woven_text (view accepted.now.program)) }
-    ensures due { IfOk result (λ a. (due : Due)
-        × IsLinted accepted.now.source (view accepted.now.program) (H.lent shelf.new) due
+    ensures handed { (chosen : Items ℕ) → IsChoice rules chosen
+        → OnOk result (H.handed shelf.new ≡ woven_text (kinds_of chosen) (view accepted.now.program)) }
+    ensures due { (chosen : Items ℕ) → IsChoice rules chosen → IfOk result (λ a. (due : Due)
+        × IsLinted accepted.now.source (view accepted.now.program) budget chosen (H.lent shelf.new) due
         × (a.status ≡ due.status)
         × (a.bytes.items ≡ due.bytes)
         × ⟦<Crowd as Observer>⟧.stands_for crowd.new due.told) }
     ensures same_rules { ⟦<Crowd as Findings>⟧.rules crowd.new ≡ ⟦<Crowd as Findings>⟧.rules crowd.old }
 {
-    shelf.put(woven_text(alloc, &accepted.program)?);
+    shelf.put(woven_text(alloc, &accepted.program, needs(rules))?);
     match read_back(alloc, shelf.lend()) {
-        Ok(woven) => run_answer(alloc, accepted, &woven, crowd),
+        Ok(woven) => run_answer(alloc, accepted, &woven, budget, rules, crowd),
         Err(Unread::NoProgram) => line_only(alloc, Status::Refused, "refused ReadBack"),
         Err(Unread::NoMemory) => Err(AllocError),
     }

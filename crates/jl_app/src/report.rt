@@ -5,6 +5,7 @@ ghost use Rattle.jl_report.specs.Off.{off_by};
 ghost use Rattle.jl_token.specs.Tokens.{Tokens, Comments};
 ghost use Rattle.jl_token.specs.declared.token.Comment.{Comment as OneComment};
 ghost use Rattle.jl_token.specs.declared.token.Token.{Token as OneToken};
+ghost use Rattle.jl_app.specs.Meant.{IsChoice};
 ghost use Rattle.jl_app.specs.Reporting.{IsReport, lines_text, positions};
 
 use crate::source::Source;
@@ -14,23 +15,25 @@ use jl_op::Observer;
 use jl_report::{Line, Off, line_text, off, report_at};
 use std::alloc::{AllocError, Global};
 
-/// The report of what the checkers of all rules found, but for what the comments of the source switch off. `places` has
-/// where the part of the script begins that has the id 1, then that of the id 2, and so on.
+/// The report of what the checkers of the chosen rules found, but for what the comments of the source switch off.
+/// `places` has where the part of the script begins that has the id 1, then that of the id 2, and so on.
 pub(crate) fn report(
     alloc: Global,
     source: &Source,
     places: &[u32],
+    rules: RuleSet,
     crowd: &Crowd,
 ) -> Result<Vec<Line>, AllocError>
     requires lexed { (tokens : Items OneToken) × Tokens source.now tokens }
     requires rules { ⟦<Crowd as Findings>⟧.rules crowd.now ≡ all_rules }
-    ensures report { IfOk result (λ lines. (told : Items Operation) → ⟦<Crowd as Observer>⟧.stands_for crowd.now told
-        → length told < 2 ^ 64 → IsReport source.now places.now told lines.items) }
+    ensures report { (chosen : Items ℕ) → IsChoice rules chosen → IfOk result (λ lines. (told : Items Operation)
+        → ⟦<Crowd as Observer>⟧.stands_for crowd.now told → length told < 2 ^ 64
+        → IsReport source.now places.now chosen told lines.items) }
     ensures rules { IfOk result (λ lines. All (λ x. IsRule x.rule) lines.items) }
 {
     let positions = positions(alloc, source, places)?;
     let off = switched_off(alloc, source)?;
-    report_at(alloc, crowd, &positions, RuleSet::all(), &off)
+    report_at(alloc, crowd, &positions, rules, &off)
 }
 
 /// The lines and the columns of places.

@@ -1,4 +1,4 @@
-ghost use Rattle.std.specs.Prelude.{◌≡◌, [], ℕ, List, Some, IfOk, IsErrOf};
+ghost use Rattle.std.specs.Prelude.{◌≡◌, [], ℕ, List, None, Some, IfOk, IsErrOf};
 ghost use Rattle.jl_analysis.specs.Rules.{all_rules};
 ghost use Rattle.jl_ast.specs.Tree.{Program as Tree};
 ghost use Rattle.jl_port.specs.Count.{HasRisen};
@@ -6,19 +6,17 @@ ghost use Rattle.jl_text.specs.Encoding.{units_of};
 ghost use Rattle.jl_text.specs.declared.span.Span.{Span};
 ghost use Rattle.jl_app.specs.Accepting.{IsAccepted};
 ghost use Rattle.jl_app.specs.Answers.{Due, IsDue};
-ghost use Rattle.jl_app.specs.Commands.{texts, words_of};
+ghost use Rattle.jl_app.specs.Asked.{Asked, asked, lint, texts};
 ghost use Rattle.jl_app.specs.Endings.{EndsWith, HasAnswered};
 ghost use Rattle.jl_app.specs.Headline.{IsAboutScript};
-ghost use Rattle.jl_app.specs.declared.command.Command.{Command as Named};
-ghost use Rattle.jl_app.specs.declared.command.Command.TheVariants as named;
 ghost use Rattle.jl_app.specs.declared.top.Unanswered.TheVariants.{NoMemory};
 
-use crate::accept::MOST_BYTES;
 use crate::answer::{Answer, line_only, refused, respond};
-use crate::command::Command;
+use crate::asking::{WordsRefusal, words as asked};
 use crate::laws::{never_both, one_reading, scripts_are_woven_well};
 use crate::refusal::Refusal;
 use crate::status::Status;
+use jl_analysis::laws::needed_is_enough;
 use jl_analysis::{Crowd, Findings};
 use jl_op::Observer;
 use jl_port::{ReadRefusal, Shelf, Sink, Source, read_all, write_all};
@@ -58,18 +56,23 @@ fn due<S: Source, H: Shelf>(
         × (a.status ≡ due.status)
         × (a.bytes.items ≡ due.bytes)
         × ⟦<Crowd as Observer>⟧.stands_for crowd.new due.told) }
-    ensures fault { IsErrOf result Unanswered.ReadFault → ((c : Named) × (texts words.now ≡ words_of c))
+    ensures fault { IsErrOf result Unanswered.ReadFault → ((a : Asked) × (asked (texts words.now) ≡ Some a))
         × HasRisen (S.faults source.old) (S.faults source.new)
         × (shelf.new ≡ shelf.old)
         × ⟦<Crowd as Observer>⟧.stands_for crowd.new [] }
-    ensures shelf { (texts words.now ≡ words_of named.Lint → ⊥) → shelf.new ≡ shelf.old }
-    ensures unread { ((c : Named) → texts words.now ≡ words_of c → ⊥) → source.new ≡ source.old }
+    ensures shelf { ((budget : ℕ) (chosen : List ℕ) → asked (texts words.now) ≡ Some (lint budget chosen) → ⊥)
+        → shelf.new ≡ shelf.old }
+    ensures unread { asked (texts words.now) ≡ None → source.new ≡ source.old }
     ensures same_rules { ⟦<Crowd as Findings>⟧.rules crowd.new ≡ ⟦<Crowd as Findings>⟧.rules crowd.old }
 {
-    let Some(command) = Command::of(words) else {
-        return Ok(line_only(alloc, Status::BadWords, "bad words")?);
+    let command = match asked(alloc, words) {
+        Ok(command) => command,
+        Err(WordsRefusal::BadWords) => {
+            return Ok(line_only(alloc, Status::BadWords, "bad words")?);
+        }
+        Err(WordsRefusal::NoMemory) => return Err(Unanswered::NoMemory),
     };
-    match read_all(alloc, source, MOST_BYTES) {
+    match read_all(alloc, source, command.form().most_bytes()) {
         Ok(bytes) => Ok(respond(alloc, command, &bytes, shelf, crowd)?),
         Err(ReadRefusal::TooLong) => Ok(refused(alloc, &Refusal::TooLong)?),
         Err(ReadRefusal::ReadFault) => Err(Unanswered::ReadFault),
@@ -81,10 +84,11 @@ fn due<S: Source, H: Shelf>(
 /// answer are made before the first is written.
 ///
 /// `check` tells whether a script is accepted, `print` writes its canonical text, `instrument` that of the woven
-/// script,
-/// `map` what the ids in that stand for, and `run` runs the script as it stands. `lint` hands the shelf the text that
-/// `instrument` writes, runs the program that it reads from what the shelf lends, and reports. No other command touches
-/// the shelf, and neither does a refusal that comes before.
+/// script, `map` what the ids in that stand for, `run` runs the script as it stands, and `trace` tells its operations
+/// as its woven script runs. `exec` does so of a woven text, such as `instrument` writes, which is the source then.
+/// `lint` hands the shelf the text of the script that is woven for the kinds of operations that the chosen rules look
+/// at, runs the program that it reads from what the shelf lends, and reports. No other command touches the shelf, and
+/// neither does a refusal that comes before.
 pub fn jlint<S: Source, K: Sink, H: Shelf>(
     alloc: Global,
     words: &[&str],
@@ -109,9 +113,10 @@ pub fn jlint<S: Source, K: Sink, H: Shelf>(
       knows = λ told. ⟦<Crowd as Observer>⟧.stands_for crowd.new told;
     }) result }
     // For a source that tells its bytes and a shelf that lends what it was handed, the answer to an accepted script is
-    // about the script's own run.
-    ensures headline { (bytes : List ℕ) (p : Tree Span) → S.left source.old ≡ Some bytes → IsAccepted bytes p
-        → texts words.now ≡ words_of named.Lint → H.lent shelf.new ≡ H.handed shelf.new → HasAnswered result
+    // about the script's own run, for every budget and every choice of rules.
+    ensures headline { (bytes : List ℕ) (p : Tree Span) (budget : ℕ) (chosen : List ℕ)
+        → S.left source.old ≡ Some bytes → IsAccepted bytes p → asked (texts words.now) ≡ Some (lint budget chosen)
+        → H.lent shelf.new ≡ H.handed shelf.new → HasAnswered result
         → IsAboutScript (record {
           words = texts words.now;
           held = S.left source.old;
@@ -124,14 +129,16 @@ pub fn jlint<S: Source, K: Sink, H: Shelf>(
             same = shelf.new ≡ shelf.old;
           };
           knows = λ told. ⟦<Crowd as Observer>⟧.stands_for crowd.new told;
-        }) (units_of bytes) p result }
-    ensures unread { ((c : Named) → texts words.now ≡ words_of c → ⊥) → source.new ≡ source.old }
-    ensures shelf { (texts words.now ≡ words_of named.Lint → ⊥) → shelf.new ≡ shelf.old }
+        }) (units_of bytes) p budget chosen result }
+    ensures unread { asked (texts words.now) ≡ None → source.new ≡ source.old }
+    ensures shelf { ((budget : ℕ) (chosen : List ℕ) → asked (texts words.now) ≡ Some (lint budget chosen) → ⊥)
+        → shelf.new ≡ shelf.old }
     ensures same_rules { ⟦<Crowd as Findings>⟧.rules crowd.new ≡ ⟦<Crowd as Findings>⟧.rules crowd.old }
 {
     one_reading();
     never_both();
     scripts_are_woven_well();
+    needed_is_enough();
     let answer = match due(alloc, words, source, shelf, crowd) {
         Ok(answer) => answer,
         Err(Unanswered::ReadFault) => return Status::ReadFault,

@@ -5,24 +5,23 @@ use Rattle.jl_ast.specs.Tree.{Program}
 use Rattle.jl_effects.specs.Growing.{IsLonger}
 use Rattle.jl_effects.specs.Matching.{Simulates}
 use Rattle.jl_effects.specs.Traces.{with_state, without_operations}
-use Rattle.jl_op.specs.Chosen.{every_kind, is_kept}
+use Rattle.jl_op.specs.Chosen.{is_kept, Kinds}
 use Rattle.jl_simulation.specs.Weaving.{woven_program}
 use Rattle.jl_text.specs.declared.span.Span.{Span}
-use Rattle.jl_app.specs.Answers.{woven_budget}
 use Rattle.jl_app.specs.Headline.{own_run, woven_mean, woven_run}
 use Rattle.jl_app.specs.ReadBack.{IsReadBack}
 use Rattle.jl_app.specs.WovenText.{woven_text}
 
--- the text of the woven script reads back, and as nothing else
-pub record ReadsBackAsWoven (p : Program Span) : Type 0 where
+-- the text of the script that is woven for these kinds reads back, and as nothing else
+pub record ReadsBackAsWoven (kinds : Kinds) (p : Program Span) : Type 0 where
   pub program : Program Span
-  pub read : IsReadBack (woven_text p) program
-  pub same : (q : Program Span) → IsReadBack (woven_text p) q → without_spans q ≡ woven_program every_kind p
+  pub read : IsReadBack (woven_text kinds p) program
+  pub same : (q : Program Span) → IsReadBack (woven_text kinds p) q → without_spans q ≡ woven_program kinds p
 
--- the woven script simulates the script; its text reads back; its run is what it means; and the script's own run goes
--- on as long as there are steps
-pub record IsWovenWell (p : Program Span) : Type 0 where
-  pub simulates : Simulates (is_kept every_kind) (own_run p) (woven_mean p)
-  pub back : ReadsBackAsWoven p
-  pub runs : woven_run p ≡ with_state without_operations (woven_mean p woven_budget)
+-- the woven script simulates the script; its text reads back; its run is what it means; and the script's own run goes on
+-- as long as there are steps
+pub record IsWovenWell (kinds : Kinds) (p : Program Span) : Type 0 where
+  pub simulates : Simulates (is_kept kinds) (own_run p) (woven_mean kinds p)
+  pub back : ReadsBackAsWoven kinds p
+  pub runs : (n : ℕ) → woven_run kinds p n ≡ with_state without_operations (woven_mean kinds p n)
   pub longer : (n d : ℕ) → IsLonger d (own_run p n) (own_run p (n + d))

@@ -1,15 +1,28 @@
-use Rattle.std.proofs.Common.{◌∙◌, ap, sym, subst, refl}
+use Rattle.std.proofs.Common.{◌∙◌, ◌≤◌, ap, length, sym, subst, refl}
 use Rattle.std.proofs.lemmas.Result.{IfOk-weaker}
 use Rattle.jl_ast.specs.View.{view}
+use Rattle.jl_op.specs.Chosen.{every_kind}
+use Rattle.jl_simulation.specs.Weaving.{woven_program}
 use Rattle.jl_text.specs.Encoding.{units_of}
 use Rattle.jl_token.specs.Tokens.{Tokens}
-use Rattle.jl_app.specs.Answers.{budget, canonical_text, counted, ended, executed, functions_line, instrumented, listed}
-use Rattle.jl_app.specs.Answers.{listed_map, refused, refused_only, text, written}
+use Rattle.jl_app.specs.Answers.{canonical_text, counted, ended, ended_alone, ended_woven, executed, functions_line}
+use Rattle.jl_app.specs.Answers.{instrumented, listed, listed_map, refused_only, text, traced, woven_budget, written}
+use Rattle.jl_app.specs.Asked as asked
+use Rattle.jl_app.specs.Forms.{most_bytes}
+use Rattle.jl_app.specs.Meant.{Means, means_lint}
 use Rattle.jl_app.specs.OwnRuns.{program_run}
 use Rattle.jl_app.specs.Refusals.{refusal_words}
-use Rattle.jl_app.specs.declared.command.Command.TheVariants as commands
-use Rattle.jl_app.proofs.Answering.{answers, both_ok, same_source}
+use Rattle.jl_app.specs.declared.command.Command.{Command}
+use Rattle.jl_app.proofs.Answering.{answers, asked_check, asked_exec, asked_instrument, asked_lint, asked_map}
+use Rattle.jl_app.proofs.Answering.{asked_print, asked_run, asked_trace, both_ok, refuses, same_form}
+use Rattle.jl_app.proofs.Answering.{same_source}
 use Rattle.jl_app.proofs.answer.respond.Goals as goal
+
+pub accept-requires : goal.accept-requires
+accept-requires g c =
+    let meant = c.requires.meant in
+    subst (λ f. length c.args.bytes.now ≤ most_bytes f) (sym (c.form.ensures ∙ same_form c.args.command meant.0 meant.1))
+    (c.requires.small meant.0 meant.1)
 
 pub lint-requires-clause-few : goal.lint-requires-clause-few
 lint-requires-clause-few g c = c.in-Ok.ensures.few
@@ -19,47 +32,84 @@ lint-requires-clause-lexed g c =
     let is = c.in-Ok.ensures.accepted in
     (is.0.tokens, subst (λ us. Tokens us is.0.tokens) (sym is.1) is.0.lexed)
 
+pub lint-requires-clause-budget : goal.lint-requires-clause-budget
+lint-requires-clause-budget g c =
+    let meant = c.requires.meant in
+    (asked_lint meant.0 (subst (λ (x : Command). Means x meant.0) c.in-Lint.is meant.1)).2.1
+
 pub instrument-requires : goal.instrument-requires
 instrument-requires g c = c.in-Ok.ensures.few
 
 pub list_map-requires : goal.list_map-requires
 list_map-requires g c = c.in-Ok.ensures.few
 
+pub trace-requires-clause-few : goal.trace-requires-clause-few
+trace-requires-clause-few g c = c.in-Ok.ensures.few
+
+pub trace-requires-clause-budget : goal.trace-requires-clause-budget
+trace-requires-clause-budget g c =
+    let meant = c.requires.meant in
+    (asked_trace meant.0 (subst (λ (x : Command). Means x meant.0) c.in-Trace.is meant.1)).1
+
 pub returns-in-Err-Refused-clause-due : goal.returns-in-Err-Refused-clause-due
-returns-in-Err-Refused-clause-due g c =
+returns-in-Err-Refused-clause-due g c = λ a means.
     let cause = c.in-Err-Refused.refusal in
     let why = rw c.in-Err-Refused.field-0-is at c.in-Err-Refused.ensures.refused in
     let said = rw c.in-Err-Refused.field-0-is at c.refused.ensures in
     IfOk-weaker c.refused.result _ _
-    (λ a answered. (
+    (λ given answered. (
       refused_only (refusal_words cause),
-      refused cause why refl,
+      refuses a c.form.result cause (c.form.ensures ∙ same_form c.args.command a means) why refl,
       answered.0,
       answered.1,
       c.requires.fresh,
     )) said
 
 pub returns-in-Lint-clause-due : goal.returns-in-Lint-clause-due
-returns-in-Lint-clause-due g c =
+returns-in-Lint-clause-due g c = λ a means.
     let p = view c.in-Ok.accepted.program in
-    let is = c.in-Ok.ensures.accepted in
+    let read = c.in-Ok.ensures.accepted in
+    let is = asked_lint a (subst (λ (x : Command). Means x a) c.in-Lint.is means) in
     both_ok c.lint.result _ _
-    (λ a due handed. (
+    (λ given due handed. (
       due.0,
-      answers _ commands.Lint p c.in-Lint.is is.0 (handed, same_source _ _ is.1 due.1),
+      answers a (asked.lint c.in-Lint.budget is.0) c.form.result p is.1 (c.form.ensures ∙ same_form c.args.command a means) read.0
+          (handed, same_source _ _ read.1 due.1),
       due.2,
       due.3,
       due.4,
     ))
-    c.lint.ensures.due c.lint.ensures.handed
+    (c.lint.ensures.due is.0 is.3) (c.lint.ensures.handed is.0 is.3)
+
+pub returns-in-Lint-clause-shelf : goal.returns-in-Lint-clause-shelf
+returns-in-Lint-clause-shelf g c = λ other.
+    let meant = c.requires.meant in
+    let is = asked_lint meant.0 (subst (λ (x : Command). Means x meant.0) c.in-Lint.is meant.1) in
+    absurd (other c.in-Lint.budget is.0 (subst (λ (x : Command). Means x (asked.lint c.in-Lint.budget is.0))
+    (sym c.in-Lint.is) (means_lint c.in-Lint.budget c.in-Lint.rules is.0 is.2 is.3)))
+
+pub returns-in-Run-clause-due : goal.returns-in-Run-clause-due
+returns-in-Run-clause-due g c = λ a means.
+    let p = view c.in-Ok.accepted.program in
+    let is = asked_run a (subst (λ (x : Command). Means x a) c.in-Run.is means) in
+    IfOk-weaker c.execute.result _ _
+    (λ given answered. (
+      executed (program_run p c.in-Run.budget) c.in-Run.budget,
+      answers a (asked.run c.in-Run.budget) c.form.result p is (c.form.ensures ∙ same_form c.args.command a means) c.in-Ok.ensures.accepted.0 (refl, ended),
+      answered.0,
+      answered.1,
+      c.requires.fresh,
+    ))
+    c.execute.ensures
 
 pub returns-in-Check-clause-due : goal.returns-in-Check-clause-due
-returns-in-Check-clause-due g c =
+returns-in-Check-clause-due g c = λ a means.
     let p = view c.in-Ok.accepted.program in
+    let is = asked_check a (subst (λ (x : Command). Means x a) c.in-Check.is means) in
     IfOk-weaker c.check.result _ _
-    (λ a answered. (
+    (λ given answered. (
       functions_line p,
-      answers _ commands.Check p c.in-Check.is c.in-Ok.ensures.accepted.0 (refl, counted),
+      answers a asked.check c.form.result p is (c.form.ensures ∙ same_form c.args.command a means) c.in-Ok.ensures.accepted.0 (refl, counted),
       answered.0,
       answered.1,
       c.requires.fresh,
@@ -67,12 +117,13 @@ returns-in-Check-clause-due g c =
     c.check.ensures
 
 pub returns-in-Print-clause-due : goal.returns-in-Print-clause-due
-returns-in-Print-clause-due g c =
+returns-in-Print-clause-due g c = λ a means.
     let p = view c.in-Ok.accepted.program in
+    let is = asked_print a (subst (λ (x : Command). Means x a) c.in-Print.is means) in
     IfOk-weaker c.print.result _ _
-    (λ a answered. (
+    (λ given answered. (
       canonical_text p,
-      answers _ commands.Print p c.in-Print.is c.in-Ok.ensures.accepted.0 (refl, written),
+      answers a asked.print c.form.result p is (c.form.ensures ∙ same_form c.args.command a means) c.in-Ok.ensures.accepted.0 (refl, written),
       answered.0,
       answered.1,
       c.requires.fresh,
@@ -80,12 +131,13 @@ returns-in-Print-clause-due g c =
     c.print.ensures
 
 pub returns-in-Instrument-clause-due : goal.returns-in-Instrument-clause-due
-returns-in-Instrument-clause-due g c =
+returns-in-Instrument-clause-due g c = λ a means.
     let p = view c.in-Ok.accepted.program in
+    let is = asked_instrument a (subst (λ (x : Command). Means x a) c.in-Instrument.is means) in
     IfOk-weaker c.instrument.result _ _
-    (λ a answered. (
+    (λ given answered. (
       instrumented p,
-      answers _ commands.Instrument p c.in-Instrument.is c.in-Ok.ensures.accepted.0 (refl, text),
+      answers a asked.instrument c.form.result p is (c.form.ensures ∙ same_form c.args.command a means) c.in-Ok.ensures.accepted.0 (refl, text),
       answered.0,
       answered.1,
       c.requires.fresh,
@@ -93,30 +145,44 @@ returns-in-Instrument-clause-due g c =
     c.instrument.ensures
 
 pub returns-in-Map-clause-due : goal.returns-in-Map-clause-due
-returns-in-Map-clause-due g c =
+returns-in-Map-clause-due g c = λ a means.
     let p = view c.in-Ok.accepted.program in
-    let is = c.in-Ok.ensures.accepted in
+    let is = asked_map a (subst (λ (x : Command). Means x a) c.in-Map.is means) in
     let units = units_of c.args.bytes.now in
     IfOk-weaker c.list_map.result _ _
-    (λ a answered. (
+    (λ given answered. (
       listed_map units p,
-      answers _ commands.Map p c.in-Map.is is.0 (refl, listed),
+      answers a asked.map_of_ids c.form.result p is (c.form.ensures ∙ same_form c.args.command a means) c.in-Ok.ensures.accepted.0 (refl, listed),
       answered.0,
-      answered.1 ∙ ap (λ us. (listed_map us p).bytes) is.1,
+      answered.1 ∙ ap (λ us. (listed_map us p).bytes) c.in-Ok.ensures.accepted.1,
       c.requires.fresh,
     ))
     c.list_map.ensures
 
-pub returns-clause-due : goal.returns-clause-due
-returns-clause-due g c =
+pub returns-in-Trace-clause-due : goal.returns-in-Trace-clause-due
+returns-in-Trace-clause-due g c = λ a means.
     let p = view c.in-Ok.accepted.program in
-    let due = executed (program_run p budget) in
-    IfOk-weaker c.execute.result _ _
-    (λ a answered. (
-      due,
-      answers _ commands.Run p c.in-Run.is c.in-Ok.ensures.accepted.0 (refl, ended),
+    let is = asked_trace a (subst (λ (x : Command). Means x a) c.in-Trace.is means) in
+    IfOk-weaker c.trace.result _ _
+    (λ given answered. (
+      traced (program_run (woven_program every_kind p) (woven_budget c.in-Trace.budget)) (woven_budget c.in-Trace.budget),
+      answers a (asked.trace c.in-Trace.budget) c.form.result p is.0 (c.form.ensures ∙ same_form c.args.command a means) c.in-Ok.ensures.accepted.0 (refl, ended_woven),
       answered.0,
       answered.1,
       c.requires.fresh,
     ))
-    c.execute.ensures
+    c.trace.ensures
+
+pub returns-clause-due : goal.returns-clause-due
+returns-clause-due g c = λ a means.
+    let p = view c.in-Ok.accepted.program in
+    let is = asked_exec a (subst (λ (x : Command). Means x a) c.in-Exec.is means) in
+    IfOk-weaker c.trace_alone.result _ _
+    (λ given answered. (
+      traced (program_run p c.in-Exec.budget) c.in-Exec.budget,
+      answers a (asked.exec c.in-Exec.budget) c.form.result p is (c.form.ensures ∙ same_form c.args.command a means) c.in-Ok.ensures.accepted.0 (refl, ended_alone),
+      answered.0,
+      answered.1,
+      c.requires.fresh,
+    ))
+    c.trace_alone.ensures

@@ -1,6 +1,5 @@
-use Rattle.jl_grammar.proofs.OneAccepted.{one_accepted}
-use Rattle.jl_app.specs.Accepting.{is_legal}
+use Rattle.jl_app.proofs.Refusing.{one_read}
 use Rattle.jl_app.proofs.laws.one_reading.Goals as goal
 
 pub returns : goal.returns
-returns c = one_accepted is_legal
+returns c = one_read

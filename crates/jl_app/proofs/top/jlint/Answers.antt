@@ -1,6 +1,7 @@
 use Rattle.std.proofs.Common.{◌∙◌, refl, ap, Err}
 use Rattle.jl_app.specs.Endings.{read_failed, no_memory}
 use Rattle.jl_app.proofs.Endings.{ends_answered, ends_short}
+use Rattle.jl_app.specs.WovenText.{kinds_of}
 use Rattle.jl_app.proofs.Headline.{headline}
 use Rattle.jl_app.proofs.top.jlint.Goals as goal
 
@@ -26,9 +27,9 @@ returns-clause-ends g c =
     failed.fault failed.proper failed.front due.4
 
 pub returns-in-Ok-write_all-clause-headline : goal.returns-in-Ok-write_all-clause-headline
-returns-in-Ok-write_all-clause-headline g c = λ bytes p held is words lent answers.
+returns-in-Ok-write_all-clause-headline g c = λ bytes p budget chosen held is words lent answers.
     let due = c.in-Ok.ensures.due in
-    headline c.one_reading.ensures c.never_both.ensures
+    headline c.needed_is_enough.ensures c.one_reading.ensures c.never_both.ensures
     (ends_answered due.0 c.in-Ok.answer.status c.deref.result.now due.2 (c.deref.ensures.value ∙ due.3) due.1
     c.in-Ok-write_all.ensures.all due.4)
-    bytes p (c.scripts_are_woven_well.ensures bytes p is) held is words lent answers
+    bytes p budget chosen (c.scripts_are_woven_well.ensures (kinds_of chosen) bytes p is) held is words lent answers

@@ -1,0 +1,73 @@
+-- The lines of a trace grow by one, and the answer that is made of them is the one that is due.
+use Rattle.std.proofs.Common.{◌≡◌, ◌∙◌, ◌++◌, ◌+◌, ◌<◌, ◌≤◌, ◌^◌, List, [], ◌∷◌, ap, sym, subst, true, ℕ, length, arith}
+use Rattle.std.proofs.Common.{append_assoc, append-nil, length-append}
+use Rattle.jl_ast.specs.Tree.{Program}
+use Rattle.jl_effects.specs.Running.{state_of as world_of, steps_taken}
+use Rattle.jl_machine.specs.Runs.{ending_of, hooked_mean, IsRun}
+use Rattle.jl_machine.specs.declared.ending.Run.{Run}
+use Rattle.jl_meaning.specs.Mean as mean
+use Rattle.jl_meaning.specs.Store.{Store}
+use Rattle.jl_op.specs.KindSets.{is_member}
+use Rattle.jl_op.specs.Operations.{Operation}
+use Rattle.jl_op.specs.Trace.{op_line}
+use Rattle.jl_op.specs.declared.kind.OpKind.{OpKind}
+use Rattle.jl_op.specs.declared.kind_set.KindSet.{KindSet}
+use Rattle.jl_text.specs.Encoding.{bytes_of}
+use Rattle.jl_text.specs.declared.span.Span.{Span}
+use Rattle.jl_app.specs.Answers.{traced}
+use Rattle.jl_app.specs.OwnRuns.{ending_status, program_run, uncaught_line}
+use Rattle.jl_app.specs.Tracing.{hooks_line, trace_line, trace_lines}
+use Rattle.jl_app.specs.declared.status.Status.{Status}
+use Rattle.jl_app.proofs.Executing.{of_all_kinds}
+
+pub trace_lines-push : (told : List Operation) (o : Operation)
+    → trace_lines (told ++ o ∷ []) ≡ trace_lines told ++ trace_line o
+trace_lines-push [] o = append-nil (trace_line o)
+trace_lines-push (x ∷ told) o =
+    ap (λ text. trace_line x ++ text) (trace_lines-push told o)
+    ∙ sym (append_assoc (trace_line x) (trace_lines told) (trace_line o))
+
+-- each line has its LF at least
+pub few_told : (told : List Operation) → length told ≤ length (trace_lines told)
+few_told [] = omega arith
+few_told (o ∷ told) =
+    omega (
+      arith,
+      few_told told,
+      length-append (trace_line o) (trace_lines told),
+      length-append (bytes_of (op_line o.0 o.1)) (10 ∷ []),
+    )
+
+module _ {O : Type 0} {stands_for : O → List Operation → Type 0} {o : O} {r : Run} (budget : ℕ) (ran : mean.Run)
+    (is : IsRun stands_for [] budget ran r o) (lines : List ℕ) (told : lines ≡ trace_lines (world_of ran).hooks)
+    (few : length lines < 2 ^ 64) where
+  counted : r.hooks ≡ length (world_of ran).hooks
+  counted = is.hooks (omega (arith, ap length told, few_told (world_of ran).hooks))
+
+  -- the bytes of the answer
+  same_traced : (bytes : List ℕ)
+      → bytes ≡ lines ++ (uncaught_line r.store.heap r.outcome ++ hooks_line r.outcome r.steps r.hooks)
+      → bytes ≡ (traced ran budget).bytes
+  same_traced bytes b =
+      b ∙ ap (λ x. x ++ (uncaught_line r.store.heap r.outcome ++ hooks_line r.outcome r.steps r.hooks)) told
+      ∙ ap (λ (s : Store). trace_lines (world_of ran).hooks ++ (uncaught_line s.heap r.outcome
+      ++ hooks_line r.outcome r.steps r.hooks)) is.store
+      ∙ ap (λ e. trace_lines (world_of ran).hooks ++ (uncaught_line (world_of ran).store.heap e
+      ++ hooks_line e r.steps r.hooks)) is.outcome
+      ∙ ap (λ n. trace_lines (world_of ran).hooks ++ (uncaught_line (world_of ran).store.heap (ending_of ran)
+      ++ hooks_line (ending_of ran) n r.hooks)) is.steps
+      ∙ ap (λ n. trace_lines (world_of ran).hooks ++ (uncaught_line (world_of ran).store.heap (ending_of ran)
+      ++ hooks_line (ending_of ran) (steps_taken budget ran) n)) counted
+
+  pub is_traced : (answer : Status) (bytes : List ℕ) → answer ≡ ending_status r.outcome
+      → bytes ≡ lines ++ (uncaught_line r.store.heap r.outcome ++ hooks_line r.outcome r.steps r.hooks)
+      → (answer ≡ (traced ran budget).status) × (bytes ≡ (traced ran budget).bytes)
+  is_traced answer bytes st b = (st ∙ ap ending_status is.outcome, same_traced bytes b)
+
+-- a run of a program that was told of all kinds
+pub all_kinds : {O : Type 0} {stands_for : O → List Operation → Type 0} {o : O} {r : Run} (kinds : KindSet)
+    → ((kind : OpKind) → is_member kinds kind ≡ true) → (p : Program Span) (budget : ℕ)
+    → IsRun stands_for [] budget (hooked_mean (is_member kinds) p budget) r o
+    → IsRun stands_for [] budget (program_run p budget) r o
+all_kinds {stands_for = stands_for} {o = o} {r = r} kinds all p budget is =
+    subst (λ ran. IsRun stands_for [] budget ran r o) (of_all_kinds kinds all p budget) is

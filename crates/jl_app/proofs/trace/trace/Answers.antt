@@ -1,0 +1,21 @@
+use Rattle.std.proofs.Common.{◌∙◌, ap, sym, fst}
+use mathlib.Core.Path.{fun_ext}
+use Rattle.std.proofs.lemmas.Result.{IfOk-weaker}
+use Rattle.jl_ast.specs.View.{view}
+use Rattle.jl_op.specs.Chosen.{every_kind}
+use Rattle.jl_simulation.specs.Weaving.{woven_program}
+use Rattle.jl_app.specs.Answers.{traced, woven_budget}
+use Rattle.jl_app.proofs.OwnRun.{same_program_run}
+use Rattle.jl_app.proofs.StandsAlone.{of_all_woven, same_traced_run}
+use Rattle.jl_app.proofs.trace.trace.Goals as goal
+
+pub returns : goal.returns
+returns c =
+    let p = view c.args.program.now in
+    let q = view c.in_ok-woven.woven in
+    let same = same_program_run p q (woven_budget c.args.budget)
+    (c.in_ok-woven.ensures ∙ of_all_woven c.all.result c.all.ensures p) in
+    IfOk-weaker c.trace_alone.result _ _
+    (λ a answered. same_traced_run q (woven_program every_kind p) c.woven_budget.result c.args.budget
+    c.woven_budget.ensures same answered)
+    c.trace_alone.ensures
