@@ -7,13 +7,14 @@ use Rattle.jl_text.specs.Encoding.{units_of}
 use Rattle.jl_text.specs.declared.span.Span.{Span}
 use Rattle.jl_app.specs.Accepting.{IsRead}
 use Rattle.jl_app.specs.Answers.{Due, IsAnswered, IsLinted, OnShelf, Responds, accepted, refused, refused_only}
-use Rattle.jl_app.specs.Asked.{Asked, check, exec, instrument, lint, map_of_ids, most_budget, print, run, trace}
-use Rattle.jl_app.specs.Forms.{form_of}
-use Rattle.jl_app.specs.Meant.{IsChoice, Means, form_of_command, means_check, means_exec, means_instrument, means_lint, means_map}
-use Rattle.jl_app.specs.Meant.{means_print, means_run, means_trace}
+use Rattle.jl_command.specs.Asked.{Asked, check, exec, instrument, lint, map_of_ids, most_budget, print, run, trace}
+use Rattle.jl_app.specs.Forms.{form_of, form_of_command}
+use Rattle.jl_command.specs.Meant.{IsChoice, Means, means_check, means_exec, means_instrument, means_lint, means_map}
+use Rattle.jl_command.specs.Meant.{means_print, means_run, means_soak, means_trace}
 use Rattle.jl_app.specs.Refusals.{IsRefused, refusal_words}
-use Rattle.jl_app.specs.declared.command.Command.{Command}
-use Rattle.jl_app.specs.declared.command.Command.TheVariants as commands
+use Rattle.jl_app.specs.Requests.{IsAvailable}
+use Rattle.jl_command.specs.declared.command.Command.{Command}
+use Rattle.jl_command.specs.declared.command.Command.TheVariants as commands
 use Rattle.jl_app.specs.declared.form.Form.{Form}
 use Rattle.jl_app.specs.declared.refusal.Refusal.{Refusal}
 
@@ -51,6 +52,7 @@ same_form _ _ means_instrument = refl
 same_form _ _ means_map = refl
 same_form _ _ (means_trace budget few) = refl
 same_form _ _ (means_exec budget few) = refl
+same_form _ _ (means_soak number budget set chosen least few choice) = refl
 
 -- What a command is asked as, by what it is.
 
@@ -85,6 +87,11 @@ asked_trace _ (means_trace budget few) = (refl, few)
 
 pub asked_exec : {budget : ℕ} (a : Asked) → Means (commands.Exec budget) a → a ≡ exec budget
 asked_exec _ (means_exec budget few) = refl
+
+-- no command that is available is `soak`
+pub never_soak : {number budget : ℕ} {set : RuleSet} (a : Asked) → IsAvailable a
+    → Means (commands.Soak number budget set) a → ⊥
+never_soak _ available (means_soak number budget set chosen least few choice) = available
 
 -- what holds whatever the value is
 pub always_ok : {T E K : Type 0} (r : Result T E) → K → OnOk r K

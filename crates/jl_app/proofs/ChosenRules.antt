@@ -16,9 +16,9 @@ use Rattle.jl_report.specs.declared.line.Line.{Line}
 use Rattle.jl_report.specs.Off.{Pair, is_off}
 use Rattle.jl_report.specs.Reports.{IsReport, Place, hits_at, if_any, is_place, place_of}
 use Rattle.jl_report.proofs.Hits.{no_hits_after}
-use Rattle.jl_app.specs.Asked.{is_among}
+use Rattle.jl_command.specs.Asked.{is_among}
 use Rattle.jl_app.specs.Headline.{kept_of}
-use Rattle.jl_app.specs.Meant.{IsChoice}
+use Rattle.jl_command.specs.Meant.{IsChoice}
 use Rattle.jl_app.specs.WovenText.{kinds_of}
 
 -- two tests that agree on numbers in a row

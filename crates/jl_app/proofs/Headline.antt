@@ -13,12 +13,13 @@ use Rattle.jl_text.specs.declared.span.Span.{Span}
 use Rattle.jl_app.specs.Accepting.{IsAccepted, OneReading}
 use Rattle.jl_app.specs.Answers.{Due, IsAnswered, IsLinted, IsReported, accepted, answered_to, bad_words}
 use Rattle.jl_app.specs.Answers.{hooked_run, lint_bytes, lint_status, ran, refused, unread, woven_budget}
-use Rattle.jl_app.specs.Asked.{Asked, asked, lint}
+use Rattle.jl_command.specs.Asked.{Asked, lint}
 use Rattle.jl_app.specs.Endings.{Call, EndsWith, HasAnswered, answered, no_memory, read_failed, write_failed}
 use Rattle.jl_app.specs.Headline.{IsAbout, IsAboutBeginning, IsAboutScript, own_run, woven_mean, woven_run}
 use Rattle.jl_app.specs.ReadBack.{IsReadBack}
 use Rattle.jl_app.specs.Refusals.{NeverBoth}
 use Rattle.jl_app.specs.Reporting.{Lines}
+use Rattle.jl_app.specs.Requests.{request}
 use Rattle.jl_app.specs.WovenText.{kinds_of, woven_text}
 use Rattle.jl_app.specs.declared.form.Form.TheVariants as forms
 use Rattle.jl_app.specs.declared.status.Status.{Status}
@@ -71,7 +72,7 @@ module _ (call : Call) (p : Program Span) (budget : ℕ) (chosen : List ℕ) (we
       (subst (λ x. IsLinted (units_of bytes) x budget chosen call.shelf.lent due) program responds.1)) grows knows
 
   says_so : {answer : Status} → (one : OneReading) (never : NeverBoth) → EndsWith call answer → (bytes : List ℕ)
-      → call.held ≡ Some bytes → IsAccepted bytes p → asked call.words ≡ Some (lint budget chosen)
+      → call.held ≡ Some bytes → IsAccepted bytes p → request call.words ≡ Some (lint budget chosen)
       → call.shelf.lent ≡ call.shelf.handed → HasAnswered answer → units_of bytes ≡ units
       → HoldsOfMeaning → Says answer
   says_so one never (answered due (bad_words none kept) grows knows) bytes held is words lent answers same says =
@@ -92,7 +93,7 @@ module _ (call : Call) (p : Program Span) (budget : ℕ) (chosen : List ℕ) (we
 module _ {call : Call} {answer : Status} (enough : NeededIsEnough) (one : OneReading) (never : NeverBoth)
     (ends : EndsWith call answer) (bytes : List ℕ) (p : Program Span) (budget : ℕ) (chosen : List ℕ)
     (well : IsWovenWell (kinds_of chosen) p) (held : call.held ≡ Some bytes) (is : IsAccepted bytes p)
-    (words : asked call.words ≡ Some (lint budget chosen)) (lent : call.shelf.lent ≡ call.shelf.handed)
+    (words : request call.words ≡ Some (lint budget chosen)) (lent : call.shelf.lent ≡ call.shelf.handed)
     (answers : HasAnswered answer) where
   abbrev about : Program Span → ℕ → Status → Type 0
   about p n s = IsAbout call (units_of bytes) p chosen n (own_run p n) s

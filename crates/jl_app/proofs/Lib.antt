@@ -11,15 +11,12 @@ pub mod Answering
 pub mod Executing
 pub mod Traced
 pub mod Linting
+pub mod Requested
 pub mod Endings
 pub mod AboutRuns
 pub mod BackToWoven
 pub mod KeptHooks
 pub mod OwnRun
-pub mod StandsAlone
 pub mod WovenWell
+pub mod WithoutMisuse
 pub mod Headline
-pub mod WordLemmas
-pub mod Numbers
-pub mod RuleWords
-pub mod NamedCommands

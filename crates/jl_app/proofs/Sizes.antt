@@ -17,7 +17,7 @@ use Rattle.jl_text.specs.Encoding.{encode_utf16_all, units_of}
 use Rattle.jl_text.specs.declared.span.Span.{Span}
 use Rattle.jl_token.proofs.Whole.{few_tokens}
 use Rattle.jl_token.specs.declared.token.Token.{Token}
-use Rattle.jl_app.specs.Accepting.{IsRead}
+use Rattle.jl_app.specs.Accepting.{IsAccepted, IsRead}
 use Rattle.jl_app.specs.Forms.{most_bytes, most_levels}
 use Rattle.jl_app.specs.declared.form.Form.{Form}
 use Rattle.jl_app.specs.declared.form.Form.TheVariants as forms
@@ -65,6 +65,16 @@ few_ids law form bytes p is =
       few_tokens (units_of bytes) is.tokens is.lexed,
       units_within bytes is.decoded,
       few_bytes form (length bytes) is.short,
+    )
+
+-- an accepted script has few tokens
+pub few_accepted_tokens : (bytes : List ℕ) (p : Program Span) (is : IsAccepted bytes p) → length is.tokens < 1073741823
+few_accepted_tokens bytes p is =
+    omega (
+      arith,
+      few_tokens (units_of bytes) is.tokens is.lexed,
+      units_within bytes is.decoded,
+      is.short,
     )
 
 -- and its units are fewer than those of which the lines are kept

@@ -1,20 +1,23 @@
 -- The lines of a trace grow by one, and the answer that is made of them is the one that is due.
 use Rattle.std.proofs.Common.{◌≡◌, ◌∙◌, ◌++◌, ◌+◌, ◌<◌, ◌≤◌, ◌^◌, List, [], ◌∷◌, ap, sym, subst, true, ℕ, length, arith}
 use Rattle.std.proofs.Common.{append_assoc, append-nil, length-append}
+use mathlib.Core.Path.{fun_ext}
 use Rattle.jl_ast.specs.Tree.{Program}
 use Rattle.jl_effects.specs.Running.{state_of as world_of, steps_taken}
 use Rattle.jl_machine.specs.Runs.{ending_of, hooked_mean, IsRun}
 use Rattle.jl_machine.specs.declared.ending.Run.{Run}
 use Rattle.jl_meaning.specs.Mean as mean
 use Rattle.jl_meaning.specs.Store.{Store}
+use Rattle.jl_op.specs.Chosen.{every_kind}
 use Rattle.jl_op.specs.KindSets.{is_member}
 use Rattle.jl_op.specs.Operations.{Operation}
 use Rattle.jl_op.specs.Trace.{op_line}
 use Rattle.jl_op.specs.declared.kind.OpKind.{OpKind}
 use Rattle.jl_op.specs.declared.kind_set.KindSet.{KindSet}
+use Rattle.jl_simulation.specs.Weaving.{woven_program}
 use Rattle.jl_text.specs.Encoding.{bytes_of}
 use Rattle.jl_text.specs.declared.span.Span.{Span}
-use Rattle.jl_app.specs.Answers.{traced}
+use Rattle.jl_app.specs.Answers.{Due, traced, woven_budget}
 use Rattle.jl_app.specs.OwnRuns.{ending_status, program_run, uncaught_line}
 use Rattle.jl_app.specs.Tracing.{hooks_line, trace_line, trace_lines}
 use Rattle.jl_app.specs.declared.status.Status.{Status}
@@ -71,3 +74,20 @@ pub all_kinds : {O : Type 0} {stands_for : O → List Operation → Type 0} {o :
     → IsRun stands_for [] budget (program_run p budget) r o
 all_kinds {stands_for = stands_for} {o = o} {r = r} kinds all p budget is =
     subst (λ ran. IsRun stands_for [] budget ran r o) (of_all_kinds kinds all p budget) is
+
+-- a program that is woven for a set of all kinds
+pub of_all_woven : (set : KindSet) → ((kind : OpKind) → is_member set kind ≡ true) → (p : Program Span)
+    → woven_program (is_member set) p ≡ woven_program every_kind p
+of_all_woven set all p = ap (λ chosen. woven_program chosen p) (fun_ext {f = is_member set} {g = every_kind} all)
+
+-- an answer to the run of a program is that to the run of one that runs alike
+pub same_traced_run : (q : Program Span) (w : Program (Unit {0})) (steps budget : ℕ) {answer : Status} {bytes : List ℕ}
+    → steps ≡ woven_budget budget
+    → program_run q (woven_budget budget) ≡ program_run w (woven_budget budget)
+    → (answer ≡ (traced (program_run q steps) steps).status) × (bytes ≡ (traced (program_run q steps) steps).bytes)
+    → (answer ≡ (traced (program_run w (woven_budget budget)) (woven_budget budget)).status)
+    × (bytes ≡ (traced (program_run w (woven_budget budget)) (woven_budget budget)).bytes)
+same_traced_run q w steps budget is same answered =
+    let run : traced (program_run q steps) steps ≡ traced (program_run w (woven_budget budget)) (woven_budget budget) =
+    ap (λ n. traced (program_run q n) n) is ∙ ap (λ r. traced r (woven_budget budget)) same in
+    (answered.0 ∙ ap (λ (d : Due). d.status) run, answered.1 ∙ ap (λ (d : Due). d.bytes) run)

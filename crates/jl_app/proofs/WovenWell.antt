@@ -1,5 +1,5 @@
 -- What the laws of the lower crates say of an accepted script and its woven one, put together.
-use Rattle.std.proofs.Common.{◌≡◌, ◌<◌, ◌+◌, [], arith, length, ℕ, List}
+use Rattle.std.proofs.Common.{◌≡◌, ◌<◌, ◌+◌, [], length, ℕ, List}
 use Rattle.jl_ast.specs.Tree.{Program}
 use Rattle.jl_effects.specs.Growing.{IsLonger}
 use Rattle.jl_effects.specs.Traces.{keep_hooks, with_state}
@@ -13,26 +13,14 @@ use Rattle.jl_read_back.specs.EarlyErrors.{FirstIsReservedName}
 use Rattle.jl_read_back.specs.Laws.{WovenReadsBack, WovenTextIsBounded}
 use Rattle.jl_scope.specs.EarlyErrors.{early_errors_of}
 use Rattle.jl_simulation.specs.Simulation.{WovenSimulates}
-use Rattle.jl_text.specs.Encoding.{units_of}
 use Rattle.jl_text.specs.declared.span.Span.{Span}
-use Rattle.jl_token.proofs.Whole.{few_tokens}
 use Rattle.jl_token.specs.declared.token.Token.{Token}
 use Rattle.jl_app.specs.Accepting.{IsAccepted}
 use Rattle.jl_app.specs.inner.Woven.{IsWovenWell}
 use Rattle.jl_app.proofs.BackToWoven.{back_to_woven}
 use Rattle.jl_app.proofs.Legal.{nothing_wrong}
 use Rattle.jl_app.proofs.OwnRun.{own_longer, own_simulates, woven_runs}
-use Rattle.jl_app.proofs.Sizes.{units_within}
-
--- an accepted script has few tokens
-few : (bytes : List ℕ) (p : Program Span) (is : IsAccepted bytes p) → length is.tokens < 1073741823
-few bytes p is =
-    omega (
-      arith,
-      few_tokens (units_of bytes) is.tokens is.lexed,
-      units_within bytes is.decoded,
-      is.short,
-    )
+use Rattle.jl_app.proofs.Sizes.{few_accepted_tokens}
 
 pub woven_well : ((chosen : Kinds) (ts : List Token) (limit : ℕ) (p : Program Span) → Reads ts limit p
     → early_errors_of p ≡ [] → length ts < 1073741823 → WovenSimulates chosen p)
@@ -45,7 +33,7 @@ pub woven_well : ((chosen : Kinds) (ts : List Token) (limit : ℕ) (p : Program 
     → (kinds : Kinds) (bytes : List ℕ) (p : Program Span) → IsAccepted bytes p → IsWovenWell kinds p
 woven_well simulates reads bounded keeps one means hooked longer kept kinds bytes p is = record {
   simulates = own_simulates kept kinds p
-      (simulates kinds is.tokens 200 p is.read (nothing_wrong bytes p is) (few bytes p is));
+      (simulates kinds is.tokens 200 p is.read (nothing_wrong bytes p is) (few_accepted_tokens bytes p is));
   back = back_to_woven reads bounded keeps one kinds bytes p is;
   runs = woven_runs means hooked kinds p;
   longer = own_longer longer p;

@@ -16,11 +16,12 @@ use Rattle.jl_text.specs.declared.span.Span.{Span}
 use Rattle.jl_value.specs.declared.ending.Outcome.{Outcome as Ending}
 use Rattle.jl_value.specs.declared.ending.Outcome.TheVariants as ending
 use Rattle.jl_app.specs.Accepting.{IsRead}
-use Rattle.jl_app.specs.Asked.{Asked, asked, check, exec, instrument, lint, map_of_ids, print, run, trace}
+use Rattle.jl_command.specs.Asked.{Asked, check, exec, instrument, lint, map_of_ids, print, run, soak, trace}
 use Rattle.jl_app.specs.MapLines.{begins, map_lines}
 use Rattle.jl_app.specs.OwnRuns.{ending_status, ending_text, program_run, steps_line, uncaught_line}
 use Rattle.jl_app.specs.ReadBack.{IsReadBack}
 use Rattle.jl_app.specs.Refusals.{IsRefused, refusal_words}
+use Rattle.jl_app.specs.Requests.{request}
 use Rattle.jl_app.specs.Reporting.{Lines, IsReport, lines_text}
 use Rattle.jl_app.specs.Tracing.{hooks_line, trace_lines}
 use Rattle.jl_app.specs.WovenText.{kinds_of, woven_text}
@@ -184,6 +185,7 @@ Responds map_of_ids units p shelf due = shelf.same × IsMapped units p due
 Responds (run budget) units p shelf due = shelf.same × IsExecuted p budget due
 Responds (trace budget) units p shelf due = shelf.same × IsTraced p budget due
 Responds (exec budget) units p shelf due = shelf.same × IsTracedAlone p budget due
+Responds (soak number budget chosen) units p shelf due = ⊥
 
 -- what a command answers to these bytes, which are refused or accepted
 pub data IsAnswered (a : Asked) (bytes : List ℕ) (shelf : OnShelf) : Due → Type 0 where
@@ -195,6 +197,6 @@ pub data IsAnswered (a : Asked) (bytes : List ℕ) (shelf : OnShelf) : Due → T
 -- What is due to these words, where the source tells that it holds these bytes, or tells nothing. Of a source that
 -- holds too many bytes not all are read, and these are the first.
 pub data IsDue (words : List (List ℕ)) (held : Option (List ℕ)) (shelf : OnShelf) : Due → Type 0 where
-  bad_words : asked words ≡ None → shelf.same → IsDue words held shelf (line_only status.BadWords (codes "bad words"))
-  answered_to : {due : Due} (a : Asked) (bytes : List ℕ) → asked words ≡ Some a → IfSome held (λ all. all ≡ bytes)
+  bad_words : request words ≡ None → shelf.same → IsDue words held shelf (line_only status.BadWords (codes "bad words"))
+  answered_to : {due : Due} (a : Asked) (bytes : List ℕ) → request words ≡ Some a → IfSome held (λ all. all ≡ bytes)
       → IsAnswered a bytes shelf due → IsDue words held shelf due

@@ -1,7 +1,9 @@
 -- What a source has to be.
 use Rattle.std.specs.Prelude.{ℕ, Bool, true, false, Option, Some, None}
 use Rattle.jl_scope.specs.EarlyError.{EarlyError, early, left_out, reserved_name}
-use Rattle.jl_app.specs.Asked.{Asked, exec}
+use Rattle.jl_command.specs.Asked.{Asked, exec}
+use Rattle.jl_command.specs.declared.command.Command.{Command}
+use Rattle.jl_command.specs.declared.command.Command.TheVariants as commands
 use Rattle.jl_app.specs.declared.form.Form.{Form}
 use Rattle.jl_app.specs.declared.form.Form.TheVariants as forms
 
@@ -9,6 +11,11 @@ use Rattle.jl_app.specs.declared.form.Form.TheVariants as forms
 abbrev pub form_of : Asked → Form
 form_of (exec budget) = forms.WovenText
 form_of _ = forms.Script
+
+-- and so by the command of the code
+abbrev pub form_of_command : Command → Form
+form_of_command (commands.Exec budget) = forms.WovenText
+form_of_command _ = forms.Script
 
 -- the most bytes that it has
 abbrev pub most_bytes : Form → ℕ

@@ -1,6 +1,4 @@
-pub mod CommandLine
-pub mod Asked
-pub mod Meant
+pub mod Requests
 pub mod Forms
 pub mod OwnRuns
 pub mod Positions
@@ -16,5 +14,5 @@ pub mod Tracing
 pub mod Answers
 pub mod Endings
 pub mod Headline
-pub mod Laws
+pub mod Misuse
 pub mod inner

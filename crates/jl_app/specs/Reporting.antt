@@ -9,7 +9,7 @@ use Rattle.jl_report.specs.declared.line.Line.{Line}
 use Rattle.jl_text.specs.Places.{position_of}
 use Rattle.jl_token.specs.declared.token.Comment.{Comment}
 use Rattle.jl_token.specs.Tokens.{Comments}
-use Rattle.jl_app.specs.Asked.{is_among}
+use Rattle.jl_command.specs.Asked.{is_among}
 
 abbrev pub Lines : Type 0
 Lines = List Line

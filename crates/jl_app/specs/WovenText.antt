@@ -6,7 +6,7 @@ use Rattle.jl_op.specs.Chosen.{Kinds}
 use Rattle.jl_print.specs.Layout.{text_of}
 use Rattle.jl_simulation.specs.Weaving.{woven_program}
 use Rattle.jl_text.specs.declared.span.Span.{Span}
-use Rattle.jl_app.specs.Asked.{is_among}
+use Rattle.jl_command.specs.Asked.{is_among}
 
 -- the canonical text of the script in which each operation of these kinds is a call of a hook, in UTF-16 units
 abbrev pub woven_text : Kinds → Program Span → List ℕ

@@ -1,16 +1,17 @@
 ghost use Rattle.std.specs.Prelude.{◌≡◌, ◌≤◌, ℕ, List, [], ◌∷◌, length, IfOk};
 ghost use Rattle.jl_analysis.specs.Rules.{all_rules};
+ghost use Rattle.jl_command.specs.Asked.{Asked, lint};
+ghost use Rattle.jl_command.specs.Meant.{Means};
 ghost use Rattle.jl_op.specs.Operations.{Operation};
 ghost use Rattle.jl_app.specs.Answers.{Due, IsAnswered, line_only, refused_only};
-ghost use Rattle.jl_app.specs.Asked.{Asked, lint};
 ghost use Rattle.jl_app.specs.Forms.{form_of, most_bytes};
-ghost use Rattle.jl_app.specs.Meant.{Means};
 ghost use Rattle.jl_app.specs.Refusals.{refusal_words};
+ghost use Rattle.jl_app.specs.Requests.{IsAvailable};
 
 use crate::accept::{Unaccepted, accept};
 use crate::check::check;
-use crate::command::Command;
 use crate::execute::execute;
+use crate::form::Form;
 use crate::instrument::instrument;
 use crate::lint::lint;
 use crate::listing::list_map;
@@ -19,6 +20,7 @@ use crate::refusal::Refusal;
 use crate::status::Status;
 use crate::trace::{trace, trace_alone};
 use jl_analysis::{Crowd, Findings};
+use jl_command::Command;
 use jl_op::Observer;
 use jl_port::Shelf;
 use std::alloc::{AllocError, Global};
@@ -61,7 +63,7 @@ pub(crate) fn respond<H: Shelf>(
     crowd: &mut Crowd,
 ) -> Result<Answer, AllocError>
     requires small { (a : Asked) → Means command a → length bytes.now ≤ most_bytes (form_of a) }
-    requires meant { (a : Asked) × Means command a }
+    requires meant { (a : Asked) × IsAvailable a × Means command a }
     requires rules { ⟦<Crowd as Findings>⟧.rules crowd.old ≡ all_rules }
     requires fresh { ⟦<Crowd as Observer>⟧.stands_for crowd.old [] }
     ensures due { (a : Asked) → Means command a → IfOk result (λ given. (due : Due)
@@ -77,12 +79,14 @@ pub(crate) fn respond<H: Shelf>(
         → shelf.new ≡ shelf.old }
     ensures same_rules { ⟦<Crowd as Findings>⟧.rules crowd.new ≡ ⟦<Crowd as Findings>⟧.rules crowd.old }
 {
-    let accepted = match accept(alloc, command.form(), bytes) {
+    let form = Form::of(command);
+    let accepted = match accept(alloc, form, bytes) {
         Ok(accepted) => accepted,
         Err(Unaccepted::Refused(refusal)) => return refused(alloc, &refusal),
         Err(Unaccepted::NoMemory) => return Err(AllocError),
     };
     match command {
+        Command::Soak { .. } => unreachable!(),
         Command::Lint { budget, rules } => lint(alloc, &accepted, budget, rules, shelf, crowd),
         Command::Run { budget } => execute(alloc, &accepted.program, budget),
         Command::Check => check(alloc, &accepted.program),

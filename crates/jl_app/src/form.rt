@@ -1,5 +1,7 @@
 ghost use Rattle.std.specs.Prelude.{◌≡◌};
-ghost use Rattle.jl_app.specs.Forms.{may_name_hooks, most_bytes, most_levels};
+ghost use Rattle.jl_app.specs.Forms.{form_of_command, may_name_hooks, most_bytes, most_levels};
+
+use jl_command::Command;
 
 /// What a source has to be.
 #[derive(Clone, Copy)]
@@ -11,6 +13,23 @@ pub enum Form {
 }
 
 impl Form {
+    /// What the command reads.
+    pub fn of(command: Command) -> Form
+        ensures { result ≡ form_of_command command }
+    {
+        match command {
+            Command::Exec { .. } => Form::WovenText,
+            Command::Lint { .. }
+            | Command::Run { .. }
+            | Command::Check
+            | Command::Print
+            | Command::Instrument
+            | Command::Map
+            | Command::Trace { .. }
+            | Command::Soak { .. } => Form::Script,
+        }
+    }
+
     /// The most bytes that it has.
     pub fn most_bytes(self) -> usize
         ensures { result ≡ most_bytes self }

@@ -4,14 +4,15 @@ ghost use Rattle.jl_ast.specs.Tree.{Program};
 ghost use Rattle.jl_op.specs.Chosen.{Kinds};
 ghost use Rattle.jl_text.specs.declared.span.Span.{Span};
 ghost use Rattle.jl_app.specs.inner.Woven.{IsWovenWell};
-ghost use Rattle.jl_app.specs.Laws.{TextStandsAlone};
 ghost use Rattle.jl_app.specs.Accepting.{IsAccepted, OneReading};
+ghost use Rattle.jl_app.specs.Misuse.{AcceptedScriptsRunWithoutMisuse};
 ghost use Rattle.jl_app.specs.Refusals.{NeverBoth, AcceptedOrRefused};
 
 use jl_machine::laws::runs_are_meant;
 use jl_meaning::laws::{kept_hooks, more_budget};
 use jl_quiet::laws::quiet_means;
 use jl_read_back::laws::{woven_keeps_rules, woven_reads_back, woven_text_is_bounded};
+use jl_safety::laws::{quietly_never_misuses, woven_never_misuses};
 use jl_simulation::laws::accepted_scripts_simulate;
 
 /// No bytes are both read as a sound program and refused.
@@ -45,16 +46,12 @@ pub(crate) fn scripts_are_woven_well()
     woven_keeps_rules();
 }
 
-/// The woven text stands alone: what `exec` answers to the bytes that `instrument` writes is what `trace` answers to the
-/// script, status included, for every accepted script whose woven text comes back from these bytes, where `exec` reads as
-/// many.
-pub fn text_stands_alone()
-    ensures { TextStandsAlone }
+/// The fault Misuse ends no run of an accepted script that `run` answers of, nor of its woven script that `lint` or
+/// `trace` does, with any budget and any choice of rules.
+pub fn accepted_scripts_run_without_misuse()
+    ensures { AcceptedScriptsRunWithoutMisuse }
 {
-    one_reading();
-    never_both();
-    jl_grammar::laws::one_reading();
-    woven_reads_back();
-    woven_text_is_bounded();
-    woven_keeps_rules();
+    quietly_never_misuses();
+    woven_never_misuses();
+    scripts_are_woven_well();
 }

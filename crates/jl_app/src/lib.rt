@@ -3,9 +3,7 @@
 
 mod accept;
 mod answer;
-mod asking;
 mod check;
-mod command;
 mod execute;
 mod form;
 mod instrument;
@@ -17,13 +15,12 @@ mod print;
 mod read_back;
 mod refusal;
 mod report;
+mod request;
 mod source;
 mod status;
 mod top;
 mod trace;
 mod tracer;
 
-pub use asking::{WordsRefusal, words};
-pub use command::Command;
 pub use status::Status;
 pub use top::jlint;

@@ -3,13 +3,13 @@ ghost use Rattle.std.specs.Prelude.{◌≡◌, ◌≤◌, ℕ, List as Items, Al
 ghost use Rattle.std.specs.String.{string_bytes};
 ghost use Rattle.jl_analysis.specs.Rules.{IsRule, all_rules};
 ghost use Rattle.jl_ast.specs.View.{view};
+ghost use Rattle.jl_command.specs.Meant.{IsChoice};
 ghost use Rattle.jl_effects.specs.Running.{state_of as world_of};
 ghost use Rattle.jl_simulation.specs.Plain.{HasFewIds};
 ghost use Rattle.jl_token.specs.Tokens.{Tokens};
 ghost use Rattle.jl_token.specs.declared.token.Token.{Token as OneToken};
 ghost use Rattle.jl_app.specs.Answers.{Due, IsLinted, IsReported, end_line, hooked_run, linted, lint_status};
 ghost use Rattle.jl_app.specs.Answers.{woven_budget};
-ghost use Rattle.jl_app.specs.Meant.{IsChoice};
 ghost use Rattle.jl_app.specs.OwnRuns.{uncaught_line};
 ghost use Rattle.jl_app.specs.Reporting.{Lines, lines_text};
 ghost use Rattle.jl_app.specs.WovenText.{kinds_of, woven_text};

@@ -1,11 +1,11 @@
 ghost use Rattle.std.specs.Prelude.{◌≡◌, ◌<◌, ◌^◌, ℕ, List as Items, All, length, map, IfOk};
 ghost use Rattle.jl_analysis.specs.Rules.{IsRule, all_rules};
+ghost use Rattle.jl_command.specs.Meant.{IsChoice};
 ghost use Rattle.jl_op.specs.Operations.{Operation};
 ghost use Rattle.jl_report.specs.Off.{off_by};
 ghost use Rattle.jl_token.specs.Tokens.{Tokens, Comments};
 ghost use Rattle.jl_token.specs.declared.token.Comment.{Comment as OneComment};
 ghost use Rattle.jl_token.specs.declared.token.Token.{Token as OneToken};
-ghost use Rattle.jl_app.specs.Meant.{IsChoice};
 ghost use Rattle.jl_app.specs.Reporting.{IsReport, lines_text, positions};
 
 use crate::source::Source;

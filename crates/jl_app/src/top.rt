@@ -1,23 +1,29 @@
 ghost use Rattle.std.specs.Prelude.{◌≡◌, [], ℕ, List, None, Some, IfOk, IsErrOf};
 ghost use Rattle.jl_analysis.specs.Rules.{all_rules};
 ghost use Rattle.jl_ast.specs.Tree.{Program as Tree};
+ghost use Rattle.jl_command.specs.Asked.{Asked, lint, texts};
 ghost use Rattle.jl_port.specs.Count.{HasRisen};
 ghost use Rattle.jl_text.specs.Encoding.{units_of};
 ghost use Rattle.jl_text.specs.declared.span.Span.{Span};
 ghost use Rattle.jl_app.specs.Accepting.{IsAccepted};
 ghost use Rattle.jl_app.specs.Answers.{Due, IsDue};
-ghost use Rattle.jl_app.specs.Asked.{Asked, asked, lint, texts};
 ghost use Rattle.jl_app.specs.Endings.{EndsWith, HasAnswered};
 ghost use Rattle.jl_app.specs.Headline.{IsAboutScript};
+ghost use Rattle.jl_app.specs.Misuse.{RunsWithoutMisuse};
+ghost use Rattle.jl_app.specs.Requests.{request};
 ghost use Rattle.jl_app.specs.declared.top.Unanswered.TheVariants.{NoMemory};
 
 use crate::answer::{Answer, line_only, refused, respond};
-use crate::asking::{WordsRefusal, words as asked};
-use crate::laws::{never_both, one_reading, scripts_are_woven_well};
+use crate::form::Form;
+use crate::laws::{
+    accepted_scripts_run_without_misuse, never_both, one_reading, scripts_are_woven_well,
+};
 use crate::refusal::Refusal;
+use crate::request::request;
 use crate::status::Status;
 use jl_analysis::laws::needed_is_enough;
 use jl_analysis::{Crowd, Findings};
+use jl_command::WordsRefusal;
 use jl_op::Observer;
 use jl_port::{ReadRefusal, Shelf, Sink, Source, read_all, write_all};
 use std::alloc::{AllocError, Global};
@@ -56,23 +62,23 @@ fn due<S: Source, H: Shelf>(
         × (a.status ≡ due.status)
         × (a.bytes.items ≡ due.bytes)
         × ⟦<Crowd as Observer>⟧.stands_for crowd.new due.told) }
-    ensures fault { IsErrOf result Unanswered.ReadFault → ((a : Asked) × (asked (texts words.now) ≡ Some a))
+    ensures fault { IsErrOf result Unanswered.ReadFault → ((a : Asked) × (request (texts words.now) ≡ Some a))
         × HasRisen (S.faults source.old) (S.faults source.new)
         × (shelf.new ≡ shelf.old)
         × ⟦<Crowd as Observer>⟧.stands_for crowd.new [] }
-    ensures shelf { ((budget : ℕ) (chosen : List ℕ) → asked (texts words.now) ≡ Some (lint budget chosen) → ⊥)
+    ensures shelf { ((budget : ℕ) (chosen : List ℕ) → request (texts words.now) ≡ Some (lint budget chosen) → ⊥)
         → shelf.new ≡ shelf.old }
-    ensures unread { asked (texts words.now) ≡ None → source.new ≡ source.old }
+    ensures unread { request (texts words.now) ≡ None → source.new ≡ source.old }
     ensures same_rules { ⟦<Crowd as Findings>⟧.rules crowd.new ≡ ⟦<Crowd as Findings>⟧.rules crowd.old }
 {
-    let command = match asked(alloc, words) {
+    let command = match request(alloc, words) {
         Ok(command) => command,
         Err(WordsRefusal::BadWords) => {
             return Ok(line_only(alloc, Status::BadWords, "bad words")?);
         }
         Err(WordsRefusal::NoMemory) => return Err(Unanswered::NoMemory),
     };
-    match read_all(alloc, source, command.form().most_bytes()) {
+    match read_all(alloc, source, Form::of(command).most_bytes()) {
         Ok(bytes) => Ok(respond(alloc, command, &bytes, shelf, crowd)?),
         Err(ReadRefusal::TooLong) => Ok(refused(alloc, &Refusal::TooLong)?),
         Err(ReadRefusal::ReadFault) => Err(Unanswered::ReadFault),
@@ -115,7 +121,7 @@ pub fn jlint<S: Source, K: Sink, H: Shelf>(
     // For a source that tells its bytes and a shelf that lends what it was handed, the answer to an accepted script is
     // about the script's own run, for every budget and every choice of rules.
     ensures headline { (bytes : List ℕ) (p : Tree Span) (budget : ℕ) (chosen : List ℕ)
-        → S.left source.old ≡ Some bytes → IsAccepted bytes p → asked (texts words.now) ≡ Some (lint budget chosen)
+        → S.left source.old ≡ Some bytes → IsAccepted bytes p → request (texts words.now) ≡ Some (lint budget chosen)
         → H.lent shelf.new ≡ H.handed shelf.new → HasAnswered result
         → IsAboutScript (record {
           words = texts words.now;
@@ -130,14 +136,19 @@ pub fn jlint<S: Source, K: Sink, H: Shelf>(
           };
           knows = λ told. ⟦<Crowd as Observer>⟧.stands_for crowd.new told;
         }) (units_of bytes) p budget chosen result }
-    ensures unread { asked (texts words.now) ≡ None → source.new ≡ source.old }
-    ensures shelf { ((budget : ℕ) (chosen : List ℕ) → asked (texts words.now) ≡ Some (lint budget chosen) → ⊥)
+    // The fault Misuse ends no run that is answered of, but of `exec`, and of a program that is read from another text
+    // than `lint` handed to the shelf.
+    ensures no_misuse { (a : Asked) (bytes : List ℕ) (p : Tree Span) → request (texts words.now) ≡ Some a
+        → S.left source.old ≡ Some bytes → IsAccepted bytes p → RunsWithoutMisuse a p }
+    ensures unread { request (texts words.now) ≡ None → source.new ≡ source.old }
+    ensures shelf { ((budget : ℕ) (chosen : List ℕ) → request (texts words.now) ≡ Some (lint budget chosen) → ⊥)
         → shelf.new ≡ shelf.old }
     ensures same_rules { ⟦<Crowd as Findings>⟧.rules crowd.new ≡ ⟦<Crowd as Findings>⟧.rules crowd.old }
 {
     one_reading();
     never_both();
     scripts_are_woven_well();
+    accepted_scripts_run_without_misuse();
     needed_is_enough();
     let answer = match due(alloc, words, source, shelf, crowd) {
         Ok(answer) => answer,

@@ -7,22 +7,22 @@ use Rattle.jl_text.specs.Encoding.{units_of}
 use Rattle.jl_token.specs.Tokens.{Tokens}
 use Rattle.jl_app.specs.Answers.{canonical_text, counted, ended, ended_alone, ended_woven, executed, functions_line}
 use Rattle.jl_app.specs.Answers.{instrumented, listed, listed_map, refused_only, text, traced, woven_budget, written}
-use Rattle.jl_app.specs.Asked as asked
+use Rattle.jl_command.specs.Asked as asked
 use Rattle.jl_app.specs.Forms.{most_bytes}
-use Rattle.jl_app.specs.Meant.{Means, means_lint}
+use Rattle.jl_command.specs.Meant.{Means, means_lint}
 use Rattle.jl_app.specs.OwnRuns.{program_run}
 use Rattle.jl_app.specs.Refusals.{refusal_words}
-use Rattle.jl_app.specs.declared.command.Command.{Command}
+use Rattle.jl_command.specs.declared.command.Command.{Command}
 use Rattle.jl_app.proofs.Answering.{answers, asked_check, asked_exec, asked_instrument, asked_lint, asked_map}
-use Rattle.jl_app.proofs.Answering.{asked_print, asked_run, asked_trace, both_ok, refuses, same_form}
+use Rattle.jl_app.proofs.Answering.{asked_print, asked_run, asked_trace, both_ok, never_soak, refuses, same_form}
 use Rattle.jl_app.proofs.Answering.{same_source}
 use Rattle.jl_app.proofs.answer.respond.Goals as goal
 
 pub accept-requires : goal.accept-requires
 accept-requires g c =
     let meant = c.requires.meant in
-    subst (λ f. length c.args.bytes.now ≤ most_bytes f) (sym (c.form.ensures ∙ same_form c.args.command meant.0 meant.1))
-    (c.requires.small meant.0 meant.1)
+    subst (λ f. length c.args.bytes.now ≤ most_bytes f) (sym (c.of-form.ensures ∙ same_form c.args.command meant.0 meant.2))
+    (c.requires.small meant.0 meant.2)
 
 pub lint-requires-clause-few : goal.lint-requires-clause-few
 lint-requires-clause-few g c = c.in-Ok.ensures.few
@@ -35,7 +35,7 @@ lint-requires-clause-lexed g c =
 pub lint-requires-clause-budget : goal.lint-requires-clause-budget
 lint-requires-clause-budget g c =
     let meant = c.requires.meant in
-    (asked_lint meant.0 (subst (λ (x : Command). Means x meant.0) c.in-Lint.is meant.1)).2.1
+    (asked_lint meant.0 (subst (λ (x : Command). Means x meant.0) c.in-Lint.is meant.2)).2.1
 
 pub instrument-requires : goal.instrument-requires
 instrument-requires g c = c.in-Ok.ensures.few
@@ -49,7 +49,12 @@ trace-requires-clause-few g c = c.in-Ok.ensures.few
 pub trace-requires-clause-budget : goal.trace-requires-clause-budget
 trace-requires-clause-budget g c =
     let meant = c.requires.meant in
-    (asked_trace meant.0 (subst (λ (x : Command). Means x meant.0) c.in-Trace.is meant.1)).1
+    (asked_trace meant.0 (subst (λ (x : Command). Means x meant.0) c.in-Trace.is meant.2)).1
+
+pub unreachable-requires : goal.unreachable-requires
+unreachable-requires g c =
+    let meant = c.requires.meant in
+    never_soak meant.0 meant.1 (subst (λ (x : Command). Means x meant.0) c.in-Soak.is meant.2)
 
 pub returns-in-Err-Refused-clause-due : goal.returns-in-Err-Refused-clause-due
 returns-in-Err-Refused-clause-due g c = λ a means.
@@ -59,7 +64,7 @@ returns-in-Err-Refused-clause-due g c = λ a means.
     IfOk-weaker c.refused.result _ _
     (λ given answered. (
       refused_only (refusal_words cause),
-      refuses a c.form.result cause (c.form.ensures ∙ same_form c.args.command a means) why refl,
+      refuses a c.of-form.result cause (c.of-form.ensures ∙ same_form c.args.command a means) why refl,
       answered.0,
       answered.1,
       c.requires.fresh,
@@ -73,7 +78,7 @@ returns-in-Lint-clause-due g c = λ a means.
     both_ok c.lint.result _ _
     (λ given due handed. (
       due.0,
-      answers a (asked.lint c.in-Lint.budget is.0) c.form.result p is.1 (c.form.ensures ∙ same_form c.args.command a means) read.0
+      answers a (asked.lint c.in-Lint.budget is.0) c.of-form.result p is.1 (c.of-form.ensures ∙ same_form c.args.command a means) read.0
           (handed, same_source _ _ read.1 due.1),
       due.2,
       due.3,
@@ -84,7 +89,7 @@ returns-in-Lint-clause-due g c = λ a means.
 pub returns-in-Lint-clause-shelf : goal.returns-in-Lint-clause-shelf
 returns-in-Lint-clause-shelf g c = λ other.
     let meant = c.requires.meant in
-    let is = asked_lint meant.0 (subst (λ (x : Command). Means x meant.0) c.in-Lint.is meant.1) in
+    let is = asked_lint meant.0 (subst (λ (x : Command). Means x meant.0) c.in-Lint.is meant.2) in
     absurd (other c.in-Lint.budget is.0 (subst (λ (x : Command). Means x (asked.lint c.in-Lint.budget is.0))
     (sym c.in-Lint.is) (means_lint c.in-Lint.budget c.in-Lint.rules is.0 is.2 is.3)))
 
@@ -95,7 +100,7 @@ returns-in-Run-clause-due g c = λ a means.
     IfOk-weaker c.execute.result _ _
     (λ given answered. (
       executed (program_run p c.in-Run.budget) c.in-Run.budget,
-      answers a (asked.run c.in-Run.budget) c.form.result p is (c.form.ensures ∙ same_form c.args.command a means) c.in-Ok.ensures.accepted.0 (refl, ended),
+      answers a (asked.run c.in-Run.budget) c.of-form.result p is (c.of-form.ensures ∙ same_form c.args.command a means) c.in-Ok.ensures.accepted.0 (refl, ended),
       answered.0,
       answered.1,
       c.requires.fresh,
@@ -109,7 +114,7 @@ returns-in-Check-clause-due g c = λ a means.
     IfOk-weaker c.check.result _ _
     (λ given answered. (
       functions_line p,
-      answers a asked.check c.form.result p is (c.form.ensures ∙ same_form c.args.command a means) c.in-Ok.ensures.accepted.0 (refl, counted),
+      answers a asked.check c.of-form.result p is (c.of-form.ensures ∙ same_form c.args.command a means) c.in-Ok.ensures.accepted.0 (refl, counted),
       answered.0,
       answered.1,
       c.requires.fresh,
@@ -123,7 +128,7 @@ returns-in-Print-clause-due g c = λ a means.
     IfOk-weaker c.print.result _ _
     (λ given answered. (
       canonical_text p,
-      answers a asked.print c.form.result p is (c.form.ensures ∙ same_form c.args.command a means) c.in-Ok.ensures.accepted.0 (refl, written),
+      answers a asked.print c.of-form.result p is (c.of-form.ensures ∙ same_form c.args.command a means) c.in-Ok.ensures.accepted.0 (refl, written),
       answered.0,
       answered.1,
       c.requires.fresh,
@@ -137,7 +142,7 @@ returns-in-Instrument-clause-due g c = λ a means.
     IfOk-weaker c.instrument.result _ _
     (λ given answered. (
       instrumented p,
-      answers a asked.instrument c.form.result p is (c.form.ensures ∙ same_form c.args.command a means) c.in-Ok.ensures.accepted.0 (refl, text),
+      answers a asked.instrument c.of-form.result p is (c.of-form.ensures ∙ same_form c.args.command a means) c.in-Ok.ensures.accepted.0 (refl, text),
       answered.0,
       answered.1,
       c.requires.fresh,
@@ -152,7 +157,7 @@ returns-in-Map-clause-due g c = λ a means.
     IfOk-weaker c.list_map.result _ _
     (λ given answered. (
       listed_map units p,
-      answers a asked.map_of_ids c.form.result p is (c.form.ensures ∙ same_form c.args.command a means) c.in-Ok.ensures.accepted.0 (refl, listed),
+      answers a asked.map_of_ids c.of-form.result p is (c.of-form.ensures ∙ same_form c.args.command a means) c.in-Ok.ensures.accepted.0 (refl, listed),
       answered.0,
       answered.1 ∙ ap (λ us. (listed_map us p).bytes) c.in-Ok.ensures.accepted.1,
       c.requires.fresh,
@@ -166,7 +171,7 @@ returns-in-Trace-clause-due g c = λ a means.
     IfOk-weaker c.trace.result _ _
     (λ given answered. (
       traced (program_run (woven_program every_kind p) (woven_budget c.in-Trace.budget)) (woven_budget c.in-Trace.budget),
-      answers a (asked.trace c.in-Trace.budget) c.form.result p is.0 (c.form.ensures ∙ same_form c.args.command a means) c.in-Ok.ensures.accepted.0 (refl, ended_woven),
+      answers a (asked.trace c.in-Trace.budget) c.of-form.result p is.0 (c.of-form.ensures ∙ same_form c.args.command a means) c.in-Ok.ensures.accepted.0 (refl, ended_woven),
       answered.0,
       answered.1,
       c.requires.fresh,
@@ -180,7 +185,7 @@ returns-clause-due g c = λ a means.
     IfOk-weaker c.trace_alone.result _ _
     (λ given answered. (
       traced (program_run p c.in-Exec.budget) c.in-Exec.budget,
-      answers a (asked.exec c.in-Exec.budget) c.form.result p is (c.form.ensures ∙ same_form c.args.command a means) c.in-Ok.ensures.accepted.0 (refl, ended_alone),
+      answers a (asked.exec c.in-Exec.budget) c.of-form.result p is (c.of-form.ensures ∙ same_form c.args.command a means) c.in-Ok.ensures.accepted.0 (refl, ended_alone),
       answered.0,
       answered.1,
       c.requires.fresh,

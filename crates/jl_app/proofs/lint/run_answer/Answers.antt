@@ -6,7 +6,7 @@ use Rattle.jl_op.specs.KindSets.{is_member}
 use Rattle.jl_op.specs.declared.kind.OpKind.{OpKind}
 use Rattle.jl_app.specs.Answers.{end_line, lint_status, woven_budget}
 use Rattle.jl_app.specs.MapLines.{begins}
-use Rattle.jl_app.specs.Meant.{IsChoice}
+use Rattle.jl_command.specs.Meant.{IsChoice}
 use Rattle.jl_app.specs.OwnRuns.{uncaught_line}
 use Rattle.jl_app.specs.Reporting.{lines_text}
 use Rattle.jl_app.specs.WovenText.{kinds_of}

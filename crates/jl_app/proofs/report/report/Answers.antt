@@ -3,7 +3,7 @@ use Rattle.std.proofs.lemmas.Result.{IfOk-weaker}
 use Rattle.jl_analysis.specs.Chosen.{is_chosen}
 use Rattle.jl_report.specs.Off.{Pair}
 use Rattle.jl_report.specs.Reports.{IsReport}
-use Rattle.jl_app.specs.Asked.{is_among}
+use Rattle.jl_command.specs.Asked.{is_among}
 use Rattle.jl_app.specs.Reporting.{positions}
 use Rattle.jl_app.proofs.ChosenRules.{same_reports}
 use Rattle.jl_app.proofs.report.report.Goals as goal

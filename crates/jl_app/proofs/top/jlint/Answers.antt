@@ -33,3 +33,19 @@ returns-in-Ok-write_all-clause-headline g c = λ bytes p budget chosen held is w
     (ends_answered due.0 c.in-Ok.answer.status c.deref.result.now due.2 (c.deref.ensures.value ∙ due.3) due.1
     c.in-Ok-write_all.ensures.all due.4)
     bytes p budget chosen (c.scripts_are_woven_well.ensures (kinds_of chosen) bytes p is) held is words lent answers
+
+pub returns-in-Err-ReadFault-clause-no_misuse : goal.returns-in-Err-ReadFault-clause-no_misuse
+returns-in-Err-ReadFault-clause-no_misuse g c = λ a bytes p words held is.
+    c.accepted_scripts_run_without_misuse.ensures a bytes p is
+
+pub returns-in-Err-NoMemory-clause-no_misuse : goal.returns-in-Err-NoMemory-clause-no_misuse
+returns-in-Err-NoMemory-clause-no_misuse g c = λ a bytes p words held is.
+    c.accepted_scripts_run_without_misuse.ensures a bytes p is
+
+pub returns-in-Ok-write_all-clause-no_misuse : goal.returns-in-Ok-write_all-clause-no_misuse
+returns-in-Ok-write_all-clause-no_misuse g c = λ a bytes p words held is.
+    c.accepted_scripts_run_without_misuse.ensures a bytes p is
+
+pub returns-clause-no_misuse : goal.returns-clause-no_misuse
+returns-clause-no_misuse g c = λ a bytes p words held is.
+    c.accepted_scripts_run_without_misuse.ensures a bytes p is

@@ -1,0 +1,34 @@
+-- That the fault Misuse ends no run that a command answers of.
+use Rattle.std.specs.Prelude.{ℕ, List}
+use Rattle.jl_ast.specs.Tree.{Program}
+use Rattle.jl_command.specs.Asked.{Asked, lint, run, trace}
+use Rattle.jl_effects.specs.Keeping.{FailsAllowed}
+use Rattle.jl_meaning.specs.Mean.{IsNoMisuse, Run}
+use Rattle.jl_op.specs.Chosen.{every_kind}
+use Rattle.jl_simulation.specs.Weaving.{woven_program}
+use Rattle.jl_text.specs.declared.span.Span.{Span}
+use Rattle.jl_app.specs.Accepting.{IsAccepted}
+use Rattle.jl_app.specs.Answers.{hooked_run, woven_budget}
+use Rattle.jl_app.specs.OwnRuns.{program_run}
+use Rattle.jl_app.specs.ReadBack.{IsReadBack}
+use Rattle.jl_app.specs.WovenText.{kinds_of, woven_text}
+
+-- the run is not ended by the fault Misuse
+abbrev pub EndsWithoutMisuse : Run → Type 0
+EndsWithoutMisuse r = FailsAllowed IsNoMisuse r
+
+-- What is run for a command and the script p is not ended by it: the program that is read from the text that `lint` hands
+-- to the shelf, the script for `run`, and the woven script for `trace`.
+abbrev pub RunsWithoutMisuse : Asked → Program Span → Type 0
+RunsWithoutMisuse (lint budget chosen) p =
+    (q : Program Span) → IsReadBack (woven_text (kinds_of chosen) p) q
+    → EndsWithoutMisuse (hooked_run (kinds_of chosen) q (woven_budget budget))
+RunsWithoutMisuse (run budget) p = EndsWithoutMisuse (program_run p budget)
+RunsWithoutMisuse (trace budget) p =
+    EndsWithoutMisuse (program_run (woven_program every_kind p) (woven_budget budget))
+RunsWithoutMisuse _ p = Unit {0}
+
+-- so it is of every accepted script
+abbrev pub AcceptedScriptsRunWithoutMisuse : Type 0
+AcceptedScriptsRunWithoutMisuse =
+    (a : Asked) (bytes : List ℕ) (p : Program Span) → IsAccepted bytes p → RunsWithoutMisuse a p
