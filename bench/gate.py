@@ -1,9 +1,8 @@
 #!/usr/bin/env python3
 """What the gate costs: runs it from nothing, and prints the processor seconds of each crate.
 
-  bench/gate.py                 clones the last commit, runs `rt ci --anew` there, and removes the clone
-  bench/gate.py NAME..          the same for these crates of this checkout and those below them (`rt ci` copies them)
-  bench/gate.py --kept NAME..   takes of those below, and of these, what earlier runs of `rt ci` kept
+  bench/gate.py                 clones the last commit, runs `rt ci` there, and removes the clone
+  bench/gate.py NAME..          the same with these crates and those below them alone
   --log FILE                    what `rt ci` says (otherwise a file among the temporary ones, which is named)
   --edits                       also each edit, the dearest first
 
@@ -13,6 +12,7 @@ is run, linked and laid out, and what ended between two looks. The status is tha
 """
 import os
 import resource
+import shutil
 import signal
 import subprocess
 import sys
@@ -120,12 +120,35 @@ def table(rows, whole, elapsed):
     return lines
 
 
-def measured(folder, words, log, with_edits):
+def anew():
+    """The word by which a kit that keeps what its gate proved proves it again."""
+    told = subprocess.run(["rt", "help"], stdin=subprocess.DEVNULL, capture_output=True, text=True, check=False)
+    return ["--anew"] if "--anew" in told.stdout + told.stderr else []
+
+
+def keep_below(folder, names):
+    """Leaves in a clone's list of crates these and those below them."""
+    with open(f"{folder}/crates.txt", encoding="utf-8") as it:
+        lines = it.readlines()
+    uses = {it.partition(":")[0]: it.partition(":")[2].split() for it in lines if not it.startswith("#")}
+    found, left = set(), [*names]
+    while left:
+        name = left.pop()
+        if name in uses and name not in found:
+            found.add(name)
+            left += uses[name]
+    with open(f"{folder}/crates.txt", "w", encoding="utf-8") as it:
+        it.writelines(line for line in lines if line.partition(":")[0] in found)
+    for crate in {*os.listdir(f"{folder}/crates")} - found:
+        shutil.rmtree(f"{folder}/crates/{crate}")
+
+
+def measured(folder, log, with_edits):
     """Runs rt there, and returns its status and the lines to print."""
     began = time.monotonic()
     with open(log, "w", encoding="utf-8") as out:
         started = subprocess.Popen(
-            ["rt", "ci", *words], cwd=folder, stdin=subprocess.DEVNULL, stdout=out, stderr=subprocess.STDOUT
+            ["rt", "ci", *anew()], cwd=folder, stdin=subprocess.DEVNULL, stdout=out, stderr=subprocess.STDOUT
         )
         gate = Gate(started.pid)
         try:
@@ -150,21 +173,19 @@ def main(words):
         log = os.path.realpath(words[at + 1])
         words = words[:at] + words[at + 2 :]
     names = [it for it in words if not it.startswith("-")]
-    if "-h" in words or "--help" in words or set(words) - {"--kept", "--edits", *names} or "--kept" in words and not names:
+    if "-h" in words or "--help" in words or set(words) - {"--edits", *names}:
         print(__doc__)
         return 2
     if log is None:
         log = tempfile.mkstemp(prefix="gate-", suffix=".log")[1]
     print(f"rt ci writes to {log}", flush=True)
-    with_edits = "--edits" in words
-    words = names if "--kept" in words else ["--anew", *names]
-    if names:
-        status, lines = measured(top, words, log, with_edits)
-    else:
-        with tempfile.TemporaryDirectory(prefix="gate-") as room:
-            subprocess.run(["git", "clone", "-q", "--no-hardlinks", top, f"{room}/clone"], check=True)
-            # (the clone itself is no part of what the gate costs)
-            status, lines = measured(f"{room}/clone", words, log, with_edits)
+    with tempfile.TemporaryDirectory(prefix="gate-") as room:
+        clone = f"{room}/clone"
+        subprocess.run(["git", "clone", "-q", "--no-hardlinks", top, clone], check=True)
+        if names:
+            keep_below(clone, names)
+        # (the clone itself is no part of what the gate costs)
+        status, lines = measured(clone, log, "--edits" in words)
     print("\n".join(lines))
     with open(log, encoding="utf-8", errors="replace") as it:
         print(it.read().rstrip().rpartition("\n")[2])

@@ -13,8 +13,7 @@ import shutil
 import subprocess
 import sys
 
-sys.path.insert(0, os.path.dirname(os.path.realpath(shutil.which("rt") or "/opt/rattle/bin/rt")))
-import rtlib  # noqa: E402  (the kit's own)
+from kit import rtlib
 
 TOP = os.path.dirname(os.path.dirname(os.path.abspath(__file__)))
 

@@ -4,9 +4,9 @@
 usage: tools/edits.py [NAME..]      NAME is a crate that has a folder there; all of them where none is given
 
 Each edit of a crate costs the gate about as much as the proof of that crate. So the gate tries those in `must-fail/` of
-the small crates, and this script tries the others: in a clone of the last commit, by `rt ci NAME..`, which takes of the
-proofs what an earlier run on this machine kept. Run it for a crate before a change of it is handed in. The status is that
-of `rt ci`, whose last line says how many were refused as they have to be.
+the small crates, and this script tries the others: in a clone of the last commit, by `rt must-fail`, over the libraries
+that a whole `rt ci` has left in this checkout, and else over libraries that it proves first. Run it for a crate before a
+change of it is handed in. The status is 0 where each edit was refused.
 """
 import os
 import shutil
@@ -19,11 +19,12 @@ EDITS = os.path.join(TOP, 'edits')
 
 
 def lay_out(clone, names):
-    """Has the clone try the edits of these crates, and no others."""
+    """Has the clone try the edits of these crates, and no others, over the libraries of this checkout."""
     for crate in os.listdir(os.path.join(clone, 'crates')):
         shutil.rmtree(os.path.join(clone, 'crates', crate, 'must-fail'), ignore_errors=True)
     for name in names:
         shutil.copytree(os.path.join(EDITS, name), os.path.join(clone, 'crates', name, 'must-fail'))
+    subprocess.run([sys.executable, 'tools/borrow.py', TOP], cwd=clone, check=True, stdout=subprocess.DEVNULL)
 
 
 def main():
@@ -36,7 +37,7 @@ def main():
         clone = os.path.join(folder, 'repository')
         subprocess.run(['git', 'clone', '--quiet', TOP, clone], check=True)
         lay_out(clone, names)
-        return subprocess.run(['rt', 'ci', *names], cwd=clone, check=False).returncode
+        return subprocess.run([sys.executable, 'tools/kit.py', 'must-fail', *names], cwd=clone, check=False).returncode
 
 
 if __name__ == '__main__':
