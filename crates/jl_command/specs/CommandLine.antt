@@ -1,0 +1,38 @@
+-- The command line, as clap reads it.
+use Rattle.std.specs.Prelude.{ℕ, Bool, true, false, not, List, [], ◌∷◌, Option, Some, length, codes, ◌==◌}
+use Rattle.clap.specs.Words.{App, Rule, fault_of, first_of, matches_of, new_app, new_rule, with_rule}
+
+abbrev pub Text : Type 0
+Text = List ℕ
+
+-- the name of a command, which is required
+abbrev pub command_argument : Rule
+command_argument = record (new_rule (codes "command")) { required = true }
+
+-- an option that has a value
+abbrev pub option_argument : (name : Text) → Rule
+option_argument name = record (new_rule name) { long = Some name }
+
+-- no flags for help and version, and the name of the program is no word
+abbrev pub without_flags : App
+without_flags = record {
+  top = record ((new_app (codes "jlint")).top) {
+    no_binary_name = true;
+    disable_help_flag = true;
+    disable_version_flag = true;
+  };
+  subs = [];
+}
+
+unfoldable pub command_line : App
+command_line =
+    with_rule (with_rule (with_rule (with_rule without_flags command_argument) (option_argument (codes "budget")))
+    (option_argument (codes "rules"))) (option_argument (codes "number"))
+
+-- clap refuses the words
+unfoldable pub is_refused : (words : List Text) → Bool
+is_refused words = not (length (fault_of command_line words) == 0)
+
+-- the value that the words have for this name
+unfoldable pub given : (id : Text) → (words : List Text) → Option Text
+given id words = first_of id (matches_of command_line words)
