@@ -18,10 +18,12 @@ use Rattle.jl_app.specs.declared.status.Status.{Status}
 use Rattle.jl_app.proofs.Executing.{of_these_kinds}
 
 module _ {O : Type 0} (stands_for : O → List Operation → Type 0) (o : O) (r : Run) (set : KindSet) (chosen : List ℕ)
-    (same : (kind : OpKind) → is_member set kind ≡ kinds_of chosen kind) (q : Program Span) (steps : ℕ)
-    (is : IsRun stands_for [] steps (hooked_mean (is_member set) q steps) r o) where
+    (same : (kind : OpKind) → is_member set kind ≡ kinds_of chosen kind) (q : Program Span)
+    (n steps : ℕ) (taken : n ≡ steps) (is : IsRun stands_for [] n (hooked_mean (is_member set) q n) r o) where
   is_hooked : IsRun stands_for [] steps (hooked_run (kinds_of chosen) q steps) r o
-  is_hooked = subst (λ ran. IsRun stands_for [] steps ran r o) (of_these_kinds set (kinds_of chosen) same q steps) is
+  is_hooked =
+      subst (λ ran. IsRun stands_for [] steps ran r o) (of_these_kinds set (kinds_of chosen) same q steps)
+      (subst (λ k. IsRun stands_for [] k (hooked_mean (is_member set) q k) r o) taken is)
 
   -- the observer was told of what the hooks told of
   pub told : stands_for o (world_of (hooked_run (kinds_of chosen) q steps)).hooks

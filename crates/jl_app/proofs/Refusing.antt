@@ -11,7 +11,7 @@ use Rattle.jl_text.specs.declared.span.Span.{Span}
 use Rattle.jl_token.proofs.Whole.{tokens_are_unique, never_both as never_both_tokens, tokens_or_bad}
 use Rattle.jl_token.specs.declared.token.Token.{Token}
 use Rattle.jl_token.specs.declared.token.BadKind.{BadKind}
-use Rattle.jl_token.specs.Tokens.{BadAt}
+use Rattle.jl_token.specs.Tokens.{BadAt, Tokens}
 use Rattle.jl_parse.specs.Refusals.{IsPlace, at_end}
 use Rattle.jl_scope.specs.declared.rules.EarlyRule.{EarlyRule}
 use Rattle.jl_grammar.proofs.One.{one_reading, reader_tells}
@@ -64,6 +64,19 @@ module _ (form : Form) (bytes units : List ℕ) where
   hooks_name_at p s place may read e broken is =
       subst (λ x. IsRefused form bytes (refusals.ReservedName x)) (sym (is ∙ ap (λ us. position us s.from) e))
       (hooks_name p s may read broken)
+
+-- a text with these tokens, which read as this sound program
+pub is_read : (form : Form) (bytes units : List ℕ) (tokens items : List Token) (p : Program Span) → IsText form bytes
+    → units ≡ units_of bytes → Tokens units tokens → items ≡ tokens → Reads items (most_levels form) p
+    → is_sound form (first_early_error p) ≡ true → IsRead form bytes p
+is_read form bytes units tokens items p text same lexed are read sound = record {
+  short = text.short;
+  decoded = text.decoded;
+  tokens = tokens;
+  lexed = subst (λ us. Tokens us tokens) same lexed;
+  read = subst (λ ts. Reads ts (most_levels form) p) are read;
+  sound = sound;
+}
 
 -- One reading.
 

@@ -1,16 +1,18 @@
-ghost use Rattle.std.specs.Prelude.{◌≡◌, [], ℕ, List, None, Some, IfOk, IsErrOf};
+ghost use Rattle.std.specs.Prelude.{◌≡◌, [], ℕ, List, None, Some, codes, IfOk, IfSome, IsErrOf};
 ghost use Rattle.jl_analysis.specs.Rules.{all_rules};
 ghost use Rattle.jl_ast.specs.Tree.{Program as Tree};
 ghost use Rattle.jl_command.specs.Asked.{Asked, lint, texts};
+ghost use Rattle.jl_command.specs.Meant.{Means};
 ghost use Rattle.jl_port.specs.Count.{HasRisen};
 ghost use Rattle.jl_text.specs.Encoding.{units_of};
 ghost use Rattle.jl_text.specs.declared.span.Span.{Span};
 ghost use Rattle.jl_app.specs.Accepting.{IsAccepted};
-ghost use Rattle.jl_app.specs.Answers.{Due, IsDue};
+ghost use Rattle.jl_app.specs.Answers.{Due, IsAnswered, IsDue, line_only};
 ghost use Rattle.jl_app.specs.Endings.{EndsWith, HasAnswered};
 ghost use Rattle.jl_app.specs.Headline.{IsAboutScript};
 ghost use Rattle.jl_app.specs.Misuse.{RunsWithoutMisuse};
-ghost use Rattle.jl_app.specs.Requests.{request};
+ghost use Rattle.jl_app.specs.Requests.{IsAvailable, request};
+ghost use Rattle.jl_app.specs.declared.status.Status.TheVariants.{BadWords};
 ghost use Rattle.jl_app.specs.declared.top.Unanswered.TheVariants.{NoMemory};
 
 use crate::answer::{Answer, line_only, refused, respond};
@@ -23,7 +25,7 @@ use crate::request::request;
 use crate::status::Status;
 use jl_analysis::laws::needed_is_enough;
 use jl_analysis::{Crowd, Findings};
-use jl_command::WordsRefusal;
+use jl_command::{Command, WordsRefusal};
 use jl_op::Observer;
 use jl_port::{ReadRefusal, Shelf, Sink, Source, read_all, write_all};
 use std::alloc::{AllocError, Global};
@@ -41,6 +43,50 @@ impl From<AllocError> for Unanswered {
     fn from(_error: AllocError) -> Unanswered {
         Unanswered::NoMemory
     }
+}
+
+/// What a command answers to what it reads from the source.
+fn respond_to_source<S: Source, H: Shelf>(
+    alloc: Global,
+    command: Command,
+    source: &mut S,
+    shelf: &mut H,
+    crowd: &mut Crowd,
+) -> Result<Answer, Unanswered>
+    requires meant { (a : Asked) × IsAvailable a × Means command a }
+    requires rules { ⟦<Crowd as Findings>⟧.rules crowd.old ≡ all_rules }
+    requires fresh { ⟦<Crowd as Observer>⟧.stands_for crowd.old [] }
+    ensures due { (a : Asked) → Means command a → IfOk result (λ given. (due : Due) × (bytes : List ℕ)
+        × IfSome (S.left source.old) (λ all. all ≡ bytes)
+        × IsAnswered a bytes (record {
+          handed = H.handed shelf.new;
+          lent = H.lent shelf.new;
+          same = shelf.new ≡ shelf.old;
+        }) due
+        × (given.status ≡ due.status)
+        × (given.bytes.items ≡ due.bytes)
+        × ⟦<Crowd as Observer>⟧.stands_for crowd.new due.told) }
+    ensures fault { IsErrOf result Unanswered.ReadFault → HasRisen (S.faults source.old) (S.faults source.new)
+        × (shelf.new ≡ shelf.old)
+        × ⟦<Crowd as Observer>⟧.stands_for crowd.new [] }
+    ensures shelf { ((budget : ℕ) (chosen : List ℕ) → Means command (lint budget chosen) → ⊥)
+        → shelf.new ≡ shelf.old }
+    ensures same_rules { ⟦<Crowd as Findings>⟧.rules crowd.new ≡ ⟦<Crowd as Findings>⟧.rules crowd.old }
+{
+    match read_all(alloc, source, Form::of(command).most_bytes()) {
+        Ok(bytes) => Ok(respond(alloc, command, &bytes, shelf, crowd)?),
+        Err(ReadRefusal::TooLong) => Ok(refused(alloc, &Refusal::TooLong)?),
+        Err(ReadRefusal::ReadFault) => Err(Unanswered::ReadFault),
+        Err(ReadRefusal::NoMemory) => Err(Unanswered::NoMemory),
+    }
+}
+
+/// The answer to bad words.
+fn bad_words(alloc: Global) -> Result<Answer, Unanswered>
+    ensures { IfOk result (λ a. (a.status ≡ (line_only BadWords (codes "bad words")).status)
+        × (a.bytes.items ≡ (line_only BadWords (codes "bad words")).bytes)) }
+{
+    Ok(line_only(alloc, Status::BadWords, "bad words")?)
 }
 
 /// What is due to these words, read from the source where they are a command.
@@ -71,18 +117,10 @@ fn due<S: Source, H: Shelf>(
     ensures unread { request (texts words.now) ≡ None → source.new ≡ source.old }
     ensures same_rules { ⟦<Crowd as Findings>⟧.rules crowd.new ≡ ⟦<Crowd as Findings>⟧.rules crowd.old }
 {
-    let command = match request(alloc, words) {
-        Ok(command) => command,
-        Err(WordsRefusal::BadWords) => {
-            return Ok(line_only(alloc, Status::BadWords, "bad words")?);
-        }
-        Err(WordsRefusal::NoMemory) => return Err(Unanswered::NoMemory),
-    };
-    match read_all(alloc, source, Form::of(command).most_bytes()) {
-        Ok(bytes) => Ok(respond(alloc, command, &bytes, shelf, crowd)?),
-        Err(ReadRefusal::TooLong) => Ok(refused(alloc, &Refusal::TooLong)?),
-        Err(ReadRefusal::ReadFault) => Err(Unanswered::ReadFault),
-        Err(ReadRefusal::NoMemory) => Err(Unanswered::NoMemory),
+    match request(alloc, words) {
+        Ok(command) => respond_to_source(alloc, command, source, shelf, crowd),
+        Err(WordsRefusal::BadWords) => bad_words(alloc),
+        Err(WordsRefusal::NoMemory) => Err(Unanswered::NoMemory),
     }
 }
 

@@ -1,4 +1,4 @@
-use Rattle.std.proofs.Common.{◌∙◌, ap}
+use Rattle.std.proofs.Common.{◌∙◌, ap, sym}
 use Rattle.jl_app.specs.Forms.{is_sound}
 use Rattle.jl_app.proofs.Refusing.{early_at, left_out_at, hooks_name_at}
 use Rattle.jl_app.proofs.accept.checked.Goals as goal
@@ -9,7 +9,7 @@ returns-in-Ok-clause-sound c = ap (is_sound c.args.form) c.in-Ok.ensures
 pub returns-then-may_name_hooks-clause-sound : goal.returns-then-may_name_hooks-clause-sound
 returns-then-may_name_hooks-clause-sound c =
     let found = rw c.in-Err-ReservedName.field-0-is at c.in-Err-ReservedName.ensures in
-    ap (is_sound c.args.form) found ∙ c.may_name_hooks.ensures
+    ap (is_sound c.args.form) found ∙ (sym c.may_name_hooks.ensures ∙ c.if-may_name_hooks.true)
 
 pub returns-in-Err-Early-clause-refused : goal.returns-in-Err-Early-clause-refused
 returns-in-Err-Early-clause-refused c = λ bytes read same.
@@ -25,5 +25,5 @@ returns-in-Err-LeftOut-clause-refused c = λ bytes read same.
 pub returns-in-Err-ReservedName-clause-refused : goal.returns-in-Err-ReservedName-clause-refused
 returns-in-Err-ReservedName-clause-refused c = λ bytes read same.
     let broken = rw c.in-Err-ReservedName.field-0-is at c.in-Err-ReservedName.ensures in
-    hooks_name_at c.args.form bytes _ _ c.in-Err-ReservedName.span _ c.may_name_hooks.ensures read same broken
-    c.position-at-in-Err-ReservedName.ensures
+    hooks_name_at c.args.form bytes _ _ c.in-Err-ReservedName.span _
+    (sym c.may_name_hooks.ensures ∙ c.if-may_name_hooks.false) read same broken c.position-at-in-Err-ReservedName.ensures

@@ -9,6 +9,6 @@ pub returns : goal.returns
 returns c = (
   refl,
   c.in_ok-to_utf8.ensures
-      ∙ ap bytes_of (c.in_ok-text.ensures
+      ∙ ap bytes_of (c.deref.ensures.value ∙ c.in_ok-text.ensures
       ∙ of_kinds_text c.all.result every_kind c.all.ensures (view c.args.program.now)),
 )

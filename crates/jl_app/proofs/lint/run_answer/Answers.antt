@@ -1,12 +1,10 @@
-use Rattle.std.proofs.Common.{◌≡◌, ◌∙◌, ◌++◌, [], ap, length, subst, List, ℕ}
+use Rattle.std.proofs.Common.{◌≡◌, ◌∙◌, ◌++◌, [], ap, length}
 use Rattle.jl_ast.specs.View.{view}
-use Rattle.jl_machine.specs.Runs.{hooked_mean, IsRun}
 use Rattle.jl_machine.specs.declared.ending.Run.{Run}
 use Rattle.jl_op.specs.KindSets.{is_member}
 use Rattle.jl_op.specs.declared.kind.OpKind.{OpKind}
 use Rattle.jl_app.specs.Answers.{end_line, lint_status, woven_budget}
 use Rattle.jl_app.specs.MapLines.{begins}
-use Rattle.jl_command.specs.Meant.{IsChoice}
 use Rattle.jl_app.specs.OwnRuns.{uncaught_line}
 use Rattle.jl_app.specs.Reporting.{lines_text}
 use Rattle.jl_app.specs.WovenText.{kinds_of}
@@ -19,9 +17,8 @@ returns-clause-run g c = λ chosen choice.
     let run : Run = c.in_ok-run.run' in
     let same : (kind : OpKind) → is_member c.needs.result kind ≡ kinds_of chosen kind = λ kind.
     c.needs.ensures kind ∙ same_kinds c.args.rules chosen choice kind in
-    let is = subst (λ n. IsRun _ [] n (hooked_mean (is_member c.needs.result) (view c.args.woven.now) n) run
-    c.run.new.observer) c.woven_budget.ensures (c.in_ok-run.ensures.is [] c.requires.fresh) in
-    is_linted _ _ run c.needs.result chosen same (view c.args.woven.now) (woven_budget c.args.budget) is
+    is_linted _ _ run c.needs.result chosen same (view c.args.woven.now) c.woven_budget.result
+    (woven_budget c.args.budget) c.woven_budget.ensures (c.in_ok-run.ensures.is [] c.requires.fresh)
     c.args.accepted.now.source (view c.args.accepted.now.program)
     c.deref.result.now c.in_ok-lines.lines.items c.lint_status.result c.in_ok-written.field-0.items
     (c.deref.ensures.value ∙ c.in_ok-places.ensures ∙ ap begins c.in_ok-map_of.ensures)
@@ -34,6 +31,5 @@ pub returns-clause-told : goal.returns-clause-told
 returns-clause-told g c = λ chosen choice.
     let same : (kind : OpKind) → is_member c.needs.result kind ≡ kinds_of chosen kind = λ kind.
     c.needs.ensures kind ∙ same_kinds c.args.rules chosen choice kind in
-    let is = subst (λ n. IsRun _ [] n (hooked_mean (is_member c.needs.result) (view c.args.woven.now) n) c.in_ok-run.run'
-    c.run.new.observer) c.woven_budget.ensures (c.in_ok-run.ensures.is [] c.requires.fresh) in
-    told _ _ c.in_ok-run.run' c.needs.result chosen same (view c.args.woven.now) (woven_budget c.args.budget) is
+    told _ _ c.in_ok-run.run' c.needs.result chosen same (view c.args.woven.now) c.woven_budget.result
+    (woven_budget c.args.budget) c.woven_budget.ensures (c.in_ok-run.ensures.is [] c.requires.fresh)
