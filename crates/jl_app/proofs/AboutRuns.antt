@@ -1,7 +1,6 @@
 -- What is answered of a run that simulates another is about that other run.
-use Rattle.std.proofs.Common.{◌≡◌, ℕ, ◌+◌, ◌*◌, ◌-◌, ◌≤◌, ◌⊎◌, inl, inr, ◌++◌, Bool, List, [], ◌∷◌, length, filter, refl}
-use Rattle.std.proofs.Common.{sym, ap, ◌∙◌}
-use Rattle.std.proofs.Common.{subst, arith}
+use Rattle.std.proofs.Common.{◌≡◌, ℕ, ◌+◌, ◌*◌, ◌-◌, ◌≤◌, ◌⊎◌, inl, inr, ◌++◌, Bool, List, length, refl, sym, ap}
+use Rattle.std.proofs.Common.{◌∙◌, subst, arith}
 use Rattle.jl_analysis.specs.Laws.{NeededIsEnough}
 use Rattle.jl_ast.specs.Tree.{Program}
 use Rattle.jl_effects.specs.Growing.{IsLonger, IsPrefix}
@@ -198,6 +197,7 @@ module _ (enough : NeededIsEnough) (call : Call) (units : List ℕ) (p : Program
       where
         go : (r : mean.Run) → second most ≡ r
             → IsAbout call units p chosen most (first most) (lint_status (ending_of (quiet (second most))) lines)
-            ⊎ IsAboutBeginning call units p chosen most (first most) (lint_status (ending_of (quiet (second most))) lines)
+            ⊎ IsAboutBeginning call units p chosen most (first most)
+            (lint_status (ending_of (quiet (second most))) lines)
         go (Over e left w) is = inl (about_most (subst (λ (x : mean.Run). IsOver x) (sym is) tt))
         go (Spent w) is = inr (about_beginning w is)

@@ -1,6 +1,6 @@
 -- A choice of rules, by a set and by numbers: the kinds that they look at, and their reports, are the same.
-use Rattle.std.proofs.Common.{◌≡◌, ℕ, zero, suc, ◌+◌, ◌≤◌, ◌<◌, Bool, true, false, ◌&&◌, ◌||◌, not, nat_lt, List, [], None}
-use Rattle.std.proofs.Common.{if◌then◌else◌, ◌⊎◌, inl, inr, refl, sym, ap, ap₂, ◌∙◌, arith, count_by}
+use Rattle.std.proofs.Common.{◌≡◌, ℕ, zero, suc, ◌+◌, ◌≤◌, ◌<◌, Bool, true, false, ◌&&◌, ◌||◌, not, nat_lt}
+use Rattle.std.proofs.Common.{List, [], None, if◌then◌else◌, ◌⊎◌, inl, inr, refl, sym, ap, ap₂, ◌∙◌, arith, count_by}
 use Rattle.std.proofs.lemmas.Option.{slice_get_past}
 use Rattle.std.specs.List.{list_any}
 use Rattle.jl_analysis.specs.Chosen.{is_chosen}
@@ -33,7 +33,8 @@ same_any f g first (suc count) same =
 pub same_kinds : (set : RuleSet) (chosen : List ℕ) → IsChoice set chosen → (kind : OpKind)
     → is_needed (is_chosen set) kind ≡ kinds_of chosen kind
 same_kinds set chosen is kind =
-    same_any (λ rule. is_chosen set rule && looks_at rule kind) (λ rule. is_among chosen rule && looks_at rule kind) 1 20
+    same_any (λ rule. is_chosen set rule && looks_at rule kind) (λ rule. is_among chosen rule && looks_at rule kind)
+    1 20
     (λ rule low high. ap (λ b. b && looks_at rule kind) (is rule (low, omega (arith, high))))
 
 small : (k : ℕ) → nat_lt k 20 ≡ true → suc k ≤ 20

@@ -30,7 +30,8 @@ use Rattle.jl_app.proofs.OwnRun.{same_run}
 same_asked : {a b : Asked} → Some a ≡ Some b → a ≡ b
 same_asked e = cc
 
--- What holds of the answer to what the woven script means, without what it performs itself, holds of what `lint` answers.
+-- What holds of the answer to what the woven script means, without what it performs itself, holds of what `lint`
+-- answers.
 module _ (call : Call) (p : Program Span) (budget : ℕ) (chosen : List ℕ) (well : IsWovenWell (kinds_of chosen) p)
     (units : List ℕ) (Says : Status → Type 0) where
   abbrev steps : ℕ
@@ -105,8 +106,8 @@ module _ {call : Call} {answer : Status} (enough : NeededIsEnough) (one : OneRea
 
   in_time : IsOver (own_run p budget) → about p budget answer
   in_time over =
-      says_so call p budget chosen well (units_of bytes) (about p budget) one never ends bytes held is words lent answers
-      refl
+      says_so call p budget chosen well (units_of bytes) (about p budget) one never ends bytes held is words lent
+      answers refl
       (λ lines count report grows knows. about_own enough call (units_of bytes) p chosen (own_run p)
       (woven_mean (kinds_of chosen) p) well.simulates (woven_budget budget) lines count report grows knows budget
       (31 * budget + 64) refl (omega arith) (well.longer budget (31 * budget + 64)) over)

@@ -1,5 +1,5 @@
--- A run that keeps fewer of its hooks is simulated where the run with all of them is, since of the first run no hooks are
--- looked at.
+-- A run that keeps fewer of its hooks is simulated where the run with all of them is, since of the first run no hooks
+-- are looked at.
 use Rattle.std.proofs.Common.{◌≡◌, ℕ, ◌≤◌, Bool, refl, sym, ap, ◌∙◌, subst}
 use Rattle.jl_effects.specs.Matching.{Alike, IsWithin, Simulates, bound}
 use Rattle.jl_effects.specs.Running.{IsOver, Outcome, Over, RunState, Spent, state_of, steps_taken}

@@ -116,8 +116,8 @@ never_both form bytes p _ a (not_utf8 short bad) = bad a.decoded
 never_both form bytes p _ a (bad_input at kind text bad) =
     never_both_tokens (units_of bytes) a.tokens at kind a.lexed bad
 never_both form bytes p _ a (unreadable ts at has none place) =
-    none p (subst (λ us. Reads us (most_levels form) p) (tokens_are_unique (units_of bytes) a.tokens ts a.lexed has.lexed)
-    a.read)
+    none p (subst (λ us. Reads us (most_levels form) p)
+    (tokens_are_unique (units_of bytes) a.tokens ts a.lexed has.lexed) a.read)
 never_both form bytes p _ a (early_rule q rule s read e) = broken form bytes p q (early rule s) a read e refl
 never_both form bytes p _ a (left_out_name q name s read e) = broken form bytes p q (left_out name s) a read e refl
 never_both form bytes p _ a (hooks_name q s may read e) = broken form bytes p q (reserved_name s) a read e may
@@ -144,7 +144,8 @@ module _ (form : Form) (bytes : List ℕ) where
       )
 
   by_hooks_name : (ts : List Token) (p : Program Span) (s : Span) (may : Bool) → HasTokens form bytes ts
-      → Reads ts (most_levels form) p → first_early_error p ≡ Some (reserved_name s) → may_name_hooks form ≡ may → Answer
+      → Reads ts (most_levels form) p → first_early_error p ≡ Some (reserved_name s) → may_name_hooks form ≡ may
+      → Answer
   by_hooks_name ts p s true has read e m = sound_program ts p has read (ap (is_sound form) e ∙ m)
   by_hooks_name ts p s false has read e m =
       inr (
@@ -181,8 +182,8 @@ module _ (form : Form) (bytes : List ℕ) where
   by_tokens : IsText form bytes → Answer
   by_tokens text =
       elim (tokens_or_bad (units_of bytes)) [
-        | inl found ↦ by_program found.0 (program_at found.0 (most_levels form)) (record { text = text; lexed = found.1 })
-            refl
+        | inl found ↦ by_program found.0 (program_at found.0 (most_levels form))
+            (record { text = text; lexed = found.1 }) refl
         | inr bad ↦ inr (refusals.BadInput bad.1 (position_in bytes bad.0), bad_input bad.0 bad.1 text bad.2)
       ]
 

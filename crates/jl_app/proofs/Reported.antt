@@ -1,4 +1,5 @@
--- The text of a report grows by that of a line; and the report of the operations that chosen rules look at is that of all.
+-- The text of a report grows by that of a line; and the report of the operations that chosen rules look at is that of
+-- all.
 use Rattle.std.proofs.Common.{◌≡◌, ℕ, ◌<◌, ◌^◌, ◌++◌, List, [], ◌∷◌, length, take, get_or, ◌+◌, refl, sym, ap, ◌∙◌}
 use Rattle.std.proofs.Common.{subst}
 use Rattle.std.proofs.Common.{arith, append_assoc, append-nil, add-one}

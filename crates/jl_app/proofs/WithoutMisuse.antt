@@ -58,7 +58,8 @@ without_misuse safe woven_safe well a bytes p is = by_command a
     by_command : (a : Asked) → RunsWithoutMisuse a p
     by_command (lint budget chosen) = λ q read.
         subst (λ (r : Run). EndsWithoutMisuse r)
-        (sym (same_run (kinds_of chosen) p q (woven_budget budget) ((well (kinds_of chosen) bytes p is).back.same q read)))
+        (sym (same_run (kinds_of chosen) p q (woven_budget budget)
+        ((well (kinds_of chosen) bytes p is).back.same q read)))
         (woven p all_woven (kinds_of chosen) (woven_budget budget))
     by_command (run budget) = own p (λ chosen n. safe chosen p legal n) budget
     by_command (trace budget) = traced p all_woven (woven_budget budget)

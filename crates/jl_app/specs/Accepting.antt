@@ -12,8 +12,8 @@ use Rattle.jl_app.specs.Forms.{is_sound, most_bytes, most_levels}
 use Rattle.jl_app.specs.declared.form.Form.{Form}
 use Rattle.jl_app.specs.declared.form.Form.TheVariants as forms
 
--- The bytes are read as the program p, which is sound: there are not too many, they are UTF-8, they have tokens, and the
--- program has not too many levels.
+-- The bytes are read as the program p, which is sound: there are not too many, they are UTF-8, they have tokens, and
+-- the program has not too many levels.
 pub record IsRead (form : Form) (bytes : List ℕ) (p : Program Span) : Type 0 where
   pub short : length bytes ≤ most_bytes form
   pub decoded : IsUtf8 bytes

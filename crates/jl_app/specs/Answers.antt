@@ -1,5 +1,6 @@
 -- What is due to a list of words, and to a script.
-use Rattle.std.specs.Prelude.{◌≡◌, ℕ, ◌+◌, ◌*◌, ◌<◌, ◌^◌, List, [], ◌∷◌, ◌++◌, Option, Some, None, IfSome, length, codes}
+use Rattle.std.specs.Prelude.{◌≡◌, ℕ, ◌+◌, ◌*◌, ◌<◌, ◌^◌, List, [], ◌∷◌, ◌++◌, Option, Some, None, IfSome, length}
+use Rattle.std.specs.Prelude.{codes}
 use Rattle.std.specs.Fmt.{decimal}
 use Rattle.jl_ast.specs.Table.{table}
 use Rattle.jl_ast.specs.Tree.{Program}
@@ -167,14 +168,15 @@ traced r steps = record {
 
 -- what `trace` answers to it with this budget: the run of the woven script
 pub data IsTraced (p : Program Span) (budget : ℕ) : Due → Type 0 where
-  ended_woven : IsTraced p budget (traced (program_run (woven_program every_kind p) (woven_budget budget)) (woven_budget budget))
+  ended_woven : IsTraced p budget
+      (traced (program_run (woven_program every_kind p) (woven_budget budget)) (woven_budget budget))
 
 -- what `exec` answers to a woven text that is read as the program q, with this budget: its run as it stands
 pub data IsTracedAlone (q : Program Span) (budget : ℕ) : Due → Type 0 where
   ended_alone : IsTracedAlone q budget (traced (program_run q budget) budget)
 
--- What a command answers to a source of these units that is read as this program. `lint` hands the shelf the text of the
--- script that is woven for the kinds that its rules look at; no other command touches it.
+-- What a command answers to a source of these units that is read as this program. `lint` hands the shelf the text of
+-- the script that is woven for the kinds that its rules look at; no other command touches it.
 abbrev pub Responds : Asked → (units : List ℕ) → Program Span → OnShelf → Due → Type 0
 Responds (lint budget chosen) units p shelf due =
     (shelf.handed ≡ woven_text (kinds_of chosen) p) × IsLinted units p budget chosen shelf.lent due

@@ -37,24 +37,25 @@ kept_of chosen operations = filter (is_kept (kinds_of chosen)) operations
 -- The answer is about this run of the script p with n steps, which is over. The script stands in a source of these
 -- units. What was written begins with what the run printed; the lines are those of all of the run's operations by the
 -- rules with these numbers; the crowd was told of those operations whose kind one of these rules looks at, and they are
--- counted; the end and the status are those of the run; and the steps that are told are no fewer than the run's, and not
--- many more.
+-- counted; the end and the status are those of the run; and the steps that are told are no fewer than the run's, and
+-- not many more.
 pub record IsAbout (call : Call) (units : List ℕ) (p : Program Span) (chosen : List ℕ) (n : ℕ) (own : mean.Run)
     (answer : Status) : Type 0 where
   pub over : IsOver own
   pub lines : Lines
   pub steps : ℕ
   pub count : ℕ
-  pub report : IsReported units p chosen (kept_of chosen (world_of own).operations) (world_of own).operations lines count
+  pub report : IsReported units p chosen (kept_of chosen (world_of own).operations) (world_of own).operations lines
+      count
   pub status : answer ≡ lint_status (ending_of own) lines
   pub written : Grows call.written.0 call.written.1 (lint_bytes own lines steps count)
   pub no_fewer : steps_taken n own ≤ steps
   pub not_many_more : steps ≤ 32 * steps_taken n own + 64
   pub told : call.knows (kept_of chosen (world_of own).operations)
 
--- The steps of the woven script, which are so many, were spent, and the answer is about the beginning of this run of the
--- script p: what was written begins with the first that the run printed; and the lines are those of the first of its
--- operations whose kind one of the rules looks at, which the crowd was told of.
+-- The steps of the woven script, which are so many, were spent, and the answer is about the beginning of this run of
+-- the script p: what was written begins with the first that the run printed; and the lines are those of the first of
+-- its operations whose kind one of the rules looks at, which the crowd was told of.
 pub record IsAboutBeginning (call : Call) (units : List ℕ) (p : Program Span) (chosen : List ℕ) (n : ℕ) (own : mean.Run)
     (answer : Status) : Type 0 where
   pub output : List ℕ

@@ -17,8 +17,8 @@ use Rattle.jl_app.specs.WovenText.{kinds_of, woven_text}
 abbrev pub EndsWithoutMisuse : Run → Type 0
 EndsWithoutMisuse r = FailsAllowed IsNoMisuse r
 
--- What is run for a command and the script p is not ended by it: the program that is read from the text that `lint` hands
--- to the shelf, the script for `run`, and the woven script for `trace`.
+-- What is run for a command and the script p is not ended by it: the program that is read from the text that `lint`
+-- hands to the shelf, the script for `run`, and the woven script for `trace`.
 abbrev pub RunsWithoutMisuse : Asked → Program Span → Type 0
 RunsWithoutMisuse (lint budget chosen) p =
     (q : Program Span) → IsReadBack (woven_text (kinds_of chosen) p) q

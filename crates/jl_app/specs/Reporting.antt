@@ -18,8 +18,8 @@ Lines = List Line
 abbrev pub positions : (units : List ℕ) → (places : List ℕ) → List Place
 positions units places = map (position_of units) places
 
--- These are the lines of the report of the rules with these numbers, but for what the comments of the source switch off,
--- on these operations, whose ids have these places in the source.
+-- These are the lines of the report of the rules with these numbers, but for what the comments of the source switch
+-- off, on these operations, whose ids have these places in the source.
 pub record IsReport (units places chosen : List ℕ) (operations : List Operation) (lines : Lines) : Type 0 where
   pub comments : List Comment
   pub are : Comments units comments

@@ -30,8 +30,8 @@ pub fn one_reading()
     ensures { OneReading }
 {}
 
-/// What an answer of `lint` rests on, for every set of kinds: the woven script of an accepted one simulates it, its text
-/// is short enough for a shelf and reads back as it, and its run is what it means.
+/// What an answer of `lint` rests on, for every set of kinds: the woven script of an accepted one simulates it, its
+/// text is short enough for a shelf and reads back as it, and its run is what it means.
 pub(crate) fn scripts_are_woven_well()
     ensures { (kinds : Kinds) (bytes : List ℕ) (p : Program Span) → IsAccepted bytes p → IsWovenWell kinds p }
 {

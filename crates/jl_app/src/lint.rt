@@ -104,8 +104,8 @@ fn written(alloc: Global, run: &Run, lines: &[Line]) -> Result<Vec<u8>, AllocErr
     )
 }
 
-/// Runs the program that is read from the shelf, and answers what it printed, the report of its operations by the chosen
-/// rules at the places of the script, and how it ended.
+/// Runs the program that is read from the shelf, and answers what it printed, the report of its operations by the
+/// chosen rules at the places of the script, and how it ended.
 fn run_answer(
     alloc: Global,
     accepted: &Accepted,

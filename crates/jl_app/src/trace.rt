@@ -61,8 +61,8 @@ pub(crate) fn trace_alone(
     })
 }
 
-/// What `trace` answers to a script that is accepted as this program: it runs woven, with as many steps as that has where
-/// the script has at most so many.
+/// What `trace` answers to a script that is accepted as this program: it runs woven, with as many steps as that has
+/// where the script has at most so many.
 pub(crate) fn trace(alloc: Global, program: &Program, budget: u64) -> Result<Answer, AllocError>
     requires few { HasFewIds (view program.now) }
     requires budget { budget ≤ 1000000000 }

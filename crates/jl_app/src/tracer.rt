@@ -1,5 +1,5 @@
 //! Who writes down the operations of a run.
-ghost use Rattle.std.specs.Prelude.{◌≡◌, [], ◌∷◌, ◌++◌, IfOk, OnOk};
+ghost use Rattle.std.specs.Prelude.{◌≡◌, ◌++◌, [], List, IfOk, OnOk};
 ghost use Rattle.jl_op.specs.Operations.{Operation};
 ghost use Rattle.jl_app.specs.Tracing.{trace_line, trace_lines};
 
@@ -7,7 +7,8 @@ use jl_op::{Observer, Op, OpId, op_text};
 use jl_text::to_utf8;
 use std::alloc::{AllocError, Global};
 
-/// An observer that writes a line for each operation, in UTF-8. Once it finds no memory left, it refuses each later one.
+/// An observer that writes a line for each operation, in UTF-8. Once it finds no memory left, it refuses each later
+/// one.
 #[derive(Drop)]
 pub(crate) struct Tracer {
     alloc: Global,

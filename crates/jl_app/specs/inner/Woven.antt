@@ -18,8 +18,8 @@ pub record ReadsBackAsWoven (kinds : Kinds) (p : Program Span) : Type 0 where
   pub read : IsReadBack (woven_text kinds p) program
   pub same : (q : Program Span) → IsReadBack (woven_text kinds p) q → without_spans q ≡ woven_program kinds p
 
--- the woven script simulates the script; its text reads back; its run is what it means; and the script's own run goes on
--- as long as there are steps
+-- the woven script simulates the script; its text reads back; its run is what it means; and the script's own run goes
+-- on as long as there are steps
 pub record IsWovenWell (kinds : Kinds) (p : Program Span) : Type 0 where
   pub simulates : Simulates (is_kept kinds) (own_run p) (woven_mean kinds p)
   pub back : ReadsBackAsWoven kinds p

@@ -26,4 +26,5 @@ pub returns-in-Err-ReservedName-clause-refused : goal.returns-in-Err-ReservedNam
 returns-in-Err-ReservedName-clause-refused c = λ bytes read same.
     let broken = rw c.in-Err-ReservedName.field-0-is at c.in-Err-ReservedName.ensures in
     hooks_name_at c.args.form bytes _ _ c.in-Err-ReservedName.span _
-    (sym c.may_name_hooks.ensures ∙ c.if-may_name_hooks.false) read same broken c.position-at-in-Err-ReservedName.ensures
+    (sym c.may_name_hooks.ensures ∙ c.if-may_name_hooks.false) read same broken
+    c.position-at-in-Err-ReservedName.ensures

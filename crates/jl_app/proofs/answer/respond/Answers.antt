@@ -21,7 +21,8 @@ use Rattle.jl_app.proofs.answer.respond.Goals as goal
 pub accept-requires : goal.accept-requires
 accept-requires g c =
     let meant = c.requires.meant in
-    subst (λ f. length c.args.bytes.now ≤ most_bytes f) (sym (c.of-form.ensures ∙ same_form c.args.command meant.0 meant.2))
+    subst (λ f. length c.args.bytes.now ≤ most_bytes f)
+    (sym (c.of-form.ensures ∙ same_form c.args.command meant.0 meant.2))
     (c.requires.small meant.0 meant.2)
 
 pub lint-requires-clause-few : goal.lint-requires-clause-few
@@ -35,7 +36,7 @@ lint-requires-clause-lexed g c =
 pub lint-requires-clause-budget : goal.lint-requires-clause-budget
 lint-requires-clause-budget g c =
     let meant = c.requires.meant in
-    (asked_lint meant.0 (subst (λ (x : Command). Means x meant.0) c.in-Lint.is meant.2)).2.1
+    (asked_lint meant.0 (subst (λ (x : Command). Means x meant.0) c.in-Lint.is meant.2)).2
 
 pub instrument-requires : goal.instrument-requires
 instrument-requires g c = c.in-Ok.ensures.few
@@ -78,8 +79,8 @@ returns-in-Lint-clause-due g c = λ a means.
     both_ok c.lint.result _ _
     (λ given due handed. (
       due.0,
-      answers a (asked.lint c.in-Lint.budget is.0) c.of-form.result p is.1 (c.of-form.ensures ∙ same_form c.args.command a means) read.0
-          (handed, same_source _ _ read.1 due.1),
+      answers a (asked.lint c.in-Lint.budget is.0) c.of-form.result p is.1
+          (c.of-form.ensures ∙ same_form c.args.command a means) read.0 (handed, same_source _ _ read.1 due.1),
       due.2,
       due.3,
       due.4,
@@ -100,7 +101,8 @@ returns-in-Run-clause-due g c = λ a means.
     IfOk-weaker c.execute.result _ _
     (λ given answered. (
       executed (program_run p c.in-Run.budget) c.in-Run.budget,
-      answers a (asked.run c.in-Run.budget) c.of-form.result p is (c.of-form.ensures ∙ same_form c.args.command a means) c.in-Ok.ensures.accepted.0 (refl, ended),
+      answers a (asked.run c.in-Run.budget) c.of-form.result p is
+          (c.of-form.ensures ∙ same_form c.args.command a means) c.in-Ok.ensures.accepted.0 (refl, ended),
       answered.0,
       answered.1,
       c.requires.fresh,
@@ -114,7 +116,8 @@ returns-in-Check-clause-due g c = λ a means.
     IfOk-weaker c.check.result _ _
     (λ given answered. (
       functions_line p,
-      answers a asked.check c.of-form.result p is (c.of-form.ensures ∙ same_form c.args.command a means) c.in-Ok.ensures.accepted.0 (refl, counted),
+      answers a asked.check c.of-form.result p is
+          (c.of-form.ensures ∙ same_form c.args.command a means) c.in-Ok.ensures.accepted.0 (refl, counted),
       answered.0,
       answered.1,
       c.requires.fresh,
@@ -128,7 +131,8 @@ returns-in-Print-clause-due g c = λ a means.
     IfOk-weaker c.print.result _ _
     (λ given answered. (
       canonical_text p,
-      answers a asked.print c.of-form.result p is (c.of-form.ensures ∙ same_form c.args.command a means) c.in-Ok.ensures.accepted.0 (refl, written),
+      answers a asked.print c.of-form.result p is
+          (c.of-form.ensures ∙ same_form c.args.command a means) c.in-Ok.ensures.accepted.0 (refl, written),
       answered.0,
       answered.1,
       c.requires.fresh,
@@ -142,7 +146,8 @@ returns-in-Instrument-clause-due g c = λ a means.
     IfOk-weaker c.instrument.result _ _
     (λ given answered. (
       instrumented p,
-      answers a asked.instrument c.of-form.result p is (c.of-form.ensures ∙ same_form c.args.command a means) c.in-Ok.ensures.accepted.0 (refl, text),
+      answers a asked.instrument c.of-form.result p is
+          (c.of-form.ensures ∙ same_form c.args.command a means) c.in-Ok.ensures.accepted.0 (refl, text),
       answered.0,
       answered.1,
       c.requires.fresh,
@@ -157,7 +162,8 @@ returns-in-Map-clause-due g c = λ a means.
     IfOk-weaker c.list_map.result _ _
     (λ given answered. (
       listed_map units p,
-      answers a asked.map_of_ids c.of-form.result p is (c.of-form.ensures ∙ same_form c.args.command a means) c.in-Ok.ensures.accepted.0 (refl, listed),
+      answers a asked.map_of_ids c.of-form.result p is
+          (c.of-form.ensures ∙ same_form c.args.command a means) c.in-Ok.ensures.accepted.0 (refl, listed),
       answered.0,
       answered.1 ∙ ap (λ us. (listed_map us p).bytes) c.in-Ok.ensures.accepted.1,
       c.requires.fresh,
@@ -170,8 +176,10 @@ returns-in-Trace-clause-due g c = λ a means.
     let is = asked_trace a (subst (λ (x : Command). Means x a) c.in-Trace.is means) in
     IfOk-weaker c.trace.result _ _
     (λ given answered. (
-      traced (program_run (woven_program every_kind p) (woven_budget c.in-Trace.budget)) (woven_budget c.in-Trace.budget),
-      answers a (asked.trace c.in-Trace.budget) c.of-form.result p is.0 (c.of-form.ensures ∙ same_form c.args.command a means) c.in-Ok.ensures.accepted.0 (refl, ended_woven),
+      traced (program_run (woven_program every_kind p) (woven_budget c.in-Trace.budget))
+          (woven_budget c.in-Trace.budget),
+      answers a (asked.trace c.in-Trace.budget) c.of-form.result p is.0
+          (c.of-form.ensures ∙ same_form c.args.command a means) c.in-Ok.ensures.accepted.0 (refl, ended_woven),
       answered.0,
       answered.1,
       c.requires.fresh,
@@ -185,7 +193,8 @@ returns-clause-due g c = λ a means.
     IfOk-weaker c.trace_alone.result _ _
     (λ given answered. (
       traced (program_run p c.in-Exec.budget) c.in-Exec.budget,
-      answers a (asked.exec c.in-Exec.budget) c.of-form.result p is (c.of-form.ensures ∙ same_form c.args.command a means) c.in-Ok.ensures.accepted.0 (refl, ended_alone),
+      answers a (asked.exec c.in-Exec.budget) c.of-form.result p is
+          (c.of-form.ensures ∙ same_form c.args.command a means) c.in-Ok.ensures.accepted.0 (refl, ended_alone),
       answered.0,
       answered.1,
       c.requires.fresh,

@@ -12,5 +12,6 @@ returns c =
     let is = all_kinds c.all.result c.all.ensures p budget (c.in_ok-run.ensures.is [] c.new-tracer.ensures) in
     let told = c.into_lines.ensures (world_of (program_run p budget)).hooks is.told in
     is_traced budget (program_run p budget) is c.into_lines.result.items told
-    (omega (arith, c.into_lines.result.ok.0, c.into_lines.result.ok.1, c.into_lines.result.small)) c.ending_status.result c.in_ok-written.field-0.items
+    (omega (arith, c.into_lines.result.ok.0, c.into_lines.result.ok.1, c.into_lines.result.small))
+    c.ending_status.result c.in_ok-written.field-0.items
     c.ending_status.ensures c.in_ok-written.ensures
