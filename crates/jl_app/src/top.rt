@@ -83,8 +83,9 @@ fn respond_to_source<S: Source, H: Shelf>(
 
 /// The answer to bad words.
 fn bad_words(alloc: Global) -> Result<Answer, Unanswered>
-    ensures { IfOk result (λ a. (a.status ≡ (line_only BadWords (codes "bad words")).status)
+    ensures line { IfOk result (λ a. (a.status ≡ (line_only BadWords (codes "bad words")).status)
         × (a.bytes.items ≡ (line_only BadWords (codes "bad words")).bytes)) }
+    ensures reads { IsErrOf result Unanswered.ReadFault → ⊥ }
 {
     Ok(line_only(alloc, Status::BadWords, "bad words")?)
 }

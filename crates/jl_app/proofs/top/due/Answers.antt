@@ -46,4 +46,7 @@ returns-in-Err-BadWords-clause-due g c =
       answered.1,
       c.requires.fresh,
     ))
-    c.bad_words.ensures
+    c.bad_words.ensures.line
+
+pub returns-in-Err-BadWords-clause-fault : goal.returns-in-Err-BadWords-clause-fault
+returns-in-Err-BadWords-clause-fault g c = λ fails. absurd (c.bad_words.ensures.reads fails)
