@@ -14,9 +14,7 @@ use crate::depth::Depth;
 use crate::expressions::expression;
 use crate::part::Part;
 use crate::refusal::{Read, Stop};
-use crate::statement_nodes::{
-    ForHead, for_in_node, for_node, init_expression, init_var, present,
-};
+use crate::statement_nodes::{ForHead, for_in_node, for_node, init_expression, init_var, present};
 use crate::statements::{declarators, sub};
 use crate::terminals::{is_close_paren, is_identifier, is_in, is_open_paren, is_semicolon, is_var};
 use crate::tokens::Tokens;
