@@ -1,13 +1,14 @@
 -- A `for` is what stands in its brackets and then its body.
-use Rattle.std.proofs.Common.{◌≡◌, ◌∙◌, ℕ, Bool, true, false, ap, refl}
+use Rattle.std.proofs.Common.{◌≡◌, ◌∙◌, ℕ, suc, Bool, true, false, ap, refl}
 use Rattle.std.specs.Prelude.{List, Option, Some, None, if◌then◌else◌}
 use Rattle.jl_text.specs.declared.span.Span.{Span}
 use Rattle.jl_token.specs.declared.token.Token.{Token}
 use Rattle.jl_ast.specs.Tree.{OptionalTree, Tree}
 use Rattle.jl_ast.specs.Tree as tree
-use Rattle.jl_grammar.specs.Reader.{◌>>=◌, Deeper, Read, done, for_from, made, sub_at}
+use Rattle.jl_grammar.specs.Next.{is_semicolon}
+use Rattle.jl_grammar.specs.Reader.{◌>>=◌, Deeper, Read, done, for_from, is_close_paren, made, optional_at, sub_at}
 use Rattle.jl_grammar.specs.Reads.{Stmt, Stmts}
-use Rattle.jl_grammar.specs.Tokens.{span}
+use Rattle.jl_grammar.specs.Tokens.{span, terminal_at}
 use Rattle.jl_parse.specs.Steps.{for_head_from}
 
 -- what comes after a test, after an answer, and after the last test
@@ -36,8 +37,11 @@ module _ (ts : List Token) (d : Deeper) (i : ℕ) (a : Tree Span tree.init × �
   head_first : for_from ts d i a ≡ (for_head_from ts d a >>= with_body)
   unfolding for_from for_head_from
   head_first =
-      after_test _ _ _ with_body (after_read _ _ _ with_body (λ b.
-      after_test _ _ _ with_body (after_read _ _ _ with_body (λ c. after_last _ _ with_body))))
+      after_test (is_semicolon (terminal_at ts a.1)) _ _ with_body
+      (after_read (optional_at ts d is_semicolon (suc a.1)) _ _ with_body (λ (b : OptionalTree Span tree.expr × ℕ).
+      after_test (is_semicolon (terminal_at ts b.1)) _ _ with_body
+      (after_read (optional_at ts d is_close_paren (suc b.1)) _ _ with_body (λ (c : OptionalTree Span tree.expr × ℕ).
+      after_last (is_close_paren (terminal_at ts c.1)) ((a.0, (b.0, c.0)), suc c.1) with_body))))
 
   pub for_no_head : for_head_from ts d a ≡ None → for_from ts d i a ≡ None
   for_no_head e = head_first ∙ ap (λ o. o >>= with_body) e
