@@ -46,88 +46,88 @@ invariant-expression_walk::add_items-loop-e l =
 -- expression.
 
 abbrev pub decreases-expression_walk::add_expression : goal.decreases-expression_walk::add_expression
-decreases-expression_walk::add_expression l = 6 * goal.size-add_expression l
+decreases-expression_walk::add_expression l = 6 * goal.size-expression_walk::add_expression l
 
 abbrev pub decreases-expression_walk::add_in_parens_unless : goal.decreases-expression_walk::add_in_parens_unless
-decreases-expression_walk::add_in_parens_unless l = 6 * goal.size-add_in_parens_unless l + 1
+decreases-expression_walk::add_in_parens_unless l = 6 * goal.size-expression_walk::add_in_parens_unless l + 1
 
 abbrev pub decreases-expression_walk::add_operand : goal.decreases-expression_walk::add_operand
-decreases-expression_walk::add_operand l = 6 * goal.size-add_operand l + 2
+decreases-expression_walk::add_operand l = 6 * goal.size-expression_walk::add_operand l + 2
 
 abbrev pub decreases-expression_walk::add_target : goal.decreases-expression_walk::add_target
-decreases-expression_walk::add_target l = 6 * goal.size-add_target l
+decreases-expression_walk::add_target l = 6 * goal.size-expression_walk::add_target l
 
 abbrev pub decreases-expression_walk::add_expressions : goal.decreases-expression_walk::add_expressions
-decreases-expression_walk::add_expressions l = 6 * goal.size-add_expressions l + 3
+decreases-expression_walk::add_expressions l = 6 * goal.size-expression_walk::add_expressions l + 3
 
 abbrev pub decreases-expression_walk::add_arguments : goal.decreases-expression_walk::add_arguments
-decreases-expression_walk::add_arguments l = 6 * goal.size-add_arguments l + 4
+decreases-expression_walk::add_arguments l = 6 * goal.size-expression_walk::add_arguments l + 4
 
 abbrev pub decreases-expression_walk::add_item : goal.decreases-expression_walk::add_item
-decreases-expression_walk::add_item l = 6 * goal.size-add_item l + 3
+decreases-expression_walk::add_item l = 6 * goal.size-expression_walk::add_item l + 3
 
 abbrev pub decreases-expression_walk::add_items : goal.decreases-expression_walk::add_items
-decreases-expression_walk::add_items l = 6 * goal.size-add_items l + 4
+decreases-expression_walk::add_items l = 6 * goal.size-expression_walk::add_items l + 4
 
 abbrev pub decreases-expression_walk::add_entries : goal.decreases-expression_walk::add_entries
-decreases-expression_walk::add_entries l = 6 * goal.size-add_entries l + 1
+decreases-expression_walk::add_entries l = 6 * goal.size-expression_walk::add_entries l + 1
 
 abbrev pub decreases-expression_walk::add_entry : goal.decreases-expression_walk::add_entry
-decreases-expression_walk::add_entry l = 6 * goal.size-add_entry l
+decreases-expression_walk::add_entry l = 6 * goal.size-expression_walk::add_entry l
 
 abbrev pub decreases-expression_walk::add_function : goal.decreases-expression_walk::add_function
-decreases-expression_walk::add_function l = 6 * goal.size-add_function l
+decreases-expression_walk::add_function l = 6 * goal.size-expression_walk::add_function l
 
 abbrev pub decreases-expression_walk::add_rest : goal.decreases-expression_walk::add_rest
-decreases-expression_walk::add_rest l = 6 * goal.size-add_rest l
+decreases-expression_walk::add_rest l = 6 * goal.size-expression_walk::add_rest l
 
 abbrev pub decreases-statement_walk::add_code : goal.decreases-statement_walk::add_code
-decreases-statement_walk::add_code l = 6 * goal.size-add_code l + 1
+decreases-statement_walk::add_code l = 6 * goal.size-statement_walk::add_code l + 1
 
 abbrev pub decreases-statement_walk::add_body : goal.decreases-statement_walk::add_body
-decreases-statement_walk::add_body l = 6 * goal.size-add_body l
+decreases-statement_walk::add_body l = 6 * goal.size-statement_walk::add_body l
 
 abbrev pub decreases-statement_walk::add_functions : goal.decreases-statement_walk::add_functions
-decreases-statement_walk::add_functions l = 6 * goal.size-add_functions l + 1
+decreases-statement_walk::add_functions l = 6 * goal.size-statement_walk::add_functions l + 1
 
 abbrev pub decreases-statement_walk::add_statements : goal.decreases-statement_walk::add_statements
-decreases-statement_walk::add_statements l = 6 * goal.size-add_statements l + 1
+decreases-statement_walk::add_statements l = 6 * goal.size-statement_walk::add_statements l + 1
 
 abbrev pub decreases-statement_walk::add_block : goal.decreases-statement_walk::add_block
-decreases-statement_walk::add_block l = 6 * goal.size-add_block l + 2
+decreases-statement_walk::add_block l = 6 * goal.size-statement_walk::add_block l + 2
 
 abbrev pub decreases-statement_walk::add_statement : goal.decreases-statement_walk::add_statement
-decreases-statement_walk::add_statement l = 6 * goal.size-add_statement l
+decreases-statement_walk::add_statement l = 6 * goal.size-statement_walk::add_statement l
 
 abbrev pub decreases-statement_walk::add_after : goal.decreases-statement_walk::add_after
-decreases-statement_walk::add_after l = 6 * goal.size-add_after l + 3
+decreases-statement_walk::add_after l = 6 * goal.size-statement_walk::add_after l + 3
 
 abbrev pub decreases-statement_walk::add_catch : goal.decreases-statement_walk::add_catch
-decreases-statement_walk::add_catch l = 6 * goal.size-add_catch l + 3
+decreases-statement_walk::add_catch l = 6 * goal.size-statement_walk::add_catch l + 3
 
 abbrev pub decreases-expression_walk::add_part : goal.decreases-expression_walk::add_part
-decreases-expression_walk::add_part l = 6 * goal.size-add_part l + 2
+decreases-expression_walk::add_part l = 6 * goal.size-expression_walk::add_part l + 2
 
 abbrev pub decreases-statement_walk::add_init : goal.decreases-statement_walk::add_init
-decreases-statement_walk::add_init l = 6 * goal.size-add_init l
+decreases-statement_walk::add_init l = 6 * goal.size-statement_walk::add_init l
 
 abbrev pub decreases-expression_walk::add_initializer : goal.decreases-expression_walk::add_initializer
-decreases-expression_walk::add_initializer l = 6 * goal.size-add_initializer l + 3
+decreases-expression_walk::add_initializer l = 6 * goal.size-expression_walk::add_initializer l + 3
 
 abbrev pub decreases-statement_walk::add_declarator : goal.decreases-statement_walk::add_declarator
-decreases-statement_walk::add_declarator l = 6 * goal.size-add_declarator l + 4
+decreases-statement_walk::add_declarator l = 6 * goal.size-statement_walk::add_declarator l + 4
 
 abbrev pub decreases-statement_walk::add_declarators : goal.decreases-statement_walk::add_declarators
-decreases-statement_walk::add_declarators l = 6 * goal.size-add_declarators l + 5
+decreases-statement_walk::add_declarators l = 6 * goal.size-statement_walk::add_declarators l + 5
 
 abbrev pub decreases-statement_walk::add_cases : goal.decreases-statement_walk::add_cases
-decreases-statement_walk::add_cases l = 6 * goal.size-add_cases l + 1
+decreases-statement_walk::add_cases l = 6 * goal.size-statement_walk::add_cases l + 1
 
 abbrev pub decreases-statement_walk::add_case : goal.decreases-statement_walk::add_case
-decreases-statement_walk::add_case l = 6 * goal.size-add_case l
+decreases-statement_walk::add_case l = 6 * goal.size-statement_walk::add_case l
 
 abbrev pub decreases-statement_walk::add_test : goal.decreases-statement_walk::add_test
-decreases-statement_walk::add_test l = 6 * goal.size-add_test l + 1
+decreases-statement_walk::add_test l = 6 * goal.size-statement_walk::add_test l + 1
 
 abbrev pub decreases-expression_walk::add_optional : goal.decreases-expression_walk::add_optional
-decreases-expression_walk::add_optional l = 6 * goal.size-add_optional l + 1
+decreases-expression_walk::add_optional l = 6 * goal.size-expression_walk::add_optional l + 1
