@@ -1,5 +1,3 @@
 pub mod Bodies
-pub mod Callees
 pub mod Constructions
 pub mod Entries
-pub mod Rows

@@ -15,7 +15,7 @@ use std::alloc::Global;
 
 /// A function that `bind` made calls its target, or constructs by it (15.3.4.5.1, 15.3.4.5.2).
 #[tactic(auto, unfolding(jl_meaning::specs::Jobs::call_bound))]
-pub(crate) fn call_bound<'p>(
+pub fn call_bound<'p>(
     alloc: Global,
     state: &mut State<'p>,
     target: ObjId,

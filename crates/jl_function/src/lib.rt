@@ -1,13 +1,10 @@
-//! Functions called: those of the script, those that are bound, and builtins.
+//! Functions called: those of the script, and those that are bound.
 #![tactic(auto)]
 
 mod bound;
-mod builtins;
-mod calls;
 mod results;
 mod script;
 
-pub use builtins::step_progress;
-pub use calls::begin_call;
+pub use bound::call_bound;
 pub use results::{step_body, step_constructed};
-pub use script::step_instance_prototype;
+pub use script::{begin_script, step_instance_prototype};

@@ -172,7 +172,7 @@ fn construct_if_known<'p>(
 }
 
 /// The function with this number is called, or with `new` constructed by.
-pub(crate) fn begin_script<'p>(
+pub fn begin_script<'p>(
     alloc: Global,
     state: &mut State<'p>,
     number: u32,

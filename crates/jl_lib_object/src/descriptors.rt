@@ -231,13 +231,13 @@ fn read_fields<'p>(
     ensures falls { IfOk result (λ act. Falls state.old (rank_use purpose + (4 * fields_from next + 4)) state.new act) }
 {
     let Some(field) = next else {
-        return take_change(alloc, state, change, purpose);
+        return Ok(take_change(alloc, state, change, purpose)?);
     };
     if has_field(alloc, &state.store, descriptor, field)? {
-        return get_field(alloc, state, field, descriptor, change, purpose);
+        return Ok(get_field(alloc, state, field, descriptor, change, purpose)?);
     }
     let change = without_field(field, change);
-    read_fields(alloc, state, next_field(field), descriptor, change, purpose)
+    Ok(read_fields(alloc, state, next_field(field), descriptor, change, purpose)?)
 }
 
 /// Whether a change is data and accessor at once.

@@ -6,3 +6,4 @@ pub mod Lists
 pub mod Heights
 pub mod Limits
 pub mod Forms
+pub mod Heads

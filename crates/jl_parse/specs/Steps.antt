@@ -7,15 +7,16 @@ use Rattle.std.specs.declared.boxed.Box.{Box}
 use Rattle.jl_text.specs.declared.span.Span.{Span}
 use Rattle.jl_token.specs.declared.token.Token.{Token}
 use Rattle.jl_ast.specs.Tree as tree
-use Rattle.jl_ast.specs.Tree.{Tree, Forest, Ident}
+use Rattle.jl_ast.specs.Tree.{Tree, Forest, Ident, OptionalTree}
 use Rattle.jl_ast.specs.View.{view_body, view_expression, view_ident, view_statement}
 use Rattle.jl_ast.specs.declared.tree.Body.{Body as CodeBody}
 use Rattle.jl_ast.specs.declared.tree.Expr.{Expr as CodeExpr}
 use Rattle.jl_ast.specs.declared.tree.Ident.{Ident as CodeIdent}
 use Rattle.jl_ast.specs.declared.tree.Stmt.{Stmt as CodeStmt}
 use Rattle.jl_grammar.specs.Brackets.{opened}
-use Rattle.jl_grammar.specs.Next.{is_colon, is_identifier}
-use Rattle.jl_grammar.specs.Reader.{◌>>=◌, Deeper, Read, done, is_case, is_default, made, statements_from}
+use Rattle.jl_grammar.specs.Next.{is_colon, is_identifier, is_semicolon}
+use Rattle.jl_grammar.specs.Reader.{◌>>=◌, Deeper, Read, done, is_case, is_close_paren, is_default, made}
+use Rattle.jl_grammar.specs.Reader.{optional_at, statements_from}
 use Rattle.jl_grammar.specs.ReaderLevels.{deeper}
 use Rattle.jl_grammar.specs.Reads.{Code, Expr, Stmt, Stmts}
 use Rattle.jl_grammar.specs.Tokens.{ident_at, terminal_at, span}
@@ -104,6 +105,17 @@ clause_of ts d fresh i =
     else (if is_default (terminal_at ts i) && (fresh && is_colon (terminal_at ts (suc i)))
     then (statements_from ts d (length ts) (suc (suc i)) >>= λ x. Some (tree.case tree.absent x.0, x.1))
     else None)
+
+-- the head of a `for` from its first semicolon to behind its `)` (12.6.3): its first part, its test and its step
+unfoldable pub for_head_from : List Token → Deeper → Tree Span tree.init × ℕ
+    → Read (Tree Span tree.init × (OptionalTree Span tree.expr × OptionalTree Span tree.expr))
+for_head_from ts d a =
+    if is_semicolon (terminal_at ts a.1)
+    then (optional_at ts d is_semicolon (suc a.1) >>= λ b. if is_semicolon (terminal_at ts b.1)
+    then (optional_at ts d is_close_paren (suc b.1) >>= λ c.
+    if is_close_paren (terminal_at ts c.1) then Some ((a.0, (b.0, c.0)), suc c.1) else None)
+    else None)
+    else None
 
 -- the infix operator that the code's is
 abbrev pub infix_operator_of : CodeInfixOperator → InfixOperator

@@ -8,13 +8,13 @@ ghost use Rattle.jl_grammar.specs.Next.{is_identifier, is_semicolon};
 ghost use Rattle.jl_grammar.specs.Reader.{for_at, for_expression_at, for_from, for_in_from, for_var_at};
 ghost use Rattle.jl_grammar.specs.Reader.{is_close_paren, is_in, optional_at, name_of};
 ghost use Rattle.jl_grammar.specs.Tokens.{terminal_at};
-ghost use Rattle.jl_parse.specs.Steps.{Gives, GivesStatement, is_end, within};
+ghost use Rattle.jl_parse.specs.Steps.{Gives, GivesStatement, for_head_from, is_end, within};
 
 use crate::depth::Depth;
 use crate::expressions::expression;
 use crate::part::Part;
 use crate::refusal::{Read, Stop};
-use crate::statement_nodes::{for_in_node, for_node, init_expression, init_var, present};
+use crate::statement_nodes::{ForHead, for_in_node, for_node, init_expression, init_var, present};
 use crate::statements::{declarators, sub};
 use crate::terminals::{is_close_paren, is_identifier, is_in, is_open_paren, is_semicolon, is_var};
 use crate::tokens::Tokens;
@@ -56,19 +56,19 @@ fn until_close(alloc: Global, tokens: &Tokens, depth: Depth, at: usize) -> Read<
     Ok((present(e), end))
 }
 
-// A `for` from its first semicolon on.
+// The head of a `for` from its first semicolon to behind its `)`.
 #[inline(never)]
 #[cycle(parser)]
-#[tactic(auto, using(jl_ast::proofs::Views::nodes), unfolding(jl_grammar::specs::Reader::for_from))]
-fn for_rest(
+#[tactic(auto, using(jl_ast::proofs::Views::nodes), unfolding(crate::specs::Steps::for_head_from))]
+fn for_head(
     alloc: Global,
     tokens: &Tokens,
     depth: Depth,
-    at: usize,
     init: Part<ForInit>,
     end: usize,
-) -> Read<Part<Stmt>>
-    ensures { GivesStatement result (for_from tokens.now (within tokens.now depth) at (view_init init, end)) }
+) -> Read<ForHead>
+    ensures { Gives (λ x. ((view_init x.0.init, (view_optional x.0.test, view_optional x.0.step)), x.1)) result
+        (for_head_from tokens.now (within tokens.now depth) (view_init init, end)) }
 {
     if !is_semicolon(tokens.terminal(end)) {
         return Err(Stop::At(end));
@@ -81,8 +81,26 @@ fn for_rest(
     if !is_close_paren(tokens.terminal(end)) {
         return Err(Stop::At(end));
     }
-    let (body, end) = sub(alloc, tokens, depth, tokens.after(end))?;
-    for_node(tokens, depth, at, init, test, step, body, end)
+    Ok((ForHead { init, test, step }, tokens.after(end)))
+}
+
+// A `for` from its first semicolon on.
+#[inline(never)]
+#[cycle(parser)]
+#[tactic(auto, using(crate::proofs::Heads::for_steps))]
+fn for_rest(
+    alloc: Global,
+    tokens: &Tokens,
+    depth: Depth,
+    at: usize,
+    init: Part<ForInit>,
+    end: usize,
+) -> Read<Part<Stmt>>
+    ensures { GivesStatement result (for_from tokens.now (within tokens.now depth) at (view_init init, end)) }
+{
+    let (head, end) = for_head(alloc, tokens, depth, init, end)?;
+    let (body, end) = sub(alloc, tokens, depth, end)?;
+    for_node(tokens, depth, at, head, body, end)
 }
 
 // A `for` after its `in`, which stands before `next`.

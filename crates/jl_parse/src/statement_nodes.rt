@@ -166,21 +166,28 @@ pub fn while_node(
     statement_node(tokens, depth, at, end, kind, height)
 }
 
+/// What stands in the brackets of a `for` (12.6.3): its first part, its test and its step.
+#[derive(Drop)]
+pub struct ForHead {
+    pub init: Part<ForInit>,
+    pub test: Part<Option<Expr>>,
+    pub step: Part<Option<Expr>>,
+}
+
 /// A `for` statement (12.6.3).
 #[inline(never)]
 pub fn for_node(
     tokens: &Tokens,
     depth: Depth,
     at: usize,
-    init: Part<ForInit>,
-    test: Part<Option<Expr>>,
-    step: Part<Option<Expr>>,
+    head: ForHead,
     body: Part<List<Stmt>>,
     end: usize,
 ) -> Read<Part<Stmt>>
-    ensures { MakesStatement tokens.now depth at end
-        (tree.for (view_init init) (view_optional test) (view_optional step) (view_statements body)) result }
+    ensures { MakesStatement tokens.now depth at end (tree.for (view_init head.init) (view_optional head.test)
+        (view_optional head.step) (view_statements body)) result }
 {
+    let ForHead { init, test, step } = head;
     let height = init.height().max(test.height());
     let height = height.max(step.height()).max(body.height());
     let kind = StmtKind::For(

@@ -7,10 +7,9 @@ ghost use Rattle.jl_state.specs.Rank.{Falls};
 ghost use Rattle.jl_state.specs.Rest.{Gives};
 ghost use Rattle.jl_state.specs.Words.{call_of, table_of};
 
-use crate::bound::call_bound;
 use crate::builtins::begin_builtin;
-use crate::script::begin_script;
 use jl_builtin::{copy_of, with_values};
+use jl_function::{begin_script, call_bound};
 use jl_heap::Inner;
 use jl_state::{Act, Invocation, State};
 use jl_text::NoMemory;
