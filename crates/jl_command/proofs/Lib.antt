@@ -1,0 +1,5 @@
+pub mod Choices
+pub mod Digits
+pub mod NamedCommands
+pub mod NamedRules
+pub mod WordLemmas

@@ -120,9 +120,12 @@ named name budget rules number =
     if bytes_eq name (codes "soak") then soak_with (soak_number number) (budget_in budget) (rules_in rules)
     else unless_given number (without_number name budget rules)
 
+-- the command that has these values, by the names of the arguments
+abbrev pub asked_with : (value : Text → Option Text) → Option Asked
+asked_with value = option_and_then
+    (λ name. named name (value (codes "budget")) (value (codes "rules")) (value (codes "number")))
+    (value (codes "command"))
+
 -- what the words ask for; where it is none, they are bad
 unfoldable pub asked : (words : List Text) → Option Asked
-asked words =
-    if is_refused words then None
-    else option_and_then (λ name. named name (given (codes "budget") words) (given (codes "rules") words)
-    (given (codes "number") words)) (given (codes "command") words)
+asked words = if is_refused words then None else asked_with (λ id. given id words)

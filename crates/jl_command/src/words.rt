@@ -1,7 +1,7 @@
 //! What the words of the command line ask for.
-ghost use Rattle.std.specs.Prelude.{◌≡◌, None, Some, codes, IfOk, IsErrOf, option_and_then};
+ghost use Rattle.std.specs.Prelude.{◌≡◌, None, Some, IfOk, IsErrOf};
 ghost use Rattle.clap.specs.Words.{app_of, first_value, found_of};
-ghost use Rattle.jl_command.specs.Asked.{Asked, asked, named, texts};
+ghost use Rattle.jl_command.specs.Asked.{Asked, asked, asked_with, texts};
 ghost use Rattle.jl_command.specs.CommandLine.{command_line};
 ghost use Rattle.jl_command.specs.Meant.{Means};
 ghost use Rattle.jl_command.specs.inner.Optional.{MeansIfAny};
@@ -78,10 +78,7 @@ fn command_line<'a>(alloc: Global) -> Result<clap::Command<'a>, AllocError>
 
 /// The command that was matched.
 fn command_in(matches: &ArgMatches<'_>) -> Option<Command>
-    ensures { MeansIfAny result (option_and_then (λ name. named name
-        (first_value (found_of matches.now) (codes "budget")) (first_value (found_of matches.now) (codes "rules"))
-        (first_value (found_of matches.now) (codes "number")))
-        (first_value (found_of matches.now) (codes "command"))) }
+    ensures { MeansIfAny result (asked_with (first_value (found_of matches.now))) }
 {
     let name = matches.get_str("command")?;
     command_named(
