@@ -22,8 +22,8 @@ returns-in-Err-LeftOut-clause-refused c = λ bytes read same.
     left_out_at c.args.form bytes _ _ c.in-Err-LeftOut.name c.in-Err-LeftOut.span _ read same broken
     c.position-at-in-Err-LeftOut.ensures
 
-pub returns-in-Err-ReservedName-clause-refused : goal.returns-in-Err-ReservedName-clause-refused
-returns-in-Err-ReservedName-clause-refused c = λ bytes read same.
+pub returns-else-may_name_hooks-clause-refused : goal.returns-else-may_name_hooks-clause-refused
+returns-else-may_name_hooks-clause-refused c = λ bytes read same.
     let broken = rw c.in-Err-ReservedName.field-0-is at c.in-Err-ReservedName.ensures in
     hooks_name_at c.args.form bytes _ _ c.in-Err-ReservedName.span _
     (sym c.may_name_hooks.ensures ∙ c.if-may_name_hooks.false) read same broken

@@ -8,8 +8,8 @@ returns-then-is_available-clause-asked c =
     requested (texts c.args.words.now) c.in-Ok.command (sym c.is_available.ensures ∙ c.if-is_available.true)
     c.in-Ok.ensures.asked
 
-pub returns-in-Ok-clause-bad : goal.returns-in-Ok-clause-bad
-returns-in-Ok-clause-bad c = λ bad.
+pub returns-else-is_available-clause-bad : goal.returns-else-is_available-clause-bad
+returns-else-is_available-clause-bad c = λ bad.
     not_requested (texts c.args.words.now) c.in-Ok.command (sym c.is_available.ensures ∙ c.if-is_available.false)
     c.in-Ok.ensures.asked
 
