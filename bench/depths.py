@@ -53,7 +53,7 @@ CHAINS = [
 
 # Of these, 1,000 levels take more than 8 MB of stack as Rattle's own compiler builds the program, so the rows, which the
 # gate runs by both builds, have them at 200 alone.
-BUILT_ONCE = ("if(a){", "try{", "switch(a){case 0:")
+BUILT_ONCE = ("if(a){", "for(var a;;)", "for(;;)", "try{", "switch(a){case 0:")
 
 
 def row(limit, before, opening, opens, inside, link, links, closing, closes, accepted):
