@@ -10,7 +10,7 @@ use Rattle.jl_command.specs.Meant.{means_lint, means_soak}
 use Rattle.jl_command.specs.inner.Optional.{IsChoiceIfAny, MeansIfAny}
 use Rattle.jl_command.specs.declared.command.Command.{Command}
 use Rattle.jl_command.specs.declared.command.Command.TheVariants as commands
-use Rattle.jl_command.proofs.Choices.{no_choice, some_choice}
+use Rattle.jl_command.proofs.Choices.{some_choice}
 use Rattle.jl_command.proofs.Digits.{budget_bound, number_bound}
 
 -- what holds of a word holds of a name that is the word
@@ -33,12 +33,6 @@ with_lint value chosen budget set is choice =
     subst (λ o. MeansIfAny (Some (commands.Lint budget set)) (lint_with o chosen)) is
     (subst (λ o. MeansIfAny (Some (commands.Lint budget set)) (lint_with (Some budget) o)) (sym one.1)
     (means_lint budget set one.0 (budget_bound value budget is) one.2))
-
-pub without_lint : (budget : ℕ) (value : Option Text) (chosen : Option (List ℕ)) → Some budget ≡ budget_in value
-    → IsChoiceIfAny None chosen → MeansIfAny None (lint_with (budget_in value) chosen)
-without_lint budget value chosen is none =
-    subst (λ o. MeansIfAny None (lint_with o chosen)) is
-    (subst (λ o. MeansIfAny None (lint_with (Some budget) o)) (sym (no_choice chosen none)) tt)
 
 -- and with a number
 pub with_soak : (given value : Option Text) (chosen : Option (List ℕ)) (number budget : ℕ) (set : RuleSet)

@@ -10,9 +10,9 @@ use Rattle.clap.specs.declared.error.Error.{Error}
 use Rattle.clap.specs.declared.error.kind.ErrorKind.{ErrorKind}
 use Rattle.clap.specs.declared.error.kind.ErrorKind.TheVariants as kind
 use Rattle.clap.specs.declared.parser.matches.Found.{Found}
-use Rattle.jl_command.specs.Asked.{Asked, asked, asked_with, named}
-use Rattle.jl_command.specs.CommandLine.{Text, command_argument, command_line, given, is_fault, is_refused}
-use Rattle.jl_command.specs.CommandLine.{option_argument, without_flags}
+use Rattle.jl_command.specs.Asked.{Asked, asked, asked_by_name, asked_with}
+use Rattle.jl_command.specs.CommandLine.{Text, command_argument, command_line, is_fault, is_refused}
+use Rattle.jl_command.specs.CommandLine.{option_argument, value_of, without_flags}
 use Rattle.jl_command.specs.Meant.{Means}
 use Rattle.jl_command.specs.declared.command.Command.{Command}
 use Rattle.jl_command.specs.declared.words.WordsRefusal.{WordsRefusal}
@@ -37,7 +37,7 @@ line_is_free = refl
 
 -- words with these kinds of faults
 abbrev asked_if : (words : List Text) → Kinds → Option Asked
-asked_if words kinds = if is_fault kinds then None else asked_with (λ id. given id words)
+asked_if words kinds = if is_fault kinds then None else asked_with (λ id. value_of id words)
 
 asked_is : (words : List Text) → asked words ≡ asked_if words (fault_of command_line words)
 unfolding asked is_refused
@@ -46,19 +46,19 @@ asked_is words = refl
 -- the same values ask for the same
 same_values : (f g : Text → Option Text) → ((id : Text) → f id ≡ g id) → asked_with f ≡ asked_with g
 same_values f g same =
-    ap (λ name. option_and_then (λ name. named name (f (codes "budget")) (f (codes "rules")) (f (codes "number"))) name)
+    ap (λ name. option_and_then (λ name. asked_by_name name (f (codes "budget")) (f (codes "rules")) (f (codes "number"))) name)
     (same (codes "command"))
-    ∙ ap₂ (λ budget rules. option_and_then (λ name. named name budget rules (f (codes "number"))) (g (codes "command")))
+    ∙ ap₂ (λ budget rules. option_and_then (λ name. asked_by_name name budget rules (f (codes "number"))) (g (codes "command")))
     (same (codes "budget")) (same (codes "rules"))
-    ∙ ap (λ number. option_and_then (λ name. named name (g (codes "budget")) (g (codes "rules")) number)
+    ∙ ap (λ number. option_and_then (λ name. asked_by_name name (g (codes "budget")) (g (codes "rules")) number)
     (g (codes "command"))) (same (codes "number"))
 
 -- words that clap takes ask for what was matched
 pub matched_is : (words : List Text) (found : Found) → fault_of command_line words ≡ []
     → rows_of found ≡ matches_of command_line words → asked words ≡ asked_with (first_value found)
-unfolding given
+unfolding value_of
 matched_is words found taken rows =
-    asked_is words ∙ ap (asked_if words) taken ∙ same_values (λ id. given id words) (first_value found)
+    asked_is words ∙ ap (asked_if words) taken ∙ same_values (λ id. value_of id words) (first_value found)
     (λ id. sym (first_value-rows found id ∙ ap (λ rs. first_of id rs) rows))
 
 -- words that clap refuses ask for nothing

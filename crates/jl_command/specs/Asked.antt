@@ -7,7 +7,7 @@ use Rattle.std.specs.List.{list_all, list_any, position_from, slice_split}
 use Rattle.std.specs.Str.{bytes_eq}
 use Rattle.std.specs.Str.Parse.{digits_value}
 use Rattle.jl_analysis.specs.Rules.{all_rules, rules}
-use Rattle.jl_command.specs.CommandLine.{Text, is_refused, given}
+use Rattle.jl_command.specs.CommandLine.{Text, is_refused, value_of}
 
 -- the texts of borrowed words
 abbrev pub texts : List (Bor (List ℕ)) → List Text
@@ -116,17 +116,17 @@ without_number name budget rules =
     else unless_given rules (without_rules name budget)
 
 -- the command with this name, where its options are given so
-abbrev pub named : (name : Text) → (budget rules number : Option Text) → Option Asked
-named name budget rules number =
+abbrev pub asked_by_name : (name : Text) → (budget rules number : Option Text) → Option Asked
+asked_by_name name budget rules number =
     if bytes_eq name (codes "soak") then soak_with (soak_number number) (budget_in budget) (rules_in rules)
     else unless_given number (without_number name budget rules)
 
 -- the command that has these values, by the names of the arguments
 abbrev pub asked_with : (value : Text → Option Text) → Option Asked
 asked_with value = option_and_then
-    (λ name. named name (value (codes "budget")) (value (codes "rules")) (value (codes "number")))
+    (λ name. asked_by_name name (value (codes "budget")) (value (codes "rules")) (value (codes "number")))
     (value (codes "command"))
 
 -- what the words ask for; where it is none, they are bad
 unfoldable pub asked : (words : List Text) → Option Asked
-asked words = if is_refused words then None else asked_with (λ id. given id words)
+asked words = if is_refused words then None else asked_with (λ id. value_of id words)

@@ -39,5 +39,5 @@ unfoldable pub is_refused : (words : List Text) → Bool
 is_refused words = is_fault (fault_of command_line words)
 
 -- the value that the words have for this name
-unfoldable pub given : (id : Text) → (words : List Text) → Option Text
-given id words = first_of id (matches_of command_line words)
+unfoldable pub value_of : (id : Text) → (words : List Text) → Option Text
+value_of id words = first_of id (matches_of command_line words)

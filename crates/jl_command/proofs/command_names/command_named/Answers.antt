@@ -13,6 +13,6 @@ returns-then-eq c =
     let budget = c.in_ok-budget.budget in
     let set = c.in_ok-rules.rules in
     by_name (Some (commands.Soak number budget set)) c.args.name.now (codes "soak")
-    (λ n. asked.named n value names given) (sym c.if-eq.true ∙ c.eq.ensures)
+    (λ n. asked.asked_by_name n value names given) (sym c.if-eq.true ∙ c.eq.ensures)
     (with_soak given value (asked.rules_in names) number budget set c.in_ok-number.ensures c.in_ok-budget.ensures
     c.in_ok-rules.ensures)
