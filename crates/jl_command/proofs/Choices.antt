@@ -32,12 +32,8 @@ among_more (r ∷ chosen) rule other =
     ap (λ b. (r == other) || b) (among_more chosen rule other)
     ∙ or_assoc (r == other) (is_among chosen other) (rule == other)
 
--- a set of none
-pub none_chosen : (set : RuleSet) → ((rule : ℕ) → is_chosen set rule ≡ false) → IsChoice set []
-none_chosen set none rule is = none rule
-
 -- a set with one more
-pub one_more_chosen : (before after : RuleSet) (chosen : List ℕ) (rule : ℕ) → IsChoice before chosen
+one_more_chosen : (before after : RuleSet) (chosen : List ℕ) (rule : ℕ) → IsChoice before chosen
     → is_chosen after rule ≡ true
     → ((other : ℕ) → (other ≡ rule → ⊥) → is_chosen after other ≡ is_chosen before other)
     → IsChoice after (chosen ++ rule ∷ [])
@@ -54,28 +50,41 @@ one_more_chosen before after chosen rule choice this others other is =
         others other apart ∙ choice other is
         ∙ sym (ap (λ b. is_among chosen other || b) e ∙ or_false (is_among chosen other))
 
--- a rule that is there already, or one that is not
-pub there_already : (set : RuleSet) (chosen : List ℕ) (rule : ℕ) → IsChoice set chosen → IsRule rule
-    → is_chosen set rule ≡ true → with_rule chosen (Some rule) ≡ None
-there_already set chosen rule choice is there =
-    ap (λ b. if b then None else Some (chosen ++ rule ∷ [])) (sym (choice rule is) ∙ there)
+-- no rule, a rule that is there already, and one that is not
+pub no_rule : (r : Option RuleSet) (chosen : List ℕ) (o : Option ℕ) → r ≡ None → o ≡ None
+    → IsChoiceIfAny r (with_rule chosen o)
+no_rule r chosen o none lacks =
+    subst (λ x. IsChoiceIfAny x (with_rule chosen o)) (sym none)
+    (subst (λ p. IsChoiceIfAny None (with_rule chosen p)) (sym lacks) tt)
 
-pub not_there : (set : RuleSet) (chosen : List ℕ) (rule : ℕ) → IsChoice set chosen → IsRule rule
-    → is_chosen set rule ≡ false → with_rule chosen (Some rule) ≡ Some (chosen ++ rule ∷ [])
-not_there set chosen rule choice is missing =
-    ap (λ b. if b then None else Some (chosen ++ rule ∷ [])) (sym (choice rule is) ∙ missing)
+pub there_already : (set : RuleSet) (chosen : List ℕ) (rule : ℕ) (o : Option ℕ) → o ≡ Some rule → IsChoice set chosen
+    → IsRule rule → is_chosen set rule ≡ true → IsChoiceIfAny None (with_rule chosen o)
+there_already set chosen rule o found choice is there =
+    subst (λ x. IsChoiceIfAny None x) (sym (ap (with_rule chosen) found
+    ∙ ap (λ b. if b then None else Some (chosen ++ rule ∷ [])) (sym (choice rule is) ∙ there))) tt
+
+pub not_there : (before after : RuleSet) (chosen : List ℕ) (rule : ℕ) (o : Option ℕ) → o ≡ Some rule
+    → IsChoice before chosen → IsRule rule → is_chosen before rule ≡ false → is_chosen after rule ≡ true
+    → ((other : ℕ) → (other ≡ rule → ⊥) → is_chosen after other ≡ is_chosen before other)
+    → IsChoiceIfAny (Some after) (with_rule chosen o)
+not_there before after chosen rule o found choice is missing this others =
+    subst (λ x. IsChoiceIfAny (Some after) x) (sym (ap (with_rule chosen) found
+    ∙ ap (λ b. if b then None else Some (chosen ++ rule ∷ [])) (sym (choice rule is) ∙ missing)))
+    (one_more_chosen before after chosen rule choice this others)
 
 -- a set of all
 among_numbers : (first count rule : ℕ) → first ≤ rule → rule < first + count → is_among (numbers first count) rule ≡ true
 among_numbers first zero rule low high = absurd (omega arith)
-among_numbers first (suc count) rule low high = by_test (first == rule) refl
+among_numbers first (suc count) rule low high =
+    by_test (first == rule) refl (λ later. among_numbers (first + 1) count rule later (omega arith))
   where
-    by_test : (b : Bool) → (first == rule) ≡ b → ((first == rule) || is_among (numbers (first + 1) count) rule) ≡ true
-    by_test true e = ap (λ b. b || is_among (numbers (first + 1) count) rule) e
-    by_test false e =
+    by_test : (b : Bool) → (first == rule) ≡ b
+        → (first + 1 ≤ rule → is_among (numbers (first + 1) count) rule ≡ true)
+        → ((first == rule) || is_among (numbers (first + 1) count) rule) ≡ true
+    by_test true e more = ap (λ b. b || is_among (numbers (first + 1) count) rule) e
+    by_test false e more =
         let later : first + 1 ≤ rule = grind (arith, nat_tests) in
-        ap (λ b. b || is_among (numbers (first + 1) count) rule) e
-        ∙ among_numbers (first + 1) count rule later (omega arith)
+        ap (λ b. b || is_among (numbers (first + 1) count) rule) e ∙ more later
 
 pub all_chosen : (set : RuleSet) → ((rule : ℕ) → IsRule rule → is_chosen set rule ≡ true) → IsChoice set all_rules
 all_chosen set all rule is = all rule is ∙ sym (among_numbers 1 rule_count rule is.0 (omega (arith, is.1)))
@@ -101,13 +110,14 @@ names_turn chosen text front back is rest within =
     ∙ ap (λ l. front ∷ slice_split (λ b. b == 44) l) (sym rest))
 
 -- so the text names no rules where its first name is refused
-pub refused_turn : (chosen text front back : List ℕ) → front ≡ before_first (λ b. b == 44) text
+pub refused_turn : (r : Option RuleSet) (chosen text front back : List ℕ) → front ≡ before_first (λ b. b == 44) text
     → back ≡ after_first (λ b. b == 44) text → position_or_len (λ b. b == 44) text < length text
-    → IsChoiceIfAny None (with_rule chosen (rule_with front))
-    → IsChoiceIfAny None (with_names chosen (slice_split (λ b. b == 44) text))
-refused_turn chosen text front back is rest within refused =
-    subst (λ o. IsChoiceIfAny None o) (sym (names_turn chosen text front back is rest within
-    ∙ ap (option_and_then (λ more. with_names more (slice_split (λ b. b == 44) back))) (no_choice _ refused))) tt
+    → r ≡ None → IsChoiceIfAny None (with_rule chosen (rule_with front))
+    → IsChoiceIfAny r (with_names chosen (slice_split (λ b. b == 44) text))
+refused_turn r chosen text front back is rest within none refused =
+    subst (λ x. IsChoiceIfAny x (with_names chosen (slice_split (λ b. b == 44) text))) (sym none)
+    (subst (λ o. IsChoiceIfAny None o) (sym (names_turn chosen text front back is rest within
+    ∙ ap (option_and_then (λ more. with_names more (slice_split (λ b. b == 44) back))) (no_choice _ refused))) tt)
 
 -- and those of the rest otherwise
 pub taken_turn : (r : Option RuleSet) (set : RuleSet) (chosen text front back : List ℕ)

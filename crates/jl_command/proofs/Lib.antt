@@ -3,3 +3,4 @@ pub mod Digits
 pub mod NamedCommands
 pub mod NamedRules
 pub mod WordLemmas
+pub mod Trial

@@ -1,45 +1,17 @@
--- Commands by their names, and their budgets.
-use Rattle.std.proofs.Common.{◌≡◌, ◌∙◌, ◌≤◌, ℕ, Bool, true, false, List, Option, Some, None, arith, refl, sym, ap, subst}
-use Rattle.std.proofs.lemmas.Bool.Decides.{nat_tests}
+-- Commands by their names, with what their options are.
+use Rattle.std.proofs.Common.{◌≡◌, ℕ, true, List, Option, Some, None, sym, subst}
 use Rattle.std.proofs.lemmas.Slice.Eq.{bytes_eq-Decides}
-use Rattle.std.specs.Prelude.{if◌then◌else◌, nat_le, option_map}
+use Rattle.std.specs.Prelude.{option_map}
 use Rattle.std.specs.Str.{bytes_eq}
 use Rattle.jl_analysis.specs.declared.rule_set.RuleSet.{RuleSet}
-use Rattle.jl_command.specs.Asked.{Asked, at_most, budget_in, lint_with, most_budget, most_functions, number_in}
-use Rattle.jl_command.specs.Asked.{soak_number, soak_with}
+use Rattle.jl_command.specs.Asked.{Asked, budget_in, lint_with, soak_number, soak_with}
 use Rattle.jl_command.specs.CommandLine.{Text}
 use Rattle.jl_command.specs.Meant.{means_lint, means_soak}
 use Rattle.jl_command.specs.inner.Optional.{IsChoiceIfAny, MeansIfAny}
 use Rattle.jl_command.specs.declared.command.Command.{Command}
 use Rattle.jl_command.specs.declared.command.Command.TheVariants as commands
-use Rattle.jl_command.proofs.Choices.{no_choice, some_choice}
-
-some_same : {a b : ℕ} → Some a ≡ Some b → a ≡ b
-some_same e = cc
-
-within : (n most : ℕ) → nat_le n most ≡ true → n ≤ most
-within n most e = grind (arith, nat_tests)
-
-at_most_is : (most : ℕ) (o : Option ℕ) (n : ℕ) → at_most most o ≡ Some n → n ≤ most
-at_most_is most None n e = absurd (cc)
-at_most_is most (Some m) n e = by_test (nat_le m most) refl
-  where
-    by_test : (b : Bool) → nat_le m most ≡ b → n ≤ most
-    by_test true is =
-        let same = some_same (sym (ap (λ b. if b then Some m else None) is) ∙ e) in
-        subst (λ k. k ≤ most) same (within m most is)
-    by_test false is =
-        let none : None ≡ Some n = sym (ap (λ b. if b then Some m else None) is) ∙ e in absurd (cc)
-
--- a budget is none that is too great
-pub budget_bound : (value : Option Text) (n : ℕ) → Some n ≡ budget_in value → n ≤ most_budget
-budget_bound None n e = let same = some_same e in omega (arith, same)
-budget_bound (Some text) n e = at_most_is most_budget (number_in text) n (sym e)
-
--- and neither is a number of functions
-pub number_bound : (value : Option Text) (n : ℕ) → Some n ≡ soak_number value → n ≤ most_functions
-number_bound None n e = absurd (cc)
-number_bound (Some text) n e = at_most_is most_functions (number_in text) n (sym e)
+use Rattle.jl_command.proofs.Choices.{some_choice}
+use Rattle.jl_command.proofs.Digits.{budget_bound, number_bound}
 
 -- what holds of a word holds of a name that is the word
 pub by_name : (r : Option Command) (name word : Text) (f : Text → Option Asked) → true ≡ bytes_eq name word
@@ -61,12 +33,6 @@ with_lint value chosen budget set is choice =
     subst (λ o. MeansIfAny (Some (commands.Lint budget set)) (lint_with o chosen)) is
     (subst (λ o. MeansIfAny (Some (commands.Lint budget set)) (lint_with (Some budget) o)) (sym one.1)
     (means_lint budget set one.0 (budget_bound value budget is) one.2))
-
-pub without_lint : (budget : ℕ) (value : Option Text) (chosen : Option (List ℕ)) → Some budget ≡ budget_in value
-    → IsChoiceIfAny None chosen → MeansIfAny None (lint_with (budget_in value) chosen)
-without_lint budget value chosen is none =
-    subst (λ o. MeansIfAny None (lint_with o chosen)) is
-    (subst (λ o. MeansIfAny None (lint_with (Some budget) o)) (sym (no_choice chosen none)) tt)
 
 -- and with a number
 pub with_soak : (given value : Option Text) (chosen : Option (List ℕ)) (number budget : ℕ) (set : RuleSet)

@@ -1,7 +1,7 @@
 -- What the words of the command line ask for.
-use Rattle.std.proofs.Common.{◌≡◌, ◌∙◌, true, not, List, [], ◌∷◌, Option, Some, None}
-use Rattle.std.proofs.Common.{length, refl, sym, ap, ap₂, codes, subst, inl, inr, Err}
-use Rattle.std.specs.Prelude.{if◌then◌else◌, option_and_then, ◌==◌}
+use Rattle.std.proofs.Common.{◌≡◌, ◌∙◌, true, List, [], ◌∷◌, Option, Some, None}
+use Rattle.std.proofs.Common.{refl, sym, ap, ap₂, codes, subst, inl, inr}
+use Rattle.std.specs.Prelude.{IfErr, IsErrOf, Result, if◌then◌else◌, option_and_then}
 use Rattle.clap.proofs.OnLiterals.{clap_on_literals}
 use Rattle.clap.proofs.WalkLemmas.{first_value-rows}
 use Rattle.clap.specs.Words.{App, HasKind, IsAmong, Kinds, kind_of}
@@ -10,11 +10,12 @@ use Rattle.clap.specs.declared.error.Error.{Error}
 use Rattle.clap.specs.declared.error.kind.ErrorKind.{ErrorKind}
 use Rattle.clap.specs.declared.error.kind.ErrorKind.TheVariants as kind
 use Rattle.clap.specs.declared.parser.matches.Found.{Found}
-use Rattle.jl_command.specs.Asked.{Asked, asked, asked_with, named}
-use Rattle.jl_command.specs.CommandLine.{Text, command_argument, command_line, given, is_refused}
-use Rattle.jl_command.specs.CommandLine.{option_argument, without_flags}
+use Rattle.jl_command.specs.Asked.{Asked, asked, asked_by_name, asked_with}
+use Rattle.jl_command.specs.CommandLine.{Text, command_argument, command_line, is_fault, is_refused}
+use Rattle.jl_command.specs.CommandLine.{option_argument, value_of, without_flags}
 use Rattle.jl_command.specs.Meant.{Means}
 use Rattle.jl_command.specs.declared.command.Command.{Command}
+use Rattle.jl_command.specs.declared.words.WordsRefusal.{WordsRefusal}
 use Rattle.jl_command.specs.inner.Optional.{MeansIfAny}
 
 -- the line that is made is the command line
@@ -35,8 +36,8 @@ unfolding command_line clap_on_literals
 line_is_free = refl
 
 -- words with these kinds of faults
-asked_if : (words : List Text) → Kinds → Option Asked
-asked_if words kinds = if not (length kinds == 0) then None else asked_with (λ id. given id words)
+abbrev asked_if : (words : List Text) → Kinds → Option Asked
+asked_if words kinds = if is_fault kinds then None else asked_with (λ id. value_of id words)
 
 asked_is : (words : List Text) → asked words ≡ asked_if words (fault_of command_line words)
 unfolding asked is_refused
@@ -45,19 +46,19 @@ asked_is words = refl
 -- the same values ask for the same
 same_values : (f g : Text → Option Text) → ((id : Text) → f id ≡ g id) → asked_with f ≡ asked_with g
 same_values f g same =
-    ap (λ name. option_and_then (λ name. named name (f (codes "budget")) (f (codes "rules")) (f (codes "number"))) name)
+    ap (λ name. option_and_then (λ name. asked_by_name name (f (codes "budget")) (f (codes "rules")) (f (codes "number"))) name)
     (same (codes "command"))
-    ∙ ap₂ (λ budget rules. option_and_then (λ name. named name budget rules (f (codes "number"))) (g (codes "command")))
+    ∙ ap₂ (λ budget rules. option_and_then (λ name. asked_by_name name budget rules (f (codes "number"))) (g (codes "command")))
     (same (codes "budget")) (same (codes "rules"))
-    ∙ ap (λ number. option_and_then (λ name. named name (g (codes "budget")) (g (codes "rules")) number)
+    ∙ ap (λ number. option_and_then (λ name. asked_by_name name (g (codes "budget")) (g (codes "rules")) number)
     (g (codes "command"))) (same (codes "number"))
 
 -- words that clap takes ask for what was matched
 pub matched_is : (words : List Text) (found : Found) → fault_of command_line words ≡ []
     → rows_of found ≡ matches_of command_line words → asked words ≡ asked_with (first_value found)
-unfolding given
+unfolding value_of
 matched_is words found taken rows =
-    asked_is words ∙ ap (asked_if words) taken ∙ same_values (λ id. given id words) (first_value found)
+    asked_is words ∙ ap (asked_if words) taken ∙ same_values (λ id. value_of id words) (first_value found)
     (λ id. sym (first_value-rows found id ∙ ap (λ rs. first_of id rs) rows))
 
 -- words that clap refuses ask for nothing
@@ -83,6 +84,6 @@ pub no_kinds : (kinds : Kinds) (e : Error) → HasKind kinds e → kinds ≡ [] 
 no_kinds kinds e (inl memory) none other = other memory
 no_kinds kinds e (inr among) none other = subst (λ ks. IsAmong (kind_of e) ks) none among
 
--- of two equal errors
-pub same_err : {T E : Type 0} {a b : E} → Err {T = T} {E = E} a ≡ Err b → a ≡ b
-same_err e = cc
+-- of an error that is this one
+pub refused_for : (r : Result Command WordsRefusal) (cause : WordsRefusal) → IsErrOf r cause → IfErr r (λ e. e ≡ cause)
+refused_for r cause is = subst (λ x. IfErr x (λ e. e ≡ cause)) (sym is) refl

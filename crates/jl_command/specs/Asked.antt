@@ -2,11 +2,12 @@
 use Rattle.std.specs.Prelude.{ℕ, ◌&&◌, ◌==◌, nat_le, not, Bool, List, [], ◌∷◌, ◌++◌, Option, Some, None}
 use Rattle.std.specs.Prelude.{map, length, codes, option_and_then, option_map, if◌then◌else◌}
 use Rattle.std.specs.Borrow.{Bor}
-use Rattle.std.specs.List.{list_any, position_from, slice_split}
-use Rattle.std.specs.Str.{all_ascii_digits, bytes_eq}
+use Rattle.std.specs.Char.{is_ascii_digit}
+use Rattle.std.specs.List.{list_all, list_any, position_from, slice_split}
+use Rattle.std.specs.Str.{bytes_eq}
 use Rattle.std.specs.Str.Parse.{digits_value}
 use Rattle.jl_analysis.specs.Rules.{all_rules, rules}
-use Rattle.jl_command.specs.CommandLine.{Text, is_refused, given}
+use Rattle.jl_command.specs.CommandLine.{Text, is_refused, value_of}
 
 -- the texts of borrowed words
 abbrev pub texts : List (Bor (List ℕ)) → List Text
@@ -27,7 +28,7 @@ pub data Asked : Type 0 where
 
 -- one to ten decimal digits
 abbrev pub is_number : Text → Bool
-is_number text = (not (length text == 0) && nat_le (length text) 10) && all_ascii_digits text
+is_number text = (not (length text == 0) && nat_le (length text) 10) && list_all is_ascii_digit text
 
 -- the number that a text is
 abbrev pub number_in : Text → Option ℕ
@@ -58,7 +59,7 @@ soak_number (Some text) = at_most most_functions (number_in text)
 
 -- the rule is one of these
 abbrev pub is_among : List ℕ → (rule : ℕ) → Bool
-is_among rules rule = list_any (λ r. r == rule) rules
+is_among chosen rule = list_any (λ r. r == rule) chosen
 
 -- the number of the rule with this name, if there is one; numbers count from 1
 abbrev pub rule_with : (name : Text) → Option ℕ
@@ -66,13 +67,13 @@ rule_with name = position_from (bytes_eq name) 1 (map (λ row. row.name) rules)
 
 -- one rule more, unless there is none, or it is there already
 abbrev pub with_rule : List ℕ → Option ℕ → Option (List ℕ)
-with_rule rules None = None
-with_rule rules (Some rule) = if is_among rules rule then None else Some (rules ++ rule ∷ [])
+with_rule chosen None = None
+with_rule chosen (Some rule) = if is_among chosen rule then None else Some (chosen ++ rule ∷ [])
 
 -- these rules and those with the names, where each is the name of a rule, and none stands twice
 abbrev pub with_names : List ℕ → (names : List Text) → Option (List ℕ)
-with_names rules [] = Some rules
-with_names rules (name ∷ names) = option_and_then (λ more. with_names more names) (with_rule rules (rule_with name))
+with_names chosen [] = Some chosen
+with_names chosen (name ∷ names) = option_and_then (λ more. with_names more names) (with_rule chosen (rule_with name))
 
 -- the chosen rules, by their names with commas between them (44), or all, where the option is not given
 abbrev pub rules_in : Option Text → Option (List ℕ)
@@ -115,17 +116,17 @@ without_number name budget rules =
     else unless_given rules (without_rules name budget)
 
 -- the command with this name, where its options are given so
-abbrev pub named : (name : Text) → (budget rules number : Option Text) → Option Asked
-named name budget rules number =
+abbrev pub asked_by_name : (name : Text) → (budget rules number : Option Text) → Option Asked
+asked_by_name name budget rules number =
     if bytes_eq name (codes "soak") then soak_with (soak_number number) (budget_in budget) (rules_in rules)
     else unless_given number (without_number name budget rules)
 
 -- the command that has these values, by the names of the arguments
 abbrev pub asked_with : (value : Text → Option Text) → Option Asked
 asked_with value = option_and_then
-    (λ name. named name (value (codes "budget")) (value (codes "rules")) (value (codes "number")))
+    (λ name. asked_by_name name (value (codes "budget")) (value (codes "rules")) (value (codes "number")))
     (value (codes "command"))
 
 -- what the words ask for; where it is none, they are bad
 unfoldable pub asked : (words : List Text) → Option Asked
-asked words = if is_refused words then None else asked_with (λ id. given id words)
+asked words = if is_refused words then None else asked_with (λ id. value_of id words)

@@ -1,6 +1,6 @@
 -- The command line, as clap reads it.
-use Rattle.std.specs.Prelude.{ℕ, Bool, true, false, not, List, [], ◌∷◌, Option, Some, length, codes, ◌==◌}
-use Rattle.clap.specs.Words.{App, Rule, fault_of, first_of, matches_of, new_app, new_rule, with_rule}
+use Rattle.std.specs.Prelude.{ℕ, Bool, true, false, List, [], ◌∷◌, Option, Some, codes}
+use Rattle.clap.specs.Words.{App, Kinds, Rule, fault_of, first_of, matches_of, new_app, new_rule, with_rule}
 
 abbrev pub Text : Type 0
 Text = List ℕ
@@ -29,10 +29,15 @@ command_line =
     with_rule (with_rule (with_rule (with_rule without_flags command_argument) (option_argument (codes "budget")))
     (option_argument (codes "rules"))) (option_argument (codes "number"))
 
+-- there is a fault where clap refuses words for one of these causes; none is memory
+abbrev pub is_fault : Kinds → Bool
+is_fault [] = false
+is_fault (kind ∷ kinds) = true
+
 -- clap refuses the words
 unfoldable pub is_refused : (words : List Text) → Bool
-is_refused words = not (length (fault_of command_line words) == 0)
+is_refused words = is_fault (fault_of command_line words)
 
 -- the value that the words have for this name
-unfoldable pub given : (id : Text) → (words : List Text) → Option Text
-given id words = first_of id (matches_of command_line words)
+unfoldable pub value_of : (id : Text) → (words : List Text) → Option Text
+value_of id words = first_of id (matches_of command_line words)

@@ -4,9 +4,14 @@ use jl_analysis::RuleSet;
 #[derive(Clone, Copy)]
 pub enum Command {
     /// Runs a script woven, and reports what was odd by the chosen rules.
-    Lint { budget: u64, rules: RuleSet },
+    Lint {
+        budget: u64,
+        rules: RuleSet,
+    },
     /// Runs a script as it stands.
-    Run { budget: u64 },
+    Run {
+        budget: u64,
+    },
     /// Tells whether a script is accepted.
     Check,
     /// Writes the canonical text of a script.
@@ -16,9 +21,13 @@ pub enum Command {
     /// Lists the operations of a script by their ids.
     Map,
     /// Runs a script woven, and tells each of its operations.
-    Trace { budget: u64 },
+    Trace {
+        budget: u64,
+    },
     /// Runs a woven text as it stands, and tells each of its operations.
-    Exec { budget: u64 },
+    Exec {
+        budget: u64,
+    },
     /// Does what `Lint` does with a script that it makes of so many functions, from 0 to 8,000.
     Soak {
         number: u32,

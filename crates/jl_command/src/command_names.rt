@@ -1,6 +1,6 @@
 //! Commands by their names, with the values of their options.
 ghost use Rattle.std.specs.Prelude.{◌≡◌, option_map};
-ghost use Rattle.jl_command.specs.Asked.{named, without_number, without_options, without_rules};
+ghost use Rattle.jl_command.specs.Asked.{asked_by_name, without_number, without_options, without_rules};
 ghost use Rattle.jl_command.specs.inner.Optional.{MeansIfAny};
 
 use crate::command::Command;
@@ -14,7 +14,7 @@ pub(crate) fn command_named(
     rules: Option<&str>,
     number: Option<&str>,
 ) -> Option<Command>
-    ensures { MeansIfAny result (named name.now (option_map (λ s. s.now) budget.entry)
+    ensures { MeansIfAny result (asked_by_name name.now (option_map (λ s. s.now) budget.entry)
         (option_map (λ s. s.now) rules.entry) (option_map (λ s. s.now) number.entry)) }
 {
     if name == "soak" {

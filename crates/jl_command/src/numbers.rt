@@ -1,6 +1,7 @@
 //! Numbers among the words.
 ghost use Rattle.std.specs.Prelude.{◌≡◌, option_map};
-ghost use Rattle.std.specs.Str.{all_ascii_digits};
+ghost use Rattle.std.specs.Char.{is_ascii_digit};
+ghost use Rattle.std.specs.List.{list_all};
 ghost use Rattle.jl_command.specs.Asked.{at_most, budget_in, is_number, number_in, soak_number};
 
 /// The budget where none is given.
@@ -63,12 +64,7 @@ fn is_number(text: &str) -> bool
 
 /// Whether all bytes are decimal digits.
 fn are_digits(bytes: &[u8]) -> bool
-    ensures { result ≡ all_ascii_digits bytes.now }
+    ensures { result ≡ list_all is_ascii_digit bytes.now }
 {
-    for byte in bytes {
-        if !byte.is_ascii_digit() {
-            return false;
-        }
-    }
-    true
+    bytes.iter().all(|byte| byte.is_ascii_digit())
 }

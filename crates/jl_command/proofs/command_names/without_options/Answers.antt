@@ -1,21 +1,26 @@
-use Rattle.std.proofs.Common.{codes, ◌∙◌}
+use Rattle.std.proofs.Common.{◌∙◌, Some, codes, sym}
 use Rattle.jl_command.specs.Asked as asked
 use Rattle.jl_command.specs.Meant.{means_check, means_instrument, means_map, means_print}
+use Rattle.jl_command.specs.declared.command.Command.TheVariants as commands
 use Rattle.jl_command.proofs.NamedCommands.{by_name}
 use Rattle.jl_command.proofs.command_names.without_options.Goals as goal
 
 pub returns-then-eq : goal.returns-then-eq
 returns-then-eq c =
-    by_name _ c.args.name.now (codes "check") (λ n. asked.without_options n) (c.if-eq.true ∙ c.eq.ensures) means_check
+    by_name (Some commands.Check) c.args.name.now (codes "check") (λ n. asked.without_options n)
+    (sym c.if-eq.true ∙ c.eq.ensures) means_check
 
 pub returns-then-eq-2 : goal.returns-then-eq-2
 returns-then-eq-2 c =
-    by_name _ c.args.name.now (codes "print") (λ n. asked.without_options n) (c.if-eq-2.true ∙ c.eq-2.ensures) means_print
+    by_name (Some commands.Print) c.args.name.now (codes "print") (λ n. asked.without_options n)
+    (sym c.if-eq-2.true ∙ c.eq-2.ensures) means_print
 
 pub returns-then-eq-3 : goal.returns-then-eq-3
 returns-then-eq-3 c =
-    by_name _ c.args.name.now (codes "instrument") (λ n. asked.without_options n) (c.if-eq-3.true ∙ c.eq-3.ensures) means_instrument
+    by_name (Some commands.Instrument) c.args.name.now (codes "instrument") (λ n. asked.without_options n)
+    (sym c.if-eq-3.true ∙ c.eq-3.ensures) means_instrument
 
 pub returns-then-eq-4 : goal.returns-then-eq-4
 returns-then-eq-4 c =
-    by_name _ c.args.name.now (codes "map") (λ n. asked.without_options n) (c.if-eq-4.true ∙ c.eq-4.ensures) means_map
+    by_name (Some commands.Map) c.args.name.now (codes "map") (λ n. asked.without_options n)
+    (sym c.if-eq-4.true ∙ c.eq-4.ensures) means_map

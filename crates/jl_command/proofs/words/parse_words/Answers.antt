@@ -1,8 +1,9 @@
-use Rattle.std.proofs.Common.{◌∙◌, ap, sym}
+use Rattle.std.proofs.Common.{◌∙◌, Err, ap, sym}
 use Rattle.clap.specs.Words.{fault_of, found_of, is_simple, is_simple_and_free, matches_of}
 use Rattle.jl_command.specs.Asked.{texts}
+use Rattle.jl_command.specs.declared.words.WordsRefusal.TheVariants.{BadWords}
 use Rattle.jl_command.proofs.WordLemmas.{line_is_free, line_is_simple, matched_is, no_kinds, none_asked, refused_is}
-use Rattle.jl_command.proofs.WordLemmas.{same_err, some_asked}
+use Rattle.jl_command.proofs.WordLemmas.{refused_for, some_asked}
 use Rattle.jl_command.proofs.words.parse_words.Goals as goal
 
 pub returns-in-Some-clause-asked : goal.returns-in-Some-clause-asked
@@ -16,8 +17,8 @@ returns-in-Some-clause-asked c =
     let asked = some_asked c.in-Some.command _ c.in-Some.ensures in
     (asked.0, is ∙ asked.1, asked.2)
 
-pub returns-in-None-clause-bad : goal.returns-in-None-clause-bad
-returns-in-None-clause-bad c = λ bad.
+pub returns-clause-bad : goal.returns-clause-bad
+returns-clause-bad c = λ bad.
     let line = c.in_ok-command_line.ensures in
     let words = texts c.args.words.now in
     let taken = c.in-Ok.ensures.kinds (ap is_simple_and_free line ∙ line_is_free) in
@@ -31,6 +32,6 @@ returns-in-Err-clause-bad c = λ bad.
     let line = c.in_ok-command_line.ensures in
     let words = texts c.args.words.now in
     let kinds = c.in-Err.ensures.kinds (ap is_simple_and_free line ∙ line_is_free) in
-    let other = c.refusal.ensures (same_err bad) in
-    refused_is words (λ none. no_kinds _ _ kinds (ap (λ l. fault_of l words) line ∙ none)
+    let other = c.refusal.ensures (refused_for (Err c.refusal.result) BadWords bad) in
+    refused_is words (λ none. no_kinds _ c.in-Err.error kinds (ap (λ l. fault_of l words) line ∙ none)
     (λ memory. other (c.kind.ensures ∙ memory)))
