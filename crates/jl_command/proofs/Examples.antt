@@ -1,5 +1,5 @@
 -- What some words ask for, and some that ask for nothing, as the definitions give it.
-use Rattle.std.proofs.Common.{◌≡◌, ℕ, List, [], ◌∷◌, Some, None, codes, refl}
+use Rattle.std.proofs.Common.{◌≡◌, [], ◌∷◌, Some, None, codes, refl}
 use Rattle.clap.proofs.OnLiterals.{clap_on_literals}
 use Rattle.jl_analysis.specs.Rules.{all_rules, rules}
 use Rattle.jl_command.specs.Asked.{asked, check, exec, lint, run, soak}

@@ -1,5 +1,5 @@
 -- What the words of the command line ask for.
-use Rattle.std.proofs.Common.{◌≡◌, ◌∙◌, true, List, [], ◌∷◌, Option, Some, None}
+use Rattle.std.proofs.Common.{◌≡◌, ◌∙◌, true, List, [], ◌∷◌, Option, None}
 use Rattle.std.proofs.Common.{refl, sym, ap, ap₂, codes, subst, inl, inr}
 use Rattle.std.specs.Prelude.{IfErr, IsErrOf, Result, if◌then◌else◌, option_and_then}
 use Rattle.clap.proofs.OnLiterals.{clap_on_literals}
@@ -7,7 +7,6 @@ use Rattle.clap.proofs.WalkLemmas.{first_value-rows}
 use Rattle.clap.specs.Words.{App, HasKind, IsAmong, Kinds, kind_of}
 use Rattle.clap.specs.Words.{fault_of, first_of, first_value, is_simple, is_simple_and_free, matches_of, rows_of, with_rule}
 use Rattle.clap.specs.declared.error.Error.{Error}
-use Rattle.clap.specs.declared.error.kind.ErrorKind.{ErrorKind}
 use Rattle.clap.specs.declared.error.kind.ErrorKind.TheVariants as kind
 use Rattle.clap.specs.declared.parser.matches.Found.{Found}
 use Rattle.jl_command.specs.Asked.{Asked, asked, asked_by_name, asked_with}
