@@ -3,7 +3,7 @@ use Rattle.std.proofs.Common.{◌≡◌, ℕ, ◌+◌, ◌*◌, ◌-◌, ◌≤�
 use Rattle.std.proofs.Common.{◌∙◌, subst, arith}
 use Rattle.jl_analysis.specs.Laws.{NeededIsEnough}
 use Rattle.jl_ast.specs.Tree.{Program}
-use Rattle.jl_effects.specs.Growing.{IsLonger, IsPrefix}
+use Rattle.jl_effects.specs.Growing.{IsLonger}
 use Rattle.jl_effects.specs.Matching.{Alike, SameSeen, Simulates, bound}
 use Rattle.jl_effects.specs.Running.{Ends, Fails, Finish, IsOver, Over, RunState, Spent, state_of as world_of}
 use Rattle.jl_effects.specs.Running.{steps_taken}

@@ -1,12 +1,7 @@
 -- From what was read to what is due.
-use Rattle.std.proofs.Common.{◌≡◌, ℕ, ◌+◌, ◌<◌, ◌≤◌, ◌^◌, Bool, false, IsTrue, List, [], ◌∷◌, Option, Some, None, length}
-use Rattle.std.proofs.Common.{take, get_or, map, refl, sym, ap, ◌∙◌, subst, arith}
+use Rattle.std.proofs.Common.{◌≡◌, ℕ, ◌+◌, ◌<◌, ◌^◌, List, Option, Some, None, length}
+use Rattle.std.proofs.Common.{take, refl, sym, ◌∙◌, subst, arith}
 use Rattle.std.specs.Prelude.{IfSome}
-use Rattle.std.specs.Bool.{Decides}
-use Rattle.std.specs.Str.{bytes_eq}
-use Rattle.std.proofs.lemmas.Slice.Eq.{slice_eq-Decides}
-use Rattle.std.proofs.lemmas.Bool.Decides.{Decides-eqb}
-use Rattle.std.specs.Borrow.{Bor}
 use Rattle.jl_port.specs.Bytes.{TakesCount, Grows}
 use Rattle.jl_port.specs.Count.{HasRisen}
 use Rattle.jl_app.specs.declared.status.Status.{Status}
@@ -16,9 +11,6 @@ use Rattle.jl_app.specs.Endings.{Call, EndsWith, answered, write_failed}
 use Rattle.jl_app.specs.Forms.{most_bytes}
 use Rattle.jl_app.specs.declared.form.Form.{Form}
 use Rattle.jl_app.specs.declared.form.Form.TheVariants as forms
-
-pub never : (b : Bool) → b ≡ false → IsTrue b → ⊥
-never b e h = cc
 
 pub told_same : (held : Option (List ℕ)) (bytes read : List ℕ) → read ≡ bytes → IfSome held (λ all. bytes ≡ all) → IfSome held (λ all. all ≡ read)
 told_same None bytes read e h = tt

@@ -1,5 +1,5 @@
 -- What the laws of the lower crates come to for a script and its woven one.
-use Rattle.std.proofs.Common.{◌≡◌, ◌∙◌, ◌+◌, ap, sym, subst, refl, ℕ}
+use Rattle.std.proofs.Common.{◌≡◌, ◌∙◌, ◌+◌, ap, sym, ℕ}
 use Rattle.jl_ast.specs.Spans.{without_spans}
 use Rattle.jl_ast.specs.Tree.{Program}
 use Rattle.jl_effects.specs.Growing.{IsLonger}

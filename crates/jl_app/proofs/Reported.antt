@@ -1,8 +1,7 @@
 -- The text of a report grows by that of a line; and the report of the operations that chosen rules look at is that of
 -- all.
-use Rattle.std.proofs.Common.{◌≡◌, ℕ, ◌<◌, ◌^◌, ◌++◌, List, [], ◌∷◌, length, take, get_or, ◌+◌, refl, sym, ap, ◌∙◌}
-use Rattle.std.proofs.Common.{subst}
-use Rattle.std.proofs.Common.{arith, append_assoc, append-nil, add-one}
+use Rattle.std.proofs.Common.{◌≡◌, ℕ, ◌<◌, ◌++◌, List, [], ◌∷◌, length, take, get_or, ◌+◌, sym, ap, ◌∙◌}
+use Rattle.std.proofs.Common.{append_assoc, append-nil, add-one}
 use Rattle.std.proofs.Math.Seq.{take-suc}
 use Rattle.jl_op.specs.Operations.{Operation}
 use Rattle.jl_analysis.specs.Laws.{NeededIsEnough}

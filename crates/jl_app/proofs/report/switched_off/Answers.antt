@@ -1,4 +1,4 @@
-use Rattle.std.proofs.Common.{subst, sym}
+use Rattle.std.proofs.Common.{subst}
 use Rattle.jl_lex.specs.Refusals.{IsRefusal}
 use Rattle.jl_token.proofs.Whole.{never_both}
 use Rattle.jl_app.proofs.report.switched_off.Goals as goal

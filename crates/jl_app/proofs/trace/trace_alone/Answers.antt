@@ -1,4 +1,4 @@
-use Rattle.std.proofs.Common.{[], ap, length, arith}
+use Rattle.std.proofs.Common.{[], arith}
 use Rattle.jl_ast.specs.View.{view}
 use Rattle.jl_effects.specs.Running.{state_of as world_of}
 use Rattle.jl_app.specs.OwnRuns.{program_run}
