@@ -1,5 +1,5 @@
 -- The lines of a trace grow by one, and the answer that is made of them is the one that is due.
-use Rattle.std.proofs.Common.{◌≡◌, ◌∙◌, ◌++◌, ◌+◌, ◌<◌, ◌≤◌, ◌^◌, List, [], ◌∷◌, ap, sym, subst, true, ℕ, length, arith}
+use Rattle.std.proofs.Common.{◌≡◌, ◌∙◌, ◌++◌, ◌<◌, ◌≤◌, ◌^◌, List, [], ◌∷◌, ap, sym, subst, true, ℕ, length, arith}
 use Rattle.std.proofs.Common.{append_assoc, append-nil, length-append}
 use mathlib.Core.Path.{fun_ext}
 use Rattle.jl_ast.specs.Tree.{Program}

@@ -55,14 +55,14 @@ pub respond_to_source-requires-clause-meant : goal.respond_to_source-requires-cl
 respond_to_source-requires-clause-meant g c =
     let asked = c.in-Ok.ensures.asked in
     let reads = reads_source c.in-Ok.command asked.0 asked.2
-        (λ number budget rules is. omega (arith, ap (tag_of the_type) is)) in
+    (λ number budget rules is. omega (arith, ap (tag_of the_type) is)) in
     (asked.0, reads, asked.2)
 
 pub returns-in-Ok-clause-due : goal.returns-in-Ok-clause-due
 returns-in-Ok-clause-due g c =
     let asked = c.in-Ok.ensures.asked in
     let reads = reads_source c.in-Ok.command asked.0 asked.2
-        (λ number budget rules is. omega (arith, ap (tag_of the_type) is)) in
+    (λ number budget rules is. omega (arith, ap (tag_of the_type) is)) in
     IfOk-weaker c.respond_to_source.result _ _
     (λ given due. (due.0, answered_to asked.0 due.1 asked.1 reads due.2 due.3, due.4, due.5, due.6))
     (c.respond_to_source.ensures.due asked.0 asked.2)
@@ -71,7 +71,7 @@ pub returns-in-Ok-clause-fault : goal.returns-in-Ok-clause-fault
 returns-in-Ok-clause-fault g c = λ fails.
     let asked = c.in-Ok.ensures.asked in
     let reads = reads_source c.in-Ok.command asked.0 asked.2
-        (λ number budget rules is. omega (arith, ap (tag_of the_type) is)) in
+    (λ number budget rules is. omega (arith, ap (tag_of the_type) is)) in
     let fault = c.respond_to_source.ensures.fault fails in
     ((asked.0, asked.1, reads), fault.0, fault.1, fault.2)
 

@@ -19,7 +19,7 @@ respond-requires-clause-meant g c =
 pub returns-clause-due : goal.returns-clause-due
 returns-clause-due g c = λ chosen choice.
     let due = c.in_ok-respond.ensures.due (lint c.args.budget chosen)
-        (means_lint c.args.budget c.args.rules chosen c.requires.budget choice) in (
+    (means_lint c.args.budget c.args.rules chosen c.requires.budget choice) in (
       due.0,
       same_script _ _ (c.deref.ensures.value ∙ c.in_ok-script.ensures.text) due.1,
       due.2,
