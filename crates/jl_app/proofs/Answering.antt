@@ -7,12 +7,12 @@ use Rattle.jl_text.specs.Encoding.{units_of}
 use Rattle.jl_text.specs.declared.span.Span.{Span}
 use Rattle.jl_app.specs.Accepting.{IsRead}
 use Rattle.jl_app.specs.Answers.{Due, IsAnswered, IsLinted, OnShelf, Responds, accepted, refused, refused_only}
-use Rattle.jl_command.specs.Asked.{Asked, check, exec, instrument, lint, map_of_ids, most_budget, print, run, trace}
-use Rattle.jl_app.specs.Forms.{form_of, form_of_command}
+use Rattle.jl_command.specs.Asked.{Asked, check, exec, instrument, lint, map_of_ids, most_budget, most_functions, print}
+use Rattle.jl_command.specs.Asked.{run, soak, trace}
+use Rattle.jl_app.specs.Forms.{ReadsSource, form_of, form_of_command}
 use Rattle.jl_command.specs.Meant.{IsChoice, Means, means_check, means_exec, means_instrument, means_lint, means_map}
 use Rattle.jl_command.specs.Meant.{means_print, means_run, means_soak, means_trace}
 use Rattle.jl_app.specs.Refusals.{IsRefused, refusal_words}
-use Rattle.jl_app.specs.Requests.{IsAvailable}
 use Rattle.jl_command.specs.declared.command.Command.{Command}
 use Rattle.jl_command.specs.declared.command.Command.TheVariants as commands
 use Rattle.jl_app.specs.declared.form.Form.{Form}
@@ -88,10 +88,16 @@ asked_trace _ (means_trace budget few) = (refl, few)
 pub asked_exec : {budget : ℕ} (a : Asked) → Means (commands.Exec budget) a → a ≡ exec budget
 asked_exec _ (means_exec budget few) = refl
 
--- no command that is available is `soak`
-pub never_soak : {number budget : ℕ} {set : RuleSet} (a : Asked) → IsAvailable a
+pub asked_soak : {number budget : ℕ} {set : RuleSet} (a : Asked) → Means (commands.Soak number budget set) a
+    → (chosen : List ℕ) × (a ≡ soak number budget chosen) × (number ≤ most_functions) × (budget ≤ most_budget)
+    × IsChoice set chosen
+asked_soak _ (means_soak number budget set chosen few_functions few choice) =
+    (chosen, refl, few_functions, few, choice)
+
+-- no command that reads the source is `soak`
+pub never_soak : {number budget : ℕ} {set : RuleSet} (a : Asked) → ReadsSource a
     → Means (commands.Soak number budget set) a → ⊥
-never_soak _ available (means_soak number budget set chosen least few choice) = available
+never_soak _ reads (means_soak number budget set chosen few_functions few choice) = reads
 
 -- what holds whatever the value is
 pub always_ok : {T E K : Type 0} (r : Result T E) → K → OnOk r K

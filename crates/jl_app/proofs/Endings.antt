@@ -1,5 +1,5 @@
 -- From what was read to what is due.
-use Rattle.std.proofs.Common.{◌≡◌, ℕ, ◌+◌, ◌<◌, ◌≤◌, Bool, false, IsTrue, List, [], ◌∷◌, Option, Some, None, length}
+use Rattle.std.proofs.Common.{◌≡◌, ℕ, ◌+◌, ◌<◌, ◌≤◌, ◌^◌, Bool, false, IsTrue, List, [], ◌∷◌, Option, Some, None, length}
 use Rattle.std.proofs.Common.{take, get_or, map, refl, sym, ap, ◌∙◌, subst, arith}
 use Rattle.std.specs.Prelude.{IfSome}
 use Rattle.std.specs.Bool.{Decides}
@@ -13,6 +13,9 @@ use Rattle.jl_app.specs.declared.status.Status.{Status}
 use Rattle.jl_app.specs.declared.status.Status.TheVariants as status
 use Rattle.jl_app.specs.Answers.{Due, IsDue}
 use Rattle.jl_app.specs.Endings.{Call, EndsWith, answered, write_failed}
+use Rattle.jl_app.specs.Forms.{most_bytes}
+use Rattle.jl_app.specs.declared.form.Form.{Form}
+use Rattle.jl_app.specs.declared.form.Form.TheVariants as forms
 
 pub never : (b : Bool) → b ≡ false → IsTrue b → ⊥
 never b e h = cc
@@ -20,6 +23,11 @@ never b e h = cc
 pub told_same : (held : Option (List ℕ)) (bytes read : List ℕ) → read ≡ bytes → IfSome held (λ all. bytes ≡ all) → IfSome held (λ all. all ≡ read)
 told_same None bytes read e h = tt
 told_same (Some all) bytes read e h = sym (e ∙ h)
+
+-- of neither form are there so many bytes
+pub few_bytes_of : (form : Form) → most_bytes form < 2 ^ 63
+few_bytes_of forms.Script = omega arith
+few_bytes_of forms.WovenText = omega arith
 
 -- too many bytes were read
 pub long_bytes : (limit : ℕ) (held left : Option (List ℕ)) → TakesCount held left (limit + 1) → IfSome held (λ all. limit < length all) → (bytes : List ℕ) × (limit < length bytes) × IfSome held (λ all. all ≡ bytes)

@@ -1,6 +1,5 @@
 -- The answer of `lint` is about the script's own run.
 use Rattle.std.proofs.Common.{◌≡◌, ◌∙◌, ◌*◌, ◌+◌, ◌⊎◌, ℕ, List, Some, ap, refl, sym, subst, arith}
-use Rattle.std.specs.Prelude.{IfSome}
 use Rattle.jl_analysis.specs.Laws.{NeededIsEnough}
 use Rattle.jl_ast.specs.Tree.{Program}
 use Rattle.jl_effects.specs.Running.{IsOver, state_of as world_of, steps_taken}
@@ -11,24 +10,22 @@ use Rattle.jl_port.specs.Bytes.{Grows}
 use Rattle.jl_text.specs.Encoding.{units_of}
 use Rattle.jl_text.specs.declared.span.Span.{Span}
 use Rattle.jl_app.specs.Accepting.{IsAccepted, OneReading}
-use Rattle.jl_app.specs.Answers.{Due, IsAnswered, IsLinted, IsReported, accepted, answered_to, bad_words}
+use Rattle.jl_app.specs.Answers.{Due, IsAnswered, IsLinted, IsReported, accepted}
 use Rattle.jl_app.specs.Answers.{hooked_run, lint_bytes, lint_status, ran, refused, unread, woven_budget}
-use Rattle.jl_command.specs.Asked.{Asked, lint}
+use Rattle.jl_command.specs.Asked.{Asked, asked, lint}
 use Rattle.jl_app.specs.Endings.{Call, EndsWith, HasAnswered, answered, no_memory, read_failed, write_failed}
 use Rattle.jl_app.specs.Headline.{IsAbout, IsAboutBeginning, IsAboutScript, own_run, woven_mean, woven_run}
 use Rattle.jl_app.specs.ReadBack.{IsReadBack}
 use Rattle.jl_app.specs.Refusals.{NeverBoth}
 use Rattle.jl_app.specs.Reporting.{Lines}
-use Rattle.jl_app.specs.Requests.{request}
+use Rattle.jl_app.specs.Scripts.{IsScriptFor, Reports}
 use Rattle.jl_app.specs.WovenText.{kinds_of, woven_text}
 use Rattle.jl_app.specs.declared.form.Form.TheVariants as forms
 use Rattle.jl_app.specs.declared.status.Status.{Status}
 use Rattle.jl_app.specs.inner.Woven.{IsWovenWell}
 use Rattle.jl_app.proofs.AboutRuns.{about_own, about_script}
 use Rattle.jl_app.proofs.OwnRun.{same_run}
-
-same_asked : {a b : Asked} → Some a ≡ Some b → a ≡ b
-same_asked e = cc
+use Rattle.jl_app.proofs.Scripts.{due_to_script}
 
 -- What holds of the answer to what the woven script means, without what it performs itself, holds of what `lint`
 -- answers.
@@ -72,29 +69,23 @@ module _ (call : Call) (p : Program Span) (budget : ℕ) (chosen : List ℕ) (we
       (subst (λ us. IsLinted us p budget chosen call.shelf.lent due) same
       (subst (λ x. IsLinted (units_of bytes) x budget chosen call.shelf.lent due) program responds.1)) grows knows
 
-  says_so : {answer : Status} → (one : OneReading) (never : NeverBoth) → EndsWith call answer → (bytes : List ℕ)
-      → call.held ≡ Some bytes → IsAccepted bytes p → request call.words ≡ Some (lint budget chosen)
-      → call.shelf.lent ≡ call.shelf.handed → HasAnswered answer → units_of bytes ≡ units
+  says_so : {answer : Status} → (one : OneReading) (never : NeverBoth) → EndsWith call answer → (a : Asked)
+      (bytes : List ℕ) → asked call.words ≡ Some a → Reports a budget chosen → IsScriptFor call.held a bytes
+      → IsAccepted bytes p → call.shelf.lent ≡ call.shelf.handed → HasAnswered answer → units_of bytes ≡ units
       → HoldsOfMeaning → Says answer
-  says_so one never (answered due (bad_words none kept) grows knows) bytes held is words lent answers same says =
-      let both = sym none ∙ words in absurd (cc)
-  says_so one never (answered due (answered_to a read words2 told l) grows knows) bytes held is words lent answers same
-      says =
-      let all : bytes ≡ read = subst (λ h. IfSome h (λ all. all ≡ read)) held told in
-      let command : a ≡ lint budget chosen = same_asked (sym words2 ∙ words) in
+  says_so one never (answered due answer grows knows) a bytes words reports script is lent answers same says =
       answer_says one never bytes due is same says lent
-      (subst (λ b. IsAnswered (lint budget chosen) b call.shelf due) (sym all)
-      (subst (λ d. IsAnswered d read call.shelf due) command l)) grows knows
-  says_so one never (write_failed due n is2 risen less grows knows) bytes held is words lent answers same says =
-      absurd answers
-  says_so one never (read_failed a words2 risen same2 kept knows) bytes held is words lent answers same says =
-      absurd answers
-  says_so one never (no_memory same2) bytes held is words lent answers same says = absurd answers
+      (due_to_script a bytes budget chosen due words reports script answer) grows knows
+  says_so one never (write_failed due n is2 risen less grows knows) a bytes words reports script is lent answers same
+      says = absurd answers
+  says_so one never (read_failed a2 words2 reads risen same2 kept knows) a bytes words reports script is lent answers
+      same says = absurd answers
+  says_so one never (no_memory same2) a bytes words reports script is lent answers same says = absurd answers
 
 module _ {call : Call} {answer : Status} (enough : NeededIsEnough) (one : OneReading) (never : NeverBoth)
-    (ends : EndsWith call answer) (bytes : List ℕ) (p : Program Span) (budget : ℕ) (chosen : List ℕ)
-    (well : IsWovenWell (kinds_of chosen) p) (held : call.held ≡ Some bytes) (is : IsAccepted bytes p)
-    (words : request call.words ≡ Some (lint budget chosen)) (lent : call.shelf.lent ≡ call.shelf.handed)
+    (ends : EndsWith call answer) (a : Asked) (bytes : List ℕ) (p : Program Span) (budget : ℕ) (chosen : List ℕ)
+    (well : IsWovenWell (kinds_of chosen) p) (words : asked call.words ≡ Some a) (reports : Reports a budget chosen)
+    (script : IsScriptFor call.held a bytes) (is : IsAccepted bytes p) (lent : call.shelf.lent ≡ call.shelf.handed)
     (answers : HasAnswered answer) where
   abbrev about : Program Span → ℕ → Status → Type 0
   about p n s = IsAbout call (units_of bytes) p chosen n (own_run p n) s
@@ -106,16 +97,16 @@ module _ {call : Call} {answer : Status} (enough : NeededIsEnough) (one : OneRea
 
   in_time : IsOver (own_run p budget) → about p budget answer
   in_time over =
-      says_so call p budget chosen well (units_of bytes) (about p budget) one never ends bytes held is words lent
-      answers refl
+      says_so call p budget chosen well (units_of bytes) (about p budget) one never ends a bytes words reports script is
+      lent answers refl
       (λ lines count report grows knows. about_own enough call (units_of bytes) p chosen (own_run p)
       (woven_mean (kinds_of chosen) p) well.simulates (woven_budget budget) lines count report grows knows budget
       (31 * budget + 64) refl (omega arith) (well.longer budget (31 * budget + 64)) over)
 
   in_any_case : about_some p answer
   in_any_case =
-      says_so call p budget chosen well (units_of bytes) (about_some p) one never ends bytes held is words lent answers
-      refl
+      says_so call p budget chosen well (units_of bytes) (about_some p) one never ends a bytes words reports script is
+      lent answers refl
       (λ lines count report grows knows. about_script enough call (units_of bytes) p chosen (own_run p)
       (woven_mean (kinds_of chosen) p) well.simulates (woven_budget budget) lines count report grows knows)
 

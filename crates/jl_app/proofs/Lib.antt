@@ -11,7 +11,7 @@ pub mod Answering
 pub mod Executing
 pub mod Traced
 pub mod Linting
-pub mod Requested
+pub mod Scripts
 pub mod Endings
 pub mod AboutRuns
 pub mod BackToWoven

@@ -15,7 +15,8 @@ use Rattle.jl_token.specs.declared.token.Token.{Token}
 use Rattle.jl_app.specs.Accepting.{IsAccepted}
 use Rattle.jl_app.specs.Answers.{hooked_run, woven_budget}
 use Rattle.jl_app.specs.Headline.{woven_run}
-use Rattle.jl_app.specs.Misuse.{AcceptedScriptsRunWithoutMisuse, EndsWithoutMisuse, RunsWithoutMisuse}
+use Rattle.jl_app.specs.Misuse.{AcceptedScriptsRunWithoutMisuse, EndsWithoutMisuse, ReportsWithoutMisuse}
+use Rattle.jl_app.specs.Misuse.{RunsWithoutMisuse}
 use Rattle.jl_app.specs.OwnRuns.{program_run}
 use Rattle.jl_app.specs.WovenText.{kinds_of}
 use Rattle.jl_app.specs.inner.Woven.{IsWovenWell}
@@ -55,12 +56,15 @@ without_misuse safe woven_safe well a bytes p is = by_command a
     all_woven : (chosen : Kinds) (n : ℕ) → FailsAllowed IsNoMisuse (quiet_mean chosen (woven_program chosen p) n)
     all_woven chosen n = woven_safe chosen is.tokens 200 p is.read legal (few_accepted_tokens bytes p is) n
 
-    by_command : (a : Asked) → RunsWithoutMisuse a p
-    by_command (lint budget chosen) = λ q read.
+    reporting : (budget : ℕ) (chosen : List ℕ) → ReportsWithoutMisuse budget chosen p
+    reporting budget chosen = λ q read.
         subst (λ (r : Run). EndsWithoutMisuse r)
         (sym (same_run (kinds_of chosen) p q (woven_budget budget)
         ((well (kinds_of chosen) bytes p is).back.same q read)))
         (woven p all_woven (kinds_of chosen) (woven_budget budget))
+
+    by_command : (a : Asked) → RunsWithoutMisuse a p
+    by_command (lint budget chosen) = reporting budget chosen
     by_command (run budget) = own p (λ chosen n. safe chosen p legal n) budget
     by_command (trace budget) = traced p all_woven (woven_budget budget)
     by_command check = tt
@@ -68,4 +72,4 @@ without_misuse safe woven_safe well a bytes p is = by_command a
     by_command instrument = tt
     by_command map_of_ids = tt
     by_command (exec budget) = tt
-    by_command (soak number budget chosen) = tt
+    by_command (soak number budget chosen) = reporting budget chosen

@@ -12,21 +12,21 @@ use Rattle.jl_op.specs.IdMap.{id_map}
 use Rattle.jl_op.specs.Operations.{Operation}
 use Rattle.jl_print.specs.Layout.{text_of}
 use Rattle.jl_simulation.specs.Weaving.{woven_program}
+use Rattle.jl_soak.specs.Script.{script_of}
 use Rattle.jl_text.specs.Encoding.{bytes_of, units_of}
 use Rattle.jl_text.specs.declared.span.Span.{Span}
 use Rattle.jl_value.specs.declared.ending.Outcome.{Outcome as Ending}
 use Rattle.jl_value.specs.declared.ending.Outcome.TheVariants as ending
 use Rattle.jl_app.specs.Accepting.{IsRead}
-use Rattle.jl_command.specs.Asked.{Asked, check, exec, instrument, lint, map_of_ids, print, run, soak, trace}
+use Rattle.jl_command.specs.Asked.{Asked, asked, check, exec, instrument, lint, map_of_ids, print, run, soak, trace}
 use Rattle.jl_app.specs.MapLines.{begins, map_lines}
 use Rattle.jl_app.specs.OwnRuns.{ending_status, ending_text, program_run, steps_line, uncaught_line}
 use Rattle.jl_app.specs.ReadBack.{IsReadBack}
 use Rattle.jl_app.specs.Refusals.{IsRefused, refusal_words}
-use Rattle.jl_app.specs.Requests.{request}
 use Rattle.jl_app.specs.Reporting.{Lines, IsReport, lines_text}
 use Rattle.jl_app.specs.Tracing.{hooks_line, trace_lines}
 use Rattle.jl_app.specs.WovenText.{kinds_of, woven_text}
-use Rattle.jl_app.specs.Forms.{form_of}
+use Rattle.jl_app.specs.Forms.{form_of, ReadsSource}
 use Rattle.jl_app.specs.declared.refusal.Refusal.{Refusal}
 use Rattle.jl_app.specs.declared.status.Status.{Status}
 use Rattle.jl_app.specs.declared.status.Status.TheVariants as status
@@ -196,9 +196,12 @@ pub data IsAnswered (a : Asked) (bytes : List ℕ) (shelf : OnShelf) : Due → T
   accepted : {due : Due} (p : Program Span) → IsRead (form_of a) bytes p → Responds a (units_of bytes) p shelf due
       → IsAnswered a bytes shelf due
 
--- What is due to these words, where the source tells that it holds these bytes, or tells nothing. Of a source that
--- holds too many bytes not all are read, and these are the first.
+-- What is due to these words, where the source tells that it holds these bytes, or tells nothing.
 pub data IsDue (words : List (List ℕ)) (held : Option (List ℕ)) (shelf : OnShelf) : Due → Type 0 where
-  bad_words : request words ≡ None → shelf.same → IsDue words held shelf (line_only status.BadWords (codes "bad words"))
-  answered_to : {due : Due} (a : Asked) (bytes : List ℕ) → request words ≡ Some a → IfSome held (λ all. all ≡ bytes)
-      → IsAnswered a bytes shelf due → IsDue words held shelf due
+  bad_words : asked words ≡ None → shelf.same → IsDue words held shelf (line_only status.BadWords (codes "bad words"))
+  -- the answer to what was read: of a source that holds too many bytes not all are, and these are the first
+  answered_to : {due : Due} (a : Asked) (bytes : List ℕ) → asked words ≡ Some a → ReadsSource a
+      → IfSome held (λ all. all ≡ bytes) → IsAnswered a bytes shelf due → IsDue words held shelf due
+  -- `soak` answers what `lint` does to the script of so many functions
+  answered_to_made : {due : Due} (number budget : ℕ) (chosen : List ℕ) → asked words ≡ Some (soak number budget chosen)
+      → IsAnswered (lint budget chosen) (script_of number) shelf due → IsDue words held shelf due

@@ -5,8 +5,8 @@ use Rattle.jl_port.specs.Bytes.{Grows}
 use Rattle.jl_port.specs.Count.{HasRisen}
 use Rattle.jl_app.specs.declared.status.Status.{Status}
 use Rattle.jl_app.specs.declared.status.Status.TheVariants as status
-use Rattle.jl_command.specs.Asked.{Asked}
-use Rattle.jl_app.specs.Requests.{request}
+use Rattle.jl_command.specs.Asked.{Asked, asked}
+use Rattle.jl_app.specs.Forms.{ReadsSource}
 use Rattle.jl_app.specs.Answers.{Due, IsDue, OnShelf}
 
 -- what a call was given, and what it left: its words; the bytes that the source held, where it tells, and its faults
@@ -32,8 +32,9 @@ pub data EndsWith (call : Call) : Status → Type 0 where
       → Grows call.written.0 call.written.1 (take n due.bytes) → call.knows due.told
       → EndsWith call status.WriteFault
   -- the source failed, and nothing was written
-  read_failed : (a : Asked) → request call.words ≡ Some a → HasRisen call.read_faults.0 call.read_faults.1
-      → call.written.1 ≡ call.written.0 → call.shelf.same → call.knows [] → EndsWith call status.ReadFault
+  read_failed : (a : Asked) → asked call.words ≡ Some a → ReadsSource a
+      → HasRisen call.read_faults.0 call.read_faults.1 → call.written.1 ≡ call.written.0 → call.shelf.same
+      → call.knows [] → EndsWith call status.ReadFault
   -- memory was wanted, and nothing was written
   no_memory : call.written.1 ≡ call.written.0 → EndsWith call status.NoMemory
 

@@ -1,7 +1,7 @@
 -- What a source has to be.
 use Rattle.std.specs.Prelude.{ℕ, Bool, true, false, Option, Some, None}
 use Rattle.jl_scope.specs.EarlyError.{EarlyError, early, left_out, reserved_name}
-use Rattle.jl_command.specs.Asked.{Asked, exec}
+use Rattle.jl_command.specs.Asked.{Asked, exec, soak}
 use Rattle.jl_command.specs.declared.command.Command.{Command}
 use Rattle.jl_command.specs.declared.command.Command.TheVariants as commands
 use Rattle.jl_app.specs.declared.form.Form.{Form}
@@ -16,6 +16,11 @@ form_of _ = forms.Script
 abbrev pub form_of_command : Command → Form
 form_of_command (commands.Exec budget) = forms.WovenText
 form_of_command _ = forms.Script
+
+-- a command reads the source, but for `soak`, which makes its script
+abbrev pub ReadsSource : Asked → Type 0
+ReadsSource (soak number budget chosen) = ⊥
+ReadsSource _ = Unit {0}
 
 -- the most bytes that it has
 abbrev pub most_bytes : Form → ℕ

@@ -1,5 +1,5 @@
-pub mod Requests
 pub mod Forms
+pub mod Scripts
 pub mod OwnRuns
 pub mod Positions
 pub mod Reporting

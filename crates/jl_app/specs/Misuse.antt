@@ -1,7 +1,7 @@
 -- That the fault Misuse ends no run that a command answers of.
 use Rattle.std.specs.Prelude.{ℕ, List}
 use Rattle.jl_ast.specs.Tree.{Program}
-use Rattle.jl_command.specs.Asked.{Asked, lint, run, trace}
+use Rattle.jl_command.specs.Asked.{Asked, lint, run, soak, trace}
 use Rattle.jl_effects.specs.Keeping.{FailsAllowed}
 use Rattle.jl_meaning.specs.Mean.{IsNoMisuse, Run}
 use Rattle.jl_op.specs.Chosen.{every_kind}
@@ -17,12 +17,17 @@ use Rattle.jl_app.specs.WovenText.{kinds_of, woven_text}
 abbrev pub EndsWithoutMisuse : Run → Type 0
 EndsWithoutMisuse r = FailsAllowed IsNoMisuse r
 
--- What is run for a command and the script p is not ended by it: the program that is read from the text that `lint`
--- hands to the shelf, the script for `run`, and the woven script for `trace`.
-abbrev pub RunsWithoutMisuse : Asked → Program Span → Type 0
-RunsWithoutMisuse (lint budget chosen) p =
+-- the program that is read from the text of the woven script p is not ended by it
+abbrev pub ReportsWithoutMisuse : (budget : ℕ) → (chosen : List ℕ) → Program Span → Type 0
+ReportsWithoutMisuse budget chosen p =
     (q : Program Span) → IsReadBack (woven_text (kinds_of chosen) p) q
     → EndsWithoutMisuse (hooked_run (kinds_of chosen) q (woven_budget budget))
+
+-- What is run for a command and the script p is not ended by it: the program that is read from the text that `lint` and
+-- `soak` hand to the shelf, the script for `run`, and the woven script for `trace`.
+abbrev pub RunsWithoutMisuse : Asked → Program Span → Type 0
+RunsWithoutMisuse (lint budget chosen) p = ReportsWithoutMisuse budget chosen p
+RunsWithoutMisuse (soak number budget chosen) p = ReportsWithoutMisuse budget chosen p
 RunsWithoutMisuse (run budget) p = EndsWithoutMisuse (program_run p budget)
 RunsWithoutMisuse (trace budget) p =
     EndsWithoutMisuse (program_run (woven_program every_kind p) (woven_budget budget))

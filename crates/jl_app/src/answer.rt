@@ -4,9 +4,8 @@ ghost use Rattle.jl_command.specs.Asked.{Asked, lint};
 ghost use Rattle.jl_command.specs.Meant.{Means};
 ghost use Rattle.jl_op.specs.Operations.{Operation};
 ghost use Rattle.jl_app.specs.Answers.{Due, IsAnswered, line_only, refused_only};
-ghost use Rattle.jl_app.specs.Forms.{form_of, most_bytes};
+ghost use Rattle.jl_app.specs.Forms.{ReadsSource, form_of, most_bytes};
 ghost use Rattle.jl_app.specs.Refusals.{refusal_words};
-ghost use Rattle.jl_app.specs.Requests.{IsAvailable};
 
 use crate::accept::{Unaccepted, accept};
 use crate::check::check;
@@ -63,7 +62,7 @@ pub(crate) fn respond<H: Shelf>(
     crowd: &mut Crowd,
 ) -> Result<Answer, AllocError>
     requires small { (a : Asked) → Means command a → length bytes.now ≤ most_bytes (form_of a) }
-    requires meant { (a : Asked) × IsAvailable a × Means command a }
+    requires meant { (a : Asked) × ReadsSource a × Means command a }
     requires rules { ⟦<Crowd as Findings>⟧.rules crowd.old ≡ all_rules }
     requires fresh { ⟦<Crowd as Observer>⟧.stands_for crowd.old [] }
     ensures due { (a : Asked) → Means command a → IfOk result (λ given. (due : Due)

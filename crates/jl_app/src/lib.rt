@@ -15,7 +15,6 @@ mod print;
 mod read_back;
 mod refusal;
 mod report;
-mod request;
 mod source;
 mod status;
 mod top;

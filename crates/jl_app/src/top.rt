@@ -1,17 +1,19 @@
-ghost use Rattle.std.specs.Prelude.{◌≡◌, [], ℕ, List, None, Some, codes, IfOk, IfSome, IsErrOf};
+ghost use Rattle.std.specs.Prelude.{◌≡◌, ◌≤◌, [], ℕ, List, Some, codes, IfOk, IfSome, IsErrOf};
 ghost use Rattle.jl_analysis.specs.Rules.{all_rules};
 ghost use Rattle.jl_ast.specs.Tree.{Program as Tree};
-ghost use Rattle.jl_command.specs.Asked.{Asked, lint, texts};
-ghost use Rattle.jl_command.specs.Meant.{Means};
+ghost use Rattle.jl_command.specs.Asked.{Asked, asked, lint, texts};
+ghost use Rattle.jl_command.specs.Meant.{IsChoice, Means};
 ghost use Rattle.jl_port.specs.Count.{HasRisen};
+ghost use Rattle.jl_soak.specs.Script.{script_of};
 ghost use Rattle.jl_text.specs.Encoding.{units_of};
 ghost use Rattle.jl_text.specs.declared.span.Span.{Span};
 ghost use Rattle.jl_app.specs.Accepting.{IsAccepted};
 ghost use Rattle.jl_app.specs.Answers.{Due, IsAnswered, IsDue, line_only};
 ghost use Rattle.jl_app.specs.Endings.{EndsWith, HasAnswered};
+ghost use Rattle.jl_app.specs.Forms.{ReadsSource};
 ghost use Rattle.jl_app.specs.Headline.{IsAboutScript};
 ghost use Rattle.jl_app.specs.Misuse.{RunsWithoutMisuse};
-ghost use Rattle.jl_app.specs.Requests.{IsAvailable, request};
+ghost use Rattle.jl_app.specs.Scripts.{IsScriptFor, Reports};
 ghost use Rattle.jl_app.specs.declared.status.Status.TheVariants.{BadWords};
 ghost use Rattle.jl_app.specs.declared.top.Unanswered.TheVariants.{NoMemory};
 
@@ -21,13 +23,13 @@ use crate::laws::{
     accepted_scripts_run_without_misuse, never_both, one_reading, scripts_are_woven_well,
 };
 use crate::refusal::Refusal;
-use crate::request::request;
 use crate::status::Status;
 use jl_analysis::laws::needed_is_enough;
-use jl_analysis::{Crowd, Findings};
-use jl_command::{Command, WordsRefusal};
+use jl_analysis::{Crowd, Findings, RuleSet};
+use jl_command::{Command, WordsRefusal, parse_words};
 use jl_op::Observer;
 use jl_port::{ReadRefusal, Shelf, Sink, Source, read_all, write_all};
+use jl_soak::script_from;
 use std::alloc::{AllocError, Global};
 
 /// Why nothing is answered.
@@ -53,7 +55,7 @@ fn respond_to_source<S: Source, H: Shelf>(
     shelf: &mut H,
     crowd: &mut Crowd,
 ) -> Result<Answer, Unanswered>
-    requires meant { (a : Asked) × IsAvailable a × Means command a }
+    requires meant { (a : Asked) × ReadsSource a × Means command a }
     requires rules { ⟦<Crowd as Findings>⟧.rules crowd.old ≡ all_rules }
     requires fresh { ⟦<Crowd as Observer>⟧.stands_for crowd.old [] }
     ensures due { (a : Asked) → Means command a → IfOk result (λ given. (due : Due) × (bytes : List ℕ)
@@ -81,6 +83,37 @@ fn respond_to_source<S: Source, H: Shelf>(
     }
 }
 
+/// What `lint` answers to the script that is made of so many functions.
+fn respond_to_made<H: Shelf>(
+    alloc: Global,
+    number: u32,
+    budget: u64,
+    rules: RuleSet,
+    shelf: &mut H,
+    crowd: &mut Crowd,
+) -> Result<Answer, Unanswered>
+    requires few { number ≤ 8000 }
+    requires budget { budget ≤ 1000000000 }
+    requires choice { (chosen : List ℕ) × IsChoice rules chosen }
+    requires rules { ⟦<Crowd as Findings>⟧.rules crowd.old ≡ all_rules }
+    requires fresh { ⟦<Crowd as Observer>⟧.stands_for crowd.old [] }
+    ensures due { (chosen : List ℕ) → IsChoice rules chosen → IfOk result (λ given. (due : Due)
+        × IsAnswered (lint budget chosen) (script_of number) (record {
+          handed = H.handed shelf.new;
+          lent = H.lent shelf.new;
+          same = shelf.new ≡ shelf.old;
+        }) due
+        × (given.status ≡ due.status)
+        × (given.bytes.items ≡ due.bytes)
+        × ⟦<Crowd as Observer>⟧.stands_for crowd.new due.told) }
+    ensures reads { IsErrOf result Unanswered.ReadFault → ⊥ }
+    ensures same_rules { ⟦<Crowd as Findings>⟧.rules crowd.new ≡ ⟦<Crowd as Findings>⟧.rules crowd.old }
+{
+    let script = script_from(alloc, number)?;
+    let command = Command::Lint { budget, rules };
+    Ok(respond(alloc, command, &script, shelf, crowd)?)
+}
+
 /// The answer to bad words.
 fn bad_words(alloc: Global) -> Result<Answer, Unanswered>
     ensures line { IfOk result (λ a. (a.status ≡ (line_only BadWords (codes "bad words")).status)
@@ -90,7 +123,7 @@ fn bad_words(alloc: Global) -> Result<Answer, Unanswered>
     Ok(line_only(alloc, Status::BadWords, "bad words")?)
 }
 
-/// What is due to these words, read from the source where they are a command.
+/// What is due to these words; the source is read where they are a command that reads it.
 fn due<S: Source, H: Shelf>(
     alloc: Global,
     words: &[&str],
@@ -109,16 +142,24 @@ fn due<S: Source, H: Shelf>(
         × (a.status ≡ due.status)
         × (a.bytes.items ≡ due.bytes)
         × ⟦<Crowd as Observer>⟧.stands_for crowd.new due.told) }
-    ensures fault { IsErrOf result Unanswered.ReadFault → ((a : Asked) × (request (texts words.now) ≡ Some a))
+    ensures fault { IsErrOf result Unanswered.ReadFault
+        → ((a : Asked) × (asked (texts words.now) ≡ Some a) × ReadsSource a)
         × HasRisen (S.faults source.old) (S.faults source.new)
         × (shelf.new ≡ shelf.old)
         × ⟦<Crowd as Observer>⟧.stands_for crowd.new [] }
-    ensures shelf { ((budget : ℕ) (chosen : List ℕ) → request (texts words.now) ≡ Some (lint budget chosen) → ⊥)
-        → shelf.new ≡ shelf.old }
-    ensures unread { request (texts words.now) ≡ None → source.new ≡ source.old }
+    ensures shelf { ((a : Asked) (budget : ℕ) (chosen : List ℕ) → asked (texts words.now) ≡ Some a
+        → Reports a budget chosen → ⊥) → shelf.new ≡ shelf.old }
+    ensures unread { ((a : Asked) → asked (texts words.now) ≡ Some a → ReadsSource a → ⊥) → source.new ≡ source.old }
     ensures same_rules { ⟦<Crowd as Findings>⟧.rules crowd.new ≡ ⟦<Crowd as Findings>⟧.rules crowd.old }
 {
-    match request(alloc, words) {
+    match parse_words(alloc, words) {
+        Ok(
+            Command::Soak {
+                number,
+                budget,
+                rules,
+            },
+        ) => respond_to_made(alloc, number, budget, rules, shelf, crowd),
         Ok(command) => respond_to_source(alloc, command, source, shelf, crowd),
         Err(WordsRefusal::BadWords) => bad_words(alloc),
         Err(WordsRefusal::NoMemory) => Err(Unanswered::NoMemory),
@@ -132,7 +173,8 @@ fn due<S: Source, H: Shelf>(
 /// script, `map` what the ids in that stand for, `run` runs the script as it stands, and `trace` tells its operations
 /// as its woven script runs. `exec` does so of a woven text, such as `instrument` writes, which is the source then.
 /// `lint` hands the shelf the text of the script that is woven for the kinds of operations that the chosen rules look
-/// at, runs the program that it reads from what the shelf lends, and reports. No other command touches the shelf, and
+/// at, runs the program that it reads from what the shelf lends, and reports. `soak` reads no source: it makes a script
+/// of as many functions as it is told, and answers what `lint` does to that. No other command touches the shelf, and
 /// neither does a refusal that comes before.
 pub fn jlint<S: Source, K: Sink, H: Shelf>(
     alloc: Global,
@@ -157,10 +199,11 @@ pub fn jlint<S: Source, K: Sink, H: Shelf>(
       };
       knows = λ told. ⟦<Crowd as Observer>⟧.stands_for crowd.new told;
     }) result }
-    // For a source that tells its bytes and a shelf that lends what it was handed, the answer to an accepted script is
-    // about the script's own run, for every budget and every choice of rules.
-    ensures headline { (bytes : List ℕ) (p : Tree Span) (budget : ℕ) (chosen : List ℕ)
-        → S.left source.old ≡ Some bytes → IsAccepted bytes p → request (texts words.now) ≡ Some (lint budget chosen)
+    // For a script that is made, or of a source that tells its bytes, and a shelf that lends what it was handed, the
+    // answer to an accepted script is about the script's own run, for every budget and every choice of rules.
+    ensures headline { (a : Asked) (bytes : List ℕ) (p : Tree Span) (budget : ℕ) (chosen : List ℕ)
+        → asked (texts words.now) ≡ Some a → Reports a budget chosen → IsScriptFor (S.left source.old) a bytes
+        → IsAccepted bytes p
         → H.lent shelf.new ≡ H.handed shelf.new → HasAnswered result
         → IsAboutScript (record {
           words = texts words.now;
@@ -176,12 +219,12 @@ pub fn jlint<S: Source, K: Sink, H: Shelf>(
           knows = λ told. ⟦<Crowd as Observer>⟧.stands_for crowd.new told;
         }) (units_of bytes) p budget chosen result }
     // The fault Misuse ends no run that is answered of, but of `exec`, and of a program that is read from another text
-    // than `lint` handed to the shelf.
-    ensures no_misuse { (a : Asked) (bytes : List ℕ) (p : Tree Span) → request (texts words.now) ≡ Some a
-        → S.left source.old ≡ Some bytes → IsAccepted bytes p → RunsWithoutMisuse a p }
-    ensures unread { request (texts words.now) ≡ None → source.new ≡ source.old }
-    ensures shelf { ((budget : ℕ) (chosen : List ℕ) → request (texts words.now) ≡ Some (lint budget chosen) → ⊥)
-        → shelf.new ≡ shelf.old }
+    // than the shelf was handed.
+    ensures no_misuse { (a : Asked) (bytes : List ℕ) (p : Tree Span) → asked (texts words.now) ≡ Some a
+        → IsScriptFor (S.left source.old) a bytes → IsAccepted bytes p → RunsWithoutMisuse a p }
+    ensures unread { ((a : Asked) → asked (texts words.now) ≡ Some a → ReadsSource a → ⊥) → source.new ≡ source.old }
+    ensures shelf { ((a : Asked) (budget : ℕ) (chosen : List ℕ) → asked (texts words.now) ≡ Some a
+        → Reports a budget chosen → ⊥) → shelf.new ≡ shelf.old }
     ensures same_rules { ⟦<Crowd as Findings>⟧.rules crowd.new ≡ ⟦<Crowd as Findings>⟧.rules crowd.old }
 {
     one_reading();

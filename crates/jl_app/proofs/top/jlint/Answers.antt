@@ -8,7 +8,7 @@ use Rattle.jl_app.proofs.top.jlint.Goals as goal
 pub returns-in-Err-ReadFault-clause-ends : goal.returns-in-Err-ReadFault-clause-ends
 returns-in-Err-ReadFault-clause-ends g c =
     let fault = c.in-Err-ReadFault.ensures.fault (ap Err c.in-Err-ReadFault.field-0-is) in
-    read_failed fault.0.0 fault.0.1 fault.1 refl fault.2 fault.3
+    read_failed fault.0.0 fault.0.1 fault.0.2 fault.1 refl fault.2 fault.3
 
 pub returns-in-Err-NoMemory-clause-ends : goal.returns-in-Err-NoMemory-clause-ends
 returns-in-Err-NoMemory-clause-ends g c = no_memory refl
@@ -27,25 +27,26 @@ returns-clause-ends g c =
     failed.fault failed.proper failed.front due.4
 
 pub returns-in-Ok-write_all-clause-headline : goal.returns-in-Ok-write_all-clause-headline
-returns-in-Ok-write_all-clause-headline g c = λ bytes p budget chosen held is words lent answers.
+returns-in-Ok-write_all-clause-headline g c = λ a bytes p budget chosen words reports script is lent answers.
     let due = c.in-Ok.ensures.due in
     headline c.needed_is_enough.ensures c.one_reading.ensures c.never_both.ensures
     (ends_answered due.0 c.in-Ok.answer.status c.deref.result.now due.2 (c.deref.ensures.value ∙ due.3) due.1
     c.in-Ok-write_all.ensures.all due.4)
-    bytes p budget chosen (c.scripts_are_woven_well.ensures (kinds_of chosen) bytes p is) held is words lent answers
+    a bytes p budget chosen (c.scripts_are_woven_well.ensures (kinds_of chosen) bytes p is) words reports script is lent
+    answers
 
 pub returns-in-Err-ReadFault-clause-no_misuse : goal.returns-in-Err-ReadFault-clause-no_misuse
-returns-in-Err-ReadFault-clause-no_misuse g c = λ a bytes p words held is.
+returns-in-Err-ReadFault-clause-no_misuse g c = λ a bytes p words script is.
     c.accepted_scripts_run_without_misuse.ensures a bytes p is
 
 pub returns-in-Err-NoMemory-clause-no_misuse : goal.returns-in-Err-NoMemory-clause-no_misuse
-returns-in-Err-NoMemory-clause-no_misuse g c = λ a bytes p words held is.
+returns-in-Err-NoMemory-clause-no_misuse g c = λ a bytes p words script is.
     c.accepted_scripts_run_without_misuse.ensures a bytes p is
 
 pub returns-in-Ok-write_all-clause-no_misuse : goal.returns-in-Ok-write_all-clause-no_misuse
-returns-in-Ok-write_all-clause-no_misuse g c = λ a bytes p words held is.
+returns-in-Ok-write_all-clause-no_misuse g c = λ a bytes p words script is.
     c.accepted_scripts_run_without_misuse.ensures a bytes p is
 
 pub returns-clause-no_misuse : goal.returns-clause-no_misuse
-returns-clause-no_misuse g c = λ a bytes p words held is.
+returns-clause-no_misuse g c = λ a bytes p words script is.
     c.accepted_scripts_run_without_misuse.ensures a bytes p is

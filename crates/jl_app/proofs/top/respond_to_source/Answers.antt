@@ -4,8 +4,7 @@ use Rattle.jl_app.specs.Answers.{refused_only}
 use Rattle.jl_app.specs.Forms.{most_bytes}
 use Rattle.jl_app.specs.Refusals.{refusal_words, too_long}
 use Rattle.jl_app.proofs.Answering.{refuses, same_form}
-use Rattle.jl_app.proofs.Endings.{told_same, long_bytes}
-use Rattle.jl_app.proofs.Requested.{few_bytes_of}
+use Rattle.jl_app.proofs.Endings.{few_bytes_of, told_same, long_bytes}
 use Rattle.jl_app.proofs.top.respond_to_source.Goals as goal
 
 pub read_all-requires : goal.read_all-requires
