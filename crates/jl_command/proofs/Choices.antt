@@ -11,7 +11,8 @@ use Rattle.jl_analysis.specs.Rules.{IsRule, all_rules, numbers, rule_count}
 use Rattle.jl_analysis.specs.declared.rule_set.RuleSet.{RuleSet}
 use Rattle.jl_command.specs.Asked.{is_among, rule_with, with_names, with_rule}
 use Rattle.jl_command.specs.Meant.{IsChoice}
-use Rattle.jl_command.specs.inner.Optional.{IsChoiceIfAny}
+use Rattle.jl_command.specs.inner.Optional.{BothOrNeither}
+use Rattle.jl_command.proofs.Optional.{both, neither}
 
 or_false : (b : Bool) → (b || false) ≡ b
 or_false true = refl
@@ -52,23 +53,23 @@ one_more_chosen before after chosen rule choice this others other is =
 
 -- no rule, a rule that is there already, and one that is not
 pub no_rule : (r : Option RuleSet) (chosen : List ℕ) (o : Option ℕ) → r ≡ None → o ≡ None
-    → IsChoiceIfAny r (with_rule chosen o)
+    → BothOrNeither IsChoice r (with_rule chosen o)
 no_rule r chosen o none lacks =
-    subst (λ x. IsChoiceIfAny x (with_rule chosen o)) (sym none)
-    (subst (λ p. IsChoiceIfAny None (with_rule chosen p)) (sym lacks) tt)
+    subst (λ x. BothOrNeither IsChoice x (with_rule chosen o)) (sym none)
+    (subst (λ p. BothOrNeither IsChoice None (with_rule chosen p)) (sym lacks) tt)
 
 pub there_already : (set : RuleSet) (chosen : List ℕ) (rule : ℕ) (o : Option ℕ) → o ≡ Some rule → IsChoice set chosen
-    → IsRule rule → is_chosen set rule ≡ true → IsChoiceIfAny None (with_rule chosen o)
+    → IsRule rule → is_chosen set rule ≡ true → BothOrNeither IsChoice None (with_rule chosen o)
 there_already set chosen rule o found choice is there =
-    subst (λ x. IsChoiceIfAny None x) (sym (ap (with_rule chosen) found
+    subst (λ x. BothOrNeither IsChoice None x) (sym (ap (with_rule chosen) found
     ∙ ap (λ b. if b then None else Some (chosen ++ rule ∷ [])) (sym (choice rule is) ∙ there))) tt
 
 pub not_there : (before after : RuleSet) (chosen : List ℕ) (rule : ℕ) (o : Option ℕ) → o ≡ Some rule
     → IsChoice before chosen → IsRule rule → is_chosen before rule ≡ false → is_chosen after rule ≡ true
     → ((other : ℕ) → (other ≡ rule → ⊥) → is_chosen after other ≡ is_chosen before other)
-    → IsChoiceIfAny (Some after) (with_rule chosen o)
+    → BothOrNeither IsChoice (Some after) (with_rule chosen o)
 not_there before after chosen rule o found choice is missing this others =
-    subst (λ x. IsChoiceIfAny (Some after) x) (sym (ap (with_rule chosen) found
+    subst (λ x. BothOrNeither IsChoice (Some after) x) (sym (ap (with_rule chosen) found
     ∙ ap (λ b. if b then None else Some (chosen ++ rule ∷ [])) (sym (choice rule is) ∙ missing)))
     (one_more_chosen before after chosen rule choice this others)
 
@@ -89,16 +90,6 @@ among_numbers first (suc count) rule low high =
 pub all_chosen : (set : RuleSet) → ((rule : ℕ) → IsRule rule → is_chosen set rule ≡ true) → IsChoice set all_rules
 all_chosen set all rule is = all rule is ∙ sym (among_numbers 1 rule_count rule is.0 (omega (arith, is.1)))
 
--- no choice, or one
-pub no_choice : (o : Option (List ℕ)) → IsChoiceIfAny None o → o ≡ None
-no_choice None m = refl
-no_choice (Some chosen) m = absurd m
-
-pub some_choice : (set : RuleSet) (o : Option (List ℕ)) → IsChoiceIfAny (Some set) o
-    → (chosen : List ℕ) × (o ≡ Some chosen) × IsChoice set chosen
-some_choice set None m = absurd m
-some_choice set (Some chosen) m = (chosen, refl, m)
-
 -- the names of a text: the first, and those that follow the first comma
 names_turn : (chosen text front back : List ℕ) → front ≡ before_first (λ b. b == 44) text
     → back ≡ after_first (λ b. b == 44) text → position_or_len (λ b. b == 44) text < length text
@@ -112,24 +103,24 @@ names_turn chosen text front back is rest within =
 -- so the text names no rules where its first name is refused
 pub refused_turn : (r : Option RuleSet) (chosen text front back : List ℕ) → front ≡ before_first (λ b. b == 44) text
     → back ≡ after_first (λ b. b == 44) text → position_or_len (λ b. b == 44) text < length text
-    → r ≡ None → IsChoiceIfAny None (with_rule chosen (rule_with front))
-    → IsChoiceIfAny r (with_names chosen (slice_split (λ b. b == 44) text))
+    → r ≡ None → BothOrNeither IsChoice None (with_rule chosen (rule_with front))
+    → BothOrNeither IsChoice r (with_names chosen (slice_split (λ b. b == 44) text))
 refused_turn r chosen text front back is rest within none refused =
-    subst (λ x. IsChoiceIfAny x (with_names chosen (slice_split (λ b. b == 44) text))) (sym none)
-    (subst (λ o. IsChoiceIfAny None o) (sym (names_turn chosen text front back is rest within
-    ∙ ap (option_and_then (λ more. with_names more (slice_split (λ b. b == 44) back))) (no_choice _ refused))) tt)
+    subst (λ x. BothOrNeither IsChoice x (with_names chosen (slice_split (λ b. b == 44) text))) (sym none)
+    (subst (λ o. BothOrNeither IsChoice None o) (sym (names_turn chosen text front back is rest within
+    ∙ ap (option_and_then (λ more. with_names more (slice_split (λ b. b == 44) back))) (neither IsChoice _ refused))) tt)
 
 -- and those of the rest otherwise
 pub taken_turn : (r : Option RuleSet) (set : RuleSet) (chosen text front back : List ℕ)
     → front ≡ before_first (λ b. b == 44) text → back ≡ after_first (λ b. b == 44) text
     → position_or_len (λ b. b == 44) text < length text
-    → IsChoiceIfAny (Some set) (with_rule chosen (rule_with front))
+    → BothOrNeither IsChoice (Some set) (with_rule chosen (rule_with front))
     → ((more : List ℕ) → IsChoice set more
-    → IsChoiceIfAny r (with_names more (slice_split (λ b. b == 44) back)))
-    → IsChoiceIfAny r (with_names chosen (slice_split (λ b. b == 44) text))
+    → BothOrNeither IsChoice r (with_names more (slice_split (λ b. b == 44) back)))
+    → BothOrNeither IsChoice r (with_names chosen (slice_split (λ b. b == 44) text))
 taken_turn r set chosen text front back is rest within taken later =
-    let one = some_choice set _ taken in
-    subst (λ o. IsChoiceIfAny r o) (sym (names_turn chosen text front back is rest within
+    let one = both IsChoice set _ taken in
+    subst (λ o. BothOrNeither IsChoice r o) (sym (names_turn chosen text front back is rest within
     ∙ ap (option_and_then (λ more. with_names more (slice_split (λ b. b == 44) back))) one.1)) (later one.0 one.2)
 
 only_one : (o : Option (List ℕ)) → option_and_then (λ more. with_names more []) o ≡ o
@@ -138,10 +129,10 @@ only_one (Some chosen) = refl
 
 -- a text without commas is one name
 pub last_turn : (r : Option RuleSet) (chosen text : List ℕ) → position_or_len (λ b. b == 44) text ≡ length text
-    → IsChoiceIfAny r (with_rule chosen (rule_with text))
-    → IsChoiceIfAny r (with_names chosen (slice_split (λ b. b == 44) text))
+    → BothOrNeither IsChoice r (with_rule chosen (rule_with text))
+    → BothOrNeither IsChoice r (with_names chosen (slice_split (λ b. b == 44) text))
 last_turn r chosen text none one =
-    subst (λ o. IsChoiceIfAny r o) (sym (ap (with_names chosen) (slice_split_none (λ b. b == 44) text (whole text none))
+    subst (λ o. BothOrNeither IsChoice r o) (sym (ap (with_names chosen) (slice_split_none (λ b. b == 44) text (whole text none))
     ∙ only_one (with_rule chosen (rule_with text)))) one
   where
     whole : (xs : List ℕ) → position_or_len (λ b. b == 44) xs ≡ length xs → All (λ x. (x == 44) ≡ false) xs

@@ -1,6 +1,7 @@
 pub mod Choices
 pub mod Digits
+pub mod Examples
 pub mod NamedCommands
 pub mod NamedRules
+pub mod Optional
 pub mod WordLemmas
-pub mod Trial

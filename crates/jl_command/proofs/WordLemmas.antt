@@ -1,5 +1,5 @@
 -- What the words of the command line ask for.
-use Rattle.std.proofs.Common.{◌≡◌, ◌∙◌, true, List, [], ◌∷◌, Option, Some, None}
+use Rattle.std.proofs.Common.{◌≡◌, ◌∙◌, true, List, [], ◌∷◌, Option, None}
 use Rattle.std.proofs.Common.{refl, sym, ap, ap₂, codes, subst, inl, inr}
 use Rattle.std.specs.Prelude.{IfErr, IsErrOf, Result, if◌then◌else◌, option_and_then}
 use Rattle.clap.proofs.OnLiterals.{clap_on_literals}
@@ -7,16 +7,13 @@ use Rattle.clap.proofs.WalkLemmas.{first_value-rows}
 use Rattle.clap.specs.Words.{App, HasKind, IsAmong, Kinds, kind_of}
 use Rattle.clap.specs.Words.{fault_of, first_of, first_value, is_simple, is_simple_and_free, matches_of, rows_of, with_rule}
 use Rattle.clap.specs.declared.error.Error.{Error}
-use Rattle.clap.specs.declared.error.kind.ErrorKind.{ErrorKind}
 use Rattle.clap.specs.declared.error.kind.ErrorKind.TheVariants as kind
 use Rattle.clap.specs.declared.parser.matches.Found.{Found}
 use Rattle.jl_command.specs.Asked.{Asked, asked, asked_by_name, asked_with}
 use Rattle.jl_command.specs.CommandLine.{Text, command_argument, command_line, is_fault, is_refused}
 use Rattle.jl_command.specs.CommandLine.{option_argument, value_of, without_flags}
-use Rattle.jl_command.specs.Meant.{Means}
 use Rattle.jl_command.specs.declared.command.Command.{Command}
 use Rattle.jl_command.specs.declared.words.WordsRefusal.{WordsRefusal}
-use Rattle.jl_command.specs.inner.Optional.{MeansIfAny}
 
 -- the line that is made is the command line
 pub made_line : (line : App)
@@ -68,16 +65,6 @@ refused_is words some = asked_is words ∙ by_kinds (fault_of command_line words
     by_kinds : (kinds : Kinds) → (kinds ≡ [] → ⊥) → asked_if words kinds ≡ None
     by_kinds [] some = absurd (some refl)
     by_kinds (one ∷ more) some = refl
-
--- what means nothing is nothing
-pub none_asked : (o : Option Asked) → MeansIfAny None o → o ≡ None
-none_asked None m = refl
-none_asked (Some a) m = absurd m
-
--- and a command means what is asked
-pub some_asked : (c : Command) (o : Option Asked) → MeansIfAny (Some c) o → (a : Asked) × (o ≡ Some a) × Means c a
-some_asked c None m = absurd m
-some_asked c (Some a) m = (a, refl, m)
 
 -- an error has a kind that the words give, where it is not want of memory
 pub no_kinds : (kinds : Kinds) (e : Error) → HasKind kinds e → kinds ≡ [] → (kind_of e ≡ kind.OutOfMemory → ⊥) → ⊥

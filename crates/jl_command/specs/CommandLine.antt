@@ -1,5 +1,5 @@
 -- The command line, as clap reads it.
-use Rattle.std.specs.Prelude.{ℕ, Bool, true, false, List, [], ◌∷◌, Option, Some, codes}
+use Rattle.std.specs.Prelude.{ℕ, Bool, true, false, List, [], ◌∷◌, Option, Some, codes, fold}
 use Rattle.clap.specs.Words.{App, Kinds, Rule, fault_of, first_of, matches_of, new_app, new_rule, with_rule}
 
 abbrev pub Text : Type 0
@@ -24,12 +24,14 @@ without_flags = record {
   subs = [];
 }
 
+-- a command and three options
 unfoldable pub command_line : App
 command_line =
-    with_rule (with_rule (with_rule (with_rule without_flags command_argument) (option_argument (codes "budget")))
-    (option_argument (codes "rules"))) (option_argument (codes "number"))
+    fold with_rule without_flags
+    (command_argument ∷ option_argument (codes "budget") ∷ option_argument (codes "rules")
+    ∷ option_argument (codes "number") ∷ [])
 
--- there is a fault where clap refuses words for one of these causes; none is memory
+-- words with one of these faults are refused; want of memory is none of them
 abbrev pub is_fault : Kinds → Bool
 is_fault [] = false
 is_fault (kind ∷ kinds) = true

@@ -1,7 +1,8 @@
 //! Commands by their names, with the values of their options.
 ghost use Rattle.std.specs.Prelude.{◌≡◌, option_map};
 ghost use Rattle.jl_command.specs.Asked.{asked_by_name, without_number, without_options, without_rules};
-ghost use Rattle.jl_command.specs.inner.Optional.{MeansIfAny};
+ghost use Rattle.jl_command.specs.Meant.{Means};
+ghost use Rattle.jl_command.specs.inner.Optional.{BothOrNeither};
 
 use crate::command::Command;
 use crate::numbers::{budget_in, soak_number};
@@ -14,7 +15,7 @@ pub(crate) fn command_named(
     rules: Option<&str>,
     number: Option<&str>,
 ) -> Option<Command>
-    ensures { MeansIfAny result (asked_by_name name.now (option_map (λ s. s.now) budget.entry)
+    ensures { BothOrNeither Means result (asked_by_name name.now (option_map (λ s. s.now) budget.entry)
         (option_map (λ s. s.now) rules.entry) (option_map (λ s. s.now) number.entry)) }
 {
     if name == "soak" {
@@ -35,7 +36,7 @@ pub(crate) fn command_named(
 
 /// The command with this name that makes no script, where its budget and its rules have these values.
 fn without_number(name: &str, budget: Option<&str>, rules: Option<&str>) -> Option<Command>
-    ensures { MeansIfAny result (without_number name.now (option_map (λ s. s.now) budget.entry)
+    ensures { BothOrNeither Means result (without_number name.now (option_map (λ s. s.now) budget.entry)
         (option_map (λ s. s.now) rules.entry)) }
 {
     if name == "lint" {
@@ -51,7 +52,7 @@ fn without_number(name: &str, budget: Option<&str>, rules: Option<&str>) -> Opti
 
 /// The command with this name that reports by no rules, where its budget has this value.
 fn without_rules(name: &str, budget: Option<&str>) -> Option<Command>
-    ensures { MeansIfAny result (without_rules name.now (option_map (λ s. s.now) budget.entry)) }
+    ensures { BothOrNeither Means result (without_rules name.now (option_map (λ s. s.now) budget.entry)) }
 {
     if name == "run" {
         let budget = budget_in(budget)?;
@@ -73,7 +74,7 @@ fn without_rules(name: &str, budget: Option<&str>) -> Option<Command>
 
 /// The command with this name that has no options.
 fn without_options(name: &str) -> Option<Command>
-    ensures { MeansIfAny result (without_options name.now) }
+    ensures { BothOrNeither Means result (without_options name.now) }
 {
     if name == "check" {
         return Some(Command::Check);

@@ -3,14 +3,14 @@ ghost use Rattle.std.specs.Prelude.{◌≡◌, ◌==◌, ℕ, List, option_map};
 ghost use Rattle.std.specs.List.{slice_split};
 ghost use Rattle.jl_command.specs.Asked.{rule_with, rules_in, with_names, with_rule};
 ghost use Rattle.jl_command.specs.Meant.{IsChoice};
-ghost use Rattle.jl_command.specs.inner.Optional.{IsChoiceIfAny};
+ghost use Rattle.jl_command.specs.inner.Optional.{BothOrNeither};
 
 use jl_analysis::laws::one_name;
 use jl_analysis::{RuleSet, rule_named};
 
 /// The chosen rules, where the option has this value or is not given.
 pub(crate) fn rules_in(value: Option<&str>) -> Option<RuleSet>
-    ensures { IsChoiceIfAny result (rules_in (option_map (λ s. s.now) value.entry)) }
+    ensures { BothOrNeither IsChoice result (rules_in (option_map (λ s. s.now) value.entry)) }
 {
     match value {
         Some(names) => with_names(RuleSet::none(), names),
@@ -22,7 +22,7 @@ pub(crate) fn rules_in(value: Option<&str>) -> Option<RuleSet>
 /// none stands twice. It goes as deep as there are rules.
 fn with_names(rules: RuleSet, names: &str) -> Option<RuleSet>
     ensures { (chosen : List ℕ) → IsChoice rules chosen
-        → IsChoiceIfAny result (with_names chosen (slice_split (λ byte. byte == 44) names.now)) }
+        → BothOrNeither IsChoice result (with_names chosen (slice_split (λ byte. byte == 44) names.now)) }
 {
     match names.split_once(',') {
         Some((name, more)) => with_names(with_name(rules, name)?, more),
@@ -33,7 +33,7 @@ fn with_names(rules: RuleSet, names: &str) -> Option<RuleSet>
 /// These rules and the one with this name, where there is one, and it is none of these.
 fn with_name(rules: RuleSet, name: &str) -> Option<RuleSet>
     ensures { (chosen : List ℕ) → IsChoice rules chosen
-        → IsChoiceIfAny result (with_rule chosen (rule_with name.now)) }
+        → BothOrNeither IsChoice result (with_rule chosen (rule_with name.now)) }
 {
     one_name();
     let rule = rule_named(name)?;

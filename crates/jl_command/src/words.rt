@@ -4,7 +4,7 @@ ghost use Rattle.clap.specs.Words.{app_of, first_value, found_of};
 ghost use Rattle.jl_command.specs.Asked.{Asked, asked, asked_with, texts};
 ghost use Rattle.jl_command.specs.CommandLine.{command_line};
 ghost use Rattle.jl_command.specs.Meant.{Means};
-ghost use Rattle.jl_command.specs.inner.Optional.{MeansIfAny};
+ghost use Rattle.jl_command.specs.inner.Optional.{BothOrNeither};
 ghost use Rattle.jl_command.specs.declared.words.WordsRefusal.TheVariants.{BadWords, NoMemory};
 
 use crate::command::Command;
@@ -78,7 +78,7 @@ fn command_line<'a>(alloc: Global) -> Result<clap::Command<'a>, AllocError>
 
 /// The command that was matched.
 fn command_in(matches: &ArgMatches<'_>) -> Option<Command>
-    ensures { MeansIfAny result (asked_with (first_value (found_of matches.now))) }
+    ensures { BothOrNeither Means result (asked_with (first_value (found_of matches.now))) }
 {
     let name = matches.get_str("command")?;
     command_named(

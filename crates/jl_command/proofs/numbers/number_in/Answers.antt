@@ -1,4 +1,4 @@
-use Rattle.std.proofs.Common.{◌≡◌, Result, rules, subst, true}
+use Rattle.std.proofs.Common.{◌≡◌, rules, subst, true}
 use Rattle.std.specs.Prelude.{IfErr, IfOk, Some}
 use Rattle.jl_command.specs.Asked.{is_number, number_in}
 use Rattle.jl_command.proofs.Digits.{is_number_in, no_refusal}

@@ -1,9 +1,10 @@
 use Rattle.std.proofs.Common.{◌∙◌, Err, ap, sym}
 use Rattle.clap.specs.Words.{fault_of, found_of, is_simple, is_simple_and_free, matches_of}
 use Rattle.jl_command.specs.Asked.{texts}
+use Rattle.jl_command.specs.Meant.{Means}
 use Rattle.jl_command.specs.declared.words.WordsRefusal.TheVariants.{BadWords}
-use Rattle.jl_command.proofs.WordLemmas.{line_is_free, line_is_simple, matched_is, no_kinds, none_asked, refused_is}
-use Rattle.jl_command.proofs.WordLemmas.{refused_for, some_asked}
+use Rattle.jl_command.proofs.Optional.{both, neither}
+use Rattle.jl_command.proofs.WordLemmas.{line_is_free, line_is_simple, matched_is, no_kinds, refused_for, refused_is}
 use Rattle.jl_command.proofs.words.parse_words.Goals as goal
 
 pub returns-in-Some-clause-asked : goal.returns-in-Some-clause-asked
@@ -14,7 +15,7 @@ returns-in-Some-clause-asked c =
     let rows = (c.in-Ok.ensures.matches (ap is_simple line ∙ line_is_simple)).0 in
     let is = matched_is words (found_of c.in-Ok.matches) (sym (ap (λ l. fault_of l words) line) ∙ taken)
     (rows ∙ ap (λ l. matches_of l words) line) in
-    let asked = some_asked c.in-Some.command _ c.in-Some.ensures in
+    let asked = both Means c.in-Some.command _ c.in-Some.ensures in
     (asked.0, is ∙ asked.1, asked.2)
 
 pub returns-clause-bad : goal.returns-clause-bad
@@ -25,7 +26,7 @@ returns-clause-bad c = λ bad.
     let rows = (c.in-Ok.ensures.matches (ap is_simple line ∙ line_is_simple)).0 in
     matched_is words (found_of c.in-Ok.matches) (sym (ap (λ l. fault_of l words) line) ∙ taken)
     (rows ∙ ap (λ l. matches_of l words) line)
-    ∙ none_asked _ c.in-None.ensures
+    ∙ neither Means _ c.in-None.ensures
 
 pub returns-in-Err-clause-bad : goal.returns-in-Err-clause-bad
 returns-in-Err-clause-bad c = λ bad.
