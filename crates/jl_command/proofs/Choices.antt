@@ -74,7 +74,8 @@ not_there before after chosen rule o found choice is missing this others =
     (one_more_chosen before after chosen rule choice this others)
 
 -- a set of all
-among_numbers : (first count rule : ℕ) → first ≤ rule → rule < first + count → is_among (numbers first count) rule ≡ true
+among_numbers : (first count rule : ℕ) → first ≤ rule → rule < first + count
+    → is_among (numbers first count) rule ≡ true
 among_numbers first zero rule low high = absurd (omega arith)
 among_numbers first (suc count) rule low high =
     by_test (first == rule) refl (λ later. among_numbers (first + 1) count rule later (omega arith))
@@ -132,7 +133,8 @@ pub last_turn : (r : Option RuleSet) (chosen text : List ℕ) → position_or_le
     → BothOrNeither IsChoice r (with_rule chosen (rule_with text))
     → BothOrNeither IsChoice r (with_names chosen (slice_split (λ b. b == 44) text))
 last_turn r chosen text none one =
-    subst (λ o. BothOrNeither IsChoice r o) (sym (ap (with_names chosen) (slice_split_none (λ b. b == 44) text (whole text none))
+    subst (λ o. BothOrNeither IsChoice r o)
+    (sym (ap (with_names chosen) (slice_split_none (λ b. b == 44) text (whole text none))
     ∙ only_one (with_rule chosen (rule_with text)))) one
   where
     whole : (xs : List ℕ) → position_or_len (λ b. b == 44) xs ≡ length xs → All (λ x. (x == 44) ≡ false) xs

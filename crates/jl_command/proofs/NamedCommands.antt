@@ -37,7 +37,8 @@ with_lint value chosen budget set is choice =
 -- and with a number
 pub with_soak : (given value : Option Text) (chosen : Option (List ℕ)) (number budget : ℕ) (set : RuleSet)
     → Some number ≡ soak_number given → Some budget ≡ budget_in value → BothOrNeither IsChoice (Some set) chosen
-    → BothOrNeither Means (Some (commands.Soak number budget set)) (soak_with (soak_number given) (budget_in value) chosen)
+    → BothOrNeither Means (Some (commands.Soak number budget set))
+    (soak_with (soak_number given) (budget_in value) chosen)
 with_soak given value chosen number budget set few is choice =
     let one = both IsChoice set chosen choice in
     subst (λ o. BothOrNeither Means (Some (commands.Soak number budget set)) (soak_with o (budget_in value) chosen)) few

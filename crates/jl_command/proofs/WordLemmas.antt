@@ -5,7 +5,8 @@ use Rattle.std.specs.Prelude.{IfErr, IsErrOf, Result, if◌then◌else◌, optio
 use Rattle.clap.proofs.OnLiterals.{clap_on_literals}
 use Rattle.clap.proofs.WalkLemmas.{first_value-rows}
 use Rattle.clap.specs.Words.{App, HasKind, IsAmong, Kinds, kind_of}
-use Rattle.clap.specs.Words.{fault_of, first_of, first_value, is_simple, is_simple_and_free, matches_of, rows_of, with_rule}
+use Rattle.clap.specs.Words.{fault_of, first_of, first_value, is_simple, is_simple_and_free, matches_of, rows_of}
+use Rattle.clap.specs.Words.{with_rule}
 use Rattle.clap.specs.declared.error.Error.{Error}
 use Rattle.clap.specs.declared.error.kind.ErrorKind.TheVariants as kind
 use Rattle.clap.specs.declared.parser.matches.Found.{Found}
@@ -40,15 +41,18 @@ asked_is : (words : List Text) → asked words ≡ asked_if words (fault_of comm
 unfolding asked is_refused
 asked_is words = refl
 
+-- the command with these values
+abbrev asked_for : (budget rules number name : Option Text) → Option Asked
+asked_for budget rules number name = option_and_then (λ n. asked_by_name n budget rules number) name
+
 -- the same values ask for the same
 same_values : (f g : Text → Option Text) → ((id : Text) → f id ≡ g id) → asked_with f ≡ asked_with g
 same_values f g same =
-    ap (λ name. option_and_then (λ name. asked_by_name name (f (codes "budget")) (f (codes "rules")) (f (codes "number"))) name)
-    (same (codes "command"))
-    ∙ ap₂ (λ budget rules. option_and_then (λ name. asked_by_name name budget rules (f (codes "number"))) (g (codes "command")))
+    ap (asked_for (f (codes "budget")) (f (codes "rules")) (f (codes "number"))) (same (codes "command"))
+    ∙ ap₂ (λ budget rules. asked_for budget rules (f (codes "number")) (g (codes "command")))
     (same (codes "budget")) (same (codes "rules"))
-    ∙ ap (λ number. option_and_then (λ name. asked_by_name name (g (codes "budget")) (g (codes "rules")) number)
-    (g (codes "command"))) (same (codes "number"))
+    ∙ ap (λ number. asked_for (g (codes "budget")) (g (codes "rules")) number (g (codes "command")))
+    (same (codes "number"))
 
 -- words that clap takes ask for what was matched
 pub matched_is : (words : List Text) (found : Found) → fault_of command_line words ≡ []

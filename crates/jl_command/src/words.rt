@@ -29,11 +29,13 @@ impl From<AllocError> for WordsRefusal {
     }
 }
 
-/// The command that these words ask for, which are those after the program's name: its name, and its options. They are
-/// bad words where clap refuses them, where there is no such command, where it does not have an option that is given,
-/// where a number is not one to ten decimal digits, or is greater than 1,000,000,000 for a budget and than 8,000 for
-/// `soak`, where `soak` is given no number, and where what is given for rules is not names of rules with commas between
-/// them, each once.
+/// The command that these words ask for, which are those after the program's name: its name, and its options. Where no
+/// budget is given it is 1,000,000, and where no rules are given they are all.
+///
+/// It gives `BadWords` where clap refuses the words, where there is no such command, where it does not have an option
+/// that is given, where a number is not one to ten decimal digits, or is greater than 1,000,000,000 for a budget and
+/// than 8,000 for `soak`, where `soak` is given no number, and where what is given for rules is not names of rules with
+/// commas between them, each once; and `NoMemory` where no memory is left.
 pub fn parse_words<'a>(alloc: Global, words: &'a [&'a str]) -> Result<Command, WordsRefusal>
     ensures asked { IfOk result (λ c. (a : Asked) × (asked (texts words.now) ≡ Some a) × Means c a) }
     ensures bad { IsErrOf result BadWords → asked (texts words.now) ≡ None }
