@@ -79,6 +79,8 @@ fn number(word: &str) -> io::Result<u64> {
 
 /// What the program answers to the command of a row: its status, and what was written.
 fn answered(alloc: Global, row: &Row) -> io::Result<String> {
+    let mut source = source_of(alloc, row)?;
+    let mut sink = sink_of(alloc, row)?;
     let boxes: [Box<dyn Analysis>; 20] = [
         Box::new(alloc, NanMade::fresh(alloc))?,
         Box::new(alloc, UndefinedJoined::fresh(alloc))?,
@@ -102,8 +104,6 @@ fn answered(alloc: Global, row: &Row) -> io::Result<String> {
         Box::new(alloc, GlobalThis::fresh(alloc))?,
     ];
     let mut crowd = Crowd::of(Vec::from_array(alloc, boxes)?);
-    let mut source = source_of(alloc, row)?;
-    let mut sink = sink_of(alloc, row)?;
     let mut shelf = Same::new();
     let status = jlint(
         alloc,
