@@ -36,6 +36,11 @@ pub refuses : {bytes : List ℕ} {shelf : OnShelf} (a : Asked) (form : Form) (ca
     → IsRefused form bytes cause → shelf.same → IsAnswered a bytes shelf (refused_only (refusal_words cause))
 refuses {bytes} a form cause is why same = refused cause (subst (λ f. IsRefused f bytes cause) is why) same
 
+-- a script of the same bytes
+pub same_script : {a : Asked} {shelf : OnShelf} {due : Due} (bytes same : List ℕ) → bytes ≡ same
+    → IsAnswered a bytes shelf due → IsAnswered a same shelf due
+same_script {a} {shelf} {due} bytes same is answered = subst (λ script. IsAnswered a script shelf due) is answered
+
 -- a source of the same units
 pub same_source : {p : Program Span} {budget : ℕ} {chosen lent : List ℕ} {due : Due} (units same : List ℕ)
     → units ≡ same → IsLinted units p budget chosen lent due → IsLinted same p budget chosen lent due
@@ -88,13 +93,32 @@ asked_trace _ (means_trace budget few) = (refl, few)
 pub asked_exec : {budget : ℕ} (a : Asked) → Means (commands.Exec budget) a → a ≡ exec budget
 asked_exec _ (means_exec budget few) = refl
 
-pub asked_soak : {number budget : ℕ} {set : RuleSet} (a : Asked) → Means (commands.Soak number budget set) a
+means_to_soak : {number budget : ℕ} {set : RuleSet} (a : Asked) → Means (commands.Soak number budget set) a
     → (chosen : List ℕ) × (a ≡ soak number budget chosen) × (number ≤ most_functions) × (budget ≤ most_budget)
     × IsChoice set chosen
-asked_soak _ (means_soak number budget set chosen few_functions few choice) =
+means_to_soak _ (means_soak number budget set chosen few_functions few choice) =
     (chosen, refl, few_functions, few, choice)
 
--- no command that reads the source is `soak`
+pub asked_soak : {number budget : ℕ} {set : RuleSet} (c : Command) (a : Asked) → Means c a
+    → c ≡ commands.Soak number budget set
+    → (chosen : List ℕ) × (a ≡ soak number budget chosen) × (number ≤ most_functions) × (budget ≤ most_budget)
+    × IsChoice set chosen
+asked_soak c a means is = means_to_soak a (subst (λ x. Means x a) is means)
+
+-- a command that is not `soak` reads the source
+pub reads_source : (c : Command) (a : Asked) → Means c a
+    → ((number budget : ℕ) (set : RuleSet) → c ≡ commands.Soak number budget set → ⊥) → ReadsSource a
+reads_source _ _ (means_lint budget set chosen few choice) other = tt
+reads_source _ _ (means_run budget few) other = tt
+reads_source _ _ means_check other = tt
+reads_source _ _ means_print other = tt
+reads_source _ _ means_instrument other = tt
+reads_source _ _ means_map other = tt
+reads_source _ _ (means_trace budget few) other = tt
+reads_source _ _ (means_exec budget few) other = tt
+reads_source _ _ (means_soak number budget set chosen few_functions few choice) other = other number budget set refl
+
+-- and one that reads it is not `soak`
 pub never_soak : {number budget : ℕ} {set : RuleSet} (a : Asked) → ReadsSource a
     → Means (commands.Soak number budget set) a → ⊥
 never_soak _ reads (means_soak number budget set chosen few_functions few choice) = reads

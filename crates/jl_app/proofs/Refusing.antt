@@ -3,6 +3,7 @@ use Rattle.std.proofs.Common.{◌≡◌, ℕ, ◌≤◌, ◌⊎◌, inl, inr, Bo
 use Rattle.std.proofs.Common.{length, refl, sym, ap, ◌∙◌, subst, arith}
 use Rattle.std.proofs.lemmas.Bool.{cases_lt}
 use Rattle.std.proofs.lemmas.Str.{IsUtf8-from_is_utf8, is_utf8-from_IsUtf8}
+use Rattle.std.specs.Prelude.{Result, Ok, Err, IfErr, IsErrAnd}
 use Rattle.std.specs.Str.{is_utf8}
 use Rattle.std.specs.Str.Lossy.{utf8_valid_len}
 use Rattle.jl_ast.specs.Tree.{Program}
@@ -18,6 +19,7 @@ use Rattle.jl_grammar.proofs.One.{one_reading, reader_tells}
 use Rattle.jl_grammar.specs.Program.{Reads, last_end}
 use Rattle.jl_grammar.specs.ReaderLevels.{program_at}
 use Rattle.jl_scope.specs.EarlyError.{EarlyError, first_early_error, early, left_out, reserved_name}
+use Rattle.jl_app.specs.declared.accept.Unaccepted.{Unaccepted}
 use Rattle.jl_app.specs.declared.refusal.Refusal.{Refusal}
 use Rattle.jl_app.specs.declared.refusal.Refusal.TheVariants as refusals
 use Rattle.jl_app.specs.declared.position.Position.{Position}
@@ -27,6 +29,13 @@ use Rattle.jl_app.specs.Forms.{is_sound, may_name_hooks, most_bytes, most_levels
 use Rattle.jl_app.specs.declared.form.Form.{Form}
 use Rattle.jl_app.specs.Refusals.{NeverBoth, AcceptedOrRefused, IsRefused, position_in, too_long, not_utf8}
 use Rattle.jl_app.specs.Refusals.{bad_input, unreadable, early_rule, left_out_name, hooks_name}
+use Rattle.jl_app.specs.Refused.{Refuses}
+
+-- what refuses bytes refuses them where it is passed on
+pub passed_on : {T : Type 0} (form : Form) (bytes : List ℕ) (why : Unaccepted) (r : Result T Unaccepted)
+    → IsErrAnd r (λ e. e ≡ why) → Refuses form bytes why → IfErr r (Refuses form bytes)
+passed_on form bytes why (Ok x) is refuses = tt
+passed_on form bytes why (Err e) is refuses = subst (λ x. Refuses form bytes x) (sym is) refuses
 
 -- From what was answered to the cause, where the units are those of the bytes.
 

@@ -11,12 +11,12 @@ same_asked : {a b : Asked} → Some a ≡ Some b → a ≡ b
 same_asked e = cc
 
 -- the script of `lint` is that of the source
-held_by : {held : Option (List ℕ)} {bytes : List ℕ} (budget : ℕ) (chosen : List ℕ)
+held_by : {held : Option (List ℕ)} (budget : ℕ) (chosen : List ℕ) {bytes : List ℕ}
     → IsScriptFor held (lint budget chosen) bytes → held ≡ Some bytes
 held_by budget chosen (in_source a bytes reads is) = is
 
 -- and that of `soak` is made
-made_by : {held : Option (List ℕ)} {bytes : List ℕ} (number budget : ℕ) (chosen : List ℕ)
+made_by : {held : Option (List ℕ)} (number budget : ℕ) (chosen : List ℕ) {bytes : List ℕ}
     → IsScriptFor held (soak number budget chosen) bytes → script_of number ≡ bytes
 made_by number budget chosen (in_source a bytes reads is) = absurd reads
 made_by _ _ _ (made number budget chosen) = refl

@@ -1,7 +1,7 @@
 use Rattle.std.proofs.Common.{ap, length, arith}
 use Rattle.jl_ast.specs.View.{view}
 use Rattle.jl_token.proofs.Whole.{few_tokens}
-use Rattle.jl_app.proofs.Refusing.{is_read}
+use Rattle.jl_app.proofs.Refusing.{is_read, passed_on}
 use Rattle.jl_app.proofs.Sizes.{few_ids, few_units_of}
 use Rattle.jl_app.proofs.accept.accept.Goals as goal
 
@@ -15,6 +15,13 @@ parsed-requires c =
       ap length text.1,
       ap length c.items.ensures,
     )
+
+pub returns-in_err-tokens-clause-refused : goal.returns-in_err-tokens-clause-refused
+returns-in_err-tokens-clause-refused c =
+    let text = c.in_ok-source.ensures.text in
+    passed_on c.args.form c.args.bytes.now c.in_err-tokens.field-0.0 c.from_residual-in_err-tokens.result
+    c.from_residual-in_err-tokens.ensures.1
+    (c.in_err-tokens.ensures.refused c.args.form c.args.bytes.now text.0 text.1)
 
 pub returns-clause-accepted : goal.returns-clause-accepted
 returns-clause-accepted c =
