@@ -9,7 +9,8 @@ use Rattle.jl_op.specs.Chosen.{Kinds}
 use Rattle.jl_print.proofs.WithoutPlaces.{same_text}
 use Rattle.jl_print.specs.Layout.{text_of}
 use Rattle.jl_read_back.specs.EarlyErrors.{FirstIsReservedName, IsReservedName}
-use Rattle.jl_read_back.specs.Laws.{WovenBytesAreBounded, WovenReadsBack, WovenTextIsBounded}
+use Rattle.jl_read_back.proofs.Bytes.{units_within}
+use Rattle.jl_read_back.specs.Laws.{WovenReadsBack, WovenScriptIsBounded, WovenTextIsBounded}
 use Rattle.jl_scope.specs.EarlyError.{first_early_error}
 use Rattle.jl_scope.specs.Kinds.{early, left_out, reserved_name, EarlyError}
 use Rattle.jl_simulation.specs.Weaving.{woven_program}
@@ -23,7 +24,6 @@ use Rattle.jl_app.specs.WovenText.{woven_text}
 use Rattle.jl_app.specs.inner.Woven.{ReadsBackAsWoven}
 use Rattle.jl_app.proofs.Legal.{nothing_wrong}
 use Rattle.jl_app.proofs.Placed.{with_places}
-use Rattle.jl_app.proofs.Sizes.{units_within}
 
 -- where only the name of the hooks is wrong, a program may run
 name_may : (o : Option EarlyError) → IsReservedName o → may_run o ≡ true
@@ -55,21 +55,19 @@ fits bounded kinds bytes p is =
     )
 
 -- and its bytes are no more than `exec` reads
-few_bytes : WovenBytesAreBounded → (kinds : Kinds) (bytes : List ℕ) (p : Program Span) → IsAccepted bytes p
+few_bytes : WovenScriptIsBounded → (kinds : Kinds) (bytes : List ℕ) (p : Program Span) → IsAccepted bytes p
     → length (bytes_of (woven_text kinds p)) ≤ 67108928
 few_bytes bounded kinds bytes p is =
     let placed = with_places (woven_program kinds p) in
-    let within = units_within bytes is.decoded in
     let few = is.short in
     omega (
       arith,
-      bounded kinds (units_of bytes) is.tokens 200 p placed.0 is.lexed is.read (omega arith) placed.1,
+      bounded kinds bytes is.tokens 200 p placed.0 is.decoded is.lexed is.read (omega arith) placed.1,
       ap (λ t. length (bytes_of t)) (placed_text kinds p),
-      within,
       few,
     )
 
-pub back_to_woven : WovenReadsBack → WovenTextIsBounded → WovenBytesAreBounded → FirstIsReservedName → OneReading → (kinds : Kinds)
+pub back_to_woven : WovenReadsBack → WovenTextIsBounded → WovenScriptIsBounded → FirstIsReservedName → OneReading → (kinds : Kinds)
     (bytes : List ℕ) (p : Program Span) → IsAccepted bytes p → ReadsBackAsWoven kinds p
 back_to_woven reads bounded bytes_bounded keeps one kinds bytes p is =
     let placed = with_places (woven_program kinds p) in
