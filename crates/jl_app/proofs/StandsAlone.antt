@@ -10,8 +10,8 @@ use Rattle.jl_text.specs.Encoding.{UnitsComeBack}
 use Rattle.jl_text.specs.declared.span.Span.{Span}
 use Rattle.jl_token.specs.Tokens.{Tokens}
 use Rattle.jl_app.specs.Accepting.{IsAccepted, IsRead, OneReading}
-use Rattle.jl_app.specs.Answers.{Due, IsAnswered, IsDue, IsInstrumented, IsTraced, OnShelf, accepted, ended_alone}
-use Rattle.jl_app.specs.Answers.{ended_woven, instrumented, refused, text, traced, woven_budget}
+use Rattle.jl_app.specs.Answers.{Due, IsAnswered, IsDue, IsInstrumented, IsTraced, IsTracedAlone, OnShelf, accepted}
+use Rattle.jl_app.specs.Answers.{ended_alone, ended_woven, instrumented, refused, text, traced, woven_budget}
 use Rattle.jl_app.specs.OwnRuns.{program_run}
 use Rattle.jl_app.specs.ReadBack.{IsReadBack}
 use Rattle.jl_app.specs.Refusals.{NeverBoth}
@@ -58,13 +58,14 @@ module _ (one : OneReading) (never : NeverBoth) (comes_back : UnitsComeBack) (by
       → IsAnswered (exec (woven_budget budget)) woven (untouched handed lent) d
   as_exec budget handed lent _ (refused cause why same) = absurd (never forms.Script bytes p cause is why)
   as_exec budget handed lent d (accepted q a (same, answer)) =
-      by_answer (subst (λ r. IsTraced r budget d) (one forms.Script bytes q p a is) answer)
+      by_answer d (subst (λ r. IsTraced r budget d) (one forms.Script bytes q p a is) answer)
     where
       read : IsRead forms.WovenText woven back.program
       read = of_units back.program back.read
 
-      by_answer : IsTraced p budget d → IsAnswered (exec (woven_budget budget)) woven (untouched handed lent) d
-      by_answer ended_woven =
+      by_answer : (x : Due) → IsTraced p budget x
+          → IsAnswered (exec (woven_budget budget)) woven (untouched handed lent) x
+      by_answer _ ended_woven =
           subst (λ x. IsAnswered (exec (woven_budget budget)) woven (untouched handed lent) x)
           (same_due back.program budget read)
           (accepted back.program read (same, ended_alone))
@@ -74,26 +75,30 @@ module _ (one : OneReading) (never : NeverBoth) (comes_back : UnitsComeBack) (by
       → IsAnswered (trace budget) bytes (untouched handed lent) d
   as_trace budget handed lent _ (refused cause why same) =
       absurd (never forms.WovenText woven back.program cause (of_units back.program back.read) why)
-  as_trace budget handed lent _ (accepted q read (same, ended_alone)) =
-      subst (λ x. IsAnswered (trace budget) bytes (untouched handed lent) x) (sym (same_due q budget read))
-      (accepted p is (same, ended_woven))
+  as_trace budget handed lent d (accepted q read (same, answer)) = by_answer d answer
+    where
+      by_answer : (x : Due) → IsTracedAlone q (woven_budget budget) x
+          → IsAnswered (trace budget) bytes (untouched handed lent) x
+      by_answer _ ended_alone =
+          subst (λ x. IsAnswered (trace budget) bytes (untouched handed lent) x) (sym (same_due q budget read))
+          (accepted p is (same, ended_woven))
 
   pub stands_alone : StandsAlone bytes p
   stands_alone = record { as_trace = as_trace; as_exec = as_exec }
 
 -- Where `instrument` answered to an accepted script, the units of the text have 16 bits.
-module _ {words : List (List ℕ)} {held : Option (List ℕ)} {shelf : OnShelf} (one : OneReading) (never : NeverBoth)
-    (bytes : List ℕ) (p : Program Span) (is : IsAccepted bytes p) where
-  small_of_answer : (due : Due) → IsAnswered instrument bytes shelf due
+module _ (one : OneReading) (never : NeverBoth) (bytes : List ℕ) (p : Program Span) (is : IsAccepted bytes p) where
+  small_of_answer : {shelf : OnShelf} (due : Due) → IsAnswered instrument bytes shelf due
       → All (λ u. u < 2 ^ 16) (woven_text every_kind p)
   small_of_answer _ (refused cause why same) = absurd (never forms.Script bytes p cause is why)
   small_of_answer due (accepted q read (same, answer)) =
       by_answer due (subst (λ r. IsInstrumented r due) (one forms.Script bytes q p read is) answer)
     where
-      by_answer : (due : Due) → IsInstrumented p due → All (λ u. u < 2 ^ 16) (woven_text every_kind p)
+      by_answer : (x : Due) → IsInstrumented p x → All (λ u. u < 2 ^ 16) (woven_text every_kind p)
       by_answer _ (text small) = small
 
-  pub small_units : (due : Due) → asked words ≡ Some instrument → held ≡ Some bytes → IsDue words held shelf due
+  pub small_units : {words : List (List ℕ)} {held : Option (List ℕ)} {shelf : OnShelf} (due : Due)
+      → asked words ≡ Some instrument → held ≡ Some bytes → IsDue words held shelf due
       → All (λ u. u < 2 ^ 16) (woven_text every_kind p)
   small_units due words_are holds answer =
       small_of_answer due (of_source instrument bytes due words_are tt holds answer)

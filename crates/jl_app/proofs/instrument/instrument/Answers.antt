@@ -10,7 +10,7 @@ pub returns-clause-due : goal.returns-clause-due
 returns-clause-due c = (
   refl,
   c.in_ok-to_utf8.ensures
-      ∙ ap bytes_of (c.deref.ensures.value ∙ c.in_ok-text.ensures
+      ∙ ap bytes_of (c.deref-2.ensures.value ∙ c.in_ok-text.ensures
       ∙ of_kinds_text c.all.result every_kind c.all.ensures (view c.args.program.now)),
 )
 
