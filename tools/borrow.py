@@ -7,7 +7,6 @@ FROM is a clone in which a whole `rt ci` runs, or has run, of the same text of t
 the statements of each library without its proofs, and no stamp, so other commands build their own. This links them and
 writes the stamp. It is for work alone: no verdict rests on it, and the gate proves all again. Take all from one run."""
 
-import hashlib
 import os
 import shutil
 import subprocess
@@ -16,26 +15,6 @@ import sys
 from kit import rtlib
 
 TOP = os.path.dirname(os.path.dirname(os.path.abspath(__file__)))
-
-
-SUMS = {}
-
-
-def stamp(crate):
-    """The sum that the kit takes of a crate, each library below it looked at once: the kit's own walks each way to it."""
-    if crate.folder not in SUMS:
-        total = hashlib.sha256(repr((crate.said, crate.has_c)).encode())
-        with open(f"{rtlib.KIT}/WHAT", "rb") as it:
-            total.update(it.read())
-        for name in rtlib.files_of(crate.folder):
-            with open(name, "rb") as it:
-                total.update(repr((name.replace(crate.folder, ""), it.read())).encode())
-        total.update(repr([stamp(dep) for dep in crate.deps]).encode())
-        SUMS[crate.folder] = total.hexdigest()
-    return SUMS[crate.folder]
-
-
-rtlib.Crate.stamp = stamp
 
 
 def borrow(source, crate):

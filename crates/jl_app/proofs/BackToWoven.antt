@@ -1,5 +1,6 @@
 -- The text of the woven script is short enough to be read back, and reads back as the woven script.
-use Rattle.std.proofs.Common.{◌≡◌, ◌∙◌, ◌≤◌, ap, sym, subst, refl, arith, length, true, ℕ, List, Option, None, Some}
+use Rattle.std.proofs.Common.{◌≡◌, ◌∙◌, ◌≤◌, ap, sym, subst, refl, arith, length, true, false, ℕ, List, Option, None, Some}
+use Rattle.std.specs.Char.Utf16.{has_unpaired_surrogate}
 use Rattle.jl_ast.specs.Spans.{without_spans}
 use Rattle.jl_ast.specs.Tree.{Program}
 use Rattle.jl_grammar.specs.Laws.{OneReading}
@@ -8,11 +9,12 @@ use Rattle.jl_op.specs.Chosen.{Kinds}
 use Rattle.jl_print.proofs.WithoutPlaces.{same_text}
 use Rattle.jl_print.specs.Layout.{text_of}
 use Rattle.jl_read_back.specs.EarlyErrors.{FirstIsReservedName, IsReservedName}
-use Rattle.jl_read_back.specs.Laws.{WovenReadsBack, WovenTextIsBounded}
+use Rattle.jl_read_back.proofs.Bytes.{units_within}
+use Rattle.jl_read_back.specs.Laws.{WovenReadsBack, WovenScriptIsBounded, WovenTextIsBounded}
 use Rattle.jl_scope.specs.EarlyError.{first_early_error}
 use Rattle.jl_scope.specs.Kinds.{early, left_out, reserved_name, EarlyError}
 use Rattle.jl_simulation.specs.Weaving.{woven_program}
-use Rattle.jl_text.specs.Encoding.{units_of}
+use Rattle.jl_text.specs.Encoding.{bytes_of, units_of}
 use Rattle.jl_text.specs.declared.span.Span.{Span}
 use Rattle.jl_token.proofs.Whole.{tokens_are_unique}
 use Rattle.jl_token.specs.Tokens.{Tokens}
@@ -22,7 +24,6 @@ use Rattle.jl_app.specs.WovenText.{woven_text}
 use Rattle.jl_app.specs.inner.Woven.{ReadsBackAsWoven}
 use Rattle.jl_app.proofs.Legal.{nothing_wrong}
 use Rattle.jl_app.proofs.Placed.{with_places}
-use Rattle.jl_app.proofs.Sizes.{units_within}
 
 -- where only the name of the hooks is wrong, a program may run
 name_may : (o : Option EarlyError) → IsReservedName o → may_run o ≡ true
@@ -53,14 +54,28 @@ fits bounded kinds bytes p is =
       few,
     )
 
-pub back_to_woven : WovenReadsBack → WovenTextIsBounded → FirstIsReservedName → OneReading → (kinds : Kinds)
+-- and its bytes are no more than `exec` reads
+few_bytes : WovenScriptIsBounded → (kinds : Kinds) (bytes : List ℕ) (p : Program Span) → IsAccepted bytes p
+    → length (bytes_of (woven_text kinds p)) ≤ 67108928
+few_bytes bounded kinds bytes p is =
+    let placed = with_places (woven_program kinds p) in
+    let few = is.short in
+    omega (
+      arith,
+      bounded kinds bytes is.tokens 200 p placed.0 is.decoded is.lexed is.read (omega arith) placed.1,
+      ap (λ t. length (bytes_of t)) (placed_text kinds p),
+      few,
+    )
+
+pub back_to_woven : WovenReadsBack → WovenTextIsBounded → WovenScriptIsBounded → FirstIsReservedName → OneReading → (kinds : Kinds)
     (bytes : List ℕ) (p : Program Span) → IsAccepted bytes p → ReadsBackAsWoven kinds p
-back_to_woven reads bounded keeps one kinds bytes p is =
+back_to_woven reads bounded bytes_bounded keeps one kinds bytes p is =
     let placed = with_places (woven_program kinds p) in
     let within = units_within bytes is.decoded in
     let few = is.short in
-    let back = (reads kinds (units_of bytes) is.tokens 200 1000 p placed.0 is.lexed is.read (omega arith)
-    (omega arith) placed.1).back in
+    let printed = reads kinds (units_of bytes) is.tokens 200 1000 p placed.0 is.lexed is.read (omega arith) (omega arith)
+    placed.1 in
+    let back = printed.back in
     let text = placed_text kinds p in
     let lexed : Tokens (woven_text kinds p) back.tokens = subst (λ t. Tokens t back.tokens) text back.lexed in
     record {
@@ -78,4 +93,6 @@ back_to_woven reads bounded keeps one kinds bytes p is =
           let program = one back.tokens 1000 q back.program
           (subst (λ ts. Reads ts 1000 q) tokens read.read) back.read in
           ap (λ (r : Program Span). without_spans r) program ∙ back.same ∙ placed.1;
+      few_bytes = few_bytes bytes_bounded kinds bytes p is;
+      paired = subst (λ t. has_unpaired_surrogate t ≡ false) text printed.paired;
     }

@@ -31,16 +31,15 @@ made_for (soak number budget chosen) = script_of number
 made_for _ = []
 
 module _ {words : List (List ℕ)} {held : Option (List ℕ)} {shelf : OnShelf} where
-  of_source : (bytes : List ℕ) (budget : ℕ) (chosen : List ℕ) (due : Due) → asked words ≡ Some (lint budget chosen)
-      → held ≡ Some bytes → IsDue words held shelf due → IsAnswered (lint budget chosen) bytes shelf due
-  of_source bytes budget chosen _ is holds (bad_words none kept) = let both = sym none ∙ is in absurd (cc)
-  of_source bytes budget chosen due is holds (answered_to a read words reads told answered) =
+  pub of_source : (which : Asked) (bytes : List ℕ) (due : Due) → asked words ≡ Some which → ReadsSource which
+      → held ≡ Some bytes → IsDue words held shelf due → IsAnswered which bytes shelf due
+  of_source which bytes _ is reads holds (bad_words none kept) = let both = sym none ∙ is in absurd (cc)
+  of_source which bytes due is reads holds (answered_to a read words reads_too told answered) =
       let all : bytes ≡ read = subst (λ h. IfSome h (λ all. all ≡ read)) holds told in
-      let command : a ≡ lint budget chosen = same_asked (sym words ∙ is) in
-      subst (λ b. IsAnswered (lint budget chosen) b shelf due) (sym all)
-      (subst (λ (x : Asked). IsAnswered x read shelf due) command answered)
-  of_source bytes budget chosen due is holds (answered_to_made number most rules words answered) =
-      let both = sym words ∙ is in absurd (cc)
+      subst (λ b. IsAnswered which b shelf due) (sym all)
+      (subst (λ (x : Asked). IsAnswered x read shelf due) (same_asked (sym words ∙ is)) answered)
+  of_source which bytes due is reads holds (answered_to_made number most rules words answered) =
+      absurd (subst (λ (x : Asked). ReadsSource x) (same_asked (sym is ∙ words)) reads)
 
   of_made : (number budget : ℕ) (chosen : List ℕ) (due : Due) → asked words ≡ Some (soak number budget chosen)
       → IsDue words held shelf due → IsAnswered (lint budget chosen) (script_of number) shelf due
@@ -54,7 +53,7 @@ module _ {words : List (List ℕ)} {held : Option (List ℕ)} {shelf : OnShelf} 
       → Reports a budget chosen → IsScriptFor held a bytes → IsDue words held shelf due
       → IsAnswered (lint budget chosen) bytes shelf due
   due_to_script _ bytes _ _ due is (lints budget chosen) script answer =
-      of_source bytes budget chosen due is (held_by budget chosen script) answer
+      of_source (lint budget chosen) bytes due is tt (held_by budget chosen script) answer
   due_to_script _ bytes _ _ due is (soaks number budget chosen) script answer =
       subst (λ b. IsAnswered (lint budget chosen) b shelf due) (made_by number budget chosen script)
       (of_made number budget chosen due is answer)

@@ -14,5 +14,6 @@ pub mod Tracing
 pub mod Answers
 pub mod Endings
 pub mod Headline
+pub mod StandsAlone
 pub mod Misuse
 pub mod inner

@@ -7,13 +7,17 @@ ghost use Rattle.jl_app.specs.inner.Woven.{IsWovenWell};
 ghost use Rattle.jl_app.specs.Accepting.{IsAccepted, OneReading};
 ghost use Rattle.jl_app.specs.Misuse.{AcceptedScriptsRunWithoutMisuse};
 ghost use Rattle.jl_app.specs.Refusals.{NeverBoth, AcceptedOrRefused};
+ghost use Rattle.jl_app.specs.StandsAlone.{TextStandsAlone};
 
 use jl_machine::laws::runs_are_meant;
 use jl_meaning::laws::{kept_hooks, more_budget};
 use jl_quiet::laws::quiet_means;
-use jl_read_back::laws::{woven_keeps_rules, woven_reads_back, woven_text_is_bounded};
+use jl_read_back::laws::{
+    woven_bytes_are_bounded, woven_keeps_rules, woven_reads_back, woven_text_is_bounded,
+};
 use jl_safety::laws::{quietly_never_misuses, woven_never_misuses};
 use jl_simulation::laws::accepted_scripts_simulate;
+use jl_text::laws::units_come_back;
 
 /// No bytes are both read as a sound program and refused.
 pub fn never_both()
@@ -43,6 +47,7 @@ pub(crate) fn scripts_are_woven_well()
     jl_grammar::laws::one_reading();
     woven_reads_back();
     woven_text_is_bounded();
+    woven_bytes_are_bounded();
     woven_keeps_rules();
 }
 
@@ -53,5 +58,16 @@ pub fn accepted_scripts_run_without_misuse()
 {
     quietly_never_misuses();
     woven_never_misuses();
+    scripts_are_woven_well();
+}
+
+/// What is due to `exec` on the bytes that `instrument` writes of an accepted script is due to `trace` on the script,
+/// and the other way round, with the steps that the woven script has, where the units of the text have 16 bits.
+pub fn text_stands_alone()
+    ensures { TextStandsAlone }
+{
+    one_reading();
+    never_both();
+    units_come_back();
     scripts_are_woven_well();
 }

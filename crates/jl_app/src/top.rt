@@ -1,7 +1,7 @@
 ghost use Rattle.std.specs.Prelude.{◌≡◌, ◌≤◌, [], ℕ, List, Some, codes, IfOk, IfSome, IsErrOf};
 ghost use Rattle.jl_analysis.specs.Rules.{all_rules};
 ghost use Rattle.jl_ast.specs.Tree.{Program as Tree};
-ghost use Rattle.jl_command.specs.Asked.{Asked, asked, lint, texts};
+ghost use Rattle.jl_command.specs.Asked.{Asked, asked, instrument, lint, texts};
 ghost use Rattle.jl_command.specs.Meant.{IsChoice, Means};
 ghost use Rattle.jl_port.specs.Count.{HasRisen};
 ghost use Rattle.jl_soak.specs.Script.{script_of};
@@ -14,6 +14,7 @@ ghost use Rattle.jl_app.specs.Forms.{ReadsSource};
 ghost use Rattle.jl_app.specs.Headline.{IsAboutScript};
 ghost use Rattle.jl_app.specs.Misuse.{RunsWithoutMisuse};
 ghost use Rattle.jl_app.specs.Scripts.{IsScriptFor, Reports};
+ghost use Rattle.jl_app.specs.StandsAlone.{StandsAlone};
 ghost use Rattle.jl_app.specs.declared.status.Status.TheVariants.{BadWords};
 ghost use Rattle.jl_app.specs.declared.top.Unanswered.TheVariants.{NoMemory};
 
@@ -21,6 +22,7 @@ use crate::answer::{Answer, line_only, refused, respond};
 use crate::form::Form;
 use crate::laws::{
     accepted_scripts_run_without_misuse, never_both, one_reading, scripts_are_woven_well,
+    text_stands_alone,
 };
 use crate::refusal::Refusal;
 use crate::status::Status;
@@ -222,6 +224,10 @@ pub fn jlint<S: Source, K: Sink, H: Shelf>(
     // than the shelf was handed.
     ensures no_misuse { (a : Asked) (bytes : List ℕ) (p : Tree Span) → asked (texts words.now) ≡ Some a
         → IsScriptFor (S.left source.old) a bytes → IsAccepted bytes p → RunsWithoutMisuse a p }
+    // What `instrument` wrote of an accepted script can be kept without the script: what is due to `exec` on these bytes
+    // is what is due to `trace` on the script.
+    ensures stands_alone { (bytes : List ℕ) (p : Tree Span) → asked (texts words.now) ≡ Some instrument
+        → S.left source.old ≡ Some bytes → IsAccepted bytes p → HasAnswered result → StandsAlone bytes p }
     ensures unread { ((a : Asked) → asked (texts words.now) ≡ Some a → ReadsSource a → ⊥) → source.new ≡ source.old }
     ensures shelf { ((a : Asked) (budget : ℕ) (chosen : List ℕ) → asked (texts words.now) ≡ Some a
         → Reports a budget chosen → ⊥) → shelf.new ≡ shelf.old }
@@ -231,6 +237,7 @@ pub fn jlint<S: Source, K: Sink, H: Shelf>(
     never_both();
     scripts_are_woven_well();
     accepted_scripts_run_without_misuse();
+    text_stands_alone();
     needed_is_enough();
     let answer = match due(alloc, words, source, shelf, crowd) {
         Ok(answer) => answer,

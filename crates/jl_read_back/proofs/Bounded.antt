@@ -1,6 +1,6 @@
--- How long the canonical text of the woven script is.
-use Rattle.std.proofs.Common.{◌≡◌, codes, ℕ, ◌+◌, ◌*◌, ◌≤◌, Bool, true, false, ◌||◌, List, length, refl, ap, sym, ◌∙◌}
-use Rattle.std.proofs.Common.{arith}
+-- How many bytes the canonical text of the woven script takes, and so how many units it has.
+use Rattle.std.proofs.Common.{◌≡◌, codes, ℕ, ◌+◌, ◌*◌, ◌<◌, ◌≤◌, Bool, true, false, ◌||◌, List, length, refl, ap, sym}
+use Rattle.std.proofs.Common.{◌∙◌, arith}
 use Rattle.std.specs.Prelude.{if◌then◌else◌}
 use Rattle.jl_ast.specs.Tree as tree
 use Rattle.jl_ast.specs.Tree.{Forest, Program, Tree}
@@ -16,13 +16,16 @@ use Rattle.jl_print.proofs.WithoutPlaces.{same_text}
 use Rattle.jl_scope.specs.Names.{hooks_name}
 use Rattle.jl_simulation.specs.HookCalls.{and_last, begin_and_end, hook, hook_statement, no_exprs, Stmt, Stmts}
 use Rattle.jl_simulation.specs.Weaving.{woven_code, woven_forest, woven_program}
+use Rattle.jl_text.specs.Encoding.{units_of}
 use Rattle.jl_text.specs.declared.span.Span.{Span}
 use Rattle.jl_token.specs.Tokens.{FewTokens, Tokens}
 use Rattle.jl_token.specs.declared.token.Token.{Token}
-use Rattle.jl_read_back.specs.Laws.{WovenTextIsBounded}
+use Rattle.jl_read_back.specs.Laws.{WovenBytesAreBounded, WovenScriptIsBounded, WovenTextIsBounded}
 use Rattle.jl_read_back.specs.Woven.{IsWoven}
+use Rattle.jl_read_back.specs.inner.Bytes.{most_bytes}
 use Rattle.jl_read_back.specs.inner.Weight.{weight, weights}
 use Rattle.jl_read_back.specs.inner.Width.{widths}
+use Rattle.jl_read_back.proofs.Bytes.{bytes_within, fewer_units, units_within}
 use Rattle.jl_read_back.proofs.Formed.{woven_formed}
 use Rattle.jl_read_back.proofs.Lengths as tokens
 use Rattle.jl_read_back.proofs.Narrow.{all_narrow, directed}
@@ -77,18 +80,18 @@ module _ (chosen : Kinds) where
 
   -- of the woven program
   woven_few : {S : Type 0} (p : Program S) → WellFormed (woven_program chosen p).body
-      → length (text_of (woven_program chosen p)) ≤ 64 * weight p.body + 64
+      → most_bytes (text_of (woven_program chosen p)) ≤ 64 * weight p.body + 64
   unfolding woven_program
   woven_few p w =
       let a = code_few p.body w in let b = laid_few (tokens_of (woven_program chosen p)) in omega arith
 
   -- of one with places
   placed_few : {S T : Type 0} (p : Program S) (q : Program T) → WellFormed (woven_program chosen p).body
-      → IsWoven chosen p q → length (text_of q) ≤ 64 * weight p.body + 64
+      → IsWoven chosen p q → most_bytes (text_of q) ≤ 64 * weight p.body + 64
   placed_few p q w e =
       let a = woven_few p w in
-      let b : length (text_of q) ≡ length (text_of (woven_program chosen p)) =
-      ap length (sym (same_text q) ∙ ap (λ u. text_of u) e) in omega arith
+      let b : most_bytes (text_of q) ≡ most_bytes (text_of (woven_program chosen p)) =
+      ap most_bytes (sym (same_text q) ∙ ap (λ u. text_of u) e) in omega arith
 
 -- what is read weighs at most its text
 read_light : (text : List ℕ) (ts : List Token) (limit : ℕ) (p : Program Span) → Tokens text ts → Reads ts limit p
@@ -99,15 +102,37 @@ read_light text ts limit p lexed r =
     (tokens.assigns ts) r.whole in
     let b = tokens.long text ts lexed in omega arith
 
--- so the woven text has at most 64 units for each unit of the text, and 64
-pub bounded : ReadIsWellFormed → FewTokens → (entries : Program Span → ℕ)
-    → ((p : Program Span) → entries p ≡ 2 + id_count p.body)
-    → ((ts : List Token) (limit : ℕ) (p : Program Span) → Reads ts limit p → entries p ≤ 4 * length ts + 2)
-    → WovenTextIsBounded
-bounded well_formed few_tokens entries has few chosen text ts limit p q lexed read short e =
-    let count = has p in
-    let few_entries = few ts limit p read in
-    let few_units = few_tokens text ts lexed in
-    let w = woven_formed chosen p (well_formed text ts limit p lexed read).body (omega arith) in
-    let a = placed_few chosen p q w e in
-    let b = read_light text ts limit p lexed read in omega arith
+-- the woven text takes at most 64 bytes for each unit of the text, and 64
+abbrev IsBounded : Type 0
+IsBounded =
+    (chosen : Kinds) (text : List ℕ) (ts : List Token) (limit : ℕ) (p q : Program Span) → Tokens text ts
+    → Reads ts limit p → length text < 1073741823 → IsWoven chosen p q
+    → most_bytes (text_of q) ≤ 64 * length text + 64
+
+-- of what is read the laws say that it is well formed, that it has few tokens, and few entries of the map
+module _ (well_formed : ReadIsWellFormed) (few_tokens : FewTokens) (entries : Program Span → ℕ)
+    (has : (p : Program Span) → entries p ≡ 2 + id_count p.body)
+    (few : (ts : List Token) (limit : ℕ) (p : Program Span) → Reads ts limit p → entries p ≤ 4 * length ts + 2) where
+  bounded : IsBounded
+  bounded chosen text ts limit p q lexed read short e =
+      let count = has p in
+      let few_entries = few ts limit p read in
+      let few_units = few_tokens text ts lexed in
+      let w = woven_formed chosen p (well_formed text ts limit p lexed read).body (omega arith) in
+      let a = placed_few chosen p q w e in
+      let b = read_light text ts limit p lexed read in omega arith
+
+  -- as it is counted, it has no more units, and takes no more bytes
+  pub units_bounded : WovenTextIsBounded
+  units_bounded chosen text ts limit p q lexed read short e =
+      omega (arith, bounded chosen text ts limit p q lexed read short e, fewer_units (text_of q))
+
+  pub bytes_bounded : WovenBytesAreBounded
+  bytes_bounded chosen text ts limit p q lexed read short e =
+      omega (arith, bounded chosen text ts limit p q lexed read short e, bytes_within (text_of q))
+
+  -- and a script has no more units than bytes
+  pub script_bounded : WovenScriptIsBounded
+  script_bounded chosen bytes ts limit p q utf8 lexed read short e =
+      let u = units_within bytes utf8 in
+      omega (arith, bytes_bounded chosen (units_of bytes) ts limit p q lexed read (omega arith) e)

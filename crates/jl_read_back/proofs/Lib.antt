@@ -16,6 +16,7 @@ pub mod NoNames
 pub mod EarlyForms
 pub mod EarlyWoven
 pub mod Early
+pub mod Bytes
 pub mod Spelled
 pub mod Digits
 pub mod Wide

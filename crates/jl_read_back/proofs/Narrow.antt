@@ -17,10 +17,12 @@ use Rattle.jl_simulation.specs.HookCalls.{hook_1, hook_2, hook_of_1, quoted, una
 use Rattle.jl_simulation.specs.HookCalls.{Stmts, Woven}
 use Rattle.jl_simulation.specs.Weaving.{calls, calls_member, computes, woven, woven_forest, woven_optional}
 use Rattle.jl_simulation.specs.Weaving.{woven_callee, woven_delete, woven_typeof}
+use Rattle.jl_read_back.specs.inner.Bytes.{most_bytes}
 use Rattle.jl_read_back.specs.inner.Weight.{directive_weight, name_weight, names_weight}
 use Rattle.jl_read_back.specs.inner.Weight.{optional_name_weight, optional_weight, weight, weights}
 use Rattle.jl_read_back.specs.inner.Width.{directive_width, names_width, optional_name_width, optional_width}
 use Rattle.jl_read_back.specs.inner.Width.{separator, width, widths}
+use Rattle.jl_read_back.proofs.Bytes.{bytes_few}
 use Rattle.jl_read_back.proofs.Forms.{callee_is, delete_is, typeof_is, IsNoMember, IsNoName}
 use Rattle.jl_read_back.proofs.Spelled.{binary_sign_few, string_few, unary_sign_few}
 
@@ -49,7 +51,7 @@ one_of true t u n p q = p
 one_of false t u n p q = q
 
 -- a call of a hook, beside its argument
-hooked : (b : Bool) (h : Text) (id : ℕ) (e : Expr) (n : ℕ) → width e + (37 + length h) ≤ n
+hooked : (b : Bool) (h : Text) (id : ℕ) (e : Expr) (n : ℕ) → width e + (37 + most_bytes h) ≤ n
     → width (if b then hook_1 h id e else e) + 6 ≤ n
 unfolding hooks_name
 hooked true h id e n p = omega arith
@@ -57,13 +59,13 @@ hooked false h id e n p = omega arith
 
 -- the same of a part of a statement
 given : (b : Bool) (h : Text) (id : ℕ) (e : Expr) (n : ℕ) → width e + 6 ≤ n
-    → width (if b then hook_1 h id e else e) ≤ n + (25 + length h)
+    → width (if b then hook_1 h id e else e) ≤ n + (25 + most_bytes h)
 unfolding hooks_name
 given true h id e n p = omega arith
 given false h id e n p = omega arith
 
 written : (b : Bool) (h : Text) (id : ℕ) (word : Text) (e : Expr) (n : ℕ) → width e + 6 ≤ n
-    → width (if b then hook_of_1 h id word e else e) ≤ n + (30 + length h + 6 * length word)
+    → width (if b then hook_of_1 h id word e else e) ≤ n + (30 + most_bytes h + 6 * length word)
 unfolding hooks_name
 written true h id word e n p = let q = string_few word in omega arith
 written false h id word e n p = omega arith
@@ -82,23 +84,23 @@ entered true id l n p = omega arith
 entered false id l n p = omega arith
 
 caught : (b : Bool) (id : ℕ) (x : Text) (l : Stmts) (n : ℕ) → widths l ≤ n
-    → widths (if b then catch_and_go_on id x l else l) ≤ n + 7 * length x + 44
+    → widths (if b then catch_and_go_on id x l else l) ≤ n + 10 * length x + 44
 unfolding hooks_name
-caught true id x l n p = let q = string_few x in omega arith
+caught true id x l n p = let q = string_few x in let r = bytes_few x in omega arith
 caught false id x l n p = omega arith
 
 -- names, and the directive of a body
-named : (x : Text) → length x + 3 ≤ 64 * name_weight x
-named x = omega arith
+named : (x : Text) → most_bytes x + 3 ≤ 64 * name_weight x
+named x = let a = bytes_few x in omega arith
 
 optional_named : {S : Type 0} (x : Option (Ident S)) (f : Ident S → Ident ℕ)
-    → ((y : Ident S) → length (f y).text ≤ length y.text)
+    → ((y : Ident S) → most_bytes (f y).text ≤ most_bytes y.text)
     → optional_name_width (option_map without_id (option_map f x)) ≤ 64 * optional_name_weight x
 optional_named None f h = omega arith
 optional_named (Some x) f h = let a = h x in let b = named x.text in omega arith
 
 all_named : {S : Type 0} (l : List (Ident S)) (f : Ident S → Ident ℕ)
-    → ((y : Ident S) → length (f y).text ≤ length y.text)
+    → ((y : Ident S) → most_bytes (f y).text ≤ most_bytes y.text)
     → names_width (map without_id (map f l)) ≤ 64 * names_weight l
 all_named [] f h = omega arith
 all_named (x ∷ l) f h = let a = h x in let b = named x.text in let c = all_named l f h in omega arith
@@ -139,7 +141,7 @@ module _ (chosen : Kinds) where
         → width (woven chosen (with_ids n t)) + slack x ≤ 64 * weight t
     narrow (tree.this s) n = omega arith
     narrow (tree.name x s) n =
-        let q = string_few x in either (chosen kind.Read) _ _ 6 _ (omega arith) (omega arith)
+        let q = string_few x in let b = bytes_few x in either (chosen kind.Read) _ _ 6 _ (omega arith) (omega arith)
     narrow (tree.number m s) n = hooked (chosen kind.Literal) (codes "T") n _ _ (omega arith)
     narrow (tree.string t s) n =
         let q = string_few t in hooked (chosen kind.Literal) (codes "T") n _ _ (omega arith)
@@ -152,13 +154,13 @@ module _ (chosen : Kinds) where
     narrow (tree.function_expression f s) n =
         let a = narrow f (n + 1) in hooked (chosen kind.FunctionLiteral) (codes "T") n _ _ (omega arith)
     narrow (tree.dot o k s) n =
-        let a = narrow o (n + 1) in let q = string_few k in
+        let a = narrow o (n + 1) in let q = string_few k in let b = bytes_few k in
         either (chosen kind.GetField) _ _ 6 _ (omega arith) (omega arith)
     narrow (tree.index o k s) n =
         let a = narrow o (n + 1) in let b = narrow k (n + 1 + id_count o) in
         either (chosen kind.GetField) _ _ 6 _ (omega arith) (omega arith)
     narrow (tree.call (tree.dot o k t) l s) n =
-        let a = narrow o (n + 3) in let q = string_few k in
+        let a = narrow o (n + 3) in let q = string_few k in let b = bytes_few k in
         let c = all_narrow l (n + 2 + id_count (tree.dot o k t)) in
         let m = one_of (calls_member chosen) (hook_2 (codes "M") n (woven chosen (with_ids (n + 3) o)) (quoted k))
         (tree.dot (woven chosen (with_ids (n + 3) o)) k tt) (64 * weight o + 6 * length k + 31) (omega arith)
@@ -180,12 +182,13 @@ module _ (chosen : Kinds) where
         let a = narrow f (n + 2) in let c = all_narrow l (n + 2 + id_count f) in
         either (calls chosen) _ _ 6 _ (omega arith) (omega arith)
     narrow (tree.unary un.Typeof (tree.name x t) s) n =
-        let q = string_few x in either (chosen kind.TypeofName) _ _ 6 _ (omega arith) (omega arith)
+        let q = string_few x in let b = bytes_few x in
+        either (chosen kind.TypeofName) _ _ 6 _ (omega arith) (omega arith)
     narrow (tree.unary un.Typeof e s) n =
         let a = narrow e (n + 1) in typed (n + 1) n e tt (woven chosen (with_ids (n + 1) e)) _ (omega arith)
-    narrow (tree.unary un.Delete (tree.name x t) s) n = omega arith
+    narrow (tree.unary un.Delete (tree.name x t) s) n = let b = bytes_few x in omega arith
     narrow (tree.unary un.Delete (tree.dot o k t) s) n =
-        let a = narrow o (n + 1) in let q = string_few k in
+        let a = narrow o (n + 1) in let q = string_few k in let b = bytes_few k in
         either (chosen kind.DeleteField) _ _ 6 _ (omega arith) (omega arith)
     narrow (tree.unary un.Delete (tree.index o k t) s) n =
         let a = narrow o (n + 1) in let b = narrow k (n + 1 + id_count o) in
@@ -196,11 +199,12 @@ module _ (chosen : Kinds) where
         let a = narrow e (n + 1) in let q = unary_sign_few (unary_kind o) in
         either (chosen kind.Unary) _ _ 6 _ (omega arith) (omega arith)
     narrow (tree.update up prefix (tree.to_name x) s) n =
-        let q = string_few x.text in let r = unary_sign_few (update_kind up) in
+        let q = string_few x.text in let b = bytes_few x.text in let r = unary_sign_few (update_kind up) in
         either (computes chosen (tree.to_name (ident_with_id x (n + 3))) kind.Unary) _ _ 6 _
         (updated up prefix _ _ (omega arith)) (omega arith)
     narrow (tree.update up prefix (tree.to_dot o k t) s) n =
-        let a = narrow o (n + 3) in let q = string_few k in let r = unary_sign_few (update_kind up) in
+        let a = narrow o (n + 3) in let q = string_few k in let b = bytes_few k in
+        let r = unary_sign_few (update_kind up) in
         either (computes chosen (tree.to_dot (with_ids (n + 3) o) k (n + 3)) kind.Unary) _ _ 6 _
         (updated up prefix _ _ (omega arith)) (omega arith)
     narrow (tree.update up prefix (tree.to_index o k t) s) n =
@@ -221,18 +225,20 @@ module _ (chosen : Kinds) where
         let q = narrow b (n + 1 + id_count a) in let r = narrow c (n + 1 + id_count a + id_count b) in
         let p = tested n (woven chosen (with_ids (n + 1) a)) (64 * weight a) (narrow a (n + 1)) in omega arith
     narrow (tree.assign None (tree.to_name x) e s) n =
-        let a = narrow e (n + 1 + 0) in let q = string_few x.text in
+        let a = narrow e (n + 1 + 0) in let q = string_few x.text in let b = bytes_few x.text in
         either (chosen kind.Write) _ _ 6 _ (omega arith) (omega arith)
     narrow (tree.assign (Some o) (tree.to_name x) e s) n =
-        let a = narrow e (n + 3 + 0) in let q = string_few x.text in let r = binary_sign_few o in
+        let a = narrow e (n + 3 + 0) in let q = string_few x.text in let b = bytes_few x.text in
+        let r = binary_sign_few o in
         either (computes chosen (tree.to_name (ident_with_id x (n + 3))) kind.Binary) _ _ 6 _ (omega arith)
         (omega arith)
     narrow (tree.assign None (tree.to_dot o k t) e s) n =
         let a = narrow o (n + 1) in let b = narrow e (n + 1 + id_count o) in let q = string_few k in
+        let c = bytes_few k in
         either (chosen kind.PutField) _ _ 6 _ (omega arith) (omega arith)
     narrow (tree.assign (Some p) (tree.to_dot o k t) e s) n =
         let a = narrow o (n + 3) in let b = narrow e (n + 3 + id_count o) in let q = string_few k in
-        let r = binary_sign_few p in
+        let c = bytes_few k in let r = binary_sign_few p in
         either (computes chosen (with_ids (n + 3) (tree.to_dot o k t)) kind.Binary) _ _ 6 _ (omega arith) (omega arith)
     narrow (tree.assign None (tree.to_index o k t) e s) n =
         let a = narrow o (n + 1) in let c = narrow k (n + 1 + id_count o) in
@@ -312,21 +318,23 @@ module _ (chosen : Kinds) where
         let c = optional_narrow f (n + 1 + forest_id_count l + forest_id_count h) in
         let d = caught (chosen kind.Catch) n x.text
         (woven_forest chosen (forest_with_ids (n + 1 + forest_id_count l) h)) (64 * weights h) b in
-        omega arith
+        let e = bytes_few x.text in omega arith
     narrow (tree.debugger s) n = omega arith
     narrow tree.nothing n = omega arith
     narrow (tree.init_expression e) n = let a = narrow e n in omega arith
     narrow (tree.init_var l) n = let a = all_narrow l n in omega arith
-    narrow (tree.declarator x tree.absent) n = omega arith
+    narrow (tree.declarator x tree.absent) n = let b = bytes_few x.text in omega arith
     narrow (tree.declarator x (tree.present e)) n =
         let a = written (chosen kind.Write) (codes "W") n x.text (woven chosen (with_ids (n + 1) e)) (64 * weight e)
-        (narrow e (n + 1)) in omega arith
+        (narrow e (n + 1)) in
+        let b = bytes_few x.text in omega arith
     narrow (tree.case e l) n =
         let a = optional_narrow e n in let b = all_narrow l (n + optional_id_count e) in omega arith
     narrow (tree.branch_of l) n = let a = all_narrow l n in omega arith
     narrow (tree.catch x l) n =
         let a = caught (chosen kind.Catch) n x.text (woven_forest chosen (forest_with_ids n l)) (64 * weights l)
-        (all_narrow l n) in omega arith
+        (all_narrow l n) in
+        let b = bytes_few x.text in omega arith
 
     pub all_narrow : {S : Type 0} {x : Sort} (l : Forest S x) (n : ℕ)
         → widths (woven_forest chosen (forest_with_ids n l)) ≤ 64 * weights l

@@ -1,5 +1,5 @@
 -- The tokens of a well formed tree are at most as wide as the tree.
-use Rattle.std.proofs.Common.{◌≡◌, ℕ, ◌+◌, ◌≤◌, Bool, true, false, not, ◌||◌, List, [], ◌∷◌, ◌++◌, length, arith}
+use Rattle.std.proofs.Common.{◌≡◌, ℕ, ◌+◌, ◌≤◌, Bool, true, false, not, ◌||◌, List, [], ◌∷◌, ◌++◌, arith}
 use Rattle.std.proofs.Common.{subst, sym}
 use Rattle.std.proofs.lemmas.Bool.Decides.{nat_tests}
 use Rattle.std.specs.Prelude.{codes, nat_le, pred, if◌then◌else◌, Option, Some, None}
@@ -14,6 +14,7 @@ use Rattle.jl_print.specs.Pieces.{in_parens, in_parens_unless, operator}
 use Rattle.jl_print.specs.Precedence.{fits, is_in, operator_precedence}
 use Rattle.jl_print.specs.WellFormed.{AllWellFormed, OptionalWellFormed, WellFormed}
 use Rattle.jl_token.specs.declared.token.TokenKind.{TokenKind}
+use Rattle.jl_read_back.specs.inner.Bytes.{most_bytes}
 use Rattle.jl_read_back.specs.inner.Width.{names_width, optional_name_width, optional_width, separator}
 use Rattle.jl_read_back.specs.inner.Width.{width, widths}
 use Rattle.jl_read_back.proofs.Digits.{literal_few}
@@ -191,7 +192,7 @@ module _ {S : Type 0} where
     optional_wide (tree.present t) w = let p = wide t w in omega arith
 
     after_wide : {x : Sort} (u : Text) (t : OptionalTree S x) → OptionalWellFormed t
-        → size (tokens_after u t) ≤ length u + 1 + optional_width t
+        → size (tokens_after u t) ≤ most_bytes u + 1 + optional_width t
     after_wide u tree.absent w = omega arith
     after_wide u (tree.present t) w = let p = wide t w in omega arith
 

@@ -1,6 +1,7 @@
 -- The woven script, with any places, reads back from its canonical text.
 use Rattle.std.specs.Prelude.{◌≡◌, ◌+◌, ◌*◌, ◌<◌, ◌≤◌, false, ℕ, List, length}
 use Rattle.std.specs.Char.Utf16.{has_unpaired_surrogate}
+use Rattle.std.specs.Str.{IsUtf8}
 use Rattle.jl_ast.specs.Height.{program_height}
 use Rattle.jl_ast.specs.Tree.{Program}
 use Rattle.jl_grammar.specs.Program.{Reads}
@@ -9,6 +10,7 @@ use Rattle.jl_op.specs.Ids.{id_count}
 use Rattle.jl_print.specs.Laws.{ReadsBack}
 use Rattle.jl_print.specs.Layout.{text_of}
 use Rattle.jl_print.specs.WellFormed.{IsWellFormed}
+use Rattle.jl_text.specs.Encoding.{bytes_of, units_of}
 use Rattle.jl_text.specs.declared.span.Span.{Span}
 use Rattle.jl_token.specs.Tokens.{Tokens}
 use Rattle.jl_token.specs.declared.token.Token.{Token}
@@ -46,3 +48,17 @@ abbrev pub WovenTextIsBounded : Type 0
 WovenTextIsBounded =
     (chosen : Kinds) (text : List ℕ) (ts : List Token) (limit : ℕ) (p q : Program Span) → Tokens text ts
     → Reads ts limit p → length text < 1073741823 → IsWoven chosen p q → length (text_of q) ≤ 64 * length text + 64
+
+-- and in UTF-8 it has at most 64 bytes for each unit of the text, and 64
+abbrev pub WovenBytesAreBounded : Type 0
+WovenBytesAreBounded =
+    (chosen : Kinds) (text : List ℕ) (ts : List Token) (limit : ℕ) (p q : Program Span) → Tokens text ts
+    → Reads ts limit p → length text < 1073741823 → IsWoven chosen p q
+    → length (bytes_of (text_of q)) ≤ 64 * length text + 64
+
+-- so it has at most 64 bytes for each byte of a script in UTF-8, and 64
+abbrev pub WovenScriptIsBounded : Type 0
+WovenScriptIsBounded =
+    (chosen : Kinds) (bytes : List ℕ) (ts : List Token) (limit : ℕ) (p q : Program Span) → IsUtf8 bytes
+    → Tokens (units_of bytes) ts → Reads ts limit p → length bytes < 1073741823 → IsWoven chosen p q
+    → length (bytes_of (text_of q)) ≤ 64 * length bytes + 64

@@ -1,2 +1,3 @@
+pub mod Bytes
 pub mod Weight
 pub mod Width

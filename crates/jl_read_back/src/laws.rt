@@ -1,6 +1,7 @@
 //! Laws over the definitions; each is the contract of a function that does nothing but call the laws that it rests on.
 ghost use Rattle.jl_read_back.specs.EarlyErrors.{FirstIsReservedName, WovenKeepsRules};
-ghost use Rattle.jl_read_back.specs.Laws.{WovenHeight, WovenIsWellFormed, WovenReadsBack, WovenTextIsBounded};
+ghost use Rattle.jl_read_back.specs.Laws.{WovenBytesAreBounded, WovenHeight, WovenIsWellFormed, WovenReadsBack};
+ghost use Rattle.jl_read_back.specs.Laws.{WovenScriptIsBounded, WovenTextIsBounded};
 
 use jl_op::laws::map_has_each_id;
 use jl_print::laws::{printed_reads_back, read_is_well_formed, text_is_paired};
@@ -37,6 +38,19 @@ pub fn woven_reads_back()
 /// and 64: so it is of every program that is read of a text with fewer than 2^30 - 1 units, whatever kinds are chosen.
 pub fn woven_text_is_bounded()
     ensures { WovenTextIsBounded }
+{
+    read_is_well_formed();
+    few_tokens();
+    map_has_each_id::<Span>();
+    few_ids();
+}
+
+/// In UTF-8 the canonical text of the woven script takes at most 64 bytes for each unit of the text that the program is
+/// read of, and 64; and of a script in UTF-8 at most 64 bytes for each of its bytes, and 64. So it is of every program
+/// that is read of a text with fewer than 2^30 - 1 units, or of as few bytes, whatever kinds are chosen.
+pub fn woven_bytes_are_bounded()
+    ensures text { WovenBytesAreBounded }
+    ensures script { WovenScriptIsBounded }
 {
     read_is_well_formed();
     few_tokens();

@@ -5,6 +5,7 @@
 
 mod escapes;
 mod fault;
+mod frames;
 mod hoisting;
 mod parsing;
 mod reports;
@@ -47,6 +48,7 @@ fn answer(alloc: Global, row: &str) -> Result<String, Fault> {
         "vars" | "arguments" | "strict" => hoisting::answer(alloc, call, words),
         "budget" | "output" | "hooks" => running::answer(alloc, call, words),
         "bind" => stores::answer(alloc, words),
+        "frames" => frames::answer(alloc),
         "report" => reports::answer(alloc, words),
         _ => Err(Fault::Unreadable),
     }

@@ -1,5 +1,6 @@
 -- What the laws of the lower crates say of an accepted script and its woven one.
-use Rattle.std.specs.Prelude.{◌≡◌, ◌+◌, ℕ}
+use Rattle.std.specs.Prelude.{◌≡◌, ◌+◌, ◌≤◌, false, length, ℕ}
+use Rattle.std.specs.Char.Utf16.{has_unpaired_surrogate}
 use Rattle.jl_ast.specs.Spans.{without_spans}
 use Rattle.jl_ast.specs.Tree.{Program}
 use Rattle.jl_effects.specs.Growing.{IsLonger}
@@ -7,16 +8,22 @@ use Rattle.jl_effects.specs.Matching.{Simulates}
 use Rattle.jl_effects.specs.Traces.{with_state, without_operations}
 use Rattle.jl_op.specs.Chosen.{is_kept, Kinds}
 use Rattle.jl_simulation.specs.Weaving.{woven_program}
+use Rattle.jl_text.specs.Encoding.{bytes_of}
 use Rattle.jl_text.specs.declared.span.Span.{Span}
+use Rattle.jl_app.specs.Forms.{most_bytes}
 use Rattle.jl_app.specs.Headline.{own_run, woven_mean, woven_run}
 use Rattle.jl_app.specs.ReadBack.{IsReadBack}
 use Rattle.jl_app.specs.WovenText.{woven_text}
+use Rattle.jl_app.specs.declared.form.Form.TheVariants as forms
 
--- the text of the script that is woven for these kinds reads back, and as nothing else
+-- The text of the script that is woven for these kinds reads back, and as nothing else. It has no more bytes than a
+-- woven text may have, and each surrogate in it has its partner.
 pub record ReadsBackAsWoven (kinds : Kinds) (p : Program Span) : Type 0 where
   pub program : Program Span
   pub read : IsReadBack (woven_text kinds p) program
   pub same : (q : Program Span) → IsReadBack (woven_text kinds p) q → without_spans q ≡ woven_program kinds p
+  pub few_bytes : length (bytes_of (woven_text kinds p)) ≤ most_bytes forms.WovenText
+  pub paired : has_unpaired_surrogate (woven_text kinds p) ≡ false
 
 -- the woven script simulates the script; its text reads back; its run is what it means; and the script's own run goes
 -- on as long as there are steps

@@ -1,5 +1,5 @@
--- How many units the tokens of a tree have at most, with one more after each: a numeral has sixteen digits, an operator
--- has brackets round it, and what stands in a list has a separator.
+-- How many bytes of UTF-8 the tokens of a tree take at most, with one more after each: a numeral has sixteen digits, an
+-- operator has brackets round it, and what stands in a list has a separator.
 use Rattle.std.specs.Prelude.{ℕ, ◌+◌, ◌*◌, Bool, true, false, List, [], ◌∷◌, length, Option, Some, None}
 use Rattle.jl_ast.specs.Tree.{Ident, Sort, Text, Tree, Forest, OptionalTree, this, name, number, string, boolean, null}
 use Rattle.jl_ast.specs.Tree.{array}
@@ -10,19 +10,20 @@ use Rattle.jl_ast.specs.Tree.{for_in, continue, break, return, labelled, switch,
 use Rattle.jl_ast.specs.Tree.{init_expression, init_var, declarator, case, branch_of, catch, end, more, absent}
 use Rattle.jl_ast.specs.Tree.{present, expr, item, entry, decl}
 use Rattle.jl_text.specs.Quoted.{quoted}
+use Rattle.jl_read_back.specs.inner.Bytes.{most_bytes}
 
 -- a string between quotes
 unfoldable pub string_width : Text → ℕ
-string_width t = length (quoted t) + 1
+string_width t = most_bytes (quoted t) + 1
 
 abbrev pub optional_name_width : {S : Type 0} → Option (Ident S) → ℕ
 optional_name_width None = 0
-optional_name_width (Some x) = length x.text + 1
+optional_name_width (Some x) = most_bytes x.text + 1
 
 -- each with a comma
 abbrev pub names_width : {S : Type 0} → List (Ident S) → ℕ
 names_width [] = 0
-names_width (x ∷ xs) = length x.text + 3 + names_width xs
+names_width (x ∷ xs) = most_bytes x.text + 3 + names_width xs
 
 -- `"use strict" ; `
 abbrev pub directive_width : Bool → ℕ
@@ -40,7 +41,7 @@ separator _ = 0
 abbrev mutual
   pub width : {S : Type 0} {x : Sort} → Tree S x → ℕ
   width (this s) = 5
-  width (name a s) = length a + 1
+  width (name a s) = most_bytes a + 1
   width (number a s) = 17
   width (string a s) = string_width a
   width (boolean a s) = 6
@@ -48,7 +49,7 @@ abbrev mutual
   width (array a s) = widths a + 4
   width (object a s) = widths a + 4
   width (function_expression a s) = width a
-  width (dot a b s) = width a + length b + 3
+  width (dot a b s) = width a + most_bytes b + 3
   width (index a b s) = width a + width b + 4
   width (call a b s) = width a + widths b + 4
   width (new a b s) = width a + widths b + 12
@@ -60,8 +61,8 @@ abbrev mutual
   width (conditional a b c s) = width a + width b + width c + 8
   width (assign a b c s) = width b + width c + 9
   width (comma a b s) = width a + width b + 6
-  width (to_name a) = length a.text + 1
-  width (to_dot a b s) = width a + length b + 3
+  width (to_name a) = most_bytes a.text + 1
+  width (to_dot a b s) = width a + most_bytes b + 3
   width (to_index a b s) = width a + width b + 4
   width hole = 2
   width (filled a) = width a
@@ -78,11 +79,11 @@ abbrev mutual
   width (do_while a b s) = widths a + width b + 19
   width (while a b s) = width a + widths b + 14
   width (for a b c d s) = width a + optional_width b + optional_width c + widths d + 16
-  width (for_in is_var a b c s) = length a.text + width b + widths c + 20
+  width (for_in is_var a b c s) = most_bytes a.text + width b + widths c + 20
   width (continue a s) = optional_name_width a + 11
   width (break a s) = optional_name_width a + 8
   width (return a s) = optional_width a + 9
-  width (labelled a b s) = length a.text + width b + 3
+  width (labelled a b s) = most_bytes a.text + width b + 3
   width (switch a b s) = width a + widths b + 15
   width (throw a s) = width a + 8
   width (try a b c s) = widths a + optional_width b + optional_width c + 16
@@ -90,10 +91,10 @@ abbrev mutual
   width nothing = 0
   width (init_expression a) = width a
   width (init_var a) = widths a + 4
-  width (declarator a b) = length a.text + optional_width b + 3
+  width (declarator a b) = most_bytes a.text + optional_width b + 3
   width (case a b) = optional_width a + widths b + 10
   width (branch_of a) = widths a + 4
-  width (catch a b) = length a.text + widths b + 15
+  width (catch a b) = most_bytes a.text + widths b + 15
 
   pub widths : {S : Type 0} {x : Sort} → Forest S x → ℕ
   widths end = 0

@@ -1,0 +1,104 @@
+-- The text that `instrument` writes is read as the woven script, which runs alike.
+use Rattle.std.proofs.Common.{◌≡◌, ◌∙◌, ◌<◌, ◌^◌, ap, sym, subst, ℕ, List, Option, Some}
+use Rattle.std.specs.Prelude.{All}
+use Rattle.jl_ast.specs.Spans.{without_spans}
+use Rattle.jl_ast.specs.Tree.{Program}
+use Rattle.jl_command.specs.Asked.{asked, exec, instrument, trace}
+use Rattle.jl_op.specs.Chosen.{every_kind}
+use Rattle.jl_simulation.specs.Weaving.{woven_program}
+use Rattle.jl_text.specs.Encoding.{UnitsComeBack}
+use Rattle.jl_text.specs.declared.span.Span.{Span}
+use Rattle.jl_token.specs.Tokens.{Tokens}
+use Rattle.jl_app.specs.Accepting.{IsAccepted, IsRead, OneReading}
+use Rattle.jl_app.specs.Answers.{Due, IsAnswered, IsDue, IsInstrumented, IsTraced, IsTracedAlone, OnShelf, accepted}
+use Rattle.jl_app.specs.Answers.{ended_alone, ended_woven, instrumented, refused, text, traced, woven_budget}
+use Rattle.jl_app.specs.OwnRuns.{program_run}
+use Rattle.jl_app.specs.ReadBack.{IsReadBack}
+use Rattle.jl_app.specs.Refusals.{NeverBoth}
+use Rattle.jl_app.specs.StandsAlone.{StandsAlone, untouched}
+use Rattle.jl_app.specs.WovenText.{woven_text}
+use Rattle.jl_app.specs.declared.form.Form.TheVariants as forms
+use Rattle.jl_app.specs.inner.Woven.{ReadsBackAsWoven}
+use Rattle.jl_app.proofs.BytesOfUnits.{bytes_are_utf8}
+use Rattle.jl_app.proofs.OwnRun.{same_program_run}
+use Rattle.jl_app.proofs.Scripts.{of_source}
+
+-- What is known of an accepted script and its woven text.
+module _ (one : OneReading) (never : NeverBoth) (comes_back : UnitsComeBack) (bytes : List ℕ) (p : Program Span)
+    (is : IsAccepted bytes p)
+    (back : ReadsBackAsWoven every_kind p)
+    (small : All (λ u. u < 2 ^ 16) (woven_text every_kind p)) where
+  abbrev woven : List ℕ
+  woven = (instrumented p).bytes
+
+  -- what is read of its units is read of its bytes
+  of_units : (q : Program Span) → IsReadBack (woven_text every_kind p) q → IsRead forms.WovenText woven q
+  of_units q read = record {
+    short = back.few_bytes;
+    decoded = bytes_are_utf8 (woven_text every_kind p) small;
+    tokens = read.tokens;
+    lexed = subst (λ us. Tokens us read.tokens) (sym (comes_back (woven_text every_kind p) small back.paired)) read.lexed;
+    read = read.read;
+    sound = read.sound;
+  }
+
+  -- the answer to the run of the woven script
+  abbrev due : ℕ → Due
+  due budget = traced (program_run (woven_program every_kind p) (woven_budget budget)) (woven_budget budget)
+
+  same_due : (q : Program Span) (budget : ℕ) → IsRead forms.WovenText woven q
+      → traced (program_run q (woven_budget budget)) (woven_budget budget) ≡ due budget
+  same_due q budget read =
+      let program = one forms.WovenText woven q back.program read (of_units back.program back.read) in
+      ap (λ r. traced r (woven_budget budget))
+      (same_program_run p q (woven_budget budget)
+      (ap (λ (r : Program Span). without_spans r) program ∙ back.same back.program back.read))
+
+  as_exec : (budget : ℕ) (handed lent : List ℕ) (d : Due) → IsAnswered (trace budget) bytes (untouched handed lent) d
+      → IsAnswered (exec (woven_budget budget)) woven (untouched handed lent) d
+  as_exec budget handed lent _ (refused cause why same) = absurd (never forms.Script bytes p cause is why)
+  as_exec budget handed lent d (accepted q a (same, answer)) =
+      by_answer d (subst (λ r. IsTraced r budget d) (one forms.Script bytes q p a is) answer)
+    where
+      read : IsRead forms.WovenText woven back.program
+      read = of_units back.program back.read
+
+      by_answer : (x : Due) → IsTraced p budget x
+          → IsAnswered (exec (woven_budget budget)) woven (untouched handed lent) x
+      by_answer _ ended_woven =
+          subst (λ x. IsAnswered (exec (woven_budget budget)) woven (untouched handed lent) x)
+          (same_due back.program budget read)
+          (accepted back.program read (same, ended_alone))
+
+  as_trace : (budget : ℕ) (handed lent : List ℕ) (d : Due)
+      → IsAnswered (exec (woven_budget budget)) woven (untouched handed lent) d
+      → IsAnswered (trace budget) bytes (untouched handed lent) d
+  as_trace budget handed lent _ (refused cause why same) =
+      absurd (never forms.WovenText woven back.program cause (of_units back.program back.read) why)
+  as_trace budget handed lent d (accepted q read (same, answer)) = by_answer d answer
+    where
+      by_answer : (x : Due) → IsTracedAlone q (woven_budget budget) x
+          → IsAnswered (trace budget) bytes (untouched handed lent) x
+      by_answer _ ended_alone =
+          subst (λ x. IsAnswered (trace budget) bytes (untouched handed lent) x) (sym (same_due q budget read))
+          (accepted p is (same, ended_woven))
+
+  pub stands_alone : StandsAlone bytes p
+  stands_alone = record { as_trace = as_trace; as_exec = as_exec }
+
+-- Where `instrument` answered to an accepted script, the units of the text have 16 bits.
+module _ (one : OneReading) (never : NeverBoth) (bytes : List ℕ) (p : Program Span) (is : IsAccepted bytes p) where
+  small_of_answer : {shelf : OnShelf} (due : Due) → IsAnswered instrument bytes shelf due
+      → All (λ u. u < 2 ^ 16) (woven_text every_kind p)
+  small_of_answer _ (refused cause why same) = absurd (never forms.Script bytes p cause is why)
+  small_of_answer due (accepted q read (same, answer)) =
+      by_answer due (subst (λ r. IsInstrumented r due) (one forms.Script bytes q p read is) answer)
+    where
+      by_answer : (x : Due) → IsInstrumented p x → All (λ u. u < 2 ^ 16) (woven_text every_kind p)
+      by_answer _ (text small) = small
+
+  pub small_units : {words : List (List ℕ)} {held : Option (List ℕ)} {shelf : OnShelf} (due : Due)
+      → asked words ≡ Some instrument → held ≡ Some bytes → IsDue words held shelf due
+      → All (λ u. u < 2 ^ 16) (woven_text every_kind p)
+  small_units due words_are holds answer =
+      small_of_answer due (of_source instrument bytes due words_are tt holds answer)

@@ -1,0 +1,29 @@
+-- The text that `instrument` writes stands alone: `exec` answers to it what `trace` answers to the script.
+use Rattle.std.specs.Prelude.{ℕ, ◌<◌, ◌^◌, All, List}
+use Rattle.jl_ast.specs.Tree.{Program}
+use Rattle.jl_command.specs.Asked.{exec, trace}
+use Rattle.jl_op.specs.Chosen.{every_kind}
+use Rattle.jl_text.specs.declared.span.Span.{Span}
+use Rattle.jl_app.specs.Accepting.{IsAccepted}
+use Rattle.jl_app.specs.Answers.{Due, IsAnswered, OnShelf, instrumented, woven_budget}
+use Rattle.jl_app.specs.WovenText.{woven_text}
+
+-- a shelf that is as it was, with these texts
+abbrev pub untouched : (handed lent : List ℕ) → OnShelf
+untouched handed lent = record { handed = handed; lent = lent; same = Unit {0} }
+
+-- These bytes are read as the script p. What is due to `exec` on the bytes that `instrument` writes of it is due to
+-- `trace` on the script, where `exec` has the steps of the woven script; and what is due to `trace` is due to `exec`.
+pub record StandsAlone (bytes : List ℕ) (p : Program Span) : Type 0 where
+  pub as_trace : (budget : ℕ) (handed lent : List ℕ) (due : Due)
+      → IsAnswered (exec (woven_budget budget)) (instrumented p).bytes (untouched handed lent) due
+      → IsAnswered (trace budget) bytes (untouched handed lent) due
+  pub as_exec : (budget : ℕ) (handed lent : List ℕ) (due : Due)
+      → IsAnswered (trace budget) bytes (untouched handed lent) due
+      → IsAnswered (exec (woven_budget budget)) (instrumented p).bytes (untouched handed lent) due
+
+-- so it is of every accepted script, where the units of the text have 16 bits
+abbrev pub TextStandsAlone : Type 0
+TextStandsAlone =
+    (bytes : List ℕ) (p : Program Span) → IsAccepted bytes p → All (λ u. u < 2 ^ 16) (woven_text every_kind p)
+    → StandsAlone bytes p
