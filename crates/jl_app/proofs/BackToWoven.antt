@@ -1,6 +1,7 @@
 -- The text of the woven script is short enough to be read back, and reads back as the woven script.
-use Rattle.std.proofs.Common.{◌≡◌, ◌∙◌, ◌≤◌, ap, sym, subst, refl, arith, length, true, false, ℕ, List, Option, None, Some}
+use Rattle.std.proofs.Common.{◌≡◌, ◌∙◌, ◌<◌, ◌≤◌, ◌^◌, ap, sym, subst, refl, arith, length, true, false, ℕ, List, Option, None, Some}
 use Rattle.std.specs.Char.Utf16.{has_unpaired_surrogate}
+use Rattle.std.specs.Prelude.{All}
 use Rattle.jl_ast.specs.Spans.{without_spans}
 use Rattle.jl_ast.specs.Tree.{Program}
 use Rattle.jl_grammar.specs.Laws.{OneReading}
@@ -10,7 +11,7 @@ use Rattle.jl_print.proofs.WithoutPlaces.{same_text}
 use Rattle.jl_print.specs.Layout.{text_of}
 use Rattle.jl_read_back.specs.EarlyErrors.{FirstIsReservedName, IsReservedName}
 use Rattle.jl_read_back.proofs.Bytes.{units_within}
-use Rattle.jl_read_back.specs.Laws.{WovenReadsBack, WovenScriptIsBounded, WovenTextIsBounded}
+use Rattle.jl_read_back.specs.Laws.{WovenReadsBack, WovenScriptIsBounded, WovenScriptIsSmall, WovenTextIsBounded}
 use Rattle.jl_scope.specs.EarlyError.{first_early_error}
 use Rattle.jl_scope.specs.Kinds.{early, left_out, reserved_name, EarlyError}
 use Rattle.jl_simulation.specs.Weaving.{woven_program}
@@ -67,9 +68,18 @@ few_bytes bounded kinds bytes p is =
       few,
     )
 
-pub back_to_woven : WovenReadsBack → WovenTextIsBounded → WovenScriptIsBounded → FirstIsReservedName → OneReading → (kinds : Kinds)
+-- which are units of UTF-16
+small : WovenScriptIsSmall → (kinds : Kinds) (bytes : List ℕ) (p : Program Span) → IsAccepted bytes p
+    → All (λ u. u < 2 ^ 16) (woven_text kinds p)
+small law kinds bytes p is =
+    let placed = with_places (woven_program kinds p) in
+    let few = is.short in
+    subst (λ t. All (λ u. u < 2 ^ 16) t) (placed_text kinds p)
+    (law kinds bytes is.tokens 200 p placed.0 is.decoded is.lexed is.read (omega arith) placed.1)
+
+pub back_to_woven : WovenReadsBack → WovenTextIsBounded → WovenScriptIsBounded → WovenScriptIsSmall → FirstIsReservedName → OneReading → (kinds : Kinds)
     (bytes : List ℕ) (p : Program Span) → IsAccepted bytes p → ReadsBackAsWoven kinds p
-back_to_woven reads bounded bytes_bounded keeps one kinds bytes p is =
+back_to_woven reads bounded bytes_bounded units_small keeps one kinds bytes p is =
     let placed = with_places (woven_program kinds p) in
     let within = units_within bytes is.decoded in
     let few = is.short in
@@ -94,5 +104,6 @@ back_to_woven reads bounded bytes_bounded keeps one kinds bytes p is =
           (subst (λ ts. Reads ts 1000 q) tokens read.read) back.read in
           ap (λ (r : Program Span). without_spans r) program ∙ back.same ∙ placed.1;
       few_bytes = few_bytes bytes_bounded kinds bytes p is;
+      small = small units_small kinds bytes p is;
       paired = subst (λ t. has_unpaired_surrogate t ≡ false) text printed.paired;
     }

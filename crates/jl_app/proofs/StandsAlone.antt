@@ -1,17 +1,16 @@
 -- The text that `instrument` writes is read as the woven script, which runs alike.
-use Rattle.std.proofs.Common.{◌≡◌, ◌∙◌, ◌<◌, ◌^◌, ap, sym, subst, ℕ, List, Option, Some}
-use Rattle.std.specs.Prelude.{All}
+use Rattle.std.proofs.Common.{◌≡◌, ◌∙◌, ap, sym, subst, ℕ, List}
 use Rattle.jl_ast.specs.Spans.{without_spans}
 use Rattle.jl_ast.specs.Tree.{Program}
-use Rattle.jl_command.specs.Asked.{asked, exec, instrument, trace}
+use Rattle.jl_command.specs.Asked.{exec, trace}
 use Rattle.jl_op.specs.Chosen.{every_kind}
 use Rattle.jl_simulation.specs.Weaving.{woven_program}
 use Rattle.jl_text.specs.Encoding.{UnitsComeBack}
 use Rattle.jl_text.specs.declared.span.Span.{Span}
 use Rattle.jl_token.specs.Tokens.{Tokens}
 use Rattle.jl_app.specs.Accepting.{IsAccepted, IsRead, OneReading}
-use Rattle.jl_app.specs.Answers.{Due, IsAnswered, IsDue, IsInstrumented, IsTraced, IsTracedAlone, OnShelf, accepted}
-use Rattle.jl_app.specs.Answers.{ended_alone, ended_woven, instrumented, refused, text, traced, woven_budget}
+use Rattle.jl_app.specs.Answers.{Due, IsAnswered, IsTraced, IsTracedAlone, accepted, ended_alone, ended_woven}
+use Rattle.jl_app.specs.Answers.{instrumented, refused, traced, woven_budget}
 use Rattle.jl_app.specs.OwnRuns.{program_run}
 use Rattle.jl_app.specs.ReadBack.{IsReadBack}
 use Rattle.jl_app.specs.Refusals.{NeverBoth}
@@ -21,13 +20,10 @@ use Rattle.jl_app.specs.declared.form.Form.TheVariants as forms
 use Rattle.jl_app.specs.inner.Woven.{ReadsBackAsWoven}
 use Rattle.jl_app.proofs.BytesOfUnits.{bytes_are_utf8}
 use Rattle.jl_app.proofs.OwnRun.{same_program_run}
-use Rattle.jl_app.proofs.Scripts.{of_source}
 
 -- What is known of an accepted script and its woven text.
 module _ (one : OneReading) (never : NeverBoth) (comes_back : UnitsComeBack) (bytes : List ℕ) (p : Program Span)
-    (is : IsAccepted bytes p)
-    (back : ReadsBackAsWoven every_kind p)
-    (small : All (λ u. u < 2 ^ 16) (woven_text every_kind p)) where
+    (is : IsAccepted bytes p) (back : ReadsBackAsWoven every_kind p) where
   abbrev woven : List ℕ
   woven = (instrumented p).bytes
 
@@ -35,9 +31,9 @@ module _ (one : OneReading) (never : NeverBoth) (comes_back : UnitsComeBack) (by
   of_units : (q : Program Span) → IsReadBack (woven_text every_kind p) q → IsRead forms.WovenText woven q
   of_units q read = record {
     short = back.few_bytes;
-    decoded = bytes_are_utf8 (woven_text every_kind p) small;
+    decoded = bytes_are_utf8 (woven_text every_kind p) back.small;
     tokens = read.tokens;
-    lexed = subst (λ us. Tokens us read.tokens) (sym (comes_back (woven_text every_kind p) small back.paired)) read.lexed;
+    lexed = subst (λ us. Tokens us read.tokens) (sym (comes_back (woven_text every_kind p) back.small back.paired)) read.lexed;
     read = read.read;
     sound = read.sound;
   }
@@ -85,20 +81,3 @@ module _ (one : OneReading) (never : NeverBoth) (comes_back : UnitsComeBack) (by
 
   pub stands_alone : StandsAlone bytes p
   stands_alone = record { as_trace = as_trace; as_exec = as_exec }
-
--- Where `instrument` answered to an accepted script, the units of the text have 16 bits.
-module _ (one : OneReading) (never : NeverBoth) (bytes : List ℕ) (p : Program Span) (is : IsAccepted bytes p) where
-  small_of_answer : {shelf : OnShelf} (due : Due) → IsAnswered instrument bytes shelf due
-      → All (λ u. u < 2 ^ 16) (woven_text every_kind p)
-  small_of_answer _ (refused cause why same) = absurd (never forms.Script bytes p cause is why)
-  small_of_answer due (accepted q read (same, answer)) =
-      by_answer due (subst (λ r. IsInstrumented r due) (one forms.Script bytes q p read is) answer)
-    where
-      by_answer : (x : Due) → IsInstrumented p x → All (λ u. u < 2 ^ 16) (woven_text every_kind p)
-      by_answer _ (text small) = small
-
-  pub small_units : {words : List (List ℕ)} {held : Option (List ℕ)} {shelf : OnShelf} (due : Due)
-      → asked words ≡ Some instrument → held ≡ Some bytes → IsDue words held shelf due
-      → All (λ u. u < 2 ^ 16) (woven_text every_kind p)
-  small_units due words_are holds answer =
-      small_of_answer due (of_source instrument bytes due words_are tt holds answer)

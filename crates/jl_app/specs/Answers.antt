@@ -1,5 +1,5 @@
 -- What is due to a list of words, and to a script.
-use Rattle.std.specs.Prelude.{◌≡◌, ℕ, ◌+◌, ◌*◌, ◌<◌, ◌^◌, All, List, [], ◌∷◌, ◌++◌, Option, Some, None, IfSome}
+use Rattle.std.specs.Prelude.{◌≡◌, ℕ, ◌+◌, ◌*◌, ◌<◌, ◌^◌, List, [], ◌∷◌, ◌++◌, Option, Some, None, IfSome}
 use Rattle.std.specs.Prelude.{codes, length}
 use Rattle.std.specs.Fmt.{decimal}
 use Rattle.jl_ast.specs.Table.{table}
@@ -132,9 +132,9 @@ pub data IsPrinted (p : Program Span) : Due → Type 0 where
 abbrev pub instrumented : Program Span → Due
 instrumented p = record { status = status.Clean; bytes = bytes_of (woven_text every_kind p); told = [] }
 
--- what `instrument` answers to it; the units of the text have 16 bits
+-- what `instrument` answers to it
 pub data IsInstrumented (p : Program Span) : Due → Type 0 where
-  text : All (λ u. u < 2 ^ 16) (woven_text every_kind p) → IsInstrumented p (instrumented p)
+  text : IsInstrumented p (instrumented p)
 
 -- the lines of the map of a program that a source of these units is read as
 abbrev pub listed_map : (units : List ℕ) → Program Span → Due

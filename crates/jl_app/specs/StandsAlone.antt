@@ -1,12 +1,10 @@
 -- The text that `instrument` writes stands alone: `exec` answers to it what `trace` answers to the script.
-use Rattle.std.specs.Prelude.{ℕ, ◌<◌, ◌^◌, All, List}
+use Rattle.std.specs.Prelude.{ℕ, List}
 use Rattle.jl_ast.specs.Tree.{Program}
 use Rattle.jl_command.specs.Asked.{exec, trace}
-use Rattle.jl_op.specs.Chosen.{every_kind}
 use Rattle.jl_text.specs.declared.span.Span.{Span}
 use Rattle.jl_app.specs.Accepting.{IsAccepted}
 use Rattle.jl_app.specs.Answers.{Due, IsAnswered, OnShelf, instrumented, woven_budget}
-use Rattle.jl_app.specs.WovenText.{woven_text}
 
 -- a shelf that is as it was, with these texts
 abbrev pub untouched : (handed lent : List ℕ) → OnShelf
@@ -22,8 +20,6 @@ pub record StandsAlone (bytes : List ℕ) (p : Program Span) : Type 0 where
       → IsAnswered (trace budget) bytes (untouched handed lent) due
       → IsAnswered (exec (woven_budget budget)) (instrumented p).bytes (untouched handed lent) due
 
--- so it is of every accepted script, where the units of the text have 16 bits
+-- so it is of every accepted script
 abbrev pub TextStandsAlone : Type 0
-TextStandsAlone =
-    (bytes : List ℕ) (p : Program Span) → IsAccepted bytes p → All (λ u. u < 2 ^ 16) (woven_text every_kind p)
-    → StandsAlone bytes p
+TextStandsAlone = (bytes : List ℕ) (p : Program Span) → IsAccepted bytes p → StandsAlone bytes p

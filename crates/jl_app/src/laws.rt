@@ -14,6 +14,7 @@ use jl_meaning::laws::{kept_hooks, more_budget};
 use jl_quiet::laws::quiet_means;
 use jl_read_back::laws::{
     woven_bytes_are_bounded, woven_keeps_rules, woven_reads_back, woven_text_is_bounded,
+    woven_units_are_small,
 };
 use jl_safety::laws::{quietly_never_misuses, woven_never_misuses};
 use jl_simulation::laws::accepted_scripts_simulate;
@@ -48,6 +49,7 @@ pub(crate) fn scripts_are_woven_well()
     woven_reads_back();
     woven_text_is_bounded();
     woven_bytes_are_bounded();
+    woven_units_are_small();
     woven_keeps_rules();
 }
 
@@ -62,7 +64,7 @@ pub fn accepted_scripts_run_without_misuse()
 }
 
 /// What is due to `exec` on the bytes that `instrument` writes of an accepted script is due to `trace` on the script,
-/// and the other way round, with the steps that the woven script has, where the units of the text have 16 bits.
+/// and the other way round, where `exec` has the steps of the woven script.
 pub fn text_stands_alone()
     ensures { TextStandsAlone }
 {

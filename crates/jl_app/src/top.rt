@@ -224,10 +224,10 @@ pub fn jlint<S: Source, K: Sink, H: Shelf>(
     // than the shelf was handed.
     ensures no_misuse { (a : Asked) (bytes : List ℕ) (p : Tree Span) → asked (texts words.now) ≡ Some a
         → IsScriptFor (S.left source.old) a bytes → IsAccepted bytes p → RunsWithoutMisuse a p }
-    // What `instrument` wrote of an accepted script can be kept without the script: what is due to `exec` on these bytes
+    // What `instrument` writes of an accepted script can be kept without the script: what is due to `exec` on these bytes
     // is what is due to `trace` on the script.
     ensures stands_alone { (bytes : List ℕ) (p : Tree Span) → asked (texts words.now) ≡ Some instrument
-        → S.left source.old ≡ Some bytes → IsAccepted bytes p → HasAnswered result → StandsAlone bytes p }
+        → S.left source.old ≡ Some bytes → IsAccepted bytes p → StandsAlone bytes p }
     ensures unread { ((a : Asked) → asked (texts words.now) ≡ Some a → ReadsSource a → ⊥) → source.new ≡ source.old }
     ensures shelf { ((a : Asked) (budget : ℕ) (chosen : List ℕ) → asked (texts words.now) ≡ Some a
         → Reports a budget chosen → ⊥) → shelf.new ≡ shelf.old }

@@ -1,7 +1,6 @@
 -- How many units tokens are long at least: together no more than their text.
 use Rattle.std.proofs.Common.{◌≡◌, ℕ, zero, suc, ◌+◌, ◌≤◌, Bool, true, false, ◌||◌, refl, ap, sym, ◌∙◌, subst}
 use Rattle.std.proofs.Common.{List, [], ◌∷◌, length, Option, Some, None, arith}
-use Rattle.std.proofs.lemmas.List.{length-append}
 use Rattle.std.specs.Prelude.{codes, if◌then◌else◌}
 use Rattle.jl_ast.specs.Tree.{Text}
 use Rattle.jl_ast.specs.declared.ops.BinOp.{BinOp}
@@ -15,6 +14,7 @@ use Rattle.jl_grammar.specs.Terminals.{name_terminal, terminal_of}
 use Rattle.jl_grammar.specs.Tokens.{key_at, terminal_at, text_at}
 use Rattle.jl_grammar.specs.Words.{same_text, word_of}
 use Rattle.jl_num.specs.Digits.{number_text}
+use Rattle.jl_token.specs.Characters.{hex_from, hex_number}
 use Rattle.jl_token.specs.Elements.{block_comment, carriage_return_line_feed, continuation, digits, escaped}
 use Rattle.jl_token.specs.Elements.{from_point, hex, hex_escape, identifier_name, itself, line_comment, line_terminator}
 use Rattle.jl_token.specs.Elements.{long_continuation, minus, name, name_text, no_exponent, no_more, no_sign}
@@ -31,61 +31,19 @@ use Rattle.jl_token.specs.declared.punct.Punct.TheVariants as puncts
 use Rattle.jl_token.specs.declared.token.Token.{Token}
 use Rattle.jl_token.specs.declared.token.TokenKind.{TokenKind}
 use Rattle.jl_token.specs.declared.token.TokenKind.TheVariants as kinds
+use Rattle.jl_read_back.specs.inner.Bytes.{excess, text_weight}
 use Rattle.jl_read_back.specs.inner.Weight.{assigning_weight, key_weight, name_weight}
+use Rattle.jl_read_back.proofs.Bytes.{excess_none, long_weight, weight_append}
 use Rattle.jl_read_back.proofs.Digits.{value_few}
-
-abbrev least : TokenKind → ℕ
-least (kinds.Name t e) = name_weight t
-least (kinds.Punct p) = length (punctuator_units p)
-least (kinds.Number n) = key_weight (number_text n 10)
-least (kinds.Str t e) = length t + 2
-
--- those before a place, and one for each place past the last one
-abbrev pub before : List Token → ℕ → ℕ
-before [] i = i
-before (t ∷ ts) zero = 0
-before (t ∷ ts) (suc i) = least t.kind + before ts i
+use Rattle.jl_read_back.proofs.Escapes.{four_small, single_small, two_small}
 
 punct_one : (p : Punct) → 1 ≤ length (punctuator_units p)
 punct_one puncts.LeftBrace = omega arith
 punct_one _ = omega arith
 
-least_one : (k : TokenKind) → 1 ≤ least k
-least_one (kinds.Name t e) = omega arith
-least_one (kinds.Punct p) = punct_one p
-least_one (kinds.Number n) = omega arith
-least_one (kinds.Str t e) = omega arith
-
-pub one : (ts : List Token) (i : ℕ) → before ts i + 1 ≤ before ts (suc i)
-one [] i = omega arith
-one (t ∷ ts) zero = let a = least_one t.kind in omega arith
-one (t ∷ ts) (suc i) = let a = one ts i in omega arith
-
 -- one token of a kind
 abbrev only : TokenKind → List Token
 only k = record { kind = k; span = record { from = 0; to = 0 }; line_before = false } ∷ []
-
-kind_named : (k : TokenKind) → name_weight (text_at (only k) 0) ≤ least k
-kind_named (kinds.Name t e) = omega arith
-kind_named (kinds.Punct p) = let a = punct_one p in omega arith
-kind_named (kinds.Number n) = omega arith
-kind_named (kinds.Str t e) = omega arith
-
-pub named : (ts : List Token) (i : ℕ) → before ts i + name_weight (text_at ts i) ≤ before ts (suc i)
-named [] i = omega arith
-named (t ∷ ts) zero = let a = kind_named t.kind in omega arith
-named (t ∷ ts) (suc i) = let a = named ts i in omega arith
-
-kind_keyed : (k : TokenKind) → key_weight (key_at (only k) 0) ≤ least k
-kind_keyed (kinds.Name t e) = omega arith
-kind_keyed (kinds.Punct p) = let a = punct_one p in omega arith
-kind_keyed (kinds.Number n) = omega arith
-kind_keyed (kinds.Str t e) = omega arith
-
-pub keyed : (ts : List Token) (i : ℕ) → before ts i + key_weight (key_at ts i) ≤ before ts (suc i)
-keyed [] i = omega arith
-keyed (t ∷ ts) zero = let a = kind_keyed t.kind in omega arith
-keyed (t ∷ ts) (suc i) = let a = keyed ts i in omega arith
 
 -- no name is a punctuator
 no_punct : (t : Text) (e : Bool) (p : Punct) → name_terminal t e ≡ terminals.Punct p → ⊥
@@ -116,28 +74,12 @@ same_length : (p q : Punct) → terminals.Punct p ≡ terminals.Punct q
     → length (punctuator_units q) ≤ length (punctuator_units p)
 same_length p q e = let f : p ≡ q = cc in let g = ap (λ r. length (punctuator_units r)) f in omega arith
 
-kind_punct : (k : TokenKind) (p : Punct) → terminal_of k ≡ terminals.Punct p → length (punctuator_units p) ≤ least k
-kind_punct (kinds.Name t e) p h = absurd (no_punct t e p h)
-kind_punct (kinds.Punct q) p h = same_length q p h
-kind_punct (kinds.Number n) p h = absurd (cc)
-kind_punct (kinds.Str t e) p h = absurd (cc)
-
-punct_at : (ts : List Token) (i : ℕ) (p : Punct) → terminal_at ts i ≡ terminals.Punct p
-    → before ts i + length (punctuator_units p) ≤ before ts (suc i)
-punct_at [] i p h = absurd (cc)
-punct_at (t ∷ ts) zero p h = let a = kind_punct t.kind p h in omega arith
-punct_at (t ∷ ts) (suc i) p h = let a = punct_at ts i p h in omega arith
-
 -- `++` and `--` are two units long
 update_punct : (x : Terminal) (up : Bool) → update_operator x ≡ Some up
     → (p : Punct) × (x ≡ terminals.Punct p) × (2 ≤ length (punctuator_units p))
 update_punct (terminals.Punct puncts.PlusPlus) up e = (puncts.PlusPlus, refl, omega arith)
 update_punct (terminals.Punct puncts.MinusMinus) up e = (puncts.MinusMinus, refl, omega arith)
 update_punct _ up e = absurd (cc)
-
-pub updates : (ts : List Token) (i : ℕ) (up : Bool) → UpdateAt ts i up → before ts i + 2 ≤ before ts (suc i)
-updates ts i up h =
-    let p = update_punct (terminal_at ts i) up h.is in let a = punct_at ts i p.0 p.1 in let b = p.2 in omega arith
 
 -- and so is an operator that computes and assigns, at least
 light : (a o : Option BinOp) (n : ℕ) → assigning_weight a ≤ n → Some a ≡ Some o → assigning_weight o ≤ n
@@ -170,98 +112,6 @@ assign_punct (terminals.Punct puncts.CaretAssign) o e =
     (puncts.CaretAssign, refl, light (Some ops.BitXor) o _ (omega arith) e)
 assign_punct _ o e = absurd (cc)
 
-pub assigns : (ts : List Token) (i : ℕ) (o : Option BinOp) → AssignsAt ts i o
-    → before ts i + assigning_weight o ≤ before ts (suc i)
-assigns ts i o h =
-    let p = assign_punct (terminal_at ts i) o h.is in let a = punct_at ts i p.0 p.1 in let b = p.2 in omega arith
-
--- what an element takes from the units
-units_long : {allowed : ℕ → Bool} {us xs rest : List ℕ} → Many (OneUnit allowed) us xs rest → length rest ≤ length us
-units_long no_more = omega arith
-units_long (one_more (unit e) b) = let r = units_long b in omega arith
-
-closed_long : {us xs rest : List ℕ} → Many BeforeClose us xs rest → length rest ≤ length us
-closed_long no_more = omega arith
-closed_long (one_more (before_close e) b) = let r = closed_long b in omega arith
-
-letter_long : {allowed : ℕ → Bool} {us rest : List ℕ} {x : ℕ × Bool} → Letter allowed us x rest
-    → 1 + length rest ≤ length us
-letter_long (itself e) = omega arith
-letter_long (escaped e f) = omega arith
-
-letters_long : {allowed : ℕ → Bool} {us rest : List ℕ} {xs : List (ℕ × Bool)} → Many (Letter allowed) us xs rest
-    → length (name_text xs) + length rest ≤ length us
-letters_long no_more = omega arith
-letters_long (one_more a b) = let q = letter_long a in let r = letters_long b in omega arith
-
-name_long : {us rest : List ℕ} {xs : List (ℕ × Bool)} → Name us xs rest
-    → name_weight (name_text xs) + length rest ≤ length us
-name_long (name a b) = let q = letter_long a in let r = letters_long b in omega arith
-
-character_long : {mark : ℕ} {us rest : List ℕ} {c : List ℕ × Bool} → Character mark us c rest
-    → length c.0 + length rest ≤ length us
-character_long (plain e) = omega arith
-character_long (single e) = omega arith
-character_long (non_escape e) = omega arith
-character_long (null e) = omega arith
-character_long (hex_escape e) = omega arith
-character_long (unicode_escape e) = omega arith
-character_long (continuation e f) = omega arith
-character_long long_continuation = omega arith
-
-characters_long : {mark : ℕ} {us rest : List ℕ} {cs : List (List ℕ × Bool)} → Many (Character mark) us cs rest
-    → length (string_text cs) + length rest ≤ length us
-characters_long no_more = omega arith
-characters_long (one_more {a = c} {xs = cs} a b) =
-    let q = character_long a in let r = characters_long b in let e = length-append c.0 (string_text cs) in omega arith
-
-string_long : {us rest : List ℕ} {cs : List (List ℕ × Bool)} → StringLiteral us cs rest
-    → length (string_text cs) + 2 + length rest ≤ length us
-string_long (string e m) = let r = characters_long m in omega arith
-
-digits_long : {allowed : ℕ → Bool} {us xs rest : List ℕ} → Digits allowed us xs rest → 1 + length rest ≤ length us
-digits_long (digits (unit e) b) = let r = units_long b in omega arith
-
-whole_long : {us xs rest : List ℕ} → WholeDigits us xs rest → 1 + length rest ≤ length us
-whole_long zero_digit = omega arith
-whole_long (nonzero e d) = digits_long d
-
-exponent_long : {us rest : List ℕ} {r l : ℕ} → Exponent us r l rest → length rest ≤ length us
-exponent_long no_exponent = omega arith
-exponent_long (no_sign e d) = let r = digits_long d in omega arith
-exponent_long (plus e d) = let r = digits_long d in omega arith
-exponent_long (minus e d) = let r = digits_long d in omega arith
-
-numeral_long : {us rest : List ℕ} {m r l : ℕ} → Numeral us m r l rest → 1 + length rest ≤ length us
-numeral_long (whole a b) = let p = whole_long a in let q = exponent_long b in omega arith
-numeral_long (with_point a b c) =
-    let p = whole_long a in let q = units_long b in let r = exponent_long c in omega arith
-numeral_long (from_point a b) = let p = digits_long a in let q = exponent_long b in omega arith
-numeral_long (hex e d) = let r = digits_long d in omega arith
-
-word_long : {us rest : List ℕ} {k : TokenKind} → Front us (Word k) rest → least k + length rest ≤ length us
-word_long (identifier_name a b) = name_long a
-word_long {us} {rest} (punctuator p e) =
-    let a = ap length e in let b = length-append (punctuator_units p) rest in omega arith
-word_long (numeric_literal {n = n} a b) =
-    let p = numeral_long a in let q = value_few n b.inside in omega arith
-word_long (string_literal a b) = string_long a
-
-front_long : {us rest : List ℕ} {e : Element} → Front us e rest → length rest ≤ length us
-front_long (white_space e) = omega arith
-front_long (line_terminator e) = omega arith
-front_long carriage_return_line_feed = omega arith
-front_long (line_comment a) = let p = units_long a in omega arith
-front_long (block_comment a) = let p = closed_long a in omega arith
-front_long (identifier_name a b) = let p = name_long a in omega arith
-front_long {us} {rest} (punctuator p e) =
-    let a = ap length e in let b = length-append (punctuator_units p) rest in omega arith
-front_long (numeric_literal a b) = let p = numeral_long a in omega arith
-front_long (string_literal a b) = let p = string_long a in omega arith
-
-abbrev all_before : List Token → ℕ
-all_before ts = before ts (length ts)
-
 -- the element of a piece
 abbrev element_of : Piece → Element
 element_of (piece e i j) = e
@@ -269,21 +119,186 @@ element_of (piece e i j) = e
 formed : {text us rest : List ℕ} {p : Piece} → OnePiece text us p rest → Front us (element_of p) rest
 formed (one_piece a) = a.formed
 
-among_long : (text : List ℕ) (line : Bool) {us rest : List ℕ} (ps : List Piece)
-    → Many (OnePiece text) us ps rest → all_before (tokens_among line ps) + length rest ≤ length us
-among_long text line [] no_more = omega arith
-among_long text line (piece White i j ∷ ps) (one_more a b) =
-    let p = front_long (formed a) in let q = among_long text line ps b in omega arith
-among_long text line (piece LineEnd i j ∷ ps) (one_more a b) =
-    let p = front_long (formed a) in let q = among_long text true ps b in omega arith
-among_long text line (piece LineComment i j ∷ ps) (one_more a b) =
-    let p = front_long (formed a) in let q = among_long text line ps b in omega arith
-among_long text line (piece (BlockComment l) i j ∷ ps) (one_more a b) =
-    let p = front_long (formed a) in let q = among_long text (line || l) ps b in omega arith
-among_long text line (piece (Word k) i j ∷ ps) (one_more a b) =
-    let p = word_long (formed a) in let q = among_long text false ps b in omega arith
+module _ (heavy : ℕ) where
+  abbrev least : TokenKind → ℕ
+  least (kinds.Name t e) = name_weight heavy t
+  least (kinds.Punct p) = length (punctuator_units p)
+  least (kinds.Number n) = key_weight heavy (number_text n 10)
+  least (kinds.Str t e) = text_weight heavy t + 2
 
-pub long : (text : List ℕ) (ts : List Token) → Tokens text ts → before ts (length ts) ≤ length text
-long text ts h =
-    let a = among_long text false h.pieces h.splits in
-    subst (λ us. all_before us ≤ length text) (sym h.are) (omega arith)
+  -- those before a place, and one for each place past the last one
+  abbrev pub before : List Token → ℕ → ℕ
+  before [] i = i
+  before (t ∷ ts) zero = 0
+  before (t ∷ ts) (suc i) = least t.kind + before ts i
+
+  least_one : (k : TokenKind) → 1 ≤ least k
+  least_one (kinds.Name t e) = omega arith
+  least_one (kinds.Punct p) = punct_one p
+  least_one (kinds.Number n) = omega arith
+  least_one (kinds.Str t e) = omega arith
+
+  pub one : (ts : List Token) (i : ℕ) → before ts i + 1 ≤ before ts (suc i)
+  one [] i = omega arith
+  one (t ∷ ts) zero = let a = least_one t.kind in omega arith
+  one (t ∷ ts) (suc i) = let a = one ts i in omega arith
+
+  kind_named : (k : TokenKind) → name_weight heavy (text_at (only k) 0) ≤ least k
+  kind_named (kinds.Name t e) = omega arith
+  kind_named (kinds.Punct p) = let a = punct_one p in omega arith
+  kind_named (kinds.Number n) = omega arith
+  kind_named (kinds.Str t e) = omega arith
+
+  pub named : (ts : List Token) (i : ℕ) → before ts i + name_weight heavy (text_at ts i) ≤ before ts (suc i)
+  named [] i = omega arith
+  named (t ∷ ts) zero = let a = kind_named t.kind in omega arith
+  named (t ∷ ts) (suc i) = let a = named ts i in omega arith
+
+  kind_keyed : (k : TokenKind) → key_weight heavy (key_at (only k) 0) ≤ least k
+  kind_keyed (kinds.Name t e) = omega arith
+  kind_keyed (kinds.Punct p) = let a = punct_one p in omega arith
+  kind_keyed (kinds.Number n) = omega arith
+  kind_keyed (kinds.Str t e) = omega arith
+
+  pub keyed : (ts : List Token) (i : ℕ) → before ts i + key_weight heavy (key_at ts i) ≤ before ts (suc i)
+  keyed [] i = omega arith
+  keyed (t ∷ ts) zero = let a = kind_keyed t.kind in omega arith
+  keyed (t ∷ ts) (suc i) = let a = keyed ts i in omega arith
+
+  kind_punct : (k : TokenKind) (p : Punct) → terminal_of k ≡ terminals.Punct p → length (punctuator_units p) ≤ least k
+  kind_punct (kinds.Name t e) p h = absurd (no_punct t e p h)
+  kind_punct (kinds.Punct q) p h = same_length q p h
+  kind_punct (kinds.Number n) p h = absurd (cc)
+  kind_punct (kinds.Str t e) p h = absurd (cc)
+
+  punct_at : (ts : List Token) (i : ℕ) (p : Punct) → terminal_at ts i ≡ terminals.Punct p
+      → before ts i + length (punctuator_units p) ≤ before ts (suc i)
+  punct_at [] i p h = absurd (cc)
+  punct_at (t ∷ ts) zero p h = let a = kind_punct t.kind p h in omega arith
+  punct_at (t ∷ ts) (suc i) p h = let a = punct_at ts i p h in omega arith
+
+  pub updates : (ts : List Token) (i : ℕ) (up : Bool) → UpdateAt ts i up → before ts i + 2 ≤ before ts (suc i)
+  updates ts i up h =
+      let p = update_punct (terminal_at ts i) up h.is in let a = punct_at ts i p.0 p.1 in let b = p.2 in omega arith
+
+  pub assigns : (ts : List Token) (i : ℕ) (o : Option BinOp) → AssignsAt ts i o
+      → before ts i + assigning_weight o ≤ before ts (suc i)
+  assigns ts i o h =
+      let p = assign_punct (terminal_at ts i) o h.is in let a = punct_at ts i p.0 p.1 in let b = p.2 in omega arith
+
+  -- what an element takes from the units
+  units_long : {allowed : ℕ → Bool} {us xs rest : List ℕ} → Many (OneUnit allowed) us xs rest
+      → text_weight heavy rest ≤ text_weight heavy us
+  units_long no_more = omega arith
+  units_long (one_more (unit e) b) = let r = units_long b in omega arith
+
+  closed_long : {us xs rest : List ℕ} → Many BeforeClose us xs rest → text_weight heavy rest ≤ text_weight heavy us
+  closed_long no_more = omega arith
+  closed_long (one_more (before_close e) b) = let r = closed_long b in omega arith
+
+  letter_long : {allowed : ℕ → Bool} {us rest : List ℕ} {x : ℕ × Bool} → Letter allowed us x rest
+      → 1 + excess heavy x.0 + text_weight heavy rest ≤ text_weight heavy us
+  letter_long (itself e) = omega arith
+  letter_long (escaped {a} {b} {c} {d} e f) =
+      let q = excess_none heavy (hex_number a b c d) (four_small a b c d e) in omega arith
+
+  letters_long : {allowed : ℕ → Bool} {us rest : List ℕ} {xs : List (ℕ × Bool)} → Many (Letter allowed) us xs rest
+      → text_weight heavy (name_text xs) + text_weight heavy rest ≤ text_weight heavy us
+  letters_long no_more = omega arith
+  letters_long (one_more a b) = let q = letter_long a in let r = letters_long b in omega arith
+
+  name_long : {us rest : List ℕ} {xs : List (ℕ × Bool)} → Name us xs rest
+      → name_weight heavy (name_text xs) + text_weight heavy rest ≤ text_weight heavy us
+  name_long (name a b) = let q = letter_long a in let r = letters_long b in omega arith
+
+  character_long : {mark : ℕ} {us rest : List ℕ} {c : List ℕ × Bool} → Character mark us c rest
+      → text_weight heavy c.0 + text_weight heavy rest ≤ text_weight heavy us
+  character_long (plain e) = omega arith
+  character_long (single {u} {v} e) = let q = excess_none heavy v (single_small u v e) in omega arith
+  character_long (non_escape e) = omega arith
+  character_long (null e) = omega arith
+  character_long (hex_escape {a} {b} e) =
+      let q = excess_none heavy (hex_from 0 (a ∷ b ∷ [])) (two_small a b e) in omega arith
+  character_long (unicode_escape {a} {b} {c} {d} e) =
+      let q = excess_none heavy (hex_number a b c d) (four_small a b c d e) in omega arith
+  character_long (continuation e f) = omega arith
+  character_long long_continuation = omega arith
+
+  characters_long : {mark : ℕ} {us rest : List ℕ} {cs : List (List ℕ × Bool)} → Many (Character mark) us cs rest
+      → text_weight heavy (string_text cs) + text_weight heavy rest ≤ text_weight heavy us
+  characters_long no_more = omega arith
+  characters_long (one_more {a = c} {xs = cs} a b) =
+      let q = character_long a in let r = characters_long b in let e = weight_append heavy c.0 (string_text cs) in
+      omega arith
+
+  string_long : {us rest : List ℕ} {cs : List (List ℕ × Bool)} → StringLiteral us cs rest
+      → text_weight heavy (string_text cs) + 2 + text_weight heavy rest ≤ text_weight heavy us
+  string_long (string e m) = let r = characters_long m in omega arith
+
+  digits_long : {allowed : ℕ → Bool} {us xs rest : List ℕ} → Digits allowed us xs rest
+      → 1 + text_weight heavy rest ≤ text_weight heavy us
+  digits_long (digits (unit e) b) = let r = units_long b in omega arith
+
+  whole_long : {us xs rest : List ℕ} → WholeDigits us xs rest → 1 + text_weight heavy rest ≤ text_weight heavy us
+  whole_long zero_digit = omega arith
+  whole_long (nonzero e d) = digits_long d
+
+  exponent_long : {us rest : List ℕ} {r l : ℕ} → Exponent us r l rest → text_weight heavy rest ≤ text_weight heavy us
+  exponent_long no_exponent = omega arith
+  exponent_long (no_sign e d) = let r = digits_long d in omega arith
+  exponent_long (plus e d) = let r = digits_long d in omega arith
+  exponent_long (minus e d) = let r = digits_long d in omega arith
+
+  numeral_long : {us rest : List ℕ} {m r l : ℕ} → Numeral us m r l rest
+      → 1 + text_weight heavy rest ≤ text_weight heavy us
+  numeral_long (whole a b) = let p = whole_long a in let q = exponent_long b in omega arith
+  numeral_long (with_point a b c) =
+      let p = whole_long a in let q = units_long b in let r = exponent_long c in omega arith
+  numeral_long (from_point a b) = let p = digits_long a in let q = exponent_long b in omega arith
+  numeral_long (hex e d) = let r = digits_long d in omega arith
+
+  word_long : {us rest : List ℕ} {k : TokenKind} → Front us (Word k) rest
+      → least k + text_weight heavy rest ≤ text_weight heavy us
+  word_long (identifier_name a b) = name_long a
+  word_long {us} {rest} (punctuator p e) =
+      let a = ap (text_weight heavy) e in let b = weight_append heavy (punctuator_units p) rest in
+      let c = long_weight heavy (punctuator_units p) in omega arith
+  word_long (numeric_literal {n = n} a b) =
+      let p = numeral_long a in let q = value_few heavy n b.inside in omega arith
+  word_long (string_literal a b) = string_long a
+
+  front_long : {us rest : List ℕ} {e : Element} → Front us e rest → text_weight heavy rest ≤ text_weight heavy us
+  front_long (white_space e) = omega arith
+  front_long (line_terminator e) = omega arith
+  front_long carriage_return_line_feed = omega arith
+  front_long (line_comment a) = let p = units_long a in omega arith
+  front_long (block_comment a) = let p = closed_long a in omega arith
+  front_long (identifier_name a b) = let p = name_long a in omega arith
+  front_long {us} {rest} (punctuator p e) =
+      let a = ap (text_weight heavy) e in let b = weight_append heavy (punctuator_units p) rest in
+      let c = long_weight heavy (punctuator_units p) in omega arith
+  front_long (numeric_literal a b) = let p = numeral_long a in omega arith
+  front_long (string_literal a b) = let p = string_long a in omega arith
+
+  abbrev all_before : List Token → ℕ
+  all_before ts = before ts (length ts)
+
+  among_long : (text : List ℕ) (line : Bool) {us rest : List ℕ} (ps : List Piece)
+      → Many (OnePiece text) us ps rest
+      → all_before (tokens_among line ps) + text_weight heavy rest ≤ text_weight heavy us
+  among_long text line [] no_more = omega arith
+  among_long text line (piece White i j ∷ ps) (one_more a b) =
+      let p = front_long (formed a) in let q = among_long text line ps b in omega arith
+  among_long text line (piece LineEnd i j ∷ ps) (one_more a b) =
+      let p = front_long (formed a) in let q = among_long text true ps b in omega arith
+  among_long text line (piece LineComment i j ∷ ps) (one_more a b) =
+      let p = front_long (formed a) in let q = among_long text line ps b in omega arith
+  among_long text line (piece (BlockComment l) i j ∷ ps) (one_more a b) =
+      let p = front_long (formed a) in let q = among_long text (line || l) ps b in omega arith
+  among_long text line (piece (Word k) i j ∷ ps) (one_more a b) =
+      let p = word_long (formed a) in let q = among_long text false ps b in omega arith
+
+  pub long : (text : List ℕ) (ts : List Token) → Tokens text ts → before ts (length ts) ≤ text_weight heavy text
+  long text ts h =
+      let a = among_long text false h.pieces h.splits in
+      subst (λ us. all_before us ≤ text_weight heavy text) (sym h.are) (omega arith)

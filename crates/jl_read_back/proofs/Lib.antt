@@ -17,6 +17,8 @@ pub mod EarlyForms
 pub mod EarlyWoven
 pub mod Early
 pub mod Bytes
+pub mod Units
+pub mod Escapes
 pub mod Spelled
 pub mod Digits
 pub mod Wide

@@ -1,5 +1,5 @@
 -- The woven script, with any places, reads back from its canonical text.
-use Rattle.std.specs.Prelude.{◌≡◌, ◌+◌, ◌*◌, ◌<◌, ◌≤◌, false, ℕ, List, length}
+use Rattle.std.specs.Prelude.{◌≡◌, ◌+◌, ◌*◌, ◌^◌, ◌<◌, ◌≤◌, All, false, ℕ, List, length}
 use Rattle.std.specs.Char.Utf16.{has_unpaired_surrogate}
 use Rattle.std.specs.Str.{IsUtf8}
 use Rattle.jl_ast.specs.Height.{program_height}
@@ -62,3 +62,17 @@ WovenScriptIsBounded =
     (chosen : Kinds) (bytes : List ℕ) (ts : List Token) (limit : ℕ) (p q : Program Span) → IsUtf8 bytes
     → Tokens (units_of bytes) ts → Reads ts limit p → length bytes < 1073741823 → IsWoven chosen p q
     → length (bytes_of (text_of q)) ≤ 64 * length bytes + 64
+
+-- of a text of units of UTF-16 it has only such units
+abbrev pub WovenUnitsAreSmall : Type 0
+WovenUnitsAreSmall =
+    (chosen : Kinds) (text : List ℕ) (ts : List Token) (limit : ℕ) (p q : Program Span) → Tokens text ts
+    → Reads ts limit p → length text < 1073741823 → IsWoven chosen p q → All (λ u. u < 2 ^ 16) text
+    → All (λ u. u < 2 ^ 16) (text_of q)
+
+-- and so it is of a script in UTF-8
+abbrev pub WovenScriptIsSmall : Type 0
+WovenScriptIsSmall =
+    (chosen : Kinds) (bytes : List ℕ) (ts : List Token) (limit : ℕ) (p q : Program Span) → IsUtf8 bytes
+    → Tokens (units_of bytes) ts → Reads ts limit p → length bytes < 1073741823 → IsWoven chosen p q
+    → All (λ u. u < 2 ^ 16) (text_of q)

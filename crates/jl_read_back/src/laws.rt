@@ -1,7 +1,8 @@
 //! Laws over the definitions; each is the contract of a function that does nothing but call the laws that it rests on.
 ghost use Rattle.jl_read_back.specs.EarlyErrors.{FirstIsReservedName, WovenKeepsRules};
 ghost use Rattle.jl_read_back.specs.Laws.{WovenBytesAreBounded, WovenHeight, WovenIsWellFormed, WovenReadsBack};
-ghost use Rattle.jl_read_back.specs.Laws.{WovenScriptIsBounded, WovenTextIsBounded};
+ghost use Rattle.jl_read_back.specs.Laws.{WovenScriptIsBounded, WovenScriptIsSmall, WovenTextIsBounded};
+ghost use Rattle.jl_read_back.specs.Laws.{WovenUnitsAreSmall};
 
 use jl_op::laws::map_has_each_id;
 use jl_print::laws::{printed_reads_back, read_is_well_formed, text_is_paired};
@@ -51,6 +52,19 @@ pub fn woven_text_is_bounded()
 pub fn woven_bytes_are_bounded()
     ensures text { WovenBytesAreBounded }
     ensures script { WovenScriptIsBounded }
+{
+    read_is_well_formed();
+    few_tokens();
+    map_has_each_id::<Span>();
+    few_ids();
+}
+
+/// The canonical text of the woven script has only units of UTF-16, below 2^16, where the text that the program is read
+/// of has no others; and so of every script in UTF-8. So it is of every program that is read of a text with fewer than
+/// 2^30 - 1 units, or of as few bytes, whatever kinds are chosen.
+pub fn woven_units_are_small()
+    ensures text { WovenUnitsAreSmall }
+    ensures script { WovenScriptIsSmall }
 {
     read_is_well_formed();
     few_tokens();

@@ -1,5 +1,5 @@
 -- What the laws of the lower crates say of an accepted script and its woven one.
-use Rattle.std.specs.Prelude.{◌≡◌, ◌+◌, ◌≤◌, false, length, ℕ}
+use Rattle.std.specs.Prelude.{◌≡◌, ◌+◌, ◌<◌, ◌≤◌, ◌^◌, All, false, length, ℕ}
 use Rattle.std.specs.Char.Utf16.{has_unpaired_surrogate}
 use Rattle.jl_ast.specs.Spans.{without_spans}
 use Rattle.jl_ast.specs.Tree.{Program}
@@ -17,12 +17,13 @@ use Rattle.jl_app.specs.WovenText.{woven_text}
 use Rattle.jl_app.specs.declared.form.Form.TheVariants as forms
 
 -- The text of the script that is woven for these kinds reads back, and as nothing else. It has no more bytes than a
--- woven text may have, and each surrogate in it has its partner.
+-- woven text may have, its units have 16 bits, and each surrogate has its partner.
 pub record ReadsBackAsWoven (kinds : Kinds) (p : Program Span) : Type 0 where
   pub program : Program Span
   pub read : IsReadBack (woven_text kinds p) program
   pub same : (q : Program Span) → IsReadBack (woven_text kinds p) q → without_spans q ≡ woven_program kinds p
   pub few_bytes : length (bytes_of (woven_text kinds p)) ≤ most_bytes forms.WovenText
+  pub small : All (λ u. u < 2 ^ 16) (woven_text kinds p)
   pub paired : has_unpaired_surrogate (woven_text kinds p) ≡ false
 
 -- the woven script simulates the script; its text reads back; its run is what it means; and the script's own run goes

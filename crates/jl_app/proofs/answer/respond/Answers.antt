@@ -143,16 +143,16 @@ pub returns-in-Instrument-clause-due : goal.returns-in-Instrument-clause-due
 returns-in-Instrument-clause-due g c = λ a means.
     let p = view c.in-Ok.accepted.program in
     let is = asked_instrument a (subst (λ (x : Command). Means x a) c.in-Instrument.is means) in
-    both_ok c.instrument.result _ _
-    (λ given answered small. (
+    IfOk-weaker c.instrument.result _ _
+    (λ given answered. (
       instrumented p,
       answers a asked.instrument c.of-form.result p is
-          (c.of-form.ensures ∙ same_form c.args.command a means) c.in-Ok.ensures.accepted.0 (refl, text small),
+          (c.of-form.ensures ∙ same_form c.args.command a means) c.in-Ok.ensures.accepted.0 (refl, text),
       answered.0,
       answered.1,
       c.requires.fresh,
     ))
-    c.instrument.ensures.due c.instrument.ensures.units
+    c.instrument.ensures
 
 pub returns-in-Map-clause-due : goal.returns-in-Map-clause-due
 returns-in-Map-clause-due g c = λ a means.

@@ -3,7 +3,6 @@ use Rattle.jl_app.specs.Endings.{read_failed, no_memory}
 use Rattle.jl_app.proofs.Endings.{ends_answered, ends_short}
 use Rattle.jl_app.specs.WovenText.{kinds_of}
 use Rattle.jl_app.proofs.Headline.{headline}
-use Rattle.jl_app.proofs.StandsAlone.{small_units}
 use Rattle.jl_app.proofs.top.jlint.Goals as goal
 
 pub returns-in-Err-ReadFault-clause-ends : goal.returns-in-Err-ReadFault-clause-ends
@@ -52,8 +51,14 @@ pub returns-clause-no_misuse : goal.returns-clause-no_misuse
 returns-clause-no_misuse g c = λ a bytes p words script is.
     c.accepted_scripts_run_without_misuse.ensures a bytes p is
 
+pub returns-in-Err-ReadFault-clause-stands_alone : goal.returns-in-Err-ReadFault-clause-stands_alone
+returns-in-Err-ReadFault-clause-stands_alone g c = λ bytes p words held is. c.text_stands_alone.ensures bytes p is
+
+pub returns-in-Err-NoMemory-clause-stands_alone : goal.returns-in-Err-NoMemory-clause-stands_alone
+returns-in-Err-NoMemory-clause-stands_alone g c = λ bytes p words held is. c.text_stands_alone.ensures bytes p is
+
 pub returns-in-Ok-write_all-clause-stands_alone : goal.returns-in-Ok-write_all-clause-stands_alone
-returns-in-Ok-write_all-clause-stands_alone g c = λ bytes p words held is answers.
-    let due = c.in-Ok.ensures.due in
-    c.text_stands_alone.ensures bytes p is
-    (small_units c.one_reading.ensures c.never_both.ensures bytes p is due.0 words held due.1)
+returns-in-Ok-write_all-clause-stands_alone g c = λ bytes p words held is. c.text_stands_alone.ensures bytes p is
+
+pub returns-clause-stands_alone : goal.returns-clause-stands_alone
+returns-clause-stands_alone g c = λ bytes p words held is. c.text_stands_alone.ensures bytes p is
