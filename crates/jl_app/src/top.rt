@@ -205,8 +205,7 @@ pub fn jlint<S: Source, K: Sink, H: Shelf>(
     // answer to an accepted script is about the script's own run, for every budget and every choice of rules.
     ensures headline { (a : Asked) (bytes : List ℕ) (p : Tree Span) (budget : ℕ) (chosen : List ℕ)
         → asked (texts words.now) ≡ Some a → Reports a budget chosen → IsScriptFor (S.left source.old) a bytes
-        → IsAccepted bytes p
-        → H.lent shelf.new ≡ H.handed shelf.new → HasAnswered result
+        → IsAccepted bytes p → H.lent shelf.new ≡ H.handed shelf.new → HasAnswered result
         → IsAboutScript (record {
           words = texts words.now;
           held = S.left source.old;
@@ -224,8 +223,8 @@ pub fn jlint<S: Source, K: Sink, H: Shelf>(
     // than the shelf was handed.
     ensures no_misuse { (a : Asked) (bytes : List ℕ) (p : Tree Span) → asked (texts words.now) ≡ Some a
         → IsScriptFor (S.left source.old) a bytes → IsAccepted bytes p → RunsWithoutMisuse a p }
-    // What `instrument` writes of an accepted script can be kept without the script: what is due to `exec` on these bytes
-    // is what is due to `trace` on the script.
+    // What `instrument` writes of an accepted script can be kept without the script: what is due to `exec` on these
+    // bytes is what is due to `trace` on the script.
     ensures stands_alone { (bytes : List ℕ) (p : Tree Span) → asked (texts words.now) ≡ Some instrument
         → S.left source.old ≡ Some bytes → IsAccepted bytes p → StandsAlone bytes p }
     ensures unread { ((a : Asked) → asked (texts words.now) ≡ Some a → ReadsSource a → ⊥) → source.new ≡ source.old }
