@@ -50,7 +50,7 @@ def main():
             script = text.format(n=n)
             spent, megabytes, answer = least(RUN, script)
             printed, _, end = answer.rstrip("\n").rpartition("\n")
-            if not end.startswith("normal steps="):
+            if not end.startswith("jlint: normal steps="):
                 sys.exit(f"{name}, {n}: {end}")
             costs.append(1e9 * max(spent - empty, 0.0) / n ** power)
             times = "-"

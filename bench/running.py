@@ -2,8 +2,8 @@
 """What the machine takes to run a script: nanoseconds of the processor for a step, and the memory at the most, for scripts
 of three sizes each; and beside it how many times as long as node that is, where node is there.
 
-Run it at the top of the repository after `tools/programs.py jl_machine_bench`, which makes the program `jl_machine_bench`: it runs a script as `jlint
-run` does, with as many steps as it is told. The time of an empty script is taken off first. A script is judged by the
+Run it at the top of the repository after `./jlint check < examples/closures.js`. A script runs by `run` with the greatest
+budget. The time of an empty script is taken off first. A script is judged by the
 cost of a step at its greatest size over that at a tenth of it: what is linear gives about 1, what is quadratic about 10.
 Where one gives more than 2, the exit status is 1. A join copies both texts, so that of joins is above it."""
 
@@ -14,8 +14,8 @@ import subprocess
 import sys
 import tempfile
 
-PROGRAM = os.path.join("programs", "out", "jl_machine_bench")
-RUN = [PROGRAM, "100000000"]
+PROGRAM = os.path.join("crates", "jlint", "out", "jlint")
+RUN = [PROGRAM, "run", "--budget", "1000000000"]
 LIMIT = 2.0
 PRELUDE = "var print = function () { console.log([].slice.call(arguments).join(' ')); };\n"
 SCRIPTS = [
@@ -59,7 +59,7 @@ def least(command, text, prepare=None):
 
 def main():
     if not os.path.exists(PROGRAM):
-        sys.exit("no " + PROGRAM + ": run tools/programs.py jl_machine_bench first")
+        sys.exit("no " + PROGRAM + ": build it first")
     node = shutil.which("node")
     empty = least(RUN, "")[0]
     bare = least([node, "-"], PRELUDE)[0] if node else 0.0
@@ -71,7 +71,7 @@ def main():
             script = text.format(n=n)
             spent, megabytes, answer = least(RUN, script)
             printed, _, end = answer.rstrip("\n").rpartition("\n")
-            if not end.startswith("normal steps="):
+            if not end.startswith("jlint: normal steps="):
                 sys.exit(f"{name}, {n}: {end}")
             steps = int(end.split("=")[1])
             costs.append(1e9 * max(spent - empty, 0.0) / steps)

@@ -5,7 +5,6 @@
 
 mod escapes;
 mod fault;
-mod frames;
 mod hoisting;
 mod parsing;
 mod reports;
@@ -48,7 +47,6 @@ fn answer(alloc: Global, row: &str) -> Result<String, Fault> {
         "vars" | "arguments" | "strict" => hoisting::answer(alloc, call, words),
         "budget" | "output" | "hooks" => running::answer(alloc, call, words),
         "bind" => stores::answer(alloc, words),
-        "frames" => frames::answer(alloc),
         "report" => reports::answer(alloc, words),
         _ => Err(Fault::Unreadable),
     }
