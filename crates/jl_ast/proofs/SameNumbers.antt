@@ -1,4 +1,4 @@
--- Numbering does not look at places.
+-- Numbering does not look at places, nor do counts of functions look at numbers.
 use Rattle.std.proofs.Common.{◌≡◌, ℕ, ◌+◌, refl}
 use Rattle.jl_ast.specs.Tree.{Sort, Tree, Forest, OptionalTree, this, name, number, string, boolean, null, array}
 use Rattle.jl_ast.specs.Tree.{object}
@@ -9,75 +9,41 @@ use Rattle.jl_ast.specs.Tree.{for_in, continue, break, return, labelled, switch,
 use Rattle.jl_ast.specs.Tree.{init_expression, init_var, declarator, case, branch_of, catch, end, more, absent}
 use Rattle.jl_ast.specs.Tree.{present}
 use Rattle.jl_ast.specs.Spans.{map_tree, map_forest, map_optional}
-use Rattle.jl_ast.specs.Numbering.{functions_in, functions_in_forest, functions_in_optional, numbered_tree}
-use Rattle.jl_ast.specs.Numbering.{numbered_forest, numbered_optional}
+use Rattle.jl_ast.specs.Numbering.{count_with, function_counts, functions_in, functions_in_forest}
+use Rattle.jl_ast.specs.Numbering.{functions_in_optional, numbered_tree, numbered_forest, numbered_optional}
+use Rattle.jl_ast.proofs.SameFold.{fold_map, fold_map_forest, fold_map_optional, fold_numbered}
+use Rattle.jl_ast.proofs.SameFold.{fold_numbered_forest, fold_numbered_optional}
+
+module _ {S : Type 0} where
+  counts_numbered : (x : Sort) (n : ℕ) (t : Tree S x) (m : ℕ) → count_with (numbered_tree n t) m ≡ count_with t m
+  counts_numbered x n (function k a params b s) m = refl
+  counts_numbered x n t m = refl
+
+  pub as_many_numbered : {x : Sort} (n : ℕ) (t : Tree S x) → functions_in (numbered_tree n t) ≡ functions_in t
+  as_many_numbered n t = fold_numbered function_counts counts_numbered n t
+
+  pub as_many_numbered_forest : {x : Sort} (n : ℕ) (t : Forest S x) →
+      functions_in_forest (numbered_forest n t) ≡ functions_in_forest t
+  as_many_numbered_forest n t = fold_numbered_forest function_counts counts_numbered n t
+
+  pub as_many_numbered_optional : {x : Sort} (n : ℕ) (t : OptionalTree S x) →
+      functions_in_optional (numbered_optional n t) ≡ functions_in_optional t
+  as_many_numbered_optional n t = fold_numbered_optional function_counts counts_numbered n t
 
 module _ {S T : Type 0} (f : S → T) where
-  mutual
-    pub as_many : {x : Sort} (t : Tree S x) → functions_in (map_tree f t) ≡ functions_in t
-    as_many (this s) = refl
-    as_many (name a s) = refl
-    as_many (number a s) = refl
-    as_many (string a s) = refl
-    as_many (boolean a s) = refl
-    as_many (null s) = refl
-    as_many (array a s) = cc (as_many_forest a)
-    as_many (object a s) = cc (as_many_forest a)
-    as_many (function_expression a s) = cc (as_many a)
-    as_many (dot a b s) = cc (as_many a)
-    as_many (index a b s) = cc (as_many a, as_many b)
-    as_many (call a b s) = cc (as_many a, as_many_forest b)
-    as_many (new a b s) = cc (as_many a, as_many_forest b)
-    as_many (unary a b s) = cc (as_many b)
-    as_many (update up prefix a s) = cc (as_many a)
-    as_many (binary a b c s) = cc (as_many b, as_many c)
-    as_many (and a b s) = cc (as_many a, as_many b)
-    as_many (or a b s) = cc (as_many a, as_many b)
-    as_many (conditional a b c s) = cc (as_many a, as_many b, as_many c)
-    as_many (assign a b c s) = cc (as_many b, as_many c)
-    as_many (comma a b s) = cc (as_many a, as_many b)
-    as_many (to_name a) = refl
-    as_many (to_dot a b s) = cc (as_many a)
-    as_many (to_index a b s) = cc (as_many a, as_many b)
-    as_many hole = refl
-    as_many (filled a) = cc (as_many a)
-    as_many (value a b) = cc (as_many b)
-    as_many (getter a b) = cc (as_many b)
-    as_many (setter a b) = cc (as_many b)
-    as_many (function m a params b s) = cc (as_many b)
-    as_many (body strict a b) = cc (as_many_forest a, as_many_forest b)
-    as_many (var a s) = cc (as_many_forest a)
-    as_many (empty s) = refl
-    as_many (expression a s) = cc (as_many a)
-    as_many (block a s) = cc (as_many_forest a)
-    as_many (if_else a b c s) = cc (as_many a, as_many_forest b, as_many_optional c)
-    as_many (do_while a b s) = cc (as_many_forest a, as_many b)
-    as_many (while a b s) = cc (as_many a, as_many_forest b)
-    as_many (for a b c d s) = cc (as_many a, as_many_optional b, as_many_optional c, as_many_forest d)
-    as_many (for_in is_var a b c s) = cc (as_many b, as_many_forest c)
-    as_many (continue a s) = refl
-    as_many (break a s) = refl
-    as_many (return a s) = cc (as_many_optional a)
-    as_many (labelled a b s) = cc (as_many b)
-    as_many (switch a b s) = cc (as_many a, as_many_forest b)
-    as_many (throw a s) = cc (as_many a)
-    as_many (try a b c s) = cc (as_many_forest a, as_many_optional b, as_many_optional c)
-    as_many (debugger s) = refl
-    as_many nothing = refl
-    as_many (init_expression a) = cc (as_many a)
-    as_many (init_var a) = cc (as_many_forest a)
-    as_many (declarator a b) = cc (as_many_optional b)
-    as_many (case a b) = cc (as_many_optional a, as_many_forest b)
-    as_many (branch_of a) = cc (as_many_forest a)
-    as_many (catch a b) = cc (as_many_forest b)
+  counts_moved : (x : Sort) (t : Tree S x) (n : ℕ) → count_with (map_tree f t) n ≡ count_with t n
+  counts_moved x (function m a params b s) n = refl
+  counts_moved x t n = refl
 
-    pub as_many_forest : {x : Sort} (t : Forest S x) → functions_in_forest (map_forest f t) ≡ functions_in_forest t
-    as_many_forest end = refl
-    as_many_forest (more a b) = cc (as_many a, as_many_forest b)
+  pub as_many : {x : Sort} (t : Tree S x) → functions_in (map_tree f t) ≡ functions_in t
+  as_many t = fold_map f function_counts function_counts refl (λ m n. refl) counts_moved t
 
-    pub as_many_optional : {x : Sort} (t : OptionalTree S x) → functions_in_optional (map_optional f t) ≡ functions_in_optional t
-    as_many_optional absent = refl
-    as_many_optional (present a) = cc (as_many a)
+  pub as_many_forest : {x : Sort} (t : Forest S x) → functions_in_forest (map_forest f t) ≡ functions_in_forest t
+  as_many_forest t = fold_map_forest f function_counts function_counts refl (λ m n. refl) counts_moved t
+
+  pub as_many_optional : {x : Sort} (t : OptionalTree S x) →
+      functions_in_optional (map_optional f t) ≡ functions_in_optional t
+  as_many_optional t = fold_map_optional f function_counts function_counts refl (λ m n. refl) counts_moved t
 
   mutual
     pub numbered_moved : {x : Sort} (n : ℕ) (t : Tree S x) →

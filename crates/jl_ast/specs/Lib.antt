@@ -1,5 +1,6 @@
 pub mod Tree
 pub mod Spans
+pub mod Fold
 pub mod Height
 pub mod Numbering
 pub mod Table

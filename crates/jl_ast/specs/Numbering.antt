@@ -9,74 +9,25 @@ use Rattle.jl_ast.specs.Tree.{setter, function, body, var, empty, expression, bl
 use Rattle.jl_ast.specs.Tree.{for_in, continue, break, return, labelled, switch, throw, try, debugger, nothing}
 use Rattle.jl_ast.specs.Tree.{init_expression, init_var, declarator, case, branch_of, catch, end, more, absent}
 use Rattle.jl_ast.specs.Tree.{present}
+use Rattle.jl_ast.specs.Fold.{Fold, fold, fold_forest, fold_optional}
 
-abbrev mutual
-  -- how many functions there are in a tree
-  pub functions_in : {S : Type 0} {x : Sort} → Tree S x → ℕ
-  functions_in (this s) = 0
-  functions_in (name a s) = 0
-  functions_in (number a s) = 0
-  functions_in (string a s) = 0
-  functions_in (boolean a s) = 0
-  functions_in (null s) = 0
-  functions_in (array a s) = functions_in_forest a
-  functions_in (object a s) = functions_in_forest a
-  functions_in (function_expression a s) = functions_in a
-  functions_in (dot a b s) = functions_in a
-  functions_in (index a b s) = functions_in a + functions_in b
-  functions_in (call a b s) = functions_in a + functions_in_forest b
-  functions_in (new a b s) = functions_in a + functions_in_forest b
-  functions_in (unary a b s) = functions_in b
-  functions_in (update up prefix a s) = functions_in a
-  functions_in (binary a b c s) = functions_in b + functions_in c
-  functions_in (and a b s) = functions_in a + functions_in b
-  functions_in (or a b s) = functions_in a + functions_in b
-  functions_in (conditional a b c s) = functions_in a + functions_in b + functions_in c
-  functions_in (assign a b c s) = functions_in b + functions_in c
-  functions_in (comma a b s) = functions_in a + functions_in b
-  functions_in (to_name a) = 0
-  functions_in (to_dot a b s) = functions_in a
-  functions_in (to_index a b s) = functions_in a + functions_in b
-  functions_in hole = 0
-  functions_in (filled a) = functions_in a
-  functions_in (value a b) = functions_in b
-  functions_in (getter a b) = functions_in b
-  functions_in (setter a b) = functions_in b
-  functions_in (function m a params b s) = functions_in b + 1
-  functions_in (body strict a b) = functions_in_forest a + functions_in_forest b
-  functions_in (var a s) = functions_in_forest a
-  functions_in (empty s) = 0
-  functions_in (expression a s) = functions_in a
-  functions_in (block a s) = functions_in_forest a
-  functions_in (if_else a b c s) = functions_in a + functions_in_forest b + functions_in_optional c
-  functions_in (do_while a b s) = functions_in_forest a + functions_in b
-  functions_in (while a b s) = functions_in a + functions_in_forest b
-  functions_in (for a b c d s) = functions_in a + functions_in_optional b + functions_in_optional c
-      + functions_in_forest d
-  functions_in (for_in is_var a b c s) = functions_in b + functions_in_forest c
-  functions_in (continue a s) = 0
-  functions_in (break a s) = 0
-  functions_in (return a s) = functions_in_optional a
-  functions_in (labelled a b s) = functions_in b
-  functions_in (switch a b s) = functions_in a + functions_in_forest b
-  functions_in (throw a s) = functions_in a
-  functions_in (try a b c s) = functions_in_forest a + functions_in_optional b + functions_in_optional c
-  functions_in (debugger s) = 0
-  functions_in nothing = 0
-  functions_in (init_expression a) = functions_in a
-  functions_in (init_var a) = functions_in_forest a
-  functions_in (declarator a b) = functions_in_optional b
-  functions_in (case a b) = functions_in_optional a + functions_in_forest b
-  functions_in (branch_of a) = functions_in_forest a
-  functions_in (catch a b) = functions_in_forest b
+-- a function counts one more than its parts
+abbrev pub count_with : {S : Type 0} {x : Sort} → Tree S x → ℕ → ℕ
+count_with (function m a params b s) n = n + 1
+count_with t n = n
 
-  pub functions_in_forest : {S : Type 0} {x : Sort} → Forest S x → ℕ
-  functions_in_forest end = 0
-  functions_in_forest (more a b) = functions_in a + functions_in_forest b
+abbrev pub function_counts : {S : Type 0} → Fold S ℕ
+function_counts = record { none = 0; both = λ m n. m + n; at_node = count_with }
 
-  pub functions_in_optional : {S : Type 0} {x : Sort} → OptionalTree S x → ℕ
-  functions_in_optional absent = 0
-  functions_in_optional (present a) = functions_in a
+-- how many functions there are in a tree
+abbrev pub functions_in : {S : Type 0} {x : Sort} → Tree S x → ℕ
+functions_in t = fold function_counts t
+
+abbrev pub functions_in_forest : {S : Type 0} {x : Sort} → Forest S x → ℕ
+functions_in_forest t = fold_forest function_counts t
+
+abbrev pub functions_in_optional : {S : Type 0} {x : Sort} → OptionalTree S x → ℕ
+functions_in_optional t = fold_optional function_counts t
 
 abbrev mutual
   -- the same tree with its functions numbered from n on
