@@ -1,5 +1,5 @@
 -- Elements that are added to arrays, and elements and lengths of objects that are taken for arrays.
-use Rattle.std.proofs.Common.{◌≡◌, ◌+◌, ◌∙◌, ◌∷◌, codes, drop, pos, refl, subst, sym, true, ℕ}
+use Rattle.std.proofs.Common.{◌≡◌, ◌+◌, ◌∙◌, ◌∷◌, codes, drop, pos, subst, sym, true, ℕ}
 use Rattle.std.proofs.Common.{Bool, List, Option, Some}
 use Rattle.std.specs.Prelude.{IfSome}
 use Rattle.jl_num.specs.Arithmetic.{number_of}

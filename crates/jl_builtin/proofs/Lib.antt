@@ -1,3 +1,4 @@
+pub mod Calls
 pub mod Conversions
 pub mod Ends
 pub mod Fills
