@@ -1,7 +1,7 @@
 -- Elements that are added to arrays, and elements and lengths of objects that are taken for arrays.
-use Rattle.std.proofs.Common.{◌≡◌, ◌+◌, ◌∙◌, ◌∷◌, [], codes, drop, pos, refl, subst, sym, true, ℕ}
+use Rattle.std.proofs.Common.{◌≡◌, ◌+◌, ◌∙◌, ◌∷◌, codes, drop, pos, subst, sym, true, ℕ}
 use Rattle.std.proofs.Common.{Bool, List, Option, Some}
-use Rattle.std.specs.Prelude.{IfSome, MatchOption}
+use Rattle.std.specs.Prelude.{IfSome}
 use Rattle.jl_num.specs.Arithmetic.{number_of}
 use Rattle.jl_num.specs.Number.{Number}
 use Rattle.jl_value.specs.declared.object.ObjId.{ObjId}
@@ -32,6 +32,8 @@ use Rattle.jl_state.specs.Steps.{Took}
 use Rattle.jl_state.specs.declared.act.Act.{Act}
 use Rattle.jl_state.specs.declared.state.State.{State}
 use Rattle.jl_algorithm.proofs.Chains.{works_assoc}
+use Rattle.jl_builtin.proofs.FoundItems.{some_from, FoundFrom}
+use Rattle.jl_builtin.proofs.Waits.{length_is}
 
 -- an element is added, whatever becomes of it
 module _ (array : ObjId) (index : ℕ) (v : Value) (x : Name) (change : Change) (from to : Store)
@@ -70,10 +72,6 @@ module _ (o : ObjId) (index : ℕ) (x : Name) (from to : Store) (name_is : x ≡
   pub index_kept : (v : Value) → answer ≡ Throws v → Comes (delete_index o index) from to (Ends (throws v))
   index_kept v is = comes_thrown (λ _. give tt) (deletes (Throws v) is)
 
-length_is : length_name ≡ codes "length"
-unfolding length_name
-length_is = refl
-
 -- a length is put that is a number
 pub puts_length : (s : State) (o : ObjId) (n : ℕ) (m : Number) (x : Name) (v : Value) (t : State) (a : Act)
     → number_of (pos n) ≡ Some m → x ≡ codes "length"
@@ -105,15 +103,11 @@ fills s t array from next values v u a split follows took leads =
 
 -- the same of what was found from an index on
 pub fills_found : (s t : State) (array : ObjId) (from next : ℕ) (values list : List Value) (v : Value)
-    (found : Option (Value × ℕ)) (u : State) (a : Act) → list ≡ values
-    → MatchOption found (drop from list ≡ []) (λ r. drop from list ≡ r.0 ∷ drop r.1 list)
+    (found : Option (Value × ℕ)) (u : State) (a : Act) → list ≡ values → FoundFrom from list found
     → IfSome found (λ r. r.1 ≡ from + 1) → found ≡ Some (v, next) → Took s t
     → Works t (add_index array from v >>= λ _. add_in_turns array next (drop next values)
     >>= λ _. give_object array) u a
     → Works s (add_in_turns array from (drop from values) >>= λ _. give_object array) u a
 fills_found s t array from next values list v found u a same there follows is took leads =
-    fills s t array from next values v u a
-    (subst (λ l. drop from l ≡ v ∷ drop next l) same
-    (subst (λ (o : Option (Value × ℕ)). MatchOption o (drop from list ≡ []) (λ r. drop from list ≡ r.0 ∷ drop r.1 list)) is
-    there))
+    fills s t array from next values v u a (some_from from next list values v found same there is)
     (subst (λ (o : Option (Value × ℕ)). IfSome o (λ r. r.1 ≡ from + 1)) is follows) took leads

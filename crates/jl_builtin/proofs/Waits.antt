@@ -13,7 +13,6 @@ use Rattle.jl_heap.specs.Objects.{Name}
 use Rattle.jl_meaning.specs.Conversions.{integer_of, number_hint, to_integer, to_number, to_primitive, to_uint32}
 use Rattle.jl_meaning.specs.Getting.{get}
 use Rattle.jl_meaning.specs.Parts.{give, or_fault, ◌>>=◌, Algorithm, NumberOutside}
-use Rattle.jl_meaning.specs.Store.{Store}
 use Rattle.jl_meaning.specs.builtins.Elements.{element, element_if, get_index, get_length, has_index}
 use Rattle.jl_progress.specs.Primitives.{number_of_primitive}
 use Rattle.jl_progress.specs.Progress.{progress_after}
@@ -30,7 +29,7 @@ use Rattle.jl_operator.proofs.Operands.{chained, found, number_waits}
 
 -- lengths
 
-length_is : length_name ≡ codes "length"
+pub length_is : length_name ≡ codes "length"
 unfolding length_name
 length_is = refl
 

@@ -3,8 +3,9 @@ ghost use Rattle.std.specs.Prelude.{◌≡◌, min, IfOk};
 ghost use Rattle.jl_conv.specs.Conversions.{number_of_value};
 ghost use Rattle.jl_meaning.specs.Conversions.{integer_of};
 ghost use Rattle.jl_meaning.specs.builtins.Elements.{clamped, index_or_none, relative_index};
+ghost use Rattle.jl_num.specs.Bits.{uint32_of};
 
-use jl_num::Num;
+use jl_num::{Num, to_uint32};
 use jl_operator::number_of;
 use jl_store::count;
 use jl_text::NoMemory;
@@ -49,6 +50,13 @@ pub fn index_or_none(k: Option<usize>) -> Result<Value, NoMemory>
             Err(_) => Err(NoMemory),
         },
     }
+}
+
+/// The length that a number says (9.6).
+pub fn length_of(n: Num) -> usize
+    ensures { result ≡ uint32_of n }
+{
+    to_uint32(n) as usize
 }
 
 /// ToNumber of a primitive value (9.3); none where that is no number of a script, or the value an object.

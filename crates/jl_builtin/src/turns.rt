@@ -1,7 +1,8 @@
 //! What a turn of a builtin ends with.
-ghost use Rattle.std.specs.Prelude.{◌≡◌, ◌+◌, ◌≤◌, IfOk};
+ghost use Rattle.std.specs.Prelude.{◌+◌, ◌≤◌, ◌<◌, IfOk};
+ghost use Rattle.jl_effects.specs.Effects.{Fail};
 ghost use Rattle.jl_meaning.specs.Errors.{string_within};
-ghost use Rattle.jl_meaning.specs.Parts.{◌>>=◌ as ◌then◌};
+ghost use Rattle.jl_meaning.specs.Parts.{◌>>=◌ as ◌then◌, Unsupported};
 ghost use Rattle.jl_meaning.specs.builtins.Arguments.{give_string};
 ghost use Rattle.jl_progress.specs.Progress.{progress_after, rank_progress};
 ghost use Rattle.jl_state.specs.Rank.{rank_act, Falls};
@@ -12,7 +13,7 @@ ghost use Rattle.jl_value.specs.declared.value.Value.TheVariants as value;
 use jl_progress::Progress;
 use jl_state::{Act, AlgorithmFrame, State};
 use jl_text::{NoMemory, Text, TextFault};
-use jl_value::{Fault, Value};
+use jl_value::{Builtin, Fault, Value};
 use std::alloc::Global;
 
 /// A builtin goes on without a value, in the next act of the machine.
@@ -33,5 +34,18 @@ pub fn give_text<'p>(alloc: Global, units: &[u16]) -> Result<Act<'p>, NoMemory>
         Ok(text) => Ok(Act::Give(Value::Text(text))),
         Err(TextFault::TooLong) => Ok(Act::Fault(Fault::StringTooLong)),
         Err(TextFault::NoMemory) => Err(NoMemory),
+    }
+}
+
+/// The fault of the builtin in a row, which is in the table and isn't built; it ends the run.
+#[tactic(auto, unfolding(jl_value::specs::Builtins::builtin_names))]
+pub fn unsupported<'p>(row: u16) -> Act<'p>
+    requires { row < 102 }
+    ensures leads { (s : Machine) → Works s (Fail (Unsupported row)) s result }
+    ensures low { rank_act result ≤ 2 }
+{
+    match Builtin::at(row) {
+        Some(builtin) => Act::Fault(Fault::Unsupported(builtin)),
+        None => unreachable!(),
     }
 }

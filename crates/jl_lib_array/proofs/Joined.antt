@@ -31,7 +31,7 @@ use Rattle.jl_state.specs.declared.act.Act.{Act}
 use Rattle.jl_state.specs.declared.act.Act.TheVariants as act
 use Rattle.jl_state.specs.declared.state.State.{State}
 use Rattle.jl_algorithm.proofs.Chains.{bind_assoc}
-use Rattle.jl_lib_array.proofs.Converted.{string_converts}
+use Rattle.jl_builtin.proofs.Conversions.{string_converts}
 use Rattle.jl_lib_array.proofs.Turns.{one_more, upward_ends, upward_spent, upward_takes}
 
 -- a string that is short enough

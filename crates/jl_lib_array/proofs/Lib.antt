@@ -1,11 +1,11 @@
 pub mod Appended
 pub mod Called
 pub mod Cases
-pub mod Converted
 pub mod Copied
 pub mod Deleted
 pub mod Exchanged
 pub mod Found
+pub mod Gets
 pub mod Joined
 pub mod Moved
 pub mod Orders

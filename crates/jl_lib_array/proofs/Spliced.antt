@@ -18,7 +18,8 @@ use Rattle.jl_progress.specs.declared.array.Splicing.{Splicing}
 use Rattle.jl_state.specs.Rest.{Works}
 use Rattle.jl_state.specs.declared.act.Act.{Act}
 use Rattle.jl_state.specs.declared.state.State.{State}
-use Rattle.jl_lib_array.proofs.Converted.{integer_converts, number_there}
+use Rattle.jl_operator.proofs.Operands.{found}
+use Rattle.jl_builtin.proofs.Conversions.{integer_converts}
 
 module _ (s t : State) (a : Act) (o gone : ObjId) (length : ℕ) (args : List Value) where
   abbrev from : ℤ → Algorithm Value
@@ -39,7 +40,7 @@ module _ (s t : State) (a : Act) (o gone : ObjId) (length : ℕ) (args : List Va
       → Works s (to_primitive number_hint v >>= array_after (array.SpliceCount o gone length start args)) t a
       → Works s (array_after (array.SpliceStart o gone length args) p) t a
   splices_count p n start v there is_start is leads =
-      number_there s t a p n (λ m. from (integer_of m)) there
+      found s t a (number_of_value p) n (λ m. from (integer_of m)) there
       (subst (λ i. Works s (splice_from o gone length i args) t a) is_start
       (subst (λ w. Works s (to_integer w >>= removing start) t a) is
       (subst (λ q. Works s q t a) (integer_converts v (removing start)) leads)))
@@ -49,7 +50,7 @@ module _ (s t : State) (a : Act) (o gone : ObjId) (length : ℕ) (args : List Va
       → Works s (splice_at o gone length start removed items) t a
       → Works s (array_after (array.SpliceCount o gone length start args) p) t a
   splices_at p n start most removed items there is_most is are leads =
-      number_there s t a p n (λ m. removing start (integer_of m)) there
+      found s t a (number_of_value p) n (λ m. removing start (integer_of m)) there
       (subst (λ i. Works s (splice_at o gone length start i (drop 2 args)) t a)
       (is ∙ ap (clamped (integer_of n)) is_most)
       (subst (λ (l : List Value). Works s (splice_at o gone length start removed l) t a) are leads))

@@ -3,7 +3,6 @@ use Rattle.std.proofs.Common.{◌≡◌, ◌+◌, ◌-◌, ◌<◌, arith, false
 use Rattle.std.proofs.Common.{eqb, inl, inr, ◌⊎◌, List, ℕ}
 use Rattle.std.specs.Prelude.{if◌then◌else◌, ◌==◌}
 use Rattle.std.proofs.lemmas.Bool.Decides.{eqb_tells, nat_tests}
-use Rattle.jl_value.specs.declared.ending.Fault.TheVariants as fault
 use Rattle.jl_value.specs.declared.object.ObjId.{ObjId}
 use Rattle.jl_value.specs.declared.value.Value.{Value}
 use Rattle.jl_value.specs.declared.value.Value.TheVariants as value
@@ -24,7 +23,6 @@ use Rattle.jl_progress.specs.declared.array.LengthFunction.TheVariants as for_le
 use Rattle.jl_builtin.specs.Values.{is_undefined}
 use Rattle.jl_state.specs.Rest.{Works}
 use Rattle.jl_state.specs.declared.act.Act.{Act}
-use Rattle.jl_state.specs.declared.act.Act.TheVariants as act
 use Rattle.jl_state.specs.declared.state.State.{State}
 use Rattle.jl_state.proofs.Stores.{works_comes, IsStored}
 use Rattle.jl_lib_array.specs.Rows.{IsArrayRow}
@@ -100,19 +98,11 @@ module _ (names : FunctionNames) (c : Call) where
       (λ e. belongs.2 (omega (arith, e, belongs.0))) (λ e. plain (omega (arith, e, belongs.0)))))
       (subst (λ r. Works s (on_object r) t a) (sym there) leads))
 
-  no_locale : (s : State) (row : ℕ) → row ≡ 31
-      → Works s (builtin names row c) s (act.Fault (fault.Unsupported row))
-  no_locale s row is =
-      subst (λ r. Works s (builtin names r c) s (act.Fault (fault.Unsupported r))) (sym is)
-      (subst (λ p. Works s p s (act.Fault (fault.Unsupported 31))) (sym locale_is_not)
-      (record { is = λ kept told. refl }))
-
-  no_comparator : (s : State) (row : ℕ) → row ≡ 39 → is_undefined (argument c 0) ≡ false
-      → Works s (builtin names row c) s (act.Fault (fault.Unsupported row))
-  no_comparator s row is there =
-      subst (λ r. Works s (builtin names r c) s (act.Fault (fault.Unsupported r))) (sym is)
-      (subst (λ p. Works s p s (act.Fault (fault.Unsupported 39))) (sym (sort_is_not there))
-      (record { is = λ kept told. refl }))
+  not_there : (s : State) (a : Act) (row n : ℕ) → row ≡ n → builtin names n c ≡ Fail (Unsupported n)
+      → Works s (Fail (Unsupported row)) s a → Works s (builtin names row c) s a
+  not_there s a row n is same leads =
+      subst (λ r. Works s (builtin names r c) s a) (sym is)
+      (subst (λ p. Works s p s a) (sym same) (subst (λ r. Works s (Fail (Unsupported r)) s a) is leads))
 
   sort_missing : (row : ℕ) → (row ≡ 31 → ⊥) → is_built row c.args ≡ false
       → (row ≡ 39) × (is_undefined (argument c 0) ≡ false)
@@ -132,15 +122,15 @@ module _ (names : FunctionNames) (c : Call) where
 
   -- and what isn't
   pub starts_not : (s : State) (a : Act) (row : ℕ) → is_built row c.args ≡ false
-      → a ≡ act.Fault (fault.Unsupported row) → Works s (builtin names row c) s a
-  starts_not s a row missing is =
-      subst (λ b. Works s (builtin names row c) s b) (sym is) (by (eqb_tells row 31))
+      → Works s (Fail (Unsupported row)) s a → Works s (builtin names row c) s a
+  starts_not s a row missing leads = by (eqb_tells row 31)
     where
       by : ((eqb row 31 ≡ true) × (row ≡ 31)) ⊎ ((eqb row 31 ≡ false) × (row ≡ 31 → ⊥))
-          → Works s (builtin names row c) s (act.Fault (fault.Unsupported row))
-      by (inl same) = no_locale s row same.1
+          → Works s (builtin names row c) s a
+      by (inl same) = not_there s a row 31 same.1 locale_is_not leads
       by (inr other) =
-          let sort = sort_missing row other.1 missing in no_comparator s row sort.0 sort.1
+          let sort = sort_missing row other.1 missing in
+          not_there s a row 39 sort.0 (sort_is_not sort.1) leads
 
 -- a function on an object, by its row
 

@@ -1,6 +1,5 @@
 //! What a function of arrays waits for, and what it does before its next turn.
 ghost use Rattle.std.specs.Prelude.{◌≡◌, ◌+◌, ◌∷◌, IfOk, OnOk};
-ghost use Rattle.jl_meaning.specs.Conversions.{number_hint, string_hint, to_primitive};
 ghost use Rattle.jl_meaning.specs.Parts.{give, ◌>>=◌ as ◌then◌};
 ghost use Rattle.jl_meaning.specs.builtins.Elements.{add_index, delete_index, get_index, put_index};
 ghost use Rattle.jl_progress.specs.Arrays.{array_after, rank_array};
@@ -9,10 +8,9 @@ ghost use Rattle.jl_state.specs.Rest.{Works};
 ghost use Rattle.jl_state.specs.Steps.{AlgorithmWaits};
 ghost use Rattle.jl_value.specs.declared.value.Value.TheVariants as value;
 
-use jl_algorithm::to_primitive;
 use jl_builtin::{add_index, delete_index, fault_of, get_index, go_on, put_index};
 use jl_progress::{ArrayProgress, Progress};
-use jl_state::{Act, AlgorithmFrame, Frame, Hint, State};
+use jl_state::{Act, AlgorithmFrame, Frame, State};
 use jl_store::{Answer, Finished};
 use jl_text::NoMemory;
 use jl_value::{Completion, ObjId, Value};
@@ -64,36 +62,6 @@ pub(crate) fn get_for<'p>(
 {
     wait(state, progress)?;
     Ok(get_index(alloc, state, object, index)?)
-}
-
-/// A value is converted that is to be a number, for which a function waits (9.1).
-pub(crate) fn number_for<'p>(
-    alloc: Global,
-    state: &mut State<'p>,
-    v: Value,
-    progress: ArrayProgress,
-) -> Result<Act<'p>, NoMemory>
-    ensures leads { IfOk result (λ act. Works state.old
-        (to_primitive number_hint v then array_after progress) state.new act) }
-    ensures falls { IfOk result (λ act. Falls state.old (rank_array progress + 16) state.new act) }
-{
-    wait(state, progress)?;
-    Ok(to_primitive(alloc, state, v, Hint::Number)?)
-}
-
-/// A value is converted that is to be a string, for which a function waits (9.1).
-pub(crate) fn string_for<'p>(
-    alloc: Global,
-    state: &mut State<'p>,
-    v: Value,
-    progress: ArrayProgress,
-) -> Result<Act<'p>, NoMemory>
-    ensures leads { IfOk result (λ act. Works state.old
-        (to_primitive string_hint v then array_after progress) state.new act) }
-    ensures falls { IfOk result (λ act. Falls state.old (rank_array progress + 16) state.new act) }
-{
-    wait(state, progress)?;
-    Ok(to_primitive(alloc, state, v, Hint::Text)?)
 }
 
 /// An element is put, and then the next turn begins.

@@ -3,16 +3,15 @@ ghost use Rattle.std.specs.Prelude.{◌≡◌, ◌+◌, ◌++◌, length, nat_lt
 ghost use Rattle.jl_conv.specs.Conversions.{text_of_value};
 ghost use Rattle.jl_meaning.specs.Errors.{string_limit, string_within};
 ghost use Rattle.jl_meaning.specs.Parts.{◌>>=◌ as ◌then◌};
-ghost use Rattle.jl_meaning.specs.Relations.{is_nothing};
 ghost use Rattle.jl_meaning.specs.builtins.Array.{join_elements, join_turn};
 ghost use Rattle.jl_progress.specs.Arrays.{array_after, join_first, join_next, join_others, with_length};
 ghost use Rattle.jl_state.specs.Rank.{Falls};
 ghost use Rattle.jl_state.specs.Rest.{Works};
 
-use crate::frames::{begin_turn, get_for, string_for, sum};
-use jl_builtin::{argument, give_text, is_undefined, with_units};
+use crate::frames::{begin_turn, get_for, sum};
+use jl_builtin::{argument, give_text, is_nothing, is_undefined, wait_for_string, with_units};
 use jl_operator::text_of;
-use jl_progress::{ArrayProgress, Joining, LengthFunction};
+use jl_progress::{ArrayProgress, Joining, LengthFunction, Progress};
 use jl_state::{Act, State};
 use jl_store::word;
 use jl_text::{List, MOST_UNITS, NoMemory, Text};
@@ -24,12 +23,6 @@ fn has_room(line: usize, more: usize) -> bool
     ensures { result ≡ not (nat_lt string_limit (line + more)) }
 {
     line <= MOST_UNITS && more <= MOST_UNITS - line
-}
-
-fn is_nothing(v: &Value) -> bool
-    ensures { result ≡ is_nothing v.now }
-{
-    matches!(v, Value::Undefined | Value::Null)
 }
 
 /// `join` of an object with this length.
@@ -49,8 +42,8 @@ pub(crate) fn join<'p>(
         let comma = word(alloc, ",")?;
         return Ok(join_elements(alloc, state, object, length, comma)?);
     }
-    let progress = ArrayProgress::JoinSeparator { object, length };
-    Ok(string_for(alloc, state, separator, progress)?)
+    let progress = Progress::Array(ArrayProgress::JoinSeparator { object, length });
+    Ok(wait_for_string(alloc, state, progress, separator)?)
 }
 
 /// Goes on with the separator as a primitive value.
@@ -108,8 +101,8 @@ pub(crate) fn step_join_first<'p>(
         let first = word(alloc, "")?;
         return Ok(join_first(alloc, state, joining, first)?);
     }
-    let progress = ArrayProgress::JoinFirstPrimitive { joining };
-    Ok(string_for(alloc, state, v, progress)?)
+    let progress = Progress::Array(ArrayProgress::JoinFirstPrimitive { joining });
+    Ok(wait_for_string(alloc, state, progress, v)?)
 }
 
 /// Goes on with the first element as a primitive value.
@@ -205,8 +198,8 @@ pub(crate) fn step_join_element<'p>(
     if is_nothing(&v) {
         return Ok(join_next(state, joining, line, &[])?);
     }
-    let progress = ArrayProgress::JoinElementPrimitive { joining, line };
-    Ok(string_for(alloc, state, v, progress)?)
+    let progress = Progress::Array(ArrayProgress::JoinElementPrimitive { joining, line });
+    Ok(wait_for_string(alloc, state, progress, v)?)
 }
 
 /// Goes on with an element as a primitive value.

@@ -1,6 +1,5 @@
 //! The functions that begin with the length of what they are called on (15.4.4.5 to 15.4.4.13).
 ghost use Rattle.std.specs.Prelude.{◌≡◌, IfOk, List};
-ghost use Rattle.jl_num.specs.Bits.{uint32_of};
 ghost use Rattle.jl_meaning.specs.Parts.{◌>>=◌ as ◌then◌};
 ghost use Rattle.jl_meaning.specs.builtins.Elements.{get_length};
 ghost use Rattle.jl_progress.specs.Arrays.{array_after, with_length};
@@ -8,15 +7,14 @@ ghost use Rattle.jl_state.specs.Rank.{Falls};
 ghost use Rattle.jl_state.specs.Rest.{Works};
 ghost use Rattle.jl_value.specs.declared.value.Value.{Value as AnyValue};
 
-use crate::frames::{begin_turn, number_for, sum, wait};
+use crate::frames::{begin_turn, sum, wait};
 use crate::joining::join;
 use crate::shifting::{pop_last, shift_first};
 use crate::splicing::splice;
 use jl_algorithm::get;
-use jl_builtin::number_of_primitive;
-use jl_num::{Num, to_uint32};
+use jl_builtin::{length_of, number_of_primitive, wait_for_number};
 use jl_progress::{
-    AfterMoving, AfterPutting, ArrayProgress, LengthFunction, Moving, Reading, Reversing,
+    AfterMoving, AfterPutting, ArrayProgress, LengthFunction, Moving, Progress, Reading, Reversing,
 };
 use jl_state::{Act, State};
 use jl_store::word;
@@ -61,12 +59,12 @@ pub(crate) fn step_length<'p>(
         (array_after (ArrayProgress.Length function object args) v) state.new act) }
     ensures falls { IfOk result (λ act. Falls state.old 162 state.new act) }
 {
-    let progress = ArrayProgress::LengthPrimitive {
+    let progress = Progress::Array(ArrayProgress::LengthPrimitive {
         function,
         object,
         args,
-    };
-    Ok(number_for(alloc, state, v, progress)?)
+    });
+    Ok(wait_for_number(alloc, state, progress, v)?)
 }
 
 /// Goes on with the length as a primitive value.
@@ -86,13 +84,6 @@ pub(crate) fn step_length_primitive<'p>(
         return Ok(Act::Fault(Fault::NumberOutside));
     };
     Ok(with_length(alloc, state, function, object, args, length_of(n))?)
-}
-
-/// The length that a number says (9.6).
-fn length_of(n: Num) -> usize
-    ensures { result ≡ uint32_of n }
-{
-    to_uint32(n) as usize
 }
 
 /// What a function does with the length.

@@ -1,5 +1,5 @@
 //! The functions by their rows, and how each begins.
-ghost use Rattle.std.specs.Prelude.{◌≡◌, ◌<◌, IfOk};
+ghost use Rattle.std.specs.Prelude.{◌≡◌, IfOk};
 ghost use Rattle.jl_lib_array.specs.Rows.{IsArrayRow};
 ghost use Rattle.jl_lib_array.specs.inner.Rows.{function_on, is_built, length_function, splice_on};
 ghost use Rattle.jl_meaning.specs.builtins.Function.{names_of};
@@ -11,12 +11,12 @@ ghost use Rattle.jl_state.specs.Words.{call_of, table_of};
 use crate::appending::concat;
 use crate::lengths::begin_with_length;
 use crate::strings::array_to_string;
-use jl_builtin::{argument, is_undefined};
+use jl_builtin::{argument, is_undefined, unsupported};
 use jl_progress::LengthFunction;
 use jl_state::{Act, Invocation, State};
 use jl_store::Answer;
 use jl_text::{List, NoMemory};
-use jl_value::{Builtin, Completion, Fault, ObjId, Value};
+use jl_value::{Completion, ObjId, Value};
 use std::alloc::Global;
 
 /// The row of `toLocaleString`, which isn't built.
@@ -60,18 +60,6 @@ fn is_built(alloc: Global, row: u16, args: &[Value]) -> Result<bool, NoMemory>
         return Ok(is_undefined(&comparator));
     }
     Ok(true)
-}
-
-/// The call of a builtin that isn't built ends the run.
-#[tactic(auto, unfolding(jl_value::specs::Builtins::builtin_names))]
-fn unsupported<'p>(row: u16) -> Act<'p>
-    requires { row < 102 }
-    ensures { result ≡ Act.Fault (Fault.Unsupported row) }
-{
-    match Builtin::at(row) {
-        Some(builtin) => Act::Fault(Fault::Unsupported(builtin)),
-        None => unreachable!(),
-    }
 }
 
 /// Begins a function on an object.

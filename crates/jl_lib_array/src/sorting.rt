@@ -8,11 +8,11 @@ ghost use Rattle.jl_state.specs.Rank.{Falls};
 ghost use Rattle.jl_state.specs.Rest.{Works};
 ghost use Rattle.jl_value.specs.declared.value.Value.TheVariants as value;
 
-use crate::frames::{begin_turn, get_for, string_for, sum};
+use crate::frames::{begin_turn, get_for, sum};
 use crate::ordering::{in_order, values_of};
-use jl_builtin::{has_index, is_undefined};
+use jl_builtin::{has_index, is_undefined, wait_for_string};
 use jl_operator::text_of;
-use jl_progress::{AfterPutting, ArrayProgress, Reading};
+use jl_progress::{AfterPutting, ArrayProgress, Progress, Reading};
 use jl_state::{Act, State};
 use jl_text::{List, NoMemory, Text};
 use jl_value::{ObjId, Value, share};
@@ -78,12 +78,12 @@ pub(crate) fn step_sort_element<'p>(
         return Ok(begin_turn(state, ArrayProgress::SortTurn { reading, read })?);
     }
     let element = share(alloc, &v)?;
-    let progress = ArrayProgress::SortPrimitive {
+    let progress = Progress::Array(ArrayProgress::SortPrimitive {
         reading,
         read,
         element,
-    };
-    Ok(string_for(alloc, state, v, progress)?)
+    });
+    Ok(wait_for_string(alloc, state, progress, v)?)
 }
 
 /// Goes on with an element as a primitive value.

@@ -7,11 +7,13 @@ ghost use Rattle.jl_progress.specs.Arrays.{array_after, length_spliced, put_item
 ghost use Rattle.jl_state.specs.Rank.{Falls};
 ghost use Rattle.jl_state.specs.Rest.{Works};
 
-use crate::frames::{begin_turn, number_for, sum};
-use jl_builtin::{argument, clamped, number_of_primitive, relative_index, rest_of};
+use crate::frames::{begin_turn, sum};
+use jl_builtin::{
+    argument, clamped, number_of_primitive, relative_index, rest_of, wait_for_number,
+};
 use jl_progress::{
     AfterCopying, AfterMoving, AfterPutting, ArrayProgress, Copying, LengthFunction, Moving,
-    Splicing,
+    Progress, Splicing,
 };
 use jl_state::{Act, State};
 use jl_text::{List, NoMemory};
@@ -40,13 +42,13 @@ pub(crate) fn splice<'p>(
     ensures falls { IfOk result (λ act. Falls state.old 136 state.new act) }
 {
     let start = argument(alloc, args.items(), 0)?;
-    let progress = ArrayProgress::SpliceStart {
+    let progress = Progress::Array(ArrayProgress::SpliceStart {
         object,
         array,
         length,
         args,
-    };
-    Ok(number_for(alloc, state, start, progress)?)
+    });
+    Ok(wait_for_number(alloc, state, progress, start)?)
 }
 
 /// Goes on with the first argument as a primitive value.
@@ -68,14 +70,14 @@ pub(crate) fn step_splice_start<'p>(
     };
     let start = relative_index(n, length);
     let count = argument(alloc, args.items(), 1)?;
-    let progress = ArrayProgress::SpliceCount {
+    let progress = Progress::Array(ArrayProgress::SpliceCount {
         object,
         array,
         length,
         start,
         args,
-    };
-    Ok(number_for(alloc, state, count, progress)?)
+    });
+    Ok(wait_for_number(alloc, state, progress, count)?)
 }
 
 /// Goes on with the second argument as a primitive value.

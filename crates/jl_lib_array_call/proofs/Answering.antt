@@ -23,6 +23,7 @@ use Rattle.jl_state.specs.declared.act.Act.{Act}
 use Rattle.jl_state.specs.declared.act.Act.TheVariants as act
 use Rattle.jl_state.specs.declared.algorithm_frame.AlgorithmFrame.TheVariants as algorithm
 use Rattle.jl_state.specs.declared.state.State.{State}
+use Rattle.jl_builtin.proofs.Calls.{calls_now}
 use Rattle.jl_lib_array_call.specs.inner.Tasks.{task_end}
 use Rattle.jl_lib_array_call.proofs.TaskTurns.{asks_for, combines_with, AsksFirst}
 
@@ -79,14 +80,6 @@ module _ (s : State) (t : Task) (so_far : Option Value) (d : Direction) (u : Sta
       (subst (λ m. Works s (throw_error TypeError m) u a) said leads))
 
 -- the function is called
-
-pub calls_now : (s : State) (f : ObjId) (this v : Value) (args l : List Value) → this ≡ v → args ≡ l
-    → Works s (call f v l) s (act.Call (record { callee = f; this = this; args = args; by_new = false }))
-calls_now s f this v args l this_is args_are =
-    subst (λ w. Works s (call f w l) s (act.Call (record { callee = f; this = this; args = args; by_new = false })))
-    this_is
-    (subst (λ m. Works s (call f this m) s (act.Call (record { callee = f; this = this; args = args; by_new = false })))
-    args_are (record { is = λ kept told. refl }))
 
 -- for an element
 pub asks_now : (s u : State) (w : kept.Walk) (t : Task) (k : ℕ) (v element this : Value) (args : List Value)

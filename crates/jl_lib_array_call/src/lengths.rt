@@ -4,7 +4,6 @@ ghost use Rattle.jl_lib_array_call.specs.Rows.{length_call};
 ghost use Rattle.jl_meaning.specs.Parts.{◌>>=◌ as ◌then◌};
 ghost use Rattle.jl_meaning.specs.builtins.Elements.{get_length};
 ghost use Rattle.jl_progress.specs.ArrayCalls.{array_call_after, with_length};
-ghost use Rattle.jl_num.specs.Bits.{uint32_of};
 ghost use Rattle.jl_state.specs.Rank.{Falls};
 ghost use Rattle.jl_state.specs.Rest.{Works};
 ghost use Rattle.jl_state.specs.Words.{call_of};
@@ -13,8 +12,7 @@ use crate::searching::search;
 use crate::slicing::slice;
 use crate::walking::begin_walk;
 use jl_algorithm::{get, to_primitive};
-use jl_builtin::number_of_primitive;
-use jl_num::{Num, to_uint32};
+use jl_builtin::{length_of, number_of_primitive};
 use jl_progress::{ArrayCallProgress, LengthFor, Progress};
 use jl_state::{Act, AlgorithmFrame, Hint, Invocation, State};
 use jl_store::{Answer, word};
@@ -102,13 +100,6 @@ pub(crate) fn step_length_primitive<'p>(
         return Ok(Act::Fault(Fault::NumberOutside));
     };
     Ok(with_length(alloc, state, purpose, object, &args, length_of(n))?)
-}
-
-/// A length of a number (9.6).
-fn length_of(n: Num) -> usize
-    ensures { result ≡ uint32_of n }
-{
-    to_uint32(n) as usize
 }
 
 /// What follows when the length is known.

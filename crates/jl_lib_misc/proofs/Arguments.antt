@@ -26,7 +26,7 @@ use Rattle.jl_state.specs.Rest.{Works}
 use Rattle.jl_state.specs.declared.act.Act.{Act}
 use Rattle.jl_state.specs.declared.state.State.{State}
 use Rattle.jl_builtin.specs.Values.{is_undefined}
-use Rattle.jl_lib_misc.proofs.Conversions.{as_integer, as_number, as_string, missing, there}
+use Rattle.jl_builtin.proofs.Conversions.{as_integer, as_number, as_string, missing, there}
 
 -- an argument by its index
 pub argument_is : (c : Call) (args : List Value) (i : ℕ) (v : Value) → args ≡ c.args

@@ -1,10 +1,7 @@
 pub mod Arguments
-pub mod Conversions
-pub mod Founds
 pub mod Leading
 pub mod Lines
 pub mod Messages
 pub mod Objects
-pub mod Receivers
 pub mod Starts
 pub mod Turns

@@ -22,7 +22,7 @@ use Rattle.jl_state.specs.Steps.{Took}
 use Rattle.jl_state.specs.declared.act.Act.{Act}
 use Rattle.jl_state.specs.declared.act.Act.TheVariants as act
 use Rattle.jl_state.specs.declared.state.State.{State}
-use Rattle.jl_lib_misc.proofs.Conversions.{as_string}
+use Rattle.jl_builtin.proofs.Conversions.{as_string}
 
 -- a line with its end, after what was printed
 

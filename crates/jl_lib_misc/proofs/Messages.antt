@@ -27,7 +27,7 @@ use Rattle.jl_state.proofs.Stores.{works_comes}
 use Rattle.jl_algorithm.proofs.Chains.{bind_assoc}
 use Rattle.jl_algorithm.proofs.Throwing.{works_left_out}
 use Rattle.jl_builtin.specs.Values.{is_undefined}
-use Rattle.jl_lib_misc.proofs.Conversions.{as_string, missing, there}
+use Rattle.jl_builtin.proofs.Conversions.{as_string, missing, there}
 
 -- the error that was made is given
 pub gives_error : (s : State) (x : Store) (proto id : ObjId) (message : Option (List ℕ))

@@ -19,8 +19,8 @@ use Rattle.jl_state.specs.declared.act.Act.{Act}
 use Rattle.jl_state.specs.declared.act.Act.TheVariants as act
 use Rattle.jl_state.specs.declared.state.State.{State}
 use Rattle.jl_state.proofs.Stores.{works_comes}
+use Rattle.jl_builtin.proofs.Conversions.{as_number}
 use Rattle.jl_lib_misc.specs.inner.Numbers.{number_or_object}
-use Rattle.jl_lib_misc.proofs.Conversions.{as_number}
 
 -- the object that was made is given
 pub gives_object : (s : State) (x : Store) (by_new : Bool) (kind : Class) (proto : ObjId) (v : Value) (id : ObjId)

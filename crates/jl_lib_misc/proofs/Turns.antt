@@ -14,8 +14,8 @@ use Rattle.jl_state.specs.Rest.{Works}
 use Rattle.jl_state.specs.Steps.{Took}
 use Rattle.jl_state.specs.declared.act.Act.{Act}
 use Rattle.jl_state.specs.declared.state.State.{State}
+use Rattle.jl_builtin.proofs.Conversions.{as_number}
 use Rattle.jl_lib_misc.specs.inner.Extremes.{next_extreme}
-use Rattle.jl_lib_misc.proofs.Conversions.{as_number}
 
 pub extreme_waits : (s t : State) (which : Extreme) (so_far : Option Number) (v : Value) (args : List Value) (from : ℕ)
     (u : State) (a : Act) → Took s t

@@ -14,9 +14,8 @@ ghost use Rattle.jl_state.specs.declared.state.State.{State as Machine};
 ghost use Rattle.jl_store.specs.Comes.{Comes};
 ghost use Rattle.jl_value.specs.declared.value.Value.TheVariants as value;
 
-use crate::waiting::wait_for_string;
 use jl_algorithm::{get, throw_native};
-use jl_builtin::{argument, is_undefined, with_units};
+use jl_builtin::{argument, is_undefined, wait_for_string, with_units};
 use jl_heap::{Inner, Prop};
 use jl_operator::text_of;
 use jl_progress::{ErrorProgress, Progress};

@@ -14,8 +14,7 @@ ghost use Rattle.jl_state.specs.declared.state.State.{State as Machine};
 
 use crate::parsing::parse_signed;
 use crate::printing::resume_print;
-use crate::waiting::{wait_for_number, wait_for_string};
-use jl_builtin::argument;
+use jl_builtin::{argument, wait_for_number, wait_for_string};
 use jl_num::{Num, NumberOutside, to_int32};
 use jl_operator::{number_of, text_of};
 use jl_progress::{GlobalProgress, NumberTest, Progress};

@@ -10,7 +10,6 @@ mod parsing;
 mod printing;
 mod rows;
 mod several;
-mod waiting;
 
 pub use errors::resume_error;
 pub use globals::resume_global;

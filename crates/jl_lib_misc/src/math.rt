@@ -12,8 +12,7 @@ ghost use Rattle.jl_state.specs.Rest.{Works};
 ghost use Rattle.jl_state.specs.Words.{call_of};
 ghost use Rattle.jl_state.specs.declared.state.State.{State as Machine};
 
-use crate::waiting::wait_for_number;
-use jl_builtin::argument;
+use jl_builtin::{argument, wait_for_number};
 use jl_num::{Num, NumberOutside, neg, pow};
 use jl_operator::number_of;
 use jl_progress::{NumberFunction, NumberProgress, Progress};

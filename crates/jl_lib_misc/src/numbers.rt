@@ -13,9 +13,8 @@ ghost use Rattle.jl_state.specs.Rank.{Falls};
 ghost use Rattle.jl_state.specs.Rest.{Works};
 ghost use Rattle.jl_state.specs.Words.{call_of};
 
-use crate::waiting::wait_for_number;
 use jl_algorithm::throw_native;
-use jl_builtin::{argument, integer_of, is_undefined, value_from};
+use jl_builtin::{argument, integer_of, is_undefined, value_from, wait_for_number};
 use jl_heap::Inner;
 use jl_num::{Num, NumberOutside, digits};
 use jl_operator::number_of;

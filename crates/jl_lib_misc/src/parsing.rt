@@ -1,13 +1,13 @@
 //! What `parseInt` reads of a string (15.1.2.2).
 ghost use Rattle.std.specs.Prelude.{◌≡◌, ◌≤◌, MatchOption, Option, Some};
 ghost use Rattle.std.specs.Result.{result_ok};
-ghost use Rattle.jl_conv.specs.Numerals.{is_space, signed, without_front};
+ghost use Rattle.jl_conv.specs.Numerals.{signed, without_front};
 ghost use Rattle.jl_lib_misc.specs.inner.Radix.{IsWithin, leading_number};
 ghost use Rattle.jl_meaning.specs.builtins.Global.{after_hex_prefix, digit_of, parse_after_prefix, parse_after_sign};
 ghost use Rattle.jl_meaning.specs.builtins.Global.{parse_in_radix, parse_signed};
 ghost use Rattle.jl_num.specs.Arithmetic.{number_of};
 
-use jl_lex::{is_line_terminator, is_white_space};
+use jl_builtin::without_front;
 use jl_num::{Num, NumberOutside};
 
 /// The largest number of a script: 2^53 - 1.
@@ -16,24 +16,6 @@ const LARGEST: u64 = 9_007_199_254_740_991;
 const PLUS: u16 = 0x2b;
 
 const MINUS: u16 = 0x2d;
-
-/// Whether a unit is white space or ends a line (7.2, 7.3).
-fn is_space(unit: u16) -> bool
-    ensures { result ≡ is_space unit }
-{
-    is_white_space(unit) || is_line_terminator(unit)
-}
-
-/// The units without the spaces in front.
-fn without_front(units: &[u16]) -> &[u16]
-    ensures { result.now ≡ without_front units.now }
-{
-    let mut from = 0;
-    while from < units.len() && is_space(units[from]) {
-        from += 1;
-    }
-    &units[from..]
-}
 
 /// The value of a unit as a digit; one that is no digit has 36.
 #[tactic(auto, unfolding(jl_token::specs::Characters::is_digit))]

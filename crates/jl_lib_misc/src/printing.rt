@@ -9,8 +9,7 @@ ghost use Rattle.jl_progress.specs.Globals.{line_with};
 ghost use Rattle.jl_state.specs.Rank.{Falls};
 ghost use Rattle.jl_state.specs.Rest.{Works};
 
-use crate::waiting::wait_for_string;
-use jl_builtin::{copy_of, value_from, with_units};
+use jl_builtin::{copy_of, value_from, wait_for_string, with_units};
 use jl_operator::text_of;
 use jl_progress::{GlobalProgress, Progress};
 use jl_state::{Act, State};

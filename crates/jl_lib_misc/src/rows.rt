@@ -1,14 +1,11 @@
 //! The builtins of this crate by their rows, and how those of numbers go on.
 ghost use Rattle.std.specs.Prelude.{◌+◌, ◌≤◌, ◌<◌, IfOk};
-ghost use Rattle.jl_effects.specs.Effects.{Fail};
-ghost use Rattle.jl_meaning.specs.Parts.{Unsupported};
 ghost use Rattle.jl_meaning.specs.builtins.Function.{names_of, FunctionNames};
 ghost use Rattle.jl_meaning.specs.builtins.Table.{builtin};
 ghost use Rattle.jl_progress.specs.Numbers.{number_after, rank_number};
-ghost use Rattle.jl_state.specs.Rank.{rank_act, Falls};
+ghost use Rattle.jl_state.specs.Rank.{Falls};
 ghost use Rattle.jl_state.specs.Rest.{Works};
 ghost use Rattle.jl_state.specs.Words.{call_of, table_of};
-ghost use Rattle.jl_state.specs.declared.state.State.{State as Machine};
 
 use crate::booleans::{boolean_constructor, boolean_to_string, boolean_value_of};
 use crate::errors::{error_constructor, error_to_string};
@@ -19,24 +16,12 @@ use crate::numbers::{
 };
 use crate::printing::print;
 use crate::several::{one_of_arguments, resume_extreme};
+use jl_builtin::unsupported;
 use jl_progress::{Extreme, NumberFunction, NumberProgress, NumberTest};
 use jl_state::{Act, Invocation, State};
 use jl_text::NoMemory;
-use jl_value::{Builtin, Fault, ObjId, Value};
+use jl_value::{ObjId, Value};
 use std::alloc::Global;
-
-/// The fault of the builtin in a row.
-#[tactic(auto, unfolding(jl_value::specs::Builtins::builtin_names))]
-fn unsupported<'p>(row: u16) -> Act<'p>
-    requires { row < 102 }
-    ensures leads { (s : Machine) → Works s (Fail (Unsupported row)) s result }
-    ensures low { rank_act result ≤ 2 }
-{
-    match Builtin::at(row) {
-        Some(builtin) => Act::Fault(Fault::Unsupported(builtin)),
-        None => unreachable!(),
-    }
-}
 
 /// Begins a function of the global object (15.1.2).
 fn start_global<'p>(

@@ -9,8 +9,7 @@ ghost use Rattle.jl_state.specs.Rank.{rank_act, Falls};
 ghost use Rattle.jl_state.specs.Rest.{Works};
 ghost use Rattle.jl_state.specs.declared.state.State.{State as Machine};
 
-use crate::waiting::wait_for_number;
-use jl_builtin::{copy_of, value_from};
+use jl_builtin::{copy_of, value_from, wait_for_number};
 use jl_num::{Num, NumberOutside};
 use jl_operator::number_of;
 use jl_progress::{Extreme, NumberProgress, Progress};

@@ -32,16 +32,8 @@ use Rattle.jl_state.specs.declared.algorithm_frame.AlgorithmFrame.TheVariants as
 use Rattle.jl_state.specs.declared.state.State.{State}
 use Rattle.jl_algorithm.proofs.Chains.{bind_assoc}
 use Rattle.jl_operator.proofs.Operands.{number_waits}
+use Rattle.jl_builtin.proofs.Waits.{length_is}
 use Rattle.jl_lib_object.specs.inner.Calls.{apply_by, apply_element, apply_list}
-
--- a call, as an act
-pub calls_now : (s : State) (f : ObjId) (this v : Value) (args l : List Value) → this ≡ v → args ≡ l
-    → Works s (call f v l) s (act.Call (record { callee = f; this = this; args = args; by_new = false }))
-calls_now s f this v args l this_is args_are =
-    subst (λ w. Works s (call f w l) s (act.Call (record { callee = f; this = this; args = args; by_new = false })))
-    this_is
-    (subst (λ m. Works s (call f this m) s (act.Call (record { callee = f; this = this; args = args; by_new = false })))
-    args_are (record { is = λ kept told. refl }))
 
 module _ (f : ObjId) (this : Value) (list : ObjId) where
   abbrev called : List Value → Algorithm Value
@@ -109,10 +101,6 @@ module _ (f : ObjId) (this : Value) (list : ObjId) where
       subst (λ p. Works s p t a) (counts v)
       (number_waits s u t (algorithm.Builtin (progress.Function (function.LengthPrimitive f this list)))
       (λ n. apply_by f this list (uint32_of n) 0 []) v a (λ p. refl) waits leads)
-
-  length_is : length_name ≡ codes "length"
-  unfolding length_name
-  length_is = refl
 
   pub gets_length : (s u : State) (x : Name) (t : State) (a : Act) → x ≡ codes "length"
       → AlgorithmWaits s (algorithm.Builtin (progress.Function (function.Length f this list))) u

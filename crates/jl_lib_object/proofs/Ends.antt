@@ -1,6 +1,5 @@
 -- What is done with what an algorithm gives that calls no function.
-use Rattle.std.proofs.Common.{◌≡◌, ◌∷◌, [], drop, refl, subst, sym, List, None, Option, Some, ℕ}
-use Rattle.std.specs.Prelude.{MatchOption}
+use Rattle.std.proofs.Common.{◌≡◌, refl, subst, sym}
 use Rattle.jl_value.specs.declared.ending.Completion.TheVariants as completion
 use Rattle.jl_value.specs.declared.value.Value.{Value}
 use Rattle.jl_effects.specs.Running.{Ends}
@@ -54,19 +53,3 @@ module _ {A : Type 0} (p : Algorithm A) (s t : Store) (answer : Answer A) (comes
 
   pub came_thrown : (v : Value) → answer ≡ Throws v → Comes p s t (Ends (throws v))
   came_thrown v is = subst (λ (e : Answer A). Comes p s t (answered e)) is comes
-
--- what is found at an index of a list, and the next index
-
-pub nothing_found : {A : Type 0} (at : ℕ) (items all : List A) (found : Option (A × ℕ)) → items ≡ all
-    → MatchOption found (drop at items ≡ []) (λ r. drop at items ≡ r.0 ∷ drop r.1 items) → found ≡ None
-    → drop at all ≡ []
-nothing_found at items all found same told none =
-    subst (λ l. drop at l ≡ []) same
-    (subst (λ f. MatchOption f (drop at items ≡ []) (λ r. drop at items ≡ r.0 ∷ drop r.1 items)) none told)
-
-pub next_found : {A : Type 0} (at : ℕ) (items all : List A) (found : Option (A × ℕ)) (x : A) (n : ℕ) → items ≡ all
-    → MatchOption found (drop at items ≡ []) (λ r. drop at items ≡ r.0 ∷ drop r.1 items) → found ≡ Some (x, n)
-    → drop at all ≡ x ∷ drop n all
-next_found at items all found x n same told is =
-    subst (λ l. drop at l ≡ x ∷ drop n l) same
-    (subst (λ f. MatchOption f (drop at items ≡ []) (λ r. drop at items ≡ r.0 ∷ drop r.1 items)) is told)

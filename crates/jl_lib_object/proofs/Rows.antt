@@ -1,6 +1,5 @@
 -- The rows of objects and functions in the table of builtins.
 use Rattle.std.proofs.Common.{◌≡◌, refl, subst, sym, ℕ}
-use Rattle.jl_value.specs.declared.ending.Fault.TheVariants as fault
 use Rattle.jl_value.specs.declared.value.Value.{Value}
 use Rattle.jl_meaning.specs.Parts.{Algorithm, Call}
 use Rattle.jl_meaning.specs.builtins.Arguments.{unsupported}
@@ -17,7 +16,6 @@ use Rattle.jl_meaning.specs.builtins.Object.{object_to_string, object_value_of}
 use Rattle.jl_meaning.specs.builtins.Table.{builtin, builtin_rows}
 use Rattle.jl_state.specs.Rest.{Works}
 use Rattle.jl_state.specs.declared.act.Act.{Act}
-use Rattle.jl_state.specs.declared.act.Act.TheVariants as act
 use Rattle.jl_state.specs.declared.state.State.{State}
 
 -- the builtin of a row that is known
@@ -31,12 +29,6 @@ begins_row s names row n c p t a is same leads =
 pub not_built : (s : State) (row n : ℕ) (c : Call) (a : Act) → row ≡ n → Works s (unsupported row c) s a
     → Works s (unsupported n c) s a
 not_built s row n c a is leads = subst (λ r. Works s (unsupported r c) s a) is leads
-
-pub unbuilt : (s : State) (row b : ℕ) (c : Call) → b ≡ row
-    → Works s (unsupported row c) s (act.Fault (fault.Unsupported b))
-unbuilt s row b c is =
-    subst (λ n. Works s (unsupported row c) s (act.Fault (fault.Unsupported n))) (sym is)
-    (record { is = λ kept told. refl })
 
 pub row_0 : (names : FunctionNames) (c : Call) → builtin names 0 c ≡ object_call c
 unfolding builtin builtin_rows

@@ -9,11 +9,11 @@ ghost use Rattle.jl_state.specs.Rank.{Falls};
 ghost use Rattle.jl_state.specs.Rest.{Works};
 ghost use Rattle.jl_state.specs.Words.{call_of};
 
-use crate::objects::is_nothing;
 use crate::waiting::{argument_of, wait_function};
 use jl_algorithm::{get, to_primitive};
-use jl_builtin::{get_index, need_function, need_object, number_of_primitive, rest_of};
-use jl_num::to_uint32;
+use jl_builtin::{
+    get_index, is_nothing, length_of, need_function, need_object, number_of_primitive, rest_of,
+};
 use jl_progress::FunctionProgress;
 use jl_state::{Act, Hint, Invocation, State};
 use jl_store::{Answer, word};
@@ -141,7 +141,7 @@ pub(crate) fn step_length_primitive<'p>(
     let Some(n) = number_of_primitive(p) else {
         return Ok(Act::Fault(Fault::NumberOutside));
     };
-    let length = to_uint32(n) as usize;
+    let length = length_of(n);
     Ok(apply_from(
         alloc,
         state,

@@ -13,18 +13,12 @@ ghost use Rattle.jl_store.specs.Comes.{Comes};
 ghost use Rattle.jl_value.specs.Texts.{class_name};
 
 use crate::waiting::{argument_of, first_object};
+use jl_builtin::is_nothing;
 use jl_state::{Act, Invocation, State};
 use jl_store::{Answer, Store, word};
 use jl_text::NoMemory;
 use jl_value::{Class, Completion, ObjId, Value};
 use std::alloc::Global;
-
-/// Whether a value is undefined or null.
-pub(crate) fn is_nothing(v: &Value) -> bool
-    ensures { result ≡ is_nothing v.now }
-{
-    matches!(v, Value::Undefined | Value::Null)
-}
 
 /// A new object, or the object that a value converts to.
 fn object_for(store: &mut Store, v: &Value) -> Result<Answer<ObjId>, NoMemory>

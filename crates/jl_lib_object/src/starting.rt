@@ -1,13 +1,10 @@
 //! The builtins of objects and functions, by their rows.
-ghost use Rattle.std.specs.Prelude.{◌≡◌, ◌≤◌, ◌<◌, IfOk};
-ghost use Rattle.jl_meaning.specs.Parts.{Call};
-ghost use Rattle.jl_meaning.specs.builtins.Arguments.{unsupported};
+ghost use Rattle.std.specs.Prelude.{◌≤◌, ◌<◌, IfOk};
 ghost use Rattle.jl_meaning.specs.builtins.Function.{names_of};
 ghost use Rattle.jl_meaning.specs.builtins.Table.{builtin};
-ghost use Rattle.jl_state.specs.Rank.{rank_act, Falls};
+ghost use Rattle.jl_state.specs.Rank.{Falls};
 ghost use Rattle.jl_state.specs.Rest.{Works};
 ghost use Rattle.jl_state.specs.Words.{call_of, table_of};
-ghost use Rattle.jl_state.specs.declared.state.State.{State as Machine};
 
 use crate::binding::function_bind;
 use crate::calling::{function_apply, function_call};
@@ -21,24 +18,12 @@ use crate::objects::{
 use crate::own_names::{object_get_own_property_names, object_keys};
 use crate::own_tests::this_has;
 use jl_algorithm::throw_native;
+use jl_builtin::unsupported;
 use jl_progress::{Integrity, OwnTest};
 use jl_state::{Act, Invocation, State};
 use jl_text::NoMemory;
-use jl_value::{Builtin, ErrorKind, Fault, Value};
+use jl_value::{ErrorKind, Fault, Value};
 use std::alloc::Global;
-
-/// A builtin that is there, and isn't built, ends the run.
-#[tactic(auto, unfolding(jl_value::specs::Builtins::builtin_names))]
-fn unsupported<'p>(row: u16) -> Act<'p>
-    requires { row < 102 }
-    ensures leads { (s : Machine) (call : Call) → Works s (unsupported row call) s result }
-    ensures low { rank_act result ≤ 2 }
-{
-    match Builtin::at(row) {
-        Some(builtin) => Act::Fault(Fault::Unsupported(builtin)),
-        None => unreachable!(),
-    }
-}
 
 /// The builtin of a row of the constructor Object, up to `Object.preventExtensions`.
 fn start_changing<'p>(

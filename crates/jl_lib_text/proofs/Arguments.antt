@@ -25,7 +25,7 @@ use Rattle.jl_state.specs.declared.act.Act.{Act}
 use Rattle.jl_state.specs.declared.state.State.{State}
 use Rattle.jl_state.proofs.Stores.{works_comes}
 use Rattle.jl_builtin.specs.Values.{is_undefined}
-use Rattle.jl_lib_text.proofs.Conversions.{as_integer, as_string, missing, there}
+use Rattle.jl_builtin.proofs.Conversions.{as_integer, as_string, missing, there}
 
 module _ (s t : State) (a : Act) (units : List ℕ) (args : List Value) where
   pub position_waits : (form : UnitForm) (v : Value) → v ≡ argument_at args 0

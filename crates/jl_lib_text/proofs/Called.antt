@@ -27,8 +27,8 @@ use Rattle.jl_state.specs.Rest.{Works}
 use Rattle.jl_state.specs.declared.act.Act.{Act}
 use Rattle.jl_state.specs.declared.state.State.{State}
 use Rattle.jl_operator.proofs.Operands.{chained}
+use Rattle.jl_builtin.proofs.Conversions.{as_string}
 use Rattle.jl_lib_text.specs.inner.Rows.{methods}
-use Rattle.jl_lib_text.proofs.Conversions.{as_string}
 
 -- rows
 

@@ -1,9 +1,6 @@
 pub mod Arguments
 pub mod Called
-pub mod Conversions
-pub mod Founds
 pub mod Objects
 pub mod Pieces
-pub mod Receivers
 pub mod Splits
 pub mod Turns

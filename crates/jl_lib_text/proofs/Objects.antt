@@ -17,7 +17,7 @@ use Rattle.jl_state.specs.declared.act.Act.{Act}
 use Rattle.jl_state.specs.declared.act.Act.TheVariants as act
 use Rattle.jl_state.specs.declared.state.State.{State}
 use Rattle.jl_state.proofs.Stores.{works_comes}
-use Rattle.jl_lib_text.proofs.Conversions.{as_string}
+use Rattle.jl_builtin.proofs.Conversions.{as_string}
 
 -- the object that was made is given
 pub gives_object : (s : State) (x : Store) (by_new : Bool) (units : List ℕ) (id : ObjId) → by_new ≡ true

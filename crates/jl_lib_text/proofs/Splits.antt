@@ -17,7 +17,7 @@ use Rattle.jl_state.specs.declared.act.Act.{Act}
 use Rattle.jl_state.specs.declared.state.State.{State}
 use Rattle.jl_operator.proofs.Operands.{chained}
 use Rattle.jl_builtin.specs.Values.{is_undefined}
-use Rattle.jl_lib_text.proofs.Conversions.{as_string, as_uint32, missing, there}
+use Rattle.jl_builtin.proofs.Conversions.{as_string, as_uint32, missing, there}
 
 -- an array is filled with values
 abbrev pub filled : ObjId → List Value → Algorithm Value

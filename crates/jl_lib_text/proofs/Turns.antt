@@ -17,8 +17,8 @@ use Rattle.jl_state.specs.Steps.{Took}
 use Rattle.jl_state.specs.declared.act.Act.{Act}
 use Rattle.jl_state.specs.declared.state.State.{State}
 use Rattle.jl_operator.proofs.Operands.{chained}
+use Rattle.jl_builtin.proofs.Conversions.{as_number, as_string}
 use Rattle.jl_lib_text.specs.inner.Turns.{string_joined, string_of_codes}
-use Rattle.jl_lib_text.proofs.Conversions.{as_number, as_string}
 
 -- an argument of `fromCharCode` takes a turn
 

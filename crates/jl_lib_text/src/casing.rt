@@ -8,7 +8,8 @@ ghost use Rattle.jl_state.specs.Rank.{rank_act};
 ghost use Rattle.jl_state.specs.Rest.{Works};
 ghost use Rattle.jl_state.specs.declared.state.State.{State as Machine};
 
-use crate::texts::{text_of_units, unsupported};
+use crate::texts::text_of_units;
+use jl_builtin::unsupported;
 use jl_progress::LetterCase;
 use jl_state::Act;
 use jl_text::{List, NoMemory, Text};

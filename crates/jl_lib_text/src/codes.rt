@@ -8,11 +8,10 @@ ghost use Rattle.jl_state.specs.Rank.{Falls};
 ghost use Rattle.jl_state.specs.Rest.{Works};
 ghost use Rattle.jl_state.specs.Words.{call_of};
 
-use crate::waiting::wait_for_number;
-use jl_builtin::{copy_of, give_text, value_from, with_units};
+use jl_builtin::{copy_of, give_text, value_from, wait_for_number, with_units};
 use jl_num::{NumberOutside, to_uint16};
 use jl_operator::number_of;
-use jl_progress::StringProgress;
+use jl_progress::{Progress, StringProgress};
 use jl_state::{Act, Invocation, State};
 use jl_text::{List, NoMemory};
 use jl_value::{Fault, Value};
@@ -50,7 +49,7 @@ fn convert_code<'p>(
     if !state.spend() {
         return Ok(Act::Spent);
     }
-    let progress = StringProgress::CharCode { units, args, from };
+    let progress = Progress::String(StringProgress::CharCode { units, args, from });
     Ok(wait_for_number(alloc, state, progress, v)?)
 }
 

@@ -7,12 +7,11 @@ ghost use Rattle.jl_state.specs.Rank.{Falls};
 ghost use Rattle.jl_state.specs.Rest.{Works};
 ghost use Rattle.jl_state.specs.Words.{call_of};
 
-use crate::waiting::wait_for_string;
 use jl_algorithm::throw_native;
-use jl_builtin::value_from;
+use jl_builtin::{value_from, wait_for_string};
 use jl_heap::Inner;
 use jl_operator::text_of;
-use jl_progress::StringProgress;
+use jl_progress::{Progress, StringProgress};
 use jl_state::{Act, Invocation, State};
 use jl_store::{Store, word};
 use jl_text::{NoMemory, Text};
@@ -51,7 +50,7 @@ pub(crate) fn string_constructor<'p>(
             string_or_object(state, by_new, empty)
         }
         Some((v, _)) => {
-            let progress = StringProgress::Given { by_new };
+            let progress = Progress::String(StringProgress::Given { by_new });
             Ok(wait_for_string(alloc, state, progress, v)?)
         }
     }

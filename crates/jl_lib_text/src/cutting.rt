@@ -12,11 +12,10 @@ ghost use Rattle.jl_state.specs.Rest.{Works};
 ghost use Rattle.jl_state.specs.declared.state.State.{State as Machine};
 
 use crate::texts::range_of;
-use crate::waiting::wait_for_number;
-use jl_builtin::{argument, clamped, is_undefined, relative_index};
+use jl_builtin::{argument, clamped, is_undefined, relative_index, wait_for_number};
 use jl_num::{Num, NumberOutside};
 use jl_operator::number_of;
-use jl_progress::{Cut, StringProgress};
+use jl_progress::{Cut, Progress, StringProgress};
 use jl_state::{Act, State};
 use jl_text::{NoMemory, Text};
 use jl_value::{Fault, Value};
@@ -36,7 +35,7 @@ pub(crate) fn convert_start<'p>(
 {
     let start = argument(alloc, args, 0)?;
     let end = argument(alloc, args, 1)?;
-    let progress = StringProgress::Start { cut, units, end };
+    let progress = Progress::String(StringProgress::Start { cut, units, end });
     Ok(wait_for_number(alloc, state, progress, start)?)
 }
 
@@ -100,7 +99,7 @@ fn convert_end<'p>(
         let length = length_of(&units);
         return Ok(give_cut(alloc, cut, &units, start, length)?);
     }
-    let progress = StringProgress::End { cut, units, start };
+    let progress = Progress::String(StringProgress::End { cut, units, start });
     Ok(wait_for_number(alloc, state, progress, end)?)
 }
 

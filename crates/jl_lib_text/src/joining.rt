@@ -7,10 +7,9 @@ ghost use Rattle.jl_state.specs.Rank.{Falls};
 ghost use Rattle.jl_state.specs.Rest.{Works};
 
 use crate::texts::text_of_units;
-use crate::waiting::wait_for_string;
-use jl_builtin::{copy_of, value_from, with_units};
+use jl_builtin::{copy_of, value_from, wait_for_string, with_units};
 use jl_operator::text_of;
-use jl_progress::StringProgress;
+use jl_progress::{Progress, StringProgress};
 use jl_state::{Act, State};
 use jl_text::{List, MOST_UNITS, NoMemory, Text};
 use jl_value::{Fault, Value};
@@ -49,7 +48,7 @@ fn convert_next<'p>(
     if !state.spend() {
         return Ok(Act::Spent);
     }
-    let progress = StringProgress::Joined { units, args, from };
+    let progress = Progress::String(StringProgress::Joined { units, args, from });
     Ok(wait_for_string(alloc, state, progress, v)?)
 }
 

@@ -13,6 +13,5 @@ mod rows;
 mod spaces;
 mod splitting;
 mod texts;
-mod waiting;
 
 pub use rows::{resume, start};

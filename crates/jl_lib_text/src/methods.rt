@@ -15,11 +15,10 @@ use crate::places::convert_part;
 use crate::positions::convert_position;
 use crate::spaces::give_trimmed;
 use crate::splitting::split;
-use crate::waiting::wait_for_string;
 use jl_algorithm::throw_native;
-use jl_builtin::copy_of;
+use jl_builtin::{copy_of, wait_for_string};
 use jl_operator::text_of;
-use jl_progress::{StringMethod, StringProgress};
+use jl_progress::{Progress, StringMethod, StringProgress};
 use jl_state::{Act, Invocation, State};
 use jl_text::{List, NoMemory, Text};
 use jl_value::{ErrorKind, Value, share};
@@ -47,7 +46,7 @@ pub(crate) fn call_method<'p>(
         }
         this => {
             let args = copy_of(alloc, call.args.items())?;
-            let progress = StringProgress::This { method, args };
+            let progress = Progress::String(StringProgress::This { method, args });
             Ok(wait_for_string(alloc, state, progress, share(alloc, this)?)?)
         }
     }

@@ -9,11 +9,10 @@ ghost use Rattle.jl_progress.specs.declared.string.StringProgress.TheVariants as
 ghost use Rattle.jl_state.specs.Rank.{Falls};
 ghost use Rattle.jl_state.specs.Rest.{Works};
 
-use crate::waiting::{wait_for_number, wait_for_string};
-use jl_builtin::{argument, clamped, index_or_none};
+use jl_builtin::{argument, clamped, index_or_none, wait_for_number, wait_for_string};
 use jl_num::{Num, NumberOutside};
 use jl_operator::{number_of, text_of};
-use jl_progress::{Search, StringProgress};
+use jl_progress::{Progress, Search, StringProgress};
 use jl_state::{Act, State};
 use jl_text::{NoMemory, Text};
 use jl_value::{Fault, Value};
@@ -33,11 +32,11 @@ pub(crate) fn convert_part<'p>(
 {
     let part = argument(alloc, args, 0)?;
     let position = argument(alloc, args, 1)?;
-    let progress = StringProgress::Part {
+    let progress = Progress::String(StringProgress::Part {
         search,
         units,
         position,
-    };
+    });
     Ok(wait_for_string(alloc, state, progress, part)?)
 }
 
@@ -54,11 +53,11 @@ fn convert_place<'p>(
         (to_number position then λ n. give (place_of_part search units part n)) state.new act) }
     ensures falls { IfOk result (λ act. Falls state.old 22 state.new act) }
 {
-    let progress = StringProgress::Place {
+    let progress = Progress::String(StringProgress::Place {
         search,
         units,
         part,
-    };
+    });
     Ok(wait_for_number(alloc, state, progress, position)?)
 }
 

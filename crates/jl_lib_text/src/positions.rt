@@ -11,11 +11,10 @@ ghost use Rattle.jl_state.specs.Rest.{Works};
 ghost use Rattle.jl_state.specs.declared.state.State.{State as Machine};
 
 use crate::texts::text_of_units;
-use crate::waiting::wait_for_number;
-use jl_builtin::{argument, integer_of};
+use jl_builtin::{argument, integer_of, wait_for_number};
 use jl_num::{Num, NumberOutside};
 use jl_operator::number_of;
-use jl_progress::{StringProgress, UnitForm};
+use jl_progress::{Progress, StringProgress, UnitForm};
 use jl_state::{Act, State};
 use jl_store::{count, word};
 use jl_text::{NoMemory, Text};
@@ -35,7 +34,7 @@ pub(crate) fn convert_position<'p>(
     ensures falls { IfOk result (λ act. Falls state.old 22 state.new act) }
 {
     let position = argument(alloc, args, 0)?;
-    let progress = StringProgress::Position { form, units };
+    let progress = Progress::String(StringProgress::Position { form, units });
     Ok(wait_for_number(alloc, state, progress, position)?)
 }
 

@@ -13,11 +13,10 @@ ghost use Rattle.jl_state.specs.Rest.{Works};
 ghost use Rattle.jl_value.specs.declared.value.Value.TheVariants as value;
 
 use crate::texts::text_of_units;
-use crate::waiting::{wait_for_number, wait_for_string};
-use jl_builtin::{argument, copy_of, fill_array, is_undefined};
+use jl_builtin::{argument, copy_of, fill_array, is_undefined, wait_for_number, wait_for_string};
 use jl_num::{NumberOutside, to_uint32};
 use jl_operator::{number_of, text_of};
-use jl_progress::StringProgress;
+use jl_progress::{Progress, StringProgress};
 use jl_state::{Act, State};
 use jl_text::{List, NoMemory, Text};
 use jl_value::{Fault, ObjId, Value};
@@ -109,11 +108,11 @@ fn convert_separator<'p>(
         let piece = one_piece(alloc, units)?;
         return Ok(fill_with_pieces(alloc, state, array, limit, piece.items())?);
     }
-    let progress = StringProgress::Separator {
+    let progress = Progress::String(StringProgress::Separator {
         units,
         array,
         limit,
-    };
+    });
     Ok(wait_for_string(alloc, state, progress, separator)?)
 }
 
@@ -133,11 +132,11 @@ fn convert_limit<'p>(
     if is_undefined(&limit) {
         return Ok(convert_separator(alloc, state, units, array, separator, u32::MAX)?);
     }
-    let progress = StringProgress::Limit {
+    let progress = Progress::String(StringProgress::Limit {
         units,
         array,
         separator,
-    };
+    });
     Ok(wait_for_number(alloc, state, progress, limit)?)
 }
 

@@ -1,14 +1,7 @@
 //! Strings that are no longer than one that there is.
-ghost use Rattle.std.specs.Prelude.{◌≡◌, ◌≤◌, ◌<◌, length, slice_range, IfOk};
-ghost use Rattle.jl_effects.specs.Effects.{Fail};
-ghost use Rattle.jl_meaning.specs.Parts.{Unsupported};
-ghost use Rattle.jl_state.specs.Rank.{rank_act};
-ghost use Rattle.jl_state.specs.Rest.{Works};
-ghost use Rattle.jl_state.specs.declared.state.State.{State as Machine};
+ghost use Rattle.std.specs.Prelude.{◌≡◌, ◌≤◌, length, slice_range, IfOk};
 
-use jl_state::Act;
 use jl_text::{NoMemory, Text, TextFault};
-use jl_value::{Builtin, Fault};
 use std::alloc::Global;
 
 /// The string of these units.
@@ -37,17 +30,4 @@ pub(crate) fn range_of(
         return units.slice(alloc, from, to);
     }
     text_of_units(alloc, &[])
-}
-
-/// The fault of the builtin in a row.
-#[tactic(auto, unfolding(jl_value::specs::Builtins::builtin_names))]
-pub(crate) fn unsupported<'p>(row: u16) -> Act<'p>
-    requires { row < 102 }
-    ensures leads { (s : Machine) → Works s (Fail (Unsupported row)) s result }
-    ensures low { rank_act result ≤ 2 }
-{
-    match Builtin::at(row) {
-        Some(builtin) => Act::Fault(Fault::Unsupported(builtin)),
-        None => unreachable!(),
-    }
 }

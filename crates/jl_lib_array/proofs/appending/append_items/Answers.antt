@@ -1,5 +1,5 @@
 use Rattle.std.proofs.Common.{drop, refl}
-use Rattle.jl_lib_array.proofs.Found.{none_from, some_from}
+use Rattle.jl_builtin.proofs.FoundItems.{none_from, some_from}
 use Rattle.jl_lib_array.proofs.Turns.{appends_end, appends_spent, appends_take}
 use Rattle.jl_lib_array.proofs.appending.append_items.Goals as goal
 

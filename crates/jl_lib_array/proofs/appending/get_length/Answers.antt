@@ -1,5 +1,5 @@
 use Rattle.jl_progress.specs.Arrays.{array_after}
-use Rattle.jl_lib_array.proofs.Converted.{length_of_item}
+use Rattle.jl_lib_array.proofs.Gets.{length_of_item}
 use Rattle.jl_lib_array.proofs.Waiting.{falls_waiting}
 use Rattle.jl_lib_array.proofs.appending.get_length.Goals as goal
 

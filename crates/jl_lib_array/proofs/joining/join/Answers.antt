@@ -11,4 +11,4 @@ returns-then-is_undefined-clause-leads c =
 pub returns-clause-leads : goal.returns-clause-leads
 returns-clause-leads c =
     joins_by c.args.state.now _ _ c.args.object c.args.args.now c.args.length _ c.in_ok-separator.ensures
-    (sym c.is_undefined.ensures ∙ c.if-is_undefined.false) c.in_ok-string_for.ensures.leads
+    (sym c.is_undefined.ensures ∙ c.if-is_undefined.false) c.in_ok-wait_for_string.ensures.leads

@@ -11,4 +11,4 @@ returns-then-is_nothing-clause-leads c =
 pub returns-clause-leads : goal.returns-clause-leads
 returns-clause-leads c =
     next_converts _ _ _ c.args.v (join_next c.args.joining c.args.line)
-    (sym c.is_nothing.ensures ∙ c.if-is_nothing.false) c.in_ok-string_for.ensures.leads
+    (sym c.is_nothing.ensures ∙ c.if-is_nothing.false) c.in_ok-wait_for_string.ensures.leads

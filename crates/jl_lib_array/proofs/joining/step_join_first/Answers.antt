@@ -11,4 +11,4 @@ returns-then-is_nothing-clause-leads c =
 pub returns-clause-leads : goal.returns-clause-leads
 returns-clause-leads c =
     next_converts _ _ _ c.args.v (join_first c.args.joining) (sym c.is_nothing.ensures ∙ c.if-is_nothing.false)
-    c.in_ok-string_for.ensures.leads
+    c.in_ok-wait_for_string.ensures.leads

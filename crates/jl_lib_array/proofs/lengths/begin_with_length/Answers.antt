@@ -1,5 +1,5 @@
 use Rattle.jl_progress.specs.Arrays.{with_length}
-use Rattle.jl_lib_array.proofs.Converted.{length_got}
+use Rattle.jl_lib_array.proofs.Gets.{length_got}
 use Rattle.jl_lib_array.proofs.lengths.begin_with_length.Goals as goal
 
 pub returns-clause-leads : goal.returns-clause-leads

@@ -1,5 +1,5 @@
 use Rattle.std.proofs.Common.{drop, refl}
-use Rattle.jl_lib_array.proofs.Found.{none_from, some_from}
+use Rattle.jl_builtin.proofs.FoundItems.{none_from, some_from}
 use Rattle.jl_lib_array.proofs.Turns.{puts_end, puts_spent, puts_take}
 use Rattle.jl_lib_array.proofs.putting.put_turn.Goals as goal
 

@@ -10,4 +10,4 @@ returns-then-is_undefined-clause-leads c =
 pub returns-clause-leads : goal.returns-clause-leads
 returns-clause-leads c =
     reads_string _ _ _ c.args.reading c.args.read c.args.v _ c.in_ok-element.ensures
-    (sym c.if-is_undefined.ensures) c.in_ok-string_for.ensures.leads
+    (sym c.if-is_undefined.ensures) c.in_ok-wait_for_string.ensures.leads

@@ -9,4 +9,4 @@ pub returns-clause-leads : goal.returns-clause-leads
 returns-clause-leads c =
     splices_start _ _ _ c.args.object c.args.array c.args.length c.args.args _
     (c.in_ok-start.ensures ∙ ap (λ (l : List Value). slice_index_or l 0 value.Undefined) c.items.ensures)
-    c.in_ok-number_for.ensures.leads
+    c.in_ok-wait_for_number.ensures.leads

@@ -20,4 +20,4 @@ returns-clause-leads c =
     splices_count _ _ _ c.args.object c.args.array c.args.length c.args.args c.args.p.now c.in-Some.n _ _
     (sym c.in-Some.is ∙ c.number_of_primitive.ensures) c.relative_index-start.ensures
     (c.in_ok-count.ensures ∙ ap (λ (l : List Value). slice_index_or l 1 value.Undefined) c.items.ensures)
-    c.in_ok-number_for.ensures.leads
+    c.in_ok-wait_for_number.ensures.leads

@@ -1,7 +1,7 @@
 use Rattle.std.proofs.Common.{codes}
 use Rattle.jl_progress.specs.Arrays.{array_after}
 use Rattle.jl_progress.specs.declared.array.ArrayProgress.TheVariants as array
-use Rattle.jl_lib_array.proofs.Converted.{named_got}
+use Rattle.jl_lib_array.proofs.Gets.{named_got}
 use Rattle.jl_lib_array.proofs.strings.array_to_string.Goals as goal
 
 pub returns-clause-leads : goal.returns-clause-leads

@@ -5,7 +5,7 @@ use Rattle.jl_meaning.specs.builtins.Arguments.{give_string}
 use Rattle.jl_meaning.specs.builtins.Boolean.{boolean_of_receiver}
 use Rattle.jl_state.specs.Rest.{Works}
 use Rattle.jl_state.specs.declared.act.Act.TheVariants as act
-use Rattle.jl_lib_misc.proofs.Receivers.{receives, refuses}
+use Rattle.jl_builtin.proofs.Receivers.{receives, refuses}
 use Rattle.jl_lib_misc.proofs.booleans.boolean_to_string.Goals as goal
 
 pub returns-in_ok-text_of-in-Some-clause-leads : goal.returns-in_ok-text_of-in-Some-clause-leads

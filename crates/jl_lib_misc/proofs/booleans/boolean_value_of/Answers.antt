@@ -1,6 +1,6 @@
 use Rattle.jl_meaning.specs.Relations.{give_truth}
 use Rattle.jl_meaning.specs.builtins.Boolean.{boolean_of_receiver}
-use Rattle.jl_lib_misc.proofs.Receivers.{refuses}
+use Rattle.jl_builtin.proofs.Receivers.{refuses}
 use Rattle.jl_lib_misc.proofs.booleans.boolean_value_of.Goals as goal
 
 pub returns-in_ok-throw_native-in-None-clause-leads : goal.returns-in_ok-throw_native-in-None-clause-leads

@@ -1,5 +1,5 @@
 use Rattle.std.proofs.Common.{refl}
-use Rattle.jl_lib_misc.proofs.Conversions.{as_number}
+use Rattle.jl_builtin.proofs.Conversions.{as_number}
 use Rattle.jl_lib_misc.proofs.math.convert_exponent.Goals as goal
 
 pub returns-clause-leads : goal.returns-clause-leads

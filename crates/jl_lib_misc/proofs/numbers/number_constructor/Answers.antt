@@ -1,6 +1,6 @@
 use Rattle.std.proofs.Common.{refl}
 use Rattle.jl_state.specs.Words.{call_of}
-use Rattle.jl_lib_misc.proofs.Founds.{some_from}
+use Rattle.jl_builtin.proofs.FoundItems.{some_from}
 use Rattle.jl_lib_misc.proofs.Objects.{constructs_with}
 use Rattle.jl_lib_misc.proofs.numbers.number_constructor.Goals as goal
 

@@ -4,7 +4,7 @@ use Rattle.jl_meaning.specs.Parts.{◌>>=◌}
 use Rattle.jl_meaning.specs.builtins.Arguments.{argument, unless_undefined}
 use Rattle.jl_meaning.specs.builtins.Number.{number_of_receiver, string_in_radix}
 use Rattle.jl_state.specs.Words.{call_of}
-use Rattle.jl_lib_misc.proofs.Receivers.{refuses}
+use Rattle.jl_builtin.proofs.Receivers.{refuses}
 use Rattle.jl_lib_misc.proofs.numbers.number_to_string.Goals as goal
 
 pub returns-in_ok-throw_native-in-None-clause-leads : goal.returns-in_ok-throw_native-in-None-clause-leads

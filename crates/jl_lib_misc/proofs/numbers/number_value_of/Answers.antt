@@ -1,7 +1,7 @@
 use Rattle.jl_value.specs.declared.value.Value.TheVariants as value
 use Rattle.jl_meaning.specs.Parts.{give}
 use Rattle.jl_meaning.specs.builtins.Number.{number_of_receiver}
-use Rattle.jl_lib_misc.proofs.Receivers.{refuses}
+use Rattle.jl_builtin.proofs.Receivers.{refuses}
 use Rattle.jl_lib_misc.proofs.numbers.number_value_of.Goals as goal
 
 pub returns-in_ok-throw_native-in-None-clause-leads : goal.returns-in_ok-throw_native-in-None-clause-leads

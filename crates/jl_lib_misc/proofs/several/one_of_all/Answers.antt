@@ -2,7 +2,7 @@ use Rattle.std.proofs.Common.{subst, sym}
 use Rattle.jl_meaning.specs.builtins.Math.{one_of_all}
 use Rattle.jl_progress.specs.Numbers.{pick_of}
 use Rattle.jl_state.specs.Rest.{Works}
-use Rattle.jl_lib_misc.proofs.Founds.{none_from, some_from}
+use Rattle.jl_builtin.proofs.FoundItems.{none_from, some_from}
 use Rattle.jl_lib_misc.proofs.several.one_of_all.Goals as goal
 
 pub returns-in-None-clause-leads : goal.returns-in-None-clause-leads

@@ -1,5 +1,6 @@
 use Rattle.std.proofs.Common.{refl}
-use Rattle.jl_lib_object.proofs.Applications.{applies, applies_element, calls_now}
+use Rattle.jl_builtin.proofs.Calls.{calls_now}
+use Rattle.jl_lib_object.proofs.Applications.{applies, applies_element}
 use Rattle.jl_lib_object.proofs.calling.apply_from.Goals as goal
 
 pub returns-then-from-length-clause-leads : goal.returns-then-from-length-clause-leads

@@ -1,5 +1,6 @@
 use Rattle.std.proofs.Common.{refl, sym, ◌∙◌}
-use Rattle.jl_lib_object.proofs.Applications.{calls_now, has_arguments, no_arguments}
+use Rattle.jl_builtin.proofs.Calls.{calls_now}
+use Rattle.jl_lib_object.proofs.Applications.{has_arguments, no_arguments}
 use Rattle.jl_lib_object.proofs.Ends.{goes_on, throws_on}
 use Rattle.jl_lib_object.proofs.calling.apply_values.Goals as goal
 

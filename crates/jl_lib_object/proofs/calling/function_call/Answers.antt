@@ -1,5 +1,5 @@
 use Rattle.std.proofs.Common.{◌∙◌, ap, drop}
-use Rattle.jl_lib_object.proofs.Applications.{calls_now}
+use Rattle.jl_builtin.proofs.Calls.{calls_now}
 use Rattle.jl_lib_object.proofs.Ends.{goes_on, throws_on}
 use Rattle.jl_lib_object.proofs.calling.function_call.Goals as goal
 

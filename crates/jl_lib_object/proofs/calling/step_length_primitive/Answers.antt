@@ -8,6 +8,6 @@ returns-in_default-clause-leads c =
 
 pub returns-clause-leads : goal.returns-clause-leads
 returns-clause-leads c =
-    begins_at _ _ _ _ _ _ _ _ _ _ (sym c.number_of_primitive.ensures ∙ c.in-Some.is) c.to_uint32-length.ensures
+    begins_at _ _ _ _ _ _ _ _ _ _ (sym c.number_of_primitive.ensures ∙ c.in-Some.is) c.length_of-length.ensures
     c.new.ensures
     c.in_ok-apply_from.ensures.leads

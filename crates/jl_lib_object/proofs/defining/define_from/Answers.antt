@@ -1,21 +1,21 @@
+use Rattle.jl_builtin.proofs.FoundItems.{none_from, some_from}
 use Rattle.jl_lib_object.proofs.Definitions.{defined_all, defined_next}
 use Rattle.jl_lib_object.proofs.Ranks.{falls_next}
-use Rattle.jl_lib_object.proofs.Ends.{next_found, nothing_found}
 use Rattle.jl_lib_object.proofs.defining.define_from.Goals as goal
 
 pub returns-in-None-clause-leads : goal.returns-in-None-clause-leads
 returns-in-None-clause-leads c =
-    defined_all _ _ _ (nothing_found c.args.from _ c.args.changes _ c.items.ensures c.in_ok-change_from.ensures
+    defined_all _ _ _ (none_from c.args.from _ c.args.changes _ c.items.ensures c.in_ok-change_from.ensures
     c.in-None.is)
 
 pub returns-clause-leads : goal.returns-clause-leads
 returns-clause-leads c =
     defined_next _ _ _ _ c.args.changes c.in-Some.next _ _
-    (next_found c.args.from _ c.args.changes _ _ _ c.items.ensures c.in_ok-change_from.ensures c.in-Some.is)
+    (some_from c.args.from _ _ c.args.changes _ _ c.items.ensures c.in_ok-change_from.ensures c.in-Some.is)
     c.in_ok-define_one-in-Some.ensures.leads
 
 pub returns-clause-falls : goal.returns-clause-falls
 returns-clause-falls c =
-    falls_next _ _ _ _ _ _ (next_found c.args.from _ c.args.changes _ _ _ c.items.ensures c.in_ok-change_from.ensures
+    falls_next _ _ _ _ _ _ (some_from c.args.from _ _ c.args.changes _ _ c.items.ensures c.in_ok-change_from.ensures
     c.in-Some.is)
     c.in_ok-define_one-in-Some.ensures.falls

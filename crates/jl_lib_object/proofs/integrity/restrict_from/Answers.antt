@@ -1,15 +1,15 @@
+use Rattle.jl_builtin.proofs.FoundItems.{none_from, some_from}
 use Rattle.jl_lib_object.proofs.Restrictions.{restricted_all, restricts_next}
-use Rattle.jl_lib_object.proofs.Ends.{next_found, nothing_found}
 use Rattle.jl_lib_object.proofs.integrity.restrict_from.Goals as goal
 
 pub returns-in-None-clause-leads : goal.returns-in-None-clause-leads
 returns-in-None-clause-leads c =
-    restricted_all _ _ _ _ _ (nothing_found c.args.from _ c.args.names _ c.items.ensures c.in_ok-name_from.ensures
+    restricted_all _ _ _ _ _ (none_from c.args.from _ c.args.names _ c.items.ensures c.in_ok-name_from.ensures
     c.in-None.is)
     c.prevent_extensions.ensures
 
 pub returns-clause-leads : goal.returns-clause-leads
 returns-clause-leads c =
-    restricts_next _ _ _ _ _ _ _ _ (next_found c.args.from _ c.args.names _ _ _ c.items.ensures
+    restricts_next _ _ _ _ _ _ _ _ (some_from c.args.from _ _ c.args.names _ _ c.items.ensures
     c.in_ok-name_from.ensures c.in-Some.is)
     c.in_ok-restrict_one-in-Some.ensures.leads

@@ -1,17 +1,17 @@
 use Rattle.std.proofs.Common.{◌∙◌, ap}
 use Rattle.std.specs.Prelude.{not, ◌&&◌}
+use Rattle.jl_builtin.proofs.FoundItems.{none_from, some_from}
 use Rattle.jl_lib_object.proofs.Restrictions.{tested_all, tests_next}
-use Rattle.jl_lib_object.proofs.Ends.{next_found, nothing_found}
 use Rattle.jl_lib_object.proofs.integrity.test_from.Goals as goal
 
 pub returns-in-None-clause-leads : goal.returns-in-None-clause-leads
 returns-in-None-clause-leads c =
-    tested_all _ _ _ _ _ _ (nothing_found c.args.from _ c.args.names _ c.items.ensures c.in_ok-name_from.ensures
+    tested_all _ _ _ _ _ _ (none_from c.args.from _ c.args.names _ c.items.ensures c.in_ok-name_from.ensures
     c.in-None.is)
     (c.both-closed.ensures ∙ ap (λ e. c.args.holds && not e) c.is_extensible.ensures)
 
 pub returns-clause-leads : goal.returns-clause-leads
 returns-clause-leads c =
-    tests_next _ _ _ _ _ _ _ _ _ (next_found c.args.from _ c.args.names _ _ _ c.items.ensures c.in_ok-name_from.ensures
+    tests_next _ _ _ _ _ _ _ _ _ (some_from c.args.from _ _ c.args.names _ _ c.items.ensures c.in_ok-name_from.ensures
     c.in-Some.is)
     c.in_ok-test_one-in-Some.ensures.leads

@@ -3,8 +3,8 @@ use Rattle.jl_meaning.specs.Errors.{string_within}
 use Rattle.jl_meaning.specs.Parts.{◌>>=◌}
 use Rattle.jl_meaning.specs.builtins.Arguments.{give_string}
 use Rattle.jl_state.specs.Rest.{Works}
+use Rattle.jl_builtin.proofs.FoundItems.{none_from, some_from}
 use Rattle.jl_lib_text.specs.inner.Turns.{string_of_codes}
-use Rattle.jl_lib_text.proofs.Founds.{none_from, some_from}
 use Rattle.jl_lib_text.proofs.codes.string_of_codes.Goals as goal
 
 pub returns-in-None-clause-leads : goal.returns-in-None-clause-leads

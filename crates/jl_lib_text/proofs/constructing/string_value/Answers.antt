@@ -1,6 +1,6 @@
 use Rattle.jl_meaning.specs.builtins.Arguments.{give_string}
 use Rattle.jl_meaning.specs.builtins.String.{string_of_receiver}
-use Rattle.jl_lib_text.proofs.Receivers.{refuses}
+use Rattle.jl_builtin.proofs.Receivers.{refuses}
 use Rattle.jl_lib_text.proofs.constructing.string_value.Goals as goal
 
 pub returns-in_ok-throw_native-in-None-clause-leads : goal.returns-in_ok-throw_native-in-None-clause-leads

@@ -1,7 +1,7 @@
 use Rattle.std.proofs.Common.{subst, sym}
 use Rattle.jl_state.specs.Rest.{Works}
+use Rattle.jl_builtin.proofs.FoundItems.{some_from}
 use Rattle.jl_lib_text.specs.inner.Turns.{string_joined}
-use Rattle.jl_lib_text.proofs.Founds.{some_from}
 use Rattle.jl_lib_text.proofs.joining.string_joined.Goals as goal
 
 pub returns-clause-leads : goal.returns-clause-leads

@@ -1,5 +1,5 @@
 use Rattle.std.proofs.Common.{refl}
-use Rattle.jl_lib_text.proofs.Conversions.{as_number}
+use Rattle.jl_builtin.proofs.Conversions.{as_number}
 use Rattle.jl_lib_text.proofs.places.convert_place.Goals as goal
 
 pub returns-clause-leads : goal.returns-clause-leads
