@@ -63,7 +63,7 @@ pub(crate) fn get_for<'p>(
     ensures falls { IfOk result (λ act. Falls state.old (rank_array progress + 4) state.new act) }
 {
     wait(state, progress)?;
-    Ok(get_index(alloc, state, object, index)?)
+    get_index(alloc, state, object, index)
 }
 
 /// A value is converted that is to be a number, for which a function waits (9.1).
@@ -78,7 +78,7 @@ pub(crate) fn number_for<'p>(
     ensures falls { IfOk result (λ act. Falls state.old (rank_array progress + 16) state.new act) }
 {
     wait(state, progress)?;
-    Ok(to_primitive(alloc, state, v, Hint::Number)?)
+    to_primitive(alloc, state, v, Hint::Number)
 }
 
 /// A value is converted that is to be a string, for which a function waits (9.1).
@@ -93,7 +93,7 @@ pub(crate) fn string_for<'p>(
     ensures falls { IfOk result (λ act. Falls state.old (rank_array progress + 16) state.new act) }
 {
     wait(state, progress)?;
-    Ok(to_primitive(alloc, state, v, Hint::Text)?)
+    to_primitive(alloc, state, v, Hint::Text)
 }
 
 /// An element is put, and then the next turn begins.
@@ -110,7 +110,7 @@ pub(crate) fn put_then<'p>(
     ensures falls { IfOk result (λ act. Falls state.old (rank_array progress + 42) state.new act) }
 {
     wait(state, progress)?;
-    Ok(put_index(alloc, state, object, index, v, Value::Undefined)?)
+    put_index(alloc, state, object, index, v, Value::Undefined)
 }
 
 /// An element is deleted, and then the next turn begins.
@@ -126,7 +126,7 @@ pub(crate) fn delete_then<'p>(
     ensures falls { IfOk result (λ act. Falls state.old (rank_array progress + 3) state.new act) }
 {
     wait(state, progress)?;
-    Ok(delete_element(alloc, state, object, index)?)
+    delete_element(alloc, state, object, index)
 }
 
 /// An element is deleted, and undefined is given.
@@ -161,7 +161,7 @@ pub(crate) fn add_then<'p>(
     ensures falls { IfOk result (λ act. Falls state.old (rank_array progress + 3) state.new act) }
 {
     wait(state, progress)?;
-    Ok(add_element(alloc, state, array, index, v)?)
+    add_element(alloc, state, array, index, v)
 }
 
 /// An element of a new array is added, and undefined is given.

@@ -1,4 +1,5 @@
 use Rattle.std.proofs.Common.{◌∙◌, ap}
+use Rattle.std.proofs.lemmas.Result.{IfOk-weaker}
 use Rattle.std.specs.Prelude.{not, ◌&&◌}
 use Rattle.jl_lib_object.proofs.Restrictions.{tested_all, tests_next}
 use Rattle.jl_lib_object.proofs.Ends.{next_found, nothing_found}
@@ -12,6 +13,5 @@ returns-in-None-clause-leads c =
 
 pub returns-clause-leads : goal.returns-clause-leads
 returns-clause-leads c =
-    tests_next _ _ _ _ _ _ _ _ _ (next_found c.args.from _ c.args.names _ _ _ c.items.ensures c.in_ok-name_from.ensures
-    c.in-Some.is)
-    c.in_ok-test_one-in-Some.ensures.leads
+    IfOk-weaker _ _ _ (λ a leads. tests_next _ _ _ _ _ _ _ _ _ (next_found c.args.from _ c.args.names _ _ _
+    c.items.ensures c.in_ok-name_from.ensures c.in-Some.is) leads) c.test_one.ensures.leads
