@@ -1,5 +1,6 @@
 -- What is left to do of what a function keeps, by the variant of it.
-use Rattle.std.proofs.Common.{◌≡◌, ◌+◌, ◌≤◌, arith, subst, sym, List, ℕ}
+use Rattle.std.proofs.Common.{◌≡◌, ◌+◌, ◌≤◌, arith, subst, sym, IfOk, List, Result, ℕ}
+use Rattle.std.proofs.lemmas.Result.{IfOk-weaker}
 use Rattle.jl_value.specs.declared.object.ObjId.{ObjId}
 use Rattle.jl_value.specs.declared.value.Value.{Value}
 use Rattle.jl_progress.specs.Arrays.{array_after, rank_array, with_length}
@@ -11,27 +12,30 @@ use Rattle.jl_state.specs.Rest.{Works}
 use Rattle.jl_state.specs.declared.act.Act.{Act}
 use Rattle.jl_state.specs.declared.state.State.{State}
 
-module _ (s t : State) (a : Act) where
-  pub resumes : (p q : ArrayProgress) (v : Value) → p ≡ q → Works s (array_after q v) t a
-      → Works s (array_after p v) t a
-  resumes p q v is leads = subst (λ r. Works s (array_after r v) t a) (sym is) leads
+module _ {E : Type 0} (s t : State) (r : Result Act E) where
+  pub resumes : (p q : ArrayProgress) (v : Value) → p ≡ q → IfOk r (λ a. Works s (array_after q v) t a)
+      → IfOk r (λ a. Works s (array_after p v) t a)
+  resumes p q v is leads = subst (λ x. IfOk r (λ a. Works s (array_after x v) t a)) (sym is) leads
 
-  pub falls_at : (p q : ArrayProgress) (n : ℕ) → p ≡ q → n ≤ rank_array q + 2 → Falls s n t a
-      → Falls s (rank_array p + 2) t a
+  pub falls_at : (p q : ArrayProgress) (n : ℕ) → p ≡ q → n ≤ rank_array q + 2 → IfOk r (λ a. Falls s n t a)
+      → IfOk r (λ a. Falls s (rank_array p + 2) t a)
   falls_at p q n is low falls =
-      subst (λ r. Falls s (rank_array r + 2) t a) (sym is)
-      (record { left = falls.left; lower = λ same. omega (arith, falls.lower same, low) })
+      subst (λ x. IfOk r (λ a. Falls s (rank_array x + 2) t a)) (sym is)
+      (IfOk-weaker r (λ a. Falls s n t a) (λ a. Falls s (rank_array q + 2) t a)
+      (λ a less. record { left = less.left; lower = λ same. omega (arith, less.lower same, low) }) falls)
 
   pub with_function : (f g : LengthFunction) (o : ObjId) (args l : List Value) (n : ℕ) → f ≡ g → l ≡ args
-      → Works s (with_length g o l n) t a → Works s (with_length f o args n) t a
+      → IfOk r (λ a. Works s (with_length g o l n) t a) → IfOk r (λ a. Works s (with_length f o args n) t a)
   with_function f g o args l n is same leads =
-      subst (λ h. Works s (with_length h o args n) t a) (sym is)
-      (subst (λ (k : List Value). Works s (with_length g o k n) t a) same leads)
+      subst (λ h. IfOk r (λ a. Works s (with_length h o args n) t a)) (sym is)
+      (subst (λ (k : List Value). IfOk r (λ a. Works s (with_length g o k n) t a)) same leads)
 
   -- the second argument of splice, with the arguments as a slice
   pub resumes_count : (p : ArrayProgress) (o array : ObjId) (n start : ℕ) (args l : List Value) (v : Value)
       → p ≡ progress.SpliceCount o array n start args → l ≡ args
-      → Works s (array_after (progress.SpliceCount o array n start l) v) t a → Works s (array_after p v) t a
+      → IfOk r (λ a. Works s (array_after (progress.SpliceCount o array n start l) v) t a)
+      → IfOk r (λ a. Works s (array_after p v) t a)
   resumes_count p o array n start args l v is same leads =
       resumes p (progress.SpliceCount o array n start args) v is
-      (subst (λ (k : List Value). Works s (array_after (progress.SpliceCount o array n start k) v) t a) same leads)
+      (subst (λ (k : List Value). IfOk r (λ a. Works s (array_after (progress.SpliceCount o array n start k) v) t a))
+      same leads)

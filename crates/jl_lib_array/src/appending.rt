@@ -36,7 +36,7 @@ pub(crate) fn concat<'p>(
     let mut items = List::new(alloc);
     items.push(Value::Obj(object))?;
     let items = with_values(alloc, items, args)?;
-    Ok(append_items(alloc, state, array, 0, items, 0)?)
+    append_items(alloc, state, array, 0, items, 0)
 }
 
 /// The values from an index on are appended, one a turn, and then the array is given.
@@ -58,7 +58,7 @@ pub(crate) fn append_items<'p>(
             if !state.spend() {
                 return Ok(Act::Spent);
             }
-            Ok(append_item(alloc, state, array, next, v, values, after)?)
+            append_item(alloc, state, array, next, v, values, after)
         }
     }
 }
@@ -86,7 +86,7 @@ fn append_item<'p>(
             items,
             from,
         };
-        return Ok(get_length(alloc, state, item, progress)?);
+        return get_length(alloc, state, item, progress);
     }
     let after = sum(next, 1)?;
     let progress = ArrayProgress::ConcatItem {
@@ -95,7 +95,7 @@ fn append_item<'p>(
         items,
         from,
     };
-    Ok(add_then(alloc, state, array, next, v, progress)?)
+    add_then(alloc, state, array, next, v, progress)
 }
 
 /// The array that an item is, if it is one (15.4.4.4, step 5.b).
@@ -122,7 +122,7 @@ fn get_length<'p>(
 {
     wait(state, progress)?;
     let name = word(alloc, "length")?;
-    Ok(get(alloc, state, &Value::Obj(item), &name)?)
+    get(alloc, state, &Value::Obj(item), &name)
 }
 
 /// Goes on with the length of an item that is an array.
@@ -154,7 +154,7 @@ pub(crate) fn step_concat_length<'p>(
         items,
         from,
     };
-    Ok(begin_turn(state, ArrayProgress::CopyTurn { copying, then })?)
+    begin_turn(state, ArrayProgress::CopyTurn { copying, then })
 }
 
 /// The number of elements that a length says.

@@ -28,13 +28,13 @@ pub(crate) fn copy_turn<'p>(
     ensures falls { IfOk result (λ act. Falls state.old 82 state.new act) }
 {
     if copying.left == 0 {
-        return Ok(after_copying(alloc, state, copying.array, next)?);
+        return after_copying(alloc, state, copying.array, next);
     }
     if !state.spend() {
         return Ok(Act::Spent);
     }
     let left = copying.left - 1;
-    Ok(copy_element(alloc, state, Copying { left, ..copying }, next)?)
+    copy_element(alloc, state, Copying { left, ..copying }, next)
 }
 
 /// An element is copied, if there is one, and then those that are left after it.
@@ -58,7 +58,7 @@ fn copy_element<'p>(
             copying,
             then: next,
         };
-        return Ok(get_for(alloc, state, object, index, progress)?);
+        return get_for(alloc, state, object, index, progress);
     }
     let k = sum(copying.k, 1)?;
     let copying = Copying { k, ..copying };
@@ -66,7 +66,7 @@ fn copy_element<'p>(
         copying,
         then: next,
     };
-    Ok(begin_turn(state, progress)?)
+    begin_turn(state, progress)
 }
 
 /// Goes on with the element that is copied.
@@ -89,7 +89,7 @@ pub(crate) fn step_copy_element<'p>(
         copying,
         then: next,
     };
-    Ok(add_then(alloc, state, array, index, v, progress)?)
+    add_then(alloc, state, array, index, v, progress)
 }
 
 /// What follows when all elements have been copied.

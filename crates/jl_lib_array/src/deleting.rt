@@ -37,7 +37,7 @@ pub(crate) fn delete_up_turn<'p>(
         index: after,
         left: left - 1,
     };
-    Ok(delete_then(alloc, state, object, index, progress)?)
+    delete_then(alloc, state, object, index, progress)
 }
 
 /// A turn of `splice` begins in which the last of the elements after the new end is deleted, if any is left.
@@ -51,7 +51,7 @@ pub(crate) fn delete_down_turn<'p>(
     ensures falls { IfOk result (λ act. Falls state.old 62 state.new act) }
 {
     if left == 0 {
-        return Ok(put_items(state, splicing)?);
+        return put_items(state, splicing);
     }
     if !state.spend() {
         return Ok(Act::Spent);
@@ -61,5 +61,5 @@ pub(crate) fn delete_down_turn<'p>(
     let end = length_spliced(&splicing)?;
     let index = sum(end, left)?;
     let progress = ArrayProgress::DeleteDown { splicing, left };
-    Ok(delete_then(alloc, state, object, index, progress)?)
+    delete_then(alloc, state, object, index, progress)
 }

@@ -61,7 +61,7 @@ pub(crate) fn get_for<'p>(
     ensures falls { IfOk result (λ act. Falls state.old (rank_array progress + 4) state.new act) }
 {
     wait(state, progress)?;
-    Ok(get_index(alloc, state, object, index)?)
+    get_index(alloc, state, object, index)
 }
 
 /// An element is put, and then the next turn begins.
@@ -78,7 +78,7 @@ pub(crate) fn put_then<'p>(
     ensures falls { IfOk result (λ act. Falls state.old (rank_array progress + 42) state.new act) }
 {
     wait(state, progress)?;
-    Ok(put_index(alloc, state, object, index, v, Value::Undefined)?)
+    put_index(alloc, state, object, index, v, Value::Undefined)
 }
 
 /// An element is deleted, and then the next turn begins.
@@ -94,7 +94,7 @@ pub(crate) fn delete_then<'p>(
     ensures falls { IfOk result (λ act. Falls state.old (rank_array progress + 3) state.new act) }
 {
     wait(state, progress)?;
-    Ok(delete_element(alloc, state, object, index)?)
+    delete_element(alloc, state, object, index)
 }
 
 /// An element is deleted, and undefined is given.
@@ -129,7 +129,7 @@ pub(crate) fn add_then<'p>(
     ensures falls { IfOk result (λ act. Falls state.old (rank_array progress + 3) state.new act) }
 {
     wait(state, progress)?;
-    Ok(add_element(alloc, state, array, index, v)?)
+    add_element(alloc, state, array, index, v)
 }
 
 /// An element of a new array is added, and undefined is given.

@@ -40,10 +40,10 @@ pub(crate) fn join<'p>(
     let separator = argument(alloc, args, 0)?;
     if is_undefined(&separator) {
         let comma = word(alloc, ",")?;
-        return Ok(join_elements(alloc, state, object, length, comma)?);
+        return join_elements(alloc, state, object, length, comma);
     }
     let progress = Progress::Array(ArrayProgress::JoinSeparator { object, length });
-    Ok(wait_for_string(alloc, state, progress, separator)?)
+    wait_for_string(alloc, state, progress, separator)
 }
 
 /// Goes on with the separator as a primitive value.
@@ -59,7 +59,7 @@ pub(crate) fn step_join_separator<'p>(
     ensures falls { IfOk result (λ act. Falls state.old 42 state.new act) }
 {
     let separator = text_of(alloc, p)?;
-    Ok(join_elements(alloc, state, object, length, separator)?)
+    join_elements(alloc, state, object, length, separator)
 }
 
 /// The elements are joined by a separator.
@@ -83,7 +83,7 @@ fn join_elements<'p>(
         k: 1,
     };
     let progress = ArrayProgress::JoinFirst { joining };
-    Ok(get_for(alloc, state, object, 0, progress)?)
+    get_for(alloc, state, object, 0, progress)
 }
 
 /// Goes on with the first element.
@@ -99,10 +99,10 @@ pub(crate) fn step_join_first<'p>(
 {
     if is_nothing(&v) {
         let first = word(alloc, "")?;
-        return Ok(join_first(alloc, state, joining, first)?);
+        return join_first(alloc, state, joining, first);
     }
     let progress = Progress::Array(ArrayProgress::JoinFirstPrimitive { joining });
-    Ok(wait_for_string(alloc, state, progress, v)?)
+    wait_for_string(alloc, state, progress, v)
 }
 
 /// Goes on with the first element as a primitive value.
@@ -117,7 +117,7 @@ pub(crate) fn step_join_first_primitive<'p>(
     ensures falls { IfOk result (λ act. Falls state.old 12 state.new act) }
 {
     let first = text_of(alloc, p)?;
-    Ok(join_first(alloc, state, joining, first)?)
+    join_first(alloc, state, joining, first)
 }
 
 /// The line begins with the string of the first element.
@@ -131,7 +131,7 @@ fn join_first<'p>(
     ensures falls { IfOk result (λ act. Falls state.old 12 state.new act) }
 {
     let line = with_units(List::new(alloc), first.units())?;
-    Ok(begin_turn(state, ArrayProgress::JoinTurn { joining, line })?)
+    begin_turn(state, ArrayProgress::JoinTurn { joining, line })
 }
 
 /// A turn begins, if any is left, and else the line is given.
@@ -145,20 +145,20 @@ pub(crate) fn join_turn_begins<'p>(
     ensures falls { IfOk result (λ act. Falls state.old 8 state.new act) }
 {
     if joining.left == 0 {
-        return Ok(give_text(alloc, line.items())?);
+        return give_text(alloc, line.items());
     }
     if !state.spend() {
         return Ok(Act::Spent);
     }
     let left = joining.left - 1;
     let k = sum(joining.k, 1)?;
-    Ok(join_one(
+    join_one(
         alloc,
         state,
         joining.k,
         Joining { left, k, ..joining },
         line,
-    )?)
+    )
 }
 
 /// The separator and the element at an index come last in a line, and then those that are left.
@@ -180,7 +180,7 @@ fn join_one<'p>(
     }
     let line = with_units(line, separator)?;
     let progress = ArrayProgress::JoinElement { joining, line };
-    Ok(get_for(alloc, state, object, index, progress)?)
+    get_for(alloc, state, object, index, progress)
 }
 
 /// Goes on with an element.
@@ -196,10 +196,10 @@ pub(crate) fn step_join_element<'p>(
     ensures falls { IfOk result (λ act. Falls state.old 32 state.new act) }
 {
     if is_nothing(&v) {
-        return Ok(join_next(state, joining, line, &[])?);
+        return join_next(state, joining, line, &[]);
     }
     let progress = Progress::Array(ArrayProgress::JoinElementPrimitive { joining, line });
-    Ok(wait_for_string(alloc, state, progress, v)?)
+    wait_for_string(alloc, state, progress, v)
 }
 
 /// Goes on with an element as a primitive value.
@@ -215,7 +215,7 @@ pub(crate) fn step_join_element_primitive<'p>(
     ensures falls { IfOk result (λ act. Falls state.old 12 state.new act) }
 {
     let next = text_of(alloc, p)?;
-    Ok(join_next(state, joining, line, next.units())?)
+    join_next(state, joining, line, next.units())
 }
 
 /// The string of an element comes last in a line, and then those that are left.
@@ -232,5 +232,5 @@ fn join_next<'p>(
         return Ok(Act::Fault(Fault::StringTooLong));
     }
     let line = with_units(line, next)?;
-    Ok(begin_turn(state, ArrayProgress::JoinTurn { joining, line })?)
+    begin_turn(state, ArrayProgress::JoinTurn { joining, line })
 }

@@ -43,7 +43,7 @@ pub(crate) fn begin_with_length<'p>(
             args,
         },
     )?;
-    Ok(get(alloc, state, &Value::Obj(object), &name)?)
+    get(alloc, state, &Value::Obj(object), &name)
 }
 
 /// Goes on with the length.
@@ -64,7 +64,7 @@ pub(crate) fn step_length<'p>(
         object,
         args,
     });
-    Ok(wait_for_number(alloc, state, progress, v)?)
+    wait_for_number(alloc, state, progress, v)
 }
 
 /// Goes on with the length as a primitive value.
@@ -83,7 +83,7 @@ pub(crate) fn step_length_primitive<'p>(
     let Some(n) = number_of_primitive(p) else {
         return Ok(Act::Fault(Fault::NumberOutside));
     };
-    Ok(with_length(alloc, state, function, object, args, length_of(n))?)
+    with_length(alloc, state, function, object, args, length_of(n))
 }
 
 /// What a function does with the length.
@@ -99,16 +99,14 @@ fn with_length<'p>(
     ensures falls { IfOk result (λ act. Falls state.old 144 state.new act) }
 {
     match function {
-        LengthFunction::Join => Ok(join(alloc, state, object, args.items(), length)?),
-        LengthFunction::Pop => Ok(pop_last(alloc, state, object, length)?),
-        LengthFunction::Push => Ok(push(state, object, args, length)?),
-        LengthFunction::Reverse => Ok(reverse(state, object, length)?),
-        LengthFunction::Shift => Ok(shift_first(alloc, state, object, length)?),
-        LengthFunction::Sort => Ok(sort(alloc, state, object, length)?),
-        LengthFunction::Splice { array } => {
-            Ok(splice(alloc, state, object, array, args, length)?)
-        }
-        LengthFunction::Unshift => Ok(unshift(state, object, args, length)?),
+        LengthFunction::Join => join(alloc, state, object, args.items(), length),
+        LengthFunction::Pop => pop_last(alloc, state, object, length),
+        LengthFunction::Push => push(state, object, args, length),
+        LengthFunction::Reverse => reverse(state, object, length),
+        LengthFunction::Shift => shift_first(alloc, state, object, length),
+        LengthFunction::Sort => sort(alloc, state, object, length),
+        LengthFunction::Splice { array } => { splice(alloc, state, object, array, args, length) }
+        LengthFunction::Unshift => unshift(state, object, args, length),
     }
 }
 
@@ -192,5 +190,5 @@ fn unshift<'p>(
         args,
         length: after,
     };
-    Ok(begin_turn(state, ArrayProgress::MoveDown { moving, then })?)
+    begin_turn(state, ArrayProgress::MoveDown { moving, then })
 }

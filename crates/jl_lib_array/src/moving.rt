@@ -29,13 +29,13 @@ pub(crate) fn move_up_turn<'p>(
     ensures falls { IfOk result (λ act. Falls state.old 72 state.new act) }
 {
     if moving.left == 0 {
-        return Ok(after_moving(alloc, state, moving.object, next)?);
+        return after_moving(alloc, state, moving.object, next);
     }
     if !state.spend() {
         return Ok(Act::Spent);
     }
     let left = moving.left - 1;
-    Ok(move_one_up(alloc, state, Moving { left, ..moving }, k, next)?)
+    move_one_up(alloc, state, Moving { left, ..moving }, k, next)
 }
 
 /// An element is moved, and then those that are left after it.
@@ -59,7 +59,7 @@ fn move_one_up<'p>(
             k,
             then: next,
         };
-        return Ok(get_for(alloc, state, object, from, progress)?);
+        return get_for(alloc, state, object, from, progress);
     }
     let to = sum(k, moving.to)?;
     let k = sum(k, 1)?;
@@ -68,7 +68,7 @@ fn move_one_up<'p>(
         k,
         then: next,
     };
-    Ok(delete_then(alloc, state, object, to, progress)?)
+    delete_then(alloc, state, object, to, progress)
 }
 
 /// Goes on with the element that is moved.
@@ -92,7 +92,7 @@ pub(crate) fn step_move_up_element<'p>(
         k,
         then: next,
     };
-    Ok(put_then(alloc, state, object, to, v, progress)?)
+    put_then(alloc, state, object, to, v, progress)
 }
 
 /// A turn begins in which an element is moved, down to the first, if any is left.
@@ -107,13 +107,13 @@ pub(crate) fn move_down_turn<'p>(
     ensures falls { IfOk result (λ act. Falls state.old 72 state.new act) }
 {
     if moving.left == 0 {
-        return Ok(after_moving(alloc, state, moving.object, next)?);
+        return after_moving(alloc, state, moving.object, next);
     }
     if !state.spend() {
         return Ok(Act::Spent);
     }
     let left = moving.left - 1;
-    Ok(move_one_down(alloc, state, Moving { left, ..moving }, next)?)
+    move_one_down(alloc, state, Moving { left, ..moving }, next)
 }
 
 /// An element is moved, and then those that are left before it.
@@ -132,11 +132,11 @@ fn move_one_down<'p>(
     let from = sum(moving.from, moving.left)?;
     if has_index(alloc, &state.store, object, from)? {
         let progress = ArrayProgress::MoveDownElement { moving, then: next };
-        return Ok(get_for(alloc, state, object, from, progress)?);
+        return get_for(alloc, state, object, from, progress);
     }
     let to = sum(moving.to, moving.left)?;
     let progress = ArrayProgress::MoveDown { moving, then: next };
-    Ok(delete_then(alloc, state, object, to, progress)?)
+    delete_then(alloc, state, object, to, progress)
 }
 
 /// Goes on with the element that is moved.
@@ -154,7 +154,7 @@ pub(crate) fn step_move_down_element<'p>(
     let object = moving.object;
     let to = sum(moving.to, moving.left)?;
     let progress = ArrayProgress::MoveDown { moving, then: next };
-    Ok(put_then(alloc, state, object, to, v, progress)?)
+    put_then(alloc, state, object, to, v, progress)
 }
 
 /// What follows when all elements have been moved.
@@ -168,14 +168,12 @@ fn after_moving<'p>(
     ensures falls { IfOk result (λ act. Falls state.old 72 state.new act) }
 {
     match next {
-        AfterMoving::Shift { first, last } => {
-            Ok(without_last(alloc, state, object, last, first)?)
-        }
+        AfterMoving::Shift { first, last } => { without_last(alloc, state, object, last, first) }
         AfterMoving::Delete(splicing) => {
             let left = splicing.removed.saturating_sub(splicing.items.len());
-            Ok(begin_turn(state, ArrayProgress::DeleteDown { splicing, left })?)
+            begin_turn(state, ArrayProgress::DeleteDown { splicing, left })
         }
-        AfterMoving::Put(splicing) => Ok(put_items(state, splicing)?),
+        AfterMoving::Put(splicing) => put_items(state, splicing),
         AfterMoving::Unshift { args, length } => {
             let progress = ArrayProgress::PutTurn {
                 object,
@@ -184,7 +182,7 @@ fn after_moving<'p>(
                 from: 0,
                 then: AfterPutting::Unshift { length },
             };
-            Ok(begin_turn(state, progress)?)
+            begin_turn(state, progress)
         }
     }
 }

@@ -30,12 +30,12 @@ pub(crate) fn put_turn<'p>(
     ensures falls { IfOk result (λ act. Falls state.old 52 state.new act) }
 {
     match value_from(alloc, values.items(), from)? {
-        None => Ok(after_putting(alloc, state, object, index, next)?),
+        None => after_putting(alloc, state, object, index, next),
         Some((v, after)) => {
             if !state.spend() {
                 return Ok(Act::Spent);
             }
-            Ok(put_value(alloc, state, object, index, v, values, after, next)?)
+            put_value(alloc, state, object, index, v, values, after, next)
         }
     }
 }
@@ -63,7 +63,7 @@ fn put_value<'p>(
         from,
         then: next,
     };
-    Ok(put_then(alloc, state, object, index, v, progress)?)
+    put_then(alloc, state, object, index, v, progress)
 }
 
 /// What follows when all values have been put, where the index is that after them.
@@ -106,5 +106,5 @@ fn give_length<'p>(
     ensures falls { IfOk result (λ act. Falls state.old 42 state.new act) }
 {
     let gives = count(length)?;
-    Ok(put_length(alloc, state, object, length, gives)?)
+    put_length(alloc, state, object, length, gives)
 }

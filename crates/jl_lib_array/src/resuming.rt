@@ -38,52 +38,52 @@ pub fn resume<'p>(
     ensures falls { IfOk result (λ act. Falls state.old (rank_array progress + 2) state.new act) }
 {
     match progress {
-        ArrayProgress::Join { object } => Ok(step_join_property(alloc, state, object, &v)?),
+        ArrayProgress::Join { object } => step_join_property(alloc, state, object, &v),
         ArrayProgress::Length {
             function,
             object,
             args,
-        } => { Ok(step_length(alloc, state, function, object, args, v)?) }
+        } => { step_length(alloc, state, function, object, args, v) }
         ArrayProgress::LengthPrimitive {
             function,
             object,
             args,
-        } => { Ok(step_length_primitive(alloc, state, function, object, args, &v)?) }
+        } => { step_length_primitive(alloc, state, function, object, args, &v) }
         ArrayProgress::ConcatItem {
             array,
             next,
             items,
             from,
-        } => { Ok(append_items(alloc, state, array, next, items, from)?) }
+        } => { append_items(alloc, state, array, next, items, from) }
         ArrayProgress::ConcatLength {
             array,
             next,
             item,
             items,
             from,
-        } => { Ok(step_concat_length(state, array, next, item, items, from, &v)?) }
-        ArrayProgress::CopyTurn { copying, then } => Ok(copy_turn(alloc, state, copying, then)?),
+        } => { step_concat_length(state, array, next, item, items, from, &v) }
+        ArrayProgress::CopyTurn { copying, then } => copy_turn(alloc, state, copying, then),
         ArrayProgress::CopyElement { copying, then } => {
-            Ok(step_copy_element(alloc, state, copying, then, v)?)
+            step_copy_element(alloc, state, copying, then, v)
         }
         ArrayProgress::JoinSeparator { object, length } => {
-            Ok(step_join_separator(alloc, state, object, length, &v)?)
+            step_join_separator(alloc, state, object, length, &v)
         }
-        ArrayProgress::JoinFirst { joining } => Ok(step_join_first(alloc, state, joining, v)?),
+        ArrayProgress::JoinFirst { joining } => step_join_first(alloc, state, joining, v),
         ArrayProgress::JoinFirstPrimitive { joining } => {
-            Ok(step_join_first_primitive(alloc, state, joining, &v)?)
+            step_join_first_primitive(alloc, state, joining, &v)
         }
         ArrayProgress::JoinTurn { joining, line } => {
-            Ok(join_turn_begins(alloc, state, joining, line)?)
+            join_turn_begins(alloc, state, joining, line)
         }
         ArrayProgress::JoinElement { joining, line } => {
-            Ok(step_join_element(alloc, state, joining, line, v)?)
+            step_join_element(alloc, state, joining, line, v)
         }
         ArrayProgress::JoinElementPrimitive { joining, line } => {
-            Ok(step_join_element_primitive(alloc, state, joining, line, &v)?)
+            step_join_element_primitive(alloc, state, joining, line, &v)
         }
         ArrayProgress::PopElement { object, last } => {
-            Ok(without_last(alloc, state, object, last, v)?)
+            without_last(alloc, state, object, last, v)
         }
         ArrayProgress::PutTurn {
             object,
@@ -91,63 +91,55 @@ pub fn resume<'p>(
             values,
             from,
             then,
-        } => { Ok(put_turn(alloc, state, object, index, values, from, then)?) }
-        ArrayProgress::ReverseTurn { reversing } => Ok(reverse_turn(alloc, state, reversing)?),
+        } => { put_turn(alloc, state, object, index, values, from, then) }
+        ArrayProgress::ReverseTurn { reversing } => reverse_turn(alloc, state, reversing),
         ArrayProgress::ReverseLower { reversing } => {
-            Ok(step_reverse_lower(alloc, state, reversing, v)?)
+            step_reverse_lower(alloc, state, reversing, v)
         }
         ArrayProgress::ReverseUpper { reversing, low } => {
-            Ok(step_reverse_upper(alloc, state, reversing, low, v)?)
+            step_reverse_upper(alloc, state, reversing, low, v)
         }
         ArrayProgress::ReverseExchange { reversing, low } => {
-            Ok(step_reverse_exchange(alloc, state, reversing, low)?)
+            step_reverse_exchange(alloc, state, reversing, low)
         }
-        ArrayProgress::ShiftFirst { object, last } => {
-            Ok(step_shift_first(state, object, last, v)?)
-        }
-        ArrayProgress::MoveUp { moving, k, then } => {
-            Ok(move_up_turn(alloc, state, moving, k, then)?)
-        }
+        ArrayProgress::ShiftFirst { object, last } => { step_shift_first(state, object, last, v) }
+        ArrayProgress::MoveUp { moving, k, then } => { move_up_turn(alloc, state, moving, k, then) }
         ArrayProgress::MoveUpElement { moving, k, then } => {
-            Ok(step_move_up_element(alloc, state, moving, k, then, v)?)
+            step_move_up_element(alloc, state, moving, k, then, v)
         }
-        ArrayProgress::MoveDown { moving, then } => {
-            Ok(move_down_turn(alloc, state, moving, then)?)
-        }
+        ArrayProgress::MoveDown { moving, then } => { move_down_turn(alloc, state, moving, then) }
         ArrayProgress::MoveDownElement { moving, then } => {
-            Ok(step_move_down_element(alloc, state, moving, then, v)?)
+            step_move_down_element(alloc, state, moving, then, v)
         }
-        ArrayProgress::SortTurn { reading, read } => Ok(sort_turn(alloc, state, reading, read)?),
+        ArrayProgress::SortTurn { reading, read } => sort_turn(alloc, state, reading, read),
         ArrayProgress::SortElement { reading, read } => {
-            Ok(step_sort_element(alloc, state, reading, read, v)?)
+            step_sort_element(alloc, state, reading, read, v)
         }
         ArrayProgress::SortPrimitive {
             reading,
             read,
             element,
-        } => { Ok(step_sort_primitive(alloc, state, reading, read, element, &v)?) }
+        } => { step_sort_primitive(alloc, state, reading, read, element, &v) }
         ArrayProgress::DeleteUp {
             object,
             index,
             left,
-        } => { Ok(delete_up_turn(alloc, state, object, index, left)?) }
+        } => { delete_up_turn(alloc, state, object, index, left) }
         ArrayProgress::SpliceStart {
             object,
             array,
             length,
             args,
-        } => { Ok(step_splice_start(alloc, state, object, array, length, args, &v)?) }
+        } => { step_splice_start(alloc, state, object, array, length, args, &v) }
         ArrayProgress::SpliceCount {
             object,
             array,
             length,
             start,
             args,
-        } => {
-            Ok(step_splice_count(alloc, state, object, array, length, start, args.items(), &v)?)
-        }
+        } => { step_splice_count(alloc, state, object, array, length, start, args.items(), &v) }
         ArrayProgress::DeleteDown { splicing, left } => {
-            Ok(delete_down_turn(alloc, state, splicing, left)?)
+            delete_down_turn(alloc, state, splicing, left)
         }
     }
 }

@@ -59,7 +59,7 @@ pub(crate) fn reverse_turn<'p>(
     let lower = reversing.lower;
     let reversing = Reversing { left, ..reversing };
     let progress = ArrayProgress::ReverseLower { reversing };
-    Ok(get_for(alloc, state, object, lower, progress)?)
+    get_for(alloc, state, object, lower, progress)
 }
 
 /// Goes on with the lower element of a turn.
@@ -76,7 +76,7 @@ pub(crate) fn step_reverse_lower<'p>(
     let object = reversing.object;
     let upper = upper_of(&reversing);
     let progress = ArrayProgress::ReverseUpper { reversing, low };
-    Ok(get_for(alloc, state, object, upper, progress)?)
+    get_for(alloc, state, object, upper, progress)
 }
 
 /// A value, if it is there.
@@ -105,12 +105,12 @@ pub(crate) fn step_reverse_upper<'p>(
     if has_high {
         let low = value_if(has_low, low);
         let progress = ArrayProgress::ReverseExchange { reversing, low };
-        return Ok(put_then(alloc, state, object, lower, high, progress)?);
+        return put_then(alloc, state, object, lower, high, progress);
     }
     if has_low {
-        return Ok(move_to_upper(alloc, state, reversing, low)?);
+        return move_to_upper(alloc, state, reversing, low);
     }
-    Ok(begin_turn(state, turn_after(reversing)?)?)
+    begin_turn(state, turn_after(reversing)?)
 }
 
 /// The lower element, which has no upper one to change places with, is deleted, and put above.
@@ -127,7 +127,7 @@ fn move_to_upper<'p>(
 {
     let answer = delete_index(alloc, state, reversing.object, reversing.lower)?;
     match answer {
-        Answer::Gives(()) => Ok(put_above(alloc, state, reversing, low)?),
+        Answer::Gives(()) => put_above(alloc, state, reversing, low),
         Answer::Throws(thrown) => Ok(Act::Complete(Completion::Throw(thrown))),
     }
 }
@@ -147,7 +147,7 @@ fn put_above<'p>(
     let object = reversing.object;
     let upper = upper_of(&reversing);
     let progress = turn_after(reversing)?;
-    Ok(put_then(alloc, state, object, upper, low, progress)?)
+    put_then(alloc, state, object, upper, low, progress)
 }
 
 /// Goes on when the lower index has got the upper element.
@@ -164,10 +164,10 @@ pub(crate) fn step_reverse_exchange<'p>(
     let object = reversing.object;
     let upper = upper_of(&reversing);
     match low {
-        Some(low) => Ok(put_above(alloc, state, reversing, low)?),
+        Some(low) => put_above(alloc, state, reversing, low),
         None => {
             let progress = turn_after(reversing)?;
-            Ok(delete_then(alloc, state, object, upper, progress)?)
+            delete_then(alloc, state, object, upper, progress)
         }
     }
 }

@@ -43,7 +43,7 @@ pub fn start<'p>(
     }
     let answer = state.store.to_object(&call.this)?;
     match answer {
-        Answer::Gives(object) => Ok(start_on(alloc, state, row, object, call.args)?),
+        Answer::Gives(object) => start_on(alloc, state, row, object, call.args),
         Answer::Throws(thrown) => Ok(Act::Complete(Completion::Throw(thrown))),
     }
 }
@@ -74,15 +74,15 @@ fn start_on<'p>(
     ensures falls { IfOk result (λ act. Falls state.old 164 state.new act) }
 {
     if row == 30 {
-        return Ok(array_to_string(alloc, state, object)?);
+        return array_to_string(alloc, state, object);
     }
     if row == 32 {
-        return Ok(concat(alloc, state, object, args.items())?);
+        return concat(alloc, state, object, args.items());
     }
     if row == 40 {
-        return Ok(splice_into_new(alloc, state, object, args)?);
+        return splice_into_new(alloc, state, object, args);
     }
-    Ok(begin_with_length(alloc, state, length_function(row), object, args)?)
+    begin_with_length(alloc, state, length_function(row), object, args)
 }
 
 /// `splice` of an object, with a new array for the elements that go (15.4.4.12).
@@ -96,7 +96,7 @@ fn splice_into_new<'p>(
     ensures falls { IfOk result (λ act. Falls state.old 164 state.new act) }
 {
     let array = state.store.new_array()?;
-    Ok(begin_with_length(alloc, state, LengthFunction::Splice { array }, object, args)?)
+    begin_with_length(alloc, state, LengthFunction::Splice { array }, object, args)
 }
 
 /// The function of a row that begins with a length.

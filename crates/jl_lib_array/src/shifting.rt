@@ -39,7 +39,7 @@ pub(crate) fn without_last<'p>(
 {
     let answer = delete_index(alloc, state, object, last)?;
     match answer {
-        Answer::Gives(()) => Ok(put_length(alloc, state, object, last, gives)?),
+        Answer::Gives(()) => put_length(alloc, state, object, last, gives),
         Answer::Throws(thrown) => Ok(Act::Complete(Completion::Throw(thrown))),
     }
 }
@@ -55,11 +55,11 @@ pub(crate) fn pop_last<'p>(
     ensures falls { IfOk result (λ act. Falls state.old 54 state.new act) }
 {
     if length == 0 {
-        return Ok(give_nothing(alloc, state, object)?);
+        return give_nothing(alloc, state, object);
     }
     let last = length - 1;
     let progress = ArrayProgress::PopElement { object, last };
-    Ok(get_for(alloc, state, object, last, progress)?)
+    get_for(alloc, state, object, last, progress)
 }
 
 /// `shift` of an object with this length.
@@ -73,11 +73,11 @@ pub(crate) fn shift_first<'p>(
     ensures falls { IfOk result (λ act. Falls state.old 84 state.new act) }
 {
     if length == 0 {
-        return Ok(give_nothing(alloc, state, object)?);
+        return give_nothing(alloc, state, object);
     }
     let last = length - 1;
     let progress = ArrayProgress::ShiftFirst { object, last };
-    Ok(get_for(alloc, state, object, 0, progress)?)
+    get_for(alloc, state, object, 0, progress)
 }
 
 /// Goes on with the first element, which `shift` gives: each other one goes to the index before.
@@ -98,5 +98,5 @@ pub(crate) fn step_shift_first<'p>(
         left: last,
     };
     let then = AfterMoving::Shift { first, last };
-    Ok(begin_turn(state, ArrayProgress::MoveUp { moving, k: 0, then })?)
+    begin_turn(state, ArrayProgress::MoveUp { moving, k: 0, then })
 }

@@ -29,7 +29,7 @@ pub(crate) fn sort_turn<'p>(
     ensures falls { IfOk result (λ act. Falls state.old 62 state.new act) }
 {
     if reading.left == 0 {
-        return Ok(put_sorted(alloc, state, reading.object, reading.length, read)?);
+        return put_sorted(alloc, state, reading.object, reading.length, read);
     }
     if !state.spend() {
         return Ok(Act::Spent);
@@ -37,7 +37,7 @@ pub(crate) fn sort_turn<'p>(
     let index = reading.k;
     let left = reading.left - 1;
     let k = sum(index, 1)?;
-    Ok(read_element(alloc, state, index, Reading { left, k, ..reading }, read)?)
+    read_element(alloc, state, index, Reading { left, k, ..reading }, read)
 }
 
 /// The element at an index is read, if there is one, and then those that are left.
@@ -55,9 +55,9 @@ fn read_element<'p>(
     let object = reading.object;
     if has_index(alloc, &state.store, object, index)? {
         let progress = ArrayProgress::SortElement { reading, read };
-        return Ok(get_for(alloc, state, object, index, progress)?);
+        return get_for(alloc, state, object, index, progress);
     }
-    Ok(begin_turn(state, ArrayProgress::SortTurn { reading, read })?)
+    begin_turn(state, ArrayProgress::SortTurn { reading, read })
 }
 
 /// Goes on with an element.
@@ -75,7 +75,7 @@ pub(crate) fn step_sort_element<'p>(
     if is_undefined(&v) {
         let mut read = read;
         read.push((None, v))?;
-        return Ok(begin_turn(state, ArrayProgress::SortTurn { reading, read })?);
+        return begin_turn(state, ArrayProgress::SortTurn { reading, read });
     }
     let element = share(alloc, &v)?;
     let progress = Progress::Array(ArrayProgress::SortPrimitive {
@@ -83,7 +83,7 @@ pub(crate) fn step_sort_element<'p>(
         read,
         element,
     });
-    Ok(wait_for_string(alloc, state, progress, v)?)
+    wait_for_string(alloc, state, progress, v)
 }
 
 /// Goes on with an element as a primitive value.
@@ -102,7 +102,7 @@ pub(crate) fn step_sort_primitive<'p>(
     let text = text_of(alloc, p)?;
     let mut read = read;
     read.push((Some(text), element))?;
-    Ok(begin_turn(state, ArrayProgress::SortTurn { reading, read })?)
+    begin_turn(state, ArrayProgress::SortTurn { reading, read })
 }
 
 /// The elements that have been read are sorted, and put back one a turn.
@@ -127,5 +127,5 @@ fn put_sorted<'p>(
         from: 0,
         then: AfterPutting::Sort { length },
     };
-    Ok(begin_turn(state, progress)?)
+    begin_turn(state, progress)
 }

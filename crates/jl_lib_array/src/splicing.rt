@@ -48,7 +48,7 @@ pub(crate) fn splice<'p>(
         length,
         args,
     });
-    Ok(wait_for_number(alloc, state, progress, start)?)
+    wait_for_number(alloc, state, progress, start)
 }
 
 /// Goes on with the first argument as a primitive value.
@@ -77,7 +77,7 @@ pub(crate) fn step_splice_start<'p>(
         start,
         args,
     });
-    Ok(wait_for_number(alloc, state, progress, count)?)
+    wait_for_number(alloc, state, progress, count)
 }
 
 /// Goes on with the second argument as a primitive value.
@@ -108,7 +108,7 @@ pub(crate) fn step_splice_count<'p>(
         removed,
         items,
     };
-    Ok(copy_removed(state, splicing)?)
+    copy_removed(state, splicing)
 }
 
 /// The elements that go are copied to the new array, one a turn.
@@ -127,7 +127,7 @@ fn copy_removed<'p>(state: &mut State<'p>, splicing: Splicing) -> Result<Act<'p>
         k: 0,
     };
     let then = AfterCopying::Splice(splicing);
-    Ok(begin_turn(state, ArrayProgress::CopyTurn { copying, then })?)
+    begin_turn(state, ArrayProgress::CopyTurn { copying, then })
 }
 
 /// The elements after those that go are moved, one a turn, to make room for those that come.
@@ -140,12 +140,12 @@ pub(crate) fn splice_others<'p>(
 {
     let added = splicing.items.len();
     if added < splicing.removed {
-        return Ok(move_closer(state, splicing)?);
+        return move_closer(state, splicing);
     }
     if splicing.removed < added {
-        return Ok(move_apart(state, splicing)?);
+        return move_apart(state, splicing);
     }
-    Ok(put_items(state, splicing)?)
+    put_items(state, splicing)
 }
 
 /// How many elements stand after those that go.
@@ -172,7 +172,7 @@ fn move_closer<'p>(state: &mut State<'p>, splicing: Splicing) -> Result<Act<'p>,
     };
     let k = splicing.start;
     let then = AfterMoving::Delete(splicing);
-    Ok(begin_turn(state, ArrayProgress::MoveUp { moving, k, then })?)
+    begin_turn(state, ArrayProgress::MoveUp { moving, k, then })
 }
 
 /// More elements come than go: those after them are moved up, from the last one down.
@@ -188,7 +188,7 @@ fn move_apart<'p>(state: &mut State<'p>, splicing: Splicing) -> Result<Act<'p>, 
         left: after_removed(&splicing),
     };
     let then = AfterMoving::Put(splicing);
-    Ok(begin_turn(state, ArrayProgress::MoveDown { moving, then })?)
+    begin_turn(state, ArrayProgress::MoveDown { moving, then })
 }
 
 /// The elements that come are put, one a turn, and then the length.
@@ -208,5 +208,5 @@ pub(crate) fn put_items<'p>(state: &mut State<'p>, splicing: Splicing) -> Result
         from: 0,
         then,
     };
-    Ok(begin_turn(state, progress)?)
+    begin_turn(state, progress)
 }

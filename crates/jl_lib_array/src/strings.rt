@@ -26,7 +26,7 @@ pub(crate) fn array_to_string<'p>(
 {
     let name = word(alloc, "join")?;
     wait(state, ArrayProgress::Join { object })?;
-    Ok(get(alloc, state, &Value::Obj(object), &name)?)
+    get(alloc, state, &Value::Obj(object), &name)
 }
 
 /// Goes on with the property `join`, which is called, or the standard `Object.prototype.toString` in its place.

@@ -1,12 +1,13 @@
+use Rattle.std.proofs.lemmas.Result.{IfOk-weaker}
 use Rattle.jl_lib_array.proofs.Appended.{appends_elements, appends_value}
 use Rattle.jl_lib_array.proofs.appending.append_item.Goals as goal
 
 pub returns-in-Some-clause-leads : goal.returns-in-Some-clause-leads
 returns-in-Some-clause-leads c =
-    appends_elements c.args.state.now _ _ c.args.array c.args.next c.args.v c.args.items c.args.from c.in-Some.item
-    c.in-Some.ensures.0 c.in-Some.ensures.1 c.in_ok-get_length.ensures.leads
+    IfOk-weaker _ _ _ (λ a leads. appends_elements c.args.state.now _ _ c.args.array c.args.next c.args.v c.args.items
+    c.args.from c.in-Some.item c.in-Some.ensures.0 c.in-Some.ensures.1 leads) c.get_length.ensures.leads
 
 pub returns-clause-leads : goal.returns-clause-leads
 returns-clause-leads c =
-    appends_value c.args.state.now _ _ c.args.array c.args.next c.args.v c.args.items c.args.from _
-    c.in_default.ensures c.in_ok-after.ensures c.in_ok-add_then.ensures.leads
+    IfOk-weaker _ _ _ (λ a leads. appends_value c.args.state.now _ _ c.args.array c.args.next c.args.v c.args.items
+    c.args.from _ c.in_default.ensures c.in_ok-after.ensures leads) c.add_then.ensures.leads

@@ -1,4 +1,5 @@
 use Rattle.std.proofs.Common.{drop, refl}
+use Rattle.std.proofs.lemmas.Result.{IfOk-weaker}
 use Rattle.jl_builtin.proofs.FoundItems.{none_from, some_from}
 use Rattle.jl_lib_array.proofs.Turns.{appends_end, appends_spent, appends_take}
 use Rattle.jl_lib_array.proofs.appending.append_items.Goals as goal
@@ -19,8 +20,7 @@ returns-then-not-spend-clause-leads c =
 
 pub returns-clause-leads : goal.returns-clause-leads
 returns-clause-leads c =
-    appends_take c.args.state.now c.args.array c.args.next _ _ _ (drop c.args.from c.args.values)
-    (drop c.in-Some.after c.args.values) c.in-Some.v
-    (some_from c.args.from c.in-Some.after c.items.result.now c.args.values c.in-Some.v c.in_ok-value_from.field-0
-    c.items.ensures c.in_ok-value_from.ensures.found c.in-Some.is)
-    (c.if-not-spend.ensures.took refl) c.in_ok-append_item-in-Some.ensures.leads
+    IfOk-weaker _ _ _ (λ a leads. appends_take c.args.state.now c.args.array c.args.next _ _ _
+    (drop c.args.from c.args.values) (drop c.in-Some.after c.args.values) c.in-Some.v (some_from c.args.from
+    c.in-Some.after c.items.result.now c.args.values c.in-Some.v c.in_ok-value_from.field-0 c.items.ensures
+    c.in_ok-value_from.ensures.found c.in-Some.is) (c.if-not-spend.ensures.took refl) leads) c.append_item.ensures.leads

@@ -1,10 +1,12 @@
 use Rattle.std.proofs.Common.{refl}
+use Rattle.std.proofs.lemmas.Result.{IfOk-weaker}
 use Rattle.jl_lib_array.proofs.Copied.{copies_end, copies_spent, copies_take}
 use Rattle.jl_lib_array.proofs.copying.copy_turn.Goals as goal
 
 pub returns-then-copying-eq0-clause-leads : goal.returns-then-copying-eq0-clause-leads
 returns-then-copying-eq0-clause-leads c =
-    copies_end c.args.state.now _ _ c.args.copying c.args.next c.if-copying-eq0.true c.in_ok-after_copying.ensures.leads
+    IfOk-weaker _ _ _ (λ a leads. copies_end c.args.state.now _ _ c.args.copying c.args.next c.if-copying-eq0.true
+    leads) c.after_copying.ensures.leads
 
 pub returns-then-not-spend-clause-leads : goal.returns-then-not-spend-clause-leads
 returns-then-not-spend-clause-leads c =
@@ -13,5 +15,5 @@ returns-then-not-spend-clause-leads c =
 
 pub returns-clause-leads : goal.returns-clause-leads
 returns-clause-leads c =
-    copies_take c.args.state.now _ _ c.args.copying c.args.next _ c.if-copying-eq0.false
-    (c.if-not-spend.ensures.took refl) c.in_ok-copy_element.ensures.leads
+    IfOk-weaker _ _ _ (λ a leads. copies_take c.args.state.now _ _ c.args.copying c.args.next _ c.if-copying-eq0.false
+    (c.if-not-spend.ensures.took refl) leads) c.copy_element.ensures.leads

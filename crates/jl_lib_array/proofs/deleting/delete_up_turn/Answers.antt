@@ -1,4 +1,5 @@
 use Rattle.std.proofs.Common.{refl}
+use Rattle.std.proofs.lemmas.Result.{IfOk-weaker}
 use Rattle.jl_state.specs.declared.act.Act.TheVariants as act
 use Rattle.jl_lib_array.proofs.Deleted.{deletes_up_end, deletes_up_spent, deletes_up_take}
 use Rattle.jl_lib_array.proofs.deleting.delete_up_turn.Goals as goal
@@ -14,5 +15,5 @@ returns-then-not-spend-clause-leads c =
 
 pub returns-clause-leads : goal.returns-clause-leads
 returns-clause-leads c =
-    deletes_up_take _ _ _ c.args.object c.args.index c.args.left _ _ c.if-left-eq0.false (c.if-not-spend.ensures.took refl)
-    c.in_ok-after.ensures c.in_ok-delete_then.ensures.leads
+    IfOk-weaker _ _ _ (λ a leads. deletes_up_take _ _ _ c.args.object c.args.index c.args.left _ _ c.if-left-eq0.false
+    (c.if-not-spend.ensures.took refl) c.in_ok-after.ensures leads) c.delete_then.ensures.leads

@@ -1,3 +1,4 @@
+use Rattle.std.proofs.lemmas.Result.{IfOk-weaker}
 use Rattle.jl_meaning.specs.builtins.Elements.{add_index}
 use Rattle.jl_lib_array.proofs.Turns.{then_turn}
 use Rattle.jl_lib_array.proofs.Waiting.{falls_waiting}
@@ -5,9 +6,10 @@ use Rattle.jl_lib_array.proofs.frames.add_then.Goals as goal
 
 pub returns-clause-leads : goal.returns-clause-leads
 returns-clause-leads c =
-    then_turn c.args.state.now _ _ _ (add_index c.args.array c.args.index c.args.v) c.args.progress
-    c.in_ok-wait.ensures.waits c.in_ok-add_element.ensures.leads
+    IfOk-weaker _ _ _ (λ a leads. then_turn c.args.state.now _ _ _ (add_index c.args.array c.args.index c.args.v)
+    c.args.progress c.in_ok-wait.ensures.waits leads) c.add_element.ensures.leads
 
 pub returns-clause-falls : goal.returns-clause-falls
 returns-clause-falls c =
-    falls_waiting _ _ _ _ c.args.progress _ c.in_ok-wait.ensures.pushed c.in_ok-add_element.ensures.falls
+    IfOk-weaker _ _ _ (λ a falls. falls_waiting _ _ _ _ c.args.progress _ c.in_ok-wait.ensures.pushed falls)
+    c.add_element.ensures.falls

@@ -1,3 +1,4 @@
+use Rattle.std.proofs.lemmas.Result.{IfOk-weaker}
 use Rattle.jl_lib_array.proofs.Joined.{joins_none, joins_some}
 use Rattle.jl_lib_array.proofs.joining.join_elements.Goals as goal
 
@@ -7,5 +8,5 @@ returns-then-length-eq0-clause-leads c =
 
 pub returns-clause-leads : goal.returns-clause-leads
 returns-clause-leads c =
-    joins_some c.args.state.now _ _ c.args.object c.args.length c.args.separator c.if-length-eq0.false
-    c.in_ok-get_for.ensures.leads
+    IfOk-weaker _ _ _ (λ a leads. joins_some c.args.state.now _ _ c.args.object c.args.length c.args.separator
+    c.if-length-eq0.false leads) c.get_for.ensures.leads

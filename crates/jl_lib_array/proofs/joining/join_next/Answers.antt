@@ -1,4 +1,5 @@
 use Rattle.std.proofs.Common.{refl}
+use Rattle.std.proofs.lemmas.Result.{IfOk-weaker}
 use Rattle.jl_progress.specs.Arrays.{join_others}
 use Rattle.jl_lib_array.proofs.Joined.{has_room, no_room}
 use Rattle.jl_lib_array.proofs.joining.join_next.Goals as goal
@@ -10,5 +11,6 @@ returns-then-not-has_room-clause-leads c =
 
 pub returns-clause-leads : goal.returns-clause-leads
 returns-clause-leads c =
-    has_room c.args.line c.args.next.now _ _ _ c.len.ensures refl c.has_room.ensures c.args.state.now _ _
-    (join_others c.args.joining) _ c.if-not-has_room.false c.in_ok-line.ensures c.in_ok-begin_turn.ensures.leads
+    IfOk-weaker _ _ _ (λ a leads. has_room c.args.line c.args.next.now _ _ _ c.len.ensures refl c.has_room.ensures
+    c.args.state.now _ _ (join_others c.args.joining) _ c.if-not-has_room.false c.in_ok-line.ensures leads)
+    c.begin_turn.ensures.leads

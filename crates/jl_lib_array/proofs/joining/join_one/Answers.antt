@@ -1,4 +1,5 @@
 use Rattle.std.proofs.Common.{refl}
+use Rattle.std.proofs.lemmas.Result.{IfOk-weaker}
 use Rattle.jl_lib_array.proofs.Joined.{joins_none_more, joins_one}
 use Rattle.jl_lib_array.proofs.joining.join_one.Goals as goal
 
@@ -9,6 +10,6 @@ returns-then-not-has_room-clause-leads c =
 
 pub returns-clause-leads : goal.returns-clause-leads
 returns-clause-leads c =
-    joins_one c.args.joining c.args.index c.args.line _ _ _ _ c.len.ensures c.units-separator.ensures.same refl
-    c.has_room.ensures c.args.state.now _ _ _ c.if-not-has_room.false c.in_ok-line.ensures
-    c.in_ok-get_for.ensures.leads
+    IfOk-weaker _ _ _ (λ a leads. joins_one c.args.joining c.args.index c.args.line _ _ _ _ c.len.ensures
+    c.units-separator.ensures.same refl c.has_room.ensures c.args.state.now _ _ _ c.if-not-has_room.false
+    c.in_ok-line.ensures leads) c.get_for.ensures.leads

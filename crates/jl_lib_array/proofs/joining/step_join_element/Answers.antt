@@ -1,14 +1,15 @@
 use Rattle.std.proofs.Common.{refl, sym, ◌∙◌}
+use Rattle.std.proofs.lemmas.Result.{IfOk-weaker}
 use Rattle.jl_progress.specs.Arrays.{join_next}
 use Rattle.jl_lib_array.proofs.Joined.{next_converts, next_nothing}
 use Rattle.jl_lib_array.proofs.joining.step_join_element.Goals as goal
 
 pub returns-then-is_nothing-clause-leads : goal.returns-then-is_nothing-clause-leads
 returns-then-is_nothing-clause-leads c =
-    next_nothing _ _ _ c.args.v (join_next c.args.joining c.args.line) _
-    (sym c.is_nothing.ensures ∙ c.if-is_nothing.true) refl c.in_ok-join_next.ensures.leads
+    IfOk-weaker _ _ _ (λ a leads. next_nothing _ _ _ c.args.v (join_next c.args.joining c.args.line) _
+    (sym c.is_nothing.ensures ∙ c.if-is_nothing.true) refl leads) c.join_next.ensures.leads
 
 pub returns-clause-leads : goal.returns-clause-leads
 returns-clause-leads c =
-    next_converts _ _ _ c.args.v (join_next c.args.joining c.args.line)
-    (sym c.is_nothing.ensures ∙ c.if-is_nothing.false) c.in_ok-wait_for_string.ensures.leads
+    IfOk-weaker _ _ _ (λ a leads. next_converts _ _ _ c.args.v (join_next c.args.joining c.args.line)
+    (sym c.is_nothing.ensures ∙ c.if-is_nothing.false) leads) c.wait_for_string.ensures.leads

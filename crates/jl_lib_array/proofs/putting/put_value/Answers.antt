@@ -1,4 +1,5 @@
 use Rattle.std.proofs.Common.{drop, subst, ℕ}
+use Rattle.std.proofs.lemmas.Result.{IfOk-weaker}
 use Rattle.jl_meaning.specs.Parts.{◌>>=◌}
 use Rattle.jl_meaning.specs.builtins.Elements.{put_index}
 use Rattle.jl_progress.specs.Arrays.{put_others}
@@ -7,6 +8,6 @@ use Rattle.jl_lib_array.proofs.putting.put_value.Goals as goal
 
 pub returns-clause-leads : goal.returns-clause-leads
 returns-clause-leads c =
-    subst (λ (n : ℕ). Works c.args.state.now (put_index c.args.object c.args.index c.args.v
-    >>= λ _. put_others c.args.object n (drop c.args.from c.args.values) c.args.next) c.put_then.new.state
-    c.in_ok-put_then.field-0) c.in_ok-after.ensures c.in_ok-put_then.ensures.leads
+    IfOk-weaker _ _ _ (λ a leads. subst (λ (n : ℕ). Works c.args.state.now (put_index c.args.object c.args.index
+    c.args.v >>= λ _. put_others c.args.object n (drop c.args.from c.args.values) c.args.next) c.put_then.new.state a)
+    c.in_ok-after.ensures leads) c.put_then.ensures.leads

@@ -1,16 +1,17 @@
 use Rattle.std.proofs.Common.{◌+◌}
+use Rattle.std.proofs.lemmas.Result.{IfOk-weaker}
 use Rattle.jl_meaning.specs.Parts.{◌>>=◌}
 use Rattle.jl_meaning.specs.builtins.Elements.{delete_index, put_index}
 use Rattle.jl_progress.specs.Arrays.{reverse_others, upper_of}
 use Rattle.jl_builtin.proofs.Ends.{answer_given, answer_thrown}
 use Rattle.jl_lib_array.proofs.reversing.move_to_upper.Goals as goal
 
-pub returns-in_ok-put_above-in-Gives-clause-leads : goal.returns-in_ok-put_above-in-Gives-clause-leads
-returns-in_ok-put_above-in-Gives-clause-leads c =
+pub returns-in-Gives-clause-leads : goal.returns-in-Gives-clause-leads
+returns-in-Gives-clause-leads c =
     let r = c.args.reversing in
-    answer_given c.args.state.now _ c.delete_index.ensures.stored (delete_index r.object r.lower)
-    (λ _. put_index r.object (upper_of r) c.args.low >>= λ _. reverse_others r r.left (r.lower + 1)) _
-    c.in_ok-answer.ensures.comes _ _ _ c.in-Gives.is c.in_ok-put_above-in-Gives.ensures.leads
+    IfOk-weaker _ _ _ (λ a leads. answer_given c.args.state.now _ c.delete_index.ensures.stored
+    (delete_index r.object r.lower) (λ _. put_index r.object (upper_of r) c.args.low >>= λ _. reverse_others r r.left
+    (r.lower + 1)) _ c.in_ok-answer.ensures.comes _ _ _ c.in-Gives.is leads) c.put_above.ensures.leads
 
 pub returns-in-Throws-clause-leads : goal.returns-in-Throws-clause-leads
 returns-in-Throws-clause-leads c =

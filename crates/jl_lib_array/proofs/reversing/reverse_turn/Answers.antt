@@ -1,4 +1,5 @@
 use Rattle.std.proofs.Common.{refl}
+use Rattle.std.proofs.lemmas.Result.{IfOk-weaker}
 use Rattle.jl_state.specs.declared.act.Act.TheVariants as act
 use Rattle.jl_lib_array.proofs.Exchanged.{reverses_end, reverses_spent, reverses_take}
 use Rattle.jl_lib_array.proofs.reversing.reverse_turn.Goals as goal
@@ -14,5 +15,5 @@ returns-then-not-spend-clause-leads c =
 
 pub returns-clause-leads : goal.returns-clause-leads
 returns-clause-leads c =
-    reverses_take _ _ _ c.args.reversing _ c.if-reversing-eq0.false (c.if-not-spend.ensures.took refl)
-    c.in_ok-get_for.ensures.leads
+    IfOk-weaker _ _ _ (λ a leads. reverses_take _ _ _ c.args.reversing _ c.if-reversing-eq0.false
+    (c.if-not-spend.ensures.took refl) leads) c.get_for.ensures.leads

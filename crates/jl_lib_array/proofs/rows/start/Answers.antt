@@ -1,4 +1,5 @@
 use Rattle.std.proofs.Common.{◌∙◌, ap, refl, sym, List}
+use Rattle.std.proofs.lemmas.Result.{IfOk-weaker}
 use Rattle.jl_value.specs.declared.value.Value.{Value}
 use Rattle.jl_meaning.specs.Conversions.{to_object}
 use Rattle.jl_meaning.specs.builtins.Function.{names_of}
@@ -16,13 +17,12 @@ returns-then-not-built-clause-leads c =
 
 pub returns-in-Gives-clause-leads : goal.returns-in-Gives-clause-leads
 returns-in-Gives-clause-leads c =
-    starts (names_of (table_of c.args.state.now.functions)) (call_of c.args.call) c.args.state.now _ _ c.args.row
-    c.requires.belongs
-    (ap (λ (l : List Value). is_built c.args.row l) (sym c.items.ensures) ∙ sym c.in_ok-built.ensures
-    ∙ c.if-not-built.false)
-    (answer_given c.args.state.now (record c.args.state.now { store = c.to_object.new.self }) refl
-    (to_object c.args.call.this) (λ o. function_on c.args.row o c.args.call.args) _ c.in_ok-answer.ensures _ _ _
-    c.in-Gives.is c.in_ok-start_on-in-Gives.ensures.leads)
+    IfOk-weaker _ _ _ (λ a leads. starts (names_of (table_of c.args.state.now.functions)) (call_of c.args.call)
+    c.args.state.now _ _ c.args.row c.requires.belongs (ap (λ (l : List Value). is_built c.args.row l)
+    (sym c.items.ensures) ∙ sym c.in_ok-built.ensures ∙ c.if-not-built.false) (answer_given c.args.state.now
+    (record c.args.state.now { store = c.to_object.new.self }) refl (to_object c.args.call.this)
+    (λ o. function_on c.args.row o c.args.call.args) _ c.in_ok-answer.ensures _ _ _ c.in-Gives.is leads))
+    c.start_on.ensures.leads
 
 pub returns-clause-leads : goal.returns-clause-leads
 returns-clause-leads c =

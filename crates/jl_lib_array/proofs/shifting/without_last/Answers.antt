@@ -1,13 +1,14 @@
+use Rattle.std.proofs.lemmas.Result.{IfOk-weaker}
 use Rattle.jl_meaning.specs.Parts.{give, ◌>>=◌}
 use Rattle.jl_meaning.specs.builtins.Elements.{delete_index, put_length}
 use Rattle.jl_builtin.proofs.Ends.{answer_given, answer_thrown}
 use Rattle.jl_lib_array.proofs.shifting.without_last.Goals as goal
 
-pub returns-in_ok-put_length-in-Gives-clause-leads : goal.returns-in_ok-put_length-in-Gives-clause-leads
-returns-in_ok-put_length-in-Gives-clause-leads c =
-    answer_given c.args.state.now _ c.delete_index.ensures.stored (delete_index c.args.object c.args.last)
-    (λ _. put_length c.args.object c.args.last >>= λ _. give c.args.gives) _ c.in_ok-answer.ensures.comes _ _ _
-    c.in-Gives.is c.in_ok-put_length-in-Gives.ensures.leads
+pub returns-in-Gives-clause-leads : goal.returns-in-Gives-clause-leads
+returns-in-Gives-clause-leads c =
+    IfOk-weaker _ _ _ (λ a leads. answer_given c.args.state.now _ c.delete_index.ensures.stored
+    (delete_index c.args.object c.args.last) (λ _. put_length c.args.object c.args.last >>= λ _. give c.args.gives) _
+    c.in_ok-answer.ensures.comes _ _ _ c.in-Gives.is leads) c.put_length.ensures.leads
 
 pub returns-in-Throws-clause-leads : goal.returns-in-Throws-clause-leads
 returns-in-Throws-clause-leads c =

@@ -1,4 +1,5 @@
 use Rattle.jl_lib_array.proofs.splicing.copy_removed.Goals as goal
 
 pub returns-clause-leads : goal.returns-clause-leads
-returns-clause-leads c = c.in_ok-begin_turn.ensures.leads
+returns-clause-leads c =
+    c.begin_turn.ensures.leads

@@ -1,9 +1,9 @@
 use Rattle.std.proofs.Common.{◌+◌, ap, ◌∙◌}
+use Rattle.std.proofs.lemmas.Result.{IfOk-weaker}
 use Rattle.jl_lib_array.proofs.Moved.{opens}
 use Rattle.jl_lib_array.proofs.splicing.move_apart.Goals as goal
 
 pub returns-clause-leads : goal.returns-clause-leads
 returns-clause-leads c =
-    opens _ _ _ c.args.splicing _ _ _ c.in_ok-sum.ensures
-    (c.in_ok-sum-2.ensures ∙ ap (λ n. c.args.splicing.start + n) c.len.ensures) c.after_removed.ensures
-    c.in_ok-begin_turn.ensures.leads
+    IfOk-weaker _ _ _ (λ a leads. opens _ _ _ c.args.splicing _ _ _ c.in_ok-sum.ensures (c.in_ok-sum-2.ensures ∙ ap
+    (λ n. c.args.splicing.start + n) c.len.ensures) c.after_removed.ensures leads) c.begin_turn.ensures.leads

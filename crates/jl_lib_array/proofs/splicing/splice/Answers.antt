@@ -1,4 +1,5 @@
 use Rattle.std.proofs.Common.{ap, ◌∙◌, List}
+use Rattle.std.proofs.lemmas.Result.{IfOk-weaker}
 use Rattle.std.specs.Prelude.{slice_index_or}
 use Rattle.jl_value.specs.declared.value.Value.{Value}
 use Rattle.jl_value.specs.declared.value.Value.TheVariants as value
@@ -7,6 +8,6 @@ use Rattle.jl_lib_array.proofs.splicing.splice.Goals as goal
 
 pub returns-clause-leads : goal.returns-clause-leads
 returns-clause-leads c =
-    splices_start _ _ _ c.args.object c.args.array c.args.length c.args.args _
-    (c.in_ok-start.ensures ∙ ap (λ (l : List Value). slice_index_or l 0 value.Undefined) c.items.ensures)
-    c.in_ok-wait_for_number.ensures.leads
+    IfOk-weaker _ _ _ (λ a leads. splices_start _ _ _ c.args.object c.args.array c.args.length c.args.args _
+    (c.in_ok-start.ensures ∙ ap (λ (l : List Value). slice_index_or l 0 value.Undefined) c.items.ensures) leads)
+    c.wait_for_number.ensures.leads

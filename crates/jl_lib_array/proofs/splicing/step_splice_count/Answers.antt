@@ -1,4 +1,5 @@
 use Rattle.std.proofs.Common.{drop, sym, ◌-◌, ◌∙◌}
+use Rattle.std.proofs.lemmas.Result.{IfOk-weaker}
 use Rattle.jl_meaning.specs.Conversions.{integer_of}
 use Rattle.jl_meaning.specs.builtins.ArrayChanges.{splice_at}
 use Rattle.jl_meaning.specs.builtins.Elements.{clamped}
@@ -15,6 +16,6 @@ returns-in_default-clause-leads c =
 
 pub returns-clause-leads : goal.returns-clause-leads
 returns-clause-leads c =
-    splices_at _ _ _ c.args.object c.args.array c.args.length c.args.args.now c.args.p.now c.in-Some.n c.args.start _ _
-    _ (sym c.in-Some.is ∙ c.number_of_primitive.ensures) c.saturating_sub.ensures c.clamped-removed.ensures
-    c.in_ok-items.ensures c.in_ok-copy_removed.ensures.leads
+    IfOk-weaker _ _ _ (λ a leads. splices_at _ _ _ c.args.object c.args.array c.args.length c.args.args.now c.args.p.now
+    c.in-Some.n c.args.start _ _ _ (sym c.in-Some.is ∙ c.number_of_primitive.ensures) c.saturating_sub.ensures
+    c.clamped-removed.ensures c.in_ok-items.ensures leads) c.copy_removed.ensures.leads

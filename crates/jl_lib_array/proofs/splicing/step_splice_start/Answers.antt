@@ -1,4 +1,5 @@
 use Rattle.std.proofs.Common.{ap, sym, ◌∙◌, List}
+use Rattle.std.proofs.lemmas.Result.{IfOk-weaker}
 use Rattle.std.specs.Prelude.{slice_index_or}
 use Rattle.jl_value.specs.declared.value.Value.{Value}
 use Rattle.jl_value.specs.declared.value.Value.TheVariants as value
@@ -17,7 +18,7 @@ returns-in_default-clause-leads c =
 
 pub returns-clause-leads : goal.returns-clause-leads
 returns-clause-leads c =
-    splices_count _ _ _ c.args.object c.args.array c.args.length c.args.args c.args.p.now c.in-Some.n _ _
-    (sym c.in-Some.is ∙ c.number_of_primitive.ensures) c.relative_index-start.ensures
-    (c.in_ok-count.ensures ∙ ap (λ (l : List Value). slice_index_or l 1 value.Undefined) c.items.ensures)
-    c.in_ok-wait_for_number.ensures.leads
+    IfOk-weaker _ _ _ (λ a leads. splices_count _ _ _ c.args.object c.args.array c.args.length c.args.args c.args.p.now
+    c.in-Some.n _ _ (sym c.in-Some.is ∙ c.number_of_primitive.ensures) c.relative_index-start.ensures
+    (c.in_ok-count.ensures ∙ ap (λ (l : List Value). slice_index_or l 1 value.Undefined) c.items.ensures) leads)
+    c.wait_for_number.ensures.leads
