@@ -34,7 +34,7 @@ pub(crate) enum Unread {
 }
 
 /// The tokens of a text.
-fn lexed(alloc: Global, text: &[u16]) -> Result<List<Token>, Unread>
+fn lex_text(alloc: Global, text: &[u16]) -> Result<List<Token>, Unread>
     requires { length text.now ≤ 67108928 }
     ensures tokens { IfOk result (λ ts. Tokens text.now ts) }
     ensures only { (ts : Items OneToken) → Tokens text.now ts
@@ -48,7 +48,7 @@ fn lexed(alloc: Global, text: &[u16]) -> Result<List<Token>, Unread>
 }
 
 /// The program that they read as.
-fn parsed(alloc: Global, tokens: &[Token]) -> Result<Program, Unread>
+fn parse_tokens(alloc: Global, tokens: &[Token]) -> Result<Program, Unread>
     requires { length tokens.now < 2 ^ 32 }
     ensures read { IfOk result (λ p. Reads tokens.now 1000 (view p)) }
     ensures only { (p : Tree Span) → Reads tokens.now 1000 p
@@ -62,7 +62,7 @@ fn parsed(alloc: Global, tokens: &[Token]) -> Result<Program, Unread>
 }
 
 /// Whether it breaks no early rule and uses no left-out name. That it names the hooks is passed over.
-fn checked(alloc: Global, program: &Program) -> Result<(), Unread>
+fn check_early_errors(alloc: Global, program: &Program) -> Result<(), Unread>
     ensures sound { OnOk result (may_run (first_early_error (view program.now)) ≡ true) }
     ensures only { may_run (first_early_error (view program.now)) ≡ true
         → MatchResult result (λ _. Unit {0}) (λ e. e ≡ NoMemory) }
@@ -84,8 +84,8 @@ fn program_of(alloc: Global, tokens: &[Token]) -> Result<Program, Unread>
     ensures only { (p : Tree Span) → Reads tokens.now 1000 p → may_run (first_early_error p) ≡ true
         → MatchResult result (λ r. view r ≡ p) (λ e. e ≡ NoMemory) }
 {
-    let program = parsed(alloc, tokens)?;
-    checked(alloc, &program)?;
+    let program = parse_tokens(alloc, tokens)?;
+    check_early_errors(alloc, &program)?;
     Ok(program)
 }
 
@@ -99,6 +99,6 @@ pub(crate) fn read_back(alloc: Global, text: &[u16]) -> Result<Program, Unread>
     if text.len() > MOST_UNITS {
         return Err(Unread::NoProgram);
     }
-    let tokens = lexed(alloc, text)?;
+    let tokens = lex_text(alloc, text)?;
     program_of(alloc, tokens.items())
 }

@@ -3,7 +3,7 @@ ghost use Rattle.std.specs.Prelude.{◌≡◌, codes, slice_index_or, IfOk};
 ghost use Rattle.jl_builtin.specs.Values.{is_undefined};
 ghost use Rattle.jl_meaning.specs.Errors.{throw_type_error};
 ghost use Rattle.jl_meaning.specs.builtins.Arguments.{need_function, need_object};
-ghost use Rattle.jl_store.specs.Answers.{answered};
+ghost use Rattle.jl_store.specs.Answers.{ends_with};
 ghost use Rattle.jl_store.specs.Comes.{Comes};
 ghost use Rattle.jl_value.specs.declared.value.Value.TheVariants as value;
 
@@ -31,7 +31,7 @@ pub fn is_undefined(v: &Value) -> bool
 
 /// The object that a value is. It throws a TypeError for any other value.
 pub fn need_object(store: &mut Store, v: &Value) -> Result<Answer<ObjId>, NoMemory>
-    ensures { IfOk result (λ answer. Comes (need_object v.now) store.old store.new (answered answer)) }
+    ensures { IfOk result (λ answer. Comes (need_object v.now) store.old store.new (ends_with answer)) }
 {
     let Value::Obj(id) = v else {
         let thrown = store.throw_type_error("not an object")?;
@@ -42,7 +42,7 @@ pub fn need_object(store: &mut Store, v: &Value) -> Result<Answer<ObjId>, NoMemo
 
 /// The function that a value is (9.11). It throws a TypeError for any other value.
 pub fn need_function(store: &mut Store, v: &Value) -> Result<Answer<ObjId>, NoMemory>
-    ensures { IfOk result (λ answer. Comes (need_function v.now) store.old store.new (answered answer)) }
+    ensures { IfOk result (λ answer. Comes (need_function v.now) store.old store.new (ends_with answer)) }
 {
     let Value::Obj(id) = v else {
         return Ok(no_function(store)?);
@@ -57,7 +57,7 @@ pub fn need_function(store: &mut Store, v: &Value) -> Result<Answer<ObjId>, NoMe
 #[tactic(auto, using(jl_store::proofs::Chains::error_comes))]
 fn no_function(store: &mut Store) -> Result<Answer<ObjId>, NoMemory>
     ensures { IfOk result (λ answer. Comes (throw_type_error (codes "not a function")) store.old store.new
-        (answered answer)) }
+        (ends_with answer)) }
 {
     let thrown = store.throw_type_error("not a function")?;
     Ok(Answer::Throws(thrown))

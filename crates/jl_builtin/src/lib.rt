@@ -11,6 +11,6 @@ mod turns;
 pub use arguments::{argument, is_undefined, need_function, need_object};
 pub use elements::{delete_index, get_index, has_index, put_index, put_length};
 pub use filling::{add_index, fault_of, fill_array};
-pub use integers::{clamped, index_or_none, integer_of, number_of_primitive, relative_index};
+pub use integers::{clamp, index_or_none, integer_of, number_of_primitive, relative_index};
 pub use lists::{copy_of, rest_of, value_from, with_units, with_values};
 pub use turns::{give_text, go_on};

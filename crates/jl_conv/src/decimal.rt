@@ -7,7 +7,8 @@ ghost use Rattle.std.specs.Str.{bytes_eq};
 ghost use Rattle.jl_num.specs.Arithmetic.{number_of};
 ghost use Rattle.jl_token.specs.Characters.{is_digit, is_hex_digit, hex_digit_value, decimal_from, hex_from};
 ghost use Rattle.jl_lex.specs.Amounts.{Stands};
-ghost use Rattle.jl_conv.specs.Numerals.{are_digits, is_point, is_exponent_letter, signed, exact_value, raises, lowers};
+ghost use Rattle.jl_conv.specs.Numerals.{are_digits, is_point, is_exponent_letter, with_sign, exact_value, raises};
+ghost use Rattle.jl_conv.specs.Numerals.{lowers};
 ghost use Rattle.jl_conv.specs.Numerals.{exponent_of, decimal_number, hexadecimal_number};
 ghost use Rattle.jl_conv.specs.Amounts.{Agree, Powers, IsExponent};
 
@@ -270,7 +271,7 @@ fn value(negative: bool, amount: Amount, raise: u64, lower: u64) -> Result<Num, 
 
 // The whole number of this size, where it is a number of a script.
 fn whole(negative: bool, size: u64) -> Result<Num, NumberOutside>
-    ensures { result_ok result ≡ number_of (signed negative size) }
+    ensures { result_ok result ≡ number_of (with_sign negative size) }
 {
     if size > LARGEST {
         return Err(NumberOutside);

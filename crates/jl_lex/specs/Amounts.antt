@@ -8,14 +8,14 @@ use Rattle.jl_lex.specs.declared.numbers.Numeral.{Numeral}
 use Rattle.jl_lex.specs.declared.numbers.Exponent.{Exponent}
 
 -- ten times a number, k times, as long as it isn't past the numbers of a script
-unfoldable pub scaled : ℕ → ℕ → ℕ
-scaled c zero = c
-scaled c (suc k) = if nat_le c 9007199254740991 then scaled (c * 10) k else c
+unfoldable pub scale : ℕ → ℕ → ℕ
+scale c zero = c
+scale c (suc k) = if nat_le c 9007199254740991 then scale (c * 10) k else c
 
 -- one more digit after c · 10 ^ z; where c is past the numbers of a script, only that counts
 unfoldable pub add_digit : ℕ → ℕ × ℕ → ℕ × ℕ
 add_digit u (c, z) = if u == 48 then (if c == 0 then (c, z) else (c, z + 1)) else
-    (if nat_le c 9007199254740991 then (scaled c (z + 1) + (u - 48), 0) else (c, z))
+    (if nat_le c 9007199254740991 then (scale c (z + 1) + (u - 48), 0) else (c, z))
 
 unfoldable pub add_digits : ℕ × ℕ → List ℕ → ℕ × ℕ
 add_digits x [] = x
@@ -27,7 +27,7 @@ if_number n = if nat_le n 9007199254740991 then Some n else None
 -- the value of c · 10 ^ z · 10 ^ r / 10 ^ l, if it is a number of a script
 unfoldable pub value_from : ℕ → ℕ → ℕ → ℕ → Option ℕ
 value_from c z r l = if c == 0 then Some 0 else
-    (if nat_le c 9007199254740991 then (if nat_le l (z + r) then if_number (scaled c ((z + r) - l)) else None) else
+    (if nat_le c 9007199254740991 then (if nat_le l (z + r) then if_number (scale c ((z + r) - l)) else None) else
     None)
 
 -- the number that decimal digits write, which stands still once it is large

@@ -29,9 +29,9 @@ four_at units i =
     (hex_first (drop (i + 3) units))
 
 -- the characters that a name may start with, or go on with
-abbrev pub allowed : Bool → ℕ → Bool
-allowed false = is_identifier_start
-allowed true = is_identifier_part
+abbrev pub is_name_character : Bool → ℕ → Bool
+is_name_character false = is_identifier_start
+is_name_character true = is_identifier_part
 
 -- a letter of a name that was read from a place on
 abbrev pub LetterFrom : List ℕ → ℕ → Option Letter → Option ((ℕ × Bool) × List ℕ) → Type 0

@@ -5,7 +5,7 @@ ghost use Rattle.std.specs.Prelude.{List, Some, None, true, drop, length, IfSome
 ghost use Rattle.jl_token.specs.Characters.{is_digit, is_hex_digit, decimal_from, first_is};
 ghost use Rattle.jl_token.specs.Scanner.{many, one_unit, some_digits, exponent, exponent_by, with_exponent};
 ghost use Rattle.jl_token.specs.Scanner.{after_fraction, after_whole, after_zero, hex_literal, numeral, number_end};
-ghost use Rattle.jl_lex.specs.Amounts.{scaled, add_digit, add_digits, value_from, if_number, capped_from};
+ghost use Rattle.jl_lex.specs.Amounts.{scale, add_digit, add_digits, value_from, if_number, capped_from};
 ghost use Rattle.jl_lex.specs.Amounts.{hex_capped_from, NumeralFrom, ExponentFrom, Stands};
 ghost use Rattle.jl_lex.specs.Answers.{IsFrom};
 
@@ -51,9 +51,9 @@ pub struct Numeral {
 }
 
 // Ten times a number, so many times, as long as it isn't past `LARGEST`.
-fn scaled(number: u64, times: u64) -> u64
+fn scale(number: u64, times: u64) -> u64
     requires { number ≤ 90071992547409910 }
-    ensures value { result ≡ scaled number times }
+    ensures value { result ≡ scale number times }
     ensures small { result ≤ 90071992547409910 }
 {
     let mut value = number;
@@ -101,7 +101,7 @@ fn add_digit(amount: Amount, unit: u16) -> Amount
         return amount;
     }
     Amount {
-        coefficient: scaled(amount.coefficient, amount.zeros + 1) + digit_value(unit),
+        coefficient: scale(amount.coefficient, amount.zeros + 1) + digit_value(unit),
         zeros: 0,
     }
 }
@@ -150,7 +150,7 @@ fn value(amount: Amount, raise: u64, lower: u64) -> Option<u64>
     if total < lower {
         return None;
     }
-    let number = scaled(amount.coefficient, total - lower);
+    let number = scale(amount.coefficient, total - lower);
     if number > LARGEST { None } else { Some(number) }
 }
 
@@ -175,13 +175,13 @@ fn exponent_digits(units: &[u16], at: usize) -> Option<Power>
         if !is_digit(unit) {
             break;
         }
-        number = capped(number, unit);
+        number = add_exponent_digit(number, unit);
         end += 1;
     }
     Some(Power { number, end })
 }
 
-fn capped(number: u64, unit: u16) -> u64
+fn add_exponent_digit(number: u64, unit: u16) -> u64
     requires digit { is_digit unit ≡ true }
     requires small { number ≤ 10995116277769 }
     ensures value { result ≡ (if nat_le 1099511627776 number then number else number * 10 + (unit - 48)) }
@@ -258,7 +258,7 @@ fn exponent_at(units: &[u16], at: usize) -> Exponent
 }
 
 // The literal of the digits that were read, so many of them after the point, and the exponent at a place.
-fn finished(units: &[u16], at: usize, amount: Amount, places: usize) -> Numeral
+fn with_exponent(units: &[u16], at: usize, amount: Amount, places: usize) -> Numeral
     requires within { at ≤ length units.now }
     requires small { amount.coefficient ≤ 90071992547409919 }
     requires few { amount.zeros < 4294967296 }
@@ -284,7 +284,7 @@ fn after_point(units: &[u16], at: usize, amount: Amount) -> Numeral
         → NumeralFrom units.now at result (after_fraction ds (many (one_unit is_digit) (drop at units.now))) }
 {
     let (amount, end) = digits(units, at, amount);
-    finished(units, end, amount, end - at)
+    with_exponent(units, end, amount, end - at)
 }
 
 // The literal whose whole digits were read.
@@ -299,7 +299,7 @@ fn after_whole(units: &[u16], at: usize, amount: Amount) -> Numeral
     if is_at(units, at, 46) {
         after_point(units, at + 1, amount)
     } else {
-        finished(units, at, amount, 0)
+        with_exponent(units, at, amount, 0)
     }
 }
 

@@ -39,7 +39,7 @@ pub fn start<'p>(
 {
     let built = is_built(alloc, row, call.args.items())?;
     if !built {
-        return Ok(unsupported(row));
+        return Ok(fail_row(row));
     }
     let answer = state.store.to_object(&call.this)?;
     match answer {
@@ -64,7 +64,7 @@ fn is_built(alloc: Global, row: u16, args: &[Value]) -> Result<bool, NoMemory>
 
 /// The call of a builtin that isn't built ends the run.
 #[tactic(auto, unfolding(jl_value::specs::Builtins::builtin_names))]
-fn unsupported<'p>(row: u16) -> Act<'p>
+fn fail_row<'p>(row: u16) -> Act<'p>
     requires { row < 102 }
     ensures { result ≡ Act.Fault (Fault.Unsupported row) }
 {

@@ -1,7 +1,7 @@
 //! What `parseInt` reads of a string (15.1.2.2).
 ghost use Rattle.std.specs.Prelude.{◌≡◌, ◌≤◌, MatchOption, Option, Some};
 ghost use Rattle.std.specs.Result.{result_ok};
-ghost use Rattle.jl_conv.specs.Numerals.{is_space, signed, without_front};
+ghost use Rattle.jl_conv.specs.Numerals.{is_space, with_sign, without_front};
 ghost use Rattle.jl_lib_misc.specs.inner.Radix.{IsWithin, leading_number};
 ghost use Rattle.jl_meaning.specs.builtins.Global.{after_hex_prefix, digit_of, parse_after_prefix, parse_after_sign};
 ghost use Rattle.jl_meaning.specs.builtins.Global.{parse_in_radix, parse_signed};
@@ -74,7 +74,7 @@ fn leading_number(radix: u64, units: &[u16]) -> Option<u64>
 /// The whole number of this size, or its negative.
 fn whole(negative: bool, size: u64) -> Result<Num, NumberOutside>
     requires { size ≤ 9007199254740991 }
-    ensures { result_ok result ≡ number_of (signed negative size) }
+    ensures { result_ok result ≡ number_of (with_sign negative size) }
 {
     let size = size as i64;
     Num::new(if negative { -size } else { size })

@@ -27,7 +27,7 @@ use std::alloc::Global;
 
 /// The fault of the builtin in a row.
 #[tactic(auto, unfolding(jl_value::specs::Builtins::builtin_names))]
-fn unsupported<'p>(row: u16) -> Act<'p>
+fn fail_row<'p>(row: u16) -> Act<'p>
     requires { row < 102 }
     ensures leads { (s : Machine) → Works s (Fail (Unsupported row)) s result }
     ensures low { rank_act result ≤ 2 }
@@ -92,7 +92,7 @@ fn start_primitive<'p>(
     if row == 86 {
         return Ok(boolean_value_of(alloc, state, call)?);
     }
-    Ok(unsupported(row))
+    Ok(fail_row(row))
 }
 
 /// Begins a builtin of errors (15.11).

@@ -1,7 +1,7 @@
 //! The builtins of objects and functions, by their rows.
 ghost use Rattle.std.specs.Prelude.{◌≡◌, ◌≤◌, ◌<◌, IfOk};
 ghost use Rattle.jl_meaning.specs.Parts.{Call};
-ghost use Rattle.jl_meaning.specs.builtins.Arguments.{unsupported};
+ghost use Rattle.jl_meaning.specs.builtins.Arguments.{fail_row};
 ghost use Rattle.jl_meaning.specs.builtins.Function.{names_of};
 ghost use Rattle.jl_meaning.specs.builtins.Table.{builtin};
 ghost use Rattle.jl_state.specs.Rank.{rank_act, Falls};
@@ -29,9 +29,9 @@ use std::alloc::Global;
 
 /// A builtin that is there, and isn't built, ends the run.
 #[tactic(auto, unfolding(jl_value::specs::Builtins::builtin_names))]
-fn unsupported<'p>(row: u16) -> Act<'p>
+fn fail_row<'p>(row: u16) -> Act<'p>
     requires { row < 102 }
-    ensures leads { (s : Machine) (call : Call) → Works s (unsupported row call) s result }
+    ensures leads { (s : Machine) (call : Call) → Works s (fail_row row call) s result }
     ensures low { rank_act result ≤ 2 }
 {
     match Builtin::at(row) {
@@ -84,7 +84,7 @@ fn start_asking<'p>(
         12 => Ok(object_is_extensible(alloc, state, call)?),
         13 => Ok(object_keys(alloc, state, call)?),
         14 => Ok(object_to_string(alloc, state, call)?),
-        15 => Ok(unsupported(row)),
+        15 => Ok(fail_row(row)),
         16 => Ok(object_value_of(state, call)?),
         17 => Ok(this_has(alloc, state, OwnTest::IsThere, call)?),
         18 => Ok(object_is_prototype_of(alloc, state, call)?),
@@ -130,7 +130,7 @@ fn start_row<'p>(
         23 => Ok(function_apply(alloc, state, call)?),
         24 => Ok(function_call(alloc, state, call)?),
         25 => Ok(function_bind(alloc, state, call)?),
-        26 => Ok(unsupported(row)),
+        26 => Ok(fail_row(row)),
         _ => Ok(throw_native(alloc, state, ErrorKind::TypeError, "forbidden")?),
     }
 }

@@ -10,7 +10,7 @@ ghost use Rattle.jl_state.specs.Rank.{Falls};
 ghost use Rattle.jl_state.specs.Rest.{Works};
 
 use crate::waiting::{wait_for_number, wait_for_string};
-use jl_builtin::{argument, clamped, index_or_none};
+use jl_builtin::{argument, clamp, index_or_none};
 use jl_num::{Num, NumberOutside};
 use jl_operator::{number_of, text_of};
 use jl_progress::{Search, StringProgress};
@@ -85,7 +85,7 @@ fn last_start(n: Num, length: usize) -> usize
 {
     match n.value() {
         None => length,
-        Some(_) => clamped(n, length),
+        Some(_) => clamp(n, length),
     }
 }
 
@@ -100,7 +100,7 @@ fn place_of_part(
 {
     let length = units.units().len();
     match search {
-        Search::First => index_or_none(units.find(part, clamped(position, length))),
+        Search::First => index_or_none(units.find(part, clamp(position, length))),
         Search::Last => index_or_none(units.find_last(part, last_start(position, length))),
     }
 }

@@ -41,7 +41,7 @@ pub(crate) fn range_of(
 
 /// The fault of the builtin in a row.
 #[tactic(auto, unfolding(jl_value::specs::Builtins::builtin_names))]
-pub(crate) fn unsupported<'p>(row: u16) -> Act<'p>
+pub(crate) fn fail_row<'p>(row: u16) -> Act<'p>
     requires { row < 102 }
     ensures leads { (s : Machine) → Works s (Fail (Unsupported row)) s result }
     ensures low { rank_act result ≤ 2 }

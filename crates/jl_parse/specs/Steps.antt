@@ -13,9 +13,9 @@ use Rattle.jl_ast.specs.declared.tree.Body.{Body as CodeBody}
 use Rattle.jl_ast.specs.declared.tree.Expr.{Expr as CodeExpr}
 use Rattle.jl_ast.specs.declared.tree.Ident.{Ident as CodeIdent}
 use Rattle.jl_ast.specs.declared.tree.Stmt.{Stmt as CodeStmt}
-use Rattle.jl_grammar.specs.Brackets.{opened}
+use Rattle.jl_grammar.specs.Brackets.{open_brackets}
 use Rattle.jl_grammar.specs.Next.{is_colon, is_identifier, is_semicolon}
-use Rattle.jl_grammar.specs.Reader.{◌>>=◌, Deeper, Read, done, is_case, is_close_paren, is_default, made}
+use Rattle.jl_grammar.specs.Reader.{◌>>=◌, Deeper, Read, succeed, is_case, is_close_paren, is_default, node}
 use Rattle.jl_grammar.specs.Reader.{optional_at, statements_from}
 use Rattle.jl_grammar.specs.ReaderLevels.{deeper}
 use Rattle.jl_grammar.specs.Reads.{Code, Expr, Stmt, Stmts}
@@ -62,20 +62,21 @@ within ts depth = deeper ts depth.brackets depth.levels
 -- the answer is this expression from place i to place j, if it is low enough
 abbrev pub MakesExpression : List Token → Depth → ℕ → ℕ → (Span → Expr) → Result (Box CodeExpr Global × ℕ) Stop → Type 0
 MakesExpression ts depth i j t result =
-    GivesExpression result (made ((within ts depth).room i) (t (span ts i j)) j done)
+    GivesExpression result (node ((within ts depth).room i) (t (span ts i j)) j succeed)
 
 -- the answer is this statement from place i to place j, if it is low enough
 abbrev pub MakesStatement : List Token → Depth → ℕ → ℕ → (Span → Stmt) → Result (CodeStmt × ℕ) Stop → Type 0
-MakesStatement ts depth i j t result = GivesStatement result (made ((within ts depth).room i) (t (span ts i j)) j done)
+MakesStatement ts depth i j t result =
+    GivesStatement result (node ((within ts depth).room i) (t (span ts i j)) j succeed)
 
 -- how many brackets are open before each of the first n tokens
 abbrev pub counts : List Token → ℕ → List ℕ
 counts ts zero = []
-counts ts (suc n) = counts ts n ++ (opened ts n ∷ [])
+counts ts (suc n) = counts ts n ++ (open_brackets ts n ∷ [])
 
 -- so many brackets are open before each token, and in the end
 abbrev pub AreCounts : List Token → List ℕ → ℕ → Type 0
-AreCounts ts before last = (before ≡ counts ts (length ts)) × (last ≡ opened ts (length ts))
+AreCounts ts before last = (before ≡ counts ts (length ts)) × (last ≡ open_brackets ts (length ts))
 
 -- one forest after another
 abbrev pub append : {x : tree.Sort} → Forest Span x → Forest Span x → Forest Span x
@@ -87,7 +88,7 @@ abbrev pub declaration_of : List Token → Deeper → ℕ → Read (Tree Span tr
 declaration_of ts d i =
     if is_identifier (terminal_at ts (suc i))
     then (d.rest (suc (suc i)) >>= λ x.
-    made (d.room i) (tree.function 0 (Some (ident_at ts (suc i))) x.0.0 x.0.1 (span ts i x.1)) x.1 done)
+    node (d.room i) (tree.function 0 (Some (ident_at ts (suc i))) x.0.0 x.0.1 (span ts i x.1)) x.1 succeed)
     else None
 
 -- what is read of a body after these declarations and statements

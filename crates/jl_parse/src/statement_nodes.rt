@@ -364,7 +364,7 @@ pub fn bare_declarator(name: Ident) -> Part<(Ident, Option<Expr>)>
 }
 
 /// A variable with its initialiser (12.2).
-pub fn initialised(name: Ident, e: Part<Box<Expr>>) -> Part<(Ident, Option<Expr>)>
+pub fn initialised_declarator(name: Ident, e: Part<Box<Expr>>) -> Part<(Ident, Option<Expr>)>
     ensures { view_declarator result ≡ tree.declarator (view_ident name) (tree.present (view_expression e.value)) }
 {
     let height = e.height();

@@ -6,7 +6,7 @@ ghost use Rattle.jl_grammar.specs.Tokens.{to_at, span, ident_at, key_ident_at};
 ghost use Rattle.jl_grammar.specs.Program.{last_end};
 ghost use Rattle.jl_grammar.specs.Next.{continues_at, is_directive};
 ghost use Rattle.jl_grammar.specs.Operators.{infix_operator, binary_operator, assign_operator};
-ghost use Rattle.jl_grammar.specs.Brackets.{bracket, opened};
+ghost use Rattle.jl_grammar.specs.Brackets.{bracket, open_brackets};
 ghost use Rattle.jl_parse.specs.Steps.{is_end, infix_operator_of, within};
 
 use crate::depth::Depth;
@@ -84,8 +84,8 @@ impl<'a> Tokens<'a> {
     }
 
     /// How many brackets are open before the token there.
-    fn opened(&self, at: usize) -> u64
-        ensures { result ≡ opened self.now at }
+    fn open_brackets(&self, at: usize) -> u64
+        ensures { result ≡ open_brackets self.now at }
     {
         match self.brackets.get(at) {
             Some(opened) => *opened,
@@ -100,7 +100,7 @@ impl<'a> Tokens<'a> {
         ensures is { result ≡ (within self.now depth).room at }
         ensures few { result < 2 ^ 63 }
     {
-        let brackets = depth.brackets.saturating_sub(self.opened(at));
+        let brackets = depth.brackets.saturating_sub(self.open_brackets(at));
         depth.levels.saturating_sub(brackets)
     }
 

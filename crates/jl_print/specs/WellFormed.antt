@@ -1,6 +1,6 @@
 -- Which trees have a canonical text that reads back: all that the grammar reads are such.
 use Rattle.std.specs.Prelude.{◌≡◌, ◌≤◌, ℕ, Bool, true, false, ◌&&◌, List, [], ◌∷◌, Option, Some, None, length, pos}
-use Rattle.jl_ast.specs.Numbering.{numbered}
+use Rattle.jl_ast.specs.Numbering.{with_numbers}
 use Rattle.jl_ast.specs.Tree.{Ident, Program, Sort, Tree, Forest, OptionalTree, Text}
 use Rattle.jl_ast.specs.Tree as tree
 use Rattle.jl_ast.specs.declared.ops.BinOp.{BinOp}
@@ -166,4 +166,4 @@ abbrev mutual
 -- a well formed program with its functions numbered
 pub record IsWellFormed {S : Type 0} (p : Program S) : Type 0 where
   pub body : WellFormed p.body
-  pub numbers : numbered p ≡ p
+  pub numbers : with_numbers p ≡ p

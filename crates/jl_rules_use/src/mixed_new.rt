@@ -29,11 +29,11 @@ pub struct MixesNew {
 
 impl Model for MixesNew {
     ghost use Rattle.jl_analysis.specs.Memories.{Memory};
-    ghost use Rattle.jl_rules_use.specs.Ways.{numbered};
+    ghost use Rattle.jl_rules_use.specs.Ways.{memory_of_ways};
 
     ghost Value = { Memory };
 
-    ghost view = { λ it. numbered it.called.entries };
+    ghost view = { λ it. memory_of_ways it.called.entries };
 }
 
 /// The checker of mixed-new.

@@ -27,7 +27,7 @@ pub(crate) fn offer_head(
         (option_map view_ident name.now) (map view_ident params.now))) }
 {
     if let Some(name) = name {
-        found.written(&name.text, name.span, s);
+        found.written_name(&name.text, name.span, s);
     }
     offer_parameters(params, s, found)
 }
@@ -56,6 +56,6 @@ fn offer_parameter<'a>(
 {
     let is_new = before.insert(p.text.units())?;
     found.offer_if(s.strict && !is_new, EarlyRule::StrictParam, p.span);
-    found.written(&p.text, p.span, s);
+    found.written_name(&p.text, p.span, s);
     Ok(())
 }

@@ -81,13 +81,13 @@ unfoldable pub some_digits : (ℕ → Bool) → List ℕ → Option (List ℕ ×
 some_digits allowed us = if first_is allowed us then Some (many (one_unit allowed) us) else None
 
 -- an exponent after its letter, with the power of ten to multiply by and the one to divide by
-unfoldable pub raised : Bool → List ℕ × List ℕ → ℕ × ℕ × List ℕ
-raised true (ds, rest) = (0, decimal_from 0 ds, rest)
-raised false (ds, rest) = (decimal_from 0 ds, 0, rest)
+unfoldable pub exponent_powers : Bool → List ℕ × List ℕ → ℕ × ℕ × List ℕ
+exponent_powers true (ds, rest) = (0, decimal_from 0 ds, rest)
+exponent_powers false (ds, rest) = (decimal_from 0 ds, 0, rest)
 
 unfoldable pub exponent_by : List ℕ → Bool → Option (List ℕ × List ℕ) → ℕ × ℕ × List ℕ
 exponent_by us lowers None = (0, 0, us)
-exponent_by us lowers (Some x) = raised lowers x
+exponent_by us lowers (Some x) = exponent_powers lowers x
 
 unfoldable pub exponent_sign : List ℕ → List ℕ → ℕ × ℕ × List ℕ
 exponent_sign all [] = (0, 0, all)

@@ -42,4 +42,4 @@ returns c =
     let us = drop c.loop-next.end c.args.units.now in
     let e = name_ends c.loop-next.text.items us c.loop-next.escaped (name_from (letter is_identifier_start (drop c.args.at c.args.units.now))) c.in_default-letter_at.ensures c.loop-next.invariant.name in
     let t = c.as_slice.ensures.value in
-    found_named c.args.units.now c.args.at c.loop-next.end c.named.result _ (name_from (letter is_identifier_start (drop c.args.at c.args.units.now))) (ap (λ (x : List ℕ). name_done x c.loop-next.escaped (drop c.loop-next.end c.args.units.now)) t ∙ e) c.loop-next.invariant.later c.loop-next.invariant.within c.named.ensures
+    found_named c.args.units.now c.args.at c.loop-next.end c.name_token.result _ (name_from (letter is_identifier_start (drop c.args.at c.args.units.now))) (ap (λ (x : List ℕ). name_done x c.loop-next.escaped (drop c.loop-next.end c.args.units.now)) t ∙ e) c.loop-next.invariant.later c.loop-next.invariant.within c.name_token.ensures

@@ -40,7 +40,7 @@ returns-in-15-clause-leads c =
     begins_row _ (names_of (table_of c.args.state.now.functions)) _ 15 (call_of c.args.call.now) _ _ _ (omega arith)
     (row_15 _ _)
     (not_built _ _ 15 (call_of c.args.call.now) _ (omega arith)
-    (c.unsupported.ensures.leads _ (call_of c.args.call.now)))
+    (c.fail_row.ensures.leads _ (call_of c.args.call.now)))
 
 pub returns-in_ok-object_value_of-in-16-clause-leads : goal.returns-in_ok-object_value_of-in-16-clause-leads
 returns-in_ok-object_value_of-in-16-clause-leads c =

@@ -46,7 +46,7 @@ returns-in-26-clause-leads c =
     begins_row _ (names_of (table_of c.args.state.now.functions)) _ 26 (call_of c.args.call.now) _ _ _ (omega arith)
     (row_26 _ _)
     (not_built _ _ 26 (call_of c.args.call.now) _ (omega arith)
-    (c.unsupported.ensures.leads _ (call_of c.args.call.now)))
+    (c.fail_row.ensures.leads _ (call_of c.args.call.now)))
 
 pub returns-in_ok-throw_native-in_default-clause-leads : goal.returns-in_ok-throw_native-in_default-clause-leads
 returns-in_ok-throw_native-in_default-clause-leads c =
