@@ -2,6 +2,7 @@
 //! are kept without the zeros at their end, which are counted, and no more of them than a number of a script can have.
 ghost use Rattle.std.specs.Prelude.{◌≡◌, ◌+◌, ◌-◌, ◌*◌, ◌<◌, ◌≤◌, ◌==◌, ◌&&◌, ◌||◌, ◌^◌, nat_le, if◌then◌else◌, ℕ};
 ghost use Rattle.std.specs.Prelude.{List, Some, None, true, drop, length, IfSome, MatchOption};
+ghost use Rattle.jl_num.specs.Number.{largest};
 ghost use Rattle.jl_token.specs.Characters.{is_digit, is_hex_digit, decimal_from, first_is};
 ghost use Rattle.jl_token.specs.Scanner.{many, one_unit, some_digits, exponent, exponent_by, with_exponent};
 ghost use Rattle.jl_token.specs.Scanner.{after_fraction, after_whole, after_zero, hex_literal, numeral, number_end};
@@ -12,16 +13,14 @@ ghost use Rattle.jl_lex.specs.Answers.{IsFrom};
 use crate::characters::{is_at, is_digit, is_digit_at, unit_at};
 use crate::element::{Element, Stop};
 use crate::names::{hex_at, letter_at};
-use jl_num::Num;
+use jl_num::{LARGEST_SIZE, Num};
 use jl_token::{BadKind, TokenKind};
-
-// The largest number of a script: 2^53 - 1.
-const LARGEST: u64 = 9_007_199_254_740_991;
 
 // 2^40: an exponent as large as this is as good as any larger one.
 const ENOUGH: u64 = 1_099_511_627_776;
 
-/// The digits that were read: `coefficient` and so many zeros. A coefficient past `LARGEST` says no more than that.
+/// The digits that were read: `coefficient` and so many zeros. A coefficient past `LARGEST_SIZE` says no more than
+/// that.
 #[derive(Clone, Copy)]
 pub struct Amount {
     pub coefficient: u64,
@@ -50,7 +49,8 @@ pub struct Numeral {
     pub end: usize,
 }
 
-// Ten times a number, so many times, as long as it isn't past `LARGEST`.
+// Ten times a number, so many times, as long as it isn't past `LARGEST_SIZE`: at most ten times that, and so
+// 90071992547409919 with a digit after it.
 fn scale(number: u64, times: u64) -> u64
     requires { number ≤ 90071992547409910 }
     ensures value { result ≡ scale number times }
@@ -59,7 +59,7 @@ fn scale(number: u64, times: u64) -> u64
     let mut value = number;
     let mut left = times;
     while left > 0 {
-        if value > LARGEST {
+        if value > LARGEST_SIZE {
             return value;
         }
         value *= 10;
@@ -97,7 +97,7 @@ fn add_digit(amount: Amount, unit: u16) -> Amount
             zeros: amount.zeros + 1,
         };
     }
-    if amount.coefficient > LARGEST {
+    if amount.coefficient > LARGEST_SIZE {
         return amount;
     }
     Amount {
@@ -143,7 +143,7 @@ fn value(amount: Amount, raise: u64, lower: u64) -> Option<u64>
     if amount.coefficient == 0 {
         return Some(0);
     }
-    if amount.coefficient > LARGEST {
+    if amount.coefficient > LARGEST_SIZE {
         return None;
     }
     let total = amount.zeros + raise;
@@ -151,7 +151,7 @@ fn value(amount: Amount, raise: u64, lower: u64) -> Option<u64>
         return None;
     }
     let number = scale(amount.coefficient, total - lower);
-    if number > LARGEST { None } else { Some(number) }
+    if number > LARGEST_SIZE { None } else { Some(number) }
 }
 
 // An exponent's digits at a place, if they are there.
@@ -307,10 +307,10 @@ fn after_whole(units: &[u16], at: usize, amount: Amount) -> Numeral
 fn hex_capped(number: u64, digit: u16) -> u64
     requires digit { digit < 16 }
     requires small { number ≤ 144115188075855871 }
-    ensures value { result ≡ (if nat_le number 9007199254740991 then number * 16 + digit else number) }
+    ensures value { result ≡ (if nat_le number largest then number * 16 + digit else number) }
     ensures small { result ≤ 144115188075855871 }
 {
-    if number > LARGEST {
+    if number > LARGEST_SIZE {
         number
     } else {
         number * 16 + u64::from(digit)
@@ -322,7 +322,7 @@ fn hex_capped(number: u64, digit: u16) -> u64
 fn if_number(number: u64) -> Option<u64>
     ensures { result ≡ if_number number }
 {
-    if number > LARGEST { None } else { Some(number) }
+    if number > LARGEST_SIZE { None } else { Some(number) }
 }
 
 // The hexadecimal literal whose digits stand at a place, if there is one.

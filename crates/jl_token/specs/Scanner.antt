@@ -3,6 +3,8 @@
 use Rattle.std.specs.Prelude.{ℕ, zero, suc, ◌+◌, ◌*◌, ◌/◌, ◌%◌, ◌^◌, Bool, true, false, ◌==◌, ◌&&◌, ◌||◌, nat_le, List}
 use Rattle.std.specs.Prelude.{[], ◌∷◌, ◌++◌, length, Option, Some, None, pos, if◌then◌else◌}
 use Rattle.std.specs.List.{list_any}
+use Rattle.jl_num.specs.Number.{largest}
+use Rattle.jl_text.specs.Limits.{most_units}
 use Rattle.jl_token.specs.Characters.{is_white_space, is_line_terminator, is_on_line, is_identifier_start}
 use Rattle.jl_token.specs.Characters.{is_identifier_part, is_digit, is_hex_digit, decimal_from, hex_from}
 use Rattle.jl_token.specs.Characters.{are_hex_digits, hex_number, is_quote, single_escape, first_is}
@@ -55,7 +57,7 @@ letter allowed (u ∷ us) =
 
 unfoldable pub name_done : List ℕ → Bool → List ℕ → Outcome
 name_done text escaped rest = if first_is (λ u. u == 92) rest then bad faults.BadEscape else
-    (if nat_le (length text) 1048576 then found (Word (kinds.Name text escaped)) rest else bad faults.LongText)
+    (if nat_le (length text) most_units then found (Word (kinds.Name text escaped)) rest else bad faults.LongText)
 
 abbrev pub name_end : List (ℕ × Bool) → List ℕ → Outcome
 name_end xs rest = name_done (name_text xs) (is_escaped xs) rest
@@ -133,7 +135,7 @@ numeral u us =
 
 -- the exact value, where it is a number of a script
 unfoldable pub value_of : ℕ → ℕ → ℕ → Option ℕ
-value_of m r l = if (m * 10 ^ r) % (10 ^ l) == 0 && nat_le ((m * 10 ^ r) / (10 ^ l)) 9007199254740991
+value_of m r l = if (m * 10 ^ r) % (10 ^ l) == 0 && nat_le ((m * 10 ^ r) / (10 ^ l)) largest
     then Some ((m * 10 ^ r) / (10 ^ l)) else None
 
 unfoldable pub is_some_of : {A : Type 0} → Option A → Bool
@@ -190,7 +192,7 @@ character mark (u ∷ us) = if u == mark || is_line_terminator u then None else 
 
 unfoldable pub string_stop : ℕ → List ℕ → Bool → ℕ → List ℕ → Outcome
 string_stop mark text plain u us =
-    if u == mark then (if nat_le (length text) 1048576 then found (Word (kinds.Str text plain)) us else
+    if u == mark then (if nat_le (length text) most_units then found (Word (kinds.Str text plain)) us else
     bad faults.LongText) else
     (if is_line_terminator u then bad faults.UnclosedText else (if nat_le 1 (length us) then bad faults.BadEscape else
     bad faults.UnclosedText))
