@@ -7,7 +7,7 @@ ghost use Rattle.jl_text.specs.Encoding.{units_of};
 ghost use Rattle.jl_token.specs.Tokens.{Tokens};
 ghost use Rattle.jl_app.specs.Accepting.{IsRead, IsText, HasTokens, IsProgram};
 ghost use Rattle.jl_app.specs.Forms.{is_sound, most_bytes, most_levels};
-ghost use Rattle.jl_app.specs.Refused.{Refuses};
+ghost use Rattle.jl_app.specs.inner.Refused.{Refuses};
 ghost use Rattle.jl_app.specs.declared.accept.Unaccepted.TheVariants.{NoMemory};
 ghost use Rattle.jl_app.specs.declared.form.Form.{Form as Kind};
 

@@ -15,7 +15,7 @@ use Rattle.jl_num.specs.Number.{Number, IsNumber, is_number}
 use Rattle.jl_num.specs.Arithmetic.{number_of, quotient_of}
 use Rattle.jl_num.proofs.Exact.{quotients_are_exact, is_inside}
 use Rattle.jl_num.proofs.Quotient.{false_from, small_size}
-use Rattle.jl_lex.specs.Amounts.{Stands, exact, beyond}
+use Rattle.jl_lex.specs.inner.Amounts.{Stands, exact, beyond}
 use Rattle.jl_lex.proofs.Powers.{ten_pos, at_least, far, assoc}
 use Rattle.jl_lex.proofs.AmountLemmas.{whole_value}
 use Rattle.jl_conv.specs.Numerals.{with_sign, exact_value}
@@ -23,8 +23,8 @@ use Rattle.jl_token.specs.Characters.{is_digit, decimal_from}
 use Rattle.jl_conv.specs.declared.decimal.Exponent.{Exponent}
 use Rattle.jl_conv.specs.Numerals.{are_digits, raises, lowers, is_exponent_letter, exponent_of, exponent_part}
 use Rattle.jl_conv.specs.Numerals.{whole_part, fraction_part, parts_number, decimal_number}
-use Rattle.jl_conv.specs.Amounts.{Agree, equal, reached, Sized, known, high, low, IsExponent, Powers, exactly, above}
-use Rattle.jl_conv.specs.Amounts.{below}
+use Rattle.jl_conv.specs.inner.Amounts.{Agree, equal, reached, Sized, known, high, low, IsExponent, Powers, exactly, above}
+use Rattle.jl_conv.specs.inner.Amounts.{below}
 
 not_zero : (l : ℕ) → pos (10 ^ l) ≢ pos 0
 not_zero l e = let h = ten_pos l in let is : 10 ^ l ≡ 0 = ap unsigned_abs e in absurd (omega arith)

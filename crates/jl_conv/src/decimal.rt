@@ -6,11 +6,11 @@ ghost use Rattle.std.specs.Result.{result_ok};
 ghost use Rattle.std.specs.Str.{bytes_eq};
 ghost use Rattle.jl_num.specs.Arithmetic.{number_of};
 ghost use Rattle.jl_token.specs.Characters.{is_digit, is_hex_digit, hex_digit_value, decimal_from, hex_from};
-ghost use Rattle.jl_lex.specs.Amounts.{Stands};
+ghost use Rattle.jl_lex.specs.inner.Amounts.{Stands};
 ghost use Rattle.jl_conv.specs.Numerals.{are_digits, is_point, is_exponent_letter, with_sign, exact_value, raises};
 ghost use Rattle.jl_conv.specs.Numerals.{lowers};
 ghost use Rattle.jl_conv.specs.Numerals.{exponent_of, decimal_number, hexadecimal_number};
-ghost use Rattle.jl_conv.specs.Amounts.{Agree, Powers, IsExponent};
+ghost use Rattle.jl_conv.specs.inner.Amounts.{Agree, Powers, IsExponent};
 
 use jl_lex::{is_digit, is_hex_digit};
 use jl_num::{LARGEST_SIZE, Num, NumberOutside};

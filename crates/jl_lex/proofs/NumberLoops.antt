@@ -7,23 +7,23 @@ use Rattle.std.proofs.lemmas.Bool.Decides.{leb_tells}
 use Rattle.jl_token.specs.Characters.{is_digit, is_hex_digit, hex_digit_value, decimal_from, hex_from}
 use Rattle.jl_token.specs.Characters.{is_identifier_start, first_is}
 use Rattle.jl_token.specs.Elements.{Many, no_more, one_more, OneUnit, unit}
-use Rattle.jl_token.specs.Scanner.{many, one_unit, some_digits, exponent_powers, exponent, exponent_sign, exponent_by}
-use Rattle.jl_token.specs.Scanner.{with_exponent, after_fraction, after_whole, after_zero, hex_literal, from_whole}
-use Rattle.jl_token.specs.Scanner.{numeral, value_of, number_end, number_of, is_some_of, letter, found, bad}
+use Rattle.jl_token.specs.inner.Scanner.{many, one_unit, some_digits, exponent_powers, exponent, exponent_sign, exponent_by}
+use Rattle.jl_token.specs.inner.Scanner.{with_exponent, after_fraction, after_whole, after_zero, hex_literal, from_whole}
+use Rattle.jl_token.specs.inner.Scanner.{numeral, value_of, number_end, number_of, is_some_of, letter, found, bad}
 use Rattle.jl_token.specs.Elements.{Word}
 use Rattle.jl_token.specs.declared.token.BadKind.TheVariants as faults
 use Rattle.jl_token.specs.declared.token.TokenKind.TheVariants as kinds
 use Rattle.jl_token.proofs.Values.{value_sound}
 use Rattle.jl_token.proofs.Numbers.{units_row}
 use Rattle.jl_token.proofs.Tests.{other_unit, is_unit, or_cases, and_true}
-use Rattle.jl_lex.specs.Amounts.{scale, add_digit, add_digits, value_from, if_number, capped_from, hex_capped_from}
-use Rattle.jl_lex.specs.Amounts.{Exponents, the_same, is_high, is_low, Stands, NumeralFrom, ExponentFrom}
+use Rattle.jl_lex.specs.inner.Amounts.{scale, add_digit, add_digits, value_from, if_number, capped_from, hex_capped_from}
+use Rattle.jl_lex.specs.inner.Amounts.{Exponents, the_same, is_high, is_low, Stands, NumeralFrom, ExponentFrom}
 use Rattle.jl_lex.specs.declared.numbers.Numeral.{Numeral}
 use Rattle.jl_lex.specs.declared.numbers.Exponent.{Exponent}
 use Rattle.jl_lex.proofs.AmountLemmas.{add_digit_stands, value_stands, none_stands, from_value, from_none, over}
 use Rattle.jl_lex.proofs.AmountLemmas.{no_digits}
 use Rattle.jl_lex.proofs.Loops.{unit_more, unit_stop, unit_end}
-use Rattle.jl_lex.specs.Parts.{hex_first}
+use Rattle.jl_lex.specs.inner.Parts.{hex_first}
 
 -- exponents
 letter_at : ℕ → Bool

@@ -1,9 +1,9 @@
 //! Names (7.6).
 ghost use Rattle.std.specs.Prelude.{◌≡◌, ◌+◌, ◌<◌, ◌≤◌, drop, length, IfSome, true};
 ghost use Rattle.jl_token.specs.Characters.{is_hex_digit, hex_digit_value, is_identifier_start};
-ghost use Rattle.jl_token.specs.Scanner.{letter, name_escape, name_done, name_from};
-ghost use Rattle.jl_lex.specs.Parts.{hex_first, two_at, four_at, is_name_character, LetterFrom};
-ghost use Rattle.jl_lex.specs.Answers.{IsFound, IsNamed};
+ghost use Rattle.jl_token.specs.inner.Scanner.{letter, name_escape, name_done, name_from};
+ghost use Rattle.jl_lex.specs.inner.Parts.{hex_first, two_at, four_at, is_name_character, LetterFrom};
+ghost use Rattle.jl_lex.specs.inner.Answers.{IsFound, IsNamed};
 
 use crate::characters::{
     BACKSLASH, is_at, is_hex_digit, is_identifier_part, is_identifier_start, unit_at,
@@ -37,7 +37,7 @@ fn hex_digit_value(unit: u16) -> u16
 }
 
 /// The value of the hexadecimal digit at a place, if there is one.
-#[tactic(auto, unfolding(crate::specs::Parts::hex_first))]
+#[tactic(auto, unfolding(crate::specs::inner::Parts::hex_first))]
 pub fn hex_at(units: &[u16], at: usize) -> Option<u16>
     ensures value { result ≡ hex_first (drop at units.now) }
     ensures small { IfSome result (λ v. (v < 16) × (at < length units.now)) }
@@ -51,7 +51,7 @@ pub fn hex_at(units: &[u16], at: usize) -> Option<u16>
 }
 
 /// The number that the two hexadecimal digits at a place write, if they are there.
-#[tactic(auto, unfolding(crate::specs::Parts::two_at, crate::specs::Parts::two_of))]
+#[tactic(auto, unfolding(crate::specs::inner::Parts::two_at, crate::specs::inner::Parts::two_of))]
 pub fn two_at(units: &[u16], at: usize) -> Option<u16>
     requires { at ≤ length units.now }
     ensures value { result ≡ two_at units.now at }
@@ -63,7 +63,7 @@ pub fn two_at(units: &[u16], at: usize) -> Option<u16>
 }
 
 /// The number that the four hexadecimal digits at a place write, if they are there.
-#[tactic(auto, unfolding(crate::specs::Parts::four_at, crate::specs::Parts::four_of))]
+#[tactic(auto, unfolding(crate::specs::inner::Parts::four_at, crate::specs::inner::Parts::four_of))]
 pub fn four_at(units: &[u16], at: usize) -> Option<u16>
     requires { at ≤ length units.now }
     ensures value { result ≡ four_at units.now at }

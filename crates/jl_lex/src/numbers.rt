@@ -4,11 +4,12 @@ ghost use Rattle.std.specs.Prelude.{◌≡◌, ◌+◌, ◌-◌, ◌*◌, ◌<�
 ghost use Rattle.std.specs.Prelude.{List, Some, None, true, drop, length, IfSome, MatchOption};
 ghost use Rattle.jl_num.specs.Number.{largest};
 ghost use Rattle.jl_token.specs.Characters.{is_digit, is_hex_digit, decimal_from, first_is};
-ghost use Rattle.jl_token.specs.Scanner.{many, one_unit, some_digits, exponent, exponent_by, with_exponent};
-ghost use Rattle.jl_token.specs.Scanner.{after_fraction, after_whole, after_zero, hex_literal, numeral, number_end};
-ghost use Rattle.jl_lex.specs.Amounts.{scale, add_digit, add_digits, value_from, if_number, capped_from};
-ghost use Rattle.jl_lex.specs.Amounts.{hex_capped_from, NumeralFrom, ExponentFrom, Stands};
-ghost use Rattle.jl_lex.specs.Answers.{IsFrom};
+ghost use Rattle.jl_token.specs.inner.Scanner.{many, one_unit, some_digits, exponent, exponent_by, with_exponent};
+ghost use Rattle.jl_token.specs.inner.Scanner.{after_fraction, after_whole, after_zero, hex_literal, numeral};
+ghost use Rattle.jl_token.specs.inner.Scanner.{number_end};
+ghost use Rattle.jl_lex.specs.inner.Amounts.{scale, add_digit, add_digits, value_from, if_number, capped_from};
+ghost use Rattle.jl_lex.specs.inner.Amounts.{hex_capped_from, NumeralFrom, ExponentFrom, Stands};
+ghost use Rattle.jl_lex.specs.inner.Answers.{IsFrom};
 
 use crate::characters::{is_at, is_digit, is_digit_at, unit_at};
 use crate::element::{Element, Stop};
@@ -79,7 +80,7 @@ fn digit_value(unit: u16) -> u64
 }
 
 // One more digit.
-#[tactic(auto, unfolding(crate::specs::Amounts::add_digit))]
+#[tactic(auto, unfolding(crate::specs::inner::Amounts::add_digit))]
 fn add_digit(amount: Amount, unit: u16) -> Amount
     requires digit { is_digit unit ≡ true }
     requires small { amount.coefficient ≤ 90071992547409919 }
@@ -133,7 +134,7 @@ fn digits(units: &[u16], at: usize, amount: Amount) -> (Amount, usize)
 }
 
 // The value of these digits with this exponent, where it is a number of a script.
-#[tactic(auto, unfolding(crate::specs::Amounts::value_from, crate::specs::Amounts::if_number))]
+#[tactic(auto, unfolding(crate::specs::inner::Amounts::value_from, crate::specs::inner::Amounts::if_number))]
 fn value(amount: Amount, raise: u64, lower: u64) -> Option<u64>
     requires small { amount.coefficient ≤ 90071992547409919 }
     requires few { amount.zeros < 4294967296 }
@@ -318,7 +319,7 @@ fn hex_capped(number: u64, digit: u16) -> u64
 }
 
 // The value of a whole number, where it is one of a script.
-#[tactic(auto, unfolding(crate::specs::Amounts::if_number))]
+#[tactic(auto, unfolding(crate::specs::inner::Amounts::if_number))]
 fn if_number(number: u64) -> Option<u64>
     ensures { result ≡ if_number number }
 {

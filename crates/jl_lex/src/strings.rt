@@ -1,9 +1,9 @@
 //! Strings (7.8.4).
 ghost use Rattle.std.specs.Prelude.{◌≡◌, ◌+◌, ◌≤◌, ◌++◌, Some, true, false, drop, length, OnOk};
 ghost use Rattle.jl_token.specs.Characters.{single_escape, is_quote};
-ghost use Rattle.jl_token.specs.Scanner.{other_escape, escape, character, many, string_done, string_end};
-ghost use Rattle.jl_lex.specs.Parts.{CharacterFrom, values};
-ghost use Rattle.jl_lex.specs.Answers.{IsFound};
+ghost use Rattle.jl_token.specs.inner.Scanner.{other_escape, escape, character, many, string_done, string_end};
+ghost use Rattle.jl_lex.specs.inner.Parts.{CharacterFrom, values};
+ghost use Rattle.jl_lex.specs.inner.Answers.{IsFound};
 
 use crate::characters::{
     BACKSLASH, is_digit, is_digit_at, is_line_terminator, line_terminator_end, unit_at,

@@ -45,7 +45,7 @@ use Rattle.jl_store.specs.declared.answer.Answer.{Answer as Answered}
 use Rattle.jl_store.specs.declared.answer.Answer.TheVariants.{Gives, Throws}
 use Rattle.jl_store.proofs.Trees.{body_plain}
 use Rattle.jl_machine.specs.Runs.{hooked_mean}
-use Rattle.jl_machine.specs.Starts.{program_body, IsStart}
+use Rattle.jl_machine.specs.inner.Starts.{program_body, IsStart}
 
 -- what a program declares is bound
 

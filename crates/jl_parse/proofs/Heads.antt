@@ -9,7 +9,7 @@ use Rattle.jl_grammar.specs.Next.{is_semicolon}
 use Rattle.jl_grammar.specs.Reader.{◌>>=◌, Deeper, Read, succeed, for_from, is_close_paren, node, optional_at, sub_at}
 use Rattle.jl_grammar.specs.Reads.{Stmt, Stmts}
 use Rattle.jl_grammar.specs.Tokens.{span, terminal_at}
-use Rattle.jl_parse.specs.Steps.{for_head_from}
+use Rattle.jl_parse.specs.inner.Steps.{for_head_from}
 
 -- what comes after a test, after an answer, and after the last test
 

@@ -16,7 +16,7 @@ use Rattle.jl_ast.specs.View.{view_expression, view_expressions, view_function, 
 use Rattle.jl_ast.specs.View.{view_statement, view_statements}
 use Rattle.std.proofs.lemmas.Bool.{le-leb, lt-leb}
 use Rattle.jl_grammar.specs.Reader.{succeed, node}
-use Rattle.jl_parse.specs.Steps.{append}
+use Rattle.jl_parse.specs.inner.Steps.{append}
 use Rattle.jl_parse.proofs.Lists.{cases_push, declarators_push, entries_push, functions_push, statements_push}
 use Rattle.jl_parse.proofs.Turns.{expressions_push, hole_push, item_push}
 

@@ -21,7 +21,7 @@ use Rattle.jl_grammar.specs.Reader.{is_close_paren, is_default, is_function, nam
 use Rattle.jl_grammar.specs.Reader.{accessor_at, succeed, ends_at, node, rest_at, with_directive}
 use Rattle.jl_grammar.specs.Reads.{Code, Stmt, Stmts}
 use Rattle.jl_grammar.specs.Tokens.{ident_at, key_ident_at, terminal_at, span, strict_at}
-use Rattle.jl_parse.specs.Steps.{append, clause_of, declaration_of, with_elements}
+use Rattle.jl_parse.specs.inner.Steps.{append, clause_of, declaration_of, with_elements}
 use Rattle.jl_parse.proofs.Rows.{append_assoc, append_end, made_none, made_on, made_some, regroup, then_on, with_end}
 use Rattle.jl_parse.proofs.Rows.{with_forest}
 

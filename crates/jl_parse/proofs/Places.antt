@@ -19,7 +19,7 @@ use Rattle.jl_grammar.specs.Reader.{is_in}
 use Rattle.jl_grammar.specs.Terminals.{terminal_of}
 use Rattle.jl_grammar.specs.Tokens.{terminal_at, line_at, text_at, number_at, key_at, strict_at, from_at, to_at, span}
 use Rattle.jl_token.specs.declared.punct.Punct.TheVariants as puncts
-use Rattle.jl_parse.specs.Steps.{counts, is_end}
+use Rattle.jl_parse.specs.inner.Steps.{counts, is_end}
 
 terminal_there : (ts : List Token) (i : ℕ) (t : Terminal) → i < length ts
     → t ≡ get_or (map (λ (u : Token). terminal_of u.kind) ts) i t → t ≡ terminal_at ts i

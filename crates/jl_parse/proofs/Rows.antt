@@ -6,7 +6,7 @@ use Rattle.jl_text.specs.declared.span.Span.{Span}
 use Rattle.jl_ast.specs.Tree.{Tree, Forest}
 use Rattle.jl_ast.specs.Tree as tree
 use Rattle.jl_grammar.specs.Reader.{Read, ◌>>=◌, succeed, node}
-use Rattle.jl_parse.specs.Steps.{append}
+use Rattle.jl_parse.specs.inner.Steps.{append}
 
 abbrev pub with_forest : {x : tree.Sort} → Forest Span x → Read (Forest Span x) → Read (Forest Span x)
 with_forest a None = None

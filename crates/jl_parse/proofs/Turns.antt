@@ -21,7 +21,7 @@ use Rattle.jl_grammar.specs.Reader.{binary_from}
 use Rattle.jl_grammar.specs.Reader.{binary_by, left_from, left_by, items_from, arguments_at, arguments_from}
 use Rattle.jl_grammar.specs.Reads.{Expr, Exprs}
 use Rattle.jl_grammar.specs.Tokens.{terminal_at, text_at, span}
-use Rattle.jl_parse.specs.Steps.{append}
+use Rattle.jl_parse.specs.inner.Steps.{append}
 use Rattle.jl_parse.proofs.Rows.{with_forest, append_end, with_end, regroup, made_none, made_on, made_some, then_on}
 
 pub expressions_push : (l : List CodeExpr) (e : CodeExpr)

@@ -11,7 +11,8 @@ ghost use Rattle.jl_grammar.specs.Next.{target_of};
 ghost use Rattle.jl_grammar.specs.Operators.{infix_node};
 ghost use Rattle.jl_grammar.specs.Reader.{succeed, node};
 ghost use Rattle.jl_grammar.specs.Tokens.{span, terminal_at};
-ghost use Rattle.jl_parse.specs.Steps.{Gives, GivesExpression, MakesExpression, infix_operator_of, is_end, within};
+ghost use Rattle.jl_parse.specs.inner.Steps.{Gives, GivesExpression, MakesExpression, infix_operator_of, is_end};
+ghost use Rattle.jl_parse.specs.inner.Steps.{within};
 
 use crate::depth::Depth;
 use crate::operators::InfixOperator;

@@ -5,7 +5,7 @@ ghost use Rattle.jl_grammar.specs.Reader.{succeed, head_at, primary_at, primary_
 ghost use Rattle.jl_grammar.specs.Reader.{arguments_from, new_at, start_at, left_at, left_by};
 ghost use Rattle.jl_grammar.specs.Tokens.{terminal_at};
 ghost use Rattle.jl_grammar.specs.declared.terminal.Terminal.TheVariants as Terminal;
-ghost use Rattle.jl_parse.specs.Steps.{Gives, GivesExpression, is_end, within};
+ghost use Rattle.jl_parse.specs.inner.Steps.{Gives, GivesExpression, is_end, within};
 
 use crate::depth::Depth;
 use crate::expressions::{expression, inner_assignment};

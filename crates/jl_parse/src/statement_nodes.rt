@@ -8,7 +8,7 @@ ghost use Rattle.jl_ast.specs.View.{view_case, view_cases, view_declarator, view
 ghost use Rattle.jl_ast.specs.View.{view_ident};
 ghost use Rattle.jl_ast.specs.View.{view_init, view_optional, view_statement, view_statement_kind, view_statements};
 ghost use Rattle.jl_grammar.specs.Tokens.{span};
-ghost use Rattle.jl_parse.specs.Steps.{MakesStatement};
+ghost use Rattle.jl_parse.specs.inner.Steps.{MakesStatement};
 
 use crate::depth::Depth;
 use crate::part::Part;

@@ -12,7 +12,7 @@ ghost use Rattle.jl_grammar.specs.Tokens.{terminal_at, span};
 ghost use Rattle.jl_grammar.specs.declared.terminal.Terminal.TheVariants as Terminal;
 ghost use Rattle.jl_grammar.specs.declared.word.Word.TheVariants as Word;
 ghost use Rattle.jl_token.specs.declared.punct.Punct.TheVariants as Punct;
-ghost use Rattle.jl_parse.specs.Steps.{Gives, GivesStatement, is_end, within};
+ghost use Rattle.jl_parse.specs.inner.Steps.{Gives, GivesStatement, is_end, within};
 
 use crate::clauses::{switch_statement, try_statement};
 use crate::depth::Depth;

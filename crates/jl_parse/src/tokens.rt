@@ -7,7 +7,7 @@ ghost use Rattle.jl_grammar.specs.Program.{last_end};
 ghost use Rattle.jl_grammar.specs.Next.{continues_at, is_directive};
 ghost use Rattle.jl_grammar.specs.Operators.{infix_operator, binary_operator, assign_operator};
 ghost use Rattle.jl_grammar.specs.Brackets.{bracket, open_brackets};
-ghost use Rattle.jl_parse.specs.Steps.{is_end, infix_operator_of, within};
+ghost use Rattle.jl_parse.specs.inner.Steps.{is_end, infix_operator_of, within};
 
 use crate::depth::Depth;
 use crate::operators::{InfixOperator, continues_left, update_op};
@@ -33,7 +33,7 @@ pub struct Tokens<'a> {
 impl<'a> Model for Tokens<'a> {
     ghost use Rattle.std.specs.Prelude.{◌≡◌, List, map};
     ghost use Rattle.jl_grammar.specs.Terminals.{terminal_of};
-    ghost use Rattle.jl_parse.specs.Steps.{AreCounts};
+    ghost use Rattle.jl_parse.specs.inner.Steps.{AreCounts};
     ghost use Rattle.jl_token.specs.declared.token.Token.{Token};
 
     ghost Value = { List Token };

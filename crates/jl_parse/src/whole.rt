@@ -6,7 +6,7 @@ ghost use Rattle.jl_ast.specs.View.{view};
 ghost use Rattle.jl_grammar.specs.Program.{Reads};
 ghost use Rattle.jl_grammar.specs.ReaderLevels.{is_shallow, program_at};
 ghost use Rattle.jl_parse.specs.Refusals.{IsPlaced};
-ghost use Rattle.jl_parse.specs.Steps.{Gives};
+ghost use Rattle.jl_parse.specs.inner.Steps.{Gives};
 ghost use Rattle.jl_parse.specs.declared.refusal.ParseRefusal.TheVariants.{NoMemory};
 ghost use Rattle.jl_text.specs.declared.span.Span.{Span as Place};
 

@@ -6,7 +6,7 @@ use Rattle.std.proofs.Common.{take, length-drop, ◌-◌, append_assoc, ap, sym,
 use Rattle.jl_ast.specs.Tree.{Text}
 use Rattle.jl_token.specs.declared.token.TokenKind.{TokenKind}
 use Rattle.jl_token.specs.Spelling.{spelling_of}
-use Rattle.jl_print.specs.Kinds.{after, kind_of}
+use Rattle.jl_print.specs.inner.Kinds.{after, kind_of}
 use Rattle.jl_print.specs.declared.piece.Piece.{Piece}
 use Rattle.jl_print.specs.Layout.{layout_of, ends_line, is_dot, is_number, joins_left, joins_right}
 use Rattle.jl_print.specs.Pieces.{is_bare_key, key, name, string}

@@ -7,7 +7,7 @@ use Rattle.jl_text.specs.Quoted.{quoted_after}
 use Rattle.jl_token.specs.Characters.{is_digit, first_is}
 use Rattle.jl_token.specs.Elements.{White, LineEnd, Word, Many, no_more, one_more}
 use Rattle.jl_token.specs.Punctuators.{punctuator_units}
-use Rattle.jl_token.specs.Scanner.{scan, found}
+use Rattle.jl_token.specs.inner.Scanner.{scan, found}
 use Rattle.jl_token.specs.Spelling.{spelling_of}
 use Rattle.jl_token.specs.Tokens.{Piece, piece, place, OnePiece, tokens_among}
 use Rattle.jl_token.specs.declared.punct.Punct.{Punct}

@@ -16,7 +16,7 @@ use Rattle.jl_token.specs.Characters.{is_line_terminator}
 use Rattle.jl_token.specs.Characters.{single_escape, is_quote}
 use Rattle.jl_token.specs.Elements.{Word, Many, no_more, one_more, Character, plain, single, string_text, is_plain}
 use Rattle.jl_token.specs.Elements.{unicode_escape as four_digits}
-use Rattle.jl_token.specs.Scanner.{found, many, character, string_end, string_done, string_stop, scan, scan_word}
+use Rattle.jl_token.specs.inner.Scanner.{found, many, character, string_end, string_done, string_stop, scan, scan_word}
 use Rattle.jl_token.specs.declared.token.TokenKind.TheVariants as kinds
 use Rattle.jl_token.proofs.Against.{mark_stops}
 use Rattle.jl_token.proofs.Rows.{many_whole}

@@ -1,7 +1,7 @@
 #![tactic(auto, using(crate::proofs::Laying::pieces))]
 
 ghost use Rattle.std.specs.Prelude.{◌≡◌, ◌++◌, map, IfOk, OnOk};
-ghost use Rattle.jl_print.specs.Kinds.{after, kind_of};
+ghost use Rattle.jl_print.specs.inner.Kinds.{after, kind_of};
 ghost use Rattle.jl_print.specs.Layout.{between, ends_line, is_dot, is_number, joins_left, joins_right, layout_of};
 ghost use Rattle.jl_print.specs.Pieces.{are_plain, is_bare_key, is_plain_digit, is_plain_letter};
 ghost use Rattle.jl_text.specs.Quoted.{quote};

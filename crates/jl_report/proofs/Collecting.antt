@@ -11,7 +11,7 @@ use Rattle.jl_analysis.specs.Rules.{all_rules}
 use Rattle.jl_analysis.specs.Summary.{Counts, summary}
 use Rattle.jl_op.specs.Operations.{Operation}
 use Rattle.jl_report.specs.declared.line.Line.{Line}
-use Rattle.jl_report.specs.Collected.{Collected, number_in, HasHits}
+use Rattle.jl_report.specs.inner.Collected.{Collected, number_in, HasHits}
 use Rattle.jl_report.specs.Off.{Pair, is_off}
 use Rattle.jl_report.specs.Reports.{Key, Place, Findings, key, by_place, total_at, found_at, saturate_u64, is_shown}
 use Rattle.jl_report.specs.Reports.{IsReport, IsReportOfFindings, if_any}

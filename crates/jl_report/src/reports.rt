@@ -5,7 +5,7 @@ ghost use Rattle.jl_analysis.specs.Chosen.{is_chosen};
 ghost use Rattle.jl_analysis.specs.Rules.{IsRule, all_rules};
 ghost use Rattle.jl_op.specs.Map.{BeginsIn};
 ghost use Rattle.jl_op.specs.Operations.{Operation};
-ghost use Rattle.jl_report.specs.Collected.{number_in, HasHits, AreOfRules};
+ghost use Rattle.jl_report.specs.inner.Collected.{number_in, HasHits, AreOfRules};
 ghost use Rattle.jl_report.specs.Off.{is_off};
 ghost use Rattle.jl_report.specs.Reports.{Key as Keyed, by_place, key, place_of, places_of, total_at, saturate_u64};
 ghost use Rattle.jl_report.specs.Reports.{IsReport, IsReportOfFindings};

@@ -16,7 +16,7 @@ use Rattle.jl_analysis.specs.Memories.{Memory, way, both_ways, noted_way, ways_c
 use Rattle.jl_analysis.specs.Rules.{rules, hit, memory_of}
 use Rattle.jl_analysis.specs.UseRules.{calls, same_way}
 use Rattle.jl_rules_use.specs.declared.mixed_new.Ways.{Ways}
-use Rattle.jl_rules_use.specs.Remembered.{ways_of, tells_way, mixes}
+use Rattle.jl_rules_use.specs.inner.Remembered.{ways_of, tells_way, mixes}
 use Rattle.jl_rules_use.specs.Ways.{number_of, memory_of_ways}
 
 looked_up : (found : Bool) (ways : Ways) (rest : Option Ways) (remembered : Option ℕ)

@@ -3,7 +3,7 @@
 ghost use Rattle.std.proofs.Common.{rules};
 ghost use Rattle.std.specs.Prelude.{◌≡◌, OnOk, Some, option_map};
 ghost use Rattle.jl_analysis.specs.Memories.{both_ways, noted_way, way, ways_called};
-ghost use Rattle.jl_rules_use.specs.Remembered.{mixes, tells_way, ways_of};
+ghost use Rattle.jl_rules_use.specs.inner.Remembered.{mixes, tells_way, ways_of};
 ghost use Rattle.jl_rules_use.specs.Ways.{number_of};
 
 use indexmap::IndexMap;

@@ -4,7 +4,7 @@ ghost use Rattle.std.specs.Prelude.{◌≡◌, [], ◌++◌, ◌&&◌, OnOk, map
 ghost use Rattle.jl_ast.specs.View.{view_ident};
 ghost use Rattle.jl_scope.specs.Kinds.{first_from};
 ghost use Rattle.jl_scope.specs.Names.{among, with_name};
-ghost use Rattle.jl_scope.specs.Steps.{scope_of};
+ghost use Rattle.jl_scope.specs.inner.Steps.{scope_of};
 ghost use Rattle.jl_scope.specs.NameSets.{SameNames};
 ghost use Rattle.jl_scope.specs.EarlyErrors.{head_early_errors, parameter_early_errors, broken_if};
 ghost use Rattle.jl_scope.specs.EarlyErrors.{written_early_errors};

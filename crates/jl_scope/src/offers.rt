@@ -4,7 +4,7 @@
 ghost use Rattle.std.specs.Prelude.{◌≡◌, option_map};
 ghost use Rattle.jl_ast.specs.View.{view_ident, view_expression};
 ghost use Rattle.jl_scope.specs.Kinds.{first_from};
-ghost use Rattle.jl_scope.specs.Steps.{scope_of};
+ghost use Rattle.jl_scope.specs.inner.Steps.{scope_of};
 ghost use Rattle.jl_scope.specs.EarlyErrors.{identifier_early_errors, written_early_errors, free_early_errors};
 ghost use Rattle.jl_scope.specs.EarlyErrors.{read_early_errors};
 ghost use Rattle.jl_scope.specs.EarlyErrors.{target_early_errors, label_early_errors, break_early_errors};

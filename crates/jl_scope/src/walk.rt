@@ -8,7 +8,7 @@ ghost use Rattle.jl_scope.specs.EarlyErrors.{early_errors, forest_early_errors, 
 ghost use Rattle.jl_scope.specs.EarlyErrors.{label_early_errors, written_early_errors};
 ghost use Rattle.jl_scope.specs.Scope.{is_loop, under_label, in_catch};
 ghost use Rattle.jl_scope.specs.Kinds.{first_from};
-ghost use Rattle.jl_scope.specs.Steps.{scope_of};
+ghost use Rattle.jl_scope.specs.inner.Steps.{scope_of};
 
 use crate::found::Found;
 use crate::heads::offer_head;

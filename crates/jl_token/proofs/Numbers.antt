@@ -5,9 +5,9 @@ use Rattle.jl_token.specs.Characters.{is_digit, is_hex_digit, decimal_from, firs
 use Rattle.jl_token.specs.Elements.{Many, no_more, one_more, OneUnit, unit, Digits, digits as some, WholeDigits}
 use Rattle.jl_token.specs.Elements.{zero_digit, nonzero, Exponent, no_exponent, no_sign, plus, minus, Numeral, whole}
 use Rattle.jl_token.specs.Elements.{with_point, from_point, hex}
-use Rattle.jl_token.specs.Scanner.{many, with_first, one_unit, some_digits, exponent_powers, exponent_by, exponent_sign}
-use Rattle.jl_token.specs.Scanner.{exponent, with_exponent, after_fraction, after_whole, hex_literal, after_zero}
-use Rattle.jl_token.specs.Scanner.{from_whole, numeral}
+use Rattle.jl_token.specs.inner.Scanner.{many, with_first, one_unit, some_digits, exponent_powers, exponent_by, exponent_sign}
+use Rattle.jl_token.specs.inner.Scanner.{exponent, with_exponent, after_fraction, after_whole, hex_literal, after_zero}
+use Rattle.jl_token.specs.inner.Scanner.{from_whole, numeral}
 use Rattle.jl_token.proofs.Rows.{prepend, many_step, many_complete, many_whole, many_sound}
 use Rattle.jl_token.proofs.Tests.{or_cases, or_false, and_true, true_or_false, never_both, is_unit}
 use Rattle.jl_token.proofs.Units.{units, digits}

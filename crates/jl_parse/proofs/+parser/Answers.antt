@@ -8,7 +8,7 @@ use Rattle.jl_grammar.specs.Reader.{declaration_at, succeed, ends_at, getter_by,
 use Rattle.jl_grammar.specs.Reader.{is_close_brace, is_close_paren, statement_by}
 use Rattle.jl_grammar.specs.Tokens.{key_ident_at, span, terminal_at, strict_at}
 use Rattle.jl_grammar.specs.declared.terminal.Terminal.TheVariants as terminals
-use Rattle.jl_parse.specs.Steps.{GivesStatement, append, clause_of, infix_operator_of, within}
+use Rattle.jl_parse.specs.inner.Steps.{GivesStatement, append, clause_of, infix_operator_of, within}
 use Rattle.jl_parse.proofs.Lists.{accessor_read, body_more, cases_push, clauses_more, declarations_more}
 use Rattle.jl_parse.proofs.Lists.{declarators_push, getter_one}
 use Rattle.jl_parse.proofs.Lists.{setter_one}

@@ -1,5 +1,5 @@
 use Rattle.std.proofs.Common.{◌∙◌, ◌*◌, ◌^◌, ◌-◌, ◌<◌, min, sym, ap, subst, arith}
-use Rattle.jl_lex.specs.Amounts.{Stands}
+use Rattle.jl_lex.specs.inner.Amounts.{Stands}
 use Rattle.jl_conv.proofs.Values.{no_digits, many_digits, fraction, large, inside}
 use Rattle.jl_conv.proofs.decimal.value.Goals as goal
 

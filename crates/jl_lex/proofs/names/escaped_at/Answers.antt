@@ -1,5 +1,5 @@
 use Rattle.std.proofs.Common.{sym, ◌∙◌, arith}
-use Rattle.jl_lex.specs.Parts.{is_name_character}
+use Rattle.jl_lex.specs.inner.Parts.{is_name_character}
 use Rattle.jl_lex.proofs.Loops.{escape_not, escape_no_digits, escape_allowed, escape_refused}
 use Rattle.jl_lex.proofs.names.escaped_at.Goals as goal
 

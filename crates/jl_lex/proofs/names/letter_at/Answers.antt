@@ -1,5 +1,5 @@
 use Rattle.std.proofs.Common.{drop, ◌+◌, sym, arith}
-use Rattle.jl_lex.specs.Parts.{is_name_character}
+use Rattle.jl_lex.specs.inner.Parts.{is_name_character}
 use Rattle.jl_lex.proofs.Loops.{letter_none, letter_itself, letter_other, letter_escaped, letter_from}
 use Rattle.jl_lex.proofs.names.letter_at.Goals as goal
 

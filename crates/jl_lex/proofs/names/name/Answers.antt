@@ -1,7 +1,7 @@
 use Rattle.std.proofs.Common.{◌≡◌, ℕ, List, [], ◌∷◌, ◌++◌, ◌||◌, Bool, true, false, drop, refl, sym, ap, ◌∙◌, subst}
 use Rattle.std.proofs.Common.{arith}
 use Rattle.jl_token.specs.Characters.{is_identifier_start}
-use Rattle.jl_token.specs.Scanner.{letter, name_from, name_done}
+use Rattle.jl_token.specs.inner.Scanner.{letter, name_from, name_done}
 use Rattle.jl_lex.proofs.Loops.{NameSoFar, name_none, name_begins, name_more, name_ends, found_named}
 use Rattle.jl_lex.proofs.names.name.Goals as goal
 

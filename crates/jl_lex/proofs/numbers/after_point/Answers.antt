@@ -1,6 +1,6 @@
 use Rattle.std.proofs.Common.{◌++◌, ◌-◌, drop}
 use Rattle.jl_token.specs.Characters.{is_digit}
-use Rattle.jl_token.specs.Scanner.{many, one_unit}
+use Rattle.jl_token.specs.inner.Scanner.{many, one_unit}
 use Rattle.jl_lex.proofs.NumberLoops.{point_stands, places_are, point_from}
 use Rattle.jl_lex.proofs.numbers.after_point.Goals as goal
 

@@ -1,5 +1,5 @@
 use Rattle.std.proofs.Common.{◌≡◌, ◌≤◌}
-use Rattle.jl_lex.specs.Amounts.{scale}
+use Rattle.jl_lex.specs.inner.Amounts.{scale}
 use Rattle.jl_lex.proofs.numbers.scale.Given as goal
 
 abbrev pub invariant-loop-left : goal.invariant-loop-left

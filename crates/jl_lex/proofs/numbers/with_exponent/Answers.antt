@@ -1,5 +1,5 @@
 use Rattle.std.proofs.Common.{drop}
-use Rattle.jl_token.specs.Scanner.{exponent}
+use Rattle.jl_token.specs.inner.Scanner.{exponent}
 use Rattle.jl_lex.proofs.NumberLoops.{finish}
 use Rattle.jl_lex.proofs.numbers.with_exponent.Goals as goal
 

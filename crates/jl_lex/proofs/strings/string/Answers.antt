@@ -1,7 +1,7 @@
 use Rattle.std.proofs.Common.{◌≡◌, ℕ, List, ◌&&◌, Bool, true, false, drop, refl, sym, ap, ◌∙◌, subst, arith}
 use Rattle.std.proofs.Math.Bool.{not}
-use Rattle.jl_token.specs.Scanner.{character, many, string_end, string_done}
-use Rattle.jl_lex.specs.Parts.{values}
+use Rattle.jl_token.specs.inner.Scanner.{character, many, string_end, string_done}
+use Rattle.jl_lex.specs.inner.Parts.{values}
 use Rattle.jl_lex.proofs.StringLoops.{StringSoFar, string_begins, string_more, string_ends}
 use Rattle.jl_lex.proofs.Loops.{found_later}
 use Rattle.jl_lex.proofs.strings.string.Goals as goal

@@ -1,5 +1,5 @@
 use Rattle.std.proofs.Common.{◌≡◌, ◌+◌, ◌++◌, ap, ◌∙◌, drop, map, arith}
-use Rattle.jl_print.specs.Kinds.{after, kind_of}
+use Rattle.jl_print.specs.inner.Kinds.{after, kind_of}
 use Rattle.jl_print.specs.Layout.{layout_of}
 use Rattle.jl_token.specs.Spelling.{spelling_of}
 use Rattle.jl_print.proofs.Laying.{next_piece, rest_is}

@@ -2,7 +2,7 @@ use Rattle.std.proofs.Common.{◌≡◌, ◌+◌, ◌&&◌, ◌==◌, ℕ, ◌�
 use Rattle.std.specs.BTreeMap.{get}
 use Rattle.std.specs.Option.{unwrap_or}
 use Rattle.std.specs.Prelude.{if◌then◌else◌, cond, Some}
-use Rattle.jl_report.specs.Collected.{number_in, AreOfRules}
+use Rattle.jl_report.specs.inner.Collected.{number_in, AreOfRules}
 use Rattle.jl_report.specs.Reports.{Key, by_place, saturate_u64, total_at, place_of}
 use Rattle.jl_report.proofs.OfRules.{of_rules_after}
 use Rattle.jl_report.proofs.Keys.{same_key, same_is, is_same, written, not_zero, grows, starts}

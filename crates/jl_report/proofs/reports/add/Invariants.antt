@@ -1,5 +1,5 @@
 use Rattle.std.proofs.Common.{◌≡◌, ◌+◌, ◌==◌, if◌then◌else◌, take}
-use Rattle.jl_report.specs.Collected.{number_in, HasHits, AreOfRules}
+use Rattle.jl_report.specs.inner.Collected.{number_in, HasHits, AreOfRules}
 use Rattle.jl_report.specs.Reports.{Key, saturate_u64, total_at}
 use Rattle.jl_report.proofs.reports.add.Given as goal
 

@@ -3,7 +3,7 @@ use Rattle.std.specs.Prelude.{filter}
 use Rattle.jl_analysis.specs.Chosen.{is_chosen}
 use Rattle.jl_analysis.specs.contracts.crowd.CrowdFindings.TheImpl.{ghosts}
 use Rattle.jl_analysis.specs.Rules.{IsRule}
-use Rattle.jl_report.specs.Collected.{number_in, HasHits, AreOfRules}
+use Rattle.jl_report.specs.inner.Collected.{number_in, HasHits, AreOfRules}
 use Rattle.jl_report.specs.Off.{is_off}
 use Rattle.jl_report.specs.Reports.{key, IsReportOfFindings}
 use Rattle.jl_report.proofs.Collecting.{pair_at, some_at, few_here, taken, passed, all_listed, is_done, made}

@@ -1,7 +1,7 @@
 use Rattle.std.proofs.Common.{◌≡◌, if◌then◌else◌, take}
 use Rattle.jl_analysis.specs.Chosen.{is_chosen}
 use Rattle.jl_analysis.specs.contracts.crowd.CrowdFindings.TheImpl.{ghosts}
-use Rattle.jl_report.specs.Collected.{number_in, HasHits, AreOfRules}
+use Rattle.jl_report.specs.inner.Collected.{number_in, HasHits, AreOfRules}
 use Rattle.jl_report.specs.Reports.{Key, saturate_u64, found_at}
 use Rattle.jl_report.proofs.reports.report_at.Given as goal
 

@@ -11,7 +11,7 @@ use Rattle.jl_ast.proofs.Views.{statement_placed, statement_If, statement_For, c
 use Rattle.jl_ast.proofs.Parts.{branch_there, below_for}
 use Rattle.jl_scope.specs.EarlyErrors.{early_errors, forest_early_errors, optional_early_errors, written_early_errors}
 use Rattle.jl_scope.specs.Kinds.{first_from}
-use Rattle.jl_scope.specs.Steps.{scope_of}
+use Rattle.jl_scope.specs.inner.Steps.{scope_of}
 use Rattle.jl_scope.proofs.Firsts.{turn, then_part, last_part, held_there, held_absent, item_is}
 use Rattle.jl_scope.proofs.walk.+walk.Goals as goal
 use Rattle.jl_scope.proofs.walk.+walk.Goals.{walk_items-in-Some+in_ok-walk_expression-in-Some, walk_items-in-None}

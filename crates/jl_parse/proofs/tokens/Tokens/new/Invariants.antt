@@ -1,7 +1,7 @@
 use Rattle.std.proofs.Common.{◌≡◌, ◌≤◌, map, take}
 use Rattle.jl_grammar.specs.Brackets.{open_brackets}
 use Rattle.jl_grammar.specs.Terminals.{terminal_of}
-use Rattle.jl_parse.specs.Steps.{counts}
+use Rattle.jl_parse.specs.inner.Steps.{counts}
 use Rattle.jl_parse.proofs.tokens.Tokens.new.Given as goal
 
 abbrev pub invariant-loop-token : goal.invariant-loop-token

@@ -12,7 +12,7 @@ use Rattle.jl_state.specs.Words.{table_of}
 use Rattle.jl_state.specs.declared.act.Act.{Act}
 use Rattle.jl_state.specs.declared.frame.Frame.{Frame}
 use Rattle.jl_state.specs.declared.state.State.{State}
-use Rattle.jl_machine.specs.Going.{comes_of, over}
+use Rattle.jl_machine.specs.inner.Going.{comes_of, over}
 use Rattle.jl_machine.specs.declared.ending.Next.{Next}
 
 -- The act, and the state that it leaves, come to what a frame does with what it is handed, which has been taken off the

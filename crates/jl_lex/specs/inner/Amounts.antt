@@ -4,7 +4,7 @@ use Rattle.std.specs.Prelude.{◌≡◌, ◌<◌, ◌≤◌, ℕ, zero, suc, ◌
 use Rattle.std.specs.Prelude.{[], ◌∷◌, Option, Some, None, if◌then◌else◌}
 use Rattle.jl_num.specs.Number.{largest}
 use Rattle.jl_token.specs.Characters.{hex_digit_value}
-use Rattle.jl_token.specs.Scanner.{value_of}
+use Rattle.jl_token.specs.inner.Scanner.{value_of}
 use Rattle.jl_lex.specs.declared.numbers.Numeral.{Numeral}
 use Rattle.jl_lex.specs.declared.numbers.Exponent.{Exponent}
 

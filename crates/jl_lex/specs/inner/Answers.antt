@@ -1,7 +1,7 @@
 -- What a function of the lexer answers, in the words of the plain scanner. No public clause stands on it.
 use Rattle.std.specs.Prelude.{◌≡◌, ◌<◌, ◌≤◌, ℕ, List, drop, length, Result, Ok, Err}
 use Rattle.jl_token.specs.Elements.{Element, White, LineEnd, LineComment, BlockComment, Word}
-use Rattle.jl_token.specs.Scanner.{Outcome, found, bad}
+use Rattle.jl_token.specs.inner.Scanner.{Outcome, found, bad}
 use Rattle.jl_lex.specs.declared.element.Element.{Element as Read}
 use Rattle.jl_lex.specs.declared.element.Element.TheVariants as read
 use Rattle.jl_lex.specs.declared.element.Stop.{Stop}
