@@ -152,7 +152,11 @@ fn value(amount: Amount, raise: u64, lower: u64) -> Option<u64>
         return None;
     }
     let number = scale(amount.coefficient, total - lower);
-    if number > LARGEST_SIZE { None } else { Some(number) }
+    if number > LARGEST_SIZE {
+        None
+    } else {
+        Some(number)
+    }
 }
 
 // An exponent's digits at a place, if they are there.
@@ -323,7 +327,11 @@ fn hex_capped(number: u64, digit: u16) -> u64
 fn if_number(number: u64) -> Option<u64>
     ensures { result ≡ if_number number }
 {
-    if number > LARGEST_SIZE { None } else { Some(number) }
+    if number > LARGEST_SIZE {
+        None
+    } else {
+        Some(number)
+    }
 }
 
 // The hexadecimal literal whose digits stand at a place, if there is one.
