@@ -4,16 +4,16 @@ use mathlib.Core.Path.{fun_ext}
 use Rattle.jl_value.specs.declared.value.Value.{Value}
 use Rattle.jl_effects.specs.Effects.{and_then}
 use Rattle.jl_effects.proofs.Chains.{and_then-assoc}
-use Rattle.jl_meaning.specs.Parts.{given, gives, throws, ◌>>=◌, Algorithm, Answer}
+use Rattle.jl_meaning.specs.Parts.{continue_with, gives, throws, ◌>>=◌, Algorithm, Answer}
 use Rattle.jl_state.specs.Rest.{Works}
 use Rattle.jl_state.specs.declared.act.Act.{Act}
 use Rattle.jl_state.specs.declared.state.State.{State}
 
 pub bind_assoc : {A B C : Type 0} (p : Algorithm A) (k : A → Algorithm B) (l : B → Algorithm C)
     → (p >>= k >>= l) ≡ (p >>= λ a. k a >>= l)
-bind_assoc {A} {B} {C} p k l = and_then-assoc p (given k) (given l) ∙ ap (and_then p) (fun_ext each)
+bind_assoc {A} {B} {C} p k l = and_then-assoc p (continue_with k) (continue_with l) ∙ ap (and_then p) (fun_ext each)
   where
-    each : (b : Answer A) → and_then (given k b) (given l) ≡ given (λ a. k a >>= l) b
+    each : (b : Answer A) → and_then (continue_with k b) (continue_with l) ≡ continue_with (λ a. k a >>= l) b
     each (gives a) = refl
     each (throws v) = refl
 

@@ -12,7 +12,7 @@ use Rattle.jl_meaning.specs.References.{in_environment, on_global_object, put_na
 use Rattle.jl_meaning.specs.References.{type_of_name, type_of_reference}
 use Rattle.jl_meaning.specs.References.{Reference}
 use Rattle.jl_meaning.specs.Store.{binding_of, Store}
-use Rattle.jl_store.specs.Answers.{answered}
+use Rattle.jl_store.specs.Answers.{ends_with}
 use Rattle.jl_store.specs.Comes.{Comes}
 use Rattle.jl_store.specs.LookUps.{reference_seen}
 use Rattle.jl_store.specs.declared.answer.Answer.{Answer as Answered}
@@ -46,19 +46,19 @@ puts_name s strict env x v given r t a same leads =
 
 pub puts_binding : (s t : State) (strict : Bool) (env : ℕ) (x : Name) (v given : Value) (answer : Answered (Unit {0}))
     (u : Unit {0}) → IsStored s t
-    → Comes (set_mutable_binding strict env x v (binding_of s.store env x)) s.store t.store (answered answer)
+    → Comes (set_mutable_binding strict env x v (binding_of s.store env x)) s.store t.store (ends_with answer)
     → answer ≡ Gives u → Works s (put_value strict x v (in_environment env) >>= λ _. give given) t (act.Give given)
 unfolding put_value
 puts_binding s t strict env x v given answer u stored comes is =
     works_comes s t stored (put_value strict x v (in_environment env)) u (λ _. give given) t (act.Give given)
     (record {
       leads = (subst (λ b. Comes (set_mutable_binding strict env x v (binding_of s.store env x)) s.store t.store
-          (answered b)) is comes).leads;
+          (ends_with b)) is comes).leads;
     }) (record { is = λ kept told. refl })
 
 pub throws_binding : (s t : State) (strict : Bool) (env : ℕ) (x : Name) (v given : Value)
     (answer : Answered (Unit {0})) (thrown : Value) → IsStored s t
-    → Comes (set_mutable_binding strict env x v (binding_of s.store env x)) s.store t.store (answered answer)
+    → Comes (set_mutable_binding strict env x v (binding_of s.store env x)) s.store t.store (ends_with answer)
     → answer ≡ Throws thrown
     → Works s (put_value strict x v (in_environment env) >>= λ _. give given) t
     (act.Complete (completion.Throw thrown))
@@ -67,7 +67,7 @@ throws_binding s t strict env x v given answer thrown stored comes is =
     works_thrown s t stored (put_value strict x v (in_environment env)) thrown (λ _. give given)
     (record {
       leads = (subst (λ b. Comes (set_mutable_binding strict env x v (binding_of s.store env x)) s.store t.store
-          (answered b)) is comes).leads;
+          (ends_with b)) is comes).leads;
     })
 
 -- nothing

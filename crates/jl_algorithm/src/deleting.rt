@@ -5,7 +5,7 @@ ghost use Rattle.jl_value.specs.declared.value.Value.TheVariants as value;
 ghost use Rattle.jl_effects.specs.Running.{Ends};
 ghost use Rattle.jl_meaning.specs.Parts.{gives};
 ghost use Rattle.jl_meaning.specs.Putting.{delete, delete_on, end_mapping_if, is_free};
-ghost use Rattle.jl_store.specs.Answers.{answered};
+ghost use Rattle.jl_store.specs.Answers.{ends_with};
 ghost use Rattle.jl_store.specs.Comes.{Comes};
 ghost use Rattle.jl_store.specs.LookUps.{property_seen};
 
@@ -27,7 +27,7 @@ pub fn delete<'p>(
 ) -> Result<Answer<bool>, NoMemory>
     ensures stored { state.new ≡ record state.old { store = state.new.store } }
     ensures comes { IfOk result (λ answer. Comes (delete throwing base.now name.now) state.old.store state.new.store
-        (answered answer)) }
+        (ends_with answer)) }
 {
     let free = delete_on(&mut state.store, base, name);
     if free || !throwing {

@@ -8,7 +8,7 @@ ghost use Rattle.jl_meaning.specs.Store.{binding_of};
 ghost use Rattle.jl_state.specs.AlgorithmFrames.{algorithm_after};
 ghost use Rattle.jl_state.specs.Rank.{Falls};
 ghost use Rattle.jl_state.specs.Rest.{Works};
-ghost use Rattle.jl_store.specs.Answers.{answered};
+ghost use Rattle.jl_store.specs.Answers.{ends_with};
 ghost use Rattle.jl_store.specs.Comes.{Comes};
 ghost use Rattle.jl_store.specs.LookUps.{reference_seen};
 
@@ -197,7 +197,7 @@ pub fn delete_name<'p>(
 ) -> Result<Answer<bool>, NoMemory>
     ensures stored { state.new ≡ record state.old { store = state.new.store } }
     ensures comes { IfOk result (λ answer. Comes (delete_name strict env name.now) state.old.store state.new.store
-        (answered answer)) }
+        (ends_with answer)) }
 {
     match state.store.identifier_reference(env, name) {
         Reference::InEnvironment(_) => Ok(Answer::Gives(false)),

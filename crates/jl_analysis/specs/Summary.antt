@@ -11,13 +11,13 @@ abbrev pub Counts : Type 0
 Counts = List (OpId × ℕ)
 
 -- the counts after one more hit at the id: a new id comes last
-abbrev pub counted : Counts → OpId → Counts
-counted [] id = (id, 1) ∷ []
-counted (x ∷ xs) id = if id.0 == x.0.0 then (x.0, one_more x.1) ∷ xs else x ∷ counted xs id
+abbrev pub add_hit : Counts → OpId → Counts
+add_hit [] id = (id, 1) ∷ []
+add_hit (x ∷ xs) id = if id.0 == x.0.0 then (x.0, one_more x.1) ∷ xs else x ∷ add_hit xs id
 
 -- what was done, without the ids
-abbrev pub done : List Operation → List Op
-done operations = map (λ x. x.1) operations
+abbrev pub plain_operations : List Operation → List Op
+plain_operations operations = map (λ x. x.1) operations
 
 -- the ids at which the rule hits among the operations, which come after the ones before
 abbrev pub hits_after : (rule : ℕ) → (before : List Op) → List Operation → List OpId
@@ -37,6 +37,6 @@ pub record Kept : Type 0 where
 -- what the checker of the rule keeps of the operations
 abbrev pub summary : (rule : ℕ) → List Operation → Kept
 summary rule operations = record {
-  counts = fold counted [] (hits rule operations);
-  memory = memory_of rule (done operations);
+  counts = fold add_hit [] (hits rule operations);
+  memory = memory_of rule (plain_operations operations);
 }

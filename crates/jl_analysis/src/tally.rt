@@ -1,5 +1,5 @@
 ghost use Rattle.std.specs.Prelude.{◌≡◌, ◌≤◌, [], All, OnOk, OnErr};
-ghost use Rattle.jl_analysis.specs.Summary.{counted};
+ghost use Rattle.jl_analysis.specs.Summary.{add_hit};
 
 use indexmap::IndexSet;
 use jl_op::OpId;
@@ -39,7 +39,7 @@ impl Tally {
     /// no memory was left; the tally is then as it was.
     #[tactic(auto, using(crate::proofs::Counting::counting))]
     pub fn hit(&mut self, id: OpId) -> Result<(), AllocError>
-        ensures ok { OnOk result (self.new ≡ counted self.old id) }
+        ensures ok { OnOk result (self.new ≡ add_hit self.old id) }
         ensures err { OnErr result (self.new ≡ self.old) }
     {
         self.counts.reserve(1)?;

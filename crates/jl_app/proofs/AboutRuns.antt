@@ -4,7 +4,7 @@ use Rattle.std.proofs.Common.{◌∙◌, subst, arith}
 use Rattle.jl_analysis.specs.Laws.{NeededIsEnough}
 use Rattle.jl_ast.specs.Tree.{Program}
 use Rattle.jl_effects.specs.Growing.{IsLonger}
-use Rattle.jl_effects.specs.Matching.{Alike, SameSeen, Simulates, bound}
+use Rattle.jl_effects.specs.Matching.{Alike, SameSeen, Simulates, step_bound}
 use Rattle.jl_effects.specs.Running.{Ends, Fails, Finish, IsOver, Over, RunState, Spent, state_of as world_of}
 use Rattle.jl_effects.specs.Running.{steps_taken}
 use Rattle.jl_effects.specs.Traces.{with_state, without_operations}
@@ -142,7 +142,7 @@ module _ (enough : NeededIsEnough) (call : Call) (units : List ℕ) (p : Program
     same_taken = quiet_steps most (second most)
 
     -- the first run is over within fewer steps
-    pub about_own : (n d : ℕ) → most ≡ bound n → most ≡ n + d → IsLonger d (first n) (first (n + d))
+    pub about_own : (n d : ℕ) → most ≡ step_bound n → most ≡ n + d → IsLonger d (first n) (first (n + d))
         → IsOver (first n)
         → IsAbout call units p chosen n (first n) (lint_status (ending_of (quiet (second most))) lines)
     about_own n d enough_steps more longer over =

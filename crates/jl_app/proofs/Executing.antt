@@ -12,7 +12,7 @@ use Rattle.jl_effects.specs.Running.{state_of as world_of}
 use Rattle.jl_meaning.specs.Mean as mean
 use Rattle.jl_machine.specs.Runs.{hooked_mean, ending_of, IsRun}
 use Rattle.jl_machine.specs.declared.ending.Run.{Run}
-use Rattle.jl_app.specs.Answers.{executed, hooked_run}
+use Rattle.jl_app.specs.Answers.{execute_due, hooked_run}
 use Rattle.jl_app.specs.OwnRuns.{ending_status, program_run, steps_line, uncaught_line}
 use Rattle.jl_app.specs.declared.status.Status.{Status}
 
@@ -33,7 +33,7 @@ is_executed : {O : Type 0} {stands_for : O → List Operation → Type 0} {befor
     (budget : ℕ) (ran : mean.Run) (answer : Status) (bytes : List ℕ) → IsRun stands_for before budget ran r o
     → answer ≡ ending_status r.outcome
     → bytes ≡ r.output ++ (uncaught_line r.store.heap r.outcome ++ steps_line r.outcome r.steps)
-    → (answer ≡ (executed ran budget).status) × (bytes ≡ (executed ran budget).bytes)
+    → (answer ≡ (execute_due ran budget).status) × (bytes ≡ (execute_due ran budget).bytes)
 is_executed {r = r} budget ran answer bytes is st b = (
   st ∙ ap ending_status is.outcome,
   b ∙ ap (λ x. x ++ (uncaught_line r.store.heap r.outcome ++ steps_line r.outcome r.steps)) is.output
@@ -50,8 +50,8 @@ pub all_executed : {O : Type 0} {stands_for : O → List Operation → Type 0} {
     → IsRun stands_for before budget (hooked_mean (is_member kinds) p budget) r o
     → answer ≡ ending_status r.outcome
     → bytes ≡ r.output ++ (uncaught_line r.store.heap r.outcome ++ steps_line r.outcome r.steps)
-    → (answer ≡ (executed (program_run p budget) budget).status)
-    × (bytes ≡ (executed (program_run p budget) budget).bytes)
+    → (answer ≡ (execute_due (program_run p budget) budget).status)
+    × (bytes ≡ (execute_due (program_run p budget) budget).bytes)
 all_executed {stands_for = stands_for} {before = before} {o = o} {r = r} kinds all p budget answer bytes is st b =
     is_executed budget (program_run p budget) answer bytes
     (subst (λ ran. IsRun stands_for before budget ran r o) (of_all_kinds kinds all p budget) is) st b

@@ -12,7 +12,7 @@ use Rattle.jl_text.specs.declared.span.Span.{Span}
 use Rattle.jl_app.specs.Accepting.{IsAccepted, OneReading}
 use Rattle.jl_app.specs.Answers.{Due, IsAnswered, IsLinted, IsReported, accepted}
 use Rattle.jl_app.specs.Answers.{hooked_run, lint_bytes, lint_status, ran, refused, unread, woven_budget}
-use Rattle.jl_command.specs.Asked.{Asked, asked, lint}
+use Rattle.jl_command.specs.Asked.{Asked, request, lint}
 use Rattle.jl_app.specs.Endings.{Call, EndsWith, HasAnswered, answered, no_memory, read_failed, write_failed}
 use Rattle.jl_app.specs.Headline.{IsAbout, IsAboutBeginning, IsAboutScript, own_run, woven_mean}
 use Rattle.jl_app.specs.ReadBack.{IsReadBack}
@@ -70,7 +70,7 @@ module _ (call : Call) (p : Program Span) (budget : ℕ) (chosen : List ℕ) (we
       (subst (λ x. IsLinted (units_of bytes) x budget chosen call.shelf.lent due) program responds.1)) grows knows
 
   says_so : {answer : Status} → (one : OneReading) (never : NeverBoth) → EndsWith call answer → (a : Asked)
-      (bytes : List ℕ) → asked call.words ≡ Some a → Reports a budget chosen → IsScriptFor call.held a bytes
+      (bytes : List ℕ) → request call.words ≡ Some a → Reports a budget chosen → IsScriptFor call.held a bytes
       → IsAccepted bytes p → call.shelf.lent ≡ call.shelf.handed → HasAnswered answer → units_of bytes ≡ units
       → HoldsOfMeaning → Says answer
   says_so one never (answered due answer grows knows) a bytes words reports script is lent answers same says =
@@ -84,7 +84,7 @@ module _ (call : Call) (p : Program Span) (budget : ℕ) (chosen : List ℕ) (we
 
 module _ {call : Call} {answer : Status} (enough : NeededIsEnough) (one : OneReading) (never : NeverBoth)
     (ends : EndsWith call answer) (a : Asked) (bytes : List ℕ) (p : Program Span) (budget : ℕ) (chosen : List ℕ)
-    (well : IsWovenWell (kinds_of chosen) p) (words : asked call.words ≡ Some a) (reports : Reports a budget chosen)
+    (well : IsWovenWell (kinds_of chosen) p) (words : request call.words ≡ Some a) (reports : Reports a budget chosen)
     (script : IsScriptFor call.held a bytes) (is : IsAccepted bytes p) (lent : call.shelf.lent ≡ call.shelf.handed)
     (answers : HasAnswered answer) where
   abbrev about : Program Span → ℕ → Status → Type 0

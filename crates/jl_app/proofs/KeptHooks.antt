@@ -1,7 +1,7 @@
 -- A run that keeps fewer of its hooks is simulated where the run with all of them is, since of the first run no hooks
 -- are looked at.
 use Rattle.std.proofs.Common.{◌≡◌, ℕ, ◌≤◌, Bool, refl, sym, ap, ◌∙◌, subst}
-use Rattle.jl_effects.specs.Matching.{Alike, IsWithin, Simulates, bound}
+use Rattle.jl_effects.specs.Matching.{Alike, IsWithin, Simulates, step_bound}
 use Rattle.jl_effects.specs.Running.{IsOver, Outcome, Over, RunState, Spent, state_of, steps_taken}
 use Rattle.jl_effects.specs.Traces.{keep_hooks, with_state}
 
@@ -33,14 +33,14 @@ module _ {S F O A : Type 0} (kept : O → Bool) where
   pub of_all_hooks : (first own second : ℕ → Outcome S F O A) → ((n : ℕ) → first n ≡ fewer (own n))
       → Simulates kept first second → Simulates kept own second
   of_all_hooks first own second is simulates = record {
-    follows = λ n over. all_alike (own n) (second (bound n))
-        (subst (λ r. Alike kept r (second (bound n))) (is n)
+    follows = λ n over. all_alike (own n) (second (step_bound n))
+        (subst (λ r. Alike kept r (second (step_bound n))) (is n)
         (simulates.follows n (subst (λ r. IsOver r) (sym (is n)) (fewer_over (own n) over))));
     leads = λ m over. all_alike (own m) (second m)
         (subst (λ r. Alike kept r (second m)) (is m) (simulates.leads m over));
     no_fewer = λ m over. subst (λ k. k ≤ steps_taken m (second m)) (ap (steps_taken m) (is m) ∙ all_steps m (own m))
         (simulates.no_fewer m over);
-    not_many_more = λ m over. subst (λ k. steps_taken m (second m) ≤ bound k)
+    not_many_more = λ m over. subst (λ k. steps_taken m (second m) ≤ step_bound k)
         (ap (steps_taken m) (is m) ∙ all_steps m (own m)) (simulates.not_many_more m over);
     within = λ m w spent. all_within (own m) w
         (subst (λ r. IsWithin kept (state_of r) w) (is m) (simulates.within m w spent));

@@ -10,7 +10,7 @@ use Rattle.jl_op.specs.Operations.{Operation}
 use Rattle.jl_op.specs.declared.kind.OpKind.{OpKind}
 use Rattle.jl_op.specs.declared.kind_set.KindSet.{KindSet}
 use Rattle.jl_text.specs.declared.span.Span.{Span}
-use Rattle.jl_app.specs.Answers.{IsReported, end_line, hooked_run, lint_status, linted, places}
+use Rattle.jl_app.specs.Answers.{IsReported, end_line, hooked_run, lint_status, lint_due, places}
 use Rattle.jl_app.specs.OwnRuns.{uncaught_line}
 use Rattle.jl_app.specs.Reporting.{IsReport, Lines, lines_text}
 use Rattle.jl_app.specs.WovenText.{kinds_of}
@@ -32,7 +32,7 @@ module _ {O : Type 0} (stands_for : O → List Operation → Type 0) (o : O) (r 
   pub same_bytes : (lines : Lines) (bytes : List ℕ)
       → bytes ≡ r.output ++ (lines_text lines ++ (uncaught_line r.store.heap r.outcome
       ++ end_line r.outcome r.steps r.hooks (length lines)))
-      → bytes ≡ (linted (hooked_run (kinds_of chosen) q steps) steps lines r.hooks).bytes
+      → bytes ≡ (lint_due (hooked_run (kinds_of chosen) q steps) steps lines r.hooks).bytes
   same_bytes lines bytes b =
       let ran = hooked_run (kinds_of chosen) q steps in
       b ∙ ap (λ x. x ++ (lines_text lines ++ (uncaught_line r.store.heap r.outcome
@@ -54,8 +54,8 @@ module _ {O : Type 0} (stands_for : O → List Operation → Type 0) (o : O) (r 
       → (lines : Lines) × (hooks : ℕ)
       × IsReported units p chosen (world_of (hooked_run (kinds_of chosen) q steps)).hooks
       (world_of (hooked_run (kinds_of chosen) q steps)).hooks lines hooks
-      × (answer ≡ (linted (hooked_run (kinds_of chosen) q steps) steps lines hooks).status)
-      × (bytes ≡ (linted (hooked_run (kinds_of chosen) q steps) steps lines hooks).bytes)
+      × (answer ≡ (lint_due (hooked_run (kinds_of chosen) q steps) steps lines hooks).status)
+      × (bytes ≡ (lint_due (hooked_run (kinds_of chosen) q steps) steps lines hooks).bytes)
   is_linted units p begun lines answer bytes begins report st b = (
     lines,
     r.hooks,

@@ -29,7 +29,7 @@ use Rattle.jl_app.specs.Forms.{is_sound, may_name_hooks, most_bytes, most_levels
 use Rattle.jl_app.specs.declared.form.Form.{Form}
 use Rattle.jl_app.specs.Refusals.{NeverBoth, AcceptedOrRefused, IsRefused, position_in, too_long, not_utf8}
 use Rattle.jl_app.specs.Refusals.{bad_input, unreadable, early_rule, left_out_name, hooks_name}
-use Rattle.jl_app.specs.Refused.{Refuses}
+use Rattle.jl_app.specs.inner.Refused.{Refuses}
 
 -- what refuses bytes refuses them where it is passed on
 pub passed_on : {T : Type 0} (form : Form) (bytes : List ℕ) (why : Unaccepted) (r : Result T Unaccepted)

@@ -1,7 +1,7 @@
 -- What is due where the words ask for a report of a script is what `lint` answers to that script.
 use Rattle.std.proofs.Common.{◌≡◌, ◌∙◌, ℕ, List, [], Option, Some, refl, subst, sym}
 use Rattle.std.specs.Prelude.{IfSome}
-use Rattle.jl_command.specs.Asked.{Asked, asked, lint, soak}
+use Rattle.jl_command.specs.Asked.{Asked, request, lint, soak}
 use Rattle.jl_soak.specs.Script.{script_of}
 use Rattle.jl_app.specs.Answers.{Due, IsAnswered, IsDue, OnShelf, answered_to, answered_to_made, bad_words}
 use Rattle.jl_app.specs.Forms.{ReadsSource}
@@ -31,7 +31,7 @@ made_for (soak number budget chosen) = script_of number
 made_for _ = []
 
 module _ {words : List (List ℕ)} {held : Option (List ℕ)} {shelf : OnShelf} where
-  pub of_source : (which : Asked) (bytes : List ℕ) (due : Due) → asked words ≡ Some which → ReadsSource which
+  pub of_source : (which : Asked) (bytes : List ℕ) (due : Due) → request words ≡ Some which → ReadsSource which
       → held ≡ Some bytes → IsDue words held shelf due → IsAnswered which bytes shelf due
   of_source which bytes _ is reads holds (bad_words none kept) = let both = sym none ∙ is in absurd (cc)
   of_source which bytes due is reads holds (answered_to a read words reads_too told answered) =
@@ -41,7 +41,7 @@ module _ {words : List (List ℕ)} {held : Option (List ℕ)} {shelf : OnShelf} 
   of_source which bytes due is reads holds (answered_to_made number most rules words answered) =
       absurd (subst (λ (x : Asked). ReadsSource x) (same_asked (sym is ∙ words)) reads)
 
-  of_made : (number budget : ℕ) (chosen : List ℕ) (due : Due) → asked words ≡ Some (soak number budget chosen)
+  of_made : (number budget : ℕ) (chosen : List ℕ) (due : Due) → request words ≡ Some (soak number budget chosen)
       → IsDue words held shelf due → IsAnswered (lint budget chosen) (script_of number) shelf due
   of_made number budget chosen _ is (bad_words none kept) = let both = sym none ∙ is in absurd (cc)
   of_made number budget chosen due is (answered_to a read words reads told answered) =
@@ -49,7 +49,7 @@ module _ {words : List (List ℕ)} {held : Option (List ℕ)} {shelf : OnShelf} 
   of_made number budget chosen due is (answered_to_made several most rules words answered) =
       subst (λ (x : Asked). IsAnswered (as_lint x) (made_for x) shelf due) (same_asked (sym words ∙ is)) answered
 
-  pub due_to_script : (a : Asked) (bytes : List ℕ) (budget : ℕ) (chosen : List ℕ) (due : Due) → asked words ≡ Some a
+  pub due_to_script : (a : Asked) (bytes : List ℕ) (budget : ℕ) (chosen : List ℕ) (due : Due) → request words ≡ Some a
       → Reports a budget chosen → IsScriptFor held a bytes → IsDue words held shelf due
       → IsAnswered (lint budget chosen) bytes shelf due
   due_to_script _ bytes _ _ due is (lints budget chosen) script answer =

@@ -10,11 +10,11 @@ use Rattle.jl_text.specs.declared.span.Span.{Span}
 use Rattle.jl_token.specs.Tokens.{Tokens}
 use Rattle.jl_app.specs.Accepting.{IsAccepted, IsRead, OneReading}
 use Rattle.jl_app.specs.Answers.{Due, IsAnswered, IsTraced, IsTracedAlone, accepted, ended_alone, ended_woven}
-use Rattle.jl_app.specs.Answers.{instrumented, refused, traced, woven_budget}
+use Rattle.jl_app.specs.Answers.{instrument_due, refused, trace_due, woven_budget}
 use Rattle.jl_app.specs.OwnRuns.{program_run}
 use Rattle.jl_app.specs.ReadBack.{IsReadBack}
 use Rattle.jl_app.specs.Refusals.{NeverBoth}
-use Rattle.jl_app.specs.StandsAlone.{StandsAlone, untouched}
+use Rattle.jl_app.specs.StandsAlone.{StandsAlone, same_shelf}
 use Rattle.jl_app.specs.WovenText.{woven_text}
 use Rattle.jl_app.specs.declared.form.Form.TheVariants as forms
 use Rattle.jl_app.specs.inner.Woven.{ReadsBackAsWoven}
@@ -25,7 +25,7 @@ use Rattle.jl_app.proofs.OwnRun.{same_program_run}
 module _ (one : OneReading) (never : NeverBoth) (comes_back : UnitsComeBack) (bytes : List ℕ) (p : Program Span)
     (is : IsAccepted bytes p) (back : ReadsBackAsWoven every_kind p) where
   abbrev woven : List ℕ
-  woven = (instrumented p).bytes
+  woven = (instrument_due p).bytes
 
   -- what is read of its units is read of its bytes
   of_units : (q : Program Span) → IsReadBack (woven_text every_kind p) q → IsRead forms.WovenText woven q
@@ -40,18 +40,18 @@ module _ (one : OneReading) (never : NeverBoth) (comes_back : UnitsComeBack) (by
 
   -- the answer to the run of the woven script
   abbrev due : ℕ → Due
-  due budget = traced (program_run (woven_program every_kind p) (woven_budget budget)) (woven_budget budget)
+  due budget = trace_due (program_run (woven_program every_kind p) (woven_budget budget)) (woven_budget budget)
 
   same_due : (q : Program Span) (budget : ℕ) → IsRead forms.WovenText woven q
-      → traced (program_run q (woven_budget budget)) (woven_budget budget) ≡ due budget
+      → trace_due (program_run q (woven_budget budget)) (woven_budget budget) ≡ due budget
   same_due q budget read =
       let program = one forms.WovenText woven q back.program read (of_units back.program back.read) in
-      ap (λ r. traced r (woven_budget budget))
+      ap (λ r. trace_due r (woven_budget budget))
       (same_program_run p q (woven_budget budget)
       (ap (λ (r : Program Span). without_spans r) program ∙ back.same back.program back.read))
 
-  as_exec : (budget : ℕ) (handed lent : List ℕ) (d : Due) → IsAnswered (trace budget) bytes (untouched handed lent) d
-      → IsAnswered (exec (woven_budget budget)) woven (untouched handed lent) d
+  as_exec : (budget : ℕ) (handed lent : List ℕ) (d : Due) → IsAnswered (trace budget) bytes (same_shelf handed lent) d
+      → IsAnswered (exec (woven_budget budget)) woven (same_shelf handed lent) d
   as_exec budget handed lent _ (refused cause why same) = absurd (never forms.Script bytes p cause is why)
   as_exec budget handed lent d (accepted q a (same, answer)) =
       by_answer d (subst (λ r. IsTraced r budget d) (one forms.Script bytes q p a is) answer)
@@ -60,23 +60,23 @@ module _ (one : OneReading) (never : NeverBoth) (comes_back : UnitsComeBack) (by
       read = of_units back.program back.read
 
       by_answer : (x : Due) → IsTraced p budget x
-          → IsAnswered (exec (woven_budget budget)) woven (untouched handed lent) x
+          → IsAnswered (exec (woven_budget budget)) woven (same_shelf handed lent) x
       by_answer _ ended_woven =
-          subst (λ x. IsAnswered (exec (woven_budget budget)) woven (untouched handed lent) x)
+          subst (λ x. IsAnswered (exec (woven_budget budget)) woven (same_shelf handed lent) x)
           (same_due back.program budget read)
           (accepted back.program read (same, ended_alone))
 
   as_trace : (budget : ℕ) (handed lent : List ℕ) (d : Due)
-      → IsAnswered (exec (woven_budget budget)) woven (untouched handed lent) d
-      → IsAnswered (trace budget) bytes (untouched handed lent) d
+      → IsAnswered (exec (woven_budget budget)) woven (same_shelf handed lent) d
+      → IsAnswered (trace budget) bytes (same_shelf handed lent) d
   as_trace budget handed lent _ (refused cause why same) =
       absurd (never forms.WovenText woven back.program cause (of_units back.program back.read) why)
   as_trace budget handed lent d (accepted q read (same, answer)) = by_answer d answer
     where
       by_answer : (x : Due) → IsTracedAlone q (woven_budget budget) x
-          → IsAnswered (trace budget) bytes (untouched handed lent) x
+          → IsAnswered (trace budget) bytes (same_shelf handed lent) x
       by_answer _ ended_alone =
-          subst (λ x. IsAnswered (trace budget) bytes (untouched handed lent) x) (sym (same_due q budget read))
+          subst (λ x. IsAnswered (trace budget) bytes (same_shelf handed lent) x) (sym (same_due q budget read))
           (accepted p is (same, ended_woven))
 
   pub stands_alone : StandsAlone bytes p

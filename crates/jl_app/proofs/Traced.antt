@@ -17,7 +17,7 @@ use Rattle.jl_op.specs.declared.kind_set.KindSet.{KindSet}
 use Rattle.jl_simulation.specs.Weaving.{woven_program}
 use Rattle.jl_text.specs.Encoding.{bytes_of}
 use Rattle.jl_text.specs.declared.span.Span.{Span}
-use Rattle.jl_app.specs.Answers.{Due, traced, woven_budget}
+use Rattle.jl_app.specs.Answers.{Due, trace_due, woven_budget}
 use Rattle.jl_app.specs.OwnRuns.{ending_status, program_run, uncaught_line}
 use Rattle.jl_app.specs.Tracing.{hooks_line, trace_line, trace_lines}
 use Rattle.jl_app.specs.declared.status.Status.{Status}
@@ -50,7 +50,7 @@ module _ {O : Type 0} {stands_for : O → List Operation → Type 0} {o : O} {r 
   -- the bytes of the answer
   same_traced : (bytes : List ℕ)
       → bytes ≡ lines ++ (uncaught_line r.store.heap r.outcome ++ hooks_line r.outcome r.steps r.hooks)
-      → bytes ≡ (traced ran budget).bytes
+      → bytes ≡ (trace_due ran budget).bytes
   same_traced bytes b =
       b ∙ ap (λ x. x ++ (uncaught_line r.store.heap r.outcome ++ hooks_line r.outcome r.steps r.hooks)) told
       ∙ ap (λ (s : Store). trace_lines (world_of ran).hooks ++ (uncaught_line s.heap r.outcome
@@ -64,7 +64,7 @@ module _ {O : Type 0} {stands_for : O → List Operation → Type 0} {o : O} {r 
 
   pub is_traced : (answer : Status) (bytes : List ℕ) → answer ≡ ending_status r.outcome
       → bytes ≡ lines ++ (uncaught_line r.store.heap r.outcome ++ hooks_line r.outcome r.steps r.hooks)
-      → (answer ≡ (traced ran budget).status) × (bytes ≡ (traced ran budget).bytes)
+      → (answer ≡ (trace_due ran budget).status) × (bytes ≡ (trace_due ran budget).bytes)
   is_traced answer bytes st b = (st ∙ ap ending_status is.outcome, same_traced bytes b)
 
 -- a run of a program that was told of all kinds
@@ -84,10 +84,10 @@ of_all_woven set all p = ap (λ chosen. woven_program chosen p) (fun_ext {f = is
 pub same_traced_run : (q : Program Span) (w : Program (Unit {0})) (steps budget : ℕ) {answer : Status} {bytes : List ℕ}
     → steps ≡ woven_budget budget
     → program_run q (woven_budget budget) ≡ program_run w (woven_budget budget)
-    → (answer ≡ (traced (program_run q steps) steps).status) × (bytes ≡ (traced (program_run q steps) steps).bytes)
-    → (answer ≡ (traced (program_run w (woven_budget budget)) (woven_budget budget)).status)
-    × (bytes ≡ (traced (program_run w (woven_budget budget)) (woven_budget budget)).bytes)
+    → (answer ≡ (trace_due (program_run q steps) steps).status) × (bytes ≡ (trace_due (program_run q steps) steps).bytes)
+    → (answer ≡ (trace_due (program_run w (woven_budget budget)) (woven_budget budget)).status)
+    × (bytes ≡ (trace_due (program_run w (woven_budget budget)) (woven_budget budget)).bytes)
 same_traced_run q w steps budget is same answered =
-    let run : traced (program_run q steps) steps ≡ traced (program_run w (woven_budget budget)) (woven_budget budget) =
-    ap (λ n. traced (program_run q n) n) is ∙ ap (λ r. traced r (woven_budget budget)) same in
+    let run : trace_due (program_run q steps) steps ≡ trace_due (program_run w (woven_budget budget)) (woven_budget budget) =
+    ap (λ n. trace_due (program_run q n) n) is ∙ ap (λ r. trace_due r (woven_budget budget)) same in
     (answered.0 ∙ ap (λ (d : Due). d.status) run, answered.1 ∙ ap (λ (d : Due). d.bytes) run)

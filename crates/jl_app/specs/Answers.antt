@@ -18,7 +18,7 @@ use Rattle.jl_text.specs.declared.span.Span.{Span}
 use Rattle.jl_value.specs.declared.ending.Outcome.{Outcome as Ending}
 use Rattle.jl_value.specs.declared.ending.Outcome.TheVariants as ending
 use Rattle.jl_app.specs.Accepting.{IsRead}
-use Rattle.jl_command.specs.Asked.{Asked, asked, check, exec, instrument, lint, map_of_ids, print, run, soak, trace}
+use Rattle.jl_command.specs.Asked.{Asked, request, check, exec, instrument, lint, map_of_ids, print, run, soak, trace}
 use Rattle.jl_app.specs.MapLines.{begins, map_lines}
 use Rattle.jl_app.specs.OwnRuns.{ending_status, ending_text, program_run, steps_line, uncaught_line}
 use Rattle.jl_app.specs.ReadBack.{IsReadBack}
@@ -81,8 +81,8 @@ lint_bytes r lines steps hooks =
     ++ end_line (ending_of r) steps hooks (length lines)))
 
 -- what is answered to the run of a woven program with so many steps
-abbrev pub linted : mean.Run → (steps : ℕ) → Lines → (hooks : ℕ) → Due
-linted r steps lines hooks = record {
+abbrev pub lint_due : mean.Run → (steps : ℕ) → Lines → (hooks : ℕ) → Due
+lint_due r steps lines hooks = record {
   status = lint_status (ending_of r) lines;
   bytes = lint_bytes r lines (steps_taken steps r) hooks;
   told = (world_of r).hooks;
@@ -110,7 +110,7 @@ pub data IsLinted (units : List ℕ) (p : Program Span) (budget : ℕ) (chosen l
       → IsReported units p chosen (world_of (hooked_run (kinds_of chosen) q (woven_budget budget))).hooks
       (world_of (hooked_run (kinds_of chosen) q (woven_budget budget))).hooks lines hooks
       → IsLinted units p budget chosen lent
-      (linted (hooked_run (kinds_of chosen) q (woven_budget budget)) (woven_budget budget) lines hooks)
+      (lint_due (hooked_run (kinds_of chosen) q (woven_budget budget)) (woven_budget budget) lines hooks)
 
 -- the line that counts a program's functions
 abbrev pub functions_line : Program Span → Due
@@ -129,12 +129,12 @@ pub data IsPrinted (p : Program Span) : Due → Type 0 where
   written : IsPrinted p (canonical_text p)
 
 -- the text of the program that is woven for operations of all kinds, in UTF-8
-abbrev pub instrumented : Program Span → Due
-instrumented p = record { status = status.Clean; bytes = bytes_of (woven_text every_kind p); told = [] }
+abbrev pub instrument_due : Program Span → Due
+instrument_due p = record { status = status.Clean; bytes = bytes_of (woven_text every_kind p); told = [] }
 
 -- what `instrument` answers to it
 pub data IsInstrumented (p : Program Span) : Due → Type 0 where
-  text : IsInstrumented p (instrumented p)
+  text : IsInstrumented p (instrument_due p)
 
 -- the lines of the map of a program that a source of these units is read as
 abbrev pub listed_map : (units : List ℕ) → Program Span → Due
@@ -145,8 +145,8 @@ pub data IsMapped (units : List ℕ) (p : Program Span) : Due → Type 0 where
   listed : IsMapped units p (listed_map units p)
 
 -- what a program printed that ran as it stands with so many steps, what it threw, and the last line
-abbrev pub executed : mean.Run → (steps : ℕ) → Due
-executed r steps = record {
+abbrev pub execute_due : mean.Run → (steps : ℕ) → Due
+execute_due r steps = record {
   status = ending_status (ending_of r);
   bytes = (world_of r).output ++ (uncaught_line (world_of r).store.heap (ending_of r)
       ++ steps_line (ending_of r) (steps_taken steps r));
@@ -155,11 +155,11 @@ executed r steps = record {
 
 -- what `run` answers to it with this budget
 pub data IsExecuted (p : Program Span) (budget : ℕ) : Due → Type 0 where
-  ended : IsExecuted p budget (executed (program_run p budget) budget)
+  ended : IsExecuted p budget (execute_due (program_run p budget) budget)
 
 -- the operations that the hooks of a run with so many steps told of, what it threw, and the last line
-abbrev pub traced : mean.Run → (steps : ℕ) → Due
-traced r steps = record {
+abbrev pub trace_due : mean.Run → (steps : ℕ) → Due
+trace_due r steps = record {
   status = ending_status (ending_of r);
   bytes = trace_lines (world_of r).hooks ++ (uncaught_line (world_of r).store.heap (ending_of r)
       ++ hooks_line (ending_of r) (steps_taken steps r) (length (world_of r).hooks));
@@ -169,11 +169,11 @@ traced r steps = record {
 -- what `trace` answers to it with this budget: the run of the woven script
 pub data IsTraced (p : Program Span) (budget : ℕ) : Due → Type 0 where
   ended_woven : IsTraced p budget
-      (traced (program_run (woven_program every_kind p) (woven_budget budget)) (woven_budget budget))
+      (trace_due (program_run (woven_program every_kind p) (woven_budget budget)) (woven_budget budget))
 
 -- what `exec` answers to a woven text that is read as the program q, with this budget: its run as it stands
 pub data IsTracedAlone (q : Program Span) (budget : ℕ) : Due → Type 0 where
-  ended_alone : IsTracedAlone q budget (traced (program_run q budget) budget)
+  ended_alone : IsTracedAlone q budget (trace_due (program_run q budget) budget)
 
 -- What a command answers to a source of these units that is read as this program. `lint` hands the shelf the text of
 -- the script that is woven for the kinds that its rules look at; no other command touches it.
@@ -198,10 +198,11 @@ pub data IsAnswered (a : Asked) (bytes : List ℕ) (shelf : OnShelf) : Due → T
 
 -- What is due to these words, where the source tells that it holds these bytes, or tells nothing.
 pub data IsDue (words : List (List ℕ)) (held : Option (List ℕ)) (shelf : OnShelf) : Due → Type 0 where
-  bad_words : asked words ≡ None → shelf.same → IsDue words held shelf (line_only status.BadWords (codes "bad words"))
+  bad_words : request words ≡ None → shelf.same → IsDue words held shelf (line_only status.BadWords (codes "bad words"))
   -- the answer to what was read: of a source that holds too many bytes not all are, and these are the first
-  answered_to : {due : Due} (a : Asked) (bytes : List ℕ) → asked words ≡ Some a → ReadsSource a
+  answered_to : {due : Due} (a : Asked) (bytes : List ℕ) → request words ≡ Some a → ReadsSource a
       → IfSome held (λ all. all ≡ bytes) → IsAnswered a bytes shelf due → IsDue words held shelf due
   -- `soak` answers what `lint` does to the script of so many functions
-  answered_to_made : {due : Due} (number budget : ℕ) (chosen : List ℕ) → asked words ≡ Some (soak number budget chosen)
+  answered_to_made : {due : Due} (number budget : ℕ) (chosen : List ℕ)
+      → request words ≡ Some (soak number budget chosen)
       → IsAnswered (lint budget chosen) (script_of number) shelf due → IsDue words held shelf due

@@ -5,7 +5,7 @@ use Rattle.jl_port.specs.Bytes.{Grows}
 use Rattle.jl_port.specs.Count.{HasRisen}
 use Rattle.jl_app.specs.declared.status.Status.{Status}
 use Rattle.jl_app.specs.declared.status.Status.TheVariants as status
-use Rattle.jl_command.specs.Asked.{Asked, asked}
+use Rattle.jl_command.specs.Asked.{Asked, request}
 use Rattle.jl_app.specs.Forms.{ReadsSource}
 use Rattle.jl_app.specs.Answers.{Due, IsDue, OnShelf}
 
@@ -32,7 +32,7 @@ pub data EndsWith (call : Call) : Status → Type 0 where
       → Grows call.written.0 call.written.1 (take n due.bytes) → call.knows due.told
       → EndsWith call status.WriteFault
   -- the source failed, and nothing was written
-  read_failed : (a : Asked) → asked call.words ≡ Some a → ReadsSource a
+  read_failed : (a : Asked) → request call.words ≡ Some a → ReadsSource a
       → HasRisen call.read_faults.0 call.read_faults.1 → call.written.1 ≡ call.written.0 → call.shelf.same
       → call.knows [] → EndsWith call status.ReadFault
   -- memory was wanted, and nothing was written

@@ -6,7 +6,6 @@ pub mod Reporting
 pub mod Codes
 pub mod Accepting
 pub mod Refusals
-pub mod Refused
 pub mod MapLines
 pub mod WovenText
 pub mod ReadBack

@@ -7,7 +7,7 @@ ghost use Rattle.jl_text.specs.Encoding.{units_of};
 ghost use Rattle.jl_token.specs.Tokens.{Tokens};
 ghost use Rattle.jl_app.specs.Accepting.{IsRead, IsText, HasTokens, IsProgram};
 ghost use Rattle.jl_app.specs.Forms.{is_sound, most_bytes, most_levels};
-ghost use Rattle.jl_app.specs.Refused.{Refuses};
+ghost use Rattle.jl_app.specs.inner.Refused.{Refuses};
 ghost use Rattle.jl_app.specs.declared.accept.Unaccepted.TheVariants.{NoMemory};
 ghost use Rattle.jl_app.specs.declared.form.Form.{Form as Kind};
 
@@ -46,7 +46,7 @@ impl From<AllocError> for Unaccepted {
 }
 
 /// The text of these bytes.
-fn decoded(alloc: Global, form: Form, bytes: &[u8]) -> Result<Source, Unaccepted>
+fn decode_source(alloc: Global, form: Form, bytes: &[u8]) -> Result<Source, Unaccepted>
     requires { length bytes.now ≤ most_bytes form }
     ensures text { IfOk result (λ source. IsText form bytes.now × (source ≡ units_of bytes.now)) }
     ensures refused { IfErr result (Refuses form bytes.now) }
@@ -59,7 +59,7 @@ fn decoded(alloc: Global, form: Form, bytes: &[u8]) -> Result<Source, Unaccepted
 }
 
 /// Its tokens.
-fn lexed(alloc: Global, source: &Source) -> Result<List<Token>, Unaccepted>
+fn lex_source(alloc: Global, source: &Source) -> Result<List<Token>, Unaccepted>
     ensures tokens { IfOk result (λ tokens. Tokens source.now tokens) }
     ensures refused { (form : Kind) (bytes : Items ℕ) → IsText form bytes → source.now ≡ units_of bytes
         → IfErr result (Refuses form bytes) }
@@ -75,7 +75,7 @@ fn lexed(alloc: Global, source: &Source) -> Result<List<Token>, Unaccepted>
 }
 
 /// The program that they read as.
-fn parsed(
+fn parse_tokens(
     alloc: Global,
     form: Form,
     source: &Source,
@@ -97,7 +97,12 @@ fn parsed(
 }
 
 /// Whether it breaks no early rule and uses no name that it must not. Where it may name the hooks, that is passed over.
-fn checked(alloc: Global, form: Form, source: &Source, program: &Program) -> Result<(), Unaccepted>
+fn check_early_errors(
+    alloc: Global,
+    form: Form,
+    source: &Source,
+    program: &Program,
+) -> Result<(), Unaccepted>
     ensures sound { OnOk result (is_sound form (first_early_error (view program.now)) ≡ true) }
     ensures refused { (bytes : Items ℕ) → IsProgram form bytes (view program.now) → source.now ≡ units_of bytes
         → IfErr result (Refuses form bytes) }
@@ -131,10 +136,10 @@ pub(crate) fn accept(alloc: Global, form: Form, bytes: &[u8]) -> Result<Accepted
     ensures few { IfOk result (λ a. HasFewIds (view a.program)) }
     ensures refused { IfErr result (Refuses form bytes.now) }
 {
-    let source = decoded(alloc, form, bytes)?;
-    let tokens = lexed(alloc, &source)?;
-    let program = parsed(alloc, form, &source, tokens.items())?;
-    checked(alloc, form, &source, &program)?;
+    let source = decode_source(alloc, form, bytes)?;
+    let tokens = lex_source(alloc, &source)?;
+    let program = parse_tokens(alloc, form, &source, tokens.items())?;
+    check_early_errors(alloc, form, &source, &program)?;
     few_ids();
     Ok(Accepted { source, program })
 }

@@ -44,7 +44,7 @@ pub(crate) fn line_only(alloc: Global, status: Status, text: &str) -> Result<Ans
 }
 
 /// The answer to bytes that are refused.
-pub(crate) fn refused(alloc: Global, refusal: &Refusal) -> Result<Answer, AllocError>
+pub(crate) fn refusal_answer(alloc: Global, refusal: &Refusal) -> Result<Answer, AllocError>
     ensures { IfOk result (λ a. (a.status ≡ (refused_only (refusal_words refusal.now)).status)
         × (a.bytes.items ≡ (refused_only (refusal_words refusal.now)).bytes)) }
 {
@@ -81,7 +81,7 @@ pub(crate) fn respond<H: Shelf>(
     let form = Form::of(command);
     let accepted = match accept(alloc, form, bytes) {
         Ok(accepted) => accepted,
-        Err(Unaccepted::Refused(refusal)) => return refused(alloc, &refusal),
+        Err(Unaccepted::Refused(refusal)) => return refusal_answer(alloc, &refusal),
         Err(Unaccepted::NoMemory) => return Err(AllocError),
     };
     match command {

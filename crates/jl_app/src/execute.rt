@@ -2,11 +2,11 @@
 ghost use Rattle.std.specs.Prelude.{◌≡◌, ◌++◌, IfOk};
 ghost use Rattle.std.specs.String.{string_bytes};
 ghost use Rattle.jl_ast.specs.View.{view};
-ghost use Rattle.jl_app.specs.Answers.{executed};
+ghost use Rattle.jl_app.specs.Answers.{execute_due};
 ghost use Rattle.jl_app.specs.OwnRuns.{ending_status, ending_text, program_run, steps_line, uncaught_line};
 
 use crate::answer::Answer;
-use crate::lint::joined;
+use crate::lint::append_texts;
 use crate::status::Status;
 use jl_ast::Program;
 use jl_heap::Heap;
@@ -67,13 +67,13 @@ fn steps_line(alloc: Global, outcome: &Outcome, steps: u64) -> Result<String, Al
 }
 
 /// What a run printed, what it threw, and the last line.
-fn written(alloc: Global, run: &Run) -> Result<Vec<u8>, AllocError>
+fn answer_bytes(alloc: Global, run: &Run) -> Result<Vec<u8>, AllocError>
     ensures { IfOk result (λ bytes. bytes.items ≡ run.now.output
         ++ (uncaught_line run.now.store.heap run.now.outcome ++ steps_line run.now.outcome run.now.steps)) }
 {
     let uncaught = uncaught_line(alloc, run.store.heap(), &run.outcome)?;
     let end = steps_line(alloc, &run.outcome, run.steps)?;
-    joined(
+    append_texts(
         Vec::from_slice(alloc, run.output.items())?,
         uncaught.as_bytes(),
         &end,
@@ -82,12 +82,12 @@ fn written(alloc: Global, run: &Run) -> Result<Vec<u8>, AllocError>
 
 /// What `run` answers to a script that is accepted as this program, with at most so many steps.
 pub(crate) fn execute(alloc: Global, program: &Program, budget: u64) -> Result<Answer, AllocError>
-    ensures { IfOk result (λ a. (a.status ≡ (executed (program_run (view program.now) budget) budget).status)
-        × (a.bytes.items ≡ (executed (program_run (view program.now) budget) budget).bytes)) }
+    ensures { IfOk result (λ a. (a.status ≡ (execute_due (program_run (view program.now) budget) budget).status)
+        × (a.bytes.items ≡ (execute_due (program_run (view program.now) budget) budget).bytes)) }
 {
     let run = run(alloc, program, budget, KindSet::all(), &mut Nobody)?;
     Ok(Answer {
         status: ending_status(&run.outcome),
-        bytes: written(alloc, &run)?,
+        bytes: answer_bytes(alloc, &run)?,
     })
 }

@@ -3,6 +3,18 @@ ghost use Rattle.jl_app.specs.Forms.{form_of_command, may_name_hooks, most_bytes
 
 use jl_command::Command;
 
+/// The most bytes of a script.
+const MOST_BYTES: usize = 1_048_576;
+
+/// The most levels of a script.
+const MOST_LEVELS: u32 = 200;
+
+/// The most bytes of a woven text, and so of its units: those of a script 64 times, and 64 more.
+pub(crate) const MOST_WOVEN_BYTES: usize = 67_108_928;
+
+/// The most levels of a woven text.
+pub(crate) const MOST_WOVEN_LEVELS: u32 = 1000;
+
 /// What a source has to be.
 #[derive(Clone, Copy)]
 pub enum Form {
@@ -35,8 +47,8 @@ impl Form {
         ensures { result ≡ most_bytes self }
     {
         match self {
-            Form::Script => 1_048_576,
-            Form::WovenText => 67_108_928,
+            Form::Script => MOST_BYTES,
+            Form::WovenText => MOST_WOVEN_BYTES,
         }
     }
 
@@ -45,8 +57,8 @@ impl Form {
         ensures { result ≡ most_levels self }
     {
         match self {
-            Form::Script => 200,
-            Form::WovenText => 1000,
+            Form::Script => MOST_LEVELS,
+            Form::WovenText => MOST_WOVEN_LEVELS,
         }
     }
 

@@ -3,7 +3,7 @@ ghost use Rattle.std.specs.Prelude.{◌≡◌, IfOk};
 ghost use Rattle.jl_ast.specs.View.{view};
 ghost use Rattle.jl_op.specs.KindSets.{is_member};
 ghost use Rattle.jl_simulation.specs.Plain.{HasFewIds};
-ghost use Rattle.jl_app.specs.Answers.{instrumented};
+ghost use Rattle.jl_app.specs.Answers.{instrument_due};
 ghost use Rattle.jl_app.specs.WovenText.{woven_text};
 
 use crate::answer::Answer;
@@ -30,8 +30,8 @@ pub(crate) fn woven_text(
 /// What `instrument` answers to a script that is accepted as this program.
 pub(crate) fn instrument(alloc: Global, program: &Program) -> Result<Answer, AllocError>
     requires { HasFewIds (view program.now) }
-    ensures { IfOk result (λ a. (a.status ≡ (instrumented (view program.now)).status)
-        × (a.bytes.items ≡ (instrumented (view program.now)).bytes)) }
+    ensures { IfOk result (λ a. (a.status ≡ (instrument_due (view program.now)).status)
+        × (a.bytes.items ≡ (instrument_due (view program.now)).bytes)) }
 {
     let text = woven_text(alloc, program, KindSet::all())?;
     Ok(Answer {

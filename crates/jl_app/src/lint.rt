@@ -8,7 +8,7 @@ ghost use Rattle.jl_effects.specs.Running.{state_of as world_of};
 ghost use Rattle.jl_simulation.specs.Plain.{HasFewIds};
 ghost use Rattle.jl_token.specs.Tokens.{Tokens};
 ghost use Rattle.jl_token.specs.declared.token.Token.{Token as OneToken};
-ghost use Rattle.jl_app.specs.Answers.{Due, IsLinted, IsReported, end_line, hooked_run, linted, lint_status};
+ghost use Rattle.jl_app.specs.Answers.{Due, IsLinted, IsReported, end_line, hooked_run, lint_due, lint_status};
 ghost use Rattle.jl_app.specs.Answers.{woven_budget};
 ghost use Rattle.jl_app.specs.OwnRuns.{uncaught_line};
 ghost use Rattle.jl_app.specs.Reporting.{Lines, lines_text};
@@ -79,7 +79,7 @@ fn ending(alloc: Global, run: &Run, reports: usize) -> Result<String, AllocError
 }
 
 /// The output of a run, two texts after it.
-pub(crate) fn joined(output: Vec<u8>, report: &[u8], end: &str) -> Result<Vec<u8>, AllocError>
+pub(crate) fn append_texts(output: Vec<u8>, report: &[u8], end: &str) -> Result<Vec<u8>, AllocError>
     ensures { IfOk result (λ bytes. bytes.items ≡ output.items ++ (report.now ++ end.now)) }
 {
     let mut bytes = output;
@@ -89,7 +89,7 @@ pub(crate) fn joined(output: Vec<u8>, report: &[u8], end: &str) -> Result<Vec<u8
 }
 
 /// What a run printed, the text of its report, what it threw, and the last line.
-fn written(alloc: Global, run: &Run, lines: &[Line]) -> Result<Vec<u8>, AllocError>
+fn answer_bytes(alloc: Global, run: &Run, lines: &[Line]) -> Result<Vec<u8>, AllocError>
     requires { All (λ x. IsRule x.rule) lines.now }
     ensures { IfOk result (λ bytes. bytes.items ≡ run.now.output
         ++ (lines_text lines.now ++ (uncaught_line run.now.store.heap run.now.outcome
@@ -97,7 +97,7 @@ fn written(alloc: Global, run: &Run, lines: &[Line]) -> Result<Vec<u8>, AllocErr
 {
     let report = text(alloc, lines)?;
     let ending = ending(alloc, run, lines.len())?;
-    joined(
+    append_texts(
         Vec::from_slice(alloc, run.output.items())?,
         &report,
         &ending,
@@ -123,9 +123,9 @@ fn run_answer(
         × IsReported accepted.now.source (view accepted.now.program) chosen
         (world_of (hooked_run (kinds_of chosen) (view woven.now) (woven_budget budget))).hooks
         (world_of (hooked_run (kinds_of chosen) (view woven.now) (woven_budget budget))).hooks lines hooks
-        × (a.status ≡ (linted (hooked_run (kinds_of chosen) (view woven.now) (woven_budget budget))
+        × (a.status ≡ (lint_due (hooked_run (kinds_of chosen) (view woven.now) (woven_budget budget))
         (woven_budget budget) lines hooks).status)
-        × (a.bytes.items ≡ (linted (hooked_run (kinds_of chosen) (view woven.now) (woven_budget budget))
+        × (a.bytes.items ≡ (lint_due (hooked_run (kinds_of chosen) (view woven.now) (woven_budget budget))
         (woven_budget budget) lines hooks).bytes)) }
     ensures told { (chosen : Items ℕ) → IsChoice rules chosen → OnOk result (⟦<Crowd as Observer>⟧.stands_for crowd.new
         (world_of (hooked_run (kinds_of chosen) (view woven.now) (woven_budget budget))).hooks) }
@@ -136,7 +136,7 @@ fn run_answer(
     let lines = report(alloc, &accepted.source, &places, rules, crowd)?;
     Ok(Answer {
         status: lint_status(&run.outcome, &lines),
-        bytes: written(alloc, &run, &lines)?,
+        bytes: answer_bytes(alloc, &run, &lines)?,
     })
 }
 

@@ -7,9 +7,10 @@ ghost use Rattle.jl_scope.specs.EarlyError.{first_early_error};
 ghost use Rattle.jl_text.specs.declared.span.Span.{Span};
 ghost use Rattle.jl_token.specs.Tokens.{Tokens};
 ghost use Rattle.jl_token.specs.declared.token.Token.{Token as OneToken};
-ghost use Rattle.jl_app.specs.ReadBack.{IsReadBack, may_run};
+ghost use Rattle.jl_app.specs.ReadBack.{IsReadBack, may_run, most_woven_levels, most_woven_units};
 ghost use Rattle.jl_app.specs.declared.read_back.Unread.TheVariants.{NoMemory};
 
+use crate::form::{MOST_WOVEN_BYTES, MOST_WOVEN_LEVELS};
 use jl_ast::Program;
 use jl_lex::{LexRefusal, lex};
 use jl_parse::{ParseRefusal, parse};
@@ -17,12 +18,6 @@ use jl_scope::{ScopeRefusal, check};
 use jl_text::List;
 use jl_token::Token;
 use std::alloc::Global;
-
-/// The most units that the text has.
-const MOST_UNITS: usize = 67_108_928;
-
-/// The most levels that its program has.
-const MOST_LEVELS: u32 = 1000;
 
 /// Why no program is read from a text.
 #[derive(Drop)]
@@ -34,8 +29,8 @@ pub(crate) enum Unread {
 }
 
 /// The tokens of a text.
-fn lexed(alloc: Global, text: &[u16]) -> Result<List<Token>, Unread>
-    requires { length text.now ≤ 67108928 }
+fn lex_text(alloc: Global, text: &[u16]) -> Result<List<Token>, Unread>
+    requires { length text.now ≤ most_woven_units }
     ensures tokens { IfOk result (λ ts. Tokens text.now ts) }
     ensures only { (ts : Items OneToken) → Tokens text.now ts
         → MatchResult result (λ us. us ≡ ts) (λ e. e ≡ NoMemory) }
@@ -48,13 +43,13 @@ fn lexed(alloc: Global, text: &[u16]) -> Result<List<Token>, Unread>
 }
 
 /// The program that they read as.
-fn parsed(alloc: Global, tokens: &[Token]) -> Result<Program, Unread>
+fn parse_tokens(alloc: Global, tokens: &[Token]) -> Result<Program, Unread>
     requires { length tokens.now < 2 ^ 32 }
-    ensures read { IfOk result (λ p. Reads tokens.now 1000 (view p)) }
-    ensures only { (p : Tree Span) → Reads tokens.now 1000 p
+    ensures read { IfOk result (λ p. Reads tokens.now most_woven_levels (view p)) }
+    ensures only { (p : Tree Span) → Reads tokens.now most_woven_levels p
         → MatchResult result (λ r. view r ≡ p) (λ e. e ≡ NoMemory) }
 {
-    match parse(alloc, tokens, MOST_LEVELS) {
+    match parse(alloc, tokens, MOST_WOVEN_LEVELS) {
         Ok(program) => Ok(program),
         Err(ParseRefusal::Unreadable { .. }) => Err(Unread::NoProgram),
         Err(ParseRefusal::NoMemory) => Err(Unread::NoMemory),
@@ -62,7 +57,7 @@ fn parsed(alloc: Global, tokens: &[Token]) -> Result<Program, Unread>
 }
 
 /// Whether it breaks no early rule and uses no left-out name. That it names the hooks is passed over.
-fn checked(alloc: Global, program: &Program) -> Result<(), Unread>
+fn check_early_errors(alloc: Global, program: &Program) -> Result<(), Unread>
     ensures sound { OnOk result (may_run (first_early_error (view program.now)) ≡ true) }
     ensures only { may_run (first_early_error (view program.now)) ≡ true
         → MatchResult result (λ _. Unit {0}) (λ e. e ≡ NoMemory) }
@@ -79,13 +74,13 @@ fn checked(alloc: Global, program: &Program) -> Result<(), Unread>
 /// The program of tokens, if it may run.
 fn program_of(alloc: Global, tokens: &[Token]) -> Result<Program, Unread>
     requires { length tokens.now < 2 ^ 32 }
-    ensures read { IfOk result (λ p. Reads tokens.now 1000 (view p)) }
+    ensures read { IfOk result (λ p. Reads tokens.now most_woven_levels (view p)) }
     ensures sound { IfOk result (λ p. may_run (first_early_error (view p)) ≡ true) }
-    ensures only { (p : Tree Span) → Reads tokens.now 1000 p → may_run (first_early_error p) ≡ true
+    ensures only { (p : Tree Span) → Reads tokens.now most_woven_levels p → may_run (first_early_error p) ≡ true
         → MatchResult result (λ r. view r ≡ p) (λ e. e ≡ NoMemory) }
 {
-    let program = parsed(alloc, tokens)?;
-    checked(alloc, &program)?;
+    let program = parse_tokens(alloc, tokens)?;
+    check_early_errors(alloc, &program)?;
     Ok(program)
 }
 
@@ -96,9 +91,9 @@ pub(crate) fn read_back(alloc: Global, text: &[u16]) -> Result<Program, Unread>
     ensures only { (p : Tree Span) → IsReadBack text.now p
         → MatchResult result (λ r. view r ≡ p) (λ e. e ≡ NoMemory) }
 {
-    if text.len() > MOST_UNITS {
+    if text.len() > MOST_WOVEN_BYTES {
         return Err(Unread::NoProgram);
     }
-    let tokens = lexed(alloc, text)?;
+    let tokens = lex_text(alloc, text)?;
     program_of(alloc, tokens.items())
 }

@@ -1,7 +1,7 @@
 ghost use Rattle.std.specs.Prelude.{◌≡◌, ◌≤◌, [], ℕ, List, Some, codes, IfOk, IfSome, IsErrOf};
 ghost use Rattle.jl_analysis.specs.Rules.{all_rules};
 ghost use Rattle.jl_ast.specs.Tree.{Program as Tree};
-ghost use Rattle.jl_command.specs.Asked.{Asked, asked, instrument, lint, texts};
+ghost use Rattle.jl_command.specs.Asked.{Asked, request, instrument, lint, texts};
 ghost use Rattle.jl_command.specs.Meant.{IsChoice, Means};
 ghost use Rattle.jl_port.specs.Count.{HasRisen};
 ghost use Rattle.jl_soak.specs.Script.{script_of};
@@ -18,7 +18,7 @@ ghost use Rattle.jl_app.specs.StandsAlone.{StandsAlone};
 ghost use Rattle.jl_app.specs.declared.status.Status.TheVariants.{BadWords};
 ghost use Rattle.jl_app.specs.declared.top.Unanswered.TheVariants.{NoMemory};
 
-use crate::answer::{Answer, line_only, refused, respond};
+use crate::answer::{Answer, line_only, refusal_answer, respond};
 use crate::form::Form;
 use crate::laws::{
     accepted_scripts_run_without_misuse, never_both, one_reading, scripts_are_woven_well,
@@ -79,7 +79,7 @@ fn respond_to_source<S: Source, H: Shelf>(
 {
     match read_all(alloc, source, Form::of(command).most_bytes()) {
         Ok(bytes) => Ok(respond(alloc, command, &bytes, shelf, crowd)?),
-        Err(ReadRefusal::TooLong) => Ok(refused(alloc, &Refusal::TooLong)?),
+        Err(ReadRefusal::TooLong) => Ok(refusal_answer(alloc, &Refusal::TooLong)?),
         Err(ReadRefusal::ReadFault) => Err(Unanswered::ReadFault),
         Err(ReadRefusal::NoMemory) => Err(Unanswered::NoMemory),
     }
@@ -145,13 +145,13 @@ fn due<S: Source, H: Shelf>(
         × (a.bytes.items ≡ due.bytes)
         × ⟦<Crowd as Observer>⟧.stands_for crowd.new due.told) }
     ensures fault { IsErrOf result Unanswered.ReadFault
-        → ((a : Asked) × (asked (texts words.now) ≡ Some a) × ReadsSource a)
+        → ((a : Asked) × (request (texts words.now) ≡ Some a) × ReadsSource a)
         × HasRisen (S.faults source.old) (S.faults source.new)
         × (shelf.new ≡ shelf.old)
         × ⟦<Crowd as Observer>⟧.stands_for crowd.new [] }
-    ensures shelf { ((a : Asked) (budget : ℕ) (chosen : List ℕ) → asked (texts words.now) ≡ Some a
+    ensures shelf { ((a : Asked) (budget : ℕ) (chosen : List ℕ) → request (texts words.now) ≡ Some a
         → Reports a budget chosen → ⊥) → shelf.new ≡ shelf.old }
-    ensures unread { ((a : Asked) → asked (texts words.now) ≡ Some a → ReadsSource a → ⊥) → source.new ≡ source.old }
+    ensures unread { ((a : Asked) → request (texts words.now) ≡ Some a → ReadsSource a → ⊥) → source.new ≡ source.old }
     ensures same_rules { ⟦<Crowd as Findings>⟧.rules crowd.new ≡ ⟦<Crowd as Findings>⟧.rules crowd.old }
 {
     match parse_words(alloc, words) {
@@ -204,7 +204,7 @@ pub fn jlint<S: Source, K: Sink, H: Shelf>(
     // For a script that is made, or of a source that tells its bytes, and a shelf that lends what it was handed, the
     // answer to an accepted script is about the script's own run, for every budget and every choice of rules.
     ensures headline { (a : Asked) (bytes : List ℕ) (p : Tree Span) (budget : ℕ) (chosen : List ℕ)
-        → asked (texts words.now) ≡ Some a → Reports a budget chosen → IsScriptFor (S.left source.old) a bytes
+        → request (texts words.now) ≡ Some a → Reports a budget chosen → IsScriptFor (S.left source.old) a bytes
         → IsAccepted bytes p → H.lent shelf.new ≡ H.handed shelf.new → HasAnswered result
         → IsAboutScript (record {
           words = texts words.now;
@@ -221,14 +221,14 @@ pub fn jlint<S: Source, K: Sink, H: Shelf>(
         }) (units_of bytes) p budget chosen result }
     // The fault Misuse ends no run that is answered of, but of `exec`, and of a program that is read from another text
     // than the shelf was handed.
-    ensures no_misuse { (a : Asked) (bytes : List ℕ) (p : Tree Span) → asked (texts words.now) ≡ Some a
+    ensures no_misuse { (a : Asked) (bytes : List ℕ) (p : Tree Span) → request (texts words.now) ≡ Some a
         → IsScriptFor (S.left source.old) a bytes → IsAccepted bytes p → RunsWithoutMisuse a p }
     // What `instrument` writes of an accepted script can be kept without the script: what is due to `exec` on these
     // bytes is what is due to `trace` on the script.
-    ensures stands_alone { (bytes : List ℕ) (p : Tree Span) → asked (texts words.now) ≡ Some instrument
+    ensures stands_alone { (bytes : List ℕ) (p : Tree Span) → request (texts words.now) ≡ Some instrument
         → S.left source.old ≡ Some bytes → IsAccepted bytes p → StandsAlone bytes p }
-    ensures unread { ((a : Asked) → asked (texts words.now) ≡ Some a → ReadsSource a → ⊥) → source.new ≡ source.old }
-    ensures shelf { ((a : Asked) (budget : ℕ) (chosen : List ℕ) → asked (texts words.now) ≡ Some a
+    ensures unread { ((a : Asked) → request (texts words.now) ≡ Some a → ReadsSource a → ⊥) → source.new ≡ source.old }
+    ensures shelf { ((a : Asked) (budget : ℕ) (chosen : List ℕ) → request (texts words.now) ≡ Some a
         → Reports a budget chosen → ⊥) → shelf.new ≡ shelf.old }
     ensures same_rules { ⟦<Crowd as Findings>⟧.rules crowd.new ≡ ⟦<Crowd as Findings>⟧.rules crowd.old }
 {

@@ -5,13 +5,13 @@ ghost use Rattle.jl_ast.specs.View.{view};
 ghost use Rattle.jl_op.specs.Chosen.{every_kind};
 ghost use Rattle.jl_simulation.specs.Plain.{HasFewIds};
 ghost use Rattle.jl_simulation.specs.Weaving.{woven_program};
-ghost use Rattle.jl_app.specs.Answers.{traced, woven_budget};
+ghost use Rattle.jl_app.specs.Answers.{trace_due, woven_budget};
 ghost use Rattle.jl_app.specs.OwnRuns.{program_run, uncaught_line};
 ghost use Rattle.jl_app.specs.Tracing.{hooks_line};
 
 use crate::answer::Answer;
 use crate::execute::{ending_status, ending_text, uncaught_line};
-use crate::lint::{joined, woven_budget};
+use crate::lint::{append_texts, woven_budget};
 use crate::tracer::Tracer;
 use jl_ast::Program;
 use jl_machine::{Run, run};
@@ -34,14 +34,14 @@ fn hooks_line(
 }
 
 /// The lines of a run's operations, what it threw, and the last line.
-fn written(alloc: Global, lines: Vec<u8>, run: &Run) -> Result<Vec<u8>, AllocError>
+fn answer_bytes(alloc: Global, lines: Vec<u8>, run: &Run) -> Result<Vec<u8>, AllocError>
     ensures { IfOk result (λ bytes. bytes.items ≡ lines.items
         ++ (uncaught_line run.now.store.heap run.now.outcome
         ++ hooks_line run.now.outcome run.now.steps run.now.hooks)) }
 {
     let uncaught = uncaught_line(alloc, run.store.heap(), &run.outcome)?;
     let end = hooks_line(alloc, &run.outcome, run.steps, run.hooks)?;
-    joined(lines, uncaught.as_bytes(), &end)
+    append_texts(lines, uncaught.as_bytes(), &end)
 }
 
 /// What `exec` answers to a woven text that is read as this program: it runs as it stands, with at most so many steps.
@@ -50,14 +50,14 @@ pub(crate) fn trace_alone(
     program: &Program,
     budget: u64,
 ) -> Result<Answer, AllocError>
-    ensures { IfOk result (λ a. (a.status ≡ (traced (program_run (view program.now) budget) budget).status)
-        × (a.bytes.items ≡ (traced (program_run (view program.now) budget) budget).bytes)) }
+    ensures { IfOk result (λ a. (a.status ≡ (trace_due (program_run (view program.now) budget) budget).status)
+        × (a.bytes.items ≡ (trace_due (program_run (view program.now) budget) budget).bytes)) }
 {
     let mut tracer = Tracer::new(alloc);
     let run = run(alloc, program, budget, KindSet::all(), &mut tracer)?;
     Ok(Answer {
         status: ending_status(&run.outcome),
-        bytes: written(alloc, tracer.into_lines(), &run)?,
+        bytes: answer_bytes(alloc, tracer.into_lines(), &run)?,
     })
 }
 
@@ -67,9 +67,9 @@ pub(crate) fn trace(alloc: Global, program: &Program, budget: u64) -> Result<Ans
     requires few { HasFewIds (view program.now) }
     requires budget { budget ≤ 1000000000 }
     ensures { IfOk result (λ a.
-        (a.status ≡ (traced (program_run (woven_program every_kind (view program.now)) (woven_budget budget))
+        (a.status ≡ (trace_due (program_run (woven_program every_kind (view program.now)) (woven_budget budget))
         (woven_budget budget)).status)
-        × (a.bytes.items ≡ (traced (program_run (woven_program every_kind (view program.now)) (woven_budget budget))
+        × (a.bytes.items ≡ (trace_due (program_run (woven_program every_kind (view program.now)) (woven_budget budget))
         (woven_budget budget)).bytes)) }
 {
     let woven = weave(alloc, program, KindSet::all())?;

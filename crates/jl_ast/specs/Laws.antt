@@ -5,7 +5,7 @@ use Rattle.jl_text.specs.declared.span.Span.{Span}
 use Rattle.jl_ast.specs.Tree.{Program}
 use Rattle.jl_ast.specs.Spans.{without_spans}
 use Rattle.jl_ast.specs.Height.{program_height}
-use Rattle.jl_ast.specs.Numbering.{functions_in, numbered}
+use Rattle.jl_ast.specs.Numbering.{functions_in, with_numbers}
 use Rattle.jl_ast.specs.Table.{table, number_of}
 
 -- a program is as high without its places
@@ -14,13 +14,13 @@ PlacesKeepHeights = (p : Program Span) → program_height (without_spans p) ≡ 
 
 -- a program is as high however its functions are numbered
 abbrev pub NumbersKeepHeights : Type 0
-NumbersKeepHeights = (p : Program Span) → program_height (numbered p) ≡ program_height p
+NumbersKeepHeights = (p : Program Span) → program_height (with_numbers p) ≡ program_height p
 
 -- a program gets the same numbers without its places
 abbrev pub PlacesKeepNumbers : Type 0
-PlacesKeepNumbers = (p : Program Span) → numbered (without_spans p) ≡ without_spans (numbered p)
+PlacesKeepNumbers = (p : Program Span) → with_numbers (without_spans p) ≡ without_spans (with_numbers p)
 
 -- the functions of a numbered program have the numbers 0, 1, 2 and so on, in the order of the table
 abbrev pub NumbersCountTheTable : Type 0
 NumbersCountTheTable =
-    (p : Program Span) → map number_of (table (numbered p)) ≡ range_with_len 0 (functions_in p.body)
+    (p : Program Span) → map number_of (table (with_numbers p)) ≡ range_with_len 0 (functions_in p.body)

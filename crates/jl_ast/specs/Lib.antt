@@ -5,6 +5,6 @@ pub mod Height
 pub mod Numbering
 pub mod Table
 pub mod View
-pub mod Found
 pub mod Saturated
 pub mod Laws
+pub mod inner

@@ -103,5 +103,5 @@ abbrev mutual
   numbered_optional n (present a) = present (numbered_tree n a)
 
 -- the same program with its functions numbered from 0 on
-abbrev pub numbered : {S : Type 0} → Program S → Program S
-numbered p = record { body = numbered_tree 0 p.body; at = p.at }
+abbrev pub with_numbers : {S : Type 0} → Program S → Program S
+with_numbers p = record { body = numbered_tree 0 p.body; at = p.at }

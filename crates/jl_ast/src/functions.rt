@@ -1,5 +1,5 @@
 ghost use Rattle.std.specs.Prelude.{◌≡◌, [], ◌∷◌, ◌++◌, map, IfOk, OnOk};
-ghost use Rattle.jl_ast.specs.Found.{Adds};
+ghost use Rattle.jl_ast.specs.inner.Found.{Adds};
 ghost use Rattle.jl_ast.specs.Table.{table, functions_of, functions_of_forest, functions_of_optional};
 ghost use Rattle.jl_ast.specs.View.{view, view_expression, view_expressions, view_optional, view_items};
 ghost use Rattle.jl_ast.specs.View.{view_target, view_entry, view_entries, view_function, view_functions};

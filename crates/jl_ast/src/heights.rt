@@ -2,7 +2,7 @@
 
 ghost use Rattle.std.specs.Prelude.{◌≡◌, ◌+◌};
 ghost use Rattle.jl_ast.specs.Height.{height, forest_height, optional_height, program_height};
-ghost use Rattle.jl_ast.specs.Saturated.{saturated};
+ghost use Rattle.jl_ast.specs.Saturated.{saturate_u32};
 ghost use Rattle.jl_ast.specs.View.{view, view_expression, view_expressions, view_optional, view_items};
 ghost use Rattle.jl_ast.specs.View.{view_target, view_entries, view_functions, view_body, view_statement};
 ghost use Rattle.jl_ast.specs.View.{view_statements, view_init, view_declarators, view_cases};
@@ -15,28 +15,28 @@ use crate::tree::{
 /// than the highest of its parts; a function expression and its function are one node. A height past 2^32 - 1 is given
 /// as 2^32 - 1. It recurses as deep as the program is high.
 pub fn height(p: &Program) -> u32
-    ensures { result ≡ saturated (program_height (view p.now)) }
+    ensures { result ≡ saturate_u32 (program_height (view p.now)) }
 {
     body_height(&p.body)
 }
 
 /// The height of a node whose highest part has this height.
 fn above(parts: u32) -> u32
-    ensures { result ≡ saturated (parts + 1) }
+    ensures { result ≡ saturate_u32 (parts + 1) }
 {
     parts.saturating_add(1)
 }
 
 #[cycle(height)]
 fn body_height(b: &Body) -> u32
-    ensures { result ≡ saturated (height (view_body b.now)) }
+    ensures { result ≡ saturate_u32 (height (view_body b.now)) }
 {
     functions_height(b.functions.items()).max(statements_height(b.statements.items()))
 }
 
 #[cycle(height)]
 fn functions_height(functions: &[Function]) -> u32
-    ensures { result ≡ saturated (forest_height (view_functions functions.now)) }
+    ensures { result ≡ saturate_u32 (forest_height (view_functions functions.now)) }
 {
     let mut most = 0;
     for f in functions {
@@ -47,7 +47,7 @@ fn functions_height(functions: &[Function]) -> u32
 
 #[cycle(height)]
 fn statements_height(statements: &[Stmt]) -> u32
-    ensures { result ≡ saturated (forest_height (view_statements statements.now)) }
+    ensures { result ≡ saturate_u32 (forest_height (view_statements statements.now)) }
 {
     let mut most = 0;
     for s in statements {
@@ -58,7 +58,7 @@ fn statements_height(statements: &[Stmt]) -> u32
 
 #[cycle(height)]
 fn statement_height(s: &Stmt) -> u32
-    ensures { result ≡ saturated (height (view_statement s.now)) }
+    ensures { result ≡ saturate_u32 (height (view_statement s.now)) }
 {
     match &s.kind {
         StmtKind::Empty | StmtKind::Continue(_) | StmtKind::Break(_) | StmtKind::Debugger => 1,
@@ -106,7 +106,7 @@ fn statement_height(s: &Stmt) -> u32
 
 #[cycle(height)]
 fn init_height(init: &ForInit) -> u32
-    ensures { result ≡ saturated (height (view_init init.now)) }
+    ensures { result ≡ saturate_u32 (height (view_init init.now)) }
 {
     match init {
         ForInit::Nothing => 0,
@@ -117,7 +117,7 @@ fn init_height(init: &ForInit) -> u32
 
 #[cycle(height)]
 fn declarators_height(declarators: &[(Ident, Option<Expr>)]) -> u32
-    ensures { result ≡ saturated (forest_height (view_declarators declarators.now)) }
+    ensures { result ≡ saturate_u32 (forest_height (view_declarators declarators.now)) }
 {
     let mut most = 0;
     for d in declarators {
@@ -130,7 +130,7 @@ fn declarators_height(declarators: &[(Ident, Option<Expr>)]) -> u32
 
 #[cycle(height)]
 fn cases_height(cases: &[Case]) -> u32
-    ensures { result ≡ saturated (forest_height (view_cases cases.now)) }
+    ensures { result ≡ saturate_u32 (forest_height (view_cases cases.now)) }
 {
     let mut most = 0;
     for c in cases {
@@ -141,7 +141,7 @@ fn cases_height(cases: &[Case]) -> u32
 
 #[cycle(height)]
 fn held_height(e: &Option<Expr>) -> u32
-    ensures { result ≡ saturated (optional_height (view_optional e.now)) }
+    ensures { result ≡ saturate_u32 (optional_height (view_optional e.now)) }
 {
     match e {
         Some(e) => expression_height(e),
@@ -151,7 +151,7 @@ fn held_height(e: &Option<Expr>) -> u32
 
 #[cycle(height)]
 fn expression_height(e: &Expr) -> u32
-    ensures { result ≡ saturated (height (view_expression e.now)) }
+    ensures { result ≡ saturate_u32 (height (view_expression e.now)) }
 {
     match &e.kind {
         ExprKind::This | ExprKind::Name(_) | ExprKind::Num(_) => 1,
@@ -183,7 +183,7 @@ fn expression_height(e: &Expr) -> u32
 
 #[cycle(height)]
 fn target_height(t: &Target) -> u32
-    ensures { result ≡ saturated (height (view_target t.now)) }
+    ensures { result ≡ saturate_u32 (height (view_target t.now)) }
 {
     match t {
         Target::Name(_) => 0,
@@ -194,7 +194,7 @@ fn target_height(t: &Target) -> u32
 
 #[cycle(height)]
 fn items_height(items: &[Option<Expr>]) -> u32
-    ensures { result ≡ saturated (forest_height (view_items items.now)) }
+    ensures { result ≡ saturate_u32 (forest_height (view_items items.now)) }
 {
     let mut most = 0;
     for e in items {
@@ -207,7 +207,7 @@ fn items_height(items: &[Option<Expr>]) -> u32
 
 #[cycle(height)]
 fn entries_height(entries: &[Entry]) -> u32
-    ensures { result ≡ saturated (forest_height (view_entries entries.now)) }
+    ensures { result ≡ saturate_u32 (forest_height (view_entries entries.now)) }
 {
     let mut most = 0;
     for entry in entries {
@@ -223,7 +223,7 @@ fn entries_height(entries: &[Entry]) -> u32
 
 #[cycle(height)]
 fn expressions_height(expressions: &[Expr]) -> u32
-    ensures { result ≡ saturated (forest_height (view_expressions expressions.now)) }
+    ensures { result ≡ saturate_u32 (forest_height (view_expressions expressions.now)) }
 {
     let mut most = 0;
     for e in expressions {

@@ -18,7 +18,7 @@ use Rattle.jl_meaning.specs.Store.{Store}
 use Rattle.jl_meaning.specs.builtins.Arguments.{give_object}
 use Rattle.jl_meaning.specs.builtins.Elements.{add_in_turns, add_index, delete_index, put_length}
 use Rattle.jl_meaning.specs.forms.Literals.{index_name}
-use Rattle.jl_store.specs.Answers.{answered, fault_seen, finished}
+use Rattle.jl_store.specs.Answers.{ends_with, fault_seen, finish_of}
 use Rattle.jl_store.specs.Comes.{Comes}
 use Rattle.jl_store.specs.declared.answer.AlgorithmFault.{AlgorithmFault}
 use Rattle.jl_store.specs.declared.answer.Answer.{Answer}
@@ -38,14 +38,14 @@ use Rattle.jl_builtin.proofs.Waits.{length_is}
 -- an element is added, whatever becomes of it
 module _ (array : ObjId) (index : ℕ) (v : Value) (x : Name) (change : Change) (from to : Store)
     (name_is : x ≡ index_name index) (change_is : change ≡ plain_change v) (answer : Finished Bool)
-    (comes : Comes (define_own_property array x change) from to (finished answer)) where
+    (comes : Comes (define_own_property array x change) from to (finish_of answer)) where
   defines : (end : Finished Bool) → answer ≡ end
-      → Comes (define_own_property array (index_name index) (plain_change v)) from to (finished end)
+      → Comes (define_own_property array (index_name index) (plain_change v)) from to (finish_of end)
   defines end is =
       subst (λ (f : Finished Bool). Comes (define_own_property array (index_name index) (plain_change v)) from to
-      (finished f)) is
-      (subst (λ y. Comes (define_own_property array y (plain_change v)) from to (finished answer)) name_is
-      (subst (λ c. Comes (define_own_property array x c) from to (finished answer)) change_is comes))
+      (finish_of f)) is
+      (subst (λ y. Comes (define_own_property array y (plain_change v)) from to (finish_of answer)) name_is
+      (subst (λ c. Comes (define_own_property array x c) from to (finish_of answer)) change_is comes))
 
   pub index_added : (done : Bool) → answer ≡ ended.Gives done → Comes (add_index array index v) from to (Ends (gives tt))
   index_added done is = comes_on (λ _. give tt) (defines (ended.Gives done) is) comes_to
@@ -59,12 +59,12 @@ module _ (array : ObjId) (index : ℕ) (v : Value) (x : Name) (change : Change) 
 
 -- an element is deleted
 module _ (o : ObjId) (index : ℕ) (x : Name) (from to : Store) (name_is : x ≡ index_name index) (answer : Answer Bool)
-    (comes : Comes (delete true (value.Obj o) x) from to (answered answer)) where
+    (comes : Comes (delete true (value.Obj o) x) from to (ends_with answer)) where
   deletes : (end : Answer Bool) → answer ≡ end
-      → Comes (delete true (value.Obj o) (index_name index)) from to (answered end)
+      → Comes (delete true (value.Obj o) (index_name index)) from to (ends_with end)
   deletes end is =
-      subst (λ (b : Answer Bool). Comes (delete true (value.Obj o) (index_name index)) from to (answered b)) is
-      (subst (λ y. Comes (delete true (value.Obj o) y) from to (answered answer)) name_is comes)
+      subst (λ (b : Answer Bool). Comes (delete true (value.Obj o) (index_name index)) from to (ends_with b)) is
+      (subst (λ y. Comes (delete true (value.Obj o) y) from to (ends_with answer)) name_is comes)
 
   pub index_deleted : (free : Bool) → answer ≡ Gives free → Comes (delete_index o index) from to (Ends (gives tt))
   index_deleted free is = comes_on (λ _. give tt) (deletes (Gives free) is) comes_to

@@ -4,7 +4,7 @@ ghost use Rattle.jl_builtin.specs.Values.{is_undefined};
 ghost use Rattle.jl_meaning.specs.Errors.{throw_type_error};
 ghost use Rattle.jl_meaning.specs.Relations.{is_nothing};
 ghost use Rattle.jl_meaning.specs.builtins.Arguments.{need_function, need_object};
-ghost use Rattle.jl_store.specs.Answers.{answered};
+ghost use Rattle.jl_store.specs.Answers.{ends_with};
 ghost use Rattle.jl_store.specs.Comes.{Comes};
 ghost use Rattle.jl_value.specs.declared.value.Value.TheVariants as value;
 
@@ -39,7 +39,7 @@ pub fn is_nothing(v: &Value) -> bool
 
 /// The object that a value is. It throws a TypeError for any other value.
 pub fn need_object(store: &mut Store, v: &Value) -> Result<Answer<ObjId>, NoMemory>
-    ensures { IfOk result (λ answer. Comes (need_object v.now) store.old store.new (answered answer)) }
+    ensures { IfOk result (λ answer. Comes (need_object v.now) store.old store.new (ends_with answer)) }
 {
     let Value::Obj(id) = v else {
         let thrown = store.throw_type_error("not an object")?;
@@ -50,7 +50,7 @@ pub fn need_object(store: &mut Store, v: &Value) -> Result<Answer<ObjId>, NoMemo
 
 /// The function that a value is (9.11). It throws a TypeError for any other value.
 pub fn need_function(store: &mut Store, v: &Value) -> Result<Answer<ObjId>, NoMemory>
-    ensures { IfOk result (λ answer. Comes (need_function v.now) store.old store.new (answered answer)) }
+    ensures { IfOk result (λ answer. Comes (need_function v.now) store.old store.new (ends_with answer)) }
 {
     let Value::Obj(id) = v else {
         return Ok(no_function(store)?);
@@ -65,7 +65,7 @@ pub fn need_function(store: &mut Store, v: &Value) -> Result<Answer<ObjId>, NoMe
 #[tactic(auto, using(jl_store::proofs::Chains::error_comes))]
 fn no_function(store: &mut Store) -> Result<Answer<ObjId>, NoMemory>
     ensures { IfOk result (λ answer. Comes (throw_type_error (codes "not a function")) store.old store.new
-        (answered answer)) }
+        (ends_with answer)) }
 {
     let thrown = store.throw_type_error("not a function")?;
     Ok(Answer::Throws(thrown))

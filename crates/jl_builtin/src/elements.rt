@@ -6,7 +6,7 @@ ghost use Rattle.jl_meaning.specs.Parts.{give, ◌>>=◌ as ◌then◌};
 ghost use Rattle.jl_meaning.specs.builtins.Elements.{delete_index, get_index, has_index, put_index, put_length};
 ghost use Rattle.jl_state.specs.Rank.{Falls};
 ghost use Rattle.jl_state.specs.Rest.{Works};
-ghost use Rattle.jl_store.specs.Answers.{answered};
+ghost use Rattle.jl_store.specs.Answers.{ends_with};
 ghost use Rattle.jl_store.specs.Comes.{Comes};
 
 use jl_algorithm::{delete, get, put};
@@ -93,7 +93,7 @@ pub fn delete_index<'p>(
 ) -> Result<Answer<()>, NoMemory>
     ensures stored { state.new ≡ record state.old { store = state.new.store } }
     ensures comes { IfOk result (λ answer. Comes (delete_index object index) state.old.store state.new.store
-        (answered answer)) }
+        (ends_with answer)) }
 {
     let name = index_name(alloc, index)?;
     let answer = delete(alloc, state, true, &Value::Obj(object), &name)?;

@@ -5,7 +5,7 @@ ghost use Rattle.jl_meaning.specs.builtins.Arguments.{give_object};
 ghost use Rattle.jl_meaning.specs.builtins.Elements.{add_in_turns, add_index};
 ghost use Rattle.jl_state.specs.Rank.{Falls};
 ghost use Rattle.jl_state.specs.Rest.{Works};
-ghost use Rattle.jl_store.specs.Answers.{fault_seen, finished};
+ghost use Rattle.jl_store.specs.Answers.{fault_seen, finish_of};
 ghost use Rattle.jl_store.specs.Comes.{Comes};
 
 use crate::lists::value_from;
@@ -28,7 +28,7 @@ pub fn add_index(
     index: usize,
     v: Value,
 ) -> Result<Finished<()>, NoMemory>
-    ensures { IfOk result (λ end. Comes (add_index array index v) store.old store.new (finished end)) }
+    ensures { IfOk result (λ end. Comes (add_index array index v) store.old store.new (finish_of end)) }
 {
     let name = index_name(alloc, index)?;
     let change = plain_change(v);

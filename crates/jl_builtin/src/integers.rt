@@ -2,7 +2,7 @@
 ghost use Rattle.std.specs.Prelude.{◌≡◌, min, IfOk};
 ghost use Rattle.jl_conv.specs.Conversions.{number_of_value};
 ghost use Rattle.jl_meaning.specs.Conversions.{integer_of};
-ghost use Rattle.jl_meaning.specs.builtins.Elements.{clamped, index_or_none, relative_index};
+ghost use Rattle.jl_meaning.specs.builtins.Elements.{clamp, index_or_none, relative_index};
 ghost use Rattle.jl_num.specs.Bits.{uint32_of};
 
 use jl_num::{Num, to_uint32};
@@ -19,8 +19,8 @@ pub fn integer_of(n: Num) -> i64
 }
 
 /// The index that a number says, from 0 up to a length.
-pub fn clamped(n: Num, length: usize) -> usize
-    ensures { result ≡ clamped (integer_of n) length }
+pub fn clamp(n: Num, length: usize) -> usize
+    ensures { result ≡ clamp (integer_of n) length }
 {
     let z = integer_of(n);
     if z < 0 {

@@ -14,9 +14,9 @@ pub use arguments::{argument, is_nothing, is_undefined, need_function, need_obje
 pub use elements::{delete_index, get_index, has_index, put_index, put_length};
 pub use filling::{add_index, fault_of, fill_array};
 pub use integers::{
-    clamped, index_or_none, integer_of, length_of, number_of_primitive, relative_index,
+    clamp, index_or_none, integer_of, length_of, number_of_primitive, relative_index,
 };
 pub use lists::{copy_of, rest_of, value_from, with_units, with_values};
 pub use spaces::{without_end, without_front};
-pub use turns::{give_text, go_on, unsupported};
+pub use turns::{give_text, go_on, fail_row};
 pub use waiting::{wait_for_number, wait_for_string};

@@ -39,7 +39,7 @@ pub fn give_text<'p>(alloc: Global, units: &[u16]) -> Result<Act<'p>, NoMemory>
 
 /// The fault of the builtin in a row, which is in the table and isn't built; it ends the run.
 #[tactic(auto, unfolding(jl_value::specs::Builtins::builtin_names))]
-pub fn unsupported<'p>(row: u16) -> Act<'p>
+pub fn fail_row<'p>(row: u16) -> Act<'p>
     requires { row < 102 }
     ensures leads { (s : Machine) → Works s (Fail (Unsupported row)) s result }
     ensures low { rank_act result ≤ 2 }

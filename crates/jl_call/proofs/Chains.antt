@@ -4,7 +4,7 @@ use mathlib.Core.Path.{fun_ext}
 use Rattle.jl_value.specs.declared.value.Value.{Value}
 use Rattle.jl_effects.specs.Effects.{and_then, Look}
 use Rattle.jl_effects.proofs.Chains.{and_then-assoc, row-and_then}
-use Rattle.jl_meaning.specs.Parts.{fault_of, given, gives, lift, throws, ◌>>=◌, Algorithm, Answer, CallOf, Part}
+use Rattle.jl_meaning.specs.Parts.{fault_of, continue_with, gives, lift, throws, ◌>>=◌, Algorithm, Answer, CallOf, Part}
 use Rattle.jl_meaning.specs.Store.{Store}
 use Rattle.jl_state.specs.Rest.{as_value, rest_of, run_in, Gives, Works}
 use Rattle.jl_state.specs.declared.act.Act.{Act}
@@ -13,9 +13,9 @@ use Rattle.jl_state.proofs.Steps.{gives_works}
 
 pub bind_assoc : {A B C : Type 0} (p : Part (Answer A)) (k : A → Part (Answer B)) (l : B → Part (Answer C))
     → (p >>= k >>= l) ≡ (p >>= λ a. k a >>= l)
-bind_assoc {A} {B} {C} p k l = and_then-assoc p (given k) (given l) ∙ ap (and_then p) (fun_ext each)
+bind_assoc {A} {B} {C} p k l = and_then-assoc p (continue_with k) (continue_with l) ∙ ap (and_then p) (fun_ext each)
   where
-    each : (b : Answer A) → and_then (given k b) (given l) ≡ given (λ a. k a >>= l) b
+    each : (b : Answer A) → and_then (continue_with k b) (continue_with l) ≡ continue_with (λ a. k a >>= l) b
     each (gives a) = refl
     each (throws v) = refl
 
@@ -28,9 +28,9 @@ gives_assoc s p k l t a leads = subst (λ q. Gives s q t a) (sym (bind_assoc p k
 -- an algorithm after another one is a part after another one
 pub lift_bind : {A B : Type 0} (p : Algorithm A) (k : A → Algorithm B)
     → lift (p >>= k) ≡ (lift p >>= λ a. lift (k a))
-lift_bind {A} {B} p k = row-and_then CallOf fault_of p (given k) ∙ ap (and_then (lift p)) (fun_ext each)
+lift_bind {A} {B} p k = row-and_then CallOf fault_of p (continue_with k) ∙ ap (and_then (lift p)) (fun_ext each)
   where
-    each : (b : Answer A) → lift (given k b) ≡ given (λ a. lift (k a)) b
+    each : (b : Answer A) → lift (continue_with k b) ≡ continue_with (λ a. lift (k a)) b
     each (gives a) = refl
     each (throws v) = refl
 

@@ -84,7 +84,7 @@ fn script_target(functions: &List<ScriptFunction<'_>>, function: u32) -> Result<
     ensures { IfOk result (λ target. target ≡ script_callee function (slice_get (table_of functions.now) function)) }
 {
     match functions.items().get(function as usize) {
-        Some(called) => described(function, called),
+        Some(called) => describe_script(function, called),
         None => Ok(Callee::Script {
             function,
             params: 0,
@@ -95,7 +95,7 @@ fn script_target(functions: &List<ScriptFunction<'_>>, function: u32) -> Result<
 
 /// The number of parameters of a function, and whether its body mentions `arguments`. No memory holds more parameters
 /// than a number here counts.
-fn described(function: u32, called: &ScriptFunction<'_>) -> Result<Callee, NoMemory>
+fn describe_script(function: u32, called: &ScriptFunction<'_>) -> Result<Callee, NoMemory>
     ensures { IfOk result (λ target. target ≡ script_callee function (Some (function_of called.now))) }
 {
     match u32::try_from(called.function.params.len()) {

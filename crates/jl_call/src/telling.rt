@@ -96,7 +96,7 @@ fn found_of(store: &Store, base: &Value, name: &Text) -> Found
     ensures { result ≡ found_of (property_of_value store.now base.now name.now) }
 {
     match store.property_of_value(base, name) {
-        Some(property) => property.told(),
+        Some(property) => property.as_told(),
         None => Found::Absent,
     }
 }

@@ -2,90 +2,90 @@
 use Rattle.std.proofs.Common.{◌≡◌, [], ◌∷◌, Some, None, codes, refl}
 use Rattle.clap.proofs.OnLiterals.{clap_on_literals}
 use Rattle.jl_analysis.specs.Rules.{all_rules, rules}
-use Rattle.jl_command.specs.Asked.{asked, check, exec, lint, run, soak}
+use Rattle.jl_command.specs.Asked.{request, check, exec, lint, run, soak}
 use Rattle.jl_command.specs.CommandLine.{command_line, is_refused, value_of}
 
-plain_check : asked (codes "check" ∷ []) ≡ Some check
-unfolding asked is_refused value_of command_line clap_on_literals
+plain_check : request (codes "check" ∷ []) ≡ Some check
+unfolding request is_refused value_of command_line clap_on_literals
 plain_check = refl
 
-plain_lint : asked (codes "lint" ∷ []) ≡ Some (lint 1000000 all_rules)
-unfolding asked is_refused value_of command_line clap_on_literals
+plain_lint : request (codes "lint" ∷ []) ≡ Some (lint 1000000 all_rules)
+unfolding request is_refused value_of command_line clap_on_literals
 plain_lint = refl
 
-value_in_the_word : asked (codes "--budget=7" ∷ codes "exec" ∷ []) ≡ Some (exec 7)
-unfolding asked is_refused value_of command_line clap_on_literals
+value_in_the_word : request (codes "--budget=7" ∷ codes "exec" ∷ []) ≡ Some (exec 7)
+unfolding request is_refused value_of command_line clap_on_literals
 value_in_the_word = refl
 
-ten_digits : asked (codes "run" ∷ codes "--budget" ∷ codes "0000000005" ∷ []) ≡ Some (run 5)
-unfolding asked is_refused value_of command_line clap_on_literals
+ten_digits : request (codes "run" ∷ codes "--budget" ∷ codes "0000000005" ∷ []) ≡ Some (run 5)
+unfolding request is_refused value_of command_line clap_on_literals
 ten_digits = refl
 
-greatest_budget : asked (codes "run" ∷ codes "--budget" ∷ codes "1000000000" ∷ []) ≡ Some (run 1000000000)
-unfolding asked is_refused value_of command_line clap_on_literals
+greatest_budget : request (codes "run" ∷ codes "--budget" ∷ codes "1000000000" ∷ []) ≡ Some (run 1000000000)
+unfolding request is_refused value_of command_line clap_on_literals
 greatest_budget = refl
 
-three_options : asked (codes "soak" ∷ codes "--number" ∷ codes "8000" ∷ codes "--budget" ∷ codes "0"
+three_options : request (codes "soak" ∷ codes "--number" ∷ codes "8000" ∷ codes "--budget" ∷ codes "0"
     ∷ codes "--rules" ∷ codes "no-radix,nan-made" ∷ []) ≡ Some (soak 8000 0 (19 ∷ 1 ∷ []))
-unfolding asked is_refused value_of command_line clap_on_literals rules
+unfolding request is_refused value_of command_line clap_on_literals rules
 three_options = refl
 
-no_words : asked [] ≡ None
-unfolding asked is_refused value_of command_line clap_on_literals
+no_words : request [] ≡ None
+unfolding request is_refused value_of command_line clap_on_literals
 no_words = refl
 
-two_commands : asked (codes "lint" ∷ codes "run" ∷ []) ≡ None
-unfolding asked is_refused value_of command_line clap_on_literals
+two_commands : request (codes "lint" ∷ codes "run" ∷ []) ≡ None
+unfolding request is_refused value_of command_line clap_on_literals
 two_commands = refl
 
-no_flag_for_help : asked (codes "--help" ∷ []) ≡ None
-unfolding asked is_refused value_of command_line clap_on_literals
+no_flag_for_help : request (codes "--help" ∷ []) ≡ None
+unfolding request is_refused value_of command_line clap_on_literals
 no_flag_for_help = refl
 
-no_flag_for_version : asked (codes "lint" ∷ codes "-V" ∷ []) ≡ None
-unfolding asked is_refused value_of command_line clap_on_literals
+no_flag_for_version : request (codes "lint" ∷ codes "-V" ∷ []) ≡ None
+unfolding request is_refused value_of command_line clap_on_literals
 no_flag_for_version = refl
 
-cut_option : asked (codes "lint" ∷ codes "--bud" ∷ codes "5" ∷ []) ≡ None
-unfolding asked is_refused value_of command_line clap_on_literals
+cut_option : request (codes "lint" ∷ codes "--bud" ∷ codes "5" ∷ []) ≡ None
+unfolding request is_refused value_of command_line clap_on_literals
 cut_option = refl
 
-option_twice : asked (codes "run" ∷ codes "--budget" ∷ codes "1" ∷ codes "--budget" ∷ codes "2" ∷ []) ≡ None
-unfolding asked is_refused value_of command_line clap_on_literals
+option_twice : request (codes "run" ∷ codes "--budget" ∷ codes "1" ∷ codes "--budget" ∷ codes "2" ∷ []) ≡ None
+unfolding request is_refused value_of command_line clap_on_literals
 option_twice = refl
 
-option_without_value : asked (codes "run" ∷ codes "--budget" ∷ []) ≡ None
-unfolding asked is_refused value_of command_line clap_on_literals
+option_without_value : request (codes "run" ∷ codes "--budget" ∷ []) ≡ None
+unfolding request is_refused value_of command_line clap_on_literals
 option_without_value = refl
 
-option_of_another_command : asked (codes "check" ∷ codes "--budget" ∷ codes "5" ∷ []) ≡ None
-unfolding asked is_refused value_of command_line clap_on_literals
+option_of_another_command : request (codes "check" ∷ codes "--budget" ∷ codes "5" ∷ []) ≡ None
+unfolding request is_refused value_of command_line clap_on_literals
 option_of_another_command = refl
 
-no_such_rule : asked (codes "lint" ∷ codes "--rules" ∷ codes "nan" ∷ []) ≡ None
-unfolding asked is_refused value_of command_line clap_on_literals rules
+no_such_rule : request (codes "lint" ∷ codes "--rules" ∷ codes "nan" ∷ []) ≡ None
+unfolding request is_refused value_of command_line clap_on_literals rules
 no_such_rule = refl
 
-rule_twice : asked (codes "lint" ∷ codes "--rules" ∷ codes "nan-made,nan-made" ∷ []) ≡ None
-unfolding asked is_refused value_of command_line clap_on_literals rules
+rule_twice : request (codes "lint" ∷ codes "--rules" ∷ codes "nan-made,nan-made" ∷ []) ≡ None
+unfolding request is_refused value_of command_line clap_on_literals rules
 rule_twice = refl
 
-budget_below_zero : asked (codes "lint" ∷ codes "--budget" ∷ codes "-1" ∷ []) ≡ None
-unfolding asked is_refused value_of command_line clap_on_literals
+budget_below_zero : request (codes "lint" ∷ codes "--budget" ∷ codes "-1" ∷ []) ≡ None
+unfolding request is_refused value_of command_line clap_on_literals
 budget_below_zero = refl
 
-budget_too_great : asked (codes "lint" ∷ codes "--budget" ∷ codes "1000000001" ∷ []) ≡ None
-unfolding asked is_refused value_of command_line clap_on_literals
+budget_too_great : request (codes "lint" ∷ codes "--budget" ∷ codes "1000000001" ∷ []) ≡ None
+unfolding request is_refused value_of command_line clap_on_literals
 budget_too_great = refl
 
-eleven_digits : asked (codes "run" ∷ codes "--budget" ∷ codes "00000000005" ∷ []) ≡ None
-unfolding asked is_refused value_of command_line clap_on_literals
+eleven_digits : request (codes "run" ∷ codes "--budget" ∷ codes "00000000005" ∷ []) ≡ None
+unfolding request is_refused value_of command_line clap_on_literals
 eleven_digits = refl
 
-soak_without_number : asked (codes "soak" ∷ []) ≡ None
-unfolding asked is_refused value_of command_line clap_on_literals
+soak_without_number : request (codes "soak" ∷ []) ≡ None
+unfolding request is_refused value_of command_line clap_on_literals
 soak_without_number = refl
 
-number_too_great : asked (codes "soak" ∷ codes "--number" ∷ codes "8001" ∷ []) ≡ None
-unfolding asked is_refused value_of command_line clap_on_literals
+number_too_great : request (codes "soak" ∷ codes "--number" ∷ codes "8001" ∷ []) ≡ None
+unfolding request is_refused value_of command_line clap_on_literals
 number_too_great = refl

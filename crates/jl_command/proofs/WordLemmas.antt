@@ -10,7 +10,7 @@ use Rattle.clap.specs.Words.{with_rule}
 use Rattle.clap.specs.declared.error.Error.{Error}
 use Rattle.clap.specs.declared.error.kind.ErrorKind.TheVariants as kind
 use Rattle.clap.specs.declared.parser.matches.Found.{Found}
-use Rattle.jl_command.specs.Asked.{Asked, asked, asked_by_name, asked_with}
+use Rattle.jl_command.specs.Asked.{Asked, request, asked_by_name, asked_with}
 use Rattle.jl_command.specs.CommandLine.{Text, command_argument, command_line, is_fault, is_refused}
 use Rattle.jl_command.specs.CommandLine.{option_argument, value_of, without_flags}
 use Rattle.jl_command.specs.declared.command.Command.{Command}
@@ -37,8 +37,8 @@ line_is_free = refl
 abbrev asked_if : (words : List Text) → Kinds → Option Asked
 asked_if words kinds = if is_fault kinds then None else asked_with (λ id. value_of id words)
 
-asked_is : (words : List Text) → asked words ≡ asked_if words (fault_of command_line words)
-unfolding asked is_refused
+asked_is : (words : List Text) → request words ≡ asked_if words (fault_of command_line words)
+unfolding request is_refused
 asked_is words = refl
 
 -- the command with these values
@@ -56,14 +56,14 @@ same_values f g same =
 
 -- words that clap takes ask for what was matched
 pub matched_is : (words : List Text) (found : Found) → fault_of command_line words ≡ []
-    → rows_of found ≡ matches_of command_line words → asked words ≡ asked_with (first_value found)
+    → rows_of found ≡ matches_of command_line words → request words ≡ asked_with (first_value found)
 unfolding value_of
 matched_is words found taken rows =
     asked_is words ∙ ap (asked_if words) taken ∙ same_values (λ id. value_of id words) (first_value found)
     (λ id. sym (first_value-rows found id ∙ ap (λ rs. first_of id rs) rows))
 
 -- words that clap refuses ask for nothing
-pub refused_is : (words : List Text) → (fault_of command_line words ≡ [] → ⊥) → asked words ≡ None
+pub refused_is : (words : List Text) → (fault_of command_line words ≡ [] → ⊥) → request words ≡ None
 refused_is words some = asked_is words ∙ by_kinds (fault_of command_line words) some
   where
     by_kinds : (kinds : Kinds) → (kinds ≡ [] → ⊥) → asked_if words kinds ≡ None

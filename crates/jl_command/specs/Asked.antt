@@ -128,5 +128,5 @@ asked_with value = option_and_then
     (value (codes "command"))
 
 -- what the words ask for; where it is none, they are bad
-unfoldable pub asked : (words : List Text) → Option Asked
-asked words = if is_refused words then None else asked_with (λ id. value_of id words)
+unfoldable pub request : (words : List Text) → Option Asked
+request words = if is_refused words then None else asked_with (λ id. value_of id words)

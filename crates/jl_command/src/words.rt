@@ -1,7 +1,7 @@
 //! What the words of the command line ask for.
 ghost use Rattle.std.specs.Prelude.{◌≡◌, None, Some, IfOk, IsErrOf};
 ghost use Rattle.clap.specs.Words.{app_of, first_value, found_of};
-ghost use Rattle.jl_command.specs.Asked.{Asked, asked, asked_with, texts};
+ghost use Rattle.jl_command.specs.Asked.{Asked, request, asked_with, texts};
 ghost use Rattle.jl_command.specs.CommandLine.{command_line};
 ghost use Rattle.jl_command.specs.Meant.{Means};
 ghost use Rattle.jl_command.specs.inner.Optional.{BothOrNeither};
@@ -37,8 +37,8 @@ impl From<AllocError> for WordsRefusal {
 /// than 8,000 for `soak`, where `soak` is given no number, and where what is given for rules is not names of rules with
 /// commas between them, each once; and `NoMemory` where no memory is left.
 pub fn parse_words<'a>(alloc: Global, words: &'a [&'a str]) -> Result<Command, WordsRefusal>
-    ensures asked { IfOk result (λ c. (a : Asked) × (asked (texts words.now) ≡ Some a) × Means c a) }
-    ensures bad { IsErrOf result BadWords → asked (texts words.now) ≡ None }
+    ensures asked { IfOk result (λ c. (a : Asked) × (request (texts words.now) ≡ Some a) × Means c a) }
+    ensures bad { IsErrOf result BadWords → request (texts words.now) ≡ None }
 {
     let matches = match command_line(alloc)?.try_get_matches_from(words) {
         Ok(matches) => matches,

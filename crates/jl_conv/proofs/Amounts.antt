@@ -4,10 +4,10 @@ use Rattle.std.proofs.Common.{List, [], ◌∷◌, length, get_or, take, arith, 
 use Rattle.std.proofs.lemmas.Bool.{cases_lt}
 use Rattle.std.proofs.lemmas.Nat.{mul-le}
 use Rattle.jl_token.specs.Characters.{decimal_from, hex_from, hex_digit_value}
-use Rattle.jl_lex.specs.Amounts.{Large, Stands, exact, beyond}
+use Rattle.jl_lex.specs.inner.Amounts.{Large, Stands, exact, beyond}
 use Rattle.jl_lex.proofs.Powers.{ten_more, assoc, at_least, far, last_digit}
 use Rattle.jl_lex.proofs.AmountLemmas.{large_itself, large_more, large_past}
-use Rattle.jl_conv.specs.Amounts.{Agree, equal, reached}
+use Rattle.jl_conv.specs.inner.Amounts.{Agree, equal, reached}
 
 pub first_digit : (z m d : ℕ) → d < 10 → Stands 0 z m → Stands d 0 (m * 10 + d)
 first_digit z m d small (exact h e l) =

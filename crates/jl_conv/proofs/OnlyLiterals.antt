@@ -12,7 +12,7 @@ use Rattle.jl_token.specs.Characters.{is_digit, is_hex_digit, decimal_from, firs
 use Rattle.jl_token.specs.Elements.{Many, no_more, one_more, OneUnit, unit, Digits, Exponent, no_exponent, no_sign}
 use Rattle.jl_token.specs.Elements as elements
 use Rattle.jl_token.proofs.Tests.{true_or_false, and_true, is_unit, some_pair}
-use Rattle.jl_conv.specs.Numerals.{trimmed, are_digits, raises, lowers, exponent_of, is_exponent_letter, is_point}
+use Rattle.jl_conv.specs.Numerals.{trim, are_digits, raises, lowers, exponent_of, is_exponent_letter, is_point}
 use Rattle.jl_conv.specs.Numerals.{significand, whole_part, fraction_part, exponent_part, parts_number, decimal_number}
 use Rattle.jl_conv.specs.Numerals.{is_hexadecimal_letter, hexadecimal_number, literal_number, text_number}
 use Rattle.jl_conv.specs.Literals.{Unsigned, whole, with_point, from_point, Literal, unsigned, infinity, plus_infinity}
@@ -264,4 +264,4 @@ is_literal (u ∷ us) n some =
 
 pub only_literals_have_one : OnlyLiteralsHaveOne
 unfolding text_number
-only_literals_have_one us n some = is_literal (trimmed us) n some
+only_literals_have_one us n some = is_literal (trim us) n some

@@ -16,7 +16,7 @@ use Rattle.jl_num.proofs.Quotient.{small_size}
 use Rattle.jl_token.specs.Characters.{is_white_space, is_line_terminator, is_digit, decimal_from, first_is}
 use Rattle.jl_token.proofs.Tests.{or_false, both_false}
 use Rattle.jl_token.proofs.Units.{units, all_below, digits, each_digit}
-use Rattle.jl_conv.specs.Numerals.{is_space, without_end, trimmed, are_digits, signed, exact_value, is_exponent_letter}
+use Rattle.jl_conv.specs.Numerals.{is_space, without_end, trim, are_digits, with_sign, exact_value, is_exponent_letter}
 use Rattle.jl_conv.specs.Numerals.{is_point, whole_part, fraction_part, exponent_part, parts_number, decimal_number}
 use Rattle.jl_conv.specs.Numerals.{is_hexadecimal_letter, literal_number, text_number}
 use Rattle.jl_conv.specs.Laws.{TextsReadBack}
@@ -33,7 +33,7 @@ unfolding units
 minus_no_space = refl
 
 trim_same : (us : List ℕ) → is_space (get_or us 0 0) ≡ false → is_space (get_or us (length us - 1) 0) ≡ false
-    → trimmed us ≡ us
+    → trim us ≡ us
 trim_same us first last =
     let front : prefix_len is_space us ≡ 0 =
     prefix_len_is is_space us 0 0 (omega arith) (λ k h. absurd (omega arith)) (λ h. first) in
@@ -117,7 +117,7 @@ digits_alone (d ∷ ds) all some = all
 
 decimal_digits : (negative : Bool) (ds : List ℕ) → list_all is_digit ds ≡ true → 0 < length ds
     → decimal_from 0 ds ≤ 9007199254740991
-    → decimal_number negative ds ≡ Some (Some (signed negative (decimal_from 0 ds)))
+    → decimal_number negative ds ≡ Some (Some (with_sign negative (decimal_from 0 ds)))
 decimal_digits negative ds all some small =
     let whole : whole_part ds ≡ ds =
     ap (before_first is_point) (all_before is_exponent_letter ds (no_letter ds all)) ∙ all_before is_point ds (no_point ds all) in
@@ -153,7 +153,7 @@ literal_digits (d ∷ ds) all some =
 
 -- ---- texts of numbers
 
-digits_trimmed : (ds : List ℕ) → list_all is_digit ds ≡ true → 0 < length ds → trimmed ds ≡ ds
+digits_trimmed : (ds : List ℕ) → list_all is_digit ds ≡ true → 0 < length ds → trim ds ≡ ds
 digits_trimmed ds all some =
     trim_same ds (digit_no_space (get_or ds 0 0) (passes_at is_digit ds 0 all some))
     (digit_no_space (get_or ds (length ds - 1) 0) (passes_at is_digit ds (length ds - 1) all (omega arith)))
@@ -165,18 +165,18 @@ last_of u (d ∷ ds) h =
     let shorter : suc (length ds) - 1 ≡ length ds = omega arith in
     ap (λ k. get_or (u ∷ d ∷ ds) k 0) longer ∙ ap (λ k. get_or (d ∷ ds) k 0) (sym shorter)
 
-minus_trimmed : (ds : List ℕ) → list_all is_digit ds ≡ true → 0 < length ds → trimmed (45 ∷ ds) ≡ 45 ∷ ds
+minus_trimmed : (ds : List ℕ) → list_all is_digit ds ≡ true → 0 < length ds → trim (45 ∷ ds) ≡ 45 ∷ ds
 minus_trimmed ds all some =
     trim_same (45 ∷ ds) minus_no_space
     (ap is_space (last_of 45 ds some)
     ∙ digit_no_space (get_or ds (length ds - 1) 0) (passes_at is_digit ds (length ds - 1) all (omega arith)))
 
 read_digits : (negative : Bool) (n : ℕ) → n ≤ 9007199254740991
-    → decimal_number negative (digits_of 10 n) ≡ Some (Some (signed negative n))
+    → decimal_number negative (digits_of 10 n) ≡ Some (Some (with_sign negative n))
 read_digits negative n small =
     let value : decimal_from 0 (digits_of 10 n) ≡ n = digits_value (n + 1) n (omega arith) in
     decimal_digits negative (digits_of 10 n) (are_all_digits (n + 1) n) (some_digit n) (omega arith)
-    ∙ ap (λ k. Some (Some (signed negative k))) value
+    ∙ ap (λ k. Some (Some (with_sign negative k))) value
 
 not_below : (n : ℕ) → int_lt (pos n) (pos 0) ≡ false
 not_below n = grind (arith, nat_tests)

@@ -15,16 +15,16 @@ use Rattle.jl_num.specs.Number.{Number, IsNumber, is_number}
 use Rattle.jl_num.specs.Arithmetic.{number_of, quotient_of}
 use Rattle.jl_num.proofs.Exact.{quotients_are_exact, is_inside}
 use Rattle.jl_num.proofs.Quotient.{false_from, small_size}
-use Rattle.jl_lex.specs.Amounts.{Stands, exact, beyond}
+use Rattle.jl_lex.specs.inner.Amounts.{Stands, exact, beyond}
 use Rattle.jl_lex.proofs.Powers.{ten_pos, at_least, far, assoc}
 use Rattle.jl_lex.proofs.AmountLemmas.{whole_value}
-use Rattle.jl_conv.specs.Numerals.{signed, exact_value}
+use Rattle.jl_conv.specs.Numerals.{with_sign, exact_value}
 use Rattle.jl_token.specs.Characters.{is_digit, decimal_from}
 use Rattle.jl_conv.specs.declared.decimal.Exponent.{Exponent}
 use Rattle.jl_conv.specs.Numerals.{are_digits, raises, lowers, is_exponent_letter, exponent_of, exponent_part}
 use Rattle.jl_conv.specs.Numerals.{whole_part, fraction_part, parts_number, decimal_number}
-use Rattle.jl_conv.specs.Amounts.{Agree, equal, reached, Sized, known, high, low, IsExponent, Powers, exactly, above}
-use Rattle.jl_conv.specs.Amounts.{below}
+use Rattle.jl_conv.specs.inner.Amounts.{Agree, equal, reached, Sized, known, high, low, IsExponent, Powers, exactly, above}
+use Rattle.jl_conv.specs.inner.Amounts.{below}
 
 not_zero : (l : ℕ) → pos (10 ^ l) ≢ pos 0
 not_zero l e = let h = ten_pos l in let is : 10 ^ l ≡ 0 = ap unsigned_abs e in absurd (omega arith)
@@ -42,26 +42,26 @@ too_large z h = by_test (is_number z) refl
     by_test true e = let s = small_size z (is_inside z e) in absurd (omega arith)
     by_test false e = refl
 
-size_of_signed : (negative : Bool) (n : ℕ) → unsigned_abs (signed negative n) ≡ n
+size_of_signed : (negative : Bool) (n : ℕ) → unsigned_abs (with_sign negative n) ≡ n
 size_of_signed false n = refl
 size_of_signed true zero = refl
 size_of_signed true (suc n) = refl
 
-signed_product : (negative : Bool) (n b : ℕ) → signed negative n *ℤ pos b ≡ signed negative (n * b)
+signed_product : (negative : Bool) (n b : ℕ) → with_sign negative n *ℤ pos b ≡ with_sign negative (n * b)
 signed_product false n b = refl
 signed_product true zero b = let none : 0 * b ≡ 0 = omega arith in rw none refl
 signed_product true (suc n) b = refl
 
-signed_inside : (negative : Bool) (n : ℕ) → n ≤ 9007199254740991 → IsNumber (Some (signed negative n))
+signed_inside : (negative : Bool) (n : ℕ) → n ≤ 9007199254740991 → IsNumber (Some (with_sign negative n))
 signed_inside false n h = (omega (arith, ints), omega (arith, ints))
 signed_inside true zero h = (omega (arith, ints), omega (arith, ints))
 signed_inside true (suc n) h = (omega (arith, ints), omega (arith, ints))
 
 pub value_is : (negative : Bool) (m r l n : ℕ) → n * 10 ^ l ≡ m * 10 ^ r → n ≤ 9007199254740991
-    → exact_value negative m r l ≡ Some (Some (signed negative n))
+    → exact_value negative m r l ≡ Some (Some (with_sign negative n))
 value_is negative m r l n e h =
-    (quotients_are_exact (signed negative (m * 10 ^ r)) (pos (10 ^ l)) (signed negative n) (not_zero l)).1
-    (signed_product negative n (10 ^ l) ∙ ap (signed negative) e, signed_inside negative n h)
+    (quotients_are_exact (with_sign negative (m * 10 ^ r)) (pos (10 ^ l)) (with_sign negative n) (not_zero l)).1
+    (signed_product negative n (10 ^ l) ∙ ap (with_sign negative) e, signed_inside negative n h)
 
 whole_or_none : (a b : ℤ) → b ≢ pos 0
     → (quotient_of (Some a) (Some b) ≡ None) ⊎ ((q : ℤ) × (quotient_of (Some a) (Some b) ≡ Some (Some q)))
@@ -82,13 +82,13 @@ no_value negative m r l none =
     ⊎_elim
     (λ is. is)
     (λ some.
-    let x = (quotients_are_exact (signed negative (m * 10 ^ r)) (pos (10 ^ l)) some.0 (not_zero l)).0 some.1 in
+    let x = (quotients_are_exact (with_sign negative (m * 10 ^ r)) (pos (10 ^ l)) some.0 (not_zero l)).0 some.1 in
     let small = small_size some.0 x.1 in
     absurd
     (none (unsigned_abs some.0)
     (sym (unsigned_abs-mul some.0 (pos (10 ^ l))) ∙ ap unsigned_abs x.0 ∙ size_of_signed negative (m * 10 ^ r))
     (omega arith)))
-    (whole_or_none (signed negative (m * 10 ^ r)) (pos (10 ^ l)) (not_zero l))
+    (whole_or_none (with_sign negative (m * 10 ^ r)) (pos (10 ^ l)) (not_zero l))
 
 -- what the code finds
 
@@ -98,7 +98,7 @@ no_digits negative z m r l (exact h e p) =
     let nothing : 0 * 10 ^ l ≡ m * 10 ^ r = omega (arith, ap (λ n. n * 10 ^ r) is) in
     value_is negative m r l 0 nothing (omega arith) ∙ zero_signed negative
   where
-    zero_signed : (negative : Bool) → Some (Some (signed negative 0)) ≡ Some (Some (pos 0))
+    zero_signed : (negative : Bool) → Some (Some (with_sign negative 0)) ≡ Some (Some (pos 0))
     zero_signed false = refl
     zero_signed true = refl
 no_digits negative z m r l (beyond h g) = absurd (omega arith)
@@ -149,7 +149,7 @@ large negative c z m r' l' r l total some h fits is order far_up s p =
 pub inside : (negative : Bool) (c z m r' l' r l total size : ℕ) → ¬ (c ≡ 0) → c ≤ 9007199254740991 → r' < 2 ^ 64
     → total ≡ min (z + r') (2 ^ 64 - 1) → l' ≤ total → total - l' ≤ 15
     → size ≡ min (c * 10 ^ (total - l')) (2 ^ 64 - 1) → Stands c z m → Powers z r' l' r l
-    → exact_value negative m r l ≡ number_of (signed negative size)
+    → exact_value negative m r l ≡ number_of (with_sign negative size)
 inside negative c z m r' l' r l total size some h fits is order near is_size s p =
     ⊎_elim past small (cases_lt 9007199254740991 size)
   where
@@ -169,18 +169,18 @@ inside negative c z m r' l' r l total size some h fits is order near is_size s p
         ∙ ap (λ k. c * k) (pow-add 10 z r) ∙ sym (assoc c (10 ^ z) (10 ^ r)) ∙ ap (λ k. k * 10 ^ r) (sym e)
     product (beyond i g) is = absurd (omega arith)
 
-    past : 9007199254740991 < size → exact_value negative m r l ≡ number_of (signed negative size)
+    past : 9007199254740991 < size → exact_value negative m r l ≡ number_of (with_sign negative size)
     past over =
         no_value negative m r l (λ n e under.
         let w = meant c z m r l n some h s e in let is = w.1 in let k = scaled in absurd (omega arith))
-        ∙ sym (too_large (signed negative size) (let a = size_of_signed negative size in omega arith))
+        ∙ sym (too_large (with_sign negative size) (let a = size_of_signed negative size in omega arith))
 
-    small : size ≤ 9007199254740991 → exact_value negative m r l ≡ number_of (signed negative size)
+    small : size ≤ 9007199254740991 → exact_value negative m r l ≡ number_of (with_sign negative size)
     small under =
         let k = scaled in
         let is : size ≡ c * 10 ^ ((z + r) - l) = omega arith in
         value_is negative m r l size (product s is) under
-        ∙ sym (number_of_inside (signed negative size) (signed_inside negative size under))
+        ∙ sym (number_of_inside (with_sign negative size) (signed_inside negative size under))
 
 -- exponents
 

@@ -1,6 +1,6 @@
 pub mod Numerals
 pub mod Conversions
 pub mod Comparisons
-pub mod Amounts
 pub mod Literals
 pub mod Laws
+pub mod inner

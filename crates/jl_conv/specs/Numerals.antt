@@ -20,8 +20,8 @@ without_front us = drop (prefix_len is_space us) us
 abbrev pub without_end : List ℕ → List ℕ
 without_end us = take (length us - suffix_len is_space us) us
 
-abbrev pub trimmed : List ℕ → List ℕ
-trimmed us = without_end (without_front us)
+abbrev pub trim : List ℕ → List ℕ
+trim us = without_end (without_front us)
 
 -- one digit or more, and nothing else
 abbrev pub are_digits : (ℕ → Bool) → List ℕ → Bool
@@ -29,13 +29,13 @@ are_digits digit [] = false
 are_digits digit (u ∷ us) = list_all digit (u ∷ us)
 
 -- n or -n
-abbrev pub signed : Bool → ℕ → ℤ
-signed false n = pos n
-signed true n = neg_ℤ (pos n)
+abbrev pub with_sign : Bool → ℕ → ℤ
+with_sign false n = pos n
+with_sign true n = neg_ℤ (pos n)
 
 -- the exact value of m · 10 ^ r / 10 ^ l, or of its negative
 abbrev pub exact_value : Bool → ℕ → ℕ → ℕ → Option Number
-exact_value negative m r l = quotient_of (Some (signed negative (m * 10 ^ r))) (Some (pos (10 ^ l)))
+exact_value negative m r l = quotient_of (Some (with_sign negative (m * 10 ^ r))) (Some (pos (10 ^ l)))
 
 -- the powers of ten that the digits of an exponent multiply by and divide by, if they are digits
 abbrev pub raises : List ℕ → Option (ℕ × ℕ)
@@ -102,4 +102,4 @@ literal_number (u ∷ us) =
 
 -- StringNumericLiteral
 unfoldable pub text_number : List ℕ → Option Number
-text_number us = literal_number (trimmed us)
+text_number us = literal_number (trim us)

@@ -1,5 +1,6 @@
 ghost use Rattle.std.specs.Prelude.{◌≡◌, ◌≤◌, false, length, IfOk};
 ghost use Rattle.std.specs.Result.{result_ok};
+ghost use Rattle.jl_text.specs.Limits.{most_units};
 ghost use Rattle.jl_num.specs.Digits.{number_text};
 ghost use Rattle.jl_conv.specs.Conversions.{is_object, truth_of, type_text, bool_number, number_of_value};
 ghost use Rattle.jl_conv.specs.Conversions.{text_of_value};
@@ -91,7 +92,7 @@ fn number_to_text(alloc: Global, number: Num) -> Result<Text, AllocError>
 
 // The text of characters that are one byte each.
 fn text_of(alloc: Global, characters: &[u8]) -> Result<Text, AllocError>
-    requires { length characters.now ≤ 1048576 }
+    requires { length characters.now ≤ most_units }
     ensures { IfOk result (λ t. t ≡ characters.now) }
 {
     let mut units = Vec::new(alloc);

@@ -6,16 +6,14 @@ ghost use Rattle.std.specs.Result.{result_ok};
 ghost use Rattle.std.specs.Str.{bytes_eq};
 ghost use Rattle.jl_num.specs.Arithmetic.{number_of};
 ghost use Rattle.jl_token.specs.Characters.{is_digit, is_hex_digit, hex_digit_value, decimal_from, hex_from};
-ghost use Rattle.jl_lex.specs.Amounts.{Stands};
-ghost use Rattle.jl_conv.specs.Numerals.{are_digits, is_point, is_exponent_letter, signed, exact_value, raises, lowers};
+ghost use Rattle.jl_lex.specs.inner.Amounts.{Stands};
+ghost use Rattle.jl_conv.specs.Numerals.{are_digits, is_point, is_exponent_letter, with_sign, exact_value, raises};
+ghost use Rattle.jl_conv.specs.Numerals.{lowers};
 ghost use Rattle.jl_conv.specs.Numerals.{exponent_of, decimal_number, hexadecimal_number};
-ghost use Rattle.jl_conv.specs.Amounts.{Agree, Powers, IsExponent};
+ghost use Rattle.jl_conv.specs.inner.Amounts.{Agree, Powers, IsExponent};
 
 use jl_lex::{is_digit, is_hex_digit};
-use jl_num::{Num, NumberOutside};
-
-// The largest number of a script: 2^53 - 1.
-const LARGEST: u64 = 9_007_199_254_740_991;
+use jl_num::{LARGEST_SIZE, Num, NumberOutside};
 
 const INFINITY: [u16; 8] = [0x49, 0x6e, 0x66, 0x69, 0x6e, 0x69, 0x74, 0x79];
 
@@ -25,7 +23,8 @@ const MINUS: u16 = 0x2d;
 
 const POINT: u16 = 0x2e;
 
-/// The digits that were read: `coefficient` and so many zeros. A coefficient past `LARGEST` says no more than that.
+/// The digits that were read: `coefficient` and so many zeros. A coefficient past `LARGEST_SIZE` says no more than
+/// that.
 #[derive(Clone, Copy)]
 pub struct Amount {
     pub coefficient: u64,
@@ -248,7 +247,7 @@ fn value(negative: bool, amount: Amount, raise: u64, lower: u64) -> Result<Num, 
     if amount.coefficient == 0 {
         return Num::new(0);
     }
-    if amount.coefficient > LARGEST {
+    if amount.coefficient > LARGEST_SIZE {
         return Err(NumberOutside);
     }
     let total = amount.zeros.saturating_add(raise);
@@ -256,7 +255,7 @@ fn value(negative: bool, amount: Amount, raise: u64, lower: u64) -> Result<Num, 
     if total < lower {
         return Err(NumberOutside);
     }
-    // 16 zeros are past `LARGEST`.
+    // 16 zeros are past `LARGEST_SIZE`.
     if total - lower > 15 {
         return Err(NumberOutside);
     }
@@ -270,9 +269,9 @@ fn value(negative: bool, amount: Amount, raise: u64, lower: u64) -> Result<Num, 
 
 // The whole number of this size, where it is a number of a script.
 fn whole(negative: bool, size: u64) -> Result<Num, NumberOutside>
-    ensures { result_ok result ≡ number_of (signed negative size) }
+    ensures { result_ok result ≡ number_of (with_sign negative size) }
 {
-    if size > LARGEST {
+    if size > LARGEST_SIZE {
         return Err(NumberOutside);
     }
     let size = size as i64;

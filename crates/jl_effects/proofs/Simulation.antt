@@ -4,14 +4,14 @@ use Rattle.std.proofs.lemmas.Bool.{cases_lt}
 use Rattle.jl_effects.specs.Effects.{Part}
 use Rattle.jl_effects.specs.Running.{Language, RunState, nothing_done, everything, keeping, Finish, Outcome}
 use Rattle.jl_effects.specs.Running.{Over, Spent, run, IsOver, state_of, steps_taken}
-use Rattle.jl_effects.specs.Matching.{Matches, JobsMatch, Alike, IsWithin, Simulates, bound}
+use Rattle.jl_effects.specs.Matching.{Matches, JobsMatch, Alike, IsWithin, Simulates, step_bound}
 use Rattle.jl_effects.specs.Following.{Runs, runs, retold, IsEnd, is_end, IsCut, is_cut, Follows}
 use Rattle.jl_effects.proofs.MatchRuns.{follows}
 
 -- how a run stands to one that it follows, which had as many steps
 data Beside {S F O A : Type 0} (kept : O → Bool) (m : ℕ) : Outcome S F O A → Outcome S F O A → Type 0 where
   both_over : {e : Finish F A} {v : RunState S O} {left left' : ℕ} {own : List O}
-      → m - left ≤ m - left' → m - left' ≤ bound (m - left)
+      → m - left ≤ m - left' → m - left' ≤ step_bound (m - left)
       → Beside kept m (Over e left v) (Over e left' (retold kept v own))
   second_cut : {e : Finish F A} {left : ℕ} {v w : RunState S O} → IsWithin kept v w
       → Beside kept m (Over e left v) (Spent w)
@@ -47,7 +47,7 @@ module _ {S F O A : Type 0} (kept : O → Bool) (m : ℕ) where
   no_fewer (second_cut h) over = absurd over
   no_fewer (both_cut h) over = absurd over
 
-  not_many_more : {r q : Outcome S F O A} → Beside kept m r q → IsOver q → steps_taken m q ≤ bound (steps_taken m r)
+  not_many_more : {r q : Outcome S F O A} → Beside kept m r q → IsOver q → steps_taken m q ≤ step_bound (steps_taken m r)
   not_many_more (both_over low high) over = high
   not_many_more (second_cut h) over = absurd over
   not_many_more (both_cut h) over = absurd over
@@ -65,10 +65,10 @@ alike_end kept e v left s b _ (is_end h) = (refl, record { store = refl; output 
 -- with steps enough the second run is over where the first is
 follows_over : {S F O A : Type 0} (kept : O → Bool) (second : Runs S F O A) (n : ℕ) (r : Outcome S F O A)
     → Follows kept (IsWithin kept) 64 n r second
-    → IsOver r → Alike kept r (second [] (bound n))
+    → IsOver r → Alike kept r (second [] (step_bound n))
 follows_over kept second n (Over e left v) f over =
     let high = f.not_many_more in
-    alike_end kept e v left f.steps (bound n) (second [] (bound n)) (f.over [] (bound n) (omega arith))
+    alike_end kept e v left f.steps (step_bound n) (second [] (step_bound n)) (f.over [] (step_bound n) (omega arith))
 follows_over kept second n (Spent v) f over = absurd over
 
 -- what follows from the beginning on, with 64 steps to spare, simulates

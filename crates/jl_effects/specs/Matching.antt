@@ -87,16 +87,16 @@ pub record IsWithin {S O : Type 0} (kept : O → Bool) (v w : RunState S O) : Ty
   pub hooks : IsPrefix w.hooks (filter kept v.operations)
 
 -- the steps that suffice for the second, where the first has so many
-abbrev pub bound : ℕ → ℕ
-bound n = 32 * n + 64
+abbrev pub step_bound : ℕ → ℕ
+step_bound n = 32 * n + 64
 
 -- The second simulates the first, where these say what two programs come to with so many steps.
 pub record Simulates {S F O A : Type 0} (kept : O → Bool) (first second : ℕ → Outcome S F O A) : Type 0 where
   -- where the first is over within n steps, the second is within its bound, and in the same way
-  pub follows : (n : ℕ) → IsOver (first n) → Alike kept (first n) (second (bound n))
+  pub follows : (n : ℕ) → IsOver (first n) → Alike kept (first n) (second (step_bound n))
   -- where the second is over within m steps, so is the first, and in the same way
   pub leads : (m : ℕ) → IsOver (second m) → Alike kept (first m) (second m)
   pub no_fewer : (m : ℕ) → IsOver (second m) → steps_taken m (first m) ≤ steps_taken m (second m)
-  pub not_many_more : (m : ℕ) → IsOver (second m) → steps_taken m (second m) ≤ bound (steps_taken m (first m))
+  pub not_many_more : (m : ℕ) → IsOver (second m) → steps_taken m (second m) ≤ step_bound (steps_taken m (first m))
   -- what the second has done when its steps are spent, the first does with as many
   pub within : (m : ℕ) (w : RunState S O) → second m ≡ Spent w → IsWithin kept (state_of (first m)) w

@@ -17,7 +17,7 @@ use Rattle.jl_op.specs.Kinds.{kind_of, kind_name}
 use Rattle.jl_op.specs.Operations.{Operation}
 use Rattle.jl_op.specs.Trace.{op_line}
 use Rattle.jl_op.specs.declared.kind.OpKind.{OpKind}
-use Rattle.jl_effects.specs.Matching.{bound}
+use Rattle.jl_effects.specs.Matching.{step_bound}
 use Rattle.jl_effects.specs.Running.{Over, Spent, Ends, Fails, state_of, steps_taken}
 use Rattle.jl_meaning.specs.Mean.{mean, Run}
 use Rattle.jl_simulation.specs.Weaving.{woven_program}
@@ -87,7 +87,7 @@ abbrev pub own_run : Program (Unit {0}) → Run
 own_run p = mean every_kind p budget
 
 abbrev pub woven_run : Kinds → Program (Unit {0}) → Run
-woven_run chosen p = mean chosen (woven_program chosen p) (bound budget)
+woven_run chosen p = mean chosen (woven_program chosen p) (step_bound budget)
 
 -- the script's own run answers this, and its woven run is alike
 abbrev pub runs : Program (Unit {0}) → List (List ℕ) → Bool
@@ -115,7 +115,7 @@ hooked_answer n r = answer r (with_hooks r (with_steps n r (ending r)))
 abbrev pub weaves : Kinds → Program (Unit {0}) → List (List ℕ) → Bool
 weaves chosen p text =
     let woven = woven_run chosen p in
-    bytes_eq (hooked_answer (bound budget) woven) (text_of text) && are_alike chosen p (own_run p) woven
+    bytes_eq (hooked_answer (step_bound budget) woven) (text_of text) && are_alike chosen p (own_run p) woven
 
 -- the lines of the hooks of a run with so many steps, and then its last line
 abbrev pub trace_of : (steps : ℕ) → Run → List ℕ
@@ -123,7 +123,7 @@ trace_of n r = trace_lines (state_of r).hooks ++ uncaught_line r ++ line (with_h
 
 -- the hooks of the woven script emit this
 abbrev pub traces : Program (Unit {0}) → List (List ℕ) → Bool
-traces p text = bytes_eq (trace_of (bound budget) (woven_run every_kind p)) (text_of text)
+traces p text = bytes_eq (trace_of (step_bound budget) (woven_run every_kind p)) (text_of text)
 
 -- the hooks of a script that calls them by itself emit this, with so many steps
 abbrev pub executes : (steps : ℕ) → Program (Unit {0}) → List (List ℕ) → Bool

@@ -19,11 +19,11 @@ use Rattle.jl_state.specs.declared.act.Act.{Act}
 use Rattle.jl_state.specs.declared.act.Act.TheVariants as act
 use Rattle.jl_state.specs.declared.frame.Here.{Here}
 use Rattle.jl_state.specs.declared.state.State.{State}
-use Rattle.jl_expression.specs.inner.Begun.{begun}
+use Rattle.jl_expression.specs.inner.Begun.{begin}
 use Rattle.jl_expression.specs.inner.Forms.{is_name}
 
 -- an expression takes a step, and begins
-stepped : (table : FunctionTable) (e : Expr) (c : Context) → evaluate table e c ≡ Step (begun table e c)
+stepped : (table : FunctionTable) (e : Expr) (c : Context) → evaluate table e c ≡ Step (begin table e c)
 stepped table (tree.unary un.Minus e s) c = refl
 stepped table (tree.unary un.Plus e s) c = refl
 stepped table (tree.unary un.Not e s) c = refl
@@ -34,12 +34,12 @@ stepped table (tree.unary un.Delete e s) c = refl
 stepped table e c = refl
 
 pub begins : (s t u : State) (a : Act) (e : Expr) (here : Here) → Took s t → t ≡ record s { left = s.left - 1 }
-    → Gives t (begun (table_of t.functions) e (context_of t.calls here)) u a
+    → Gives t (begin (table_of t.functions) e (context_of t.calls here)) u a
     → Gives s (evaluate (table_of s.functions) e (context_of s.calls here)) u a
 begins s t u a e here took is leads =
-    let same : begun (table_of t.functions) e (context_of t.calls here)
-    ≡ begun (table_of s.functions) e (context_of s.calls here) =
-    ap (λ (v : State). begun (table_of v.functions) e (context_of v.calls here)) is in
+    let same : begin (table_of t.functions) e (context_of t.calls here)
+    ≡ begin (table_of s.functions) e (context_of s.calls here) =
+    ap (λ (v : State). begin (table_of v.functions) e (context_of v.calls here)) is in
     subst (λ p. Gives s p u a) (sym (stepped (table_of s.functions) e (context_of s.calls here)))
     (took.gives _ u a (subst (λ p. Gives t p u a) same leads))
 
@@ -48,12 +48,12 @@ pub runs_out : (s t : State) (e : Expr) (here : Here) → RanOut s → t ≡ s
 runs_out s t e here ran_out same =
     subst (λ (u : State). Gives s (evaluate (table_of s.functions) e (context_of s.calls here)) u act.Spent) (sym same)
     (subst (λ p. Gives s p s act.Spent) (sym (stepped (table_of s.functions) e (context_of s.calls here)))
-    (ran_out.gives (begun (table_of s.functions) e (context_of s.calls here))))
+    (ran_out.gives (begin (table_of s.functions) e (context_of s.calls here))))
 
 -- an operator that is neither `typeof` nor `delete` is one on the value of its operand
 pub operand_first : (table : FunctionTable) (o : UnOp) (e : Expr) (c : Context) → (o ≡ un.Typeof → ⊥)
     → (o ≡ un.Delete → ⊥)
-    → begun table (tree.unary o e 0) c ≡ (evaluate table e c >>= λ v. operate_on performs 0 (unary_kind o) v)
+    → begin table (tree.unary o e 0) c ≡ (evaluate table e c >>= λ v. operate_on performs 0 (unary_kind o) v)
 operand_first table un.Minus e c no_type no_delete = refl
 operand_first table un.Plus e c no_type no_delete = refl
 operand_first table un.Not e c no_type no_delete = refl

@@ -24,13 +24,13 @@ use Rattle.jl_state.specs.declared.act.Act.{Act}
 use Rattle.jl_state.specs.declared.frame.Here.{Here}
 use Rattle.jl_state.specs.declared.state.State.{State}
 use Rattle.jl_hook.proofs.HookCalls.{counted}
-use Rattle.jl_expression.specs.inner.Begun.{arguments, called}
+use Rattle.jl_expression.specs.inner.Begun.{arguments, call_expression}
 use Rattle.jl_expression.specs.inner.Forms.{is_value}
 use Rattle.jl_expression.proofs.ByKind.{of_kind}
 
 -- what is neither a member nor a call is evaluated first
 pub value_called : (table : FunctionTable) (f : parts.Expr) (l : Exprs) (c : Context) → is_value f ≡ true
-    → call_value table 0 (evaluate table f c) (arguments table l c 0) ≡ called table f l c
+    → call_value table 0 (evaluate table f c) (arguments table l c 0) ≡ call_expression table f l c
 value_called table (tree.dot o k s) l c is = absurd (false≢true is)
 value_called table (tree.index o k s) l c is = absurd (false≢true is)
 value_called table (tree.call f m s) l c is = absurd (false≢true is)
@@ -67,7 +67,7 @@ pub calls_member : (s : State) (here : Here) (l : Exprs) (seen : CalleeForm) (e 
     (evaluate (table_of s.functions) (plain (view_expression b)) (context_of s.calls here)
     >>= λ base. call_member (table_of s.functions) 0 0 base (value.Text k)
     (arguments (table_of s.functions) l (context_of s.calls here) 0))) t a
-    → Gives s (called (table_of s.functions) (tree.dot (plain (view_expression b)) k 0) l (context_of s.calls here)) t a
+    → Gives s (call_expression (table_of s.functions) (tree.dot (plain (view_expression b)) k 0) l (context_of s.calls here)) t a
 calls_member s here l seen e b k t a same is leads =
     let table = table_of s.functions in
     let c = context_of s.calls here in

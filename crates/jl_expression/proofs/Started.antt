@@ -28,12 +28,12 @@ use Rattle.jl_state.specs.Words.{context_of, table_of}
 use Rattle.jl_state.specs.declared.act.Act.{Act}
 use Rattle.jl_state.specs.declared.frame.Here.{Here}
 use Rattle.jl_state.specs.declared.state.State.{State}
-use Rattle.jl_expression.specs.inner.Begun.{begun, called}
+use Rattle.jl_expression.specs.inner.Begun.{begin, call_expression}
 use Rattle.jl_expression.proofs.ByKind.{of_kind}
 
 module _ (s : State) (here : Here) (e : Expr) (t : State) (a : Act) where
   abbrev begins : parts.Expr → Part (Answer Value)
-  begins x = begun (table_of s.functions) x (context_of s.calls here)
+  begins x = begin (table_of s.functions) x (context_of s.calls here)
 
   pub of_form : (k : ExprKind) (x : Tree Span tree.expr) → e.kind ≡ k → view_expression_kind k e.span ≡ x
       → Gives s (begins (plain x)) t a → Gives s (begins (plain (view_expression e))) t a
@@ -50,12 +50,12 @@ module _ (s : State) (here : Here) (e : Expr) (t : State) (a : Act) where
       >>= λ object. literal_of of_function 0 (value.Obj object)) t a) same leads)
 
   pub call_begun : (f : Box Expr Global) (l : List Expr) (d : Expr) → e.kind ≡ expression.Call f l → d ≡ f.value
-      → Gives s (called (table_of s.functions) (plain (view_expression d)) (plain_forest (view_expressions l))
+      → Gives s (call_expression (table_of s.functions) (plain (view_expression d)) (plain_forest (view_expressions l))
       (context_of s.calls here)) t a
       → Gives s (begins (plain (view_expression e))) t a
   call_begun f l d is same leads =
       of_form (expression.Call f l) _ is (expression_Call f l e.span)
-      (subst (λ (b : Expr). Gives s (called (table_of s.functions) (plain (view_expression b))
+      (subst (λ (b : Expr). Gives s (call_expression (table_of s.functions) (plain (view_expression b))
       (plain_forest (view_expressions l)) (context_of s.calls here)) t a) same leads)
 
   pub unary_begun : (o : UnOp) (f : Box Expr Global) (d : Expr) → e.kind ≡ expression.Unary o f → d ≡ f.value

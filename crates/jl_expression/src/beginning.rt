@@ -9,7 +9,7 @@ ghost use Rattle.jl_state.specs.Rank.{Falls};
 ghost use Rattle.jl_state.specs.Rest.{Gives};
 ghost use Rattle.jl_state.specs.Trees.{plain};
 ghost use Rattle.jl_state.specs.Words.{context_of, table_of};
-ghost use Rattle.jl_expression.specs.inner.Begun.{assigned_name, begun, this_in};
+ghost use Rattle.jl_expression.specs.inner.Begun.{assigned_name, begin, this_in};
 
 use crate::boxes::evaluate_boxed;
 use crate::calls::{begin_call, begin_new};
@@ -51,7 +51,7 @@ fn begin<'p>(
     here: Here,
 ) -> Result<Act<'p>, NoMemory>
     ensures leads { IfOk result (λ act. Gives state.old
-        (begun (table_of state.old.functions) (plain (view_expression e.now)) (context_of state.old.calls here))
+        (begin (table_of state.old.functions) (plain (view_expression e.now)) (context_of state.old.calls here))
         state.new act) }
     ensures left { IfOk result (λ _. state.new.left ≤ state.old.left) }
 {
@@ -128,7 +128,7 @@ fn begin_unary<'p>(
     operand: &'p Expr,
     here: Here,
 ) -> Result<Act<'p>, NoMemory>
-    ensures leads { IfOk result (λ act. Gives state.old (begun (table_of state.old.functions)
+    ensures leads { IfOk result (λ act. Gives state.old (begin (table_of state.old.functions)
         (tree.unary op (plain (view_expression operand.now)) 0) (context_of state.old.calls here)) state.new act) }
     ensures left { IfOk result (λ _. state.new.left ≤ state.old.left) }
 {

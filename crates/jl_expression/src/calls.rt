@@ -13,7 +13,7 @@ ghost use Rattle.jl_meaning.specs.forms.Hooks.{call_by_form, call_hook, call_of_
 ghost use Rattle.jl_state.specs.Rest.{Gives};
 ghost use Rattle.jl_state.specs.Trees.{plain, plain_forest};
 ghost use Rattle.jl_state.specs.Words.{context_of, table_of};
-ghost use Rattle.jl_expression.specs.inner.Begun.{arguments, called, pair_begun};
+ghost use Rattle.jl_expression.specs.inner.Begun.{arguments, call_expression, pair_begun};
 ghost use Rattle.jl_hook.specs.HookForms.{form_seen, hook_call_seen, opener_call_seen, opener_shape};
 
 use crate::boxes::evaluate_boxed;
@@ -36,7 +36,7 @@ pub(crate) fn begin_call<'p>(
     args: &'p List<Expr>,
     here: Here,
 ) -> Result<Act<'p>, NoMemory>
-    ensures leads { IfOk result (λ act. Gives state.old (called (table_of state.old.functions)
+    ensures leads { IfOk result (λ act. Gives state.old (call_expression (table_of state.old.functions)
         (plain (view_expression callee.now)) (plain_forest (view_expressions args.now))
         (context_of state.old.calls here)) state.new act) }
     ensures left { IfOk result (λ _. state.new.left ≤ state.old.left) }
@@ -109,7 +109,7 @@ fn call_member<'p>(
     args: &'p List<Expr>,
     here: Here,
 ) -> Result<Act<'p>, NoMemory>
-    ensures leads { IfOk result (λ act. Gives state.old (called (table_of state.old.functions)
+    ensures leads { IfOk result (λ act. Gives state.old (call_expression (table_of state.old.functions)
         (tree.dot (plain (view_expression object.now.value)) key.now 0) (plain_forest (view_expressions args.now))
         (context_of state.old.calls here)) state.new act) }
     ensures left { IfOk result (λ _. state.new.left ≤ state.old.left) }

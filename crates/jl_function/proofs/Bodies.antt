@@ -19,7 +19,7 @@ use Rattle.jl_meaning.specs.Statements.{execute_all}
 use Rattle.jl_meaning.specs.Store.{Store}
 use Rattle.jl_meaning.specs.forms.Functions.{leave_function, result_of, run_body, run_function}
 use Rattle.jl_meaning.specs.Jobs.{job}
-use Rattle.jl_state.specs.Rest.{as_completion, as_value, handed, rest, rest_of, run_in, run_state, Completes, Gives}
+use Rattle.jl_state.specs.Rest.{as_completion, as_value, given_of, rest, rest_of, run_in, run_state, Completes, Gives}
 use Rattle.jl_state.specs.Rest.{Completion-given}
 use Rattle.jl_state.specs.Trees.{plain, plain_forest}
 use Rattle.jl_state.specs.Words.{context_of, table_of}
@@ -39,9 +39,9 @@ body_same : (table : FunctionTable) (calls : List Call) (frames : List Frame) (c
 body_same table calls frames call p =
     and_then-assoc p (λ how. End (Completion-given how)) (rest table (call ∷ calls) (frame.Body ∷ frames))
     ∙ ap (and_then p) (fun_ext (λ how.
-    and_then-assoc (result_of how) (λ a. End (handed a)) (rest table calls frames)))
-    ∙ sym (and_then-assoc p result_of (λ a. rest table calls frames (handed a)))
-    ∙ sym (and_then-assoc (and_then p result_of) (λ a. End (handed a)) (rest table calls frames))
+    and_then-assoc (result_of how) (λ a. End (given_of a)) (rest table calls frames)))
+    ∙ sym (and_then-assoc p result_of (λ a. rest table calls frames (given_of a)))
+    ∙ sym (and_then-assoc (and_then p result_of) (λ a. End (given_of a)) (rest table calls frames))
 
 -- t is s with one more call, for whose body a frame waits
 body_waits : (s t : State) (call : Call) (p : Part Completion) (u : State) (a : Act)
@@ -97,7 +97,7 @@ left_alike s f p kept told =
     apart : (k : Completion → Part (Answer Value))
         → and_then (as_value (and_then p k)) (rest_of s) ≡ and_then p (later k)
     apart k =
-        ap (λ q. and_then q (rest_of s)) (and_then-assoc p k (λ a. End (handed a)))
+        ap (λ q. and_then q (rest_of s)) (and_then-assoc p k (λ a. End (given_of a)))
         ∙ and_then-assoc p (λ how. as_value (k how)) (rest_of s)
 
     each : (how : Completion) (n : ℕ) (w : RunState Store Operation)

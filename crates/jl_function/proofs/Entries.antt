@@ -23,7 +23,7 @@ use Rattle.jl_meaning.specs.Parts as parts
 use Rattle.jl_meaning.specs.Store.{next_environment, Store}
 use Rattle.jl_meaning.specs.forms.Functions.{call_script, enter_function, function_context, this_within}
 use Rattle.jl_meaning.specs.Conversions.{to_object}
-use Rattle.jl_store.specs.Answers.{answered}
+use Rattle.jl_store.specs.Answers.{ends_with}
 use Rattle.jl_store.specs.Changes.{after}
 use Rattle.jl_store.specs.Comes.{Comes}
 use Rattle.jl_store.specs.Plain.{code_in}
@@ -130,13 +130,13 @@ module _ (s : State) (x y : Store) (f : ScriptFunction) (env inside : ℕ) (call
   entered = record s { store = y }
 
   pub calls_script : (c : Context) (t : State) (a : Act) (r : Answered Value)
-      → Comes (this_within f.strict call.this) s.store x (answered r) → r ≡ answer.Gives this
+      → Comes (this_within f.strict call.this) s.store x (ends_with r) → r ≡ answer.Gives this
       → Comes (enter_function f env this call) x y (Ends (gives (function_context f inside this call)))
       → c ≡ function_context f inside this call → Gives entered (body_result (table_of s.functions) f.func c) t a
       → Gives s (call_script (table_of s.functions) f env call) t a
   calls_script c t a r comes given entry is leads =
       gives_comes s (record s { store = x }) refl (this_within f.strict call.this) this _ t a
-      (subst (λ b. Comes (this_within f.strict call.this) s.store x (answered b)) given comes)
+      (subst (λ b. Comes (this_within f.strict call.this) s.store x (ends_with b)) given comes)
       (gives_comes (record s { store = x }) entered refl (enter_function f env this call)
       (function_context f inside this call) _ t a entry
       (runs_function entered f this call (function_context f inside this call) t a
@@ -144,12 +144,12 @@ module _ (s : State) (x y : Store) (f : ScriptFunction) (env inside : ℕ) (call
 
 -- where `this` can't be an object, nothing is called
 pub throws_this : (s : State) (x : Store) (f : ScriptFunction) (env : ℕ) (call : parts.Call) (v : Value)
-    (r : Answered Value) → Comes (this_within f.strict call.this) s.store x (answered r) → r ≡ answer.Throws v
+    (r : Answered Value) → Comes (this_within f.strict call.this) s.store x (ends_with r) → r ≡ answer.Throws v
     → Gives s (call_script (table_of s.functions) f env call) (record s { store = x })
     (act.Complete (completion.Throw v))
 throws_this s x f env call v r comes is =
     gives_thrown s (record s { store = x }) refl (this_within f.strict call.this) v _
-    (subst (λ b. Comes (this_within f.strict call.this) s.store x (answered b)) is comes)
+    (subst (λ b. Comes (this_within f.strict call.this) s.store x (ends_with b)) is comes)
 
 -- the same of a function with a number
 
@@ -164,14 +164,14 @@ calls_known s number env call f t a found leads =
 -- `this` as an object
 
 pub object_is : (v : Value) (s t : Store) (r : Answered ObjId) (id : ObjId)
-    → Comes (to_object v) s t (answered r) → r ≡ answer.Gives id
+    → Comes (to_object v) s t (ends_with r) → r ≡ answer.Gives id
     → Comes (this_as_object v) s t (Ends (gives (value.Obj id)))
 object_is v s t r id comes is =
-    comes_on (λ i. give (value.Obj i)) (subst (λ b. Comes (to_object v) s t (answered b)) is comes)
+    comes_on (λ i. give (value.Obj i)) (subst (λ b. Comes (to_object v) s t (ends_with b)) is comes)
     (record { leads = (refl, refl) })
 
 pub no_object : (v : Value) (s t : Store) (r : Answered ObjId) (thrown : Value)
-    → Comes (to_object v) s t (answered r) → r ≡ answer.Throws thrown
+    → Comes (to_object v) s t (ends_with r) → r ≡ answer.Throws thrown
     → Comes (this_as_object v) s t (Ends (throws thrown))
 no_object v s t r thrown comes is =
-    comes_thrown (λ i. give (value.Obj i)) (subst (λ b. Comes (to_object v) s t (answered b)) is comes)
+    comes_thrown (λ i. give (value.Obj i)) (subst (λ b. Comes (to_object v) s t (ends_with b)) is comes)

@@ -12,7 +12,7 @@ ghost use Rattle.jl_state.specs.Rest.{Gives};
 ghost use Rattle.jl_state.specs.Trees.{plain};
 ghost use Rattle.jl_state.specs.ValueFrames.{value_after};
 ghost use Rattle.jl_state.specs.Words.{call_of, context_of, function_of, table_of};
-ghost use Rattle.jl_store.specs.Answers.{answered};
+ghost use Rattle.jl_store.specs.Answers.{ends_with};
 ghost use Rattle.jl_store.specs.Comes.{Comes};
 ghost use Rattle.jl_value.specs.declared.value.Value.{Value as AnyValue};
 
@@ -40,7 +40,7 @@ fn this_within(
     strict: bool,
     v: &Value,
 ) -> Result<Answer<Value>, NoMemory>
-    ensures { IfOk result (λ answer. Comes (this_within strict v.now) store.old store.new (answered answer)) }
+    ensures { IfOk result (λ answer. Comes (this_within strict v.now) store.old store.new (ends_with answer)) }
 {
     if strict {
         return Ok(Answer::Gives(share(alloc, v)?));
@@ -53,7 +53,7 @@ fn this_within(
 
 /// ToObject of a value, as a value.
 fn this_as_object(store: &mut Store, v: &Value) -> Result<Answer<Value>, NoMemory>
-    ensures { IfOk result (λ answer. Comes (this_as_object v.now) store.old store.new (answered answer)) }
+    ensures { IfOk result (λ answer. Comes (this_as_object v.now) store.old store.new (ends_with answer)) }
 {
     match store.to_object(v)? {
         Answer::Gives(id) => Ok(Answer::Gives(Value::Obj(id))),

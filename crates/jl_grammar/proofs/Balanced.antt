@@ -28,28 +28,28 @@ use Rattle.jl_grammar.specs.Reads.{an_init, init_vars, ReadsOptional, no_express
 use Rattle.jl_grammar.specs.Reads.{no_clauses, a_case, a_default, ReadsCatch, a_catch, ReadsElements, no_elements}
 use Rattle.jl_grammar.specs.Reads.{a_declaration, a_statement, ReadsFunction, a_declared_function, ReadsBody}
 use Rattle.jl_grammar.specs.Reads.{a_directive, no_directive}
-use Rattle.jl_grammar.specs.Brackets.{opened}
+use Rattle.jl_grammar.specs.Brackets.{open_brackets}
 use Rattle.jl_grammar.proofs.Opened.{after, after_identifier, after_name, after_key, after_infix_operator, after_assign}
 use Rattle.jl_grammar.proofs.Opened.{after_prefix, after_update}
 
-pub ends_at_closes : {ts : List Token} {i j : ℕ} → EndsAt ts i j → opened ts j ≡ opened ts i
+pub ends_at_closes : {ts : List Token} {i j : ℕ} → EndsAt ts i j → open_brackets ts j ≡ open_brackets ts i
 ends_at_closes (there a) = let ra = after a in omega arith
 ends_at_closes (inserted a b) = refl
 
 pub names_closes : {ts : List Token} {i : ℕ} {t : List (Ident Span)} {j : ℕ} → ReadsNames ts i t j
-    → opened ts j ≡ opened ts i - 1
+    → open_brackets ts j ≡ open_brackets ts i - 1
 names_closes (last_name a b) = let ra = after_identifier a in let rb = after b in omega arith
 names_closes (more_names a b c) = let ra = after_identifier a in let rb = after b in let rc = names_closes c in
     omega arith
 
 pub parameters_closes : {ts : List Token} {i : ℕ} {t : List (Ident Span)} {j : ℕ} → ReadsParameters ts i t j
-    → opened ts j ≡ opened ts i - 1
+    → open_brackets ts j ≡ open_brackets ts i - 1
 parameters_closes (no_parameters a) = let ra = after a in omega arith
 parameters_closes (parameters a) = let ra = names_closes a in omega arith
 
 mutual
   pub primary_closes : {ts : List Token} {i : ℕ} {t : Expr} {j : ℕ} → ReadsPrimary ts i t j
-      → opened ts j ≡ opened ts i
+      → open_brackets ts j ≡ open_brackets ts i
   primary_closes (a_this a) = let ra = after a in omega arith
   primary_closes (a_name a) = let ra = after_identifier a in omega arith
   primary_closes (a_null a) = let ra = after a in omega arith
@@ -66,7 +66,7 @@ mutual
       let rc = rest_closes c in omega arith
 
   pub items_closes : {ts : List Token} {i : ℕ} {t : Forest Span tree.item} {j : ℕ} → ReadsItems ts i t j
-      → opened ts j ≡ opened ts i - 1
+      → open_brackets ts j ≡ open_brackets ts i - 1
   items_closes (no_items a) = let ra = after a in omega arith
   items_closes (a_hole a b) = let ra = after a in let rb = items_closes b in omega arith
   items_closes (last_item a b) = let ra = assignment_closes a in let rb = after b in omega arith
@@ -74,26 +74,26 @@ mutual
       omega arith
 
   pub entries_closes : {ts : List Token} {i : ℕ} {t : Forest Span tree.entry} {j : ℕ} → ReadsEntries ts i t j
-      → opened ts j ≡ opened ts i - 1
+      → open_brackets ts j ≡ open_brackets ts i - 1
   entries_closes (no_entries a) = let ra = after a in omega arith
   entries_closes (last_entry a b) = let ra = entry_closes a in let rb = after b in omega arith
   entries_closes (more_entries a b c) = let ra = entry_closes a in let rb = after b in let rc = entries_closes c in
       omega arith
 
   pub entry_closes : {ts : List Token} {i : ℕ} {t : Tree Span tree.entry} {j : ℕ} → ReadsEntry ts i t j
-      → opened ts j ≡ opened ts i
+      → open_brackets ts j ≡ open_brackets ts i
   entry_closes (a_value a b c) = let ra = after_key a in let rb = after b in let rc = assignment_closes c in
       omega arith
   entry_closes (a_getter a b c) = let ra = after a in let rb = after_key b in let rc = rest_closes c in omega arith
   entry_closes (a_setter a b c) = let ra = after a in let rb = after_key b in let rc = rest_closes c in omega arith
 
   pub rest_closes : {ts : List Token} {i : ℕ} {ps : List (Ident Span)} {c : Code} {j : ℕ} → ReadsRest ts i ps c j
-      → opened ts j ≡ opened ts i
+      → open_brackets ts j ≡ open_brackets ts i
   rest_closes (a_rest a b c d e) = let ra = after a in let rb = parameters_closes b in let rc = after c in
       let rd = body_closes d in let re = after e in omega arith
 
   pub begins_left_closes : {ts : List Token} {calls : Bool} {i : ℕ} {t : Expr} {j : ℕ} → BeginsLeft ts calls i t j
-      → opened ts j ≡ opened ts i
+      → open_brackets ts j ≡ open_brackets ts i
   begins_left_closes (primary a) = let ra = primary_closes a in omega arith
   begins_left_closes (a_dot a b c) = let ra = begins_left_closes a in let rb = after b in let rc = after_name c in
       omega arith
@@ -106,65 +106,65 @@ mutual
   begins_left_closes (a_bare_new a b c) = let ra = after a in let rb = left_closes b in omega arith
 
   pub left_closes : {ts : List Token} {calls : Bool} {i : ℕ} {t : Expr} {j : ℕ} → ReadsLeft ts calls i t j
-      → opened ts j ≡ opened ts i
+      → open_brackets ts j ≡ open_brackets ts i
   left_closes (whole_left a b) = let ra = begins_left_closes a in omega arith
 
   pub arguments_closes : {ts : List Token} {i : ℕ} {t : Exprs} {j : ℕ} → ReadsArguments ts i t j
-      → opened ts j ≡ opened ts i - 1
+      → open_brackets ts j ≡ open_brackets ts i - 1
   arguments_closes (no_arguments a) = let ra = after a in omega arith
   arguments_closes (arguments a) = let ra = argument_list_closes a in omega arith
 
   pub argument_list_closes : {ts : List Token} {i : ℕ} {t : Exprs} {j : ℕ} → ReadsArgumentList ts i t j
-      → opened ts j ≡ opened ts i - 1
+      → open_brackets ts j ≡ open_brackets ts i - 1
   argument_list_closes (last_argument a b) = let ra = assignment_closes a in let rb = after b in omega arith
   argument_list_closes (more_arguments a b c) = let ra = assignment_closes a in let rb = after b in
       let rc = argument_list_closes c in omega arith
 
   pub postfix_closes : {ts : List Token} {i : ℕ} {t : Expr} {j : ℕ} → ReadsPostfix ts i t j
-      → opened ts j ≡ opened ts i
+      → open_brackets ts j ≡ open_brackets ts i
   postfix_closes (left a b) = let ra = left_closes a in omega arith
   postfix_closes (a_postfix a b c d) = let ra = left_closes a in let rc = after_update c in omega arith
 
-  pub unary_closes : {ts : List Token} {i : ℕ} {t : Expr} {j : ℕ} → ReadsUnary ts i t j → opened ts j ≡ opened ts i
+  pub unary_closes : {ts : List Token} {i : ℕ} {t : Expr} {j : ℕ} → ReadsUnary ts i t j → open_brackets ts j ≡ open_brackets ts i
   unary_closes (postfix a) = let ra = postfix_closes a in omega arith
   unary_closes (a_prefix a b) = let ra = after_prefix a in let rb = unary_closes b in omega arith
   unary_closes (an_update a b c) = let ra = after_update a in let rb = left_closes b in omega arith
 
   pub begins_binary_closes : {ts : List Token} {no_in : Bool} {l i : ℕ} {t : Expr} {j : ℕ}
-      → BeginsBinary ts no_in l i t j → opened ts j ≡ opened ts i
+      → BeginsBinary ts no_in l i t j → open_brackets ts j ≡ open_brackets ts i
   begins_binary_closes (operand a) = let ra = unary_closes a in omega arith
   begins_binary_closes (tighter a) = let ra = binary_closes a in omega arith
   begins_binary_closes (an_infix_operator a b c d) = let ra = begins_binary_closes a in let rb = after_infix_operator b in
       let rd = binary_closes d in omega arith
 
   pub binary_closes : {ts : List Token} {no_in : Bool} {l i : ℕ} {t : Expr} {j : ℕ} → ReadsBinary ts no_in l i t j
-      → opened ts j ≡ opened ts i
+      → open_brackets ts j ≡ open_brackets ts i
   binary_closes (whole_binary a b) = let ra = begins_binary_closes a in omega arith
 
   pub conditional_closes : {ts : List Token} {no_in : Bool} {i : ℕ} {t : Expr} {j : ℕ}
-      → ReadsConditional ts no_in i t j → opened ts j ≡ opened ts i
+      → ReadsConditional ts no_in i t j → open_brackets ts j ≡ open_brackets ts i
   conditional_closes (operands a b) = let ra = binary_closes a in omega arith
   conditional_closes (a_conditional a b c d e) = let ra = binary_closes a in let rb = after b in
       let rc = assignment_closes c in let rd = after d in let re = assignment_closes e in omega arith
 
   pub assignment_closes : {ts : List Token} {no_in : Bool} {i : ℕ} {t : Expr} {j : ℕ} → ReadsAssignment ts no_in i t j
-      → opened ts j ≡ opened ts i
+      → open_brackets ts j ≡ open_brackets ts i
   assignment_closes (conditional a b) = let ra = conditional_closes a in omega arith
   assignment_closes (an_assignment a b c d) = let ra = left_closes a in let rc = after_assign c in
       let rd = assignment_closes d in omega arith
 
   pub begins_expression_closes : {ts : List Token} {no_in : Bool} {i : ℕ} {t : Expr} {j : ℕ}
-      → BeginsExpression ts no_in i t j → opened ts j ≡ opened ts i
+      → BeginsExpression ts no_in i t j → open_brackets ts j ≡ open_brackets ts i
   begins_expression_closes (assignment a) = let ra = assignment_closes a in omega arith
   begins_expression_closes (a_comma a b c) = let ra = begins_expression_closes a in let rb = after b in
       let rc = assignment_closes c in omega arith
 
   pub expression_closes : {ts : List Token} {no_in : Bool} {i : ℕ} {t : Expr} {j : ℕ} → ReadsExpression ts no_in i t j
-      → opened ts j ≡ opened ts i
+      → open_brackets ts j ≡ open_brackets ts i
   expression_closes (whole_expression a b) = let ra = begins_expression_closes a in omega arith
 
   pub statement_closes : {ts : List Token} {i : ℕ} {t : Stmt} {j : ℕ} → ReadsStatement ts i t j
-      → opened ts j ≡ opened ts i
+      → open_brackets ts j ≡ open_brackets ts i
   statement_closes (a_block a) = let ra = block_closes a in omega arith
   statement_closes (a_var a b c) = let ra = after a in let rb = declarations_closes b in let rc = ends_at_closes c in
       omega arith
@@ -209,46 +209,46 @@ mutual
       let rd = after d in let re = block_closes e in omega arith
   statement_closes (a_debugger a b) = let ra = after a in let rb = ends_at_closes b in omega arith
 
-  pub block_closes : {ts : List Token} {i : ℕ} {t : Stmts} {j : ℕ} → ReadsBlock ts i t j → opened ts j ≡ opened ts i
+  pub block_closes : {ts : List Token} {i : ℕ} {t : Stmts} {j : ℕ} → ReadsBlock ts i t j → open_brackets ts j ≡ open_brackets ts i
   block_closes (in_braces a b c) = let ra = after a in let rb = statements_closes b in let rc = after c in omega arith
 
   pub statements_closes : {ts : List Token} {i : ℕ} {t : Stmts} {j : ℕ} → ReadsStatements ts i t j
-      → opened ts j ≡ opened ts i
+      → open_brackets ts j ≡ open_brackets ts i
   statements_closes (no_statements a) = refl
   statements_closes (more_statements a b) = let ra = statement_closes a in let rb = statements_closes b in omega arith
 
-  pub sub_closes : {ts : List Token} {i : ℕ} {t : Stmts} {j : ℕ} → ReadsSub ts i t j → opened ts j ≡ opened ts i
+  pub sub_closes : {ts : List Token} {i : ℕ} {t : Stmts} {j : ℕ} → ReadsSub ts i t j → open_brackets ts j ≡ open_brackets ts i
   sub_closes (several a) = let ra = block_closes a in omega arith
   sub_closes (alone a b) = let rb = statement_closes b in omega arith
 
-  pub head_closes : {ts : List Token} {i : ℕ} {t : Expr} {j : ℕ} → ReadsHead ts i t j → opened ts j ≡ opened ts i
+  pub head_closes : {ts : List Token} {i : ℕ} {t : Expr} {j : ℕ} → ReadsHead ts i t j → open_brackets ts j ≡ open_brackets ts i
   head_closes (a_head a b c) = let ra = after a in let rb = expression_closes b in let rc = after c in omega arith
 
   pub declaration_closes : {ts : List Token} {no_in : Bool} {i : ℕ} {t : Tree Span tree.decl} {j : ℕ}
-      → ReadsDeclaration ts no_in i t j → opened ts j ≡ opened ts i
+      → ReadsDeclaration ts no_in i t j → open_brackets ts j ≡ open_brackets ts i
   declaration_closes (declared a b) = let ra = after_identifier a in omega arith
   declaration_closes (initialised a b c) = let ra = after_identifier a in let rb = after b in
       let rc = assignment_closes c in omega arith
 
   pub declarations_closes : {ts : List Token} {no_in : Bool} {i : ℕ} {t : Forest Span tree.decl} {j : ℕ}
-      → ReadsDeclarations ts no_in i t j → opened ts j ≡ opened ts i
+      → ReadsDeclarations ts no_in i t j → open_brackets ts j ≡ open_brackets ts i
   declarations_closes (last_declaration a b) = let ra = declaration_closes a in omega arith
   declarations_closes (more_declarations a b c) = let ra = declaration_closes a in let rb = after b in
       let rc = declarations_closes c in omega arith
 
   pub init_closes : {ts : List Token} {i : ℕ} {t : Tree Span tree.init} {j : ℕ} → ReadsInit ts i t j
-      → opened ts j ≡ opened ts i
+      → open_brackets ts j ≡ open_brackets ts i
   init_closes (no_init a) = let ra = after a in omega arith
   init_closes (an_init a) = let ra = expression_closes a in omega arith
   init_closes (init_vars a b) = let ra = after a in let rb = declarations_closes b in omega arith
 
   pub optional_closes : {ts : List Token} {k : Terminal} {i : ℕ} {t : OptionalTree Span tree.expr} {j : ℕ} → ReadsOptional ts k i t j
-      → opened ts j ≡ opened ts i
+      → open_brackets ts j ≡ open_brackets ts i
   optional_closes (no_expression a) = refl
   optional_closes (one_expression a) = let ra = expression_closes a in omega arith
 
   pub clauses_closes : {ts : List Token} {fresh : Bool} {i : ℕ} {t : Forest Span tree.clause} {j : ℕ}
-      → ReadsClauses ts fresh i t j → opened ts j ≡ opened ts i
+      → ReadsClauses ts fresh i t j → open_brackets ts j ≡ open_brackets ts i
   clauses_closes (no_clauses a) = let ra = after a in omega arith
   clauses_closes (a_case a b c d e) = let ra = after a in let rb = expression_closes b in let rc = after c in
       let rd = statements_closes d in let re = clauses_closes e in omega arith
@@ -256,22 +256,22 @@ mutual
       let rd = clauses_closes d in omega arith
 
   pub catch_closes : {ts : List Token} {i : ℕ} {t : Tree Span tree.handler} {j : ℕ} → ReadsCatch ts i t j
-      → opened ts j ≡ opened ts i
+      → open_brackets ts j ≡ open_brackets ts i
   catch_closes (a_catch a b c d e) = let ra = after a in let rb = after b in let rc = after_identifier c in
       let rd = after d in let re = block_closes e in omega arith
 
   pub elements_closes : {ts : List Token} {i : ℕ} {fs : Forest Span tree.func} {ws : Stmts} {j : ℕ}
-      → ReadsElements ts i fs ws j → opened ts j ≡ opened ts i
+      → ReadsElements ts i fs ws j → open_brackets ts j ≡ open_brackets ts i
   elements_closes (no_elements a) = refl
   elements_closes (a_declaration a b) = let ra = function_closes a in let rb = elements_closes b in omega arith
   elements_closes (a_statement a b) = let ra = statement_closes a in let rb = elements_closes b in omega arith
 
   pub function_closes : {ts : List Token} {i : ℕ} {t : Tree Span tree.func} {j : ℕ} → ReadsFunction ts i t j
-      → opened ts j ≡ opened ts i
+      → open_brackets ts j ≡ open_brackets ts i
   function_closes (a_declared_function a b c) = let ra = after a in let rb = after_identifier b in
       let rc = rest_closes c in omega arith
 
-  pub body_closes : {ts : List Token} {i : ℕ} {t : Code} {j : ℕ} → ReadsBody ts i t j → opened ts j ≡ opened ts i
+  pub body_closes : {ts : List Token} {i : ℕ} {t : Code} {j : ℕ} → ReadsBody ts i t j → open_brackets ts j ≡ open_brackets ts i
   body_closes (a_directive a b c d) = let ra = after a in let rc = ends_at_closes c in let rd = body_closes d in
       omega arith
   body_closes (no_directive a b) = let rb = elements_closes b in omega arith

@@ -33,7 +33,7 @@ use Rattle.jl_grammar.specs.Reads.{init_vars, ReadsOptional, no_expression, one_
 use Rattle.jl_grammar.specs.Reads.{a_case, a_default, ReadsCatch, a_catch, ReadsElements, no_elements}
 use Rattle.jl_grammar.specs.Reads.{a_declaration, a_statement, a_declared_function, ReadsBody, a_directive}
 use Rattle.jl_grammar.specs.Reads.{no_directive}
-use Rattle.jl_grammar.specs.Brackets.{opened}
+use Rattle.jl_grammar.specs.Brackets.{open_brackets}
 use Rattle.jl_grammar.specs.Next.{is_identifier, is_open_brace, is_semicolon, is_colon, is_label, bars_expression}
 use Rattle.jl_grammar.specs.Operators.{infix_node, infix_precedence}
 use Rattle.jl_grammar.specs.Reader.{Read, Deeper, names_from, parameters_at, statements_from, block_at}
@@ -144,13 +144,13 @@ and_no : (a : Bool) (b : Bool) → b ≡ false → (a && b) ≡ false
 and_no true b h = h
 and_no false b h = refl
 
-module _ (ts : List Token) (cap : ℕ) (wide : (i : ℕ) → opened ts i ≤ cap) where
+module _ (ts : List Token) (cap : ℕ) (wide : (i : ℕ) → open_brackets ts i ≤ cap) where
   -- what is low enough for its place fits there
-  fit : (f i h : ℕ) → h + cap ≤ suc (f + opened ts i) → h ≤ suc ((deeper ts cap f).room i)
+  fit : (f i h : ℕ) → h + cap ≤ suc (f + open_brackets ts i) → h ≤ suc ((deeper ts cap f).room i)
   fit f i h m = let w = wide i in let r = room_is ts cap f i in omega arith
 
   mutual
-    primary_complete : {i j : ℕ} {t : Expr} → ReadsPrimary ts i t j → (f : ℕ) → height t + cap ≤ suc (f + opened ts i)
+    primary_complete : {i j : ℕ} {t : Expr} → ReadsPrimary ts i t j → (f : ℕ) → height t + cap ≤ suc (f + open_brackets ts i)
         → primary_at ts (deeper ts cap f) i ≡ Some (t, j)
     primary_complete {i} (a_this a) f m = expressions.this_step ts (deeper ts cap f) i a
     primary_complete {i} (a_name a) f m = expressions.name_step ts (deeper ts cap f) i a
@@ -180,7 +180,7 @@ module _ (ts : List Token) (cap : ℕ) (wide : (i : ℕ) → opened ts i ≤ cap
         expressions.named_function_step ts (deeper ts cap f) i j ps x a b (rest_complete c f (omega arith)) (fit f i _ m)
 
     items_complete : {i j : ℕ} {t : Forest Span tree.item} → ReadsItems ts i t j → (f : ℕ)
-        → forest_height t + cap ≤ f + opened ts i → (n : ℕ) → j ≤ n + i → items_from ts (deeper ts cap f) n i ≡ Some (t, j)
+        → forest_height t + cap ≤ f + open_brackets ts i → (n : ℕ) → j ≤ n + i → items_from ts (deeper ts cap f) n i ≡ Some (t, j)
     items_complete {i} (no_items a) f m n l = expressions.no_items_step ts (deeper ts cap f) n i a
     items_complete (a_hole a b) f m zero l = let g = items_goes b in absurd (omega arith)
     items_complete {i} {j} (a_hole {xs = xs} a b) f m (suc n) l =
@@ -202,7 +202,7 @@ module _ (ts : List Token) (cap : ℕ) (wide : (i : ℕ) → opened ts i ≤ cap
         (λ h z. assignment_complete a h (omega arith))) b (items_complete c f (omega arith) n (omega arith))
 
     entries_complete : {i j : ℕ} {t : Forest Span tree.entry} → ReadsEntries ts i t j → (f : ℕ)
-        → forest_height t + cap ≤ f + opened ts i → (n : ℕ) → j ≤ n + i → entries_from ts (deeper ts cap f) n i ≡ Some (t, j)
+        → forest_height t + cap ≤ f + open_brackets ts i → (n : ℕ) → j ≤ n + i → entries_from ts (deeper ts cap f) n i ≡ Some (t, j)
     entries_complete {i} (no_entries a) f m n l = expressions.no_entries_step ts (deeper ts cap f) n i a
     entries_complete (last_entry a b) f m zero l = let g = entry_goes a in absurd (omega arith)
     entries_complete {i} (last_entry {j = j} {t = t} a b) f m (suc n) l =
@@ -215,7 +215,7 @@ module _ (ts : List Token) (cap : ℕ) (wide : (i : ℕ) → opened ts i ≤ cap
         (entry_complete a f (omega arith)) b (entries_complete c f (omega arith) n (omega arith))
 
     entry_complete : {i j : ℕ} {t : Tree Span tree.entry} → ReadsEntry ts i t j → (f : ℕ)
-        → height t + cap ≤ f + opened ts i → entry_at ts (deeper ts cap f) i ≡ Some (t, j)
+        → height t + cap ≤ f + open_brackets ts i → entry_at ts (deeper ts cap f) i ≡ Some (t, j)
     entry_complete {i} {j} (a_value {t = t} a b c) f m =
         let w = wide (suc (suc i)) in let p = height_pos t in let q = after_key a in let u = after b in
         expressions.value_step ts (deeper ts cap f) i j t a b
@@ -231,14 +231,14 @@ module _ (ts : List Token) (cap : ℕ) (wide : (i : ℕ) → opened ts i ≤ cap
         (rest_complete c f (omega arith)) (fit f i (height x + 1) (omega arith))
 
     rest_complete : {i j : ℕ} {ps : List (Ident Span)} {c : Code} → ReadsRest ts i ps c j → (f : ℕ)
-        → height c + cap ≤ f + opened ts i → rest_at ts (deeper ts cap f) i ≡ Some ((ps, c), j)
+        → height c + cap ≤ f + open_brackets ts i → rest_at ts (deeper ts cap f) i ≡ Some ((ps, c), j)
     rest_complete {i} (a_rest {j = j} {k = k} {ps = ps} {c = x} a b c d e) f m =
         let p = after a in let q = parameters_closes b in let u = after c in let w = body_within d in
         expressions.rest_step ts (deeper ts cap f) i j k ps x a (parameters_complete b) c
         (body_complete d f (omega arith) (length ts) (omega arith)) e
 
     begins_left_complete : {calls : Bool} {i j : ℕ} {t : Expr} → BeginsLeft ts calls i t j → (f : ℕ)
-        → height t + cap ≤ suc (f + opened ts i)
+        → height t + cap ≤ suc (f + open_brackets ts i)
         → Comes f t (left_at ts (deeper ts cap f) calls f i) (λ n. left_from ts (deeper ts cap f) calls n i t j)
     begins_left_complete {calls} {i} {j} {t} (primary a) f m =
         let p = height_pos t in
@@ -287,13 +287,13 @@ module _ (ts : List Token) (cap : ℕ) (wide : (i : ℕ) → opened ts i ≤ cap
         }
 
     left_complete : {calls : Bool} {i j : ℕ} {t : Expr} → ReadsLeft ts calls i t j → (f : ℕ)
-        → height t + cap ≤ suc (f + opened ts i) → left_at ts (deeper ts cap f) calls f i ≡ Some (t, j)
+        → height t + cap ≤ suc (f + open_brackets ts i) → left_at ts (deeper ts cap f) calls f i ≡ Some (t, j)
     left_complete {calls} {i} {j} {t} (whole_left a b) f m =
         let c = begins_left_complete a f m in
         c.is ∙ expressions.left_stop ts (deeper ts cap f) calls c.parts i j t b
 
     arguments_complete : {i j : ℕ} {t : Exprs} → ReadsArguments ts i t j → (f : ℕ)
-        → forest_height t + cap ≤ f + opened ts i → arguments_at ts (deeper ts cap f) i ≡ Some (t, j)
+        → forest_height t + cap ≤ f + open_brackets ts i → arguments_at ts (deeper ts cap f) i ≡ Some (t, j)
     arguments_complete {i} (no_arguments a) f m = expressions.no_arguments_step ts (deeper ts cap f) i a
     arguments_complete {i} (arguments a) f m =
         let w = argument_list_within a in
@@ -301,7 +301,7 @@ module _ (ts : List Token) (cap : ℕ) (wide : (i : ℕ) → opened ts i ≤ cap
         ∙ argument_list_complete a f m (length ts) (omega arith)
 
     argument_list_complete : {i j : ℕ} {t : Exprs} → ReadsArgumentList ts i t j → (f : ℕ)
-        → forest_height t + cap ≤ f + opened ts i → (n : ℕ) → j ≤ n + i
+        → forest_height t + cap ≤ f + open_brackets ts i → (n : ℕ) → j ≤ n + i
         → arguments_from ts (deeper ts cap f) n i ≡ Some (t, j)
     argument_list_complete (last_argument a b) f m zero l = let g = assignment_goes a in absurd (omega arith)
     argument_list_complete {i} (last_argument {j = j} {t = t} a b) f m (suc n) l =
@@ -319,7 +319,7 @@ module _ (ts : List Token) (cap : ℕ) (wide : (i : ℕ) → opened ts i ≤ cap
         (λ h z. assignment_complete a h (omega arith))) b
         (argument_list_complete c f (omega arith) n (omega arith))
 
-    postfix_complete : {i j : ℕ} {t : Expr} → ReadsPostfix ts i t j → (f : ℕ) → height t + cap ≤ suc (f + opened ts i)
+    postfix_complete : {i j : ℕ} {t : Expr} → ReadsPostfix ts i t j → (f : ℕ) → height t + cap ≤ suc (f + open_brackets ts i)
         → postfix_at ts (deeper ts cap f) f i ≡ Some (t, j)
     postfix_complete {i} {j} {t} (left a b) f m =
         expressions.no_postfix_step ts (deeper ts cap f) f i j t (left_complete a f m) b
@@ -327,7 +327,7 @@ module _ (ts : List Token) (cap : ℕ) (wide : (i : ℕ) → opened ts i ≤ cap
         let p = target_height t g b in
         expressions.postfix_step ts (deeper ts cap f) f i j t g up (left_complete a f (omega arith)) b c d (fit f i _ m)
 
-    unary_complete : {i j : ℕ} {t : Expr} → ReadsUnary ts i t j → (f : ℕ) → height t + cap ≤ suc (f + opened ts i)
+    unary_complete : {i j : ℕ} {t : Expr} → ReadsUnary ts i t j → (f : ℕ) → height t + cap ≤ suc (f + open_brackets ts i)
         → unary_at ts (deeper ts cap f) f i ≡ Some (t, j)
     unary_complete {i} {j} {t} (postfix a) f m =
         let s = postfix_starts a in
@@ -344,7 +344,7 @@ module _ (ts : List Token) (cap : ℕ) (wide : (i : ℕ) → opened ts i ≤ cap
 
     -- from any looseness that is no less, the reader comes to what is read
     begins_binary_complete : {no_in : Bool} {l i j : ℕ} {t : Expr} → BeginsBinary ts no_in l i t j → (x f : ℕ) → l ≤ x
-        → height t + cap ≤ suc (f + opened ts i)
+        → height t + cap ≤ suc (f + open_brackets ts i)
         → Comes f t (binary_at ts (deeper ts cap f) no_in f x i) (λ n. binary_from ts (deeper ts cap f) no_in n x i t j)
     begins_binary_complete {no_in} {l} {i} {j} {t} (operand a) x f b m =
         let p = height_pos t in
@@ -366,13 +366,13 @@ module _ (ts : List Token) (cap : ℕ) (wide : (i : ℕ) → opened ts i ≤ cap
         ∙ binary_complete c h (omega arith))) (fit f i _ m))
 
     binary_complete : {no_in : Bool} {l i j : ℕ} {t : Expr} → ReadsBinary ts no_in l i t j → (f : ℕ)
-        → height t + cap ≤ suc (f + opened ts i) → binary_at ts (deeper ts cap f) no_in f l i ≡ Some (t, j)
+        → height t + cap ≤ suc (f + open_brackets ts i) → binary_at ts (deeper ts cap f) no_in f l i ≡ Some (t, j)
     binary_complete {no_in} {l} {i} {j} {t} (whole_binary a b) f m =
         let c = begins_binary_complete a l f (omega arith) m in
         c.is ∙ expressions.binary_stop ts (deeper ts cap f) no_in c.parts l i j t b
 
     conditional_complete : {no_in : Bool} {i j : ℕ} {t : Expr} → ReadsConditional ts no_in i t j → (f : ℕ)
-        → height t + cap ≤ suc (f + opened ts i) → conditional_at ts (deeper ts cap f) no_in f i ≡ Some (t, j)
+        → height t + cap ≤ suc (f + open_brackets ts i) → conditional_at ts (deeper ts cap f) no_in f i ≡ Some (t, j)
     conditional_complete {no_in} {i} {j} {t} (operands a b) f m =
         expressions.no_question_step ts (deeper ts cap f) no_in f i j t (binary_complete a f m) b
     conditional_complete {no_in} {i} (a_conditional {j = j} {k = k} {m = o} {c = x} {a = y} {b = v} a b c d e) f m =
@@ -385,7 +385,7 @@ module _ (ts : List Token) (cap : ℕ) (wide : (i : ℕ) → opened ts i ≤ cap
         (λ h z. assignment_complete e h (omega arith))) (fit f i _ m)
 
     assignment_complete : {no_in : Bool} {i j : ℕ} {t : Expr} → ReadsAssignment ts no_in i t j → (f : ℕ)
-        → height t + cap ≤ suc (f + opened ts i) → assignment_at ts (deeper ts cap f) no_in f i ≡ Some (t, j)
+        → height t + cap ≤ suc (f + open_brackets ts i) → assignment_at ts (deeper ts cap f) no_in f i ≡ Some (t, j)
     assignment_complete {no_in} {i} {j} {t} (conditional a b) f m =
         expressions.no_assign_step ts (deeper ts cap f) no_in f i j t (conditional_complete a f m) b
     assignment_complete {no_in} {i} (an_assignment {j = j} {k = k} {t = t} {v = v} {g = g} {op = op} a b c d) f m =
@@ -397,7 +397,7 @@ module _ (ts : List Token) (cap : ℕ) (wide : (i : ℕ) → opened ts i ≤ cap
         (λ h z. assignment_complete d h (omega arith))) (fit f i _ m)
 
     begins_expression_complete : {no_in : Bool} {i j : ℕ} {t : Expr} → BeginsExpression ts no_in i t j → (f : ℕ)
-        → height t + cap ≤ suc (f + opened ts i)
+        → height t + cap ≤ suc (f + open_brackets ts i)
         → Comes f t (expression_at ts (deeper ts cap f) no_in f i) (λ n. comma_from ts (deeper ts cap f) no_in n i t j)
     begins_expression_complete {no_in} {i} {j} {t} (assignment a) f m =
         let p = height_pos t in
@@ -416,12 +416,12 @@ module _ (ts : List Token) (cap : ℕ) (wide : (i : ℕ) → opened ts i ≤ cap
         (λ h z. assignment_complete c h (omega arith))) (fit f i _ m))
 
     pub expression_complete : {no_in : Bool} {i j : ℕ} {t : Expr} → ReadsExpression ts no_in i t j → (f : ℕ)
-        → height t + cap ≤ suc (f + opened ts i) → expression_at ts (deeper ts cap f) no_in f i ≡ Some (t, j)
+        → height t + cap ≤ suc (f + open_brackets ts i) → expression_at ts (deeper ts cap f) no_in f i ≡ Some (t, j)
     expression_complete {no_in} {i} {j} {t} (whole_expression a b) f m =
         let c = begins_expression_complete a f m in
         c.is ∙ expressions.comma_stop ts (deeper ts cap f) no_in c.parts i j t b
 
-    head_complete : {i j : ℕ} {t : Expr} → ReadsHead ts i t j → (f : ℕ) → height t + cap ≤ f + opened ts i
+    head_complete : {i j : ℕ} {t : Expr} → ReadsHead ts i t j → (f : ℕ) → height t + cap ≤ f + open_brackets ts i
         → head_at ts (deeper ts cap f) i ≡ Some (t, j)
     head_complete {i} (a_head {j = j} {t = t} a b c) f m =
         let w = wide (suc i) in let p = height_pos t in let q = after a in
@@ -429,7 +429,7 @@ module _ (ts : List Token) (cap : ℕ) (wide : (i : ℕ) → opened ts i ≤ cap
         (deeper_expression ts cap f false (suc i) (Some (t, j)) (omega arith)
         (λ h z. expression_complete b h (omega arith))) c
 
-    block_complete : {i j : ℕ} {t : Stmts} → ReadsBlock ts i t j → (f : ℕ) → forest_height t + cap ≤ f + opened ts i
+    block_complete : {i j : ℕ} {t : Stmts} → ReadsBlock ts i t j → (f : ℕ) → forest_height t + cap ≤ f + open_brackets ts i
         → block_at ts (deeper ts cap f) i ≡ Some (t, j)
     block_complete {i} (in_braces {j = j} {ws = ws} a b c) f m =
         let p = after a in let w = statements_within b in
@@ -437,7 +437,7 @@ module _ (ts : List Token) (cap : ℕ) (wide : (i : ℕ) → opened ts i ≤ cap
         (statements_complete b f (omega arith) (length ts) (omega arith)) c
 
     statements_complete : {i j : ℕ} {t : Stmts} → ReadsStatements ts i t j → (f : ℕ)
-        → forest_height t + cap ≤ f + opened ts i → (n : ℕ) → j ≤ n + i
+        → forest_height t + cap ≤ f + open_brackets ts i → (n : ℕ) → j ≤ n + i
         → statements_from ts (deeper ts cap f) n i ≡ Some (t, j)
     statements_complete {i} (no_statements a) f m n l = statements.no_statements_step ts (deeper ts cap f) n i a
     statements_complete (more_statements a b) f m zero l = let g = statement_goes a in let h = statements_goes b in
@@ -449,7 +449,7 @@ module _ (ts : List Token) (cap : ℕ) (wide : (i : ℕ) → opened ts i ≤ cap
         (deeper_statement ts cap f i (Some (x, j)) (omega arith) (λ h z. statement_complete a h (omega arith)))
         (statements_complete b f (omega arith) n (omega arith))
 
-    sub_complete : {i j : ℕ} {t : Stmts} → ReadsSub ts i t j → (f : ℕ) → forest_height t + cap ≤ f + opened ts i
+    sub_complete : {i j : ℕ} {t : Stmts} → ReadsSub ts i t j → (f : ℕ) → forest_height t + cap ≤ f + open_brackets ts i
         → sub_at ts (deeper ts cap f) i ≡ Some (t, j)
     sub_complete {i} {j} {t} (several a) f m =
         let e = block_starts a in
@@ -460,7 +460,7 @@ module _ (ts : List Token) (cap : ℕ) (wide : (i : ℕ) → opened ts i ≤ cap
         (deeper_statement ts cap f i (Some (x, j)) (omega arith) (λ h z. statement_complete b h (omega arith)))
 
     declaration_complete : {no_in : Bool} {i j : ℕ} {t : Tree Span tree.decl} → ReadsDeclaration ts no_in i t j
-        → (f : ℕ) → height t + cap ≤ f + opened ts i → declaration_at ts (deeper ts cap f) no_in i ≡ Some (t, j)
+        → (f : ℕ) → height t + cap ≤ f + open_brackets ts i → declaration_at ts (deeper ts cap f) no_in i ≡ Some (t, j)
     declaration_complete {no_in} {i} (declared a b) f m = statements.uninitialised_step ts (deeper ts cap f) no_in i a b
     declaration_complete {no_in} {i} {j} (initialised {t = t} a b c) f m =
         let w = wide (suc (suc i)) in let p = height_pos t in let q = after_identifier a in let u = after b in
@@ -469,7 +469,7 @@ module _ (ts : List Token) (cap : ℕ) (wide : (i : ℕ) → opened ts i ≤ cap
         (λ h z. assignment_complete c h (omega arith)))
 
     declarations_complete : {no_in : Bool} {i j : ℕ} {t : Forest Span tree.decl} → ReadsDeclarations ts no_in i t j
-        → (f : ℕ) → forest_height t + cap ≤ f + opened ts i → (n : ℕ) → j ≤ n + i
+        → (f : ℕ) → forest_height t + cap ≤ f + open_brackets ts i → (n : ℕ) → j ≤ n + i
         → declarations_from ts (deeper ts cap f) no_in n i ≡ Some (t, j)
     declarations_complete (last_declaration a b) f m zero l = let g = declaration_goes a in absurd (omega arith)
     declarations_complete {no_in} {i} {j} (last_declaration {d = x} a b) f m (suc n) l =
@@ -483,7 +483,7 @@ module _ (ts : List Token) (cap : ℕ) (wide : (i : ℕ) → opened ts i ≤ cap
 
     optional_complete : {k : Terminal} {i j : ℕ} {t : OptionalTree Span tree.expr} → ReadsOptional ts k i t j → (ends : Terminal → Bool)
         → ends k ≡ true → ((s : Terminal) → begins_expression s ≡ true → ends s ≡ false) → (f : ℕ)
-        → optional_height t + cap ≤ f + opened ts i → optional_at ts (deeper ts cap f) ends i ≡ Some (t, j)
+        → optional_height t + cap ≤ f + open_brackets ts i → optional_at ts (deeper ts cap f) ends i ≡ Some (t, j)
     optional_complete {i = i} (no_expression a) ends e stays f m =
         statements.absent_step ts (deeper ts cap f) ends i (ap ends a.is ∙ e)
     optional_complete {i = i} {j = j} (one_expression {t = t} a) ends e stays f m =
@@ -493,7 +493,7 @@ module _ (ts : List Token) (cap : ℕ) (wide : (i : ℕ) → opened ts i ≤ cap
         (λ h z. expression_complete a h (omega arith)))
 
     clauses_complete : {fresh : Bool} {i j : ℕ} {t : Forest Span tree.clause} → ReadsClauses ts fresh i t j → (f : ℕ)
-        → forest_height t + cap ≤ f + opened ts i → (n : ℕ) → j ≤ n + i
+        → forest_height t + cap ≤ f + open_brackets ts i → (n : ℕ) → j ≤ n + i
         → clauses_from ts (deeper ts cap f) n fresh i ≡ Some (t, j)
     clauses_complete {fresh} {i} (no_clauses a) f m n l = statements.no_clauses_step ts (deeper ts cap f) n i fresh a
     clauses_complete (a_case a b c d e) f m zero l = let g = expression_goes b in let h = statements_goes d in
@@ -518,13 +518,13 @@ module _ (ts : List Token) (cap : ℕ) (wide : (i : ℕ) → opened ts i ≤ cap
         (clauses_complete d f (omega arith) n (omega arith))
 
     catch_complete : {i j : ℕ} {t : Tree Span tree.handler} → ReadsCatch ts i t j → (f : ℕ)
-        → height t + cap ≤ f + opened ts i → catch_at ts (deeper ts cap f) i ≡ Some (t, j)
+        → height t + cap ≤ f + open_brackets ts i → catch_at ts (deeper ts cap f) i ≡ Some (t, j)
     catch_complete {i} {j} (a_catch {ws = ws} a b c d e) f m =
         let p = after a in let q = after b in let u = after_identifier c in let v = after d in
         statements.catch_step ts (deeper ts cap f) i j ws b c d (block_complete e f (omega arith))
 
     elements_complete : {i j : ℕ} {fs : Forest Span tree.func} {ws : Stmts} → ReadsElements ts i fs ws j → (f : ℕ)
-        → max (forest_height fs) (forest_height ws) + cap ≤ f + opened ts i → (n : ℕ) → j ≤ n + i
+        → max (forest_height fs) (forest_height ws) + cap ≤ f + open_brackets ts i → (n : ℕ) → j ≤ n + i
         → elements_from ts (deeper ts cap f) n i ≡ Some ((fs, ws), j)
     elements_complete {i} (no_elements a) f m n l = statements.no_elements_step ts (deeper ts cap f) n i a
     elements_complete (a_declaration a b) f m zero l = let g = function_goes a in let h = elements_goes b in
@@ -545,7 +545,7 @@ module _ (ts : List Token) (cap : ℕ) (wide : (i : ℕ) → opened ts i ≤ cap
         (deeper_statement ts cap f i (Some (x, j)) (omega arith) (λ h z. statement_complete a h (omega arith)))
         (elements_complete b f (omega arith) n (omega arith))
 
-    pub body_complete : {i j : ℕ} {t : Code} → ReadsBody ts i t j → (f : ℕ) → height t + cap ≤ f + opened ts i
+    pub body_complete : {i j : ℕ} {t : Code} → ReadsBody ts i t j → (f : ℕ) → height t + cap ≤ f + open_brackets ts i
         → (n : ℕ) → j ≤ n + i → body_from ts (deeper ts cap f) n i ≡ Some (t, j)
     body_complete (a_directive a b c d) f m zero l = let g = ends_at_goes c in let h = body_goes d in
         absurd (omega arith)
@@ -559,7 +559,7 @@ module _ (ts : List Token) (cap : ℕ) (wide : (i : ℕ) → opened ts i ≤ cap
         (elements_complete b f m (length ts) (omega arith))
 
     statement_complete : {i j : ℕ} {t : Stmt} → ReadsStatement ts i t j → (f : ℕ)
-        → height t + cap ≤ suc (f + opened ts i) → statement_at ts (deeper ts cap f) i ≡ Some (t, j)
+        → height t + cap ≤ suc (f + open_brackets ts i) → statement_at ts (deeper ts cap f) i ≡ Some (t, j)
     statement_complete {i} {j} (a_block {ws = ws} a) f m =
         let e = block_starts a in
         statements.block_statement_step ts (deeper ts cap f) i j ws e (block_complete a f (omega arith)) (fit f i _ m)

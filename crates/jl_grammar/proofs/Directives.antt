@@ -12,7 +12,7 @@ use Rattle.jl_token.specs.declared.token.Token.{Token}
 use Rattle.jl_token.specs.declared.punct.Punct.TheVariants as puncts
 use Rattle.jl_grammar.specs.declared.terminal.Terminal.{Terminal}
 use Rattle.jl_grammar.specs.declared.terminal.Terminal.TheVariants as terminals
-use Rattle.jl_grammar.specs.Brackets.{bracket, opened}
+use Rattle.jl_grammar.specs.Brackets.{bracket, open_brackets}
 use Rattle.jl_grammar.specs.Laws.{IsAlone, DirectivesAreAlone}
 use Rattle.jl_grammar.specs.Next.{continues_at, continues_left, is_comma, is_directive, is_identifier, is_question}
 use Rattle.jl_grammar.specs.Next.{is_string, updates_at}
@@ -35,23 +35,23 @@ use Rattle.jl_grammar.proofs.SoundExpressions.{lift_to, tighter_stops}
 use Rattle.jl_grammar.proofs.Starts.{block_starts}
 
 -- no more brackets are open than tokens have been
-few_open : (ts : List Token) (i : ℕ) → opened ts i ≤ i
-unfolding opened
+few_open : (ts : List Token) (i : ℕ) → open_brackets ts i ≤ i
+unfolding open_brackets
 few_open ts zero = omega arith
-few_open ts (suc i) = let h = few_open ts i in let g = one_more (terminal_at ts i) (opened ts i) in omega arith
+few_open ts (suc i) = let h = few_open ts i in let g = one_more (terminal_at ts i) (open_brackets ts i) in omega arith
   where
     one_more : (k : Terminal) (n : ℕ) → bracket k n ≤ suc n
     one_more (terminals.Punct puncts.LeftParen) n = omega arith
     one_more _ n = omega arith
 
-bounded : (ts : List Token) (i : ℕ) → opened ts i ≤ length ts
+bounded : (ts : List Token) (i : ℕ) → open_brackets ts i ≤ length ts
 bounded ts i = by_place (cases_lt i (length ts))
   where
-    by_place : (i < length ts) ⊎ (length ts ≤ i) → opened ts i ≤ length ts
+    by_place : (i < length ts) ⊎ (length ts ≤ i) → open_brackets ts i ≤ length ts
     by_place (inl h) = let g = few_open ts i in omega arith
     by_place (inr h) =
         let e : (i - length ts) + length ts ≡ i = omega arith in
-        let q = sym (opened_past ts (i - length ts)) ∙ ap (opened ts) e in
+        let q = sym (opened_past ts (i - length ts)) ∙ ap (open_brackets ts) e in
         let g = few_open ts (length ts) in omega arith
 
 abbrev Same : Expr × ℕ → Expr × ℕ → Type 0

@@ -4,9 +4,9 @@ use Rattle.jl_ast.specs.declared.ops.BinOp.TheVariants as ops
 use Rattle.jl_ast.specs.declared.ops.UnOp.TheVariants as prefixes
 use Rattle.jl_ast.specs.Tree as tree
 use Rattle.jl_token.specs.declared.punct.Punct.TheVariants as puncts
-use Rattle.jl_grammar.specs.Brackets.{opened}
+use Rattle.jl_grammar.specs.Brackets.{open_brackets}
 use Rattle.jl_grammar.specs.Tokens.{span}
-use Rattle.jl_grammar.specs.Reader.{ends_at, names_from, parameters_at, label_at, closed, statements_from, block_at}
+use Rattle.jl_grammar.specs.Reader.{ends_at, names_from, parameters_at, label_at, then_close_paren, statements_from, block_at}
 use Rattle.jl_grammar.specs.Reader.{elements_from, body_from, rest_at, function_at, items_from, value_at, getter_by}
 use Rattle.jl_grammar.specs.Reader.{setter_by, accessor_at, entry_by, entry_at, entries_from, primary_by}
 use Rattle.jl_grammar.specs.Reader.{primary_at, arguments_from, arguments_at, new_at, start_at, left_by, left_from}
@@ -16,7 +16,7 @@ use Rattle.jl_grammar.specs.Reader.{comma_from, expression_at, head_at, sub_at, 
 use Rattle.jl_grammar.specs.Reader.{var_at, express_at, else_from, if_at, do_at, while_at, optional_at, for_from}
 use Rattle.jl_grammar.specs.Reader.{for_in_from, for_var_at, for_expression_at, for_at, continue_at, break_at}
 use Rattle.jl_grammar.specs.Reader.{return_by, return_at, throw_at, clauses_from, switch_at, catch_at, finally_from}
-use Rattle.jl_grammar.specs.Reader.{try_at, named_at, statement_by, statement_at, made}
+use Rattle.jl_grammar.specs.Reader.{try_at, named_at, statement_by, statement_at, node}
 use Rattle.jl_grammar.specs.ReaderLevels.{deeper, program_at}
 use Rattle.jl_grammar.proofs.Sample.{read, program, word, escaped, number, string, terminal, ident, a, b, c, d, f, g, x}
 
@@ -55,13 +55,13 @@ pub primaries :
     × (read (escaped (codes "if") ∷ []) ≡ None)
     -- nothing
     × (read ([]) ≡ program (tree.body false tree.end tree.end))
-unfolding span opened ends_at names_from parameters_at label_at closed statements_from block_at elements_from
+unfolding span open_brackets ends_at names_from parameters_at label_at then_close_paren statements_from block_at elements_from
     body_from rest_at function_at items_from value_at getter_by setter_by accessor_at entry_by entry_at entries_from
     primary_by primary_at arguments_from arguments_at new_at start_at left_by left_from left_at postfix_by postfix_at
     unary_by unary_at binary_by binary_from binary_at conditional_from conditional_at assignment_by assignment_at
     comma_from expression_at head_at sub_at declaration_at declarations_from var_at express_at else_from if_at do_at
     while_at optional_at for_from for_in_from for_var_at for_expression_at for_at continue_at break_at return_by return_at
-    throw_at clauses_from switch_at catch_at finally_from try_at named_at statement_by statement_at made deeper program_at
+    throw_at clauses_from switch_at catch_at finally_from try_at named_at statement_by statement_at node deeper program_at
 primaries = (refl, refl, refl, refl, refl, refl, refl, refl)
 
 -- object literals (11.1.5): keys that are words, strings and numbers, getters and setters
@@ -119,13 +119,13 @@ pub objects :
     -- ({ a })
     × (read (terminal puncts.LeftParen ∷ terminal puncts.LeftBrace ∷ word a ∷ terminal puncts.RightBrace ∷ terminal puncts.RightParen
     ∷ []) ≡ None)
-unfolding span opened ends_at names_from parameters_at label_at closed statements_from block_at elements_from
+unfolding span open_brackets ends_at names_from parameters_at label_at then_close_paren statements_from block_at elements_from
     body_from rest_at function_at items_from value_at getter_by setter_by accessor_at entry_by entry_at entries_from
     primary_by primary_at arguments_from arguments_at new_at start_at left_by left_from left_at postfix_by postfix_at
     unary_by unary_at binary_by binary_from binary_at conditional_from conditional_at assignment_by assignment_at
     comma_from expression_at head_at sub_at declaration_at declarations_from var_at express_at else_from if_at do_at
     while_at optional_at for_from for_in_from for_var_at for_expression_at for_at continue_at break_at return_by return_at
-    throw_at clauses_from switch_at catch_at finally_from try_at named_at statement_by statement_at made deeper program_at
+    throw_at clauses_from switch_at catch_at finally_from try_at named_at statement_by statement_at node deeper program_at
 objects = (refl, refl, refl, refl, refl, refl, refl, refl, refl)
 
 -- function expressions and declarations (clause 13), and the numbers of functions
@@ -169,13 +169,13 @@ pub functions :
     × (read (word (codes "if") ∷ terminal puncts.LeftParen ∷ word a ∷ terminal puncts.RightParen ∷ word (codes "function")
     ∷ word f ∷ terminal puncts.LeftParen ∷ terminal puncts.RightParen ∷ terminal puncts.LeftBrace ∷ terminal puncts.RightBrace ∷ [])
     ≡ None)
-unfolding span opened ends_at names_from parameters_at label_at closed statements_from block_at elements_from
+unfolding span open_brackets ends_at names_from parameters_at label_at then_close_paren statements_from block_at elements_from
     body_from rest_at function_at items_from value_at getter_by setter_by accessor_at entry_by entry_at entries_from
     primary_by primary_at arguments_from arguments_at new_at start_at left_by left_from left_at postfix_by postfix_at
     unary_by unary_at binary_by binary_from binary_at conditional_from conditional_at assignment_by assignment_at
     comma_from expression_at head_at sub_at declaration_at declarations_from var_at express_at else_from if_at do_at
     while_at optional_at for_from for_in_from for_var_at for_expression_at for_at continue_at break_at return_by return_at
-    throw_at clauses_from switch_at catch_at finally_from try_at named_at statement_by statement_at made deeper program_at
+    throw_at clauses_from switch_at catch_at finally_from try_at named_at statement_by statement_at node deeper program_at
 functions = (refl, refl, refl, refl, refl, refl)
 
 -- members, calls and `new` (11.2)
@@ -224,13 +224,13 @@ pub left_sides :
     ((tree.expression (tree.new (tree.call (tree.name a tt) tree.end tt) tree.end tt) tt) ∷ []))))
     -- a(b,)
     × (read (word a ∷ terminal puncts.LeftParen ∷ word b ∷ terminal puncts.Comma ∷ terminal puncts.RightParen ∷ []) ≡ None)
-unfolding span opened ends_at names_from parameters_at label_at closed statements_from block_at elements_from
+unfolding span open_brackets ends_at names_from parameters_at label_at then_close_paren statements_from block_at elements_from
     body_from rest_at function_at items_from value_at getter_by setter_by accessor_at entry_by entry_at entries_from
     primary_by primary_at arguments_from arguments_at new_at start_at left_by left_from left_at postfix_by postfix_at
     unary_by unary_at binary_by binary_from binary_at conditional_from conditional_at assignment_by assignment_at
     comma_from expression_at head_at sub_at declaration_at declarations_from var_at express_at else_from if_at do_at
     while_at optional_at for_from for_in_from for_var_at for_expression_at for_at continue_at break_at return_by return_at
-    throw_at clauses_from switch_at catch_at finally_from try_at named_at statement_by statement_at made deeper program_at
+    throw_at clauses_from switch_at catch_at finally_from try_at named_at statement_by statement_at node deeper program_at
 left_sides = (refl, refl, refl, refl, refl, refl, refl, refl, refl)
 
 -- operators with one operand (11.3, 11.4)
@@ -270,13 +270,13 @@ pub unaries :
     × (read (terminal puncts.Minus ∷ terminal puncts.Minus ∷ word a ∷ [])
     ≡ program (tree.body false tree.end (tree.forest
     ((tree.expression (tree.unary prefixes.Minus (tree.unary prefixes.Minus (tree.name a tt) tt) tt) tt) ∷ []))))
-unfolding span opened ends_at names_from parameters_at label_at closed statements_from block_at elements_from
+unfolding span open_brackets ends_at names_from parameters_at label_at then_close_paren statements_from block_at elements_from
     body_from rest_at function_at items_from value_at getter_by setter_by accessor_at entry_by entry_at entries_from
     primary_by primary_at arguments_from arguments_at new_at start_at left_by left_from left_at postfix_by postfix_at
     unary_by unary_at binary_by binary_from binary_at conditional_from conditional_at assignment_by assignment_at
     comma_from expression_at head_at sub_at declaration_at declarations_from var_at express_at else_from if_at do_at
     while_at optional_at for_from for_in_from for_var_at for_expression_at for_at continue_at break_at return_by return_at
-    throw_at clauses_from switch_at catch_at finally_from try_at named_at statement_by statement_at made deeper program_at
+    throw_at clauses_from switch_at catch_at finally_from try_at named_at statement_by statement_at node deeper program_at
 unaries = (refl, refl, refl, refl, refl, refl, refl)
 
 -- operators with two operands (11.5 to 11.11): each level stands under the next, and goes from the left
@@ -348,11 +348,11 @@ pub binaries :
     ≡ program (tree.body false tree.end (tree.forest
     ((tree.expression (tree.binary ops.In (tree.name a tt)
     (tree.binary ops.Shr (tree.name b tt) (tree.name c tt) tt) tt) tt) ∷ []))))
-unfolding span opened ends_at names_from parameters_at label_at closed statements_from block_at elements_from
+unfolding span open_brackets ends_at names_from parameters_at label_at then_close_paren statements_from block_at elements_from
     body_from rest_at function_at items_from value_at getter_by setter_by accessor_at entry_by entry_at entries_from
     primary_by primary_at arguments_from arguments_at new_at start_at left_by left_from left_at postfix_by postfix_at
     unary_by unary_at binary_by binary_from binary_at conditional_from conditional_at assignment_by assignment_at
     comma_from expression_at head_at sub_at declaration_at declarations_from var_at express_at else_from if_at do_at
     while_at optional_at for_from for_in_from for_var_at for_expression_at for_at continue_at break_at return_by return_at
-    throw_at clauses_from switch_at catch_at finally_from try_at named_at statement_by statement_at made deeper program_at
+    throw_at clauses_from switch_at catch_at finally_from try_at named_at statement_by statement_at node deeper program_at
 binaries = (refl, refl, refl, refl, refl, refl, refl, refl, refl, refl, refl, refl, refl)

@@ -3,9 +3,9 @@ use Rattle.std.proofs.Common.{◌≡◌, refl, true, false, [], ◌∷◌, Some,
 use Rattle.jl_ast.specs.declared.ops.BinOp.TheVariants as ops
 use Rattle.jl_ast.specs.Tree as tree
 use Rattle.jl_token.specs.declared.punct.Punct.TheVariants as puncts
-use Rattle.jl_grammar.specs.Brackets.{opened}
+use Rattle.jl_grammar.specs.Brackets.{open_brackets}
 use Rattle.jl_grammar.specs.Tokens.{span}
-use Rattle.jl_grammar.specs.Reader.{ends_at, names_from, parameters_at, label_at, closed, statements_from, block_at}
+use Rattle.jl_grammar.specs.Reader.{ends_at, names_from, parameters_at, label_at, then_close_paren, statements_from, block_at}
 use Rattle.jl_grammar.specs.Reader.{elements_from, body_from, rest_at, function_at, items_from, value_at, getter_by}
 use Rattle.jl_grammar.specs.Reader.{setter_by, accessor_at, entry_by, entry_at, entries_from, primary_by}
 use Rattle.jl_grammar.specs.Reader.{primary_at, arguments_from, arguments_at, new_at, start_at, left_by, left_from}
@@ -15,7 +15,7 @@ use Rattle.jl_grammar.specs.Reader.{comma_from, expression_at, head_at, sub_at, 
 use Rattle.jl_grammar.specs.Reader.{var_at, express_at, else_from, if_at, do_at, while_at, optional_at, for_from}
 use Rattle.jl_grammar.specs.Reader.{for_in_from, for_var_at, for_expression_at, for_at, continue_at, break_at}
 use Rattle.jl_grammar.specs.Reader.{return_by, return_at, throw_at, clauses_from, switch_at, catch_at, finally_from}
-use Rattle.jl_grammar.specs.Reader.{try_at, named_at, statement_by, statement_at, made}
+use Rattle.jl_grammar.specs.Reader.{try_at, named_at, statement_by, statement_at, node}
 use Rattle.jl_grammar.specs.ReaderLevels.{deeper, program_at}
 use Rattle.jl_grammar.proofs.Sample.{read, program, word, number, string, odd_string, terminal, below, ident, a, b, c}
 use Rattle.jl_grammar.proofs.Sample.{d, f, x, y}
@@ -68,13 +68,13 @@ pub assignments :
     × (read (word a ∷ terminal puncts.LeftParen ∷ terminal puncts.RightParen ∷ terminal puncts.Assign ∷ word b ∷ []) ≡ None)
     -- a && b = c
     × (read (word a ∷ terminal puncts.AndAnd ∷ word b ∷ terminal puncts.Assign ∷ word c ∷ []) ≡ None)
-unfolding span opened ends_at names_from parameters_at label_at closed statements_from block_at elements_from
+unfolding span open_brackets ends_at names_from parameters_at label_at then_close_paren statements_from block_at elements_from
     body_from rest_at function_at items_from value_at getter_by setter_by accessor_at entry_by entry_at entries_from
     primary_by primary_at arguments_from arguments_at new_at start_at left_by left_from left_at postfix_by postfix_at
     unary_by unary_at binary_by binary_from binary_at conditional_from conditional_at assignment_by assignment_at
     comma_from expression_at head_at sub_at declaration_at declarations_from var_at express_at else_from if_at do_at
     while_at optional_at for_from for_in_from for_var_at for_expression_at for_at continue_at break_at return_by return_at
-    throw_at clauses_from switch_at catch_at finally_from try_at named_at statement_by statement_at made deeper program_at
+    throw_at clauses_from switch_at catch_at finally_from try_at named_at statement_by statement_at node deeper program_at
 assignments = (refl, refl, refl, refl, refl, refl, refl, refl, refl, refl, refl)
 
 -- inserted semicolons and restricted productions (7.9)
@@ -148,13 +148,13 @@ pub semicolons :
     ∷ below (terminal puncts.RightParen) ∷ terminal puncts.Semicolon ∷ []) ≡ None)
     -- { 1 2 } 3
     × (read (terminal puncts.LeftBrace ∷ number 1 ∷ number 2 ∷ terminal puncts.RightBrace ∷ number 3 ∷ []) ≡ None)
-unfolding span opened ends_at names_from parameters_at label_at closed statements_from block_at elements_from
+unfolding span open_brackets ends_at names_from parameters_at label_at then_close_paren statements_from block_at elements_from
     body_from rest_at function_at items_from value_at getter_by setter_by accessor_at entry_by entry_at entries_from
     primary_by primary_at arguments_from arguments_at new_at start_at left_by left_from left_at postfix_by postfix_at
     unary_by unary_at binary_by binary_from binary_at conditional_from conditional_at assignment_by assignment_at
     comma_from expression_at head_at sub_at declaration_at declarations_from var_at express_at else_from if_at do_at
     while_at optional_at for_from for_in_from for_var_at for_expression_at for_at continue_at break_at return_by return_at
-    throw_at clauses_from switch_at catch_at finally_from try_at named_at statement_by statement_at made deeper program_at
+    throw_at clauses_from switch_at catch_at finally_from try_at named_at statement_by statement_at node deeper program_at
 semicolons = (
   refl,
   refl,
@@ -265,13 +265,13 @@ pub statements :
     × (read (word (codes "try") ∷ terminal puncts.LeftBrace ∷ terminal puncts.RightBrace ∷ []) ≡ None)
     -- with (a) b
     × (read (word (codes "with") ∷ terminal puncts.LeftParen ∷ word a ∷ terminal puncts.RightParen ∷ word b ∷ []) ≡ None)
-unfolding span opened ends_at names_from parameters_at label_at closed statements_from block_at elements_from
+unfolding span open_brackets ends_at names_from parameters_at label_at then_close_paren statements_from block_at elements_from
     body_from rest_at function_at items_from value_at getter_by setter_by accessor_at entry_by entry_at entries_from
     primary_by primary_at arguments_from arguments_at new_at start_at left_by left_from left_at postfix_by postfix_at
     unary_by unary_at binary_by binary_from binary_at conditional_from conditional_at assignment_by assignment_at
     comma_from expression_at head_at sub_at declaration_at declarations_from var_at express_at else_from if_at do_at
     while_at optional_at for_from for_in_from for_var_at for_expression_at for_at continue_at break_at return_by return_at
-    throw_at clauses_from switch_at catch_at finally_from try_at named_at statement_by statement_at made deeper program_at
+    throw_at clauses_from switch_at catch_at finally_from try_at named_at statement_by statement_at node deeper program_at
 statements = (refl, refl, refl, refl, refl, refl, refl, refl, refl, refl, refl, refl, refl, refl, refl, refl, refl)
 
 -- `for` and `for-in` (12.6.3, 12.6.4), with NoIn in their heads
@@ -337,13 +337,13 @@ pub loops :
     -- for (a.b in c) ;
     × (read (word (codes "for") ∷ terminal puncts.LeftParen ∷ word a ∷ terminal puncts.Dot ∷ word b ∷ word (codes "in") ∷ word c
     ∷ terminal puncts.RightParen ∷ terminal puncts.Semicolon ∷ []) ≡ None)
-unfolding span opened ends_at names_from parameters_at label_at closed statements_from block_at elements_from
+unfolding span open_brackets ends_at names_from parameters_at label_at then_close_paren statements_from block_at elements_from
     body_from rest_at function_at items_from value_at getter_by setter_by accessor_at entry_by entry_at entries_from
     primary_by primary_at arguments_from arguments_at new_at start_at left_by left_from left_at postfix_by postfix_at
     unary_by unary_at binary_by binary_from binary_at conditional_from conditional_at assignment_by assignment_at
     comma_from expression_at head_at sub_at declaration_at declarations_from var_at express_at else_from if_at do_at
     while_at optional_at for_from for_in_from for_var_at for_expression_at for_at continue_at break_at return_by return_at
-    throw_at clauses_from switch_at catch_at finally_from try_at named_at statement_by statement_at made deeper program_at
+    throw_at clauses_from switch_at catch_at finally_from try_at named_at statement_by statement_at node deeper program_at
 loops = (refl, refl, refl, refl, refl, refl, refl, refl, refl, refl, refl)
 
 -- directives (14.1)
@@ -382,11 +382,11 @@ pub directives :
     ≡ program (tree.body false (tree.forest ((tree.function 0 (Some (ident f)) (([]))
     (tree.body true tree.end tree.end) tt)
     ∷ [])) tree.end))
-unfolding span opened ends_at names_from parameters_at label_at closed statements_from block_at elements_from
+unfolding span open_brackets ends_at names_from parameters_at label_at then_close_paren statements_from block_at elements_from
     body_from rest_at function_at items_from value_at getter_by setter_by accessor_at entry_by entry_at entries_from
     primary_by primary_at arguments_from arguments_at new_at start_at left_by left_from left_at postfix_by postfix_at
     unary_by unary_at binary_by binary_from binary_at conditional_from conditional_at assignment_by assignment_at
     comma_from expression_at head_at sub_at declaration_at declarations_from var_at express_at else_from if_at do_at
     while_at optional_at for_from for_in_from for_var_at for_expression_at for_at continue_at break_at return_by return_at
-    throw_at clauses_from switch_at catch_at finally_from try_at named_at statement_by statement_at made deeper program_at
+    throw_at clauses_from switch_at catch_at finally_from try_at named_at statement_by statement_at node deeper program_at
 directives = (refl, refl, refl, refl, refl, refl, refl, refl, refl)

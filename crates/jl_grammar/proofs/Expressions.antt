@@ -24,12 +24,12 @@ use Rattle.jl_grammar.specs.Operators.{continues, assign_operator, assigns, unar
 use Rattle.jl_grammar.specs.Reads.{Expr, Exprs, Code, JoinsAt, AssignsAt, PrefixAt, UpdateAt, IsTarget}
 use Rattle.jl_grammar.specs.Tokens.{At, Is, terminal_at, line_at, text_at, number_at, span, ident_at, key_ident_at}
 use Rattle.jl_grammar.specs.Reader.{is_close_paren, is_close_bracket, is_close_brace, is_new, names_from}
-use Rattle.jl_grammar.specs.Reader.{parameters_at, closed, body_from, rest_at, function_at, items_from, value_at}
+use Rattle.jl_grammar.specs.Reader.{parameters_at, then_close_paren, body_from, rest_at, function_at, items_from, value_at}
 use Rattle.jl_grammar.specs.Reader.{getter_by, setter_by, accessor_at, entry_by, entry_at, entries_from, primary_by}
 use Rattle.jl_grammar.specs.Reader.{primary_at, arguments_from, arguments_at, new_at, start_at, left_by, left_from}
 use Rattle.jl_grammar.specs.Reader.{left_at, postfix_by, postfix_at, unary_by, unary_at, binary_by, binary_from}
 use Rattle.jl_grammar.specs.Reader.{binary_at, conditional_from, conditional_at, assignment_by, assignment_at}
-use Rattle.jl_grammar.specs.Reader.{comma_from, expression_at, made, Read, Deeper}
+use Rattle.jl_grammar.specs.Reader.{comma_from, expression_at, node, Read, Deeper}
 
 -- a infix operator has a looseness, and so at least 1
 pub some_looseness : (o : Option InfixOperator) → nat_le 1 (infix_precedence_of o) ≡ is_some o
@@ -44,9 +44,9 @@ some_looseness (Some either) = refl
 
 -- a node that is low enough is made
 pub fitting : {x : tree.Sort} {B : Type 0} (most : ℕ) (t : Tree Span x) (j : ℕ) (go : Tree Span x → ℕ → Option B)
-    → height t ≤ suc most → made most t j go ≡ go t j
-unfolding made
-fitting most t j go h = rw (le-leb _ _ h, made)
+    → height t ≤ suc most → node most t j go ≡ go t j
+unfolding node
+fitting most t j go h = rw (le-leb _ _ h, node)
 
 module _ (ts : List Token) where
   pub last_name_step : (n i : ℕ) → Is is_identifier ts i → At ts (suc i) close_paren
@@ -127,7 +127,7 @@ module _ (ts : List Token) (d : Deeper) where
 
   pub parens_step : (i j : ℕ) (t : Expr) → At ts i open_paren → d.expression false (suc i) ≡ Some (t, j)
       → At ts j close_paren → primary_at ts d i ≡ Some (t, suc j)
-  unfolding primary_at primary_by closed
+  unfolding primary_at primary_by then_close_paren
   parens_step i j t e h f = rw (e.is, h, f.is, primary_at)
 
   pub function_step : (i j : ℕ) (ps : List (Ident Span)) (c : Code) → At ts i (keyword words.Function)

@@ -10,7 +10,7 @@ use Rattle.jl_ast.specs.Tree as tree
 use Rattle.jl_text.specs.declared.span.Span.{Span}
 use Rattle.jl_token.specs.declared.token.Token.{Token}
 use Rattle.jl_grammar.specs.declared.word.Word.TheVariants as words
-use Rattle.jl_grammar.specs.Brackets.{opened}
+use Rattle.jl_grammar.specs.Brackets.{open_brackets}
 use Rattle.jl_grammar.specs.Next.{keyword, is_question, is_comma, updates_at, target_of}
 use Rattle.jl_grammar.specs.Operators.{InfixOperator, plain, both, either, infix_node, continues, assigns, updates}
 use Rattle.jl_grammar.specs.Reads.{Expr, Stmt, Code, AssignsAt, IsTarget}
@@ -78,7 +78,7 @@ left_expression ts d n i j t b h e =
     ∙ comma_stop ts d true n i j t (ap is_comma e.is)
 
 -- the room for a node, by what is left
-pub room_is : (ts : List Token) (b f i : ℕ) → (deeper ts b f).room i ≡ f - (b - opened ts i)
+pub room_is : (ts : List Token) (b f i : ℕ) → (deeper ts b f).room i ≡ f - (b - open_brackets ts i)
 unfolding deeper
 room_is ts b zero i = omega arith
 room_is ts b (suc f) i = refl
@@ -86,44 +86,44 @@ room_is ts b (suc f) i = refl
 entering : {A : Type 0} (n : ℕ) (o r : Read A) → 1 ≤ n → o ≡ r → (if nat_le 1 n then o else None) ≡ r
 entering n o r l e = rw (le-leb 1 n l) e
 
-pub deeper_expression : (ts : List Token) (b f : ℕ) (no_in : Bool) (i : ℕ) (r : Read Expr) → b - opened ts i < f
+pub deeper_expression : (ts : List Token) (b f : ℕ) (no_in : Bool) (i : ℕ) (r : Read Expr) → b - open_brackets ts i < f
     → ((g : ℕ) → f ≡ suc g → expression_at ts (deeper ts b g) no_in g i ≡ r) → (deeper ts b f).expression no_in i ≡ r
 unfolding deeper
 deeper_expression ts b zero no_in i r p h = absurd (omega arith)
-deeper_expression ts b (suc g) no_in i r p h = entering (suc g - (b - opened ts i)) _ r (omega arith) (h g refl)
+deeper_expression ts b (suc g) no_in i r p h = entering (suc g - (b - open_brackets ts i)) _ r (omega arith) (h g refl)
 
-pub deeper_assignment : (ts : List Token) (b f : ℕ) (no_in : Bool) (i : ℕ) (r : Read Expr) → b - opened ts i < f
+pub deeper_assignment : (ts : List Token) (b f : ℕ) (no_in : Bool) (i : ℕ) (r : Read Expr) → b - open_brackets ts i < f
     → ((g : ℕ) → f ≡ suc g → assignment_at ts (deeper ts b g) no_in g i ≡ r) → (deeper ts b f).assignment no_in i ≡ r
 unfolding deeper
 deeper_assignment ts b zero no_in i r p h = absurd (omega arith)
-deeper_assignment ts b (suc g) no_in i r p h = entering (suc g - (b - opened ts i)) _ r (omega arith) (h g refl)
+deeper_assignment ts b (suc g) no_in i r p h = entering (suc g - (b - open_brackets ts i)) _ r (omega arith) (h g refl)
 
-pub deeper_unary : (ts : List Token) (b f i : ℕ) (r : Read Expr) → b - opened ts i < f
+pub deeper_unary : (ts : List Token) (b f i : ℕ) (r : Read Expr) → b - open_brackets ts i < f
     → ((g : ℕ) → f ≡ suc g → unary_at ts (deeper ts b g) g i ≡ r) → (deeper ts b f).unary i ≡ r
 unfolding deeper
 deeper_unary ts b zero i r p h = absurd (omega arith)
-deeper_unary ts b (suc g) i r p h = entering (suc g - (b - opened ts i)) _ r (omega arith) (h g refl)
+deeper_unary ts b (suc g) i r p h = entering (suc g - (b - open_brackets ts i)) _ r (omega arith) (h g refl)
 
-pub deeper_binary : (ts : List Token) (b f : ℕ) (no_in : Bool) (m i : ℕ) (r : Read Expr) → b - opened ts i < f
+pub deeper_binary : (ts : List Token) (b f : ℕ) (no_in : Bool) (m i : ℕ) (r : Read Expr) → b - open_brackets ts i < f
     → ((g : ℕ) → f ≡ suc g → binary_at ts (deeper ts b g) no_in g m i ≡ r) → (deeper ts b f).binary no_in m i ≡ r
 unfolding deeper
 deeper_binary ts b zero no_in m i r p h = absurd (omega arith)
-deeper_binary ts b (suc g) no_in m i r p h = entering (suc g - (b - opened ts i)) _ r (omega arith) (h g refl)
+deeper_binary ts b (suc g) no_in m i r p h = entering (suc g - (b - open_brackets ts i)) _ r (omega arith) (h g refl)
 
-pub deeper_member : (ts : List Token) (b f i : ℕ) (r : Read Expr) → b - opened ts i < f
+pub deeper_member : (ts : List Token) (b f i : ℕ) (r : Read Expr) → b - open_brackets ts i < f
     → ((g : ℕ) → f ≡ suc g → left_at ts (deeper ts b g) false g i ≡ r) → (deeper ts b f).member i ≡ r
 unfolding deeper
 deeper_member ts b zero i r p h = absurd (omega arith)
-deeper_member ts b (suc g) i r p h = entering (suc g - (b - opened ts i)) _ r (omega arith) (h g refl)
+deeper_member ts b (suc g) i r p h = entering (suc g - (b - open_brackets ts i)) _ r (omega arith) (h g refl)
 
-pub deeper_statement : (ts : List Token) (b f i : ℕ) (r : Read Stmt) → b - opened ts i < f
+pub deeper_statement : (ts : List Token) (b f i : ℕ) (r : Read Stmt) → b - open_brackets ts i < f
     → ((g : ℕ) → f ≡ suc g → statement_at ts (deeper ts b g) i ≡ r) → (deeper ts b f).statement i ≡ r
 unfolding deeper
 deeper_statement ts b zero i r p h = absurd (omega arith)
-deeper_statement ts b (suc g) i r p h = entering (suc g - (b - opened ts i)) _ r (omega arith) (h g refl)
+deeper_statement ts b (suc g) i r p h = entering (suc g - (b - open_brackets ts i)) _ r (omega arith) (h g refl)
 
-pub deeper_rest : (ts : List Token) (b f i : ℕ) (r : Read (List (Ident Span) × Code)) → b - opened ts i < f
+pub deeper_rest : (ts : List Token) (b f i : ℕ) (r : Read (List (Ident Span) × Code)) → b - open_brackets ts i < f
     → ((g : ℕ) → f ≡ suc g → rest_at ts (deeper ts b g) i ≡ r) → (deeper ts b f).rest i ≡ r
 unfolding deeper
 deeper_rest ts b zero i r p h = absurd (omega arith)
-deeper_rest ts b (suc g) i r p h = entering (suc g - (b - opened ts i)) _ r (omega arith) (h g refl)
+deeper_rest ts b (suc g) i r p h = entering (suc g - (b - open_brackets ts i)) _ r (omega arith) (h g refl)

@@ -9,7 +9,7 @@ use Rattle.jl_ast.specs.Tree.{Program}
 use Rattle.jl_text.specs.declared.span.Span.{Span}
 use Rattle.jl_token.specs.declared.token.Token.{Token}
 use Rattle.jl_grammar.specs.declared.terminal.Terminal.TheVariants as terminals
-use Rattle.jl_grammar.specs.Brackets.{bracket, opened}
+use Rattle.jl_grammar.specs.Brackets.{bracket, open_brackets}
 use Rattle.jl_grammar.specs.Laws.{OneReading, LimitsAgree, ReaderTells}
 use Rattle.jl_grammar.specs.Program.{Reads, program_of}
 use Rattle.jl_grammar.specs.Reader.{body_from}
@@ -23,8 +23,8 @@ use Rattle.jl_grammar.proofs.Holds.{Holds}
 use Rattle.jl_grammar.proofs.Sound.{deeper_sound}
 use Rattle.jl_grammar.proofs.SoundExpressions.{body_sound}
 
-none_opened : (ts : List Token) → opened ts 0 ≡ 0
-unfolding opened
+none_opened : (ts : List Token) → open_brackets ts 0 ≡ 0
+unfolding open_brackets
 none_opened ts = refl
 
 code_height : (ts : List Token) (c : Code) → program_height (program_of ts c) ≡ height c
@@ -58,16 +58,16 @@ read ts b f c j e = of_holds _ _ _ (body_sound ts (deeper ts b f) (deeper_sound 
     of_holds (Some x) c j h e = subst (λ (y : Code × ℕ). ReadsBody ts 0 y.0 y.1) (same_Some _ _ e) h.has
 
 -- no more brackets are open up to a place
-shallow_up_to : (ts : List Token) (most n : ℕ) → is_shallow ts most n ≡ true → (i : ℕ) → i ≤ n → opened ts i ≤ most
+shallow_up_to : (ts : List Token) (most n : ℕ) → is_shallow ts most n ≡ true → (i : ℕ) → i ≤ n → open_brackets ts i ≤ most
 shallow_up_to ts most zero h i l =
-    let n = none_opened ts in let e : i ≡ 0 = omega arith in let q = ap (opened ts) e in omega arith
+    let n = none_opened ts in let e : i ≡ 0 = omega arith in let q = ap (open_brackets ts) e in omega arith
 shallow_up_to ts most (suc n) h i l =
-    let b = both_true (nat_le (opened ts (suc n)) most) (is_shallow ts most n) h in
+    let b = both_true (nat_le (open_brackets ts (suc n)) most) (is_shallow ts most n) h in
     up_to (cases_lt i (suc n)) (leb-true _ _ b.0) (λ k. shallow_up_to ts most n b.1 i k)
   where
-    up_to : (i < suc n) ⊎ (suc n ≤ i) → opened ts (suc n) ≤ most → (i ≤ n → opened ts i ≤ most) → opened ts i ≤ most
+    up_to : (i < suc n) ⊎ (suc n ≤ i) → open_brackets ts (suc n) ≤ most → (i ≤ n → open_brackets ts i ≤ most) → open_brackets ts i ≤ most
     up_to (inl k) a f = f (omega arith)
-    up_to (inr k) a f = let e : i ≡ suc n = omega arith in let q = ap (opened ts) e in omega arith
+    up_to (inr k) a f = let e : i ≡ suc n = omega arith in let q = ap (open_brackets ts) e in omega arith
 
 end_past : (ts : List Token) (i : ℕ) → length ts ≤ i → terminal_at ts i ≡ terminals.End
 end_past [] i h = refl
@@ -75,26 +75,26 @@ end_past (t ∷ ts) zero h = absurd (omega arith)
 end_past (t ∷ ts) (suc i) h = end_past ts i (omega arith)
 
 -- past the last token no bracket opens or closes
-pub opened_past : (ts : List Token) (n : ℕ) → opened ts (n + length ts) ≡ opened ts (length ts)
-unfolding opened
-opened_past ts zero = ap (opened ts) (omega arith)
+pub opened_past : (ts : List Token) (n : ℕ) → open_brackets ts (n + length ts) ≡ open_brackets ts (length ts)
+unfolding open_brackets
+opened_past ts zero = ap (open_brackets ts) (omega arith)
 opened_past ts (suc n) =
     let e : suc n + length ts ≡ suc (n + length ts) = omega arith in
-    ap (opened ts) e ∙ ap (λ k. bracket k (opened ts (n + length ts))) (end_past ts (n + length ts) (omega arith))
+    ap (open_brackets ts) e ∙ ap (λ k. bracket k (open_brackets ts (n + length ts))) (end_past ts (n + length ts) (omega arith))
     ∙ opened_past ts n
 
 shallow_everywhere : (ts : List Token) (most : ℕ) → is_shallow ts most (length ts) ≡ true → (i : ℕ)
-    → opened ts i ≤ most
+    → open_brackets ts i ≤ most
 shallow_everywhere ts most h i = everywhere (cases_lt i (length ts))
   where
-    everywhere : (i < length ts) ⊎ (length ts ≤ i) → opened ts i ≤ most
+    everywhere : (i < length ts) ⊎ (length ts ≤ i) → open_brackets ts i ≤ most
     everywhere (inl k) = shallow_up_to ts most (length ts) h i (omega arith)
     everywhere (inr k) =
         let e : (i - length ts) + length ts ≡ i = omega arith in
-        let q = sym (opened_past ts (i - length ts)) ∙ ap (opened ts) e in
+        let q = sym (opened_past ts (i - length ts)) ∙ ap (open_brackets ts) e in
         let a = shallow_up_to ts most (length ts) h (length ts) (omega arith) in omega arith
 
-is_shallow_there : (ts : List Token) (most : ℕ) → ((i : ℕ) → opened ts i ≤ most) → (n : ℕ)
+is_shallow_there : (ts : List Token) (most : ℕ) → ((i : ℕ) → open_brackets ts i ≤ most) → (n : ℕ)
     → is_shallow ts most n ≡ true
 is_shallow_there ts most h zero = refl
 is_shallow_there ts most h (suc n) = rw (le-leb _ _ (h (suc n)), is_shallow_there ts most h n) refl

@@ -21,7 +21,7 @@ use Rattle.jl_grammar.specs.Next.{open_paren, close_paren, semicolon, keyword, i
 use Rattle.jl_grammar.specs.Next.{is_open_brace, is_semicolon, is_comma, is_colon, is_equals, is_else, is_finally}
 use Rattle.jl_grammar.specs.Next.{ends_statement, bars_expression, is_label, target_of}
 use Rattle.jl_grammar.specs.Reader.{is_close_paren, is_close_brace, is_while, is_in, is_var, is_case, is_default}
-use Rattle.jl_grammar.specs.Reader.{is_catch, ends_at, label_at, closed, head_at, sub_at, declaration_at}
+use Rattle.jl_grammar.specs.Reader.{is_catch, ends_at, label_at, then_close_paren, head_at, sub_at, declaration_at}
 use Rattle.jl_grammar.specs.Reader.{declarations_from, var_at, express_at, else_from, if_at, do_at, while_at}
 use Rattle.jl_grammar.specs.Reader.{optional_at, for_from, for_in_from, for_var_at, for_expression_at, for_at}
 use Rattle.jl_grammar.specs.Reader.{continue_at, break_at, return_by, return_at, throw_at, clauses_from, switch_at}
@@ -42,9 +42,9 @@ use Rattle.jl_grammar.proofs.SoundExpressions.{binary_sound, assignment_sound, e
 
 module _ (ts : List Token) (d : Deeper) (sound : Sound ts d) where
   head_sound : (i : ℕ) → Holds (head_at ts d i) (λ x. ReadsHead ts i x.0 x.1)
-  unfolding head_at closed
+  unfolding head_at then_close_paren
   head_sound i = when_true (is_open_paren (terminal_at ts i)) _
-      (λ h. after (closed ts d) _ (sound.expression false (suc i)) (λ x r.
+      (λ h. after (then_close_paren ts d) _ (sound.expression false (suc i)) (λ x r.
       when_true (is_close_paren (terminal_at ts x.1)) _
       (λ g. just (a_head (record { is = open_paren_terminal _ h }) r (record { is = close_paren_terminal _ g })))))
 

@@ -37,13 +37,13 @@ use Rattle.jl_grammar.specs.Operators.{InfixOperator, plain, both, either, infix
 use Rattle.jl_grammar.specs.Operators.{infix_precedence, infix_precedence_of}
 use Rattle.jl_grammar.specs.Operators.{continues, assign_operator, unary_operator, update_operator}
 use Rattle.jl_grammar.specs.Reader.{is_close_paren, is_close_bracket, is_close_brace, is_function, is_new, name_of}
-use Rattle.jl_grammar.specs.Reader.{with_directive, ends_at, names_from, parameters_at, closed, statements_from}
+use Rattle.jl_grammar.specs.Reader.{with_directive, ends_at, names_from, parameters_at, then_close_paren, statements_from}
 use Rattle.jl_grammar.specs.Reader.{block_at, elements_from, body_from, rest_at, function_at, items_from, value_at}
 use Rattle.jl_grammar.specs.Reader.{getter_by, setter_by, accessor_at, entry_by, entry_at, entries_from, primary_by}
 use Rattle.jl_grammar.specs.Reader.{primary_at, arguments_from, arguments_at, new_at, start_at, left_by, left_from}
 use Rattle.jl_grammar.specs.Reader.{left_at, postfix_by, postfix_at, unary_by, unary_at, binary_by, binary_from}
 use Rattle.jl_grammar.specs.Reader.{binary_at, conditional_from, conditional_at, assignment_by, assignment_at}
-use Rattle.jl_grammar.specs.Reader.{comma_from, expression_at, made, Read, Deeper}
+use Rattle.jl_grammar.specs.Reader.{comma_from, expression_at, node, Read, Deeper}
 use Rattle.jl_grammar.specs.Tokens.{At, Is, terminal_at, line_at, strict_at, span}
 use Rattle.jl_grammar.proofs.Expressions.{some_looseness}
 use Rattle.jl_grammar.proofs.Holds.{Holds, nothing, just, after, weaken, test, when_true, both_true, told}
@@ -55,8 +55,8 @@ use Rattle.jl_grammar.proofs.Holds.{function_terminal, new_terminal, string_term
 
 -- what holds of what a node comes to, if it is made
 pub fits : {x : tree.Sort} {A : Type 0} {P : A → Type 0} (most : ℕ) (t : Tree Span x) (j : ℕ)
-    (go : Tree Span x → ℕ → Option A) → Holds (go t j) P → Holds (made most t j go) P
-unfolding made
+    (go : Tree Span x → ℕ → Option A) → Holds (go t j) P → Holds (node most t j go) P
+unfolding node
 fits most t j go h = when_true (nat_le (height t) (suc most)) _ (λ l. h)
 
 -- the infix operators read so far may stop a tighter reading
@@ -313,7 +313,7 @@ module _ (ts : List Token) (d : Deeper) (sound : Sound ts d) where
 
   primary_by_sound : (i : ℕ) (k : Terminal) → terminal_at ts i ≡ k
       → Holds (primary_by ts d i k) (λ x. ReadsPrimary ts i x.0 x.1)
-  unfolding primary_by closed
+  unfolding primary_by then_close_paren
   primary_by_sound i (terminals.Word words.This) e = just (a_this (record { is = e }))
   primary_by_sound i terminals.Identifier e = just (a_name (record { is = ap is_identifier e }))
   primary_by_sound i terminals.Get e = just (a_name (record { is = ap is_identifier e }))
@@ -327,7 +327,7 @@ module _ (ts : List Token) (d : Deeper) (sound : Sound ts d) where
       after _ _ (items_sound (length ts) (suc i)) (λ x r. fits _ _ _ _ (just (an_array (record { is = e }) r)))
   primary_by_sound i (terminals.Punct puncts.LeftBrace) e =
       after _ _ (entries_sound (length ts) (suc i)) (λ x r. fits _ _ _ _ (just (an_object (record { is = e }) r)))
-  primary_by_sound i (terminals.Punct puncts.LeftParen) e = after (closed ts d) _ (sound.expression false (suc i)) (λ x r.
+  primary_by_sound i (terminals.Punct puncts.LeftParen) e = after (then_close_paren ts d) _ (sound.expression false (suc i)) (λ x r.
       when_true (is_close_paren (terminal_at ts x.1)) _
       (λ h. just (in_parens (record { is = e }) r (record { is = close_paren_terminal _ h }))))
   primary_by_sound i (terminals.Word words.Function) e = function_sound i (record { is = e })

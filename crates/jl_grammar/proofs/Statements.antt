@@ -15,7 +15,7 @@ use Rattle.jl_grammar.specs.Next.{is_equals, is_else, is_finally, ends_statement
 use Rattle.jl_grammar.specs.Next.{continues_at, is_string}
 use Rattle.jl_grammar.specs.Reads.{Expr, Stmt, Stmts, Code, EndsAt, there, inserted}
 use Rattle.jl_grammar.specs.Tokens.{At, Is, terminal_at, line_at, strict_at, span, ident_at}
-use Rattle.jl_grammar.specs.Reader.{is_close_paren, is_function, is_in, is_var, name_of, ends_at, label_at, closed}
+use Rattle.jl_grammar.specs.Reader.{is_close_paren, is_function, is_in, is_var, name_of, ends_at, label_at, then_close_paren}
 use Rattle.jl_grammar.specs.Reader.{statements_from, block_at, elements_from, body_from, head_at, sub_at}
 use Rattle.jl_grammar.specs.Reader.{declaration_at, declarations_from, var_at, express_at, else_from, if_at, do_at}
 use Rattle.jl_grammar.specs.Reader.{while_at, optional_at, for_from, for_in_from, for_var_at, for_expression_at}
@@ -109,7 +109,7 @@ module _ (ts : List Token) (d : Deeper) where
 
   pub head_step : (i j : ℕ) (t : Expr) → At ts i open_paren → d.expression false (suc i) ≡ Some (t, j)
       → At ts j close_paren → head_at ts d i ≡ Some (t, suc j)
-  unfolding head_at closed
+  unfolding head_at then_close_paren
   head_step i j t e h f = rw (e.is, h, f.is, head_at)
 
   pub several_step : (i j : ℕ) (ws : Stmts) → is_open_brace (terminal_at ts i) ≡ true → block_at ts d i ≡ Some (ws, j)

@@ -17,6 +17,6 @@ bracket (terminals.Punct puncts.RightBrace) n = n - 1
 bracket _ n = n
 
 -- how many brackets are open after the first i tokens
-unfoldable pub opened : List Token → ℕ → ℕ
-opened ts zero = 0
-opened ts (suc i) = bracket (terminal_at ts i) (opened ts i)
+unfoldable pub open_brackets : List Token → ℕ → ℕ
+open_brackets ts zero = 0
+open_brackets ts (suc i) = bracket (terminal_at ts i) (open_brackets ts i)

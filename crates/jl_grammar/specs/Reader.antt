@@ -21,19 +21,19 @@ use Rattle.jl_grammar.specs.Next.{ends_list, continues_left, is_directive, targe
 use Rattle.jl_grammar.specs.Operators.{InfixOperator, infix_operator, infix_node, infix_precedence, continues}
 use Rattle.jl_grammar.specs.Operators.{assign_operator, unary_operator}
 use Rattle.jl_grammar.specs.Operators.{update_operator}
-use Rattle.jl_grammar.specs.Brackets.{opened}
+use Rattle.jl_grammar.specs.Brackets.{open_brackets}
 use Rattle.jl_grammar.specs.Program.{program_of}
 use Rattle.jl_grammar.specs.Reads.{Expr, Exprs, Stmt, Stmts, Code}
 use Rattle.jl_grammar.specs.Tokens.{terminal_at, line_at, text_at, number_at, strict_at, span, ident_at, key_ident_at}
-pub use Rattle.jl_grammar.specs.Reading.{◌>>=◌, Read, done, is_close_paren, is_close_bracket, is_close_brace}
+pub use Rattle.jl_grammar.specs.Reading.{◌>>=◌, Read, succeed, is_close_paren, is_close_bracket, is_close_brace}
 pub use Rattle.jl_grammar.specs.Reading.{is_function, is_new, is_while, is_in, is_var, is_case, is_default, is_catch}
 pub use Rattle.jl_grammar.specs.Reading.{name_of, with_directive, Deeper}
-unfoldable pub use Rattle.jl_grammar.specs.Reading.{made, ends_at, names_from, parameters_at, label_at}
+unfoldable pub use Rattle.jl_grammar.specs.Reading.{node, ends_at, names_from, parameters_at, label_at}
 
 module _ (ts : List Token) (d : Deeper) where
   -- an expression and the `)` after it
-  unfoldable pub closed : Expr × ℕ → Read Expr
-  closed x = if is_close_paren (terminal_at ts x.1) then Some (x.0, suc x.1) else None
+  unfoldable pub then_close_paren : Expr × ℕ → Read Expr
+  then_close_paren x = if is_close_paren (terminal_at ts x.1) then Some (x.0, suc x.1) else None
 
   -- at most n statements, up to what ends the list
   unfoldable pub statements_from : ℕ → ℕ → Read Stmts
@@ -59,7 +59,7 @@ module _ (ts : List Token) (d : Deeper) where
       else (if is_function (terminal_at ts i)
       then (if is_identifier (terminal_at ts (suc i))
       then (d.rest (suc (suc i)) >>= λ x.
-      made (d.room i) (tree.function 0 (Some (ident_at ts (suc i))) x.0.0 x.0.1 (span ts i x.1)) x.1
+      node (d.room i) (tree.function 0 (Some (ident_at ts (suc i))) x.0.0 x.0.1 (span ts i x.1)) x.1
       (λ f j. elements_from n j >>= λ r. Some ((tree.more f r.0.0, r.0.1), r.1)))
       else None)
       else (d.statement i >>= λ x. elements_from n x.1 >>= λ r. Some ((r.0.0, tree.more x.0 r.0.1), r.1)))
@@ -86,13 +86,13 @@ module _ (ts : List Token) (d : Deeper) where
   function_at i =
       if is_identifier (terminal_at ts (suc i))
       then (rest_at (suc (suc i)) >>= λ r.
-      made (d.room i)
+      node (d.room i)
       (tree.function_expression (tree.function 0 (Some (ident_at ts (suc i))) r.0.0 r.0.1 (span ts i r.1))
       (span ts i r.1))
-      r.1 done)
+      r.1 succeed)
       else (rest_at (suc i) >>= λ r.
-      made (d.room i)
-      (tree.function_expression (tree.function 0 None r.0.0 r.0.1 (span ts i r.1)) (span ts i r.1)) r.1 done)
+      node (d.room i)
+      (tree.function_expression (tree.function 0 None r.0.0 r.0.1 (span ts i r.1)) (span ts i r.1)) r.1 succeed)
 
   -- at most n items of an array, and the `]` after them
   unfoldable pub items_from : ℕ → ℕ → Read (Forest Span tree.item)
@@ -116,13 +116,13 @@ module _ (ts : List Token) (d : Deeper) where
 
   unfoldable pub getter_by : ℕ → List (Ident Span) → Code → ℕ → Read (Tree Span tree.entry)
   getter_by i [] c j =
-      made (d.room i) (tree.function 0 None [] c (span ts i j)) j
+      node (d.room i) (tree.function 0 None [] c (span ts i j)) j
       (λ f k. Some (tree.getter (key_ident_at ts (suc i)) f, k))
   getter_by i _ c j = None
 
   unfoldable pub setter_by : ℕ → List (Ident Span) → Code → ℕ → Read (Tree Span tree.entry)
   setter_by i (p ∷ []) c j =
-      made (d.room i) (tree.function 0 None (p ∷ []) c (span ts i j)) j
+      node (d.room i) (tree.function 0 None (p ∷ []) c (span ts i j)) j
       (λ f k. Some (tree.setter (key_ident_at ts (suc i)) f, k))
   setter_by i _ c j = None
 
@@ -165,10 +165,10 @@ module _ (ts : List Token) (d : Deeper) where
   primary_by i terminals.Number = Some (tree.number (number_at ts i) (span ts i (suc i)), suc i)
   primary_by i terminals.Str = Some (tree.string (text_at ts i) (span ts i (suc i)), suc i)
   primary_by i (terminals.Punct puncts.LeftBracket) = items_from (length ts) (suc i) >>= λ x.
-      made (d.room i) (tree.array x.0 (span ts i x.1)) x.1 done
+      node (d.room i) (tree.array x.0 (span ts i x.1)) x.1 succeed
   primary_by i (terminals.Punct puncts.LeftBrace) = entries_from (length ts) (suc i) >>= λ x.
-      made (d.room i) (tree.object x.0 (span ts i x.1)) x.1 done
-  primary_by i (terminals.Punct puncts.LeftParen) = d.expression false (suc i) >>= closed
+      node (d.room i) (tree.object x.0 (span ts i x.1)) x.1 succeed
+  primary_by i (terminals.Punct puncts.LeftParen) = d.expression false (suc i) >>= then_close_paren
   primary_by i (terminals.Word words.Function) = function_at i
   primary_by i _ = None
 
@@ -191,23 +191,23 @@ module _ (ts : List Token) (d : Deeper) where
   unfoldable pub new_at : ℕ → Read Expr
   new_at i = d.member (suc i) >>= λ x.
       if is_open_paren (terminal_at ts x.1)
-      then (arguments_at (suc x.1) >>= λ a. made (d.room i) (tree.new x.0 a.0 (span ts i a.1)) a.1 done)
-      else made (d.room i) (tree.new x.0 tree.end (span ts i x.1)) x.1 done
+      then (arguments_at (suc x.1) >>= λ a. node (d.room i) (tree.new x.0 a.0 (span ts i a.1)) a.1 succeed)
+      else node (d.room i) (tree.new x.0 tree.end (span ts i x.1)) x.1 succeed
 
   unfoldable pub start_at : ℕ → Read Expr
   start_at i = if is_new (terminal_at ts i) then new_at i else primary_at i
 
   unfoldable pub left_by : Bool → (Expr → ℕ → Read Expr) → ℕ → Expr → ℕ → Terminal → Read Expr
   left_by calls go i t j (terminals.Punct puncts.Dot) =
-      if is_name (terminal_at ts (suc j)) then made (d.room i)
+      if is_name (terminal_at ts (suc j)) then node (d.room i)
       (tree.dot t (text_at ts (suc j)) (span ts i (suc (suc j))))
       (suc (suc j)) go else None
   left_by calls go i t j (terminals.Punct puncts.LeftBracket) = d.expression false (suc j) >>= λ x.
-      if is_close_bracket (terminal_at ts x.1) then made (d.room i) (tree.index t x.0 (span ts i (suc x.1))) (suc x.1)
+      if is_close_bracket (terminal_at ts x.1) then node (d.room i) (tree.index t x.0 (span ts i (suc x.1))) (suc x.1)
       go
       else None
   left_by true go i t j (terminals.Punct puncts.LeftParen) = arguments_at (suc j) >>= λ x.
-      made (d.room i) (tree.call t x.0 (span ts i x.1)) x.1 go
+      node (d.room i) (tree.call t x.0 (span ts i x.1)) x.1 go
   left_by calls go i t j _ = Some (t, j)
 
   -- goes on with a left-hand side that began at i, with at most n more parts
@@ -220,7 +220,7 @@ module _ (ts : List Token) (d : Deeper) where
 
   unfoldable pub postfix_by : ℕ → Expr → ℕ → Option Bool → Bool → Read Expr
   postfix_by i t j (Some up) false =
-      target_of t >>= λ g. made (d.room i) (tree.update up false g (span ts i (suc j))) (suc j) done
+      target_of t >>= λ g. node (d.room i) (tree.update up false g (span ts i (suc j))) (suc j) succeed
   postfix_by i t j _ _ = Some (t, j)
 
   unfoldable pub postfix_at : ℕ → ℕ → Read Expr
@@ -228,10 +228,10 @@ module _ (ts : List Token) (d : Deeper) where
       left_at true n i >>= λ x. postfix_by i x.0 x.1 (update_operator (terminal_at ts x.1)) (line_at ts x.1)
 
   unfoldable pub unary_by : ℕ → ℕ → Option UnOp → Option Bool → Read Expr
-  unary_by n i (Some op) up = d.unary (suc i) >>= λ x. made (d.room i) (tree.unary op x.0 (span ts i x.1)) x.1 done
+  unary_by n i (Some op) up = d.unary (suc i) >>= λ x. node (d.room i) (tree.unary op x.0 (span ts i x.1)) x.1 succeed
   unary_by n i None (Some up) =
-      left_at true n (suc i) >>= λ x. target_of x.0 >>= λ g. made (d.room i) (tree.update up true g (span ts i x.1))
-      x.1 done
+      left_at true n (suc i) >>= λ x. target_of x.0 >>= λ g. node (d.room i) (tree.update up true g (span ts i x.1))
+      x.1 succeed
   unary_by n i None None = postfix_at n i
 
   unfoldable pub unary_at : ℕ → ℕ → Read Expr
@@ -242,7 +242,7 @@ module _ (ts : List Token) (d : Deeper) where
   binary_by no_in go m i t j (Some op) =
       if nat_le (infix_precedence op) m
       then (d.binary no_in (pred (infix_precedence op)) (suc j) >>= λ x.
-      made (d.room i) (infix_node op t x.0 (span ts i x.1)) x.1 go)
+      node (d.room i) (infix_node op t x.0 (span ts i x.1)) x.1 go)
       else Some (t, j)
 
   -- goes on with infix operators as loose as m, with at most n more operands
@@ -259,8 +259,8 @@ module _ (ts : List Token) (d : Deeper) where
       if is_question (terminal_at ts x.1)
       then (d.assignment false (suc x.1) >>= λ a.
       if is_colon (terminal_at ts a.1)
-      then (d.assignment no_in (suc a.1) >>= λ b. made (d.room i) (tree.conditional x.0 a.0 b.0 (span ts i b.1)) b.1
-      done)
+      then (d.assignment no_in (suc a.1) >>= λ b. node (d.room i) (tree.conditional x.0 a.0 b.0 (span ts i b.1)) b.1
+      succeed)
       else None)
       else Some x
 
@@ -270,8 +270,8 @@ module _ (ts : List Token) (d : Deeper) where
   unfoldable pub assignment_by : Bool → ℕ → Expr → ℕ → Option (Option BinOp) → Read Expr
   assignment_by no_in i t j None = Some (t, j)
   assignment_by no_in i t j (Some op) =
-      target_of t >>= λ g. d.assignment no_in (suc j) >>= λ v. made (d.room i) (tree.assign op g v.0 (span ts i v.1))
-      v.1 done
+      target_of t >>= λ g. d.assignment no_in (suc j) >>= λ v. node (d.room i) (tree.assign op g v.0 (span ts i v.1))
+      v.1 succeed
 
   unfoldable pub assignment_at : Bool → ℕ → ℕ → Read Expr
   assignment_at no_in n i = conditional_at no_in n i >>= λ x.
@@ -283,14 +283,14 @@ module _ (ts : List Token) (d : Deeper) where
   comma_from no_in (suc n) i t j =
       if is_comma (terminal_at ts j)
       then (d.assignment no_in (suc j) >>= λ x.
-      made (d.room i) (tree.comma t x.0 (span ts i x.1)) x.1 (comma_from no_in n i))
+      node (d.room i) (tree.comma t x.0 (span ts i x.1)) x.1 (comma_from no_in n i))
       else Some (t, j)
 
   unfoldable pub expression_at : Bool → ℕ → ℕ → Read Expr
   expression_at no_in n i = assignment_at no_in n i >>= λ x. comma_from no_in n i x.0 x.1
 
   unfoldable pub head_at : ℕ → Read Expr
-  head_at i = if is_open_paren (terminal_at ts i) then (d.expression false (suc i) >>= closed) else None
+  head_at i = if is_open_paren (terminal_at ts i) then (d.expression false (suc i) >>= then_close_paren) else None
 
   unfoldable pub sub_at : ℕ → Read Stmts
   sub_at i = if is_open_brace (terminal_at ts i) then block_at i else
@@ -314,18 +314,19 @@ module _ (ts : List Token) (d : Deeper) where
 
   unfoldable pub var_at : ℕ → Read Stmt
   var_at i = declarations_from false (length ts) (suc i) >>= λ x. ends_at ts x.1 >>= λ k.
-      made (d.room i) (tree.var x.0 (span ts i k)) k done
+      node (d.room i) (tree.var x.0 (span ts i k)) k succeed
 
   unfoldable pub express_at : ℕ → Read Stmt
   express_at i =
-      d.expression false i >>= λ x. ends_at ts x.1 >>= λ k. made (d.room i) (tree.expression x.0 (span ts i k)) k done
+      d.expression false i >>= λ x. ends_at ts x.1 >>= λ k.
+      node (d.room i) (tree.expression x.0 (span ts i k)) k succeed
 
   unfoldable pub else_from : ℕ → Expr → Stmts × ℕ → Read Stmt
   else_from i t x =
       if is_else (terminal_at ts x.1)
-      then (sub_at (suc x.1) >>= λ y. made (d.room i)
-      (tree.if_else t x.0 (tree.present (tree.branch_of y.0)) (span ts i y.1)) y.1 done)
-      else made (d.room i) (tree.if_else t x.0 tree.absent (span ts i x.1)) x.1 done
+      then (sub_at (suc x.1) >>= λ y. node (d.room i)
+      (tree.if_else t x.0 (tree.present (tree.branch_of y.0)) (span ts i y.1)) y.1 succeed)
+      else node (d.room i) (tree.if_else t x.0 tree.absent (span ts i x.1)) x.1 succeed
 
   unfoldable pub if_at : ℕ → Read Stmt
   if_at i = head_at (suc i) >>= λ t. sub_at t.1 >>= else_from i t.0
@@ -333,13 +334,13 @@ module _ (ts : List Token) (d : Deeper) where
   unfoldable pub do_at : ℕ → Read Stmt
   do_at i = sub_at (suc i) >>= λ x.
       if is_while (terminal_at ts x.1)
-      then (head_at (suc x.1) >>= λ t. ends_at ts t.1 >>= λ k. made (d.room i) (tree.do_while x.0 t.0 (span ts i k)) k
-      done)
+      then (head_at (suc x.1) >>= λ t. ends_at ts t.1 >>= λ k. node (d.room i) (tree.do_while x.0 t.0 (span ts i k)) k
+      succeed)
       else None
 
   unfoldable pub while_at : ℕ → Read Stmt
   while_at i =
-      head_at (suc i) >>= λ t. sub_at t.1 >>= λ x. made (d.room i) (tree.while t.0 x.0 (span ts i x.1)) x.1 done
+      head_at (suc i) >>= λ t. sub_at t.1 >>= λ x. node (d.room i) (tree.while t.0 x.0 (span ts i x.1)) x.1 succeed
 
   -- an expression, or none before a token that passes the test
   unfoldable pub optional_at : (Terminal → Bool) → ℕ → Read (OptionalTree Span tree.expr)
@@ -352,7 +353,7 @@ module _ (ts : List Token) (d : Deeper) where
       if is_semicolon (terminal_at ts a.1)
       then (optional_at is_semicolon (suc a.1) >>= λ b. if is_semicolon (terminal_at ts b.1)
       then (optional_at is_close_paren (suc b.1) >>= λ c. if is_close_paren (terminal_at ts c.1)
-      then (sub_at (suc c.1) >>= λ x. made (d.room i) (tree.for a.0 b.0 c.0 x.0 (span ts i x.1)) x.1 done)
+      then (sub_at (suc c.1) >>= λ x. node (d.room i) (tree.for a.0 b.0 c.0 x.0 (span ts i x.1)) x.1 succeed)
       else None)
       else None)
       else None
@@ -360,7 +361,7 @@ module _ (ts : List Token) (d : Deeper) where
   -- a `for` after its `in`
   unfoldable pub for_in_from : ℕ → Bool → Ident Span → ℕ → Read Stmt
   for_in_from i is_var x j = d.expression false j >>= λ t. if is_close_paren (terminal_at ts t.1)
-      then (sub_at (suc t.1) >>= λ w. made (d.room i) (tree.for_in is_var x t.0 w.0 (span ts i w.1)) w.1 done)
+      then (sub_at (suc t.1) >>= λ w. node (d.room i) (tree.for_in is_var x t.0 w.0 (span ts i w.1)) w.1 succeed)
       else None
 
   unfoldable pub for_var_at : ℕ → Read Stmt
@@ -391,7 +392,7 @@ module _ (ts : List Token) (d : Deeper) where
   unfoldable pub return_by : ℕ → Option ℕ → Read Stmt
   return_by i (Some k) = Some (tree.return tree.absent (span ts i k), k)
   return_by i None = d.expression false (suc i) >>= λ x. ends_at ts x.1 >>= λ k.
-      made (d.room i) (tree.return (tree.present x.0) (span ts i k)) k done
+      node (d.room i) (tree.return (tree.present x.0) (span ts i k)) k succeed
 
   unfoldable pub return_at : ℕ → Read Stmt
   return_at i = return_by i (ends_at ts (suc i))
@@ -401,7 +402,7 @@ module _ (ts : List Token) (d : Deeper) where
       if line_at ts (suc i)
       then None
       else (d.expression false (suc i) >>= λ x. ends_at ts x.1 >>= λ k.
-      made (d.room i) (tree.throw x.0 (span ts i k)) k done)
+      node (d.room i) (tree.throw x.0 (span ts i k)) k succeed)
 
   -- at most n clauses of a `switch`, with one default or, with false, none
   unfoldable pub clauses_from : ℕ → Bool → ℕ → Read (Forest Span tree.clause)
@@ -422,8 +423,8 @@ module _ (ts : List Token) (d : Deeper) where
   unfoldable pub switch_at : ℕ → Read Stmt
   switch_at i = head_at (suc i) >>= λ t. if is_open_brace (terminal_at ts t.1)
       then (clauses_from (length ts) true (suc t.1) >>= λ c.
-      if is_close_brace (terminal_at ts c.1) then made (d.room i) (tree.switch t.0 c.0 (span ts i (suc c.1)))
-      (suc c.1) done else None)
+      if is_close_brace (terminal_at ts c.1) then node (d.room i) (tree.switch t.0 c.0 (span ts i (suc c.1)))
+      (suc c.1) succeed else None)
       else None
 
   unfoldable pub catch_at : ℕ → Read (Tree Span tree.handler)
@@ -436,29 +437,29 @@ module _ (ts : List Token) (d : Deeper) where
   unfoldable pub finally_from : ℕ → Stmts → Tree Span tree.handler × ℕ → Read Stmt
   finally_from i ws h =
       if is_finally (terminal_at ts h.1)
-      then (block_at (suc h.1) >>= λ u. made (d.room i)
-      (tree.try ws (tree.present h.0) (tree.present (tree.branch_of u.0)) (span ts i u.1)) u.1 done)
-      else made (d.room i) (tree.try ws (tree.present h.0) tree.absent (span ts i h.1)) h.1 done
+      then (block_at (suc h.1) >>= λ u. node (d.room i)
+      (tree.try ws (tree.present h.0) (tree.present (tree.branch_of u.0)) (span ts i u.1)) u.1 succeed)
+      else node (d.room i) (tree.try ws (tree.present h.0) tree.absent (span ts i h.1)) h.1 succeed
 
   unfoldable pub try_at : ℕ → Read Stmt
   try_at i = block_at (suc i) >>= λ x. if is_catch (terminal_at ts x.1)
       then (catch_at x.1 >>= finally_from i x.0)
       else (if is_finally (terminal_at ts x.1)
-      then (block_at (suc x.1) >>= λ u. made (d.room i)
-      (tree.try x.0 tree.absent (tree.present (tree.branch_of u.0)) (span ts i u.1)) u.1 done)
+      then (block_at (suc x.1) >>= λ u. node (d.room i)
+      (tree.try x.0 tree.absent (tree.present (tree.branch_of u.0)) (span ts i u.1)) u.1 succeed)
       else None)
 
   -- a statement that begins with an identifier
   unfoldable pub named_at : ℕ → Read Stmt
   named_at i =
       if is_colon (terminal_at ts (suc i))
-      then (d.statement (suc (suc i)) >>= λ w. made (d.room i) (tree.labelled (ident_at ts i) w.0 (span ts i w.1)) w.1
-      done)
+      then (d.statement (suc (suc i)) >>= λ w. node (d.room i) (tree.labelled (ident_at ts i) w.0 (span ts i w.1)) w.1
+      succeed)
       else express_at i
 
   unfoldable pub statement_by : ℕ → Terminal → Read Stmt
   statement_by i (terminals.Punct puncts.LeftBrace) =
-      block_at i >>= λ x. made (d.room i) (tree.block x.0 (span ts i x.1)) x.1 done
+      block_at i >>= λ x. node (d.room i) (tree.block x.0 (span ts i x.1)) x.1 succeed
   statement_by i (terminals.Word words.Var) = var_at i
   statement_by i (terminals.Punct puncts.Semicolon) = Some (tree.empty (span ts i (suc i)), suc i)
   statement_by i (terminals.Word words.If) = if_at i

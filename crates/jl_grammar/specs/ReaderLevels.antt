@@ -5,7 +5,7 @@ use Rattle.jl_ast.specs.Height.{program_height}
 use Rattle.jl_ast.specs.Tree.{Program}
 use Rattle.jl_text.specs.declared.span.Span.{Span}
 use Rattle.jl_token.specs.declared.token.Token.{Token}
-use Rattle.jl_grammar.specs.Brackets.{opened}
+use Rattle.jl_grammar.specs.Brackets.{open_brackets}
 use Rattle.jl_grammar.specs.Program.{program_of}
 use Rattle.jl_grammar.specs.Reading.{◌>>=◌, Read}
 use Rattle.jl_grammar.specs.Reading.{Deeper}
@@ -14,7 +14,7 @@ use Rattle.jl_grammar.specs.Reader.{statement_at, unary_at}
 
 -- with f levels left of which brackets that may still open have their share, where so many may be open
 abbrev pub room_at : List Token → ℕ → ℕ → ℕ → ℕ
-room_at ts brackets f i = f - (brackets - opened ts i)
+room_at ts brackets f i = f - (brackets - open_brackets ts i)
 
 abbrev where_room : {A : Type 0} → ℕ → Read A → Read A
 where_room most r = if nat_le 1 most then r else None
@@ -46,7 +46,7 @@ deeper ts brackets (suc f) = record {
 
 abbrev pub is_shallow : List Token → ℕ → ℕ → Bool
 is_shallow ts most zero = true
-is_shallow ts most (suc n) = nat_le (opened ts (suc n)) most && is_shallow ts most n
+is_shallow ts most (suc n) = nat_le (open_brackets ts (suc n)) most && is_shallow ts most n
 
 -- the program that the tokens are, if they are one within the limit
 unfoldable pub program_at : List Token → ℕ → Option (Program Span)

@@ -24,12 +24,12 @@ o >>= f = option_and_then f o
 abbrev pub Read : Type 0 → Type 0
 Read A = Option (A × ℕ)
 
-abbrev pub done : {A : Type 0} → A → ℕ → Read A
-done t j = Some (t, j)
+abbrev pub succeed : {A : Type 0} → A → ℕ → Read A
+succeed t j = Some (t, j)
 
 -- a node that ends before j, of which the parts may be so high, and what comes after it
-unfoldable pub made : {x : tree.Sort} {B : Type 0} → ℕ → Tree Span x → ℕ → (Tree Span x → ℕ → Option B) → Option B
-made most t j go = if nat_le (height t) (suc most) then go t j else None
+unfoldable pub node : {x : tree.Sort} {B : Type 0} → ℕ → Tree Span x → ℕ → (Tree Span x → ℕ → Option B) → Option B
+node most t j go = if nat_le (height t) (suc most) then go t j else None
 
 abbrev pub is_close_paren : Terminal → Bool
 is_close_paren (terminals.Punct puncts.RightParen) = true

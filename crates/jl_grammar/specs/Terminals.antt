@@ -8,19 +8,19 @@ use Rattle.jl_grammar.specs.declared.terminal.Terminal.TheVariants as terminals
 use Rattle.jl_grammar.specs.declared.word.Word.{Word}
 use Rattle.jl_grammar.specs.Words.{same_text, word_of}
 
-abbrev unreserved : Bool → Text → Terminal
-unreserved true t = terminals.Identifier
-unreserved false t = if same_text (codes "get") t then terminals.Get else if same_text
+abbrev unreserved_terminal : Bool → Text → Terminal
+unreserved_terminal true t = terminals.Identifier
+unreserved_terminal false t = if same_text (codes "get") t then terminals.Get else if same_text
     (codes "set") t then terminals.Set else terminals.Identifier
 
-abbrev reserved : Option Word → Bool → Text → Terminal
-reserved (Some w) true t = terminals.EscapedWord
-reserved (Some w) false t = terminals.Word w
-reserved None escaped t = unreserved escaped t
+abbrev reserved_terminal : Option Word → Bool → Text → Terminal
+reserved_terminal (Some w) true t = terminals.EscapedWord
+reserved_terminal (Some w) false t = terminals.Word w
+reserved_terminal None escaped t = unreserved_terminal escaped t
 
 -- of a name (7.6): a reserved word written with an escape is neither a keyword nor an identifier
 abbrev pub name_terminal : Text → Bool → Terminal
-name_terminal t escaped = reserved (word_of t) escaped t
+name_terminal t escaped = reserved_terminal (word_of t) escaped t
 
 abbrev pub terminal_of : TokenKind → Terminal
 terminal_of (kinds.Name t escaped) = name_terminal t escaped

@@ -14,7 +14,7 @@ use Rattle.jl_value.specs.Indices.{index_of}
 use Rattle.jl_value.proofs.Numerals.{index_of_is}
 use Rattle.jl_heap.specs.Define.{is_between}
 use Rattle.jl_heap.specs.Objects.{Objects, names_of, object_at, own, serial_of}
-use Rattle.jl_heap.specs.Steps.{Covers, is_listed}
+use Rattle.jl_heap.specs.inner.Steps.{Covers, is_listed}
 use Rattle.jl_heap.specs.declared.property.Prop.{Prop}
 use Rattle.jl_heap.proofs.Items.{bytes_eq-same, item_in}
 

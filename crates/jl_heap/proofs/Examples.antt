@@ -8,7 +8,7 @@ use Rattle.jl_value.specs.Indices.{index_of}
 use Rattle.jl_heap.specs.Define.{define_own_property, length_name}
 use Rattle.jl_heap.specs.NewObject.{with_new_object}
 use Rattle.jl_heap.specs.Objects.{Objects, names_of, own}
-use Rattle.jl_heap.specs.Property.{made, revised}
+use Rattle.jl_heap.specs.Property.{new_property, property_after}
 use Rattle.jl_heap.specs.declared.inner.Inner.TheVariants.{Nothing}
 use Rattle.jl_heap.specs.declared.property.Change.{Change}
 use Rattle.jl_heap.specs.declared.property.Defined.{Defined}
@@ -27,30 +27,30 @@ abbrev plain : ℕ → Bool → Bool → Bool → Prop
 plain n writable enumerable configurable = Plain (number n) writable enumerable configurable
 
 -- what isn't given is undefined or false, and a getter makes an accessor
-new_plain : made (record nothing { value = Some (number 1) }) ≡ Plain (number 1) false false false
+new_plain : new_property (record nothing { value = Some (number 1) }) ≡ Plain (number 1) false false false
 new_plain = refl
 
-new_accessor : made (record nothing { get = Some None }) ≡ Accessor None None false false
+new_accessor : new_property (record nothing { get = Some None }) ≡ Accessor None None false false
 new_accessor = refl
 
 -- a property that isn't configurable doesn't become enumerable or configurable, and writable to not writable is allowed
-enumerable_asked : revised (plain 1 true false false) (record nothing { enumerable = Some true }) ≡ None
+enumerable_asked : property_after (plain 1 true false false) (record nothing { enumerable = Some true }) ≡ None
 enumerable_asked = refl
 
-configurable_asked : revised (plain 1 true false false) (record nothing { configurable = Some true }) ≡ None
+configurable_asked : property_after (plain 1 true false false) (record nothing { configurable = Some true }) ≡ None
 configurable_asked = refl
 
-writable_given_up : revised (plain 1 true false false) (record nothing { writable = Some false }) ≡ Some (plain 1 false false false)
+writable_given_up : property_after (plain 1 true false false) (record nothing { writable = Some false }) ≡ Some (plain 1 false false false)
 writable_given_up = refl
 
-value_written : revised (plain 1 true false false) (record nothing { value = Some (number 2) }) ≡ Some (plain 2 true false false)
+value_written : property_after (plain 1 true false false) (record nothing { value = Some (number 2) }) ≡ Some (plain 2 true false false)
 value_written = refl
 
-value_refused : revised (plain 1 false false false) (record nothing { value = Some (number 2) }) ≡ None
+value_refused : property_after (plain 1 false false false) (record nothing { value = Some (number 2) }) ≡ None
 value_refused = refl
 
 -- a configurable one turns into an accessor, and keeps whether it can be seen
-turned_over : revised (plain 1 false true true) (record nothing { set = Some None }) ≡ Some (Accessor None None true true)
+turned_over : property_after (plain 1 false true true) (record nothing { set = Some None }) ≡ Some (Accessor None None true true)
 turned_over = refl
 
 -- an array with one element at index 0, and then another at 2

@@ -10,13 +10,13 @@ use Rattle.jl_value.specs.Indices.{index_of}
 use Rattle.jl_value.specs.declared.object.Class.{Class}
 use Rattle.jl_value.specs.declared.object.Class.TheVariants as class
 use Rattle.jl_value.specs.declared.value.Value.{Value}
-use Rattle.jl_heap.specs.Define.{IsOneKind, counted, count_of, define_own_property, defined_at, define_array_length}
+use Rattle.jl_heap.specs.Define.{IsOneKind, grow_length, count_of, define_own_property, defined_at, define_array_length}
 use Rattle.jl_heap.specs.Define.{define_on, define_ordinary, defined_shorter, is_array, is_writable, kept_open}
 use Rattle.jl_heap.specs.Define.{length_name, length_of, shortened_to, store_property, with_length}
 use Rattle.jl_heap.specs.Laws.{KeepsObject}
 use Rattle.jl_heap.specs.Objects.{Objects, delete_property, deleted_if, object_at, own, own_or_unit, unit_at}
 use Rattle.jl_heap.specs.Objects.{unit_property, units_of, with_properties}
-use Rattle.jl_heap.specs.Property.{is_configurable, is_same, revised}
+use Rattle.jl_heap.specs.Property.{is_configurable, is_same, property_after}
 use Rattle.jl_heap.specs.declared.inner.Inner.{Inner}
 use Rattle.jl_heap.specs.declared.property.Change.{Change}
 use Rattle.jl_heap.specs.declared.property.Defined.{Defined}
@@ -55,12 +55,12 @@ module _ (h : Objects) (k : ℕ) (P : Objects → Type 0) (stays : P h) (next : 
   lengthened g i None p = p
   lengthened g i (Some l) p = put g _ p
 
-  counted_so : (i : ℕ) (l : Option Prop) (g : Objects) (d : Defined) (b : Bool) → nat_le (length_of l) i ≡ b → P g → P (counted k i l (g, d)).0
+  counted_so : (i : ℕ) (l : Option Prop) (g : Objects) (d : Defined) (b : Bool) → nat_le (length_of l) i ≡ b → P g → P (grow_length k i l (g, d)).0
   counted_so i l g Rejected b e p = p
   counted_so i l g Done true e p = rw e (lengthened g (i + 1) l p)
   counted_so i l g Done false e p = rw e p
 
-  element_if : (b : Bool) (n : List ℕ) (i : ℕ) (c : Change) (l : Option Prop) → P (pick b (h, Rejected) (counted k i l (define_ordinary h k n c))).0
+  element_if : (b : Bool) (n : List ℕ) (i : ℕ) (c : Change) (l : Option Prop) → P (pick b (h, Rejected) (grow_length k i l (define_ordinary h k n c))).0
   element_if true n i c l = stays
   element_if false n i c l = counted_so i l (define_ordinary h k n c).0 (define_ordinary h k n c).1 (nat_le (length_of l) i) refl (plainly n c)
 
@@ -75,7 +75,7 @@ module _ (h : Objects) (k : ℕ) (P : Objects → Type 0) (stays : P h) (next : 
   shorter : (c : Change) (low : ℕ) (l : Option Prop) → P (defined_shorter h k c low l).0
   shorter c low None = stays
   shorter c low (Some p) =
-      shorter_if (is_writable (Some p)) low (length_of (Some p)) (unwrap_or c.writable true) (revised p (kept_open c))
+      shorter_if (is_writable (Some p)) low (length_of (Some p)) (unwrap_or c.writable true) (property_after p (kept_open c))
 
   length_if : (b : Bool) (c : Change) (low : ℕ) (l : Option Prop) → P (pick b (define_ordinary h k length_name c) (defined_shorter h k c low l)).0
   length_if true c low l = plainly length_name c
@@ -165,5 +165,5 @@ units_are h k n c unit one there absent =
     on_unit : (b : Bool) → is_same (unit_property unit) c ≡ b → (define_ordinary h k n c).0 ≡ h
     on_unit true e =
         ap (λ o. (define_on h k n c o).0) (unit_is h k n unit absent there)
-        ∙ ap (λ b. (pick b (h, Done) (store_property h k n (revised (unit_property unit) c))).0) e
+        ∙ ap (λ b. (pick b (h, Done) (store_property h k n (property_after (unit_property unit) c))).0) e
     on_unit false e = ap (λ (a : Answer). a.0) (define_ordinary-unit h k n c unit one absent there e)

@@ -7,7 +7,7 @@ use Rattle.jl_value.proofs.Numerals.{index_of_is}
 use Rattle.jl_heap.specs.Define.{is_array, length_name, define_on, define_ordinary, store_property, with_new_property}
 use Rattle.jl_heap.specs.Define.{with_property}
 use Rattle.jl_heap.specs.Objects.{Objects, object_at, own, own_or_unit}
-use Rattle.jl_heap.specs.Property.{is_same, made, revised}
+use Rattle.jl_heap.specs.Property.{is_same, new_property, property_after}
 use Rattle.jl_heap.specs.declared.property.Change.{Change}
 use Rattle.jl_heap.specs.declared.property.Defined.{Defined}
 use Rattle.jl_heap.specs.declared.property.Defined.TheVariants.{Done, Rejected}
@@ -33,8 +33,8 @@ module _ (h : Objects) (k : ℕ) (n : List ℕ) (P : Objects → Type 0) (same :
   by_same false o = by_stored o
 
   by_present : (c : Change) (o : Option Prop) → P (define_on h k n c o).0
-  by_present c None = by_new (object_at h k).extensible (made c)
-  by_present c (Some p) = by_same (is_same p c) (revised p c)
+  by_present c None = by_new (object_at h k).extensible (new_property c)
+  by_present c (Some p) = by_same (is_same p c) (property_after p c)
 
   pub by_plainly : (c : Change) → P (define_ordinary h k n c).0
   by_plainly c = by_present c (own_or_unit h k n)

@@ -8,7 +8,7 @@ use Rattle.jl_value.specs.declared.value.Value.TheVariants as value
 use Rattle.jl_heap.specs.Define.{IsOneKind, define_on, define_ordinary, store_property}
 use Rattle.jl_heap.specs.Objects.{Objects, own, own_or_unit, unit_at, unit_property}
 use Rattle.jl_heap.specs.declared.property.Defined.TheVariants.{Done, Rejected}
-use Rattle.jl_heap.specs.Property.{is_accessor, is_data, is_refused, is_same, revised, stays, turned, turns}
+use Rattle.jl_heap.specs.Property.{is_accessor, is_data, is_refused, is_same, property_after, stays, other_kind, turns}
 use Rattle.jl_heap.specs.Property.{with_fields}
 use Rattle.jl_heap.specs.declared.property.Change.{Change}
 use Rattle.jl_heap.specs.declared.property.Prop.{Prop}
@@ -33,11 +33,11 @@ refused-read_only value enumerable change one same =
     (stays same_bool change.writable false) (stays same_value change.value value) one same
 
 -- a change that asks for anything else is rejected
-pub revised-read_only : (value : Value) (enumerable : Bool) (change : Change) → IsOneKind change →
-    is_same (Plain value false enumerable false) change ≡ false → revised (Plain value false enumerable false) change ≡ None
-revised-read_only value enumerable change one same =
+pub property_after-read_only : (value : Value) (enumerable : Bool) (change : Change) → IsOneKind change →
+    is_same (Plain value false enumerable false) change ≡ false → property_after (Plain value false enumerable false) change ≡ None
+property_after-read_only value enumerable change one same =
     let read_only : Prop = Plain value false enumerable false in
-    ap (λ refused. if true && refused then None else Some (with_fields (if turns read_only change then turned read_only else read_only) change))
+    ap (λ refused. if true && refused then None else Some (with_fields (if turns read_only change then other_kind read_only else read_only) change))
     (refused-read_only value enumerable change one same)
 
 pub unit_is : (heap : Objects) (place : ℕ) (name : List ℕ) (unit : ℕ) → own heap place name ≡ None → unit_at heap place name ≡ Some unit →
@@ -51,8 +51,8 @@ pub define_ordinary-unit : (heap : Objects) (place : ℕ) (name : List ℕ) (cha
     define_ordinary heap place name change ≡ (heap, Rejected)
 define_ordinary-unit heap place name change unit one absent e same =
     ap (λ o. define_on heap place name change o) (unit_is heap place name unit absent e)
-    ∙ ap (λ b. if b then (heap, Done) else store_property heap place name (revised (unit_property unit) change)) same
-    ∙ ap (λ o. store_property heap place name o) (revised-read_only (value.Text (unit ∷ [])) true change one same)
+    ∙ ap (λ b. if b then (heap, Done) else store_property heap place name (property_after (unit_property unit) change)) same
+    ∙ ap (λ o. store_property heap place name o) (property_after-read_only (value.Text (unit ∷ [])) true change one same)
 
 none_is : {A : Type 0} (o : Option A) → IsNone o → o ≡ None
 none_is None h = refl

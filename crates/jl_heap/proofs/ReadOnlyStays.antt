@@ -9,18 +9,18 @@ use Rattle.jl_props.specs.Entries.{has_name}
 use Rattle.jl_props.specs.declared.entries.Entry.{Entry}
 use Rattle.jl_value.specs.Indices.{index_of}
 use Rattle.jl_value.specs.declared.value.Value.{Value}
-use Rattle.jl_heap.specs.Define.{IsOneKind, counted, count_of, entries_outside, define_own_property, defined_at}
+use Rattle.jl_heap.specs.Define.{IsOneKind, grow_length, count_of, entries_outside, define_own_property, defined_at}
 use Rattle.jl_heap.specs.Define.{define_array_length, define_on, define_ordinary, defined_shorter, index_after}
 use Rattle.jl_heap.specs.Define.{is_array, is_between, is_writable, kept_open, length_name, length_of, reachable_length}
 use Rattle.jl_heap.specs.Define.{shorten_array, shortened_to, store_property, with_count, with_length}
 use Rattle.jl_heap.specs.Objects.{Objects, object_at, own, own_or_unit, unit_at, unit_property}
-use Rattle.jl_heap.specs.Property.{is_same, revised}
+use Rattle.jl_heap.specs.Property.{is_same, property_after}
 use Rattle.jl_heap.specs.declared.property.Change.{Change}
 use Rattle.jl_heap.specs.declared.property.Defined.{Defined}
 use Rattle.jl_heap.specs.declared.property.Defined.TheVariants.{Done, Rejected}
 use Rattle.jl_heap.specs.declared.property.Prop.{Prop}
 use Rattle.jl_heap.specs.declared.property.Prop.TheVariants.{Plain}
-use Rattle.jl_heap.proofs.ReadOnly.{revised-read_only}
+use Rattle.jl_heap.proofs.ReadOnly.{property_after-read_only}
 use Rattle.jl_heap.proofs.Items.{item_in, item_in-filter, item_in-with_item, named_so}
 use Rattle.jl_heap.proofs.LawsLemmas.{Same, other, pick, same, same_or_other}
 use Rattle.jl_heap.proofs.Plainly.{own-define_ordinary}
@@ -56,10 +56,10 @@ module _ (h : Objects) (k : ℕ) (x : List ℕ) (v : Value) (e : Bool) (c : Chan
   read_only = Plain v false e false
 
   on_read_only : (b : Bool) → is_same (Plain v false e false) c ≡ b → (n : List ℕ) → (define_on h k n c (Some (Plain v false e false))).0 ≡ h
-  on_read_only true s n = ap (λ b. (pick b (h, Done) (store_property h k n (revised (Plain v false e false) c))).0) s
+  on_read_only true s n = ap (λ b. (pick b (h, Done) (store_property h k n (property_after (Plain v false e false) c))).0) s
   on_read_only false s n =
-      ap (λ b. (pick b (h, Done) (store_property h k n (revised (Plain v false e false) c))).0) s
-      ∙ ap (λ o. (store_property h k n o).0) (revised-read_only v e c one s)
+      ap (λ b. (pick b (h, Done) (store_property h k n (property_after (Plain v false e false) c))).0) s
+      ∙ ap (λ o. (store_property h k n o).0) (property_after-read_only v e c one s)
 
   plainly : (n : List ℕ) → Same x n → own (define_ordinary h k n c).0 k x ≡ Some (Plain v false e false)
   plainly n (other ne) = own-define_ordinary h k n x c ne ∙ here
@@ -81,13 +81,13 @@ module _ (h : Objects) (k : ℕ) (x : List ℕ) (v : Value) (e : Bool) (c : Chan
   lengthened g i (Some p) ne there = own-with_property g k length_name x (with_count i true p) ne ∙ there
 
   counted_so : (i : ℕ) (l : Option Prop) (g : Objects) (d : Defined) (b : Bool) → nat_le (length_of l) i ≡ b → (b ≡ true → x ≢ length_name) →
-      own g k x ≡ Some (Plain v false e false) → own (counted k i l (g, d)).0 k x ≡ Some (Plain v false e false)
+      own g k x ≡ Some (Plain v false e false) → own (grow_length k i l (g, d)).0 k x ≡ Some (Plain v false e false)
   counted_so i l g Rejected b is ne there = there
   counted_so i l g Done true is ne there = rw is (lengthened g (i + 1) l (ne refl) there)
   counted_so i l g Done false is ne there = rw is there
 
   element_if : (n : List ℕ) (i : ℕ) (l : Option Prop) → own h k length_name ≡ l → (b w : Bool) → nat_le (length_of l) i ≡ b → is_writable l ≡ w →
-      own (pick (b && not w) (h, Rejected) (counted k i l (define_ordinary h k n c))).0 k x ≡ Some (Plain v false e false)
+      own (pick (b && not w) (h, Rejected) (grow_length k i l (define_ordinary h k n c))).0 k x ≡ Some (Plain v false e false)
   element_if n i l l_is true false b_is w_is = here
   element_if n i l l_is true true b_is w_is =
       counted_so i l (define_ordinary h k n c).0 (define_ordinary h k n c).1 true b_is (λ _. not_length l l_is w_is) (plainly n (same_or_other x n))
@@ -113,9 +113,9 @@ module _ (h : Objects) (k : ℕ) (x : List ℕ) (v : Value) (e : Bool) (c : Chan
   shorter_to low high w (Some q) ne = shortened_so low high w q ne (within_or_past h.objects k)
 
   shorter_if : (b : Bool) (p : Prop) (low : ℕ) → own h k length_name ≡ Some p → is_writable (Some p) ≡ b →
-      own (pick b (shortened_to h k low (length_of (Some p)) (unwrap_or c.writable true) (revised p (kept_open c))) (h, Rejected)).0 k x ≡ Some (Plain v false e false)
+      own (pick b (shortened_to h k low (length_of (Some p)) (unwrap_or c.writable true) (property_after p (kept_open c))) (h, Rejected)).0 k x ≡ Some (Plain v false e false)
   shorter_if true p low l_is b_is =
-      shorter_to low (length_of (Some p)) (unwrap_or c.writable true) (revised p (kept_open c)) (not_length (Some p) l_is b_is)
+      shorter_to low (length_of (Some p)) (unwrap_or c.writable true) (property_after p (kept_open c)) (not_length (Some p) l_is b_is)
   shorter_if false p low l_is b_is = here
 
   shorter : (low : ℕ) (l : Option Prop) → own h k length_name ≡ l → own (defined_shorter h k c low l).0 k x ≡ Some (Plain v false e false)

@@ -17,7 +17,7 @@ use Rattle.jl_props.proofs.LawsLemmas.{finds_each}
 use Rattle.jl_heap.specs.Define.{entries_outside, index_after, is_between, length_name, reachable_length, shorten_array}
 use Rattle.jl_heap.specs.Define.{with_count, with_property}
 use Rattle.jl_heap.specs.Objects.{Object, Objects, object_at, own, with_properties}
-use Rattle.jl_heap.specs.Steps.{Covers, is_listed, reached_over, without_elements}
+use Rattle.jl_heap.specs.inner.Steps.{Covers, is_listed, reached_over, without_elements}
 use Rattle.jl_heap.specs.declared.property.Defined.TheVariants.{Done, Rejected}
 use Rattle.jl_heap.specs.declared.property.Prop.{Prop}
 use Rattle.jl_heap.proofs.Items.{item_in, item_in-filter, named_so}

@@ -10,7 +10,7 @@ use Rattle.jl_value.specs.declared.object.Class.TheVariants as class
 use Rattle.jl_value.specs.declared.value.Value.{Value}
 use Rattle.jl_value.specs.declared.value.Value.TheVariants as value
 use Rattle.jl_value.specs.Indices.{index_of}
-use Rattle.jl_heap.specs.Property.{is_configurable, is_data, is_accessor, is_same, revised, made}
+use Rattle.jl_heap.specs.Property.{is_configurable, is_data, is_accessor, is_same, property_after, new_property}
 use Rattle.jl_heap.specs.Objects.{Name, Objects, object_at, with_properties, own, own_or_unit}
 use Rattle.jl_heap.specs.declared.property.Change.{Change}
 use Rattle.jl_heap.specs.declared.property.Defined.{Defined}
@@ -37,10 +37,10 @@ store_property heap place name (Some p) = (with_property heap place name p, Done
 -- a change where this property, or none, is present (8.12.9, from step 3 on)
 abbrev pub define_on : Objects → ℕ → Name → Change → Option Prop → Objects × Defined
 define_on heap place name change None =
-    if (object_at heap place).extensible then (with_new_property heap place name (made change), Done)
+    if (object_at heap place).extensible then (with_new_property heap place name (new_property change), Done)
     else (heap, Rejected)
 define_on heap place name change (Some present) =
-    if is_same present change then (heap, Done) else store_property heap place name (revised present change)
+    if is_same present change then (heap, Done) else store_property heap place name (property_after present change)
 
 -- a change on an object that is no array (8.12.9)
 abbrev pub define_ordinary : Objects → ℕ → Name → Change → Objects × Defined
@@ -79,16 +79,16 @@ with_length heap place n None = heap
 with_length heap place n (Some length) = with_property heap place length_name (with_count n true length)
 
 -- after a change that is done on the element at an index, `length` is greater than the index (15.4.5.1, step 4.e)
-abbrev pub counted : ℕ → ℕ → Option Prop → Objects × Defined → Objects × Defined
-counted place index length (heap, Rejected) = (heap, Rejected)
-counted place index length (heap, Done) =
+abbrev pub grow_length : ℕ → ℕ → Option Prop → Objects × Defined → Objects × Defined
+grow_length place index length (heap, Rejected) = (heap, Rejected)
+grow_length place index length (heap, Done) =
     ((if nat_le (length_of length) index then with_length heap place (index + 1) length else heap), Done)
 
 -- a change on the element of an array at an index, where `length` is this (15.4.5.1, step 4)
 abbrev pub define_array_element : Objects → ℕ → Name → ℕ → Change → Option Prop → Objects × Defined
 define_array_element heap place name index change length =
     if nat_le (length_of length) index && not (is_writable length) then (heap, Rejected)
-    else counted place index length (define_ordinary heap place name change)
+    else grow_length place index length (define_ordinary heap place name change)
 
 -- whether an entry is an element from one index to below another
 abbrev pub is_between : ℕ → ℕ → Name → Bool
@@ -136,7 +136,7 @@ defined_shorter heap place change low None = (heap, Rejected)
 defined_shorter heap place change low (Some length) =
     if is_writable (Some length)
     then shortened_to heap place low (length_of (Some length)) (unwrap_or change.writable true)
-    (revised length (kept_open change))
+    (property_after length (kept_open change))
     else (heap, Rejected)
 
 -- a change on the `length` of an array, which is this (15.4.5.1, step 3)

@@ -26,13 +26,13 @@ text_found (Some (_, Plain (value.Text units) _ _ _)) other = units
 text_found _ other = other
 
 -- units as they are written between quotes
-abbrev pub escaped : List ℕ → List ℕ
-escaped units = quoted_after 0 units
+abbrev pub escape_units : List ℕ → List ℕ
+escape_units units = quoted_after 0 units
 
 -- the name of an error, and its message unless that is empty
 abbrev pub error_text : List ℕ → List ℕ → List ℕ
-error_text name [] = escaped name
-error_text name (u ∷ us) = escaped name ++ codes ": " ++ escaped (u ∷ us)
+error_text name [] = escape_units name
+error_text name (u ∷ us) = escape_units name ++ codes ": " ++ escape_units (u ∷ us)
 
 -- an error by its name and its message, and any other object by its class
 abbrev pub described_object : Objects → ObjId → Class → List ℕ

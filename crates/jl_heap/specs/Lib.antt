@@ -3,9 +3,9 @@ pub mod Objects
 pub mod Define
 pub mod View
 pub mod Inside
-pub mod Steps
 pub mod Chain
 pub mod Describe
 pub mod NewObject
 pub mod Headers
 pub mod Laws
+pub mod inner

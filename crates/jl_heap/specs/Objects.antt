@@ -98,14 +98,14 @@ lets_through extensible (Some (_, Plain _ writable _ _)) = extensible && writabl
 lets_through extensible (Some (_, Accessor _ set _ _)) = is_some set
 
 -- the nearest property of a name on the prototypes of an object
-abbrev pub inherited : Objects → ℕ → Name → Option (ℕ × Prop)
-inherited heap place name = option_and_then (λ proto. find heap proto.0 name) (object_at heap place).proto
+abbrev pub find_inherited : Objects → ℕ → Name → Option (ℕ × Prop)
+find_inherited heap place name = option_and_then (λ proto. find heap proto.0 name) (object_at heap place).proto
 
 -- whether a value can be put (8.12.4)
 abbrev pub can_put : Objects → ℕ → Name → Bool
 can_put heap place name =
     option_map_or takes_value (own heap place name)
-    (lets_through (object_at heap place).extensible (inherited heap place name))
+    (lets_through (object_at heap place).extensible (find_inherited heap place name))
 
 -- the objects after a delete where this property, or none, is present, and whether the name is free now
 abbrev pub deleted_if : Objects → ℕ → Name → Option Prop → Objects × Bool

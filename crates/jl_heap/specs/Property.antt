@@ -73,9 +73,9 @@ is_refused present change =
     || (turns present change || breaks present change))
 
 -- a property of the other kind, with what both kinds have (steps 9.b and 9.c)
-abbrev pub turned : Prop → Prop
-turned (Plain _ _ enumerable configurable) = Accessor None None enumerable configurable
-turned (Accessor _ _ enumerable configurable) = Plain Undefined false enumerable configurable
+abbrev pub other_kind : Prop → Prop
+other_kind (Plain _ _ enumerable configurable) = Accessor None None enumerable configurable
+other_kind (Accessor _ _ enumerable configurable) = Plain Undefined false enumerable configurable
 
 -- the property with the fields that are given (step 12)
 abbrev pub with_fields : Prop → Change → Prop
@@ -87,11 +87,11 @@ with_fields (Accessor get set enumerable configurable) change =
     (unwrap_or change.enumerable enumerable) (unwrap_or change.configurable configurable)
 
 -- what becomes of a property, or none where the change is rejected (steps 7 to 12)
-abbrev pub revised : Prop → Change → Option Prop
-revised present change =
+abbrev pub property_after : Prop → Change → Option Prop
+property_after present change =
     if not (is_configurable present) && is_refused present change
     then None
-    else Some (with_fields (if turns present change then turned present else present) change)
+    else Some (with_fields (if turns present change then other_kind present else present) change)
 
 -- the property with another value, if it holds one
 abbrev pub with_value : Prop → Value → Prop
@@ -99,8 +99,8 @@ with_value (Plain _ writable enumerable configurable) v = Plain v writable enume
 with_value (Accessor get set enumerable configurable) v = Accessor get set enumerable configurable
 
 -- a new property: what isn't given is undefined or false (step 4)
-abbrev pub made : Change → Prop
-made change =
+abbrev pub new_property : Change → Prop
+new_property change =
     with_fields
     (if is_accessor change then Accessor None None false false else Plain Undefined false false false)
     change

@@ -128,7 +128,7 @@ pub(crate) fn refuses_element(length: Option<&Prop>, index: u32) -> bool
 }
 
 /// The property `length` after the element at an index is defined, where it counts no such element yet.
-pub(crate) fn lengthened(length: Option<&Prop>, index: u32) -> Option<Prop>
+pub(crate) fn longer_length(length: Option<&Prop>, index: u32) -> Option<Prop>
     requires { index < 4294967295 }
     ensures { result ≡ (if nat_le (length_of (option_copied length.entry)) index
         then option_map (with_count (index + 1) true) (option_copied length.entry) else None) }

@@ -3,7 +3,7 @@ ghost use Rattle.std.specs.Prelude.{◌≡◌, ◌<◌, IfOk, OnErr, IsNone};
 
 use crate::heap::Heap;
 use crate::property::{Change, Defined};
-use crate::revise::{is_same, is_same_unit, made, revised};
+use crate::revise::{is_same, is_same_unit, new_property, property_after};
 use jl_text::{NoMemory, Text};
 use jl_value::ObjId;
 
@@ -29,7 +29,7 @@ impl Heap {
         if is_same(present, &change) {
             return Ok(Defined::Done);
         }
-        match revised(alloc, present, change)? {
+        match property_after(alloc, present, change)? {
             None => Ok(Defined::Rejected),
             Some(property) => {
                 self.replace(id, name, property);
@@ -54,7 +54,7 @@ impl Heap {
         if !self.is_extensible(id) {
             return Ok(Defined::Rejected);
         }
-        self.add_property(id, name, made(change))?;
+        self.add_property(id, name, new_property(change))?;
         Ok(Defined::Done)
     }
 

@@ -2,12 +2,12 @@
 ghost use Rattle.std.specs.Prelude.{◌≡◌, ◌↔◌, IfOk, IsTrue, OnErr, Some};
 
 use crate::array::{
-    is_length, is_length_name, is_writable, kept_open, length_of, lengthened, new_length,
+    is_length, is_length_name, is_writable, kept_open, length_of, longer_length, new_length,
     refuses_element,
 };
 use crate::heap::Heap;
 use crate::property::{Change, Defined};
-use crate::revise::revised;
+use crate::revise::property_after;
 use jl_text::{NoMemory, Text};
 use jl_value::{Class, ObjId, array_index};
 
@@ -86,7 +86,7 @@ impl Heap {
         if refuses_element(length, index) {
             return Ok(Defined::Rejected);
         }
-        let longer = lengthened(length, index);
+        let longer = longer_length(length, index);
         let answer = self.define_plainly(id, name, change)?;
         match (answer, longer) {
             (Defined::Done, Some(length)) => self.set_length(id, length),
@@ -135,7 +135,7 @@ impl Heap {
         }
         let high = length_of(Some(present));
         let stays_writable = change.writable.unwrap_or(true);
-        match revised(alloc, present, kept_open(change))? {
+        match property_after(alloc, present, kept_open(change))? {
             None => Ok(Defined::Rejected),
             Some(length) => self.shorten(id, name, &length, low, high, stays_writable),
         }

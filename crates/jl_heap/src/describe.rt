@@ -1,6 +1,6 @@
 //! How a value is seen by operations, and the text by which it is told.
 ghost use Rattle.std.specs.Prelude.{◌≡◌, ◌++◌, IfOk, OnOk};
-ghost use Rattle.jl_heap.specs.Describe.{error_text, escaped};
+ghost use Rattle.jl_heap.specs.Describe.{error_text, escape_units};
 
 use crate::heap::Heap;
 use crate::property::Prop;
@@ -117,7 +117,7 @@ fn error_text(alloc: Global, name: &[u16], message: &[u16]) -> Result<Vec<u16>, 
 
 // Units as they are written between quotes.
 fn push_escaped(alloc: Global, text: &mut Vec<u16>, units: &[u16]) -> Result<(), NoMemory>
-    ensures { OnOk result (text.new.items ≡ text.old.items ++ escaped units.now) }
+    ensures { OnOk result (text.new.items ≡ text.old.items ++ escape_units units.now) }
 {
     let quoted = quote(alloc, units)?;
     text.extend_from_slice(&quoted[1..quoted.len() - 1])?;

@@ -2,7 +2,8 @@
 ghost use Rattle.std.specs.Prelude.{◌≡◌, ◌↔◌, ◌&&◌, not, IfOk, IsTrue};
 ghost use Rattle.jl_value.specs.Same.{same_bool, same_value};
 ghost use Rattle.jl_heap.specs.Property.{breaks, is_accessor, is_configurable, is_data, is_enumerable, is_refused};
-ghost use Rattle.jl_heap.specs.Property.{is_same, made, revised, same_function, stays, turned, turns, with_fields};
+ghost use Rattle.jl_heap.specs.Property.{is_same, new_property, property_after, same_function, stays, other_kind};
+ghost use Rattle.jl_heap.specs.Property.{turns, with_fields};
 ghost use Rattle.jl_heap.specs.Define.{IsOneKind};
 ghost use Rattle.jl_heap.specs.Objects.{unit_property};
 
@@ -157,8 +158,8 @@ fn is_refused(present: &Prop, change: &Change) -> bool
 }
 
 /// A property of the other kind, with what both kinds have (8.12.9, steps 9.b and 9.c).
-fn turned(present: &Prop) -> Prop
-    ensures { result ≡ turned present.now }
+fn other_kind(present: &Prop) -> Prop
+    ensures { result ≡ other_kind present.now }
 {
     match present {
         Prop::Plain {
@@ -185,7 +186,7 @@ fn turned(present: &Prop) -> Prop
 }
 
 /// The same property.
-fn shared(alloc: Global, present: &Prop) -> Result<Prop, NoMemory>
+fn share_property(alloc: Global, present: &Prop) -> Result<Prop, NoMemory>
     ensures { IfOk result (λ p. p ≡ present.now) }
 {
     match present {
@@ -245,27 +246,27 @@ fn with_fields(present: Prop, change: Change) -> Prop
 }
 
 /// What becomes of a property, or None where the change is rejected (8.12.9, steps 7 to 12).
-pub(crate) fn revised(
+pub(crate) fn property_after(
     alloc: Global,
     present: &Prop,
     change: Change,
 ) -> Result<Option<Prop>, NoMemory>
-    ensures { IfOk result (λ r. r ≡ revised present.now change) }
+    ensures { IfOk result (λ r. r ≡ property_after present.now change) }
 {
     if !present.is_configurable() && is_refused(present, &change) {
         return Ok(None);
     }
     let base = if turns(present, &change) {
-        turned(present)
+        other_kind(present)
     } else {
-        shared(alloc, present)?
+        share_property(alloc, present)?
     };
     Ok(Some(with_fields(base, change)))
 }
 
 /// A new property: what isn't given is undefined or false (8.12.9, step 4).
-pub(crate) fn made(change: Change) -> Prop
-    ensures { result ≡ made change }
+pub(crate) fn new_property(change: Change) -> Prop
+    ensures { result ≡ new_property change }
 {
     let base = if change.is_accessor() {
         Prop::Accessor {

@@ -51,7 +51,7 @@ impl Heap {
     ghost use Rattle.jl_props.specs.Entries.{IsInOrder};
     ghost use Rattle.jl_heap.specs.Define.{is_array, length_name, shorten_array};
     ghost use Rattle.jl_heap.specs.Objects.{object_at, own};
-    ghost use Rattle.jl_heap.specs.Steps.{Covers, reached_over, without_elements};
+    ghost use Rattle.jl_heap.specs.inner.Steps.{Covers, reached_over, without_elements};
 
     /// Makes an array shorter, as far as its elements can be deleted. `length` is what its property of that name would
     /// become, and `high` is the old length.

@@ -8,13 +8,13 @@ use Rattle.std.proofs.lemmas.Bool.{le-leb, eqb-true}
 use Rattle.std.proofs.lemmas.Bool.Decides.{nat_tests, leb_tells}
 use Rattle.jl_token.specs.Characters.{is_digit, first_is}
 use Rattle.jl_token.specs.Elements.{HasValue}
-use Rattle.jl_token.specs.Scanner.{many, one_unit, some_digits, value_of}
+use Rattle.jl_token.specs.inner.Scanner.{many, one_unit, some_digits, value_of}
 use Rattle.jl_lex.proofs.Loops.{unit_more, unit_stop, unit_end}
 use Rattle.jl_token.proofs.Tests.{true_or_false, other_unit, is_unit}
 use Rattle.jl_token.proofs.Units.{digit_bounds}
 use Rattle.jl_token.proofs.Values.{value_sound, value_complete}
-use Rattle.jl_lex.specs.Amounts.{scaled, add_digit, add_digits, if_number, value_from, capped_from, Exponents, the_same}
-use Rattle.jl_lex.specs.Amounts.{is_high, is_low, Large, Stands, exact, beyond}
+use Rattle.jl_lex.specs.inner.Amounts.{scale, add_digit, add_digits, if_number, value_from, capped_from, Exponents, the_same}
+use Rattle.jl_lex.specs.inner.Amounts.{is_high, is_low, Large, Stands, exact, beyond}
 use Rattle.jl_lex.proofs.Powers.{ten_pos, ten_more, cancel, times_ten, last_digit, assoc, at_least, far}
 
 past : (n : ℕ) → nat_le n 9007199254740991 ≡ false → 9007199254740991 < n
@@ -31,14 +31,14 @@ data Scaled (s t : ℕ) : Type 0 where
   is : s ≡ t → Scaled s t
   stopped : 9007199254740991 < s → s ≤ t → Scaled s t
 
-scaled_step : (k c : ℕ) → Scaled (scaled (c * 10) k) ((c * 10) * 10 ^ k) → (b : Bool) → nat_le c 9007199254740991 ≡ b → Scaled (if b then scaled (c * 10) k else c) (c * 10 ^ suc k)
-scaled_step k c i true h = subst (λ t. Scaled (scaled (c * 10) k) t) (assoc c 10 (10 ^ k) ∙ ap (λ n. c * n) (turned (10 ^ k) ∙ sym (pow-suc 10 k))) i where
+scaled_step : (k c : ℕ) → Scaled (scale (c * 10) k) ((c * 10) * 10 ^ k) → (b : Bool) → nat_le c 9007199254740991 ≡ b → Scaled (if b then scale (c * 10) k else c) (c * 10 ^ suc k)
+scaled_step k c i true h = subst (λ t. Scaled (scale (c * 10) k) t) (assoc c 10 (10 ^ k) ∙ ap (λ n. c * n) (turned (10 ^ k) ∙ sym (pow-suc 10 k))) i where
   turned : (n : ℕ) → 10 * n ≡ n * 10
   turned n = omega arith
 scaled_step k c i false h = stopped (past c h) (at_least c (suc k))
 
-scaled_is : (k c : ℕ) → Scaled (scaled c k) (c * 10 ^ k)
-unfolding scaled
+scaled_is : (k c : ℕ) → Scaled (scale c k) (c * 10 ^ k)
+unfolding scale
 scaled_is zero c = is (omega arith)
 scaled_is (suc k) c = scaled_step k c (scaled_is k (c * 10)) (nat_le c 9007199254740991) refl
 
@@ -55,16 +55,16 @@ pub none_stands : Stands 0 0 0
 none_stands = exact (omega arith) (omega arith) (λ e. refl)
 
 -- a digit other than 0 after c · 10 ^ z
-append_digit : (c z m d : ℕ) → c ≤ 9007199254740991 → m ≡ c * 10 ^ z → 0 < d → d < 10 → Stands (scaled c (z + 1) + d) 0 (m * 10 + d)
-append_digit c z m d h e p q = by (scaled_is (z + 1) c) (leb_tells (scaled c (z + 1) + d) 9007199254740991) where
+append_digit : (c z m d : ℕ) → c ≤ 9007199254740991 → m ≡ c * 10 ^ z → 0 < d → d < 10 → Stands (scale c (z + 1) + d) 0 (m * 10 + d)
+append_digit c z m d h e p q = by (scaled_is (z + 1) c) (leb_tells (scale c (z + 1) + d) 9007199254740991) where
   whole : c * 10 ^ (z + 1) ≡ m * 10
   whole = sym (ap (λ n. n * 10) e ∙ (assoc c (10 ^ z) 10 ∙ ap (λ n. c * n) (sym (ten_more z))))
 
-  by : Scaled (scaled c (z + 1)) (c * 10 ^ (z + 1)) → ((nat_le (scaled c (z + 1) + d) 9007199254740991 ≡ true) × (scaled c (z + 1) + d ≤ 9007199254740991)) ⊎ ((nat_le (scaled c (z + 1) + d) 9007199254740991 ≡ false) × (9007199254740991 < scaled c (z + 1) + d)) → Stands (scaled c (z + 1) + d) 0 (m * 10 + d)
+  by : Scaled (scale c (z + 1)) (c * 10 ^ (z + 1)) → ((nat_le (scale c (z + 1) + d) 9007199254740991 ≡ true) × (scale c (z + 1) + d ≤ 9007199254740991)) ⊎ ((nat_le (scale c (z + 1) + d) 9007199254740991 ≡ false) × (9007199254740991 < scale c (z + 1) + d)) → Stands (scale c (z + 1) + d) 0 (m * 10 + d)
   by (is s) (inl l) =
-      let t : scaled c (z + 1) ≡ m * 10 = s ∙ whole in
-      exact l.1 (omega arith) (λ g. let i = last_digit m d q in let j : (scaled c (z + 1) + d) % 10 ≡ (m * 10 + d) % 10 = ap (λ n. (n + d) % 10) t in absurd (omega arith))
-  by (is s) (inr l) = let t : scaled c (z + 1) ≡ m * 10 = s ∙ whole in let k = l.1 in beyond k (large_itself m d p q (omega arith))
+      let t : scale c (z + 1) ≡ m * 10 = s ∙ whole in
+      exact l.1 (omega arith) (λ g. let i = last_digit m d q in let j : (scale c (z + 1) + d) % 10 ≡ (m * 10 + d) % 10 = ap (λ n. (n + d) % 10) t in absurd (omega arith))
+  by (is s) (inr l) = let t : scale c (z + 1) ≡ m * 10 = s ∙ whole in let k = l.1 in beyond k (large_itself m d p q (omega arith))
   by (stopped a b) l = let w = whole in beyond (omega arith) (large_itself m d p q (omega arith))
 
 digit_value : (u : ℕ) → is_digit u ≡ true → (u ≡ 48 → ⊥) → (0 < u - 48) × (u - 48 < 10)
@@ -137,21 +137,21 @@ zero_value m r l e = record { exact = (let a : 0 * 10 ^ l ≡ 0 = omega arith in
 module _ (c z m : ℕ) where
   value_inside : (r l : ℕ) → c ≤ 9007199254740991 → m ≡ c * 10 ^ z → (c % 10 ≡ 0 → c ≡ 0) → (c ≡ 0 → ⊥) → value_from c z r l ≡ value_of m r l
   unfolding value_from if_number
-  value_inside r l h e p n = rw (other_unit c 0 n, le-leb c 9007199254740991 h) (by (leb_tells l (z + r)) (scaled_is ((z + r) - l) c) (leb_tells (scaled c ((z + r) - l)) 9007199254740991)) where
+  value_inside r l h e p n = rw (other_unit c 0 n, le-leb c 9007199254740991 h) (by (leb_tells l (z + r)) (scaled_is ((z + r) - l) c) (leb_tells (scale c ((z + r) - l)) 9007199254740991)) where
     meant : (k : ℕ) → HasValue m r l k → (l ≤ z + r) × (k ≡ c * 10 ^ ((z + r) - l))
     meant k v = whole_value c z r l k (λ g. n (p g)) (v.exact ∙ ap (λ x. x * 10 ^ r) e)
 
-    by : ((nat_le l (z + r) ≡ true) × (l ≤ z + r)) ⊎ ((nat_le l (z + r) ≡ false) × (z + r < l)) → Scaled (scaled c ((z + r) - l)) (c * 10 ^ ((z + r) - l)) → ((nat_le (scaled c ((z + r) - l)) 9007199254740991 ≡ true) × (scaled c ((z + r) - l) ≤ 9007199254740991)) ⊎ ((nat_le (scaled c ((z + r) - l)) 9007199254740991 ≡ false) × (9007199254740991 < scaled c ((z + r) - l))) → (if nat_le l (z + r) then (if nat_le (scaled c ((z + r) - l)) 9007199254740991 then Some (scaled c ((z + r) - l)) else None) else None) ≡ value_of m r l
+    by : ((nat_le l (z + r) ≡ true) × (l ≤ z + r)) ⊎ ((nat_le l (z + r) ≡ false) × (z + r < l)) → Scaled (scale c ((z + r) - l)) (c * 10 ^ ((z + r) - l)) → ((nat_le (scale c ((z + r) - l)) 9007199254740991 ≡ true) × (scale c ((z + r) - l) ≤ 9007199254740991)) ⊎ ((nat_le (scale c ((z + r) - l)) 9007199254740991 ≡ false) × (9007199254740991 < scale c ((z + r) - l))) → (if nat_le l (z + r) then (if nat_le (scale c ((z + r) - l)) 9007199254740991 then Some (scale c ((z + r) - l)) else None) else None) ≡ value_of m r l
     by (inr a) s t = rw (a.0) (from_none m r l None refl (λ k v. let w = meant k v in let g = w.0 in absurd (omega (arith, a.1))))
     by (inl a) s (inr t) = rw (a.0, t.0) (from_none m r l None refl (λ k v. let w = meant k v in let i = v.inside in let g = w.1 in absurd (larger s t.1 (omega arith)))) where
-      larger : Scaled (scaled c ((z + r) - l)) (c * 10 ^ ((z + r) - l)) → 9007199254740991 < scaled c ((z + r) - l) → c * 10 ^ ((z + r) - l) ≤ 9007199254740991 → ⊥
+      larger : Scaled (scale c ((z + r) - l)) (c * 10 ^ ((z + r) - l)) → 9007199254740991 < scale c ((z + r) - l) → c * 10 ^ ((z + r) - l) ≤ 9007199254740991 → ⊥
       larger (is x) y w = omega arith
       larger (stopped x q) y w = omega arith
     by (inl a) (stopped x q) (inl t) = absurd (omega (arith, t.1))
     by (inl a) (is x) (inl t) =
         let q : ((z + r) - l) + l ≡ z + r = omega (arith, a.1) in
-        let w : scaled c ((z + r) - l) * 10 ^ l ≡ m * 10 ^ r = ap (λ k. k * 10 ^ l) x ∙ (assoc c (10 ^ ((z + r) - l)) (10 ^ l) ∙ (ap (λ k. c * k) (sym (pow-add 10 ((z + r) - l) l)) ∙ (ap (λ k. c * 10 ^ k) q ∙ (ap (λ k. c * k) (pow-add 10 z r) ∙ (sym (assoc c (10 ^ z) (10 ^ r)) ∙ ap (λ k. k * 10 ^ r) (sym e)))))) in
-        rw (a.0, t.0) (from_value m r l (scaled c ((z + r) - l)) (Some (scaled c ((z + r) - l))) refl (record { exact = w; inside = t.1 }))
+        let w : scale c ((z + r) - l) * 10 ^ l ≡ m * 10 ^ r = ap (λ k. k * 10 ^ l) x ∙ (assoc c (10 ^ ((z + r) - l)) (10 ^ l) ∙ (ap (λ k. c * k) (sym (pow-add 10 ((z + r) - l) l)) ∙ (ap (λ k. c * 10 ^ k) q ∙ (ap (λ k. c * k) (pow-add 10 z r) ∙ (sym (assoc c (10 ^ z) (10 ^ r)) ∙ ap (λ k. k * 10 ^ r) (sym e)))))) in
+        rw (a.0, t.0) (from_value m r l (scale c ((z + r) - l)) (Some (scale c ((z + r) - l))) refl (record { exact = w; inside = t.1 }))
 
   value_zero : (r' l' r l : ℕ) → c ≡ 0 → m ≡ c * 10 ^ z → value_from c z r' l' ≡ value_of m r l
   unfolding value_from
@@ -168,12 +168,12 @@ module _ (c z m : ℕ) where
   value_high : (r' r f : ℕ) → c ≤ 9007199254740991 → m ≡ c * 10 ^ z → (c % 10 ≡ 0 → c ≡ 0) → (c ≡ 0 → ⊥) → 1099511627776 ≤ r' → r' ≤ r → f ≤ 4294967296 → value_from c z r' (f + 0) ≡ value_of m r (f + 0)
   unfolding value_from if_number
   value_high r' r f h e p n a b d = rw (other_unit c 0 n, le-leb c 9007199254740991 h, le-leb (f + 0) (z + r') (omega arith))
-      (rw (over (scaled c ((z + r') - (f + 0))) (huge (scaled_is ((z + r') - (f + 0)) c)))
+      (rw (over (scale c ((z + r') - (f + 0))) (huge (scaled_is ((z + r') - (f + 0)) c)))
       (from_none m r (f + 0) None refl (λ k v. let w = whole_value c z r (f + 0) k (λ g. n (p g)) (v.exact ∙ ap (λ x. x * 10 ^ r) e) in let i = v.inside in let q = w.1 in let s = far c ((z + r) - (f + 0)) (positive c n) (omega arith) in absurd (omega arith)))) where
         positive : (c : ℕ) → (c ≡ 0 → ⊥) → 0 < c
         positive c n = grind arith
 
-        huge : Scaled (scaled c ((z + r') - (f + 0))) (c * 10 ^ ((z + r') - (f + 0))) → 9007199254740991 < scaled c ((z + r') - (f + 0))
+        huge : Scaled (scale c ((z + r') - (f + 0))) (c * 10 ^ ((z + r') - (f + 0))) → 9007199254740991 < scale c ((z + r') - (f + 0))
         huge (is x) = let s = far c ((z + r') - (f + 0)) (positive c n) (omega arith) in omega arith
         huge (stopped x y) = x
 
@@ -204,18 +204,18 @@ value_stands c z m r' l' r l f (exact h e p) x a b = by (true_or_false (c == 0))
       no c y q = grind (arith, nat_tests)
 
 -- the steps of the loops
-pub scaled_more : (value left : ℕ) → 0 < left → value ≤ 9007199254740991 → scaled value left ≡ scaled (value * 10) (left - 1)
-unfolding scaled
+pub scaled_more : (value left : ℕ) → 0 < left → value ≤ 9007199254740991 → scale value left ≡ scale (value * 10) (left - 1)
+unfolding scale
 scaled_more value zero h g = absurd (omega arith)
 scaled_more value (suc left) h g = rw (le-leb value 9007199254740991 g) (let e : suc left - 1 ≡ left = omega arith in rw e refl)
 
-pub scaled_stop : (value left : ℕ) → 9007199254740991 < value → scaled value left ≡ value
-unfolding scaled
+pub scaled_stop : (value left : ℕ) → 9007199254740991 < value → scale value left ≡ value
+unfolding scale
 scaled_stop value zero h = refl
 scaled_stop value (suc left) h = rw (over value h) refl
 
-pub scaled_end : (value left : ℕ) → left ≤ 0 → scaled value left ≡ value
-unfolding scaled
+pub scaled_end : (value left : ℕ) → left ≤ 0 → scale value left ≡ value
+unfolding scale
 scaled_end value zero h = refl
 scaled_end value (suc left) h = absurd (omega arith)
 

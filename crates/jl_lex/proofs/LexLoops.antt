@@ -5,13 +5,13 @@ use Rattle.jl_token.specs.Characters.{is_white_space, is_line_terminator, is_on_
 use Rattle.jl_token.specs.Characters.{is_quote, first_is}
 use Rattle.jl_token.specs.Punctuators.{all_punctuators}
 use Rattle.jl_token.specs.Elements.{White, LineEnd, LineComment, Word}
-use Rattle.jl_token.specs.Scanner.{Outcome, found, bad, many, one_unit, letter, name_from, before_close, block_end}
-use Rattle.jl_token.specs.Scanner.{numeral, number_end, after_line_feed, string_end, character, first_punctuator}
-use Rattle.jl_token.specs.Scanner.{punctuator_found, after_first, scan, scan_word}
+use Rattle.jl_token.specs.inner.Scanner.{Outcome, found, bad, many, one_unit, letter, name_from, before_close, block_end}
+use Rattle.jl_token.specs.inner.Scanner.{numeral, number_end, after_line_feed, string_end, character, first_punctuator}
+use Rattle.jl_token.specs.inner.Scanner.{punctuator_found, after_first, scan, scan_word}
 use Rattle.jl_token.specs.declared.token.BadKind.TheVariants as faults
 use Rattle.jl_token.specs.declared.token.TokenKind.TheVariants as kinds
 use Rattle.jl_token.specs.declared.punct.Punct.{Punct}
-use Rattle.jl_lex.specs.Answers.{IsFound, IsFrom}
+use Rattle.jl_lex.specs.inner.Answers.{IsFound, IsFrom}
 use Rattle.jl_lex.specs.declared.element.Element.{Element as Read}
 use Rattle.jl_lex.specs.declared.element.Stop.{Stop}
 use Rattle.jl_lex.specs.declared.element.Stop.TheVariants as stops

@@ -2,7 +2,7 @@
 use Rattle.std.proofs.Common.{◌≡◌, refl, sym, ap, ◌∙◌, subst, ℕ, ◌+◌, ◌<◌, ◌≤◌, Bool, true, false, ◌&&◌, ◌||◌, ◌==◌}
 use Rattle.std.proofs.Common.{List, [], ◌∷◌, ◌++◌, drop, length, Option, Some, None, if◌then◌else◌, arith, append_assoc}
 use Rattle.std.proofs.Common.{get_or, ◌-◌, ◌*◌, length-drop, zero-add, nat_le, Result, Ok, Err}
-use Rattle.jl_lex.specs.Answers.{IsFound, IsNamed}
+use Rattle.jl_lex.specs.inner.Answers.{IsFound, IsNamed}
 use Rattle.jl_lex.specs.declared.element.Element.{Element as Read}
 use Rattle.jl_lex.specs.declared.element.Stop.{Stop}
 use Rattle.jl_lex.specs.declared.element.Stop.TheVariants as stops
@@ -10,10 +10,10 @@ use Rattle.std.proofs.lemmas.List.{drop-drop, drop_more, drop_all, append-nil}
 use Rattle.std.specs.List.{list_any}
 use Rattle.jl_token.specs.Characters.{is_line_terminator, is_on_line, is_identifier_start, is_identifier_part, first_is}
 use Rattle.jl_token.specs.Elements.{BlockComment, Word, name_text, is_escaped}
-use Rattle.jl_token.specs.Scanner.{Outcome, found, bad, with_first, many, one_unit, before_close, block_end, strip}
-use Rattle.jl_token.specs.Scanner.{or_else, first_punctuator, name_escape, letter, name_done, name_from}
+use Rattle.jl_token.specs.inner.Scanner.{Outcome, found, bad, with_first, many, one_unit, before_close, block_end, strip}
+use Rattle.jl_token.specs.inner.Scanner.{or_else, first_punctuator, name_escape, letter, name_done, name_from}
 use Rattle.jl_token.specs.Characters.{is_hex_digit, hex_digit_value, are_hex_digits, hex_number}
-use Rattle.jl_lex.specs.Parts.{hex_first, four_of, four_at, LetterFrom}
+use Rattle.jl_lex.specs.inner.Parts.{hex_first, four_of, four_at, LetterFrom}
 use Rattle.jl_lex.specs.declared.names.Letter.{Letter}
 use Rattle.jl_token.specs.Punctuators.{punctuator_units}
 use Rattle.jl_token.specs.declared.punct.Punct.{Punct}

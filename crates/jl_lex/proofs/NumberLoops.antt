@@ -7,23 +7,23 @@ use Rattle.std.proofs.lemmas.Bool.Decides.{leb_tells}
 use Rattle.jl_token.specs.Characters.{is_digit, is_hex_digit, hex_digit_value, decimal_from, hex_from}
 use Rattle.jl_token.specs.Characters.{is_identifier_start, first_is}
 use Rattle.jl_token.specs.Elements.{Many, no_more, one_more, OneUnit, unit}
-use Rattle.jl_token.specs.Scanner.{many, one_unit, some_digits, raised, exponent, exponent_sign, exponent_by}
-use Rattle.jl_token.specs.Scanner.{with_exponent, after_fraction, after_whole, after_zero, hex_literal, from_whole}
-use Rattle.jl_token.specs.Scanner.{numeral, value_of, number_end, number_of, is_some_of, letter, found, bad}
+use Rattle.jl_token.specs.inner.Scanner.{many, one_unit, some_digits, exponent_powers, exponent, exponent_sign, exponent_by}
+use Rattle.jl_token.specs.inner.Scanner.{with_exponent, after_fraction, after_whole, after_zero, hex_literal, from_whole}
+use Rattle.jl_token.specs.inner.Scanner.{numeral, value_of, number_end, number_of, is_some_of, letter, found, bad}
 use Rattle.jl_token.specs.Elements.{Word}
 use Rattle.jl_token.specs.declared.token.BadKind.TheVariants as faults
 use Rattle.jl_token.specs.declared.token.TokenKind.TheVariants as kinds
 use Rattle.jl_token.proofs.Values.{value_sound}
 use Rattle.jl_token.proofs.Numbers.{units_row}
 use Rattle.jl_token.proofs.Tests.{other_unit, is_unit, or_cases, and_true}
-use Rattle.jl_lex.specs.Amounts.{scaled, add_digit, add_digits, value_from, if_number, capped_from, hex_capped_from}
-use Rattle.jl_lex.specs.Amounts.{Exponents, the_same, is_high, is_low, Stands, NumeralFrom, ExponentFrom}
+use Rattle.jl_lex.specs.inner.Amounts.{scale, add_digit, add_digits, value_from, if_number, capped_from, hex_capped_from}
+use Rattle.jl_lex.specs.inner.Amounts.{Exponents, the_same, is_high, is_low, Stands, NumeralFrom, ExponentFrom}
 use Rattle.jl_lex.specs.declared.numbers.Numeral.{Numeral}
 use Rattle.jl_lex.specs.declared.numbers.Exponent.{Exponent}
 use Rattle.jl_lex.proofs.AmountLemmas.{add_digit_stands, value_stands, none_stands, from_value, from_none, over}
 use Rattle.jl_lex.proofs.AmountLemmas.{no_digits}
 use Rattle.jl_lex.proofs.Loops.{unit_more, unit_stop, unit_end}
-use Rattle.jl_lex.specs.Parts.{hex_first}
+use Rattle.jl_lex.specs.inner.Parts.{hex_first}
 
 -- exponents
 letter_at : ℕ → Bool
@@ -84,14 +84,14 @@ unfolding exponent_by
 after_none units at lowers o e h = rw e (the_same refl refl, refl, omega arith, h)
 
 pub after_lower : (units : List ℕ) (at end n : ℕ) (lowers : Bool) (ds : List ℕ) (o : Option (List ℕ × List ℕ)) → o ≡ Some (ds, drop end units) → lowers ≡ true → n ≡ capped_from 0 ds → at ≤ end → end ≤ length units → ExponentFrom units at (record { raise = 0; lower = n; end = end }) (exponent_by (drop at units) lowers o)
-unfolding exponent_by raised
+unfolding exponent_by exponent_powers
 after_lower units at end n lowers ds o e t m a b = rw (e, t, m) (by (capped_digits ds), refl, a, b) where
   by : Capped (capped_from 0 ds) (decimal_from 0 ds) → Exponents 0 (capped_from 0 ds) 0 (decimal_from 0 ds)
   by (whole_number e) = the_same refl e
   by (large_number a b) = is_low a b refl refl
 
 pub after_raise : (units : List ℕ) (at end n : ℕ) (lowers : Bool) (ds : List ℕ) (o : Option (List ℕ × List ℕ)) → o ≡ Some (ds, drop end units) → lowers ≡ false → n ≡ capped_from 0 ds → at ≤ end → end ≤ length units → ExponentFrom units at (record { raise = n; lower = 0; end = end }) (exponent_by (drop at units) lowers o)
-unfolding exponent_by raised
+unfolding exponent_by exponent_powers
 after_raise units at end n lowers ds o e t m a b = rw (e, t, m) (by (capped_digits ds), refl, a, b) where
   by : Capped (capped_from 0 ds) (decimal_from 0 ds) → Exponents (capped_from 0 ds) 0 (decimal_from 0 ds) 0
   by (whole_number e) = the_same e refl
@@ -280,7 +280,7 @@ first_stands u c z e y us h a b =
 
 pub first_zeros : (u c z : ℕ) → (u ≡ 48 → ⊥) → ◌≡◌ {A = ℕ × ℕ} (c, z) (add_digit u (0, 0)) → z ≡ 0
 unfolding add_digit
-first_zeros u c z n e = (let h = other_unit u 48 n in let q : ◌≡◌ {A = ℕ × ℕ} (c, z) (if u == 48 then (0, 0) else (scaled 0 (0 + 1) + (u - 48), 0)) = e in ap (λ (x : ℕ × ℕ). x.1) q ∙ (rw h refl))
+first_zeros u c z n e = (let h = other_unit u 48 n in let q : ◌≡◌ {A = ℕ × ℕ} (c, z) (if u == 48 then (0, 0) else (scale 0 (0 + 1) + (u - 48), 0)) = e in ap (λ (x : ℕ × ℕ). x.1) q ∙ (rw h refl))
 
 -- what a literal comes to
 pub number_digit : (units : List ℕ) (low : ℕ) (n : Numeral) (x : ℕ × ℕ × ℕ × List ℕ) → NumeralFrom units low n x → true ≡ first_is is_digit (drop n.end units) → number_end x ≡ bad faults.BadNumber

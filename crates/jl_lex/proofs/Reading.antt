@@ -6,7 +6,7 @@ use Rattle.std.specs.Global.{Vec}
 use Rattle.jl_token.specs.Elements.{Element, Many}
 use Rattle.jl_token.specs.Faults.{Fault}
 use Rattle.jl_token.specs.Tokens.{Piece, piece, place, OnePiece, tokens_among, Tokens, comments_among, Comments, BadAt}
-use Rattle.jl_token.specs.Scanner.{Outcome, found, bad, many, scan, piece_found, next_piece}
+use Rattle.jl_token.specs.inner.Scanner.{Outcome, found, bad, many, scan, piece_found, next_piece}
 use Rattle.jl_token.specs.declared.token.BadKind.{BadKind}
 use Rattle.jl_token.specs.declared.token.Token.{Token}
 use Rattle.jl_token.specs.declared.token.Comment.{Comment}
@@ -14,7 +14,7 @@ use Rattle.jl_token.proofs.Rows.{many_step, many_stop, many_sound, nothing_at_en
 use Rattle.jl_token.proofs.Found.{Right, right_element, right_fault, scan_right}
 use Rattle.jl_token.proofs.Whole.{reads_piece, split_whole, stopped, tokens_are_unique, bad_place_is_unique, never_both}
 use Rattle.jl_token.proofs.CommentLaws.{comments_are_unique}
-use Rattle.jl_lex.specs.Answers.{IsFrom}
+use Rattle.jl_lex.specs.inner.Answers.{IsFrom}
 use Rattle.jl_lex.specs.Refusals.{IsRefusal, refusal_at}
 use Rattle.jl_lex.specs.declared.element.Stop.{Stop}
 use Rattle.jl_lex.specs.declared.element.Stop.TheVariants as stops

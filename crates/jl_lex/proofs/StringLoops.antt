@@ -7,15 +7,15 @@ use Rattle.std.proofs.lemmas.Bool.Decides.{nat_tests}
 use Rattle.jl_token.specs.Characters.{is_line_terminator, is_digit, is_hex_digit, hex_digit_value, are_hex_digits}
 use Rattle.jl_token.specs.Characters.{hex_number, single_escape, is_quote, first_is}
 use Rattle.jl_token.specs.Elements.{Word, string_text, is_plain}
-use Rattle.jl_token.specs.Scanner.{Outcome, found, bad, many, after_line_feed, hex_escape, unicode_escape, other_escape}
-use Rattle.jl_token.specs.Scanner.{escape_by, escape, character, string_stop, string_done, string_end}
+use Rattle.jl_token.specs.inner.Scanner.{Outcome, found, bad, many, after_line_feed, hex_escape, unicode_escape, other_escape}
+use Rattle.jl_token.specs.inner.Scanner.{escape_by, escape, character, string_stop, string_done, string_end}
 use Rattle.jl_token.specs.declared.token.BadKind.TheVariants as faults
 use Rattle.jl_token.specs.declared.token.TokenKind.TheVariants as kinds
 use Rattle.jl_token.proofs.Rows.{many_step, many_stop}
 use Rattle.jl_token.proofs.Strings.{reads_character}
 use Rattle.jl_token.proofs.Tests.{other_unit}
 use Rattle.jl_token.proofs.Units.{units}
-use Rattle.jl_lex.specs.Parts.{hex_first, two_of, four_of, two_at, four_at, CharacterFrom}
+use Rattle.jl_lex.specs.inner.Parts.{hex_first, two_of, four_of, two_at, four_at, CharacterFrom}
 use Rattle.jl_lex.specs.declared.strings.Character.{Character}
 use Rattle.jl_lex.proofs.Loops.{four_last, four_digits}
 

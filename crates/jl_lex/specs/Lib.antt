@@ -1,4 +1,2 @@
-pub mod Parts
-pub mod Answers
-pub mod Amounts
 pub mod Refusals
+pub mod inner

@@ -1,6 +1,6 @@
 //! Which units are what (6, 7.2, 7.3, 7.6, 7.8), and what stands at a place.
 ghost use Rattle.std.specs.Prelude.{◌≡◌, ◌+◌, ◌<◌, ◌≤◌, ◌==◌, ◌∷◌, [], drop, length, MatchOption, if◌then◌else◌};
-ghost use Rattle.jl_token.specs.Scanner.{after_line_feed};
+ghost use Rattle.jl_token.specs.inner.Scanner.{after_line_feed};
 ghost use Rattle.jl_token.specs.Characters.{category, is_space, is_letter, is_mark, is_white_space, is_line_terminator};
 ghost use Rattle.jl_token.specs.Characters.{is_identifier_start, is_identifier_part, is_digit, is_hex_digit};
 ghost use Rattle.jl_token.specs.Characters.{hex_digit_value, is_quote, first_is};

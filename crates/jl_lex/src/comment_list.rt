@@ -4,7 +4,7 @@ ghost use Rattle.std.specs.Prelude.{MatchResult};
 ghost use Rattle.jl_token.specs.Tokens.{Piece, piece, comments_among, Comments, BadAt};
 ghost use Rattle.jl_token.specs.declared.token.Comment.{Comment as OneComment};
 ghost use Rattle.jl_token.specs.declared.token.BadKind.{BadKind as Kind};
-ghost use Rattle.jl_lex.specs.Answers.{element_of};
+ghost use Rattle.jl_lex.specs.inner.Answers.{element_of};
 ghost use Rattle.jl_lex.specs.Refusals.{IsRefusal};
 
 use crate::characters::unit_at;

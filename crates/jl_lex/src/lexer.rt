@@ -1,11 +1,11 @@
 ghost use Rattle.std.specs.Prelude.{◌≡◌, ◌+◌, ◌-◌, ◌<◌, ◌≤◌, ◌==◌, ◌&&◌, ◌||◌, ◌^◌, ◌⊎◌, ◌∷◌, ◌++◌, ℕ, List as Items};
 ghost use Rattle.std.specs.Prelude.{drop, length, IfOk, IfErr, MatchResult};
 ghost use Rattle.jl_token.specs.Characters.{is_digit, is_identifier_start, first_is};
-ghost use Rattle.jl_token.specs.Scanner.{scan, scan_word};
+ghost use Rattle.jl_token.specs.inner.Scanner.{scan, scan_word};
 ghost use Rattle.jl_token.specs.Tokens.{Piece, piece, tokens_among, Tokens, BadAt};
 ghost use Rattle.jl_token.specs.declared.token.Token.{Token as OneToken};
 ghost use Rattle.jl_token.specs.declared.token.BadKind.{BadKind as Kind};
-ghost use Rattle.jl_lex.specs.Answers.{IsFrom, element_of};
+ghost use Rattle.jl_lex.specs.inner.Answers.{IsFrom, element_of};
 ghost use Rattle.jl_lex.specs.Refusals.{IsRefusal, refusal_at};
 ghost use Rattle.jl_lex.specs.declared.lexer.LexRefusal.TheVariants.{NoMemory};
 

@@ -1,9 +1,9 @@
 //! Names (7.6).
 ghost use Rattle.std.specs.Prelude.{◌≡◌, ◌+◌, ◌<◌, ◌≤◌, drop, length, IfSome, true};
 ghost use Rattle.jl_token.specs.Characters.{is_hex_digit, hex_digit_value, is_identifier_start};
-ghost use Rattle.jl_token.specs.Scanner.{letter, name_escape, name_done, name_from};
-ghost use Rattle.jl_lex.specs.Parts.{hex_first, two_at, four_at, allowed, LetterFrom};
-ghost use Rattle.jl_lex.specs.Answers.{IsFound, IsNamed};
+ghost use Rattle.jl_token.specs.inner.Scanner.{letter, name_escape, name_done, name_from};
+ghost use Rattle.jl_lex.specs.inner.Parts.{hex_first, two_at, four_at, is_name_character, LetterFrom};
+ghost use Rattle.jl_lex.specs.inner.Answers.{IsFound, IsNamed};
 
 use crate::characters::{
     BACKSLASH, is_at, is_hex_digit, is_identifier_part, is_identifier_start, unit_at,
@@ -37,7 +37,7 @@ fn hex_digit_value(unit: u16) -> u16
 }
 
 /// The value of the hexadecimal digit at a place, if there is one.
-#[tactic(auto, unfolding(crate::specs::Parts::hex_first))]
+#[tactic(auto, unfolding(crate::specs::inner::Parts::hex_first))]
 pub fn hex_at(units: &[u16], at: usize) -> Option<u16>
     ensures value { result ≡ hex_first (drop at units.now) }
     ensures small { IfSome result (λ v. (v < 16) × (at < length units.now)) }
@@ -51,7 +51,7 @@ pub fn hex_at(units: &[u16], at: usize) -> Option<u16>
 }
 
 /// The number that the two hexadecimal digits at a place write, if they are there.
-#[tactic(auto, unfolding(crate::specs::Parts::two_at, crate::specs::Parts::two_of))]
+#[tactic(auto, unfolding(crate::specs::inner::Parts::two_at, crate::specs::inner::Parts::two_of))]
 pub fn two_at(units: &[u16], at: usize) -> Option<u16>
     requires { at ≤ length units.now }
     ensures value { result ≡ two_at units.now at }
@@ -63,7 +63,7 @@ pub fn two_at(units: &[u16], at: usize) -> Option<u16>
 }
 
 /// The number that the four hexadecimal digits at a place write, if they are there.
-#[tactic(auto, unfolding(crate::specs::Parts::four_at, crate::specs::Parts::four_of))]
+#[tactic(auto, unfolding(crate::specs::inner::Parts::four_at, crate::specs::inner::Parts::four_of))]
 pub fn four_at(units: &[u16], at: usize) -> Option<u16>
     requires { at ≤ length units.now }
     ensures value { result ≡ four_at units.now at }
@@ -77,7 +77,7 @@ pub fn four_at(units: &[u16], at: usize) -> Option<u16>
 }
 
 fn is_allowed(part: bool, unit: u16) -> bool
-    ensures { result ≡ allowed part unit }
+    ensures { result ≡ is_name_character part unit }
 {
     if part {
         is_identifier_part(unit)
@@ -89,7 +89,7 @@ fn is_allowed(part: bool, unit: u16) -> bool
 // The character of a name that an escape writes whose `u` stands at a place.
 fn escaped_at(units: &[u16], at: usize, part: bool) -> Option<Letter>
     requires { at ≤ length units.now }
-    ensures { LetterFrom units.now at result (name_escape (allowed part) (drop at units.now)) }
+    ensures { LetterFrom units.now at result (name_escape (is_name_character part) (drop at units.now)) }
 {
     if !is_at(units, at, 0x75) {
         return None;
@@ -111,7 +111,7 @@ fn escaped_at(units: &[u16], at: usize, part: bool) -> Option<Letter>
 /// The character of a name at a place: a part of one, or one that a name may start with.
 pub fn letter_at(units: &[u16], at: usize, part: bool) -> Option<Letter>
     requires { at ≤ length units.now }
-    ensures { LetterFrom units.now at result (letter (allowed part) (drop at units.now)) }
+    ensures { LetterFrom units.now at result (letter (is_name_character part) (drop at units.now)) }
 {
     let Some(unit) = unit_at(units, at) else {
         return None;
@@ -130,7 +130,7 @@ pub fn letter_at(units: &[u16], at: usize, part: bool) -> Option<Letter>
 }
 
 // The name of these characters, which go up to a place.
-fn named(
+fn name_token(
     alloc: Global,
     units: &[u16],
     text: &[u16],
@@ -169,5 +169,5 @@ pub fn name(alloc: Global, units: &[u16], at: usize) -> Result<(Element, usize),
         }
         end = next.end;
     }
-    named(alloc, units, text.as_slice(), escaped, end)
+    name_token(alloc, units, text.as_slice(), escaped, end)
 }

@@ -2,26 +2,26 @@
 //! are kept without the zeros at their end, which are counted, and no more of them than a number of a script can have.
 ghost use Rattle.std.specs.Prelude.{◌≡◌, ◌+◌, ◌-◌, ◌*◌, ◌<◌, ◌≤◌, ◌==◌, ◌&&◌, ◌||◌, ◌^◌, nat_le, if◌then◌else◌, ℕ};
 ghost use Rattle.std.specs.Prelude.{List, Some, None, true, drop, length, IfSome, MatchOption};
+ghost use Rattle.jl_num.specs.Number.{largest};
 ghost use Rattle.jl_token.specs.Characters.{is_digit, is_hex_digit, decimal_from, first_is};
-ghost use Rattle.jl_token.specs.Scanner.{many, one_unit, some_digits, exponent, exponent_by, with_exponent};
-ghost use Rattle.jl_token.specs.Scanner.{after_fraction, after_whole, after_zero, hex_literal, numeral, number_end};
-ghost use Rattle.jl_lex.specs.Amounts.{scaled, add_digit, add_digits, value_from, if_number, capped_from};
-ghost use Rattle.jl_lex.specs.Amounts.{hex_capped_from, NumeralFrom, ExponentFrom, Stands};
-ghost use Rattle.jl_lex.specs.Answers.{IsFrom};
+ghost use Rattle.jl_token.specs.inner.Scanner.{many, one_unit, some_digits, exponent, exponent_by, with_exponent};
+ghost use Rattle.jl_token.specs.inner.Scanner.{after_fraction, after_whole, after_zero, hex_literal, numeral};
+ghost use Rattle.jl_token.specs.inner.Scanner.{number_end};
+ghost use Rattle.jl_lex.specs.inner.Amounts.{scale, add_digit, add_digits, value_from, if_number, capped_from};
+ghost use Rattle.jl_lex.specs.inner.Amounts.{hex_capped_from, NumeralFrom, ExponentFrom, Stands};
+ghost use Rattle.jl_lex.specs.inner.Answers.{IsFrom};
 
 use crate::characters::{is_at, is_digit, is_digit_at, unit_at};
 use crate::element::{Element, Stop};
 use crate::names::{hex_at, letter_at};
-use jl_num::Num;
+use jl_num::{LARGEST_SIZE, Num};
 use jl_token::{BadKind, TokenKind};
-
-// The largest number of a script: 2^53 - 1.
-const LARGEST: u64 = 9_007_199_254_740_991;
 
 // 2^40: an exponent as large as this is as good as any larger one.
 const ENOUGH: u64 = 1_099_511_627_776;
 
-/// The digits that were read: `coefficient` and so many zeros. A coefficient past `LARGEST` says no more than that.
+/// The digits that were read: `coefficient` and so many zeros. A coefficient past `LARGEST_SIZE` says no more than
+/// that.
 #[derive(Clone, Copy)]
 pub struct Amount {
     pub coefficient: u64,
@@ -50,16 +50,17 @@ pub struct Numeral {
     pub end: usize,
 }
 
-// Ten times a number, so many times, as long as it isn't past `LARGEST`.
-fn scaled(number: u64, times: u64) -> u64
+// Ten times a number, so many times, as long as it isn't past `LARGEST_SIZE`: at most ten times that, and so
+// 90071992547409919 with a digit after it.
+fn scale(number: u64, times: u64) -> u64
     requires { number ≤ 90071992547409910 }
-    ensures value { result ≡ scaled number times }
+    ensures value { result ≡ scale number times }
     ensures small { result ≤ 90071992547409910 }
 {
     let mut value = number;
     let mut left = times;
     while left > 0 {
-        if value > LARGEST {
+        if value > LARGEST_SIZE {
             return value;
         }
         value *= 10;
@@ -79,7 +80,7 @@ fn digit_value(unit: u16) -> u64
 }
 
 // One more digit.
-#[tactic(auto, unfolding(crate::specs::Amounts::add_digit))]
+#[tactic(auto, unfolding(crate::specs::inner::Amounts::add_digit))]
 fn add_digit(amount: Amount, unit: u16) -> Amount
     requires digit { is_digit unit ≡ true }
     requires small { amount.coefficient ≤ 90071992547409919 }
@@ -97,11 +98,11 @@ fn add_digit(amount: Amount, unit: u16) -> Amount
             zeros: amount.zeros + 1,
         };
     }
-    if amount.coefficient > LARGEST {
+    if amount.coefficient > LARGEST_SIZE {
         return amount;
     }
     Amount {
-        coefficient: scaled(amount.coefficient, amount.zeros + 1) + digit_value(unit),
+        coefficient: scale(amount.coefficient, amount.zeros + 1) + digit_value(unit),
         zeros: 0,
     }
 }
@@ -133,7 +134,7 @@ fn digits(units: &[u16], at: usize, amount: Amount) -> (Amount, usize)
 }
 
 // The value of these digits with this exponent, where it is a number of a script.
-#[tactic(auto, unfolding(crate::specs::Amounts::value_from, crate::specs::Amounts::if_number))]
+#[tactic(auto, unfolding(crate::specs::inner::Amounts::value_from, crate::specs::inner::Amounts::if_number))]
 fn value(amount: Amount, raise: u64, lower: u64) -> Option<u64>
     requires small { amount.coefficient ≤ 90071992547409919 }
     requires few { amount.zeros < 4294967296 }
@@ -143,15 +144,19 @@ fn value(amount: Amount, raise: u64, lower: u64) -> Option<u64>
     if amount.coefficient == 0 {
         return Some(0);
     }
-    if amount.coefficient > LARGEST {
+    if amount.coefficient > LARGEST_SIZE {
         return None;
     }
     let total = amount.zeros + raise;
     if total < lower {
         return None;
     }
-    let number = scaled(amount.coefficient, total - lower);
-    if number > LARGEST { None } else { Some(number) }
+    let number = scale(amount.coefficient, total - lower);
+    if number > LARGEST_SIZE {
+        None
+    } else {
+        Some(number)
+    }
 }
 
 // An exponent's digits at a place, if they are there.
@@ -175,13 +180,13 @@ fn exponent_digits(units: &[u16], at: usize) -> Option<Power>
         if !is_digit(unit) {
             break;
         }
-        number = capped(number, unit);
+        number = add_exponent_digit(number, unit);
         end += 1;
     }
     Some(Power { number, end })
 }
 
-fn capped(number: u64, unit: u16) -> u64
+fn add_exponent_digit(number: u64, unit: u16) -> u64
     requires digit { is_digit unit ≡ true }
     requires small { number ≤ 10995116277769 }
     ensures value { result ≡ (if nat_le 1099511627776 number then number else number * 10 + (unit - 48)) }
@@ -258,7 +263,7 @@ fn exponent_at(units: &[u16], at: usize) -> Exponent
 }
 
 // The literal of the digits that were read, so many of them after the point, and the exponent at a place.
-fn finished(units: &[u16], at: usize, amount: Amount, places: usize) -> Numeral
+fn with_exponent(units: &[u16], at: usize, amount: Amount, places: usize) -> Numeral
     requires within { at ≤ length units.now }
     requires small { amount.coefficient ≤ 90071992547409919 }
     requires few { amount.zeros < 4294967296 }
@@ -284,7 +289,7 @@ fn after_point(units: &[u16], at: usize, amount: Amount) -> Numeral
         → NumeralFrom units.now at result (after_fraction ds (many (one_unit is_digit) (drop at units.now))) }
 {
     let (amount, end) = digits(units, at, amount);
-    finished(units, end, amount, end - at)
+    with_exponent(units, end, amount, end - at)
 }
 
 // The literal whose whole digits were read.
@@ -299,7 +304,7 @@ fn after_whole(units: &[u16], at: usize, amount: Amount) -> Numeral
     if is_at(units, at, 46) {
         after_point(units, at + 1, amount)
     } else {
-        finished(units, at, amount, 0)
+        with_exponent(units, at, amount, 0)
     }
 }
 
@@ -307,10 +312,10 @@ fn after_whole(units: &[u16], at: usize, amount: Amount) -> Numeral
 fn hex_capped(number: u64, digit: u16) -> u64
     requires digit { digit < 16 }
     requires small { number ≤ 144115188075855871 }
-    ensures value { result ≡ (if nat_le number 9007199254740991 then number * 16 + digit else number) }
+    ensures value { result ≡ (if nat_le number largest then number * 16 + digit else number) }
     ensures small { result ≤ 144115188075855871 }
 {
-    if number > LARGEST {
+    if number > LARGEST_SIZE {
         number
     } else {
         number * 16 + u64::from(digit)
@@ -318,11 +323,15 @@ fn hex_capped(number: u64, digit: u16) -> u64
 }
 
 // The value of a whole number, where it is one of a script.
-#[tactic(auto, unfolding(crate::specs::Amounts::if_number))]
+#[tactic(auto, unfolding(crate::specs::inner::Amounts::if_number))]
 fn if_number(number: u64) -> Option<u64>
     ensures { result ≡ if_number number }
 {
-    if number > LARGEST { None } else { Some(number) }
+    if number > LARGEST_SIZE {
+        None
+    } else {
+        Some(number)
+    }
 }
 
 // The hexadecimal literal whose digits stand at a place, if there is one.

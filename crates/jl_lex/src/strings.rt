@@ -1,9 +1,9 @@
 //! Strings (7.8.4).
 ghost use Rattle.std.specs.Prelude.{◌≡◌, ◌+◌, ◌≤◌, ◌++◌, Some, true, false, drop, length, OnOk};
 ghost use Rattle.jl_token.specs.Characters.{single_escape, is_quote};
-ghost use Rattle.jl_token.specs.Scanner.{other_escape, escape, character, many, string_done, string_end};
-ghost use Rattle.jl_lex.specs.Parts.{CharacterFrom, values};
-ghost use Rattle.jl_lex.specs.Answers.{IsFound};
+ghost use Rattle.jl_token.specs.inner.Scanner.{other_escape, escape, character, many, string_done, string_end};
+ghost use Rattle.jl_lex.specs.inner.Parts.{CharacterFrom, values};
+ghost use Rattle.jl_lex.specs.inner.Answers.{IsFound};
 
 use crate::characters::{
     BACKSLASH, is_digit, is_digit_at, is_line_terminator, line_terminator_end, unit_at,
@@ -42,7 +42,7 @@ fn single_escape(unit: u16) -> Option<u16>
     }
 }
 
-fn escaped(unit: u16, end: usize) -> Option<Character>
+fn escaped_character(unit: u16, end: usize) -> Option<Character>
     ensures { result ≡ Some (record { unit = Some unit; plain = false; end = end }) }
 {
     Some(Character {
@@ -69,16 +69,16 @@ fn other_escape_at(units: &[u16], at: usize, unit: u16) -> Option<Character>
         let Some(written) = two_at(units, at) else {
             return None;
         };
-        return escaped(written, at + 2);
+        return escaped_character(written, at + 2);
     }
     if unit == 117 {
         let Some(written) = four_at(units, at) else {
             return None;
         };
-        return escaped(written, at + 4);
+        return escaped_character(written, at + 4);
     }
     if !is_digit(unit) {
-        return escaped(unit, at);
+        return escaped_character(unit, at);
     }
     if unit != 48 {
         return None;
@@ -86,7 +86,7 @@ fn other_escape_at(units: &[u16], at: usize, unit: u16) -> Option<Character>
     if is_digit_at(units, at) {
         return None;
     }
-    escaped(0, at)
+    escaped_character(0, at)
 }
 
 // The character that an escape whose backslash stands before a place writes.
@@ -98,7 +98,7 @@ fn escape_at(units: &[u16], at: usize) -> Option<Character>
         return None;
     };
     match single_escape(unit) {
-        Some(written) => escaped(written, at + 1),
+        Some(written) => escaped_character(written, at + 1),
         None => other_escape_at(units, at + 1, unit),
     }
 }
@@ -137,7 +137,7 @@ fn put(text: &mut Vec<u16>, unit: Option<u16>) -> Result<(), AllocError>
 }
 
 // The string of these characters, which go up to a place.
-fn closed(
+fn close_string(
     alloc: Global,
     units: &[u16],
     text: &[u16],
@@ -183,5 +183,5 @@ pub fn string(alloc: Global, units: &[u16], at: usize, mark: u16) -> Result<(Ele
         }
         end = next.end;
     }
-    closed(alloc, units, text.as_slice(), plain, end, mark)
+    close_string(alloc, units, text.as_slice(), plain, end, mark)
 }

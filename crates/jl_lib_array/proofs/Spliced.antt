@@ -9,7 +9,7 @@ use Rattle.jl_conv.specs.Conversions.{number_of_value}
 use Rattle.jl_meaning.specs.Conversions.{integer_of, number_hint, to_integer, to_primitive}
 use Rattle.jl_meaning.specs.Parts.{◌>>=◌, Algorithm}
 use Rattle.jl_meaning.specs.builtins.ArrayChanges.{splice_at}
-use Rattle.jl_meaning.specs.builtins.Elements.{clamped, relative_index}
+use Rattle.jl_meaning.specs.builtins.Elements.{clamp, relative_index}
 use Rattle.jl_progress.specs.Arrays.{array_after, length_spliced, put_items, put_others, splice_from, with_length}
 use Rattle.jl_progress.specs.declared.array.AfterPutting.TheVariants as put
 use Rattle.jl_progress.specs.declared.array.ArrayProgress.TheVariants as array
@@ -33,7 +33,7 @@ module _ (s t : State) (a : Act) (o gone : ObjId) (length : ℕ) (args : List Va
       (subst (λ p. Works s p t a) (integer_converts v from) leads)
 
   abbrev removing : (start : ℕ) → ℤ → Algorithm Value
-  removing start z = splice_at o gone length start (clamped z (length - start)) (drop 2 args)
+  removing start z = splice_at o gone length start (clamp z (length - start)) (drop 2 args)
 
   pub splices_count : (p : Value) (n : Number) (start : ℕ) (v : Value) → Some n ≡ number_of_value p
       → start ≡ relative_index (integer_of n) length → v ≡ slice_index_or args 1 value.Undefined
@@ -46,13 +46,13 @@ module _ (s t : State) (a : Act) (o gone : ObjId) (length : ℕ) (args : List Va
       (subst (λ q. Works s q t a) (integer_converts v (removing start)) leads)))
 
   pub splices_at : (p : Value) (n : Number) (start most removed : ℕ) (items : List Value) → Some n ≡ number_of_value p
-      → most ≡ length - start → removed ≡ clamped (integer_of n) most → items ≡ drop 2 args
+      → most ≡ length - start → removed ≡ clamp (integer_of n) most → items ≡ drop 2 args
       → Works s (splice_at o gone length start removed items) t a
       → Works s (array_after (array.SpliceCount o gone length start args) p) t a
   splices_at p n start most removed items there is_most is are leads =
       found s t a (number_of_value p) n (λ m. removing start (integer_of m)) there
       (subst (λ i. Works s (splice_at o gone length start i (drop 2 args)) t a)
-      (is ∙ ap (clamped (integer_of n)) is_most)
+      (is ∙ ap (clamp (integer_of n)) is_most)
       (subst (λ (l : List Value). Works s (splice_at o gone length start removed l) t a) are leads))
 
 -- the elements that come are put

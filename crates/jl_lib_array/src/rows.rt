@@ -11,7 +11,7 @@ ghost use Rattle.jl_state.specs.Words.{call_of, table_of};
 use crate::appending::concat;
 use crate::lengths::begin_with_length;
 use crate::strings::array_to_string;
-use jl_builtin::{argument, is_undefined, unsupported};
+use jl_builtin::{argument, is_undefined, fail_row};
 use jl_progress::LengthFunction;
 use jl_state::{Act, Invocation, State};
 use jl_store::Answer;
@@ -39,7 +39,7 @@ pub fn start<'p>(
 {
     let built = is_built(alloc, row, call.args.items())?;
     if !built {
-        return Ok(unsupported(row));
+        return Ok(fail_row(row));
     }
     let answer = state.store.to_object(&call.this)?;
     match answer {

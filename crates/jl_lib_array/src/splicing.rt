@@ -9,7 +9,7 @@ ghost use Rattle.jl_state.specs.Rest.{Works};
 
 use crate::frames::{begin_turn, sum};
 use jl_builtin::{
-    argument, clamped, number_of_primitive, relative_index, rest_of, wait_for_number,
+    argument, clamp, number_of_primitive, relative_index, rest_of, wait_for_number,
 };
 use jl_progress::{
     AfterCopying, AfterMoving, AfterPutting, ArrayProgress, Copying, LengthFunction, Moving,
@@ -98,7 +98,7 @@ pub(crate) fn step_splice_count<'p>(
     let Some(n) = number_of_primitive(p) else {
         return Ok(Act::Fault(Fault::NumberOutside));
     };
-    let removed = clamped(n, length.saturating_sub(start));
+    let removed = clamp(n, length.saturating_sub(start));
     let items = rest_of(alloc, args, 2)?;
     let splicing = Splicing {
         object,

@@ -26,7 +26,7 @@ use Rattle.jl_meaning.specs.builtins.Array.{is_array_value}
 use Rattle.jl_meaning.specs.builtins.Arguments.{argument, give_object}
 use Rattle.jl_meaning.specs.builtins.Elements.{add_index, array_of_length}
 use Rattle.jl_meaning.specs.forms.Literals.{new_array}
-use Rattle.jl_store.specs.Answers.{fault_seen, finished}
+use Rattle.jl_store.specs.Answers.{fault_seen, finish_of}
 use Rattle.jl_store.specs.Comes.{Comes}
 use Rattle.jl_store.specs.Defining.{LengthIsPrimitive}
 use Rattle.jl_store.specs.declared.answer.AlgorithmFault.{AlgorithmFault}
@@ -130,16 +130,16 @@ number_given heap address x n change is array_there same =
 module _ (from made to : Store) (a : ObjId) (n : Number) (x : Name) (change : Change)
     (new : Comes new_array from made (Ends (gives a))) (name_is : x ≡ codes "length")
     (change_is : change ≡ value_change (value.Num n)) (answer : Finished Bool)
-    (comes : Comes (define_own_property a x change) made to (finished answer)) where
+    (comes : Comes (define_own_property a x change) made to (finish_of answer)) where
   abbrev length_put : Algorithm Bool
   length_put = define_own_property a length_name (value_change (value.Num n))
 
-  puts : (end : Finished Bool) → answer ≡ end → Comes length_put made to (finished end)
+  puts : (end : Finished Bool) → answer ≡ end → Comes length_put made to (finish_of end)
   puts end is =
-      subst (λ (f : Finished Bool). Comes length_put made to (finished f)) is
-      (subst (λ y. Comes (define_own_property a y (value_change (value.Num n))) made to (finished answer))
+      subst (λ (f : Finished Bool). Comes length_put made to (finish_of f)) is
+      (subst (λ y. Comes (define_own_property a y (value_change (value.Num n))) made to (finish_of answer))
       (name_is ∙ sym length_is)
-      (subst (λ c. Comes (define_own_property a x c) made to (finished answer)) change_is comes))
+      (subst (λ c. Comes (define_own_property a x c) made to (finish_of answer)) change_is comes))
 
   abbrev with_length : ObjId → Algorithm ObjId
   with_length id = define_own_property id length_name (value_change (value.Num n)) >>= λ _. give id
@@ -160,7 +160,7 @@ module _ (from made to : Store) (a : ObjId) (n : Number) (x : Name) (change : Ch
 module _ {s t u : Store} (a : ObjId) (i : ℕ) (values : List Value) (v : Value)
     (before : Leaves (add_all a 0 values) s (add_all a i (drop i values)) t) (within : i < length values)
     (item : Value) (there : item ≡ get_or values i item) (shared : v ≡ item) (answer : Finished (Unit {0}))
-    (comes : Comes (add_index a i v) t u (finished answer)) where
+    (comes : Comes (add_index a i v) t u (finish_of answer)) where
   is : v ≡ get_or values i v
   is = subst (λ w. w ≡ get_or values i w) (sym shared) there
 
@@ -172,8 +172,8 @@ module _ {s t u : Store} (a : ObjId) (i : ℕ) (values : List Value) (v : Value)
   left : Leaves (add_all a 0 values) s (add_index a i v >>= λ _. add_all a (i + 1) (drop (i + 1) values)) t
   left = subst (λ l. Leaves (add_all a 0 values) s (add_all a i l) t) split before
 
-  so : (end : Finished (Unit {0})) → answer ≡ end → Comes (add_index a i v) t u (finished end)
-  so end same = subst (λ (f : Finished (Unit {0})). Comes (add_index a i v) t u (finished f)) same comes
+  so : (end : Finished (Unit {0})) → answer ≡ end → Comes (add_index a i v) t u (finish_of end)
+  so end same = subst (λ (f : Finished (Unit {0})). Comes (add_index a i v) t u (finish_of f)) same comes
 
   pub element_done : answer ≡ ended.Gives tt
       → Leaves (add_all a 0 values) s (add_all a (i + 1) (drop (i + 1) values)) u

@@ -12,7 +12,7 @@ use Rattle.jl_meaning.specs.Parts.{call, give, ◌>>=◌, Algorithm}
 use Rattle.jl_meaning.specs.Relations.{give_truth}
 use Rattle.jl_meaning.specs.builtins.Arguments.{give_object}
 use Rattle.jl_meaning.specs.builtins.ArrayCallbacks.{add_chosen, ask_turn, asked_if, called_with, choose}
-use Rattle.jl_meaning.specs.builtins.ArrayCallbacks.{combined, ends_at, filter_turn, for_each_turn, give_combined}
+use Rattle.jl_meaning.specs.builtins.ArrayCallbacks.{combine, ends_at, filter_turn, for_each_turn, give_combined}
 use Rattle.jl_meaning.specs.builtins.ArrayCallbacks.{map_turn}
 use Rattle.jl_meaning.specs.builtins.ArrayCallbacks.{reduce_turn, Walk}
 use Rattle.jl_meaning.specs.builtins.Elements.{add_if, add_index, element}
@@ -76,7 +76,7 @@ begins (task.Filter a to) w at k is =
     ∙ ap Step (bind_assoc (element w.object k) (choose w a k to) (λ next. turns (task.Filter a next) w (k + 1))))
 begins (task.Reduce so_far direction.Up) w at k is =
     sym (upward_turn (reduce_turn w) give_combined w.length at k so_far is
-    ∙ ap Step (bind_assoc (element w.object k) (combined w k so_far)
+    ∙ ap Step (bind_assoc (element w.object k) (combine w k so_far)
     (λ last. turns (task.Reduce last direction.Up) w (k + 1))))
 begins (task.Reduce so_far direction.Down) w zero k is = absurd (let differ = is in cc)
 begins (task.Reduce so_far direction.Down) w (suc n) k is =
@@ -89,7 +89,7 @@ begins (task.Reduce so_far direction.Down) w (suc n) k is =
     here : goal n
     here =
         sym (downward_turn (reduce_turn w) give_combined n so_far
-        ∙ ap Step (bind_assoc (element w.object n) (combined w n so_far)
+        ∙ ap Step (bind_assoc (element w.object n) (combine w n so_far)
         (λ last. turns (task.Reduce last direction.Down) w n)))
 
 -- no element is there

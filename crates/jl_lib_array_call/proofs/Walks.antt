@@ -21,7 +21,7 @@ use Rattle.jl_progress.specs.declared.array_call.LengthFor.TheVariants as length
 use Rattle.jl_progress.specs.declared.array_call.Task.TheVariants as task
 use Rattle.jl_progress.specs.declared.array_call.WalkFor.{WalkFor}
 use Rattle.jl_progress.specs.declared.array_call.WalkFor.TheVariants as walk_for
-use Rattle.jl_store.specs.Answers.{answered}
+use Rattle.jl_store.specs.Answers.{ends_with}
 use Rattle.jl_store.specs.Comes.{Comes}
 use Rattle.jl_store.specs.declared.answer.Answer.{Answer}
 use Rattle.jl_store.specs.declared.answer.Answer.TheVariants.{Gives, Throws}
@@ -34,7 +34,7 @@ use Rattle.jl_builtin.proofs.Ends.{answer_given, answer_thrown}
 
 -- the function is there, and its `this`, or the argument is none
 module _ (s t : State) (stored : IsStored s t) (purpose : WalkFor) (o : ObjId) (length : ℕ) (args : List Value)
-    (answer : Answer ObjId) (comes : Comes (need_function (argument_of args 0)) s.store t.store (answered answer)) where
+    (answer : Answer ObjId) (comes : Comes (need_function (argument_of args 0)) s.store t.store (ends_with answer)) where
   abbrev begun : (this : Value) → ObjId → Algorithm Value
   begun this f = begin_walk purpose (record { object = o; length = length; function = f; this = this }) args
 

@@ -9,7 +9,7 @@ ghost use Rattle.jl_num.specs.Bits.{uint32_of};
 ghost use Rattle.jl_state.specs.Rank.{Falls};
 ghost use Rattle.jl_state.specs.Rest.{Works};
 ghost use Rattle.jl_state.specs.Words.{call_of};
-ghost use Rattle.jl_store.specs.Answers.{finished};
+ghost use Rattle.jl_store.specs.Answers.{finish_of};
 ghost use Rattle.jl_store.specs.Comes.{Comes};
 ghost use Rattle.jl_value.specs.Same.{same_number};
 ghost use Rattle.jl_value.specs.declared.value.Value.TheVariants as value;
@@ -118,7 +118,7 @@ fn add_all(
     array: ObjId,
     values: &[Value],
 ) -> Result<Finished<()>, NoMemory>
-    ensures { IfOk result (λ end. Comes (add_all array 0 values.now) store.old store.new (finished end)) }
+    ensures { IfOk result (λ end. Comes (add_all array 0 values.now) store.old store.new (finish_of end)) }
 {
     for index in 0..values.len() {
         let v = share(alloc, &values[index])?;
@@ -138,7 +138,7 @@ pub(crate) fn array_of_length(
     store: &mut Store,
     length: Num,
 ) -> Result<Finished<ObjId>, NoMemory>
-    ensures { IfOk result (λ end. Comes (array_of_length (value.Num length)) store.old store.new (finished end)) }
+    ensures { IfOk result (λ end. Comes (array_of_length (value.Num length)) store.old store.new (finish_of end)) }
 {
     let array = store.new_array()?;
     let name = word(alloc, "length")?;

@@ -7,7 +7,7 @@ ghost use Rattle.jl_meaning.specs.builtins.Arguments.{need_function};
 ghost use Rattle.jl_progress.specs.ArrayCalls.{argument_of, begin_walk, task_with, turns, walk_of, with_length};
 ghost use Rattle.jl_state.specs.Rank.{Falls};
 ghost use Rattle.jl_state.specs.Rest.{Works};
-ghost use Rattle.jl_store.specs.Answers.{answered};
+ghost use Rattle.jl_store.specs.Answers.{ends_with};
 ghost use Rattle.jl_store.specs.Comes.{Comes};
 
 use crate::arguments::second;
@@ -59,7 +59,7 @@ fn function_in(
     args: &List<Value>,
 ) -> Result<Answer<ObjId>, NoMemory>
     ensures { IfOk result (λ answer. Comes (need_function (argument_of args.now 0)) store.old store.new
-        (answered answer)) }
+        (ends_with answer)) }
 {
     let v = argument(alloc, args.items(), 0)?;
     let answer = need_function(store, &v)?;

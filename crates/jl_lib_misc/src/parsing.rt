@@ -1,17 +1,15 @@
 //! What `parseInt` reads of a string (15.1.2.2).
 ghost use Rattle.std.specs.Prelude.{◌≡◌, ◌≤◌, MatchOption, Option, Some};
 ghost use Rattle.std.specs.Result.{result_ok};
-ghost use Rattle.jl_conv.specs.Numerals.{signed, without_front};
+ghost use Rattle.jl_num.specs.Number.{largest};
+ghost use Rattle.jl_conv.specs.Numerals.{with_sign, without_front};
 ghost use Rattle.jl_lib_misc.specs.inner.Radix.{IsWithin, leading_number};
 ghost use Rattle.jl_meaning.specs.builtins.Global.{after_hex_prefix, digit_of, parse_after_prefix, parse_after_sign};
 ghost use Rattle.jl_meaning.specs.builtins.Global.{parse_in_radix, parse_signed};
 ghost use Rattle.jl_num.specs.Arithmetic.{number_of};
 
 use jl_builtin::without_front;
-use jl_num::{Num, NumberOutside};
-
-/// The largest number of a script: 2^53 - 1.
-const LARGEST: u64 = 9_007_199_254_740_991;
+use jl_num::{LARGEST_SIZE, Num, NumberOutside};
 
 const PLUS: u16 = 0x2b;
 
@@ -37,7 +35,7 @@ fn digit_of(unit: u16) -> u64
 fn leading_number(radix: u64, units: &[u16]) -> Option<u64>
     requires low { 2 ≤ radix }
     requires high { radix ≤ 36 }
-    ensures { IsWithin 9007199254740991 (leading_number radix 0 units.now) result }
+    ensures { IsWithin largest (leading_number radix 0 units.now) result }
 {
     let mut number = 0;
     for unit in units {
@@ -46,7 +44,7 @@ fn leading_number(radix: u64, units: &[u16]) -> Option<u64>
             return Some(number);
         }
         number = number * radix + digit;
-        if number > LARGEST {
+        if number > LARGEST_SIZE {
             return None;
         }
     }
@@ -55,8 +53,8 @@ fn leading_number(radix: u64, units: &[u16]) -> Option<u64>
 
 /// The whole number of this size, or its negative.
 fn whole(negative: bool, size: u64) -> Result<Num, NumberOutside>
-    requires { size ≤ 9007199254740991 }
-    ensures { result_ok result ≡ number_of (signed negative size) }
+    requires { size ≤ largest }
+    ensures { result_ok result ≡ number_of (with_sign negative size) }
 {
     let size = size as i64;
     Num::new(if negative { -size } else { size })

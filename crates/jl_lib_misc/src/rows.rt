@@ -16,7 +16,7 @@ use crate::numbers::{
 };
 use crate::printing::print;
 use crate::several::{one_of_arguments, resume_extreme};
-use jl_builtin::unsupported;
+use jl_builtin::fail_row;
 use jl_progress::{Extreme, NumberFunction, NumberProgress, NumberTest};
 use jl_state::{Act, Invocation, State};
 use jl_text::NoMemory;
@@ -77,7 +77,7 @@ fn start_primitive<'p>(
     if row == 86 {
         return Ok(boolean_value_of(alloc, state, call)?);
     }
-    Ok(unsupported(row))
+    Ok(fail_row(row))
 }
 
 /// Begins a builtin of errors (15.11).

@@ -24,7 +24,7 @@ use Rattle.jl_progress.specs.declared.object.DescriptorUse.{DescriptorUse}
 use Rattle.jl_progress.specs.declared.object.DescriptorUse.TheVariants as use_of
 use Rattle.jl_progress.specs.declared.object.ObjectProgress.TheVariants as object
 use Rattle.jl_progress.specs.declared.progress.Progress.TheVariants as progress
-use Rattle.jl_store.specs.Answers.{answered, MakesError}
+use Rattle.jl_store.specs.Answers.{ends_with, MakesError}
 use Rattle.jl_store.specs.Comes.{Comes}
 use Rattle.jl_store.specs.declared.answer.Answer.{Answer}
 use Rattle.jl_store.specs.declared.answer.Answer.TheVariants.{Gives, Throws}
@@ -149,7 +149,7 @@ defined_next s id left (x, change) changes from t a is leads =
 -- an object of descriptors
 
 module _ (s : State) (x : Store) (id : ObjId) (v : Value) (answer : Answer ObjId)
-    (comes : Comes (to_object v) s.store x (answered answer)) where
+    (comes : Comes (to_object v) s.store x (ends_with answer)) where
   abbrev defined : ObjId → Algorithm (Unit {0})
   defined d = look >>= λ store. changes_of d [] (enumerable_names store d.0) >>= λ changes. define_each id changes
 

@@ -5,7 +5,7 @@ use Rattle.jl_value.specs.declared.value.Value.{Value}
 use Rattle.jl_effects.specs.Running.{Ends}
 use Rattle.jl_meaning.specs.Parts.{give, gives, look, throws, ◌>>=◌, Algorithm}
 use Rattle.jl_meaning.specs.Store.{Store}
-use Rattle.jl_store.specs.Answers.{answered}
+use Rattle.jl_store.specs.Answers.{ends_with}
 use Rattle.jl_store.specs.Comes.{Comes}
 use Rattle.jl_store.specs.declared.answer.Answer.{Answer}
 use Rattle.jl_store.specs.declared.answer.Answer.TheVariants.{Gives, Throws}
@@ -26,20 +26,20 @@ gives_seen s f v is =
     subst (λ w. Works s (look >>= λ store. give (f store)) s (act.Give w)) (sym is) (record { is = λ kept told. refl })
 
 module _ {A : Type 0} (s : State) (x : Store) (p : Algorithm A) (k : A → Algorithm Value) (answer : Answer A)
-    (comes : Comes p s.store x (answered answer)) where
+    (comes : Comes p s.store x (ends_with answer)) where
   -- what was given is gone on with
   pub goes_on : (b : A) (t : State) (a : Act) → answer ≡ Gives b → Works (record s { store = x }) (k b) t a
       → Works s (p >>= k) t a
   goes_on b t a is leads =
       works_comes s (record s { store = x }) refl p b k t a
-      (subst (λ (e : Answer A). Comes p s.store x (answered e)) is comes) leads
+      (subst (λ (e : Answer A). Comes p s.store x (ends_with e)) is comes) leads
 
   -- and what was thrown is thrown on
   pub throws_on : (v : Value) → answer ≡ Throws v
       → Works s (p >>= k) (record s { store = x }) (act.Complete (completion.Throw v))
   throws_on v is =
       works_thrown s (record s { store = x }) refl p v k
-      (subst (λ (e : Answer A). Comes p s.store x (answered e)) is comes)
+      (subst (λ (e : Answer A). Comes p s.store x (ends_with e)) is comes)
 
 -- what is done with a value, and with an equal one
 pub works_of : {A : Type 0} (s : State) (f : A → Algorithm Value) (x y : A) (t : State) (a : Act) → x ≡ y
@@ -47,9 +47,9 @@ pub works_of : {A : Type 0} (s : State) (f : A → Algorithm Value) (x y : A) (t
 works_of s f x y t a same leads = subst (λ z. Works s (f z) t a) same leads
 
 -- an answer that is known
-module _ {A : Type 0} (p : Algorithm A) (s t : Store) (answer : Answer A) (comes : Comes p s t (answered answer)) where
+module _ {A : Type 0} (p : Algorithm A) (s t : Store) (answer : Answer A) (comes : Comes p s t (ends_with answer)) where
   pub came : (b : A) → answer ≡ Gives b → Comes p s t (Ends (gives b))
-  came b is = subst (λ (e : Answer A). Comes p s t (answered e)) is comes
+  came b is = subst (λ (e : Answer A). Comes p s t (ends_with e)) is comes
 
   pub came_thrown : (v : Value) → answer ≡ Throws v → Comes p s t (Ends (throws v))
-  came_thrown v is = subst (λ (e : Answer A). Comes p s t (answered e)) is comes
+  came_thrown v is = subst (λ (e : Answer A). Comes p s t (ends_with e)) is comes

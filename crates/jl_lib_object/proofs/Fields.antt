@@ -29,7 +29,7 @@ use Rattle.jl_progress.specs.declared.object.DescriptorField.{DescriptorField}
 use Rattle.jl_progress.specs.declared.object.DescriptorField.TheVariants as field_of
 use Rattle.jl_progress.specs.declared.object.DescriptorUse.{DescriptorUse}
 use Rattle.jl_progress.specs.declared.object.ObjectProgress.TheVariants as object
-use Rattle.jl_store.specs.Answers.{answered}
+use Rattle.jl_store.specs.Answers.{ends_with}
 use Rattle.jl_store.specs.Comes.{Comes}
 use Rattle.jl_store.specs.declared.answer.Answer.{Answer}
 use Rattle.jl_store.specs.declared.answer.Answer.TheVariants.{Gives, Throws}
@@ -213,7 +213,7 @@ module _ (d : ObjId) (change : Change) (purpose : DescriptorUse) where
 -- the first field, of a value that is an object
 
 module _ (s : State) (x : Store) (v : Value) (purpose : DescriptorUse) (answer : Answer ObjId)
-    (comes : Comes (need_object v) s.store x (answered answer)) where
+    (comes : Comes (need_object v) s.store x (ends_with answer)) where
   abbrev from_first : ObjId → Algorithm Value
   from_first d = change_from (Some field_of.Enumerable) d no_change >>= after_descriptor purpose
 

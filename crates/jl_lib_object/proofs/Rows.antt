@@ -3,7 +3,7 @@ use Rattle.std.proofs.Common.{◌≡◌, refl, subst, sym, IfOk, Result, ℕ}
 use Rattle.std.proofs.lemmas.Result.{IfOk-weaker}
 use Rattle.jl_value.specs.declared.value.Value.{Value}
 use Rattle.jl_meaning.specs.Parts.{Algorithm, Call}
-use Rattle.jl_meaning.specs.builtins.Arguments.{unsupported}
+use Rattle.jl_meaning.specs.builtins.Arguments.{fail_row}
 use Rattle.jl_meaning.specs.builtins.Function.{function_apply, function_bind, function_call, function_constructor}
 use Rattle.jl_meaning.specs.builtins.Function.{function_prototype_call, function_to_string, throw_forbidden}
 use Rattle.jl_meaning.specs.builtins.Function.{FunctionNames}
@@ -35,9 +35,9 @@ begins_row s names row n c p t r is same leads =
 
 -- one that isn't built
 
-pub not_built : (s : State) (row n : ℕ) (c : Call) (a : Act) → row ≡ n → Works s (unsupported row c) s a
-    → Works s (unsupported n c) s a
-not_built s row n c a is leads = subst (λ r. Works s (unsupported r c) s a) is leads
+pub not_built : (s : State) (row n : ℕ) (c : Call) (a : Act) → row ≡ n → Works s (fail_row row c) s a
+    → Works s (fail_row n c) s a
+not_built s row n c a is leads = subst (λ r. Works s (fail_row r c) s a) is leads
 
 pub row_0 : (names : FunctionNames) (c : Call) → builtin names 0 c ≡ object_call c
 unfolding builtin builtin_rows
@@ -99,7 +99,7 @@ pub row_14 : (names : FunctionNames) (c : Call) → builtin names 14 c ≡ objec
 unfolding builtin builtin_rows
 row_14 names c = refl
 
-pub row_15 : (names : FunctionNames) (c : Call) → builtin names 15 c ≡ unsupported 15 c
+pub row_15 : (names : FunctionNames) (c : Call) → builtin names 15 c ≡ fail_row 15 c
 unfolding builtin builtin_rows
 row_15 names c = refl
 
@@ -143,7 +143,7 @@ pub row_25 : (names : FunctionNames) (c : Call) → builtin names 25 c ≡ funct
 unfolding builtin builtin_rows
 row_25 names c = refl
 
-pub row_26 : (names : FunctionNames) (c : Call) → builtin names 26 c ≡ unsupported 26 c
+pub row_26 : (names : FunctionNames) (c : Call) → builtin names 26 c ≡ fail_row 26 c
 unfolding builtin builtin_rows
 row_26 names c = refl
 

@@ -63,7 +63,7 @@ fn bound_length(
 }
 
 /// A property that can't be changed.
-fn closed(value: Value) -> Prop
+fn constant_property(value: Value) -> Prop
     ensures { result ≡ Plain value false false false }
 {
     Prop::Plain {
@@ -88,7 +88,7 @@ fn create_bound(
     let name = word(alloc, "length")?;
     let inner = Inner::Bound { target, this, args };
     let id = store.new_object(Class::Function, Some(FUNCTION_PROTOTYPE), inner)?;
-    store.add_property(id, &name, closed(length))?;
+    store.add_property(id, &name, constant_property(length))?;
     store.add_poison(id)?;
     Ok(id)
 }

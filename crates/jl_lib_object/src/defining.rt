@@ -16,7 +16,7 @@ ghost use Rattle.jl_progress.specs.Objects.{after_descriptor, rank_definitions, 
 ghost use Rattle.jl_state.specs.Rank.{Falls};
 ghost use Rattle.jl_state.specs.Rest.{Works};
 ghost use Rattle.jl_state.specs.Words.{call_of};
-ghost use Rattle.jl_store.specs.Answers.{answered};
+ghost use Rattle.jl_store.specs.Answers.{ends_with};
 ghost use Rattle.jl_store.specs.Comes.{Comes};
 
 use crate::descriptors::to_property_descriptor;
@@ -273,7 +273,7 @@ fn read_all<'p>(
 
 /// A prototype: an object, or null (15.2.3.5, step 1).
 fn need_prototype(store: &mut Store, v: &Value) -> Result<Answer<Option<ObjId>>, NoMemory>
-    ensures { IfOk result (λ answer. Comes (need_prototype v.now) store.old store.new (answered answer)) }
+    ensures { IfOk result (λ answer. Comes (need_prototype v.now) store.old store.new (ends_with answer)) }
 {
     match v {
         Value::Obj(id) => Ok(Answer::Gives(Some(*id))),

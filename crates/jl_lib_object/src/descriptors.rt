@@ -10,7 +10,7 @@ ghost use Rattle.jl_meaning.specs.builtins.Descriptors.{of_one_kind, to_property
 ghost use Rattle.jl_progress.specs.Objects.{after_descriptor, object_after, rank_object, rank_use};
 ghost use Rattle.jl_state.specs.Rank.{Falls};
 ghost use Rattle.jl_state.specs.Rest.{Works};
-ghost use Rattle.jl_store.specs.Answers.{answered};
+ghost use Rattle.jl_store.specs.Answers.{ends_with};
 ghost use Rattle.jl_store.specs.Comes.{Comes};
 
 use crate::defining::use_change;
@@ -69,7 +69,7 @@ fn no_change() -> Change
 
 /// A getter or a setter: a function, or undefined (steps 7 and 8).
 fn function_or_undefined(store: &mut Store, v: &Value) -> Result<Answer<Option<ObjId>>, NoMemory>
-    ensures { IfOk result (λ answer. Comes (function_or_undefined v.now) store.old store.new (answered answer)) }
+    ensures { IfOk result (λ answer. Comes (function_or_undefined v.now) store.old store.new (ends_with answer)) }
 {
     if is_undefined(v) {
         return Ok(Answer::Gives(None));
@@ -83,7 +83,7 @@ fn function_or_undefined(store: &mut Store, v: &Value) -> Result<Answer<Option<O
 /// A change with a getter.
 fn with_getter(store: &mut Store, v: &Value, change: Change) -> Result<Answer<Change>, NoMemory>
     ensures { IfOk result (λ answer. Comes (with_field DescriptorField.Get v.now change) store.old store.new
-        (answered answer)) }
+        (ends_with answer)) }
 {
     match function_or_undefined(store, v)? {
         Answer::Gives(getter) => Ok(Answer::Gives(Change {
@@ -97,7 +97,7 @@ fn with_getter(store: &mut Store, v: &Value, change: Change) -> Result<Answer<Ch
 /// A change with a setter.
 fn with_setter(store: &mut Store, v: &Value, change: Change) -> Result<Answer<Change>, NoMemory>
     ensures { IfOk result (λ answer. Comes (with_field DescriptorField.Set v.now change) store.old store.new
-        (answered answer)) }
+        (ends_with answer)) }
 {
     match function_or_undefined(store, v)? {
         Answer::Gives(setter) => Ok(Answer::Gives(Change {
@@ -115,7 +115,7 @@ fn with_field(
     v: Value,
     change: Change,
 ) -> Result<Answer<Change>, NoMemory>
-    ensures { IfOk result (λ answer. Comes (with_field field v change) store.old store.new (answered answer)) }
+    ensures { IfOk result (λ answer. Comes (with_field field v change) store.old store.new (ends_with answer)) }
 {
     match field {
         DescriptorField::Enumerable => Ok(Answer::Gives(Change {

@@ -8,7 +8,7 @@ ghost use Rattle.jl_meaning.specs.builtins.Object.{object_value_of, prototype_va
 ghost use Rattle.jl_state.specs.Rank.{Falls};
 ghost use Rattle.jl_state.specs.Rest.{Works};
 ghost use Rattle.jl_state.specs.Words.{call_of};
-ghost use Rattle.jl_store.specs.Answers.{answered};
+ghost use Rattle.jl_store.specs.Answers.{ends_with};
 ghost use Rattle.jl_store.specs.Comes.{Comes};
 ghost use Rattle.jl_value.specs.Texts.{class_name};
 
@@ -22,7 +22,7 @@ use std::alloc::Global;
 
 /// A new object, or the object that a value converts to.
 fn object_for(store: &mut Store, v: &Value) -> Result<Answer<ObjId>, NoMemory>
-    ensures { IfOk result (λ answer. Comes (object_for v.now) store.old store.new (answered answer)) }
+    ensures { IfOk result (λ answer. Comes (object_for v.now) store.old store.new (ends_with answer)) }
 {
     if is_nothing(v) {
         let id = store.new_plain_object()?;

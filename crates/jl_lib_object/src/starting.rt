@@ -18,7 +18,7 @@ use crate::objects::{
 use crate::own_names::{object_get_own_property_names, object_keys};
 use crate::own_tests::this_has;
 use jl_algorithm::throw_native;
-use jl_builtin::unsupported;
+use jl_builtin::fail_row;
 use jl_progress::{Integrity, OwnTest};
 use jl_state::{Act, Invocation, State};
 use jl_text::NoMemory;
@@ -69,7 +69,7 @@ fn start_asking<'p>(
         12 => object_is_extensible(alloc, state, call),
         13 => object_keys(alloc, state, call),
         14 => object_to_string(alloc, state, call),
-        15 => Ok(unsupported(row)),
+        15 => Ok(fail_row(row)),
         16 => object_value_of(state, call),
         17 => this_has(alloc, state, OwnTest::IsThere, call),
         18 => object_is_prototype_of(alloc, state, call),
@@ -115,7 +115,7 @@ fn start_row<'p>(
         23 => function_apply(alloc, state, call),
         24 => function_call(alloc, state, call),
         25 => function_bind(alloc, state, call),
-        26 => Ok(unsupported(row)),
+        26 => Ok(fail_row(row)),
         _ => throw_native(alloc, state, ErrorKind::TypeError, "forbidden"),
     }
 }

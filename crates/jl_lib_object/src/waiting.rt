@@ -3,7 +3,7 @@ ghost use Rattle.std.specs.Prelude.{◌≡◌, ◌∷◌, IfOk, OnOk};
 ghost use Rattle.jl_meaning.specs.builtins.Arguments.{argument, need_object};
 ghost use Rattle.jl_state.specs.Steps.{AlgorithmWaits};
 ghost use Rattle.jl_state.specs.Words.{call_of};
-ghost use Rattle.jl_store.specs.Answers.{answered};
+ghost use Rattle.jl_store.specs.Answers.{ends_with};
 ghost use Rattle.jl_store.specs.Comes.{Comes};
 
 use jl_builtin::{argument, need_object};
@@ -59,7 +59,7 @@ pub(crate) fn first_object(
     call: &Invocation,
 ) -> Result<Answer<ObjId>, NoMemory>
     ensures { IfOk result (λ answer. Comes (need_object (argument (call_of call.now) 0)) store.old store.new
-        (answered answer)) }
+        (ends_with answer)) }
 {
     let v = argument_of(alloc, call, 0)?;
     let answer = need_object(store, &v)?;

@@ -15,7 +15,7 @@ use Rattle.jl_effects.specs.Effects.{Fail}
 use Rattle.jl_meaning.specs.Parts.{give, ◌>>=◌, Algorithm, Call, Unsupported}
 use Rattle.jl_meaning.specs.FunctionObjects.{whole}
 use Rattle.jl_meaning.specs.builtins.Arguments.{argument, give_string, string_of_this}
-use Rattle.jl_meaning.specs.builtins.Elements.{clamped, index_or_none}
+use Rattle.jl_meaning.specs.builtins.Elements.{clamp, index_or_none}
 use Rattle.jl_text.specs.Search.{first_place}
 use Rattle.jl_meaning.specs.builtins.Function.{FunctionNames}
 use Rattle.jl_meaning.specs.builtins.String.{string_constructor, string_from_char_code, string_value, unit_at_position}
@@ -62,7 +62,7 @@ each names c (suc (suc zero)) = refl
 each names c (suc (suc (suc zero))) =
     ap (λ (k : List ℕ → Algorithm Value). string_of_this c >>= k)
     (fun_ext (λ units. ap (λ (k : List ℕ → Algorithm Value). to_string (argument c 0) >>= k)
-    (fun_ext (λ part. place_found c (λ z. give (index_or_none (first_place units part (clamped z (length units)))))))))
+    (fun_ext (λ part. place_found c (λ z. give (index_or_none (first_place units part (clamp z (length units)))))))))
 each names c (suc (suc (suc (suc zero)))) = refl
 each names c (suc (suc (suc (suc (suc zero))))) = refl
 each names c (suc (suc (suc (suc (suc (suc zero)))))) = refl

@@ -9,7 +9,7 @@ ghost use Rattle.jl_state.specs.Rest.{Works};
 ghost use Rattle.jl_state.specs.declared.state.State.{State as Machine};
 
 use crate::texts::text_of_units;
-use jl_builtin::unsupported;
+use jl_builtin::fail_row;
 use jl_progress::LetterCase;
 use jl_state::Act;
 use jl_text::{List, NoMemory, Text};
@@ -67,7 +67,7 @@ pub(crate) fn give_in_case<'p>(
     ensures low { IfOk result (λ act. rank_act act ≤ 2) }
 {
     if leaves_ascii(units.units()) {
-        return Ok(unsupported(row_of_case(case)));
+        return Ok(fail_row(row_of_case(case)));
     }
     let letters = letters_in(alloc, case, units.units())?;
     Ok(Act::Give(Value::Text(text_of_units(alloc, letters.items())?)))

@@ -12,7 +12,7 @@ ghost use Rattle.jl_state.specs.Rest.{Works};
 ghost use Rattle.jl_state.specs.declared.state.State.{State as Machine};
 
 use crate::texts::range_of;
-use jl_builtin::{argument, clamped, is_undefined, relative_index, wait_for_number};
+use jl_builtin::{argument, clamp, is_undefined, relative_index, wait_for_number};
 use jl_num::{Num, NumberOutside};
 use jl_operator::number_of;
 use jl_progress::{Cut, Progress, StringProgress};
@@ -60,8 +60,8 @@ fn units_cut(alloc: Global, cut: Cut, units: &Text, start: Num, end: Num) -> Res
             range_of(alloc, units, from, relative_index(end, length))
         }
         Cut::Substring => {
-            let a = clamped(start, length);
-            let b = clamped(end, length);
+            let a = clamp(start, length);
+            let b = clamp(end, length);
             range_of(alloc, units, a.min(b), a.max(b))
         }
     }

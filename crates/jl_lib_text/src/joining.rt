@@ -1,5 +1,6 @@
 //! `concat` (15.5.4.6).
 ghost use Rattle.std.specs.Prelude.{◌≤◌, ◌∷◌, drop, length, IfOk};
+ghost use Rattle.jl_text.specs.Limits.{most_units};
 ghost use Rattle.jl_lib_text.specs.inner.Turns.{string_joined};
 ghost use Rattle.jl_progress.specs.Strings.{string_after};
 ghost use Rattle.jl_progress.specs.declared.string.StringProgress.TheVariants as progress;
@@ -23,7 +24,7 @@ fn string_joined<'p>(
     args: List<Value>,
     from: usize,
 ) -> Result<Act<'p>, NoMemory>
-    requires { length units ≤ 1048576 }
+    requires { length units ≤ most_units }
     ensures leads { IfOk result (λ act. Works state.old (string_joined units (drop from args)) state.new act) }
     ensures falls { IfOk result (λ act. Falls state.old 3 state.new act) }
 {

@@ -9,7 +9,7 @@ ghost use Rattle.jl_progress.specs.declared.string.StringProgress.TheVariants as
 ghost use Rattle.jl_state.specs.Rank.{Falls};
 ghost use Rattle.jl_state.specs.Rest.{Works};
 
-use jl_builtin::{argument, clamped, index_or_none, wait_for_number, wait_for_string};
+use jl_builtin::{argument, clamp, index_or_none, wait_for_number, wait_for_string};
 use jl_num::{Num, NumberOutside};
 use jl_operator::{number_of, text_of};
 use jl_progress::{Progress, Search, StringProgress};
@@ -84,7 +84,7 @@ fn last_start(n: Num, length: usize) -> usize
 {
     match n.value() {
         None => length,
-        Some(_) => clamped(n, length),
+        Some(_) => clamp(n, length),
     }
 }
 
@@ -99,7 +99,7 @@ fn place_of_part(
 {
     let length = units.units().len();
     match search {
-        Search::First => index_or_none(units.find(part, clamped(position, length))),
+        Search::First => index_or_none(units.find(part, clamp(position, length))),
         Search::Last => index_or_none(units.find_last(part, last_start(position, length))),
     }
 }

@@ -16,7 +16,7 @@ use crate::methods::{call_method, resume_this};
 use crate::places::{resume_part, resume_place};
 use crate::positions::resume_position;
 use crate::splitting::{resume_limit, resume_separator};
-use jl_builtin::unsupported;
+use jl_builtin::fail_row;
 use jl_progress::{Cut, LetterCase, Search, StringMethod, StringProgress, UnitForm};
 use jl_state::{Act, Invocation, State};
 use jl_text::NoMemory;
@@ -69,7 +69,7 @@ pub fn start<'p>(
     }
     match method_of_row(row) {
         Some(method) => Ok(call_method(alloc, state, method, &call)?),
-        None => Ok(unsupported(row)),
+        None => Ok(fail_row(row)),
     }
 }
 

@@ -1,12 +1,13 @@
 //! Strings that are no longer than one that there is.
 ghost use Rattle.std.specs.Prelude.{◌≡◌, ◌≤◌, length, slice_range, IfOk};
+ghost use Rattle.jl_text.specs.Limits.{most_units};
 
 use jl_text::{NoMemory, Text, TextFault};
 use std::alloc::Global;
 
 /// The string of these units.
 pub(crate) fn text_of_units(alloc: Global, units: &[u16]) -> Result<Text, NoMemory>
-    requires { length units.now ≤ 1048576 }
+    requires { length units.now ≤ most_units }
     ensures { IfOk result (λ text. text ≡ units.now) }
 {
     match Text::from_units(alloc, units) {

@@ -4,7 +4,7 @@ use mathlib.Core.Path.{fun_ext}
 use Rattle.jl_value.specs.declared.value.Value.{Value}
 use Rattle.jl_effects.specs.Effects.{and_then, Look}
 use Rattle.jl_effects.proofs.Chains.{and_then-assoc, row-and_then}
-use Rattle.jl_meaning.specs.Parts.{fault_of, give, given, gives, lift, throws, ◌>>=◌, Algorithm, Answer, CallOf, Part}
+use Rattle.jl_meaning.specs.Parts.{fault_of, give, continue_with, gives, lift, throws, ◌>>=◌, Algorithm, Answer, CallOf, Part}
 use Rattle.jl_meaning.specs.Store.{Store}
 use Rattle.jl_state.specs.Rest.{as_value, rest_of, run_in, Gives}
 use Rattle.jl_state.specs.declared.act.Act.{Act}
@@ -19,9 +19,9 @@ gives_look s k p t a e leads = record {
 
 pub part_assoc : {A B C : Type 0} (p : Part (Answer A)) (k : A → Part (Answer B)) (l : B → Part (Answer C))
     → (p >>= k >>= l) ≡ (p >>= λ a. k a >>= l)
-part_assoc {A} {B} {C} p k l = and_then-assoc p (given k) (given l) ∙ ap (and_then p) (fun_ext each)
+part_assoc {A} {B} {C} p k l = and_then-assoc p (continue_with k) (continue_with l) ∙ ap (and_then p) (fun_ext each)
   where
-    each : (b : Answer A) → and_then (given k b) (given l) ≡ given (λ a. k a >>= l) b
+    each : (b : Answer A) → and_then (continue_with k b) (continue_with l) ≡ continue_with (λ a. k a >>= l) b
     each (gives a) = refl
     each (throws v) = refl
 
@@ -36,10 +36,10 @@ part_assoc_twice p k q r =
 pub lifted_then : {A B : Type 0} (p : Algorithm A) (v : Value) (q : Part (Answer B))
     → (lift (p >>= λ _. give v) >>= λ _. q) ≡ (lift p >>= λ _. q)
 lifted_then {A} {B} p v q =
-    ap (λ x. and_then x (given (λ _. q))) (row-and_then CallOf fault_of p (given (λ _. give v)))
-    ∙ and_then-assoc (lift p) (λ b. lift (given (λ _. give v) b)) (given (λ _. q))
+    ap (λ x. and_then x (continue_with (λ _. q))) (row-and_then CallOf fault_of p (continue_with (λ _. give v)))
+    ∙ and_then-assoc (lift p) (λ b. lift (continue_with (λ _. give v) b)) (continue_with (λ _. q))
     ∙ ap (and_then (lift p)) (fun_ext each)
   where
-    each : (b : Answer A) → and_then (lift (given (λ _. give v) b)) (given (λ _. q)) ≡ given (λ _. q) b
+    each : (b : Answer A) → and_then (lift (continue_with (λ _. give v) b)) (continue_with (λ _. q)) ≡ continue_with (λ _. q) b
     each (gives a) = refl
     each (throws w) = refl

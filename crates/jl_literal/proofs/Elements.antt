@@ -15,7 +15,7 @@ use Rattle.jl_meaning.specs.Parts.{fault_of, gives, lift, throws, ◌>>=◌, Con
 use Rattle.jl_meaning.specs.Parts as parts
 use Rattle.jl_meaning.specs.forms.Literals.{end_array, new_array, put_element}
 use Rattle.jl_effects.specs.Running.{Ends}
-use Rattle.jl_store.specs.Answers.{fault_seen, finished}
+use Rattle.jl_store.specs.Answers.{fault_seen, finish_of}
 use Rattle.jl_store.specs.Comes.{Comes}
 use Rattle.jl_store.specs.declared.answer.AlgorithmFault.{AlgorithmFault}
 use Rattle.jl_store.specs.declared.answer.Finished.{Finished}
@@ -98,13 +98,13 @@ array_begun s t stored array items here u a comes leads =
 -- an element is put, and the others follow
 module _ (s t : State) (stored : IsStored s t) (array : ObjId) (index : ℕ) (v : Value)
     (rest : Remaining (Option Expr)) (here : Here) (answer : Finished Bool)
-    (comes : Comes (put_element array index v) s.store t.store (finished answer)) where
+    (comes : Comes (put_element array index v) s.store t.store (finish_of answer)) where
   abbrev others : State → ℕ → parts.Part (parts.Answer Value)
   others u next =
       array_from (table_of u.functions) (plain_forest (view_items (items_left rest))) array next (context_of u.calls here)
 
-  puts : (end : Finished Bool) → answer ≡ end → Comes (put_element array index v) s.store t.store (finished end)
-  puts end is = subst (λ (f : Finished Bool). Comes (put_element array index v) s.store t.store (finished f)) is comes
+  puts : (end : Finished Bool) → answer ≡ end → Comes (put_element array index v) s.store t.store (finish_of end)
+  puts end is = subst (λ (f : Finished Bool). Comes (put_element array index v) s.store t.store (finish_of f)) is comes
 
   pub element_put : (next : ℕ) (done : Bool) (u : State) (a : Act) → answer ≡ ended.Gives done → next ≡ index + 1
       → Gives t (others t next) u a

@@ -19,7 +19,7 @@ use Rattle.jl_meaning.specs.Parts.{fault_of, lift, ◌>>=◌, Part}
 use Rattle.jl_meaning.specs.Parts as parts
 use Rattle.jl_meaning.specs.Store.{Store}
 use Rattle.jl_meaning.specs.forms.Literals.{accessor_change, end_array, index_name, literal_of, of_array, put_element}
-use Rattle.jl_store.specs.Answers.{fault_seen, finished}
+use Rattle.jl_store.specs.Answers.{fault_seen, finish_of}
 use Rattle.jl_store.specs.Comes.{Comes}
 use Rattle.jl_store.specs.Defining.{LengthIsPrimitive}
 use Rattle.jl_store.specs.declared.answer.AlgorithmFault.{AlgorithmFault}
@@ -72,20 +72,20 @@ length_is = refl
 -- an array that has been filled gets its length
 module _ (s t : State) (stored : IsStored s t) (array : ObjId) (n : ℕ) (x : Name) (w : Value) (change : Change)
     (name_is : x ≡ codes "length") (w_is : w ≡ whole n) (change_is : change ≡ value_change w) (answer : Finished Bool)
-    (comes : Comes (define_own_property array x change) s.store t.store (finished answer)) where
+    (comes : Comes (define_own_property array x change) s.store t.store (finish_of answer)) where
   abbrev length_put : parts.Algorithm Bool
   length_put = define_own_property array length_name (value_change (whole n))
 
   abbrev then_given : Bool → Part (parts.Answer Value)
   then_given _ = literal_of of_array 0 (value.Obj array)
 
-  puts : (end : Finished Bool) → answer ≡ end → Comes length_put s.store t.store (finished end)
+  puts : (end : Finished Bool) → answer ≡ end → Comes length_put s.store t.store (finish_of end)
   puts end is =
-      subst (λ (f : Finished Bool). Comes length_put s.store t.store (finished f)) is
-      (subst (λ y. Comes (define_own_property array y (value_change (whole n))) s.store t.store (finished answer))
+      subst (λ (f : Finished Bool). Comes length_put s.store t.store (finish_of f)) is
+      (subst (λ y. Comes (define_own_property array y (value_change (whole n))) s.store t.store (finish_of answer))
       (name_is ∙ sym length_is)
-      (subst (λ m. Comes (define_own_property array x (value_change m)) s.store t.store (finished answer)) w_is
-      (subst (λ c. Comes (define_own_property array x c) s.store t.store (finished answer)) change_is comes)))
+      (subst (λ m. Comes (define_own_property array x (value_change m)) s.store t.store (finish_of answer)) w_is
+      (subst (λ c. Comes (define_own_property array x c) s.store t.store (finish_of answer)) change_is comes)))
 
   pub length_given : (done : Bool) (u : State) (a : Act) → answer ≡ ended.Gives done
       → Gives t (literal_of of_array 0 (value.Obj array)) u a → Gives s (end_array 0 array n) u a

@@ -7,7 +7,7 @@ ghost use Rattle.jl_meaning.specs.Defining.{value_change};
 ghost use Rattle.jl_meaning.specs.Parts.{lift, ◌>>=◌ as ◌then◌};
 ghost use Rattle.jl_meaning.specs.Parts as parts;
 ghost use Rattle.jl_meaning.specs.forms.Literals.{end_array, index_name, new_array, put_element};
-ghost use Rattle.jl_store.specs.Answers.{fault_seen, finished};
+ghost use Rattle.jl_store.specs.Answers.{fault_seen, finish_of};
 ghost use Rattle.jl_store.specs.Comes.{Comes};
 ghost use Rattle.jl_state.specs.Rank.{Falls};
 ghost use Rattle.jl_state.specs.Rest.{Gives};
@@ -143,7 +143,7 @@ fn put_element(
     index: usize,
     v: Value,
 ) -> Result<Finished<bool>, NoMemory>
-    ensures { IfOk result (λ end. Comes (put_element array index v) store.old store.new (finished end)) }
+    ensures { IfOk result (λ end. Comes (put_element array index v) store.old store.new (finish_of end)) }
 {
     let name = index_name(alloc, index)?;
     let change = plain_change(v);

@@ -24,8 +24,8 @@ use Rattle.jl_state.specs.declared.act.Act.TheVariants as act
 use Rattle.jl_state.specs.declared.act.Invocation.{Invocation}
 use Rattle.jl_state.specs.declared.frame.Here.{Here}
 use Rattle.jl_state.specs.declared.state.State.{State}
-use Rattle.jl_machine.specs.Going.{comes_of, kept_by, Goes, Hears}
-use Rattle.jl_machine.specs.Handed.{Hands}
+use Rattle.jl_machine.specs.inner.Going.{comes_of, kept_by, Goes, Hears}
+use Rattle.jl_machine.specs.inner.Handed.{Hands}
 use Rattle.jl_machine.specs.declared.ending.Next.{Next}
 use Rattle.jl_machine.specs.declared.ending.Next.TheVariants as next
 

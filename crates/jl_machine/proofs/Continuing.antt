@@ -24,8 +24,8 @@ use Rattle.jl_state.specs.declared.state.State.{State}
 use Rattle.jl_state.specs.declared.statement_frame.CompletionFrame.{CompletionFrame}
 use Rattle.jl_state.specs.declared.statement_frame.StatementFrame.{StatementFrame}
 use Rattle.jl_state.specs.declared.value_frame.ValueFrame.{ValueFrame}
-use Rattle.jl_machine.specs.Going.{comes_of}
-use Rattle.jl_machine.specs.Handed.{Continues, EndsProgram, Hands, Passes}
+use Rattle.jl_machine.specs.inner.Going.{comes_of}
+use Rattle.jl_machine.specs.inner.Handed.{Continues, EndsProgram, Hands, Passes}
 use Rattle.jl_machine.specs.declared.ending.Next.TheVariants as next
 
 -- a frame does its part

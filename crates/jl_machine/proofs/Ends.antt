@@ -17,9 +17,9 @@ use Rattle.jl_state.specs.declared.act.Act.{Act}
 use Rattle.jl_state.specs.declared.frame.Here.{Here}
 use Rattle.jl_state.specs.declared.state.State.{State}
 use Rattle.jl_store.specs.Plain.{code_in}
-use Rattle.jl_machine.specs.Going.{kept_by, over, Goes, GoesTo, Heard}
+use Rattle.jl_machine.specs.inner.Going.{kept_by, over, Goes, GoesTo, Heard}
 use Rattle.jl_machine.specs.Runs.{hooked_mean, steps_of, IsRun}
-use Rattle.jl_machine.specs.Starts.{program_body, IsStart}
+use Rattle.jl_machine.specs.inner.Starts.{program_body, IsStart}
 use Rattle.jl_machine.specs.declared.ending.Next.TheVariants as next
 use Rattle.jl_machine.specs.declared.ending.Run.{Run}
 use Rattle.jl_machine.proofs.Meanings.{begins, strict_plain}

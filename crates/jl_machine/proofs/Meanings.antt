@@ -38,14 +38,14 @@ use Rattle.jl_state.specs.declared.frame.Frame.{Frame}
 use Rattle.jl_state.specs.declared.frame.Here.{Here}
 use Rattle.jl_state.specs.declared.state.State.{State}
 use Rattle.jl_state.proofs.Stores.{completes_comes, completes_thrown}
-use Rattle.jl_store.specs.Answers.{answered}
+use Rattle.jl_store.specs.Answers.{ends_with}
 use Rattle.jl_store.specs.Comes.{Comes}
 use Rattle.jl_store.specs.Plain.{code_in, plain_code}
 use Rattle.jl_store.specs.declared.answer.Answer.{Answer as Answered}
 use Rattle.jl_store.specs.declared.answer.Answer.TheVariants.{Gives, Throws}
 use Rattle.jl_store.proofs.Trees.{body_plain}
 use Rattle.jl_machine.specs.Runs.{hooked_mean}
-use Rattle.jl_machine.specs.Starts.{program_body, IsStart}
+use Rattle.jl_machine.specs.inner.Starts.{program_body, IsStart}
 
 -- what a program declares is bound
 
@@ -55,7 +55,7 @@ statements_of table b c = ap (λ (t : Code). run_body table t c) (sym (body_plai
 
 pub declared_then : (s t u : State) (b : Body) (bound : Context) (here : Here) (a : Act)
     (answer : Answered (Unit {0})) (x : Unit {0}) → t ≡ record s { store = t.store }
-    → Comes (declare_program (plain_code b) bound) s.store t.store (answered answer) → answer ≡ Gives x
+    → Comes (declare_program (plain_code b) bound) s.store t.store (ends_with answer) → answer ≡ Gives x
     → Completes t (execute_all (table_of s.functions) (plain_forest (view_statements (out-Body b).statements))
     (context_of s.calls here)) u a
     → Completes s (program_body (table_of s.functions) (plain_code b) bound (context_of s.calls here)) u a
@@ -63,20 +63,20 @@ declared_then s t u b bound here a answer x stored comes is leads =
     completes_comes s t stored (declare_program (plain_code b) bound) x
     (λ _. run_body (table_of s.functions) (plain_code b) (context_of s.calls here)) u a
     (record {
-      leads = (subst (λ d. Comes (declare_program (plain_code b) bound) s.store t.store (answered d)) is comes).leads;
+      leads = (subst (λ d. Comes (declare_program (plain_code b) bound) s.store t.store (ends_with d)) is comes).leads;
     })
     (subst (λ p. Completes t p u a) (statements_of (table_of s.functions) b (context_of s.calls here)) leads)
 
 pub declared_thrown : (s t : State) (b : Body) (bound : Context) (here : Here) (answer : Answered (Unit {0})) (v : Value)
     → t ≡ record s { store = t.store }
-    → Comes (declare_program (plain_code b) bound) s.store t.store (answered answer) → answer ≡ Throws v
+    → Comes (declare_program (plain_code b) bound) s.store t.store (ends_with answer) → answer ≡ Throws v
     → Completes s (program_body (table_of s.functions) (plain_code b) bound (context_of s.calls here)) t
     (act.Complete (completion.Throw v))
 declared_thrown s t b bound here answer v stored comes is =
     completes_thrown s t stored (declare_program (plain_code b) bound) v
     (λ _. run_body (table_of s.functions) (plain_code b) (context_of s.calls here))
     (record {
-      leads = (subst (λ d. Comes (declare_program (plain_code b) bound) s.store t.store (answered d)) is comes).leads;
+      leads = (subst (λ d. Comes (declare_program (plain_code b) bound) s.store t.store (ends_with d)) is comes).leads;
     })
 
 -- strictness doesn't depend on places

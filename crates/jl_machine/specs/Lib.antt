@@ -1,4 +1,2 @@
-pub mod Going
-pub mod Handed
 pub mod Runs
-pub mod Starts
+pub mod inner

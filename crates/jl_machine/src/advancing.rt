@@ -1,7 +1,7 @@
 //! One act after another.
 ghost use Rattle.std.specs.Prelude.{◌≡◌, IfOk, OnOk};
 ghost use Rattle.jl_state.specs.Rank.{rank_act};
-ghost use Rattle.jl_machine.specs.Going.{Goes, IsStepped, Sinks};
+ghost use Rattle.jl_machine.specs.inner.Going.{Goes, IsStepped, Sinks};
 
 use crate::ending::Next;
 use crate::handing::{give_completion, give_value, resume};

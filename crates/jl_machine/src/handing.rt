@@ -2,8 +2,8 @@
 ghost use Rattle.std.specs.Prelude.{◌+◌, ◌≤◌, IfOk};
 ghost use Rattle.jl_state.specs.Rank.{rank, rank_act, Falls};
 ghost use Rattle.jl_state.specs.Rest.{Completion-given, Nothing, Value-given};
-ghost use Rattle.jl_machine.specs.Going.{Sinks};
-ghost use Rattle.jl_machine.specs.Handed.{Continues, EndsProgram, Hands, Passes};
+ghost use Rattle.jl_machine.specs.inner.Going.{Sinks};
+ghost use Rattle.jl_machine.specs.inner.Handed.{Continues, EndsProgram, Hands, Passes};
 
 use crate::algorithms::step_algorithm;
 use crate::ending::Next;

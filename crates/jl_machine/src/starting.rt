@@ -5,7 +5,7 @@ ghost use Rattle.jl_state.specs.Rest.{Completes};
 ghost use Rattle.jl_state.specs.Words.{context_of, table_of};
 ghost use Rattle.jl_store.specs.Plain.{code_in, plain_code};
 ghost use Rattle.jl_realm.specs.Global.{HasGlobalObject};
-ghost use Rattle.jl_machine.specs.Starts.{program_body, IsStart};
+ghost use Rattle.jl_machine.specs.inner.Starts.{program_body, IsStart};
 
 use jl_ast::{Body, Program};
 use jl_realm::{declare_program, functions, initial_store};

@@ -1,6 +1,6 @@
 //! The observer is told of operations.
 ghost use Rattle.std.specs.Prelude.{◌≡◌, OnOk};
-ghost use Rattle.jl_machine.specs.Going.{Hears};
+ghost use Rattle.jl_machine.specs.inner.Going.{Hears};
 
 use jl_op::{KindSet, Observer, Op, OpId};
 use jl_text::NoMemory;

@@ -11,7 +11,7 @@ use Rattle.jl_heap.specs.Objects.{Name}
 use Rattle.jl_heap.specs.declared.inner.Inner.{Inner}
 use Rattle.jl_heap.specs.declared.inner.Inner.TheVariants as inner
 use Rattle.jl_heap.specs.declared.property.Prop.TheVariants.{Plain}
-use Rattle.jl_meaning.specs.FunctionObjects.{poisoned, whole}
+use Rattle.jl_meaning.specs.FunctionObjects.{thrower_property, whole}
 use Rattle.jl_meaning.specs.Intrinsics.{object_prototype}
 use Rattle.jl_meaning.specs.Parts.{add_property, give, new_object, ◌>>=◌, Algorithm}
 use Rattle.jl_meaning.specs.forms.Literals.{index_name}
@@ -38,8 +38,8 @@ add_elements id index (v ∷ vs) = do
 abbrev pub add_callee : (strict : Bool) → (callee : ObjId) → ObjId → Algorithm (Unit {0})
 add_callee false callee id = add_property id (codes "callee") (Plain (value.Obj callee) true false true)
 add_callee true callee id = do
-  _ ← add_property id (codes "caller") poisoned
-  add_property id (codes "callee") poisoned
+  _ ← add_property id (codes "caller") thrower_property
+  add_property id (codes "callee") thrower_property
 
 -- CreateArgumentsObject (10.6)
 unfoldable pub create_arguments_object : (strict : Bool) → (callee : ObjId) → (env : ℕ) → List Name → List Value

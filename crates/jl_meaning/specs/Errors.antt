@@ -7,13 +7,14 @@ use Rattle.jl_value.specs.declared.value.Value.TheVariants as value
 use Rattle.jl_heap.specs.Objects.{Name}
 use Rattle.jl_heap.specs.declared.inner.Inner.TheVariants as inner
 use Rattle.jl_heap.specs.declared.property.Prop.TheVariants.{Plain}
+use Rattle.jl_text.specs.Limits.{most_units}
 use Rattle.jl_effects.specs.Effects.{Fail}
 use Rattle.jl_meaning.specs.Intrinsics.{prototype_of_error}
 use Rattle.jl_meaning.specs.Parts.{add_property, give, new_object, throw, ◌>>=◌, Algorithm, StringTooLong}
 
 -- a string of a run has at most this many units
 abbrev pub string_limit : ℕ
-string_limit = 1048576
+string_limit = most_units
 
 -- a string, or the fault that it is too long
 abbrev pub string_within : List ℕ → Algorithm (List ℕ)

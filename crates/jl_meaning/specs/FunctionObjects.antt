@@ -55,14 +55,14 @@ abbrev pub whole : ℕ → Value
 whole n = value.Num (Some (pos n))
 
 -- a property that throws a TypeError when it is got or put (13.2.3)
-abbrev pub poisoned : Prop
-poisoned = Accessor (Some thrower) (Some thrower) false false
+abbrev pub thrower_property : Prop
+thrower_property = Accessor (Some thrower) (Some thrower) false false
 
 -- the two of a strict function (13.2, step 19), and of one that `bind` makes (15.3.4.5, steps 20 and 21)
 abbrev pub add_poison : ObjId → Algorithm (Unit {0})
 add_poison f = do
-  _ ← add_property f (codes "caller") poisoned
-  add_property f arguments_name poisoned
+  _ ← add_property f (codes "caller") thrower_property
+  add_property f arguments_name thrower_property
 
 -- Creating Function Objects (13.2): a function object for a function in an environment, with its length, and with a
 -- prototype whose constructor it is

@@ -119,15 +119,15 @@ abbrev pub Algorithm : Type 0 → Type 0
 Algorithm A = effects.Row Store StoreChange AlgorithmFault Call Completion (Answer A)
 
 -- what is given is gone on with, and what is thrown is thrown on
-abbrev pub given : {S C F J R O A B : Type 0} → (A → effects.Part S C F J R O (Answer B)) → Answer A
+abbrev pub continue_with : {S C F J R O A B : Type 0} → (A → effects.Part S C F J R O (Answer B)) → Answer A
     → effects.Part S C F J R O (Answer B)
-given k (gives a) = k a
-given k (throws v) = End (throws v)
+continue_with k (gives a) = k a
+continue_with k (throws v) = End (throws v)
 
 infixl 1 ◌>>=◌
 abbrev pub ◌>>=◌ : {S C F J R O A B : Type 0} → effects.Part S C F J R O (Answer A)
     → (A → effects.Part S C F J R O (Answer B)) → effects.Part S C F J R O (Answer B)
-p >>= k = and_then p (given k)
+p >>= k = and_then p (continue_with k)
 
 abbrev pub give : {S C F J R O A : Type 0} → A → effects.Part S C F J R O (Answer A)
 give a = End (gives a)

@@ -9,7 +9,7 @@ use Rattle.jl_value.specs.declared.object.ObjId.{ObjId}
 use Rattle.jl_value.specs.declared.value.Value.{Value}
 use Rattle.jl_value.specs.declared.value.Value.TheVariants as value
 use Rattle.jl_heap.specs.Define.{length_name}
-use Rattle.jl_heap.specs.Objects.{inherited, lets_through, object_at, own, own_or_unit, takes_value, unit_property}
+use Rattle.jl_heap.specs.Objects.{find_inherited, lets_through, object_at, own, own_or_unit, takes_value, unit_property}
 use Rattle.jl_heap.specs.Objects.{Name}
 use Rattle.jl_heap.specs.declared.inner.Inner.{Inner}
 use Rattle.jl_heap.specs.declared.inner.Inner.TheVariants as inner

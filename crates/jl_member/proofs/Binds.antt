@@ -4,7 +4,7 @@ use mathlib.Core.Path.{fun_ext}
 use Rattle.jl_value.specs.declared.value.Value.{Value}
 use Rattle.jl_effects.specs.Effects.{and_then}
 use Rattle.jl_effects.proofs.Chains.{and_then-assoc, row-and_then}
-use Rattle.jl_meaning.specs.Parts.{fault_of, given, gives, lift, throws, ◌>>=◌, Algorithm, Answer, CallOf, Part}
+use Rattle.jl_meaning.specs.Parts.{fault_of, continue_with, gives, lift, throws, ◌>>=◌, Algorithm, Answer, CallOf, Part}
 use Rattle.jl_state.specs.Rest.{Gives, Works}
 use Rattle.jl_state.specs.declared.act.Act.{Act}
 use Rattle.jl_state.specs.declared.state.State.{State}
@@ -12,9 +12,9 @@ use Rattle.jl_state.proofs.Steps.{gives_works}
 
 pub bind_assoc : {A B C : Type 0} (p : Part (Answer A)) (k : A → Part (Answer B)) (l : B → Part (Answer C))
     → (p >>= k >>= l) ≡ (p >>= λ a. k a >>= l)
-bind_assoc {A} {B} {C} p k l = and_then-assoc p (given k) (given l) ∙ ap (and_then p) (fun_ext each)
+bind_assoc {A} {B} {C} p k l = and_then-assoc p (continue_with k) (continue_with l) ∙ ap (and_then p) (fun_ext each)
   where
-    each : (b : Answer A) → and_then (given k b) (given l) ≡ given (λ a. k a >>= l) b
+    each : (b : Answer A) → and_then (continue_with k b) (continue_with l) ≡ continue_with (λ a. k a >>= l) b
     each (gives a) = refl
     each (throws v) = refl
 
@@ -24,9 +24,9 @@ bind_same {A} {B} p k l same = ap (λ (m : A → Part (Answer B)). p >>= m) (fun
 
 -- an algorithm of two algorithms is one after the other
 pub lift_bind : {A B : Type 0} (p : Algorithm A) (k : A → Algorithm B) → lift (p >>= k) ≡ (lift p >>= λ a. lift (k a))
-lift_bind {A} {B} p k = row-and_then CallOf fault_of p (given k) ∙ ap (and_then (lift p)) (fun_ext each)
+lift_bind {A} {B} p k = row-and_then CallOf fault_of p (continue_with k) ∙ ap (and_then (lift p)) (fun_ext each)
   where
-    each : (b : Answer A) → lift (given k b) ≡ given (λ a. lift (k a)) b
+    each : (b : Answer A) → lift (continue_with k b) ≡ continue_with (λ a. lift (k a)) b
     each (gives a) = refl
     each (throws v) = refl
 

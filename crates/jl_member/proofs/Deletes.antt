@@ -13,7 +13,7 @@ use Rattle.jl_meaning.specs.Noting.{note, performs}
 use Rattle.jl_meaning.specs.Parts.{give, lift, ◌>>=◌, Answer, Part}
 use Rattle.jl_meaning.specs.Putting.{delete}
 use Rattle.jl_meaning.specs.forms.Members.{delete_member, member_name}
-use Rattle.jl_store.specs.Answers.{answered}
+use Rattle.jl_store.specs.Answers.{ends_with}
 use Rattle.jl_store.specs.Comes.{Comes}
 use Rattle.jl_store.specs.declared.answer.Answer.{Answer as Answered}
 use Rattle.jl_store.specs.declared.answer.Answer.TheVariants as answering
@@ -68,7 +68,7 @@ gives_emitted s emitting n f v id o t a is first same leads =
 -- what follows a deletion
 
 module _ (s t : State) (noted : Noted) (base : Value) (strict : Bool) (x : Name) (answer : Answered Bool)
-    (stored : IsStored s t) (comes : Comes (delete strict base x) s.store t.store (answered answer)) where
+    (stored : IsStored s t) (comes : Comes (delete strict base x) s.store t.store (ends_with answer)) where
   abbrev after_delete : Bool → Part (Answer Value)
   after_delete free = do
     _ ← note (noting noted.emits) noted.id.id (λ heap. op.DeleteField (seen_of heap base) x free)
@@ -78,11 +78,11 @@ module _ (s t : State) (noted : Noted) (base : Value) (strict : Bool) (x : Name)
       → Gives s (key_after (table_of s.functions) s.calls (key_for.Delete noted base strict) x) u a
   deletes free u a is leads =
       gives_comes s t stored (delete strict base x) free after_delete u a
-      (subst (λ b. Comes (delete strict base x) s.store t.store (answered b)) is comes) leads
+      (subst (λ b. Comes (delete strict base x) s.store t.store (ends_with b)) is comes) leads
 
   pub throws_deleting : (thrown : Value) → answer ≡ answering.Throws thrown
       → Gives s (key_after (table_of s.functions) s.calls (key_for.Delete noted base strict) x) t
       (act.Complete (completion.Throw thrown))
   throws_deleting thrown is =
       gives_thrown s t stored (delete strict base x) thrown after_delete
-      (subst (λ b. Comes (delete strict base x) s.store t.store (answered b)) is comes)
+      (subst (λ b. Comes (delete strict base x) s.store t.store (ends_with b)) is comes)

@@ -24,7 +24,7 @@ use Rattle.jl_meaning.specs.Store.{Store}
 use Rattle.jl_meaning.specs.forms.Names.{assign_name, compute_name, delete_identifier, is_hooks, read_name}
 use Rattle.jl_meaning.specs.forms.Names.{read_reference, typeof_name, unless_hooks, update_name, write_name}
 use Rattle.jl_meaning.specs.forms.Operators.{operate, update, update_kind}
-use Rattle.jl_store.specs.Answers.{answered}
+use Rattle.jl_store.specs.Answers.{ends_with}
 use Rattle.jl_store.specs.Comes.{Comes}
 use Rattle.jl_store.specs.LookUps.{reference_seen}
 use Rattle.jl_store.specs.declared.answer.Answer.{Answer as Answered}
@@ -167,7 +167,7 @@ updates_name s here x r up prefix t a other same leads =
 -- deleted
 
 pub deletes : (s t : State) (here : Here) (x : Name) (answer : Answered Bool) (free : Bool) → is_hooks x ≡ false
-    → IsStored s t → Comes (delete_name here.strict here.env x) s.store t.store (answered answer)
+    → IsStored s t → Comes (delete_name here.strict here.env x) s.store t.store (ends_with answer)
     → answer ≡ answering.Gives free
     → Gives s (delete_identifier (context_of s.calls here) x) t (act.Give (value.Bool free))
 unfolding delete_identifier
@@ -175,15 +175,15 @@ deletes s t here x answer free other stored comes is =
     no_hooks s x _ t (act.Give (value.Bool free)) other
     (gives_comes s t stored (delete_name here.strict here.env x) free (λ f. give (value.Bool f)) t
     (act.Give (value.Bool free))
-    (subst (λ b. Comes (delete_name here.strict here.env x) s.store t.store (answered b)) is comes)
+    (subst (λ b. Comes (delete_name here.strict here.env x) s.store t.store (ends_with b)) is comes)
     (record { is = λ kept told. refl }))
 
 pub throws_deleting : (s t : State) (here : Here) (x : Name) (answer : Answered Bool) (thrown : Value)
     → is_hooks x ≡ false → IsStored s t
-    → Comes (delete_name here.strict here.env x) s.store t.store (answered answer) → answer ≡ answering.Throws thrown
+    → Comes (delete_name here.strict here.env x) s.store t.store (ends_with answer) → answer ≡ answering.Throws thrown
     → Gives s (delete_identifier (context_of s.calls here) x) t (act.Complete (completion.Throw thrown))
 unfolding delete_identifier
 throws_deleting s t here x answer thrown other stored comes is =
     no_hooks s x _ t (act.Complete (completion.Throw thrown)) other
     (gives_thrown s t stored (delete_name here.strict here.env x) thrown (λ f. give (value.Bool f))
-    (subst (λ b. Comes (delete_name here.strict here.env x) s.store t.store (answered b)) is comes))
+    (subst (λ b. Comes (delete_name here.strict here.env x) s.store t.store (ends_with b)) is comes))

@@ -11,10 +11,10 @@ use Rattle.jl_effects.specs.Traces.{quietly}
 use Rattle.jl_effects.proofs.Chains.{and_then-assoc, run-and_then}
 use Rattle.jl_value.specs.declared.ending.Completion.{Completion}
 use Rattle.jl_meaning.specs.Mean.{language}
-use Rattle.jl_meaning.specs.Parts.{given, gives, throws, ◌>>=◌, Answer, Part}
+use Rattle.jl_meaning.specs.Parts.{continue_with, gives, throws, ◌>>=◌, Answer, Part}
 use Rattle.jl_meaning.specs.Store.{Store}
 use Rattle.jl_meaning.specs.Jobs.{job}
-use Rattle.jl_state.specs.Rest.{as_value, handed, rest_after, rest_of, run_in, run_state, Gives}
+use Rattle.jl_state.specs.Rest.{as_value, given_of, rest_after, rest_of, run_in, run_state, Gives}
 use Rattle.jl_state.specs.ToldFrames.{told_after}
 use Rattle.jl_state.specs.Words.{table_of}
 use Rattle.jl_state.specs.declared.act.Act.{Act}
@@ -38,12 +38,12 @@ pub gives_alike : {A : Type 0} (s : State) (p : Part (Answer A)) (k l : A → Pa
 gives_alike {A} s p k l t a alike leads = record { is = λ kept told. leads.is kept told ∙ same kept told }
   where
     later : (A → Part (Answer Value)) → Answer A → Part Completion
-    later m b = and_then (as_value (given m b)) (rest_of s)
+    later m b = and_then (as_value (continue_with m b)) (rest_of s)
 
     apart : (m : A → Part (Answer Value)) → and_then (as_value (p >>= m)) (rest_of s) ≡ and_then p (later m)
     apart m =
-        ap (λ q. and_then q (rest_of s)) (and_then-assoc p (given m) (λ b. End (handed b)))
-        ∙ and_then-assoc p (λ b. as_value (given m b)) (rest_of s)
+        ap (λ q. and_then q (rest_of s)) (and_then-assoc p (continue_with m) (λ b. End (given_of b)))
+        ∙ and_then-assoc p (λ b. as_value (continue_with m b)) (rest_of s)
 
     each : (kept : Operation → Bool) (b : Answer A) (n : ℕ) (w : RunState Store Operation)
         → run language (quietly kept) (job (table_of s.functions)) n (later k b) w

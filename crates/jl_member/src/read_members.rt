@@ -23,7 +23,7 @@ pub(crate) fn found_on(store: &Store, base: &Value, name: &Text) -> Found
     ensures { result ≡ found_of (property_of_value store.now base.now name.now) }
 {
     match store.property_of_value(base, name) {
-        Some(property) => property.told(),
+        Some(property) => property.as_told(),
         None => Found::Absent,
     }
 }

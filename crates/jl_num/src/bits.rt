@@ -35,7 +35,7 @@ pub fn to_uint16(a: Num) -> u16
 pub fn shl(a: Num, b: Num) -> Num
     ensures { result ≡ left_shift_of a b }
 {
-    signed(to_uint32(a) << distance(b))
+    signed_number(to_uint32(a) << distance(b))
 }
 
 /// `a >> b` (11.7.2), which keeps the sign.
@@ -56,28 +56,28 @@ pub fn shr(a: Num, b: Num) -> Num
 pub fn and(a: Num, b: Num) -> Num
     ensures { result ≡ and_of a b }
 {
-    signed(to_uint32(a) & to_uint32(b))
+    signed_number(to_uint32(a) & to_uint32(b))
 }
 
 /// `a | b` (11.10).
 pub fn or(a: Num, b: Num) -> Num
     ensures { result ≡ or_of a b }
 {
-    signed(to_uint32(a) | to_uint32(b))
+    signed_number(to_uint32(a) | to_uint32(b))
 }
 
 /// `a ^ b` (11.10).
 pub fn xor(a: Num, b: Num) -> Num
     ensures { result ≡ xor_of a b }
 {
-    signed(to_uint32(a) ^ to_uint32(b))
+    signed_number(to_uint32(a) ^ to_uint32(b))
 }
 
 /// `~a` (11.4.8).
 pub fn not(a: Num) -> Num
     ensures { result ≡ complement_of a }
 {
-    signed(!to_uint32(a))
+    signed_number(!to_uint32(a))
 }
 
 // How many places a shift by b moves bits.
@@ -89,7 +89,7 @@ fn distance(b: Num) -> u32
 }
 
 // The number whose 32 bits these are.
-fn signed(n: u32) -> Num
+fn signed_number(n: u32) -> Num
     ensures { result ≡ Some (signed_of n) }
 {
     Num::within(i64::from(n.cast_signed()))

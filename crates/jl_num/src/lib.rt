@@ -12,7 +12,7 @@ mod text;
 
 pub use arithmetic::{add, div, mul, neg, rem, sub};
 pub use bits::{and, not, or, sar, shl, shr, to_int32, to_uint16, to_uint32, xor};
-pub use num::{Num, NumberOutside};
+pub use num::{LARGEST_SIZE, Num, NumberOutside};
 pub use order::compare;
 pub use power::pow;
 pub use text::digits;

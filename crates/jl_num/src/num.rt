@@ -9,6 +9,9 @@ use thiserror::Error;
 /// The largest number: 2^53 - 1.
 pub const LARGEST: i64 = 9_007_199_254_740_991;
 
+/// The same, where sizes are counted that have no sign.
+pub const LARGEST_SIZE: u64 = 9_007_199_254_740_991;
+
 /// A number of a script (8.5, in whole numbers): NaN, or a whole number of at most 2^53 - 1 in size. There is one zero.
 /// Contracts see it as an optional whole number, where none is NaN. `==` compares two values of this type, and so NaN
 /// with NaN as equal; it is not the `==` of a script.

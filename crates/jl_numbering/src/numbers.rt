@@ -1,7 +1,7 @@
 #![tactic(auto, using(jl_ast::proofs::Views::nodes))]
 
 ghost use Rattle.std.specs.Prelude.{◌≡◌, ◌+◌, ◌^◌, ◌<◌};
-ghost use Rattle.jl_ast.specs.Numbering.{functions_in, functions_in_forest, functions_in_optional, numbered};
+ghost use Rattle.jl_ast.specs.Numbering.{functions_in, functions_in_forest, functions_in_optional, with_numbers};
 ghost use Rattle.jl_ast.specs.Numbering.{numbered_tree, numbered_forest, numbered_optional};
 ghost use Rattle.jl_ast.specs.View.{view, view_expression, view_expressions, view_optional, view_items};
 ghost use Rattle.jl_ast.specs.View.{view_target, view_entry, view_entries, view_function, view_functions};
@@ -18,7 +18,7 @@ use jl_text::List;
 /// It takes no memory, and recurses as deep as the program is high.
 pub fn number(program: &mut Program)
     requires few { functions_in (view program.old).body < 2 ^ 32 }
-    ensures { view program.new ≡ numbered (view program.old) }
+    ensures { view program.new ≡ with_numbers (view program.old) }
 {
     number_body(&mut program.body, 0);
 }

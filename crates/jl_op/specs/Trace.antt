@@ -11,7 +11,7 @@ use Rattle.jl_op.specs.declared.op.OpId.{OpId}
 use Rattle.jl_op.specs.declared.sign.UnKind.{UnKind}
 use Rattle.jl_op.specs.declared.sign.UnKind.TheVariants as unary
 use Rattle.jl_op.specs.Kinds.{kind_of, kind_name}
-use Rattle.jl_text.specs.Quoted.{quoted}
+use Rattle.jl_text.specs.Quoted.{quote}
 use Rattle.jl_value.specs.declared.value.Seen.{Seen}
 use Rattle.jl_value.specs.Builtins.{name_of}
 use Rattle.jl_value.specs.Texts.{value_text}
@@ -78,29 +78,29 @@ parts_of (ops.FunctionEnter function this args by_new) =
 parts_of (ops.FunctionExit function) = function_text function ∷ []
 parts_of (ops.Literal value) = seen_text value ∷ []
 parts_of (ops.FunctionLiteral obj function) = function_text function ∷ []
-parts_of (ops.Read name value) = quoted name ∷ seen_text value ∷ []
-parts_of (ops.Write name value) = quoted name ∷ seen_text value ∷ []
-parts_of (ops.TypeofName name given) = quoted name ∷ quoted given ∷ []
-parts_of (ops.GetField base name value found) = seen_text base ∷ quoted name ∷ seen_text value ∷ []
-parts_of (ops.PutField base name value found) = seen_text base ∷ quoted name ∷ seen_text value ∷ []
-parts_of (ops.DeleteField base name deleted) = seen_text base ∷ quoted name ∷ truth_text deleted ∷ []
+parts_of (ops.Read name value) = quote name ∷ seen_text value ∷ []
+parts_of (ops.Write name value) = quote name ∷ seen_text value ∷ []
+parts_of (ops.TypeofName name given) = quote name ∷ quote given ∷ []
+parts_of (ops.GetField base name value found) = seen_text base ∷ quote name ∷ seen_text value ∷ []
+parts_of (ops.PutField base name value found) = seen_text base ∷ quote name ∷ seen_text value ∷ []
+parts_of (ops.DeleteField base name deleted) = seen_text base ∷ quote name ∷ truth_text deleted ∷ []
 parts_of (ops.InvokePre callee target this args by_new) =
     callee_text target ∷ seen_text this ∷ way_text by_new ∷ map seen_text args
 parts_of (ops.InvokePost callee given) = seen_text given ∷ []
 parts_of (ops.Binary op left right given) =
-    quoted (binary_sign op) ∷ seen_text left ∷ seen_text right ∷ seen_text given ∷ []
-parts_of (ops.Unary op operand given) = quoted (unary_sign op) ∷ seen_text operand ∷ seen_text given ∷ []
+    quote (binary_sign op) ∷ seen_text left ∷ seen_text right ∷ seen_text given ∷ []
+parts_of (ops.Unary op operand given) = quote (unary_sign op) ∷ seen_text operand ∷ seen_text given ∷ []
 parts_of (ops.Conditional value) = seen_text value ∷ []
 parts_of (ops.ForIn object) = seen_text object ∷ []
 parts_of (ops.Return value) = seen_text value ∷ []
 parts_of (ops.Throw value) = seen_text value ∷ []
-parts_of (ops.Catch name value) = quoted name ∷ seen_text value ∷ []
+parts_of (ops.Catch name value) = quote name ∷ seen_text value ∷ []
 parts_of _ = []
 
 -- each part after a space
-abbrev pub spaced : List (List ℕ) → List ℕ
-spaced [] = []
-spaced (part ∷ parts) = 32 ∷ (part ++ spaced parts)
+abbrev pub with_spaces : List (List ℕ) → List ℕ
+with_spaces [] = []
+with_spaces (part ∷ parts) = 32 ∷ (part ++ with_spaces parts)
 
 abbrev pub op_line : OpId → Op → List ℕ
-op_line id op = decimal id.0 ++ spaced (kind_name (kind_of op) ∷ parts_of op)
+op_line id op = decimal id.0 ++ with_spaces (kind_name (kind_of op) ∷ parts_of op)

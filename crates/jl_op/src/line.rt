@@ -1,8 +1,8 @@
 // The lines of a trace, as they are made.
 ghost use Rattle.std.specs.Prelude.{◌≡◌, ◌∷◌, ◌++◌, map, IfOk};
 ghost use Rattle.std.specs.Fmt.{decimal};
-ghost use Rattle.jl_text.specs.Quoted.{quoted};
-ghost use Rattle.jl_op.specs.Trace.{callee_text, function_text, seen_text, spaced, truth_text, way_text};
+ghost use Rattle.jl_text.specs.Quoted.{quote};
+ghost use Rattle.jl_op.specs.Trace.{callee_text, function_text, seen_text, with_spaces, truth_text, way_text};
 
 use crate::callee::Callee;
 use crate::op::OpId;
@@ -33,7 +33,7 @@ impl Line {
     {
         let number = id.0;
         let digits = format!(in alloc; "{number}")?;
-        let units = widened(alloc, digits.as_bytes())?;
+        let units = widen(alloc, digits.as_bytes())?;
         Ok(Line { alloc, units })
     }
 
@@ -50,7 +50,7 @@ impl Line {
     pub(crate) fn word(self, word: &str) -> Result<Line, AllocError>
         ensures { IfOk result (λ line. line ≡ self ++ 32 ∷ word.now) }
     {
-        let units = widened(self.alloc, word.as_bytes())?;
+        let units = widen(self.alloc, word.as_bytes())?;
         self.part(&units)
     }
 
@@ -89,22 +89,22 @@ impl Line {
         self.word(if truth { "true" } else { "false" })
     }
 
-    pub(crate) fn quoted(self, text: &Text) -> Result<Line, AllocError>
-        ensures { IfOk result (λ line. line ≡ self ++ 32 ∷ quoted text.now) }
+    pub(crate) fn text(self, text: &Text) -> Result<Line, AllocError>
+        ensures { IfOk result (λ line. line ≡ self ++ 32 ∷ quote text.now) }
     {
         let quoted = quote(self.alloc, text.units())?;
         self.part(&quoted)
     }
 
     pub(crate) fn quoted_word(self, word: &str) -> Result<Line, AllocError>
-        ensures { IfOk result (λ line. line ≡ self ++ 32 ∷ quoted word.now) }
+        ensures { IfOk result (λ line. line ≡ self ++ 32 ∷ quote word.now) }
     {
-        let units = widened(self.alloc, word.as_bytes())?;
+        let units = widen(self.alloc, word.as_bytes())?;
         let quoted = quote(self.alloc, &units)?;
         self.part(&quoted)
     }
 
-    pub(crate) fn seen(self, seen: &Seen) -> Result<Line, AllocError>
+    pub(crate) fn seen_value(self, seen: &Seen) -> Result<Line, AllocError>
         ensures { IfOk result (λ line. line ≡ self ++ 32 ∷ seen_text seen.now) }
     {
         let text = seen.text(self.alloc)?;
@@ -113,11 +113,11 @@ impl Line {
 
     /// A part for each value.
     pub(crate) fn all_seen(self, values: &[Seen]) -> Result<Line, AllocError>
-        ensures { IfOk result (λ line. line ≡ self ++ spaced (map seen_text values.now)) }
+        ensures { IfOk result (λ line. line ≡ self ++ with_spaces (map seen_text values.now)) }
     {
         let mut line = self;
         for value in values {
-            line = line.seen(value)?;
+            line = line.seen_value(value)?;
         }
         Ok(line)
     }
@@ -131,7 +131,7 @@ impl Line {
 }
 
 // A unit for each byte.
-fn widened(alloc: Global, bytes: &[u8]) -> Result<Vec<u16>, AllocError>
+fn widen(alloc: Global, bytes: &[u8]) -> Result<Vec<u16>, AllocError>
     ensures { IfOk result (λ units. units.items ≡ bytes.now) }
 {
     let mut units = Vec::with_capacity(alloc, bytes.len())?;

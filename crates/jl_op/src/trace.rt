@@ -1,5 +1,5 @@
 ghost use Rattle.std.specs.Prelude.{◌≡◌, ◌++◌, IfOk};
-ghost use Rattle.jl_op.specs.Trace.{op_line, parts_of, spaced};
+ghost use Rattle.jl_op.specs.Trace.{op_line, parts_of, with_spaces};
 
 use crate::line::Line;
 use crate::op::{Op, OpId};
@@ -18,7 +18,7 @@ pub fn op_text(alloc: Global, id: OpId, op: &Op) -> Result<Vec<u16>, AllocError>
 /// The line with the parts of the operation that follow its kind.
 #[tactic(auto, using(crate::proofs::Spacing::spacing))]
 fn parts(line: Line, op: &Op) -> Result<Line, AllocError>
-    ensures { IfOk result (λ made. made ≡ line ++ spaced (parts_of op.now)) }
+    ensures { IfOk result (λ made. made ≡ line ++ with_spaces (parts_of op.now)) }
 {
     match op {
         Op::ScriptEnter | Op::ScriptExit | Op::ArrayLiteral { .. } | Op::ObjectLiteral { .. } => {
@@ -31,7 +31,7 @@ fn parts(line: Line, op: &Op) -> Result<Line, AllocError>
             by_new,
         } => line
             .function(*function)?
-            .seen(this)?
+            .seen_value(this)?
             .number(*args)?
             .way(*by_new),
         Op::FunctionExit { function } | Op::FunctionLiteral { function, .. } => {
@@ -42,11 +42,11 @@ fn parts(line: Line, op: &Op) -> Result<Line, AllocError>
         | Op::ForIn { object: value }
         | Op::Return { value }
         | Op::Throw { value }
-        | Op::InvokePost { result: value, .. } => line.seen(value),
+        | Op::InvokePost { result: value, .. } => line.seen_value(value),
         Op::Read { name, value } | Op::Write { name, value } | Op::Catch { name, value } => {
-            line.quoted(name)?.seen(value)
+            line.text(name)?.seen_value(value)
         }
-        Op::TypeofName { name, result } => line.quoted(name)?.quoted(result),
+        Op::TypeofName { name, result } => line.text(name)?.text(result),
         Op::GetField {
             base,
             name,
@@ -58,8 +58,8 @@ fn parts(line: Line, op: &Op) -> Result<Line, AllocError>
             name,
             value,
             ..
-        } => line.seen(base)?.quoted(name)?.seen(value),
-        Op::DeleteField { base, name, result } => line.seen(base)?.quoted(name)?.truth(*result),
+        } => line.seen_value(base)?.text(name)?.seen_value(value),
+        Op::DeleteField { base, name, result } => line.seen_value(base)?.text(name)?.truth(*result),
         Op::InvokePre {
             target,
             this,
@@ -68,7 +68,7 @@ fn parts(line: Line, op: &Op) -> Result<Line, AllocError>
             ..
         } => line
             .callee(target)?
-            .seen(this)?
+            .seen_value(this)?
             .way(*by_new)?
             .all_seen(args.items()),
         Op::Binary {
@@ -78,13 +78,16 @@ fn parts(line: Line, op: &Op) -> Result<Line, AllocError>
             result,
         } => line
             .quoted_word(binary_sign(*op))?
-            .seen(left)?
-            .seen(right)?
-            .seen(result),
+            .seen_value(left)?
+            .seen_value(right)?
+            .seen_value(result),
         Op::Unary {
             op,
             operand,
             result,
-        } => line.quoted_word(op.sign())?.seen(operand)?.seen(result),
+        } => line
+            .quoted_word(op.sign())?
+            .seen_value(operand)?
+            .seen_value(result),
     }
 }

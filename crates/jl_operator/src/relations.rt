@@ -5,7 +5,7 @@ ghost use Rattle.jl_conv.specs.Comparisons.{less_than};
 ghost use Rattle.jl_meaning.specs.Conversions.{number_hint, to_primitive};
 ghost use Rattle.jl_meaning.specs.Parts.{◌>>=◌ as ◌then◌};
 ghost use Rattle.jl_meaning.specs.Relations.{opposite, or_false};
-ghost use Rattle.jl_state.specs.AlgorithmFrames.{algorithm_after, compared};
+ghost use Rattle.jl_state.specs.AlgorithmFrames.{algorithm_after, compare};
 ghost use Rattle.jl_state.specs.Rank.{rank_act, Falls};
 ghost use Rattle.jl_state.specs.Rest.{Works};
 ghost use Rattle.jl_state.specs.declared.state.State.{State as Machine};
@@ -48,8 +48,8 @@ fn opposite(relation: Option<bool>) -> bool
 }
 
 /// A relation between two primitive values.
-fn compared<'p>(op: BinOp, x: &Value, y: &Value) -> Act<'p>
-    ensures leads { (s : Machine) → Works s (compared op x.now y.now) s result }
+fn give_relation<'p>(op: BinOp, x: &Value, y: &Value) -> Act<'p>
+    ensures leads { (s : Machine) → Works s (compare op x.now y.now) s result }
     ensures low { rank_act result ≤ 2 }
 {
     let truth = match op {
@@ -75,7 +75,7 @@ pub fn step_right_compared<'p>(
         (algorithm_after (AlgorithmFrame.RightCompared op left) v) state.new act) }
     ensures falls { IfOk result (λ act. Falls state.old 5 state.new act) }
 {
-    Ok(compared(op, &left, &v))
+    Ok(give_relation(op, &left, &v))
 }
 
 /// Goes on with the left operand of a relation, which is converted first.

@@ -54,7 +54,7 @@ fn no_text(alloc: Global) -> Result<Text, NoMemory>
 }
 
 /// Two texts, one after the other.
-fn joined<'p>(alloc: Global, front: &Text, back: &Text) -> Result<Act<'p>, NoMemory>
+fn concatenate<'p>(alloc: Global, front: &Text, back: &Text) -> Result<Act<'p>, NoMemory>
     ensures leads { IfOk result (λ act. (s : Machine) → Works s (text_of_texts front.now back.now) s act) }
     ensures low { IfOk result (λ act. rank_act act ≤ 2) }
 {
@@ -84,7 +84,7 @@ fn sum_of_primitives<'p>(alloc: Global, x: &Value, y: &Value) -> Result<Act<'p>,
     if are_texts(x, y) {
         let front = text_of(alloc, x)?;
         let back = text_of(alloc, y)?;
-        Ok(joined(alloc, &front, &back)?)
+        Ok(concatenate(alloc, &front, &back)?)
     } else {
         Ok(sum_of_numbers(x, y))
     }

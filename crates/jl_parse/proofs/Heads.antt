@@ -6,10 +6,10 @@ use Rattle.jl_token.specs.declared.token.Token.{Token}
 use Rattle.jl_ast.specs.Tree.{OptionalTree, Tree}
 use Rattle.jl_ast.specs.Tree as tree
 use Rattle.jl_grammar.specs.Next.{is_semicolon}
-use Rattle.jl_grammar.specs.Reader.{◌>>=◌, Deeper, Read, done, for_from, is_close_paren, made, optional_at, sub_at}
+use Rattle.jl_grammar.specs.Reader.{◌>>=◌, Deeper, Read, succeed, for_from, is_close_paren, node, optional_at, sub_at}
 use Rattle.jl_grammar.specs.Reads.{Stmt, Stmts}
 use Rattle.jl_grammar.specs.Tokens.{span, terminal_at}
-use Rattle.jl_parse.specs.Steps.{for_head_from}
+use Rattle.jl_parse.specs.inner.Steps.{for_head_from}
 
 -- what comes after a test, after an answer, and after the last test
 
@@ -32,7 +32,7 @@ module _ (ts : List Token) (d : Deeper) (i : ℕ) (a : Tree Span tree.init × �
   -- the body of a `for` of which the head is read, and the statement
   abbrev with_body : (Tree Span tree.init × (OptionalTree Span tree.expr × OptionalTree Span tree.expr)) × ℕ → Read Stmt
   with_body h = sub_at ts d h.1 >>= λ x.
-      made (d.room i) (tree.for h.0.0 h.0.1.0 h.0.1.1 x.0 (span ts i x.1)) x.1 done
+      node (d.room i) (tree.for h.0.0 h.0.1.0 h.0.1.1 x.0 (span ts i x.1)) x.1 succeed
 
   head_first : for_from ts d i a ≡ (for_head_from ts d a >>= with_body)
   unfolding for_from for_head_from
@@ -50,13 +50,13 @@ module _ (ts : List Token) (d : Deeper) (i : ℕ) (a : Tree Span tree.init × �
       → for_head_from ts d a ≡ Some ((x, (t, u)), k) → sub_at ts d k ≡ None → for_from ts d i a ≡ None
   for_no_body x t u k e f =
       head_first ∙ ap (λ o. o >>= with_body) e
-      ∙ ap (λ o. o >>= λ (w : Stmts × ℕ). made (d.room i) (tree.for x t u w.0 (span ts i w.1)) w.1 done) f
+      ∙ ap (λ o. o >>= λ (w : Stmts × ℕ). node (d.room i) (tree.for x t u w.0 (span ts i w.1)) w.1 succeed) f
 
   pub for_whole : (x : Tree Span tree.init) (t u : OptionalTree Span tree.expr) (k : ℕ) (ws : Stmts) (j : ℕ)
       → for_head_from ts d a ≡ Some ((x, (t, u)), k) → sub_at ts d k ≡ Some (ws, j)
-      → for_from ts d i a ≡ made (d.room i) (tree.for x t u ws (span ts i j)) j done
+      → for_from ts d i a ≡ node (d.room i) (tree.for x t u ws (span ts i j)) j succeed
   for_whole x t u k ws j e f =
       head_first ∙ ap (λ o. o >>= with_body) e
-      ∙ ap (λ o. o >>= λ (w : Stmts × ℕ). made (d.room i) (tree.for x t u w.0 (span ts i w.1)) w.1 done) f
+      ∙ ap (λ o. o >>= λ (w : Stmts × ℕ). node (d.room i) (tree.for x t u w.0 (span ts i w.1)) w.1 succeed) f
 
 pub ruleset for_steps = (for_no_head, for_no_body, for_whole)

@@ -15,8 +15,8 @@ use Rattle.jl_ast.specs.View.{view_case, view_cases, view_declarator, view_decla
 use Rattle.jl_ast.specs.View.{view_expression, view_expressions, view_function, view_functions, view_items}
 use Rattle.jl_ast.specs.View.{view_statement, view_statements}
 use Rattle.std.proofs.lemmas.Bool.{le-leb, lt-leb}
-use Rattle.jl_grammar.specs.Reader.{done, made}
-use Rattle.jl_parse.specs.Steps.{append}
+use Rattle.jl_grammar.specs.Reader.{succeed, node}
+use Rattle.jl_parse.specs.inner.Steps.{append}
 use Rattle.jl_parse.proofs.Lists.{cases_push, declarators_push, entries_push, functions_push, statements_push}
 use Rattle.jl_parse.proofs.Turns.{expressions_push, hole_push, item_push}
 
@@ -71,11 +71,11 @@ pub ruleset higher = (
 -- whether a node of which the parts are so high is made
 
 pub made_low : {x : tree.Sort} (most h : ℕ) (t : Tree Span x) (j : ℕ) → height t ≡ suc h → h ≤ most
-    → made most t j done ≡ Some (t, j)
-unfolding made
-made_low most h t j e l = rw (le-leb (height t) (suc most) (omega arith), made)
+    → node most t j succeed ≡ Some (t, j)
+unfolding node
+made_low most h t j e l = rw (le-leb (height t) (suc most) (omega arith), node)
 
 pub made_high : {x : tree.Sort} (most h : ℕ) (t : Tree Span x) (j : ℕ) → height t ≡ suc h → most < h
-    → made most t j done ≡ None
-unfolding made
-made_high most h t j e l = rw (lt-leb (height t) (suc most) (omega arith), made)
+    → node most t j succeed ≡ None
+unfolding node
+made_high most h t j e l = rw (lt-leb (height t) (suc most) (omega arith), node)

@@ -10,7 +10,7 @@ use Rattle.jl_ast.specs.Tree.{Program}
 use Rattle.jl_ast.proofs.SameHeight.{renumbered}
 use Rattle.jl_text.specs.declared.span.Span.{Span}
 use Rattle.jl_token.specs.declared.token.Token.{Token}
-use Rattle.jl_grammar.specs.Brackets.{bracket, opened}
+use Rattle.jl_grammar.specs.Brackets.{bracket, open_brackets}
 use Rattle.jl_grammar.specs.Program.{Reads, last_end, program_of}
 use Rattle.jl_grammar.specs.Reader.{body_from}
 use Rattle.jl_grammar.specs.ReaderLevels.{deeper, is_shallow, program_at}
@@ -23,29 +23,29 @@ use Rattle.jl_parse.proofs.Places.{opened_more, opened_none}
 use Rattle.jl_parse.specs.Refusals.{IsPlace, at_end, at_token}
 
 pub shallow_more : (ts : List Token) (most i : ℕ) → is_shallow ts most i ≡ true
-    → bracket (terminal_at ts i) (opened ts i) ≤ most → is_shallow ts most (i + 1) ≡ true
-unfolding opened
+    → bracket (terminal_at ts i) (open_brackets ts i) ≤ most → is_shallow ts most (i + 1) ≡ true
+unfolding open_brackets
 shallow_more ts most i h l =
     let e : i + 1 ≡ suc i = omega arith in
     ap (is_shallow ts most) e ∙ ap (λ b. b && is_shallow ts most i) (le-leb _ _ l) ∙ h
 
-deep_here : (ts : List Token) (most i : ℕ) → most < bracket (terminal_at ts i) (opened ts i)
+deep_here : (ts : List Token) (most i : ℕ) → most < bracket (terminal_at ts i) (open_brackets ts i)
     → is_shallow ts most (suc i) ≡ false
-unfolding opened
+unfolding open_brackets
 deep_here ts most i l = ap (λ b. b && is_shallow ts most i) (lt-leb _ _ l)
 
 and_false : (b : Bool) → (b && false) ≡ false
 and_false true = refl
 and_false false = refl
 
-pub deep_later : (ts : List Token) (most i n : ℕ) → i < n → most < bracket (terminal_at ts i) (opened ts i)
+pub deep_later : (ts : List Token) (most i n : ℕ) → i < n → most < bracket (terminal_at ts i) (open_brackets ts i)
     → is_shallow ts most n ≡ false
 deep_later ts most i zero l h = absurd (omega arith)
 deep_later ts most i (suc n) l h = by_place (cases_lt i n) (λ k. deep_later ts most i n k h)
   where
     by_place : (i < n) ⊎ (n ≤ i) → (i < n → is_shallow ts most n ≡ false) → is_shallow ts most (suc n) ≡ false
     by_place (inl k) f =
-        ap (λ b. nat_le (opened ts (suc n)) most && b) (f k) ∙ and_false (nat_le (opened ts (suc n)) most)
+        ap (λ b. nat_le (open_brackets ts (suc n)) most && b) (f k) ∙ and_false (nat_le (open_brackets ts (suc n)) most)
     by_place (inr k) f =
         let e : suc n ≡ suc i = omega arith in ap (is_shallow ts most) e ∙ deep_here ts most i h
 

@@ -18,10 +18,10 @@ use Rattle.jl_grammar.specs.Next.{ends_list, is_colon, is_comma, is_directive, i
 use Rattle.jl_grammar.specs.Reader.{◌>>=◌, Deeper, Read, body_from, clauses_from, declaration_at, declarations_from}
 use Rattle.jl_grammar.specs.Reader.{elements_from, entries_from, entry_at, getter_by, is_case, is_close_brace}
 use Rattle.jl_grammar.specs.Reader.{is_close_paren, is_default, is_function, names_from, setter_by, statements_from}
-use Rattle.jl_grammar.specs.Reader.{accessor_at, done, ends_at, made, rest_at, with_directive}
+use Rattle.jl_grammar.specs.Reader.{accessor_at, succeed, ends_at, node, rest_at, with_directive}
 use Rattle.jl_grammar.specs.Reads.{Code, Stmt, Stmts}
 use Rattle.jl_grammar.specs.Tokens.{ident_at, key_ident_at, terminal_at, span, strict_at}
-use Rattle.jl_parse.specs.Steps.{append, clause_of, declaration_of, with_elements}
+use Rattle.jl_parse.specs.inner.Steps.{append, clause_of, declaration_of, with_elements}
 use Rattle.jl_parse.proofs.Rows.{append_assoc, append_end, made_none, made_on, made_some, regroup, then_on, with_end}
 use Rattle.jl_parse.proofs.Rows.{with_forest}
 
@@ -96,8 +96,8 @@ then_if (Some t) b s f go = if_then (b t.1) (s t.1) (f t.0) go
 
 if_made : {A C : Type 0} {x : tree.Sort} (b : Bool) (o : Read A) (most : ℕ) (f : A → ℕ → Tree Span x)
     (go : Tree Span x → ℕ → Option C)
-    → (if b then (o >>= λ x. made most (f x.0 x.1) x.1 go) else None)
-    ≡ then_on (if b then (o >>= λ x. made most (f x.0 x.1) x.1 done) else None) go
+    → (if b then (o >>= λ x. node most (f x.0 x.1) x.1 go) else None)
+    ≡ then_on (if b then (o >>= λ x. node most (f x.0 x.1) x.1 succeed) else None) go
 if_made false o most f go = refl
 if_made true None most f go = refl
 if_made true (Some x) most f go = made_on most (f x.0 x.1) x.1 go
@@ -407,14 +407,14 @@ module _ (ts : List Token) (d : Deeper) where
   accessor_read by i ps c j e f g = rw (accessor_at, e, f, g) refl
 
   pub getter_one : (i : ℕ) (ps : List CodeIdent) (c : Code) (j : ℕ) (f : Tree Span tree.func) (k : ℕ) → length ps ≡ 0
-      → made (d.room i) (tree.function 0 None (map view_ident ps) c (span ts i j)) j done ≡ Some (f, k)
+      → node (d.room i) (tree.function 0 None (map view_ident ps) c (span ts i j)) j succeed ≡ Some (f, k)
       → getter_by ts d i (map view_ident ps) c j ≡ Some (tree.getter (key_ident_at ts (suc i)) f, k)
   unfolding getter_by
   getter_one i [] c j f k h e = made_some (d.room i) _ j _ f k e
   getter_one i (p ∷ ps) c j f k h e = absurd (omega arith)
 
   pub getter_high : (i : ℕ) (ps : List CodeIdent) (c : Code) (j : ℕ)
-      → made (d.room i) (tree.function 0 None (map view_ident ps) c (span ts i j)) j done ≡ None
+      → node (d.room i) (tree.function 0 None (map view_ident ps) c (span ts i j)) j succeed ≡ None
       → getter_by ts d i (map view_ident ps) c j ≡ None
   unfolding getter_by
   getter_high i [] c j e = made_none (d.room i) _ j _ e
@@ -427,7 +427,7 @@ module _ (ts : List Token) (d : Deeper) where
   getter_none i (p ∷ ps) c j h = refl
 
   pub setter_one : (i : ℕ) (ps : List CodeIdent) (c : Code) (j : ℕ) (f : Tree Span tree.func) (k : ℕ) → length ps ≡ 1
-      → made (d.room i) (tree.function 0 None (map view_ident ps) c (span ts i j)) j done ≡ Some (f, k)
+      → node (d.room i) (tree.function 0 None (map view_ident ps) c (span ts i j)) j succeed ≡ Some (f, k)
       → setter_by ts d i (map view_ident ps) c j ≡ Some (tree.setter (key_ident_at ts (suc i)) f, k)
   unfolding setter_by
   setter_one i [] c j f k h e = absurd (omega arith)
@@ -435,7 +435,7 @@ module _ (ts : List Token) (d : Deeper) where
   setter_one i (p ∷ q ∷ ps) c j f k h e = absurd (omega arith)
 
   pub setter_high : (i : ℕ) (ps : List CodeIdent) (c : Code) (j : ℕ)
-      → made (d.room i) (tree.function 0 None (map view_ident ps) c (span ts i j)) j done ≡ None
+      → node (d.room i) (tree.function 0 None (map view_ident ps) c (span ts i j)) j succeed ≡ None
       → setter_by ts d i (map view_ident ps) c j ≡ None
   unfolding setter_by
   setter_high i [] c j e = refl

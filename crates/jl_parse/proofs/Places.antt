@@ -6,7 +6,7 @@ use Rattle.std.proofs.Common.{subst, sym, length-append}
 use Rattle.std.proofs.lemmas.Bool.{cases_lt}
 use Rattle.std.proofs.lemmas.List.{get_or_append_left}
 use Rattle.std.proofs.Math.Seq.{get_or-append_seam}
-use Rattle.jl_grammar.specs.Brackets.{bracket, opened}
+use Rattle.jl_grammar.specs.Brackets.{bracket, open_brackets}
 use Rattle.jl_grammar.proofs.One.{opened_past}
 use Rattle.std.specs.Prelude.{None, option_map, Result, IfOk}
 use Rattle.jl_token.specs.declared.token.Token.{Token}
@@ -19,7 +19,7 @@ use Rattle.jl_grammar.specs.Reader.{is_in}
 use Rattle.jl_grammar.specs.Terminals.{terminal_of}
 use Rattle.jl_grammar.specs.Tokens.{terminal_at, line_at, text_at, number_at, key_at, strict_at, from_at, to_at, span}
 use Rattle.jl_token.specs.declared.punct.Punct.TheVariants as puncts
-use Rattle.jl_parse.specs.Steps.{counts, is_end}
+use Rattle.jl_parse.specs.inner.Steps.{counts, is_end}
 
 terminal_there : (ts : List Token) (i : ℕ) (t : Terminal) → i < length ts
     → t ≡ get_or (map (λ (u : Token). terminal_of u.kind) ts) i t → t ≡ terminal_at ts i
@@ -180,45 +180,45 @@ none_is_last (t ∷ ts) h = absurd (omega arith)
 counts_long : (ts : List Token) (n : ℕ) → length (counts ts n) ≡ n
 counts_long ts zero = refl
 counts_long ts (suc n) =
-    let h = counts_long ts n in let l = length-append (counts ts n) (opened ts n ∷ []) in omega arith
+    let h = counts_long ts n in let l = length-append (counts ts n) (open_brackets ts n ∷ []) in omega arith
 
-count_there : (ts : List Token) (n i x : ℕ) → i < n → get_or (counts ts n) i x ≡ opened ts i
+count_there : (ts : List Token) (n i x : ℕ) → i < n → get_or (counts ts n) i x ≡ open_brackets ts i
 count_there ts zero i x h = absurd (omega arith)
 count_there ts (suc n) i x h = by_place (cases_lt i n) (λ l. count_there ts n i x l)
   where
-    by_place : (i < n) ⊎ (n ≤ i) → (i < n → get_or (counts ts n) i x ≡ opened ts i)
-        → get_or (counts ts (suc n)) i x ≡ opened ts i
+    by_place : (i < n) ⊎ (n ≤ i) → (i < n → get_or (counts ts n) i x ≡ open_brackets ts i)
+        → get_or (counts ts (suc n)) i x ≡ open_brackets ts i
     by_place (inl l) f =
         let q = counts_long ts n in
-        get_or_append_left (counts ts n) (opened ts n ∷ []) x i (omega arith) ∙ f l
+        get_or_append_left (counts ts n) (open_brackets ts n ∷ []) x i (omega arith) ∙ f l
     by_place (inr l) f =
         let q = counts_long ts n in let e : i ≡ length (counts ts n) = omega arith in
-        ap (λ k. get_or (counts ts (suc n)) k x) e ∙ get_or-append_seam (counts ts n) (opened ts n) [] x
-        ∙ ap (opened ts) (omega arith)
+        ap (λ k. get_or (counts ts (suc n)) k x) e ∙ get_or-append_seam (counts ts n) (open_brackets ts n) [] x
+        ∙ ap (open_brackets ts) (omega arith)
 
 pub count_in : (ts : List Token) (cs : List ℕ) (i x : ℕ) → cs ≡ counts ts (length ts) → i < length cs → x ≡ get_or cs i x
-    → x ≡ opened ts i
+    → x ≡ open_brackets ts i
 count_in ts cs i x s h e =
     let l = counts_long ts (length ts) in let k = ap (λ (r : List ℕ). length r) s in
     e ∙ ap (λ (r : List ℕ). get_or r i x) s ∙ count_there ts (length ts) i x (omega arith)
 
 pub count_past : (ts : List Token) (cs : List ℕ) (i x : ℕ) → cs ≡ counts ts (length ts) → length cs ≤ i
-    → x ≡ opened ts (length ts) → x ≡ opened ts i
+    → x ≡ open_brackets ts (length ts) → x ≡ open_brackets ts i
 count_past ts cs i x s h e =
     let l = counts_long ts (length ts) in let k = ap (λ (r : List ℕ). length r) s in
     let q : (i - length ts) + length ts ≡ i = omega arith in
-    e ∙ sym (opened_past ts (i - length ts)) ∙ ap (opened ts) q
+    e ∙ sym (opened_past ts (i - length ts)) ∙ ap (open_brackets ts) q
 
-pub counts_more : (ts : List Token) (i : ℕ) → counts ts (i + 1) ≡ counts ts i ++ (opened ts i ∷ [])
+pub counts_more : (ts : List Token) (i : ℕ) → counts ts (i + 1) ≡ counts ts i ++ (open_brackets ts i ∷ [])
 counts_more ts i = let e : i + 1 ≡ suc i = omega arith in ap (counts ts) e
 
-pub opened_none : (ts : List Token) → opened ts 0 ≡ 0
-unfolding opened
+pub opened_none : (ts : List Token) → open_brackets ts 0 ≡ 0
+unfolding open_brackets
 opened_none ts = refl
 
-pub opened_more : (ts : List Token) (i : ℕ) → opened ts (i + 1) ≡ bracket (terminal_at ts i) (opened ts i)
-unfolding opened
-opened_more ts i = let e : i + 1 ≡ suc i = omega arith in ap (opened ts) e
+pub opened_more : (ts : List Token) (i : ℕ) → open_brackets ts (i + 1) ≡ bracket (terminal_at ts i) (open_brackets ts i)
+unfolding open_brackets
+opened_more ts i = let e : i + 1 ≡ suc i = omega arith in ap (open_brackets ts) e
 
 pub bracket_few : (k : Terminal) (n i : ℕ) → n ≤ i → bracket k n ≤ i + 1
 bracket_few (terminals.Punct puncts.LeftParen) n i h = omega arith

@@ -5,8 +5,8 @@ use Rattle.jl_ast.specs.Height.{height}
 use Rattle.jl_text.specs.declared.span.Span.{Span}
 use Rattle.jl_ast.specs.Tree.{Tree, Forest}
 use Rattle.jl_ast.specs.Tree as tree
-use Rattle.jl_grammar.specs.Reader.{Read, ◌>>=◌, done, made}
-use Rattle.jl_parse.specs.Steps.{append}
+use Rattle.jl_grammar.specs.Reader.{Read, ◌>>=◌, succeed, node}
+use Rattle.jl_parse.specs.inner.Steps.{append}
 
 abbrev pub with_forest : {x : tree.Sort} → Forest Span x → Read (Forest Span x) → Read (Forest Span x)
 with_forest a None = None
@@ -35,20 +35,20 @@ then_on None go = None
 then_on (Some x) go = go x.0 x.1
 
 if_on : {A B : Type 0} (b : Bool) (t : A) (j : ℕ) (go : A → ℕ → Option B)
-    → (if b then go t j else None) ≡ then_on (if b then done t j else None) go
+    → (if b then go t j else None) ≡ then_on (if b then succeed t j else None) go
 if_on true t j go = refl
 if_on false t j go = refl
 
 -- a node first, and then what comes after it
 pub made_on : {x : tree.Sort} {B : Type 0} (most : ℕ) (t : Tree Span x) (j : ℕ) (go : Tree Span x → ℕ → Option B)
-    → made most t j go ≡ then_on (made most t j done) go
-unfolding made
+    → node most t j go ≡ then_on (node most t j succeed) go
+unfolding node
 made_on most t j go = if_on (nat_le (height t) (suc most)) t j go
 
 pub made_some : {x : tree.Sort} {B : Type 0} (most : ℕ) (t : Tree Span x) (j : ℕ) (go : Tree Span x → ℕ → Option B)
-    (u : Tree Span x) (k : ℕ) → made most t j done ≡ Some (u, k) → made most t j go ≡ go u k
+    (u : Tree Span x) (k : ℕ) → node most t j succeed ≡ Some (u, k) → node most t j go ≡ go u k
 made_some most t j go u k h = made_on most t j go ∙ ap (λ o. then_on o go) h
 
 pub made_none : {x : tree.Sort} {B : Type 0} (most : ℕ) (t : Tree Span x) (j : ℕ) (go : Tree Span x → ℕ → Option B)
-    → made most t j done ≡ None → made most t j go ≡ None
+    → node most t j succeed ≡ None → node most t j go ≡ None
 made_none most t j go h = made_on most t j go ∙ ap (λ o. then_on o go) h

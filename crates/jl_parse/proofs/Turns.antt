@@ -16,12 +16,12 @@ use Rattle.jl_grammar.specs.declared.terminal.Terminal.TheVariants as terminals
 use Rattle.jl_grammar.specs.Next.{is_comma, is_name, continues_left}
 use Rattle.jl_grammar.specs.Operators.{InfixOperator, infix_operator, infix_node, infix_precedence}
 use Rattle.jl_grammar.specs.Operators.{infix_precedence_of, continues}
-use Rattle.jl_grammar.specs.Reader.{Read, Deeper, ◌>>=◌, done, made, is_close_paren, is_close_bracket, comma_from}
+use Rattle.jl_grammar.specs.Reader.{Read, Deeper, ◌>>=◌, succeed, node, is_close_paren, is_close_bracket, comma_from}
 use Rattle.jl_grammar.specs.Reader.{binary_from}
 use Rattle.jl_grammar.specs.Reader.{binary_by, left_from, left_by, items_from, arguments_at, arguments_from}
 use Rattle.jl_grammar.specs.Reads.{Expr, Exprs}
 use Rattle.jl_grammar.specs.Tokens.{terminal_at, text_at, span}
-use Rattle.jl_parse.specs.Steps.{append}
+use Rattle.jl_parse.specs.inner.Steps.{append}
 use Rattle.jl_parse.proofs.Rows.{with_forest, append_end, with_end, regroup, made_none, made_on, made_some, then_on}
 
 pub expressions_push : (l : List CodeExpr) (e : CodeExpr)
@@ -42,18 +42,18 @@ item_push (None ∷ l) e = ap (tree.more tree.hole) (item_push l e)
 item_push (Some x ∷ l) e = ap (tree.more (tree.filled (view_expression x))) (item_push l e)
 
 if_made : (b : Bool) (most : ℕ) (u : Expr) (k : ℕ) (go : Expr → ℕ → Read Expr)
-    → (if b then made most u k go else None) ≡ then_on (if b then made most u k done else None) go
+    → (if b then node most u k go else None) ≡ then_on (if b then node most u k succeed else None) go
 if_made true most u k go = made_on most u k go
 if_made false most u k go = refl
 
 bind_test : {A : Type 0} (o : Option A) (b : A → Bool) (most : ℕ) (u : A → Expr) (k : A → ℕ) (go : Expr → ℕ → Read Expr)
-    → (o >>= λ x. if b x then made most (u x) (k x) go else None)
-    ≡ then_on (o >>= λ x. if b x then made most (u x) (k x) done else None) go
+    → (o >>= λ x. if b x then node most (u x) (k x) go else None)
+    ≡ then_on (o >>= λ x. if b x then node most (u x) (k x) succeed else None) go
 bind_test None b most u k go = refl
 bind_test (Some x) b most u k go = if_made (b x) most (u x) (k x) go
 
 bind_made : {A : Type 0} (o : Option A) (most : ℕ) (u : A → Expr) (k : A → ℕ) (go : Expr → ℕ → Read Expr)
-    → (o >>= λ x. made most (u x) (k x) go) ≡ then_on (o >>= λ x. made most (u x) (k x) done) go
+    → (o >>= λ x. node most (u x) (k x) go) ≡ then_on (o >>= λ x. node most (u x) (k x) succeed) go
 bind_made None most u k go = refl
 bind_made (Some x) most u k go = made_on most (u x) (k x) go
 
@@ -96,7 +96,7 @@ module _ (ts : List Token) (d : Deeper) where
 
   pub comma_more : (no_in : Bool) (n i : ℕ) (t : Expr) (j : ℕ) (b : Expr) (k : ℕ) (u : Expr) (m : ℕ) → n ≢ 0
       → is_comma (terminal_at ts j) ≡ true → d.assignment no_in (suc j) ≡ Some (b, k)
-      → made (d.room i) (tree.comma t b (span ts i k)) k done ≡ Some (u, m)
+      → node (d.room i) (tree.comma t b (span ts i k)) k succeed ≡ Some (u, m)
       → comma_from ts d no_in n i t j ≡ comma_from ts d no_in (n - 1) i u m
   unfolding comma_from
   comma_more no_in zero i t j b k u m h e q f = absurd (h refl)
@@ -106,7 +106,7 @@ module _ (ts : List Token) (d : Deeper) where
 
   pub comma_high : (no_in : Bool) (n i : ℕ) (t : Expr) (j : ℕ) (b : Expr) (k : ℕ) → n ≢ 0
       → is_comma (terminal_at ts j) ≡ true → d.assignment no_in (suc j) ≡ Some (b, k)
-      → made (d.room i) (tree.comma t b (span ts i k)) k done ≡ None → comma_from ts d no_in n i t j ≡ None
+      → node (d.room i) (tree.comma t b (span ts i k)) k succeed ≡ None → comma_from ts d no_in n i t j ≡ None
   unfolding comma_from
   comma_high no_in zero i t j b k h e q f = absurd (h refl)
   comma_high no_in (suc n) i t j b k h e q f =
@@ -148,7 +148,7 @@ module _ (ts : List Token) (d : Deeper) where
       (l : ℕ) → n ≢ 0
       → infix_operator no_in (terminal_at ts j) ≡ Some op → infix_precedence op ≤ m
       → d.binary no_in (infix_precedence op - 1) (suc j) ≡ Some (b, k)
-      → made (d.room i) (infix_node op t b (span ts i k)) k done ≡ Some (u, l)
+      → node (d.room i) (infix_node op t b (span ts i k)) k succeed ≡ Some (u, l)
       → binary_from ts d no_in n m i t j ≡ binary_from ts d no_in (n - 1) m i u l
   unfolding binary_from binary_by
   binary_more no_in zero m i t j op b k u l h e r q f = absurd (h refl)
@@ -160,7 +160,7 @@ module _ (ts : List Token) (d : Deeper) where
   pub binary_high : (no_in : Bool) (n m i : ℕ) (t : Expr) (j : ℕ) (op : InfixOperator) (b : Expr) (k : ℕ) → n ≢ 0
       → infix_operator no_in (terminal_at ts j) ≡ Some op → infix_precedence op ≤ m
       → d.binary no_in (infix_precedence op - 1) (suc j) ≡ Some (b, k)
-      → made (d.room i) (infix_node op t b (span ts i k)) k done ≡ None → binary_from ts d no_in n m i t j ≡ None
+      → node (d.room i) (infix_node op t b (span ts i k)) k succeed ≡ None → binary_from ts d no_in n m i t j ≡ None
   unfolding binary_from binary_by
   binary_high no_in zero m i t j op b k h e r q f = absurd (h refl)
   binary_high no_in (suc n) m i t j op b k h e r q f =
@@ -193,7 +193,7 @@ module _ (ts : List Token) (d : Deeper) where
   left_none calls (suc n) i t j e h = absurd (omega arith)
 
   stepwise : (calls : Bool) (go : Expr → ℕ → Read Expr) (i : ℕ) (t : Expr) (j : ℕ) (k : Terminal)
-      → continues_left calls k ≡ true → left_by ts d calls go i t j k ≡ then_on (left_by ts d true done i t j k) go
+      → continues_left calls k ≡ true → left_by ts d calls go i t j k ≡ then_on (left_by ts d true succeed i t j k) go
   unfolding left_by
   stepwise calls go i t j (terminals.Punct puncts.Dot) h =
       if_made (is_name (terminal_at ts (suc j))) (d.room i) (tree.dot t (text_at ts (suc j)) (span ts i (suc (suc j))))
@@ -209,7 +209,7 @@ module _ (ts : List Token) (d : Deeper) where
 
   pub left_more : (calls : Bool) (n i : ℕ) (t : Expr) (j : ℕ) (u : Expr) (k : ℕ) → n ≢ 0
       → continues_left calls (terminal_at ts j) ≡ true
-      → left_by ts d true done i t j (terminal_at ts j) ≡ Some (u, k)
+      → left_by ts d true succeed i t j (terminal_at ts j) ≡ Some (u, k)
       → left_from ts d calls n i t j ≡ left_from ts d calls (n - 1) i u k
   unfolding left_from
   left_more calls zero i t j u k h e q = absurd (h refl)
@@ -220,7 +220,7 @@ module _ (ts : List Token) (d : Deeper) where
 
   pub left_fails : (calls : Bool) (n i : ℕ) (t : Expr) (j : ℕ) → n ≢ 0
       → continues_left calls (terminal_at ts j) ≡ true
-      → left_by ts d true done i t j (terminal_at ts j) ≡ None
+      → left_by ts d true succeed i t j (terminal_at ts j) ≡ None
       → left_from ts d calls n i t j ≡ None
   unfolding left_from
   left_fails calls zero i t j h e q = absurd (h refl)

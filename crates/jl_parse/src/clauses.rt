@@ -6,7 +6,7 @@ ghost use Rattle.jl_ast.specs.Tree as tree;
 ghost use Rattle.jl_ast.specs.View.{view_case, view_cases, view_ident, view_statements};
 ghost use Rattle.jl_grammar.specs.Reader.{catch_at, clauses_from, finally_from, switch_at, try_at};
 ghost use Rattle.jl_grammar.specs.Tokens.{terminal_at};
-ghost use Rattle.jl_parse.specs.Steps.{Gives, GivesStatement, clause_of, is_end, within};
+ghost use Rattle.jl_parse.specs.inner.Steps.{Gives, GivesStatement, clause_of, is_end, within};
 
 use crate::depth::Depth;
 use crate::expressions::expression;
@@ -28,7 +28,7 @@ use std::alloc::Global;
 
 // A clause of a `switch` (12.11); a default one only where `fresh`.
 #[cycle(parser)]
-#[tactic(auto, using(jl_ast::proofs::Views::nodes), unfolding(crate::specs::Steps::clause_of))]
+#[tactic(auto, using(jl_ast::proofs::Views::nodes), unfolding(crate::specs::inner::Steps::clause_of))]
 fn clause(alloc: Global, tokens: &Tokens, depth: Depth, fresh: bool, at: usize) -> Read<Part<Case>>
     ensures { Gives (λ x. (view_case x.0, x.1)) result (clause_of tokens.now (within tokens.now depth) fresh at) }
 {

@@ -1,6 +1,6 @@
 //! Operators and what they stand between (11.3 to 11.14).
 ghost use Rattle.jl_grammar.specs.Reader.{postfix_at, unary_at, binary_at, conditional_at, assignment_at};
-ghost use Rattle.jl_parse.specs.Steps.{GivesExpression, within};
+ghost use Rattle.jl_parse.specs.inner.Steps.{GivesExpression, within};
 
 use crate::depth::Depth;
 use crate::nodes::{

@@ -5,8 +5,8 @@ ghost use Rattle.jl_ast.specs.View.{view_body, view_entries, view_entry, view_fu
 ghost use Rattle.jl_grammar.specs.Reader.{accessor_at, body_from, elements_from, entries_from, entry_at, function_at};
 ghost use Rattle.jl_grammar.specs.Reader.{getter_by, parameters_at, rest_at, setter_by, value_at};
 ghost use Rattle.jl_grammar.specs.Tokens.{terminal_at};
-ghost use Rattle.jl_parse.specs.Steps.{Gives, GivesExpression, GivesRest, is_end, declaration_of, with_elements};
-ghost use Rattle.jl_parse.specs.Steps.{within};
+ghost use Rattle.jl_parse.specs.inner.Steps.{Gives, GivesExpression, GivesRest, is_end, declaration_of, with_elements};
+ghost use Rattle.jl_parse.specs.inner.Steps.{within};
 
 use crate::depth::Depth;
 use crate::expressions::inner_assignment;

@@ -8,7 +8,7 @@ ghost use Rattle.jl_grammar.specs.Next.{is_identifier, is_semicolon};
 ghost use Rattle.jl_grammar.specs.Reader.{for_at, for_expression_at, for_from, for_in_from, for_var_at};
 ghost use Rattle.jl_grammar.specs.Reader.{is_close_paren, is_in, optional_at, name_of};
 ghost use Rattle.jl_grammar.specs.Tokens.{terminal_at};
-ghost use Rattle.jl_parse.specs.Steps.{Gives, GivesStatement, for_head_from, is_end, within};
+ghost use Rattle.jl_parse.specs.inner.Steps.{Gives, GivesStatement, for_head_from, is_end, within};
 
 use crate::depth::Depth;
 use crate::expressions::expression;
@@ -59,7 +59,7 @@ fn until_close(alloc: Global, tokens: &Tokens, depth: Depth, at: usize) -> Read<
 // The head of a `for` from its first semicolon to behind its `)`.
 #[inline(never)]
 #[cycle(parser)]
-#[tactic(auto, using(jl_ast::proofs::Views::nodes), unfolding(crate::specs::Steps::for_head_from))]
+#[tactic(auto, using(jl_ast::proofs::Views::nodes), unfolding(crate::specs::inner::Steps::for_head_from))]
 fn for_head(
     alloc: Global,
     tokens: &Tokens,

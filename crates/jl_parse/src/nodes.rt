@@ -9,9 +9,10 @@ ghost use Rattle.jl_ast.specs.View.{view_expression_kind, view_expressions, view
 ghost use Rattle.jl_ast.specs.View.{view_items, view_statements, view_target};
 ghost use Rattle.jl_grammar.specs.Next.{target_of};
 ghost use Rattle.jl_grammar.specs.Operators.{infix_node};
-ghost use Rattle.jl_grammar.specs.Reader.{done, made};
+ghost use Rattle.jl_grammar.specs.Reader.{succeed, node};
 ghost use Rattle.jl_grammar.specs.Tokens.{span, terminal_at};
-ghost use Rattle.jl_parse.specs.Steps.{Gives, GivesExpression, MakesExpression, infix_operator_of, is_end, within};
+ghost use Rattle.jl_parse.specs.inner.Steps.{Gives, GivesExpression, MakesExpression, infix_operator_of, is_end};
+ghost use Rattle.jl_parse.specs.inner.Steps.{within};
 
 use crate::depth::Depth;
 use crate::operators::InfixOperator;
@@ -303,9 +304,9 @@ pub fn function_node(
     body: Part<Body>,
     end: usize,
 ) -> Read<Part<Function>>
-    ensures { Gives (λ x. (view_function x.0, x.1)) result (made ((within tokens.now depth).room at)
+    ensures { Gives (λ x. (view_function x.0, x.1)) result (node ((within tokens.now depth).room at)
         (tree.function 0 (option_map view_ident name) (map view_ident params) (view_body body)
-        (span tokens.now at end)) end done) }
+        (span tokens.now at end)) end succeed) }
 {
     let height = body.height();
     if height > tokens.room(depth, at) {

@@ -3,7 +3,7 @@ ghost use Rattle.std.specs.Prelude.{◌≡◌, ◌≤◌};
 ghost use Rattle.jl_grammar.specs.Next.{continues_left};
 ghost use Rattle.jl_grammar.specs.Operators.{unary_operator, update_operator, infix_precedence, infix_node};
 ghost use Rattle.jl_ast.specs.View.{view_expression, view_expression_kind};
-ghost use Rattle.jl_parse.specs.Steps.{infix_operator_of};
+ghost use Rattle.jl_parse.specs.inner.Steps.{infix_operator_of};
 ghost use Rattle.jl_text.specs.declared.span.Span.{Span};
 
 use jl_ast::{BinOp, Expr, ExprKind, UnOp};

@@ -1,11 +1,11 @@
 //! Primary expressions, members, calls and `new` (11.1, 11.2).
 ghost use Rattle.std.specs.Prelude.{◌≡◌, false, true, length};
 ghost use Rattle.jl_ast.specs.View.{view_expression, view_expressions, view_items};
-ghost use Rattle.jl_grammar.specs.Reader.{done, head_at, primary_at, primary_by, items_from, arguments_at};
+ghost use Rattle.jl_grammar.specs.Reader.{succeed, head_at, primary_at, primary_by, items_from, arguments_at};
 ghost use Rattle.jl_grammar.specs.Reader.{arguments_from, new_at, start_at, left_at, left_by};
 ghost use Rattle.jl_grammar.specs.Tokens.{terminal_at};
 ghost use Rattle.jl_grammar.specs.declared.terminal.Terminal.TheVariants as Terminal;
-ghost use Rattle.jl_parse.specs.Steps.{Gives, GivesExpression, is_end, within};
+ghost use Rattle.jl_parse.specs.inner.Steps.{Gives, GivesExpression, is_end, within};
 
 use crate::depth::Depth;
 use crate::expressions::{expression, inner_assignment};
@@ -26,7 +26,7 @@ use std::alloc::Global;
 
 /// An expression in parentheses.
 #[cycle(parser)]
-#[tactic(auto, unfolding(jl_grammar::specs::Reader::head_at, jl_grammar::specs::Reader::closed))]
+#[tactic(auto, unfolding(jl_grammar::specs::Reader::head_at, jl_grammar::specs::Reader::then_close_paren))]
 pub fn head(alloc: Global, tokens: &Tokens, depth: Depth, at: usize) -> Read<Part<Box<Expr>>>
     ensures { GivesExpression result (head_at tokens.now (within tokens.now depth) at) }
 {
@@ -244,7 +244,7 @@ fn longer(
     end: usize,
 ) -> Read<Part<Box<Expr>>>
     ensures { GivesExpression result
-        (left_by tokens.now (within tokens.now depth) true done at (view_expression left.value) end
+        (left_by tokens.now (within tokens.now depth) true succeed at (view_expression left.value) end
         (terminal_at tokens.now end)) }
 {
     match tokens.terminal(end) {

@@ -8,7 +8,7 @@ ghost use Rattle.jl_ast.specs.View.{view_case, view_cases, view_declarator, view
 ghost use Rattle.jl_ast.specs.View.{view_ident};
 ghost use Rattle.jl_ast.specs.View.{view_init, view_optional, view_statement, view_statement_kind, view_statements};
 ghost use Rattle.jl_grammar.specs.Tokens.{span};
-ghost use Rattle.jl_parse.specs.Steps.{MakesStatement};
+ghost use Rattle.jl_parse.specs.inner.Steps.{MakesStatement};
 
 use crate::depth::Depth;
 use crate::part::Part;
@@ -364,7 +364,7 @@ pub fn bare_declarator(name: Ident) -> Part<(Ident, Option<Expr>)>
 }
 
 /// A variable with its initialiser (12.2).
-pub fn initialised(name: Ident, e: Part<Box<Expr>>) -> Part<(Ident, Option<Expr>)>
+pub fn initialised_declarator(name: Ident, e: Part<Box<Expr>>) -> Part<(Ident, Option<Expr>)>
     ensures { view_declarator result ≡ tree.declarator (view_ident name) (tree.present (view_expression e.value)) }
 {
     let height = e.height();

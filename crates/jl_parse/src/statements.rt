@@ -12,7 +12,7 @@ ghost use Rattle.jl_grammar.specs.Tokens.{terminal_at, span};
 ghost use Rattle.jl_grammar.specs.declared.terminal.Terminal.TheVariants as Terminal;
 ghost use Rattle.jl_grammar.specs.declared.word.Word.TheVariants as Word;
 ghost use Rattle.jl_token.specs.declared.punct.Punct.TheVariants as Punct;
-ghost use Rattle.jl_parse.specs.Steps.{Gives, GivesStatement, is_end, within};
+ghost use Rattle.jl_parse.specs.inner.Steps.{Gives, GivesStatement, is_end, within};
 
 use crate::clauses::{switch_statement, try_statement};
 use crate::depth::Depth;
@@ -23,7 +23,8 @@ use crate::primary::head;
 use crate::refusal::{Read, Stop};
 use crate::statement_nodes::{
     bare_declarator, block_node, do_node, expression_statement_node, if_else_node, if_node,
-    initialised, labelled_node, leaf_statement, return_node, throw_node, var_node, while_node,
+    initialised_declarator, labelled_node, leaf_statement, return_node, throw_node, var_node,
+    while_node,
 };
 use crate::terminals::{
     ends_list, ends_statement, is_close_brace, is_colon, is_comma, is_else, is_equals,
@@ -128,7 +129,7 @@ fn declarator(
     let end = tokens.after(at);
     if is_equals(tokens.terminal(end)) {
         let (e, end) = inner_assignment(alloc, tokens, depth, no_in, tokens.after(end))?;
-        Ok((initialised(name, e), end))
+        Ok((initialised_declarator(name, e), end))
     } else {
         Ok((bare_declarator(name), end))
     }

@@ -5,7 +5,7 @@ ghost use Rattle.jl_grammar.specs.Next.{is_comma, is_colon, is_question, is_equa
 ghost use Rattle.jl_grammar.specs.Next.{ends_statement, ends_list};
 ghost use Rattle.jl_grammar.specs.Reader.{is_close_paren, is_close_bracket, is_close_brace, is_catch, is_function};
 ghost use Rattle.jl_grammar.specs.Reader.{is_new, is_while, is_in, is_var, is_case, is_default};
-ghost use Rattle.jl_parse.specs.Steps.{is_end};
+ghost use Rattle.jl_parse.specs.inner.Steps.{is_end};
 
 use jl_grammar::{Terminal, Word};
 use jl_token::Punct;

@@ -6,8 +6,8 @@ ghost use Rattle.jl_grammar.specs.Tokens.{to_at, span, ident_at, key_ident_at};
 ghost use Rattle.jl_grammar.specs.Program.{last_end};
 ghost use Rattle.jl_grammar.specs.Next.{continues_at, is_directive};
 ghost use Rattle.jl_grammar.specs.Operators.{infix_operator, binary_operator, assign_operator};
-ghost use Rattle.jl_grammar.specs.Brackets.{bracket, opened};
-ghost use Rattle.jl_parse.specs.Steps.{is_end, infix_operator_of, within};
+ghost use Rattle.jl_grammar.specs.Brackets.{bracket, open_brackets};
+ghost use Rattle.jl_parse.specs.inner.Steps.{is_end, infix_operator_of, within};
 
 use crate::depth::Depth;
 use crate::operators::{InfixOperator, continues_left, update_op};
@@ -33,7 +33,7 @@ pub struct Tokens<'a> {
 impl<'a> Model for Tokens<'a> {
     ghost use Rattle.std.specs.Prelude.{◌≡◌, List, map};
     ghost use Rattle.jl_grammar.specs.Terminals.{terminal_of};
-    ghost use Rattle.jl_parse.specs.Steps.{AreCounts};
+    ghost use Rattle.jl_parse.specs.inner.Steps.{AreCounts};
     ghost use Rattle.jl_token.specs.declared.token.Token.{Token};
 
     ghost Value = { List Token };
@@ -84,8 +84,8 @@ impl<'a> Tokens<'a> {
     }
 
     /// How many brackets are open before the token there.
-    fn opened(&self, at: usize) -> u64
-        ensures { result ≡ opened self.now at }
+    fn open_brackets(&self, at: usize) -> u64
+        ensures { result ≡ open_brackets self.now at }
     {
         match self.brackets.get(at) {
             Some(opened) => *opened,
@@ -100,7 +100,7 @@ impl<'a> Tokens<'a> {
         ensures is { result ≡ (within self.now depth).room at }
         ensures few { result < 2 ^ 63 }
     {
-        let brackets = depth.brackets.saturating_sub(self.opened(at));
+        let brackets = depth.brackets.saturating_sub(self.open_brackets(at));
         depth.levels.saturating_sub(brackets)
     }
 

@@ -1,12 +1,12 @@
 //! Whole programs (clause 14), the limits on them, and where a refusal points.
 ghost use Rattle.std.specs.Prelude.{◌≡◌, ◌<◌, ◌^◌, is_some, length, not, IfErr, IfOk, MatchResult};
-ghost use Rattle.jl_ast.specs.Numbering.{functions_in, numbered};
+ghost use Rattle.jl_ast.specs.Numbering.{functions_in, with_numbers};
 ghost use Rattle.jl_ast.specs.Tree.{Program as Tree};
 ghost use Rattle.jl_ast.specs.View.{view};
 ghost use Rattle.jl_grammar.specs.Program.{Reads};
 ghost use Rattle.jl_grammar.specs.ReaderLevels.{is_shallow, program_at};
 ghost use Rattle.jl_parse.specs.Refusals.{IsPlaced};
-ghost use Rattle.jl_parse.specs.Steps.{Gives};
+ghost use Rattle.jl_parse.specs.inner.Steps.{Gives};
 ghost use Rattle.jl_parse.specs.declared.refusal.ParseRefusal.TheVariants.{NoMemory};
 ghost use Rattle.jl_text.specs.declared.span.Span.{Span as Place};
 
@@ -42,7 +42,7 @@ fn deep_bracket(tokens: &Tokens, most: u64) -> Option<usize>
 #[tactic(auto, using(crate::proofs::Limits::whole_program))]
 fn program(alloc: Global, tokens: &Tokens, limit: u32) -> Result<Program, Stop>
     requires { length tokens.now < 2 ^ 32 }
-    ensures is { Gives (λ p. numbered (view p)) result (program_at tokens.now limit) }
+    ensures is { Gives (λ p. with_numbers (view p)) result (program_at tokens.now limit) }
     ensures few { IfOk result (λ p. functions_in (view p).body < 2 ^ 32) }
 {
     let most = u64::from(limit);

@@ -14,15 +14,15 @@ impl Read for Broken {
     fn read(&mut self, buf: &mut [u8]) -> std::io::Result<usize> {
         self.reads = self.reads.saturating_add(1);
         match self.reads {
-            1 => given(buf, b"abc"),
+            1 => fill(buf, b"abc"),
             2 => Err(Error::from(ErrorKind::BrokenPipe)),
-            3 => given(buf, b"de"),
+            3 => fill(buf, b"de"),
             _ => Ok(0),
         }
     }
 }
 
-fn given(buf: &mut [u8], bytes: &[u8]) -> std::io::Result<usize>
+fn fill(buf: &mut [u8], bytes: &[u8]) -> std::io::Result<usize>
     ensures { ReadsAtMost result buf.new }
 {
     let n = bytes.len().min(buf.len());

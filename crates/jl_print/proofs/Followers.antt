@@ -6,9 +6,9 @@ use Rattle.jl_token.specs.Characters.{is_identifier_start, is_identifier_part, i
 use Rattle.jl_token.specs.Elements.{Element, White, LineEnd, Word, Many, no_more, one_more, Letter, itself, name_text}
 use Rattle.jl_token.specs.Elements.{is_escaped}
 use Rattle.jl_token.specs.Punctuators.{punctuator_units}
-use Rattle.jl_token.specs.Scanner.{found, letter, name_escape, name_done}
-use Rattle.jl_token.specs.Scanner.{name_from, strip, or_else, first_punctuator, punctuator_found, scan_word, scan}
-use Rattle.jl_token.specs.Scanner.{piece_found, next_piece, after_line_feed}
+use Rattle.jl_token.specs.inner.Scanner.{found, letter, name_escape, name_done}
+use Rattle.jl_token.specs.inner.Scanner.{name_from, strip, or_else, first_punctuator, punctuator_found, scan_word, scan}
+use Rattle.jl_token.specs.inner.Scanner.{piece_found, next_piece, after_line_feed}
 use Rattle.jl_token.specs.Tokens.{piece, place, OnePiece}
 use Rattle.jl_token.specs.declared.punct.Punct.{Punct}
 use Rattle.jl_token.specs.declared.punct.Punct.TheVariants as puncts

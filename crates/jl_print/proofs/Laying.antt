@@ -5,23 +5,23 @@ use Rattle.std.proofs.lemmas.List.{take_all}
 use Rattle.std.proofs.Common.{take, length-drop, ◌-◌, append_assoc, ap, sym, ◌∙◌, drop-cons, arith}
 use Rattle.jl_ast.specs.Tree.{Text}
 use Rattle.jl_token.specs.declared.token.TokenKind.{TokenKind}
-use Rattle.jl_token.specs.Spelling.{spelled}
-use Rattle.jl_print.specs.Kinds.{after, kind_of}
+use Rattle.jl_token.specs.Spelling.{spelling_of}
+use Rattle.jl_print.specs.inner.Kinds.{after, kind_of}
 use Rattle.jl_print.specs.declared.piece.Piece.{Piece}
 use Rattle.jl_print.specs.Layout.{layout_of, ends_line, is_dot, is_number, joins_left, joins_right}
 use Rattle.jl_print.specs.Pieces.{is_bare_key, key, name, string}
 
-pub laid_next : (k : TokenKind) (ks : List TokenKind) → layout_of (k ∷ ks) ≡ spelled k ++ (after k ks ++ layout_of ks)
+pub laid_next : (k : TokenKind) (ks : List TokenKind) → layout_of (k ∷ ks) ≡ spelling_of k ++ (after k ks ++ layout_of ks)
 laid_next k [] = refl
 laid_next k (l ∷ ks) = refl
 
 pub next_piece : (o : List ℕ) (ps : List Piece) (i : ℕ) (p : Piece) → i < length ps → p ≡ get_or ps i p →
-    ((o ++ spelled (kind_of p)) ++ after (kind_of p) (map kind_of (drop (i + 1) ps)))
+    ((o ++ spelling_of (kind_of p)) ++ after (kind_of p) (map kind_of (drop (i + 1) ps)))
     ++ layout_of (map kind_of (drop (i + 1) ps)) ≡ o ++ layout_of (map kind_of (drop i ps))
 next_piece o ps i p h g =
     let q : i + 1 ≡ suc i = omega arith in
     let e : drop i ps ≡ p ∷ drop (suc i) ps = drop-cons ps i p h ∙ ap (λ x. x ∷ drop (suc i) ps) (sym g) in
-    rw (q, e) (append_assoc (o ++ spelled (kind_of p)) _ _ ∙ append_assoc o (spelled (kind_of p)) _
+    rw (q, e) (append_assoc (o ++ spelling_of (kind_of p)) _ _ ∙ append_assoc o (spelling_of (kind_of p)) _
     ∙ ap (λ x. o ++ x) (sym (laid_next (kind_of p) (map kind_of (drop (suc i) ps)))))
 
 -- what a slice from n on holds

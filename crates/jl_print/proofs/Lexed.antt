@@ -7,8 +7,8 @@ use Rattle.jl_text.specs.Quoted.{quoted_after}
 use Rattle.jl_token.specs.Characters.{is_digit, first_is}
 use Rattle.jl_token.specs.Elements.{White, LineEnd, Word, Many, no_more, one_more}
 use Rattle.jl_token.specs.Punctuators.{punctuator_units}
-use Rattle.jl_token.specs.Scanner.{scan, found}
-use Rattle.jl_token.specs.Spelling.{spelled}
+use Rattle.jl_token.specs.inner.Scanner.{scan, found}
+use Rattle.jl_token.specs.Spelling.{spelling_of}
 use Rattle.jl_token.specs.Tokens.{Piece, piece, place, OnePiece, tokens_among}
 use Rattle.jl_token.specs.declared.punct.Punct.{Punct}
 use Rattle.jl_token.specs.declared.punct.Punct.TheVariants as puncts
@@ -61,11 +61,11 @@ punct_found {rest = rest} after_bracket = left_bracket_found rest
 punct_found {rest = rest} (after_point f) = dot_found rest f
 punct_found {p = p} (after_other f) = punctuator_scanned p f
 
-word_found : (k : TokenKind) (rest : List ℕ) → IsClean k → Fits k rest → scan (spelled k ++ rest) ≡ found (Word k) rest
+word_found : (k : TokenKind) (rest : List ℕ) → IsClean k → Fits k rest → scan (spelling_of k ++ rest) ≡ found (Word k) rest
 word_found (kinds.Name t escaped) rest w f =
     name_found t rest w.1.letters w.1.short f ∙ ap (λ e. found (Word (kinds.Name t e)) rest) (sym w.0)
 word_found (kinds.Number n) rest w f =
-    subst (λ n. scan (spelled (kinds.Number n) ++ rest) ≡ found (Word (kinds.Number n)) rest)
+    subst (λ n. scan (spelling_of (kinds.Number n) ++ rest) ≡ found (Word (kinds.Number n)) rest)
     (sym w.is) (number_found w.value rest w.inside f)
 word_found (kinds.Str t plain) rest w f =
     string_found t rest w.1 ∙ ap (λ e. found (Word (kinds.Str t e)) rest) (sym w.0)
@@ -75,7 +75,7 @@ word_found (kinds.Punct p) rest w f = punct_found f
 abbrev apart : TokenKind → List ℕ
 apart l = if joins_left l then [] else 32 ∷ []
 
-after_word : (l : TokenKind) (us : List ℕ) → Follows (apart l ++ (spelled l ++ us))
+after_word : (l : TokenKind) (us : List ℕ) → Follows (apart l ++ (spelling_of l ++ us))
 after_word (kinds.Name t escaped) us = space
 after_word (kinds.Number n) us = space
 after_word (kinds.Str t plain) us = space
@@ -89,7 +89,7 @@ after_word (kinds.Punct puncts.LeftBracket) us = left_bracket
 after_word (kinds.Punct _) us = space
 
 after_number : (l : TokenKind) (us : List ℕ)
-    → FollowsNumber ((if is_dot l then 32 ∷ [] else apart l) ++ (spelled l ++ us))
+    → FollowsNumber ((if is_dot l then 32 ∷ [] else apart l) ++ (spelling_of l ++ us))
 after_number (kinds.Name t escaped) us = numbers.space
 after_number (kinds.Number n) us = numbers.space
 after_number (kinds.Str t plain) us = numbers.space
@@ -104,7 +104,7 @@ after_number (kinds.Punct _) us = numbers.space
 
 -- only a number begins with a digit
 no_digit_first : (l : TokenKind) (us : List ℕ) → IsClean l → is_number l ≡ false
-    → first_is is_digit (spelled l ++ us) ≡ false
+    → first_is is_digit (spelling_of l ++ us) ≡ false
 unfolding units
 no_digit_first (kinds.Name [] escaped) us w h = absurd (differ w.1.letters)
   where
@@ -117,7 +117,7 @@ no_digit_first (kinds.Punct puncts.LeftBrace) us w h = refl
 no_digit_first (kinds.Punct _) us w h = refl
 
 fitting : (k l : TokenKind) (us : List ℕ) → IsClean l → (is_dot k && is_number l) ≡ false
-    → Fits k (between k l ++ (spelled l ++ us))
+    → Fits k (between k l ++ (spelling_of l ++ us))
 fitting (kinds.Name t escaped) l us w h = after_word l us
 fitting (kinds.Number n) l us w h = after_number l us
 fitting (kinds.Str t plain) l us w h = tt
@@ -140,13 +140,13 @@ shifted t ts i line (k ∷ ks) j h =
 record Split (text us : List ℕ) (line : Bool) (ks : List TokenKind) : Type 0 where
   pieces : List Piece
   splits : Many (OnePiece text) us pieces []
-  spelled : Spells (tokens_among line pieces) 0 line ks (length (tokens_among line pieces))
+  spelling_of : Spells (tokens_among line pieces) 0 line ks (length (tokens_among line pieces))
 
 -- the same, where the tokens are those that follow a kind: after it a line ends or not
 record SplitAfter (text us : List ℕ) (line : Bool) (ks : List TokenKind) : Type 0 where
   pieces : List Piece
   splits : Many (OnePiece text) us pieces []
-  spelled : Spells (tokens_among false pieces) 0 line ks (length (tokens_among false pieces))
+  spelling_of : Spells (tokens_among false pieces) 0 line ks (length (tokens_among false pieces))
 
 -- what stands between two kinds is one piece at most, and ends a line where the first kind does
 separated : (text : List ℕ) (k l : TokenKind) (rest : List ℕ) (ks : List TokenKind) → Split text rest (ends_line k) ks
@@ -173,9 +173,9 @@ separated text k l rest ks = go (ends_line k) (is_number k && is_dot l) (joins_r
 
 -- a kind, and what follows it
 with_kind : (text : List ℕ) (line : Bool) (k : TokenKind) (rest : List ℕ) (ks : List TokenKind) → IsClean k
-    → Fits k rest → SplitAfter text rest (ends_line k) ks → Split text (spelled k ++ rest) line (k ∷ ks)
+    → Fits k rest → SplitAfter text rest (ends_line k) ks → Split text (spelling_of k ++ rest) line (k ∷ ks)
 with_kind text line k rest ks w f s =
-    let us = spelled k ++ rest in
+    let us = spelling_of k ++ rest in
     let t : Token = record {
       kind = k;
       span = record { from = place text us; to = place text rest };

@@ -10,13 +10,13 @@ use Rattle.std.proofs.lemmas.Bool.{cases_lt, leb-true, le-leb}
 use Rattle.std.proofs.lemmas.Bool.Decides.{nat_tests, leb_tells}
 use Rattle.std.proofs.lemmas.List.{length-append}
 use Rattle.jl_grammar.specs.Words.{same_text}
-use Rattle.jl_text.specs.Quoted.{is_hidden, is_lone, unicode_escape, quoted_unit, quoted_after, quoted}
+use Rattle.jl_text.specs.Quoted.{is_hidden, is_lone, unicode_escape, quoted_unit, quoted_after, quote}
 use Rattle.jl_token.specs.Characters.{is_hex_digit, is_digit, are_hex_digits, hex_digit_value, hex_number}
 use Rattle.jl_token.specs.Characters.{is_line_terminator}
 use Rattle.jl_token.specs.Characters.{single_escape, is_quote}
 use Rattle.jl_token.specs.Elements.{Word, Many, no_more, one_more, Character, plain, single, string_text, is_plain}
 use Rattle.jl_token.specs.Elements.{unicode_escape as four_digits}
-use Rattle.jl_token.specs.Scanner.{found, many, character, string_end, string_done, string_stop, scan, scan_word}
+use Rattle.jl_token.specs.inner.Scanner.{found, many, character, string_end, string_done, string_stop, scan, scan_word}
 use Rattle.jl_token.specs.declared.token.TokenKind.TheVariants as kinds
 use Rattle.jl_token.proofs.Against.{mark_stops}
 use Rattle.jl_token.proofs.Rows.{many_whole}
@@ -252,7 +252,7 @@ unfolding units
 is_mark = refl
 
 pub string_found : (t rest : List ℕ) → length t ≤ 1048576
-    → scan (quoted t ++ rest) ≡ found (Word (kinds.Str t (same_text (quoted_after 0 t) t))) rest
+    → scan (quote t ++ rest) ≡ found (Word (kinds.Str t (same_text (quoted_after 0 t) t))) rest
 string_found t rest h =
     let q = quotes_back 0 t in
     let m = many_whole (Character 34) (character 34) (reads_character 34 is_mark) (q.stand (34 ∷ rest))

@@ -12,11 +12,11 @@ use Rattle.std.proofs.lemmas.Bool.Decides.{nat_tests}
 use Rattle.std.proofs.lemmas.Str.{utf16_chars-nil, utf16_chars_lone, utf16_chars_pair}
 use Rattle.std.proofs.str.Utf16.{IsPair, lone_unit_char_low, lone_unit_char_high}
 use Rattle.jl_num.specs.Digits.{digit_code, digits_within, number_text}
-use Rattle.jl_text.specs.Quoted.{short_escape, is_hidden, is_lone, unicode_escape, quoted_unit, quoted_after, quoted}
+use Rattle.jl_text.specs.Quoted.{short_escape, is_hidden, is_lone, unicode_escape, quoted_unit, quoted_after, quote}
 use Rattle.jl_token.specs.Characters.{is_identifier_start, is_identifier_part, is_surrogate, category, is_letter}
 use Rattle.jl_token.specs.Characters.{is_mark}
 use Rattle.jl_token.specs.Punctuators.{punctuator_units}
-use Rattle.jl_token.specs.Spelling.{spelled}
+use Rattle.jl_token.specs.Spelling.{spelling_of}
 use Rattle.jl_token.specs.declared.punct.Punct.{Punct}
 use Rattle.jl_token.specs.declared.punct.Punct.TheVariants as puncts
 use Rattle.jl_token.specs.declared.token.TokenKind.{TokenKind}
@@ -271,7 +271,7 @@ quoted_paired before (u ∷ v ∷ us) h = elim (true_or_false (is_high_surrogate
       (quoted_paired u (v ∷ us) (λ f. no_pair (is_high_surrogate u) (is_low_surrogate v) f e))
 ]
 
-string_paired : (t : List ℕ) → Paired (quoted t)
+string_paired : (t : List ℕ) → Paired (quote t)
 string_paired t = whole (inl (omega arith)) (infix_node (quoted_paired 0 t (λ e. absurd (cc))) (whole (inl (omega arith)) none))
 
 number_paired : (n : ℕ) → Paired (number_text (Some (pos n)) 10)
@@ -281,7 +281,7 @@ punct_paired : (p : Punct) → Paired (punctuator_units p)
 punct_paired p = ascii (punctuator_units p) (punct_ascii p)
 
 -- tokens, and what stands between them
-spelled_paired : (k : TokenKind) → IsClean k → Paired (spelled k)
+spelled_paired : (k : TokenKind) → IsClean k → Paired (spelling_of k)
 spelled_paired (kinds.Name t escaped) w = name_paired t w.1.letters
 spelled_paired (kinds.Punct p) w = punct_paired p
 spelled_paired (kinds.Number n) w = subst (λ m. Paired (number_text m 10)) (sym w.is) (number_paired w.value)

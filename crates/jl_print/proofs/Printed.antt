@@ -3,7 +3,7 @@ use Rattle.std.proofs.Common.{◌≡◌, ℕ, suc, ◌+◌, ◌-◌, ◌*◌, �
 use Rattle.std.proofs.Common.{List, [], ◌∷◌, length, arith}
 use Rattle.std.proofs.lemmas.Bool.{cases_lt}
 use Rattle.jl_ast.specs.Height.{height, program_height}
-use Rattle.jl_ast.specs.Numbering.{numbered, numbered_tree}
+use Rattle.jl_ast.specs.Numbering.{with_numbers, numbered_tree}
 use Rattle.jl_ast.specs.Spans.{without_spans, map_tree}
 use Rattle.jl_ast.specs.Tree.{Program}
 use Rattle.jl_ast.proofs.SameHeight.{moved, renumbered}
@@ -12,7 +12,7 @@ use Rattle.jl_text.specs.declared.span.Span.{Span}
 use Rattle.jl_token.specs.declared.token.Token.{Token}
 use Rattle.jl_token.specs.declared.token.TokenKind.{TokenKind}
 use Rattle.jl_grammar.specs.declared.terminal.Terminal.TheVariants as terminals
-use Rattle.jl_grammar.specs.Brackets.{bracket, opened}
+use Rattle.jl_grammar.specs.Brackets.{bracket, open_brackets}
 use Rattle.jl_grammar.specs.Next.{ends_list}
 use Rattle.jl_grammar.specs.Program.{program_of, last_end}
 use Rattle.jl_grammar.specs.Reads.{Code}
@@ -38,40 +38,40 @@ end_past (t ∷ ts) = end_past ts
 
 -- no more are open than the kinds say
 opened_most : (ts : List Token) (i : ℕ) (line : _) (ks : List TokenKind) (j : ℕ) → Spells ts i line ks j → (k : ℕ)
-    → i ≤ k → k ≤ j → opened ts k ≤ most_open (opened ts i) ks
+    → i ≤ k → k ≤ j → open_brackets ts k ≤ most_open (open_brackets ts i) ks
 opened_most ts i line [] j h k a b =
-    let e : k ≡ i = omega (arith, h) in let g : opened ts k ≡ opened ts i = ap (opened ts) e in omega arith
+    let e : k ≡ i = omega (arith, h) in let g : open_brackets ts k ≡ open_brackets ts i = ap (open_brackets ts) e in omega arith
 opened_most ts i line (c ∷ ks) j h k a b =
     step (at h.0) (λ p. opened_most ts (suc i) (ends_line c) ks j h.1 k p b) (cases_lt i k)
   where
-    step : At ts i (terminal_of c) → (suc i ≤ k → opened ts k ≤ most_open (opened ts (suc i)) ks) → (i < k) ⊎ (k ≤ i)
-        → opened ts k ≤ most_open (opened ts i) (c ∷ ks)
+    step : At ts i (terminal_of c) → (suc i ≤ k → open_brackets ts k ≤ most_open (open_brackets ts (suc i)) ks) → (i < k) ⊎ (k ≤ i)
+        → open_brackets ts k ≤ most_open (open_brackets ts i) (c ∷ ks)
     step e rest (inl p) =
         let g = rest (omega arith) in
-        let f : most_open (opened ts (suc i)) ks ≡ most_open (bracket (terminal_of c) (opened ts i)) ks =
+        let f : most_open (open_brackets ts (suc i)) ks ≡ most_open (bracket (terminal_of c) (open_brackets ts i)) ks =
         ap (λ x. most_open x ks) (after e) in omega arith
     step e rest (inr p) =
-        let q : k ≡ i = omega arith in let g : opened ts k ≡ opened ts i = ap (opened ts) q in omega arith
+        let q : k ≡ i = omega arith in let g : open_brackets ts k ≡ open_brackets ts i = ap (open_brackets ts) q in omega arith
 
-opened_none : (ts : List Token) → opened ts 0 ≡ 0
-unfolding opened
+opened_none : (ts : List Token) → open_brackets ts 0 ≡ 0
+unfolding open_brackets
 opened_none ts = refl
 
 -- past the last token no more are open
-everywhere : (ts : List Token) (most : ℕ) → ((k : ℕ) → k ≤ length ts → opened ts k ≤ most) → (i : ℕ)
-    → opened ts i ≤ most
+everywhere : (ts : List Token) (most : ℕ) → ((k : ℕ) → k ≤ length ts → open_brackets ts k ≤ most) → (i : ℕ)
+    → open_brackets ts i ≤ most
 everywhere ts most h i = go (cases_lt i (length ts))
   where
-    go : (i < length ts) ⊎ (length ts ≤ i) → opened ts i ≤ most
+    go : (i < length ts) ⊎ (length ts ≤ i) → open_brackets ts i ≤ most
     go (inl p) = h i (omega arith)
     go (inr p) =
         let e : (i - length ts) + length ts ≡ i = omega arith in
-        let q = sym (opened_past ts (i - length ts)) ∙ ap (opened ts) e in
+        let q = sym (opened_past ts (i - length ts)) ∙ ap (open_brackets ts) e in
         let a = h (length ts) (omega arith) in omega arith
 
 -- trees that differ in places and numbers alone are the same program
-same_program : (c : Code) (p : Program Span) (s : Span) → skeleton c ≡ skeleton p.body → numbered p ≡ p
-    → without_spans (numbered (record { body = c; at = s })) ≡ without_spans p
+same_program : (c : Code) (p : Program Span) (s : Span) → skeleton c ≡ skeleton p.body → with_numbers p ≡ p
+    → without_spans (with_numbers (record { body = c; at = s })) ≡ without_spans p
 same_program c p s e n =
     let a = sym (numbered_moved no_place 0 c) ∙ sym (same_numbers 0 c) ∙ ap (numbered_tree 0) e
     ∙ same_numbers 0 p.body ∙ numbered_moved no_place 0 p.body in
@@ -91,7 +91,7 @@ reads_back p limit w h l =
     let e = same_height b.code p.body b.same in
     let f = renumbered 0 b.code in
     let m = (tame p.body).most 0 in
-    let z : most_open (opened ts 0) (tokens_of_node p.body) ≡ most_open 0 (tokens_of_node p.body) =
+    let z : most_open (open_brackets ts 0) (tokens_of_node p.body) ≡ most_open 0 (tokens_of_node p.body) =
     ap (λ x. most_open x (tokens_of_node p.body)) (opened_none ts) in
     record {
       tokens = ts;

@@ -17,7 +17,7 @@ use Rattle.jl_grammar.specs.Terminals.{terminal_of}
 use Rattle.jl_grammar.specs.Words.{same_text, word_of}
 use Rattle.jl_grammar.specs.declared.terminal.Terminal.TheVariants as terminals
 use Rattle.jl_grammar.specs.declared.word.Word.{Word}
-use Rattle.jl_print.specs.Kinds.{after_name, assigning, case_head, comma_unless, initializer, item_with_comma}
+use Rattle.jl_print.specs.inner.Kinds.{after_name, assigning, case_head, comma_unless, initializer, item_with_comma}
 use Rattle.jl_print.specs.Pieces.{in_parens_unless, key, name, punct, prefix_operator, update_operator}
 use Rattle.jl_print.specs.Precedence.{fits, is_in}
 use Rattle.jl_print.specs.CanonicalTokens.{tokens_of_node, tokens_of_arguments, further_arguments, tokens_of_entries}

@@ -4,7 +4,7 @@ use Rattle.jl_ast.specs.Tree.{Program}
 use Rattle.jl_token.specs.declared.punct.Punct.TheVariants as puncts
 use Rattle.jl_token.specs.declared.token.TokenKind.{TokenKind}
 use Rattle.jl_token.specs.declared.token.TokenKind.TheVariants.{Punct, Number}
-use Rattle.jl_token.specs.Spelling.{spelled}
+use Rattle.jl_token.specs.Spelling.{spelling_of}
 use Rattle.jl_print.specs.CanonicalTokens.{tokens_of}
 
 -- `;`, `{` and `}`
@@ -52,8 +52,8 @@ between left right =
 -- tokens one after the other; after the last one stands LF
 abbrev pub layout_of : List TokenKind → List ℕ
 layout_of [] = []
-layout_of (k ∷ []) = spelled k ++ 10 ∷ []
-layout_of (k ∷ l ∷ ks) = spelled k ++ (between k l ++ layout_of (l ∷ ks))
+layout_of (k ∷ []) = spelling_of k ++ 10 ∷ []
+layout_of (k ∷ l ∷ ks) = spelling_of k ++ (between k l ++ layout_of (l ∷ ks))
 
 -- the canonical text of a program
 abbrev pub text_of : {S : Type 0} → Program S → List ℕ

@@ -2,6 +2,6 @@ pub mod Pieces
 pub mod Precedence
 pub mod CanonicalTokens
 pub mod Layout
-pub mod Kinds
 pub mod WellFormed
 pub mod Laws
+pub mod inner

@@ -1,12 +1,13 @@
 -- Which trees have a canonical text that reads back: all that the grammar reads are such.
 use Rattle.std.specs.Prelude.{◌≡◌, ◌≤◌, ℕ, Bool, true, false, ◌&&◌, List, [], ◌∷◌, Option, Some, None, length, pos}
-use Rattle.jl_ast.specs.Numbering.{numbered}
+use Rattle.jl_text.specs.Limits.{most_units}
+use Rattle.jl_ast.specs.Numbering.{with_numbers}
 use Rattle.jl_ast.specs.Tree.{Ident, Program, Sort, Tree, Forest, OptionalTree, Text}
 use Rattle.jl_ast.specs.Tree as tree
 use Rattle.jl_ast.specs.declared.ops.BinOp.{BinOp}
 use Rattle.jl_ast.specs.declared.ops.BinOp.TheVariants as ops
 use Rattle.jl_grammar.specs.Words.{word_of}
-use Rattle.jl_num.specs.Number.{Number}
+use Rattle.jl_num.specs.Number.{Number, largest}
 use Rattle.jl_token.specs.Characters.{is_identifier_start, is_identifier_part}
 
 -- an identifier name (7.6) with no escape
@@ -20,7 +21,7 @@ is_identifier_name (u ∷ us) = is_identifier_start u && are_parts us
 
 -- no text of a script has more units
 abbrev pub IsShort : Text → Type 0
-IsShort t = length t ≤ 1048576
+IsShort t = length t ≤ most_units
 
 -- what may stand after a dot
 pub record IsName (t : Text) : Type 0 where
@@ -36,7 +37,7 @@ pub record IsIdentifier (t : Text) : Type 0 where
 pub record IsLiteral (n : Number) : Type 0 where
   pub value : ℕ
   pub is : n ≡ Some (pos value)
-  pub inside : value ≤ 9007199254740991
+  pub inside : value ≤ largest
 
 -- an operator that has a compound assignment (11.13)
 abbrev pub is_compound : BinOp → Bool
@@ -166,4 +167,4 @@ abbrev mutual
 -- a well formed program with its functions numbered
 pub record IsWellFormed {S : Type 0} (p : Program S) : Type 0 where
   pub body : WellFormed p.body
-  pub numbers : numbered p ≡ p
+  pub numbers : with_numbers p ≡ p

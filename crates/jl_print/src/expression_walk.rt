@@ -11,8 +11,8 @@ ghost use Rattle.jl_print.specs.Precedence.{fits};
 ghost use Rattle.jl_print.specs.CanonicalTokens.{tokens_of_node, tokens_of_optional};
 ghost use Rattle.jl_print.specs.CanonicalTokens.{tokens_of_arguments};
 ghost use Rattle.jl_print.specs.CanonicalTokens.{tokens_of_entries, tokens_of_items};
-ghost use Rattle.jl_print.specs.Kinds.{after_name, for_part, initializer};
-ghost use Rattle.jl_print.specs.Kinds.{item_with_comma};
+ghost use Rattle.jl_print.specs.inner.Kinds.{after_name, for_part, initializer};
+ghost use Rattle.jl_print.specs.inner.Kinds.{item_with_comma};
 
 use crate::name_lists::{add_comma_unless, add_optional_name, add_parameters};
 use crate::operator_words::{add_operator, add_prefix, add_update, assigning};

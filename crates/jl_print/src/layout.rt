@@ -1,11 +1,11 @@
 #![tactic(auto, using(crate::proofs::Laying::pieces))]
 
 ghost use Rattle.std.specs.Prelude.{◌≡◌, ◌++◌, map, IfOk, OnOk};
-ghost use Rattle.jl_print.specs.Kinds.{after, kind_of};
+ghost use Rattle.jl_print.specs.inner.Kinds.{after, kind_of};
 ghost use Rattle.jl_print.specs.Layout.{between, ends_line, is_dot, is_number, joins_left, joins_right, layout_of};
 ghost use Rattle.jl_print.specs.Pieces.{are_plain, is_bare_key, is_plain_digit, is_plain_letter};
-ghost use Rattle.jl_text.specs.Quoted.{quoted};
-ghost use Rattle.jl_token.specs.Spelling.{spelled};
+ghost use Rattle.jl_text.specs.Quoted.{quote};
+ghost use Rattle.jl_token.specs.Spelling.{spelling_of};
 
 use crate::piece::Piece;
 use jl_num::digits;
@@ -101,7 +101,7 @@ fn joins_left<'a>(piece: &Piece<'a>) -> bool
 }
 
 fn add_spelling<'a>(alloc: Global, piece: &Piece<'a>, text: &mut Vec<u16>) -> Result<(), NoMemory>
-    ensures { OnOk result (text.new.items ≡ text.old.items ++ spelled (kind_of piece.now)) }
+    ensures { OnOk result (text.new.items ≡ text.old.items ++ spelling_of (kind_of piece.now)) }
 {
     match piece {
         Piece::Word(word) => add_ascii(word, text),
@@ -131,7 +131,7 @@ fn add_units(units: &[u16], text: &mut Vec<u16>) -> Result<(), NoMemory>
 }
 
 fn add_quoted(alloc: Global, units: &[u16], text: &mut Vec<u16>) -> Result<(), NoMemory>
-    ensures { OnOk result (text.new.items ≡ text.old.items ++ quoted units.now) }
+    ensures { OnOk result (text.new.items ≡ text.old.items ++ quote units.now) }
 {
     let literal = quote(alloc, units)?;
     add_units(literal.as_slice(), text)

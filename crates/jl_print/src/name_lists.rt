@@ -6,7 +6,7 @@ ghost use Rattle.jl_ast.specs.View.{view_ident};
 ghost use Rattle.jl_print.specs.Pieces.{name};
 ghost use Rattle.jl_print.specs.CanonicalTokens.{parameters, further_names};
 ghost use Rattle.jl_print.specs.CanonicalTokens.{optional_name, directive};
-ghost use Rattle.jl_print.specs.Kinds.{comma_unless};
+ghost use Rattle.jl_print.specs.inner.Kinds.{comma_unless};
 
 use crate::piece::Pieces;
 use jl_ast::Ident;

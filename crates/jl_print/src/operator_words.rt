@@ -4,7 +4,7 @@
 ghost use Rattle.std.specs.Prelude.{◌≡◌, ◌++◌, ◌∷◌, [], OnOk};
 ghost use Rattle.jl_print.specs.Pieces.{operator, prefix_operator};
 ghost use Rattle.jl_print.specs.Pieces.{update_operator, assign_punct};
-ghost use Rattle.jl_print.specs.Kinds.{assigning};
+ghost use Rattle.jl_print.specs.inner.Kinds.{assigning};
 
 use crate::piece::Pieces;
 use jl_ast::{BinOp, UnOp};

@@ -1,5 +1,5 @@
 ghost use Rattle.std.specs.Prelude.{◌≡◌, [], ◌∷◌, ◌++◌, OnOk, codes, map};
-ghost use Rattle.jl_print.specs.Kinds.{kind_of};
+ghost use Rattle.jl_print.specs.inner.Kinds.{kind_of};
 ghost use Rattle.jl_print.specs.Pieces.{name, key, string, punct};
 ghost use Rattle.jl_token.specs.declared.token.TokenKind.TheVariants as kinds;
 
@@ -34,7 +34,7 @@ pub(crate) struct Pieces<'a> {
 impl<'a> Model for Pieces<'a> {
     ghost use Rattle.std.specs.Prelude.{List, map};
     ghost use Rattle.jl_token.specs.declared.token.TokenKind.{TokenKind};
-    ghost use Rattle.jl_print.specs.Kinds.{kind_of};
+    ghost use Rattle.jl_print.specs.inner.Kinds.{kind_of};
 
     ghost Value = { List TokenKind };
 

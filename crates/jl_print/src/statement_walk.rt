@@ -10,7 +10,7 @@ ghost use Rattle.jl_ast.specs.View.{view_cases};
 ghost use Rattle.jl_print.specs.Pieces.{name, within_braces};
 ghost use Rattle.jl_print.specs.CanonicalTokens.{tokens_of_node, tokens_of_all, tokens_of_optional, tokens_after};
 ghost use Rattle.jl_print.specs.CanonicalTokens.{tokens_of_declarators};
-ghost use Rattle.jl_print.specs.Kinds.{case_head, initializer};
+ghost use Rattle.jl_print.specs.inner.Kinds.{case_head, initializer};
 
 use crate::alone::stands_alone;
 use crate::expression_walk::{

@@ -14,7 +14,7 @@ use Rattle.jl_meaning.specs.Relations.{give_truth}
 use Rattle.jl_meaning.specs.builtins.Arguments.{give_object, need_function}
 use Rattle.jl_meaning.specs.builtins.Array.{indices_up_to, integer_or, match_index, match_turn}
 use Rattle.jl_meaning.specs.builtins.ArrayCallbacks as callbacks
-use Rattle.jl_meaning.specs.builtins.ArrayCallbacks.{add_chosen, ask_turn, asked_if, choose, combined, ends_at}
+use Rattle.jl_meaning.specs.builtins.ArrayCallbacks.{add_chosen, ask_turn, asked_if, choose, combine, ends_at}
 use Rattle.jl_meaning.specs.builtins.ArrayCallbacks.{filter_turn, for_each_turn, give_combined, map_turn, reduce_turn}
 use Rattle.jl_meaning.specs.builtins.Elements.{add_if, add_index, array_of_length, copy_element, index_or_none}
 use Rattle.jl_meaning.specs.builtins.Elements.{relative_index, to_end}
@@ -140,7 +140,7 @@ task_with (task.Filter a to) w k v = do
   next ← choose w a k to v
   turns (task.Filter a next) w (k + 1)
 task_with (task.Reduce so_far d) w k v = do
-  last ← combined w k so_far v
+  last ← combine w k so_far v
   turns (task.Reduce last d) w (next_place d k)
 
 -- a task goes on with what the function gives for the element at an index

@@ -15,7 +15,7 @@ use Rattle.jl_meaning.specs.builtins.Array.{append_all, call_if, join_elements, 
 use Rattle.jl_meaning.specs.builtins.Array.{string_or_empty}
 use Rattle.jl_meaning.specs.builtins.ArrayChanges.{exchange, make_room, pop_last, read_turn, reverse_turn, shift_first}
 use Rattle.jl_meaning.specs.builtins.ArrayChanges.{sort_by_keys, splice_at, with_element, KeyedValue}
-use Rattle.jl_meaning.specs.builtins.Elements.{add_index, clamped, copy, copy_element, delete_index, get_index}
+use Rattle.jl_meaning.specs.builtins.Elements.{add_index, clamp, copy, copy_element, delete_index, get_index}
 use Rattle.jl_meaning.specs.builtins.Elements.{give_length, has_index, move_element, put_all, put_index, put_length}
 use Rattle.jl_meaning.specs.builtins.Elements.{put_or_delete, relative_index}
 use Rattle.jl_meaning.specs.builtins.Turns.{downward, upward}
@@ -137,7 +137,7 @@ sort_others r so_far = do
 abbrev pub splice_from : ObjId → (array : ObjId) → (length start : ℕ) → (args : List Value) → Algorithm Value
 splice_from o array length start args = do
   count ← to_integer (slice_index_or args 1 value.Undefined)
-  splice_at o array length start (clamped count (length - start)) (drop 2 args)
+  splice_at o array length start (clamp count (length - start)) (drop 2 args)
 
 -- what follows the length
 abbrev pub with_length : LengthFunction → ObjId → (args : List Value) → (length : ℕ) → Algorithm Value
@@ -238,7 +238,7 @@ array_after (array.SpliceStart object a length args) p = do
   splice_from object a length (relative_index (integer_of n) length) args
 array_after (array.SpliceCount object a length start args) p = do
   n ← number_of_primitive p
-  splice_at object a length start (clamped (integer_of n) (length - start)) (drop 2 args)
+  splice_at object a length start (clamp (integer_of n) (length - start)) (drop 2 args)
 array_after (array.DeleteDown s left) _ = delete_end s left
 
 abbrev pub rank_array : ArrayProgress → ℕ

@@ -10,14 +10,14 @@ use Rattle.jl_value.specs.declared.object.ObjId.{ObjId}
 use Rattle.jl_value.specs.declared.value.Value.{Value}
 use Rattle.jl_value.specs.declared.value.Value.TheVariants as value
 use Rattle.jl_conv.specs.Conversions.{text_of_value}
-use Rattle.jl_conv.specs.Numerals.{trimmed}
+use Rattle.jl_conv.specs.Numerals.{trim}
 use Rattle.jl_effects.specs.Effects.{Fail}
 use Rattle.jl_meaning.specs.Conversions.{integer_of, to_integer, to_number, to_string, to_uint32}
 use Rattle.jl_meaning.specs.Errors.{string_within}
 use Rattle.jl_meaning.specs.FunctionObjects.{whole}
 use Rattle.jl_meaning.specs.Parts.{give, ◌>>=◌, Algorithm, Unsupported}
 use Rattle.jl_meaning.specs.builtins.Arguments.{give_object, give_string, unless_undefined}
-use Rattle.jl_meaning.specs.builtins.Elements.{add_in_turns, clamped, index_or_none, relative_index, to_end}
+use Rattle.jl_meaning.specs.builtins.Elements.{add_in_turns, clamp, index_or_none, relative_index, to_end}
 use Rattle.jl_meaning.specs.builtins.String.{between, concat_all, is_past_ascii, last_start, lower, pieces}
 use Rattle.jl_meaning.specs.builtins.String.{pieces_between, string_or_object, unit_at_position, units_from, upper}
 use Rattle.jl_meaning.specs.forms.Literals.{new_array}
@@ -46,7 +46,7 @@ unit_given unit_form.Code unit = option_map_or whole unit (value.Num None)
 
 -- the place of a part, which is searched for from a position on
 abbrev pub place_of_part : Search → (units part : List ℕ) → (position : Number) → Value
-place_of_part search.First units part n = index_or_none (first_place units part (clamped (integer_of n) (length units)))
+place_of_part search.First units part n = index_or_none (first_place units part (clamp (integer_of n) (length units)))
 place_of_part search.Last units part n = index_or_none (last_place units part (last_start n (length units)))
 
 -- the units from a start up to an end
@@ -54,7 +54,7 @@ abbrev pub units_cut : Cut → List ℕ → (start end : ℤ) → List ℕ
 units_cut cut.Slice units start end =
     slice_range units (relative_index start (length units)) (relative_index end (length units))
 units_cut cut.Substring units start end =
-    between units (clamped start (length units)) (clamped end (length units))
+    between units (clamp start (length units)) (clamp end (length units))
 
 -- an array is filled with as many pieces as the limit allows, and given
 abbrev pub fill_with_pieces : (array : ObjId) → (limit : ℕ) → List (List ℕ) → Algorithm Value
@@ -96,7 +96,7 @@ method_of_string method.Split units args = do
   limit ← unless_undefined 4294967295 to_uint32 (argument_at args 1)
   split_up_to units array (argument_at args 0) limit
 method_of_string (method.Case which) units args = units_in_case which units
-method_of_string method.Trim units args = give_string (trimmed units)
+method_of_string method.Trim units args = give_string (trim units)
 
 abbrev pub string_after : StringProgress → Value → Algorithm Value
 string_after (string.Given by_new) p = string_or_object by_new (text_of_value p)

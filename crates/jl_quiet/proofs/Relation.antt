@@ -9,7 +9,7 @@ use Rattle.jl_op.specs.Operations.{Operation}
 use Rattle.jl_effects.specs.Effects.{and_then, Begin, Change, End, Look, Perform, Step}
 use Rattle.jl_meaning.specs.Changes.{StoreChange}
 use Rattle.jl_meaning.specs.Completions.{ends_as, if_normal, on_given, then_do}
-use Rattle.jl_meaning.specs.Parts.{answer_of, begin_call, do_loop, for_in_loop, for_loop, given, gives, lift, throws}
+use Rattle.jl_meaning.specs.Parts.{answer_of, begin_call, do_loop, for_in_loop, for_loop, continue_with, gives, lift, throws}
 use Rattle.jl_meaning.specs.Parts.{while_loop, ◌>>=◌, Algorithm, Answer, Call, CallOf, Job, Loop, Part, Turn, TurnOf}
 use Rattle.jl_meaning.specs.Store.{Store}
 use Rattle.jl_quiet.proofs.Bare.{bare, bare_forest, bare_optional}
@@ -49,7 +49,7 @@ pub bind : {A B : Type 0} {p q : Part (Answer A)} {k l : A → Part (Answer B)} 
     → ((a : A) → Alike (k a) (l a)) → Alike (p >>= k) (q >>= l)
 bind {k = k} {l = l} x f = then_alike x on
   where
-    on : (r : Answer _) → Alike (given k r) (given l r)
+    on : (r : Answer _) → Alike (continue_with k r) (continue_with l r)
     on (gives a) = f a
     on (throws v) = record { same = refl }
 
@@ -83,7 +83,7 @@ begin_call_alike call {k = k} {l = l} f = record {
   same = ap (Begin (CallOf call)) (fun_ext (λ end. (on (answer_of end)).same));
 }
   where
-    on : (r : Answer Value) → Alike (given k r) (given l r)
+    on : (r : Answer Value) → Alike (continue_with k r) (continue_with l r)
     on (gives v) = f v
     on (throws v) = record { same = refl }
 

@@ -11,7 +11,7 @@ use Rattle.jl_scope.specs.Hoisting.{bound_by_body, bound_by_function, declared_i
 use Rattle.jl_scope.specs.Hoisting.{function_names, name_texts, strict_in}
 use Rattle.jl_simulation.specs.HookCalls.{and_last, begin_and_end, catch_and_go_on, enter_and_leave, hook}
 use Rattle.jl_simulation.specs.HookCalls.{hook_statement, no_exprs, without_id, Stmts}
-use Rattle.jl_simulation.specs.Weaving.{woven, woven_body, woven_code, woven_forest}
+use Rattle.jl_simulation.specs.Weaving.{weave, woven_body, woven_code, woven_forest}
 
 -- the calls of hooks declare nothing
 caught : (b : Bool) (id : ℕ) (x : Text) (l : Stmts)
@@ -46,13 +46,13 @@ module _ (chosen : Kinds) {S : Type 0} where
   variables (tree.more (tree.declarator x (tree.present e)) l) j =
       ap (λ p. x.text ∷ p) (variables l (j + id_count (tree.declarator x (tree.present e))))
 
-  first_part : (i : Tree S tree.init) (j : ℕ) → declared_in (woven chosen (with_ids j i)) ≡ declared_in i
+  first_part : (i : Tree S tree.init) (j : ℕ) → declared_in (weave chosen (with_ids j i)) ≡ declared_in i
   first_part tree.nothing j = refl
   first_part (tree.init_expression e) j = refl
   first_part (tree.init_var l) j = variables l j
 
   mutual
-    declared : (t : Tree S tree.stmt) (j : ℕ) → declared_in (woven chosen (with_ids j t)) ≡ declared_in t
+    declared : (t : Tree S tree.stmt) (j : ℕ) → declared_in (weave chosen (with_ids j t)) ≡ declared_in t
     declared (tree.var l s) j = variables l j
     declared (tree.empty s) j = refl
     declared (tree.expression e s) j = refl

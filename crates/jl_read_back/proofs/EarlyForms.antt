@@ -17,9 +17,9 @@ use Rattle.jl_scope.specs.Names.{with_name}
 use Rattle.jl_scope.specs.Scope.{bind, in_function_of, in_program, is_loop}
 use Rattle.jl_scope.specs.Scope.{Scope}
 use Rattle.jl_simulation.specs.HookCalls.{and_last, before_update, begin_and_end, catch_and_go_on, enter_and_leave}
-use Rattle.jl_simulation.specs.HookCalls.{hook, hook_1, hook_2, hook_of_1, hook_statement, no_exprs, quoted, without_id}
+use Rattle.jl_simulation.specs.HookCalls.{hook, hook_1, hook_2, hook_of_1, hook_statement, no_exprs, string_of, without_id}
 use Rattle.jl_simulation.specs.HookCalls.{Expr, Exprs, Stmts, Woven}
-use Rattle.jl_simulation.specs.Weaving.{calls, woven, woven_body, woven_callee, woven_code}
+use Rattle.jl_simulation.specs.Weaving.{calls, weave, woven_body, woven_callee, woven_code}
 use Rattle.jl_simulation.specs.Weaving.{woven_delete, woven_forest, woven_typeof}
 use Rattle.jl_text.specs.declared.span.Span.{Span}
 use Rattle.jl_read_back.specs.EarlyErrors.{none, AreReservedNames}
@@ -55,12 +55,12 @@ module _ (at : Span) where
   told_2 s h id a b v w = told s h id (tree.more a (tree.more b tree.end)) (both v (both w none))
 
   pub told_of_1 : (s : Scope) (h : Text) (id : ℕ) (t : Text) (e : Expr) → Clear s e → Clear s (hook_of_1 h id t e)
-  told_of_1 s h id t e w = told s h id (tree.more (quoted t) (tree.more e tree.end)) (both w none)
+  told_of_1 s h id t e w = told s h id (tree.more (string_of t) (tree.more e tree.end)) (both w none)
 
   pub told_of_2 : (s : Scope) (h : Text) (id : ℕ) (t : Text) (a b : Expr) → Clear s a → Clear s b
-      → Clear s (hook h id (tree.more (quoted t) (tree.more a (tree.more b tree.end))))
+      → Clear s (hook h id (tree.more (string_of t) (tree.more a (tree.more b tree.end))))
   told_of_2 s h id t a b v w =
-      told s h id (tree.more (quoted t) (tree.more a (tree.more b tree.end))) (both v (both w none))
+      told s h id (tree.more (string_of t) (tree.more a (tree.more b tree.end))) (both v (both w none))
 
   -- by a hook, or as it stands
   pub either : (s : Scope) (b : Bool) (t u : Expr) → Clear s t → Clear s u → Clear s (if b then t else u)
@@ -126,19 +126,19 @@ module _ (at : Span) where
       (parameters s (with_name before x.text) l j (second _ _ w))
 
   module _ (chosen : Kinds) where
-    key_same : (t : Tree Span tree.entry) (j : ℕ) → SameKey t (spanned (woven chosen (with_ids j t)))
-    key_same (tree.value k e) j = values k _ e (spanned (woven chosen (with_ids j e))) refl
-    key_same (tree.getter k g) j = getters k _ g (spanned (woven chosen (with_ids j g))) refl
-    key_same (tree.setter k g) j = setters k _ g (spanned (woven chosen (with_ids j g))) refl
+    key_same : (t : Tree Span tree.entry) (j : ℕ) → SameKey t (spanned (weave chosen (with_ids j t)))
+    key_same (tree.value k e) j = values k _ e (spanned (weave chosen (with_ids j e))) refl
+    key_same (tree.getter k g) j = getters k _ g (spanned (weave chosen (with_ids j g))) refl
+    key_same (tree.setter k g) j = setters k _ g (spanned (weave chosen (with_ids j g))) refl
 
     pub entries : (s : Scope) (k : Keys) (l : Forest Span tree.entry) (j : ℕ)
         → AreReservedNames (literal_early_errors s k l)
         → AreReservedNames (literal_early_errors s k (all_spanned (woven_forest chosen (forest_with_ids j l))))
     entries s k tree.end j w = none
     entries s k (tree.more t l) j w =
-        both (rule.keys s k t (spanned (woven chosen (with_ids j t))) (key_same t j) (first _ _ w))
+        both (rule.keys s k t (spanned (weave chosen (with_ids j t))) (key_same t j) (first _ _ w))
         (subst (λ m. AreReservedNames (literal_early_errors s m (all_spanned (woven_forest chosen (forest_with_ids
-        (j + id_count t) l))))) (rule.next_keys k t (spanned (woven chosen (with_ids j t))) (key_same t j))
+        (j + id_count t) l))))) (rule.next_keys k t (spanned (weave chosen (with_ids j t))) (key_same t j))
         (entries s (with_key k t) l (j + id_count t) (second _ _ w)))
 
     pub called : (s : Scope) (n id : ℕ) (f : Tree Span tree.expr) → IsNoMember f → (w : Expr) → Clear s w
@@ -154,14 +154,14 @@ module _ (at : Span) where
         (both (no_delete s un.Typeof (spanned w) at refl) v))
 
     pub deleted : (s : Scope) (n id : ℕ) (e : Tree Span tree.expr) → IsNoName e → IsNoMember e
-        → Clear s (woven chosen (with_ids n e)) → Clear s (woven_delete chosen (with_ids n e)
-        (woven chosen (with_ids n e)) id)
+        → Clear s (weave chosen (with_ids n e)) → Clear s (woven_delete chosen (with_ids n e)
+        (weave chosen (with_ids n e)) id)
     deleted s n id e is not v =
-        subst (λ e. Clear s e) (sym (delete_is chosen n id e is not (woven chosen (with_ids n e))))
-        (both (no_name_deleted s un.Delete (spanned (woven chosen (with_ids n e))) at
+        subst (λ e. Clear s e) (sym (delete_is chosen n id e is not (weave chosen (with_ids n e))))
+        (both (no_name_deleted s un.Delete (spanned (weave chosen (with_ids n e))) at
         (no_name chosen at e is not n)) v)
 
-    pub loop_same : (t : Tree Span tree.stmt) (j : ℕ) → is_loop (spanned (woven chosen (with_ids j t))) ≡ is_loop t
+    pub loop_same : (t : Tree Span tree.stmt) (j : ℕ) → is_loop (spanned (weave chosen (with_ids j t))) ≡ is_loop t
     loop_same (tree.labelled x t s) j = loop_same t j
     loop_same (tree.return tree.absent s) j = refl
     loop_same (tree.return (tree.present e) s) j = refl

@@ -16,7 +16,7 @@ use Rattle.jl_scope.specs.EarlyErrors.{optional_early_errors, parameter_early_er
 use Rattle.jl_scope.specs.Scope.{in_a_loop, in_a_switch, in_catch, in_function_of, in_program, is_loop, under_label}
 use Rattle.jl_scope.specs.Scope.{Scope}
 use Rattle.jl_simulation.specs.HookCalls.{binary_hook, read, unary_hook, without_id}
-use Rattle.jl_simulation.specs.Weaving.{calls, calls_member, computes, woven, woven_body, woven_code, woven_forest}
+use Rattle.jl_simulation.specs.Weaving.{calls, calls_member, computes, weave, woven_body, woven_code, woven_forest}
 use Rattle.jl_simulation.specs.Weaving.{woven_optional}
 use Rattle.jl_text.specs.declared.span.Span.{Span}
 use Rattle.jl_read_back.specs.EarlyErrors.{none, AreReservedNames}
@@ -28,7 +28,7 @@ use Rattle.jl_read_back.proofs.Rules.{both, first, no_delete, no_name_deleted, s
 module _ (at : Span) (chosen : Kinds) where
   mutual
     pub clear : {x : Sort} (s : Scope) (t : Tree Span x) (j : ℕ) → AreReservedNames (early_errors s t)
-        → Clear at s (woven chosen (with_ids j t))
+        → Clear at s (weave chosen (with_ids j t))
     clear s (tree.this a) j w = none
     clear s (tree.name x a) j w =
         let r = rule.read s x a at w in
@@ -46,65 +46,65 @@ module _ (at : Span) (chosen : Kinds) where
         (both (form.entries at chosen s no_keys l (j + 1) (first _ _ w)) (all_clear s l (j + 1) (second _ _ w)))
     clear s (tree.function_expression f a) j w =
         form.hooked at s (chosen kind.FunctionLiteral) (codes "T") j
-        (tree.function_expression (woven chosen (with_ids (j + 1) f)) tt) (clear s f (j + 1) w)
+        (tree.function_expression (weave chosen (with_ids (j + 1) f)) tt) (clear s f (j + 1) w)
     clear s (tree.dot o k a) j w =
         let v = clear s o (j + 1) w in
         form.either at s (chosen kind.GetField) _ _
-        (form.told_2 at s (codes "G") j (woven chosen (with_ids (j + 1) o)) (tree.string k tt) v none) v
+        (form.told_2 at s (codes "G") j (weave chosen (with_ids (j + 1) o)) (tree.string k tt) v none) v
     clear s (tree.index o k a) j w =
         let v = clear s o (j + 1) (first _ _ w) in let u = clear s k (j + 1 + id_count o) (second _ _ w) in
         form.either at s (chosen kind.GetField) _ _
-        (form.told_2 at s (codes "G") j (woven chosen (with_ids (j + 1) o))
-        (woven chosen (with_ids (j + 1 + id_count o) k)) v u) (both v u)
+        (form.told_2 at s (codes "G") j (weave chosen (with_ids (j + 1) o))
+        (weave chosen (with_ids (j + 1 + id_count o) k)) v u) (both v u)
     clear s (tree.call (tree.dot o k b) l a) j w =
         let v = clear s o (j + 3) (first _ _ w) in
         both (form.either at s (calls_member chosen) _ _
-        (form.told_2 at s (codes "M") j (woven chosen (with_ids (j + 3) o)) (tree.string k tt) v none) v)
+        (form.told_2 at s (codes "M") j (weave chosen (with_ids (j + 3) o)) (tree.string k tt) v none) v)
         (all_clear s l (j + 2 + id_count (tree.dot o k b)) (second _ _ w))
     clear s (tree.call (tree.index o k b) l a) j w =
         let v = clear s o (j + 3) (first _ _ (first _ _ w)) in
         let u = clear s k (j + 3 + id_count o) (second _ _ (first _ _ w)) in
         both (form.either at s (calls_member chosen) _ _
-        (form.told_2 at s (codes "M") j (woven chosen (with_ids (j + 3) o))
-        (woven chosen (with_ids (j + 3 + id_count o) k)) v u) (both v u))
+        (form.told_2 at s (codes "M") j (weave chosen (with_ids (j + 3) o))
+        (weave chosen (with_ids (j + 3 + id_count o) k)) v u) (both v u))
         (all_clear s l (j + 2 + id_count (tree.index o k b)) (second _ _ w))
     clear s (tree.call f l a) j w =
-        both (form.called at chosen s (j + 2) (j + 0) f tt (woven chosen (with_ids (j + 2) f))
+        both (form.called at chosen s (j + 2) (j + 0) f tt (weave chosen (with_ids (j + 2) f))
         (clear s f (j + 2) (first (early_errors s f) (forest_early_errors s l) w)))
         (all_clear s l (j + 2 + id_count f) (second (early_errors s f) (forest_early_errors s l) w))
     clear s (tree.new f l a) j w =
         let v = clear s f (j + 2) (first _ _ w) in let u = all_clear s l (j + 2 + id_count f) (second _ _ w) in
         form.either at s (calls chosen) _ _
-        (both (form.told_1 at s (codes "N") j (woven chosen (with_ids (j + 2) f)) v) u) (both v u)
+        (both (form.told_1 at s (codes "N") j (weave chosen (with_ids (j + 2) f)) v) u) (both v u)
     clear s (tree.unary un.Typeof (tree.name x b) a) j w =
         let r = both (no_delete s un.Typeof (tree.name x at) at refl) (rule.read s x b at (second _ _ w)) in
         form.either at s (chosen kind.TypeofName) _ _
         (form.told_of_1 at s (codes "Y") j x (tree.unary un.Typeof (tree.name x tt) tt) r) r
     clear s (tree.unary un.Typeof e a) j w =
-        form.typed at chosen s (j + 1) j e tt (woven chosen (with_ids (j + 1) e)) (clear s e (j + 1) (second _ _ w))
+        form.typed at chosen s (j + 1) j e tt (weave chosen (with_ids (j + 1) e)) (clear s e (j + 1) (second _ _ w))
     clear s (tree.unary un.Delete (tree.name x b) a) j w =
         both (rule.deletes s un.Delete (tree.name x b) (tree.name x at) a at refl (first _ _ w))
         (rule.read s x b at (second _ _ w))
     clear s (tree.unary un.Delete (tree.dot o k b) a) j w =
         let v = clear s o (j + 1) (second _ _ w) in
         form.either at s (chosen kind.DeleteField) _ _
-        (form.told_2 at s (codes "Z") j (woven chosen (with_ids (j + 1) o)) (tree.string k tt) v none)
-        (both (no_name_deleted s un.Delete (tree.dot (spanned at (woven chosen (with_ids (j + 1) o))) k at) at refl) v)
+        (form.told_2 at s (codes "Z") j (weave chosen (with_ids (j + 1) o)) (tree.string k tt) v none)
+        (both (no_name_deleted s un.Delete (tree.dot (spanned at (weave chosen (with_ids (j + 1) o))) k at) at refl) v)
     clear s (tree.unary un.Delete (tree.index o k b) a) j w =
         let v = clear s o (j + 1) (first _ _ (second _ _ w)) in
         let u = clear s k (j + 1 + id_count o) (second _ _ (second _ _ w)) in
         form.either at s (chosen kind.DeleteField) _ _
-        (form.told_2 at s (codes "Z") j (woven chosen (with_ids (j + 1) o))
-        (woven chosen (with_ids (j + 1 + id_count o) k)) v u)
-        (both (no_name_deleted s un.Delete (tree.index (spanned at (woven chosen (with_ids (j + 1) o)))
-        (spanned at (woven chosen (with_ids (j + 1 + id_count o) k))) at) at refl) (both v u))
+        (form.told_2 at s (codes "Z") j (weave chosen (with_ids (j + 1) o))
+        (weave chosen (with_ids (j + 1 + id_count o) k)) v u)
+        (both (no_name_deleted s un.Delete (tree.index (spanned at (weave chosen (with_ids (j + 1) o)))
+        (spanned at (weave chosen (with_ids (j + 1 + id_count o) k))) at) at refl) (both v u))
     clear s (tree.unary un.Delete e a) j w =
         form.deleted at chosen s j j e tt tt (clear s e j (second _ _ w))
     clear s (tree.unary o e a) j w =
         let v = clear s e (j + 1) (second _ _ w) in
         form.either at s (chosen kind.Unary) _ _
-        (form.told_of_1 at s (codes "U") j (unary_sign (unary_kind o)) (woven chosen (with_ids (j + 1) e)) v)
-        (both (no_delete s o (spanned at (woven chosen (with_ids (j + 1) e))) at refl) v)
+        (form.told_of_1 at s (codes "U") j (unary_sign (unary_kind o)) (weave chosen (with_ids (j + 1) e)) v)
+        (both (no_delete s o (spanned at (weave chosen (with_ids (j + 1) e))) at refl) v)
     clear s (tree.update up prefix (tree.to_name x) a) j w =
         let r = rule.target s x.text x.at at w in
         form.either at s (computes chosen (tree.to_name (ident_with_id x (j + 3))) kind.Unary) _ _
@@ -116,19 +116,19 @@ module _ (at : Span) (chosen : Kinds) where
         let v = clear s o (j + 3) w in
         form.either at s (computes chosen (with_ids (j + 3) (tree.to_dot o k b)) kind.Unary) _ _
         (form.updated at s up prefix _
-        (form.told_of_2 at s (codes "I") j (unary_sign (update_kind up)) (woven chosen (with_ids (j + 3) o))
+        (form.told_of_2 at s (codes "I") j (unary_sign (update_kind up)) (weave chosen (with_ids (j + 3) o))
         (tree.string k tt) v none)) v
     clear s (tree.update up prefix (tree.to_index o k b) a) j w =
         let v = clear s o (j + 3) (first _ _ w) in let u = clear s k (j + 3 + id_count o) (second _ _ w) in
         form.either at s (computes chosen (with_ids (j + 3) (tree.to_index o k b)) kind.Unary) _ _
         (form.updated at s up prefix _
-        (form.told_of_2 at s (codes "I") j (unary_sign (update_kind up)) (woven chosen (with_ids (j + 3) o))
-        (woven chosen (with_ids (j + 3 + id_count o) k)) v u)) (both v u)
+        (form.told_of_2 at s (codes "I") j (unary_sign (update_kind up)) (weave chosen (with_ids (j + 3) o))
+        (weave chosen (with_ids (j + 3 + id_count o) k)) v u)) (both v u)
     clear s (tree.binary o a b p) j w =
         let v = clear s a (j + 1) (first _ _ w) in let u = clear s b (j + 1 + id_count a) (second _ _ w) in
         form.either at s (chosen kind.Binary) _ _
-        (form.told_of_2 at s (codes "B") j (binary_sign o) (woven chosen (with_ids (j + 1) a))
-        (woven chosen (with_ids (j + 1 + id_count a) b)) v u) (both v u)
+        (form.told_of_2 at s (codes "B") j (binary_sign o) (weave chosen (with_ids (j + 1) a))
+        (weave chosen (with_ids (j + 1 + id_count a) b)) v u) (both v u)
     clear s (tree.and a b p) j w =
         both (form.hooked at s (chosen kind.Conditional) (codes "C") j _ (clear s a (j + 1) (first _ _ w)))
         (clear s b (j + 1 + id_count a) (second _ _ w))
@@ -143,24 +143,24 @@ module _ (at : Span) (chosen : Kinds) where
     clear s (tree.assign None (tree.to_name x) e a) j w =
         let r = rule.target s x.text x.at at (first _ _ w) in let v = clear s e (j + 1 + 0) (second _ _ w) in
         form.either at s (chosen kind.Write) _ _
-        (both r (form.told_of_1 at s (codes "W") j x.text (woven chosen (with_ids (j + 1 + 0) e)) v)) (both r v)
+        (both r (form.told_of_1 at s (codes "W") j x.text (weave chosen (with_ids (j + 1 + 0) e)) v)) (both r v)
     clear s (tree.assign (Some q) (tree.to_name x) e a) j w =
         let r = rule.target s x.text x.at at (first _ _ w) in let v = clear s e (j + 3 + 0) (second _ _ w) in
         form.either at s (computes chosen (tree.to_name (ident_with_id x (j + 3))) kind.Binary) _ _
         (both r (form.told_of_1 at s (codes "W") (j + 2) x.text
-        (binary_hook (j + 1) q (read j x.text) (woven chosen (with_ids (j + 3 + 0) e)))
-        (form.told_of_2 at s (codes "B") (j + 1) (binary_sign q) (read j x.text) (woven chosen (with_ids (j + 3 + 0) e))
+        (binary_hook (j + 1) q (read j x.text) (weave chosen (with_ids (j + 3 + 0) e)))
+        (form.told_of_2 at s (codes "B") (j + 1) (binary_sign q) (read j x.text) (weave chosen (with_ids (j + 3 + 0) e))
         (form.told_of_1 at s (codes "R") j x.text (tree.name x.text tt)
         (rule.target_read s x.text x.at at (first _ _ w))) v))) (both r v)
     clear s (tree.assign None (tree.to_dot o k b) e a) j w =
         let v = clear s o (j + 1) (first _ _ w) in let u = clear s e (j + 1 + id_count o) (second _ _ w) in
         form.either at s (chosen kind.PutField) _ _
-        (both (form.told_2 at s (codes "P") j (woven chosen (with_ids (j + 1) o)) (tree.string k tt) v none)
+        (both (form.told_2 at s (codes "P") j (weave chosen (with_ids (j + 1) o)) (tree.string k tt) v none)
         (both u none)) (both v u)
     clear s (tree.assign (Some q) (tree.to_dot o k b) e a) j w =
         let v = clear s o (j + 3) (first _ _ w) in let u = clear s e (j + 3 + id_count o) (second _ _ w) in
         form.either at s (computes chosen (with_ids (j + 3) (tree.to_dot o k b)) kind.Binary) _ _
-        (both (form.told_of_2 at s (codes "A") j (binary_sign q) (woven chosen (with_ids (j + 3) o))
+        (both (form.told_of_2 at s (codes "A") j (binary_sign q) (weave chosen (with_ids (j + 3) o))
         (tree.string k tt) v none)
         (both u none)) (both v u)
     clear s (tree.assign None (tree.to_index o k b) e a) j w =
@@ -168,15 +168,15 @@ module _ (at : Span) (chosen : Kinds) where
         let z = clear s k (j + 1 + id_count o) (second _ _ (first _ _ w)) in
         let u = clear s e (j + 1 + (id_count o + id_count k)) (second _ _ w) in
         form.either at s (chosen kind.PutField) _ _
-        (both (form.told_2 at s (codes "P") j (woven chosen (with_ids (j + 1) o))
-        (woven chosen (with_ids (j + 1 + id_count o) k)) v z) (both u none)) (both (both v z) u)
+        (both (form.told_2 at s (codes "P") j (weave chosen (with_ids (j + 1) o))
+        (weave chosen (with_ids (j + 1 + id_count o) k)) v z) (both u none)) (both (both v z) u)
     clear s (tree.assign (Some q) (tree.to_index o k b) e a) j w =
         let v = clear s o (j + 3) (first _ _ (first _ _ w)) in
         let z = clear s k (j + 3 + id_count o) (second _ _ (first _ _ w)) in
         let u = clear s e (j + 3 + (id_count o + id_count k)) (second _ _ w) in
         form.either at s (computes chosen (with_ids (j + 3) (tree.to_index o k b)) kind.Binary) _ _
-        (both (form.told_of_2 at s (codes "A") j (binary_sign q) (woven chosen (with_ids (j + 3) o))
-        (woven chosen (with_ids (j + 3 + id_count o) k)) v z) (both u none)) (both (both v z) u)
+        (both (form.told_of_2 at s (codes "A") j (binary_sign q) (weave chosen (with_ids (j + 3) o))
+        (weave chosen (with_ids (j + 3 + id_count o) k)) v z) (both u none)) (both (both v z) u)
     clear s (tree.comma a b p) j w =
         both (clear s a j (first _ _ w)) (clear s b (j + id_count a) (second _ _ w))
     clear s (tree.to_name x) j w = rule.target s x.text x.at at w
@@ -242,7 +242,7 @@ module _ (at : Span) (chosen : Kinds) where
         (form.hooked at s (chosen kind.Return) (codes "V") j _ (clear s e (j + 1) (second _ _ w)))
     clear s (tree.labelled x t a) j w =
         both (rule.label s x.text x.at at (first _ _ w))
-        (subst (λ b. AreReservedNames (early_errors (under_label s x.text b) (spanned at (woven chosen
+        (subst (λ b. AreReservedNames (early_errors (under_label s x.text b) (spanned at (weave chosen
         (with_ids j t))))) (sym (form.loop_same at chosen t j))
         (clear (under_label s x.text (is_loop t)) t j (second _ _ w)))
     clear s (tree.switch e l a) j w =

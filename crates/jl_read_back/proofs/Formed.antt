@@ -12,9 +12,9 @@ use Rattle.jl_op.specs.declared.kind.OpKind.TheVariants as kind
 use Rattle.jl_op.specs.declared.sign.UnKind.TheVariants as unary
 use Rattle.jl_print.specs.WellFormed.{AllWellFormed, IsIdentifier, IsName, IsShort, OptionalWellFormed, WellFormed}
 use Rattle.jl_simulation.specs.HookCalls.{and_last, before_update, begin_and_end, catch_and_go_on, enter_and_leave}
-use Rattle.jl_simulation.specs.HookCalls.{hook, hook_1, hook_2, hook_of_1, hook_statement, no_exprs, quoted}
+use Rattle.jl_simulation.specs.HookCalls.{hook, hook_1, hook_2, hook_of_1, hook_statement, no_exprs, string_of}
 use Rattle.jl_simulation.specs.HookCalls.{unary_hook, Expr, Stmt, Stmts}
-use Rattle.jl_simulation.specs.Weaving.{calls, calls_member, computes, woven, woven_callee, woven_code}
+use Rattle.jl_simulation.specs.Weaving.{calls, calls_member, computes, weave, woven_callee, woven_code}
 use Rattle.jl_simulation.specs.Weaving.{woven_delete, woven_forest, woven_optional, woven_program, woven_typeof}
 use Rattle.jl_read_back.proofs.Forms.{callee_is, delete_is, typeof_is, IsNoMember, IsNoName}
 use Rattle.jl_read_back.proofs.HookWords.{binary_short, hooks, literal, name_A, name_B, name_C, name_E, name_F}
@@ -101,7 +101,7 @@ module _ (chosen : Kinds) where
 
   mutual
     pub formed : {S : Type 0} {x : Sort} (t : Tree S x) → WellFormed t → (n : ℕ)
-        → n + id_count t ≤ 9007199254740991 → WellFormed (woven chosen (with_ids n t))
+        → n + id_count t ≤ 9007199254740991 → WellFormed (weave chosen (with_ids n t))
     formed (tree.this s) w n few = tt
     formed (tree.name x s) w n few =
         either (chosen kind.Read) _ _ ((hooks, name_R), (literal n (omega arith), (w.name.short, (w, tt)))) w
@@ -125,8 +125,8 @@ module _ (chosen : Kinds) where
         either (chosen kind.GetField) _ _ ((hooks, name_G), (literal n (omega arith), (a, (b, tt)))) (a, b)
     formed (tree.call (tree.dot o k t) l s) w n few =
         let a = formed o w.0.0 (n + 3) (omega arith) in (
-          either (calls_member chosen) (hook_2 (codes "M") n (woven chosen (with_ids (n + 3) o)) (quoted k))
-              (tree.dot (woven chosen (with_ids (n + 3) o)) k tt)
+          either (calls_member chosen) (hook_2 (codes "M") n (weave chosen (with_ids (n + 3) o)) (string_of k))
+              (tree.dot (weave chosen (with_ids (n + 3) o)) k tt)
               ((hooks, name_M), (literal n (omega arith), (a, (w.0.1.short, tt)))) (a, w.0.1),
           all_formed l w.1 (n + 2 + id_count (tree.dot o k t)) (omega arith),
         )
@@ -134,14 +134,14 @@ module _ (chosen : Kinds) where
         let a = formed o w.0.0 (n + 3) (omega arith) in
         let b = formed k w.0.1 (n + 3 + id_count o) (omega arith) in (
           either (calls_member chosen)
-              (hook_2 (codes "M") n (woven chosen (with_ids (n + 3) o))
-              (woven chosen (with_ids (n + 3 + id_count o) k)))
-              (tree.index (woven chosen (with_ids (n + 3) o)) (woven chosen (with_ids (n + 3 + id_count o) k)) tt)
+              (hook_2 (codes "M") n (weave chosen (with_ids (n + 3) o))
+              (weave chosen (with_ids (n + 3 + id_count o) k)))
+              (tree.index (weave chosen (with_ids (n + 3) o)) (weave chosen (with_ids (n + 3 + id_count o) k)) tt)
               ((hooks, name_M), (literal n (omega arith), (a, (b, tt)))) (a, b),
           all_formed l w.1 (n + 2 + id_count (tree.index o k t)) (omega arith),
         )
     formed (tree.call f l s) w n few = (
-      called (n + 2) (n + 0) f tt (omega arith) (woven chosen (with_ids (n + 2) f))
+      called (n + 2) (n + 0) f tt (omega arith) (weave chosen (with_ids (n + 2) f))
           (formed f w.0 (n + 2) (omega arith)),
       all_formed l w.1 (n + 2 + id_count f) (omega arith),
     )
@@ -153,7 +153,7 @@ module _ (chosen : Kinds) where
         either (chosen kind.TypeofName) _ _
         ((hooks, name_Y), (literal n (omega arith), (w.name.short, (w, tt)))) w
     formed (tree.unary un.Typeof e s) w n few =
-        typed (n + 1) n e tt (omega arith) (woven chosen (with_ids (n + 1) e)) (formed e w (n + 1) (omega arith))
+        typed (n + 1) n e tt (omega arith) (weave chosen (with_ids (n + 1) e)) (formed e w (n + 1) (omega arith))
     formed (tree.unary un.Delete (tree.name x t) s) w n few = w
     formed (tree.unary un.Delete (tree.dot o k t) s) w n few =
         let a = formed o w.0 (n + 1) (omega arith) in
@@ -164,7 +164,7 @@ module _ (chosen : Kinds) where
         let b = formed k w.1 (n + 1 + id_count o) (omega arith) in
         either (chosen kind.DeleteField) _ _ ((hooks, name_Z), (literal n (omega arith), (a, (b, tt)))) (a, b)
     formed (tree.unary un.Delete e s) w n few =
-        deleted n n e tt tt (woven chosen (with_ids n e)) (formed e w n (omega arith))
+        deleted n n e tt tt (weave chosen (with_ids n e)) (formed e w n (omega arith))
     formed (tree.unary o e s) w n few =
         let a = formed e w (n + 1) (omega arith) in
         either (chosen kind.Unary) _ _ ((hooks, name_U), (literal n (omega arith), (omega arith, (a, tt)))) a

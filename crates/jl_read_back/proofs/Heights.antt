@@ -12,10 +12,10 @@ use Rattle.jl_op.specs.Ids.{optional_with_ids, with_ids}
 use Rattle.jl_op.specs.declared.kind.OpKind.TheVariants as kind
 use Rattle.jl_op.specs.declared.sign.UnKind.TheVariants as unary
 use Rattle.jl_simulation.specs.HookCalls.{and_last, before_update, begin_and_end, catch_and_go_on, enter_and_leave}
-use Rattle.jl_simulation.specs.HookCalls.{hook, hook_1, hook_2, hook_of_1, hook_statement, no_exprs, quoted}
+use Rattle.jl_simulation.specs.HookCalls.{hook, hook_1, hook_2, hook_of_1, hook_statement, no_exprs, string_of}
 use Rattle.jl_simulation.specs.HookCalls.{unary_hook, Expr, Stmt}
 use Rattle.jl_simulation.specs.HookCalls.{Stmts, Woven}
-use Rattle.jl_simulation.specs.Weaving.{calls, calls_member, computes, woven, woven_forest, woven_optional}
+use Rattle.jl_simulation.specs.Weaving.{calls, calls_member, computes, weave, woven_forest, woven_optional}
 use Rattle.jl_simulation.specs.Weaving.{woven_callee, woven_code, woven_delete, woven_typeof, woven_program}
 use Rattle.jl_read_back.proofs.Forms.{callee_is, delete_is, typeof_is, IsNoMember, IsNoName}
 
@@ -92,7 +92,7 @@ module _ (chosen : Kinds) where
 
   mutual
     pub low : {S : Type 0} {x : Sort} (t : Tree S x) (n : ℕ)
-        → height (woven chosen (with_ids n t)) ≤ 3 * height t + extra x
+        → height (weave chosen (with_ids n t)) ≤ 3 * height t + extra x
     low (tree.this s) n = omega arith
     low (tree.name x s) n = either (chosen kind.Read) _ _ _ (omega arith) (omega arith)
     low (tree.number m s) n = hooked (chosen kind.Literal) (codes "T") n _ _ (omega arith) (omega arith)
@@ -116,21 +116,21 @@ module _ (chosen : Kinds) where
         either (chosen kind.GetField) _ _ _ (omega arith) (omega arith)
     low (tree.call (tree.dot o k t) l s) n =
         let a = low o (n + 3) in let c = lows l (n + 2 + id_count (tree.dot o k t)) in
-        let m = either (calls_member chosen) (hook_2 (codes "M") n (woven chosen (with_ids (n + 3) o)) (quoted k))
-        (tree.dot (woven chosen (with_ids (n + 3) o)) k tt) (3 * height (tree.dot o k t) + 4) (omega arith)
+        let m = either (calls_member chosen) (hook_2 (codes "M") n (weave chosen (with_ids (n + 3) o)) (string_of k))
+        (tree.dot (weave chosen (with_ids (n + 3) o)) k tt) (3 * height (tree.dot o k t) + 4) (omega arith)
         (omega arith) in
         omega arith
     low (tree.call (tree.index o k t) l s) n =
         let a = low o (n + 3) in let b = low k (n + 3 + id_count o) in
         let c = lows l (n + 2 + id_count (tree.index o k t)) in
         let m = either (calls_member chosen)
-        (hook_2 (codes "M") n (woven chosen (with_ids (n + 3) o)) (woven chosen (with_ids (n + 3 + id_count o) k)))
-        (tree.index (woven chosen (with_ids (n + 3) o)) (woven chosen (with_ids (n + 3 + id_count o) k)) tt)
+        (hook_2 (codes "M") n (weave chosen (with_ids (n + 3) o)) (weave chosen (with_ids (n + 3 + id_count o) k)))
+        (tree.index (weave chosen (with_ids (n + 3) o)) (weave chosen (with_ids (n + 3 + id_count o) k)) tt)
         (3 * height (tree.index o k t) + 4) (omega arith) (omega arith) in
         omega arith
     low (tree.call f l s) n =
         let a = low f (n + 2) in let c = lows l (n + 2 + id_count f) in
-        let m = called (n + 2) (n + 0) f tt (woven chosen (with_ids (n + 2) f)) (3 * height f + 5) (omega arith)
+        let m = called (n + 2) (n + 0) f tt (weave chosen (with_ids (n + 2) f)) (3 * height f + 5) (omega arith)
         (omega arith) in
         omega arith
     low (tree.new f l s) n =
@@ -140,7 +140,7 @@ module _ (chosen : Kinds) where
         either (chosen kind.TypeofName) _ _ _ (omega arith) (omega arith)
     low (tree.unary un.Typeof e s) n =
         let a = low e (n + 1) in
-        typed (n + 1) n e tt (woven chosen (with_ids (n + 1) e)) _ (omega arith) (omega arith)
+        typed (n + 1) n e tt (weave chosen (with_ids (n + 1) e)) _ (omega arith) (omega arith)
     low (tree.unary un.Delete (tree.name x t) s) n = omega arith
     low (tree.unary un.Delete (tree.dot o k t) s) n =
         let a = low o (n + 1) in
@@ -150,7 +150,7 @@ module _ (chosen : Kinds) where
         let a = low o (n + 1) in let b = low k (n + 1 + id_count o) in
         either (chosen kind.DeleteField) _ _ _ (omega arith) (omega arith)
     low (tree.unary un.Delete e s) n =
-        let a = low e n in deleted n n e tt tt (woven chosen (with_ids n e)) _ (omega arith)
+        let a = low e n in deleted n n e tt tt (weave chosen (with_ids n e)) _ (omega arith)
     low (tree.unary o e s) n =
         let a = low e (n + 1) in
         either (chosen kind.Unary) _ _ _ (omega arith) (omega arith)
@@ -170,13 +170,13 @@ module _ (chosen : Kinds) where
         either (chosen kind.Binary) _ _ _ (omega arith) (omega arith)
     low (tree.and a b s) n =
         let q = low b (n + 1 + id_count a) in
-        let p = tested n (woven chosen (with_ids (n + 1) a)) (height a) (low a (n + 1)) in omega arith
+        let p = tested n (weave chosen (with_ids (n + 1) a)) (height a) (low a (n + 1)) in omega arith
     low (tree.or a b s) n =
         let q = low b (n + 1 + id_count a) in
-        let p = tested n (woven chosen (with_ids (n + 1) a)) (height a) (low a (n + 1)) in omega arith
+        let p = tested n (weave chosen (with_ids (n + 1) a)) (height a) (low a (n + 1)) in omega arith
     low (tree.conditional a b c s) n =
         let q = low b (n + 1 + id_count a) in let r = low c (n + 1 + id_count a + id_count b) in
-        let p = tested n (woven chosen (with_ids (n + 1) a)) (height a) (low a (n + 1)) in omega arith
+        let p = tested n (weave chosen (with_ids (n + 1) a)) (height a) (low a (n + 1)) in omega arith
     low (tree.assign None (tree.to_name x) e s) n =
         let a = low e (n + 1 + 0) in
         either (chosen kind.Write) _ _ _ (omega arith) (omega arith)
@@ -219,27 +219,27 @@ module _ (chosen : Kinds) where
     low (tree.expression e s) n = let a = low e n in omega arith
     low (tree.block l s) n = let a = lows l n in omega arith
     low (tree.if_else e a b s) n =
-        let p = tested n (woven chosen (with_ids (n + 1) e)) (height e) (low e (n + 1)) in
+        let p = tested n (weave chosen (with_ids (n + 1) e)) (height e) (low e (n + 1)) in
         let q = lows a (n + 1 + id_count e) in
         let r = optional_low b (n + 1 + id_count e + forest_id_count a) in omega arith
     low (tree.do_while l e s) n =
         let p = lows l (n + 1) in
-        let q = tested n (woven chosen (with_ids (n + 1 + forest_id_count l) e)) (height e)
+        let q = tested n (weave chosen (with_ids (n + 1 + forest_id_count l) e)) (height e)
         (low e (n + 1 + forest_id_count l)) in omega arith
     low (tree.while e l s) n =
-        let p = tested n (woven chosen (with_ids (n + 1) e)) (height e) (low e (n + 1)) in
+        let p = tested n (weave chosen (with_ids (n + 1) e)) (height e) (low e (n + 1)) in
         let q = lows l (n + 1 + id_count e) in omega arith
     low (tree.for i tree.absent u l s) n =
         let a = low i (n + 0) in let c = optional_low u (n + 0 + id_count i + 0) in
         let d = lows l (n + 0 + id_count i + 0 + optional_id_count u) in omega arith
     low (tree.for i (tree.present e) u l s) n =
         let a = low i (n + 1) in
-        let b = tested n (woven chosen (with_ids (n + 1 + id_count i) e)) (height e) (low e (n + 1 + id_count i)) in
+        let b = tested n (weave chosen (with_ids (n + 1 + id_count i) e)) (height e) (low e (n + 1 + id_count i)) in
         let c = optional_low u (n + 1 + id_count i + id_count e) in
         let d = lows l (n + 1 + id_count i + id_count e + optional_id_count u) in omega arith
     low (tree.for_in is_var x o l s) n =
         let a = low o (n + 1) in let b = lows l (n + 1 + id_count o) in
-        let c = hooked (chosen kind.ForIn) (codes "O") n (woven chosen (with_ids (n + 1) o)) (3 * height o + 5)
+        let c = hooked (chosen kind.ForIn) (codes "O") n (weave chosen (with_ids (n + 1) o)) (3 * height o + 5)
         (omega arith) (omega arith) in
         omega arith
     low (tree.continue x s) n = omega arith
@@ -247,14 +247,14 @@ module _ (chosen : Kinds) where
     low (tree.return tree.absent s) n = omega arith
     low (tree.return (tree.present e) s) n =
         let a = low e (n + 1) in
-        let c = hooked (chosen kind.Return) (codes "V") n (woven chosen (with_ids (n + 1) e)) (3 * height e + 5)
+        let c = hooked (chosen kind.Return) (codes "V") n (weave chosen (with_ids (n + 1) e)) (3 * height e + 5)
         (omega arith) (omega arith) in
         omega arith
     low (tree.labelled x t s) n = let a = low t n in omega arith
     low (tree.switch e l s) n = let a = low e n in let b = lows l (n + id_count e) in omega arith
     low (tree.throw e s) n =
         let a = low e (n + 1) in
-        let c = hooked (chosen kind.Throw) (codes "K") n (woven chosen (with_ids (n + 1) e)) (3 * height e + 5)
+        let c = hooked (chosen kind.Throw) (codes "K") n (weave chosen (with_ids (n + 1) e)) (3 * height e + 5)
         (omega arith) (omega arith) in
         omega arith
     low (tree.try l tree.absent f s) n =

@@ -9,7 +9,7 @@ use Rattle.jl_op.specs.Ids.{with_ids}
 use Rattle.jl_print.specs.WellFormed.{AreIdentifiers, AreNamed, HasOneDefault, IsEither, IsGetter}
 use Rattle.jl_print.specs.WellFormed.{IsOptionalIdentifier, IsSetter, IsSome}
 use Rattle.jl_simulation.specs.HookCalls.{without_id}
-use Rattle.jl_simulation.specs.Weaving.{woven, woven_forest, woven_optional}
+use Rattle.jl_simulation.specs.Weaving.{weave, woven_forest, woven_optional}
 
 pub name_kept : {S : Type 0} (n : ℕ) (x : Option (Ident S)) → IsOptionalIdentifier x
     → IsOptionalIdentifier (option_map without_id (option_map (λ y. ident_with_id y n) x))
@@ -52,12 +52,12 @@ module _ (chosen : Kinds) where
   named_kept n (tree.more (tree.function m (Some x) ps b s) l) w =
       named_kept (n + id_count (tree.function m (Some x) ps b s)) l w
 
-  pub getter_kept : {S : Type 0} (n : ℕ) (f : Tree S tree.func) → IsGetter f → IsGetter (woven chosen (with_ids n f))
+  pub getter_kept : {S : Type 0} (n : ℕ) (f : Tree S tree.func) → IsGetter f → IsGetter (weave chosen (with_ids n f))
   getter_kept n (tree.function m None [] b s) w = w
   getter_kept n (tree.function m None (p ∷ ps) b s) w = absurd w
   getter_kept n (tree.function m (Some x) ps b s) w = absurd w
 
-  pub setter_kept : {S : Type 0} (n : ℕ) (f : Tree S tree.func) → IsSetter f → IsSetter (woven chosen (with_ids n f))
+  pub setter_kept : {S : Type 0} (n : ℕ) (f : Tree S tree.func) → IsSetter f → IsSetter (weave chosen (with_ids n f))
   setter_kept n (tree.function m None [] b s) w = absurd w
   setter_kept n (tree.function m None (p ∷ []) b s) w = w
   setter_kept n (tree.function m None (p ∷ q ∷ ps) b s) w = absurd w

@@ -13,9 +13,9 @@ use Rattle.jl_op.specs.declared.kind.OpKind.TheVariants as kind
 use Rattle.jl_op.specs.declared.sign.UnKind.TheVariants as unary
 use Rattle.jl_scope.specs.Names.{hooks_name}
 use Rattle.jl_simulation.specs.HookCalls.{before_update, catch_and_go_on, enter_and_leave}
-use Rattle.jl_simulation.specs.HookCalls.{hook_1, hook_2, hook_of_1, quoted, unary_hook, without_id, Expr}
+use Rattle.jl_simulation.specs.HookCalls.{hook_1, hook_2, hook_of_1, string_of, unary_hook, without_id, Expr}
 use Rattle.jl_simulation.specs.HookCalls.{Stmts, Woven}
-use Rattle.jl_simulation.specs.Weaving.{calls, calls_member, computes, woven, woven_forest, woven_optional}
+use Rattle.jl_simulation.specs.Weaving.{calls, calls_member, computes, weave, woven_forest, woven_optional}
 use Rattle.jl_simulation.specs.Weaving.{woven_callee, woven_delete, woven_typeof}
 use Rattle.jl_read_back.specs.inner.Bytes.{most_bytes, text_weight}
 use Rattle.jl_read_back.specs.inner.Weight.{directive_weight, name_weight, names_weight}
@@ -144,7 +144,7 @@ module _ (heavy : ℕ) where
       unfolding hooks_name
 
       pub narrow : {S : Type 0} {x : Sort} (t : Tree S x) (n : ℕ)
-          → width heavy (woven chosen (with_ids n t)) + slack x ≤ 64 * weight heavy t
+          → width heavy (weave chosen (with_ids n t)) + slack x ≤ 64 * weight heavy t
       narrow (tree.this s) n = omega arith
       narrow (tree.name x s) n =
           let q = string_few heavy x in let b = bytes_few heavy x in
@@ -169,21 +169,21 @@ module _ (heavy : ℕ) where
       narrow (tree.call (tree.dot o k t) l s) n =
           let a = narrow o (n + 3) in let q = string_few heavy k in let b = bytes_few heavy k in
           let c = all_narrow l (n + 2 + id_count (tree.dot o k t)) in
-          let m = one_of (calls_member chosen) (hook_2 (codes "M") n (woven chosen (with_ids (n + 3) o)) (quoted k))
-          (tree.dot (woven chosen (with_ids (n + 3) o)) k tt)
+          let m = one_of (calls_member chosen) (hook_2 (codes "M") n (weave chosen (with_ids (n + 3) o)) (string_of k))
+          (tree.dot (weave chosen (with_ids (n + 3) o)) k tt)
           (64 * weight heavy o + 6 * text_weight heavy k + 31) (omega arith) (omega arith) in
           omega arith
       narrow (tree.call (tree.index o k t) l s) n =
           let a = narrow o (n + 3) in let b = narrow k (n + 3 + id_count o) in
           let c = all_narrow l (n + 2 + id_count (tree.index o k t)) in
           let m = one_of (calls_member chosen)
-          (hook_2 (codes "M") n (woven chosen (with_ids (n + 3) o)) (woven chosen (with_ids (n + 3 + id_count o) k)))
-          (tree.index (woven chosen (with_ids (n + 3) o)) (woven chosen (with_ids (n + 3 + id_count o) k)) tt)
+          (hook_2 (codes "M") n (weave chosen (with_ids (n + 3) o)) (weave chosen (with_ids (n + 3 + id_count o) k)))
+          (tree.index (weave chosen (with_ids (n + 3) o)) (weave chosen (with_ids (n + 3 + id_count o) k)) tt)
           (64 * weight heavy o + 64 * weight heavy k + 22) (omega arith) (omega arith) in
           omega arith
       narrow (tree.call f l s) n =
           let a = narrow f (n + 2) in let c = all_narrow l (n + 2 + id_count f) in
-          let m = called (n + 2) (n + 0) f tt (woven chosen (with_ids (n + 2) f))
+          let m = called (n + 2) (n + 0) f tt (weave chosen (with_ids (n + 2) f))
           (64 * weight heavy f + 26) (omega arith) in
           omega arith
       narrow (tree.new f l s) n =
@@ -193,7 +193,7 @@ module _ (heavy : ℕ) where
           let q = string_few heavy x in let b = bytes_few heavy x in
           either (chosen kind.TypeofName) _ _ 6 _ (omega arith) (omega arith)
       narrow (tree.unary un.Typeof e s) n =
-          let a = narrow e (n + 1) in typed (n + 1) n e tt (woven chosen (with_ids (n + 1) e)) _ (omega arith)
+          let a = narrow e (n + 1) in typed (n + 1) n e tt (weave chosen (with_ids (n + 1) e)) _ (omega arith)
       narrow (tree.unary un.Delete (tree.name x t) s) n = let b = bytes_few heavy x in omega arith
       narrow (tree.unary un.Delete (tree.dot o k t) s) n =
           let a = narrow o (n + 1) in let q = string_few heavy k in let b = bytes_few heavy k in
@@ -202,7 +202,7 @@ module _ (heavy : ℕ) where
           let a = narrow o (n + 1) in let b = narrow k (n + 1 + id_count o) in
           either (chosen kind.DeleteField) _ _ 6 _ (omega arith) (omega arith)
       narrow (tree.unary un.Delete e s) n =
-          let a = narrow e n in deleted n n e tt tt (woven chosen (with_ids n e)) _ (omega arith)
+          let a = narrow e n in deleted n n e tt tt (weave chosen (with_ids n e)) _ (omega arith)
       narrow (tree.unary o e s) n =
           let a = narrow e (n + 1) in let q = unary_sign_few heavy (unary_kind o) in
           either (chosen kind.Unary) _ _ 6 _ (omega arith) (omega arith)
@@ -226,13 +226,13 @@ module _ (heavy : ℕ) where
           either (chosen kind.Binary) _ _ 6 _ (omega arith) (omega arith)
       narrow (tree.and a b s) n =
           let q = narrow b (n + 1 + id_count a) in
-          let p = tested n (woven chosen (with_ids (n + 1) a)) (64 * weight heavy a) (narrow a (n + 1)) in omega arith
+          let p = tested n (weave chosen (with_ids (n + 1) a)) (64 * weight heavy a) (narrow a (n + 1)) in omega arith
       narrow (tree.or a b s) n =
           let q = narrow b (n + 1 + id_count a) in
-          let p = tested n (woven chosen (with_ids (n + 1) a)) (64 * weight heavy a) (narrow a (n + 1)) in omega arith
+          let p = tested n (weave chosen (with_ids (n + 1) a)) (64 * weight heavy a) (narrow a (n + 1)) in omega arith
       narrow (tree.conditional a b c s) n =
           let q = narrow b (n + 1 + id_count a) in let r = narrow c (n + 1 + id_count a + id_count b) in
-          let p = tested n (woven chosen (with_ids (n + 1) a)) (64 * weight heavy a) (narrow a (n + 1)) in omega arith
+          let p = tested n (weave chosen (with_ids (n + 1) a)) (64 * weight heavy a) (narrow a (n + 1)) in omega arith
       narrow (tree.assign None (tree.to_name x) e s) n =
           let a = narrow e (n + 1 + 0) in let q = string_few heavy x.text in let b = bytes_few heavy x.text in
           either (chosen kind.Write) _ _ 6 _ (omega arith) (omega arith)
@@ -283,28 +283,28 @@ module _ (heavy : ℕ) where
       narrow (tree.expression e s) n = let a = narrow e n in omega arith
       narrow (tree.block l s) n = let a = all_narrow l n in omega arith
       narrow (tree.if_else e a b s) n =
-          let p = tested n (woven chosen (with_ids (n + 1) e)) (64 * weight heavy e) (narrow e (n + 1)) in
+          let p = tested n (weave chosen (with_ids (n + 1) e)) (64 * weight heavy e) (narrow e (n + 1)) in
           let q = all_narrow a (n + 1 + id_count e) in
           let r = optional_narrow b (n + 1 + id_count e + forest_id_count a) in omega arith
       narrow (tree.do_while l e s) n =
           let p = all_narrow l (n + 1) in
-          let q = tested n (woven chosen (with_ids (n + 1 + forest_id_count l) e)) (64 * weight heavy e)
+          let q = tested n (weave chosen (with_ids (n + 1 + forest_id_count l) e)) (64 * weight heavy e)
           (narrow e (n + 1 + forest_id_count l)) in omega arith
       narrow (tree.while e l s) n =
-          let p = tested n (woven chosen (with_ids (n + 1) e)) (64 * weight heavy e) (narrow e (n + 1)) in
+          let p = tested n (weave chosen (with_ids (n + 1) e)) (64 * weight heavy e) (narrow e (n + 1)) in
           let q = all_narrow l (n + 1 + id_count e) in omega arith
       narrow (tree.for i tree.absent u l s) n =
           let a = narrow i (n + 0) in let c = optional_narrow u (n + 0 + id_count i + 0) in
           let d = all_narrow l (n + 0 + id_count i + 0 + optional_id_count u) in omega arith
       narrow (tree.for i (tree.present e) u l s) n =
           let a = narrow i (n + 1) in
-          let b = tested n (woven chosen (with_ids (n + 1 + id_count i) e)) (64 * weight heavy e)
+          let b = tested n (weave chosen (with_ids (n + 1 + id_count i) e)) (64 * weight heavy e)
           (narrow e (n + 1 + id_count i)) in
           let c = optional_narrow u (n + 1 + id_count i + id_count e) in
           let d = all_narrow l (n + 1 + id_count i + id_count e + optional_id_count u) in omega arith
       narrow (tree.for_in is_var x o l s) n =
           let a = narrow o (n + 1) in let b = all_narrow l (n + 1 + id_count o) in let q = named x.text in
-          let c = given (chosen kind.ForIn) (codes "O") n (woven chosen (with_ids (n + 1) o)) (64 * weight heavy o) a in
+          let c = given (chosen kind.ForIn) (codes "O") n (weave chosen (with_ids (n + 1) o)) (64 * weight heavy o) a in
           omega arith
       narrow (tree.continue x s) n =
           let e = optional_named x (λ y. ident_with_id y n) (λ y. omega arith) in omega arith
@@ -313,14 +313,14 @@ module _ (heavy : ℕ) where
       narrow (tree.return tree.absent s) n = omega arith
       narrow (tree.return (tree.present e) s) n =
           let a = narrow e (n + 1) in
-          let c = given (chosen kind.Return) (codes "V") n (woven chosen (with_ids (n + 1) e)) (64 * weight heavy e)
+          let c = given (chosen kind.Return) (codes "V") n (weave chosen (with_ids (n + 1) e)) (64 * weight heavy e)
           a in
           omega arith
       narrow (tree.labelled x t s) n = let a = narrow t n in let q = named x.text in omega arith
       narrow (tree.switch e l s) n = let a = narrow e n in let b = all_narrow l (n + id_count e) in omega arith
       narrow (tree.throw e s) n =
           let a = narrow e (n + 1) in
-          let c = given (chosen kind.Throw) (codes "K") n (woven chosen (with_ids (n + 1) e)) (64 * weight heavy e) a in
+          let c = given (chosen kind.Throw) (codes "K") n (weave chosen (with_ids (n + 1) e)) (64 * weight heavy e) a in
           omega arith
       narrow (tree.try l tree.absent f s) n =
           let a = all_narrow l (n + 0) in let c = optional_narrow f (n + 0 + forest_id_count l + 0) in omega arith
@@ -336,7 +336,7 @@ module _ (heavy : ℕ) where
       narrow (tree.init_var l) n = let a = all_narrow l n in omega arith
       narrow (tree.declarator x tree.absent) n = let b = bytes_few heavy x.text in omega arith
       narrow (tree.declarator x (tree.present e)) n =
-          let a = written (chosen kind.Write) (codes "W") n x.text (woven chosen (with_ids (n + 1) e))
+          let a = written (chosen kind.Write) (codes "W") n x.text (weave chosen (with_ids (n + 1) e))
           (64 * weight heavy e) (narrow e (n + 1)) in
           let b = bytes_few heavy x.text in omega arith
       narrow (tree.case e l) n =

@@ -11,7 +11,7 @@ use Rattle.jl_op.specs.Ids.{with_ids}
 use Rattle.jl_op.specs.declared.kind.OpKind.TheVariants as kind
 use Rattle.jl_scope.specs.EarlyErrors.{is_name}
 use Rattle.jl_simulation.specs.HookCalls.{before_update, Expr}
-use Rattle.jl_simulation.specs.Weaving.{assigns, calls, computes, woven, woven_assignment, woven_delete, woven_typeof}
+use Rattle.jl_simulation.specs.Weaving.{assigns, calls, computes, weave, woven_assignment, woven_delete, woven_typeof}
 use Rattle.jl_simulation.specs.Weaving.{woven_update}
 use Rattle.jl_text.specs.declared.span.Span.{Span}
 use Rattle.jl_read_back.proofs.Forms.{IsNoMember, IsNoName}
@@ -51,7 +51,7 @@ module _ (chosen : Kinds) (at : Span) where
   assigned id None (tree.to_index o k s) w = refl
   assigned id (Some q) (tree.to_index o k s) w = refl
 
-  other : (e : Tree ℕ tree.expr) → IsNoName e → IsNoMember e → IsOther (woven chosen e)
+  other : (e : Tree ℕ tree.expr) → IsNoName e → IsNoMember e → IsOther (weave chosen e)
   other (tree.name x s) h i = absurd h
   other (tree.dot o k s) h i = absurd i
   other (tree.index o k s) h i = absurd i
@@ -63,13 +63,13 @@ module _ (chosen : Kinds) (at : Span) where
   other (tree.object l s) h i = either (chosen kind.ObjectLiteral) _ _ refl refl
   other (tree.function_expression l s) h i = either (chosen kind.FunctionLiteral) _ _ refl refl
   other (tree.new f l s) h i = either (calls chosen) _ _ refl refl
-  other (tree.unary un.Typeof e s) h i = typed s e (woven chosen e)
-  other (tree.unary un.Delete e s) h i = deleted s e (woven chosen e)
+  other (tree.unary un.Typeof e s) h i = typed s e (weave chosen e)
+  other (tree.unary un.Delete e s) h i = deleted s e (weave chosen e)
   other (tree.unary o e s) h i = either (chosen kind.Unary) _ _ refl refl
   other (tree.update up prefix t s) h i =
       either (computes chosen t kind.Unary) _ _ (updated s up prefix t) refl
   other (tree.binary o a b s) h i = either (chosen kind.Binary) _ _ refl refl
-  other (tree.assign o t e s) h i = either (assigns chosen o t) _ _ (assigned s o t (woven chosen e)) refl
+  other (tree.assign o t e s) h i = either (assigns chosen o t) _ _ (assigned s o t (weave chosen e)) refl
   other _ h i = refl
 
   name_with_ids : {S : Type 0} (n : ℕ) (e : Tree S tree.expr) → IsNoName e → IsNoName (with_ids n e)
@@ -86,5 +86,5 @@ module _ (chosen : Kinds) (at : Span) where
   member_with_ids n _ h = tt
 
   pub no_name : {S : Type 0} (e : Tree S tree.expr) → IsNoName e → IsNoMember e → (n : ℕ)
-      → IsOther (woven chosen (with_ids n e))
+      → IsOther (weave chosen (with_ids n e))
   no_name e h i n = other (with_ids n e) (name_with_ids n e h) (member_with_ids n e i)

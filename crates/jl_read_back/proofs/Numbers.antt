@@ -2,7 +2,7 @@
 use Rattle.std.proofs.Common.{◌≡◌, codes, ℕ, ◌+◌, Bool, true, false, ◌||◌, Some, None, refl, ap, subst, sym}
 use Rattle.std.proofs.Common.{arith}
 use Rattle.std.specs.Prelude.{if◌then◌else◌}
-use Rattle.jl_ast.specs.Numbering.{functions_in, functions_in_forest, functions_in_optional, numbered}
+use Rattle.jl_ast.specs.Numbering.{functions_in, functions_in_forest, functions_in_optional, with_numbers}
 use Rattle.jl_ast.specs.Numbering.{numbered_forest, numbered_optional, numbered_tree}
 use Rattle.jl_ast.specs.Tree as tree
 use Rattle.jl_ast.specs.Tree.{Forest, Ident, OptionalTree, Program, Sort, Text, Tree}
@@ -14,7 +14,7 @@ use Rattle.jl_op.specs.declared.sign.UnKind.TheVariants as unary
 use Rattle.jl_simulation.specs.HookCalls.{and_last, before_update, begin_and_end, catch_and_go_on, enter_and_leave}
 use Rattle.jl_simulation.specs.HookCalls.{hook, hook_1, hook_of_1, hook_statement, no_exprs, unary_hook, Expr}
 use Rattle.jl_simulation.specs.HookCalls.{Exprs, Stmts, Woven}
-use Rattle.jl_simulation.specs.Weaving.{calls, calls_member, computes, woven, woven_callee, woven_code}
+use Rattle.jl_simulation.specs.Weaving.{calls, calls_member, computes, weave, woven_callee, woven_code}
 use Rattle.jl_simulation.specs.Weaving.{woven_delete, woven_forest, woven_optional, woven_program, woven_typeof}
 use Rattle.jl_read_back.proofs.Counts as count
 use Rattle.jl_read_back.proofs.Counts.{absent_counts, none_counts, one_counts, present_counts, up_to, Counts, CountsAll}
@@ -111,7 +111,7 @@ module _ (chosen : Kinds) where
 
   mutual
     pub counts : {S : Type 0} {x : Sort} (t : Tree S x) (n j m : ℕ) → n + functions_in t ≡ m
-        → Counts n (woven chosen (with_ids j (numbered_tree n t))) m
+        → Counts n (weave chosen (with_ids j (numbered_tree n t))) m
     counts (tree.this s) n j m e = record { fixed = refl; next = e }
     counts (tree.name x s) n j m e =
         up_to (either (chosen kind.Read) _ _ (told_of_1 count.name_counts) count.name_counts) (omega arith)
@@ -147,7 +147,7 @@ module _ (chosen : Kinds) where
         (count_all l (n + (functions_in o + functions_in k)) _ m (omega arith))
     counts (tree.call f l s) n j m e =
         count.call_counts
-        (called (j + 2) (j + 0) (numbered_tree n f) tt (woven chosen (with_ids (j + 2) (numbered_tree n f)))
+        (called (j + 2) (j + 0) (numbered_tree n f) tt (weave chosen (with_ids (j + 2) (numbered_tree n f)))
         (counts f n (j + 2) (n + functions_in f) refl))
         (count_all l (n + functions_in f) _ m (omega arith))
     counts (tree.new f l s) n j m e =
@@ -160,7 +160,7 @@ module _ (chosen : Kinds) where
         up_to (either (chosen kind.TypeofName) _ _ (told_of_1 (count.unary_counts count.name_counts))
         (count.unary_counts count.name_counts)) (omega arith)
     counts (tree.unary un.Typeof a s) n j m e =
-        typed (j + 1) j (numbered_tree n a) tt (woven chosen (with_ids (j + 1) (numbered_tree n a)))
+        typed (j + 1) j (numbered_tree n a) tt (weave chosen (with_ids (j + 1) (numbered_tree n a)))
         (counts a n (j + 1) m e)
     counts (tree.unary un.Delete (tree.name x t) s) n j m e =
         up_to (count.unary_counts count.name_counts) (omega arith)
@@ -173,7 +173,7 @@ module _ (chosen : Kinds) where
         (count.unary_counts
         (count.index_counts (counts o n _ _ refl) (counts k (n + functions_in o) _ m (omega arith))))
     counts (tree.unary un.Delete a s) n j m e =
-        deleted j j (numbered_tree n a) tt tt (woven chosen (with_ids j (numbered_tree n a))) (counts a n j m e)
+        deleted j j (numbered_tree n a) tt tt (weave chosen (with_ids j (numbered_tree n a))) (counts a n j m e)
     counts (tree.unary o a s) n j m e =
         either (chosen kind.Unary) _ _ (told_of_1 (counts a n (j + 1) m e))
         (count.unary_counts (counts a n (j + 1) m e))
@@ -353,8 +353,8 @@ module _ (chosen : Kinds) where
       (begun (chosen kind.ScriptEnter || chosen kind.ScriptExit) l 1 (0 + functions_in_forest fs) _
       (0 + (functions_in_forest fs + functions_in_forest l)) (omega arith))
 
-  pub woven_numbered : {S : Type 0} (p : Program S) → numbered p ≡ p
-      → numbered (woven_program chosen p) ≡ woven_program chosen p
+  pub woven_numbered : {S : Type 0} (p : Program S) → with_numbers p ≡ p
+      → with_numbers (woven_program chosen p) ≡ woven_program chosen p
   unfolding woven_program
   woven_numbered p e =
       let same : numbered_tree 0 p.body ≡ p.body = ap (λ q. q.body) e in

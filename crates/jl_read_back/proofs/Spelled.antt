@@ -17,7 +17,7 @@ use Rattle.jl_print.specs.Layout.{between, layout_of}
 use Rattle.jl_print.specs.Pieces.{assign_punct, in_parens_unless, is_bare_key, key, name, operator}
 use Rattle.jl_print.specs.Pieces.{prefix_operator, string, update_operator}
 use Rattle.jl_text.specs.Quoted.{is_hidden, is_lone, quoted_after, quoted_unit, short_escape, unicode_escape}
-use Rattle.jl_token.specs.Spelling.{spelled}
+use Rattle.jl_token.specs.Spelling.{spelling_of}
 use Rattle.jl_token.specs.declared.token.TokenKind.{TokenKind}
 use Rattle.jl_token.specs.declared.token.TokenKind.TheVariants as kinds
 use Rattle.jl_read_back.specs.inner.Bytes.{excess, most_bytes, text_weight, unit_bytes}
@@ -32,7 +32,7 @@ small before u after h = grind (arith, nat_tests)
 module _ (heavy : ℕ) where
   abbrev pub size : List TokenKind → ℕ
   size [] = 0
-  size (k ∷ ks) = most_bytes heavy (spelled k) + 1 + size ks
+  size (k ∷ ks) = most_bytes heavy (spelling_of k) + 1 + size ks
 
   pub size_append : (a b : List TokenKind) → size (a ++ b) ≡ size a + size b
   size_append [] b = omega arith
@@ -52,9 +52,9 @@ module _ (heavy : ℕ) where
   -- so the text that they are laid out as has no more
   pub laid_few : (ks : List TokenKind) → most_bytes heavy (layout_of ks) ≤ size ks
   laid_few [] = omega arith
-  laid_few (k ∷ []) = omega (arith, bytes_append heavy (spelled k) (10 ∷ []))
+  laid_few (k ∷ []) = omega (arith, bytes_append heavy (spelling_of k) (10 ∷ []))
   laid_few (k ∷ l ∷ ks) =
-      let a = bytes_append heavy (spelled k) (between k l ++ layout_of (l ∷ ks)) in
+      let a = bytes_append heavy (spelling_of k) (between k l ++ layout_of (l ∷ ks)) in
       let b = bytes_append heavy (between k l) (layout_of (l ∷ ks)) in
       let c = between_few k l in let d = laid_few (l ∷ ks) in omega arith
 
@@ -89,15 +89,15 @@ module _ (heavy : ℕ) where
   unfolding string_width
   string_few t = let a = bytes_append heavy (quoted_after 0 t) (0x22 ∷ []) in let b = units_few 0 t in omega arith
 
-  pub string_is : (t : Text) → most_bytes heavy (spelled (string t)) + 1 ≤ string_width heavy t
+  pub string_is : (t : Text) → most_bytes heavy (spelling_of (string t)) + 1 ≤ string_width heavy t
   unfolding string_width
   string_is t = omega arith
 
   -- the key of a property
-  pub key_few : (t : Text) → most_bytes heavy (spelled (key t)) ≤ 6 * text_weight heavy t + 2
+  pub key_few : (t : Text) → most_bytes heavy (spelling_of (key t)) ≤ 6 * text_weight heavy t + 2
   key_few t = go (is_bare_key t)
     where
-      go : (b : Bool) → most_bytes heavy (spelled (if b then name t else string t)) ≤ 6 * text_weight heavy t + 2
+      go : (b : Bool) → most_bytes heavy (spelling_of (if b then name t else string t)) ≤ 6 * text_weight heavy t + 2
       go true = let a = bytes_few heavy t in omega arith
       go false = let a = string_is t in let b = string_few t in omega arith
 
@@ -121,18 +121,18 @@ module _ (heavy : ℕ) where
   bracketed true ks n h = omega arith
   bracketed false ks n h = omega (arith, size_append)
 
-  pub operator_few : (o : BinOp) → most_bytes heavy (spelled (operator o)) ≤ 10
+  pub operator_few : (o : BinOp) → most_bytes heavy (spelling_of (operator o)) ≤ 10
   operator_few ops.InstanceOf = omega arith
   operator_few _ = omega arith
 
-  pub prefix_few : (o : UnOp) → most_bytes heavy (spelled (prefix_operator o)) ≤ 6
+  pub prefix_few : (o : UnOp) → most_bytes heavy (spelling_of (prefix_operator o)) ≤ 6
   prefix_few prefixes.Typeof = omega arith
   prefix_few _ = omega arith
 
-  pub update_few : (up : Bool) → most_bytes heavy (spelled (update_operator up)) ≤ 2
+  pub update_few : (up : Bool) → most_bytes heavy (spelling_of (update_operator up)) ≤ 2
   update_few true = omega arith
   update_few false = omega arith
 
-  pub assign_few : (o : BinOp) → most_bytes heavy (spelled (kinds.Punct (assign_punct o))) ≤ 4
+  pub assign_few : (o : BinOp) → most_bytes heavy (spelling_of (kinds.Punct (assign_punct o))) ≤ 4
   assign_few ops.Shr = omega arith
   assign_few _ = omega arith

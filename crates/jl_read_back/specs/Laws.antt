@@ -2,6 +2,7 @@
 use Rattle.std.specs.Prelude.{◌≡◌, ◌+◌, ◌*◌, ◌^◌, ◌<◌, ◌≤◌, All, false, ℕ, List, length}
 use Rattle.std.specs.Char.Utf16.{has_unpaired_surrogate}
 use Rattle.std.specs.Str.{IsUtf8}
+use Rattle.jl_num.specs.Number.{largest}
 use Rattle.jl_ast.specs.Height.{program_height}
 use Rattle.jl_ast.specs.Tree.{Program}
 use Rattle.jl_grammar.specs.Program.{Reads}
@@ -18,7 +19,7 @@ use Rattle.jl_read_back.specs.Woven.{IsWoven}
 
 -- its ids are numbers of a script: a program takes two, and then its parts take theirs
 abbrev pub HasIds : {S : Type 0} → Program S → Type 0
-HasIds p = 3 + id_count p.body ≤ 9007199254740991
+HasIds p = 3 + id_count p.body ≤ largest
 
 -- what is woven of a well formed program is well formed
 abbrev pub WovenIsWellFormed : (S T : Type 0) → Type 0

@@ -10,7 +10,7 @@ use Rattle.jl_meaning.specs.Realm.{count_properties, initial_objects, last_part,
 use Rattle.jl_meaning.specs.Realm.{InitialObject}
 use Rattle.jl_meaning.specs.Store.{no_environment, Environment, Store}
 use Rattle.jl_realm.specs.Global.{HasGlobalObject}
-use Rattle.jl_realm.specs.inner.Steps.{all_ready, applied, changes_of}
+use Rattle.jl_realm.specs.inner.Steps.{all_ready, after_all, changes_of}
 use Rattle.jl_realm.specs.declared.builtins.TheConstants.{LENGTHS, NAMES}
 use Rattle.jl_realm.specs.declared.steps.TheConstants.{STEPS}
 use Rattle.jl_realm.proofs.Making.{all_made, at, changes_from, is_fresh, made_ready, seen_from}
@@ -43,12 +43,12 @@ steps_ready s heap environments =
     ∙ made_ready only initial_objects [] 0 all_fresh
 
 pub steps_come_to : (s : Store) → s.heap ≡ record { objects = []; next = 0 } → s.environments ≡ only
-    → applied (flat_map changes_of STEPS) s ≡ realm
+    → after_all (flat_map changes_of STEPS) s ≡ realm
 unfolding realm
 steps_come_to s heap environments =
     let none : 0 + count_properties initial_objects ≡ count_properties initial_objects = omega arith in
-    ap (applied (flat_map changes_of STEPS)) (bare s heap environments)
-    ∙ ap (λ cs. applied cs (at only [] 0)) steps_make
+    ap (after_all (flat_map changes_of STEPS)) (bare s heap environments)
+    ∙ ap (λ cs. after_all cs (at only [] 0)) steps_make
     ∙ all_made only initial_objects [] 0
     ∙ ap (λ (l : List InitialObject). at only (objects_from 0 l) (0 + count_properties l)) as_seen
     ∙ ap (at only (objects_from 0 initial_objects)) none

@@ -12,7 +12,7 @@ use Rattle.jl_heap.specs.Define.{define_on, define_ordinary, is_writable, store_
 use Rattle.jl_heap.specs.Define.{with_new_property, with_property}
 use Rattle.jl_heap.specs.Define as heaps
 use Rattle.jl_heap.specs.Objects.{object_at, own, own_or_unit, unit_property, units_of, Name, Objects}
-use Rattle.jl_heap.specs.Property.{is_configurable, is_refused, is_same, made, revised, turned, turns, with_fields}
+use Rattle.jl_heap.specs.Property.{is_configurable, is_refused, is_same, new_property, property_after, other_kind, turns, with_fields}
 use Rattle.jl_heap.specs.declared.property.Change as asked
 use Rattle.jl_heap.specs.declared.property.Defined.{Defined}
 use Rattle.jl_heap.specs.declared.property.Defined.TheVariants.{Done, Rejected}
@@ -99,13 +99,13 @@ module _ (h : Objects) (k : ℕ) (x : Name) (within : k < length h.objects) wher
       own-put (record h { next = h.next + 1 }) k _ x within ∙ new_item x p h.next (object_at h k).properties none
 
   by_new : (extensible : Bool) → own h k x ≡ None
-      → IsDone (pick extensible (with_new_property h k x (made created), Done) (h, Rejected))
-      → Writes (pick extensible (with_new_property h k x (made created), Done) (h, Rejected))
-  by_new true none done = ap is_writable (added_so (made created) none)
+      → IsDone (pick extensible (with_new_property h k x (new_property created), Done) (h, Rejected))
+      → Writes (pick extensible (with_new_property h k x (new_property created), Done) (h, Rejected))
+  by_new true none done = ap is_writable (added_so (new_property created) none)
   by_new false none done = let no : false ≡ true = done in cc
 
   abbrev revised_so : Bool → Prop → Option Prop
-  revised_so refused p = if refused then None else Some (with_fields (if turns p created then turned p else p) created)
+  revised_so refused p = if refused then None else Some (with_fields (if turns p created then other_kind p else p) created)
 
   by_revised : (refused : Bool) (p : Prop) → own h k x ≡ Some p → IsDone (store_property h k x (revised_so refused p))
       → Writes (store_property h k x (revised_so refused p))
@@ -114,8 +114,8 @@ module _ (h : Objects) (k : ℕ) (x : Name) (within : k < length h.objects) wher
   by_revised false (Accessor get set e c) there done = ap is_writable (put_so _ _ there)
 
   by_same : (same : Bool) (p : Prop) → is_same p created ≡ same → own h k x ≡ Some p
-      → IsDone (pick same (h, Done) (store_property h k x (revised p created)))
-      → Writes (pick same (h, Done) (store_property h k x (revised p created)))
+      → IsDone (pick same (h, Done) (store_property h k x (property_after p created)))
+      → Writes (pick same (h, Done) (store_property h k x (property_after p created)))
   by_same true p is there done = ap is_writable there ∙ same_writable p is
   by_same false p is there done = by_revised (not (is_configurable p) && is_refused p created) p there done
 

@@ -23,7 +23,7 @@ use Rattle.jl_meaning.specs.Parts.{give, gives, throws, ◌>>=◌, Algorithm, Al
 use Rattle.jl_meaning.specs.Properties.{get_own_property, get_property, has_property, holding, inherited_property}
 use Rattle.jl_meaning.specs.Properties.{own_or_inherited, parameter_at, parameter_value, Property}
 use Rattle.jl_meaning.specs.Store.{Store}
-use Rattle.jl_store.specs.Answers.{fault_seen, finished}
+use Rattle.jl_store.specs.Answers.{fault_seen, finish_of}
 use Rattle.jl_store.specs.Changes.{after}
 use Rattle.jl_store.specs.Comes.{leads, Comes}
 use Rattle.jl_store.specs.declared.answer.Finished.{Finished}
@@ -180,17 +180,17 @@ variables_fail (x ∷ xs) s t f has first =
     by false first = create_fails x s t f has first
 
 without_faults : {A : Type 0} (p : Algorithm A) (s t : Store) (end : Finished A)
-    → ((f : AlgorithmFault) → leads p s t (Fails f) → ⊥) → leads p s t (finished end) → IsTrue (is_no_fault end)
+    → ((f : AlgorithmFault) → leads p s t (Fails f) → ⊥) → leads p s t (finish_of end) → IsTrue (is_no_fault end)
 without_faults p s t (ended.Gives a) never first = refl
 without_faults p s t (ended.Throws v) never first = refl
 without_faults p s t (ended.Fails f) never first = absurd (never (fault_seen f) first)
 
 pub prepare_without_fault : (x : Name) (property : Option Property) {s t : Store} (end : Finished Nothing)
-    → HasGlobalObject s → Comes (prepare_global x property) s t (finished end) → IsTrue (is_no_fault end)
+    → HasGlobalObject s → Comes (prepare_global x property) s t (finish_of end) → IsTrue (is_no_fault end)
 prepare_without_fault x property {s} {t} end has comes =
     without_faults (prepare_global x property) s t end (λ f. prepare_fails x property s t f has) comes.leads
 
 pub variables_without_fault : (xs : List Name) {s t : Store} (end : Finished Nothing) → HasGlobalObject s
-    → Comes (declare_global_variables xs) s t (finished end) → IsTrue (is_no_fault end)
+    → Comes (declare_global_variables xs) s t (finish_of end) → IsTrue (is_no_fault end)
 variables_without_fault xs {s} {t} end has comes =
     without_faults (declare_global_variables xs) s t end (λ f. variables_fail xs s t f has) comes.leads

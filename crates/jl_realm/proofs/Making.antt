@@ -20,7 +20,7 @@ use Rattle.jl_meaning.specs.Realm.{count_properties, entries_from, objects_from,
 use Rattle.jl_meaning.specs.Store.{Environment, Store}
 use Rattle.jl_store.specs.Changes.{after, HasNames, IsFree}
 use Rattle.jl_store.proofs.Fresh.{is_free, lacks, names_added}
-use Rattle.jl_realm.specs.inner.Steps.{address, all_ready, applied, is_ready}
+use Rattle.jl_realm.specs.inner.Steps.{address, all_ready, after_all, is_ready}
 
 -- the changes that make an object at a place, with its properties
 
@@ -82,9 +82,9 @@ made kind proto extensible i entries = record {
 abbrev object_of : (serial : ℕ) → InitialObject → Object
 object_of n o = made o.class o.proto o.extensible o.inner (entries_from n o.properties)
 
-pub applied-append : (a b : List StoreChange) (s : Store) → applied (a ++ b) s ≡ applied b (applied a s)
-applied-append [] b s = refl
-applied-append (c ∷ a) b s = applied-append a b (after c s)
+pub after_all-append : (a b : List StoreChange) (s : Store) → after_all (a ++ b) s ≡ after_all b (after_all a s)
+after_all-append [] b s = refl
+after_all-append (c ∷ a) b s = after_all-append a b (after c s)
 
 longer : {A : Type 0} (xs : List A) (x : A) → length (xs ++ x ∷ []) ≡ length xs + 1
 longer [] x = refl
@@ -123,16 +123,16 @@ module _ (env : List Environment) where
         last_set xs (made kind proto true i es) (λ o. record o { properties = with_new o.properties x n p }) (n + 1)
 
     all_added : (ps : List (Name × Prop)) (xs : List Object) (es : List (Entry Prop)) (n : ℕ)
-        → applied (added (length xs) ps) (with_entries xs es n)
+        → after_all (added (length xs) ps) (with_entries xs es n)
         ≡ with_entries xs (es ++ entries_from n ps) (n + length ps)
     all_added [] xs es n = ap₂ (with_entries xs) (sym (append-nil es)) (omega arith)
     all_added ((x, p) ∷ ps) xs es n =
-        ap (applied (added (length xs) ps)) (one_added xs es n x p)
+        ap (after_all (added (length xs) ps)) (one_added xs es n x p)
         ∙ all_added ps xs (with_new es x n p) (n + 1)
         ∙ ap₂ (with_entries xs) (append_assoc es _ (entries_from (n + 1) ps)) (omega arith)
 
     closed : (extensible : Bool) (xs : List Object) (es : List (Entry Prop)) (n : ℕ)
-        → applied (closing extensible (length xs)) (with_entries xs es n)
+        → after_all (closing extensible (length xs)) (with_entries xs es n)
         ≡ ends_with xs (made kind proto extensible i es) n
     unfolding after
     closed true xs es n = refl
@@ -176,24 +176,24 @@ module _ (env : List Environment) where
   new_is kind proto i xs n = ap (λ q. after_new kind q i (is_array kind) xs n) (proto_is xs n proto)
 
   one_made : (o : InitialObject) (xs : List Object) (n : ℕ)
-      → applied (changes_for (length xs) o) (at xs n)
+      → after_all (changes_for (length xs) o) (at xs n)
       ≡ at (xs ++ objects_from n (seen_at (length xs) o ∷ [])) (n + length (seen_at (length xs) o).properties)
   one_made o xs n =
       let k = length xs in
       let array = is_array o.class in
       let q = proto_in k o.proto in
       let ps = later array o.properties in
-      ap (applied (added k ps ++ closing o.extensible k))
+      ap (after_all (added k ps ++ closing o.extensible k))
       (new_is o.class o.proto o.inner xs n ∙ new_if o.class q o.inner array xs n)
-      ∙ applied-append (added k ps) (closing o.extensible k) _
-      ∙ ap (applied (closing o.extensible k))
+      ∙ after_all-append (added k ps) (closing o.extensible k) _
+      ∙ ap (after_all (closing o.extensible k))
       (all_added o.class q o.inner ps xs (entries_from n (first_of array)) (n + length (first_of array)))
       ∙ closed o.class q o.inner o.extensible xs _ _
       ∙ ap₂ (λ (es : List (Entry Prop)) (m : ℕ). ends_with xs (made o.class q o.extensible o.inner es) m)
       (entries_split array ps n) (count_split array ps n)
 
   pub all_made : (l : List InitialObject) (xs : List Object) (n : ℕ)
-      → applied (changes_from (length xs) l) (at xs n)
+      → after_all (changes_from (length xs) l) (at xs n)
       ≡ at (xs ++ objects_from n (seen_from (length xs) l)) (n + count_properties (seen_from (length xs) l))
   all_made [] xs n = ap₂ at (sym (append-nil xs)) (omega arith)
   all_made (o ∷ l) xs n =
@@ -202,9 +202,9 @@ module _ (env : List Environment) where
       let ys = xs ++ objects_from n (seen ∷ []) in
       let m = n + length seen.properties in
       let after_it = longer xs (object_of n seen) in
-      applied-append (changes_for k o) (changes_from (k + 1) l) (at xs n)
-      ∙ ap (applied (changes_from (k + 1) l)) (one_made o xs n)
-      ∙ ap (λ j. applied (changes_from j l) (at ys m)) (sym after_it)
+      after_all-append (changes_for k o) (changes_from (k + 1) l) (at xs n)
+      ∙ ap (after_all (changes_from (k + 1) l)) (one_made o xs n)
+      ∙ ap (λ j. after_all (changes_from j l) (at ys m)) (sym after_it)
       ∙ all_made l ys m
       ∙ ap (λ j. at (ys ++ objects_from m (seen_from j l)) (m + count_properties (seen_from j l))) after_it
       ∙ ap₂ at (append_assoc xs _ (objects_from m (seen_from (k + 1) l))) (omega arith)
@@ -234,11 +234,11 @@ is_less : (a b : ℕ) → a < b → nat_lt a b ≡ true
 is_less a b below = grind (arith, nat_tests)
 
 pub ready-append : (a b : List StoreChange) (s : Store)
-    → all_ready (a ++ b) s ≡ (all_ready a s && all_ready b (applied a s))
+    → all_ready (a ++ b) s ≡ (all_ready a s && all_ready b (after_all a s))
 ready-append [] b s = refl
 ready-append (c ∷ a) b s =
     ap (λ more. is_ready c s && more) (ready-append a b (after c s))
-    ∙ grouped (is_ready c s) (all_ready a (after c s)) (all_ready b (applied a (after c s)))
+    ∙ grouped (is_ready c s) (all_ready a (after c s)) (all_ready b (after_all a (after c s)))
   where
     grouped : (x y z : Bool) → (x && (y && z)) ≡ ((x && y) && z)
     grouped true y z = refl
@@ -303,7 +303,7 @@ module _ (env : List Environment) where
       let seen = seen_at k o in
       let ys = xs ++ objects_from n (seen ∷ []) in
       let m = n + length seen.properties in
-      let rest : all_ready (changes_from (k + 1) l) (applied (changes_for k o) (at env xs n)) ≡ true =
+      let rest : all_ready (changes_from (k + 1) l) (after_all (changes_for k o) (at env xs n)) ≡ true =
       ap (all_ready (changes_from (k + 1) l)) (one_made env o xs n)
       ∙ ap (λ j. all_ready (changes_from j l) (at env ys m)) (sym (longer xs (object_of n seen)))
       ∙ made_ready l ys m parts.1 in

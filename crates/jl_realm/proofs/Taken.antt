@@ -5,27 +5,27 @@ use Rattle.std.proofs.Common.{add-one, drop-cons, subst, sym}
 use Rattle.std.specs.List.{flat_map, list_all, range_with_len}
 use Rattle.jl_meaning.specs.Changes.{StoreChange}
 use Rattle.jl_meaning.specs.Store.{Store}
-use Rattle.jl_realm.specs.inner.Steps.{all_ready, applied, rows}
-use Rattle.jl_realm.proofs.Making.{apart, applied-append, ready-append}
+use Rattle.jl_realm.specs.inner.Steps.{all_ready, after_all, rows}
+use Rattle.jl_realm.proofs.Making.{apart, after_all-append, ready-append}
 
 -- these are left to take, and come from a store to another
 pub record Left {X : Type 0} (f : X → List StoreChange) (end : Store) (xs : List X) (s : Store) : Type 0 where
   pub ready : all_ready (flat_map f xs) s ≡ true
-  pub comes : applied (flat_map f xs) s ≡ end
+  pub comes : after_all (flat_map f xs) s ≡ end
 
 module _ {X : Type 0} {f : X → List StoreChange} {end s : Store} {x : X} {xs : List X}
     (left : Left f end (x ∷ xs) s) where
   pub next_ready : all_ready (f x) s ≡ true
   next_ready = (apart _ _ (sym (ready-append (f x) (flat_map f xs) s) ∙ left.ready)).0
 
-  pub next_left : (t : Store) → t ≡ applied (f x) s → Left f end xs t
+  pub next_left : (t : Store) → t ≡ after_all (f x) s → Left f end xs t
   next_left t taken = record {
     ready =
         ap (all_ready (flat_map f xs)) taken
         ∙ (apart _ _ (sym (ready-append (f x) (flat_map f xs) s) ∙ left.ready)).1;
     comes =
-        ap (applied (flat_map f xs)) taken
-        ∙ sym (applied-append (f x) (flat_map f xs) s)
+        ap (after_all (flat_map f xs)) taken
+        ∙ sym (after_all-append (f x) (flat_map f xs) s)
         ∙ left.comes;
   }
 

@@ -11,7 +11,7 @@ ghost use Rattle.jl_meaning.specs.Parts.{gives};
 ghost use Rattle.jl_meaning.specs.Properties.{get_property};
 ghost use Rattle.jl_meaning.specs.Putting.{put, put_on};
 ghost use Rattle.jl_scope.specs.Hoisting.{variables};
-ghost use Rattle.jl_store.specs.Answers.{answered, finished};
+ghost use Rattle.jl_store.specs.Answers.{ends_with, finish_of};
 ghost use Rattle.jl_store.specs.Comes.{Comes};
 ghost use Rattle.jl_store.specs.LookUps.{property_seen};
 ghost use Rattle.jl_store.specs.Plain.{code_in, plain_code, plain_function, plain_functions};
@@ -38,7 +38,7 @@ pub fn declare_program(
 ) -> Result<Answer<()>, NoMemory>
     requires { HasGlobalObject store.old }
     ensures { IfOk result (λ answer. Comes (declare_program (plain_code body.now) (code_in 0 strict)) store.old
-        store.new (answered answer)) }
+        store.new (ends_with answer)) }
 {
     match declare_functions(store, body.functions.items(), strict)? {
         Answer::Gives(()) => Ok(declare_variables(alloc, store, body)?),
@@ -50,7 +50,7 @@ pub fn declare_program(
 fn declare_variables(alloc: Global, store: &mut Store, body: &Body) -> Result<Answer<()>, NoMemory>
     requires { HasGlobalObject store.old }
     ensures { IfOk result (λ answer. Comes (declare_global_variables (variables (plain_code body.now))) store.old
-        store.new (answered answer)) }
+        store.new (ends_with answer)) }
 {
     let names = vars(alloc, body)?;
     let end = store.declare_global_variables(names.as_slice())?;
@@ -65,7 +65,7 @@ fn declare_functions(
 ) -> Result<Answer<()>, NoMemory>
     requires { HasGlobalObject store.old }
     ensures { IfOk result (λ answer. Comes (declare_global_functions (plain_functions functions.now) (code_in 0 strict))
-        store.old store.new (answered answer)) }
+        store.old store.new (ends_with answer)) }
 {
     for f in functions {
         match declare_function(store, f, strict)? {
@@ -80,7 +80,7 @@ fn declare_functions(
 fn declare_function(store: &mut Store, f: &Function, strict: bool) -> Result<Answer<()>, NoMemory>
     requires { HasGlobalObject store.old }
     ensures { IfOk result (λ answer. Comes (declare_made (plain_function f.now) (code_in 0 strict)) store.old store.new
-        (answered answer)) }
+        (ends_with answer)) }
 {
     let id = store.make_function(strict, 0, f)?;
     match &f.name {
@@ -98,7 +98,7 @@ fn bind_function(
 ) -> Result<Answer<()>, NoMemory>
     requires { HasGlobalObject store.old }
     ensures { IfOk result (λ answer. Comes (declare_global_function strict (Some name.now) f) store.old store.new
-        (answered answer)) }
+        (ends_with answer)) }
 {
     let end = store.prepare_global(name)?;
     match without_fault(end) {
@@ -119,7 +119,7 @@ fn put_global(
     requires global { HasGlobalObject store.old }
     requires no_accessor { is_no_accessor (get_property store.old global_object.0 name.now) ≡ true }
     ensures { IfOk result (λ answer. Comes (put throwing (value.Obj global_object) name.now v) store.old store.new
-        (answered answer)) }
+        (ends_with answer)) }
 {
     let done = put_on_global(store, name, v)?;
     Ok(store.require(is_met(throwing, done), "cannot write")?)
@@ -175,7 +175,7 @@ fn value_change(v: Value) -> Change
 /// The same end, which is no fault.
 fn without_fault<T>(end: Finished<T>) -> Answer<T>
     requires { IsTrue (is_no_fault end) }
-    ensures { answered result ≡ finished end }
+    ensures { ends_with result ≡ finish_of end }
 {
     match end {
         Finished::Gives(value) => Answer::Gives(value),

@@ -6,7 +6,7 @@ ghost use Rattle.jl_heap.specs.declared.property.Prop.TheVariants.{Plain};
 ghost use Rattle.jl_meaning.specs.Changes.{NewObject};
 ghost use Rattle.jl_meaning.specs.Realm.{realm};
 ghost use Rattle.jl_realm.specs.Global.{HasGlobalObject};
-ghost use Rattle.jl_realm.specs.inner.Steps.{address, all_ready, applied, changes_of, function_made, function_named};
+ghost use Rattle.jl_realm.specs.inner.Steps.{address, all_ready, after_all, changes_of, function_made, function_named};
 ghost use Rattle.jl_realm.specs.inner.Steps.{inner_of, inside_fits, property_added, row_fits, rows, rows_fit};
 ghost use Rattle.jl_realm.specs.inner.Steps.{step_fits};
 ghost use Rattle.jl_realm.specs.inner.Steps.{value_fits, value_of, word_text};
@@ -34,7 +34,7 @@ pub fn initial_store(alloc: Global) -> Result<Store, NoMemory>
 fn take_all(alloc: Global, store: &mut Store, steps: &[Step]) -> Result<(), NoMemory>
     requires fit { IsTrue (list_all step_fits steps.now) }
     requires ready { IsTrue (all_ready (flat_map changes_of steps.now) store.old) }
-    ensures { OnOk result (store.new ≡ applied (flat_map changes_of steps.now) store.old) }
+    ensures { OnOk result (store.new ≡ after_all (flat_map changes_of steps.now) store.old) }
 {
     for step in steps {
         take(alloc, store, *step)?;
@@ -45,7 +45,7 @@ fn take_all(alloc: Global, store: &mut Store, steps: &[Step]) -> Result<(), NoMe
 fn take(alloc: Global, store: &mut Store, step: Step) -> Result<(), NoMemory>
     requires fits { IsTrue (step_fits step) }
     requires ready { IsTrue (all_ready (changes_of step) store.old) }
-    ensures { OnOk result (store.new ≡ applied (changes_of step) store.old) }
+    ensures { OnOk result (store.new ≡ after_all (changes_of step) store.old) }
 {
     match step {
         Step::Object(class, proto, inside) => make_object(alloc, store, class, proto, inside),
@@ -73,7 +73,7 @@ fn make_object(
 ) -> Result<(), NoMemory>
     requires { IsTrue (inside_fits inside) }
     ensures { OnOk result (store.new
-        ≡ applied (NewObject class (option_map address proto) (inner_of inside) ∷ []) store.old) }
+        ≡ after_all (NewObject class (option_map address proto) (inner_of inside) ∷ []) store.old) }
 {
     let inner = inner(alloc, inside)?;
     store.new_object(class, address(proto), inner)?;
@@ -110,7 +110,7 @@ fn add_property(
 ) -> Result<(), NoMemory>
     requires fits { IsTrue (value_fits v) }
     requires ready { IsTrue (all_ready (property_added holder word v changeable) store.old) }
-    ensures { OnOk result (store.new ≡ applied (property_added holder word v changeable) store.old) }
+    ensures { OnOk result (store.new ≡ after_all (property_added holder word v changeable) store.old) }
 {
     let name = text_of(alloc, word)?;
     let value = value(alloc, v)?;
@@ -127,7 +127,7 @@ fn add_functions(
 ) -> Result<(), NoMemory>
     requires fit { IsTrue (rows_fit from to) }
     requires ready { IsTrue (all_ready (flat_map (function_named holder) (rows from to)) store.old) }
-    ensures { OnOk result (store.new ≡ applied (flat_map (function_named holder) (rows from to)) store.old) }
+    ensures { OnOk result (store.new ≡ after_all (flat_map (function_named holder) (rows from to)) store.old) }
 {
     for row in from..to {
         add_function(alloc, store, holder, row)?;
@@ -138,7 +138,7 @@ fn add_functions(
 fn add_function(alloc: Global, store: &mut Store, holder: usize, row: u16) -> Result<(), NoMemory>
     requires fits { IsTrue (row_fits row) }
     requires ready { IsTrue (all_ready (function_named holder row) store.old) }
-    ensures { OnOk result (store.new ≡ applied (function_named holder row) store.old) }
+    ensures { OnOk result (store.new ≡ after_all (function_named holder row) store.old) }
 {
     let name = word(alloc, name(row))?;
     store.add_property(ObjId(holder), &name, data(Value::Obj(place(row)), true))?;
@@ -148,7 +148,7 @@ fn add_function(alloc: Global, store: &mut Store, holder: usize, row: u16) -> Re
 fn make_functions(alloc: Global, store: &mut Store, from: u16, to: u16) -> Result<(), NoMemory>
     requires fit { IsTrue (rows_fit from to) }
     requires ready { IsTrue (all_ready (flat_map function_made (rows from to)) store.old) }
-    ensures { OnOk result (store.new ≡ applied (flat_map function_made (rows from to)) store.old) }
+    ensures { OnOk result (store.new ≡ after_all (flat_map function_made (rows from to)) store.old) }
 {
     for row in from..to {
         make_function(alloc, store, row)?;
@@ -159,7 +159,7 @@ fn make_functions(alloc: Global, store: &mut Store, from: u16, to: u16) -> Resul
 fn make_function(alloc: Global, store: &mut Store, row: u16) -> Result<(), NoMemory>
     requires fits { IsTrue (row_fits row) }
     requires ready { IsTrue (all_ready (function_made row) store.old) }
-    ensures { OnOk result (store.new ≡ applied (function_made row) store.old) }
+    ensures { OnOk result (store.new ≡ after_all (function_made row) store.old) }
 {
     let name = text_of(alloc, Word::Length)?;
     let length = Value::Num(count(length(row)));

@@ -10,8 +10,8 @@ use Rattle.jl_op.specs.declared.op.OpId.{OpId}
 use Rattle.jl_op.specs.Operations.{Operation}
 use Rattle.jl_analysis.specs.Memories.{one_more}
 use Rattle.jl_analysis.specs.Rules.{hit, hits_by, rule_at, all_rules, rules}
-use Rattle.jl_analysis.specs.Summary.{Counts, counted, hits_after, hits, summary}
-use Rattle.jl_report.specs.Reports.{Place, Findings, capped, nth, is_place, place_of, total_at, found_at, hits_at}
+use Rattle.jl_analysis.specs.Summary.{Counts, add_hit, hits_after, hits, summary}
+use Rattle.jl_report.specs.Reports.{Place, Findings, saturate_u64, nth, is_place, place_of, total_at, found_at, hits_at}
 use Rattle.jl_report.proofs.Totals.{number, here}
 
 -- One more hit.
@@ -20,15 +20,15 @@ one_more_is : (n : ℕ) → n + 1 < 2 ^ 64 → one_more n ≡ n + 1
 one_more_is n h = omega arith
 
 counted_sum : (c : Counts) (id : OpId) → sum_by number c + 1 < 2 ^ 64
-    → sum_by number (counted c id) ≡ sum_by number c + 1
+    → sum_by number (add_hit c id) ≡ sum_by number c + 1
 counted_sum [] id h = refl
 counted_sum (x ∷ c) id h =
     counted_sum_by (nat_eq id.0 x.0.0) (counted_sum c id (omega (arith, sum_by-cons number x c)))
   where
-    counted_sum_by : (b : Bool) → sum_by number (counted c id) ≡ sum_by number c + 1
-        → sum_by number (if b then (x.0, one_more x.1) ∷ c else x ∷ counted c id) ≡ sum_by number (x ∷ c) + 1
+    counted_sum_by : (b : Bool) → sum_by number (add_hit c id) ≡ sum_by number c + 1
+        → sum_by number (if b then (x.0, one_more x.1) ∷ c else x ∷ add_hit c id) ≡ sum_by number (x ∷ c) + 1
     counted_sum_by true r = omega (arith, sum_by-cons number x c, sum_by-cons number (x.0, one_more x.1) c)
-    counted_sum_by false r = omega (arith, sum_by-cons number x c, sum_by-cons number x (counted c id))
+    counted_sum_by false r = omega (arith, sum_by-cons number x c, sum_by-cons number x (add_hit c id))
 
 -- whether an id is at a place, as a number
 abbrev one_at : List Place → Place → OpId → ℕ
@@ -44,15 +44,15 @@ same_at places at i j e = let same : j.0 ≡ i.0 = grind arith in
     ap (λ n. if is_place at (nth places n) then 1 else 0) same
 
 counted_total : (places : List Place) (at : Place) (c : Counts) (id : OpId) → sum_by number c + 1 < 2 ^ 64
-    → total_at places (counted c id) at ≡ total_at places c at + one_at places at id
+    → total_at places (add_hit c id) at ≡ total_at places c at + one_at places at id
 counted_total places at [] id h = omega arith
 counted_total places at (x ∷ c) id h =
     counted_total_by (nat_eq id.0 x.0.0) refl
     (counted_total places at c id (omega (arith, sum_by-cons number x c)))
   where
     counted_total_by : (b : Bool) → nat_eq id.0 x.0.0 ≡ b
-        → total_at places (counted c id) at ≡ total_at places c at + one_at places at id
-        → total_at places (if b then (x.0, one_more x.1) ∷ c else x ∷ counted c id) at
+        → total_at places (add_hit c id) at ≡ total_at places c at + one_at places at id
+        → total_at places (if b then (x.0, one_more x.1) ∷ c else x ∷ add_hit c id) at
         ≡ total_at places (x ∷ c) at + one_at places at id
     counted_total_by true e r =
         let more : here places at (x.0, one_more x.1) ≡ here places at x + one_at places at x.0 =
@@ -66,26 +66,26 @@ counted_total places at (x ∷ c) id h =
           same_at places at id x.0 e,
         )
     counted_total_by false e r =
-        omega (arith, sum_by-cons (here places at) x c, sum_by-cons (here places at) x (counted c id))
+        omega (arith, sum_by-cons (here places at) x c, sum_by-cons (here places at) x (add_hit c id))
 
 -- All hits.
 
 fold_sum : (ids : List OpId) (c : Counts) → sum_by number c + length ids < 2 ^ 64
-    → sum_by number (fold counted c ids) ≡ sum_by number c + length ids
+    → sum_by number (fold add_hit c ids) ≡ sum_by number c + length ids
 fold_sum [] c h = omega arith
 fold_sum (id ∷ ids) c h =
     let one = counted_sum c id (omega arith) in
-    let rest = fold_sum ids (counted c id) (omega arith) in
+    let rest = fold_sum ids (add_hit c id) (omega arith) in
     omega arith
 
 fold_total : (places : List Place) (at : Place) (ids : List OpId) (c : Counts) → sum_by number c + length ids < 2 ^ 64
-    → total_at places (fold counted c ids) at
+    → total_at places (fold add_hit c ids) at
     ≡ total_at places c at + count_by (λ id. is_place at (place_of places id)) ids
 fold_total places at [] c h = omega arith
 fold_total places at (id ∷ ids) c h =
     let sum = counted_sum c id (omega arith) in
     let one = counted_total places at c id (omega arith) in
-    let rest = fold_total places at ids (counted c id) (omega arith) in
+    let rest = fold_total places at ids (add_hit c id) (omega arith) in
     omega (arith, sum_by-cons (one_at places at) id ids)
 
 -- there are no more hits than operations
@@ -213,7 +213,7 @@ all_total rule places at ops h = findings_total all_rules rule places at ops h
 
 -- so few hits are not capped
 pub hits_capped : (places : List Place) (ops : List Operation) (rule : ℕ) (at : Place) → length ops < 2 ^ 64
-    → capped (hits_at places ops rule at) ≡ hits_at places ops rule at
+    → saturate_u64 (hits_at places ops rule at) ≡ hits_at places ops rule at
 hits_capped places ops rule at h =
     let few = hits_few rule ops h in
     let within = count_by-le-length (λ id. is_place at (place_of places id)) (hits rule ops) in

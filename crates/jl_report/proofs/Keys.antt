@@ -5,7 +5,7 @@ use Rattle.std.specs.Ordering.{is_eq, nat_cmp, ordering_then}
 use Rattle.std.specs.Prelude.{if◌then◌else◌, cond, Option, Some, unwrap_or}
 use Rattle.std.specs.declared.cmp.Ordering.{Ordering}
 use Rattle.std.specs.declared.cmp.Ordering.TheVariants.{Less, Equal, Greater}
-use Rattle.jl_report.specs.Reports.{Key, by_place, capped}
+use Rattle.jl_report.specs.Reports.{Key, by_place, saturate_u64}
 
 both_equal : (a b : Ordering) → is_eq (ordering_then a b) ≡ (is_eq a && is_eq b)
 both_equal Less b = refl
@@ -62,15 +62,15 @@ not_zero false v o h i e = i e
 
 -- a number grows by what an entry at its place and rule adds, and else stays
 pub grows : (here same : Bool) (n t old before new count : ℕ)
-    → new ≡ (if here && same then capped (before + count) else old) → (here && same ≡ true → before ≡ old)
-    → old ≡ capped (n + (if same then t else 0))
-    → new ≡ capped (n + (if same then t + (if here then count else 0) else 0))
+    → new ≡ (if here && same then saturate_u64 (before + count) else old) → (here && same ≡ true → before ≡ old)
+    → old ≡ saturate_u64 (n + (if same then t else 0))
+    → new ≡ saturate_u64 (n + (if same then t + (if here then count else 0) else 0))
 grows true true n t old before new count is one was = omega (arith, one refl)
 grows true false n t old before new count is one was = omega arith
 grows false true n t old before new count is one was = omega arith
 grows false false n t old before new count is one was = omega arith
 
 -- before anything is added
-pub starts : (same : Bool) (n : ℕ) → n < 2 ^ 64 → n ≡ capped (n + (if same then 0 else 0))
+pub starts : (same : Bool) (n : ℕ) → n < 2 ^ 64 → n ≡ saturate_u64 (n + (if same then 0 else 0))
 starts true n h = omega arith
 starts false n h = omega arith

@@ -11,7 +11,7 @@ use Rattle.std.specs.Map.{lookup, keys_of}
 use Rattle.std.specs.Ordering.{is_eq}
 use Rattle.std.specs.Prelude.{if◌then◌else◌, cond, filter, unwrap_or}
 use Rattle.jl_report.specs.declared.line.Line.{Line}
-use Rattle.jl_report.specs.Collected.{Collected, number_in, HasHits}
+use Rattle.jl_report.specs.inner.Collected.{Collected, number_in, HasHits}
 use Rattle.jl_report.specs.Off.{Pair, is_off}
 use Rattle.jl_report.specs.Reports.{Key, Place, key, by_place, count_of, if_any, is_shown, AreLines}
 use Rattle.jl_report.proofs.Keys.{same_key, same_is}

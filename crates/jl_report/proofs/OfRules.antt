@@ -7,7 +7,7 @@ use Rattle.std.specs.Map.{keys_of}
 use Rattle.std.specs.Prelude.{filter}
 use Rattle.jl_analysis.specs.Rules.{IsRule}
 use Rattle.jl_report.specs.declared.line.Line.{Line}
-use Rattle.jl_report.specs.Collected.{Collected, AreOfRules}
+use Rattle.jl_report.specs.inner.Collected.{Collected, AreOfRules}
 use Rattle.jl_report.specs.Reports.{Key, key, by_place}
 use Rattle.jl_report.proofs.Listing.{keys_of-filter}
 

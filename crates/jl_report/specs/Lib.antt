@@ -1,5 +1,5 @@
-pub mod Collected
 pub mod Laws
 pub mod Off
 pub mod Reports
 pub mod Texts
+pub mod inner

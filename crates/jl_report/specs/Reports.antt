@@ -52,8 +52,8 @@ abbrev pub found_at : (places : List Place) → Findings → (rule : ℕ) → (a
 found_at places findings rule at = sum_by (λ f. if f.0 == rule then total_at places f.1 at else 0) findings
 
 -- a number that stands still at the end of its type
-abbrev pub capped : ℕ → ℕ
-capped n = min n (2 ^ 64 - 1)
+abbrev pub saturate_u64 : ℕ → ℕ
+saturate_u64 n = min n (2 ^ 64 - 1)
 
 -- a line stands only where there is a hit
 abbrev pub if_any : ℕ → Option ℕ
@@ -95,4 +95,4 @@ IsReport chosen off places operations = AreLines (is_shown chosen off) (hits_at 
 -- the report of what checkers found
 abbrev pub IsReportOfFindings : (chosen : ℕ → Bool) → (off : List Pair) → List Place → Findings → List Line → Type 0
 IsReportOfFindings chosen off places findings =
-    AreLines (is_shown chosen off) (λ rule at. capped (found_at places findings rule at))
+    AreLines (is_shown chosen off) (λ rule at. saturate_u64 (found_at places findings rule at))

@@ -5,9 +5,9 @@ ghost use Rattle.jl_analysis.specs.Chosen.{is_chosen};
 ghost use Rattle.jl_analysis.specs.Rules.{IsRule, all_rules};
 ghost use Rattle.jl_op.specs.Map.{BeginsIn};
 ghost use Rattle.jl_op.specs.Operations.{Operation};
-ghost use Rattle.jl_report.specs.Collected.{number_in, HasHits, AreOfRules};
+ghost use Rattle.jl_report.specs.inner.Collected.{number_in, HasHits, AreOfRules};
 ghost use Rattle.jl_report.specs.Off.{is_off};
-ghost use Rattle.jl_report.specs.Reports.{Key as Keyed, by_place, key, place_of, places_of, total_at, capped};
+ghost use Rattle.jl_report.specs.Reports.{Key as Keyed, by_place, key, place_of, places_of, total_at, saturate_u64};
 ghost use Rattle.jl_report.specs.Reports.{IsReport, IsReportOfFindings};
 
 use crate::line::Line;
@@ -48,7 +48,7 @@ pub fn report_at(
             add(&mut hits, rule, crowd.found(place), places)?;
         }
     }
-    listed(alloc, &hits, off)
+    list_lines(alloc, &hits, off)
 }
 
 /// The report of what the checkers of the chosen rules found, where `map` has the part of the source for each id, and
@@ -101,7 +101,7 @@ fn add(
     ensures some { OnOk result (HasHits hits.new) }
     ensures rules { OnOk result (AreOfRules hits.new) }
     ensures numbers { OnOk result ((k : Keyed) → number_in hits.new k
-        ≡ capped (number_in hits.old k + (if rule == k.2 then total_at places.now found.now (k.0, k.1) else 0))) }
+        ≡ saturate_u64 (number_in hits.old k + (if rule == k.2 then total_at places.now found.now (k.0, k.1) else 0))) }
 {
     for (id, count) in found {
         if *count == 0 {
@@ -125,7 +125,7 @@ fn place(places: &[(u32, u32)], id: OpId) -> Option<(u32, u32)>
 }
 
 /// The lines with these numbers of hits, in their order, but those that are switched off.
-fn listed(alloc: Global, hits: &BTreeMap<Key, u64>, off: &Off) -> Result<Vec<Line>, AllocError>
+fn list_lines(alloc: Global, hits: &BTreeMap<Key, u64>, off: &Off) -> Result<Vec<Line>, AllocError>
     ensures listed { IfOk result (λ lines. map (λ x. (key x, x.count)) lines.items
         ≡ filter (λ e. not (is_off off.now e.0.0 e.0.2)) hits.now.entries) }
     ensures in_order { IsOrdered by_place hits.now }

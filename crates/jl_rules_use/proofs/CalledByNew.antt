@@ -17,7 +17,7 @@ use Rattle.jl_analysis.specs.Memories.{Memory, noted_once, called_by_new}
 use Rattle.jl_analysis.specs.Rules.{rules, hit, memory_of}
 use Rattle.jl_analysis.specs.UseRules.{makes_by, is_prototype_of_function}
 use Rattle.jl_analysis.specs.Values.{is_object_at}
-use Rattle.jl_rules_use.specs.Remembered.{was_called, sets_late}
+use Rattle.jl_rules_use.specs.inner.Remembered.{was_called, sets_late}
 
 -- the place is remembered
 abbrev has : ℕ → Memory → Bool

@@ -9,7 +9,7 @@ use Rattle.jl_analysis.specs.Memories.{Memory, one_more_if, none_entered, entere
 use Rattle.jl_analysis.specs.Rules.{rules, hit, memory_of}
 use Rattle.jl_analysis.specs.UseRules.{enters, leaves, so_many}
 use Rattle.jl_analysis.specs.Values.{is_object_at, global_object}
-use Rattle.jl_rules_use.specs.Remembered.{is_inside, writes_global}
+use Rattle.jl_rules_use.specs.inner.Remembered.{is_inside, writes_global}
 
 -- a count that stands still at the end of its type
 abbrev stopped : ℕ → ℕ

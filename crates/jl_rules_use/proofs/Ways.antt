@@ -16,8 +16,8 @@ use Rattle.jl_analysis.specs.Memories.{Memory, way, both_ways, noted_way, ways_c
 use Rattle.jl_analysis.specs.Rules.{rules, hit, memory_of}
 use Rattle.jl_analysis.specs.UseRules.{calls, same_way}
 use Rattle.jl_rules_use.specs.declared.mixed_new.Ways.{Ways}
-use Rattle.jl_rules_use.specs.Remembered.{ways_of, tells_way, mixes}
-use Rattle.jl_rules_use.specs.Ways.{number_of, numbered}
+use Rattle.jl_rules_use.specs.inner.Remembered.{ways_of, tells_way, mixes}
+use Rattle.jl_rules_use.specs.Ways.{number_of, memory_of_ways}
 
 looked_up : (found : Bool) (ways : Ways) (rest : Option Ways) (remembered : Option ℕ)
     → option_map number_of rest ≡ remembered
@@ -26,11 +26,11 @@ looked_up true ways rest remembered is = refl
 looked_up false ways rest remembered is = is
 
 -- a look-up gives what is remembered
-pub ways_of-numbered : (entries : List (ℕ × Ways)) (function : ℕ)
-    → option_map number_of (lookup (nat_eq function) entries) ≡ ways_of (numbered entries) function
-ways_of-numbered [] function = refl
-ways_of-numbered (x ∷ entries) function =
-    looked_up (function == x.0) x.1 (lookup (nat_eq function) entries) _ (ways_of-numbered entries function)
+pub ways_of-memory_of_ways : (entries : List (ℕ × Ways)) (function : ℕ)
+    → option_map number_of (lookup (nat_eq function) entries) ≡ ways_of (memory_of_ways entries) function
+ways_of-memory_of_ways [] function = refl
+ways_of-memory_of_ways (x ∷ entries) function =
+    looked_up (function == x.0) x.1 (lookup (nat_eq function) entries) _ (ways_of-memory_of_ways entries function)
 
 -- the number of the ways once there is one more
 abbrev more_ways : Option ℕ → ℕ → ℕ
@@ -39,23 +39,23 @@ more_ways before now = option_map_or (λ ways. both_ways ways now) before now
 inserted : (found : Bool) (x : ℕ × Ways) (entries put : List (ℕ × Ways)) (ways : Ways) (now : ℕ)
     (before : Option ℕ) (noted : Memory)
     → number_of ways ≡ more_ways (if found then Some (number_of x.1) else before) now
-    → (number_of ways ≡ more_ways before now → numbered put ≡ noted)
-    → numbered (if found then (x.0, ways) ∷ entries else x ∷ put)
-    ≡ (if found then (x.0, both_ways (number_of x.1) now) ∷ numbered entries else (x.0, number_of x.1) ∷ noted)
-inserted true x entries put ways now before noted is rest = ap (λ n. (x.0, n) ∷ numbered entries) is
+    → (number_of ways ≡ more_ways before now → memory_of_ways put ≡ noted)
+    → memory_of_ways (if found then (x.0, ways) ∷ entries else x ∷ put)
+    ≡ (if found then (x.0, both_ways (number_of x.1) now) ∷ memory_of_ways entries else (x.0, number_of x.1) ∷ noted)
+inserted true x entries put ways now before noted is rest = ap (λ n. (x.0, n) ∷ memory_of_ways entries) is
 inserted false x entries put ways now before noted is rest = ap (λ l. (x.0, number_of x.1) ∷ l) (rest is)
 
 -- and an insertion notes one more way
-pub numbered-insert_entry : (entries : List (ℕ × Ways)) (function : ℕ) (ways : Ways) (now : ℕ)
-    → number_of ways ≡ more_ways (ways_of (numbered entries) function) now
-    → numbered (insert_entry nat_eq entries function ways) ≡ noted_way (numbered entries) function now
-numbered-insert_entry [] function ways now is = ap (λ n. (function, n) ∷ []) is
-numbered-insert_entry (x ∷ entries) function ways now is =
+pub memory_of_ways-insert_entry : (entries : List (ℕ × Ways)) (function : ℕ) (ways : Ways) (now : ℕ)
+    → number_of ways ≡ more_ways (ways_of (memory_of_ways entries) function) now
+    → memory_of_ways (insert_entry nat_eq entries function ways) ≡ noted_way (memory_of_ways entries) function now
+memory_of_ways-insert_entry [] function ways now is = ap (λ n. (function, n) ∷ []) is
+memory_of_ways-insert_entry (x ∷ entries) function ways now is =
     inserted (function == x.0) x entries (insert_entry nat_eq entries function ways) ways now
-    (ways_of (numbered entries) function) (noted_way (numbered entries) function now) is
-    (numbered-insert_entry entries function ways now)
+    (ways_of (memory_of_ways entries) function) (noted_way (memory_of_ways entries) function now) is
+    (memory_of_ways-insert_entry entries function ways now)
 
-pub ruleset as_numbers = (ways_of-numbered, numbered-insert_entry)
+pub ruleset as_numbers = (ways_of-memory_of_ways, memory_of_ways-insert_entry)
 
 -- numbers that stand for ways
 abbrev IsWay : ℕ → Type 0

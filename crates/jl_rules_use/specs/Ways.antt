@@ -10,5 +10,5 @@ number_of ways.New = 2
 number_of ways.Both = 3
 
 -- what mixed-new remembers
-abbrev pub numbered : List (ℕ × Ways) → Memory
-numbered entries = map (λ x. (x.0, number_of x.1)) entries
+abbrev pub memory_of_ways : List (ℕ × Ways) → Memory
+memory_of_ways entries = map (λ x. (x.0, number_of x.1)) entries

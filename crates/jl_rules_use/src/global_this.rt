@@ -3,7 +3,7 @@
 ghost use Rattle.std.proofs.Common.{rules};
 ghost use Rattle.std.specs.Prelude.{◌≡◌};
 ghost use Rattle.jl_analysis.specs.Memories.{entered_and_left};
-ghost use Rattle.jl_rules_use.specs.Remembered.{writes_global};
+ghost use Rattle.jl_rules_use.specs.inner.Remembered.{writes_global};
 
 use jl_analysis::values::is_object_at;
 use jl_analysis::{Checker, Rule};

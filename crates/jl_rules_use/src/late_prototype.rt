@@ -3,7 +3,7 @@
 ghost use Rattle.std.proofs.Common.{rules};
 ghost use Rattle.std.specs.Prelude.{◌≡◌, OnOk};
 ghost use Rattle.jl_analysis.specs.Memories.{called_by_new, noted_once};
-ghost use Rattle.jl_rules_use.specs.Remembered.{was_called, sets_late};
+ghost use Rattle.jl_rules_use.specs.inner.Remembered.{was_called, sets_late};
 
 use crate::prototype::is_prototype_of_function;
 use indexmap::IndexSet;

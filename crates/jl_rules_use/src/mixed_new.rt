@@ -3,7 +3,7 @@
 ghost use Rattle.std.proofs.Common.{rules};
 ghost use Rattle.std.specs.Prelude.{◌≡◌, OnOk, Some, option_map};
 ghost use Rattle.jl_analysis.specs.Memories.{both_ways, noted_way, way, ways_called};
-ghost use Rattle.jl_rules_use.specs.Remembered.{mixes, tells_way, ways_of};
+ghost use Rattle.jl_rules_use.specs.inner.Remembered.{mixes, tells_way, ways_of};
 ghost use Rattle.jl_rules_use.specs.Ways.{number_of};
 
 use indexmap::IndexMap;
@@ -29,11 +29,11 @@ pub struct MixesNew {
 
 impl Model for MixesNew {
     ghost use Rattle.jl_analysis.specs.Memories.{Memory};
-    ghost use Rattle.jl_rules_use.specs.Ways.{numbered};
+    ghost use Rattle.jl_rules_use.specs.Ways.{memory_of_ways};
 
     ghost Value = { Memory };
 
-    ghost view = { λ it. numbered it.called.entries };
+    ghost view = { λ it. memory_of_ways it.called.entries };
 }
 
 /// The checker of mixed-new.

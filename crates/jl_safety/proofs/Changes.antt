@@ -11,14 +11,14 @@ use Rattle.jl_value.specs.declared.object.ObjId.{ObjId}
 use Rattle.jl_value.specs.declared.value.Value.{Value}
 use Rattle.jl_value.specs.declared.value.Value.TheVariants as value
 use Rattle.jl_value.specs.Indices.{index_of}
-use Rattle.jl_heap.specs.Define.{counted, define_array_element, define_array_length, define_on, define_ordinary}
+use Rattle.jl_heap.specs.Define.{grow_length, define_array_element, define_array_length, define_on, define_ordinary}
 use Rattle.jl_heap.specs.Define.{define_own_property, defined_at, defined_shorter, shortened_to, store_property}
 use Rattle.jl_heap.specs.Define.{is_array, length_name, with_length, with_new_property}
 use Rattle.jl_heap.specs.Headers.{unmapped_inside}
 use Rattle.jl_heap.specs.NewObject.{proto_there, with_bare_object, with_new_object}
 use Rattle.jl_heap.specs.Objects.{absent_object, deleted_if, object_at, own, own_or_unit, with_object}
 use Rattle.jl_heap.specs.Objects.{with_properties, Name, Object, Objects}
-use Rattle.jl_heap.specs.Property.{is_configurable, is_same, revised}
+use Rattle.jl_heap.specs.Property.{is_configurable, is_same, property_after}
 use Rattle.jl_heap.specs.declared.inner.Inner.{Inner}
 use Rattle.jl_heap.specs.declared.inner.Inner.TheVariants as inner
 use Rattle.jl_heap.specs.declared.property.Change.{Change}
@@ -95,7 +95,7 @@ on_stays : (h : Objects) (place : ℕ) (x : Name) (change : Change) (p : Option 
 on_stays h place x change None =
     first_if (object_at h place).extensible _ _ (new_property_stays h place x _) (stays_same h)
 on_stays h place x change (Some p) =
-    first_if (is_same p change) _ _ (stays_same h) (stored_stays h place x (revised p change))
+    first_if (is_same p change) _ _ (stays_same h) (stored_stays h place x (property_after p change))
 
 ordinary_stays : (h : Objects) (place : ℕ) (x : Name) (change : Change) → Stays h (define_ordinary h place x change).0
 ordinary_stays h place x change = on_stays h place x change (own_or_unit h place x)
@@ -105,7 +105,7 @@ length_stays h place n None = stays_same h
 length_stays h place n (Some p) = properties_stay h place _
 
 counted_stays : {h : Objects} (place index : ℕ) (length : Option Prop) (p : Objects × Defined) → Stays h p.0
-    → Stays h (counted place index length p).0
+    → Stays h (grow_length place index length p).0
 counted_stays place index length (g, Rejected) y = y
 counted_stays place index length (g, Done) y = stays_if _ (stays_then y (length_stays g place _ length)) y
 

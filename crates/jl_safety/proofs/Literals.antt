@@ -19,7 +19,7 @@ use Rattle.jl_meaning.specs.FunctionObjects.{add_poison, create_function, functi
 use Rattle.jl_meaning.specs.FunctionObjects.{make_function, make_function_expression, make_named, whole}
 use Rattle.jl_meaning.specs.Intrinsics.{array_prototype, function_prototype, object_prototype}
 use Rattle.jl_meaning.specs.Noting.{note_or_misuse, performs}
-use Rattle.jl_meaning.specs.Parts.{add_property, change_store, fault_of, give, given, gives, lift, new_object, throws}
+use Rattle.jl_meaning.specs.Parts.{add_property, change_store, fault_of, give, continue_with, gives, lift, new_object, throws}
 use Rattle.jl_meaning.specs.Parts.{◌>>=◌}
 use Rattle.jl_meaning.specs.Parts.{Algorithm, Answer, CallOf, Func, Part}
 use Rattle.jl_meaning.specs.Store.{next_environment, next_object, Store}
@@ -45,14 +45,14 @@ object_safe id f x = record {
       let o : ObjId = next_object s in
       let c = NewObject class.Object (Some object_prototype) inner.Nothing in
       from_then (apply c s) (λ r t. Keeps (apply c s) t) (λ r t. Keeps s t) (f o)
-      (given (λ done. literal_of of_object id (value.Obj o))) ((x o).at (apply c s))
+      (continue_with (λ done. literal_of of_object id (value.Obj o))) ((x o).at (apply c s))
       (λ r t kept. on s o (apply c s) (keeps_change c s)
       (new_made s.heap class.Object (Some object_prototype) inner.Nothing (op.ObjectLiteral o) refl) r t kept);
 }
   where
     on : (s : Store) (o : ObjId) (made : Store) → Keeps s made → IsMade o (op.ObjectLiteral o) made.heap
         → (r : Answer (Unit {0})) (t : Store) → Keeps made t
-        → From t (λ r u. Keeps s u) (given (λ done. literal_of of_object id (value.Obj o)) r)
+        → From t (λ r u. Keeps s u) (continue_with (λ done. literal_of of_object id (value.Obj o)) r)
     on s o made new m (gives a) t kept =
         literal_done of_object id (value.Obj o) (op.ObjectLiteral o) s t (ap of_object (still_made m kept.heap).is)
         (keeps_then s made t new kept)
@@ -64,13 +64,13 @@ array_done : (id n : ℕ) (array : ObjId) (s t : Store) → Keeps s t → IsMade
 unfolding end_array
 array_done id n array s t new m =
     from_then t (λ r u. Keeps t u) (λ r u. Keeps s u) (lift define)
-    (given (λ done. literal_of of_array id (value.Obj array))) (lift_from define t) on
+    (continue_with (λ done. literal_of of_array id (value.Obj array))) (lift_from define t) on
   where
     define : Algorithm Bool
     define = define_own_property array length_name (value_change (whole n))
 
     on : (r : Answer Bool) (u : Store) → Keeps t u
-        → From u (λ r u. Keeps s u) (given (λ done. literal_of of_array id (value.Obj array)) r)
+        → From u (λ r u. Keeps s u) (continue_with (λ done. literal_of of_array id (value.Obj array)) r)
     on (gives a) u kept =
         literal_done of_array id (value.Obj array) (op.ArrayLiteral array) s u (ap of_array (still_made m kept.heap).is)
         (keeps_then s t u new kept)
@@ -83,13 +83,13 @@ array_safe id f x = record {
       let o : ObjId = next_object s in
       let c = NewObject class.Array (Some array_prototype) inner.Nothing in
       from_then (apply c s) (λ r t. Keeps (apply c s) t) (λ r t. Keeps s t) (f o)
-      (given (λ n. end_array id o n)) ((x o).at (apply c s))
+      (continue_with (λ n. end_array id o n)) ((x o).at (apply c s))
       (λ r t kept. on s o (apply c s) (keeps_change c s)
       (new_made s.heap class.Array (Some array_prototype) inner.Nothing (op.ArrayLiteral o) refl) r t kept);
 }
   where
     on : (s : Store) (o : ObjId) (made : Store) → Keeps s made → IsMade o (op.ArrayLiteral o) made.heap
-        → (r : Answer ℕ) (t : Store) → Keeps made t → From t (λ r u. Keeps s u) (given (λ n. end_array id o n) r)
+        → (r : Answer ℕ) (t : Store) → Keeps made t → From t (λ r u. Keeps s u) (continue_with (λ n. end_array id o n) r)
     on s o made new m (gives n) t kept =
         array_done id n o s t (keeps_then s made t new kept) (still_made m kept.heap)
     on s o made new m (throws v) t kept = keeps_then s made t new kept
@@ -114,9 +114,9 @@ created : (strict : Bool) (number params env : ℕ) (s : Store)
 unfolding create_function
 created strict number params env s =
     subst (λ p. From t (λ r u. FunctionIsMade s r u) p)
-    (sym (row-and_then CallOf fault_of (equip_function strict params f) (given (λ done. give f))))
+    (sym (row-and_then CallOf fault_of (equip_function strict params f) (continue_with (λ done. give f))))
     (from_then t (λ r u. Keeps t u) (λ r u. FunctionIsMade s r u) (lift (equip_function strict params f))
-    (λ r. lift (given (λ done. give f) r)) (lift_from (equip_function strict params f) t) on)
+    (λ r. lift (continue_with (λ done. give f) r)) (lift_from (equip_function strict params f) t) on)
   where
     f : ObjId
     f = next_object s
@@ -128,7 +128,7 @@ created strict number params env s =
     t = apply c s
 
     on : (r : Answer (Unit {0})) (u : Store) → Keeps t u
-        → From u (λ r w. FunctionIsMade s r w) (lift (given (λ done. give f) r))
+        → From u (λ r w. FunctionIsMade s r w) (lift (continue_with (λ done. give f) r))
     on (gives a) u kept = (
       keeps_then s t u (keeps_change c s) kept,
       number,
@@ -143,9 +143,9 @@ named outer env f None s =
     created (is_strict outer f) (functions.number_of f) (length (function_params f)) env s
 named outer env f (Some x) s =
     subst (λ p. From t (λ r u. FunctionIsMade s r u) p)
-    (sym (row-and_then CallOf fault_of make (given bind_name)))
+    (sym (row-and_then CallOf fault_of make (continue_with bind_name)))
     (from_then t (λ r u. FunctionIsMade t r u) (λ r u. FunctionIsMade s r u) (lift make)
-    (λ r. lift (given bind_name r))
+    (λ r. lift (continue_with bind_name r))
     (created (is_strict outer f) (functions.number_of f) (length (function_params f)) (next_environment s) t) on)
   where
     t : Store
@@ -161,7 +161,7 @@ named outer env f (Some x) s =
     bind_name id = change_store (bound id) >>= (λ done. give id)
 
     on : (r : Answer ObjId) (u : Store) → FunctionIsMade t r u
-        → From u (λ r w. FunctionIsMade s r w) (lift (given bind_name r))
+        → From u (λ r w. FunctionIsMade s r w) (lift (continue_with bind_name r))
     on (gives id) u h = (
       keeps_then s t (apply (bound id) u) (keeps_change (NewEnvironment env) s)
           (keeps_then t u (apply (bound id) u) h.0 (keeps_change (bound id) u)),
@@ -176,12 +176,12 @@ unfolding make_function_expression
 function_safe id outer env f = record {
   at = λ s.
       from_then s (λ r t. FunctionIsMade s r t) (λ r t. Keeps s t) (lift (make_named outer env f (function_name f)))
-      (given (λ object. literal_of of_function id (value.Obj object))) (named outer env f (function_name f) s)
+      (continue_with (λ object. literal_of of_function id (value.Obj object))) (named outer env f (function_name f) s)
       (λ r t h. on s r t h);
 }
   where
     on : (s : Store) (r : Answer ObjId) (t : Store) → FunctionIsMade s r t
-        → From t (λ r u. Keeps s u) (given (λ object. literal_of of_function id (value.Obj object)) r)
+        → From t (λ r u. Keeps s u) (continue_with (λ object. literal_of of_function id (value.Obj object)) r)
     on s (gives o) t h =
         literal_done of_function id (value.Obj o) (op.FunctionLiteral o h.1) s t (ap of_function h.2.is) h.0
     on s (throws v) t h = h

@@ -13,7 +13,7 @@ use Rattle.jl_effects.proofs.Steady.{row_steady, steady_then, steady_weaken}
 use Rattle.jl_meaning.specs.Changes.{apply}
 use Rattle.jl_meaning.specs.Completions.{ends_as, if_normal, normal, on_given, then_do}
 use Rattle.jl_meaning.specs.Mean.{IsNoMisuse}
-use Rattle.jl_meaning.specs.Parts.{answer_of, begin_call, do_loop, fault_of, for_in_loop, for_loop, give, given, gives}
+use Rattle.jl_meaning.specs.Parts.{answer_of, begin_call, do_loop, fault_of, for_in_loop, for_loop, give, continue_with, gives}
 use Rattle.jl_meaning.specs.Parts.{lift, throw, throws, while_loop, ◌>>=◌, Algorithm, AlgorithmFault, Answer, Call}
 use Rattle.jl_meaning.specs.Parts.{CallOf}
 use Rattle.jl_meaning.specs.Parts.{CodeFromText, Job, Loop, NumberOutside, Part, StringTooLong, Turn, TurnOf}
@@ -99,10 +99,10 @@ thrown v = record { at = λ s. keeps_same s }
 pub bind : {A B : Type 0} {p : Part (Answer A)} {k : A → Part (Answer B)} → Safe p → ((a : A) → Safe (k a))
     → Safe (p >>= k)
 bind {p = p} {k = k} x f = record {
-  at = λ s. from_then s (λ r t. Keeps s t) (λ r t. Keeps s t) p (given k) (x.at s) (λ r t kept. on s r t kept);
+  at = λ s. from_then s (λ r t. Keeps s t) (λ r t. Keeps s t) p (continue_with k) (x.at s) (λ r t kept. on s r t kept);
 }
   where
-    on : (s : Store) (r : Answer _) (t : Store) → Keeps s t → From t (λ r u. Keeps s u) (given k r)
+    on : (s : Store) (r : Answer _) (t : Store) → Keeps s t → From t (λ r u. Keeps s u) (continue_with k r)
     on s (gives a) t kept = safe_later (f a) s t kept
     on s (throws v) t kept = kept
 
@@ -128,7 +128,7 @@ pub call_safe : {B : Type 0} (call : Call) {k : Value → Part (Answer B)} → (
     → Safe (begin_call CallOf call >>= k)
 call_safe call {k = k} f = record { at = λ s. (sound_call call, refl, λ r t kept e. on s (answer_of r) t kept) }
   where
-    on : (s : Store) (r : Answer Value) (t : Store) → Keeps s t → From t (λ r u. Keeps s u) (given k r)
+    on : (s : Store) (r : Answer Value) (t : Store) → Keeps s t → From t (λ r u. Keeps s u) (continue_with k r)
     on s (gives v) t kept = safe_later (f v) s t kept
     on s (throws v) t kept = kept
 

@@ -7,5 +7,5 @@ pub mod Scope
 pub mod EarlyErrors
 pub mod EarlyError
 pub mod Laws
-pub mod Steps
 pub mod NameSets
+pub mod inner

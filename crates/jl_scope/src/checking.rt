@@ -3,7 +3,7 @@
 ghost use Rattle.std.specs.Prelude.{◌≡◌, IfOk, option_map};
 ghost use Rattle.jl_ast.specs.View.{view};
 ghost use Rattle.jl_scope.specs.EarlyError.{first_early_error, Tells};
-ghost use Rattle.jl_scope.specs.Steps.{early_error_of};
+ghost use Rattle.jl_scope.specs.inner.Steps.{early_error_of};
 
 use crate::found::{Finding, Found};
 use crate::refusal::ScopeRefusal;

@@ -1,6 +1,6 @@
 ghost use Rattle.std.specs.Prelude.{◌≡◌, None, option_map};
 ghost use Rattle.jl_scope.specs.Kinds.{comes_before, first_from, sooner};
-ghost use Rattle.jl_scope.specs.Steps.{early_error_of};
+ghost use Rattle.jl_scope.specs.inner.Steps.{early_error_of};
 ghost use Rattle.jl_scope.specs.EarlyErrors.{broken_if};
 
 use crate::rules::EarlyRule;
@@ -42,7 +42,7 @@ pub(crate) struct Found<'a> {
 impl<'a> Model for Found<'a> {
     ghost use Rattle.std.specs.Prelude.{Option, option_map};
     ghost use Rattle.jl_scope.specs.Kinds.{EarlyError};
-    ghost use Rattle.jl_scope.specs.Steps.{early_error_of};
+    ghost use Rattle.jl_scope.specs.inner.Steps.{early_error_of};
 
     ghost Value = { Option EarlyError };
 

@@ -4,7 +4,7 @@ ghost use Rattle.std.specs.Prelude.{◌≡◌, [], ◌++◌, ◌&&◌, OnOk, map
 ghost use Rattle.jl_ast.specs.View.{view_ident};
 ghost use Rattle.jl_scope.specs.Kinds.{first_from};
 ghost use Rattle.jl_scope.specs.Names.{among, with_name};
-ghost use Rattle.jl_scope.specs.Steps.{scope_of};
+ghost use Rattle.jl_scope.specs.inner.Steps.{scope_of};
 ghost use Rattle.jl_scope.specs.NameSets.{SameNames};
 ghost use Rattle.jl_scope.specs.EarlyErrors.{head_early_errors, parameter_early_errors, broken_if};
 ghost use Rattle.jl_scope.specs.EarlyErrors.{written_early_errors};
@@ -27,7 +27,7 @@ pub(crate) fn offer_head(
         (option_map view_ident name.now) (map view_ident params.now))) }
 {
     if let Some(name) = name {
-        found.written(&name.text, name.span, s);
+        found.written_name(&name.text, name.span, s);
     }
     offer_parameters(params, s, found)
 }
@@ -56,6 +56,6 @@ fn offer_parameter<'a>(
 {
     let is_new = before.insert(p.text.units())?;
     found.offer_if(s.strict && !is_new, EarlyRule::StrictParam, p.span);
-    found.written(&p.text, p.span, s);
+    found.written_name(&p.text, p.span, s);
     Ok(())
 }

@@ -4,7 +4,7 @@ ghost use Rattle.std.specs.Prelude.{◌≡◌, [], ◌++◌, map, option_map, If
 ghost use Rattle.jl_scope.specs.Hoisting.{variables, strict_in, declared_in, declared_in_forest, bound_by_function};
 ghost use Rattle.jl_scope.specs.Hoisting.{name_texts, function_names, bound_by_body, declared_in_optional};
 ghost use Rattle.jl_scope.specs.Names.{with_names};
-ghost use Rattle.jl_scope.specs.Steps.{Adds};
+ghost use Rattle.jl_scope.specs.inner.Steps.{Adds};
 ghost use Rattle.jl_ast.specs.View.{view_body, view_statement, view_statements, view_init, view_declarators};
 ghost use Rattle.jl_ast.specs.View.{view_cases, view_functions, view_ident};
 ghost use Rattle.jl_ast.specs.View.{view_branch, view_catch};

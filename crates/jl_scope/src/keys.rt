@@ -3,7 +3,7 @@
 ghost use Rattle.std.specs.Prelude.{◌≡◌, OnOk};
 ghost use Rattle.jl_ast.specs.View.{view_entry, view_entries};
 ghost use Rattle.jl_scope.specs.Kinds.{first_from};
-ghost use Rattle.jl_scope.specs.Steps.{scope_of, keys_of};
+ghost use Rattle.jl_scope.specs.inner.Steps.{scope_of, keys_of};
 ghost use Rattle.jl_scope.specs.NameSets.{SameKeys};
 ghost use Rattle.jl_scope.specs.EarlyErrors.{key_early_errors, literal_early_errors, no_keys, with_key};
 

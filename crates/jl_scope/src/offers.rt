@@ -4,7 +4,7 @@
 ghost use Rattle.std.specs.Prelude.{◌≡◌, option_map};
 ghost use Rattle.jl_ast.specs.View.{view_ident, view_expression};
 ghost use Rattle.jl_scope.specs.Kinds.{first_from};
-ghost use Rattle.jl_scope.specs.Steps.{scope_of};
+ghost use Rattle.jl_scope.specs.inner.Steps.{scope_of};
 ghost use Rattle.jl_scope.specs.EarlyErrors.{identifier_early_errors, written_early_errors, free_early_errors};
 ghost use Rattle.jl_scope.specs.EarlyErrors.{read_early_errors};
 ghost use Rattle.jl_scope.specs.EarlyErrors.{target_early_errors, label_early_errors, break_early_errors};
@@ -34,7 +34,7 @@ impl<'a> Found<'a> {
 
     /// A name that is bound, assigned or updated.
     #[tactic(auto, using(crate::proofs::Firsts::lists), unfolding(crate::specs::EarlyErrors::written_early_errors))]
-    pub(crate) fn written(&mut self, name: &Text, at: Span, s: &Scope<'_>)
+    pub(crate) fn written_name(&mut self, name: &Text, at: Span, s: &Scope<'_>)
         ensures { self.new ≡ first_from self.old (written_early_errors (scope_of s.now) name.now at) }
     {
         let barred = s.strict && is_strict_name(name.units());
@@ -53,7 +53,7 @@ impl<'a> Found<'a> {
 
     /// A name as an expression.
     #[tactic(auto, using(crate::proofs::Firsts::lists), unfolding(crate::specs::EarlyErrors::read_early_errors))]
-    pub(crate) fn read(&mut self, name: &'a Text, at: Span, s: &Scope<'_>)
+    pub(crate) fn read_name(&mut self, name: &'a Text, at: Span, s: &Scope<'_>)
         ensures { self.new ≡ first_from self.old (read_early_errors (scope_of s.now) name.now at) }
     {
         self.free(name, at, s);
@@ -66,7 +66,7 @@ impl<'a> Found<'a> {
         ensures { self.new ≡ first_from self.old (target_early_errors (scope_of s.now) name.now at) }
     {
         self.free(name, at, s);
-        self.written(name, at, s);
+        self.written_name(name, at, s);
     }
 
     /// The name in the head of a `for-in` (12.6.4).
@@ -74,7 +74,7 @@ impl<'a> Found<'a> {
         ensures { self.new ≡ first_from self.old (for_in_early_errors (scope_of s.now) is_var name.now at) }
     {
         if is_var {
-            self.written(name, at, s);
+            self.written_name(name, at, s);
         } else {
             self.target(name, at, s);
         }

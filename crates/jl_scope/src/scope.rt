@@ -4,7 +4,7 @@ ghost use Rattle.std.specs.Prelude.{◌≡◌, [], ◌∷◌, map, IfOk, option_
 ghost use Rattle.jl_ast.specs.View.{view_ident, view_body, view_statement};
 ghost use Rattle.jl_scope.specs.Hoisting.{bound_by_body, bound_by_function};
 ghost use Rattle.jl_scope.specs.Scope.{bind, has_label, has_loop_label, is_loop, in_a_loop, in_a_switch};
-ghost use Rattle.jl_scope.specs.Steps.{scope_of, label_of};
+ghost use Rattle.jl_scope.specs.inner.Steps.{scope_of, label_of};
 
 use crate::hoisting::{add_body, add_function};
 use crate::names::{is_among, is_left_out, same_text};

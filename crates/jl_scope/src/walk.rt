@@ -8,7 +8,7 @@ ghost use Rattle.jl_scope.specs.EarlyErrors.{early_errors, forest_early_errors, 
 ghost use Rattle.jl_scope.specs.EarlyErrors.{label_early_errors, written_early_errors};
 ghost use Rattle.jl_scope.specs.Scope.{is_loop, under_label, in_catch};
 ghost use Rattle.jl_scope.specs.Kinds.{first_from};
-ghost use Rattle.jl_scope.specs.Steps.{scope_of};
+ghost use Rattle.jl_scope.specs.inner.Steps.{scope_of};
 
 use crate::found::Found;
 use crate::heads::offer_head;
@@ -196,7 +196,7 @@ fn walk_catch<'a>(
         (scope_of s.now) name.now.text name.now.span
         ++ forest_early_errors (in_catch (scope_of s.now) name.now.text) (view_statements body.now))) }
 {
-    found.written(&name.text, name.span, s);
+    found.written_name(&name.text, name.span, s);
     let bound = bind(s.alloc, s.bound, &[&name.text])?;
     let inner = Scope {
         bound: bound.as_slice(),
@@ -226,7 +226,7 @@ fn walk_declarators<'a>(
         ≡ first_from found.old (forest_early_errors (scope_of s.now) (view_declarators declarators.now))) }
 {
     for d in declarators {
-        found.written(&d.0.text, d.0.span, s);
+        found.written_name(&d.0.text, d.0.span, s);
         match &d.1 {
             Some(e) => walk_expression(e, s, found)?,
             None => {}
@@ -267,7 +267,7 @@ fn walk_expression<'a>(e: &'a Expr, s: &Scope<'_>, found: &mut Found<'a>) -> Res
         ExprKind::This | ExprKind::Num(_) | ExprKind::Str(_) => Ok(()),
         ExprKind::Bool(_) | ExprKind::Null => Ok(()),
         ExprKind::Name(name) => {
-            found.read(name, e.span, s);
+            found.read_name(name, e.span, s);
             Ok(())
         }
         ExprKind::Array(items) => walk_items(items.items(), s, found),

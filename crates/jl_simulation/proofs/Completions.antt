@@ -14,7 +14,7 @@ use Rattle.jl_effects.specs.Matching.{ends, both, extra, looks, peeks, told, own
 use Rattle.jl_effects.proofs.Chains.{and_then-assoc}
 use Rattle.jl_meaning.specs.Completions.{ends_as, if_normal, on_given, then_do}
 use Rattle.jl_meaning.specs.Noting.{emits, note_value, performs}
-use Rattle.jl_meaning.specs.Parts.{gives, throws, given, ◌>>=◌, give, Answer, Context, Part}
+use Rattle.jl_meaning.specs.Parts.{gives, throws, continue_with, ◌>>=◌, give, Answer, Context, Part}
 use Rattle.jl_meaning.specs.Store.{Store}
 use Rattle.jl_meaning.specs.forms.Hooks.{enter_hook}
 use Rattle.jl_meaning.specs.forms.Operators.{decide, decide_by}
@@ -26,9 +26,9 @@ use Rattle.jl_simulation.proofs.Relation.{StatementMatch}
 pub test_is : (e : Part (Answer Value)) (id : ℕ) (f : Bool → Part Completion)
     → and_then (decide_by id e) (on_given f)
     ≡ and_then e (on_given (λ v. and_then (decide id v) (on_given f)))
-test_is e id f = and_then-assoc e (given (λ v. decide id v)) (on_given f) ∙ ap (and_then e) (fun_ext on)
+test_is e id f = and_then-assoc e (continue_with (λ v. decide id v)) (on_given f) ∙ ap (and_then e) (fun_ext on)
   where
-    on : (r : Answer Value) → and_then (given (λ v. decide id v) r) (on_given f)
+    on : (r : Answer Value) → and_then (continue_with (λ v. decide id v) r) (on_given f)
         ≡ on_given (λ v. and_then (decide id v) (on_given f)) r
     on (gives v) = refl
     on (throws v) = refl
@@ -54,10 +54,10 @@ module _ {chosen : Kinds} where
       → Matched chosen s (suc c) c (and_then d (on_given k)) (and_then (Step (d' >>= tell)) (on_given k'))
   told_value {d = d} {d' = d'} {k = k} k' tell {s} {c} x f =
       extra (subst (Matched chosen s c c (and_then d (on_given k)))
-      (sym (and_then-assoc d' (given tell) (on_given k'))) (followed (x.at s c) on))
+      (sym (and_then-assoc d' (continue_with tell) (on_given k'))) (followed (x.at s c) on))
     where
       on : (r : Answer Value) (t : Store)
-          → Matched chosen t (plus 4 c) c (on_given k r) (and_then (given tell r) (on_given k'))
+          → Matched chosen t (plus 4 c) c (on_given k r) (and_then (continue_with tell r) (on_given k'))
       on (gives v) t = f v t
       on (throws v) t = ends (omega arith)
 

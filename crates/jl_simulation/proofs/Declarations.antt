@@ -20,7 +20,7 @@ use Rattle.jl_meaning.specs.FunctionObjects.{function_name, function_params, Scr
 use Rattle.jl_meaning.specs.Parts.{change_store, give, look, ◌>>=◌, Algorithm, Call, Code, Context, Func}
 use Rattle.jl_meaning.specs.Store.{has_binding, next_environment}
 use Rattle.jl_meaning.specs.forms.Functions.{enter_function, function_context}
-use Rattle.jl_simulation.specs.Weaving.{woven, woven_body, woven_forest}
+use Rattle.jl_simulation.specs.Weaving.{weave, woven_body, woven_forest}
 use Rattle.jl_simulation.proofs.MadeFunctions.{make_same, params_same}
 use Rattle.jl_simulation.proofs.Mentions.{body_same, body_variables}
 
@@ -32,7 +32,7 @@ abbrev pub function_of : Func → (strict : Bool) → ScriptFunction
 function_of f strict = record { func = f; strict = strict }
 
 module _ (chosen : Kinds) where
-  pub name_same : (n : ℕ) (f : Func) → function_name f ≡ function_name (with_ids n (woven chosen f))
+  pub name_same : (n : ℕ) (f : Func) → function_name f ≡ function_name (with_ids n (weave chosen f))
   name_same n (tree.function m None params b s) = refl
   name_same n (tree.function m (Some y) params b s) = refl
 
@@ -42,7 +42,7 @@ module _ (chosen : Kinds) where
   functions_same (tree.more f l) n c =
       ap₂ (λ p q. p >>= q) (make_same chosen n c.strict c.env f)
       (fun_ext (λ id. ap₂ (λ x q. declare_function c.env x id >>= (λ _. q)) (name_same n f)
-      (functions_same l (n + id_count (woven chosen f)) c)))
+      (functions_same l (n + id_count (weave chosen f)) c)))
 
   global_functions_same : (l : Forest ℕ tree.func) (n : ℕ) (c : Context)
       → declare_global_functions l c ≡ declare_global_functions (forest_with_ids n (woven_forest chosen l)) c
@@ -50,7 +50,7 @@ module _ (chosen : Kinds) where
   global_functions_same (tree.more f l) n c =
       ap₂ (λ p q. p >>= q) (make_same chosen n c.strict c.env f)
       (fun_ext (λ id. ap₂ (λ x q. declare_global_function c.strict x id >>= (λ _. q)) (name_same n f)
-      (global_functions_same l (n + id_count (woven chosen f)) c)))
+      (global_functions_same l (n + id_count (weave chosen f)) c)))
 
   -- what a body binds, by what it has
   abbrev binding : (functions : Algorithm (Unit {0})) → (mentioned : Bool) → (names : List Name) → (strict : Bool)
@@ -80,7 +80,7 @@ module _ (chosen : Kinds) where
   -- a woven function is entered like the function
   pub enter_same : (f : Func) (strict : Bool) (n env : ℕ) (this : Value) (call : Call)
       → enter_function (function_of f strict) env this call
-      ≡ enter_function (function_of (with_ids n (woven chosen f)) strict) env this call
+      ≡ enter_function (function_of (with_ids n (weave chosen f)) strict) env this call
   unfolding enter_function
   enter_same (tree.function m x ps b s) strict n env this call =
       let f : ScriptFunction = function_of (tree.function m x ps b s) strict in
@@ -89,7 +89,7 @@ module _ (chosen : Kinds) where
       (look >>= (λ store. (change_store (NewEnvironment env) >>= (λ _.
       (declare_body b strict call.callee names call.args (inside (next_environment store)) >>= (λ _.
       give (inside (next_environment store)))))))) in
-      let names : List Name = function_params (with_ids n (woven chosen (tree.function m x ps b s))) in
+      let names : List Name = function_params (with_ids n (weave chosen (tree.function m x ps b s))) in
       ap (entering b) (params_same n ps)
       ∙ ap (λ k. look >>= k) (fun_ext (λ store.
       ap (λ q. change_store (NewEnvironment env) >>= (λ _. (q >>= (λ _. give (inside (next_environment store))))))

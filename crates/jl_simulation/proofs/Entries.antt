@@ -10,7 +10,7 @@ use Rattle.jl_meaning.specs.FunctionObjects.{make_function}
 use Rattle.jl_meaning.specs.Parts.{lift, ◌>>=◌, Context, Func}
 use Rattle.jl_meaning.specs.Store.{Store}
 use Rattle.jl_meaning.specs.forms.Literals.{accessor_change, define_entry}
-use Rattle.jl_simulation.specs.Weaving.{woven}
+use Rattle.jl_simulation.specs.Weaving.{weave}
 use Rattle.jl_simulation.proofs.MadeFunctions.{make_same}
 use Rattle.jl_simulation.proofs.Relation.{algorithm, bind, Matched}
 
@@ -19,7 +19,7 @@ module _ {chosen : Kinds} where
   pub getter_to : (n : ℕ) (c : Context) (object : ObjId) (k : Text) (f : Func) (s : Store) (d : ℕ)
       → Matched chosen s d d
       (lift (make_function c.strict c.env f) >>= (λ g. define_entry object k (accessor_change (Some (Some g)) None)))
-      (lift (make_function c.strict c.env (with_ids n (woven chosen f)))
+      (lift (make_function c.strict c.env (with_ids n (weave chosen f)))
       >>= (λ g. define_entry object k (accessor_change (Some (Some g)) None)))
   unfolding define_entry
   getter_to n c object k f s d =
@@ -33,7 +33,7 @@ module _ {chosen : Kinds} where
   pub setter_to : (n : ℕ) (c : Context) (object : ObjId) (k : Text) (f : Func) (s : Store) (d : ℕ)
       → Matched chosen s d d
       (lift (make_function c.strict c.env f) >>= (λ g. define_entry object k (accessor_change None (Some (Some g)))))
-      (lift (make_function c.strict c.env (with_ids n (woven chosen f)))
+      (lift (make_function c.strict c.env (with_ids n (weave chosen f)))
       >>= (λ g. define_entry object k (accessor_change None (Some (Some g)))))
   unfolding define_entry
   setter_to n c object k f s d =

@@ -29,10 +29,10 @@ use Rattle.jl_meaning.specs.forms.Literals.{put_element}
 use Rattle.jl_meaning.specs.forms.Names.{assign_name}
 use Rattle.jl_meaning.specs.forms.Operators.{decide, unary_kind, update_kind}
 use Rattle.jl_simulation.specs.HookCalls as weaving
-use Rattle.jl_simulation.specs.HookCalls.{hook_1, hook_2, name_of, quoted, test}
+use Rattle.jl_simulation.specs.HookCalls.{hook_1, hook_2, name_of, string_of, test}
 use Rattle.jl_simulation.specs.Plain.{id_limit}
-use Rattle.jl_simulation.specs.Weaving as weave
-use Rattle.jl_simulation.specs.Weaving.{woven, woven_forest}
+use Rattle.jl_simulation.specs.Weaving as weaving
+use Rattle.jl_simulation.specs.Weaving.{weave, woven_forest}
 use Rattle.jl_simulation.specs.inner.Fit.{AllFit, Fits, FollowsMember, UnaryFits}
 use Rattle.jl_simulation.proofs.Calls.{assign_dot_told, assign_index_told, call_silent, call_told, method_dot_silent}
 use Rattle.jl_simulation.proofs.Calls.{method_dot_told, method_index_silent, method_index_told, new_silent, new_told}
@@ -83,7 +83,7 @@ module _ (chosen : Kinds) (table table' : FunctionTable)
     (same : (i : Inner) → callee_of table i ≡ callee_of table' i) where
   -- it matches its woven form, which may call a hook
   abbrev Woven : Expr → Context → (j : ℕ) → Type 0
-  Woven e c j = ExpressionMatch chosen (evaluate table e c) (evaluate table' (with_ids j (woven chosen e)) c)
+  Woven e c j = ExpressionMatch chosen (evaluate table e c) (evaluate table' (with_ids j (weave chosen e)) c)
 
   way : {p : Part (Answer Value)} (b : Bool) (x y : weaving.Expr) (j : ℕ) (c : Context)
       → ExpressionMatch chosen p (evaluate table' (with_ids j x) c)
@@ -103,7 +103,7 @@ module _ (chosen : Kinds) (table table' : FunctionTable)
   typeof_match e id p j c itself =
       way (chosen kind.Unary) _ _ j c
       (second_is (hook_worded_1 table' c (codes "U") asks_unary form_U id p.1 (unary_sign unary.Typeof)
-      (unary_of unary.Typeof) (word_U unary.Typeof) (woven chosen e) j)
+      (unary_of unary.Typeof) (word_U unary.Typeof) (weave chosen e) j)
       (unary_told c unary.Typeof id (itself p.0 (j + 2 + 2 + 1 + 1)) (λ v. refl)))
       (λ h. second_is (typeof_as_is chosen table' c e tt j) (unary_silent unary.Typeof id j h (itself p.0 (j + 1))))
 
@@ -114,17 +114,17 @@ module _ (chosen : Kinds) (table table' : FunctionTable)
       (evaluate_all table' 0 [] (forest_with_ids j (woven_forest chosen l)) c))
       → ExpressionMatch chosen (Step (call_value table id (evaluate table f c) (evaluate_all table 0 [] l c)))
       (evaluate table' (with_ids j (tree.call
-      (if weave.calls chosen then hook_1 (codes "F") id (woven chosen f) else woven chosen f)
+      (if weaving.calls chosen then hook_1 (codes "F") id (weave chosen f) else weave chosen f)
       (woven_forest chosen l) tt)) c)
   value_called f p h l id small j c itself args =
-      split (weave.calls chosen) (λ which. ExpressionMatch chosen
+      split (weaving.calls chosen) (λ which. ExpressionMatch chosen
       (Step (call_value table id (evaluate table f c) (evaluate_all table 0 [] l c)))
       (evaluate table' (with_ids j (tree.call
-      (if which then hook_1 (codes "F") id (woven chosen f) else woven chosen f) (woven_forest chosen l) tt)) c))
-      (second_is (opener_plain_1 table' c (codes "F") opens_call form_F id small (woven chosen f)
+      (if which then hook_1 (codes "F") id (weave chosen f) else weave chosen f) (woven_forest chosen l) tt)) c))
+      (second_is (opener_plain_1 table' c (codes "F") opens_call form_F id small (weave chosen f)
       (woven_forest chosen l) j
       refl) (call_told table table' same c id (itself (j + 2 + 2 + 2 + 1)) (args _)))
-      (λ e. second_is (called_as_is table' c (woven chosen f) (woven_no_member chosen f h)
+      (λ e. second_is (called_as_is table' c (weave chosen f) (woven_no_member chosen f h)
       (woven_no_first chosen f p h) j
       (woven_forest chosen l))
       (call_silent table table' same (first_not (chosen kind.InvokePre) (chosen kind.InvokePost) e)
@@ -166,27 +166,27 @@ module _ (chosen : Kinds) (table table' : FunctionTable)
     evaluate_match (tree.function_expression f s) p j c =
         way (chosen kind.FunctionLiteral) _ _ j c
         (second_is (hook_plain_1 table' c (codes "T") makes form_T s p.1 (tree.function_expression
-        (woven chosen f) tt) j)
+        (weave chosen f) tt) j)
         (function_told c (make_function_expression c.strict c.env f)
-        (make_function_expression c.strict c.env (with_ids (j + 2 + 2 + 1 + 1) (woven chosen f))) s (j + 2 + 2 + 1)
+        (make_function_expression c.strict c.env (with_ids (j + 2 + 2 + 1 + 1) (weave chosen f))) s (j + 2 + 2 + 1)
         (expression_same chosen (j + 2 + 2 + 1 + 1) c.strict c.env f)))
         (λ e. function_as_is (make_function_expression c.strict c.env f)
-        (make_function_expression c.strict c.env (with_ids (j + 1) (woven chosen f))) s _ e
+        (make_function_expression c.strict c.env (with_ids (j + 1) (weave chosen f))) s _ e
         (expression_same chosen (j + 1) c.strict c.env f))
     evaluate_match (tree.dot o k s) p j c =
         way (chosen kind.GetField) _ _ j c
-        (second_is (hook_plain_2 table' c (codes "G") gets form_G s p.1 (woven chosen o) (quoted k) j)
+        (second_is (hook_plain_2 table' c (codes "G") gets form_G s p.1 (weave chosen o) (string_of k) j)
         (dot_told c k s _ (evaluate_match o p.0 _ c))) (λ e. dot_silent k s _ e (evaluate_match o p.0 _ c))
     evaluate_match (tree.index o k s) p j c =
         way (chosen kind.GetField) _ _ j c
-        (second_is (hook_plain_2 table' c (codes "G") gets form_G s p.2 (woven chosen o) (woven chosen k) j)
+        (second_is (hook_plain_2 table' c (codes "G") gets form_G s p.2 (weave chosen o) (weave chosen k) j)
         (index_told c s (evaluate_match o p.0 _ c) (evaluate_match k p.1 _ c)))
         (λ e. index_silent s _ e (evaluate_match o p.0 _ c) (evaluate_match k p.1 _ c))
     evaluate_match (tree.call f l t) p j c =
         callee_match f p.0 l t p.2 p.3 j c (λ j. evaluate_match f p.0 j c) (λ j. values_match l p.1 [] j c)
     evaluate_match (tree.new f l t) p j c =
-        way (weave.calls chosen) _ _ j c
-        (second_is (opener_plain_1 table' c (codes "N") opens_new form_N t p.2 (woven chosen f)
+        way (weaving.calls chosen) _ _ j c
+        (second_is (opener_plain_1 table' c (codes "N") opens_new form_N t p.2 (weave chosen f)
         (woven_forest chosen l) j refl)
         (new_told table table' same c t (evaluate_match f p.0 _ c) (values_match l p.1 [] _ c)))
         (λ e. new_silent table table' same (first_not (chosen kind.InvokePre) (chosen kind.InvokePost) e)
@@ -197,23 +197,23 @@ module _ (chosen : Kinds) (table table' : FunctionTable)
     evaluate_match (tree.unary o e t) p j c =
         way (chosen kind.Unary) _ _ j c
         (second_is (hook_worded_1 table' c (codes "U") asks_unary form_U t p.1 (unary_sign (unary_kind o))
-        (unary_of (unary_kind o)) (word_U (unary_kind o)) (woven chosen e) j)
+        (unary_of (unary_kind o)) (word_U (unary_kind o)) (weave chosen e) j)
         (unary_told c (unary_kind o) t (evaluate_match e p.0 _ c) (λ v. refl)))
         (λ h. unary_silent (unary_kind o) t _ h (evaluate_match e p.0 _ c))
     evaluate_match (tree.binary o a b s) p j c =
         way (chosen kind.Binary) _ _ j c
         (second_is (hook_worded_2 table' c (codes "B") asks_binary form_B s p.2 (binary_sign o) (binary_of o) (word_B o)
-        (woven chosen a) (woven chosen b) j) (binary_told c o s (evaluate_match a p.0 _ c) (evaluate_match b p.1 _ c)))
+        (weave chosen a) (weave chosen b) j) (binary_told c o s (evaluate_match a p.0 _ c) (evaluate_match b p.1 _ c)))
         (λ e. binary_silent o s _ e (evaluate_match a p.0 _ c) (evaluate_match b p.1 _ c))
     evaluate_match (tree.update up true (tree.to_name x) s) p j c =
-        way (weave.computes chosen (tree.to_name x) kind.Unary) _ _ j c
+        way (weaving.computes chosen (tree.to_name x) kind.Unary) _ _ j c
         (second_is (ap (λ q. Step (assign_name j c x.text q)) (updated_hook table' c x.text up s p.1 (j + 1 + 0)))
         (update_prefix_told x.text c up s _ j p.0))
         (λ e. let h : NoneOf (chosen kind.Read) (chosen kind.Unary) (chosen kind.Write) = none_of _ _ _ e in
         update_name_silent x.text c up true s _ h.first h.second h.third)
     evaluate_match (tree.update up false (tree.to_name x) s) p j c =
-        way (weave.computes chosen (tree.to_name x) kind.Unary) _ _ j c
-        (let e' : weaving.Expr = weave.woven_update chosen up (tree.to_name x) s in
+        way (weaving.computes chosen (tree.to_name x) kind.Unary) _ _ j c
+        (let e' : weaving.Expr = weaving.woven_update chosen up (tree.to_name x) s in
         second_is (had_back_hook table' c up e' j
         ∙ ap (λ q. Step (q >>= one_back j (j + 1 + id_count e') up)) (ap (λ q. Step (assign_name (j + 1) c x.text q))
         (updated_hook table' c x.text up s p.1 (j + 1 + 1 + 0))))
@@ -221,35 +221,35 @@ module _ (chosen : Kinds) (table table' : FunctionTable)
         (λ e. let h : NoneOf (chosen kind.Read) (chosen kind.Unary) (chosen kind.Write) = none_of _ _ _ e in
         update_name_silent x.text c up false s _ h.first h.second h.third)
     evaluate_match (tree.update up true (tree.to_dot o k s) t) p j c =
-        way (weave.computes chosen (tree.to_dot o k s) kind.Unary) _ _ j c
+        way (weaving.computes chosen (tree.to_dot o k s) kind.Unary) _ _ j c
         (second_is (hook_worded_2 table' c (codes "I") asks_update form_I t (less t p.1) (unary_sign (update_kind up))
-        (updates (update_kind up)) (word_I up) (woven chosen o) (quoted k) j)
+        (updates (update_kind up)) (word_I up) (weave chosen o) (string_of k) j)
         (update_dot_prefix c up t k _ (evaluate_match o p.0 _ c)))
         (λ e. let h : NoneOf (chosen kind.GetField) (chosen kind.Unary) (chosen kind.PutField) = none_of _ _ _ e in
         update_dot_silent c k up true t _ h.first h.second h.third (evaluate_match o p.0 _ c))
     evaluate_match (tree.update up false (tree.to_dot o k s) t) p j c =
-        way (weave.computes chosen (tree.to_dot o k s) kind.Unary) _ _ j c
-        (let e' : weaving.Expr = weave.woven_update chosen up (tree.to_dot o k s) t in
+        way (weaving.computes chosen (tree.to_dot o k s) kind.Unary) _ _ j c
+        (let e' : weaving.Expr = weaving.woven_update chosen up (tree.to_dot o k s) t in
         second_is (had_back_hook table' c up e' j ∙ ap (λ q. Step (q >>= one_back j (j + 1 + id_count e') up))
         (hook_worded_2 table' c (codes "I") asks_update form_I t (less t p.1) (unary_sign (update_kind up))
-        (updates (update_kind up)) (word_I up) (woven chosen o) (quoted k) (j + 1)))
+        (updates (update_kind up)) (word_I up) (weave chosen o) (string_of k) (j + 1)))
         (update_dot_postfix c up t k _ j (j + 1 + id_count e') (evaluate_match o p.0 _ c)))
         (λ e. let h : NoneOf (chosen kind.GetField) (chosen kind.Unary) (chosen kind.PutField) = none_of _ _ _ e in
         update_dot_silent c k up false t _ h.first h.second h.third (evaluate_match o p.0 _ c))
     evaluate_match (tree.update up true (tree.to_index o k s) t) p j c =
-        way (weave.computes chosen (tree.to_index o k s) kind.Unary) _ _ j c
+        way (weaving.computes chosen (tree.to_index o k s) kind.Unary) _ _ j c
         (second_is (hook_worded_2 table' c (codes "I") asks_update form_I t (less t p.1) (unary_sign (update_kind up))
-        (updates (update_kind up)) (word_I up) (woven chosen o) (woven chosen k) j)
+        (updates (update_kind up)) (word_I up) (weave chosen o) (weave chosen k) j)
         (update_index_prefix c up t (evaluate_match o p.0.0 _ c) (evaluate_match k p.0.1 _ c)))
         (λ e. let h : NoneOf (chosen kind.GetField) (chosen kind.Unary) (chosen kind.PutField) = none_of _ _ _ e in
         update_index_silent c up true t _ h.first h.second h.third (evaluate_match o p.0.0 _ c)
         (evaluate_match k p.0.1 _ c))
     evaluate_match (tree.update up false (tree.to_index o k s) t) p j c =
-        way (weave.computes chosen (tree.to_index o k s) kind.Unary) _ _ j c
-        (let e' : weaving.Expr = weave.woven_update chosen up (tree.to_index o k s) t in
+        way (weaving.computes chosen (tree.to_index o k s) kind.Unary) _ _ j c
+        (let e' : weaving.Expr = weaving.woven_update chosen up (tree.to_index o k s) t in
         second_is (had_back_hook table' c up e' j ∙ ap (λ q. Step (q >>= one_back j (j + 1 + id_count e') up))
         (hook_worded_2 table' c (codes "I") asks_update form_I t (less t p.1) (unary_sign (update_kind up))
-        (updates (update_kind up)) (word_I up) (woven chosen o) (woven chosen k) (j + 1)))
+        (updates (update_kind up)) (word_I up) (weave chosen o) (weave chosen k) (j + 1)))
         (update_index_postfix c up t j (j + 1 + id_count e') (evaluate_match o p.0.0 _ c) (evaluate_match k p.0.1 _ c)))
         (λ e. let h : NoneOf (chosen kind.GetField) (chosen kind.Unary) (chosen kind.PutField) = none_of _ _ _ e in
         update_index_silent c up false t _ h.first h.second h.third (evaluate_match o p.0.0 _ c)
@@ -257,98 +257,98 @@ module _ (chosen : Kinds) (table table' : FunctionTable)
     evaluate_match (tree.and a b s) p j c =
         let f : Bool → Value → Part (Answer Value) = λ truth v. if truth then evaluate table b c else give v in
         let g : ℕ → Bool → Value → Part (Answer Value) = λ m truth v.
-        if truth then evaluate table' (with_ids m (woven chosen b)) c else give v in
+        if truth then evaluate table' (with_ids m (weave chosen b)) c else give v in
         let on : (m : ℕ) (truth : Bool) (v : Value) (s : Store) (d : ℕ)
         → Matched chosen s (plus 4 d) (plus 4 d) (f truth v) (g m truth v) =
         λ m truth v s d. pick truth (spare (omega arith) ((evaluate_match b p.1 m c).at s d)) done in
         split (chosen kind.Conditional) (λ which. ExpressionMatch chosen (evaluate table (tree.and a b s) c)
         (evaluate table' (with_ids j
-        (tree.and (if which then test s (woven chosen a) else woven chosen a) (woven chosen b) tt)) c))
+        (tree.and (if which then test s (weave chosen a) else weave chosen a) (weave chosen b) tt)) c))
         (second_is (ap (λ q. Step (q >>= (λ v.
-        (decide j v >>= (λ truth. g (j + 1 + id_count (test s (woven chosen a))) truth v)))))
-        (hook_plain_1 table' c (codes "C") tests form_C s p.2 (woven chosen a) (j + 1)))
-        (decide_told c {f = f} {g = g (j + 1 + id_count (test s (woven chosen a)))} s j (evaluate_match a p.0 _ c)
-        (on (j + 1 + id_count (test s (woven chosen a))))))
-        (λ h. decide_silent {f = f} {g = g (j + 1 + id_count (woven chosen a))} s j h (evaluate_match a p.0 _ c)
-        (on (j + 1 + id_count (woven chosen a))))
+        (decide j v >>= (λ truth. g (j + 1 + id_count (test s (weave chosen a))) truth v)))))
+        (hook_plain_1 table' c (codes "C") tests form_C s p.2 (weave chosen a) (j + 1)))
+        (decide_told c {f = f} {g = g (j + 1 + id_count (test s (weave chosen a)))} s j (evaluate_match a p.0 _ c)
+        (on (j + 1 + id_count (test s (weave chosen a))))))
+        (λ h. decide_silent {f = f} {g = g (j + 1 + id_count (weave chosen a))} s j h (evaluate_match a p.0 _ c)
+        (on (j + 1 + id_count (weave chosen a))))
     evaluate_match (tree.or a b s) p j c =
         let f : Bool → Value → Part (Answer Value) = λ truth v. if truth then give v else evaluate table b c in
         let g : ℕ → Bool → Value → Part (Answer Value) = λ m truth v.
-        if truth then give v else evaluate table' (with_ids m (woven chosen b)) c in
+        if truth then give v else evaluate table' (with_ids m (weave chosen b)) c in
         let on : (m : ℕ) (truth : Bool) (v : Value) (s : Store) (d : ℕ)
         → Matched chosen s (plus 4 d) (plus 4 d) (f truth v) (g m truth v) =
         λ m truth v s d. pick truth done (spare (omega arith) ((evaluate_match b p.1 m c).at s d)) in
         split (chosen kind.Conditional) (λ which. ExpressionMatch chosen (evaluate table (tree.or a b s) c)
         (evaluate table' (with_ids j
-        (tree.or (if which then test s (woven chosen a) else woven chosen a) (woven chosen b) tt)) c))
+        (tree.or (if which then test s (weave chosen a) else weave chosen a) (weave chosen b) tt)) c))
         (second_is (ap (λ q. Step (q >>= (λ v.
-        (decide j v >>= (λ truth. g (j + 1 + id_count (test s (woven chosen a))) truth v)))))
-        (hook_plain_1 table' c (codes "C") tests form_C s p.2 (woven chosen a) (j + 1)))
-        (decide_told c {f = f} {g = g (j + 1 + id_count (test s (woven chosen a)))} s j (evaluate_match a p.0 _ c)
-        (on (j + 1 + id_count (test s (woven chosen a))))))
-        (λ h. decide_silent {f = f} {g = g (j + 1 + id_count (woven chosen a))} s j h (evaluate_match a p.0 _ c)
-        (on (j + 1 + id_count (woven chosen a))))
+        (decide j v >>= (λ truth. g (j + 1 + id_count (test s (weave chosen a))) truth v)))))
+        (hook_plain_1 table' c (codes "C") tests form_C s p.2 (weave chosen a) (j + 1)))
+        (decide_told c {f = f} {g = g (j + 1 + id_count (test s (weave chosen a)))} s j (evaluate_match a p.0 _ c)
+        (on (j + 1 + id_count (test s (weave chosen a))))))
+        (λ h. decide_silent {f = f} {g = g (j + 1 + id_count (weave chosen a))} s j h (evaluate_match a p.0 _ c)
+        (on (j + 1 + id_count (weave chosen a))))
     evaluate_match (tree.conditional a b d s) p j c =
         let f : Bool → Value → Part (Answer Value) =
         λ truth v. if truth then evaluate table b c else evaluate table d c in
         let g : ℕ → Bool → Value → Part (Answer Value) = λ m truth v.
-        if truth then evaluate table' (with_ids m (woven chosen b)) c
-        else evaluate table' (with_ids (m + id_count (woven chosen b)) (woven chosen d)) c in
+        if truth then evaluate table' (with_ids m (weave chosen b)) c
+        else evaluate table' (with_ids (m + id_count (weave chosen b)) (weave chosen d)) c in
         let on : (m : ℕ) (truth : Bool) (v : Value) (s : Store) (e : ℕ)
         → Matched chosen s (plus 4 e) (plus 4 e) (f truth v) (g m truth v) =
         λ m truth v s e. pick truth (spare (omega arith) ((evaluate_match b p.1 m c).at s e))
-        (spare (omega arith) ((evaluate_match d p.2 (m + id_count (woven chosen b)) c).at s e)) in
+        (spare (omega arith) ((evaluate_match d p.2 (m + id_count (weave chosen b)) c).at s e)) in
         split (chosen kind.Conditional) (λ which. ExpressionMatch chosen (evaluate table (tree.conditional a b d s) c)
         (evaluate table' (with_ids j
-        (tree.conditional (if which then test s (woven chosen a) else woven chosen a) (woven chosen b)
-        (woven chosen d) tt)) c))
+        (tree.conditional (if which then test s (weave chosen a) else weave chosen a) (weave chosen b)
+        (weave chosen d) tt)) c))
         (second_is (ap (λ q. Step (q >>= (λ v.
-        (decide j v >>= (λ truth. g (j + 1 + id_count (test s (woven chosen a))) truth v)))))
-        (hook_plain_1 table' c (codes "C") tests form_C s p.3 (woven chosen a) (j + 1)))
-        (decide_told c {f = f} {g = g (j + 1 + id_count (test s (woven chosen a)))} s j (evaluate_match a p.0 _ c)
-        (on (j + 1 + id_count (test s (woven chosen a))))))
-        (λ h. decide_silent {f = f} {g = g (j + 1 + id_count (woven chosen a))} s j h (evaluate_match a p.0 _ c)
-        (on (j + 1 + id_count (woven chosen a))))
+        (decide j v >>= (λ truth. g (j + 1 + id_count (test s (weave chosen a))) truth v)))))
+        (hook_plain_1 table' c (codes "C") tests form_C s p.3 (weave chosen a) (j + 1)))
+        (decide_told c {f = f} {g = g (j + 1 + id_count (test s (weave chosen a)))} s j (evaluate_match a p.0 _ c)
+        (on (j + 1 + id_count (test s (weave chosen a))))))
+        (λ h. decide_silent {f = f} {g = g (j + 1 + id_count (weave chosen a))} s j h (evaluate_match a p.0 _ c)
+        (on (j + 1 + id_count (weave chosen a))))
     evaluate_match (tree.assign None (tree.to_name x) e s) p j c =
         way (chosen kind.Write) _ _ j c
         (second_is (ap (λ q. Step (assign_name j c x.text q)) (hook_worded_1 table' c (codes "W") _ form_W s p.0 x.text
-        (writes x.text) refl (woven chosen e) (j + 1 + 0)))
+        (writes x.text) refl (weave chosen e) (j + 1 + 0)))
         (assign_name_told x.text c s j p.1 (evaluate_match e p.2 _ c)))
         (λ h. assign_name_silent x.text c s _ h (evaluate_match e p.2 _ c))
     evaluate_match (tree.assign (Some o) (tree.to_name x) e s) p j c =
-        way (weave.computes chosen (tree.to_name x) kind.Binary) _ _ j c
+        way (weaving.computes chosen (tree.to_name x) kind.Binary) _ _ j c
         (second_is (ap (λ q. Step (assign_name j c x.text q))
-        (computed_hook table' c x.text o s p.0.1 (woven chosen e) (j + 1 + 0)))
+        (computed_hook table' c x.text o s p.0.1 (weave chosen e) (j + 1 + 0)))
         (compute_name_told x.text c o s _ j p.1 (evaluate_match e p.2 _ c)))
         (λ q. let h : NoneOf (chosen kind.Read) (chosen kind.Binary) (chosen kind.Write) = none_of _ _ _ q in
         compute_name_silent x.text c o s _ h.first h.second h.third (evaluate_match e p.2 _ c))
     evaluate_match (tree.assign None (tree.to_dot o k s) e t) p j c =
         way (chosen kind.PutField) _ _ j c
-        (second_is (opener_plain_2 table' c (codes "P") opens_put form_P t p.0 (woven chosen o) (quoted k)
-        (tree.more (woven chosen e) tree.end) j refl)
+        (second_is (opener_plain_2 table' c (codes "P") opens_put form_P t p.0 (weave chosen o) (string_of k)
+        (tree.more (weave chosen e) tree.end) j refl)
         (put_dot_told table table' same c k t _ (evaluate_match o p.1 _ c) (evaluate_match e p.2 _ c)))
         (λ h. put_dot_silent c k t _ h (evaluate_match o p.1 _ c) (evaluate_match e p.2 _ c))
     evaluate_match (tree.assign (Some q) (tree.to_dot o k s) e t) p j c =
-        way (weave.computes chosen (tree.to_dot o k s) kind.Binary) _ _ j c
+        way (weaving.computes chosen (tree.to_dot o k s) kind.Binary) _ _ j c
         (second_is (opener_worded_2 table' c (codes "A") asks_assign form_A t (less t p.0.1) (binary_sign q)
         (opens_assign q)
-        (word_A q p.0.0) (woven chosen o) (quoted k) (tree.more (woven chosen e) tree.end) j refl)
+        (word_A q p.0.0) (weave chosen o) (string_of k) (tree.more (weave chosen e) tree.end) j refl)
         (assign_dot_told table table' same c q k t _ (evaluate_match o p.1 _ c) (evaluate_match e p.2 _ c)))
         (λ i. let h : NoneOf (chosen kind.GetField) (chosen kind.Binary) (chosen kind.PutField) = none_of _ _ _ i in
         compute_dot_silent c q k t _ h.first h.second h.third (evaluate_match o p.1 _ c) (evaluate_match e p.2 _ c))
     evaluate_match (tree.assign None (tree.to_index o k s) e t) p j c =
         way (chosen kind.PutField) _ _ j c
-        (second_is (opener_plain_2 table' c (codes "P") opens_put form_P t p.0 (woven chosen o) (woven chosen k)
-        (tree.more (woven chosen e) tree.end) j refl)
+        (second_is (opener_plain_2 table' c (codes "P") opens_put form_P t p.0 (weave chosen o) (weave chosen k)
+        (tree.more (weave chosen e) tree.end) j refl)
         (put_index_told table table' same c t (evaluate_match o p.1.0 _ c) (evaluate_match k p.1.1 _ c)
         (evaluate_match e p.2 _ c)))
         (λ h. put_index_silent c t _ h (evaluate_match o p.1.0 _ c) (evaluate_match k p.1.1 _ c)
         (evaluate_match e p.2 _ c))
     evaluate_match (tree.assign (Some q) (tree.to_index o k s) e t) p j c =
-        way (weave.computes chosen (tree.to_index o k s) kind.Binary) _ _ j c
+        way (weaving.computes chosen (tree.to_index o k s) kind.Binary) _ _ j c
         (second_is (opener_worded_2 table' c (codes "A") asks_assign form_A t (less t p.0.1) (binary_sign q)
         (opens_assign q)
-        (word_A q p.0.0) (woven chosen o) (woven chosen k) (tree.more (woven chosen e) tree.end) j refl)
+        (word_A q p.0.0) (weave chosen o) (weave chosen k) (tree.more (weave chosen e) tree.end) j refl)
         (assign_index_told table table' same c q t (evaluate_match o p.1.0 _ c) (evaluate_match k p.1.1 _ c)
         (evaluate_match e p.2 _ c)))
         (λ i. let h : NoneOf (chosen kind.GetField) (chosen kind.Binary) (chosen kind.PutField) = none_of _ _ _ i in
@@ -371,23 +371,23 @@ module _ (chosen : Kinds) (table table' : FunctionTable)
         (member_no_hook o p.0 k)
         ∙ ap (λ i. Step (evaluate table o c >>= (λ base.
         call_member table s i base (value.Text k) (evaluate_all table 0 [] l c)))) (sym h) in
-        split (weave.calls_member chosen) (λ which. ExpressionMatch chosen (evaluate table
+        split (weaving.calls_member chosen) (λ which. ExpressionMatch chosen (evaluate table
         (tree.call (tree.dot o k s) l id) c)
         (evaluate table' (with_ids j (tree.call
-        (if which then hook_2 (codes "M") s (woven chosen o) (quoted k) else tree.dot (woven chosen o) k tt)
+        (if which then hook_2 (codes "M") s (weave chosen o) (string_of k) else tree.dot (weave chosen o) k tt)
         (woven_forest chosen l) tt)) c))
-        (both_are first (opener_plain_2 table' c (codes "M") opens_method form_M s p.1 (woven chosen o) (quoted k)
+        (both_are first (opener_plain_2 table' c (codes "M") opens_method form_M s p.1 (weave chosen o) (string_of k)
         (woven_forest chosen l) j refl) (method_dot_told table table' same c k s _ (evaluate_match o p.0 _ c) (args _)))
-        (λ e. let m : ℕ = j + 2 + id_count (tree.dot (woven chosen o) k tt) in
+        (λ e. let m : ℕ = j + 2 + id_count (tree.dot (weave chosen o) k tt) in
         let l' : Exprs = forest_with_ids m (woven_forest chosen l) in
-        let q : weave.calls chosen ≡ false = second_not (chosen kind.GetField) (weave.calls chosen) e in
+        let q : weaving.calls chosen ≡ false = second_not (chosen kind.GetField) (weaving.calls chosen) e in
         both_are first (ap (λ form. Step (call_by_form form l' c (λ literals. evaluate_all table' literals [] l' c)
-        (evaluate table' (with_ids (j + 3) (woven chosen o)) c >>= (λ base.
+        (evaluate table' (with_ids (j + 3) (weave chosen o)) c >>= (λ base.
         call_member table' j (j + 1) base (value.Text k) (evaluate_all table' 0 [] l' c)))))
         (woven_member_no_hook chosen o p.0 k (j + 3)))
         (method_dot_silent table table' same (first_not (chosen kind.InvokePre) (chosen kind.InvokePost) q)
         (second_not (chosen kind.InvokePre) (chosen kind.InvokePost) q) k s j (s + 1) (j + 1)
-        (first_not (chosen kind.GetField) (weave.calls chosen) e)
+        (first_not (chosen kind.GetField) (weaving.calls chosen) e)
         (evaluate_match o p.0 (j + 3) c) (args m)))
     callee_match (tree.index o k s) p l id small h j c itself args =
         let first : evaluate table (tree.call (tree.index o k s) l id) c
@@ -395,20 +395,20 @@ module _ (chosen : Kinds) (table table' : FunctionTable)
         call_member table s (s + 1) base key (evaluate_all table 0 [] l c))))) =
         ap (λ i. Step (evaluate table o c >>= (λ base. (evaluate table k c >>= (λ key.
         call_member table s i base key (evaluate_all table 0 [] l c)))))) (sym h) in
-        split (weave.calls_member chosen) (λ which. ExpressionMatch chosen (evaluate table
+        split (weaving.calls_member chosen) (λ which. ExpressionMatch chosen (evaluate table
         (tree.call (tree.index o k s) l id) c)
         (evaluate table' (with_ids j (tree.call
-        (if which then hook_2 (codes "M") s (woven chosen o) (woven chosen k) else tree.index (woven chosen o)
-        (woven chosen k) tt)
+        (if which then hook_2 (codes "M") s (weave chosen o) (weave chosen k) else tree.index (weave chosen o)
+        (weave chosen k) tt)
         (woven_forest chosen l) tt)) c))
-        (both_are first (opener_plain_2 table' c (codes "M") opens_method form_M s p.2 (woven chosen o) (woven chosen k)
+        (both_are first (opener_plain_2 table' c (codes "M") opens_method form_M s p.2 (weave chosen o) (weave chosen k)
         (woven_forest chosen l) j refl)
         (method_index_told table table' same c s (evaluate_match o p.0 _ c) (evaluate_match k p.1 _ c) (args _)))
-        (λ e. let q : weave.calls chosen ≡ false = second_not (chosen kind.GetField) (weave.calls chosen) e in
+        (λ e. let q : weaving.calls chosen ≡ false = second_not (chosen kind.GetField) (weaving.calls chosen) e in
         both_are first refl (method_index_silent table table' same (first_not (chosen kind.InvokePre)
         (chosen kind.InvokePost) q)
         (second_not (chosen kind.InvokePre) (chosen kind.InvokePost) q) s j (s + 1) (j + 1)
-        (first_not (chosen kind.GetField) (weave.calls chosen) e)
+        (first_not (chosen kind.GetField) (weaving.calls chosen) e)
         (evaluate_match o p.0 (j + 3) c) (evaluate_match k p.1 _ c) (args _)))
     callee_match (tree.call f inner s) p l id small h j c itself args =
         let values : Part (Answer (List Value)) = evaluate_all table 0 [] l c in
@@ -423,12 +423,12 @@ module _ (chosen : Kinds) (table table' : FunctionTable)
     delete_match (tree.name x s) id p j c itself = delete_name_match x c
     delete_match (tree.dot o k s) id p j c itself =
         way (chosen kind.DeleteField) _ _ j c
-        (second_is (hook_plain_2 table' c (codes "Z") deletes form_Z id p.1 (woven chosen o) (quoted k) j)
+        (second_is (hook_plain_2 table' c (codes "Z") deletes form_Z id p.1 (weave chosen o) (string_of k) j)
         (delete_dot_told c k id _ (evaluate_match o p.0.0 _ c)))
         (λ e. delete_dot_silent c k id _ e (evaluate_match o p.0.0 _ c))
     delete_match (tree.index o k s) id p j c itself =
         way (chosen kind.DeleteField) _ _ j c
-        (second_is (hook_plain_2 table' c (codes "Z") deletes form_Z id p.1 (woven chosen o) (woven chosen k) j)
+        (second_is (hook_plain_2 table' c (codes "Z") deletes form_Z id p.1 (weave chosen o) (weave chosen k) j)
         (delete_index_told c id (evaluate_match o p.0.0 _ c) (evaluate_match k p.0.1 _ c)))
         (λ e. delete_index_silent c id _ e (evaluate_match o p.0.0 _ c) (evaluate_match k p.0.1 _ c))
     delete_match e id p j c itself = second_is (delete_as_is chosen table' c e tt j) (delete_other (itself p j))

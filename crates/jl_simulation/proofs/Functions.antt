@@ -22,7 +22,7 @@ use Rattle.jl_meaning.specs.Completions.{ends_as, if_normal, normal, on_given, t
 use Rattle.jl_meaning.specs.DeclarationBinding.{declare_body}
 use Rattle.jl_meaning.specs.FunctionObjects.{callee_of, function_params, FunctionTable, ScriptFunction}
 use Rattle.jl_meaning.specs.Noting.{note, performs}
-use Rattle.jl_meaning.specs.Parts.{fault_of, give, given, gives, lift, throws, ◌>>=◌, Algorithm, Answer, Call, CallOf}
+use Rattle.jl_meaning.specs.Parts.{fault_of, give, continue_with, gives, lift, throws, ◌>>=◌, Algorithm, Answer, Call, CallOf}
 use Rattle.jl_meaning.specs.Parts.{Context, Func, Part, Running, Stmts}
 use Rattle.jl_meaning.specs.Statements.{execute_all}
 use Rattle.jl_meaning.specs.Store.{next_environment, Store}
@@ -34,7 +34,7 @@ use Rattle.jl_meaning.specs.forms.Try.{unless_abrupt}
 use Rattle.jl_simulation.specs.HookCalls as weaving
 use Rattle.jl_simulation.specs.HookCalls.{enter_and_leave, hook, hook_statement}
 use Rattle.jl_simulation.specs.Plain.{id_limit}
-use Rattle.jl_simulation.specs.Weaving.{woven, woven_forest}
+use Rattle.jl_simulation.specs.Weaving.{weave, woven_forest}
 use Rattle.jl_simulation.specs.inner.Fit.{AllFit, Fits}
 use Rattle.jl_simulation.proofs.Chosen.{first_not, second_not, split}
 use Rattle.jl_simulation.proofs.Declarations.{enter_same, function_of}
@@ -46,9 +46,9 @@ use Rattle.jl_simulation.proofs.Statements.{execute_all_match}
 
 -- an algorithm in a part, one thing after another
 lift_then : {A B : Type 0} (p : Algorithm A) (k : A → Algorithm B) → lift (p >>= k) ≡ (lift p >>= (λ a. lift (k a)))
-lift_then {A} {B} p k = row-and_then CallOf fault_of p (given k) ∙ ap (and_then (lift p)) (fun_ext on)
+lift_then {A} {B} p k = row-and_then CallOf fault_of p (continue_with k) ∙ ap (and_then (lift p)) (fun_ext on)
   where
-    on : (r : Answer A) → ◌≡◌ {A = Part (Answer B)} (lift (given k r)) (given (λ a. lift (k a)) r)
+    on : (r : Answer A) → ◌≡◌ {A = Part (Answer B)} (lift (continue_with k r)) (continue_with (λ a. lift (k a)) r)
     on (gives a) = refl
     on (throws v) = refl
 
@@ -139,7 +139,7 @@ module _ (chosen : Kinds) (table table' : FunctionTable)
       (run_function table (function_of (tree.function m x ps (tree.body st fs l) id) strict) this call
       (function_context (function_of (tree.function m x ps (tree.body st fs l) id) strict) env this call))
       (run_function table'
-      (function_of (with_ids j (woven chosen (tree.function m x ps (tree.body st fs l) id))) strict) this call
+      (function_of (with_ids j (weave chosen (tree.function m x ps (tree.body st fs l) id))) strict) this call
       (function_context (function_of (tree.function m x ps (tree.body st fs l) id) strict) env this call))
   run_match m x ps st fs l id p small j strict env this call s =
       let r : Running = record { function = m; this = this; args = length call.args; by_new = call.by_new } in
@@ -166,11 +166,11 @@ module _ (chosen : Kinds) (table table' : FunctionTable)
 
   call_match : (f : Func) → Fits f → (j : ℕ) (strict : Bool) (env : ℕ) (call : Call) (s : Store)
       → Matched chosen s 31 0 (call_script table (function_of f strict) env call)
-      (call_script table' (function_of (with_ids j (woven chosen f)) strict) env call)
+      (call_script table' (function_of (with_ids j (weave chosen f)) strict) env call)
   unfolding enter_function
   call_match (tree.function m x ps (tree.body st fs l) id) p j strict env call s =
       let f : ScriptFunction = function_of (tree.function m x ps (tree.body st fs l) id) strict in
-      let f' : ScriptFunction = function_of (with_ids j (woven chosen (tree.function m x ps
+      let f' : ScriptFunction = function_of (with_ids j (weave chosen (tree.function m x ps
       (tree.body st fs l) id))) strict in
       let k : Value → Context → Part (Answer Value) = λ this c. run_function table f this call c in
       let k' : Value → Context → Part (Answer Value) = λ this c. run_function table' f' this call c in
@@ -189,13 +189,13 @@ module _ (chosen : Kinds) (table table' : FunctionTable)
 
   construct_match : (f : Func) → Fits f → (j : ℕ) (strict : Bool) (env : ℕ) (call : Call) (s : Store)
       → Matched chosen s 31 0 (construct_script table (function_of f strict) env call)
-      (construct_script table' (function_of (with_ids j (woven chosen f)) strict) env call)
+      (construct_script table' (function_of (with_ids j (weave chosen f)) strict) env call)
   construct_match f p j strict env call s =
       lifted (new_instance call.callee) (omega arith) (λ object t.
       bind (omega arith) (call_match f p j strict env (record call { this = object }) t) (λ v t. ends (omega arith)))
 
   pub begin_match : (f : Func) → Fits f → (j : ℕ) (strict : Bool) (env : ℕ) (call : Call) (s : Store)
       → Matched chosen s 31 0 (begin_script table (function_of f strict) env call)
-      (begin_script table' (function_of (with_ids j (woven chosen f)) strict) env call)
+      (begin_script table' (function_of (with_ids j (weave chosen f)) strict) env call)
   begin_match f p j strict env call s =
       pick call.by_new (construct_match f p j strict env call s) (call_match f p j strict env call s)

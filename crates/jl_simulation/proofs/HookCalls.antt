@@ -97,7 +97,7 @@ module _ (table : FunctionTable) (c : Context) where
       → one (weaving.hook_of_1 k id word e) n
       ≡ Step (one e (n + 2 + 2 + 1 + 1) >>= (λ v. Step (enter_hook c id h (v ∷ []))))
   hook_worded_1 k f is id small word h asked e n =
-      let l : Exprs = tree.more (weaving.quoted word) (tree.more e tree.end) in
+      let l : Exprs = tree.more (weaving.string_of word) (tree.more e tree.end) in
       call_of_hook k (worded f 1) is id l n
       ∙ ap (λ call. Step (call_hook c call (values (with_id id l) (n + 2 + 2))))
       (small_call (f word) 2 id small ∙ ap (λ o. asks o 2 id) asked)
@@ -109,7 +109,7 @@ module _ (table : FunctionTable) (c : Context) where
       ≡ Step (one a (n + 2 + 2 + 1 + 1) >>= (λ v. (one b (n + 2 + 2 + 1 + 1 + id_count a) >>= (λ w.
       Step (enter_hook c id h (v ∷ w ∷ []))))))
   hook_worded_2 k f is id small word h asked a b n =
-      let l : Exprs = tree.more (weaving.quoted word) (tree.more a (tree.more b tree.end)) in
+      let l : Exprs = tree.more (weaving.string_of word) (tree.more a (tree.more b tree.end)) in
       call_of_hook k (worded f 2) is id l n
       ∙ ap (λ call. Step (call_hook c call (values (with_id id l) (n + 2 + 2))))
       (small_call (f word) 2 id small ∙ ap (λ o. asks o 2 id) asked)
@@ -174,7 +174,7 @@ module _ (table : FunctionTable) (c : Context) where
       ≡ Step (Step (one a (n + 2 + 2 + 2 + 1 + 1) >>= (λ v. (one b (n + 2 + 2 + 2 + 1 + 1 + id_count a) >>= (λ w.
       closed id h l (n + 2 + id_count (weaving.hook_of_2 k id word a b)) (v ∷ w ∷ []))))))
   opener_worded_2 k f is id small word h asked a b l n takes =
-      let inner : Exprs = tree.more (weaving.quoted word) (tree.more a (tree.more b tree.end)) in
+      let inner : Exprs = tree.more (weaving.string_of word) (tree.more a (tree.more b tree.end)) in
       let m : ℕ = n + 2 + id_count (weaving.hook_of_2 k id word a b) in
       call_of_opener k (worded f 2) is id inner l n takes
       ∙ ap (λ call. Step (call_pair table c call (values (with_id id inner) (n + 2 + 2 + 2)) (values l m 0)))

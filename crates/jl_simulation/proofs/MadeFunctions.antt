@@ -13,7 +13,7 @@ use Rattle.jl_meaning.specs.FunctionObjects.{create_function, make_function, mak
 use Rattle.jl_meaning.specs.Parts.{change_store, give, look, ◌>>=◌, Algorithm, Func}
 use Rattle.jl_meaning.specs.Store.{next_environment}
 use Rattle.jl_simulation.specs.HookCalls.{without_id}
-use Rattle.jl_simulation.specs.Weaving.{woven}
+use Rattle.jl_simulation.specs.Weaving.{weave}
 
 pub params_same : (n : ℕ) (l : List (tree.Ident ℕ))
     → map (λ (x : tree.Ident ℕ). x.text) l
@@ -31,12 +31,12 @@ made_with_name strict number params env x = do
   give id
 
 pub make_same : (chosen : Kinds) (n : ℕ) (outer : Bool) (env : ℕ) (f : Func)
-    → make_function outer env f ≡ make_function outer env (with_ids n (woven chosen f))
+    → make_function outer env f ≡ make_function outer env (with_ids n (weave chosen f))
 make_same chosen n outer env (tree.function m x params (tree.body strict fs l) s) =
     ap (λ names. create_function (strict_in outer (tree.body strict fs l)) m (length names) env) (params_same n params)
 
 pub expression_same : (chosen : Kinds) (n : ℕ) (outer : Bool) (env : ℕ) (f : Func)
-    → make_function_expression outer env f ≡ make_function_expression outer env (with_ids n (woven chosen f))
+    → make_function_expression outer env f ≡ make_function_expression outer env (with_ids n (weave chosen f))
 unfolding make_function_expression
 expression_same chosen n outer env (tree.function m None params (tree.body strict fs l) s) =
     ap (λ names. create_function (strict_in outer (tree.body strict fs l)) m (length names) env) (params_same n params)

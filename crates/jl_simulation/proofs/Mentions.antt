@@ -19,8 +19,8 @@ use Rattle.jl_meaning.specs.Parts.{Code, Expr}
 use Rattle.jl_simulation.specs.HookCalls as weaving
 use Rattle.jl_simulation.specs.HookCalls.{before_update, hook, hook_1, hook_of_1, hook_statement, name_of, without_id}
 use Rattle.jl_simulation.specs.HookCalls.{Woven}
-use Rattle.jl_simulation.specs.Weaving as weave
-use Rattle.jl_simulation.specs.Weaving.{woven, woven_assignment, woven_body, woven_callee, woven_delete, woven_forest}
+use Rattle.jl_simulation.specs.Weaving as weaving
+use Rattle.jl_simulation.specs.Weaving.{weave, woven_assignment, woven_body, woven_callee, woven_delete, woven_forest}
 use Rattle.jl_simulation.specs.Weaving.{woven_optional, woven_test, woven_typeof, woven_update}
 use Rattle.jl_simulation.proofs.Shapes.{call_with_ids}
 
@@ -48,7 +48,7 @@ module _ (chosen : Kinds) where
   caught_same false x l n is = is n
 
   mutual
-    declared_same : (t : Tree ℕ tree.stmt) (n : ℕ) → declared_in (with_ids n (woven chosen t)) ≡ declared_in t
+    declared_same : (t : Tree ℕ tree.stmt) (n : ℕ) → declared_in (with_ids n (weave chosen t)) ≡ declared_in t
     declared_same (tree.var l s) n = declared_decls l n
     declared_same (tree.block l s) n = declared_forest l n
     declared_same (tree.if_else c a b s) n = ap₂ ◌++◌ (declared_forest a _) (declared_branch b _)
@@ -92,7 +92,7 @@ module _ (chosen : Kinds) where
     declared_handler (tree.present (tree.catch x l)) id n = caught_same (chosen kind.Catch) x l n
         (λ n. declared_forest l n)
 
-    declared_init : (t : Tree ℕ tree.init) (n : ℕ) → declared_in (with_ids n (woven chosen t)) ≡ declared_in t
+    declared_init : (t : Tree ℕ tree.init) (n : ℕ) → declared_in (with_ids n (weave chosen t)) ≡ declared_in t
     declared_init (tree.init_var l) n = declared_decls l n
     declared_init (tree.init_expression e) n = refl
     declared_init tree.nothing n = refl
@@ -149,11 +149,11 @@ module _ (chosen : Kinds) where
     -- an expression in a hook of one value, if that is chosen
     hooked : (k : OpKind) (h : Text) (id : ℕ) (w : weaving.Expr) {b : Bool} (n : ℕ)
         → ((n : ℕ) → mentions x (with_ids n w) ≡ b)
-        → mentions x (with_ids n (weave.hooked_if chosen k (hook_1 h id) w)) ≡ b
+        → mentions x (with_ids n (weaving.hooked_if chosen k (hook_1 h id) w)) ≡ b
     hooked k h id w n is = way (chosen k) _ _ n (one (is (n + 2 + 2 + 1))) (is n)
 
     written : (y : Text) (id : ℕ) (w : weaving.Expr) {b : Bool} (n : ℕ) → ((n : ℕ) → mentions x (with_ids n w) ≡ b)
-        → mentions x (with_ids n (weave.hooked_if chosen kind.Write (weaving.write id y) w)) ≡ b
+        → mentions x (with_ids n (weaving.hooked_if chosen kind.Write (weaving.write id y) w)) ≡ b
     written y id w n is = way (chosen kind.Write) _ _ n (one (is (n + 2 + 2 + 1 + 1))) (is n)
 
     -- a `catch`, whose hook mentions the name that is caught
@@ -171,9 +171,9 @@ module _ (chosen : Kinds) where
     catch_same false y l k is = ap (◌||◌ (bytes_eq x y.text)) (is k)
 
     -- a test
-    tests : (id : ℕ) (a : Expr) (n : ℕ) → ((n : ℕ) → mentions x (with_ids n (woven chosen a)) ≡ mentions x a)
-        → mentions x (with_ids (n + 1) (weave.tested chosen id (woven chosen a))) ≡ mentions x a
-    tests id a n is = hooked kind.Conditional (codes "C") id (woven chosen a) (n + 1) is
+    tests : (id : ℕ) (a : Expr) (n : ℕ) → ((n : ℕ) → mentions x (with_ids n (weave chosen a)) ≡ mentions x a)
+        → mentions x (with_ids (n + 1) (weaving.hook_test chosen id (weave chosen a))) ≡ mentions x a
+    tests id a n is = hooked kind.Conditional (codes "C") id (weave chosen a) (n + 1) is
 
     -- a call, by how its callee is woven
     by_callee : {r : Bool} (b : Bool) (u v : weaving.Expr) (l : Forest ℕ tree.expr) (n : ℕ)
@@ -184,7 +184,7 @@ module _ (chosen : Kinds) where
     by_callee false u v l n e f = f
 
     mutual
-      pub same : {y : Sort} (t : Tree ℕ y) (n : ℕ) → mentions x (with_ids n (woven chosen t)) ≡ mentions x t
+      pub same : {y : Sort} (t : Tree ℕ y) (n : ℕ) → mentions x (with_ids n (weave chosen t)) ≡ mentions x t
       same (tree.name y s) n = way (chosen kind.Read) _ _ n (one refl) refl
       same (tree.number m s) n = way (chosen kind.Literal) _ _ n (one refl) refl
       same (tree.string m s) n = way (chosen kind.Literal) _ _ n (one refl) refl
@@ -198,12 +198,12 @@ module _ (chosen : Kinds) where
           way (chosen kind.GetField) _ _ n (two (same o _) (same k _)) (ap₂ ◌||◌ (same o _) (same k _))
       same (tree.call f l s) n = callee f s l n (λ n. same f n) (λ n. forests l n)
       same (tree.new f l s) n =
-          way (weave.calls chosen) _ _ n (ap₂ ◌||◌ (one (same f _)) (forests l _)) (ap₂ ◌||◌ (same f _) (forests l _))
-      same (tree.unary un.Typeof e s) n = typeof_same s e (woven chosen e) n (λ n. same e n)
+          way (weaving.calls chosen) _ _ n (ap₂ ◌||◌ (one (same f _)) (forests l _)) (ap₂ ◌||◌ (same f _) (forests l _))
+      same (tree.unary un.Typeof e s) n = typeof_same s e (weave chosen e) n (λ n. same e n)
       same (tree.unary un.Delete e s) n = deletes e s n (λ n. same e n)
       same (tree.unary o e s) n = way (chosen kind.Unary) _ _ n (one (same e _)) (same e _)
       same (tree.update up prefix t s) n =
-          way (weave.computes chosen t kind.Unary) _ _ n
+          way (weaving.computes chosen t kind.Unary) _ _ n
           (back_same up prefix (woven_update chosen up t s) n (λ n. updates s up t n)) (same t _)
       same (tree.binary o a b s) n =
           way (chosen kind.Binary) _ _ n (two (same a _) (same b _)) (ap₂ ◌||◌ (same a _) (same b _))
@@ -211,7 +211,7 @@ module _ (chosen : Kinds) where
       same (tree.or a b s) n = ap₂ ◌||◌ (tests s a n (λ n. same a n)) (same b _)
       same (tree.conditional a b c s) n = ap₂ ◌||◌ (ap₂ ◌||◌ (tests s a n (λ n. same a n)) (same b _)) (same c _)
       same (tree.assign o t e s) n =
-          way (weave.assigns chosen o t) _ _ n (assigns t s n o e (woven chosen e) (λ n. same e n))
+          way (weaving.assigns chosen o t) _ _ n (assigns t s n o e (weave chosen e) (λ n. same e n))
           (ap₂ ◌||◌ (same t _) (same e _))
       same (tree.comma a b s) n = ap₂ ◌||◌ (same a _) (same b _)
       same (tree.to_dot o k s) n = same o _
@@ -226,22 +226,22 @@ module _ (chosen : Kinds) where
       same (tree.block l s) n = forests l _
       same (tree.if_else c a b s) n =
           ap₂ ◌||◌ (ap₂ ◌||◌ (tests s c n (λ n. same c n)) (forests a _)) (optionals b _)
-      same (tree.do_while l c s) n = ap₂ ◌||◌ (forests l _) (hooked kind.Conditional (codes "C") s (woven chosen c) _
+      same (tree.do_while l c s) n = ap₂ ◌||◌ (forests l _) (hooked kind.Conditional (codes "C") s (weave chosen c) _
           (λ n. same c n))
       same (tree.while c l s) n = ap₂ ◌||◌ (tests s c n (λ n. same c n)) (forests l _)
       same (tree.for i tree.absent u l s) n =
           ap₂ ◌||◌ (ap₂ ◌||◌ (ap₂ ◌||◌ (same i _) refl) (optionals u _)) (forests l _)
       same (tree.for i (tree.present c) u l s) n =
           ap₂ ◌||◌ (ap₂ ◌||◌ (ap₂ ◌||◌ (same i _)
-          (hooked kind.Conditional (codes "C") s (woven chosen c) _ (λ n. same c n))) (optionals u _)) (forests l _)
+          (hooked kind.Conditional (codes "C") s (weave chosen c) _ (λ n. same c n))) (optionals u _)) (forests l _)
       same (tree.for_in is_var y e l s) n =
-          ap₂ ◌||◌ (ap (◌||◌ (bytes_eq x y.text)) (hooked kind.ForIn (codes "O") s (woven chosen e) _ (λ n. same e n)))
+          ap₂ ◌||◌ (ap (◌||◌ (bytes_eq x y.text)) (hooked kind.ForIn (codes "O") s (weave chosen e) _ (λ n. same e n)))
           (forests l _)
       same (tree.return tree.absent s) n = refl
-      same (tree.return (tree.present e) s) n = hooked kind.Return (codes "V") s (woven chosen e) _ (λ n. same e n)
+      same (tree.return (tree.present e) s) n = hooked kind.Return (codes "V") s (weave chosen e) _ (λ n. same e n)
       same (tree.labelled y t s) n = same t n
       same (tree.switch e l s) n = ap₂ ◌||◌ (same e _) (forests l _)
-      same (tree.throw e s) n = hooked kind.Throw (codes "K") s (woven chosen e) _ (λ n. same e n)
+      same (tree.throw e s) n = hooked kind.Throw (codes "K") s (weave chosen e) _ (λ n. same e n)
       same (tree.try l tree.absent f s) n = ap₂ ◌||◌ (ap₂ ◌||◌ (forests l _) refl) (optionals f _)
       same (tree.try l (tree.present (tree.catch y h)) f s) n =
           ap₂ ◌||◌ (ap₂ ◌||◌ (forests l _) (catch_same (chosen kind.Catch) y h
@@ -250,28 +250,28 @@ module _ (chosen : Kinds) where
       same (tree.init_var l) n = forests l _
       same (tree.declarator y tree.absent) n = refl
       same (tree.declarator y (tree.present e)) n =
-          ap (◌||◌ (bytes_eq x y.text)) (written y.text y.at (woven chosen e) _ (λ n. same e n))
+          ap (◌||◌ (bytes_eq x y.text)) (written y.text y.at (weave chosen e) _ (λ n. same e n))
       same (tree.case e l) n = ap₂ ◌||◌ (optionals e _) (forests l _)
       same (tree.branch_of l) n = forests l _
       same (tree.catch y l) n = catch_same (chosen kind.Catch) y l n (λ n. forests l n)
       same _ n = refl
 
       callee : (f : Expr) (id : ℕ) (l : Forest ℕ tree.expr) (n : ℕ)
-          → ((n : ℕ) → mentions x (with_ids n (woven chosen f)) ≡ mentions x f)
+          → ((n : ℕ) → mentions x (with_ids n (weave chosen f)) ≡ mentions x f)
           → ((n : ℕ) → forest_mentions x (forest_with_ids n (woven_forest chosen l)) ≡ forest_mentions x l)
-          → mentions x (with_ids n (tree.call (woven_callee chosen f (woven chosen f) id) (woven_forest chosen l) tt))
+          → mentions x (with_ids n (tree.call (woven_callee chosen f (weave chosen f) id) (woven_forest chosen l) tt))
           ≡ (mentions x f || forest_mentions x l)
       callee (tree.dot o k s) id l n e r =
-          by_callee (weave.calls_member chosen) _ _ l n (ap₂ ◌||◌ (one (same o _)) (r _)) (ap₂ ◌||◌ (same o _) (r _))
+          by_callee (weaving.calls_member chosen) _ _ l n (ap₂ ◌||◌ (one (same o _)) (r _)) (ap₂ ◌||◌ (same o _) (r _))
       callee (tree.index o k s) id l n e r =
-          by_callee (weave.calls_member chosen) _ _ l n (ap₂ ◌||◌ (two (same o _) (same k _)) (r _))
+          by_callee (weaving.calls_member chosen) _ _ l n (ap₂ ◌||◌ (two (same o _) (same k _)) (r _))
           (ap₂ ◌||◌ (ap₂ ◌||◌ (same o _) (same k _)) (r _))
       callee f id l n e r =
-          by_callee (weave.calls chosen) _ (woven chosen f) l n (ap₂ ◌||◌ (one (e (n + 2 + 2 + 2 + 1))) (r _))
+          by_callee (weaving.calls chosen) _ (weave chosen f) l n (ap₂ ◌||◌ (one (e (n + 2 + 2 + 2 + 1))) (r _))
           (ap (λ t. mentions x t) (call_with_ids chosen f tt n (woven_forest chosen l)) ∙ ap₂ ◌||◌ (e (n + 2)) (r _))
 
-      deletes : (f : Expr) (id n : ℕ) → ((n : ℕ) → mentions x (with_ids n (woven chosen f)) ≡ mentions x f)
-          → mentions x (with_ids n (woven_delete chosen f (woven chosen f) id)) ≡ mentions x f
+      deletes : (f : Expr) (id n : ℕ) → ((n : ℕ) → mentions x (with_ids n (weave chosen f)) ≡ mentions x f)
+          → mentions x (with_ids n (woven_delete chosen f (weave chosen f) id)) ≡ mentions x f
       deletes (tree.name y s) id n e = refl
       deletes (tree.dot o k s) id n e = way (chosen kind.DeleteField) _ _ n (one (same o _)) (same o _)
       deletes (tree.index o k s) id n e =

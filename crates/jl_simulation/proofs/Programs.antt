@@ -34,7 +34,7 @@ use Rattle.jl_simulation.specs.HookCalls as weaving
 use Rattle.jl_simulation.specs.HookCalls.{and_last, begin_and_end, hook, hook_statement}
 use Rattle.jl_simulation.specs.Plain.{HasFewIds, IsPlain}
 use Rattle.jl_simulation.specs.Simulation.{WovenSimulates}
-use Rattle.jl_simulation.specs.Weaving.{woven, woven_forest, woven_of, woven_program}
+use Rattle.jl_simulation.specs.Weaving.{weave, woven_forest, woven_of, woven_program}
 use Rattle.jl_simulation.specs.inner.Fit.{AllFit, Fits}
 use Rattle.jl_simulation.proofs.Chosen.{first_not, second_not, split}
 use Rattle.jl_simulation.proofs.Completions.{valued}
@@ -134,7 +134,7 @@ module _ (chosen : Kinds) where
       (execute_all table' (forest_with_ids j (and_last (woven_forest chosen l) last)) c)
   last_to table table' same tree.end h last j c p d f s = f j s
   last_to table table' same (tree.more a l) h last j c p d f s =
-      let m : ℕ = j + id_count (woven chosen a) in
+      let m : ℕ = j + id_count (weave chosen a) in
       let r : (t : Store) → Matched chosen t d 0 (then_do (execute_all table l c) p)
       (execute_all table' (forest_with_ids m (and_last (woven_forest chosen l) last)) c) =
       last_to table table' same l h.1 last m c p d f in

@@ -1,7 +1,7 @@
 -- What simulates a run simulates it whatever the run records of hooks of its own.
 use Rattle.std.proofs.Common.{◌≡◌, ℕ, ◌≤◌, Bool, refl, sym, subst}
 use Rattle.jl_effects.specs.Effects.{Part}
-use Rattle.jl_effects.specs.Matching.{bound, Alike, IsWithin, Simulates}
+use Rattle.jl_effects.specs.Matching.{step_bound, Alike, IsWithin, Simulates}
 use Rattle.jl_effects.specs.Running.{everything, keeping, nothing_done, run, state_of, steps_taken, IsOver, Language}
 use Rattle.jl_effects.specs.Running.{Outcome, Over, RunState, Spent}
 use Rattle.jl_effects.specs.Traces.{keep_hooks, with_state}
@@ -31,11 +31,11 @@ module _ {S F O A : Type 0} (kept : O → Bool) where
   same_hooks : (first second : ℕ → Outcome S F O A) → Simulates kept first second
       → Simulates kept (λ n. with_state (keep_hooks kept) (first n)) second
   same_hooks first second x = record {
-    follows = λ n h. alike (first n) (second (bound n)) (x.follows n (over (first n) h));
+    follows = λ n h. alike (first n) (second (step_bound n)) (x.follows n (over (first n) h));
     leads = λ m h. alike (first m) (second m) (x.leads m h);
     no_fewer = λ m h. subst (λ k. k ≤ steps_taken m (second m)) (steps_same m (first m)) (x.no_fewer m h);
     not_many_more = λ m h.
-        subst (λ k. steps_taken m (second m) ≤ bound k) (steps_same m (first m)) (x.not_many_more m h);
+        subst (λ k. steps_taken m (second m) ≤ step_bound k) (steps_same m (first m)) (x.not_many_more m h);
     within = λ m w h. within (first m) w (x.within m w h);
   }
 
@@ -46,12 +46,12 @@ module _ {S F O A : Type 0} (kept : O → Bool) where
   renamed first first' second is x =
       let y : Simulates kept (λ n. with_state (keep_hooks kept) (first n)) second = same_hooks first second x in
       record {
-        follows = λ n h. subst (λ r. Alike kept r (second (bound n))) (sym (is n)) (y.follows n (subst IsOver
+        follows = λ n h. subst (λ r. Alike kept r (second (step_bound n))) (sym (is n)) (y.follows n (subst IsOver
             (is n) h));
         leads = λ m h. subst (λ r. Alike kept r (second m)) (sym (is m)) (y.leads m h);
         no_fewer = λ m h. subst (λ r. steps_taken m r ≤ steps_taken m (second m)) (sym (is m)) (y.no_fewer m h);
         not_many_more = λ m h.
-            subst (λ r. steps_taken m (second m) ≤ bound (steps_taken m r)) (sym (is m)) (y.not_many_more m h);
+            subst (λ r. steps_taken m (second m) ≤ step_bound (steps_taken m r)) (sym (is m)) (y.not_many_more m h);
         within = λ m w h. subst (λ r. IsWithin kept (state_of r) w) (sym (is m)) (y.within m w h);
       }
 

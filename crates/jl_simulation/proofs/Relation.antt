@@ -16,17 +16,17 @@ use Rattle.jl_effects.proofs.Chains.{and_then-assoc, and_then-end}
 use Rattle.jl_meaning.specs.Store.{Store}
 use Rattle.jl_meaning.specs.Changes.{apply}
 use Rattle.jl_meaning.specs.Parts.{Context, Call, Loop, Turn, Job, CallOf, TurnOf, Part, Answer, gives, throws}
-use Rattle.jl_meaning.specs.Parts.{Algorithm, given, ◌>>=◌, give, lift, fault_of, answer_of, begin_call}
+use Rattle.jl_meaning.specs.Parts.{Algorithm, continue_with, ◌>>=◌, give, lift, fault_of, answer_of, begin_call}
 use Rattle.jl_meaning.specs.Parts.{do_loop, while_loop, for_loop, for_in_loop}
-use Rattle.jl_simulation.specs.Weaving.{woven, woven_forest, woven_optional, woven_test, tested}
+use Rattle.jl_simulation.specs.Weaving.{weave, woven_forest, woven_optional, woven_test, hook_test}
 use Rattle.jl_simulation.specs.inner.Fit.{LoopFits}
 
 -- the loop of the woven run, with any ids of its parts
 abbrev pub woven_loop : (chosen : Kinds) (id j k m : ℕ) → Loop → Loop
 woven_loop chosen id j k m (do_loop l e) =
-    do_loop (forest_with_ids j (woven_forest chosen l)) (with_ids k (tested chosen id (woven chosen e)))
+    do_loop (forest_with_ids j (woven_forest chosen l)) (with_ids k (hook_test chosen id (weave chosen e)))
 woven_loop chosen id j k m (while_loop e l) =
-    while_loop (with_ids j (tested chosen id (woven chosen e))) (forest_with_ids k (woven_forest chosen l))
+    while_loop (with_ids j (hook_test chosen id (weave chosen e))) (forest_with_ids k (woven_forest chosen l))
 woven_loop chosen id j k m (for_loop e u l) =
     for_loop (optional_with_ids j (woven_test chosen id e)) (optional_with_ids k (woven_optional chosen u))
     (forest_with_ids m (woven_forest chosen l))
@@ -48,9 +48,9 @@ Matched chosen s c d p q = Matches apply (is_kept chosen) (AreJobs chosen) s c d
 
 pub assoc : {A B C : Type 0} (p : Part (Answer A)) (k : A → Part (Answer B)) (l : B → Part (Answer C))
     → ((p >>= k) >>= l) ≡ (p >>= (λ a. (k a >>= l)))
-assoc p k l = and_then-assoc p (given k) (given l) ∙ ap (and_then p) (fun_ext on)
+assoc p k l = and_then-assoc p (continue_with k) (continue_with l) ∙ ap (and_then p) (fun_ext on)
   where
-    on : (r : Answer _) → and_then (given k r) (given l) ≡ given (λ a. (k a >>= l)) r
+    on : (r : Answer _) → and_then (continue_with k r) (continue_with l) ≡ continue_with (λ a. (k a >>= l)) r
     on (gives a) = refl
     on (throws v) = refl
 
@@ -65,7 +65,7 @@ assoc4 q f g h i =
 pub unit : {A : Type 0} (p : Part (Answer A)) → (p >>= give) ≡ p
 unit {A} p = ap (and_then p) (fun_ext on) ∙ and_then-end p
   where
-    on : (r : Answer A) → ◌≡◌ {A = Part (Answer A)} (given give r) (End r)
+    on : (r : Answer A) → ◌≡◌ {A = Part (Answer A)} (continue_with give r) (End r)
     on (gives a) = refl
     on (throws v) = refl
 
@@ -100,7 +100,7 @@ module _ {chosen : Kinds} where
       → Matched chosen s c e (p >>= k) (q >>= l)
   bind {d = d} {e = e} {k = k} {l = l} le m f = followed m on
     where
-      on : (r : Answer _) (t : Store) → Matched chosen t d e (given k r) (given l r)
+      on : (r : Answer _) (t : Store) → Matched chosen t d e (continue_with k r) (continue_with l r)
       on (gives a) t = f a t
       on (throws v) t = ends le
 
@@ -125,7 +125,7 @@ module _ {chosen : Kinds} where
       → Matched chosen s c e (begin_call CallOf call >>= k) (begin_call CallOf call >>= l)
   begun {c = c} {e = e} call {k = k} {l = l} le f = begins (calls call) (λ end t. on (answer_of end) t)
     where
-      on : (r : Answer Value) (t : Store) → Matched chosen t c e (given k r) (given l r)
+      on : (r : Answer Value) (t : Store) → Matched chosen t c e (continue_with k r) (continue_with l r)
       on (gives a) t = f a t
       on (throws v) t = ends le
 

@@ -23,8 +23,8 @@ use Rattle.jl_meaning.specs.forms.HookCalls.{openers, shape_named, CalleeForm, H
 use Rattle.jl_meaning.specs.forms.Hooks.{call_of_call, Arguments}
 use Rattle.jl_meaning.specs.forms.Operators.{operate_on}
 use Rattle.jl_simulation.specs.HookCalls as weaving
-use Rattle.jl_simulation.specs.Weaving as weave
-use Rattle.jl_simulation.specs.Weaving.{woven, woven_callee}
+use Rattle.jl_simulation.specs.Weaving as weaving
+use Rattle.jl_simulation.specs.Weaving.{weave, woven_callee}
 use Rattle.jl_simulation.specs.inner.Fit.{Fits}
 use Rattle.jl_simulation.proofs.HookNames.{hook_form, form_B, form_I, form_R, form_T, form_U, form_Y, form_Z}
 
@@ -82,18 +82,18 @@ way P true x y p q = p
 way P false x y p q = q
 
 module _ (chosen : Kinds) where
-  typeof_other : (id : ℕ) (e : Expr) (w : weaving.Expr) → IsOther (weave.woven_typeof chosen id e w)
+  typeof_other : (id : ℕ) (e : Expr) (w : weaving.Expr) → IsOther (weaving.woven_typeof chosen id e w)
   typeof_other id (tree.name x s) w = way IsOther (chosen kind.TypeofName) _ _ tt tt
   typeof_other id _ w = way IsOther (chosen kind.Unary) _ _ tt tt
 
-  delete_other : (id : ℕ) (e : Expr) (w : weaving.Expr) → IsOther (weave.woven_delete chosen e w id)
+  delete_other : (id : ℕ) (e : Expr) (w : weaving.Expr) → IsOther (weaving.woven_delete chosen e w id)
   delete_other id (tree.name x s) w = tt
   delete_other id (tree.dot o k s) w = way IsOther (chosen kind.DeleteField) _ _ tt tt
   delete_other id (tree.index o k s) w = way IsOther (chosen kind.DeleteField) _ _ tt tt
   delete_other id _ w = tt
 
   update_other : (id : ℕ) (up prefix : Bool) (t : Tree ℕ tree.target)
-      → IsOther (weaving.before_update up prefix (weave.woven_update chosen up t id))
+      → IsOther (weaving.before_update up prefix (weaving.woven_update chosen up t id))
   update_other id true false t = tt
   update_other id false false t = tt
   update_other id up true (tree.to_name x) = tt
@@ -101,7 +101,7 @@ module _ (chosen : Kinds) where
   update_other id up true (tree.to_index o k s) = tt
 
   assign_other : (id : ℕ) (o : Option BinOp) (t : Tree ℕ tree.target) (w : weaving.Expr)
-      → IsOther (weave.woven_assignment chosen o t w id)
+      → IsOther (weaving.woven_assignment chosen o t w id)
   assign_other id None (tree.to_name x) w = tt
   assign_other id (Some q) (tree.to_name x) w = tt
   assign_other id None (tree.to_dot o k s) w = tt
@@ -109,7 +109,7 @@ module _ (chosen : Kinds) where
   assign_other id None (tree.to_index o k s) w = tt
   assign_other id (Some q) (tree.to_index o k s) w = tt
 
-  woven_other : (e : Expr) → IsOther e → IsOther (woven chosen e)
+  woven_other : (e : Expr) → IsOther e → IsOther (weave chosen e)
   woven_other (tree.name x s) h = absurd h
   woven_other (tree.dot o k s) h = absurd h
   woven_other (tree.index o k s) h = absurd h
@@ -120,35 +120,35 @@ module _ (chosen : Kinds) where
   woven_other (tree.array l s) h = way IsOther (chosen kind.ArrayLiteral) _ _ tt tt
   woven_other (tree.object l s) h = way IsOther (chosen kind.ObjectLiteral) _ _ tt tt
   woven_other (tree.function_expression l s) h = way IsOther (chosen kind.FunctionLiteral) _ _ tt tt
-  woven_other (tree.new f l s) h = way IsOther (weave.calls chosen) _ _ tt tt
-  woven_other (tree.unary un.Typeof e s) h = typeof_other s e (woven chosen e)
-  woven_other (tree.unary un.Delete e s) h = delete_other s e (woven chosen e)
+  woven_other (tree.new f l s) h = way IsOther (weaving.calls chosen) _ _ tt tt
+  woven_other (tree.unary un.Typeof e s) h = typeof_other s e (weave chosen e)
+  woven_other (tree.unary un.Delete e s) h = delete_other s e (weave chosen e)
   woven_other (tree.unary o e s) h = way IsOther (chosen kind.Unary) _ _ tt tt
   woven_other (tree.update up prefix t s) h =
-      way IsOther (weave.computes chosen t kind.Unary) _ _ (update_other s up prefix t) tt
+      way IsOther (weaving.computes chosen t kind.Unary) _ _ (update_other s up prefix t) tt
   woven_other (tree.binary o a b s) h = way IsOther (chosen kind.Binary) _ _ tt tt
   woven_other (tree.assign o t e s) h =
-      way IsOther (weave.assigns chosen o t) _ _ (assign_other s o t (woven chosen e)) tt
+      way IsOther (weaving.assigns chosen o t) _ _ (assign_other s o t (weave chosen e)) tt
   woven_other _ h = tt
 
-  woven_no_name : (e : Expr) → IsNoName e → IsNoName (woven chosen e)
+  woven_no_name : (e : Expr) → IsNoName e → IsNoName (weave chosen e)
   woven_no_name (tree.name x s) h = absurd h
   woven_no_name (tree.dot o k s) h = way IsNoName (chosen kind.GetField) _ _ tt tt
   woven_no_name (tree.index o k s) h = way IsNoName (chosen kind.GetField) _ _ tt tt
-  woven_no_name e h = no_name (woven chosen e) (woven_other e tt)
+  woven_no_name e h = no_name (weave chosen e) (woven_other e tt)
 
-  pub woven_no_member : (e : Expr) → IsNoMember e → IsNoMember (woven chosen e)
+  pub woven_no_member : (e : Expr) → IsNoMember e → IsNoMember (weave chosen e)
   woven_no_member (tree.dot o k s) h = absurd h
   woven_no_member (tree.index o k s) h = absurd h
   woven_no_member (tree.name x s) h = way IsNoMember (chosen kind.Read) _ _ tt tt
-  woven_no_member e h = no_member (woven chosen e) (woven_other e tt)
+  woven_no_member e h = no_member (weave chosen e) (woven_other e tt)
 
   -- what `typeof` and `delete` of what is no name, or no member either, do
   pub typeof_as_is : (table : FunctionTable) (c : Context) (e : Expr) → IsNoName e → (j : ℕ)
-      → evaluate table (with_ids j (tree.unary un.Typeof (woven chosen e) tt)) c
-      ≡ Step (evaluate table (with_ids (j + 1) (woven chosen e)) c >>= (λ v. operate_on performs j unary.Typeof v))
+      → evaluate table (with_ids j (tree.unary un.Typeof (weave chosen e) tt)) c
+      ≡ Step (evaluate table (with_ids (j + 1) (weave chosen e)) c >>= (λ v. operate_on performs j unary.Typeof v))
   typeof_as_is table c e h j =
-      at (with_ids (j + 1) (woven chosen e)) (no_name_with_ids (j + 1) (woven chosen e) (woven_no_name e h))
+      at (with_ids (j + 1) (weave chosen e)) (no_name_with_ids (j + 1) (weave chosen e) (woven_no_name e h))
     where
       at : (e : Expr) → IsNoName e
           → evaluate table (tree.unary un.Typeof e j) c
@@ -157,10 +157,10 @@ module _ (chosen : Kinds) where
       at _ h = refl
 
   pub delete_as_is : (table : FunctionTable) (c : Context) (e : Expr) → IsOther e → (j : ℕ)
-      → evaluate table (with_ids j (tree.unary un.Delete (woven chosen e) tt)) c
-      ≡ Step (evaluate table (with_ids j (woven chosen e)) c >>= (λ _. give (value.Bool true)))
+      → evaluate table (with_ids j (tree.unary un.Delete (weave chosen e) tt)) c
+      ≡ Step (evaluate table (with_ids j (weave chosen e)) c >>= (λ _. give (value.Bool true)))
   delete_as_is table c e h j =
-      at (with_ids j (woven chosen e)) (other_with_ids j (woven chosen e) (woven_other e h))
+      at (with_ids j (weave chosen e)) (other_with_ids j (weave chosen e) (woven_other e h))
     where
       at : (e : Expr) → IsOther e
           → evaluate table (tree.unary un.Delete e j) c ≡ Step (evaluate table e c >>= (λ _. give (value.Bool true)))
@@ -171,9 +171,9 @@ module _ (chosen : Kinds) where
 
   -- the ids of a call of what is no member
   pub call_with_ids : (f : Expr) → IsNoMember f → (j : ℕ) (l : weaving.Exprs)
-      → with_ids j (tree.call (woven chosen f) l tt)
-      ≡ tree.call (with_ids (j + 2) (woven chosen f)) (forest_with_ids (j + 2 + id_count (woven chosen f)) l) (j + 0)
-  call_with_ids f h j l = at (woven chosen f) (woven_no_member f h)
+      → with_ids j (tree.call (weave chosen f) l tt)
+      ≡ tree.call (with_ids (j + 2) (weave chosen f)) (forest_with_ids (j + 2 + id_count (weave chosen f)) l) (j + 0)
+  call_with_ids f h j l = at (weave chosen f) (woven_no_member f h)
     where
       at : (g : weaving.Expr) → IsNoMember g
           → with_ids j (tree.call g l tt)
@@ -205,12 +205,12 @@ callee_no_hook _ p = refl
 
 -- and neither is one of a woven expression
 pub woven_member_no_hook : (chosen : Kinds) (o : Expr) → Fits o → (k : Text) (m : ℕ)
-    → form_of_member (with_ids m (woven chosen o)) k ≡ no_hook
+    → form_of_member (with_ids m (weave chosen o)) k ≡ no_hook
 woven_member_no_hook chosen (tree.name x s) p k m =
     way (λ e. form_of_member (with_ids m e) k ≡ no_hook) (chosen kind.Read) (weaving.read s x) (weaving.name_of x) refl
     (ap (λ b. if b then form_named (shape_named k hooks) (shape_named k openers) else no_hook) p.0)
 woven_member_no_hook chosen o p k m =
-    form_of_no_name (with_ids m (woven chosen o)) (no_name_with_ids m (woven chosen o) (woven_no_name chosen o tt)) k
+    form_of_no_name (with_ids m (weave chosen o)) (no_name_with_ids m (weave chosen o) (woven_no_name chosen o tt)) k
 
 -- no call of a hook that is the first of a pair
 abbrev IsNoOpener : CalleeForm → Type 0
@@ -232,22 +232,22 @@ called_no_first _ h l = tt
 
 module _ (chosen : Kinds) where
   callee_no_first : (f : Expr) → Fits f → (id : ℕ) (l : weaving.Exprs)
-      → IsNoFirst (tree.call (woven_callee chosen f (woven chosen f) id) l tt)
+      → IsNoFirst (tree.call (woven_callee chosen f (weave chosen f) id) l tt)
   callee_no_first (tree.dot o k s) p id l =
-      way (λ e. IsNoFirst (tree.call e l tt)) (weave.calls_member chosen) _ (tree.dot (woven chosen o) k tt) tt
+      way (λ e. IsNoFirst (tree.call e l tt)) (weaving.calls_member chosen) _ (tree.dot (weave chosen o) k tt) tt
       (λ m. subst IsNoOpener (sym (woven_member_no_hook chosen o p.0 k m)) tt)
   callee_no_first (tree.index o k s) p id l =
-      way (λ e. IsNoFirst (tree.call e l tt)) (weave.calls_member chosen) _ _ tt tt
+      way (λ e. IsNoFirst (tree.call e l tt)) (weaving.calls_member chosen) _ _ tt tt
   callee_no_first f p id l =
-      way (λ e. IsNoFirst (tree.call e l tt)) (weave.calls chosen) _ (woven chosen f) tt
-      (called_no_first (woven chosen f) (woven_no_member chosen f tt) l)
+      way (λ e. IsNoFirst (tree.call e l tt)) (weaving.calls chosen) _ (weave chosen f) tt
+      (called_no_first (weave chosen f) (woven_no_member chosen f tt) l)
 
-  typeof_no_first : (id : ℕ) (e : Expr) (w : weaving.Expr) → IsNoFirst (weave.woven_typeof chosen id e w)
+  typeof_no_first : (id : ℕ) (e : Expr) (w : weaving.Expr) → IsNoFirst (weaving.woven_typeof chosen id e w)
   typeof_no_first id (tree.name x s) w =
       way IsNoFirst (chosen kind.TypeofName) _ _ (hook_no_first (codes "Y") _ form_Y) tt
   typeof_no_first id _ w = way IsNoFirst (chosen kind.Unary) _ _ (hook_no_first (codes "U") _ form_U) tt
 
-  delete_no_first : (id : ℕ) (e : Expr) (w : weaving.Expr) → IsNoFirst (weave.woven_delete chosen e w id)
+  delete_no_first : (id : ℕ) (e : Expr) (w : weaving.Expr) → IsNoFirst (weaving.woven_delete chosen e w id)
   delete_no_first id (tree.name x s) w = tt
   delete_no_first id (tree.dot o k s) w =
       way IsNoFirst (chosen kind.DeleteField) _ _ (hook_no_first (codes "Z") _ form_Z) tt
@@ -256,7 +256,7 @@ module _ (chosen : Kinds) where
   delete_no_first id _ w = tt
 
   update_no_first : (id : ℕ) (up prefix : Bool) (t : Tree ℕ tree.target)
-      → IsNoFirst (weaving.before_update up prefix (weave.woven_update chosen up t id))
+      → IsNoFirst (weaving.before_update up prefix (weaving.woven_update chosen up t id))
   update_no_first id true false t = tt
   update_no_first id false false t = tt
   update_no_first id up true (tree.to_name x) = tt
@@ -264,7 +264,7 @@ module _ (chosen : Kinds) where
   update_no_first id up true (tree.to_index o k s) = hook_no_first (codes "I") _ form_I
 
   assign_no_first : (id : ℕ) (o : Option BinOp) (t : Tree ℕ tree.target) (w : weaving.Expr)
-      → IsNoFirst (weave.woven_assignment chosen o t w id)
+      → IsNoFirst (weaving.woven_assignment chosen o t w id)
   assign_no_first id None (tree.to_name x) w = tt
   assign_no_first id (Some q) (tree.to_name x) w = tt
   assign_no_first id None (tree.to_dot o k s) w = tt
@@ -272,7 +272,7 @@ module _ (chosen : Kinds) where
   assign_no_first id None (tree.to_index o k s) w = tt
   assign_no_first id (Some q) (tree.to_index o k s) w = tt
 
-  pub woven_no_first : (f : Expr) → Fits f → IsNoMember f → IsNoFirst (woven chosen f)
+  pub woven_no_first : (f : Expr) → Fits f → IsNoMember f → IsNoFirst (weave chosen f)
   woven_no_first (tree.dot o k s) p h = absurd h
   woven_no_first (tree.index o k s) p h = absurd h
   woven_no_first (tree.name x s) p h = way IsNoFirst (chosen kind.Read) _ _ (hook_no_first (codes "R") _ form_R) tt
@@ -291,17 +291,17 @@ module _ (chosen : Kinds) where
   woven_no_first (tree.function_expression l s) p h =
       way IsNoFirst (chosen kind.FunctionLiteral) _ _ (hook_no_first (codes "T") _ form_T) tt
   woven_no_first (tree.call f l s) p h = callee_no_first f p.0 s _
-  woven_no_first (tree.new f l s) p h = way IsNoFirst (weave.calls chosen) _ _ tt tt
-  woven_no_first (tree.unary un.Typeof e s) p h = typeof_no_first s e (woven chosen e)
-  woven_no_first (tree.unary un.Delete e s) p h = delete_no_first s e (woven chosen e)
+  woven_no_first (tree.new f l s) p h = way IsNoFirst (weaving.calls chosen) _ _ tt tt
+  woven_no_first (tree.unary un.Typeof e s) p h = typeof_no_first s e (weave chosen e)
+  woven_no_first (tree.unary un.Delete e s) p h = delete_no_first s e (weave chosen e)
   woven_no_first (tree.unary o e s) p h =
       way IsNoFirst (chosen kind.Unary) _ _ (hook_no_first (codes "U") _ form_U) tt
   woven_no_first (tree.update up prefix t s) p h =
-      way IsNoFirst (weave.computes chosen t kind.Unary) _ _ (update_no_first s up prefix t) tt
+      way IsNoFirst (weaving.computes chosen t kind.Unary) _ _ (update_no_first s up prefix t) tt
   woven_no_first (tree.binary o a b s) p h =
       way IsNoFirst (chosen kind.Binary) _ _ (hook_no_first (codes "B") _ form_B) tt
   woven_no_first (tree.assign o t e s) p h =
-      way IsNoFirst (weave.assigns chosen o t) _ _ (assign_no_first s o t (woven chosen e)) tt
+      way IsNoFirst (weaving.assigns chosen o t) _ _ (assign_no_first s o t (weave chosen e)) tt
   woven_no_first _ p h = tt
 
 -- a call of such a callee is a call of its value

@@ -39,8 +39,8 @@ use Rattle.jl_simulation.specs.HookCalls as weaving
 use Rattle.jl_simulation.specs.HookCalls.{catch_and_go_on, hook_1, hook_of_1, hook_statement, name_of, test, without_id}
 use Rattle.jl_simulation.specs.HookCalls.{write}
 use Rattle.jl_simulation.specs.Plain.{id_limit}
-use Rattle.jl_simulation.specs.Weaving as weave
-use Rattle.jl_simulation.specs.Weaving.{woven, woven_forest, woven_optional}
+use Rattle.jl_simulation.specs.Weaving as weaving
+use Rattle.jl_simulation.specs.Weaving.{weave, woven_forest, woven_optional}
 use Rattle.jl_simulation.specs.inner.Fit.{AllFit, Fits, FitsIfPresent}
 use Rattle.jl_simulation.proofs.Chosen.{split}
 use Rattle.jl_simulation.proofs.Completions.{decide_by_silent, decide_by_told, end_match, ending, even_then, noted}
@@ -62,7 +62,7 @@ default_same chosen j tree.end = refl
 default_same chosen j (tree.more (tree.case tree.absent b) l) = refl
 default_same chosen j (tree.more (tree.case (tree.present e) b) l) =
     ap (option_map suc)
-    (default_same chosen (j + (id_count (woven chosen e) + forest_id_count (woven_forest chosen b))) l)
+    (default_same chosen (j + (id_count (weave chosen e) + forest_id_count (woven_forest chosen b))) l)
 
 -- a `catch` by how the block ended
 handle_is : (table : FunctionTable) (x : Ident ℕ) (l : Stmts) (c : Context) (z : Completion)
@@ -108,12 +108,12 @@ module _ (chosen : Kinds) (table table' : FunctionTable)
   -- a test
   pub tested_match : (e : Expr) → Fits e → (id : ℕ) → id < id_limit → (id' j : ℕ) (c : Context) (s : Store) (n : ℕ)
       → Matched chosen s (suc n) (plus 3 n) (decide_by id (evaluate table e c))
-      (decide_by id' (evaluate table' (with_ids j (weave.tested chosen id (woven chosen e))) c))
+      (decide_by id' (evaluate table' (with_ids j (weaving.hook_test chosen id (weave chosen e))) c))
   tested_match e p id small id' j c s n =
       split (chosen kind.Conditional) (λ which. Matched chosen s (suc n) (plus 3 n) (decide_by id (evaluate table e c))
-      (decide_by id' (evaluate table' (with_ids j (if which then test id (woven chosen e) else woven chosen e)) c)))
+      (decide_by id' (evaluate table' (with_ids j (if which then test id (weave chosen e) else weave chosen e)) c)))
       (subst (λ q. Matched chosen s (suc n) (plus 3 n) (decide_by id (evaluate table e c)) (decide_by id' q))
-      (sym (hook_plain_1 table' c (codes "C") tests form_C id small (woven chosen e) j))
+      (sym (hook_plain_1 table' c (codes "C") tests form_C id small (weave chosen e) j))
       (decide_by_told c id id' (evaluate_match chosen table table' same e p (j + 2 + 2 + 1) c) s n))
       (λ h. decide_by_silent id id' h (evaluate_match chosen table table' same e p j c) s n)
 
@@ -122,7 +122,7 @@ module _ (chosen : Kinds) (table table' : FunctionTable)
       → Part Completion)
       → ((truth : Bool) → StatementMatch chosen (f truth) (g truth))
       → StatementMatch chosen (Step (and_then (decide_by id (evaluate table e c)) (on_given f)))
-      (Step (and_then (decide_by id' (evaluate table' (with_ids j (weave.tested chosen id (woven chosen e))) c))
+      (Step (and_then (decide_by id' (evaluate table' (with_ids j (weaving.hook_test chosen id (weave chosen e))) c))
       (on_given g)))
   tested_then e p id small id' j c f g y = record {
     at = λ s d. both (spare {c = suc d} (omega arith) (valued (omega arith) (tested_match e p id small id' j c s d)
@@ -135,16 +135,16 @@ module _ (chosen : Kinds) (table table' : FunctionTable)
       → ((v : Seen) → chosen (kind_of (f v)) ≡ chosen k) → (e : Expr) → Fits e → (id : ℕ) → id < id_limit → (id' j : ℕ)
       (c : Context) {g g' : Value → Part Completion} → ((v : Value) → StatementMatch chosen (g v) (g' v))
       → StatementMatch chosen (Step (and_then (evaluate table e c) (on_given (noted id f g))))
-      (Step (and_then (evaluate table' (with_ids j (weave.hooked_if chosen k (hook_1 name id) (woven chosen e))) c)
+      (Step (and_then (evaluate table' (with_ids j (weaving.hooked_if chosen k (hook_1 name id) (weave chosen e))) c)
       (on_given (noted id' f g'))))
   noted_match k name h form f emitted of e p id small id' j c {g} {g'} y =
       split (chosen k) (λ which. StatementMatch chosen (Step (and_then (evaluate table e c) (on_given (noted id f g))))
       (Step (and_then (evaluate table' (with_ids j (if which then hook_1 name id
-      (woven chosen e) else woven chosen e)) c)
+      (weave chosen e) else weave chosen e)) c)
       (on_given (noted id' f g')))))
       (subst (λ q. StatementMatch chosen (Step (and_then (evaluate table e c) (on_given (noted id f g))))
       (Step (and_then q (on_given (noted id' f g')))))
-      (sym (hook_plain_1 table' c name h form id small (woven chosen e) j))
+      (sym (hook_plain_1 table' c name h form id small (weave chosen e) j))
       (noted_told (λ v. Step (enter_hook c id h (v ∷ []))) id id' f
       (evaluate_match chosen table table' same e p (j + 2 + 2 + 1) c) (λ v. ap Step (emitted c id v)) y))
       (λ i. noted_silent id id' f (λ v. of v ∙ i) (evaluate_match chosen table table' same e p j c) y)
@@ -159,18 +159,18 @@ module _ (chosen : Kinds) (table table' : FunctionTable)
       declared_then (split (chosen kind.Write) (λ which. DeclarationMatch chosen
       (assign_name x.at c x.text (evaluate table e c) >>= (λ _. give tt))
       (assign_name j c x.text
-      (evaluate table' (with_ids (j + 1) (if which then write x.at x.text (woven chosen e) else woven chosen e)) c)
+      (evaluate table' (with_ids (j + 1) (if which then write x.at x.text (weave chosen e) else weave chosen e)) c)
       >>= (λ _. give tt)))
       (subst (λ q. DeclarationMatch chosen (assign_name x.at c x.text (evaluate table e c) >>= (λ _. give tt))
       (assign_name j c x.text q >>= (λ _. give tt)))
-      (sym (hook_worded_1 table' c (codes "W") _ form_W x.at p.0.2 x.text (writes x.text) refl (woven chosen e)
+      (sym (hook_worded_1 table' c (codes "W") _ form_W x.at p.0.2 x.text (writes x.text) refl (weave chosen e)
       (j + 1)))
       (declared_told x.text c x.at j p.0.0 (evaluate_match chosen table table' same e p.0.1 _ c)))
       (λ h. declared_silent x.text c x.at j p.0.0 h (evaluate_match chosen table table' same e p.0.1 (j + 1) c)))
       (declare_all_match l p.1 _ c)
 
   begin_match : (i : Tree ℕ tree.init) → Fits i → (j : ℕ) (c : Context)
-      → DeclarationMatch chosen (begin_for table i c) (begin_for table' (with_ids j (woven chosen i)) c)
+      → DeclarationMatch chosen (begin_for table i c) (begin_for table' (with_ids j (weave chosen i)) c)
   begin_match tree.nothing p j c = nothing_declared
   begin_match (tree.init_expression e) p j c = record {
     at = λ s d. bind (omega arith) ((even (evaluate_match chosen table table' same e p j c)).at s _) (λ v t. done);
@@ -192,21 +192,21 @@ module _ (chosen : Kinds) (table table' : FunctionTable)
     unfolding enter_hook return_value throw_value
 
     pub execute_match : (a : Stmt) → Fits a → (labels : List Text) (j : ℕ) (c : Context)
-        → StatementMatch chosen (execute table a labels c) (execute table' (with_ids j (woven chosen a)) labels c)
+        → StatementMatch chosen (execute table a labels c) (execute table' (with_ids j (weave chosen a)) labels c)
     execute_match (tree.var l s) p labels j c = declared_first (declare_all_match l p j c) end_match
     execute_match (tree.empty s) p labels j c = stepped end_match
     execute_match (tree.expression e s) p labels j c =
         value_match (evaluate_match chosen table table' same e p j c) (λ v. end_match)
     execute_match (tree.block l s) p labels j c = stepped (execute_all_match l p j c)
     execute_match (tree.if_else e a b s) p labels j c =
-        let m : ℕ = j + 1 + id_count (weave.tested chosen s (woven chosen e)) in
+        let m : ℕ = j + 1 + id_count (weaving.hook_test chosen s (weave chosen e)) in
         let f : Bool → Part Completion = λ truth. if truth then execute_all table a c else execute_branch table b c in
         let g : Bool → Part Completion = λ truth.
         if truth then execute_all table' (forest_with_ids m (woven_forest chosen a)) c
         else execute_branch table'
         (optional_with_ids (m + forest_id_count (woven_forest chosen a)) (woven_optional chosen b)) c in
         subst₂ (λ p q. StatementMatch chosen (Step p) (Step q)) (test_is (evaluate table e c) s f)
-        (test_is (evaluate table' (with_ids (j + 1) (weave.tested chosen s (woven chosen e))) c) j g)
+        (test_is (evaluate table' (with_ids (j + 1) (weaving.hook_test chosen s (weave chosen e))) c) j g)
         (tested_then e p.0 s p.3 j (j + 1) c f g (λ truth. record {
           at = λ s d. pick truth ((execute_all_match a p.1 m c).at s d)
               ((branch_match b p.2 (m + forest_id_count (woven_forest chosen a)) c).at s d);
@@ -234,7 +234,7 @@ module _ (chosen : Kinds) (table table' : FunctionTable)
     execute_match (tree.labelled x t s) p labels j c =
         stepped (ending (after_labelled x.text) (execute_match t p (x.text ∷ labels) j c))
     execute_match (tree.switch e l s) p labels j c =
-        let m : ℕ = j + id_count (woven chosen e) in
+        let m : ℕ = j + id_count (weave chosen e) in
         value_match (evaluate_match chosen table table' same e p.0 j c) (λ v. even_then (select_match 0 l p.1 v m c)
         (λ selected. ending after_switch (subst
         (λ k. StatementMatch chosen (execute_from table (option_or selected (default_of l)) l c)

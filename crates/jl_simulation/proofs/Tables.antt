@@ -19,8 +19,8 @@ use Rattle.jl_meaning.specs.builtins.Function.{names_of}
 use Rattle.jl_scope.specs.Names.{arguments_name}
 use Rattle.jl_simulation.specs.HookCalls as weaving
 use Rattle.jl_simulation.specs.HookCalls.{before_update, hook_1}
-use Rattle.jl_simulation.specs.Weaving as weave
-use Rattle.jl_simulation.specs.Weaving.{woven, woven_callee, woven_delete, woven_forest, woven_optional, woven_test}
+use Rattle.jl_simulation.specs.Weaving as weaving
+use Rattle.jl_simulation.specs.Weaving.{weave, woven_callee, woven_delete, woven_forest, woven_optional, woven_test}
 use Rattle.jl_simulation.specs.Weaving.{woven_typeof, woven_update}
 use Rattle.jl_simulation.specs.inner.Fit.{AllFit, Fits, FitsIfPresent, UnaryFits}
 use Rattle.jl_simulation.proofs.Declarations.{arguments_other, function_of, name_same}
@@ -32,12 +32,12 @@ use Rattle.jl_simulation.proofs.Shapes.{call_with_ids}
 pub data TableMatch (chosen : Kinds) : FunctionTable → FunctionTable → Type 0 where
   none : TableMatch chosen [] []
   one : {l m : FunctionTable} → (f : Func) → Fits f → (j : ℕ) → (strict : Bool) → TableMatch chosen l m
-      → TableMatch chosen (function_of f strict ∷ l) (function_of (with_ids j (woven chosen f)) strict ∷ m)
+      → TableMatch chosen (function_of f strict ∷ l) (function_of (with_ids j (weave chosen f)) strict ∷ m)
 
 -- what operations tell of functions is the same
 script_same : (chosen : Kinds) (number : ℕ) (f : Func) (j : ℕ) (strict : Bool)
     → script_callee number (Some (function_of f strict))
-    ≡ script_callee number (Some (function_of (with_ids j (woven chosen f)) strict))
+    ≡ script_callee number (Some (function_of (with_ids j (weave chosen f)) strict))
 script_same chosen number (tree.function m x ps b s) j strict =
     ap₂ (λ names mentioned. callee.Script number (length names) mentioned) (params_same j ps)
     (sym (body_same chosen arguments_name arguments_other b s (j + 2)))
@@ -80,7 +80,7 @@ module _ (chosen : Kinds) (strict : Bool) where
 
   hooked : {a : FunctionTable} (k : OpKind) (h : Text) (id : ℕ) (w : weaving.Expr) (j : ℕ)
       → ((j : ℕ) → TableMatch chosen a (functions_in strict (with_ids j w)))
-      → TableMatch chosen a (functions_in strict (with_ids j (weave.hooked_if chosen k (hook_1 h id) w)))
+      → TableMatch chosen a (functions_in strict (with_ids j (weaving.hooked_if chosen k (hook_1 h id) w)))
   hooked k h id w j x = way (chosen k) _ _ j (table_end (x (j + 2 + 2 + 1))) (x j)
 
   by_callee : {a : FunctionTable} (b : Bool) (u v : weaving.Expr) (l : Exprs) (j : ℕ)
@@ -93,9 +93,9 @@ module _ (chosen : Kinds) (strict : Bool) where
 
   typeof_table : (e : Expr) (id : ℕ) → UnaryFits un.Typeof e (Fits e) id → (j : ℕ)
       → (Fits e → (j : ℕ) → TableMatch chosen (functions_in strict e) (functions_in strict
-      (with_ids j (woven chosen e))))
+      (with_ids j (weave chosen e))))
       → TableMatch chosen (functions_in strict e)
-      (functions_in strict (with_ids j (woven_typeof chosen id e (woven chosen e))))
+      (functions_in strict (with_ids j (woven_typeof chosen id e (weave chosen e))))
   typeof_table (tree.name x s) id p j itself = way (chosen kind.TypeofName) _ _ j none none
   typeof_table _ id p j itself =
       way (chosen kind.Unary) _ _ j (table_end (itself p.0 (j + 2 + 2 + 1 + 1))) (itself p.0 (j + 1))
@@ -124,7 +124,7 @@ module _ (chosen : Kinds) (strict : Bool) where
 module _ (chosen : Kinds) where
   mutual
     pub functions_match : {x : Sort} (strict : Bool) (t : Tree ℕ x) → Fits t → (j : ℕ)
-        → TableMatch chosen (functions_in strict t) (functions_in strict (with_ids j (woven chosen t)))
+        → TableMatch chosen (functions_in strict t) (functions_in strict (with_ids j (weave chosen t)))
     functions_match strict (tree.this s) p j = none
     functions_match strict (tree.name x s) p j = way chosen strict (chosen kind.Read) _ _ j none none
     functions_match strict (tree.number m s) p j = way chosen strict (chosen kind.Literal) _ _ j none none
@@ -147,7 +147,7 @@ module _ (chosen : Kinds) where
     functions_match strict (tree.call f l s) p j =
         callee_table strict f p.0 s l j (λ j. functions_match strict f p.0 j) (λ j. forests_match strict l p.1 j)
     functions_match strict (tree.new f l s) p j =
-        way chosen strict (weave.calls chosen) _ _ j
+        way chosen strict (weaving.calls chosen) _ _ j
         (table_append (table_end (functions_match strict f p.0 _)) (forests_match strict l p.1 _))
         (table_append (functions_match strict f p.0 _) (forests_match strict l p.1 _))
     functions_match strict (tree.unary un.Typeof e s) p j =
@@ -158,7 +158,7 @@ module _ (chosen : Kinds) where
         way chosen strict (chosen kind.Unary) _ _ j (table_end (functions_match strict e p.0 _))
         (functions_match strict e p.0 _)
     functions_match strict (tree.update up prefix t s) p j =
-        way chosen strict (weave.computes chosen t kind.Unary) _ _ j
+        way chosen strict (weaving.computes chosen t kind.Unary) _ _ j
         (back_table chosen strict up prefix (woven_update chosen up t s) j (λ j. update_table strict t p.0 s up j))
         (functions_match strict t p.0 _)
     functions_match strict (tree.binary o a b s) p j =
@@ -179,14 +179,14 @@ module _ (chosen : Kinds) where
         way chosen strict (chosen kind.Write) _ _ j (table_end (functions_match strict e p.2 _))
         (functions_match strict e p.2 _)
     functions_match strict (tree.assign (Some q) (tree.to_name x) e s) p j =
-        way chosen strict (weave.computes chosen (tree.to_name x) kind.Binary) _ _ j
+        way chosen strict (weaving.computes chosen (tree.to_name x) kind.Binary) _ _ j
         (table_end (table_end (functions_match strict e p.2 _))) (functions_match strict e p.2 _)
     functions_match strict (tree.assign None (tree.to_dot o k s) e t) p j =
         way chosen strict (chosen kind.PutField) _ _ j
         (table_append (table_end (functions_match strict o p.1 _)) (table_end (functions_match strict e p.2 _)))
         (table_append (functions_match strict o p.1 _) (functions_match strict e p.2 _))
     functions_match strict (tree.assign (Some q) (tree.to_dot o k s) e t) p j =
-        way chosen strict (weave.computes chosen (tree.to_dot o k s) kind.Binary) _ _ j
+        way chosen strict (weaving.computes chosen (tree.to_dot o k s) kind.Binary) _ _ j
         (table_append (table_end (functions_match strict o p.1 _)) (table_end (functions_match strict e p.2 _)))
         (table_append (functions_match strict o p.1 _) (functions_match strict e p.2 _))
     functions_match strict (tree.assign None (tree.to_index o k s) e t) p j =
@@ -196,7 +196,7 @@ module _ (chosen : Kinds) where
         (table_append (table_append (functions_match strict o p.1.0 _) (functions_match strict k p.1.1 _))
         (functions_match strict e p.2 _))
     functions_match strict (tree.assign (Some q) (tree.to_index o k s) e t) p j =
-        way chosen strict (weave.computes chosen (tree.to_index o k s) kind.Binary) _ _ j
+        way chosen strict (weaving.computes chosen (tree.to_index o k s) kind.Binary) _ _ j
         (table_append (table_append (functions_match strict o p.1.0 _) (table_end (functions_match strict k p.1.1 _)))
         (table_end (functions_match strict e p.2 _)))
         (table_append (table_append (functions_match strict o p.1.0 _) (functions_match strict k p.1.1 _))
@@ -275,32 +275,32 @@ module _ (chosen : Kinds) where
         catch_table chosen strict (chosen kind.Catch) x.at x.text _ _ (λ j. forests_match strict l p.1 j)
 
     callee_table : (strict : Bool) (f : Expr) → Fits f → (id : ℕ) (l : Exprs) (j : ℕ)
-        → ((j : ℕ) → TableMatch chosen (functions_in strict f) (functions_in strict (with_ids j (woven chosen f))))
+        → ((j : ℕ) → TableMatch chosen (functions_in strict f) (functions_in strict (with_ids j (weave chosen f))))
         → ((j : ℕ) → TableMatch chosen (forest_functions strict l)
         (forest_functions strict (forest_with_ids j (woven_forest chosen l))))
         → TableMatch chosen (functions_in strict f ++ forest_functions strict l)
         (functions_in strict (with_ids j
-        (tree.call (woven_callee chosen f (woven chosen f) id) (woven_forest chosen l) tt)))
+        (tree.call (woven_callee chosen f (weave chosen f) id) (woven_forest chosen l) tt)))
     callee_table strict (tree.dot o k s) p id l j itself rest =
-        by_callee chosen strict (weave.calls_member chosen) _ _ l j
+        by_callee chosen strict (weaving.calls_member chosen) _ _ l j
         (table_append (table_end (functions_match strict o p.0 _)) (rest _))
         (table_append (functions_match strict o p.0 _) (rest _))
     callee_table strict (tree.index o k s) p id l j itself rest =
-        by_callee chosen strict (weave.calls_member chosen) _ _ l j
+        by_callee chosen strict (weaving.calls_member chosen) _ _ l j
         (table_append (table_append (functions_match strict o p.0 _) (table_end (functions_match strict k p.1 _)))
         (rest _))
         (table_append (table_append (functions_match strict o p.0 _) (functions_match strict k p.1 _)) (rest _))
     callee_table strict f p id l j itself rest =
-        by_callee chosen strict (weave.calls chosen) _ (woven chosen f) l j
+        by_callee chosen strict (weaving.calls chosen) _ (weave chosen f) l j
         (table_append (table_end (itself (j + 2 + 2 + 2 + 1))) (rest _))
         (subst (λ t. TableMatch chosen (functions_in strict f ++ forest_functions strict l) (functions_in strict t))
         (sym (call_with_ids chosen f tt j (woven_forest chosen l))) (table_append (itself (j + 2)) (rest _)))
 
     delete_table : (strict : Bool) (e : Expr) (id : ℕ) → UnaryFits un.Delete e (Fits e) id → (j : ℕ)
         → (Fits e → (j : ℕ)
-        → TableMatch chosen (functions_in strict e) (functions_in strict (with_ids j (woven chosen e))))
+        → TableMatch chosen (functions_in strict e) (functions_in strict (with_ids j (weave chosen e))))
         → TableMatch chosen (functions_in strict e)
-        (functions_in strict (with_ids j (woven_delete chosen e (woven chosen e) id)))
+        (functions_in strict (with_ids j (woven_delete chosen e (weave chosen e) id)))
     delete_table strict (tree.name x s) id p j itself = none
     delete_table strict (tree.dot o k s) id p j itself =
         way chosen strict (chosen kind.DeleteField) _ _ j (table_end (functions_match strict o p.0.0 _))

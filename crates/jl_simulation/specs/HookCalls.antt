@@ -40,15 +40,15 @@ hook_1 h id e = hook h id (tree.more e no_exprs)
 abbrev pub hook_2 : (h : Text) → (id : ℕ) → Expr → Expr → Expr
 hook_2 h id a b = hook h id (tree.more a (tree.more b no_exprs))
 
-abbrev pub quoted : Text → Expr
-quoted t = tree.string t tt
+abbrev pub string_of : Text → Expr
+string_of t = tree.string t tt
 
 -- those that follow their id with a name or an operator
 abbrev pub hook_of_1 : (h : Text) → (id : ℕ) → (word : Text) → Expr → Expr
-hook_of_1 h id word e = hook_2 h id (quoted word) e
+hook_of_1 h id word e = hook_2 h id (string_of word) e
 
 abbrev pub hook_of_2 : (h : Text) → (id : ℕ) → (word : Text) → Expr → Expr → Expr
-hook_of_2 h id word a b = hook h id (tree.more (quoted word) (tree.more a (tree.more b no_exprs)))
+hook_of_2 h id word a b = hook h id (tree.more (string_of word) (tree.more a (tree.more b no_exprs)))
 
 -- a statement that calls a hook
 abbrev pub hook_statement : Expr → Stmt

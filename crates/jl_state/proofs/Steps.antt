@@ -15,7 +15,7 @@ use Rattle.jl_meaning.specs.Completions.{on_given}
 use Rattle.jl_meaning.specs.Expressions.{evaluate}
 use Rattle.jl_meaning.specs.FunctionObjects.{FunctionTable}
 use Rattle.jl_meaning.specs.Mean.{language}
-use Rattle.jl_meaning.specs.Parts.{answer_of, begin_call, completion_of, fault_of, give, given, gives, lift, throws}
+use Rattle.jl_meaning.specs.Parts.{answer_of, begin_call, completion_of, fault_of, give, continue_with, gives, lift, throws}
 use Rattle.jl_meaning.specs.Parts.{◌>>=◌}
 use Rattle.jl_meaning.specs.Parts.{Algorithm, Answer, CallOf, Job, Part}
 use Rattle.jl_meaning.specs.Parts as parts
@@ -24,7 +24,7 @@ use Rattle.jl_state.specs.AlgorithmFrames.{algorithm_after}
 use Rattle.jl_state.specs.StatementFrames.{completion_after, statement_after}
 use Rattle.jl_state.specs.ValueFrames.{value_after}
 use Rattle.jl_meaning.specs.Jobs.{job}
-use Rattle.jl_state.specs.Rest.{as_completion, as_value, handed, rest, rest_of, run_in, run_state, Completes, Gives}
+use Rattle.jl_state.specs.Rest.{as_completion, as_value, given_of, rest, rest_of, run_in, run_state, Completes, Gives}
 use Rattle.jl_state.specs.Rest.{Given, Works}
 use Rattle.jl_state.specs.Rest.{Completion-given}
 use Rattle.jl_state.specs.Steps.{AlgorithmWaits, CompletionWaits, StatementWaits, ValueWaits}
@@ -58,44 +58,44 @@ module _ (table : FunctionTable) (calls : List Call) (frames : List Frame) where
       → and_then (as_value p) (rest table calls (frame.Value f ∷ frames))
       ≡ and_then (as_value (p >>= value_after table calls f)) (rest table calls frames)
   value_same f p =
-      and_then-assoc p (λ a. End (handed a)) (rest table calls (frame.Value f ∷ frames))
+      and_then-assoc p (λ a. End (given_of a)) (rest table calls (frame.Value f ∷ frames))
       ∙ ap (and_then p) (fun_ext each)
-      ∙ sym (and_then-assoc p (given (value_after table calls f)) (λ a. rest table calls frames (handed a)))
-      ∙ sym (and_then-assoc (p >>= value_after table calls f) (λ a. End (handed a)) (rest table calls frames))
+      ∙ sym (and_then-assoc p (continue_with (value_after table calls f)) (λ a. rest table calls frames (given_of a)))
+      ∙ sym (and_then-assoc (p >>= value_after table calls f) (λ a. End (given_of a)) (rest table calls frames))
     where
-      each : (a : Answer Value) → rest table calls (frame.Value f ∷ frames) (handed a)
-          ≡ and_then (given (value_after table calls f) a) (λ a. rest table calls frames (handed a))
-      each (gives v) = and_then-assoc (value_after table calls f v) (λ a. End (handed a)) (rest table calls frames)
+      each : (a : Answer Value) → rest table calls (frame.Value f ∷ frames) (given_of a)
+          ≡ and_then (continue_with (value_after table calls f) a) (λ a. rest table calls frames (given_of a))
+      each (gives v) = and_then-assoc (value_after table calls f v) (λ a. End (given_of a)) (rest table calls frames)
       each (throws v) = refl
 
   algorithm_same : (f : AlgorithmFrame) (p : Algorithm Value)
       → and_then (as_value (lift p)) (rest table calls (frame.Algorithm f ∷ frames))
       ≡ and_then (as_value (lift (p >>= algorithm_after f))) (rest table calls frames)
   algorithm_same f p =
-      and_then-assoc (lift p) (λ a. End (handed a)) (rest table calls (frame.Algorithm f ∷ frames))
+      and_then-assoc (lift p) (λ a. End (given_of a)) (rest table calls (frame.Algorithm f ∷ frames))
       ∙ ap (and_then (lift p)) (fun_ext each)
-      ∙ sym (and_then-assoc (lift p) (λ a. lift (given (algorithm_after f) a)) (λ a. rest table calls frames (handed a)))
-      ∙ ap (λ q. and_then q (λ a. rest table calls frames (handed a)))
-      (sym (row-and_then CallOf fault_of p (given (algorithm_after f))))
-      ∙ sym (and_then-assoc (lift (p >>= algorithm_after f)) (λ a. End (handed a)) (rest table calls frames))
+      ∙ sym (and_then-assoc (lift p) (λ a. lift (continue_with (algorithm_after f) a)) (λ a. rest table calls frames (given_of a)))
+      ∙ ap (λ q. and_then q (λ a. rest table calls frames (given_of a)))
+      (sym (row-and_then CallOf fault_of p (continue_with (algorithm_after f))))
+      ∙ sym (and_then-assoc (lift (p >>= algorithm_after f)) (λ a. End (given_of a)) (rest table calls frames))
     where
-      each : (a : Answer Value) → rest table calls (frame.Algorithm f ∷ frames) (handed a)
-          ≡ and_then (lift (given (algorithm_after f) a)) (λ a. rest table calls frames (handed a))
-      each (gives v) = and_then-assoc (lift (algorithm_after f v)) (λ a. End (handed a)) (rest table calls frames)
+      each : (a : Answer Value) → rest table calls (frame.Algorithm f ∷ frames) (given_of a)
+          ≡ and_then (lift (continue_with (algorithm_after f) a)) (λ a. rest table calls frames (given_of a))
+      each (gives v) = and_then-assoc (lift (algorithm_after f v)) (λ a. End (given_of a)) (rest table calls frames)
       each (throws v) = refl
 
   statement_same : (f : StatementFrame) (p : Part (Answer Value))
       → and_then (as_value p) (rest table calls (frame.Statement f ∷ frames))
       ≡ and_then (as_completion (and_then p (on_given (statement_after table calls f)))) (rest table calls frames)
   statement_same f p =
-      and_then-assoc p (λ a. End (handed a)) (rest table calls (frame.Statement f ∷ frames))
+      and_then-assoc p (λ a. End (given_of a)) (rest table calls (frame.Statement f ∷ frames))
       ∙ ap (and_then p) (fun_ext each)
       ∙ sym (and_then-assoc p (on_given (statement_after table calls f))
       (λ how. rest table calls frames (Completion-given how)))
       ∙ sym (and_then-assoc (and_then p (on_given (statement_after table calls f))) (λ how. End (Completion-given how))
       (rest table calls frames))
     where
-      each : (a : Answer Value) → rest table calls (frame.Statement f ∷ frames) (handed a)
+      each : (a : Answer Value) → rest table calls (frame.Statement f ∷ frames) (given_of a)
           ≡ and_then (on_given (statement_after table calls f) a) (λ how. rest table calls frames (Completion-given how))
       each (gives v) =
           and_then-assoc (statement_after table calls f v) (λ how. End (Completion-given how)) (rest table calls frames)
@@ -213,12 +213,12 @@ pub gives_alike : (s : State) (p : Part (Answer Value)) (k l : Value → Part (A
 gives_alike s p k l t a alike leads = record { is = λ kept told. leads.is kept told ∙ same kept told }
   where
     later : (Value → Part (Answer Value)) → Answer Value → Part Completion
-    later m b = and_then (as_value (given m b)) (rest_of s)
+    later m b = and_then (as_value (continue_with m b)) (rest_of s)
 
     apart : (m : Value → Part (Answer Value)) → and_then (as_value (p >>= m)) (rest_of s) ≡ and_then p (later m)
     apart m =
-        ap (λ q. and_then q (rest_of s)) (and_then-assoc p (given m) (λ b. End (handed b)))
-        ∙ and_then-assoc p (λ b. as_value (given m b)) (rest_of s)
+        ap (λ q. and_then q (rest_of s)) (and_then-assoc p (continue_with m) (λ b. End (given_of b)))
+        ∙ and_then-assoc p (λ b. as_value (continue_with m b)) (rest_of s)
 
     each : (kept : Operation → Bool) (b : Answer Value) (n : ℕ) (w : RunState Store Operation)
         → run language (quietly kept) (job (table_of s.functions)) n (later k b) w
@@ -242,7 +242,7 @@ given_on : (p : Part (Answer Value)) → (p >>= λ v. give v) ≡ p
 given_on p = ap (and_then p) (fun_ext each) ∙ and_then-end p
   where
     on : Answer Value → Part (Answer Value)
-    on b = given (λ v. give v) b
+    on b = continue_with (λ v. give v) b
 
     each : (b : Answer Value) → on b ≡ End b
     each (gives v) = refl
@@ -277,13 +277,13 @@ begins_call s c p t a is leads = record {
     after_job : Completion → Part Completion
     after_job end = and_then (as_value (End (answer_of end))) (rest_of s)
 
-    each : (b : Answer Value) → rest_of s (handed b) ≡ after_job (completion_of b)
+    each : (b : Answer Value) → rest_of s (given_of b) ≡ after_job (completion_of b)
     each (gives v) = refl
     each (throws v) = refl
 
     same : and_then (as_value p) (rest_of s) ≡ and_then (job (table_of s.functions) (CallOf c)) after_job
     same =
-        and_then-assoc p (λ b. End (handed b)) (rest_of s)
+        and_then-assoc p (λ b. End (given_of b)) (rest_of s)
         ∙ ap (and_then p) (fun_ext each)
         ∙ sym (and_then-assoc p (λ b. End (completion_of b)) after_job)
         ∙ ap (λ q. and_then q after_job) (sym is)

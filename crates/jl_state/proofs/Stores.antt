@@ -10,12 +10,12 @@ use Rattle.jl_effects.specs.Traces.{quietly}
 use Rattle.jl_effects.proofs.Chains.{and_then-assoc, row-and_then}
 use Rattle.jl_meaning.specs.Completions.{on_given}
 use Rattle.jl_meaning.specs.Mean.{language}
-use Rattle.jl_meaning.specs.Parts.{fault_of, given, gives, lift, throws, ◌>>=◌, Algorithm, AlgorithmFault, Answer}
+use Rattle.jl_meaning.specs.Parts.{fault_of, continue_with, gives, lift, throws, ◌>>=◌, Algorithm, AlgorithmFault, Answer}
 use Rattle.jl_meaning.specs.Parts.{CallOf, Part}
 use Rattle.jl_store.specs.Comes.{Comes}
 use Rattle.jl_store.proofs.Chains.{comes_fails, comes_runs}
 use Rattle.jl_meaning.specs.Jobs.{job}
-use Rattle.jl_state.specs.Rest.{as_completion, as_value, handed, rest_after, rest_of, run_in, run_state, Completes}
+use Rattle.jl_state.specs.Rest.{as_completion, as_value, given_of, rest_after, rest_of, run_in, run_state, Completes}
 use Rattle.jl_state.specs.Rest.{Gives}
 use Rattle.jl_state.specs.Rest.{Completion-given, Works}
 use Rattle.jl_state.specs.Words.{table_of}
@@ -51,22 +51,22 @@ module _ {A : Type 0} (s t : State) (is : IsStored s t) (p : Algorithm A) where
 
   -- how a part that begins with the algorithm is taken apart
   abbrev later : (A → Part (Answer Value)) → Answer A → Part Completion
-  later k b = and_then (as_value (given k b)) (rest_of s)
+  later k b = and_then (as_value (continue_with k b)) (rest_of s)
 
   apart : (k : A → Part (Answer Value)) → and_then (as_value (lift p >>= k)) (rest_of s) ≡ and_then (lift p) (later k)
   apart k =
-      ap (λ q. and_then q (rest_of s)) (and_then-assoc (lift p) (given k) (λ b. End (handed b)))
-      ∙ and_then-assoc (lift p) (λ b. as_value (given k b)) (rest_of s)
+      ap (λ q. and_then q (rest_of s)) (and_then-assoc (lift p) (continue_with k) (λ b. End (given_of b)))
+      ∙ and_then-assoc (lift p) (λ b. as_value (continue_with k b)) (rest_of s)
 
   abbrev later_work : (A → Algorithm Value) → Answer A → Part Completion
-  later_work k b = and_then (as_value (lift (given k b))) (rest_of s)
+  later_work k b = and_then (as_value (lift (continue_with k b))) (rest_of s)
 
   apart_work : (k : A → Algorithm Value)
       → and_then (as_value (lift (p >>= k))) (rest_of s) ≡ and_then (lift p) (later_work k)
   apart_work k =
-      ap (λ q. and_then (as_value q) (rest_of s)) (row-and_then CallOf fault_of p (given k))
-      ∙ ap (λ q. and_then q (rest_of s)) (and_then-assoc (lift p) (λ b. lift (given k b)) (λ b. End (handed b)))
-      ∙ and_then-assoc (lift p) (λ b. as_value (lift (given k b))) (rest_of s)
+      ap (λ q. and_then (as_value q) (rest_of s)) (row-and_then CallOf fault_of p (continue_with k))
+      ∙ ap (λ q. and_then q (rest_of s)) (and_then-assoc (lift p) (λ b. lift (continue_with k b)) (λ b. End (given_of b)))
+      ∙ and_then-assoc (lift p) (λ b. as_value (lift (continue_with k b))) (rest_of s)
 
   abbrev later_completion : (A → Part Completion) → Answer A → Part Completion
   later_completion k b = and_then (as_completion (on_given k b)) (rest_of s)
@@ -168,19 +168,19 @@ pub works_ends : (s t : State) (is : IsStored s t) (p : Algorithm Value) (b : An
 works_ends s t is p b comes = record {
   is = λ kept told.
       handed_on b kept told
-      ∙ goes s t is p b (λ c. rest_of s (handed c)) comes kept told
-      ∙ ap (λ q. run_in kept told s q) (sym (and_then-assoc (lift p) (λ c. End (handed c)) (rest_of s)));
+      ∙ goes s t is p b (λ c. rest_of s (given_of c)) comes kept told
+      ∙ ap (λ q. run_in kept told s q) (sym (and_then-assoc (lift p) (λ c. End (given_of c)) (rest_of s)));
 }
   where
     handed_on : (c : Answer Value) (kept : Operation → Bool) (told : List Operation)
-        → rest_after kept told t (act_of c) ≡ run_in kept told (record s { store = t.store }) (rest_of s (handed c))
-    handed_on (gives v) kept told = ap (λ (w : State). run_in kept told w (rest_of w (handed (gives v)))) is
-    handed_on (throws v) kept told = ap (λ (w : State). run_in kept told w (rest_of w (handed (throws v)))) is
+        → rest_after kept told t (act_of c) ≡ run_in kept told (record s { store = t.store }) (rest_of s (given_of c))
+    handed_on (gives v) kept told = ap (λ (w : State). run_in kept told w (rest_of w (given_of (gives v)))) is
+    handed_on (throws v) kept told = ap (λ (w : State). run_in kept told w (rest_of w (given_of (throws v)))) is
 
 pub works_fails : (s t : State) (is : IsStored s t) (p : Algorithm Value) (f : AlgorithmFault)
     → Comes p s.store t.store (Fails f) → Works s p t (act.Fault (fault_of f))
 works_fails s t is p f comes = record {
   is = λ kept told.
-      over s t is p f (λ c. rest_of s (handed c)) comes kept told
-      ∙ ap (λ q. run_in kept told s q) (sym (and_then-assoc (lift p) (λ c. End (handed c)) (rest_of s)));
+      over s t is p f (λ c. rest_of s (given_of c)) comes kept told
+      ∙ ap (λ q. run_in kept told s q) (sym (and_then-assoc (lift p) (λ c. End (given_of c)) (rest_of s)));
 }

@@ -68,17 +68,17 @@ number_result binary.BitOr x y = Some (or_of x y)
 number_result _ x y = None
 
 -- what a relation makes of two primitive values (11.8.1 to 11.8.5)
-abbrev pub compared : BinOp → Value → Value → Algorithm Value
-compared binary.Greater x y = do
+abbrev pub compare : BinOp → Value → Value → Algorithm Value
+compare binary.Greater x y = do
   r ← or_fault NumberOutside (less_than y x)
   give_truth (or_false r)
-compared binary.LessEq x y = do
+compare binary.LessEq x y = do
   r ← or_fault NumberOutside (less_than y x)
   give_truth (opposite r)
-compared binary.GreaterEq x y = do
+compare binary.GreaterEq x y = do
   r ← or_fault NumberOutside (less_than x y)
   give_truth (opposite r)
-compared _ x y = do
+compare _ x y = do
   r ← or_fault NumberOutside (less_than x y)
   give_truth (or_false r)
 
@@ -139,8 +139,8 @@ algorithm_after (algorithm.LeftSummand right) x = do
 algorithm_after (algorithm.RightSummand left) y = sum_of_primitives left y
 algorithm_after (algorithm.LeftCompared o right) x = do
   y ← to_primitive number_hint right
-  compared o x y
-algorithm_after (algorithm.RightCompared o left) y = compared o left y
+  compare o x y
+algorithm_after (algorithm.RightCompared o left) y = compare o left y
 algorithm_after (algorithm.EqualTo other is_negative) p = negate_if is_negative (primitive_equality p other)
 algorithm_after (algorithm.InstanceOf v) proto = do
   store ← look

@@ -42,12 +42,12 @@ pub data Given : Type 0 where
   Value-given : Value → Given
   Completion-given : Completion → Given
 
-abbrev pub handed : Answer Value → Given
-handed (gives v) = Value-given v
-handed (throws v) = Completion-given (completion.Throw v)
+abbrev pub given_of : Answer Value → Given
+given_of (gives v) = Value-given v
+given_of (throws v) = Completion-given (completion.Throw v)
 
 abbrev pub as_value : Part (Answer Value) → Part Given
-as_value p = and_then p (λ a. End (handed a))
+as_value p = and_then p (λ a. End (given_of a))
 
 abbrev pub as_completion : Part Completion → Part Given
 as_completion p = and_then p (λ how. End (Completion-given how))
@@ -115,7 +115,7 @@ rest_after kept told s (act.Execute t here labels) =
 rest_after kept told s (act.Give v) = run_in kept told s (rest_of s (Value-given v))
 rest_after kept told s (act.Complete how) = run_in kept told s (rest_of s (Completion-given how))
 rest_after kept told s (act.Call c) =
-    run_in kept told s (Begin (CallOf (call_of c)) (λ end. rest_of s (handed (answer_of end))))
+    run_in kept told s (Begin (CallOf (call_of c)) (λ end. rest_of s (given_of (answer_of end))))
 rest_after kept told s (act.Emit id o) = run_in kept told s (Emit (id, o) (rest_of s Nothing))
 rest_after kept told s (act.Fault fault) = Over (Fails fault) s.left (run_state told s)
 rest_after kept told s act.Spent = Spent (run_state told s)

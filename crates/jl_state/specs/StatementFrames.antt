@@ -105,9 +105,9 @@ module _ (table : FunctionTable) (calls : List Call) where
   loop_body t = and_then (statements (body_of t.kind) t.here) (after_loop_body t)
 
   -- what the test of a loop leads to, if it holds
-  abbrev tested : LoopTurn → Loop → Part Completion
-  tested t (loop.Do l e) = next_turn t
-  tested t k = loop_body t
+  abbrev after_loop_test : LoopTurn → Loop → Part Completion
+  after_loop_test t (loop.Do l e) = next_turn t
+  after_loop_test t k = loop_body t
 
   -- the clauses of a `switch` from the one that is selected
   abbrev run_clauses : List Case → Here → Option ℕ → Part Completion
@@ -129,7 +129,7 @@ module _ (table : FunctionTable) (calls : List Call) where
       (λ _. visit_all x.now (plain_forest (view_statements l.now)) (context here) (labels_of labels) 0 v)
   statement_after (statement.ForInBody t) _ = loop_body t
   statement_after (statement.Test t) v =
-      completions.◌>>=◌ (decide 0 v) (λ truth. if truth then tested t t.kind else normal)
+      completions.◌>>=◌ (decide 0 v) (λ truth. if truth then after_loop_test t t.kind else normal)
   statement_after (statement.Update t) _ = next_turn t
   statement_after statement.Return v = return_value 0 v
   statement_after statement.Throw v = throw_value 0 v

@@ -13,7 +13,7 @@ use Rattle.jl_state.specs.declared.act.Act.{Act}
 use Rattle.jl_state.specs.declared.act.Act.TheVariants as act
 use Rattle.jl_state.specs.declared.frame.Here.{Here}
 use Rattle.jl_state.specs.declared.state.State.{State}
-use Rattle.jl_statement.specs.inner.Beginnings.{after_step, begun}
+use Rattle.jl_statement.specs.inner.Beginnings.{after_step, begin}
 
 step_first : (table : FunctionTable) (t : Tree ℕ tree.stmt) (labels : List Text) (c : Context)
     → execute table t labels c ≡ Step (after_step (execute table t labels c))
@@ -38,14 +38,14 @@ step_first table (tree.try l h f id) labels c = refl
 
 pub begins : (s t : State) (x : Tree ℕ tree.stmt) (labels : List Text) (here : Here) (u : State) (a : Act)
     → Took s t → t ≡ record s { left = s.left - 1 }
-    → Completes t (begun (table_of t.functions) t.calls x labels here) u a
+    → Completes t (begin (table_of t.functions) t.calls x labels here) u a
     → Completes s (execute (table_of s.functions) x labels (context_of s.calls here)) u a
 begins s t x labels here u a took is leads =
     let table = table_of s.functions in
     subst (λ q. Completes s q u a) (sym (step_first table x labels (context_of s.calls here)))
-    (took.completes (begun table s.calls x labels here) u a
-    (subst (λ c. Completes t (begun table c x labels here) u a) (ap (λ (v : State). v.calls) is)
-    (subst (λ f. Completes t (begun (table_of f) t.calls x labels here) u a) (ap (λ (v : State). v.functions) is)
+    (took.completes (begin table s.calls x labels here) u a
+    (subst (λ c. Completes t (begin table c x labels here) u a) (ap (λ (v : State). v.calls) is)
+    (subst (λ f. Completes t (begin (table_of f) t.calls x labels here) u a) (ap (λ (v : State). v.functions) is)
     leads)))
 
 pub spent : (s t : State) (x : Tree ℕ tree.stmt) (labels : List Text) (here : Here) → RanOut s → t ≡ s
@@ -54,4 +54,4 @@ spent s t x labels here none is =
     let table = table_of s.functions in
     subst (λ u. Completes s (execute table x labels (context_of s.calls here)) u act.Spent) (sym is)
     (subst (λ q. Completes s q s act.Spent) (sym (step_first table x labels (context_of s.calls here)))
-    (none.completes (begun table s.calls x labels here)))
+    (none.completes (begin table s.calls x labels here)))

@@ -29,13 +29,13 @@ use Rattle.jl_state.specs.declared.remaining.Remaining.{Remaining}
 use Rattle.jl_state.specs.declared.state.State.{State}
 use Rattle.jl_state.specs.declared.statement_frame.StatementFrame.{StatementFrame}
 use Rattle.jl_state.proofs.Steps.{statement_waits}
-use Rattle.jl_statement.specs.inner.Declarators.{declared, declared_from, Declarator, Initialised, IsFirst}
+use Rattle.jl_statement.specs.inner.Declarators.{declare, declare_from, Declarator, Initialised, IsFirst}
 use Rattle.jl_statement.proofs.Dropped.{dropped_next, dropped_none}
 use Rattle.jl_statement.proofs.Followed.{together}
 
 -- from this index on the same is declared as from that one
 pub record DeclaresSame (l : List Declarator) (from at : ℕ) : Type 0 where
-  pub same : (table : FunctionTable) (c : Context) → declared table c (drop from l) ≡ declared table c (drop at l)
+  pub same : (table : FunctionTable) (c : Context) → declare table c (drop from l) ≡ declare table c (drop at l)
   pub ordered : from ≤ at
 
 pub declares_itself : (l : List Declarator) (from : ℕ) → DeclaresSame l from from
@@ -43,11 +43,11 @@ declares_itself l from = record { same = λ table c. refl; ordered = omega arith
 
 declared_at : (table : FunctionTable) (c : Context) (l : List Declarator) (k : ℕ) (d : Declarator)
     (value : Option Expr) → slice_get l k ≡ Some d → d.1 ≡ value
-    → declared table c (drop k l)
+    → declare table c (drop k l)
     ≡ declare_all table (tree.more (plain (tree.declarator (view_ident d.0)
     (optional (option_map view_expression value)))) (plain_forest (view_declarators (drop (k + 1) l)))) c
 declared_at table c l k d value is values =
-    ap (λ m. declared table c m) (dropped_next l k d is)
+    ap (λ m. declare table c m) (dropped_next l k d is)
     ∙ ap (λ o. declare_all table (tree.more (plain (tree.declarator (view_ident d.0)
     (optional (option_map view_expression o)))) (plain_forest (view_declarators (drop (k + 1) l)))) c) values
 
@@ -66,15 +66,15 @@ first_found l from at d x e rest before is value name others = record {
       before.same table c
       ∙ declared_at table c l at d (Some e.now) is value
       ∙ ap (λ n. ((assign_name 0 c n (evaluate table (plain (view_expression e.now)) c) >>= λ _. give (tt {0}))
-      >>= λ _. declared table c (drop (at + 1) l))) name
+      >>= λ _. declare table c (drop (at + 1) l))) name
       ∙ ap (λ m. ((assign_name 0 c x.now (evaluate table (plain (view_expression e.now)) c) >>= λ _. give (tt {0}))
-      >>= λ _. declared table c m)) (sym others);
+      >>= λ _. declare table c m)) (sym others);
 }
 
 pub first_missing : (l : List Declarator) (from at : ℕ) → DeclaresSame l from at → slice_get l at ≡ None
     → IsFirst (drop from l) None
 first_missing l from at before is = record {
-  same = λ table c. before.same table c ∙ ap (λ m. declared table c m) (dropped_none l at is);
+  same = λ table c. before.same table c ∙ ap (λ m. declare table c m) (dropped_none l at is);
 }
 
 -- fewer are left after it
@@ -91,22 +91,22 @@ pub declares : (s t : State) (f : StatementFrame) (here : Here) (l : List Declar
     (x : Bor (List ℕ)) (e : Bor Expr) (rest : Remaining Declarator) (q : Part Completion) (u : State) (a : Act)
     → IsFirst l first → first ≡ Some (x, e, rest) → t ≡ record s { stack = frame.Statement f ∷ s.stack }
     → ((v : Value) → statement_after (table_of s.functions) s.calls f v
-    ≡ and_then (declared (table_of s.functions) (context_of s.calls here) (items_left rest)) (on_given (λ _. q)))
+    ≡ and_then (declare (table_of s.functions) (context_of s.calls here) (items_left rest)) (on_given (λ _. q)))
     → Gives t (assign_name 0 (context_of t.calls here) x.now (evaluate (table_of t.functions)
     (plain (view_expression e.now)) (context_of t.calls here))) u a
-    → Completes s (and_then (declared (table_of s.functions) (context_of s.calls here) l) (on_given (λ _. q))) u a
+    → Completes s (and_then (declare (table_of s.functions) (context_of s.calls here) l) (on_given (λ _. q))) u a
 declares s t f here l first x e rest q u a same found is after leads =
     let table = table_of s.functions in
     let c = context_of s.calls here in
     let assigned = assign_name 0 c x.now (evaluate table (plain (view_expression e.now)) c) in
-    let others = declared table c (items_left rest) in
+    let others = declare table c (items_left rest) in
     let given = (statement_waits s t f is).gives assigned u a
     (subst (λ d. Gives t (assign_name 0 (context_of d here) x.now (evaluate table (plain (view_expression e.now))
     (context_of d here))) u a) (ap (λ (v : State). v.calls) is)
     (subst (λ g. Gives t (assign_name 0 (context_of t.calls here) x.now (evaluate (table_of g)
     (plain (view_expression e.now)) (context_of t.calls here))) u a) (ap (λ (v : State). v.functions) is) leads)) in
     subst (λ p. Completes s (and_then p (on_given (λ _. q))) u a)
-    (sym (same.same table c ∙ ap (declared_from table c) found))
+    (sym (same.same table c ∙ ap (declare_from table c) found))
     (together s (assigned >>= λ _. give (tt {0})) (λ _. others) (λ _. q) u a
     (together s assigned (λ _. give (tt {0})) (λ _. and_then others (on_given (λ _. q))) u a
     (subst (λ (k : Value → Part Completion). Completes s (and_then assigned (on_given k)) u a) (fun_ext after) given)))
@@ -114,9 +114,9 @@ declares s t f here l first x e rest q u a same found is after leads =
 -- none has one
 pub declares_none : (s : State) (here : Here) (l : List Declarator) (first : Option Initialised) (q : Part Completion)
     (t : State) (a : Act) → IsFirst l first → first ≡ None → Completes s q t a
-    → Completes s (and_then (declared (table_of s.functions) (context_of s.calls here) l) (on_given (λ _. q))) t a
+    → Completes s (and_then (declare (table_of s.functions) (context_of s.calls here) l) (on_given (λ _. q))) t a
 declares_none s here l first q t a is found leads =
     let table = table_of s.functions in
     let c = context_of s.calls here in
     subst (λ p. Completes s (and_then p (on_given (λ _. q))) t a)
-    (sym (is.same table c ∙ ap (declared_from table c) found)) leads
+    (sym (is.same table c ∙ ap (declare_from table c) found)) leads

@@ -13,13 +13,13 @@ use Rattle.jl_state.specs.Words.{table_of}
 use Rattle.jl_state.specs.declared.act.Act.{Act}
 use Rattle.jl_state.specs.declared.frame.Here.{Here}
 use Rattle.jl_state.specs.declared.state.State.{State}
-use Rattle.jl_statement.specs.inner.Beginnings.{begun}
+use Rattle.jl_statement.specs.inner.Beginnings.{begin}
 
 -- a statement is begun as its kind is
 pub of_kind : (s : State) (t : Stmt) (k : StmtKind) (x : Tree Span tree.stmt) (labels : List Text) (here : Here)
     (u : State) (a : Act) → t.kind ≡ k → view_statement_kind k t.span ≡ x
-    → Completes s (begun (table_of s.functions) s.calls (plain x) labels here) u a
-    → Completes s (begun (table_of s.functions) s.calls (plain (view_statement t)) labels here) u a
+    → Completes s (begin (table_of s.functions) s.calls (plain x) labels here) u a
+    → Completes s (begin (table_of s.functions) s.calls (plain (view_statement t)) labels here) u a
 of_kind s t k x labels here u a is seen leads =
-    subst (λ y. Completes s (begun (table_of s.functions) s.calls (plain y) labels here) u a)
+    subst (λ y. Completes s (begin (table_of s.functions) s.calls (plain y) labels here) u a)
     (sym (statement_placed t ∙ ap (λ j. view_statement_kind j t.span) is ∙ seen)) leads

@@ -7,7 +7,7 @@ use Rattle.jl_conv.specs.Conversions.{truth_of}
 use Rattle.jl_effects.specs.Effects.{and_then}
 use Rattle.jl_effects.proofs.Chains.{and_then-assoc}
 use Rattle.jl_meaning.specs.Completions.{if_normal, normal, on_given, then_do}
-use Rattle.jl_meaning.specs.Parts.{give, given, gives, throws, ◌>>=◌, Answer, Part}
+use Rattle.jl_meaning.specs.Parts.{give, continue_with, gives, throws, ◌>>=◌, Answer, Part}
 use Rattle.jl_meaning.specs.forms.Operators.{decide, decide_by}
 use Rattle.jl_state.specs.Rest.{Completes}
 use Rattle.jl_state.specs.declared.act.Act.{Act}
@@ -21,9 +21,9 @@ decided s v b k t a is leads = record { is = (subst (λ c. Completes s (k c) t a
 
 chained : {A B : Type 0} (p : Part (Answer A)) (g : A → Part (Answer B)) (k : B → Part Completion)
     → and_then (p >>= g) (on_given k) ≡ and_then p (on_given (λ v. and_then (g v) (on_given k)))
-chained {A} {B} p g k = and_then-assoc p (given g) (on_given k) ∙ ap (and_then p) (fun_ext each)
+chained {A} {B} p g k = and_then-assoc p (continue_with g) (on_given k) ∙ ap (and_then p) (fun_ext each)
   where
-    each : (b : Answer A) → and_then (given g b) (on_given k) ≡ on_given (λ v. and_then (g v) (on_given k)) b
+    each : (b : Answer A) → and_then (continue_with g b) (on_given k) ≡ on_given (λ v. and_then (g v) (on_given k)) b
     each (gives a) = refl
     each (throws v) = refl
 

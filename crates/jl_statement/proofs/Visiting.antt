@@ -15,13 +15,13 @@ use Rattle.jl_effects.proofs.Chains.{and_then-assoc, row-and_then}
 use Rattle.jl_heap.specs.Objects.{Name}
 use Rattle.jl_meaning.specs.Completions.{normal, on_given}
 use Rattle.jl_meaning.specs.Conversions.{to_object}
-use Rattle.jl_meaning.specs.Parts.{fault_of, for_in_loop, give, given, gives, lift, throws, ◌>>=◌}
+use Rattle.jl_meaning.specs.Parts.{fault_of, for_in_loop, give, continue_with, gives, lift, throws, ◌>>=◌}
 use Rattle.jl_meaning.specs.Parts.{Algorithm, Answer, CallOf, Context, Part, Stmts, Turn, TurnOf, Visit}
 use Rattle.jl_meaning.specs.Statements.{turn}
 use Rattle.jl_meaning.specs.Relations.{is_nothing}
 use Rattle.jl_meaning.specs.forms.Loops.{begin_loop, visit_all, visit_first, visit_next, visits_left, visits_of}
 use Rattle.jl_meaning.specs.forms.Names.{is_hooks, unless_hooks}
-use Rattle.jl_store.specs.Answers.{answered}
+use Rattle.jl_store.specs.Answers.{ends_with}
 use Rattle.jl_store.specs.Comes.{Comes}
 use Rattle.jl_store.specs.declared.answer.Answer.{Answer as Answered}
 use Rattle.jl_store.specs.declared.answer.Answer.TheVariants.{Gives, Throws}
@@ -63,14 +63,14 @@ pub uncounted : (s : State) (p : Algorithm (Unit {0})) (v : Value) (q : Part Com
     → Completes s (and_then (lift p) (on_given (λ _. q))) t a
 uncounted s p v q t a leads = subst (λ r. Completes s r t a) same leads
   where
-    each : (b : Answer (Unit {0})) → and_then (lift (given (λ _. give v) b)) (on_given (λ _. q)) ≡ on_given (λ _. q) b
+    each : (b : Answer (Unit {0})) → and_then (lift (continue_with (λ _. give v) b)) (on_given (λ _. q)) ≡ on_given (λ _. q) b
     each (gives u) = refl
     each (throws w) = refl
 
     same : and_then (lift (p >>= λ _. give v)) (on_given (λ _. q)) ≡ and_then (lift p) (on_given (λ _. q))
     same =
-        ap (λ r. and_then r (on_given (λ _. q))) (row-and_then CallOf fault_of p (given (λ _. give v)))
-        ∙ and_then-assoc (lift p) (λ b. lift (given (λ _. give v) b)) (on_given (λ _. q))
+        ap (λ r. and_then r (on_given (λ _. q))) (row-and_then CallOf fault_of p (continue_with (λ _. give v)))
+        ∙ and_then-assoc (lift p) (λ b. lift (continue_with (λ _. give v) b)) (on_given (λ _. q))
         ∙ ap (and_then (lift p)) (fun_ext each)
 
 -- nothing is left to visit
@@ -164,22 +164,22 @@ module _ (s : State) (x : Bor (List ℕ)) (l : Bor (List Stmt)) (here : Here) (l
     visits_nothing is = of_value true s (act.Complete completion.Normal) is (record { is = λ kept told. refl })
 
     pub visits_object : (t : State) (answer : Answered ObjId) (o : ObjId) (u : State) (a : Act)
-        → false ≡ is_nothing v → IsStored s t → Comes (to_object v) s.store t.store (answered answer)
+        → false ≡ is_nothing v → IsStored s t → Comes (to_object v) s.store t.store (ends_with answer)
         → answer ≡ Gives o
         → Completes t (visit_next x.now (plain_forest (view_statements l.now)) (context_of t.calls here)
         (labels_seen labels) 0 (visits_of t.store.heap o.0)) u a
         → Completes s for_in_value u a
-    visits_object t answer o u a is stored comes given leads =
+    visits_object t answer o u a is stored comes continue_with leads =
         of_value false u a is
         (completes_comes s t stored (to_object v) o (visits_from (context_of s.calls here)) u a
-        (subst (λ b. Comes (to_object v) s.store t.store (answered b)) given comes)
+        (subst (λ b. Comes (to_object v) s.store t.store (ends_with b)) continue_with comes)
         (subst (λ c. Completes t (visits_from (context_of c here) o) u a) (ap (λ (w : State). w.calls) stored)
         (record { is = leads.is })))
 
     pub visits_thrown : (t : State) (answer : Answered ObjId) (w : Value) → false ≡ is_nothing v → IsStored s t
-        → Comes (to_object v) s.store t.store (answered answer) → answer ≡ Throws w
+        → Comes (to_object v) s.store t.store (ends_with answer) → answer ≡ Throws w
         → Completes s for_in_value t (act.Complete (completion.Throw w))
     visits_thrown t answer w is stored comes thrown =
         of_value false t (act.Complete (completion.Throw w)) is
         (completes_thrown s t stored (to_object v) w (visits_from (context_of s.calls here))
-        (subst (λ b. Comes (to_object v) s.store t.store (answered b)) thrown comes))
+        (subst (λ b. Comes (to_object v) s.store t.store (ends_with b)) thrown comes))

@@ -7,7 +7,7 @@ ghost use Rattle.jl_state.specs.Rank.{Falls};
 ghost use Rattle.jl_state.specs.Rest.{Completes};
 ghost use Rattle.jl_state.specs.Trees.{plain};
 ghost use Rattle.jl_state.specs.Words.{context_of, table_of};
-ghost use Rattle.jl_statement.specs.inner.Beginnings.{begun, labels_seen};
+ghost use Rattle.jl_statement.specs.inner.Beginnings.{begin, labels_seen};
 
 use crate::executing::begin_statements;
 use crate::heads::begin_for;
@@ -49,7 +49,7 @@ fn begin_kind<'p>(
     labels: List<&'p Text>,
 ) -> Result<Act<'p>, NoMemory>
     ensures leads { IfOk result (λ act. Completes state.old
-        (begun (table_of state.old.functions) state.old.calls (plain (view_statement t.now)) (labels_seen labels.entry)
+        (begin (table_of state.old.functions) state.old.calls (plain (view_statement t.now)) (labels_seen labels.entry)
         here) state.new act) }
     ensures left { IfOk result (λ _. state.new.left ≤ state.old.left) }
 {

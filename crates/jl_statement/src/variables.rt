@@ -6,7 +6,7 @@ ghost use Rattle.jl_state.specs.Rest.{Completes};
 ghost use Rattle.jl_state.specs.StatementFrames.{next_turn};
 ghost use Rattle.jl_state.specs.Trees.{items_left};
 ghost use Rattle.jl_state.specs.Words.{context_of, table_of};
-ghost use Rattle.jl_statement.specs.inner.Declarators.{declared, IsFirst};
+ghost use Rattle.jl_statement.specs.inner.Declarators.{declare, IsFirst};
 
 use crate::loops::begin_turn;
 use jl_ast::{Expr, Ident};
@@ -46,7 +46,7 @@ pub(crate) fn declare_variables<'p>(
     here: Here,
 ) -> Result<Act<'p>, NoMemory>
     ensures leads { IfOk result (λ act. Completes state.old
-        (declared (table_of state.old.functions) (context_of state.old.calls here) (items_left rest.entry)
+        (declare (table_of state.old.functions) (context_of state.old.calls here) (items_left rest.entry)
         then λ _. normal) state.new act) }
     ensures falls { IfOk result (λ act. Falls state.old (60 * length (items_left rest.entry) + 12) state.new act) }
 {
@@ -67,7 +67,7 @@ pub(crate) fn declare_head<'p>(
     turn: LoopTurn<'p>,
 ) -> Result<Act<'p>, NoMemory>
     ensures leads { IfOk result (λ act. Completes state.old
-        (declared (table_of state.old.functions) (context_of state.old.calls turn.entry.here) (items_left rest.entry)
+        (declare (table_of state.old.functions) (context_of state.old.calls turn.entry.here) (items_left rest.entry)
         then λ _. next_turn (table_of state.old.functions) state.old.calls turn.entry) state.new act) }
     ensures falls { IfOk result (λ act. Falls state.old (60 * length (items_left rest.entry) + 12) state.new act) }
 {

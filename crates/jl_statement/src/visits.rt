@@ -101,7 +101,7 @@ fn visits_along(alloc: Global, store: &Store, id: ObjId) -> Result<List<Visit>, 
 }
 
 /// The same visit once more.
-fn copied(alloc: Global, visit: &Visit) -> Result<Visit, NoMemory>
+fn copy_visit(alloc: Global, visit: &Visit) -> Result<Visit, NoMemory>
     ensures { IfOk result (λ copy. visit_of copy ≡ visit_of visit.now) }
 {
     Ok(Visit {
@@ -121,7 +121,7 @@ fn first_of_each_name(alloc: Global, all: &[Visit]) -> Result<List<Visit>, NoMem
         if !before.insert(visit.name.units())? {
             continue;
         }
-        first.push(copied(alloc, visit)?)?;
+        first.push(copy_visit(alloc, visit)?)?;
     }
     Ok(first)
 }

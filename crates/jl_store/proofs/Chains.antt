@@ -9,7 +9,7 @@ use Rattle.jl_effects.specs.Effects.{and_then, Begin, Change, Emit, End, Fail, L
 use Rattle.jl_effects.specs.Running.{run_to, with_store, Ends, Fails, Finish, Outcome, Over, Recorded, RunState}
 use Rattle.jl_meaning.specs.Errors.{throw_error}
 use Rattle.jl_meaning.specs.Mean.{language}
-use Rattle.jl_meaning.specs.Parts.{fault_of, given, gives, lift, throws, ◌>>=◌, Algorithm, AlgorithmFault, Answer, Job}
+use Rattle.jl_meaning.specs.Parts.{fault_of, continue_with, gives, lift, throws, ◌>>=◌, Algorithm, AlgorithmFault, Answer, Job}
 use Rattle.jl_meaning.specs.Parts.{Part}
 use Rattle.jl_meaning.specs.Store.{Store}
 use Rattle.jl_store.specs.Answers.{MakesError}
@@ -23,9 +23,9 @@ abbrev gives_end : {A : Type 0} → A → EndOf A
 gives_end a = Ends (gives a)
 
 given_on : {A B : Type 0} (a : Answer A) (k : A → Algorithm B) (s t u : Store) (b : A) (e : EndOf B) → a ≡ gives b
-    → s ≡ t → leads (k b) t u e → leads (given k a) s u e
+    → s ≡ t → leads (k b) t u e → leads (continue_with k a) s u e
 given_on {A} {B} a k s t u b e here same rest =
-    subst (λ (c : Answer A). leads (given k c) s u e) (sym here) (subst (λ v. leads (k b) v u e) (sym same) rest)
+    subst (λ (c : Answer A). leads (continue_with k c) s u e) (sym here) (subst (λ v. leads (k b) v u e) (sym same) rest)
 
 ended : {A : Type 0} (a b : Answer A) (x y : EndOf A) → x ≡ Ends a → y ≡ Ends b → x ≡ y → a ≡ b
 ended a b x y ea eb e = cc
@@ -58,7 +58,7 @@ throws_on : {A B : Type 0} (p : Algorithm A) (k : A → Algorithm B) (s t : Stor
     → leads p s t (Ends (throws v)) → leads (p >>= k) s t (Ends (throws v))
 throws_on {A} {B} (End b) k s t v first =
     let thrown : b ≡ throws v = ended b (throws v) _ _ refl refl first.0 in
-    subst (λ (c : Answer A). leads (given k c) s t (Ends (throws v))) (sym thrown) (refl, first.1)
+    subst (λ (c : Answer A). leads (continue_with k c) s t (Ends (throws v))) (sym thrown) (refl, first.1)
 throws_on (Fail f) k s t v first = absurd (let differ = first.0 in cc)
 throws_on (Step p) k s t v first = absurd first
 throws_on (Look p) k s t v first = throws_on (p s) k s t v first

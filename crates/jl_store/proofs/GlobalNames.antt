@@ -12,7 +12,7 @@ use Rattle.jl_meaning.specs.Intrinsics.{global_object}
 use Rattle.jl_meaning.specs.Parts.{gives, throws, Algorithm, Answer}
 use Rattle.jl_meaning.specs.Parts as parts
 use Rattle.jl_meaning.specs.Store.{Store}
-use Rattle.jl_store.specs.Answers.{fault_seen, finished}
+use Rattle.jl_store.specs.Answers.{fault_seen, finish_of}
 use Rattle.jl_store.specs.Comes.{Comes}
 use Rattle.jl_store.specs.declared.answer.AlgorithmFault.{AlgorithmFault}
 use Rattle.jl_store.specs.declared.answer.Finished.{Finished}
@@ -27,12 +27,12 @@ defined x = define_own_property global_object x (record no_change {
   configurable = Some false;
 })
 
-module _ (x : Name) (s t : Store) (end : Finished Bool) (first : Comes (defined x) s t (finished end)) where
+module _ (x : Name) (s t : Store) (end : Finished Bool) (first : Comes (defined x) s t (finish_of end)) where
   abbrev then_required : Bool → Algorithm (Unit {0})
   then_required done = require done (codes "cannot define")
 
-  in_case : (e : Finished Bool) → end ≡ e → Comes (defined x) s t (finished e)
-  in_case e is = subst (λ f. Comes (defined x) s t (finished f)) is first
+  in_case : (e : Finished Bool) → end ≡ e → Comes (defined x) s t (finish_of e)
+  in_case e is = subst (λ f. Comes (defined x) s t (finish_of f)) is first
 
   pub global_done : (u : Store) (done : Bool) (e : Finish parts.AlgorithmFault (Answer (Unit {0})))
       → end ≡ ended.Gives done → Comes (then_required done) t u e → Comes (create_global x) s u e

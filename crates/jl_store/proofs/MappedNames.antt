@@ -11,28 +11,28 @@ use Rattle.jl_scope.specs.NameSets.{SameNames}
 use Rattle.jl_heap.specs.Objects.{Name}
 use Rattle.jl_meaning.specs.ArgumentsObject.{mapped_names}
 use Rattle.jl_store.specs.Plain.{names_of}
-use Rattle.jl_store.specs.inner.Arguments.{unmapped}
+use Rattle.jl_store.specs.inner.Arguments.{no_mappings}
 
-pub one_more : (n : ℕ) → unmapped n ++ None ∷ [] ≡ unmapped (suc n)
+pub one_more : (n : ℕ) → no_mappings n ++ None ∷ [] ≡ no_mappings (suc n)
 one_more zero = refl
 one_more (suc n) = ap (λ l. None ∷ l) (one_more n)
 
-seam : (n : ℕ) (l : List (Option Name)) → unmapped (suc n) ++ l ≡ unmapped n ++ None ∷ l
+seam : (n : ℕ) (l : List (Option Name)) → no_mappings (suc n) ++ l ≡ no_mappings n ++ None ∷ l
 seam zero l = refl
 seam (suc n) l = ap (λ m. None ∷ m) (seam n l)
 
-set_at_seam : (n : ℕ) (v : Option Name) (l : List (Option Name)) → set (unmapped (suc n) ++ l) n v ≡ unmapped n ++ v ∷ l
+set_at_seam : (n : ℕ) (v : Option Name) (l : List (Option Name)) → set (no_mappings (suc n) ++ l) n v ≡ no_mappings n ++ v ∷ l
 set_at_seam zero v l = refl
 set_at_seam (suc n) v l = ap (λ m. None ∷ m) (set_at_seam n v l)
 
 -- a name that no later one is stands where it was not mapped
 pub mapped_last : (n : ℕ) (x : Name) (rest : List Name) → among x rest ≡ false
-    → set (unmapped (suc n) ++ mapped_names rest) n (Some x) ≡ unmapped n ++ mapped_names (x ∷ rest)
+    → set (no_mappings (suc n) ++ mapped_names rest) n (Some x) ≡ no_mappings n ++ mapped_names (x ∷ rest)
 mapped_last n x rest new = set_at_seam n (Some x) (mapped_names rest) ∙ sym (rw new refl)
 
 -- and one that stands later too stays as it is
 pub mapped_again : (n : ℕ) (x : Name) (rest : List Name) → among x rest ≡ true
-    → unmapped (suc n) ++ mapped_names rest ≡ unmapped n ++ mapped_names (x ∷ rest)
+    → no_mappings (suc n) ++ mapped_names rest ≡ no_mappings n ++ mapped_names (x ∷ rest)
 mapped_again n x rest again = seam n (mapped_names rest) ∙ sym (rw again refl)
 
 or_comm : (a b : Bool) → (a || b) ≡ (b || a)
@@ -46,11 +46,11 @@ pub same_with : (set rest after : List Name) (x : Name) → SameNames set rest �
 same_with set rest after x same added z =
     added z ∙ with_one z x set ∙ ap (λ b. b || same_text z x) (same z) ∙ or_comm (among z rest) (same_text z x)
 
-pub pushed : (xs ys : List (Option Name)) → ys ≡ xs ++ None ∷ [] → xs ≡ unmapped (length xs)
-    → ys ≡ unmapped (length ys)
+pub pushed : (xs ys : List (Option Name)) → ys ≡ xs ++ None ∷ [] → xs ≡ no_mappings (length xs)
+    → ys ≡ no_mappings (length ys)
 pushed xs ys is all =
     let longer : suc (length xs) ≡ length ys = omega (arith, ap length is, length-append xs (None ∷ [])) in
-    is ∙ ap (λ l. l ++ None ∷ []) all ∙ one_more (length xs) ∙ ap unmapped longer
+    is ∙ ap (λ l. l ++ None ∷ []) all ∙ one_more (length xs) ∙ ap no_mappings longer
 
 pub longer_by_one : (xs ys : List (Option Name)) → ys ≡ xs ++ None ∷ [] → length ys ≡ length xs + 1
 longer_by_one xs ys is = omega (arith, ap length is, length-append xs (None ∷ []))
@@ -66,7 +66,7 @@ not_false false c is e = absurd (cc)
 -- one parameter nearer to the first
 module _ (k : ℕ) (params : List Ident) (p : Ident) (names : List (Option Name)) (later : List Name) (units : Name)
     (added : Bool) (within : k < length params) (is : p ≡ get_or params k p)
-    (mapped : names ≡ unmapped (suc k) ++ mapped_names (names_of (drop (suc k) params)))
+    (mapped : names ≡ no_mappings (suc k) ++ mapped_names (names_of (drop (suc k) params)))
     (same : SameNames later (names_of (drop (suc k) params))) (as_units : units ≡ p.text)
     (added_is : added ≡ not (among units later)) where
   split : names_of (drop k params) ≡ p.text ∷ names_of (drop (suc k) params)
@@ -76,18 +76,18 @@ module _ (k : ℕ) (params : List Ident) (p : Ident) (names : List (Option Name)
   among_is b e = sym (same p.text) ∙ ap (λ x. among x later) (sym as_units) ∙ e
 
   pub mapped_new : (x : Name) → x ≡ p.text → added ≡ true
-      → set names k (Some x) ≡ unmapped k ++ mapped_names (names_of (drop k params))
+      → set names k (Some x) ≡ no_mappings k ++ mapped_names (names_of (drop k params))
   mapped_new x x_is new =
       ap (λ l. set l k (Some x)) mapped
-      ∙ ap (λ y. set (unmapped (suc k) ++ mapped_names (names_of (drop (suc k) params))) k (Some y)) x_is
+      ∙ ap (λ y. set (no_mappings (suc k) ++ mapped_names (names_of (drop (suc k) params))) k (Some y)) x_is
       ∙ mapped_last k p.text (names_of (drop (suc k) params)) (among_is false (not_true _ added added_is new))
-      ∙ ap (λ l. unmapped k ++ mapped_names l) (sym split)
+      ∙ ap (λ l. no_mappings k ++ mapped_names l) (sym split)
 
-  pub mapped_old : added ≡ false → names ≡ unmapped k ++ mapped_names (names_of (drop k params))
+  pub mapped_old : added ≡ false → names ≡ no_mappings k ++ mapped_names (names_of (drop k params))
   mapped_old old =
       mapped
       ∙ mapped_again k p.text (names_of (drop (suc k) params)) (among_is true (not_false _ added added_is old))
-      ∙ ap (λ l. unmapped k ++ mapped_names l) (sym split)
+      ∙ ap (λ l. no_mappings k ++ mapped_names l) (sym split)
 
   pub same_before : (after : List Name) → SameNames after (with_name later units)
       → SameNames after (names_of (drop k params))
@@ -96,10 +96,10 @@ module _ (k : ℕ) (params : List Ident) (p : Ident) (names : List (Option Name)
       (same_with later (names_of (drop (suc k) params)) after p.text same
       (subst (λ x. SameNames after (with_name later x)) as_units with_it))
 
-length-unmapped : (n : ℕ) → length (unmapped n) ≡ n
-length-unmapped zero = refl
-length-unmapped (suc n) = ap suc (length-unmapped n)
+length-no_mappings : (n : ℕ) → length (no_mappings n) ≡ n
+length-no_mappings zero = refl
+length-no_mappings (suc n) = ap suc (length-no_mappings n)
 
-pub within_mapped : (n : ℕ) (names l : List (Option Name)) → names ≡ unmapped n ++ l → n ≤ length names
+pub within_mapped : (n : ℕ) (names l : List (Option Name)) → names ≡ no_mappings n ++ l → n ≤ length names
 within_mapped n names l is =
-    omega (arith, ap length is, length-append (unmapped n) l, length-unmapped n)
+    omega (arith, ap length is, length-append (no_mappings n) l, length-no_mappings n)

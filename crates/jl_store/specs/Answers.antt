@@ -24,19 +24,19 @@ use Rattle.jl_store.specs.declared.errors.NotDefined.{NotDefined}
 use Rattle.jl_store.specs.declared.errors.NotDefined.TheVariants as not_defined
 use Rattle.jl_store.specs.declared.answer.Finished.TheVariants as ended
 
-abbrev pub answered : {A : Type 0} → Answer A → Finish parts.AlgorithmFault (parts.Answer A)
-answered (Gives a) = Ends (gives a)
-answered (Throws v) = Ends (throws v)
+abbrev pub ends_with : {A : Type 0} → Answer A → Finish parts.AlgorithmFault (parts.Answer A)
+ends_with (Gives a) = Ends (gives a)
+ends_with (Throws v) = Ends (throws v)
 
 -- the fault of an algorithm
 abbrev pub fault_seen : AlgorithmFault → parts.AlgorithmFault
 fault_seen fault.NumberOutside = parts.NumberOutside
 fault_seen fault.StringTooLong = parts.StringTooLong
 
-abbrev pub finished : {A : Type 0} → Finished A → Finish parts.AlgorithmFault (parts.Answer A)
-finished (ended.Gives a) = Ends (gives a)
-finished (ended.Throws v) = Ends (throws v)
-finished (ended.Fails f) = Fails (fault_seen f)
+abbrev pub finish_of : {A : Type 0} → Finished A → Finish parts.AlgorithmFault (parts.Answer A)
+finish_of (ended.Gives a) = Ends (gives a)
+finish_of (ended.Throws v) = Ends (throws v)
+finish_of (ended.Fails f) = Fails (fault_seen f)
 
 -- a new error of this kind, with its message, comes last, and is what is thrown (15.11.1.1, 15.11.7.4)
 pub record MakesError (kind : ErrorKind) (message : List ℕ) (from to : Store) (thrown : Value) : Type 0 where

@@ -28,9 +28,9 @@ abbrev pub end_mapping_where : (ends : Bool) → ObjId → Name → Algorithm (U
 end_mapping_where ends id x = if ends then end_mapping id (index_of x) else give tt
 
 -- an accessor ends the mapping; a value goes to the parameter, and what becomes read-only ends the mapping too
-abbrev pub remapped : ObjId → Name → (accessor : Bool) → Option Value → (read_only : Bool) → ℕ × Name
+abbrev pub remap_parameter : ObjId → Name → (accessor : Bool) → Option Value → (read_only : Bool) → ℕ × Name
     → Algorithm (Unit {0})
-remapped id x accessor v read_only parameter =
+remap_parameter id x accessor v read_only parameter =
     if accessor then end_mapping id (index_of x)
     else (do
       _ ← set_parameter parameter v
@@ -48,7 +48,7 @@ remapping_of change parameter = record {
 
 abbrev pub remapped_if : ObjId → Name → Option Remapping → Algorithm (Unit {0})
 remapped_if id x None = give tt
-remapped_if id x (Some r) = remapped id x r.accessor r.value r.read_only (r.env, r.parameter)
+remapped_if id x (Some r) = remap_parameter id x r.accessor r.value r.read_only (r.env, r.parameter)
 
 -- a value that is given for the length of an array is no object
 abbrev pub LengthIsPrimitive : Objects → (address : ℕ) → Name → Change → Type 0

@@ -1,5 +1,5 @@
 ghost use Rattle.std.specs.Prelude.{◌≡◌};
-ghost use Rattle.jl_store.specs.Answers.{answered, finished};
+ghost use Rattle.jl_store.specs.Answers.{ends_with, finish_of};
 
 use jl_value::Value;
 
@@ -29,7 +29,7 @@ pub enum AlgorithmFault {
 
 /// The same answer, where none ends the run.
 pub(crate) fn finish<T>(answer: Answer<T>) -> Finished<T>
-    ensures { finished result ≡ answered answer }
+    ensures { finish_of result ≡ ends_with answer }
 {
     match answer {
         Answer::Gives(value) => Finished::Gives(value),

@@ -7,9 +7,9 @@ ghost use Rattle.jl_meaning.specs.Parts.{gives};
 ghost use Rattle.jl_store.specs.Changes.{HasNames, IsFree};
 ghost use Rattle.jl_store.specs.Comes.{Comes};
 ghost use Rattle.jl_store.specs.Plain.{names_of};
-ghost use Rattle.jl_store.specs.inner.Arguments.{names_with, unmapped};
+ghost use Rattle.jl_store.specs.inner.Arguments.{names_with, no_mappings};
 
-use crate::functions::{data, poisoned};
+use crate::functions::{data, thrower_property};
 use crate::store::Store;
 use crate::words::{count, index_name, word};
 use jl_ast::Ident;
@@ -24,7 +24,7 @@ use std::alloc::Global;
 fn mapped_names(alloc: Global, params: &[Ident]) -> Result<List<Option<Text>>, NoMemory>
     ensures { IfOk result (λ names. names ≡ mapped_names (names_of params.now)) }
 {
-    let mut names = unmapped(alloc, params.len())?;
+    let mut names = no_mappings(alloc, params.len())?;
     let mut later = NameSet::new(alloc);
     let mut at = params.len();
     while at > 0 {
@@ -38,8 +38,8 @@ fn mapped_names(alloc: Global, params: &[Ident]) -> Result<List<Option<Text>>, N
 }
 
 /// So many indices that are mapped to none.
-fn unmapped(alloc: Global, count: usize) -> Result<List<Option<Text>>, NoMemory>
-    ensures { IfOk result (λ names. names ≡ unmapped count) }
+fn no_mappings(alloc: Global, count: usize) -> Result<List<Option<Text>>, NoMemory>
+    ensures { IfOk result (λ names. names ≡ no_mappings count) }
 {
     let mut names = List::new(alloc);
     while names.len() < count {
@@ -130,8 +130,8 @@ impl Store {
             return Ok(());
         }
         let caller = word(self.alloc, "caller")?;
-        self.add_property(id, &caller, poisoned())?;
-        self.add_property(id, &name, poisoned())?;
+        self.add_property(id, &caller, thrower_property())?;
+        self.add_property(id, &name, thrower_property())?;
         Ok(())
     }
 }

@@ -6,7 +6,7 @@ ghost use Rattle.jl_meaning.specs.DeclarationBinding.{bind_parameters, declare_b
 ghost use Rattle.jl_meaning.specs.Parts.{gives};
 ghost use Rattle.jl_meaning.specs.References.{binding_value, in_environment, put_value, set_mutable_binding};
 ghost use Rattle.jl_meaning.specs.Store.{binding_of};
-ghost use Rattle.jl_store.specs.Answers.{answered};
+ghost use Rattle.jl_store.specs.Answers.{ends_with};
 ghost use Rattle.jl_store.specs.Comes.{Comes};
 ghost use Rattle.jl_store.specs.Bindings.{after_first, catch_environment, declare_variable, first_or_undefined};
 
@@ -93,7 +93,7 @@ impl Store {
     ) -> Result<Answer<()>, NoMemory>
         ensures { IfOk result (λ answer.
             Comes (set_mutable_binding strict env name.now value (binding_of self.old env name.now)) self.old self.new
-            (answered answer)) }
+            (ends_with answer)) }
     {
         let mutable = match self.binding(env, name) {
             Some(bound) => bound.mutable,
@@ -132,7 +132,7 @@ impl Store {
         value: Value,
     ) -> Result<Answer<()>, NoMemory>
         ensures { IfOk result (λ answer. Comes (put_value strict name.now value (in_environment env)) self.old self.new
-            (answered answer)) }
+            (ends_with answer)) }
     {
         let answer = self.set_mutable_binding(strict, env, name, value)?;
         Ok(answer)

@@ -10,10 +10,10 @@ ghost use Rattle.jl_meaning.specs.Defining.{update_mapping_if};
 ghost use Rattle.jl_meaning.specs.Parts.{gives};
 ghost use Rattle.jl_meaning.specs.Properties.{mapped_parameter};
 ghost use Rattle.jl_conv.specs.Conversions.{is_object};
-ghost use Rattle.jl_store.specs.Answers.{finished};
+ghost use Rattle.jl_store.specs.Answers.{finish_of};
 ghost use Rattle.jl_store.specs.Comes.{Comes};
 ghost use Rattle.jl_store.specs.Defining.{end_mapping_where, IsLengthOf, length_given, LengthIsPrimitive};
-ghost use Rattle.jl_store.specs.Defining.{remapped, remapped_if, remapping_of};
+ghost use Rattle.jl_store.specs.Defining.{remap_parameter, remapped_if, remapping_of};
 ghost use Rattle.jl_value.specs.Indices.{index_of};
 
 use crate::answer::{AlgorithmFault, Finished};
@@ -64,7 +64,7 @@ impl Store {
     }
 
     fn remap(&mut self, id: ObjId, name: &Text, remapping: Remapping)
-        ensures { Comes (remapped id name.now remapping.accessor remapping.value remapping.read_only
+        ensures { Comes (remap_parameter id name.now remapping.accessor remapping.value remapping.read_only
             (remapping.env, remapping.parameter)) self.old self.new (Ends (gives tt)) }
     {
         let Remapping {
@@ -99,7 +99,7 @@ impl Store {
             env,
             parameter: parameter.share(self.alloc)?,
             accessor: is_accessor(change),
-            value: shared(self.alloc, &change.value)?,
+            value: share_optional(self.alloc, &change.value)?,
             read_only: makes_read_only(change),
         }))
     }
@@ -140,7 +140,7 @@ impl Store {
         requires one_kind { IsOneKind change }
         requires primitive { LengthIsPrimitive self.old.heap id.0 name.now change }
         ensures { IfOk result (λ end.
-            Comes (define_own_property id name.now change) self.old self.new (finished end)) }
+            Comes (define_own_property id name.now change) self.old self.new (finish_of end)) }
     {
         let Some(value) = self.length_given(id, name, &change) else {
             return Ok(Finished::Gives(self.define_with_number(id, name, change)?));
@@ -212,7 +212,7 @@ fn makes_read_only(change: &Change) -> bool
 }
 
 /// The same value, if there is one.
-fn shared(alloc: Global, value: &Option<Value>) -> Result<Option<Value>, NoMemory>
+fn share_optional(alloc: Global, value: &Option<Value>) -> Result<Option<Value>, NoMemory>
     ensures { IfOk result (λ same. same ≡ value.now) }
 {
     match value {

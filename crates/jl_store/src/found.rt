@@ -126,7 +126,7 @@ impl Found<'_> {
 
 impl Property<'_> {
     /// What operations tell of it (8.12.1, 8.12.2).
-    pub fn told(&self) -> Told
+    pub fn as_told(&self) -> Told
         ensures { result ≡ found_of (Some (property_seen self.now)) }
     {
         match (self.own, self.found.is_data()) {

@@ -1,7 +1,7 @@
 //! Function objects made (clause 13, 13.2).
 ghost use Rattle.std.specs.Prelude.{◌≡◌, IfOk, OnOk};
 ghost use Rattle.jl_effects.specs.Running.{Ends};
-ghost use Rattle.jl_meaning.specs.FunctionObjects.{add_poison, create_function, poisoned};
+ghost use Rattle.jl_meaning.specs.FunctionObjects.{add_poison, create_function, thrower_property};
 ghost use Rattle.jl_meaning.specs.Parts.{gives};
 ghost use Rattle.jl_store.specs.Comes.{Comes};
 
@@ -28,8 +28,8 @@ pub(crate) fn data(value: Value, writable: bool, enumerable: bool, configurable:
 }
 
 /// A property that throws a TypeError when it is got or put (13.2.3).
-pub(crate) fn poisoned() -> Prop
-    ensures { result ≡ poisoned }
+pub(crate) fn thrower_property() -> Prop
+    ensures { result ≡ thrower_property }
 {
     Prop::Accessor {
         get: Some(THROWER),
@@ -99,8 +99,8 @@ impl Store {
     {
         let caller = word(self.alloc, "caller")?;
         let arguments = word(self.alloc, "arguments")?;
-        self.add_property(f, &caller, poisoned())?;
-        self.add_property(f, &arguments, poisoned())?;
+        self.add_property(f, &caller, thrower_property())?;
+        self.add_property(f, &arguments, thrower_property())?;
         Ok(())
     }
 

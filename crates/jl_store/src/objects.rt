@@ -4,7 +4,7 @@ ghost use Rattle.jl_effects.specs.Running.{Ends};
 ghost use Rattle.jl_meaning.specs.Conversions.{new_string_object, new_wrapper, to_object};
 ghost use Rattle.jl_meaning.specs.Parts.{gives};
 ghost use Rattle.jl_meaning.specs.forms.Literals.{new_array, new_plain_object};
-ghost use Rattle.jl_store.specs.Answers.{answered};
+ghost use Rattle.jl_store.specs.Answers.{ends_with};
 ghost use Rattle.jl_store.specs.Comes.{Comes};
 
 use crate::answer::Answer;
@@ -62,7 +62,7 @@ impl Store {
     /// ToObject (9.9). It throws where the value is undefined or null.
     #[tactic(auto, unfolding(jl_meaning::specs::Conversions::to_object), using(crate::proofs::Chains::error_comes))]
     pub fn to_object(&mut self, value: &Value) -> Result<Answer<ObjId>, NoMemory>
-        ensures { IfOk result (λ answer. Comes (to_object value.now) self.old self.new (answered answer)) }
+        ensures { IfOk result (λ answer. Comes (to_object value.now) self.old self.new (ends_with answer)) }
     {
         match value {
             Value::Undefined => {

@@ -77,8 +77,8 @@ impl Store {
     pub fn get_own_property(&self, id: ObjId, name: &Text) -> Option<Found<'_>>
         ensures { option_map property_found result ≡ get_own_property self.now id.0 name.now }
     {
-        match self.stored(id, name) {
-            Some(property) => Some(self.held(id, name, property)),
+        match self.stored_property(id, name) {
+            Some(property) => Some(self.mapped_property(id, name, property)),
             None => match self.unit_at(id, name) {
                 Some(unit) => Some(Found::Unit(unit)),
                 None => None,
@@ -87,7 +87,7 @@ impl Store {
     }
 
     /// A stored property, with the value of the parameter that it is mapped to.
-    fn held<'a>(&'a self, id: ObjId, name: &Text, property: &'a Prop) -> Found<'a>
+    fn mapped_property<'a>(&'a self, id: ObjId, name: &Text, property: &'a Prop) -> Found<'a>
         ensures { property_found result ≡ holding (parameter_value self.now id.0 name.now) property.now }
     {
         match self.parameter_value(id, name) {
@@ -125,7 +125,7 @@ impl Store {
     {
         match self.get_own_property(id, name) {
             Some(found) => Some(Property { own: true, found }),
-            None => inherited(self.inherited_property(id, name)),
+            None => as_inherited(self.inherited_property(id, name)),
         }
     }
 
@@ -146,17 +146,17 @@ impl Store {
             Value::Obj(id) => self.get_property(*id, name),
             Value::Text(text) => match string_property(text, name) {
                 Some(found) => Some(Property { own: true, found }),
-                None => inherited(self.property_on(STRING_PROTOTYPE, name)),
+                None => as_inherited(self.property_on(STRING_PROTOTYPE, name)),
             },
-            Value::Num(_) => inherited(self.property_on(NUMBER_PROTOTYPE, name)),
-            Value::Bool(_) => inherited(self.property_on(BOOLEAN_PROTOTYPE, name)),
+            Value::Num(_) => as_inherited(self.property_on(NUMBER_PROTOTYPE, name)),
+            Value::Bool(_) => as_inherited(self.property_on(BOOLEAN_PROTOTYPE, name)),
             Value::Undefined | Value::Null => None,
         }
     }
 }
 
 /// What was found on a prototype, if anything was.
-fn inherited<'a>(found: Option<Found<'a>>) -> Option<Property<'a>>
+fn as_inherited<'a>(found: Option<Found<'a>>) -> Option<Property<'a>>
     ensures { option_map property_seen result ≡ own_or_inherited None (option_map property_found found.entry) }
 {
     match found {

@@ -95,7 +95,7 @@ impl Store {
     }
 
     /// The own property that is stored under a name, as it is stored (8.12.1).
-    pub(crate) fn stored(&self, id: ObjId, name: &Text) -> Option<&Prop>
+    pub(crate) fn stored_property(&self, id: ObjId, name: &Text) -> Option<&Prop>
         ensures { option_copied result ≡ own self.now.heap id.0 name.now }
     {
         self.heap.own(id, name)

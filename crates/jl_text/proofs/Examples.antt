@@ -4,7 +4,7 @@ use Rattle.std.specs.Str.{chars}
 use Rattle.std.specs.Char.Utf16.{utf16_chars}
 use Rattle.jl_text.specs.Encoding.{units_of, bytes_of}
 use Rattle.jl_text.specs.Places.{position_of, line_table, line_col}
-use Rattle.jl_text.specs.Quoted.{quoted}
+use Rattle.jl_text.specs.Quoted.{quote}
 use Rattle.jl_text.specs.Search.{first_place, last_place}
 use lib.Utf8.{encode}
 
@@ -31,19 +31,19 @@ unfolding utf16_chars encode
 bytes-lone = refl
 
 -- a"b and LF
-quoted-plain : quoted (0x61 ∷ 0x22 ∷ 0x62 ∷ 0x0A ∷ []) ≡ 0x22 ∷ 0x61 ∷ 0x5C ∷ 0x22 ∷ 0x62 ∷ 0x5C ∷ 0x6E ∷ 0x22 ∷ []
-quoted-plain = refl
+quote-plain : quote (0x61 ∷ 0x22 ∷ 0x62 ∷ 0x0A ∷ []) ≡ 0x22 ∷ 0x61 ∷ 0x5C ∷ 0x22 ∷ 0x62 ∷ 0x5C ∷ 0x6E ∷ 0x22 ∷ []
+quote-plain = refl
 
 -- U+2028 is written as \u2028
-quoted-line_separator : quoted (0x2028 ∷ []) ≡ 0x22 ∷ 0x5C ∷ 0x75 ∷ 0x32 ∷ 0x30 ∷ 0x32 ∷ 0x38 ∷ 0x22 ∷ []
-quoted-line_separator = refl
+quote-line_separator : quote (0x2028 ∷ []) ≡ 0x22 ∷ 0x5C ∷ 0x75 ∷ 0x32 ∷ 0x30 ∷ 0x32 ∷ 0x38 ∷ 0x22 ∷ []
+quote-line_separator = refl
 
 -- a pair stands for itself, and a high surrogate alone is written as \ud83d
-quoted-pair : quoted (0xD83D ∷ 0xDE00 ∷ []) ≡ 0x22 ∷ 0xD83D ∷ 0xDE00 ∷ 0x22 ∷ []
-quoted-pair = refl
+quote-pair : quote (0xD83D ∷ 0xDE00 ∷ []) ≡ 0x22 ∷ 0xD83D ∷ 0xDE00 ∷ 0x22 ∷ []
+quote-pair = refl
 
-quoted-lone : quoted (0xD83D ∷ []) ≡ 0x22 ∷ 0x5C ∷ 0x75 ∷ 0x64 ∷ 0x38 ∷ 0x33 ∷ 0x64 ∷ 0x22 ∷ []
-quoted-lone = refl
+quote-lone : quote (0xD83D ∷ []) ≡ 0x22 ∷ 0x5C ∷ 0x75 ∷ 0x64 ∷ 0x38 ∷ 0x33 ∷ 0x64 ∷ 0x22 ∷ []
+quote-lone = refl
 
 -- in "abab"
 first-least : first_place (1 ∷ 2 ∷ 1 ∷ 2 ∷ []) (1 ∷ 2 ∷ []) 0 ≡ Some 0

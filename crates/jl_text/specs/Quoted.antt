@@ -45,5 +45,5 @@ abbrev pub quoted_after : ℕ → List ℕ → List ℕ
 quoted_after before [] = []
 quoted_after before (u ∷ us) = quoted_unit before u (slice_index us 0) ++ quoted_after u us
 
-abbrev pub quoted : List ℕ → List ℕ
-quoted units = 0x22 ∷ (quoted_after 0 units ++ 0x22 ∷ [])
+abbrev pub quote : List ℕ → List ℕ
+quote units = 0x22 ∷ (quoted_after 0 units ++ 0x22 ∷ [])

@@ -1,7 +1,7 @@
 // Text between quotes, as a program may write it.
 ghost use Rattle.std.specs.Prelude.{◌≡◌, ◌<◌, ◌++◌, IfOk, OnOk, slice_index};
 ghost use Rattle.std.specs.Char.{digit_char};
-ghost use Rattle.jl_text.specs.Quoted.{quoted, quoted_unit, short_escape, is_lone, is_hidden, unicode_escape};
+ghost use Rattle.jl_text.specs.Quoted.{quote, quoted_unit, short_escape, is_lone, is_hidden, unicode_escape};
 
 use std::alloc::{AllocError, Global};
 
@@ -23,7 +23,7 @@ pub(crate) fn unit_at(units: &[u16], at: usize) -> u16
 /// backslash, LF, CR, TAB, BS and FF are written by their letters, and other control characters, U+2028, U+2029 and
 /// surrogates without a partner as `\u` and four hexadecimal digits. One pass.
 pub fn quote(alloc: Global, units: &[u16]) -> Result<Vec<u16>, AllocError>
-    ensures { IfOk result (λ made. made.items ≡ quoted units.now) }
+    ensures { IfOk result (λ made. made.items ≡ quote units.now) }
 {
     let mut made = Vec::with_capacity(alloc, units.len() + 2)?;
     made.push(QUOTE)?;

@@ -1,11 +1,12 @@
 // Where one slice stands in another.
 ghost use Rattle.std.specs.Prelude.{◌≡◌, ◌≤◌, length, drop, nat_eq};
 ghost use Rattle.std.specs.List.{starts_with};
+ghost use Rattle.jl_text.specs.Limits.{most_units};
 ghost use Rattle.jl_text.specs.Search.{first_place, last_place, IsFirstPlace, IsLastPlace};
 
 /// The least place at or after `from` at which `part` stands.
 pub(crate) fn first_place(units: &[u16], part: &[u16], from: usize) -> Option<usize>
-    requires { length units.now ≤ 1048576 }
+    requires { length units.now ≤ most_units }
     ensures value { result ≡ first_place units.now part.now from }
     ensures least { IsFirstPlace units.now part.now from result }
 {
@@ -22,7 +23,7 @@ pub(crate) fn first_place(units: &[u16], part: &[u16], from: usize) -> Option<us
 
 /// The greatest place at or before `from` at which `part` stands.
 pub(crate) fn last_place(units: &[u16], part: &[u16], from: usize) -> Option<usize>
-    requires { length units.now ≤ 1048576 }
+    requires { length units.now ≤ most_units }
     ensures value { result ≡ last_place units.now part.now from }
     ensures greatest { IsLastPlace units.now part.now from result }
 {

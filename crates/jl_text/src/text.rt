@@ -3,6 +3,7 @@ ghost use Rattle.std.specs.Cmp.Lexicographic.{slice_cmp};
 ghost use Rattle.std.specs.Ordering.{nat_cmp};
 ghost use Rattle.std.specs.Cmp;
 ghost use Rattle.std.specs.Cmp.Lexicographic.{pointwise, nat_list_eq_equiv, nat_list_cmp_total, texts_ties, texts_po};
+ghost use Rattle.jl_text.specs.Limits.{most_units};
 ghost use Rattle.jl_text.specs.declared.text.TextFault.TheVariants.{NoMemory};
 ghost use Rattle.jl_text.specs.Search.{first_place, last_place, IsFirstPlace, IsLastPlace};
 
@@ -24,12 +25,13 @@ pub struct Text {
 
 impl Model for Text {
     ghost use Rattle.std.specs.Prelude.{List, ℕ, length, ◌≤◌};
+    ghost use Rattle.jl_text.specs.Limits.{most_units};
 
     ghost Value = { List ℕ };
 
     ghost view = { λ t. t.units.value.items };
 
-    ghost invariant = { λ t. length t.units.value.items ≤ 1048576 };
+    ghost invariant = { λ t. length t.units.value.items ≤ most_units };
 }
 
 /// Why no text was made.
@@ -95,7 +97,7 @@ impl Text {
     /// The units, at most `MOST_UNITS`.
     pub fn units(&self) -> &[u16]
         ensures same { result.now ≡ self.now }
-        ensures short { length self.now ≤ 1048576 }
+        ensures short { length self.now ≤ most_units }
     {
         self.units.as_slice()
     }

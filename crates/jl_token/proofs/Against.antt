@@ -11,10 +11,10 @@ use Rattle.jl_token.specs.Elements.{name, BeforeClose, Numeral, HasValue, Charac
 use Rattle.jl_token.specs.Elements.{is_escaped, string_text, is_plain, Front, white_space, line_terminator}
 use Rattle.jl_token.specs.Elements.{carriage_return_line_feed, line_comment, block_comment, identifier_name, punctuator}
 use Rattle.jl_token.specs.Elements.{numeric_literal, string_literal}
-use Rattle.jl_token.specs.Scanner.{Outcome, found, bad, many, one_unit, letter, name_from, name_done, name_end}
-use Rattle.jl_token.specs.Scanner.{before_close, block_end, numeral, number_end, number_of, value_of, is_some_of}
-use Rattle.jl_token.specs.Scanner.{after_fraction, after_line_feed, string_done, string_stop, character}
-use Rattle.jl_token.specs.Scanner.{first_punctuator, punctuator_found, after_first, scan_word, scan}
+use Rattle.jl_token.specs.inner.Scanner.{Outcome, found, bad, many, one_unit, letter, name_from, name_done, name_end}
+use Rattle.jl_token.specs.inner.Scanner.{before_close, block_end, numeral, number_end, number_of, value_of, is_some_of}
+use Rattle.jl_token.specs.inner.Scanner.{after_fraction, after_line_feed, string_done, string_stop, character}
+use Rattle.jl_token.specs.inner.Scanner.{first_punctuator, punctuator_found, after_first, scan_word, scan}
 use Rattle.jl_token.specs.declared.token.TokenKind.TheVariants as kinds
 use Rattle.jl_token.specs.declared.token.BadKind.{BadKind}
 use Rattle.jl_token.specs.declared.punct.Punct.{Punct}

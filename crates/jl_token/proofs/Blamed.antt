@@ -11,9 +11,9 @@ use Rattle.jl_token.specs.Elements.{string_literal}
 use Rattle.jl_token.specs.Faults.{Unclosed, at_end, at_last_backslash, at_line_terminator, No, LongestNumeral, Fault}
 use Rattle.jl_token.specs.Faults.{unclosed_string, unclosed_comment, string_escape, name_escape, first_escape}
 use Rattle.jl_token.specs.Faults.{digit_follows, name_follows, no_number, long_name, long_string, no_element}
-use Rattle.jl_token.specs.Scanner.{Outcome, bad, many, letter, name_from, name_done, name_end, before_close, block_end}
-use Rattle.jl_token.specs.Scanner.{number_end, number_of, value_of, is_some_of, string_done, string_end, string_stop}
-use Rattle.jl_token.specs.Scanner.{character, escape, scan}
+use Rattle.jl_token.specs.inner.Scanner.{Outcome, bad, many, letter, name_from, name_done, name_end, before_close, block_end}
+use Rattle.jl_token.specs.inner.Scanner.{number_end, number_of, value_of, is_some_of, string_done, string_end, string_stop}
+use Rattle.jl_token.specs.inner.Scanner.{character, escape, scan}
 use Rattle.jl_token.specs.declared.token.BadKind.{BadKind}
 use Rattle.jl_token.specs.declared.token.BadKind.TheVariants as faults
 use Rattle.jl_token.specs.declared.punct.Punct.TheVariants.{Dot, Slash}

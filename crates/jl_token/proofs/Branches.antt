@@ -4,8 +4,8 @@ use Rattle.std.proofs.Common.{if◌then◌else◌}
 use Rattle.jl_token.specs.Characters.{is_white_space, is_line_terminator, is_on_line, is_identifier_start, is_digit}
 use Rattle.jl_token.specs.Characters.{is_quote, first_is}
 use Rattle.jl_token.specs.Elements.{White, LineEnd, LineComment, Letter, itself, escaped}
-use Rattle.jl_token.specs.Scanner.{found, many, one_unit, letter, name_from, before_close, block_end, number_end}
-use Rattle.jl_token.specs.Scanner.{after_line_feed, string_end, character, scan_word, scan}
+use Rattle.jl_token.specs.inner.Scanner.{found, many, one_unit, letter, name_from, before_close, block_end, number_end}
+use Rattle.jl_token.specs.inner.Scanner.{after_line_feed, string_end, character, scan_word, scan}
 use Rattle.jl_token.proofs.Tests.{or_cases, and_true, is_unit}
 use Rattle.jl_token.proofs.Units.{units, starts, lines, quotes, digits}
 use Rattle.jl_token.proofs.Numbers.{begins_at, found_numeral}

@@ -4,13 +4,13 @@ use Rattle.jl_token.specs.Characters.{are_hex_digits, hex_number, hex_digit_valu
 use Rattle.jl_token.specs.Elements.{Many}
 use Rattle.jl_token.specs.Faults.{Fault}
 use Rattle.jl_token.specs.Tokens.{Tokens, BadAt, OnePiece, place}
-use Rattle.jl_token.specs.Scanner.{Outcome, found, bad, many_by, many_within, many, one_unit, name_escape, letter}
-use Rattle.jl_token.specs.Scanner.{name_done, name_from, before_close, block_end, some_digits, raised, exponent_by}
-use Rattle.jl_token.specs.Scanner.{exponent_sign, exponent, with_exponent, after_fraction, after_whole, hex_literal}
-use Rattle.jl_token.specs.Scanner.{after_zero, from_whole, numeral, value_of, is_some_of, number_of, number_end}
-use Rattle.jl_token.specs.Scanner.{after_line_feed, hex_escape, unicode_escape, other_escape, escape_by, escape}
-use Rattle.jl_token.specs.Scanner.{character, string_stop, string_done, strip, or_else, first_punctuator}
-use Rattle.jl_token.specs.Scanner.{punctuator_found, scan_word, scan, piece_found, next_piece}
+use Rattle.jl_token.specs.inner.Scanner.{Outcome, found, bad, many_by, many_within, many, one_unit, name_escape, letter}
+use Rattle.jl_token.specs.inner.Scanner.{name_done, name_from, before_close, block_end, some_digits, exponent_powers, exponent_by}
+use Rattle.jl_token.specs.inner.Scanner.{exponent_sign, exponent, with_exponent, after_fraction, after_whole, hex_literal}
+use Rattle.jl_token.specs.inner.Scanner.{after_zero, from_whole, numeral, value_of, is_some_of, number_of, number_end}
+use Rattle.jl_token.specs.inner.Scanner.{after_line_feed, hex_escape, unicode_escape, other_escape, escape_by, escape}
+use Rattle.jl_token.specs.inner.Scanner.{character, string_stop, string_done, strip, or_else, first_punctuator}
+use Rattle.jl_token.specs.inner.Scanner.{punctuator_found, scan_word, scan, piece_found, next_piece}
 use Rattle.jl_token.specs.declared.token.Token.{Token}
 use Rattle.jl_token.specs.declared.token.TokenKind.{TokenKind}
 use Rattle.jl_token.specs.declared.token.TokenKind.TheVariants.{Name, Punct}
@@ -23,7 +23,7 @@ use Rattle.jl_token.proofs.Found.{Right, right_element, right_fault, scan_right}
 use Rattle.jl_token.proofs.Whole.{reads_piece, ended, stopped}
 
 unfoldable scanned : Unit {0}
-unfolding units are_hex_digits hex_number hex_digit_value single_escape many_by many_within many one_unit name_escape letter name_done name_from before_close block_end some_digits raised exponent_by exponent_sign exponent with_exponent after_fraction after_whole hex_literal after_zero from_whole numeral value_of is_some_of number_of number_end after_line_feed hex_escape unicode_escape other_escape escape_by escape character string_stop string_done strip or_else first_punctuator punctuator_found scan_word scan piece_found next_piece
+unfolding units are_hex_digits hex_number hex_digit_value single_escape many_by many_within many one_unit name_escape letter name_done name_from before_close block_end some_digits exponent_powers exponent_by exponent_sign exponent with_exponent after_fraction after_whole hex_literal after_zero from_whole numeral value_of is_some_of number_of number_end after_line_feed hex_escape unicode_escape other_escape escape_by escape character string_stop string_done strip or_else first_punctuator punctuator_found scan_word scan piece_found next_piece
 scanned = tt
 
 token : TokenKind → ℕ → ℕ → Token

@@ -13,10 +13,10 @@ use Rattle.jl_token.specs.Elements.{block_comment, identifier_name, punctuator, 
 use Rattle.jl_token.specs.Faults.{at_end, at_last_backslash, at_line_terminator, LongestNumeral, Fault, unclosed_string}
 use Rattle.jl_token.specs.Faults.{unclosed_comment, string_escape, name_escape, first_escape, digit_follows}
 use Rattle.jl_token.specs.Faults.{name_follows, no_number, long_name, long_string, no_element}
-use Rattle.jl_token.specs.Scanner.{Outcome, found, bad, many, one_unit, letter, name_from, name_done, name_end}
-use Rattle.jl_token.specs.Scanner.{before_close, block_end, numeral, number_end, number_of, value_of, is_some_of}
-use Rattle.jl_token.specs.Scanner.{after_line_feed, string_done, string_end, string_stop, character, first_punctuator}
-use Rattle.jl_token.specs.Scanner.{punctuator_found, after_first, scan_word, scan}
+use Rattle.jl_token.specs.inner.Scanner.{Outcome, found, bad, many, one_unit, letter, name_from, name_done, name_end}
+use Rattle.jl_token.specs.inner.Scanner.{before_close, block_end, numeral, number_end, number_of, value_of, is_some_of}
+use Rattle.jl_token.specs.inner.Scanner.{after_line_feed, string_done, string_end, string_stop, character, first_punctuator}
+use Rattle.jl_token.specs.inner.Scanner.{punctuator_found, after_first, scan_word, scan}
 use Rattle.jl_token.specs.declared.token.BadKind.{BadKind}
 use Rattle.jl_token.specs.declared.token.BadKind.TheVariants as faults
 use Rattle.jl_token.specs.declared.punct.Punct.{Punct}

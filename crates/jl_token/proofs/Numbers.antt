@@ -5,9 +5,9 @@ use Rattle.jl_token.specs.Characters.{is_digit, is_hex_digit, decimal_from, firs
 use Rattle.jl_token.specs.Elements.{Many, no_more, one_more, OneUnit, unit, Digits, digits as some, WholeDigits}
 use Rattle.jl_token.specs.Elements.{zero_digit, nonzero, Exponent, no_exponent, no_sign, plus, minus, Numeral, whole}
 use Rattle.jl_token.specs.Elements.{with_point, from_point, hex}
-use Rattle.jl_token.specs.Scanner.{many, with_first, one_unit, some_digits, raised, exponent_by, exponent_sign}
-use Rattle.jl_token.specs.Scanner.{exponent, with_exponent, after_fraction, after_whole, hex_literal, after_zero}
-use Rattle.jl_token.specs.Scanner.{from_whole, numeral}
+use Rattle.jl_token.specs.inner.Scanner.{many, with_first, one_unit, some_digits, exponent_powers, exponent_by, exponent_sign}
+use Rattle.jl_token.specs.inner.Scanner.{exponent, with_exponent, after_fraction, after_whole, hex_literal, after_zero}
+use Rattle.jl_token.specs.inner.Scanner.{from_whole, numeral}
 use Rattle.jl_token.proofs.Rows.{prepend, many_step, many_complete, many_whole, many_sound}
 use Rattle.jl_token.proofs.Tests.{or_cases, or_false, and_true, true_or_false, never_both, is_unit}
 use Rattle.jl_token.proofs.Units.{units, digits}
@@ -80,13 +80,13 @@ module _ (p : ℕ → Bool) where
 abbrev IsExponent : List ℕ → ℕ × ℕ × List ℕ → Type 0
 IsExponent us x = Exponent us x.0 x.1 x.2
 
-by_sound : (us more : List ℕ) (lowers : Bool) (o : Option (List ℕ × List ℕ)) → Holds o (Digits is_digit more) → ((ds rest : List ℕ) → Digits is_digit more ds rest → IsExponent us (raised lowers (ds, rest))) → IsExponent us (exponent_by us lowers o)
+by_sound : (us more : List ℕ) (lowers : Bool) (o : Option (List ℕ × List ℕ)) → Holds o (Digits is_digit more) → ((ds rest : List ℕ) → Digits is_digit more ds rest → IsExponent us (exponent_powers lowers (ds, rest))) → IsExponent us (exponent_by us lowers o)
 unfolding exponent_by
 by_sound us more lowers None h make = no_exponent
 by_sound us more lowers (Some (ds, rest)) h make = make ds rest h.has
 
 sign_sound : (e : ℕ) (us : List ℕ) → (e == 101 || e == 69) ≡ true → IsExponent (e ∷ us) (exponent_sign (e ∷ us) us)
-unfolding exponent_sign raised
+unfolding exponent_sign exponent_powers
 sign_sound e [] h = no_exponent
 sign_sound e (s ∷ us) h = choose (IsExponent (e ∷ s ∷ us)) (s == 43) _ _
     (λ k. by_sound (e ∷ s ∷ us) us false (some_digits is_digit us) (digits_sound is_digit us) (λ ds rest d. subst (λ w. Exponent (e ∷ w ∷ us) (decimal_from 0 ds) 0 rest) (sym (is_unit s 43 k)) (plus h d)))
@@ -121,8 +121,8 @@ pub data ExponentAgainst (x : ℕ × ℕ × List ℕ) (r l : ℕ) (rest : List �
 tuple3 : (x : ℕ × ℕ × List ℕ) (r l : ℕ) (rest : List ℕ) → x.0 ≡ r → x.1 ≡ l → x.2 ≡ rest → x ≡ (r, l, rest)
 tuple3 (a, b, c) r l rest e f g = rw (e, f, g) refl
 
-raised_against : (all us ds rest : List ℕ) (lowers : Bool) → Digits is_digit us ds rest → ExponentAgainst (exponent_by all lowers (some_digits is_digit us)) (raised lowers (ds, rest)).0 (raised lowers (ds, rest)).1 rest
-unfolding exponent_by raised
+raised_against : (all us ds rest : List ℕ) (lowers : Bool) → Digits is_digit us ds rest → ExponentAgainst (exponent_by all lowers (some_digits is_digit us)) (exponent_powers lowers (ds, rest)).0 (exponent_powers lowers (ds, rest)).1 rest
+unfolding exponent_by exponent_powers
 raised_against all us ds rest false d = rw (found_digits is_digit d) (elim (against is_digit (as_row is_digit d)) [
   | longer h l ↦ longer_exponent l
   | same e ↦ same_exponent (rw e refl)
@@ -148,14 +148,14 @@ no_exponent_found : (us : List ℕ) → ExponentAgainst (exponent us) 0 0 us
 no_exponent_found us = elim (taken (exponent_sound us)) [ some_units h ↦ longer_exponent h | no_units a b e ↦ same_exponent (tuple3 (exponent us) 0 0 us a b e) ]
 
 unsigned_against : (e : ℕ) (us ds rest : List ℕ) → (e == 101 || e == 69) ≡ true → Digits is_digit us ds rest → ExponentAgainst (exponent (e ∷ us)) (decimal_from 0 ds) 0 rest
-unfolding exponent exponent_sign raised
+unfolding exponent exponent_sign exponent_powers
 unsigned_against e [] ds rest h d = absurd (never_both _ (first_of is_digit d) refl)
 unsigned_against e (s ∷ us) ds rest h d =
     let g = or_false (s == 43) (s == 45) (digits s (first_of is_digit d)).sign in
     rw (h, g.0, g.1) (raised_against (e ∷ s ∷ us) (s ∷ us) ds rest false d)
 
 exponent_against : {us rest : List ℕ} {r l : ℕ} → Exponent us r l rest → ExponentAgainst (exponent us) r l rest
-unfolding exponent exponent_sign raised
+unfolding exponent exponent_sign exponent_powers
 exponent_against {us} no_exponent = no_exponent_found us
 exponent_against (no_sign {e} {us} {ds} {rest} h d) = unsigned_against e us ds rest h d
 exponent_against (plus {e} {us} {ds} {rest} h d) = rw h (raised_against (e ∷ 43 ∷ us) us ds rest false d)

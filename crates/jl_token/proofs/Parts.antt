@@ -3,7 +3,7 @@ use Rattle.std.proofs.Common.{◌≡◌, refl, sym, subst, ℕ, ◌<◌, Bool, t
 use Rattle.std.proofs.Common.{Option, Some, None, if◌then◌else◌, arith}
 use Rattle.jl_token.specs.Characters.{is_identifier_start, is_identifier_part, are_hex_digits, hex_number, first_is}
 use Rattle.jl_token.specs.Elements.{OneUnit, unit, Letter, itself, escaped, BeforeClose, before_close as one_before}
-use Rattle.jl_token.specs.Scanner.{one_unit, letter, name_escape, before_close}
+use Rattle.jl_token.specs.inner.Scanner.{one_unit, letter, name_escape, before_close}
 use Rattle.jl_token.proofs.Rows.{Reads}
 use Rattle.jl_token.proofs.Tests.{and_true, is_unit}
 use Rattle.jl_token.proofs.Units.{backslash_start, backslash_part}

@@ -2,7 +2,7 @@
 use Rattle.std.proofs.Common.{◌≡◌, refl, ap, ◌∙◌, ℕ, zero, suc, ◌<◌, ◌≤◌, List, [], ◌∷◌, length, Option, Some, None}
 use Rattle.std.proofs.Common.{arith}
 use Rattle.jl_token.specs.Elements.{Many, no_more, one_more}
-use Rattle.jl_token.specs.Scanner.{many, many_within, many_by, with_first}
+use Rattle.jl_token.specs.inner.Scanner.{many, many_within, many_by, with_first}
 
 pub record Reads {A : Type 0} (One : List ℕ → A → List ℕ → Type 0) (one : List ℕ → Option (A × List ℕ)) : Type 0 where
   pub complete : (us : List ℕ) (a : A) (rest : List ℕ) → One us a rest → one us ≡ Some (a, rest)

@@ -5,8 +5,8 @@ use Rattle.jl_token.specs.Characters.{is_line_terminator, is_digit, is_hex_digit
 use Rattle.jl_token.specs.Characters.{single_escape, is_escape_character, first_is}
 use Rattle.jl_token.specs.Elements.{Character, plain, single, non_escape, null, hex_escape as hex_pair}
 use Rattle.jl_token.specs.Elements.{unicode_escape as hex_four, continuation, long_continuation}
-use Rattle.jl_token.specs.Scanner.{after_line_feed, hex_escape, unicode_escape, other_escape, escape_by, escape}
-use Rattle.jl_token.specs.Scanner.{character}
+use Rattle.jl_token.specs.inner.Scanner.{after_line_feed, hex_escape, unicode_escape, other_escape, escape_by, escape}
+use Rattle.jl_token.specs.inner.Scanner.{character}
 use Rattle.jl_token.proofs.Rows.{Reads}
 use Rattle.jl_token.proofs.Tests.{or_false, both_false, and_true, true_or_false, never_both, is_unit, other_unit}
 use Rattle.jl_token.proofs.Units.{units, quotes, each_line_terminator}

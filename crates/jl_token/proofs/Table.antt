@@ -6,7 +6,7 @@ use Rattle.std.proofs.Common.{length-append, append-nil}
 use Rattle.jl_token.specs.Characters.{is_white_space, is_line_terminator, is_identifier_start, is_digit, is_quote}
 use Rattle.jl_token.specs.Characters.{first_is}
 use Rattle.jl_token.specs.Punctuators.{punctuator_units, all_punctuators}
-use Rattle.jl_token.specs.Scanner.{strip, or_else, first_punctuator}
+use Rattle.jl_token.specs.inner.Scanner.{strip, or_else, first_punctuator}
 use Rattle.jl_token.specs.declared.punct.Punct.{Punct}
 use Rattle.jl_token.specs.declared.punct.Punct.TheVariants.{LeftBrace, RightBrace, LeftParen, RightParen, LeftBracket}
 use Rattle.jl_token.specs.declared.punct.Punct.TheVariants.{RightBracket, Dot, Semicolon, Comma, Less, Greater}

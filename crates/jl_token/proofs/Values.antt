@@ -5,7 +5,7 @@ use Rattle.std.proofs.Math.Nat.{pow-suc}
 use Rattle.std.proofs.lemmas.Nat.{div-add-mod', div-mul-add, mod-mul-add}
 use Rattle.std.proofs.lemmas.Bool.{eqb-true, leb-true, le-leb}
 use Rattle.jl_token.specs.Elements.{HasValue}
-use Rattle.jl_token.specs.Scanner.{value_of}
+use Rattle.jl_token.specs.inner.Scanner.{value_of}
 use Rattle.jl_token.proofs.Tests.{and_true}
 
 pub ten_pos : (l : ℕ) → 0 < 10 ^ l

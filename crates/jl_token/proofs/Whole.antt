@@ -14,7 +14,7 @@ use Rattle.jl_token.specs.Faults.{digit_follows, name_follows, no_number, long_n
 use Rattle.jl_token.specs.Tokens.{Begins, Piece, piece, place, OnePiece, one_piece, tokens_among, Tokens, BadAt}
 use Rattle.jl_token.specs.Tokens.{InOrder, TokensAreUnique, BadPlaceIsUnique, TokensOrBad, NeverBoth, SpansAreInOrder}
 use Rattle.jl_token.specs.Tokens.{FewTokens}
-use Rattle.jl_token.specs.Scanner.{Outcome, found, bad, many, scan_word, scan, piece_found, next_piece}
+use Rattle.jl_token.specs.inner.Scanner.{Outcome, found, bad, many, scan_word, scan, piece_found, next_piece}
 use Rattle.jl_token.specs.declared.punct.Punct.{Punct}
 use Rattle.jl_token.specs.declared.token.BadKind.{BadKind}
 use Rattle.jl_token.specs.declared.token.Token.{Token}

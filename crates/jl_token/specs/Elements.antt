@@ -5,6 +5,8 @@
 use Rattle.std.specs.Prelude.{◌≡◌, ◌≤◌, ℕ, ◌+◌, ◌*◌, ◌^◌, Bool, true, false, ◌==◌, ◌&&◌, ◌||◌, List, [], ◌∷◌, ◌++◌}
 use Rattle.std.specs.Prelude.{length, map, Some, pos}
 use Rattle.std.specs.List.{list_any, list_all, flat_map}
+use Rattle.jl_num.specs.Number.{largest}
+use Rattle.jl_text.specs.Limits.{most_units}
 use Rattle.jl_token.specs.Characters.{is_white_space, is_line_terminator, is_on_line, is_identifier_start}
 use Rattle.jl_token.specs.Characters.{is_identifier_part, is_digit, is_hex_digit, decimal_from, hex_from}
 use Rattle.jl_token.specs.Characters.{are_hex_digits, hex_number, is_quote, single_escape, is_escape_character}
@@ -75,7 +77,7 @@ pub data Numeral : List ℕ → ℕ → ℕ → ℕ → List ℕ → Type 0 wher
 -- n is the exact value of m · 10 ^ r / 10 ^ l, and a number of a script
 pub record HasValue (m r l n : ℕ) : Type 0 where
   pub exact : n * 10 ^ l ≡ m * 10 ^ r
-  pub inside : n ≤ 9007199254740991
+  pub inside : n ≤ largest
 
 -- Strings (7.8.4). A character of a string between two marks: the units of its value, and whether it stands there
 -- itself.
@@ -130,10 +132,10 @@ pub data Front : List ℕ → Element → List ℕ → Type 0 where
       Front (47 ∷ 47 ∷ us) LineComment rest
   block_comment : {us cs rest : List ℕ} → Many BeforeClose us cs (42 ∷ 47 ∷ rest) →
       Front (47 ∷ 42 ∷ us) (BlockComment (list_any is_line_terminator cs)) rest
-  identifier_name : {us rest : List ℕ} {xs : List (ℕ × Bool)} → Name us xs rest → length (name_text xs) ≤ 1048576 →
+  identifier_name : {us rest : List ℕ} {xs : List (ℕ × Bool)} → Name us xs rest → length (name_text xs) ≤ most_units →
       Front us (Word (kinds.Name (name_text xs) (is_escaped xs))) rest
   punctuator : {us rest : List ℕ} (p : Punct) → us ≡ punctuator_units p ++ rest → Front us (Word (kinds.Punct p)) rest
   numeric_literal : {us rest : List ℕ} {m r l n : ℕ} → Numeral us m r l rest → HasValue m r l n →
       Front us (Word (kinds.Number (Some (pos n)))) rest
   string_literal : {us rest : List ℕ} {cs : List (List ℕ × Bool)} → StringLiteral us cs rest →
-      length (string_text cs) ≤ 1048576 → Front us (Word (kinds.Str (string_text cs) (is_plain cs))) rest
+      length (string_text cs) ≤ most_units → Front us (Word (kinds.Str (string_text cs) (is_plain cs))) rest

@@ -1,5 +1,6 @@
 -- Where the units begin with no input element of a script: which fault stands there.
 use Rattle.std.specs.Prelude.{◌≡◌, ◌<◌, ◌≤◌, ℕ, Bool, true, false, ◌==◌, List, [], ◌∷◌, length}
+use Rattle.jl_text.specs.Limits.{most_units}
 use Rattle.jl_token.specs.Characters.{is_line_terminator, is_identifier_start, is_identifier_part, is_digit, is_quote}
 use Rattle.jl_token.specs.Characters.{first_is}
 use Rattle.jl_token.specs.Elements.{Element, Many, Letter, Name, BeforeClose, Numeral, HasValue, Character}
@@ -50,10 +51,10 @@ pub data Fault : List ℕ → BadKind → Type 0 where
       Fault us faults.BadNumber
   -- a whole name that is too long
   long_name : {us rest : List ℕ} {xs : List (ℕ × Bool)} → Name us xs rest → No (Letter is_identifier_part) rest →
-      first_is (λ u. u == 92) rest ≡ false → 1048576 < length (name_text xs) → Fault us faults.LongText
+      first_is (λ u. u == 92) rest ≡ false → most_units < length (name_text xs) → Fault us faults.LongText
   -- a whole string that is too long
   long_string : {us rest : List ℕ} {cs : List (List ℕ × Bool)} → StringLiteral us cs rest →
-      1048576 < length (string_text cs) → Fault us faults.LongText
+      most_units < length (string_text cs) → Fault us faults.LongText
   -- a unit with which no input element begins
   no_element : {u : ℕ} {us : List ℕ} → ((others rest : List ℕ) (e : Element) → Front (u ∷ others) e rest → ⊥) →
       Fault (u ∷ us) faults.BadCharacter

@@ -3,5 +3,5 @@ pub mod Punctuators
 pub mod Elements
 pub mod Faults
 pub mod Tokens
-pub mod Scanner
 pub mod Spelling
+pub mod inner

@@ -1,5 +1,5 @@
 ghost use Rattle.std.specs.Prelude.{◌≡◌, IfOk};
-ghost use Rattle.jl_token.specs.Spelling.{spelled};
+ghost use Rattle.jl_token.specs.Spelling.{spelling_of};
 
 use crate::token::{Token, TokenKind};
 use jl_num::digits;
@@ -8,21 +8,21 @@ use std::alloc::{AllocError, Global};
 
 /// The spelling of a token: a name's characters, a punctuator, a number's decimal digits, a string between quotes.
 pub fn spelling(alloc: Global, token: &Token) -> Result<Vec<u16>, AllocError>
-    ensures { IfOk result (λ made. made.items ≡ spelled token.now.kind) }
+    ensures { IfOk result (λ made. made.items ≡ spelling_of token.now.kind) }
 {
     match &token.kind {
         TokenKind::Name { text, .. } => Vec::from_slice(alloc, text.units()),
-        TokenKind::Punct(punct) => widened(alloc, punct.text()),
+        TokenKind::Punct(punct) => widen(alloc, punct.text()),
         TokenKind::Number(number) => {
             let text = digits(alloc, *number, 10)?;
-            widened(alloc, text.as_slice())
+            widen(alloc, text.as_slice())
         }
         TokenKind::Str { text, .. } => quote(alloc, text.units()),
     }
 }
 
 // ASCII characters as UTF-16 units.
-fn widened(alloc: Global, text: &[u8]) -> Result<Vec<u16>, AllocError>
+fn widen(alloc: Global, text: &[u8]) -> Result<Vec<u16>, AllocError>
     ensures { IfOk result (λ made. made.items ≡ text.now) }
 {
     let mut units = Vec::with_capacity(alloc, text.len())?;

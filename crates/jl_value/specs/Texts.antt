@@ -1,7 +1,7 @@
 -- How values are told of, in the lines of a trace and of an uncaught throw.
 use Rattle.std.specs.Prelude.{ℕ, true, false, List, [], ◌∷◌, ◌++◌, codes}
 use Rattle.jl_num.specs.Digits.{number_text}
-use Rattle.jl_text.specs.Quoted.{quoted}
+use Rattle.jl_text.specs.Quoted.{quote}
 use Rattle.jl_value.specs.declared.object.Class.{Class}
 use Rattle.jl_value.specs.declared.object.Class.TheVariants as classes
 use Rattle.jl_value.specs.declared.value.Value.{Value}
@@ -26,5 +26,5 @@ value_text values.Null class = codes "null"
 value_text (values.Bool true) class = codes "true"
 value_text (values.Bool false) class = codes "false"
 value_text (values.Num number) class = number_text number 10
-value_text (values.Text units) class = quoted units
+value_text (values.Text units) class = quote units
 value_text (values.Obj place) class = codes "[" ++ class_name class ++ codes "]"

@@ -9,37 +9,37 @@ use Rattle.jl_op.specs.declared.kind.OpKind.TheVariants as kind
 use Rattle.jl_simulation.specs.HookCalls.{and_last, begin_and_end, catch_and_go_on, enter_and_leave, hook, hook_of_1}
 use Rattle.jl_simulation.specs.HookCalls.{hook_statement, name_of, no_exprs, without_id, Stmts, Woven}
 use Rattle.jl_simulation.specs.Weaving.{woven_code, woven_forest}
-use Rattle.jl_weave.specs.inner.Bare.{unplaced}
+use Rattle.jl_weave.specs.inner.Bare.{without_place}
 use Rattle.jl_weave.specs.inner.Forms.{beginning_form, caught_form, ended_form, entry_form, first_if, is_begun}
-use Rattle.jl_weave.specs.inner.Forms.{is_entered, joined, left_form}
+use Rattle.jl_weave.specs.inner.Forms.{is_entered, append_forest, left_form}
 use Rattle.jl_weave.proofs.Weaves.{Weaves, WeavesAfter, WeavesAll, WeavesHandler}
 use Rattle.jl_weave.proofs.Parts.{ap2, ap4}
 use Rattle.jl_weave.proofs.StatementForms.{label_is}
 
 labels_are : {S : Type 0} (n : ℕ) (l : List (Ident S)) →
-    map unplaced l ≡ map without_id (map (λ y. ident_with_id y n) l)
+    map without_place l ≡ map without_id (map (λ y. ident_with_id y n) l)
 labels_are n [] = refl
-labels_are n (x ∷ l) = ap (λ r. unplaced x ∷ r) (labels_are n l)
+labels_are n (x ∷ l) = ap (λ r. without_place x ∷ r) (labels_are n l)
 
 -- the three bodies that a hook may stand first in, by whether it does
 entered_is : (b : Bool) (id : ℕ) (l : Stmts) →
-    (if b then tree.more (tree.try (joined (first_if b (hook_statement (hook (codes "E") id no_exprs))) l) tree.absent
+    (if b then tree.more (tree.try (append_forest (first_if b (hook_statement (hook (codes "E") id no_exprs))) l) tree.absent
     (tree.present (tree.branch_of (tree.more (hook_statement (hook (codes "L") (id + 1) no_exprs)) tree.end))) tt)
-    tree.end else joined (first_if b (hook_statement (hook (codes "E") id no_exprs))) l)
+    tree.end else append_forest (first_if b (hook_statement (hook (codes "E") id no_exprs))) l)
     ≡ (if b then enter_and_leave id l else l)
 entered_is true id l = refl
 entered_is false id l = refl
 
 begun_is : (b : Bool) (id : ℕ) (l : Stmts) →
-    (if b then and_last (joined (first_if b (hook_statement (hook (codes "S") id no_exprs))) l)
+    (if b then and_last (append_forest (first_if b (hook_statement (hook (codes "S") id no_exprs))) l)
     (hook_statement (hook (codes "X") (id + 1) no_exprs))
-    else joined (first_if b (hook_statement (hook (codes "S") id no_exprs))) l)
+    else append_forest (first_if b (hook_statement (hook (codes "S") id no_exprs))) l)
     ≡ (if b then begin_and_end id l else l)
 begun_is true id l = refl
 begun_is false id l = refl
 
 caught_is : (b : Bool) (id : ℕ) (x : Text) (l : Stmts) →
-    joined (first_if b (hook_statement (hook_of_1 (codes "H") id x (name_of x)))) l
+    append_forest (first_if b (hook_statement (hook_of_1 (codes "H") id x (name_of x)))) l
     ≡ (if b then catch_and_go_on id x l else l)
 caught_is true id x l = refl
 caught_is false id x l = refl
@@ -47,15 +47,15 @@ caught_is false id x l = refl
 module _ (chosen : Kinds) {S : Type 0} where
   -- statements after others, by what those are and by the id at which they are known to begin
   after : (l : Forest S tree.stmt) {first known l' : Stmts} {n next k : ℕ} → WeavesAfter chosen first l n l' next →
-      first ≡ known → n ≡ k → l' ≡ joined known (woven_forest chosen (forest_with_ids k l))
-  after l w f e = w.is ∙ ap2 (λ first k. joined first (woven_forest chosen (forest_with_ids k l))) f e
+      first ≡ known → n ≡ k → l' ≡ append_forest known (woven_forest chosen (forest_with_ids k l))
+  after l w f e = w.is ∙ ap2 (λ first k. append_forest first (woven_forest chosen (forest_with_ids k l))) f e
 
   pub function_woven : (m : ℕ) (x : Option (Ident S)) (params : List (Ident S)) (strict : Bool)
       (fs : Forest S tree.func) (l : Forest S tree.stmt) (s : S) {fs' : Forest (Unit {0}) tree.func}
       {first l' whole : Stmts} {made : Woven tree.func} {n p next : ℕ} → WeavesAll chosen fs (n + 2) fs' p →
       first ≡ entry_form chosen n → WeavesAfter chosen first l p l' next → whole ≡ left_form chosen n l' →
-      made ≡ tree.function m (option_map unplaced x)
-      (map unplaced params) (tree.body strict fs' whole) tt →
+      made ≡ tree.function m (option_map without_place x)
+      (map without_place params) (tree.body strict fs' whole) tt →
       Weaves chosen (tree.function m x params (tree.body strict fs l) s) n made next
   function_woven m x params strict fs l s {n = n} w f u g e =
       let c = w.counted in let d = u.counted in
@@ -74,10 +74,10 @@ module _ (chosen : Kinds) {S : Type 0} where
   pub handler_woven : (x : Ident S) (l : Forest S tree.stmt) {first l' : Stmts}
       {made : OptionalTree (Unit {0}) tree.handler} {id n next : ℕ} → first ≡ caught_form chosen id x.text →
       WeavesAfter chosen first l n l' next →
-      made ≡ tree.present (tree.catch (unplaced x) l') →
+      made ≡ tree.present (tree.catch (without_place x) l') →
       WeavesHandler chosen (tree.present (tree.catch x l)) id n made next
   handler_woven x l {id = id} {n = n} f w e = record {
-    is = e ∙ ap (λ l. tree.present (tree.catch (unplaced x) l))
+    is = e ∙ ap (λ l. tree.present (tree.catch (without_place x) l))
         (after l w f refl
         ∙ caught_is (chosen kind.Catch) id x.text (woven_forest chosen (forest_with_ids n l)));
     counted = w.counted;

@@ -6,8 +6,8 @@ use Rattle.jl_ast.specs.declared.ops.UnOp.{UnOp}
 use Rattle.jl_ast.specs.declared.ops.UnOp.TheVariants as un
 use Rattle.jl_op.specs.Chosen.{Kinds}
 use Rattle.jl_op.specs.Ids.{callee_with_ids, id_count, member_ids, unary_id_count, with_ids}
-use Rattle.jl_simulation.specs.HookCalls.{quoted, Expr}
-use Rattle.jl_simulation.specs.Weaving.{woven, woven_callee, woven_member_delete}
+use Rattle.jl_simulation.specs.HookCalls.{string_of, Expr}
+use Rattle.jl_simulation.specs.Weaving.{weave, woven_callee, woven_member_delete}
 use Rattle.jl_weave.specs.inner.Forms.{callee_form, typeof_name_form, unary_form}
 use Rattle.jl_weave.proofs.Weaves.{Weaves, WeavesCallee}
 use Rattle.jl_weave.proofs.Parts.{ap2, part}
@@ -42,26 +42,26 @@ delete_count e n h = refl
 
 module _ (chosen : Kinds) {S : Type 0} where
   callee_is : (f : Tree S tree.expr) (n : ℕ) → IsNoMember f →
-      callee_form chosen n (woven chosen (with_ids (n + 2) f))
+      callee_form chosen n (weave chosen (with_ids (n + 2) f))
       ≡ woven_callee chosen (callee_with_ids n f (with_ids (n + 2) f))
-      (woven chosen (callee_with_ids n f (with_ids (n + 2) f))) (n + member_ids f)
+      (weave chosen (callee_with_ids n f (with_ids (n + 2) f))) (n + member_ids f)
   callee_is (tree.dot o k s) n h = absurd h
   callee_is (tree.index o k s) n h = absurd h
   callee_is (tree.unary un.Minus e s) n h =
-      ap (λ id. callee_form chosen id (woven chosen (with_ids (n + 2) (tree.unary un.Minus e s)))) (sym (add-zero n))
+      ap (λ id. callee_form chosen id (weave chosen (with_ids (n + 2) (tree.unary un.Minus e s)))) (sym (add-zero n))
   callee_is (tree.unary un.Plus e s) n h =
-      ap (λ id. callee_form chosen id (woven chosen (with_ids (n + 2) (tree.unary un.Plus e s)))) (sym (add-zero n))
+      ap (λ id. callee_form chosen id (weave chosen (with_ids (n + 2) (tree.unary un.Plus e s)))) (sym (add-zero n))
   callee_is (tree.unary un.Not e s) n h =
-      ap (λ id. callee_form chosen id (woven chosen (with_ids (n + 2) (tree.unary un.Not e s)))) (sym (add-zero n))
+      ap (λ id. callee_form chosen id (weave chosen (with_ids (n + 2) (tree.unary un.Not e s)))) (sym (add-zero n))
   callee_is (tree.unary un.Tilde e s) n h =
-      ap (λ id. callee_form chosen id (woven chosen (with_ids (n + 2) (tree.unary un.Tilde e s)))) (sym (add-zero n))
+      ap (λ id. callee_form chosen id (weave chosen (with_ids (n + 2) (tree.unary un.Tilde e s)))) (sym (add-zero n))
   callee_is (tree.unary un.Typeof e s) n h =
-      ap (λ id. callee_form chosen id (woven chosen (with_ids (n + 2) (tree.unary un.Typeof e s)))) (sym (add-zero n))
+      ap (λ id. callee_form chosen id (weave chosen (with_ids (n + 2) (tree.unary un.Typeof e s)))) (sym (add-zero n))
   callee_is (tree.unary un.Void e s) n h =
-      ap (λ id. callee_form chosen id (woven chosen (with_ids (n + 2) (tree.unary un.Void e s)))) (sym (add-zero n))
+      ap (λ id. callee_form chosen id (weave chosen (with_ids (n + 2) (tree.unary un.Void e s)))) (sym (add-zero n))
   callee_is (tree.unary un.Delete e s) n h =
-      ap (λ id. callee_form chosen id (woven chosen (with_ids (n + 2) (tree.unary un.Delete e s)))) (sym (add-zero n))
-  callee_is f n h = ap (λ id. callee_form chosen id (woven chosen (with_ids (n + 2) f))) (sym (add-zero n))
+      ap (λ id. callee_form chosen id (weave chosen (with_ids (n + 2) (tree.unary un.Delete e s)))) (sym (add-zero n))
+  callee_is f n h = ap (λ id. callee_form chosen id (weave chosen (with_ids (n + 2) f))) (sym (add-zero n))
 
   pub callee_woven : (f : Tree S tree.expr) {f' made : Expr} {n next : ℕ} → IsNoMember f →
       Weaves chosen f (n + 2) f' next → made ≡ callee_form chosen n f' → WeavesCallee chosen f n made next
@@ -71,7 +71,7 @@ module _ (chosen : Kinds) {S : Type 0} where
   }
 
   unary_is : (o : UnOp) (e : Tree S tree.expr) (s : S) (n : ℕ) → o ≢ un.Delete → o ≢ un.Typeof →
-      unary_form chosen n o (woven chosen (with_ids (n + 1) e)) ≡ woven chosen (with_ids n (tree.unary o e s))
+      unary_form chosen n o (weave chosen (with_ids (n + 1) e)) ≡ weave chosen (with_ids n (tree.unary o e s))
   unary_is un.Minus e s n d t = refl
   unary_is un.Plus e s n d t = refl
   unary_is un.Not e s n d t = refl
@@ -93,8 +93,8 @@ module _ (chosen : Kinds) {S : Type 0} where
   typeof_name_woven x s s' c e = record { is = e; counted = c }
 
   typeof_is : (e : Tree S tree.expr) (s : S) (n : ℕ) → IsNoName e →
-      unary_form chosen n un.Typeof (woven chosen (with_ids (n + 1) e))
-      ≡ woven chosen (with_ids n (tree.unary un.Typeof e s))
+      unary_form chosen n un.Typeof (weave chosen (with_ids (n + 1) e))
+      ≡ weave chosen (with_ids n (tree.unary un.Typeof e s))
   typeof_is (tree.name x s') s n h = absurd h
   typeof_is (tree.unary un.Minus e s') s n h = refl
   typeof_is (tree.unary un.Plus e s') s n h = refl
@@ -119,10 +119,10 @@ module _ (chosen : Kinds) {S : Type 0} where
       record { is = e ∙ ap (λ e. tree.unary un.Delete e tt) i; counted = omega arith }
 
   pub delete_dot_woven : (o : Tree S tree.expr) (k : Text) (s s' : S) {o' made : Expr} {n next : ℕ} →
-      Weaves chosen o (n + 1) o' next → made ≡ woven_member_delete chosen n o' (quoted k) (tree.dot o' k tt) →
+      Weaves chosen o (n + 1) o' next → made ≡ woven_member_delete chosen n o' (string_of k) (tree.dot o' k tt) →
       Weaves chosen (tree.unary un.Delete (tree.dot o k s) s') n made next
   delete_dot_woven o k s s' {n = n} w e = record {
-    is = e ∙ ap (λ o. woven_member_delete chosen n o (quoted k) (tree.dot o k tt)) w.is;
+    is = e ∙ ap (λ o. woven_member_delete chosen n o (string_of k) (tree.dot o k tt)) w.is;
     counted = (let c = w.counted in omega arith);
   }
 
@@ -136,7 +136,7 @@ module _ (chosen : Kinds) {S : Type 0} where
   }
 
   delete_is : (e : Tree S tree.expr) (s : S) (n : ℕ) → IsNoName e → IsNoMember e →
-      tree.unary un.Delete (woven chosen (with_ids n e)) tt ≡ woven chosen (with_ids n (tree.unary un.Delete e s))
+      tree.unary un.Delete (weave chosen (with_ids n e)) tt ≡ weave chosen (with_ids n (tree.unary un.Delete e s))
   delete_is (tree.name x s') s n h k = absurd h
   delete_is (tree.dot o x s') s n h k = absurd k
   delete_is (tree.index o x s') s n h k = absurd k

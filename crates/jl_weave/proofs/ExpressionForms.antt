@@ -7,9 +7,9 @@ use Rattle.jl_ast.specs.declared.ops.BinOp.{BinOp}
 use Rattle.jl_op.specs.Chosen.{Kinds}
 use Rattle.jl_op.specs.Ids.{assignment_id_count, id_count, with_ids}
 use Rattle.jl_op.specs.declared.kind.OpKind.TheVariants as kind
-use Rattle.jl_simulation.specs.HookCalls.{hook_1, quoted, Expr, Exprs, Woven}
-use Rattle.jl_simulation.specs.Weaving.{hooked_if, woven, woven_member, woven_method}
-use Rattle.jl_weave.specs.inner.Bare.{unplaced}
+use Rattle.jl_simulation.specs.HookCalls.{hook_1, string_of, Expr, Exprs, Woven}
+use Rattle.jl_simulation.specs.Weaving.{hooked_if, weave, woven_member, woven_method}
+use Rattle.jl_weave.specs.inner.Bare.{without_place}
 use Rattle.jl_weave.specs.inner.Forms.{assignment_form, binary_form, name_form, new_form, update_form}
 use Rattle.jl_weave.proofs.Weaves.{Weaves, WeavesAll, WeavesCallee, WeavesTest}
 use Rattle.jl_weave.proofs.Parts.{ap2, ap3, part, parts}
@@ -17,13 +17,13 @@ use Rattle.jl_weave.proofs.Parts.{ap2, ap3, part, parts}
 -- the definition looks at a target before that is woven, and the code after
 module _ (chosen : Kinds) where
   update_is : (up prefix : Bool) (t : Tree ℕ tree.target) (n : ℕ) →
-      update_form chosen n up prefix (woven chosen t) ≡ woven chosen (tree.update up prefix t n)
+      update_form chosen n up prefix (weave chosen t) ≡ weave chosen (tree.update up prefix t n)
   update_is up prefix (tree.to_name x) n = refl
   update_is up prefix (tree.to_dot o k s) n = refl
   update_is up prefix (tree.to_index o k s) n = refl
 
   assignment_is : (o : Option BinOp) (t : Tree ℕ tree.target) (e : Tree ℕ tree.expr) (n : ℕ) →
-      assignment_form chosen n o (woven chosen t) (woven chosen e) ≡ woven chosen (tree.assign o t e n)
+      assignment_form chosen n o (weave chosen t) (weave chosen e) ≡ weave chosen (tree.assign o t e n)
   assignment_is None (tree.to_name x) e n = refl
   assignment_is None (tree.to_dot a k s) e n = refl
   assignment_is None (tree.to_index a k s) e n = refl
@@ -94,10 +94,10 @@ module _ (chosen : Kinds) {S : Type 0} where
 
   -- members
   pub dot_woven : (o : Tree S tree.expr) (k : Text) (s : S) {o' made : Expr} {n next : ℕ} →
-      Weaves chosen o (n + 1) o' next → made ≡ woven_member chosen n o' (quoted k) (tree.dot o' k tt) →
+      Weaves chosen o (n + 1) o' next → made ≡ woven_member chosen n o' (string_of k) (tree.dot o' k tt) →
       Weaves chosen (tree.dot o k s) n made next
   dot_woven o k s {n = n} w e = record {
-    is = e ∙ ap (λ o. woven_member chosen n o (quoted k) (tree.dot o k tt)) w.is;
+    is = e ∙ ap (λ o. woven_member chosen n o (string_of k) (tree.dot o k tt)) w.is;
     counted = (let c = w.counted in omega arith);
   }
 
@@ -111,10 +111,10 @@ module _ (chosen : Kinds) {S : Type 0} where
 
   -- calls
   pub callee_dot : (o : Tree S tree.expr) (k : Text) (s : S) {o' made : Expr} {n next : ℕ} →
-      Weaves chosen o (n + 3) o' next → made ≡ woven_method chosen n o' (quoted k) (tree.dot o' k tt) →
+      Weaves chosen o (n + 3) o' next → made ≡ woven_method chosen n o' (string_of k) (tree.dot o' k tt) →
       WeavesCallee chosen (tree.dot o k s) n made next
   callee_dot o k s {n = n} w e = record {
-    is = e ∙ ap (λ o. woven_method chosen n o (quoted k) (tree.dot o k tt)) w.is;
+    is = e ∙ ap (λ o. woven_method chosen n o (string_of k) (tree.dot o k tt)) w.is;
     counted = (let c = w.counted in omega arith);
   }
 
@@ -207,7 +207,7 @@ module _ (chosen : Kinds) {S : Type 0} where
   }
 
   pub to_name_woven : (x : Ident S) {made : Woven tree.target} {n : ℕ} →
-      made ≡ tree.to_name (unplaced x) → Weaves chosen (tree.to_name x) n made n
+      made ≡ tree.to_name (without_place x) → Weaves chosen (tree.to_name x) n made n
   to_name_woven x e = record { is = e; counted = omega arith }
 
   pub to_dot_woven : (o : Tree S tree.expr) (k : Text) (s : S) {o' : Expr} {made : Woven tree.target} {n next : ℕ} →
@@ -224,19 +224,19 @@ module _ (chosen : Kinds) {S : Type 0} where
 
   -- the properties of object literals
   pub value_woven : (k : Ident S) (v : Tree S tree.expr) {v' : Expr} {made : Woven tree.entry} {n next : ℕ} →
-      Weaves chosen v n v' next → made ≡ tree.value (unplaced k) v' →
+      Weaves chosen v n v' next → made ≡ tree.value (without_place k) v' →
       Weaves chosen (tree.value k v) n made next
   value_woven k v w e =
-      record { is = e ∙ ap (tree.value (unplaced k)) w.is; counted = w.counted }
+      record { is = e ∙ ap (tree.value (without_place k)) w.is; counted = w.counted }
 
   pub getter_woven : (k : Ident S) (f : Tree S tree.func) {f' : Woven tree.func} {made : Woven tree.entry}
-      {n next : ℕ} → Weaves chosen f n f' next → made ≡ tree.getter (unplaced k) f' →
+      {n next : ℕ} → Weaves chosen f n f' next → made ≡ tree.getter (without_place k) f' →
       Weaves chosen (tree.getter k f) n made next
   getter_woven k f w e =
-      record { is = e ∙ ap (tree.getter (unplaced k)) w.is; counted = w.counted }
+      record { is = e ∙ ap (tree.getter (without_place k)) w.is; counted = w.counted }
 
   pub setter_woven : (k : Ident S) (f : Tree S tree.func) {f' : Woven tree.func} {made : Woven tree.entry}
-      {n next : ℕ} → Weaves chosen f n f' next → made ≡ tree.setter (unplaced k) f' →
+      {n next : ℕ} → Weaves chosen f n f' next → made ≡ tree.setter (without_place k) f' →
       Weaves chosen (tree.setter k f) n made next
   setter_woven k f w e =
-      record { is = e ∙ ap (tree.setter (unplaced k)) w.is; counted = w.counted }
+      record { is = e ∙ ap (tree.setter (without_place k)) w.is; counted = w.counted }

@@ -15,7 +15,7 @@ use Rattle.jl_ast.specs.View.{view_optional, view_statement, view_statements}
 use Rattle.jl_ast.specs.View as views
 use Rattle.jl_op.specs.Chosen.{Kinds}
 use Rattle.jl_op.specs.Ids.{id_count, optional_id_count, optional_with_ids, with_ids}
-use Rattle.jl_simulation.specs.Weaving.{woven, woven_optional}
+use Rattle.jl_simulation.specs.Weaving.{weave, woven_optional}
 use Rattle.jl_weave.specs.inner.Bare.{bare_case, bare_declarator, bare_entry, bare_expression, bare_function}
 use Rattle.jl_weave.specs.inner.Bare.{bare_item, bare_optional, bare_statement}
 use Rattle.jl_weave.proofs.Weaves.{Weaves, WeavesIfPresent}
@@ -58,7 +58,7 @@ item_is None = refl
 item_is (Some b) = refl
 
 woven_item : (chosen : Kinds) (a : Option Expr) (n : ℕ) →
-    as_item (woven_optional chosen (optional_with_ids n (view_optional a))) ≡ woven chosen (with_ids n (view_item a))
+    as_item (woven_optional chosen (optional_with_ids n (view_optional a))) ≡ weave chosen (with_ids n (view_item a))
 woven_item chosen None n = refl
 woven_item chosen (Some a) n = refl
 

@@ -5,7 +5,7 @@ use Rattle.jl_ast.specs.Tree.{Forest, OptionalTree, Sort, Tree}
 use Rattle.jl_op.specs.Chosen.{Kinds}
 use Rattle.jl_op.specs.Ids.{forest_with_ids, id_count, optional_with_ids, with_ids}
 use Rattle.jl_simulation.specs.HookCalls.{Woven}
-use Rattle.jl_simulation.specs.Weaving.{woven, woven_forest, woven_optional}
+use Rattle.jl_simulation.specs.Weaving.{weave, woven_forest, woven_optional}
 use Rattle.jl_weave.proofs.Weaves.{Weaves, WeavesAll, WeavesIfPresent}
 
 pub ap2 : {A B C : Type 0} (F : A → B → C) {a a' : A} {b b' : B} → a ≡ a' → b ≡ b' → F a b ≡ F a' b'
@@ -37,8 +37,8 @@ module _ (chosen : Kinds) {S : Type 0} where
 
   -- a part, by the id at which it is known to begin
   pub part : {x : Sort} (t : Tree S x) {made : Woven x} {n next k : ℕ} → Weaves chosen t n made next → n ≡ k →
-      made ≡ woven chosen (with_ids k t)
-  part t w e = w.is ∙ ap (λ k. woven chosen (with_ids k t)) e
+      made ≡ weave chosen (with_ids k t)
+  part t w e = w.is ∙ ap (λ k. weave chosen (with_ids k t)) e
 
   pub parts : {x : Sort} (l : Forest S x) {made : Forest (Unit {0}) x} {n next k : ℕ} →
       WeavesAll chosen l n made next → n ≡ k → made ≡ woven_forest chosen (forest_with_ids k l)
@@ -52,6 +52,6 @@ module _ (chosen : Kinds) {S : Type 0} where
   pub placed : {x : Sort} {t u : Tree S x} {made : Woven x} {n next : ℕ} → t ≡ u → Weaves chosen u n made next →
       Weaves chosen t n made next
   placed {n = n} e w = record {
-    is = w.is ∙ ap (λ t. woven chosen (with_ids n t)) (sym e);
+    is = w.is ∙ ap (λ t. weave chosen (with_ids n t)) (sym e);
     counted = w.counted ∙ ap (λ t. n + id_count t) (sym e);
   }

@@ -7,15 +7,15 @@ use Rattle.jl_op.specs.Ids.{forest_id_count, handler_with_ids, ident_with_id, id
 use Rattle.jl_op.specs.Ids.{optional_id_count, optional_with_ids}
 use Rattle.jl_op.specs.declared.kind.OpKind.TheVariants as kind
 use Rattle.jl_simulation.specs.HookCalls.{hook_1, without_id, write, Expr, Stmt, Stmts, Woven}
-use Rattle.jl_simulation.specs.Weaving.{hooked_if, tested, woven, woven_optional, woven_test}
-use Rattle.jl_weave.specs.inner.Bare.{unplaced}
+use Rattle.jl_simulation.specs.Weaving.{hooked_if, hook_test, weave, woven_optional, woven_test}
+use Rattle.jl_weave.specs.inner.Bare.{without_place}
 use Rattle.jl_weave.specs.inner.Forms.{told_if_present}
 use Rattle.jl_weave.proofs.Weaves.{Weaves, WeavesAll, WeavesHandler, WeavesIfPresent, WeavesTest}
 use Rattle.jl_weave.proofs.Parts.{ap2, ap3, ap4, part, part_if_present, parts}
 
 -- a name without its place has none once it has an id
 pub label_is : {S : Type 0} (n : ℕ) (x : Option (Ident S)) →
-    option_map unplaced x
+    option_map without_place x
     ≡ option_map without_id (option_map (λ y. ident_with_id y n) x)
 label_is n None = refl
 label_is n (Some x) = refl
@@ -30,7 +30,7 @@ module _ (chosen : Kinds) where
 
   return_is : (n : ℕ) (v : OptionalTree ℕ tree.expr) →
       tree.return (told_if_present chosen kind.Return (hook_1 (codes "V") n) (woven_optional chosen v)) tt
-      ≡ woven chosen (tree.return v n)
+      ≡ weave chosen (tree.return v n)
   return_is n tree.absent = refl
   return_is n (tree.present v) = refl
 
@@ -69,9 +69,9 @@ module _ (chosen : Kinds) {S : Type 0} where
   -- loops
   pub do_while_woven : (l : Forest S tree.stmt) (v : Tree S tree.expr) (s : S) {l' : Stmts} {v' test : Expr}
       {made : Stmt} {n m next : ℕ} → WeavesAll chosen l (n + 1) l' m → Weaves chosen v m v' next →
-      test ≡ tested chosen n v' → made ≡ tree.do_while l' test tt → Weaves chosen (tree.do_while l v s) n made next
+      test ≡ hook_test chosen n v' → made ≡ tree.do_while l' test tt → Weaves chosen (tree.do_while l v s) n made next
   do_while_woven l v s {n = n} w u i e = record {
-    is = e ∙ ap2 (λ l v. tree.do_while l v tt) w.is (i ∙ ap (tested chosen n) (part chosen v u w.counted));
+    is = e ∙ ap2 (λ l v. tree.do_while l v tt) w.is (i ∙ ap (hook_test chosen n) (part chosen v u w.counted));
     counted = (let c = w.counted in let d = u.counted in omega arith);
   }
 
@@ -105,23 +105,23 @@ module _ (chosen : Kinds) {S : Type 0} where
   pub for_in_woven : (is_var : Bool) (x : Ident S) (o : Tree S tree.expr) (l : Forest S tree.stmt) (s : S)
       {o' object : Expr} {l' : Stmts} {made : Stmt} {n m next : ℕ} → Weaves chosen o (n + 1) o' m →
       object ≡ hooked_if chosen kind.ForIn (hook_1 (codes "O") n) o' → WeavesAll chosen l m l' next →
-      made ≡ tree.for_in is_var (unplaced x) object l' tt →
+      made ≡ tree.for_in is_var (without_place x) object l' tt →
       Weaves chosen (tree.for_in is_var x o l s) n made next
   for_in_woven is_var x o l s {n = n} w i u e = record {
-    is = e ∙ ap2 (λ o l. tree.for_in is_var (unplaced x) o l tt)
+    is = e ∙ ap2 (λ o l. tree.for_in is_var (without_place x) o l tt)
         (i ∙ ap (hooked_if chosen kind.ForIn (hook_1 (codes "O") n)) w.is) (parts chosen l u w.counted);
     counted = (let c = w.counted in let d = u.counted in omega arith);
   }
 
   -- jumps
   pub continue_woven : (x : Option (Ident S)) (s : S) {made : Stmt} {n : ℕ} →
-      made ≡ tree.continue (option_map unplaced x) tt →
+      made ≡ tree.continue (option_map without_place x) tt →
       Weaves chosen (tree.continue x s) n made n
   continue_woven x s {n = n} e =
       record { is = e ∙ ap (λ x. tree.continue x tt) (label_is n x); counted = omega arith }
 
   pub break_woven : (x : Option (Ident S)) (s : S) {made : Stmt} {n : ℕ} →
-      made ≡ tree.break (option_map unplaced x) tt →
+      made ≡ tree.break (option_map without_place x) tt →
       Weaves chosen (tree.break x s) n made n
   break_woven x s {n = n} e =
       record { is = e ∙ ap (λ x. tree.break x tt) (label_is n x); counted = omega arith }
@@ -146,10 +146,10 @@ module _ (chosen : Kinds) {S : Type 0} where
   }
 
   pub labelled_woven : (x : Ident S) (t : Tree S tree.stmt) (s : S) {t' made : Stmt} {n next : ℕ} →
-      Weaves chosen t n t' next → made ≡ tree.labelled (unplaced x) t' tt →
+      Weaves chosen t n t' next → made ≡ tree.labelled (without_place x) t' tt →
       Weaves chosen (tree.labelled x t s) n made next
   labelled_woven x t s w e = record {
-    is = e ∙ ap (λ t. tree.labelled (unplaced x) t tt) w.is;
+    is = e ∙ ap (λ t. tree.labelled (without_place x) t tt) w.is;
     counted = w.counted;
   }
 
@@ -191,9 +191,9 @@ module _ (chosen : Kinds) {S : Type 0} where
   }
 
   declarator_is : (n : ℕ) (x : Ident S) (v : OptionalTree ℕ tree.expr) →
-      tree.declarator (unplaced x)
+      tree.declarator (without_place x)
       (told_if_present chosen kind.Write (write n x.text) (woven_optional chosen v))
-      ≡ woven chosen (tree.declarator (ident_with_id x n) v)
+      ≡ weave chosen (tree.declarator (ident_with_id x n) v)
   declarator_is n x tree.absent = refl
   declarator_is n x (tree.present v) = refl
 
@@ -201,10 +201,10 @@ module _ (chosen : Kinds) {S : Type 0} where
       {v' value : OptionalTree (Unit {0}) tree.expr} {made : Woven tree.decl} {n m next : ℕ} →
       m ≡ n + one_if_present v → WeavesIfPresent chosen v m v' next →
       value ≡ told_if_present chosen kind.Write (write n x.text) v' →
-      made ≡ tree.declarator (unplaced x) value →
+      made ≡ tree.declarator (without_place x) value →
       Weaves chosen (tree.declarator x v) n made next
   declarator_woven x v {n = n} f w i e = record {
-    is = e ∙ ap (λ v. tree.declarator (unplaced x) v)
+    is = e ∙ ap (λ v. tree.declarator (without_place x) v)
         (i ∙ ap (told_if_present chosen kind.Write (write n x.text)) (part_if_present chosen v w f))
         ∙ declarator_is n x (optional_with_ids (n + one_if_present v) v);
     counted = (let c = w.counted in omega arith);

@@ -8,9 +8,9 @@ use Rattle.jl_ast.specs.Tree.{Forest, Sort, Tree}
 use Rattle.jl_op.specs.Chosen.{Kinds}
 use Rattle.jl_op.specs.Ids.{forest_id_count, forest_with_ids, id_count}
 use Rattle.jl_simulation.specs.HookCalls.{Woven}
-use Rattle.jl_simulation.specs.Weaving.{woven, woven_forest}
+use Rattle.jl_simulation.specs.Weaving.{weave, woven_forest}
 use Rattle.jl_weave.specs.inner.Bare.{bare_all}
-use Rattle.jl_weave.specs.inner.Forms.{joined}
+use Rattle.jl_weave.specs.inner.Forms.{append_forest}
 use Rattle.jl_weave.specs.inner.Woven.{HasIds}
 use Rattle.jl_weave.proofs.Weaves.{Weaves}
 use Rattle.jl_weave.proofs.Parts.{ap2}
@@ -26,16 +26,16 @@ pub record Seen (A : Type 0) (x : Sort) : Type 0 where
 -- the first k items of the list are woven and stand in `made`, after others, and the rest takes the ids from `next` on
 pub record Halfway (chosen : Kinds) {A : Type 0} {x : Sort} (seen : Seen A x) (first : Forest (Unit {0}) x) (l : List A)
     (made : List A) (k from next : ℕ) : Type 0 where
-  pub so_far : joined (bare_all seen.bare made) (woven_forest chosen (forest_with_ids next (seen.all (drop k l))))
-      ≡ joined first (woven_forest chosen (forest_with_ids from (seen.all l)))
+  pub so_far : append_forest (bare_all seen.bare made) (woven_forest chosen (forest_with_ids next (seen.all (drop k l))))
+      ≡ append_forest first (woven_forest chosen (forest_with_ids from (seen.all l)))
   pub counted : next + forest_id_count (seen.all (drop k l)) ≡ from + forest_id_count (seen.all l)
 
 joined_one : {A : Type 0} {x : Sort} (bare : A → Woven x) (l : List A) (b : A) (r : Forest (Unit {0}) x) →
-    joined (bare_all bare (l ++ b ∷ [])) r ≡ joined (bare_all bare l) (tree.more (bare b) r)
+    append_forest (bare_all bare (l ++ b ∷ [])) r ≡ append_forest (bare_all bare l) (tree.more (bare b) r)
 joined_one bare [] b r = refl
 joined_one bare (a ∷ l) b r = ap (tree.more (bare a)) (joined_one bare l b r)
 
-joined_end : {x : Sort} (l : Forest (Unit {0}) x) → joined l tree.end ≡ l
+joined_end : {x : Sort} (l : Forest (Unit {0}) x) → append_forest l tree.end ≡ l
 joined_end tree.end = refl
 joined_end (tree.more t l) = ap (tree.more t) (joined_end l)
 
@@ -43,7 +43,7 @@ module _ (chosen : Kinds) {A : Type 0} {x : Sort} (seen : Seen A x) where
   pub at_first : (first : Forest (Unit {0}) x) (l made : List A) (from : ℕ) → bare_all seen.bare made ≡ first →
       Halfway chosen seen first l made 0 from from
   at_first first l made from e = record {
-    so_far = ap (λ f. joined f (woven_forest chosen (forest_with_ids from (seen.all l)))) e;
+    so_far = ap (λ f. append_forest f (woven_forest chosen (forest_with_ids from (seen.all l)))) e;
     counted = refl;
   }
 
@@ -73,19 +73,19 @@ module _ (chosen : Kinds) {A : Type 0} {x : Sort} (seen : Seen A x) where
       ∙ ap2 (λ t n. tree.more t (woven_forest chosen (forest_with_ids n rest))) (sym u.is) (sym u.counted) in
       let p = ap forest_id_count s in let c = w.counted in let d = u.counted in
       record {
-        so_far = ap (λ m. joined (bare_all seen.bare m) (woven_forest chosen (forest_with_ids later rest))) m
-            ∙ joined_one seen.bare made b _ ∙ ap (joined (bare_all seen.bare made)) (sym unrolled) ∙ w.so_far;
+        so_far = ap (λ m. append_forest (bare_all seen.bare m) (woven_forest chosen (forest_with_ids later rest))) m
+            ∙ joined_one seen.bare made b _ ∙ ap (append_forest (bare_all seen.bare made)) (sym unrolled) ∙ w.so_far;
         counted = omega arith;
       }
 
   -- all items are woven
   pub all_woven : (first : Forest (Unit {0}) x) (l made : List A) (k from next : ℕ) →
       Halfway chosen seen first l made k from next → k ≡ length l →
-      bare_all seen.bare made ≡ joined first (woven_forest chosen (forest_with_ids from (seen.all l)))
+      bare_all seen.bare made ≡ append_forest first (woven_forest chosen (forest_with_ids from (seen.all l)))
   all_woven first l made k from next w e =
       let none : seen.all (drop k l) ≡ tree.end = ap seen.all (drop_all k l (omega arith)) ∙ seen.none in
       sym (joined_end (bare_all seen.bare made))
-      ∙ sym (ap (λ r. joined (bare_all seen.bare made) (woven_forest chosen (forest_with_ids next r))) none)
+      ∙ sym (ap (λ r. append_forest (bare_all seen.bare made) (woven_forest chosen (forest_with_ids next r))) none)
       ∙ w.so_far
 
   pub all_counted : (first : Forest (Unit {0}) x) (l made : List A) (k from next : ℕ) →

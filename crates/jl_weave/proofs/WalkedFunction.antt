@@ -9,18 +9,18 @@ use Rattle.jl_ast.specs.declared.tree.Stmt.{Stmt}
 use Rattle.jl_ast.proofs.Views.{body_is, function_is}
 use Rattle.jl_op.specs.Chosen.{Kinds}
 use Rattle.jl_op.specs.Ids.{forest_id_count}
-use Rattle.jl_weave.specs.inner.Bare.{bare_function, bare_functions, bare_ident, bare_statements, unplaced}
+use Rattle.jl_weave.specs.inner.Bare.{bare_function, bare_functions, bare_ident, bare_statements, without_place}
 use Rattle.jl_weave.specs.inner.Forms.{entry_form, left_form}
 use Rattle.jl_weave.specs.inner.Woven.{woven_after_at, woven_all_at}
 use Rattle.jl_weave.proofs.Bodies.{function_woven}
 use Rattle.jl_weave.proofs.Parts.{all_from, ap2, placed}
 use Rattle.jl_weave.proofs.Weaves.{Weaves}
 
-name_unplaced : (x : Option Ident) → option_map bare_ident x ≡ option_map unplaced (option_map view_ident x)
+name_unplaced : (x : Option Ident) → option_map bare_ident x ≡ option_map without_place (option_map view_ident x)
 name_unplaced None = refl
 name_unplaced (Some x) = refl
 
-names_unplaced : (l : List Ident) → map bare_ident l ≡ map unplaced (map view_ident l)
+names_unplaced : (l : List Ident) → map bare_ident l ≡ map without_place (map view_ident l)
 names_unplaced [] = refl
 names_unplaced (x ∷ l) = ap (λ r. bare_ident x ∷ r) (names_unplaced l)
 

@@ -34,37 +34,37 @@ pub fn weave_expression(w: &Weaver, e: &Expr, ids: &mut Ids) -> Result<Expr, NoM
         ExprKind::Name(x) => w.name(ids.take(1), x, span),
         ExprKind::Num(n) => {
             let e = nodes::number(*n, span);
-            w.told(OpKind::Literal, "T", ids.take(1), e, span)
+            w.hook_value(OpKind::Literal, "T", ids.take(1), e, span)
         }
         ExprKind::Str(text) => {
             let e = nodes::string(text.share(w.alloc)?, span);
-            w.told(OpKind::Literal, "T", ids.take(1), e, span)
+            w.hook_value(OpKind::Literal, "T", ids.take(1), e, span)
         }
         ExprKind::Bool(b) => {
             let e = nodes::boolean(*b, span);
-            w.told(OpKind::Literal, "T", ids.take(1), e, span)
+            w.hook_value(OpKind::Literal, "T", ids.take(1), e, span)
         }
         ExprKind::Null => {
             let e = nodes::null(span);
-            w.told(OpKind::Literal, "T", ids.take(1), e, span)
+            w.hook_value(OpKind::Literal, "T", ids.take(1), e, span)
         }
         ExprKind::Array(items) => {
             let id = ids.take(1);
             let items = weave_items(w, items.items(), ids)?;
             let e = nodes::array(items, span);
-            w.told(OpKind::ArrayLiteral, "T", id, e, span)
+            w.hook_value(OpKind::ArrayLiteral, "T", id, e, span)
         }
         ExprKind::Object(entries) => {
             let id = ids.take(1);
             let entries = weave_entries(w, entries.items(), ids)?;
             let e = nodes::object(entries, span);
-            w.told(OpKind::ObjectLiteral, "T", id, e, span)
+            w.hook_value(OpKind::ObjectLiteral, "T", id, e, span)
         }
         ExprKind::Function(f) => {
             let id = ids.take(1);
             let f = weave_function(w, f, ids)?;
             let e = nodes::function_expression(w.alloc, f, span)?;
-            w.told(OpKind::FunctionLiteral, "T", id, e, span)
+            w.hook_value(OpKind::FunctionLiteral, "T", id, e, span)
         }
         ExprKind::Dot(o, k) => {
             let id = ids.take(1);
@@ -141,7 +141,7 @@ pub fn weave_test(w: &Weaver, e: &Expr, ids: &mut Ids) -> Result<Expr, NoMemory>
     let id = ids.take(1);
     let span = e.span;
     let e = weave_expression(w, e, ids)?;
-    w.told(OpKind::Conditional, "C", id, e, span)
+    w.hook_value(OpKind::Conditional, "C", id, e, span)
 }
 
 #[cycle(weaving)]
@@ -313,7 +313,7 @@ pub fn weave_function(w: &Weaver, f: &Function, ids: &mut Ids) -> Result<Functio
     let functions = weave_functions(w, f.body.functions.items(), ids)?;
     let first = w.entry(id, f.span)?;
     let statements = weave_statements(w, f.body.statements.items(), first, ids)?;
-    let statements = w.left(id, statements, f.span)?;
+    let statements = w.with_leave_hook(id, statements, f.span)?;
     Ok(nodes::function(
         f.number,
         f.body.strict,

@@ -37,7 +37,12 @@ impl Weaver {
     }
 
     /// The body of a function, which tells in the end that it is left, however it ends.
-    pub fn left(&self, id: u32, statements: List<Stmt>, span: Span) -> Result<List<Stmt>, NoMemory>
+    pub fn with_leave_hook(
+        &self,
+        id: u32,
+        statements: List<Stmt>,
+        span: Span,
+    ) -> Result<List<Stmt>, NoMemory>
         requires { HasIds id 2 }
         ensures { IfOk result (λ made. bare_statements made
             ≡ left_form (chosen_of self.now) id (bare_statements statements)) }
@@ -71,7 +76,12 @@ impl Weaver {
 
     /// A program, which tells in the end that it ends.
     #[tactic(auto, using(crate::proofs::ListViews::statements_and_last))]
-    pub fn ended(&self, id: u32, statements: List<Stmt>, span: Span) -> Result<List<Stmt>, NoMemory>
+    pub fn with_end_hook(
+        &self,
+        id: u32,
+        statements: List<Stmt>,
+        span: Span,
+    ) -> Result<List<Stmt>, NoMemory>
         requires { HasIds id 2 }
         ensures { IfOk result (λ made. bare_statements made
             ≡ ended_form (chosen_of self.now) id (bare_statements statements)) }
@@ -86,7 +96,7 @@ impl Weaver {
     }
 
     /// What stands first in the block of a `catch`.
-    pub fn caught(&self, id: u32, x: &Text, span: Span) -> Result<List<Stmt>, NoMemory>
+    pub fn catch_hook(&self, id: u32, x: &Text, span: Span) -> Result<List<Stmt>, NoMemory>
         ensures { IfOk result (λ made. bare_statements made ≡ caught_form (chosen_of self.now) id x.now) }
     {
         if !self.tells(OpKind::Catch) {

@@ -47,7 +47,7 @@ pub fn weave(alloc: Global, program: &Program, kinds: KindSet) -> Result<Program
     let functions = weave_functions(&w, program.body.functions.items(), &mut ids)?;
     let first = w.beginning(1, program.span)?;
     let statements = weave_statements(&w, program.body.statements.items(), first, &mut ids)?;
-    let statements = w.ended(1, statements, program.span)?;
+    let statements = w.with_end_hook(1, statements, program.span)?;
     Ok(Program {
         body: Body {
             strict: program.body.strict,

@@ -37,7 +37,7 @@ pub fn weave_do_while(
     let body = weave_block(w, body, ids)?;
     let place = test.span;
     let test = weave_expression(w, test, ids)?;
-    let test = w.told(OpKind::Conditional, "C", id, test, place)?;
+    let test = w.hook_value(OpKind::Conditional, "C", id, test, place)?;
     Ok(nodes::do_while(body, test, s.span))
 }
 
@@ -116,7 +116,7 @@ pub fn weave_for_in(
     let id = ids.take(1);
     let name = copy_of(w.alloc, name)?;
     let object = weave_expression(w, object, ids)?;
-    let object = w.told(OpKind::ForIn, "O", id, object, s.span)?;
+    let object = w.hook_value(OpKind::ForIn, "O", id, object, s.span)?;
     let body = weave_block(w, body, ids)?;
     Ok(nodes::for_in_loop(is_var, name, object, body, s.span))
 }

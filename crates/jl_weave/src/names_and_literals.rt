@@ -26,7 +26,7 @@ impl Weaver {
     }
 
     /// A value, which the hook of this name is handed if operations of this kind are told of.
-    pub fn told(
+    pub fn hook_value(
         &self,
         kind: OpKind,
         hook: &str,
@@ -57,7 +57,7 @@ impl Weaver {
             ≡ told_if_present (chosen_of self.now) kind (hook_1 hook.now id) (bare_optional e)) }
     {
         match e {
-            Some(e) => Ok(Some(self.told(kind, hook, id, e, span)?)),
+            Some(e) => Ok(Some(self.hook_value(kind, hook, id, e, span)?)),
             None => Ok(None),
         }
     }
@@ -74,13 +74,13 @@ impl Weaver {
             ≡ told_if_present (chosen_of self.now) OpKind.Write (write id x.now) (bare_optional e)) }
     {
         match e {
-            Some(e) => Ok(Some(self.written(id, x, e, span)?)),
+            Some(e) => Ok(Some(self.written_value(id, x, e, span)?)),
             None => Ok(None),
         }
     }
 
     /// A value that is written to a variable.
-    fn written(&self, id: u32, x: &Text, e: Expr, span: Span) -> Result<Expr, NoMemory>
+    fn written_value(&self, id: u32, x: &Text, e: Expr, span: Span) -> Result<Expr, NoMemory>
         ensures { IfOk result (λ made. bare_expression made
             ≡ written_form (chosen_of self.now) id x.now (bare_expression e)) }
     {

@@ -144,7 +144,12 @@ pub fn return_statement(e: Option<Expr>, span: Span) -> Stmt
 }
 
 /// A statement with a label (12.12).
-pub fn labelled(alloc: Global, label: Ident, s: Stmt, span: Span) -> Result<Stmt, NoMemory>
+pub fn labelled_statement(
+    alloc: Global,
+    label: Ident,
+    s: Stmt,
+    span: Span,
+) -> Result<Stmt, NoMemory>
     ensures { IfOk result (λ made. bare_statement made ≡ tree.labelled (bare_ident label) (bare_statement s) tt) }
 {
     let kind = StmtKind::Labelled(label, Box::new(alloc, s)?);

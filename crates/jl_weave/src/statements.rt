@@ -127,7 +127,7 @@ fn weave_labelled(
 {
     let label = copy_of(w.alloc, label)?;
     let body = weave_statement(w, body, ids)?;
-    nodes::labelled(w.alloc, label, body, s.span)
+    nodes::labelled_statement(w.alloc, label, body, s.span)
 }
 
 /// `switch` (12.11).
@@ -161,7 +161,7 @@ fn weave_throw(w: &Weaver, s: &Stmt, e: &Expr, ids: &mut Ids) -> Result<Stmt, No
 {
     let id = ids.take(1);
     let e = weave_expression(w, e, ids)?;
-    let e = w.told(OpKind::Throw, "K", id, e, s.span)?;
+    let e = w.hook_value(OpKind::Throw, "K", id, e, s.span)?;
     Ok(nodes::throw_statement(e, s.span))
 }
 
@@ -221,7 +221,7 @@ fn weave_catch(
 {
     match catch {
         Some((x, body)) => {
-            let first = w.caught(id, &x.text, x.span)?;
+            let first = w.catch_hook(id, &x.text, x.span)?;
             let body = weave_statements(w, body.items(), first, ids)?;
             Ok(Some((copy_of(w.alloc, x)?, body)))
         }

@@ -62,7 +62,7 @@ impl Weaver {
             ≡ update_form (chosen_of self.now) id up prefix (bare_target target)) }
     {
         if self.tells_computing(&target, OpKind::Unary) {
-            let value = updated(self.alloc, id, up, target, span)?;
+            let value = updated_value(self.alloc, id, up, target, span)?;
             before_update(self.alloc, up, prefix, value, span)
         } else {
             nodes::update(self.alloc, up, prefix, target, span)
@@ -83,7 +83,7 @@ impl Weaver {
             ≡ assignment_form (chosen_of self.now) id op (bare_target target) (bare_expression e)) }
     {
         if self.tells_assigning(op, &target) {
-            assigned(self.alloc, id, op, target, e, span)
+            hooked_assignment(self.alloc, id, op, target, e, span)
         } else {
             nodes::assign(self.alloc, op, target, e, span)
         }
@@ -101,7 +101,13 @@ pub fn assignment_id_count(op: Option<BinOp>) -> u32
 }
 
 /// The new value of `++` or `--`, by hooks.
-fn updated(alloc: Global, id: u32, up: bool, target: Target, span: Span) -> Result<Expr, NoMemory>
+fn updated_value(
+    alloc: Global,
+    id: u32,
+    up: bool,
+    target: Target,
+    span: Span,
+) -> Result<Expr, NoMemory>
     requires { HasIds id 3 }
     ensures { IfOk result (λ made. bare_expression made ≡ updated_form id up (bare_target target)) }
 {
@@ -117,7 +123,7 @@ fn updated(alloc: Global, id: u32, up: bool, target: Target, span: Span) -> Resu
 }
 
 /// An assignment, by hooks.
-fn assigned(
+fn hooked_assignment(
     alloc: Global,
     id: u32,
     op: Option<BinOp>,

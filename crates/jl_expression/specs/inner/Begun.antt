@@ -22,16 +22,16 @@ abbrev pub after_step : {A : Type 0} → Part A → Part A
 after_step (Step p) = p
 after_step p = p
 
-abbrev pub begun : FunctionTable → Expr → Context → Part (Answer Value)
-begun table e c = after_step (evaluate table e c)
+abbrev pub begin : FunctionTable → Expr → Context → Part (Answer Value)
+begin table e c = after_step (evaluate table e c)
 
 -- the arguments of a call
 abbrev pub arguments : FunctionTable → Exprs → Context → Arguments
 arguments table l c = λ literals. evaluate_all table literals [] l c
 
 -- a call
-abbrev pub called : FunctionTable → (callee : Expr) → Exprs → Context → Part (Answer Value)
-called table f l c = evaluate_call table f l (evaluate table f c) (arguments table l c) 0 c
+abbrev pub call_expression : FunctionTable → (callee : Expr) → Exprs → Context → Part (Answer Value)
+call_expression table f l c = evaluate_call table f l (evaluate table f c) (arguments table l c) 0 c
 
 -- a pair of calls of a hook after the step with which it begins
 abbrev pub pair_begun : FunctionTable → Context → Option (HookCall Opener) → (first : Arguments)

@@ -7,5 +7,5 @@ abbrev pub leading_number : (radix n : ℕ) → List ℕ → ℕ
 leading_number radix n units = whole_from radix n (digits_in radix units)
 
 -- what was found is this number, which is at most the largest, or nothing was found and it is greater
-abbrev pub IsWithin : (largest n : ℕ) → Option ℕ → Type 0
-IsWithin largest n found = MatchOption found (largest < n) (λ size. (size ≡ n) × (size ≤ largest))
+abbrev pub IsWithin : (most n : ℕ) → Option ℕ → Type 0
+IsWithin most n found = MatchOption found (most < n) (λ size. (size ≡ n) × (size ≤ most))

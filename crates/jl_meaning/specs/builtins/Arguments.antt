@@ -18,8 +18,8 @@ abbrev pub argument : Call → ℕ → Value
 argument c i = slice_index_or c.args i value.Undefined
 
 -- a builtin that is there, and isn't built
-abbrev pub unsupported : (row : ℕ) → Call → Algorithm Value
-unsupported row c = Fail (Unsupported row)
+abbrev pub fail_row : (row : ℕ) → Call → Algorithm Value
+fail_row row c = Fail (Unsupported row)
 
 -- the argument has to be an object
 abbrev pub need_object : Value → Algorithm ObjId

@@ -41,8 +41,8 @@ asked_if w k (Some v) = do
   answer ← called_with w k v
   give (Some answer)
 
-abbrev pub asked : Walk → ℕ → Algorithm (Option Value)
-asked w k = do
+abbrev pub answer_at : Walk → ℕ → Algorithm (Option Value)
+answer_at w k = do
   v ← element w.object k
   asked_if w k v
 
@@ -53,7 +53,7 @@ ends_at wanted (Some v) = if (if wanted then truth_of v else not (truth_of v)) t
 
 abbrev pub ask_turn : (wanted : Bool) → Walk → ℕ → Algorithm (Option (Unit {0}))
 ask_turn wanted w k = do
-  answer ← asked w k
+  answer ← answer_at w k
   give (ends_at wanted answer)
 
 -- whether an element is there for which the function gives what is so, or what isn't
@@ -78,7 +78,7 @@ array_some c = do
 
 abbrev pub for_each_turn : Walk → ℕ → Unit {0} → Algorithm (Unit {0})
 for_each_turn w k _ = do
-  _ ← asked w k
+  _ ← answer_at w k
   give tt
 
 -- forEach (15.4.4.18)
@@ -90,7 +90,7 @@ array_for_each c = do
 
 abbrev pub map_turn : Walk → (array : ObjId) → ℕ → Unit {0} → Algorithm (Unit {0})
 map_turn w a k _ = do
-  answer ← asked w k
+  answer ← answer_at w k
   add_if a k answer
 
 -- map (15.4.4.19)
@@ -128,17 +128,17 @@ array_filter c = do
   give (value.Obj a)
 
 -- what there is so far, with an element; the first one is there without a call where no value was given to begin with
-abbrev pub combined : Walk → ℕ → Option Value → Option Value → Algorithm (Option Value)
-combined w k so_far None = give so_far
-combined w k None (Some v) = give (Some v)
-combined w k (Some so_far) (Some v) = do
+abbrev pub combine : Walk → ℕ → Option Value → Option Value → Algorithm (Option Value)
+combine w k so_far None = give so_far
+combine w k None (Some v) = give (Some v)
+combine w k (Some so_far) (Some v) = do
   next ← call w.function value.Undefined (so_far ∷ v ∷ whole k ∷ value.Obj w.object ∷ [])
   give (Some next)
 
 abbrev pub reduce_turn : Walk → ℕ → Option Value → Algorithm (Option Value)
 reduce_turn w k so_far = do
   v ← element w.object k
-  combined w k so_far v
+  combine w k so_far v
 
 -- no value was given to begin with, and no element was there
 abbrev pub give_combined : Option Value → Algorithm Value

@@ -10,7 +10,7 @@ use Rattle.jl_effects.specs.Effects.{Fail}
 use Rattle.jl_meaning.specs.Conversions.{to_integer, to_object, to_string}
 use Rattle.jl_meaning.specs.Parts.{give, look, ◌>>=◌, Algorithm, Call, Unsupported}
 use Rattle.jl_meaning.specs.builtins.Arguments.{argument}
-use Rattle.jl_meaning.specs.builtins.Elements.{clamped, copy, delete_index, element, get_index, get_length}
+use Rattle.jl_meaning.specs.builtins.Elements.{clamp, copy, delete_index, element, get_index, get_length}
 use Rattle.jl_meaning.specs.builtins.Elements.{give_length, has_index, move_element, put_all, put_index, put_length}
 use Rattle.jl_meaning.specs.builtins.Elements.{relative_index}
 use Rattle.jl_meaning.specs.builtins.Turns.{downward, upward}
@@ -174,7 +174,7 @@ array_splice c = do
   len ← get_length o
   start ← to_integer (argument c 0)
   count ← to_integer (argument c 1)
-  splice_at o a len (relative_index start len) (clamped count (len - relative_index start len)) (drop 2 c.args)
+  splice_at o a len (relative_index start len) (clamp count (len - relative_index start len)) (drop 2 c.args)
 
 -- unshift (15.4.4.13)
 abbrev pub array_unshift : Call → Algorithm Value

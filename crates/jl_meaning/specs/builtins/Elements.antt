@@ -21,9 +21,9 @@ use Rattle.jl_meaning.specs.builtins.Turns.{upward}
 use Rattle.jl_meaning.specs.forms.Literals.{index_name, new_array}
 
 -- an integer as an index: min(max(z, 0), length)
-abbrev pub clamped : ℤ → (length : ℕ) → ℕ
-clamped (pos n) length = min n length
-clamped (negsuc n) length = 0
+abbrev pub clamp : ℤ → (length : ℕ) → ℕ
+clamp (pos n) length = min n length
+clamp (negsuc n) length = 0
 
 -- the index that an integer says, counted from the end where it is below zero: max(length + z, 0) or min(z, length)
 abbrev pub relative_index : ℤ → (length : ℕ) → ℕ

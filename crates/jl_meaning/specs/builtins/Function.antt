@@ -23,7 +23,7 @@ use Rattle.jl_meaning.specs.Intrinsics.{function_prototype}
 use Rattle.jl_meaning.specs.Parts.{add_property, call, give, look, new_object, ◌>>=◌, Algorithm, Call, CodeFromText}
 use Rattle.jl_meaning.specs.Realm.{last_part}
 use Rattle.jl_meaning.specs.builtins.Arguments.{argument, give_object, give_string, need_function, need_object}
-use Rattle.jl_meaning.specs.builtins.Arguments.{need_receiver, unsupported}
+use Rattle.jl_meaning.specs.builtins.Arguments.{need_receiver, fail_row}
 use Rattle.jl_meaning.specs.builtins.Elements.{get_index, get_length}
 use Rattle.jl_meaning.specs.builtins.Turns.{upward}
 
@@ -124,4 +124,4 @@ abbrev pub function_rows : FunctionNames → List (Call → Algorithm Value)
 function_rows names =
     function_constructor ∷ function_prototype_call ∷ function_to_string names ∷ function_apply ∷ function_call
     ∷ function_bind
-    ∷ unsupported bound_row ∷ throw_forbidden ∷ []
+    ∷ fail_row bound_row ∷ throw_forbidden ∷ []

@@ -9,7 +9,7 @@ use Rattle.jl_text.specs.Encoding.{bytes_of}
 use Rattle.jl_token.specs.Characters.{is_digit}
 use Rattle.jl_value.specs.declared.value.Value.{Value}
 use Rattle.jl_value.specs.declared.value.Value.TheVariants as value
-use Rattle.jl_conv.specs.Numerals.{is_hexadecimal_letter, signed, without_front}
+use Rattle.jl_conv.specs.Numerals.{is_hexadecimal_letter, with_sign, without_front}
 use Rattle.jl_effects.specs.Effects.{Print, Step}
 use Rattle.jl_meaning.specs.Conversions.{to_number, to_string}
 use Rattle.jl_meaning.specs.Operators.{give_number}
@@ -58,7 +58,7 @@ whole_from radix n (d ∷ ds) = whole_from radix (n * radix + d) ds
 -- steps 12 to 15: no digits write NaN
 abbrev pub number_of_digits : (negative : Bool) → (radix : ℕ) → (digits : List ℕ) → Option Number
 number_of_digits negative radix [] = Some None
-number_of_digits negative radix (d ∷ ds) = number_of (signed negative (whole_from radix 0 (d ∷ ds)))
+number_of_digits negative radix (d ∷ ds) = number_of (with_sign negative (whole_from radix 0 (d ∷ ds)))
 
 abbrev pub parse_in_radix : (negative : Bool) → (radix : ℕ) → List ℕ → Option Number
 parse_in_radix negative radix units = number_of_digits negative radix (digits_in radix units)

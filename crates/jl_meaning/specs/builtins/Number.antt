@@ -15,7 +15,7 @@ use Rattle.jl_meaning.specs.Conversions.{to_integer, to_number}
 use Rattle.jl_meaning.specs.Errors.{throw_error}
 use Rattle.jl_meaning.specs.Intrinsics.{number_prototype}
 use Rattle.jl_meaning.specs.Parts.{give, look, ◌>>=◌, Algorithm, Call}
-use Rattle.jl_meaning.specs.builtins.Arguments.{argument, give_string, need_receiver, unless_undefined, unsupported}
+use Rattle.jl_meaning.specs.builtins.Arguments.{argument, give_string, need_receiver, unless_undefined, fail_row}
 use Rattle.jl_meaning.specs.builtins.Arguments.{value_or_object}
 
 -- the number of an argument, where there is one
@@ -66,5 +66,5 @@ number_value_of c = do
 -- in the order of the table
 abbrev pub number_rows : List (Call → Algorithm Value)
 number_rows =
-    number_constructor ∷ number_to_string ∷ number_value_of ∷ unsupported 80 ∷ unsupported 81 ∷ unsupported 82
-    ∷ unsupported 83 ∷ []
+    number_constructor ∷ number_to_string ∷ number_value_of ∷ fail_row 80 ∷ fail_row 81 ∷ fail_row 82
+    ∷ fail_row 83 ∷ []

@@ -23,7 +23,7 @@ use Rattle.jl_meaning.specs.Properties.{get_own_property}
 use Rattle.jl_meaning.specs.Relations.{give_truth, is_prototype_of}
 use Rattle.jl_meaning.specs.Store.{Store}
 use Rattle.jl_meaning.specs.builtins.Arguments.{argument, define_or_throw, give_object, give_string, need_object}
-use Rattle.jl_meaning.specs.builtins.Arguments.{unless_undefined, unsupported}
+use Rattle.jl_meaning.specs.builtins.Arguments.{unless_undefined, fail_row}
 use Rattle.jl_meaning.specs.builtins.Descriptors.{change_of, enumerable_names, from_property_descriptor}
 use Rattle.jl_meaning.specs.builtins.Descriptors.{has_enumerable, own_names, to_property_descriptor}
 use Rattle.jl_meaning.specs.builtins.Elements.{array_in_turns}
@@ -272,5 +272,5 @@ object_rows =
     ∷ object_create ∷ object_define_property
     ∷ object_define_properties ∷ object_seal ∷ object_freeze ∷ object_prevent_extensions ∷ object_is_sealed
     ∷ object_is_frozen ∷ object_is_extensible ∷ object_keys
-    ∷ object_to_string ∷ unsupported 15 ∷ object_value_of ∷ object_has_own_property ∷ object_is_prototype_of
+    ∷ object_to_string ∷ fail_row 15 ∷ object_value_of ∷ object_has_own_property ∷ object_is_prototype_of
     ∷ object_property_is_enumerable ∷ []

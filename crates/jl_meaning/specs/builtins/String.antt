@@ -11,7 +11,7 @@ use Rattle.jl_value.specs.declared.object.Class.{Class}
 use Rattle.jl_value.specs.declared.object.Class.TheVariants as class
 use Rattle.jl_value.specs.declared.value.Value.{Value}
 use Rattle.jl_value.specs.declared.value.Value.TheVariants as value
-use Rattle.jl_conv.specs.Numerals.{trimmed}
+use Rattle.jl_conv.specs.Numerals.{trim}
 use Rattle.jl_heap.specs.Objects.{object_at, Objects}
 use Rattle.jl_heap.specs.declared.inner.Inner.{Inner}
 use Rattle.jl_heap.specs.declared.inner.Inner.TheVariants as inner
@@ -21,8 +21,8 @@ use Rattle.jl_meaning.specs.Errors.{string_within}
 use Rattle.jl_meaning.specs.FunctionObjects.{whole}
 use Rattle.jl_meaning.specs.Parts.{give, look, ◌>>=◌, Algorithm, Call, Unsupported}
 use Rattle.jl_meaning.specs.builtins.Arguments.{argument, give_object, give_string, need_receiver, string_of_this}
-use Rattle.jl_meaning.specs.builtins.Arguments.{unless_undefined, unsupported}
-use Rattle.jl_meaning.specs.builtins.Elements.{add_in_turns, clamped, index_or_none, relative_index, to_end}
+use Rattle.jl_meaning.specs.builtins.Arguments.{unless_undefined, fail_row}
+use Rattle.jl_meaning.specs.builtins.Elements.{add_in_turns, clamp, index_or_none, relative_index, to_end}
 use Rattle.jl_meaning.specs.forms.Literals.{new_array}
 
 -- the string of an argument, where there is one
@@ -118,12 +118,12 @@ string_index_of c = do
   units ← string_of_this c
   part ← to_string (argument c 0)
   position ← to_integer (argument c 1)
-  give (index_or_none (first_place units part (clamped position (length units))))
+  give (index_or_none (first_place units part (clamp position (length units))))
 
 -- where a search for the last place begins: NaN stands for an infinity (15.5.4.8, steps 5 to 7)
 abbrev pub last_start : Number → (length : ℕ) → ℕ
 last_start None length = length
-last_start (Some z) length = clamped z length
+last_start (Some z) length = clamp z length
 
 -- String.prototype.lastIndexOf(searchString, position) (15.5.4.8)
 abbrev pub string_last_index_of : Call → Algorithm Value
@@ -151,7 +151,7 @@ string_substring c = do
   units ← string_of_this c
   start ← to_integer (argument c 0)
   end ← to_end (argument c 1) (length units)
-  give_string (between units (clamped start (length units)) (clamped end (length units)))
+  give_string (between units (clamp start (length units)) (clamp end (length units)))
 
 -- the pieces between the places of a separator that isn't empty (15.5.4.14, steps 12 to 14): `piece` has the units
 -- since the last place, and `left` units of a place are still to be passed
@@ -210,7 +210,7 @@ string_to_upper_case c = in_case 64 upper c
 abbrev pub string_trim : Call → Algorithm Value
 string_trim c = do
   units ← string_of_this c
-  give_string (trimmed units)
+  give_string (trim units)
 
 -- these, in the order of the table
 abbrev pub string_rows : List (Call → Algorithm Value)
@@ -219,4 +219,4 @@ string_rows =
     ∷ string_concat ∷ string_index_of
     ∷ string_last_index_of ∷ string_slice ∷ string_split ∷ string_substring ∷ string_to_lower_case
     ∷ string_to_upper_case ∷ string_trim
-    ∷ unsupported 66 ∷ unsupported 67 ∷ unsupported 68 ∷ unsupported 69 ∷ unsupported 70 ∷ unsupported 71 ∷ []
+    ∷ fail_row 66 ∷ fail_row 67 ∷ fail_row 68 ∷ fail_row 69 ∷ fail_row 70 ∷ fail_row 71 ∷ []

@@ -2,7 +2,7 @@
 use Rattle.std.specs.Prelude.{[], slice_index_or, ◌++◌, ◌∷◌, List, ℕ}
 use Rattle.jl_value.specs.declared.value.Value.{Value}
 use Rattle.jl_meaning.specs.Parts.{Algorithm, Call}
-use Rattle.jl_meaning.specs.builtins.Arguments.{unsupported}
+use Rattle.jl_meaning.specs.builtins.Arguments.{fail_row}
 use Rattle.jl_meaning.specs.builtins.Array.{array_concat, array_constructor, array_index_of, array_is_array}
 use Rattle.jl_meaning.specs.builtins.Array.{array_join, array_last_index_of, array_slice, array_to_string}
 use Rattle.jl_meaning.specs.builtins.ArrayCallbacks.{array_every, array_filter, array_for_each, array_map}
@@ -21,7 +21,7 @@ use Rattle.jl_meaning.specs.builtins.String.{string_rows}
 -- Array and the functions of its prototype
 abbrev pub array_rows : List (Call → Algorithm Value)
 array_rows =
-    array_constructor ∷ array_is_array ∷ array_to_string ∷ unsupported 31 ∷ array_concat ∷ array_join ∷ array_pop
+    array_constructor ∷ array_is_array ∷ array_to_string ∷ fail_row 31 ∷ array_concat ∷ array_join ∷ array_pop
     ∷ array_push ∷ array_reverse ∷ array_shift ∷ array_slice ∷ array_sort ∷ array_splice ∷ array_unshift
     ∷ array_index_of
     ∷ array_last_index_of ∷ array_every ∷ array_some ∷ array_for_each ∷ array_map ∷ array_filter ∷ array_reduce
@@ -35,4 +35,4 @@ builtin_rows names =
 
 -- what the builtin of a row does when it is called
 unfoldable pub builtin : FunctionNames → (row : ℕ) → Call → Algorithm Value
-builtin names row c = slice_index_or (builtin_rows names) row (unsupported row) c
+builtin names row c = slice_index_or (builtin_rows names) row (fail_row row) c

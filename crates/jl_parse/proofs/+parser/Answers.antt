@@ -4,11 +4,11 @@ use Rattle.jl_ast.specs.Tree as tree
 use Rattle.jl_ast.specs.View.{view_case, view_cases, view_declarator, view_declarators, view_expression}
 use Rattle.jl_ast.specs.View.{view_body, view_entry, view_expressions, view_function, view_ident}
 use Rattle.jl_grammar.specs.Next.{is_colon, is_comma, is_directive, is_key}
-use Rattle.jl_grammar.specs.Reader.{declaration_at, done, ends_at, getter_by, is_case, made, rest_at, setter_by}
+use Rattle.jl_grammar.specs.Reader.{declaration_at, succeed, ends_at, getter_by, is_case, node, rest_at, setter_by}
 use Rattle.jl_grammar.specs.Reader.{is_close_brace, is_close_paren, statement_by}
 use Rattle.jl_grammar.specs.Tokens.{key_ident_at, span, terminal_at, strict_at}
 use Rattle.jl_grammar.specs.declared.terminal.Terminal.TheVariants as terminals
-use Rattle.jl_parse.specs.Steps.{GivesStatement, append, clause_of, infix_operator_of, within}
+use Rattle.jl_parse.specs.inner.Steps.{GivesStatement, append, clause_of, infix_operator_of, within}
 use Rattle.jl_parse.proofs.Lists.{accessor_read, body_more, cases_push, clauses_more, declarations_more}
 use Rattle.jl_parse.proofs.Lists.{declarators_push, getter_one}
 use Rattle.jl_parse.proofs.Lists.{setter_one}
@@ -66,7 +66,7 @@ functions::getter-returns t c =
     let g : is_key (terminal_at ts (suc c.args.at)) ≡ true = search rules in
     let r : rest_at ts d (suc (suc c.args.at)) ≡ Some ((map view_ident ps, b), j) = search rules in
     let n : length ps ≡ 0 = search rules in
-    let m : made (d.room c.args.at) (tree.function 0 None (map view_ident ps) b (span ts c.args.at j)) j done ≡ Some (f, k) =
+    let m : node (d.room c.args.at) (tree.function 0 None (map view_ident ps) b (span ts c.args.at j)) j succeed ≡ Some (f, k) =
     search rules in
     let y : view_ident c.in_ok-key.key ≡ key_ident_at ts (suc c.args.at) = search rules in
     let v : view_entry c.getter_entry.result ≡ tree.getter (view_ident c.in_ok-key.key) f = search rules in
@@ -86,7 +86,7 @@ functions::setter-returns t c =
     let g : is_key (terminal_at ts (suc c.args.at)) ≡ true = search rules in
     let r : rest_at ts d (suc (suc c.args.at)) ≡ Some ((map view_ident ps, b), j) = search rules in
     let n : length ps ≡ 1 = search rules in
-    let m : made (d.room c.args.at) (tree.function 0 None (map view_ident ps) b (span ts c.args.at j)) j done ≡ Some (f, k) =
+    let m : node (d.room c.args.at) (tree.function 0 None (map view_ident ps) b (span ts c.args.at j)) j succeed ≡ Some (f, k) =
     search rules in
     let y : view_ident c.in_ok-key.key ≡ key_ident_at ts (suc c.args.at) = search rules in
     let v : view_entry c.setter_entry.result ≡ tree.setter (view_ident c.in_ok-key.key) f = search rules in

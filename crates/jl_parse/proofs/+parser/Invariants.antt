@@ -5,7 +5,7 @@ use Rattle.jl_ast.specs.View.{view_functions, view_items, view_statements}
 use Rattle.jl_grammar.specs.Reader.{arguments_from, binary_at, binary_from, body_from, clauses_from}
 use Rattle.jl_grammar.specs.Reader.{comma_from, declarations_from, elements_from, entries_from, items_from}
 use Rattle.jl_grammar.specs.Reader.{left_at, left_from, statements_from}
-use Rattle.jl_parse.specs.Steps.{with_elements, within}
+use Rattle.jl_parse.specs.inner.Steps.{with_elements, within}
 use Rattle.jl_parse.proofs.Lists.{with_body}
 use Rattle.jl_parse.proofs.Rows.{with_forest}
 use Rattle.jl_parse.proofs.+parser.Given as goal

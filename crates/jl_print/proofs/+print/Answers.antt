@@ -2,7 +2,7 @@ use Rattle.std.proofs.Common.{◌≡◌, ◌+◌, ◌-◌, ◌++◌, ◌∷◌, 
 use Rattle.std.proofs.Common.{option_map, rules, append_assoc, arith}
 use Rattle.jl_ast.proofs.Views.{nodes}
 use Rattle.jl_ast.specs.View.{item, view_declarators, view_expression, view_items, view_optional}
-use Rattle.jl_print.specs.Kinds.{comma_unless, initializer, item_with_comma}
+use Rattle.jl_print.specs.inner.Kinds.{comma_unless, initializer, item_with_comma}
 use Rattle.jl_print.specs.Pieces.{name}
 use Rattle.jl_print.specs.CanonicalTokens.{tokens_of_node, tokens_of_items}
 use Rattle.jl_print.proofs.Writing.{nodes_by_parts, declarators_from, declarator_at, item_at}

@@ -10,7 +10,7 @@ use Rattle.jl_ast.specs.Tree.{setter, function, body, var, empty, expression, bl
 use Rattle.jl_ast.specs.Tree.{for_in, continue, break, return, labelled, switch, throw, try, debugger, nothing}
 use Rattle.jl_ast.specs.Tree.{init_expression, init_var, declarator, case, branch_of, catch, end, more, absent}
 use Rattle.jl_ast.specs.Tree.{present, expr, item, entry, decl}
-use Rattle.jl_text.specs.Quoted.{quoted}
+use Rattle.jl_text.specs.Quoted.{quote}
 use Rattle.jl_read_back.specs.inner.Bytes.{most_bytes, text_weight}
 
 -- `"use strict" ; `
@@ -29,7 +29,7 @@ separator _ = 0
 module _ (heavy : ℕ) where
   -- a string between quotes
   unfoldable pub string_width : Text → ℕ
-  string_width t = most_bytes heavy (quoted t) + 1
+  string_width t = most_bytes heavy (quote t) + 1
 
   abbrev pub optional_name_width : {S : Type 0} → Option (Ident S) → ℕ
   optional_name_width None = 0

@@ -118,9 +118,9 @@ step_fits (step.Makes from to) = rows_fit from to
 step_fits (step.Close at) = true
 
 -- the store after these changes
-abbrev pub applied : List StoreChange → Store → Store
-applied [] store = store
-applied (c ∷ cs) store = applied cs (after c store)
+abbrev pub after_all : List StoreChange → Store → Store
+after_all [] store = store
+after_all (c ∷ cs) store = after_all cs (after c store)
 
 -- whether a property is new on an object that is there
 abbrev pub is_ready : StoreChange → Store → Bool

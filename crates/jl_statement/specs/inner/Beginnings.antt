@@ -24,8 +24,8 @@ abbrev pub after_step : Part Completion → Part Completion
 after_step (Step p) = p
 after_step p = p
 
-abbrev pub begun : FunctionTable → List Call → Tree ℕ tree.stmt → List Text → Here → Part Completion
-begun table calls t labels here = after_step (execute table t labels (context_of calls here))
+abbrev pub begin : FunctionTable → List Call → Tree ℕ tree.stmt → List Text → Here → Part Completion
+begin table calls t labels here = after_step (execute table t labels (context_of calls here))
 
 -- the text of a label of the code, if there is one
 abbrev pub label_text : Option Ident → Option Text

@@ -19,17 +19,17 @@ Declarator = Ident × Option Expr
 abbrev pub Initialised : Type 0
 Initialised = Bor (List ℕ) × Bor Expr × Remaining Declarator
 
-abbrev pub declared : FunctionTable → Context → List Declarator → Part (Answer (Unit {0}))
-declared table c l = declare_all table (plain_forest (view_declarators l)) c
+abbrev pub declare : FunctionTable → Context → List Declarator → Part (Answer (Unit {0}))
+declare table c l = declare_all table (plain_forest (view_declarators l)) c
 
-abbrev pub declared_from : FunctionTable → Context → Option Initialised → Part (Answer (Unit {0}))
-declared_from table c None = give (tt {0})
-declared_from table c (Some (x, e, rest)) = do
+abbrev pub declare_from : FunctionTable → Context → Option Initialised → Part (Answer (Unit {0}))
+declare_from table c None = give (tt {0})
+declare_from table c (Some (x, e, rest)) = do
   _ ← (do
     _ ← assign_name 0 c x.now (evaluate table (plain (view_expression e.now)) c)
     give (tt {0}))
-  declared table c (items_left rest)
+  declare table c (items_left rest)
 
 -- the first of the declarators that has an initialiser is this one
 pub record IsFirst (l : List Declarator) (first : Option Initialised) : Type 0 where
-  pub same : (table : FunctionTable) (c : Context) → declared table c l ≡ declared_from table c first
+  pub same : (table : FunctionTable) (c : Context) → declare table c l ≡ declare_from table c first

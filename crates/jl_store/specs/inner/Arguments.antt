@@ -5,9 +5,9 @@ use Rattle.jl_heap.specs.Objects.{Name}
 use Rattle.jl_meaning.specs.forms.Literals.{index_name}
 
 -- so many indices that are mapped to no parameter
-abbrev pub unmapped : ℕ → List (Option Name)
-unmapped zero = []
-unmapped (suc n) = None ∷ unmapped n
+abbrev pub no_mappings : ℕ → List (Option Name)
+no_mappings zero = []
+no_mappings (suc n) = None ∷ no_mappings n
 
 -- `length`, and the names of so many indices
 abbrev pub names_with : ℕ → List Name

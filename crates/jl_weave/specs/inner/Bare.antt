@@ -37,8 +37,8 @@ unfoldable pub bare_case : Case → Woven tree.clause
 bare_case c = tree_without_spans (view_case c)
 
 -- a name without its place
-abbrev pub unplaced : {S : Type 0} → tree.Ident S → tree.Ident (Unit {0})
-unplaced x = record { text = x.text; at = tt }
+abbrev pub without_place : {S : Type 0} → tree.Ident S → tree.Ident (Unit {0})
+without_place x = record { text = x.text; at = tt }
 
 abbrev pub bare_ident : Ident → tree.Ident (Unit {0})
 bare_ident x = record { text = x.text; at = tt }

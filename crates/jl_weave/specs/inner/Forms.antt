@@ -11,7 +11,7 @@ use Rattle.jl_op.specs.declared.kind.OpKind.{OpKind}
 use Rattle.jl_op.specs.declared.kind.OpKind.TheVariants as kind
 use Rattle.jl_meaning.specs.forms.Operators.{unary_kind, update_kind}
 use Rattle.jl_simulation.specs.HookCalls.{assign, assign_hook, before_update, binary_hook, hook, hook_1, hook_of_1}
-use Rattle.jl_simulation.specs.HookCalls.{hook_statement, name_of, no_exprs, quoted, read, unary_hook, update_hook}
+use Rattle.jl_simulation.specs.HookCalls.{hook_statement, name_of, no_exprs, string_of, read, unary_hook, update_hook}
 use Rattle.jl_simulation.specs.HookCalls.{write}
 use Rattle.jl_simulation.specs.HookCalls.{and_last, Expr, Exprs, Stmt, Stmts, Woven}
 use Rattle.jl_simulation.specs.Weaving.{calls, hooked_if}
@@ -20,9 +20,9 @@ use Rattle.jl_weave.specs.declared.members.Member.{Member}
 use Rattle.jl_weave.specs.declared.members.Member.TheVariants as member
 
 -- one forest, and then another
-abbrev pub joined : {S : Type 0} {x : Sort} → Forest S x → Forest S x → Forest S x
-joined tree.end m = m
-joined (tree.more t l) m = tree.more t (joined l m)
+abbrev pub append_forest : {S : Type 0} {x : Sort} → Forest S x → Forest S x → Forest S x
+append_forest tree.end m = m
+append_forest (tree.more t l) m = tree.more t (append_forest l m)
 
 -- this statement, if so
 abbrev pub first_if : Bool → Stmt → Stmts
@@ -34,7 +34,7 @@ base_of (member.Dot o k) = bare_expression o
 base_of (member.Index o k) = bare_expression o
 
 abbrev pub key_of : Member → Expr
-key_of (member.Dot o k) = quoted k
+key_of (member.Dot o k) = string_of k
 key_of (member.Index o k) = bare_expression k
 
 abbrev pub itself_of : Member → Expr
@@ -45,7 +45,7 @@ itself_of (member.Index o k) = tree.index (bare_expression o) (bare_expression k
 abbrev pub updated_form : (id : ℕ) → (up : Bool) → Woven tree.target → Expr
 updated_form id up (tree.to_name x) =
     assign (ident_with_id x id) (id + 2) (unary_hook (id + 1) (update_kind up) (read id x.text))
-updated_form id up (tree.to_dot o k at) = update_hook id up o (quoted k)
+updated_form id up (tree.to_dot o k at) = update_hook id up o (string_of k)
 updated_form id up (tree.to_index o k at) = update_hook id up o k
 
 -- an assignment, by hooks
@@ -53,7 +53,7 @@ abbrev pub assigned_form : (id : ℕ) → Option BinOp → Woven tree.target →
 assigned_form id None (tree.to_name x) e = assign (ident_with_id x id) id e
 assigned_form id (Some o) (tree.to_name x) e =
     assign (ident_with_id x id) (id + 2) (binary_hook (id + 1) o (read id x.text) e)
-assigned_form id o (tree.to_dot a k at) e = assign_hook id o a (quoted k) e
+assigned_form id o (tree.to_dot a k at) e = assign_hook id o a (string_of k) e
 assigned_form id o (tree.to_index a k at) e = assign_hook id o a k e
 
 module _ (chosen : Kinds) where

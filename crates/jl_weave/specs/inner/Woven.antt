@@ -6,8 +6,8 @@ use Rattle.jl_op.specs.Chosen.{Kinds}
 use Rattle.jl_op.specs.Ids.{callee_with_ids, forest_with_ids, handler_with_ids, member_ids, optional_with_ids, with_ids}
 use Rattle.jl_op.specs.KindSets.{is_member}
 use Rattle.jl_simulation.specs.HookCalls.{Expr, Stmts, Woven}
-use Rattle.jl_simulation.specs.Weaving.{tested, woven, woven_callee, woven_forest, woven_optional}
-use Rattle.jl_weave.specs.inner.Forms.{joined}
+use Rattle.jl_simulation.specs.Weaving.{hook_test, weave, woven_callee, woven_forest, woven_optional}
+use Rattle.jl_weave.specs.inner.Forms.{append_forest}
 use Rattle.jl_weave.specs.declared.weaver.Weaver.{Weaver}
 
 -- the kinds that a weaver tells of
@@ -20,7 +20,7 @@ HasIds n count = n + count < 2 ^ 32
 
 module _ (chosen : Kinds) where
   abbrev pub woven_at : {S : Type 0} {x : Sort} → (n : ℕ) → Tree S x → Woven x
-  woven_at n t = woven chosen (with_ids n t)
+  woven_at n t = weave chosen (with_ids n t)
 
   abbrev pub woven_all_at : {S : Type 0} {x : Sort} → (n : ℕ) → Forest S x → Forest (Unit {0}) x
   woven_all_at n l = woven_forest chosen (forest_with_ids n l)
@@ -30,17 +30,17 @@ module _ (chosen : Kinds) where
 
   -- statements, after others that are woven already
   abbrev pub woven_after_at : {S : Type 0} → (first : Stmts) → (n : ℕ) → Forest S tree.stmt → Stmts
-  woven_after_at first n l = joined first (woven_all_at n l)
+  woven_after_at first n l = append_forest first (woven_all_at n l)
 
   -- what is tested, which takes an id before its own
   abbrev pub tested_at : {S : Type 0} → (n : ℕ) → Tree S tree.expr → Expr
-  tested_at n e = tested chosen n (woven_at (n + 1) e)
+  tested_at n e = hook_test chosen n (woven_at (n + 1) e)
 
   -- the callee of a call, which takes the ids of that call too
   abbrev pub callee_at : {S : Type 0} → (n : ℕ) → Tree S tree.expr → Expr
   callee_at n f =
       let g = callee_with_ids n f (with_ids (n + 2) f) in
-      woven_callee chosen g (woven chosen g) (n + member_ids f)
+      woven_callee chosen g (weave chosen g) (n + member_ids f)
 
   -- the `catch` of a `try`, whose name has an id that was taken before
   abbrev pub handler_at : {S : Type 0} → (id n : ℕ) → OptionalTree S tree.handler

@@ -5,8 +5,8 @@ use Rattle.jl_app.proofs.Refusing.{is_read, passed_on}
 use Rattle.jl_app.proofs.Sizes.{few_ids, few_units_of}
 use Rattle.jl_app.proofs.accept.accept.Goals as goal
 
-pub parsed-requires : goal.parsed-requires
-parsed-requires c =
+pub parse_tokens-requires : goal.parse_tokens-requires
+parse_tokens-requires c =
     let text = c.in_ok-source.ensures.text in
     omega (
       arith,
@@ -28,7 +28,7 @@ returns-clause-accepted c =
     let text = c.in_ok-source.ensures.text in (
       is_read c.args.form c.args.bytes.now c.in_ok-source.source c.in_ok-tokens.tokens c.items.result.now
           (view c.in_ok-program.program) text.0 text.1 c.in_ok-tokens.ensures.tokens c.items.ensures
-          c.in_ok-program.ensures.read c.in_ok-checked.ensures.sound,
+          c.in_ok-program.ensures.read c.in_ok-check_early_errors.ensures.sound,
       text.1,
     )
 
@@ -38,4 +38,4 @@ returns-clause-few c =
     few_ids c.few_ids.ensures c.args.form c.args.bytes.now (view c.in_ok-program.program)
     (is_read c.args.form c.args.bytes.now c.in_ok-source.source c.in_ok-tokens.tokens c.items.result.now
     (view c.in_ok-program.program) text.0 text.1 c.in_ok-tokens.ensures.tokens c.items.ensures
-    c.in_ok-program.ensures.read c.in_ok-checked.ensures.sound)
+    c.in_ok-program.ensures.read c.in_ok-check_early_errors.ensures.sound)

@@ -5,8 +5,8 @@ use Rattle.jl_op.specs.Chosen.{every_kind}
 use Rattle.jl_simulation.specs.Weaving.{woven_program}
 use Rattle.jl_text.specs.Encoding.{units_of}
 use Rattle.jl_token.specs.Tokens.{Tokens}
-use Rattle.jl_app.specs.Answers.{canonical_text, counted, ended, ended_alone, ended_woven, executed, functions_line}
-use Rattle.jl_app.specs.Answers.{instrumented, listed, listed_map, refused_only, text, traced, woven_budget, written}
+use Rattle.jl_app.specs.Answers.{canonical_text, counted, ended, ended_alone, ended_woven, execute_due, functions_line}
+use Rattle.jl_app.specs.Answers.{instrument_due, listed, listed_map, refused_only, text, trace_due, woven_budget, written}
 use Rattle.jl_command.specs.Asked as asked
 use Rattle.jl_app.specs.Forms.{most_bytes}
 use Rattle.jl_command.specs.Meant.{Means, means_lint}
@@ -61,8 +61,8 @@ pub returns-in-Err-Refused-clause-due : goal.returns-in-Err-Refused-clause-due
 returns-in-Err-Refused-clause-due g c = λ a means.
     let cause = c.in-Err-Refused.refusal in
     let why = rw c.in-Err-Refused.field-0-is at c.in-Err-Refused.ensures.refused in
-    let said = rw c.in-Err-Refused.field-0-is at c.refused.ensures in
-    IfOk-weaker c.refused.result _ _
+    let said = rw c.in-Err-Refused.field-0-is at c.refusal_answer.ensures in
+    IfOk-weaker c.refusal_answer.result _ _
     (λ given answered. (
       refused_only (refusal_words cause),
       refuses a c.of-form.result cause (c.of-form.ensures ∙ same_form c.args.command a means) why refl,
@@ -100,7 +100,7 @@ returns-in-Run-clause-due g c = λ a means.
     let is = asked_run a (subst (λ (x : Command). Means x a) c.in-Run.is means) in
     IfOk-weaker c.execute.result _ _
     (λ given answered. (
-      executed (program_run p c.in-Run.budget) c.in-Run.budget,
+      execute_due (program_run p c.in-Run.budget) c.in-Run.budget,
       answers a (asked.run c.in-Run.budget) c.of-form.result p is
           (c.of-form.ensures ∙ same_form c.args.command a means) c.in-Ok.ensures.accepted.0 (refl, ended),
       answered.0,
@@ -145,7 +145,7 @@ returns-in-Instrument-clause-due g c = λ a means.
     let is = asked_instrument a (subst (λ (x : Command). Means x a) c.in-Instrument.is means) in
     IfOk-weaker c.instrument.result _ _
     (λ given answered. (
-      instrumented p,
+      instrument_due p,
       answers a asked.instrument c.of-form.result p is
           (c.of-form.ensures ∙ same_form c.args.command a means) c.in-Ok.ensures.accepted.0 (refl, text),
       answered.0,
@@ -176,7 +176,7 @@ returns-in-Trace-clause-due g c = λ a means.
     let is = asked_trace a (subst (λ (x : Command). Means x a) c.in-Trace.is means) in
     IfOk-weaker c.trace.result _ _
     (λ given answered. (
-      traced (program_run (woven_program every_kind p) (woven_budget c.in-Trace.budget))
+      trace_due (program_run (woven_program every_kind p) (woven_budget c.in-Trace.budget))
           (woven_budget c.in-Trace.budget),
       answers a (asked.trace c.in-Trace.budget) c.of-form.result p is.0
           (c.of-form.ensures ∙ same_form c.args.command a means) c.in-Ok.ensures.accepted.0 (refl, ended_woven),
@@ -192,7 +192,7 @@ returns-clause-due g c = λ a means.
     let is = asked_exec a (subst (λ (x : Command). Means x a) c.in-Exec.is means) in
     IfOk-weaker c.trace_alone.result _ _
     (λ given answered. (
-      traced (program_run p c.in-Exec.budget) c.in-Exec.budget,
+      trace_due (program_run p c.in-Exec.budget) c.in-Exec.budget,
       answers a (asked.exec c.in-Exec.budget) c.of-form.result p is
           (c.of-form.ensures ∙ same_form c.args.command a means) c.in-Ok.ensures.accepted.0 (refl, ended_alone),
       answered.0,

@@ -4,7 +4,7 @@ use Rattle.std.specs.Prelude.{codes}
 use Rattle.jl_ast.specs.View.{view}
 use Rattle.jl_op.specs.KindSets.{is_member}
 use Rattle.jl_op.specs.declared.kind.OpKind.{OpKind}
-use Rattle.jl_app.specs.Answers.{hooked_run, linted, ran, refused_only, unread, woven_budget}
+use Rattle.jl_app.specs.Answers.{hooked_run, lint_due, ran, refused_only, unread, woven_budget}
 use Rattle.jl_app.specs.ReadBack.{IsReadBack}
 use Rattle.jl_app.specs.WovenText.{kinds_of}
 use Rattle.jl_app.proofs.Answering.{always_ok, both_ok}
@@ -26,7 +26,7 @@ returns-in-Ok-clause-due g c = λ chosen choice.
     let read = subst (λ text. IsReadBack text q) c.lend.ensures c.in-Ok.ensures.read in
     both_ok c.run_answer.result _ _
     (λ a run told. (
-      linted (hooked_run (kinds_of chosen) q steps) steps run.0 run.1,
+      lint_due (hooked_run (kinds_of chosen) q steps) steps run.0 run.1,
       ran q run.0 run.1 read run.2,
       run.3,
       run.4,

@@ -20,11 +20,11 @@ returns-clause-run g c = λ chosen choice.
     is_linted _ _ run c.needs.result chosen same (view c.args.woven.now) c.woven_budget.result
     (woven_budget c.args.budget) c.woven_budget.ensures (c.in_ok-run.ensures.is [] c.requires.fresh)
     c.args.accepted.now.source (view c.args.accepted.now.program)
-    c.deref.result.now c.in_ok-lines.lines.items c.lint_status.result c.in_ok-written.field-0.items
+    c.deref.result.now c.in_ok-lines.lines.items c.lint_status.result c.in_ok-answer_bytes.field-0.items
     (c.deref.ensures.value ∙ c.in_ok-places.ensures ∙ ap begins c.in_ok-map_of.ensures)
     (c.in_ok-lines.ensures.report chosen choice)
     (c.lint_status.ensures ∙ ap (λ l. lint_status run.outcome l) c.deref-2.ensures.value)
-    (c.in_ok-written.ensures ∙ ap (λ l. run.output ++ (lines_text l ++ (uncaught_line run.store.heap run.outcome
+    (c.in_ok-answer_bytes.ensures ∙ ap (λ l. run.output ++ (lines_text l ++ (uncaught_line run.store.heap run.outcome
     ++ end_line run.outcome run.steps run.hooks (length l)))) c.deref-3.ensures.value)
 
 pub returns-clause-told : goal.returns-clause-told

@@ -15,14 +15,14 @@ program_of-requires c =
       arith,
       few_tokens c.args.text.now c.in_ok-tokens.tokens c.in_ok-tokens.ensures.tokens,
       ap length c.items.ensures,
-      c.if-text-gt-MOST_UNITS.false,
+      c.if-text-gt-MOST_WOVEN_BYTES.false,
     )
 
 pub returns-clause-read : goal.returns-clause-read
 returns-clause-read c =
     both_hold c.program_of.result _ _ _
     (λ p read sound. record {
-      short = c.if-text-gt-MOST_UNITS.false;
+      short = c.if-text-gt-MOST_WOVEN_BYTES.false;
       tokens = c.in_ok-tokens.tokens;
       lexed = c.in_ok-tokens.ensures.tokens;
       read = subst (λ ts. Reads ts 1000 (view p)) c.items.ensures read;

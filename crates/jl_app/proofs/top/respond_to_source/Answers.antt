@@ -27,9 +27,9 @@ returns-in_ok-respond-in-Ok-clause-due g c = λ a means.
       due.4,
     )
 
-pub returns-in_ok-refused-in-Err-TooLong-clause-due : goal.returns-in_ok-refused-in-Err-TooLong-clause-due
-returns-in_ok-refused-in-Err-TooLong-clause-due g c = λ a means.
-    let answered = c.in_ok-refused-in-Err-TooLong.ensures in
+pub returns-in_ok-refusal_answer-in-Err-TooLong-clause-due : goal.returns-in_ok-refusal_answer-in-Err-TooLong-clause-due
+returns-in_ok-refusal_answer-in-Err-TooLong-clause-due g c = λ a means.
+    let answered = c.in_ok-refusal_answer-in-Err-TooLong.ensures in
     let read = c.in-Err-TooLong.ensures in
     let is = ap Err c.in-Err-TooLong.field-0-is in
     let long = long_bytes c.most_bytes.result _ _ (read.long is) (read.told_long is) in (

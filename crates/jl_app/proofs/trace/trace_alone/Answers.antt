@@ -13,5 +13,5 @@ returns c =
     let told = c.into_lines.ensures (world_of (program_run p budget)).hooks is.told in
     is_traced budget (program_run p budget) is c.into_lines.result.items told
     (omega (arith, c.into_lines.result.ok.0, c.into_lines.result.ok.1, c.into_lines.result.small))
-    c.ending_status.result c.in_ok-written.field-0.items
-    c.ending_status.ensures c.in_ok-written.ensures
+    c.ending_status.result c.in_ok-answer_bytes.field-0.items
+    c.ending_status.ensures c.in_ok-answer_bytes.ensures

@@ -1,6 +1,6 @@
 use Rattle.std.proofs.Common.{◌^◌, take}
 use Rattle.jl_token.specs.Characters.{hex_from}
-use Rattle.jl_conv.specs.Amounts.{Agree}
+use Rattle.jl_conv.specs.inner.Amounts.{Agree}
 use Rattle.jl_conv.proofs.decimal.hexadecimal.Given as goal
 
 abbrev pub invariant-loop-unit : goal.invariant-loop-unit

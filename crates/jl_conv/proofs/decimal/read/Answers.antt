@@ -1,6 +1,6 @@
 use Rattle.std.proofs.Common.{◌∙◌, sym, ap, subst, ◌+◌, ◌*◌, take, arith}
 use Rattle.jl_token.specs.Characters.{decimal_from}
-use Rattle.jl_lex.specs.Amounts.{Stands}
+use Rattle.jl_lex.specs.inner.Amounts.{Stands}
 use Rattle.jl_conv.proofs.Amounts.{decimal_more}
 use Rattle.jl_conv.proofs.decimal.read.Goals as goal
 

@@ -1,6 +1,6 @@
 use Rattle.std.proofs.Common.{ℕ, ◌+◌, ◌≤◌, take}
 use Rattle.jl_token.specs.Characters.{decimal_from}
-use Rattle.jl_lex.specs.Amounts.{Stands}
+use Rattle.jl_lex.specs.inner.Amounts.{Stands}
 use Rattle.jl_conv.proofs.decimal.read.Given as goal
 
 abbrev pub invariant-loop-unit : goal.invariant-loop-unit

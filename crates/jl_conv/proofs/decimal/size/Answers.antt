@@ -1,6 +1,6 @@
 use Rattle.std.proofs.Common.{◌∙◌, sym, ap, subst, ◌+◌, ◌*◌, ◌^◌, take, arith}
 use Rattle.jl_token.specs.Characters.{decimal_from}
-use Rattle.jl_conv.specs.Amounts.{Agree}
+use Rattle.jl_conv.specs.inner.Amounts.{Agree}
 use Rattle.jl_conv.proofs.Amounts.{agree_more, decimal_more}
 use Rattle.jl_conv.proofs.decimal.size.Goals as goal
 

@@ -1,6 +1,6 @@
 use Rattle.std.proofs.Common.{◌≡◌, ◌≤◌, ◌-◌, drop, length}
 use Rattle.jl_token.specs.Characters.{is_on_line}
-use Rattle.jl_token.specs.Scanner.{many, one_unit}
+use Rattle.jl_token.specs.inner.Scanner.{many, one_unit}
 use Rattle.jl_lex.proofs.comment_ends.line_end.Given as goal
 
 abbrev pub invariant-loop-unit : goal.invariant-loop-unit

@@ -1,6 +1,6 @@
 use Rattle.std.proofs.Common.{◌+◌, drop}
 use Rattle.jl_token.specs.Tokens.{comments_among}
-use Rattle.jl_lex.specs.Answers.{element_of}
+use Rattle.jl_lex.specs.inner.Answers.{element_of}
 use Rattle.jl_lex.proofs.Reading.{read_more, comments_end, read_refused}
 use Rattle.jl_lex.proofs.comment_list.comments_of.Goals as goal
 

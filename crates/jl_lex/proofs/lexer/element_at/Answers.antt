@@ -1,7 +1,7 @@
 use Rattle.std.proofs.Common.{◌≡◌, ℕ, List, ◌+◌, drop, ap, sym, ◌∙◌, arith}
 use Rattle.std.proofs.lemmas.List.{drop-drop}
 use Rattle.jl_token.specs.Characters.{is_on_line}
-use Rattle.jl_token.specs.Scanner.{many, one_unit, before_close, block_end}
+use Rattle.jl_token.specs.inner.Scanner.{many, one_unit, before_close, block_end}
 use Rattle.jl_lex.proofs.LexLoops.{scan_white, scan_line, scan_comment, scan_block, scan_other, from_from}
 use Rattle.jl_lex.proofs.lexer.element_at.Goals as goal
 

@@ -1,6 +1,6 @@
 use Rattle.std.proofs.Common.{false, ◌+◌, drop}
 use Rattle.jl_token.specs.Tokens.{tokens_among}
-use Rattle.jl_lex.specs.Answers.{element_of}
+use Rattle.jl_lex.specs.inner.Answers.{element_of}
 use Rattle.jl_lex.proofs.Reading.{read_more, tokens_end, read_refused}
 use Rattle.jl_lex.proofs.lexer.tokens_of.Goals as goal
 

@@ -1,7 +1,7 @@
 use Rattle.std.proofs.Common.{◌≡◌, ℕ, List, [], ◌∷◌, ◌++◌, ◌||◌, Bool, true, false, drop, refl, sym, ap, ◌∙◌, subst}
 use Rattle.std.proofs.Common.{arith}
 use Rattle.jl_token.specs.Characters.{is_identifier_start}
-use Rattle.jl_token.specs.Scanner.{letter, name_from, name_done}
+use Rattle.jl_token.specs.inner.Scanner.{letter, name_from, name_done}
 use Rattle.jl_lex.proofs.Loops.{NameSoFar, name_none, name_begins, name_more, name_ends, found_named}
 use Rattle.jl_lex.proofs.names.name.Goals as goal
 
@@ -42,4 +42,4 @@ returns c =
     let us = drop c.loop-next.end c.args.units.now in
     let e = name_ends c.loop-next.text.items us c.loop-next.escaped (name_from (letter is_identifier_start (drop c.args.at c.args.units.now))) c.in_default-letter_at.ensures c.loop-next.invariant.name in
     let t = c.as_slice.ensures.value in
-    found_named c.args.units.now c.args.at c.loop-next.end c.named.result _ (name_from (letter is_identifier_start (drop c.args.at c.args.units.now))) (ap (λ (x : List ℕ). name_done x c.loop-next.escaped (drop c.loop-next.end c.args.units.now)) t ∙ e) c.loop-next.invariant.later c.loop-next.invariant.within c.named.ensures
+    found_named c.args.units.now c.args.at c.loop-next.end c.name_token.result _ (name_from (letter is_identifier_start (drop c.args.at c.args.units.now))) (ap (λ (x : List ℕ). name_done x c.loop-next.escaped (drop c.loop-next.end c.args.units.now)) t ∙ e) c.loop-next.invariant.later c.loop-next.invariant.within c.name_token.ensures

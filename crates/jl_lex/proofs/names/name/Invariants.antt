@@ -1,6 +1,6 @@
 use Rattle.std.proofs.Common.{◌≤◌, ◌<◌, ◌-◌, drop, length}
 use Rattle.jl_token.specs.Characters.{is_identifier_start}
-use Rattle.jl_token.specs.Scanner.{letter, name_from}
+use Rattle.jl_token.specs.inner.Scanner.{letter, name_from}
 use Rattle.jl_lex.proofs.Loops.{NameSoFar}
 use Rattle.jl_lex.proofs.names.name.Given as goal
 

@@ -1,6 +1,6 @@
 use Rattle.std.proofs.Common.{drop, arith}
 use Rattle.jl_token.specs.Characters.{is_digit}
-use Rattle.jl_token.specs.Scanner.{many, one_unit, some_digits}
+use Rattle.jl_token.specs.inner.Scanner.{many, one_unit, some_digits}
 use Rattle.jl_lex.proofs.NumberLoops.{after_none, after_lower, after_raise}
 use Rattle.jl_lex.proofs.numbers.exponent_after.Goals as goal
 

@@ -1,6 +1,6 @@
 use Rattle.std.proofs.Common.{◌∷◌, [], drop, ap, sym, ◌∙◌, List, ℕ, arith}
 use Rattle.jl_token.specs.Characters.{is_digit}
-use Rattle.jl_token.specs.Scanner.{many, one_unit, after_whole}
+use Rattle.jl_token.specs.inner.Scanner.{many, one_unit, after_whole}
 use Rattle.jl_lex.proofs.AmountLemmas.{none_stands}
 use Rattle.jl_lex.proofs.NumberLoops.{numeral_from, begin_zero, begin_point, begin_digit, digit_first, first_stands}
 use Rattle.jl_lex.proofs.NumberLoops.{first_zeros}

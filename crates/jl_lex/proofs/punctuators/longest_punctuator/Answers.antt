@@ -1,6 +1,6 @@
 use Rattle.std.proofs.Common.{◌≡◌, ℕ, List, drop, length, ◌+◌, sym, ap, ◌∙◌, subst, Some, None, get_or, refl, arith}
 use Rattle.std.proofs.lemmas.List.{drop_more, drop_all}
-use Rattle.jl_token.specs.Scanner.{strip, first_punctuator}
+use Rattle.jl_token.specs.inner.Scanner.{strip, first_punctuator}
 use Rattle.jl_token.specs.declared.punct.Punct.{Punct}
 use Rattle.jl_token.specs.declared.punct.Punct.TheVariants.{LeftBrace}
 use Rattle.jl_lex.proofs.Loops.{table_more, table_found, table_end}

@@ -1,5 +1,5 @@
 use Rattle.std.proofs.Common.{◌≡◌, ◌≤◌, ◌+◌, drop, length}
-use Rattle.jl_token.specs.Scanner.{strip}
+use Rattle.jl_token.specs.inner.Scanner.{strip}
 use Rattle.jl_lex.proofs.punctuators.stands_at.Given as goal
 
 abbrev pub invariant-loop-character : goal.invariant-loop-character

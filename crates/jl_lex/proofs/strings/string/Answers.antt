@@ -1,7 +1,7 @@
 use Rattle.std.proofs.Common.{◌≡◌, ℕ, List, ◌&&◌, Bool, true, false, drop, refl, sym, ap, ◌∙◌, subst, arith}
 use Rattle.std.proofs.Math.Bool.{not}
-use Rattle.jl_token.specs.Scanner.{character, many, string_end, string_done}
-use Rattle.jl_lex.specs.Parts.{values}
+use Rattle.jl_token.specs.inner.Scanner.{character, many, string_end, string_done}
+use Rattle.jl_lex.specs.inner.Parts.{values}
 use Rattle.jl_lex.proofs.StringLoops.{StringSoFar, string_begins, string_more, string_ends}
 use Rattle.jl_lex.proofs.Loops.{found_later}
 use Rattle.jl_lex.proofs.strings.string.Goals as goal
@@ -38,4 +38,4 @@ returns c =
     let us = drop c.loop-next.end c.args.units.now in
     let all = string_end c.args.mark (many (character c.args.mark) (drop c.args.at c.args.units.now)) in
     let e = string_ends c.args.mark c.requires.quote c.loop-next.text.items us c.loop-next.plain all c.in_default.ensures c.loop-next.invariant.string in
-    found_later c.args.units.now c.args.at c.loop-next.end c.closed.result _ all (ap (λ (x : List ℕ). string_done c.args.mark x c.loop-next.plain us) c.as_slice.ensures.value ∙ e) c.loop-next.invariant.later c.closed.ensures
+    found_later c.args.units.now c.args.at c.loop-next.end c.close_string.result _ all (ap (λ (x : List ℕ). string_done c.args.mark x c.loop-next.plain us) c.as_slice.ensures.value ∙ e) c.loop-next.invariant.later c.close_string.ensures

@@ -1,5 +1,5 @@
 use Rattle.std.proofs.Common.{◌≤◌, ◌-◌, drop, length}
-use Rattle.jl_token.specs.Scanner.{character, many, string_end}
+use Rattle.jl_token.specs.inner.Scanner.{character, many, string_end}
 use Rattle.jl_lex.proofs.StringLoops.{StringSoFar}
 use Rattle.jl_lex.proofs.strings.string.Given as goal
 

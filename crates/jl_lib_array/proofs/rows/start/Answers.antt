@@ -13,7 +13,7 @@ pub returns-then-not-built-clause-leads : goal.returns-then-not-built-clause-lea
 returns-then-not-built-clause-leads c =
     starts_not (names_of (table_of c.args.state.now.functions)) (call_of c.args.call) c.args.state.now _ c.args.row
     (ap (λ (l : List Value). is_built c.args.row l) (sym c.items.ensures) ∙ sym c.in_ok-built.ensures
-    ∙ c.if-not-built.true) (c.unsupported.ensures.leads c.args.state.now)
+    ∙ c.if-not-built.true) (c.fail_row.ensures.leads c.args.state.now)
 
 pub returns-in-Gives-clause-leads : goal.returns-in-Gives-clause-leads
 returns-in-Gives-clause-leads c =

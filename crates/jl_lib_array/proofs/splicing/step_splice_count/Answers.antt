@@ -2,7 +2,7 @@ use Rattle.std.proofs.Common.{drop, sym, ◌-◌, ◌∙◌}
 use Rattle.std.proofs.lemmas.Result.{IfOk-weaker}
 use Rattle.jl_meaning.specs.Conversions.{integer_of}
 use Rattle.jl_meaning.specs.builtins.ArrayChanges.{splice_at}
-use Rattle.jl_meaning.specs.builtins.Elements.{clamped}
+use Rattle.jl_meaning.specs.builtins.Elements.{clamp}
 use Rattle.jl_builtin.proofs.Waits.{number_outside}
 use Rattle.jl_lib_array.proofs.Spliced.{splices_at}
 use Rattle.jl_lib_array.proofs.splicing.step_splice_count.Goals as goal
@@ -11,11 +11,11 @@ pub returns-in_default-clause-leads : goal.returns-in_default-clause-leads
 returns-in_default-clause-leads c =
     number_outside _ c.args.p.now _
     (λ n. splice_at c.args.object c.args.array c.args.length c.args.start
-    (clamped (integer_of n) (c.args.length - c.args.start)) (drop 2 c.args.args.now))
+    (clamp (integer_of n) (c.args.length - c.args.start)) (drop 2 c.args.args.now))
     c.number_of_primitive.ensures c.in_default.is
 
 pub returns-clause-leads : goal.returns-clause-leads
 returns-clause-leads c =
     IfOk-weaker _ _ _ (λ a leads. splices_at _ _ _ c.args.object c.args.array c.args.length c.args.args.now c.args.p.now
     c.in-Some.n c.args.start _ _ _ (sym c.in-Some.is ∙ c.number_of_primitive.ensures) c.saturating_sub.ensures
-    c.clamped-removed.ensures c.in_ok-items.ensures leads) c.copy_removed.ensures.leads
+    c.clamp-removed.ensures c.in_ok-items.ensures leads) c.copy_removed.ensures.leads

@@ -36,4 +36,4 @@ returns-clause-leads c =
       c.if-row-eq78.false,
       c.if-row-eq79.false,
     )) (omega (arith, c.requires.belongs.1, c.if-row-eq84.false, c.if-row-eq85.false, c.if-row-eq86.false))
-    (c.unsupported.ensures.leads c.args.state.now)
+    (c.fail_row.ensures.leads c.args.state.now)

@@ -34,7 +34,7 @@ pub returns-in-15-clause-leads : goal.returns-in-15-clause-leads
 returns-in-15-clause-leads c =
     answers_row _ (names_of (table_of c.args.state.now.functions)) _ 15 (call_of c.args.call.now) _ _ _ (omega arith)
     (row_15 _ _)
-    (not_built _ _ 15 (call_of c.args.call.now) _ (omega arith) (c.unsupported.ensures.leads _))
+    (not_built _ _ 15 (call_of c.args.call.now) _ (omega arith) (c.fail_row.ensures.leads _))
 
 pub returns-in-16-clause-leads : goal.returns-in-16-clause-leads
 returns-in-16-clause-leads c =

@@ -41,7 +41,7 @@ pub returns-in-26-clause-leads : goal.returns-in-26-clause-leads
 returns-in-26-clause-leads c =
     answers_row _ (names_of (table_of c.args.state.now.functions)) _ 26 (call_of c.args.call.now) _ _ _ (omega arith)
     (row_26 _ _)
-    (not_built _ _ 26 (call_of c.args.call.now) _ (omega arith) (c.unsupported.ensures.leads _))
+    (not_built _ _ 26 (call_of c.args.call.now) _ (omega arith) (c.fail_row.ensures.leads _))
 
 pub returns-in_default-clause-leads : goal.returns-in_default-clause-leads
 returns-in_default-clause-leads c =

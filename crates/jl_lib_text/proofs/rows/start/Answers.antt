@@ -25,4 +25,4 @@ returns-in-Some-clause-leads c =
 pub returns-clause-leads : goal.returns-clause-leads
 returns-clause-leads c =
     unsupported_row _ _ _ (call_of c.args.call) _ _ _ (omega (arith, c.if-row-lt55.false)) c.requires.belongs.1
-    c.method_of_row.ensures c.in-None.is (c.unsupported.ensures.leads c.args.state.now)
+    c.method_of_row.ensures c.in-None.is (c.fail_row.ensures.leads c.args.state.now)

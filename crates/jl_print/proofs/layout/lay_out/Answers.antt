@@ -1,7 +1,7 @@
 use Rattle.std.proofs.Common.{◌≡◌, ◌+◌, ◌++◌, ap, ◌∙◌, drop, map, arith}
-use Rattle.jl_print.specs.Kinds.{after, kind_of}
+use Rattle.jl_print.specs.inner.Kinds.{after, kind_of}
 use Rattle.jl_print.specs.Layout.{layout_of}
-use Rattle.jl_token.specs.Spelling.{spelled}
+use Rattle.jl_token.specs.Spelling.{spelling_of}
 use Rattle.jl_print.proofs.Laying.{next_piece, rest_is}
 use Rattle.jl_print.proofs.layout.lay_out.Goals as goal
 
@@ -9,7 +9,7 @@ pub loop-at-preserved : goal.loop-at-preserved
 loop-at-preserved c =
     let k = kind_of c.index-pieces-at.result in
     let rest = map kind_of (drop (c.loop-at.at + 1) c.args.pieces.now) in
-    let s : c.add_spelling.new.text.items ≡ c.loop-at.text.items ++ spelled (kind_of c.index-pieces-at.result) =
+    let s : c.add_spelling.new.text.items ≡ c.loop-at.text.items ++ spelling_of (kind_of c.index-pieces-at.result) =
     c.in_ok-add_spelling.ensures in
     let a : c.add_after.new.text.items ≡ c.add_spelling.new.text.items
     ++ after (kind_of c.index-pieces-at.result) (map kind_of (drop (c.loop-at.at + 1) c.args.pieces.now)) =

@@ -1,5 +1,5 @@
 use Rattle.std.proofs.Common.{◌≡◌, ◌++◌, drop, map}
-use Rattle.jl_print.specs.Kinds.{kind_of}
+use Rattle.jl_print.specs.inner.Kinds.{kind_of}
 use Rattle.jl_print.specs.Layout.{layout_of}
 use Rattle.jl_print.proofs.layout.lay_out.Given as goal
 

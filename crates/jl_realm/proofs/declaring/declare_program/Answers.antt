@@ -1,6 +1,6 @@
 use Rattle.std.proofs.Common.{subst}
 use Rattle.jl_meaning.specs.DeclarationBinding.{declare_global_functions}
-use Rattle.jl_store.specs.Answers.{answered}
+use Rattle.jl_store.specs.Answers.{ends_with}
 use Rattle.jl_store.specs.Comes.{Comes}
 use Rattle.jl_store.specs.Plain.{code_in, plain_functions}
 use Rattle.jl_realm.proofs.GlobalSteps.{program_comes, program_thrown}
@@ -16,7 +16,7 @@ returns-in_ok-declare_variables-in-Gives c =
     let fs = c.items.result.now in
     program_comes c.args.body.now fs c.items.ensures here
     (subst (λ a. Comes (declare_global_functions (plain_functions fs) here) c.args.store.now
-    c.declare_functions.new.store (answered a)) c.in-Gives.is c.in_ok-declare_functions.ensures)
+    c.declare_functions.new.store (ends_with a)) c.in-Gives.is c.in_ok-declare_functions.ensures)
     c.in_ok-declare_variables-in-Gives.ensures
 
 pub returns-in-Throws : goal.returns-in-Throws
@@ -25,4 +25,4 @@ returns-in-Throws c =
     let fs = c.items.result.now in
     program_thrown c.args.body.now fs c.items.ensures here
     (subst (λ a. Comes (declare_global_functions (plain_functions fs) here) c.args.store.now
-    c.declare_functions.new.store (answered a)) c.in-Throws.is c.in_ok-declare_functions.ensures)
+    c.declare_functions.new.store (ends_with a)) c.in-Throws.is c.in_ok-declare_functions.ensures)

@@ -2,8 +2,8 @@ use Rattle.std.proofs.Common.{◌≡◌, ◌+◌, ◌&&◌, ◌==◌, ℕ, ◌�
 use Rattle.std.specs.BTreeMap.{get}
 use Rattle.std.specs.Option.{unwrap_or}
 use Rattle.std.specs.Prelude.{if◌then◌else◌, cond, Some}
-use Rattle.jl_report.specs.Collected.{number_in, AreOfRules}
-use Rattle.jl_report.specs.Reports.{Key, by_place, capped, total_at, place_of}
+use Rattle.jl_report.specs.inner.Collected.{number_in, AreOfRules}
+use Rattle.jl_report.specs.Reports.{Key, by_place, saturate_u64, total_at, place_of}
 use Rattle.jl_report.proofs.OfRules.{of_rules_after}
 use Rattle.jl_report.proofs.Keys.{same_key, same_is, is_same, written, not_zero, grows, starts}
 use Rattle.jl_report.proofs.Totals.{here, here-some, here-none, plus_none, total_at-next}
@@ -30,7 +30,7 @@ loop-id-preserved c =
       | in-Some+in_ok-insert w ↦
           let k0 : Key = (w.in-Some.line, w.in-Some.column, c.args.rule) in
           let v = w.saturating_add.result in
-          let sum : v ≡ capped (w.unwrap_or-before.result + entry.1) = omega arith in
+          let sum : v ≡ saturate_u64 (w.unwrap_or-before.result + entry.1) = omega arith in
           let got : (k : Key) → get by_place c.match-place.hits k ≡ cond (is_same k0 k) (Some v)
           (get by_place c.loop-id.hits k) =
           λ k. ap (λ h. get by_place h k) w.hits-is ∙ w.in_ok-insert.ensures.updates.0 k
@@ -54,9 +54,9 @@ loop-id-preserved c =
                 ∙ ap (λ n. if is_same k0 k then n else number_in c.loop-id.hits k) sum)
                 (λ e. before ∙ ap (number_in c.loop-id.hits) (same_is k0 k e))
                 (c.loop-id.invariant.numbers k)
-                ∙ ap (λ n. capped (number_in c.args.hits.now k + (if c.args.rule == k.2 then total k + n else 0)))
+                ∙ ap (λ n. saturate_u64 (number_in c.args.hits.now k + (if c.args.rule == k.2 then total k + n else 0)))
                 (sym (here-some places (k.0, k.1) (w.in-Some.line, w.in-Some.column) entry at))
-                ∙ ap (λ n. capped (number_in c.args.hits.now k + (if c.args.rule == k.2 then n else 0))) (sym (next k));
+                ∙ ap (λ n. saturate_u64 (number_in c.args.hits.now k + (if c.args.rule == k.2 then n else 0))) (sym (next k));
           }
       | in_default w ↦
           record {
@@ -64,7 +64,7 @@ loop-id-preserved c =
             some = λ k e. c.loop-id.invariant.some k (ap (λ h. get by_place h k) (sym w.hits-is) ∙ e);
             numbers = λ k.
                 ap (λ h. number_in h k) w.hits-is ∙ c.loop-id.invariant.numbers k
-                ∙ ap (λ n. capped (number_in c.args.hits.now k + (if c.args.rule == k.2 then n else 0)))
+                ∙ ap (λ n. saturate_u64 (number_in c.args.hits.now k + (if c.args.rule == k.2 then n else 0)))
                 (plus_none (total k) _ (here-none places (k.0, k.1) entry (sym c.place.ensures ∙ w.in_default.is))
                 ∙ sym (next k));
           }

@@ -3,7 +3,7 @@ use Rattle.std.specs.Prelude.{filter}
 use Rattle.jl_analysis.specs.Chosen.{is_chosen}
 use Rattle.jl_analysis.specs.contracts.crowd.CrowdFindings.TheImpl.{ghosts}
 use Rattle.jl_analysis.specs.Rules.{IsRule}
-use Rattle.jl_report.specs.Collected.{number_in, HasHits, AreOfRules}
+use Rattle.jl_report.specs.inner.Collected.{number_in, HasHits, AreOfRules}
 use Rattle.jl_report.specs.Off.{is_off}
 use Rattle.jl_report.specs.Reports.{key, IsReportOfFindings}
 use Rattle.jl_report.proofs.Collecting.{pair_at, some_at, few_here, taken, passed, all_listed, is_done, made}
@@ -49,18 +49,18 @@ returns-clause-found g c =
     let fs = (ghosts g.dyn-1).findings c.args.crowd.now in
     let all : c.loop-place.place ≡ length fs =
     omega (arith, c.loop-place-test.false, c.loop-place.auto.place-end, c.len-place-end.ensures.findings) in
-    made c.listed.result (λ lines. map (λ x. (key x, x.count)) lines
+    made c.list_lines.result (λ lines. map (λ x. (key x, x.count)) lines
     ≡ filter (λ e. not (is_off c.args.off.now e.0.0 e.0.2)) c.loop-place.hits.entries)
     (IsReportOfFindings (is_chosen c.args.chosen) c.args.off.now c.args.places.now fs)
     (λ lines listed.
     all_listed (is_chosen c.args.chosen) c.args.off.now c.args.places.now fs c.loop-place.place c.loop-place.hits lines
-    all listed c.listed.ensures.in_order c.loop-place.invariant.some c.loop-place.invariant.numbers)
-    c.listed.ensures.listed
+    all listed c.list_lines.ensures.in_order c.loop-place.invariant.some c.loop-place.invariant.numbers)
+    c.list_lines.ensures.listed
 
 pub returns-clause-done : goal.returns-clause-done
 returns-clause-done g c =
     let fs = (ghosts g.dyn-1).findings c.args.crowd.now in
-    made c.listed.result (IsReportOfFindings (is_chosen c.args.chosen) c.args.off.now c.args.places.now fs) _
+    made c.list_lines.result (IsReportOfFindings (is_chosen c.args.chosen) c.args.off.now c.args.places.now fs) _
     (λ lines found told all stands few.
     is_done (is_chosen c.args.chosen) c.args.off.now c.args.places.now fs _ told lines found all
     (c.len-place-end.ensures.summed told stands) few)
@@ -68,9 +68,9 @@ returns-clause-done g c =
 
 pub returns-clause-rules : goal.returns-clause-rules
 returns-clause-rules g c =
-    made c.listed.result (λ lines. map (λ x. (key x, x.count)) lines
+    made c.list_lines.result (λ lines. map (λ x. (key x, x.count)) lines
     ≡ filter (λ e. not (is_off c.args.off.now e.0.0 e.0.2)) c.loop-place.hits.entries)
     (λ lines. All (λ x. IsRule x.rule) lines)
     (λ lines listed. of_rules_listed lines c.loop-place.hits (λ k. not (is_off c.args.off.now k.0 k.2)) listed
     c.loop-place.invariant.rules)
-    c.listed.ensures.listed
+    c.list_lines.ensures.listed

@@ -1,4 +1,4 @@
-use Rattle.jl_scope.specs.Steps.{scope_of}
+use Rattle.jl_scope.specs.inner.Steps.{scope_of}
 use Rattle.jl_scope.proofs.Firsts.{parameter_turn}
 use Rattle.jl_scope.proofs.heads.offer_parameters.Goals as goal
 

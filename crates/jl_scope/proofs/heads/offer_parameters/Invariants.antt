@@ -2,7 +2,7 @@ use Rattle.std.proofs.Common.{◌≡◌, [], drop, map}
 use Rattle.jl_ast.specs.View.{view_ident}
 use Rattle.jl_scope.specs.EarlyErrors.{parameter_early_errors}
 use Rattle.jl_scope.specs.Kinds.{first_from}
-use Rattle.jl_scope.specs.Steps.{scope_of}
+use Rattle.jl_scope.specs.inner.Steps.{scope_of}
 use Rattle.jl_scope.proofs.heads.offer_parameters.Given as goal
 
 abbrev pub invariant-loop-p : goal.invariant-loop-p

@@ -1,4 +1,4 @@
-use Rattle.jl_scope.specs.Steps.{scope_of}
+use Rattle.jl_scope.specs.inner.Steps.{scope_of}
 use Rattle.jl_scope.proofs.KeyLists.{entry_turn}
 use Rattle.jl_scope.proofs.keys.offer_keys.Goals as goal
 

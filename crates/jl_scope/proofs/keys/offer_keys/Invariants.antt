@@ -2,7 +2,7 @@ use Rattle.std.proofs.Common.{◌≡◌, drop}
 use Rattle.jl_ast.specs.View.{view_entries}
 use Rattle.jl_scope.specs.EarlyErrors.{literal_early_errors, no_keys}
 use Rattle.jl_scope.specs.Kinds.{first_from}
-use Rattle.jl_scope.specs.Steps.{scope_of, keys_of}
+use Rattle.jl_scope.specs.inner.Steps.{scope_of, keys_of}
 use Rattle.jl_scope.proofs.keys.offer_keys.Given as goal
 
 abbrev pub invariant-loop-entry : goal.invariant-loop-entry

@@ -1,6 +1,6 @@
 use Rattle.std.proofs.Common.{◌≡◌, map, length}
 use Rattle.jl_scope.specs.Scope.{has_loop_label}
-use Rattle.jl_scope.specs.Steps.{label_of}
+use Rattle.jl_scope.specs.inner.Steps.{label_of}
 use Rattle.jl_scope.proofs.scope.has_loop_label.Given as goal
 
 abbrev pub invariant-loop-labels : goal.invariant-loop-labels

@@ -11,7 +11,7 @@ use Rattle.jl_ast.proofs.Views.{statement_placed, statement_If, statement_For, c
 use Rattle.jl_ast.proofs.Parts.{branch_there, below_for}
 use Rattle.jl_scope.specs.EarlyErrors.{early_errors, forest_early_errors, optional_early_errors, written_early_errors}
 use Rattle.jl_scope.specs.Kinds.{first_from}
-use Rattle.jl_scope.specs.Steps.{scope_of}
+use Rattle.jl_scope.specs.inner.Steps.{scope_of}
 use Rattle.jl_scope.proofs.Firsts.{turn, then_part, last_part, held_there, held_absent, item_is}
 use Rattle.jl_scope.proofs.walk.+walk.Goals as goal
 use Rattle.jl_scope.proofs.walk.+walk.Goals.{walk_items-in-Some+in_ok-walk_expression-in-Some, walk_items-in-None}
@@ -56,16 +56,16 @@ pub walk_declarators-loop-d-preserved : goal.walk_declarators-loop-d-preserved
 walk_declarators-loop-d-preserved t c =
     let s = scope_of c.args.s.now in
     let held : c.match-d.found
-    ≡ first_from c.written.new.self (optional_early_errors s (view_optional c.d-item.result.1)) =
+    ≡ first_from c.written_name.new.self (optional_early_errors s (view_optional c.d-item.result.1)) =
     elim c.match-d.branch [
       | walk_declarators-in-Some+in_ok-walk_expression-in-Some w ↦
           held_there s _ _ _ _ _ w.in-Some.is w.found-is w.in_ok-walk_expression-in-Some.ensures
       | walk_declarators-in-None w ↦ held_absent s _ _ _ w.in-None.is w.found-is
     ] in
     turn view_declarators view_declarator (λ a l. refl) s c.args.declarators.now _ _ _ _ _
-    c.d-item.is c.loop-d-test.true c.loop-d.invariant (then_part c.loop-d.found c.written.new.self c.match-d.found
+    c.d-item.is c.loop-d-test.true c.loop-d.invariant (then_part c.loop-d.found c.written_name.new.self c.match-d.found
     (written_early_errors s c.d-item.result.0.text c.d-item.result.0.span)
-    (optional_early_errors s (view_optional c.d-item.result.1)) c.written.ensures held)
+    (optional_early_errors s (view_optional c.d-item.result.1)) c.written_name.ensures held)
 
 pub walk_items-loop-e-preserved : goal.walk_items-loop-e-preserved
 walk_items-loop-e-preserved t c =

@@ -3,7 +3,7 @@ use Rattle.jl_ast.specs.View.{view_functions, view_statements, view_declarators,
 use Rattle.jl_ast.specs.View.{view_entries, view_expressions}
 use Rattle.jl_scope.specs.EarlyErrors.{forest_early_errors}
 use Rattle.jl_scope.specs.Kinds.{first_from}
-use Rattle.jl_scope.specs.Steps.{scope_of}
+use Rattle.jl_scope.specs.inner.Steps.{scope_of}
 use Rattle.jl_scope.proofs.walk.+walk.Given as goal
 
 abbrev pub invariant-walk_functions-loop-f : goal.invariant-walk_functions-loop-f

@@ -2,7 +2,7 @@ use Rattle.std.proofs.Common.{◌≡◌, ◌∙◌, ◌-◌, ◌<◌, ◌≤◌,
 use Rattle.jl_meaning.specs.ArgumentsObject.{mapped_names}
 use Rattle.jl_scope.specs.NameSets.{SameNames}
 use Rattle.jl_store.specs.Plain.{names_of}
-use Rattle.jl_store.specs.inner.Arguments.{unmapped}
+use Rattle.jl_store.specs.inner.Arguments.{no_mappings}
 use Rattle.jl_store.proofs.MappedNames.{mapped_new, mapped_old, same_before, within_mapped}
 use Rattle.jl_store.proofs.arguments.mapped_names.Goals as goal
 
@@ -17,7 +17,7 @@ loop-at-preserved-then-branch c =
     let next : c.loop-at.at ≡ suc (c.loop-at.at - 1) = omega (arith, c.loop-at-test.true) in
     let within : c.loop-at.at - 1 < length c.args.params.now = omega (arith, c.loop-at-test.true, c.loop-at.invariant.within) in
     let mapped =
-    subst (λ n. c.loop-at.names ≡ unmapped n ++ mapped_names (names_of (drop n c.args.params.now))) next
+    subst (λ n. c.loop-at.names ≡ no_mappings n ++ mapped_names (names_of (drop n c.args.params.now))) next
     c.loop-at.invariant.mapped in
     let same = subst (λ n. SameNames c.loop-at.later (names_of (drop n c.args.params.now))) next c.loop-at.invariant.same in
     record {
@@ -38,7 +38,7 @@ loop-at-preserved c =
     let next : c.loop-at.at ≡ suc (c.loop-at.at - 1) = omega (arith, c.loop-at-test.true) in
     let within : c.loop-at.at - 1 < length c.args.params.now = omega (arith, c.loop-at-test.true, c.loop-at.invariant.within) in
     let mapped =
-    subst (λ n. c.loop-at.names ≡ unmapped n ++ mapped_names (names_of (drop n c.args.params.now))) next
+    subst (λ n. c.loop-at.names ≡ no_mappings n ++ mapped_names (names_of (drop n c.args.params.now))) next
     c.loop-at.invariant.mapped in
     let same = subst (λ n. SameNames c.loop-at.later (names_of (drop n c.args.params.now))) next c.loop-at.invariant.same in
     record {

@@ -2,7 +2,7 @@ use Rattle.std.proofs.Common.{subst, sym, arith}
 use Rattle.std.proofs.lemmas.Result.{IfOk-weaker}
 use Rattle.jl_props.specs.Entries.{IsInOrder}
 use Rattle.jl_heap.specs.Objects.{object_at}
-use Rattle.jl_heap.specs.Steps.{Covers}
+use Rattle.jl_heap.specs.inner.Steps.{Covers}
 use Rattle.jl_heap.proofs.Covered.{covers_past, names_cover}
 use Rattle.jl_heap.proofs.InsideLemmas.{properties_at}
 use Rattle.jl_heap.proofs.heap.Heap.elements.Goals as goal

@@ -1,7 +1,7 @@
 use Rattle.std.proofs.Common.{◌≡◌, ◌∙◌, true, None, sym, subst, arith}
 use Rattle.jl_num.specs.Digits.{digits_of}
 use Rattle.jl_heap.specs.Objects.{serial_of}
-use Rattle.jl_heap.specs.Steps.{is_listed}
+use Rattle.jl_heap.specs.inner.Steps.{is_listed}
 use Rattle.jl_heap.proofs.Covered.{lists_more, still_listed, new_listed, no_serial, covers_from_lists}
 use Rattle.jl_heap.proofs.heap.Heap.elements_between.Goals as goal
 use Rattle.jl_heap.proofs.heap.Heap.elements_between.Goals.{in-Some+in_ok-push, in_default}

@@ -1,5 +1,5 @@
 use Rattle.std.proofs.Common.{◌≡◌, length}
-use Rattle.jl_heap.specs.Steps.{without_elements}
+use Rattle.jl_heap.specs.inner.Steps.{without_elements}
 use Rattle.jl_heap.proofs.heap.Heap.entries_outside.Given as goal
 
 abbrev pub invariant-loop-names : goal.invariant-loop-names

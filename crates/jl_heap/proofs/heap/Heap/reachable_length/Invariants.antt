@@ -1,5 +1,5 @@
 use Rattle.std.proofs.Common.{◌≡◌, ◌≤◌, length, max}
-use Rattle.jl_heap.specs.Steps.{reached_over}
+use Rattle.jl_heap.specs.inner.Steps.{reached_over}
 use Rattle.jl_heap.proofs.heap.Heap.reachable_length.Given as goal
 
 abbrev pub invariant-loop-names : goal.invariant-loop-names

@@ -1,6 +1,6 @@
 use Rattle.std.proofs.Common.{drop, subst, ◌+◌}
 use Rattle.jl_meaning.specs.DeclarationBinding.{declare_global_variables}
-use Rattle.jl_store.specs.Answers.{finished}
+use Rattle.jl_store.specs.Answers.{finish_of}
 use Rattle.jl_store.specs.Bindings.{declare_global_variable}
 use Rattle.jl_store.specs.Comes.{Comes}
 use Rattle.jl_store.proofs.Loops.{globals_from, next_done, next_failed, next_thrown}
@@ -12,7 +12,7 @@ returns-in-Throws c =
     (globals_from c.loop-name.name-index c.args.names.now c.name-item.result c.loop-name.invariant c.loop-name-test.true
     c.name-item.is)
     (subst (λ end. Comes (declare_global_variable c.name-item.result) c.loop-name.self c.declare_global_variable.new.self
-    (finished end)) c.in-Throws.is c.in_ok-declare_global_variable.ensures)
+    (finish_of end)) c.in-Throws.is c.in_ok-declare_global_variable.ensures)
 
 pub returns-in-Fails : goal.returns-in-Fails
 returns-in-Fails c =
@@ -20,7 +20,7 @@ returns-in-Fails c =
     (globals_from c.loop-name.name-index c.args.names.now c.name-item.result c.loop-name.invariant c.loop-name-test.true
     c.name-item.is)
     (subst (λ end. Comes (declare_global_variable c.name-item.result) c.loop-name.self c.declare_global_variable.new.self
-    (finished end)) c.in-Fails.is c.in_ok-declare_global_variable.ensures)
+    (finish_of end)) c.in-Fails.is c.in_ok-declare_global_variable.ensures)
 
 pub loop-name-preserved : goal.loop-name-preserved
 loop-name-preserved c =
@@ -28,4 +28,4 @@ loop-name-preserved c =
     (globals_from c.loop-name.name-index c.args.names.now c.name-item.result c.loop-name.invariant c.loop-name-test.true
     c.name-item.is)
     (subst (λ end. Comes (declare_global_variable c.name-item.result) c.loop-name.self c.declare_global_variable.new.self
-    (finished end)) c.in-Gives.is c.in_ok-declare_global_variable.ensures)
+    (finish_of end)) c.in-Gives.is c.in_ok-declare_global_variable.ensures)

@@ -1,9 +1,0 @@
-use Rattle.std.proofs.Common.{◌≡◌, ◌≤◌}
-use Rattle.jl_lex.specs.Amounts.{scaled}
-use Rattle.jl_lex.proofs.numbers.scaled.Given as goal
-
-abbrev pub invariant-loop-left : goal.invariant-loop-left
-invariant-loop-left l = record { value : scaled l.value l.left ≡ scaled l.number l.times; small : l.value ≤ 90071992547409910 }
-
-abbrev pub decreases-loop-left : goal.decreases-loop-left
-decreases-loop-left l = l.left
