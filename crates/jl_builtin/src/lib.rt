@@ -6,7 +6,6 @@ mod elements;
 mod filling;
 mod integers;
 mod lists;
-mod spaces;
 mod turns;
 mod waiting;
 
@@ -17,6 +16,5 @@ pub use integers::{
     clamp, index_or_none, integer_of, length_of, number_of_primitive, relative_index,
 };
 pub use lists::{copy_of, rest_of, value_from, with_units, with_values};
-pub use spaces::{without_end, without_front};
-pub use turns::{give_text, go_on, fail_row};
+pub use turns::{fail_row, give_text, go_on};
 pub use waiting::{wait_for_number, wait_for_string};

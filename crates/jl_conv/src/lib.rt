@@ -6,7 +6,9 @@ mod conversions;
 mod decimal;
 pub mod laws;
 mod numerals;
+mod spaces;
 
 pub use comparisons::{primitive_equal, primitive_less, strict_equal};
 pub use conversions::{primitive_to_num, primitive_to_text, to_boolean, type_name};
 pub use numerals::text_to_num;
+pub use spaces::{without_end, without_front};

@@ -1,10 +1,10 @@
 //! Strings as numbers (9.3.1), in a time that grows with their length alone, whatever their exponent.
 ghost use Rattle.std.specs.Prelude.{◌≡◌, ◌==◌, ◌||◌};
 ghost use Rattle.std.specs.Result.{result_ok};
-ghost use Rattle.jl_conv.specs.Numerals.{is_space, without_front, without_end, literal_number, text_number};
+ghost use Rattle.jl_conv.specs.Numerals.{literal_number, text_number};
 
 use crate::decimal::{decimal, hexadecimal};
-use jl_lex::{is_line_terminator, is_white_space};
+use crate::spaces::{without_end, without_front};
 use jl_num::{Num, NumberOutside};
 
 const PLUS: u16 = 0x2b;
@@ -21,32 +21,6 @@ pub fn text_to_num(units: &[u16]) -> Result<Num, NumberOutside>
     ensures { result_ok result ≡ text_number units.now }
 {
     literal(without_end(without_front(units)))
-}
-
-fn is_space(unit: u16) -> bool
-    ensures { result ≡ is_space unit }
-{
-    is_white_space(unit) || is_line_terminator(unit)
-}
-
-fn without_front(units: &[u16]) -> &[u16]
-    ensures { result.now ≡ without_front units.now }
-{
-    let mut from = 0;
-    while from < units.len() && is_space(units[from]) {
-        from += 1;
-    }
-    &units[from..]
-}
-
-fn without_end(units: &[u16]) -> &[u16]
-    ensures { result.now ≡ without_end units.now }
-{
-    let mut end = units.len();
-    while end > 0 && is_space(units[end - 1]) {
-        end -= 1;
-    }
-    &units[..end]
 }
 
 fn literal(units: &[u16]) -> Result<Num, NumberOutside>

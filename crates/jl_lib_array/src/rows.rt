@@ -11,7 +11,7 @@ ghost use Rattle.jl_state.specs.Words.{call_of, table_of};
 use crate::appending::concat;
 use crate::lengths::begin_with_length;
 use crate::strings::array_to_string;
-use jl_builtin::{argument, is_undefined, fail_row};
+use jl_builtin::{argument, fail_row, is_undefined};
 use jl_progress::LengthFunction;
 use jl_state::{Act, Invocation, State};
 use jl_store::Answer;

@@ -8,9 +8,7 @@ ghost use Rattle.jl_state.specs.Rank.{Falls};
 ghost use Rattle.jl_state.specs.Rest.{Works};
 
 use crate::frames::{begin_turn, sum};
-use jl_builtin::{
-    argument, clamp, number_of_primitive, relative_index, rest_of, wait_for_number,
-};
+use jl_builtin::{argument, clamp, number_of_primitive, relative_index, rest_of, wait_for_number};
 use jl_progress::{
     AfterCopying, AfterMoving, AfterPutting, ArrayProgress, Copying, LengthFunction, Moving,
     Progress, Splicing,

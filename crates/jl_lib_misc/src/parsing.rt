@@ -8,7 +8,7 @@ ghost use Rattle.jl_meaning.specs.builtins.Global.{after_hex_prefix, digit_of, p
 ghost use Rattle.jl_meaning.specs.builtins.Global.{parse_in_radix, parse_signed};
 ghost use Rattle.jl_num.specs.Arithmetic.{number_of};
 
-use jl_builtin::without_front;
+use jl_conv::without_front;
 use jl_num::{LARGEST_SIZE, Num, NumberOutside};
 
 const PLUS: u16 = 0x2b;

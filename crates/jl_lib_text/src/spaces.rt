@@ -7,7 +7,7 @@ ghost use Rattle.jl_state.specs.Rest.{Works};
 ghost use Rattle.jl_state.specs.declared.state.State.{State as Machine};
 
 use crate::texts::text_of_units;
-use jl_builtin::{without_end, without_front};
+use jl_conv::{without_end, without_front};
 use jl_state::Act;
 use jl_text::{NoMemory, Text};
 use jl_value::Value;
@@ -18,6 +18,6 @@ pub(crate) fn give_trimmed<'p>(alloc: Global, units: &Text) -> Result<Act<'p>, N
     ensures leads { IfOk result (λ act. (s : Machine) → Works s (give_string (trim units.now)) s act) }
     ensures low { IfOk result (λ act. rank_act act ≤ 2) }
 {
-    let trim = without_end(without_front(units.units()));
-    Ok(Act::Give(Value::Text(text_of_units(alloc, trim)?)))
+    let trimmed = without_end(without_front(units.units()));
+    Ok(Act::Give(Value::Text(text_of_units(alloc, trimmed)?)))
 }

@@ -1,7 +1,7 @@
 use Rattle.std.proofs.Common.{◌≡◌, ◌+◌, ◌-◌, ◌≤◌, length, drop}
 use Rattle.std.specs.List.{prefix_len}
 use Rattle.jl_conv.specs.Numerals.{is_space}
-use Rattle.jl_conv.proofs.numerals.without_front.Given as goal
+use Rattle.jl_conv.proofs.spaces.without_front.Given as goal
 
 abbrev pub invariant-loop-from : goal.invariant-loop-from
 invariant-loop-from l = record {

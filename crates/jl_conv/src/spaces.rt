@@ -1,4 +1,4 @@
-//! Spaces at the ends of strings (9.3.1).
+//! Spaces at the ends of strings (9.3.1, 15.5.4.20).
 ghost use Rattle.std.specs.Prelude.{◌≡◌};
 ghost use Rattle.jl_conv.specs.Numerals.{is_space, without_end, without_front};
 
@@ -11,7 +11,7 @@ fn is_space(unit: u16) -> bool
     is_white_space(unit) || is_line_terminator(unit)
 }
 
-/// The units without the spaces in front.
+/// The UTF-16 units without the spaces in front, each of which is looked at once.
 pub fn without_front(units: &[u16]) -> &[u16]
     ensures { result.now ≡ without_front units.now }
 {
@@ -22,7 +22,7 @@ pub fn without_front(units: &[u16]) -> &[u16]
     &units[from..]
 }
 
-/// The units without the spaces at the end.
+/// The UTF-16 units without the spaces at the end, each of which is looked at once.
 pub fn without_end(units: &[u16]) -> &[u16]
     ensures { result.now ≡ without_end units.now }
 {

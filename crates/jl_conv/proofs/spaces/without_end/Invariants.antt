@@ -1,7 +1,7 @@
 use Rattle.std.proofs.Common.{◌≡◌, ◌+◌, ◌≤◌, length, take}
 use Rattle.std.specs.List.{suffix_len}
 use Rattle.jl_conv.specs.Numerals.{is_space}
-use Rattle.jl_conv.proofs.numerals.without_end.Given as goal
+use Rattle.jl_conv.proofs.spaces.without_end.Given as goal
 
 abbrev pub invariant-loop-end : goal.invariant-loop-end
 invariant-loop-end l = record {
