@@ -6,10 +6,9 @@ Run it at the top of the repository after `rt ci`, as bench/running.py. The work
 where each of n calls goes through all n elements, as `shift` and `unshift` do by their turns. A script is judged by the cost
 of its greatest size over that of a tenth of it. Where one gives more than 2, the exit status is 1."""
 
-import shutil
 import sys
 
-from running import PRELUDE, RUN, deep_stack, least
+from running import Machine, ratio_of
 
 LIMIT = 2.0
 TEXT = "var t = 'x'; while (t.length < {n}) {{ t = t + t; }} t = t.slice(0, {n}); "
@@ -39,31 +38,15 @@ SCRIPTS = [
 
 
 def main():
-    node = shutil.which("node")
-    empty = least(RUN, "")[0]
-    bare = least([node, "-"], PRELUDE)[0] if node else 0.0
-    worst = 0.0
+    machine, worst = Machine(), 0.0
     print(f"{'script':24}{'size':>8}{'ns a unit':>11}{'MB':>6}{'times node':>12}")
     for name, text, sizes, power in SCRIPTS:
         costs = []
         for n in sizes:
-            script = text.format(n=n)
-            spent, megabytes, answer = least(RUN, script)
-            printed, _, end = answer.rstrip("\n").rpartition("\n")
-            if not end.startswith("jlint: normal steps="):
-                sys.exit(f"{name}, {n}: {end}")
-            costs.append(1e9 * max(spent - empty, 0.0) / n ** power)
-            times = "-"
-            if node:
-                other, _, due = least([node, "--stack-size=60000", "-"], PRELUDE + script, deep_stack)
-                if printed != due.rstrip("\n"):
-                    sys.exit(f"{name}, {n}: node prints {due!r}")
-                times = f"{(spent - empty) / max(other - bare, 1e-3):.1f}"
+            seconds, megabytes, _, times = machine.run(name, n, text.format(n=n))
+            costs.append(1e9 * seconds / n ** power)
             print(f"{name:24}{n:8}{costs[-1]:11.0f}{megabytes:6}{times:>12}", flush=True)
-        # the smallest run is over before a clock tells much of it
-        ratio = costs[-1] / costs[-2] if costs[-2] else 0.0
-        worst = max(worst, ratio)
-        print(f"{name:24}{'ratio of the last two':>19}{ratio:7.2f}", flush=True)
+        worst = max(worst, ratio_of(name, costs, 19))
     return 1 if worst > LIMIT else 0
 
 

@@ -57,35 +57,49 @@ def least(command, text, prepare=None):
     return min(once(command, text, prepare) for _ in range(3))
 
 
+class Machine:
+    """The program beside node, where node is there, and what each takes for a script that does nothing."""
+
+    def __init__(self):
+        if not os.path.exists(PROGRAM):
+            sys.exit("no " + PROGRAM + ": build it first")
+        self.node = shutil.which("node")
+        self.empty = least(RUN, "")[0]
+        self.bare = least([self.node, "-"], PRELUDE)[0] if self.node else 0.0
+
+    def run(self, name, n, script):
+        """The seconds that a script takes, the megabytes at the most, its steps, and how many times as long as node."""
+        spent, megabytes, answer = least(RUN, script)
+        printed, _, end = answer.rstrip("\n").rpartition("\n")
+        if not end.startswith("jlint: normal steps="):
+            sys.exit(f"{name}, {n}: {end}")
+        times = "-"
+        if self.node:
+            other, _, due = least([self.node, "--stack-size=60000", "-"], PRELUDE + script, deep_stack)
+            if printed != due.rstrip("\n"):
+                sys.exit(f"{name}, {n}: node prints {due!r}")
+            times = f"{(spent - self.empty) / max(other - self.bare, 1e-3):.1f}"
+        return max(spent - self.empty, 0.0), megabytes, int(end.split("=")[1]), times
+
+
+def ratio_of(name, costs, width):
+    """The cost at the greatest size over that of a tenth of it, which is printed. The smallest run is over before a clock
+    tells much of it."""
+    ratio = costs[-1] / costs[-2] if costs[-2] else 0.0
+    print(f"{name:24}{'ratio of the last two':>{width}}{ratio:7.2f}", flush=True)
+    return ratio
+
+
 def main():
-    if not os.path.exists(PROGRAM):
-        sys.exit("no " + PROGRAM + ": build it first")
-    node = shutil.which("node")
-    empty = least(RUN, "")[0]
-    bare = least([node, "-"], PRELUDE)[0] if node else 0.0
-    worst = 0.0
+    machine, worst = Machine(), 0.0
     print(f"{'script':24}{'size':>8}{'steps':>9}{'ns a step':>11}{'MB':>6}{'times node':>12}")
     for name, text, sizes in SCRIPTS:
         costs = []
         for n in sizes:
-            script = text.format(n=n)
-            spent, megabytes, answer = least(RUN, script)
-            printed, _, end = answer.rstrip("\n").rpartition("\n")
-            if not end.startswith("jlint: normal steps="):
-                sys.exit(f"{name}, {n}: {end}")
-            steps = int(end.split("=")[1])
-            costs.append(1e9 * max(spent - empty, 0.0) / steps)
-            times = "-"
-            if node:
-                other, _, due = least([node, "--stack-size=60000", "-"], PRELUDE + script, deep_stack)
-                if printed != due.rstrip("\n"):
-                    sys.exit(f"{name}, {n}: node prints {due!r}")
-                times = f"{(spent - empty) / max(other - bare, 1e-3):.1f}"
+            seconds, megabytes, steps, times = machine.run(name, n, text.format(n=n))
+            costs.append(1e9 * seconds / steps)
             print(f"{name:24}{n:8}{steps:9}{costs[-1]:11.0f}{megabytes:6}{times:>12}", flush=True)
-        # the smallest run is over before a clock tells much of it
-        ratio = costs[-1] / costs[-2] if costs[-2] else 0.0
-        worst = max(worst, ratio)
-        print(f"{name:24}{'ratio of the last two':>23}{ratio:7.2f}", flush=True)
+        worst = max(worst, ratio_of(name, costs, 23))
     return 1 if worst > LIMIT else 0
 
 
