@@ -1,6 +1,6 @@
-// node plain_hooks.js SCRIPT: runs a script or its woven text with hooks of plain JavaScript beside it, and prints as JSON
-// the lines that it printed and how it ended. A hook does what the node did that it stands for, and tells nobody. What the
-// engine does in an order of its own, as the conversion of a key, a hook leaves to the engine.
+// node plain_hooks.js SCRIPT: runs a script or its woven text with hooks of plain JavaScript beside it, and prints as
+// JSON the lines that it printed and how it ended. A hook does what the operation did that it stands for, and tells
+// nobody. It converts a key where node does: at the put, after the value, where 11.2.1 has it before.
 'use strict';
 
 const fs = require('fs');

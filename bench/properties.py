@@ -1,18 +1,30 @@
 #!/usr/bin/env python3
 """Times of calls of jl_props on one object of 1,000, 10,000 and 100,000 properties, in microseconds of the processor
-a call.
+a call, and beside them those of a table of constant steps: Python's `dict`, a hash table in C.
 
-Run it at the top of the repository after `tools/programs.py jl_props_bench`. A store finds names by an ordered map,
-whose steps grow with the logarithm of the number of names, which is 1.67 times as great at 100,000 as at 1,000. With
-that divided out no call should cost more than twice at 100,000 of what it costs at 1,000; the exit status is 1 where one
-does. That is judged where names come in their order: rising ones, and nested ones, which have a hundred units in common
-and so cost an ordered map most. Mixed ones come in another order, so that at 100,000 each step also misses the
-processor's caches; these rows are printed and not judged.
+Run it at the top of the repository after `tools/programs.py jl_props_bench`, with kinds of names as arguments, or with
+none for all three. A store finds names by an ordered map, whose steps grow with the logarithm of the number of names,
+which is 1.67 times as great at 100,000 as at 1,000. Any table of 100,000 names is also past the processor's nearer
+caches, so that a call costs more even where its steps do not grow. How much that is on this machine the `dict` tells,
+which is timed in turns with the program and in the same way: over as many strings of the same letters, made and used in
+the same order, by calls that do the same and stay in C.
 
-A put has the look-up before it that a caller makes. To put again is to take a name out and then to put it. The last row
-of a kind is the cost of a name in a list of all names, which counts one more owner of each; its ratio is printed and not
-judged either, since the names of 100,000 properties are past the caches."""
+    put      looks each name up in a new object and puts it        setdefault on a new dict
+    get      looks each name up                                    []
+    again    takes each name out and puts it again                 pop, and setting it
+    order    lists all names, with one more owner of each          list
 
+Names rise, or rise with a hundred units in common, which costs an ordered map most, or come in an order that is mixed.
+The strings of the dict have kept their hashes from the first turn on.
+
+Each row is judged: the growth of the call from 1,000 to 100,000 names, divided by that of the logarithm but for
+`order`, which takes no look-up, is to be at most twice the growth of the same call of the dict. The exit status is 1
+where one is greater. A time is that of the process in user mode, the least of five runs of the program and the dict
+in turns, as the machine may be shared, less the least of those which make the names and no turn."""
+
+import collections
+import gc
+import itertools
 import math
 import os
 import resource
@@ -20,24 +32,69 @@ import subprocess
 import sys
 
 PROGRAM = os.path.join("programs", "out", "jl_props_bench")
+COMMANDS = [(PROGRAM,), (sys.executable, os.path.abspath(__file__), "dict")]
+PREFIX = "abcdefghijklmnopqrstuvwxyz" * 3 + "abcdefghijklmnopqrstuv"
 COUNTS = [1000, 10000, 100000]
+KINDS = ["rising", "nested", "mixed"]
+CALLS = {"put": 2000000, "get": 2000000, "again": 2000000, "order": 20000000}
+RUNS = 5
 LIMIT = 2.0
 
 
-def run(call, kind, count, turns):
+def names_of(kind, count):
+    """The names that the program makes."""
+    if kind == "mixed":
+        return [f"p{at * 7919 % count:06}" for at in range(count)]
+    return [f"{PREFIX if kind == 'nested' else 'p'}{at:06}" for at in range(count)]
+
+
+def drain(calls):
+    """Makes all calls of an iterator."""
+    collections.deque(calls, maxlen=0)
+
+
+def turn(call, held, names):
+    """One turn of a call over all names of a dict."""
+    if call == "put":
+        drain(map({}.setdefault, names))
+    elif call == "get":
+        drain(map(held.__getitem__, names))
+    elif call == "again":
+        drain(map(held.__setitem__, names, map(held.pop, names)))
+    else:
+        list(held)
+
+
+def use_dict(call, kind, count, turns):
+    """What the program does, by a dict."""
+    gc.disable()
+    names = names_of(kind, count)
+    held = dict.fromkeys(names, 0) if call != "put" else {}
+    for _ in range(turns):
+        turn(call, held, names)
+
+
+def run(command, call, kind, count, turns):
     start = resource.getrusage(resource.RUSAGE_CHILDREN).ru_utime
-    subprocess.run([PROGRAM, call, kind, str(count), str(turns)], stdout=subprocess.DEVNULL, check=True)
+    subprocess.run([*command, call, kind, str(count), str(turns)], stdout=subprocess.DEVNULL, check=True)
     return resource.getrusage(resource.RUSAGE_CHILDREN).ru_utime - start
 
 
-def microseconds(call, kind, count):
-    """The least of three runs, without the time of making the names and, but for puts, the properties."""
-    turns = (20000000 if call == "order" else 2000000) // count
-    best = None
-    for _ in range(3):
-        spent = (run(call, kind, count, turns) - run(call, kind, count, 0)) / (turns * count)
-        best = spent if best is None else min(best, spent)
-    return 1e6 * best
+def microseconds(call, kind):
+    """What the program and the dict take for a call, each at all counts: the least of five runs that come in turns,
+    less the least of those without a turn, which make the names and, but for puts, the properties."""
+    least = {}
+    for _ in range(RUNS):
+        for count, command in itertools.product(COUNTS, COMMANDS):
+            for turns in (0, CALLS[call] // count):
+                row = (command, count, turns > 0)
+                least[row] = min(least.get(row, math.inf), run(command, call, kind, count, turns))
+    return [[1e6 * (least[command, count, True] - least[command, count, False]) / CALLS[call] for count in COUNTS]
+            for command in COMMANDS]
+
+
+def times(found):
+    return "".join(f"{spent:10.4f}" for spent in found)
 
 
 def main():
@@ -45,19 +102,22 @@ def main():
         sys.exit("no " + PROGRAM + ": run tools/programs.py jl_props_bench first")
     log = math.log(COUNTS[-1]) / math.log(COUNTS[0])
     worst = 0.0
-    heads = "".join(f"{count:12}" for count in COUNTS)
-    print(f"{'names':8}{'call':8}{heads}  ratio  without the logarithm")
-    for kind in ("rising", "nested", "mixed"):
-        for call in ("put", "get", "again", "order"):
-            found = [microseconds(call, kind, count) for count in COUNTS]
-            ratio = found[-1] / found[0]
-            # a list in order takes no look-up
-            bare = ratio if call == "order" else ratio / log
-            if kind != "mixed" and call != "order":
-                worst = max(worst, bare)
-            times = "".join(f"{spent:9.3f} us" for spent in found)
-            print(f"{kind:8}{call:8}{times}{ratio:7.2f}{bare:7.2f}", flush=True)
+    heads = "".join(f"{count:10}" for count in COUNTS)
+    print(f"{'names':8}{'call':7}{heads}  growth  bare |{heads} of a dict  growth | bare to that of the dict")
+    for kind in sys.argv[1:] or KINDS:
+        for call in CALLS:
+            ours, theirs = microseconds(call, kind)
+            growth, constant = ours[-1] / ours[0], theirs[-1] / theirs[0]
+            bare = growth if call == "order" else growth / log
+            worst = max(worst, bare / constant)
+            told = "" if bare / constant <= LIMIT else "  above the limit"
+            print(f"{kind:8}{call:7}{times(ours)}{growth:8.2f}{bare:6.2f} |{times(theirs)}{'':10}{constant:8.2f} |"
+                  f"{bare / constant:6.2f}{told}", flush=True)
     sys.exit(worst > LIMIT)
 
 
-main()
+if __name__ == "__main__":
+    if sys.argv[1:2] == ["dict"]:
+        use_dict(sys.argv[2], sys.argv[3], int(sys.argv[4]), int(sys.argv[5]))
+    else:
+        main()

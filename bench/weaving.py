@@ -2,11 +2,11 @@
 """Runs scripts in node as they stand, and as `jlint instrument` writes them with hooks of plain JavaScript beside them
 (`bench/plain_hooks.js`), and compares what they print and how they end.
 
-Run it at the top of the repository after `./jlint check < examples/closures.js`, with folders of scripts as arguments, or
-with none for `examples/`; `--program FILE` names another jlint. Scripts that jlint refuses are left out, and so are those
-that node does not end in 20 seconds in both forms. The hooks do what node does where they stand: a put or a delete that
-fails throws where the code that called the hook is strict. In both runs the text of a function is that of jlint, since
-15.3.4.2 leaves it to the implementation, and a woven function would show its hooks.
+Run it at the top of the repository after `./jlint check < examples/closures.js`, with folders of scripts as arguments,
+or with none for `examples/`; `--program FILE` names another jlint. Scripts that jlint refuses are left out, and so are
+those that node does not end in 20 seconds in both forms. The hooks do what node does where they stand: a put or delete
+that fails throws where the code that called the hook is strict. In both runs the text of a function is that of jlint,
+since 15.3.4.2 leaves it to the implementation, and a woven function would show its hooks.
 
 The exit status is 1 where node does not read a woven text, and where it prints something else or ends otherwise."""
 

@@ -49,9 +49,9 @@ def lay_out(clone, names):
 def is_right(clone, name):
     """Whether a program is proved and prints what is due."""
     crate = os.path.join(clone, 'crates', name)
-    given, due = (read(os.path.join(crate, it)) for it in ('stdin', 'stdout'))
-    ran = subprocess.run([sys.executable, os.path.join(clone, 'tools', 'kit.py'), 'run'], cwd=crate, check=False,
-                         input=given, stdout=subprocess.PIPE)
+    given, due, words = (read(os.path.join(crate, it)) for it in ('stdin', 'stdout', 'args'))
+    command = [sys.executable, os.path.join(clone, 'tools', 'kit.py'), 'run', '--', *words.decode().split()]
+    ran = subprocess.run(command, cwd=crate, check=False, input=given, stdout=subprocess.PIPE)
     right = ran.returncode == 0 and ran.stdout == due
     print(name, 'passed' if right else f'FAILED (status {ran.returncode})', flush=True)
     return right
