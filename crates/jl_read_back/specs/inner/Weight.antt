@@ -4,14 +4,11 @@
 -- (`specs/inner/Bytes`).
 use Rattle.std.specs.Prelude.{ℕ, ◌+◌, ◌-◌, max, Bool, true, false, List, [], ◌∷◌, Option, Some, None}
 use Rattle.jl_ast.specs.declared.ops.BinOp.{BinOp}
-use Rattle.jl_ast.specs.Tree.{Ident, Sort, Text, Tree, Forest, OptionalTree, this, name, number, string, boolean, null}
-use Rattle.jl_ast.specs.Tree.{array}
-use Rattle.jl_ast.specs.Tree.{object, function_expression, dot, index, call, new, unary, update, binary, and, or}
-use Rattle.jl_ast.specs.Tree.{conditional, assign, comma, to_name, to_dot, to_index, hole, filled, value, getter}
-use Rattle.jl_ast.specs.Tree.{setter, function, body, var, empty, expression, block, if_else, do_while, while, for}
-use Rattle.jl_ast.specs.Tree.{for_in, continue, break, return, labelled, switch, throw, try, debugger, nothing}
-use Rattle.jl_ast.specs.Tree.{init_expression, init_var, declarator, case, branch_of, catch, end, more, absent}
-use Rattle.jl_ast.specs.Tree.{present}
+use Rattle.jl_ast.specs.Tree.{Ident, Sort, Text, Tree, Forest, OptionalTree, name, string, function_expression, dot}
+use Rattle.jl_ast.specs.Tree.{update, assign, to_name, to_dot, filled, value, getter, setter, function, body}
+use Rattle.jl_ast.specs.Tree.{expression, for_in, continue, break, labelled, nothing, init_expression, declarator}
+use Rattle.jl_ast.specs.Tree.{catch}
+use Rattle.jl_ast.specs.Fold.{Fold, fold, fold_forest, fold_optional}
 use Rattle.jl_read_back.specs.inner.Bytes.{text_weight}
 
 -- `=`, and an operator before it
@@ -41,68 +38,41 @@ module _ (heavy : ℕ) where
   names_weight [] = 0
   names_weight (x ∷ xs) = name_weight x.text + names_weight xs
 
-  abbrev mutual
-    pub weight : {S : Type 0} {x : Sort} → Tree S x → ℕ
-    weight (this s) = 1
-    weight (name a s) = name_weight a
-    weight (number a s) = 1
-    weight (string a s) = name_weight a
-    weight (boolean a s) = 1
-    weight (null s) = 1
-    weight (array a s) = weights a + 1
-    weight (object a s) = weights a + 1
-    weight (function_expression a s) = weight a
-    weight (dot a b s) = weight a + name_weight b + 1
-    weight (index a b s) = weight a + weight b + 1
-    weight (call a b s) = weight a + weights b + 1
-    weight (new a b s) = weight a + weights b + 1
-    weight (unary a b s) = weight b + 1
-    weight (update up prefix a s) = weight a + 2
-    weight (binary a b c s) = weight b + weight c + 1
-    weight (and a b s) = weight a + weight b + 1
-    weight (or a b s) = weight a + weight b + 1
-    weight (conditional a b c s) = weight a + weight b + weight c + 1
-    weight (assign a b c s) = weight b + weight c + assigning_weight a
-    weight (comma a b s) = weight a + weight b + 1
-    weight (to_name a) = name_weight a.text
-    weight (to_dot a b s) = weight a + name_weight b + 1
-    weight (to_index a b s) = weight a + weight b + 1
-    weight hole = 1
-    weight (filled a) = weight a
-    weight (value a b) = key_weight a.text + weight b + 1
-    weight (getter a b) = key_weight a.text + weight b + 1
-    weight (setter a b) = key_weight a.text + weight b + 1
-    weight (function m a params b s) = optional_name_weight a + names_weight params + weight b + 4
-    weight (body strict a b) = directive_weight strict + weights a + weights b
-    weight (var a s) = weights a + 1
-    weight (empty s) = 1
-    weight (expression a s) = weight a
-    weight (block a s) = weights a + 1
-    weight (if_else a b c s) = weight a + weights b + optional_weight c + 1
-    weight (do_while a b s) = weights a + weight b + 1
-    weight (while a b s) = weight a + weights b + 1
-    weight (for a b c d s) = weight a + optional_weight b + optional_weight c + weights d + 1
-    weight (for_in is_var a b c s) = name_weight a.text + weight b + weights c + 1
-    weight (continue a s) = optional_name_weight a + 1
-    weight (break a s) = optional_name_weight a + 1
-    weight (return a s) = optional_weight a + 1
-    weight (labelled a b s) = name_weight a.text + weight b + 1
-    weight (switch a b s) = weight a + weights b + 1
-    weight (throw a s) = weight a + 1
-    weight (try a b c s) = weights a + optional_weight b + optional_weight c + 1
-    weight (debugger s) = 1
-    weight nothing = 0
-    weight (init_expression a) = weight a
-    weight (init_var a) = weights a + 1
-    weight (declarator a b) = name_weight a.text + optional_weight b
-    weight (case a b) = optional_weight a + weights b + 1
-    weight (branch_of a) = weights a + 1
-    weight (catch a b) = name_weight a.text + weights b + 1
+  -- a part with the weight of its own parts
+  abbrev pub weight_with : {S : Type 0} {x : Sort} → Tree S x → ℕ → ℕ
+  weight_with (name a s) n = name_weight a
+  weight_with (string a s) n = name_weight a
+  weight_with (function_expression a s) n = n
+  weight_with (dot a b s) n = n + name_weight b + 1
+  weight_with (update up prefix a s) n = n + 2
+  weight_with (assign a b c s) n = n + assigning_weight a
+  weight_with (to_name a) n = name_weight a.text
+  weight_with (to_dot a b s) n = n + name_weight b + 1
+  weight_with (filled a) n = n
+  weight_with (value a b) n = key_weight a.text + n + 1
+  weight_with (getter a b) n = key_weight a.text + n + 1
+  weight_with (setter a b) n = key_weight a.text + n + 1
+  weight_with (function m a params b s) n = optional_name_weight a + names_weight params + n + 4
+  weight_with (body strict a b) n = directive_weight strict + n
+  weight_with (expression a s) n = n
+  weight_with (for_in is_var a b c s) n = name_weight a.text + n + 1
+  weight_with (continue a s) n = optional_name_weight a + 1
+  weight_with (break a s) n = optional_name_weight a + 1
+  weight_with (labelled a b s) n = name_weight a.text + n + 1
+  weight_with nothing n = 0
+  weight_with (init_expression a) n = n
+  weight_with (declarator a b) n = name_weight a.text + n
+  weight_with (catch a b) n = name_weight a.text + n + 1
+  weight_with t n = n + 1
 
-    pub weights : {S : Type 0} {x : Sort} → Forest S x → ℕ
-    weights end = 0
-    weights (more a b) = weight a + weights b
+  abbrev pub tree_weights : {S : Type 0} → Fold S ℕ
+  tree_weights = record { none = 0; both = λ m n. m + n; at_node = weight_with }
 
-    pub optional_weight : {S : Type 0} {x : Sort} → OptionalTree S x → ℕ
-    optional_weight absent = 0
-    optional_weight (present a) = weight a
+  abbrev pub weight : {S : Type 0} {x : Sort} → Tree S x → ℕ
+  weight t = fold tree_weights t
+
+  abbrev pub weights : {S : Type 0} {x : Sort} → Forest S x → ℕ
+  weights t = fold_forest tree_weights t
+
+  abbrev pub optional_weight : {S : Type 0} {x : Sort} → OptionalTree S x → ℕ
+  optional_weight t = fold_optional tree_weights t
