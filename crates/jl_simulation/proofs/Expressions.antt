@@ -31,7 +31,7 @@ use Rattle.jl_meaning.specs.forms.Operators.{decide, unary_kind, update_kind}
 use Rattle.jl_simulation.specs.HookCalls as weaving
 use Rattle.jl_simulation.specs.HookCalls.{hook_1, hook_2, name_of, string_of, test}
 use Rattle.jl_simulation.specs.Plain.{id_limit}
-use Rattle.jl_simulation.specs.Weaving as weaving
+use Rattle.jl_simulation.specs.Weaving as rewriting
 use Rattle.jl_simulation.specs.Weaving.{weave, woven_forest}
 use Rattle.jl_simulation.specs.inner.Fit.{AllFit, Fits, FollowsMember, UnaryFits}
 use Rattle.jl_simulation.proofs.Calls.{assign_dot_told, assign_index_told, call_silent, call_told, method_dot_silent}
@@ -114,10 +114,10 @@ module _ (chosen : Kinds) (table table' : FunctionTable)
       (evaluate_all table' 0 [] (forest_with_ids j (woven_forest chosen l)) c))
       → ExpressionMatch chosen (Step (call_value table id (evaluate table f c) (evaluate_all table 0 [] l c)))
       (evaluate table' (with_ids j (tree.call
-      (if weaving.calls chosen then hook_1 (codes "F") id (weave chosen f) else weave chosen f)
+      (if rewriting.calls chosen then hook_1 (codes "F") id (weave chosen f) else weave chosen f)
       (woven_forest chosen l) tt)) c)
   value_called f p h l id small j c itself args =
-      split (weaving.calls chosen) (λ which. ExpressionMatch chosen
+      split (rewriting.calls chosen) (λ which. ExpressionMatch chosen
       (Step (call_value table id (evaluate table f c) (evaluate_all table 0 [] l c)))
       (evaluate table' (with_ids j (tree.call
       (if which then hook_1 (codes "F") id (weave chosen f) else weave chosen f) (woven_forest chosen l) tt)) c))
@@ -185,7 +185,7 @@ module _ (chosen : Kinds) (table table' : FunctionTable)
     evaluate_match (tree.call f l t) p j c =
         callee_match f p.0 l t p.2 p.3 j c (λ j. evaluate_match f p.0 j c) (λ j. values_match l p.1 [] j c)
     evaluate_match (tree.new f l t) p j c =
-        way (weaving.calls chosen) _ _ j c
+        way (rewriting.calls chosen) _ _ j c
         (second_is (opener_plain_1 table' c (codes "N") opens_new form_N t p.2 (weave chosen f)
         (woven_forest chosen l) j refl)
         (new_told table table' same c t (evaluate_match f p.0 _ c) (values_match l p.1 [] _ c)))
@@ -206,14 +206,14 @@ module _ (chosen : Kinds) (table table' : FunctionTable)
         (weave chosen a) (weave chosen b) j) (binary_told c o s (evaluate_match a p.0 _ c) (evaluate_match b p.1 _ c)))
         (λ e. binary_silent o s _ e (evaluate_match a p.0 _ c) (evaluate_match b p.1 _ c))
     evaluate_match (tree.update up true (tree.to_name x) s) p j c =
-        way (weaving.computes chosen (tree.to_name x) kind.Unary) _ _ j c
+        way (rewriting.computes chosen (tree.to_name x) kind.Unary) _ _ j c
         (second_is (ap (λ q. Step (assign_name j c x.text q)) (updated_hook table' c x.text up s p.1 (j + 1 + 0)))
         (update_prefix_told x.text c up s _ j p.0))
         (λ e. let h : NoneOf (chosen kind.Read) (chosen kind.Unary) (chosen kind.Write) = none_of _ _ _ e in
         update_name_silent x.text c up true s _ h.first h.second h.third)
     evaluate_match (tree.update up false (tree.to_name x) s) p j c =
-        way (weaving.computes chosen (tree.to_name x) kind.Unary) _ _ j c
-        (let e' : weaving.Expr = weaving.woven_update chosen up (tree.to_name x) s in
+        way (rewriting.computes chosen (tree.to_name x) kind.Unary) _ _ j c
+        (let e' : weaving.Expr = rewriting.woven_update chosen up (tree.to_name x) s in
         second_is (had_back_hook table' c up e' j
         ∙ ap (λ q. Step (q >>= one_back j (j + 1 + id_count e') up)) (ap (λ q. Step (assign_name (j + 1) c x.text q))
         (updated_hook table' c x.text up s p.1 (j + 1 + 1 + 0))))
@@ -221,15 +221,15 @@ module _ (chosen : Kinds) (table table' : FunctionTable)
         (λ e. let h : NoneOf (chosen kind.Read) (chosen kind.Unary) (chosen kind.Write) = none_of _ _ _ e in
         update_name_silent x.text c up false s _ h.first h.second h.third)
     evaluate_match (tree.update up true (tree.to_dot o k s) t) p j c =
-        way (weaving.computes chosen (tree.to_dot o k s) kind.Unary) _ _ j c
+        way (rewriting.computes chosen (tree.to_dot o k s) kind.Unary) _ _ j c
         (second_is (hook_worded_2 table' c (codes "I") asks_update form_I t (less t p.1) (unary_sign (update_kind up))
         (updates (update_kind up)) (word_I up) (weave chosen o) (string_of k) j)
         (update_dot_prefix c up t k _ (evaluate_match o p.0 _ c)))
         (λ e. let h : NoneOf (chosen kind.GetField) (chosen kind.Unary) (chosen kind.PutField) = none_of _ _ _ e in
         update_dot_silent c k up true t _ h.first h.second h.third (evaluate_match o p.0 _ c))
     evaluate_match (tree.update up false (tree.to_dot o k s) t) p j c =
-        way (weaving.computes chosen (tree.to_dot o k s) kind.Unary) _ _ j c
-        (let e' : weaving.Expr = weaving.woven_update chosen up (tree.to_dot o k s) t in
+        way (rewriting.computes chosen (tree.to_dot o k s) kind.Unary) _ _ j c
+        (let e' : weaving.Expr = rewriting.woven_update chosen up (tree.to_dot o k s) t in
         second_is (had_back_hook table' c up e' j ∙ ap (λ q. Step (q >>= one_back j (j + 1 + id_count e') up))
         (hook_worded_2 table' c (codes "I") asks_update form_I t (less t p.1) (unary_sign (update_kind up))
         (updates (update_kind up)) (word_I up) (weave chosen o) (string_of k) (j + 1)))
@@ -237,7 +237,7 @@ module _ (chosen : Kinds) (table table' : FunctionTable)
         (λ e. let h : NoneOf (chosen kind.GetField) (chosen kind.Unary) (chosen kind.PutField) = none_of _ _ _ e in
         update_dot_silent c k up false t _ h.first h.second h.third (evaluate_match o p.0 _ c))
     evaluate_match (tree.update up true (tree.to_index o k s) t) p j c =
-        way (weaving.computes chosen (tree.to_index o k s) kind.Unary) _ _ j c
+        way (rewriting.computes chosen (tree.to_index o k s) kind.Unary) _ _ j c
         (second_is (hook_worded_2 table' c (codes "I") asks_update form_I t (less t p.1) (unary_sign (update_kind up))
         (updates (update_kind up)) (word_I up) (weave chosen o) (weave chosen k) j)
         (update_index_prefix c up t (evaluate_match o p.0.0 _ c) (evaluate_match k p.0.1 _ c)))
@@ -245,8 +245,8 @@ module _ (chosen : Kinds) (table table' : FunctionTable)
         update_index_silent c up true t _ h.first h.second h.third (evaluate_match o p.0.0 _ c)
         (evaluate_match k p.0.1 _ c))
     evaluate_match (tree.update up false (tree.to_index o k s) t) p j c =
-        way (weaving.computes chosen (tree.to_index o k s) kind.Unary) _ _ j c
-        (let e' : weaving.Expr = weaving.woven_update chosen up (tree.to_index o k s) t in
+        way (rewriting.computes chosen (tree.to_index o k s) kind.Unary) _ _ j c
+        (let e' : weaving.Expr = rewriting.woven_update chosen up (tree.to_index o k s) t in
         second_is (had_back_hook table' c up e' j ∙ ap (λ q. Step (q >>= one_back j (j + 1 + id_count e') up))
         (hook_worded_2 table' c (codes "I") asks_update form_I t (less t p.1) (unary_sign (update_kind up))
         (updates (update_kind up)) (word_I up) (weave chosen o) (weave chosen k) (j + 1)))
@@ -316,7 +316,7 @@ module _ (chosen : Kinds) (table table' : FunctionTable)
         (assign_name_told x.text c s j p.1 (evaluate_match e p.2 _ c)))
         (λ h. assign_name_silent x.text c s _ h (evaluate_match e p.2 _ c))
     evaluate_match (tree.assign (Some o) (tree.to_name x) e s) p j c =
-        way (weaving.computes chosen (tree.to_name x) kind.Binary) _ _ j c
+        way (rewriting.computes chosen (tree.to_name x) kind.Binary) _ _ j c
         (second_is (ap (λ q. Step (assign_name j c x.text q))
         (computed_hook table' c x.text o s p.0.1 (weave chosen e) (j + 1 + 0)))
         (compute_name_told x.text c o s _ j p.1 (evaluate_match e p.2 _ c)))
@@ -329,7 +329,7 @@ module _ (chosen : Kinds) (table table' : FunctionTable)
         (put_dot_told table table' same c k t _ (evaluate_match o p.1 _ c) (evaluate_match e p.2 _ c)))
         (λ h. put_dot_silent c k t _ h (evaluate_match o p.1 _ c) (evaluate_match e p.2 _ c))
     evaluate_match (tree.assign (Some q) (tree.to_dot o k s) e t) p j c =
-        way (weaving.computes chosen (tree.to_dot o k s) kind.Binary) _ _ j c
+        way (rewriting.computes chosen (tree.to_dot o k s) kind.Binary) _ _ j c
         (second_is (opener_worded_2 table' c (codes "A") asks_assign form_A t (less t p.0.1) (binary_sign q)
         (opens_assign q)
         (word_A q p.0.0) (weave chosen o) (string_of k) (tree.more (weave chosen e) tree.end) j refl)
@@ -345,7 +345,7 @@ module _ (chosen : Kinds) (table table' : FunctionTable)
         (λ h. put_index_silent c t _ h (evaluate_match o p.1.0 _ c) (evaluate_match k p.1.1 _ c)
         (evaluate_match e p.2 _ c))
     evaluate_match (tree.assign (Some q) (tree.to_index o k s) e t) p j c =
-        way (weaving.computes chosen (tree.to_index o k s) kind.Binary) _ _ j c
+        way (rewriting.computes chosen (tree.to_index o k s) kind.Binary) _ _ j c
         (second_is (opener_worded_2 table' c (codes "A") asks_assign form_A t (less t p.0.1) (binary_sign q)
         (opens_assign q)
         (word_A q p.0.0) (weave chosen o) (weave chosen k) (tree.more (weave chosen e) tree.end) j refl)
@@ -371,7 +371,7 @@ module _ (chosen : Kinds) (table table' : FunctionTable)
         (member_no_hook o p.0 k)
         ∙ ap (λ i. Step (evaluate table o c >>= (λ base.
         call_member table s i base (value.Text k) (evaluate_all table 0 [] l c)))) (sym h) in
-        split (weaving.calls_member chosen) (λ which. ExpressionMatch chosen (evaluate table
+        split (rewriting.calls_member chosen) (λ which. ExpressionMatch chosen (evaluate table
         (tree.call (tree.dot o k s) l id) c)
         (evaluate table' (with_ids j (tree.call
         (if which then hook_2 (codes "M") s (weave chosen o) (string_of k) else tree.dot (weave chosen o) k tt)
@@ -380,14 +380,14 @@ module _ (chosen : Kinds) (table table' : FunctionTable)
         (woven_forest chosen l) j refl) (method_dot_told table table' same c k s _ (evaluate_match o p.0 _ c) (args _)))
         (λ e. let m : ℕ = j + 2 + id_count (tree.dot (weave chosen o) k tt) in
         let l' : Exprs = forest_with_ids m (woven_forest chosen l) in
-        let q : weaving.calls chosen ≡ false = second_not (chosen kind.GetField) (weaving.calls chosen) e in
+        let q : rewriting.calls chosen ≡ false = second_not (chosen kind.GetField) (rewriting.calls chosen) e in
         both_are first (ap (λ form. Step (call_by_form form l' c (λ literals. evaluate_all table' literals [] l' c)
         (evaluate table' (with_ids (j + 3) (weave chosen o)) c >>= (λ base.
         call_member table' j (j + 1) base (value.Text k) (evaluate_all table' 0 [] l' c)))))
         (woven_member_no_hook chosen o p.0 k (j + 3)))
         (method_dot_silent table table' same (first_not (chosen kind.InvokePre) (chosen kind.InvokePost) q)
         (second_not (chosen kind.InvokePre) (chosen kind.InvokePost) q) k s j (s + 1) (j + 1)
-        (first_not (chosen kind.GetField) (weaving.calls chosen) e)
+        (first_not (chosen kind.GetField) (rewriting.calls chosen) e)
         (evaluate_match o p.0 (j + 3) c) (args m)))
     callee_match (tree.index o k s) p l id small h j c itself args =
         let first : evaluate table (tree.call (tree.index o k s) l id) c
@@ -395,7 +395,7 @@ module _ (chosen : Kinds) (table table' : FunctionTable)
         call_member table s (s + 1) base key (evaluate_all table 0 [] l c))))) =
         ap (λ i. Step (evaluate table o c >>= (λ base. (evaluate table k c >>= (λ key.
         call_member table s i base key (evaluate_all table 0 [] l c)))))) (sym h) in
-        split (weaving.calls_member chosen) (λ which. ExpressionMatch chosen (evaluate table
+        split (rewriting.calls_member chosen) (λ which. ExpressionMatch chosen (evaluate table
         (tree.call (tree.index o k s) l id) c)
         (evaluate table' (with_ids j (tree.call
         (if which then hook_2 (codes "M") s (weave chosen o) (weave chosen k) else tree.index (weave chosen o)
@@ -404,11 +404,11 @@ module _ (chosen : Kinds) (table table' : FunctionTable)
         (both_are first (opener_plain_2 table' c (codes "M") opens_method form_M s p.2 (weave chosen o) (weave chosen k)
         (woven_forest chosen l) j refl)
         (method_index_told table table' same c s (evaluate_match o p.0 _ c) (evaluate_match k p.1 _ c) (args _)))
-        (λ e. let q : weaving.calls chosen ≡ false = second_not (chosen kind.GetField) (weaving.calls chosen) e in
+        (λ e. let q : rewriting.calls chosen ≡ false = second_not (chosen kind.GetField) (rewriting.calls chosen) e in
         both_are first refl (method_index_silent table table' same (first_not (chosen kind.InvokePre)
         (chosen kind.InvokePost) q)
         (second_not (chosen kind.InvokePre) (chosen kind.InvokePost) q) s j (s + 1) (j + 1)
-        (first_not (chosen kind.GetField) (weaving.calls chosen) e)
+        (first_not (chosen kind.GetField) (rewriting.calls chosen) e)
         (evaluate_match o p.0 (j + 3) c) (evaluate_match k p.1 _ c) (args _)))
     callee_match (tree.call f inner s) p l id small h j c itself args =
         let values : Part (Answer (List Value)) = evaluate_all table 0 [] l c in

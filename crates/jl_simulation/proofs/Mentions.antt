@@ -19,7 +19,7 @@ use Rattle.jl_meaning.specs.Parts.{Code, Expr}
 use Rattle.jl_simulation.specs.HookCalls as weaving
 use Rattle.jl_simulation.specs.HookCalls.{before_update, hook, hook_1, hook_of_1, hook_statement, name_of, without_id}
 use Rattle.jl_simulation.specs.HookCalls.{Woven}
-use Rattle.jl_simulation.specs.Weaving as weaving
+use Rattle.jl_simulation.specs.Weaving as rewriting
 use Rattle.jl_simulation.specs.Weaving.{weave, woven_assignment, woven_body, woven_callee, woven_delete, woven_forest}
 use Rattle.jl_simulation.specs.Weaving.{woven_optional, woven_test, woven_typeof, woven_update}
 use Rattle.jl_simulation.proofs.Shapes.{call_with_ids}
@@ -149,11 +149,11 @@ module _ (chosen : Kinds) where
     -- an expression in a hook of one value, if that is chosen
     hooked : (k : OpKind) (h : Text) (id : ℕ) (w : weaving.Expr) {b : Bool} (n : ℕ)
         → ((n : ℕ) → mentions x (with_ids n w) ≡ b)
-        → mentions x (with_ids n (weaving.hooked_if chosen k (hook_1 h id) w)) ≡ b
+        → mentions x (with_ids n (rewriting.hooked_if chosen k (hook_1 h id) w)) ≡ b
     hooked k h id w n is = way (chosen k) _ _ n (one (is (n + 2 + 2 + 1))) (is n)
 
     written : (y : Text) (id : ℕ) (w : weaving.Expr) {b : Bool} (n : ℕ) → ((n : ℕ) → mentions x (with_ids n w) ≡ b)
-        → mentions x (with_ids n (weaving.hooked_if chosen kind.Write (weaving.write id y) w)) ≡ b
+        → mentions x (with_ids n (rewriting.hooked_if chosen kind.Write (weaving.write id y) w)) ≡ b
     written y id w n is = way (chosen kind.Write) _ _ n (one (is (n + 2 + 2 + 1 + 1))) (is n)
 
     -- a `catch`, whose hook mentions the name that is caught
@@ -172,7 +172,7 @@ module _ (chosen : Kinds) where
 
     -- a test
     tests : (id : ℕ) (a : Expr) (n : ℕ) → ((n : ℕ) → mentions x (with_ids n (weave chosen a)) ≡ mentions x a)
-        → mentions x (with_ids (n + 1) (weaving.hook_test chosen id (weave chosen a))) ≡ mentions x a
+        → mentions x (with_ids (n + 1) (rewriting.hook_test chosen id (weave chosen a))) ≡ mentions x a
     tests id a n is = hooked kind.Conditional (codes "C") id (weave chosen a) (n + 1) is
 
     -- a call, by how its callee is woven
@@ -198,12 +198,12 @@ module _ (chosen : Kinds) where
           way (chosen kind.GetField) _ _ n (two (same o _) (same k _)) (ap₂ ◌||◌ (same o _) (same k _))
       same (tree.call f l s) n = callee f s l n (λ n. same f n) (λ n. forests l n)
       same (tree.new f l s) n =
-          way (weaving.calls chosen) _ _ n (ap₂ ◌||◌ (one (same f _)) (forests l _)) (ap₂ ◌||◌ (same f _) (forests l _))
+          way (rewriting.calls chosen) _ _ n (ap₂ ◌||◌ (one (same f _)) (forests l _)) (ap₂ ◌||◌ (same f _) (forests l _))
       same (tree.unary un.Typeof e s) n = typeof_same s e (weave chosen e) n (λ n. same e n)
       same (tree.unary un.Delete e s) n = deletes e s n (λ n. same e n)
       same (tree.unary o e s) n = way (chosen kind.Unary) _ _ n (one (same e _)) (same e _)
       same (tree.update up prefix t s) n =
-          way (weaving.computes chosen t kind.Unary) _ _ n
+          way (rewriting.computes chosen t kind.Unary) _ _ n
           (back_same up prefix (woven_update chosen up t s) n (λ n. updates s up t n)) (same t _)
       same (tree.binary o a b s) n =
           way (chosen kind.Binary) _ _ n (two (same a _) (same b _)) (ap₂ ◌||◌ (same a _) (same b _))
@@ -211,7 +211,7 @@ module _ (chosen : Kinds) where
       same (tree.or a b s) n = ap₂ ◌||◌ (tests s a n (λ n. same a n)) (same b _)
       same (tree.conditional a b c s) n = ap₂ ◌||◌ (ap₂ ◌||◌ (tests s a n (λ n. same a n)) (same b _)) (same c _)
       same (tree.assign o t e s) n =
-          way (weaving.assigns chosen o t) _ _ n (assigns t s n o e (weave chosen e) (λ n. same e n))
+          way (rewriting.assigns chosen o t) _ _ n (assigns t s n o e (weave chosen e) (λ n. same e n))
           (ap₂ ◌||◌ (same t _) (same e _))
       same (tree.comma a b s) n = ap₂ ◌||◌ (same a _) (same b _)
       same (tree.to_dot o k s) n = same o _
@@ -262,12 +262,12 @@ module _ (chosen : Kinds) where
           → mentions x (with_ids n (tree.call (woven_callee chosen f (weave chosen f) id) (woven_forest chosen l) tt))
           ≡ (mentions x f || forest_mentions x l)
       callee (tree.dot o k s) id l n e r =
-          by_callee (weaving.calls_member chosen) _ _ l n (ap₂ ◌||◌ (one (same o _)) (r _)) (ap₂ ◌||◌ (same o _) (r _))
+          by_callee (rewriting.calls_member chosen) _ _ l n (ap₂ ◌||◌ (one (same o _)) (r _)) (ap₂ ◌||◌ (same o _) (r _))
       callee (tree.index o k s) id l n e r =
-          by_callee (weaving.calls_member chosen) _ _ l n (ap₂ ◌||◌ (two (same o _) (same k _)) (r _))
+          by_callee (rewriting.calls_member chosen) _ _ l n (ap₂ ◌||◌ (two (same o _) (same k _)) (r _))
           (ap₂ ◌||◌ (ap₂ ◌||◌ (same o _) (same k _)) (r _))
       callee f id l n e r =
-          by_callee (weaving.calls chosen) _ (weave chosen f) l n (ap₂ ◌||◌ (one (e (n + 2 + 2 + 2 + 1))) (r _))
+          by_callee (rewriting.calls chosen) _ (weave chosen f) l n (ap₂ ◌||◌ (one (e (n + 2 + 2 + 2 + 1))) (r _))
           (ap (λ t. mentions x t) (call_with_ids chosen f tt n (woven_forest chosen l)) ∙ ap₂ ◌||◌ (e (n + 2)) (r _))
 
       deletes : (f : Expr) (id n : ℕ) → ((n : ℕ) → mentions x (with_ids n (weave chosen f)) ≡ mentions x f)

@@ -23,7 +23,7 @@ use Rattle.jl_meaning.specs.forms.HookCalls.{openers, shape_named, CalleeForm, H
 use Rattle.jl_meaning.specs.forms.Hooks.{call_of_call, Arguments}
 use Rattle.jl_meaning.specs.forms.Operators.{operate_on}
 use Rattle.jl_simulation.specs.HookCalls as weaving
-use Rattle.jl_simulation.specs.Weaving as weaving
+use Rattle.jl_simulation.specs.Weaving as rewriting
 use Rattle.jl_simulation.specs.Weaving.{weave, woven_callee}
 use Rattle.jl_simulation.specs.inner.Fit.{Fits}
 use Rattle.jl_simulation.proofs.HookNames.{hook_form, form_B, form_I, form_R, form_T, form_U, form_Y, form_Z}
@@ -82,18 +82,18 @@ way P true x y p q = p
 way P false x y p q = q
 
 module _ (chosen : Kinds) where
-  typeof_other : (id : ℕ) (e : Expr) (w : weaving.Expr) → IsOther (weaving.woven_typeof chosen id e w)
+  typeof_other : (id : ℕ) (e : Expr) (w : weaving.Expr) → IsOther (rewriting.woven_typeof chosen id e w)
   typeof_other id (tree.name x s) w = way IsOther (chosen kind.TypeofName) _ _ tt tt
   typeof_other id _ w = way IsOther (chosen kind.Unary) _ _ tt tt
 
-  delete_other : (id : ℕ) (e : Expr) (w : weaving.Expr) → IsOther (weaving.woven_delete chosen e w id)
+  delete_other : (id : ℕ) (e : Expr) (w : weaving.Expr) → IsOther (rewriting.woven_delete chosen e w id)
   delete_other id (tree.name x s) w = tt
   delete_other id (tree.dot o k s) w = way IsOther (chosen kind.DeleteField) _ _ tt tt
   delete_other id (tree.index o k s) w = way IsOther (chosen kind.DeleteField) _ _ tt tt
   delete_other id _ w = tt
 
   update_other : (id : ℕ) (up prefix : Bool) (t : Tree ℕ tree.target)
-      → IsOther (weaving.before_update up prefix (weaving.woven_update chosen up t id))
+      → IsOther (weaving.before_update up prefix (rewriting.woven_update chosen up t id))
   update_other id true false t = tt
   update_other id false false t = tt
   update_other id up true (tree.to_name x) = tt
@@ -101,7 +101,7 @@ module _ (chosen : Kinds) where
   update_other id up true (tree.to_index o k s) = tt
 
   assign_other : (id : ℕ) (o : Option BinOp) (t : Tree ℕ tree.target) (w : weaving.Expr)
-      → IsOther (weaving.woven_assignment chosen o t w id)
+      → IsOther (rewriting.woven_assignment chosen o t w id)
   assign_other id None (tree.to_name x) w = tt
   assign_other id (Some q) (tree.to_name x) w = tt
   assign_other id None (tree.to_dot o k s) w = tt
@@ -120,15 +120,15 @@ module _ (chosen : Kinds) where
   woven_other (tree.array l s) h = way IsOther (chosen kind.ArrayLiteral) _ _ tt tt
   woven_other (tree.object l s) h = way IsOther (chosen kind.ObjectLiteral) _ _ tt tt
   woven_other (tree.function_expression l s) h = way IsOther (chosen kind.FunctionLiteral) _ _ tt tt
-  woven_other (tree.new f l s) h = way IsOther (weaving.calls chosen) _ _ tt tt
+  woven_other (tree.new f l s) h = way IsOther (rewriting.calls chosen) _ _ tt tt
   woven_other (tree.unary un.Typeof e s) h = typeof_other s e (weave chosen e)
   woven_other (tree.unary un.Delete e s) h = delete_other s e (weave chosen e)
   woven_other (tree.unary o e s) h = way IsOther (chosen kind.Unary) _ _ tt tt
   woven_other (tree.update up prefix t s) h =
-      way IsOther (weaving.computes chosen t kind.Unary) _ _ (update_other s up prefix t) tt
+      way IsOther (rewriting.computes chosen t kind.Unary) _ _ (update_other s up prefix t) tt
   woven_other (tree.binary o a b s) h = way IsOther (chosen kind.Binary) _ _ tt tt
   woven_other (tree.assign o t e s) h =
-      way IsOther (weaving.assigns chosen o t) _ _ (assign_other s o t (weave chosen e)) tt
+      way IsOther (rewriting.assigns chosen o t) _ _ (assign_other s o t (weave chosen e)) tt
   woven_other _ h = tt
 
   woven_no_name : (e : Expr) → IsNoName e → IsNoName (weave chosen e)
@@ -234,20 +234,20 @@ module _ (chosen : Kinds) where
   callee_no_first : (f : Expr) → Fits f → (id : ℕ) (l : weaving.Exprs)
       → IsNoFirst (tree.call (woven_callee chosen f (weave chosen f) id) l tt)
   callee_no_first (tree.dot o k s) p id l =
-      way (λ e. IsNoFirst (tree.call e l tt)) (weaving.calls_member chosen) _ (tree.dot (weave chosen o) k tt) tt
+      way (λ e. IsNoFirst (tree.call e l tt)) (rewriting.calls_member chosen) _ (tree.dot (weave chosen o) k tt) tt
       (λ m. subst IsNoOpener (sym (woven_member_no_hook chosen o p.0 k m)) tt)
   callee_no_first (tree.index o k s) p id l =
-      way (λ e. IsNoFirst (tree.call e l tt)) (weaving.calls_member chosen) _ _ tt tt
+      way (λ e. IsNoFirst (tree.call e l tt)) (rewriting.calls_member chosen) _ _ tt tt
   callee_no_first f p id l =
-      way (λ e. IsNoFirst (tree.call e l tt)) (weaving.calls chosen) _ (weave chosen f) tt
+      way (λ e. IsNoFirst (tree.call e l tt)) (rewriting.calls chosen) _ (weave chosen f) tt
       (called_no_first (weave chosen f) (woven_no_member chosen f tt) l)
 
-  typeof_no_first : (id : ℕ) (e : Expr) (w : weaving.Expr) → IsNoFirst (weaving.woven_typeof chosen id e w)
+  typeof_no_first : (id : ℕ) (e : Expr) (w : weaving.Expr) → IsNoFirst (rewriting.woven_typeof chosen id e w)
   typeof_no_first id (tree.name x s) w =
       way IsNoFirst (chosen kind.TypeofName) _ _ (hook_no_first (codes "Y") _ form_Y) tt
   typeof_no_first id _ w = way IsNoFirst (chosen kind.Unary) _ _ (hook_no_first (codes "U") _ form_U) tt
 
-  delete_no_first : (id : ℕ) (e : Expr) (w : weaving.Expr) → IsNoFirst (weaving.woven_delete chosen e w id)
+  delete_no_first : (id : ℕ) (e : Expr) (w : weaving.Expr) → IsNoFirst (rewriting.woven_delete chosen e w id)
   delete_no_first id (tree.name x s) w = tt
   delete_no_first id (tree.dot o k s) w =
       way IsNoFirst (chosen kind.DeleteField) _ _ (hook_no_first (codes "Z") _ form_Z) tt
@@ -256,7 +256,7 @@ module _ (chosen : Kinds) where
   delete_no_first id _ w = tt
 
   update_no_first : (id : ℕ) (up prefix : Bool) (t : Tree ℕ tree.target)
-      → IsNoFirst (weaving.before_update up prefix (weaving.woven_update chosen up t id))
+      → IsNoFirst (weaving.before_update up prefix (rewriting.woven_update chosen up t id))
   update_no_first id true false t = tt
   update_no_first id false false t = tt
   update_no_first id up true (tree.to_name x) = tt
@@ -264,7 +264,7 @@ module _ (chosen : Kinds) where
   update_no_first id up true (tree.to_index o k s) = hook_no_first (codes "I") _ form_I
 
   assign_no_first : (id : ℕ) (o : Option BinOp) (t : Tree ℕ tree.target) (w : weaving.Expr)
-      → IsNoFirst (weaving.woven_assignment chosen o t w id)
+      → IsNoFirst (rewriting.woven_assignment chosen o t w id)
   assign_no_first id None (tree.to_name x) w = tt
   assign_no_first id (Some q) (tree.to_name x) w = tt
   assign_no_first id None (tree.to_dot o k s) w = tt
@@ -291,17 +291,17 @@ module _ (chosen : Kinds) where
   woven_no_first (tree.function_expression l s) p h =
       way IsNoFirst (chosen kind.FunctionLiteral) _ _ (hook_no_first (codes "T") _ form_T) tt
   woven_no_first (tree.call f l s) p h = callee_no_first f p.0 s _
-  woven_no_first (tree.new f l s) p h = way IsNoFirst (weaving.calls chosen) _ _ tt tt
+  woven_no_first (tree.new f l s) p h = way IsNoFirst (rewriting.calls chosen) _ _ tt tt
   woven_no_first (tree.unary un.Typeof e s) p h = typeof_no_first s e (weave chosen e)
   woven_no_first (tree.unary un.Delete e s) p h = delete_no_first s e (weave chosen e)
   woven_no_first (tree.unary o e s) p h =
       way IsNoFirst (chosen kind.Unary) _ _ (hook_no_first (codes "U") _ form_U) tt
   woven_no_first (tree.update up prefix t s) p h =
-      way IsNoFirst (weaving.computes chosen t kind.Unary) _ _ (update_no_first s up prefix t) tt
+      way IsNoFirst (rewriting.computes chosen t kind.Unary) _ _ (update_no_first s up prefix t) tt
   woven_no_first (tree.binary o a b s) p h =
       way IsNoFirst (chosen kind.Binary) _ _ (hook_no_first (codes "B") _ form_B) tt
   woven_no_first (tree.assign o t e s) p h =
-      way IsNoFirst (weaving.assigns chosen o t) _ _ (assign_no_first s o t (weave chosen e)) tt
+      way IsNoFirst (rewriting.assigns chosen o t) _ _ (assign_no_first s o t (weave chosen e)) tt
   woven_no_first _ p h = tt
 
 -- a call of such a callee is a call of its value

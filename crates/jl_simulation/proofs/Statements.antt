@@ -39,7 +39,7 @@ use Rattle.jl_simulation.specs.HookCalls as weaving
 use Rattle.jl_simulation.specs.HookCalls.{catch_and_go_on, hook_1, hook_of_1, hook_statement, name_of, test, without_id}
 use Rattle.jl_simulation.specs.HookCalls.{write}
 use Rattle.jl_simulation.specs.Plain.{id_limit}
-use Rattle.jl_simulation.specs.Weaving as weaving
+use Rattle.jl_simulation.specs.Weaving as rewriting
 use Rattle.jl_simulation.specs.Weaving.{weave, woven_forest, woven_optional}
 use Rattle.jl_simulation.specs.inner.Fit.{AllFit, Fits, FitsIfPresent}
 use Rattle.jl_simulation.proofs.Chosen.{split}
@@ -108,7 +108,7 @@ module _ (chosen : Kinds) (table table' : FunctionTable)
   -- a test
   pub tested_match : (e : Expr) → Fits e → (id : ℕ) → id < id_limit → (id' j : ℕ) (c : Context) (s : Store) (n : ℕ)
       → Matched chosen s (suc n) (plus 3 n) (decide_by id (evaluate table e c))
-      (decide_by id' (evaluate table' (with_ids j (weaving.hook_test chosen id (weave chosen e))) c))
+      (decide_by id' (evaluate table' (with_ids j (rewriting.hook_test chosen id (weave chosen e))) c))
   tested_match e p id small id' j c s n =
       split (chosen kind.Conditional) (λ which. Matched chosen s (suc n) (plus 3 n) (decide_by id (evaluate table e c))
       (decide_by id' (evaluate table' (with_ids j (if which then test id (weave chosen e) else weave chosen e)) c)))
@@ -122,7 +122,7 @@ module _ (chosen : Kinds) (table table' : FunctionTable)
       → Part Completion)
       → ((truth : Bool) → StatementMatch chosen (f truth) (g truth))
       → StatementMatch chosen (Step (and_then (decide_by id (evaluate table e c)) (on_given f)))
-      (Step (and_then (decide_by id' (evaluate table' (with_ids j (weaving.hook_test chosen id (weave chosen e))) c))
+      (Step (and_then (decide_by id' (evaluate table' (with_ids j (rewriting.hook_test chosen id (weave chosen e))) c))
       (on_given g)))
   tested_then e p id small id' j c f g y = record {
     at = λ s d. both (spare {c = suc d} (omega arith) (valued (omega arith) (tested_match e p id small id' j c s d)
@@ -135,7 +135,7 @@ module _ (chosen : Kinds) (table table' : FunctionTable)
       → ((v : Seen) → chosen (kind_of (f v)) ≡ chosen k) → (e : Expr) → Fits e → (id : ℕ) → id < id_limit → (id' j : ℕ)
       (c : Context) {g g' : Value → Part Completion} → ((v : Value) → StatementMatch chosen (g v) (g' v))
       → StatementMatch chosen (Step (and_then (evaluate table e c) (on_given (noted id f g))))
-      (Step (and_then (evaluate table' (with_ids j (weaving.hooked_if chosen k (hook_1 name id) (weave chosen e))) c)
+      (Step (and_then (evaluate table' (with_ids j (rewriting.hooked_if chosen k (hook_1 name id) (weave chosen e))) c)
       (on_given (noted id' f g'))))
   noted_match k name h form f emitted of e p id small id' j c {g} {g'} y =
       split (chosen k) (λ which. StatementMatch chosen (Step (and_then (evaluate table e c) (on_given (noted id f g))))
@@ -199,14 +199,14 @@ module _ (chosen : Kinds) (table table' : FunctionTable)
         value_match (evaluate_match chosen table table' same e p j c) (λ v. end_match)
     execute_match (tree.block l s) p labels j c = stepped (execute_all_match l p j c)
     execute_match (tree.if_else e a b s) p labels j c =
-        let m : ℕ = j + 1 + id_count (weaving.hook_test chosen s (weave chosen e)) in
+        let m : ℕ = j + 1 + id_count (rewriting.hook_test chosen s (weave chosen e)) in
         let f : Bool → Part Completion = λ truth. if truth then execute_all table a c else execute_branch table b c in
         let g : Bool → Part Completion = λ truth.
         if truth then execute_all table' (forest_with_ids m (woven_forest chosen a)) c
         else execute_branch table'
         (optional_with_ids (m + forest_id_count (woven_forest chosen a)) (woven_optional chosen b)) c in
         subst₂ (λ p q. StatementMatch chosen (Step p) (Step q)) (test_is (evaluate table e c) s f)
-        (test_is (evaluate table' (with_ids (j + 1) (weaving.hook_test chosen s (weave chosen e))) c) j g)
+        (test_is (evaluate table' (with_ids (j + 1) (rewriting.hook_test chosen s (weave chosen e))) c) j g)
         (tested_then e p.0 s p.3 j (j + 1) c f g (λ truth. record {
           at = λ s d. pick truth ((execute_all_match a p.1 m c).at s d)
               ((branch_match b p.2 (m + forest_id_count (woven_forest chosen a)) c).at s d);

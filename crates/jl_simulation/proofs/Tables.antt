@@ -19,7 +19,7 @@ use Rattle.jl_meaning.specs.builtins.Function.{names_of}
 use Rattle.jl_scope.specs.Names.{arguments_name}
 use Rattle.jl_simulation.specs.HookCalls as weaving
 use Rattle.jl_simulation.specs.HookCalls.{before_update, hook_1}
-use Rattle.jl_simulation.specs.Weaving as weaving
+use Rattle.jl_simulation.specs.Weaving as rewriting
 use Rattle.jl_simulation.specs.Weaving.{weave, woven_callee, woven_delete, woven_forest, woven_optional, woven_test}
 use Rattle.jl_simulation.specs.Weaving.{woven_typeof, woven_update}
 use Rattle.jl_simulation.specs.inner.Fit.{AllFit, Fits, FitsIfPresent, UnaryFits}
@@ -80,7 +80,7 @@ module _ (chosen : Kinds) (strict : Bool) where
 
   hooked : {a : FunctionTable} (k : OpKind) (h : Text) (id : ℕ) (w : weaving.Expr) (j : ℕ)
       → ((j : ℕ) → TableMatch chosen a (functions_in strict (with_ids j w)))
-      → TableMatch chosen a (functions_in strict (with_ids j (weaving.hooked_if chosen k (hook_1 h id) w)))
+      → TableMatch chosen a (functions_in strict (with_ids j (rewriting.hooked_if chosen k (hook_1 h id) w)))
   hooked k h id w j x = way (chosen k) _ _ j (table_end (x (j + 2 + 2 + 1))) (x j)
 
   by_callee : {a : FunctionTable} (b : Bool) (u v : weaving.Expr) (l : Exprs) (j : ℕ)
@@ -147,7 +147,7 @@ module _ (chosen : Kinds) where
     functions_match strict (tree.call f l s) p j =
         callee_table strict f p.0 s l j (λ j. functions_match strict f p.0 j) (λ j. forests_match strict l p.1 j)
     functions_match strict (tree.new f l s) p j =
-        way chosen strict (weaving.calls chosen) _ _ j
+        way chosen strict (rewriting.calls chosen) _ _ j
         (table_append (table_end (functions_match strict f p.0 _)) (forests_match strict l p.1 _))
         (table_append (functions_match strict f p.0 _) (forests_match strict l p.1 _))
     functions_match strict (tree.unary un.Typeof e s) p j =
@@ -158,7 +158,7 @@ module _ (chosen : Kinds) where
         way chosen strict (chosen kind.Unary) _ _ j (table_end (functions_match strict e p.0 _))
         (functions_match strict e p.0 _)
     functions_match strict (tree.update up prefix t s) p j =
-        way chosen strict (weaving.computes chosen t kind.Unary) _ _ j
+        way chosen strict (rewriting.computes chosen t kind.Unary) _ _ j
         (back_table chosen strict up prefix (woven_update chosen up t s) j (λ j. update_table strict t p.0 s up j))
         (functions_match strict t p.0 _)
     functions_match strict (tree.binary o a b s) p j =
@@ -179,14 +179,14 @@ module _ (chosen : Kinds) where
         way chosen strict (chosen kind.Write) _ _ j (table_end (functions_match strict e p.2 _))
         (functions_match strict e p.2 _)
     functions_match strict (tree.assign (Some q) (tree.to_name x) e s) p j =
-        way chosen strict (weaving.computes chosen (tree.to_name x) kind.Binary) _ _ j
+        way chosen strict (rewriting.computes chosen (tree.to_name x) kind.Binary) _ _ j
         (table_end (table_end (functions_match strict e p.2 _))) (functions_match strict e p.2 _)
     functions_match strict (tree.assign None (tree.to_dot o k s) e t) p j =
         way chosen strict (chosen kind.PutField) _ _ j
         (table_append (table_end (functions_match strict o p.1 _)) (table_end (functions_match strict e p.2 _)))
         (table_append (functions_match strict o p.1 _) (functions_match strict e p.2 _))
     functions_match strict (tree.assign (Some q) (tree.to_dot o k s) e t) p j =
-        way chosen strict (weaving.computes chosen (tree.to_dot o k s) kind.Binary) _ _ j
+        way chosen strict (rewriting.computes chosen (tree.to_dot o k s) kind.Binary) _ _ j
         (table_append (table_end (functions_match strict o p.1 _)) (table_end (functions_match strict e p.2 _)))
         (table_append (functions_match strict o p.1 _) (functions_match strict e p.2 _))
     functions_match strict (tree.assign None (tree.to_index o k s) e t) p j =
@@ -196,7 +196,7 @@ module _ (chosen : Kinds) where
         (table_append (table_append (functions_match strict o p.1.0 _) (functions_match strict k p.1.1 _))
         (functions_match strict e p.2 _))
     functions_match strict (tree.assign (Some q) (tree.to_index o k s) e t) p j =
-        way chosen strict (weaving.computes chosen (tree.to_index o k s) kind.Binary) _ _ j
+        way chosen strict (rewriting.computes chosen (tree.to_index o k s) kind.Binary) _ _ j
         (table_append (table_append (functions_match strict o p.1.0 _) (table_end (functions_match strict k p.1.1 _)))
         (table_end (functions_match strict e p.2 _)))
         (table_append (table_append (functions_match strict o p.1.0 _) (functions_match strict k p.1.1 _))
@@ -282,16 +282,16 @@ module _ (chosen : Kinds) where
         (functions_in strict (with_ids j
         (tree.call (woven_callee chosen f (weave chosen f) id) (woven_forest chosen l) tt)))
     callee_table strict (tree.dot o k s) p id l j itself rest =
-        by_callee chosen strict (weaving.calls_member chosen) _ _ l j
+        by_callee chosen strict (rewriting.calls_member chosen) _ _ l j
         (table_append (table_end (functions_match strict o p.0 _)) (rest _))
         (table_append (functions_match strict o p.0 _) (rest _))
     callee_table strict (tree.index o k s) p id l j itself rest =
-        by_callee chosen strict (weaving.calls_member chosen) _ _ l j
+        by_callee chosen strict (rewriting.calls_member chosen) _ _ l j
         (table_append (table_append (functions_match strict o p.0 _) (table_end (functions_match strict k p.1 _)))
         (rest _))
         (table_append (table_append (functions_match strict o p.0 _) (functions_match strict k p.1 _)) (rest _))
     callee_table strict f p id l j itself rest =
-        by_callee chosen strict (weaving.calls chosen) _ (weave chosen f) l j
+        by_callee chosen strict (rewriting.calls chosen) _ (weave chosen f) l j
         (table_append (table_end (itself (j + 2 + 2 + 2 + 1))) (rest _))
         (subst (λ t. TableMatch chosen (functions_in strict f ++ forest_functions strict l) (functions_in strict t))
         (sym (call_with_ids chosen f tt j (woven_forest chosen l))) (table_append (itself (j + 2)) (rest _)))
