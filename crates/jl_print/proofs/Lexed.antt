@@ -140,13 +140,13 @@ shifted t ts i line (k ∷ ks) j h =
 record Split (text us : List ℕ) (line : Bool) (ks : List TokenKind) : Type 0 where
   pieces : List Piece
   splits : Many (OnePiece text) us pieces []
-  spelling_of : Spells (tokens_among line pieces) 0 line ks (length (tokens_among line pieces))
+  spelled : Spells (tokens_among line pieces) 0 line ks (length (tokens_among line pieces))
 
 -- the same, where the tokens are those that follow a kind: after it a line ends or not
 record SplitAfter (text us : List ℕ) (line : Bool) (ks : List TokenKind) : Type 0 where
   pieces : List Piece
   splits : Many (OnePiece text) us pieces []
-  spelling_of : Spells (tokens_among false pieces) 0 line ks (length (tokens_among false pieces))
+  spelled : Spells (tokens_among false pieces) 0 line ks (length (tokens_among false pieces))
 
 -- what stands between two kinds is one piece at most, and ends a line where the first kind does
 separated : (text : List ℕ) (k l : TokenKind) (rest : List ℕ) (ks : List TokenKind) → Split text rest (ends_line k) ks
