@@ -5,7 +5,8 @@ use jl_value::Value;
 use std::alloc::Global;
 
 /// `calls WORDS`: a number begins a call of the function of this number, `innermost` answers the number of the function
-/// whose call is the innermost one, and `pop` that of the call that it ends; both answer `none` where no call is running.
+/// whose call is the innermost one, and `pop` that of the call that it ends; both answer `none` where no call is
+/// running.
 pub fn answer(alloc: Global, words: &str) -> Result<String, Fault> {
     let mut calls = Calls::new(alloc);
     let mut answers = String::new(alloc);

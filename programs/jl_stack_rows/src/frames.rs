@@ -7,9 +7,16 @@ use jl_value::Value;
 /// Which frame it is.
 #[derive(Clone, Copy)]
 pub enum Name {
-    /// What gives this number once the observer has been told.
+    /// The one that gives this number once the observer has been told.
     Number(Num),
-    Word(&'static str),
+    Delete,
+    Typeof,
+    Return,
+    Throw,
+    Switch,
+    Body,
+    /// One that no row pushes.
+    Another,
 }
 
 /// The frame of this word; that of a number gives it.
@@ -35,16 +42,31 @@ pub fn numbered<'p>(number: Num) -> Frame<'p> {
     Frame::Told(ToldFrame::Give(Value::Num(number)))
 }
 
-/// The name of a frame; that of one which no row pushes is `another`.
+/// The name of this frame.
 pub fn name_of(frame: &Frame<'_>) -> Name {
     match frame {
-        Frame::Value(ValueFrame::DeleteValue) => Name::Word("delete"),
-        Frame::Algorithm(AlgorithmFrame::TypeOf) => Name::Word("typeof"),
-        Frame::Statement(StatementFrame::Return) => Name::Word("return"),
-        Frame::Statement(StatementFrame::Throw) => Name::Word("throw"),
-        Frame::Completion(CompletionFrame::Switch) => Name::Word("switch"),
+        Frame::Value(ValueFrame::DeleteValue) => Name::Delete,
+        Frame::Algorithm(AlgorithmFrame::TypeOf) => Name::Typeof,
+        Frame::Statement(StatementFrame::Return) => Name::Return,
+        Frame::Statement(StatementFrame::Throw) => Name::Throw,
+        Frame::Completion(CompletionFrame::Switch) => Name::Switch,
         Frame::Told(ToldFrame::Give(Value::Num(number))) => Name::Number(*number),
-        Frame::Body => Name::Word("body"),
-        _ => Name::Word("another"),
+        Frame::Body => Name::Body,
+        _ => Name::Another,
+    }
+}
+
+/// The word of a frame that gives no number, or `none`.
+pub fn word_of(name: Option<Name>) -> &'static str {
+    match name {
+        None => "none",
+        Some(Name::Number(_)) => "number",
+        Some(Name::Delete) => "delete",
+        Some(Name::Typeof) => "typeof",
+        Some(Name::Return) => "return",
+        Some(Name::Throw) => "throw",
+        Some(Name::Switch) => "switch",
+        Some(Name::Body) => "body",
+        Some(Name::Another) => "another",
     }
 }

@@ -1,6 +1,6 @@
 //! The stack of frames.
 use crate::fault::Fault;
-use crate::frames::{Name, frame_of, name_of, numbered};
+use crate::frames::{Name, frame_of, name_of, numbered, word_of};
 use jl_num::Num;
 use jl_state::Stack;
 use std::alloc::Global;
@@ -28,54 +28,68 @@ fn push(stack: &mut Stack<'_>, word: &str) -> Result<(), Fault> {
 
 /// Takes a frame off. It is pushed on another stack, since the proof of a function that lets a frame go takes up every
 /// kind of frame.
-fn pop<'p>(stack: &mut Stack<'p>, popped: &mut Stack<'p>) -> Result<Name, Fault> {
+fn pop<'p>(stack: &mut Stack<'p>, popped: &mut Stack<'p>) -> Result<Option<Name>, Fault> {
     match stack.pop() {
         Some(frame) => {
             let name = name_of(&frame);
             popped.push(frame)?;
-            Ok(name)
+            Ok(Some(name))
         }
-        None => Ok(Name::Word("none")),
+        None => Ok(None),
     }
 }
 
-fn add_name(answers: &mut String, name: Name) -> Result<(), Fault> {
+fn add_name(answers: &mut String, name: Option<Name>) -> Result<(), Fault> {
     if !answers.is_empty() {
         answers.push(' ')?;
     }
     match name {
-        Name::Number(number) => write!(answers, "{}", number.value().unwrap_or(0))?,
-        Name::Word(word) => answers.push_str(word)?,
+        Some(Name::Number(number)) => write!(answers, "{}", number.value().unwrap_or(0))?,
+        other => answers.push_str(word_of(other))?,
     }
     Ok(())
 }
 
-/// `deep COUNT`: on a new stack this many numbered frames are pushed, and popped until there is none; the answer is how
-/// many came off, and how many of them were not the next one in the order due.
+/// `deep COUNT`: on a new stack this many numbered frames are pushed, and popped again. The answer is how many of them
+/// came off in the order due, and then what one more `pop` answers.
 pub fn answer_deep(alloc: Global, words: &str) -> Result<String, Fault> {
     let count = words.parse::<u32>().ok().ok_or(Fault::Unreadable)?;
     let mut stack = Stack::new(alloc);
     push_numbers(&mut stack, count)?;
     let mut popped = Stack::new(alloc);
-    let mut came = 0u32;
-    let mut misplaced = 0u32;
-    'frames: loop {
-        let Name::Number(number) = pop(&mut stack, &mut popped)? else {
-            break;
-        };
-        if number.value() != Some(i64::from(count.wrapping_sub(came))) {
-            misplaced = misplaced.wrapping_add(1);
-        }
-        came = came.wrapping_add(1);
-    }
-    Ok(format!(in alloc; "{came} {misplaced}")?)
+    let in_order = pop_numbers(&mut stack, &mut popped, count)?;
+    let last = word_of(pop(&mut stack, &mut popped)?);
+    Ok(format!(in alloc; "{in_order} {last}")?)
 }
 
 /// Pushes the frames of the numbers from 1 to this one.
 fn push_numbers(stack: &mut Stack<'_>, count: u32) -> Result<(), Fault> {
-    for number in 0..count {
-        let number = Num::new(i64::from(number) + 1)?;
+    for before in 0..count {
+        let number = Num::new(i64::from(before) + 1)?;
         stack.push(numbered(number))?;
     }
     Ok(())
+}
+
+/// Pops this many frames, of which those of the numbers from this one down to 1 are due, and counts those that are.
+fn pop_numbers<'p>(
+    stack: &mut Stack<'p>,
+    popped: &mut Stack<'p>,
+    count: u32,
+) -> Result<u32, Fault> {
+    let mut in_order = 0u32;
+    for before in 0..count {
+        let name = pop(stack, popped)?;
+        if is_number(name, count.wrapping_sub(before)) {
+            in_order = in_order.wrapping_add(1);
+        }
+    }
+    Ok(in_order)
+}
+
+fn is_number(name: Option<Name>, due: u32) -> bool {
+    match name {
+        Some(Name::Number(number)) => number.value() == Some(i64::from(due)),
+        _ => false,
+    }
 }
