@@ -34,11 +34,11 @@ pub fn frame_of<'p>(word: &str) -> Result<Frame<'p>, Fault> {
 
 fn frame_of_number<'p>(word: &str) -> Result<Frame<'p>, Fault> {
     let number = word.parse::<i64>().ok().ok_or(Fault::Unreadable)?;
-    Ok(numbered(Num::new(number)?))
+    Ok(frame_giving(Num::new(number)?))
 }
 
 /// The frame that gives this number.
-pub fn numbered<'p>(number: Num) -> Frame<'p> {
+pub fn frame_giving<'p>(number: Num) -> Frame<'p> {
     Frame::Told(ToldFrame::Give(Value::Num(number)))
 }
 
