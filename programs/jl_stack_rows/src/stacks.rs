@@ -1,6 +1,6 @@
 //! The stack of frames.
 use crate::fault::Fault;
-use crate::frames::{Name, frame_of, name_of, frame_giving, word_of};
+use crate::frames::{Name, frame_giving, frame_of, name_of, word_of};
 use jl_num::Num;
 use jl_state::Stack;
 use std::alloc::Global;
@@ -50,7 +50,7 @@ fn add_name(answers: &mut String, name: Option<Name>) -> Result<(), Fault> {
     Ok(())
 }
 
-/// `deep COUNT`: on a new stack this many frame_giving frames are pushed, and popped again. The answer is how many of them
+/// `deep COUNT`: on a new stack this many numbered frames are pushed, and popped again. The answer is how many of them
 /// came off in the order due, and then what one more `pop` answers.
 pub fn answer_deep(alloc: Global, words: &str) -> Result<String, Fault> {
     let count = words.parse::<u32>().ok().ok_or(Fault::Unreadable)?;
