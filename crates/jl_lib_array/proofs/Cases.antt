@@ -1,5 +1,5 @@
 -- What is left to do of what a function keeps, by the variant of it.
-use Rattle.std.proofs.Common.{◌≡◌, ◌+◌, ◌≤◌, arith, subst, sym, IfOk, List, Result, ℕ}
+use Rattle.std.proofs.Common.{◌≡◌, ◌+◌, ◌≤◌, arith, refl, subst, sym, IfOk, List, Result, ℕ}
 use Rattle.std.proofs.lemmas.Result.{IfOk-weaker}
 use Rattle.jl_value.specs.declared.object.ObjId.{ObjId}
 use Rattle.jl_value.specs.declared.value.Value.{Value}
@@ -29,6 +29,15 @@ module _ {E : Type 0} (s t : State) (r : Result Act E) where
   with_function f g o args l n is same leads =
       subst (λ h. IfOk r (λ a. Works s (with_length h o args n) t a)) (sym is)
       (subst (λ (k : List Value). IfOk r (λ a. Works s (with_length g o k n) t a)) same leads)
+
+  -- one that does not look at its arguments
+  pub with_any_arguments : (f g : LengthFunction) (o : ObjId) (args : List Value) (n : ℕ) → f ≡ g
+      → IfOk r (λ a. (l : List Value) → Works s (with_length g o l n) t a)
+      → IfOk r (λ a. Works s (with_length f o args n) t a)
+  with_any_arguments f g o args n is leads =
+      with_function f g o args args n is refl
+      (IfOk-weaker r (λ a. (l : List Value) → Works s (with_length g o l n) t a)
+      (λ a. Works s (with_length g o args n) t a) (λ a each. each args) leads)
 
   -- the second argument of splice, with the arguments as a slice
   pub resumes_count : (p : ArrayProgress) (o array : ObjId) (n start : ℕ) (args l : List Value) (v : Value)

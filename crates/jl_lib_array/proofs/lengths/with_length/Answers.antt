@@ -1,6 +1,5 @@
 use Rattle.std.proofs.Common.{refl}
-use Rattle.std.proofs.lemmas.Result.{IfOk-weaker}
-use Rattle.jl_lib_array.proofs.Cases.{with_function}
+use Rattle.jl_lib_array.proofs.Cases.{with_any_arguments, with_function}
 use Rattle.jl_lib_array.proofs.lengths.with_length.Goals as goal
 
 pub returns-in-Join-clause-leads : goal.returns-in-Join-clause-leads
@@ -23,9 +22,8 @@ returns-in-Push-clause-leads c =
 
 pub returns-in-Reverse-clause-leads : goal.returns-in-Reverse-clause-leads
 returns-in-Reverse-clause-leads c =
-    with_function c.args.state.now _ _ c.args.function _ c.args.object c.args.args c.args.args c.args.length
-    c.in-Reverse.is refl
-    (IfOk-weaker _ _ _ (λ a leads. leads c.args.args) c.reverse.ensures.leads)
+    with_any_arguments _ _ _ c.args.function _ c.args.object c.args.args c.args.length c.in-Reverse.is
+    c.reverse.ensures.leads
 
 pub returns-in-Shift-clause-leads : goal.returns-in-Shift-clause-leads
 returns-in-Shift-clause-leads c =
@@ -35,9 +33,8 @@ returns-in-Shift-clause-leads c =
 
 pub returns-in-Sort-clause-leads : goal.returns-in-Sort-clause-leads
 returns-in-Sort-clause-leads c =
-    with_function c.args.state.now _ _ c.args.function _ c.args.object c.args.args c.args.args c.args.length
-    c.in-Sort.is refl
-    (IfOk-weaker _ _ _ (λ a leads. leads c.args.args) c.sort.ensures.leads)
+    with_any_arguments _ _ _ c.args.function _ c.args.object c.args.args c.args.length c.in-Sort.is
+    c.sort.ensures.leads
 
 pub returns-in-Splice-clause-leads : goal.returns-in-Splice-clause-leads
 returns-in-Splice-clause-leads c =

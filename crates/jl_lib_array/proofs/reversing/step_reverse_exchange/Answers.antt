@@ -7,8 +7,8 @@ returns-in-Some-clause-leads c =
     IfOk-weaker _ _ _ (λ a leads. puts_exchanged _ _ _ c.args.reversing c.args.low c.in-Some.low c.in-Some.is leads)
     c.put_above.ensures.leads
 
-pub returns-in-None-clause-leads : goal.returns-in-None-clause-leads
-returns-in-None-clause-leads c =
+pub returns-in_ok-progress-in-None-clause-leads : goal.returns-in_ok-progress-in-None-clause-leads
+returns-in_ok-progress-in-None-clause-leads c =
     IfOk-weaker _ _ _ (λ a leads. deletes_exchanged _ _ _ c.args.reversing c.args.low _
     c.in_ok-progress-in-None.progress c.in-None.is c.upper_of-upper.ensures c.in_ok-progress-in-None.ensures.turn leads)
     c.delete_then.ensures.leads
