@@ -29,17 +29,17 @@ pub fn resume_object<'p>(
 {
     match progress {
         ObjectProgress::DescribedName { object } => {
-            step_described_name(alloc, state, object, &v)
+            Ok(step_described_name(alloc, state, object, &v)?)
         }
         ObjectProgress::DefinedName { object, descriptor } => {
-            step_defined_name(alloc, state, object, &descriptor, &v)
+            Ok(step_defined_name(alloc, state, object, &descriptor, &v)?)
         }
         ObjectProgress::Field {
             field,
             descriptor,
             change,
             purpose,
-        } => step_field(alloc, state, field, descriptor, change, purpose, v),
+        } => Ok(step_field(alloc, state, field, descriptor, change, purpose, v)?),
         ObjectProgress::Descriptor {
             object,
             descriptors,
@@ -56,27 +56,29 @@ pub fn resume_object<'p>(
                 names,
                 from,
             };
-            step_descriptor(alloc, state, purpose, &v)
+            Ok(step_descriptor(alloc, state, purpose, &v)?)
         }
         ObjectProgress::Define {
             object,
             changes,
             from,
-        } => define_from(alloc, state, object, changes, from),
+        } => Ok(define_from(alloc, state, object, changes, from)?),
         ObjectProgress::Restrict {
             integrity,
             object,
             names,
             from,
-        } => restrict_from(alloc, state, integrity, object, names, from),
+        } => Ok(restrict_from(alloc, state, integrity, object, names, from)?),
         ObjectProgress::Test {
             integrity,
             object,
             holds,
             names,
             from,
-        } => test_from(alloc, state, integrity, object, holds, names, from),
-        ObjectProgress::OwnName { test, this } => { step_own_name(alloc, state, test, &this, &v) }
+        } => Ok(test_from(alloc, state, integrity, object, holds, names, from)?),
+        ObjectProgress::OwnName { test, this } => {
+            Ok(step_own_name(alloc, state, test, &this, &v)?)
+        }
     }
 }
 

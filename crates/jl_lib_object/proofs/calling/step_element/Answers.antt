@@ -1,8 +1,6 @@
-use Rattle.std.proofs.lemmas.Result.{IfOk-weaker}
 use Rattle.jl_lib_object.proofs.Applications.{goes_on_with}
 use Rattle.jl_lib_object.proofs.calling.step_element.Goals as goal
 
 pub returns-clause-leads : goal.returns-clause-leads
 returns-clause-leads c =
-    IfOk-weaker _ _ _ (λ a leads. goes_on_with _ _ _ _ _ _ _ _ _ _ _ c.in_ok-push.ensures.ok leads)
-    c.apply_from.ensures.leads
+    goes_on_with _ _ _ _ _ _ _ _ _ _ _ c.in_ok-push.ensures.ok c.in_ok-apply_from.ensures.leads

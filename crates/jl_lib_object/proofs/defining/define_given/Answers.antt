@@ -1,5 +1,4 @@
 use Rattle.std.proofs.Common.{sym, ◌∙◌}
-use Rattle.std.proofs.lemmas.Result.{IfOk-weaker}
 use Rattle.jl_lib_object.proofs.Definitions.{none_given, some_given}
 use Rattle.jl_lib_object.proofs.defining.define_given.Goals as goal
 
@@ -8,5 +7,4 @@ returns-then-is_undefined-clause-leads c = none_given _ _ _ (sym c.is_undefined.
 
 pub returns-clause-leads : goal.returns-clause-leads
 returns-clause-leads c =
-    IfOk-weaker _ _ _ (λ a leads. some_given _ _ _ _ _ (sym c.is_undefined.ensures ∙ c.if-is_undefined.false) leads)
-    c.define_all.ensures.leads
+    some_given _ _ _ _ _ (sym c.is_undefined.ensures ∙ c.if-is_undefined.false) c.in_ok-define_all.ensures.leads

@@ -1,11 +1,10 @@
-use Rattle.std.proofs.lemmas.Result.{IfOk-weaker}
 use Rattle.jl_lib_object.proofs.Ends.{goes_on, throws_on}
 use Rattle.jl_lib_object.proofs.integrity.are_all.Goals as goal
 
 pub returns-in-Throws-clause-leads : goal.returns-in-Throws-clause-leads
 returns-in-Throws-clause-leads c = throws_on _ _ _ _ _ c.in_ok-thrown.ensures _ c.in-Throws.is
 
-pub returns-in-Gives-clause-leads : goal.returns-in-Gives-clause-leads
-returns-in-Gives-clause-leads c =
-    IfOk-weaker _ _ _ (λ a leads. goes_on _ _ _ _ _ c.in_ok-thrown.ensures _ _ _ c.in-Gives.is
-    (record { is = leads.is })) c.test_all.ensures.leads
+pub returns-in_ok-test_all-in-Gives-clause-leads : goal.returns-in_ok-test_all-in-Gives-clause-leads
+returns-in_ok-test_all-in-Gives-clause-leads c =
+    goes_on _ _ _ _ _ c.in_ok-thrown.ensures _ _ _ c.in-Gives.is
+    (record { is = c.in_ok-test_all-in-Gives.ensures.leads.is })
