@@ -46,8 +46,9 @@ pub(crate) fn call_method<'p>(
         }
         this => {
             let args = copy_of(alloc, call.args.items())?;
+            let value = share(alloc, this)?;
             let progress = Progress::String(StringProgress::This { method, args });
-            Ok(wait_for_string(alloc, state, progress, share(alloc, this)?)?)
+            Ok(wait_for_string(alloc, state, progress, value)?)
         }
     }
 }

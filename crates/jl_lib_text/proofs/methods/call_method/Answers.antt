@@ -18,7 +18,7 @@ pub returns-in_ok-wait_for_string-in_default : goal.returns-in_ok-wait_for_strin
 returns-in_ok-wait_for_string-in_default c = record {
   leads =
       method_waits c.args.state.now c.args.method (call_of c.args.call.now) _ _ _ _ c.in_default.not-Undefined
-      c.in_default.not-Null (c.in_ok-args-in_default.ensures ∙ c.items.ensures) c.in_ok-share-in_default.ensures
+      c.in_default.not-Null (c.in_ok-args-in_default.ensures ∙ c.items.ensures) c.in_ok-value-in_default.ensures
       c.in_ok-wait_for_string-in_default.ensures.leads;
   falls = c.in_ok-wait_for_string-in_default.ensures.falls;
 }
