@@ -7,8 +7,6 @@
 mod adapters;
 mod memory;
 mod shelf;
-#[cfg(test)]
-mod tests;
 mod traits;
 mod whole;
 

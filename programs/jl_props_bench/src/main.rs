@@ -4,7 +4,7 @@
 
 use anyhow::{Result, bail};
 use jl_props::Store;
-use jl_text::{Text, Utf8Fault, from_utf8};
+use jl_text::{List, Text, Utf8Fault, from_utf8};
 use std::alloc::Global;
 use std::env;
 
@@ -34,7 +34,8 @@ fn main(rt: HostRuntime) -> Result<()> {
             "again" => put_again(alloc, &mut store, names.as_slice())?,
             "get" => got(&store, names.as_slice()),
             "order" => store.in_order(alloc, 0)?.len() as u64,
-            _ => bail!("the calls are put, again, get and order"),
+            "share" => share_all(alloc, names.as_slice())?,
+            _ => bail!("the calls are put, again, get, order and share"),
         };
         found = found.wrapping_add(more);
     }
@@ -87,6 +88,15 @@ fn put_again(alloc: Global, store: &mut Store<u64>, names: &[Text]) -> Result<u6
         }
     }
     Ok(again)
+}
+
+/// The least that a list of all names costs: the same list, out of a slice of the names. No property is looked at.
+fn share_all(alloc: Global, names: &[Text]) -> Result<u64> {
+    let mut shared = List::new(alloc);
+    for name in names {
+        shared.push((name.share(alloc)?, 0u64))?;
+    }
+    Ok(shared.len() as u64)
 }
 
 fn got(store: &Store<u64>, names: &[Text]) -> u64 {
