@@ -1,17 +1,12 @@
 //! The program jlint: standard input is the script, standard output the answer, and the exit status how it ended.
 #![tactic(auto)]
 
+mod checkers;
+
+use crate::checkers::{type_checkers, use_checkers};
 use jl_analysis::{Analysis, Crowd};
 use jl_app::{Status, jlint};
 use jl_port::{InSource, OutSink, Same};
-use jl_rules_type::{
-    BitsOfNothing, LooseEqual, NanMade, ObjectJoined, OddCompare, PutOnPrimitive, TypeofText,
-    UndefinedJoined, UndefinedKey, WrappedCondition,
-};
-use jl_rules_use::{
-    ExtraArguments, ForInArray, GlobalThis, LatePrototype, MixedNew, NoRadix, ObjectPrototypeWrite,
-    OddPrototype, ShadowWrite, WrapperMade,
-};
 use std::env;
 use std::io::{self, ErrorKind};
 use std::process::ExitCode;
@@ -32,27 +27,29 @@ fn run(rt: &HostRuntime) -> io::Result<Status> {
         named.push(word.as_str())?;
     }
     let alloc = rt.alloc();
+    let types = type_checkers(alloc)?;
+    let uses = use_checkers(alloc)?;
     let boxes: [Box<dyn Analysis>; 20] = [
-        Box::new(alloc, NanMade::fresh(alloc))?,
-        Box::new(alloc, UndefinedJoined::fresh(alloc))?,
-        Box::new(alloc, ObjectJoined::fresh(alloc))?,
-        Box::new(alloc, UndefinedKey::fresh(alloc))?,
-        Box::new(alloc, PutOnPrimitive::fresh(alloc))?,
-        Box::new(alloc, WrappedCondition::fresh(alloc))?,
-        Box::new(alloc, LooseEqual::fresh(alloc))?,
-        Box::new(alloc, OddCompare::fresh(alloc))?,
-        Box::new(alloc, TypeofText::fresh(alloc))?,
-        Box::new(alloc, BitsOfNothing::fresh(alloc))?,
-        Box::new(alloc, ShadowWrite::fresh(alloc))?,
-        Box::new(alloc, MixedNew::fresh(alloc))?,
-        Box::new(alloc, ObjectPrototypeWrite::fresh(alloc))?,
-        Box::new(alloc, OddPrototype::fresh(alloc))?,
-        Box::new(alloc, LatePrototype::fresh(alloc))?,
-        Box::new(alloc, ForInArray::fresh(alloc))?,
-        Box::new(alloc, ExtraArguments::fresh(alloc))?,
-        Box::new(alloc, WrapperMade::fresh(alloc))?,
-        Box::new(alloc, NoRadix::fresh(alloc))?,
-        Box::new(alloc, GlobalThis::fresh(alloc))?,
+        types.nan_made,
+        types.undefined_joined,
+        types.object_joined,
+        types.undefined_key,
+        types.put_on_primitive,
+        types.wrapped_condition,
+        types.loose_equal,
+        types.odd_compare,
+        types.typeof_text,
+        types.bits_of_nothing,
+        uses.shadow_write,
+        uses.mixed_new,
+        uses.object_prototype_write,
+        uses.odd_prototype,
+        uses.late_prototype,
+        uses.for_in_array,
+        uses.extra_arguments,
+        uses.wrapper_made,
+        uses.no_radix,
+        uses.global_this,
     ];
     let mut crowd = Crowd::of(Vec::from_array(alloc, boxes)?);
     let mut source = InSource::new(rt.stdin());

@@ -7,8 +7,8 @@ mod streams;
 
 use anyhow::{Result, bail};
 use jl_port::{
-    InSource, MemSink, MemSource, OutSink, ReadRefusal, Same, Shelf, Sink, Source, Swapped, read_all,
-    write_all,
+    InSource, MemSink, MemSource, OutSink, ReadRefusal, Same, Shelf, Sink, Source, Swapped,
+    read_all, write_all,
 };
 use std::alloc::Global;
 use streams::{BrokenReader, ClosedWriter};
@@ -35,7 +35,12 @@ fn main(rt: HostRuntime) -> Result<()> {
 fn answer(alloc: Global, row: &str) -> Result<String> {
     let words: Vec<&str> = row.split(' ').collect(alloc)?;
     match words.as_slice() {
-        ["read", length, limit, fails] => read(alloc, number(length)?, number(limit)?, number(fails)?),
+        ["read", length, limit, fails] => read(
+            alloc,
+            number(length)?,
+            number(limit)?,
+            number(fails)?,
+        ),
         ["write", room, fails] => write(alloc, number(room)?, number(fails)?),
         ["reader"] => reader(alloc),
         ["writer"] => writer(alloc),
@@ -53,12 +58,12 @@ fn number(word: &str) -> Result<u16> {
 fn read(alloc: Global, length: u16, limit: u16, fails: u16) -> Result<String> {
     let bytes = vec![in alloc; 7u8; usize::from(length)]?;
     let mut source = MemSource::new(bytes, vec![in alloc; u64::from(fails)]?);
-    read_of(alloc, &mut source, usize::from(limit))
+    read_of(alloc, &mut source, limit)
 }
 
 /// How many bytes are read of a source, or why none are.
-fn read_of<S: Source>(alloc: Global, source: &mut S, limit: usize) -> Result<String> {
-    let told = match read_all(alloc, source, limit) {
+fn read_of<S: Source>(alloc: Global, source: &mut S, limit: u16) -> Result<String> {
+    let told = match read_all(alloc, source, usize::from(limit)) {
         Ok(bytes) => format!(in alloc; "{}", bytes.len())?,
         Err(refusal) => format!(in alloc; "{refusal:?}")?,
     };
@@ -69,7 +74,12 @@ fn read_of<S: Source>(alloc: Global, source: &mut S, limit: usize) -> Result<Str
 /// fails.
 fn write(alloc: Global, room: u16, fails: u16) -> Result<String> {
     let text = b"a sink that takes ten a call";
-    let mut sink = MemSink::new(alloc, 10, usize::from(room), vec![in alloc; u64::from(fails)]?)?;
+    let mut sink = MemSink::new(
+        alloc,
+        10,
+        usize::from(room),
+        vec![in alloc; u64::from(fails)]?,
+    )?;
     let told = written_to(alloc, &mut sink, text)?;
     if !text.starts_with(sink.written()) {
         bail!("other bytes were written");
