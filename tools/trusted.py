@@ -57,7 +57,7 @@ def row(path):
         if not line.startswith('--'):
             break
         said.append(line[2:].strip())
-    first = re.split(r'(?<=[.:]) ', ' '.join(said) + ' ')[0].strip()
+    first = re.split(r'(?<=[.]) ', ' '.join(said) + ' ')[0].strip()
     name = os.path.relpath(path, CRATES)[:-len('.antt')]
     return name, len(kept), first.replace('|', r'\|')
 
