@@ -14,7 +14,7 @@ PAGE = os.path.join(TOP, 'docs', 'trusted.md')
 IMPORT = re.compile(r'\buse Rattle\.(jl_\w+)\.specs((?:\.\w+)+)')
 HEAD = '''# What has to be believed
 
-The two theorems of the README are clauses of `jl_app::jlint`. Their words are defined in these files of `specs/`, in an order in which each stands after what it needs. Whoever has read them has read all that the theorems say. Lemmas (`proofs/`) and code need no reading, since Rattle checks them. Lines are counted without blank lines and imports.
+The two theorems of the README stand in the contract of `jl_app::jlint` (`crates/jl_app/src/top.rt`). Its words are defined in these files of `specs/`, each of which comes after what it needs. Lemmas (`proofs/`) and the bodies of functions need no reading, since Rattle checks them. Lines are counted without blank lines and imports.
 
 `tools/trusted.py` writes this page from the imports, and `.ci/run` compares it.
 
@@ -57,7 +57,7 @@ def row(path):
         if not line.startswith('--'):
             break
         said.append(line[2:].strip())
-    first = re.split(r'(?<=[.:]) ', ' '.join(said) + ' ')[0].strip()
+    first = re.split(r'(?<=[.]) ', ' '.join(said) + ' ')[0].strip()
     name = os.path.relpath(path, CRATES)[:-len('.antt')]
     return name, len(kept), first.replace('|', r'\|')
 
@@ -71,9 +71,13 @@ def page():
     return HEAD + body + f'\nTogether {len(rows)} files with {total:,} lines. ' + TAIL
 
 
-TAIL = '''The types that the definitions speak of (values, operations, tokens) are those of the code, in the `src/` of the same crates.
+TAIL = '''Beside them, what the contract says rests on
 
-Not among them, though it stands in `specs/`: what only private contracts and proofs cite.
+- the types that the definitions speak of (values, operations, tokens), which are those of the code, in the `src/` of the same crates;
+- the ghost members of traits that it names, which stand in `src/` too: those of sources, sinks and shelves in jl_port (`traits.rt`, `memory.rt`, `shelf.rt`, `adapters.rt`), and `stands_for` and `rules` of a crowd in `jl_op/src/observer.rt` and in jl_analysis (`findings.rt`, `crowd.rt`, and `analysis.rt` and `checker.rt` for its boxes);
+- the definitions of the kit's libraries that these files import: std, `ucd_category`, `unicode` and `clap`.
+
+Not listed, though it stands in `specs/`: what only private contracts and proofs cite.
 '''
 
 if __name__ == '__main__':
