@@ -1,4 +1,4 @@
--- That the fault Misuse ends no run that a command answers of.
+-- That the fault Misuse ends no run that a command other than `exec` answers of.
 use Rattle.std.specs.Prelude.{ℕ, List}
 use Rattle.jl_ast.specs.Tree.{Program}
 use Rattle.jl_command.specs.Asked.{Asked, lint, run, soak, trace}

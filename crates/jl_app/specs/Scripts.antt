@@ -4,7 +4,8 @@ use Rattle.jl_command.specs.Asked.{Asked, lint, soak}
 use Rattle.jl_soak.specs.Script.{script_of}
 use Rattle.jl_app.specs.Forms.{ReadsSource}
 
--- The script that a command is about, where the source tells that it holds these bytes, or tells nothing.
+-- The script that a command is about: what the source tells that it holds, or what `soak` makes. Of a source that tells
+-- nothing there is none.
 pub data IsScriptFor (held : Option (List ℕ)) : Asked → (bytes : List ℕ) → Type 0 where
   -- the source holds it
   in_source : (a : Asked) (bytes : List ℕ) → ReadsSource a → held ≡ Some bytes → IsScriptFor held a bytes

@@ -11,19 +11,20 @@ use std::alloc::{AllocError, Global};
 /// Why bytes are no script, in the order in which it is asked. Where several causes are there, the first is given.
 #[derive(Drop)]
 pub enum Refusal {
-    /// They are more than 1,048,576.
+    /// They are more than a source of their form may have: 1,048,576, or 67,108,928 of a rewritten script.
     TooLong,
     /// They are not UTF-8: the longest prefix of them that is has this many.
     NotUtf8 { at: usize },
     /// An input element can't be formed.
     BadInput { kind: BadKind, at: Position },
-    /// The tokens are no program of at most 200 levels.
+    /// The tokens are no program within the levels of their form, 200, or 1,000 of a rewritten script, or they open more
+    /// brackets than it may.
     Unreadable { at: Position },
     /// An early rule is broken.
     Early { rule: EarlyRule, at: Position },
     /// A name that is left out of the language is used freely.
     LeftOut { name: Text, at: Position },
-    /// `J$` stands as a name or a label.
+    /// `J$` stands as a name or a label of a script.
     ReservedName { at: Position },
 }
 
