@@ -219,14 +219,14 @@ pub fn jlint<S: Source, K: Sink, H: Shelf>(
           };
           knows = λ told. ⟦<Crowd as Observer>⟧.stands_for crowd.new told;
         }) (units_of bytes) p budget chosen result }
-    // For a script that is made, or of a source that tells its bytes, the fault Misuse ends no run that is answered of,
-    // but for `exec`, and for a program that is read from another text than the shelf was handed.
+    // Whatever accepted script is read or made, the fault Misuse ends no run that is answered of, but for `exec`, and for
+    // a program that is read from another text than the shelf was handed.
     ensures no_misuse { (a : Asked) (bytes : List ℕ) (p : Tree Span) → request (texts words.now) ≡ Some a
-        → IsScriptFor (S.left source.old) a bytes → IsAccepted bytes p → RunsWithoutMisuse a p }
+        → IsAccepted bytes p → RunsWithoutMisuse a p }
     // What `instrument` writes of an accepted script can be kept without the script: what is due to `exec` on these
     // bytes is what is due to `trace` on the script.
     ensures stands_alone { (bytes : List ℕ) (p : Tree Span) → request (texts words.now) ≡ Some instrument
-        → S.left source.old ≡ Some bytes → IsAccepted bytes p → StandsAlone bytes p }
+        → IsAccepted bytes p → StandsAlone bytes p }
     ensures unread { ((a : Asked) → request (texts words.now) ≡ Some a → ReadsSource a → ⊥) → source.new ≡ source.old }
     ensures shelf { ((a : Asked) (budget : ℕ) (chosen : List ℕ) → request (texts words.now) ≡ Some a
         → Reports a budget chosen → ⊥) → shelf.new ≡ shelf.old }

@@ -8,7 +8,7 @@ use jl_value::Value;
 #[derive(Clone, Copy)]
 pub enum Name {
     /// The one that gives this number once the observer has been told.
-    Number(Num),
+    Number(i64),
     Delete,
     Typeof,
     Return,
@@ -50,10 +50,15 @@ pub fn name_of(frame: &Frame<'_>) -> Name {
         Frame::Statement(StatementFrame::Return) => Name::Return,
         Frame::Statement(StatementFrame::Throw) => Name::Throw,
         Frame::Completion(CompletionFrame::Switch) => Name::Switch,
-        Frame::Told(ToldFrame::Give(Value::Num(number))) => Name::Number(*number),
+        Frame::Told(ToldFrame::Give(Value::Num(number))) => Name::Number(value_of(*number)),
         Frame::Body => Name::Body,
         _ => Name::Another,
     }
+}
+
+/// The number, which is not NaN in any row.
+fn value_of(number: Num) -> i64 {
+    number.value().unwrap_or(0)
 }
 
 /// The word of a frame that gives no number, or `none`.

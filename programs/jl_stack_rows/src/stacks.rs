@@ -44,7 +44,7 @@ fn add_name(answers: &mut String, name: Option<Name>) -> Result<(), Fault> {
         answers.push(' ')?;
     }
     match name {
-        Some(Name::Number(number)) => write!(answers, "{}", number.value().unwrap_or(0))?,
+        Some(Name::Number(number)) => write!(answers, "{number}")?,
         other => answers.push_str(word_of(other))?,
     }
     Ok(())
@@ -89,7 +89,7 @@ fn pop_numbers<'p>(
 
 fn is_number(name: Option<Name>, due: u32) -> bool {
     match name {
-        Some(Name::Number(number)) => number.value() == Some(i64::from(due)),
+        Some(Name::Number(number)) => number == i64::from(due),
         _ => false,
     }
 }

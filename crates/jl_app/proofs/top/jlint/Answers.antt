@@ -36,29 +36,29 @@ returns-in-Ok-write_all-clause-headline g c = λ a bytes p budget chosen words r
     answers
 
 pub returns-in-Err-ReadFault-clause-no_misuse : goal.returns-in-Err-ReadFault-clause-no_misuse
-returns-in-Err-ReadFault-clause-no_misuse g c = λ a bytes p words script is.
+returns-in-Err-ReadFault-clause-no_misuse g c = λ a bytes p words is.
     c.accepted_scripts_run_without_misuse.ensures a bytes p is
 
 pub returns-in-Err-NoMemory-clause-no_misuse : goal.returns-in-Err-NoMemory-clause-no_misuse
-returns-in-Err-NoMemory-clause-no_misuse g c = λ a bytes p words script is.
+returns-in-Err-NoMemory-clause-no_misuse g c = λ a bytes p words is.
     c.accepted_scripts_run_without_misuse.ensures a bytes p is
 
 pub returns-in-Ok-write_all-clause-no_misuse : goal.returns-in-Ok-write_all-clause-no_misuse
-returns-in-Ok-write_all-clause-no_misuse g c = λ a bytes p words script is.
+returns-in-Ok-write_all-clause-no_misuse g c = λ a bytes p words is.
     c.accepted_scripts_run_without_misuse.ensures a bytes p is
 
 pub returns-clause-no_misuse : goal.returns-clause-no_misuse
-returns-clause-no_misuse g c = λ a bytes p words script is.
+returns-clause-no_misuse g c = λ a bytes p words is.
     c.accepted_scripts_run_without_misuse.ensures a bytes p is
 
 pub returns-in-Err-ReadFault-clause-stands_alone : goal.returns-in-Err-ReadFault-clause-stands_alone
-returns-in-Err-ReadFault-clause-stands_alone g c = λ bytes p words held is. c.text_stands_alone.ensures bytes p is
+returns-in-Err-ReadFault-clause-stands_alone g c = λ bytes p words is. c.text_stands_alone.ensures bytes p is
 
 pub returns-in-Err-NoMemory-clause-stands_alone : goal.returns-in-Err-NoMemory-clause-stands_alone
-returns-in-Err-NoMemory-clause-stands_alone g c = λ bytes p words held is. c.text_stands_alone.ensures bytes p is
+returns-in-Err-NoMemory-clause-stands_alone g c = λ bytes p words is. c.text_stands_alone.ensures bytes p is
 
 pub returns-in-Ok-write_all-clause-stands_alone : goal.returns-in-Ok-write_all-clause-stands_alone
-returns-in-Ok-write_all-clause-stands_alone g c = λ bytes p words held is. c.text_stands_alone.ensures bytes p is
+returns-in-Ok-write_all-clause-stands_alone g c = λ bytes p words is. c.text_stands_alone.ensures bytes p is
 
 pub returns-clause-stands_alone : goal.returns-clause-stands_alone
-returns-clause-stands_alone g c = λ bytes p words held is. c.text_stands_alone.ensures bytes p is
+returns-clause-stands_alone g c = λ bytes p words is. c.text_stands_alone.ensures bytes p is
