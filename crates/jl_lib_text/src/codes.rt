@@ -29,8 +29,8 @@ fn string_of_codes<'p>(
     ensures falls { IfOk result (λ act. Falls state.old 3 state.new act) }
 {
     match value_from(alloc, args.items(), from)? {
-        None => Ok(give_text(alloc, units.items())?),
-        Some((v, next)) => Ok(convert_code(alloc, state, units, v, args, next)?),
+        None => give_text(alloc, units.items()),
+        Some((v, next)) => convert_code(alloc, state, units, v, args, next),
     }
 }
 
@@ -50,7 +50,7 @@ fn convert_code<'p>(
         return Ok(Act::Spent);
     }
     let progress = Progress::String(StringProgress::CharCode { units, args, from });
-    Ok(wait_for_number(alloc, state, progress, v)?)
+    wait_for_number(alloc, state, progress, v)
 }
 
 /// `String.fromCharCode(char0, ..)` (15.5.3.2).

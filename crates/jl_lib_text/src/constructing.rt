@@ -51,7 +51,7 @@ pub(crate) fn string_constructor<'p>(
         }
         Some((v, _)) => {
             let progress = Progress::String(StringProgress::Given { by_new });
-            Ok(wait_for_string(alloc, state, progress, v)?)
+            wait_for_string(alloc, state, progress, v)
         }
     }
 }
@@ -102,6 +102,6 @@ pub(crate) fn string_value<'p>(
 {
     match string_of_receiver(alloc, &state.store, &call.this)? {
         Some(units) => Ok(Act::Give(Value::Text(units))),
-        None => Ok(throw_native(alloc, state, ErrorKind::TypeError, "wrong receiver")?),
+        None => throw_native(alloc, state, ErrorKind::TypeError, "wrong receiver"),
     }
 }

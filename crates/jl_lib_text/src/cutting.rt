@@ -36,7 +36,7 @@ pub(crate) fn convert_start<'p>(
     let start = argument(alloc, args, 0)?;
     let end = argument(alloc, args, 1)?;
     let progress = Progress::String(StringProgress::Start { cut, units, end });
-    Ok(wait_for_number(alloc, state, progress, start)?)
+    wait_for_number(alloc, state, progress, start)
 }
 
 /// The length of a string as a number.
@@ -97,10 +97,10 @@ fn convert_end<'p>(
 {
     if is_undefined(&end) {
         let length = length_of(&units);
-        return Ok(give_cut(alloc, cut, &units, start, length)?);
+        return give_cut(alloc, cut, &units, start, length);
     }
     let progress = Progress::String(StringProgress::End { cut, units, start });
-    Ok(wait_for_number(alloc, state, progress, end)?)
+    wait_for_number(alloc, state, progress, end)
 }
 
 /// Goes on with the start of a part.

@@ -30,7 +30,7 @@ fn string_joined<'p>(
 {
     match value_from(alloc, args.items(), from)? {
         None => Ok(Act::Give(Value::Text(text_of_units(alloc, units.items())?))),
-        Some((v, next)) => Ok(convert_next(alloc, state, units, v, args, next)?),
+        Some((v, next)) => convert_next(alloc, state, units, v, args, next),
     }
 }
 
@@ -50,7 +50,7 @@ fn convert_next<'p>(
         return Ok(Act::Spent);
     }
     let progress = Progress::String(StringProgress::Joined { units, args, from });
-    Ok(wait_for_string(alloc, state, progress, v)?)
+    wait_for_string(alloc, state, progress, v)
 }
 
 /// Other strings are joined to one.

@@ -38,17 +38,17 @@ pub(crate) fn call_method<'p>(
     match &call.this {
         Value::Undefined => {
             let message = "no property of undefined";
-            Ok(throw_native(alloc, state, ErrorKind::TypeError, message)?)
+            throw_native(alloc, state, ErrorKind::TypeError, message)
         }
         Value::Null => {
             let message = "no property of null";
-            Ok(throw_native(alloc, state, ErrorKind::TypeError, message)?)
+            throw_native(alloc, state, ErrorKind::TypeError, message)
         }
         this => {
             let args = copy_of(alloc, call.args.items())?;
             let value = share(alloc, this)?;
             let progress = Progress::String(StringProgress::This { method, args });
-            Ok(wait_for_string(alloc, state, progress, value)?)
+            wait_for_string(alloc, state, progress, value)
         }
     }
 }

@@ -37,7 +37,7 @@ pub(crate) fn convert_part<'p>(
         units,
         position,
     });
-    Ok(wait_for_string(alloc, state, progress, part)?)
+    wait_for_string(alloc, state, progress, part)
 }
 
 /// The position is converted from which on a part is searched for.
@@ -58,7 +58,7 @@ fn convert_place<'p>(
         units,
         part,
     });
-    Ok(wait_for_number(alloc, state, progress, position)?)
+    wait_for_number(alloc, state, progress, position)
 }
 
 /// Goes on with the part that is searched for.
@@ -75,7 +75,7 @@ pub(crate) fn resume_part<'p>(
     ensures falls { IfOk result (λ act. Falls state.old 22 state.new act) }
 {
     let part = text_of(alloc, p)?;
-    Ok(convert_place(alloc, state, search, units, part, position)?)
+    convert_place(alloc, state, search, units, part, position)
 }
 
 /// Where a search for the last place begins; NaN stands for an infinity.

@@ -35,7 +35,7 @@ pub(crate) fn convert_position<'p>(
 {
     let position = argument(alloc, args, 0)?;
     let progress = Progress::String(StringProgress::Position { form, units });
-    Ok(wait_for_number(alloc, state, progress, position)?)
+    wait_for_number(alloc, state, progress, position)
 }
 
 /// The unit at a position, if there is one.

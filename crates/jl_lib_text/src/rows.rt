@@ -59,16 +59,16 @@ pub fn start<'p>(
     ensures falls { IfOk result (λ act. Falls state.old 400 state.new act) }
 {
     if row == 51 {
-        return Ok(string_constructor(alloc, state, &call)?);
+        return string_constructor(alloc, state, &call);
     }
     if row == 52 {
-        return Ok(string_from_char_code(alloc, state, &call)?);
+        return string_from_char_code(alloc, state, &call);
     }
     if row < 55 {
-        return Ok(string_value(alloc, state, &call)?);
+        return string_value(alloc, state, &call);
     }
     match method_of_row(row) {
-        Some(method) => Ok(call_method(alloc, state, method, &call)?),
+        Some(method) => call_method(alloc, state, method, &call),
         None => Ok(fail_row(row)),
     }
 }

@@ -89,7 +89,7 @@ fn fill_with_pieces<'p>(
     ensures falls { IfOk result (λ act. Falls state.old 6 state.new act) }
 {
     let values = first_values(alloc, pieces, limit as usize)?;
-    Ok(fill_array(alloc, state, array, values, 0)?)
+    fill_array(alloc, state, array, values, 0)
 }
 
 /// The separator is converted, or there is one piece where it is undefined.
@@ -106,14 +106,14 @@ fn convert_separator<'p>(
 {
     if is_undefined(&separator) {
         let piece = one_piece(alloc, units)?;
-        return Ok(fill_with_pieces(alloc, state, array, limit, piece.items())?);
+        return fill_with_pieces(alloc, state, array, limit, piece.items());
     }
     let progress = Progress::String(StringProgress::Separator {
         units,
         array,
         limit,
     });
-    Ok(wait_for_string(alloc, state, progress, separator)?)
+    wait_for_string(alloc, state, progress, separator)
 }
 
 /// The limit is converted, or allows any number of pieces where it is undefined.
@@ -130,14 +130,14 @@ fn convert_limit<'p>(
     ensures falls { IfOk result (λ act. Falls state.old 46 state.new act) }
 {
     if is_undefined(&limit) {
-        return Ok(convert_separator(alloc, state, units, array, separator, u32::MAX)?);
+        return convert_separator(alloc, state, units, array, separator, u32::MAX);
     }
     let progress = Progress::String(StringProgress::Limit {
         units,
         array,
         separator,
     });
-    Ok(wait_for_number(alloc, state, progress, limit)?)
+    wait_for_number(alloc, state, progress, limit)
 }
 
 /// An array is made for the pieces of a string, and then the limit is converted.
@@ -153,7 +153,7 @@ pub(crate) fn split<'p>(
     let separator = argument(alloc, args, 0)?;
     let limit = argument(alloc, args, 1)?;
     let array = state.store.new_array()?;
-    Ok(convert_limit(alloc, state, units, array, separator, limit)?)
+    convert_limit(alloc, state, units, array, separator, limit)
 }
 
 /// Goes on with the limit.
@@ -193,5 +193,5 @@ pub(crate) fn resume_separator<'p>(
 {
     let separator = text_of(alloc, p)?;
     let pieces = pieces(alloc, &separator, units)?;
-    Ok(fill_with_pieces(alloc, state, array, limit, pieces.items())?)
+    fill_with_pieces(alloc, state, array, limit, pieces.items())
 }

@@ -1,4 +1,5 @@
 use Rattle.std.proofs.Common.{subst, sym}
+use Rattle.std.proofs.lemmas.Result.{IfOk-weaker}
 use Rattle.jl_meaning.specs.Errors.{string_within}
 use Rattle.jl_meaning.specs.Parts.{◌>>=◌}
 use Rattle.jl_meaning.specs.builtins.Arguments.{give_string}
@@ -9,17 +10,15 @@ use Rattle.jl_lib_text.proofs.codes.string_of_codes.Goals as goal
 
 pub returns-in-None-clause-leads : goal.returns-in-None-clause-leads
 returns-in-None-clause-leads c =
-    subst (λ l. Works c.args.state.now (string_of_codes c.args.units l) c.args.state.now
-    c.in_ok-give_text-in-None.field-0)
-    (sym (none_from c.args.from c.items.result.now c.args.args c.in_ok-value_from.field-0 c.items.ensures
-    c.in_ok-value_from.ensures.found c.in-None.is))
-    (subst (λ x. Works c.args.state.now (string_within x >>= λ within. give_string within) c.args.state.now
-    c.in_ok-give_text-in-None.field-0) c.items-in-None.ensures
-    (c.in_ok-give_text-in-None.ensures.leads c.args.state.now))
+    IfOk-weaker _ _ _ (λ a leads. subst (λ l. Works c.args.state.now (string_of_codes c.args.units l) c.args.state.now
+    a) (sym (none_from c.args.from c.items.result.now c.args.args c.in_ok-value_from.field-0 c.items.ensures
+    c.in_ok-value_from.ensures.found c.in-None.is)) (subst (λ x. Works c.args.state.now
+    (string_within x >>= λ within. give_string within) c.args.state.now a) c.items-in-None.ensures
+    (leads c.args.state.now))) c.give_text.ensures.leads
 
 pub returns-clause-leads : goal.returns-clause-leads
 returns-clause-leads c =
-    subst (λ l. Works c.args.state.now (string_of_codes c.args.units l) c.convert_code.new.state
-    c.in_ok-convert_code-in-Some.field-0)
-    (sym (some_from c.args.from c.in-Some.next c.items.result.now c.args.args c.in-Some.v c.in_ok-value_from.field-0
-    c.items.ensures c.in_ok-value_from.ensures.found c.in-Some.is)) c.in_ok-convert_code-in-Some.ensures.leads
+    IfOk-weaker _ _ _ (λ a leads. subst (λ l. Works c.args.state.now (string_of_codes c.args.units l)
+    c.convert_code.new.state a) (sym (some_from c.args.from c.in-Some.next c.items.result.now c.args.args c.in-Some.v
+    c.in_ok-value_from.field-0 c.items.ensures c.in_ok-value_from.ensures.found c.in-Some.is)) leads)
+    c.convert_code.ensures.leads

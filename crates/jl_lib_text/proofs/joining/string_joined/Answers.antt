@@ -1,4 +1,5 @@
 use Rattle.std.proofs.Common.{subst, sym}
+use Rattle.std.proofs.lemmas.Result.{IfOk-weaker}
 use Rattle.jl_state.specs.Rest.{Works}
 use Rattle.jl_builtin.proofs.FoundItems.{some_from}
 use Rattle.jl_lib_text.specs.inner.Turns.{string_joined}
@@ -6,7 +7,7 @@ use Rattle.jl_lib_text.proofs.joining.string_joined.Goals as goal
 
 pub returns-clause-leads : goal.returns-clause-leads
 returns-clause-leads c =
-    subst (λ l. Works c.args.state.now (string_joined c.args.units l) c.convert_next.new.state
-    c.in_ok-convert_next-in-Some.field-0)
-    (sym (some_from c.args.from c.in-Some.next c.items.result.now c.args.args c.in-Some.v c.in_ok-value_from.field-0
-    c.items.ensures c.in_ok-value_from.ensures.found c.in-Some.is)) c.in_ok-convert_next-in-Some.ensures.leads
+    IfOk-weaker _ _ _ (λ a leads. subst (λ l. Works c.args.state.now (string_joined c.args.units l)
+    c.convert_next.new.state a) (sym (some_from c.args.from c.in-Some.next c.items.result.now c.args.args c.in-Some.v
+    c.in_ok-value_from.field-0 c.items.ensures c.in_ok-value_from.ensures.found c.in-Some.is)) leads)
+    c.convert_next.ensures.leads

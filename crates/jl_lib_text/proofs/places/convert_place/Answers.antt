@@ -1,6 +1,14 @@
 use Rattle.std.proofs.Common.{refl}
+use Rattle.std.proofs.lemmas.Result.{IfOk-weaker}
+use Rattle.jl_meaning.specs.Parts.{give}
+use Rattle.jl_progress.specs.Strings.{place_of_part, string_after}
+use Rattle.jl_progress.specs.declared.string.StringProgress.TheVariants as progress
 use Rattle.jl_builtin.proofs.Conversions.{as_number}
 use Rattle.jl_lib_text.proofs.places.convert_place.Goals as goal
 
 pub returns-clause-leads : goal.returns-clause-leads
-returns-clause-leads c = as_number _ _ _ _ _ _ (λ p. refl) c.in_ok-wait_for_number.ensures.leads
+returns-clause-leads c =
+    IfOk-weaker _ _ _ (λ a leads. as_number _ _ _ c.args.position
+    (string_after (progress.Place c.args.search c.args.units c.args.part))
+    (λ n. give (place_of_part c.args.search c.args.units c.args.part n)) (λ p. refl) leads)
+    c.wait_for_number.ensures.leads

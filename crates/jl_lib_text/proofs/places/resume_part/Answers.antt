@@ -1,4 +1,5 @@
 use Rattle.std.proofs.Common.{subst}
+use Rattle.std.proofs.lemmas.Result.{IfOk-weaker}
 use Rattle.jl_meaning.specs.Conversions.{to_number}
 use Rattle.jl_meaning.specs.Parts.{give, ◌>>=◌}
 use Rattle.jl_progress.specs.Strings.{place_of_part}
@@ -7,6 +8,6 @@ use Rattle.jl_lib_text.proofs.places.resume_part.Goals as goal
 
 pub returns-clause-leads : goal.returns-clause-leads
 returns-clause-leads c =
-    subst (λ x. Works c.args.state.now
-    (to_number c.args.position >>= λ n. give (place_of_part c.args.search c.args.units x n)) c.convert_place.new.state
-    c.in_ok-convert_place.field-0) c.in_ok-part.ensures c.in_ok-convert_place.ensures.leads
+    IfOk-weaker _ _ _ (λ a leads. subst (λ x. Works c.args.state.now (to_number c.args.position >>= λ n. give
+    (place_of_part c.args.search c.args.units x n)) c.convert_place.new.state a) c.in_ok-part.ensures leads)
+    c.convert_place.ensures.leads
