@@ -1,5 +1,6 @@
 -- What goes on with a value, where what was kept is known.
-use Rattle.std.proofs.Common.{◌≡◌, ◌≤◌, ◌+◌, arith, subst, sym, ℕ}
+use Rattle.std.proofs.Common.{◌≡◌, ◌≤◌, ◌+◌, arith, subst, sym, IfOk, Result, ℕ}
+use Rattle.std.proofs.lemmas.Result.{IfOk-weaker}
 use Rattle.jl_value.specs.declared.value.Value.{Value}
 use Rattle.jl_meaning.specs.Parts.{Algorithm}
 use Rattle.jl_progress.specs.ArrayCalls.{array_call_after, rank_array_call}
@@ -14,11 +15,14 @@ pub works_at : {A : Type 0} (s t : State) (a : Act) (k : A → Algorithm Value) 
     → Works s (k y) t a
 works_at {A} s t a k x y is leads = subst (λ z. Works s (k z) t a) is leads
 
-module _ (s t : State) (a : Act) (p q : ArrayCallProgress) (is : p ≡ q) where
-  pub resumes : (v : Value) → Works s (array_call_after q v) t a → Works s (array_call_after p v) t a
-  resumes v leads = subst (λ r. Works s (array_call_after r v) t a) (sym is) leads
+module _ {E : Type 0} (s t : State) (r : Result Act E) (p q : ArrayCallProgress) (is : p ≡ q) where
+  pub resumes : (v : Value) → IfOk r (λ a. Works s (array_call_after q v) t a)
+      → IfOk r (λ a. Works s (array_call_after p v) t a)
+  resumes v leads = subst (λ x. IfOk r (λ a. Works s (array_call_after x v) t a)) (sym is) leads
 
-  pub falls_resumed : (n : ℕ) → n ≤ rank_array_call q + 2 → Falls s n t a → Falls s (rank_array_call p + 2) t a
+  pub falls_resumed : (n : ℕ) → n ≤ rank_array_call q + 2 → IfOk r (λ a. Falls s n t a)
+      → IfOk r (λ a. Falls s (rank_array_call p + 2) t a)
   falls_resumed n within falls =
-      subst (λ r. Falls s (rank_array_call r + 2) t a) (sym is)
-      (record { left = falls.left; lower = λ same. omega (arith, within, falls.lower same) })
+      subst (λ x. IfOk r (λ a. Falls s (rank_array_call x + 2) t a)) (sym is)
+      (IfOk-weaker r (λ a. Falls s n t a) (λ a. Falls s (rank_array_call q + 2) t a)
+      (λ a less. record { left = less.left; lower = λ same. omega (arith, within, less.lower same) }) falls)

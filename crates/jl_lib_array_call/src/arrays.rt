@@ -35,8 +35,8 @@ pub(crate) fn array_constructor<'p>(
 {
     let number = only_number(args);
     match number {
-        Some(n) => Ok(array_of_number(alloc, state, n)?),
-        None => Ok(array_of_values(alloc, state, args)?),
+        Some(n) => array_of_number(alloc, state, n),
+        None => array_of_values(alloc, state, args),
     }
 }
 
@@ -66,7 +66,7 @@ fn array_of_number<'p>(alloc: Global, state: &mut State<'p>, n: Num) -> Result<A
     ensures falls { IfOk result (λ act. Falls state.old 3 state.new act) }
 {
     if !is_length(n) {
-        return Ok(throw_native(alloc, state, ErrorKind::RangeError, "bad array length")?);
+        return throw_native(alloc, state, ErrorKind::RangeError, "bad array length");
     }
     let answer = array_of_length(alloc, &mut state.store, n)?;
     match answer {

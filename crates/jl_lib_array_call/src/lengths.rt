@@ -33,7 +33,7 @@ pub(crate) fn begin_length<'p>(
     let Invocation { this, args, .. } = call;
     let answer = state.store.to_object(&this)?;
     match answer {
-        Answer::Gives(object) => Ok(get_length(alloc, state, object, args, purpose)?),
+        Answer::Gives(object) => get_length(alloc, state, object, args, purpose),
         Answer::Throws(thrown) => Ok(Act::Complete(Completion::Throw(thrown))),
     }
 }
@@ -57,7 +57,7 @@ pub(crate) fn get_length<'p>(
         purpose,
     };
     state.push_algorithm(AlgorithmFrame::Builtin(Progress::ArrayCall(progress)))?;
-    Ok(get(alloc, state, &Value::Obj(object), &name)?)
+    get(alloc, state, &Value::Obj(object), &name)
 }
 
 /// Goes on with the length that was got, which is converted.
@@ -79,7 +79,7 @@ pub(crate) fn step_length<'p>(
         purpose,
     };
     state.push_algorithm(AlgorithmFrame::Builtin(Progress::ArrayCall(progress)))?;
-    Ok(to_primitive(alloc, state, v, Hint::Number)?)
+    to_primitive(alloc, state, v, Hint::Number)
 }
 
 /// Goes on with the length as a primitive value (9.6).
@@ -99,7 +99,7 @@ pub(crate) fn step_length_primitive<'p>(
     let Some(n) = number_of_primitive(p) else {
         return Ok(Act::Fault(Fault::NumberOutside));
     };
-    Ok(with_length(alloc, state, purpose, object, &args, length_of(n))?)
+    with_length(alloc, state, purpose, object, &args, length_of(n))
 }
 
 /// What follows when the length is known.
@@ -115,12 +115,8 @@ fn with_length<'p>(
     ensures falls { IfOk result (λ act. Falls state.old 46 state.new act) }
 {
     match purpose {
-        LengthFor::Slice { array } => Ok(slice(alloc, state, object, array, args, length)?),
-        LengthFor::Search { direction } => {
-            Ok(search(alloc, state, direction, object, length, args)?)
-        }
-        LengthFor::Walk { purpose } => {
-            Ok(begin_walk(alloc, state, purpose, object, length, args)?)
-        }
+        LengthFor::Slice { array } => slice(alloc, state, object, array, args, length),
+        LengthFor::Search { direction } => { search(alloc, state, direction, object, length, args) }
+        LengthFor::Walk { purpose } => { begin_walk(alloc, state, purpose, object, length, args) }
     }
 }

@@ -59,15 +59,15 @@ pub fn start<'p>(
     ensures falls { IfOk result (λ act. Falls state.old 400 state.new act) }
 {
     if row == 28 {
-        return Ok(array_constructor(alloc, state, call.args.items())?);
+        return array_constructor(alloc, state, call.args.items());
     }
     if row == 29 {
-        return Ok(array_is_array(alloc, state, &call)?);
+        return array_is_array(alloc, state, &call);
     }
     if row == 38 {
-        return Ok(array_slice(alloc, state, call)?);
+        return array_slice(alloc, state, call);
     }
-    Ok(begin_length(alloc, state, call, purpose_of(row))?)
+    begin_length(alloc, state, call, purpose_of(row))
 }
 
 /// Goes on with the value that a builtin of this crate waited for.
@@ -85,67 +85,67 @@ pub fn resume<'p>(
             object,
             args,
             purpose,
-        } => Ok(step_length(alloc, state, object, args, purpose, v)?),
+        } => step_length(alloc, state, object, args, purpose, v),
         ArrayCallProgress::LengthPrimitive {
             object,
             args,
             purpose,
-        } => Ok(step_length_primitive(alloc, state, object, args, purpose, &v)?),
+        } => step_length_primitive(alloc, state, object, args, purpose, &v),
         ArrayCallProgress::SliceStart {
             object,
             array,
             length,
             end,
-        } => Ok(step_slice_start(alloc, state, object, array, length, end, &v)?),
+        } => step_slice_start(alloc, state, object, array, length, end, &v),
         ArrayCallProgress::SliceEnd {
             object,
             array,
             length,
             start,
-        } => Ok(step_slice_end(state, object, array, length, start, &v)?),
+        } => step_slice_end(state, object, array, length, start, &v),
         ArrayCallProgress::CopyTurn {
             object,
             start,
             array,
             count,
             at,
-        } => Ok(copy_turn(alloc, state, object, start, array, count, at)?),
+        } => copy_turn(alloc, state, object, start, array, count, at),
         ArrayCallProgress::CopyElement {
             object,
             start,
             array,
             count,
             index,
-        } => Ok(step_copy_element(alloc, state, object, start, array, count, index, v)?),
+        } => step_copy_element(alloc, state, object, start, array, count, index, v),
         ArrayCallProgress::SearchFrom {
             object,
             length,
             sought,
             direction,
-        } => Ok(step_search_from(state, object, length, sought, direction, &v)?),
+        } => step_search_from(state, object, length, sought, direction, &v),
         ArrayCallProgress::SearchTurn {
             object,
             length,
             sought,
             direction,
             at,
-        } => Ok(search_turn(alloc, state, object, length, sought, direction, at)?),
+        } => search_turn(alloc, state, object, length, sought, direction, at),
         ArrayCallProgress::SearchElement {
             object,
             length,
             sought,
             direction,
             index,
-        } => Ok(step_search_element(state, object, length, sought, direction, index, &v)?),
-        ArrayCallProgress::Turn { walk, task, at } => Ok(turn(alloc, state, walk, task, at)?),
+        } => step_search_element(state, object, length, sought, direction, index, &v),
+        ArrayCallProgress::Turn { walk, task, at } => turn(alloc, state, walk, task, at),
         ArrayCallProgress::Element { walk, task, index } => {
-            Ok(step_element(alloc, state, walk, task, index, v)?)
+            step_element(alloc, state, walk, task, index, v)
         }
         ArrayCallProgress::Answer {
             walk,
             task,
             index,
             element,
-        } => Ok(step_answer(alloc, state, walk, task, index, element, v)?),
+        } => step_answer(alloc, state, walk, task, index, element, v),
     }
 }

@@ -35,7 +35,7 @@ pub(crate) fn search<'p>(
     let sought = argument(alloc, args.items(), 0)?;
     let Some(from) = second(alloc, args)? else {
         let at = first_place(direction, length);
-        return Ok(go_on_searching(state, object, length, sought, direction, at)?);
+        return go_on_searching(state, object, length, sought, direction, at);
     };
     let progress = ArrayCallProgress::SearchFrom {
         object,
@@ -44,7 +44,7 @@ pub(crate) fn search<'p>(
         direction,
     };
     state.push_algorithm(AlgorithmFrame::Builtin(Progress::ArrayCall(progress)))?;
-    Ok(to_primitive(alloc, state, from, Hint::Number)?)
+    to_primitive(alloc, state, from, Hint::Number)
 }
 
 /// Goes on with where a search begins, as a primitive value.
@@ -65,7 +65,7 @@ pub(crate) fn step_search_from<'p>(
         return Ok(Act::Fault(Fault::NumberOutside));
     };
     let at = place_from(direction, n, length);
-    Ok(go_on_searching(state, object, length, sought, direction, at)?)
+    go_on_searching(state, object, length, sought, direction, at)
 }
 
 /// The turns follow that begin at a place.
@@ -109,7 +109,7 @@ pub(crate) fn search_turn<'p>(
     if !state.spend() {
         return Ok(Act::Spent);
     }
-    Ok(search_element(alloc, state, object, length, sought, direction, index)?)
+    search_element(alloc, state, object, length, sought, direction, index)
 }
 
 /// The element of a turn is got, if there is one.
@@ -129,7 +129,7 @@ fn search_element<'p>(
     let there = has_index(alloc, &state.store, object, index)?;
     if !there {
         let at = next_place(direction, index)?;
-        return Ok(go_on_searching(state, object, length, sought, direction, at)?);
+        return go_on_searching(state, object, length, sought, direction, at);
     }
     let progress = ArrayCallProgress::SearchElement {
         object,
@@ -139,7 +139,7 @@ fn search_element<'p>(
         index,
     };
     state.push_algorithm(AlgorithmFrame::Builtin(Progress::ArrayCall(progress)))?;
-    Ok(get_index(alloc, state, object, index)?)
+    get_index(alloc, state, object, index)
 }
 
 /// Goes on with the element at an index.
@@ -160,5 +160,5 @@ pub(crate) fn step_search_element<'p>(
         return Ok(Act::Give(index_or_none(Some(index))?));
     }
     let at = next_place(direction, index)?;
-    Ok(go_on_searching(state, object, length, sought, direction, at)?)
+    go_on_searching(state, object, length, sought, direction, at)
 }

@@ -37,7 +37,7 @@ pub(crate) fn array_slice<'p>(
         Answer::Gives(object) => {
             let array = state.store.new_array()?;
             let purpose = LengthFor::Slice { array };
-            Ok(get_length(alloc, state, object, args, purpose)?)
+            get_length(alloc, state, object, args, purpose)
         }
         Answer::Throws(thrown) => Ok(Act::Complete(Completion::Throw(thrown))),
     }
@@ -65,7 +65,7 @@ pub(crate) fn slice<'p>(
         end,
     };
     state.push_algorithm(AlgorithmFrame::Builtin(Progress::ArrayCall(progress)))?;
-    Ok(to_primitive(alloc, state, start, Hint::Number)?)
+    to_primitive(alloc, state, start, Hint::Number)
 }
 
 /// Goes on with the start as a primitive value.
@@ -87,7 +87,7 @@ pub(crate) fn step_slice_start<'p>(
         return Ok(Act::Fault(Fault::NumberOutside));
     };
     let start = relative_index(n, length);
-    Ok(slice_to(alloc, state, object, array, length, start, end)?)
+    slice_to(alloc, state, object, array, length, start, end)
 }
 
 /// The end is converted, when the start is known; it is the length where it is undefined (step 7).
@@ -104,7 +104,7 @@ fn slice_to<'p>(
     ensures falls { IfOk result (λ act. Falls state.old 28 state.new act) }
 {
     if is_undefined(&end) {
-        return Ok(begin_copy(state, object, start, array, length)?);
+        return begin_copy(state, object, start, array, length);
     }
     let progress = ArrayCallProgress::SliceEnd {
         object,
@@ -113,7 +113,7 @@ fn slice_to<'p>(
         start,
     };
     state.push_algorithm(AlgorithmFrame::Builtin(Progress::ArrayCall(progress)))?;
-    Ok(to_primitive(alloc, state, end, Hint::Number)?)
+    to_primitive(alloc, state, end, Hint::Number)
 }
 
 /// Goes on with the end as a primitive value.
@@ -133,7 +133,7 @@ pub(crate) fn step_slice_end<'p>(
     let Some(n) = number_of_primitive(p) else {
         return Ok(Act::Fault(Fault::NumberOutside));
     };
-    Ok(begin_copy(state, object, start, array, relative_index(n, length))?)
+    begin_copy(state, object, start, array, relative_index(n, length))
 }
 
 /// The turns begin, when start and end are known (steps 8 to 10).
@@ -176,7 +176,7 @@ pub(crate) fn copy_turn<'p>(
     if !state.spend() {
         return Ok(Act::Spent);
     }
-    Ok(copy_element(alloc, state, object, start, array, count, at)?)
+    copy_element(alloc, state, object, start, array, count, at)
 }
 
 /// An element is got and copied in a turn, if there is one.
@@ -196,7 +196,7 @@ fn copy_element<'p>(
     let from = sum(start, index)?;
     let there = has_index(alloc, &state.store, object, from)?;
     if !there {
-        return Ok(next_copy(state, object, start, array, count, index)?);
+        return next_copy(state, object, start, array, count, index);
     }
     let progress = ArrayCallProgress::CopyElement {
         object,
@@ -206,7 +206,7 @@ fn copy_element<'p>(
         index,
     };
     state.push_algorithm(AlgorithmFrame::Builtin(Progress::ArrayCall(progress)))?;
-    Ok(get_index(alloc, state, object, from)?)
+    get_index(alloc, state, object, from)
 }
 
 /// Goes on with the element of a turn.
@@ -226,7 +226,7 @@ pub(crate) fn step_copy_element<'p>(
 {
     let answer = add_index(alloc, &mut state.store, array, index, v)?;
     match answer {
-        Finished::Gives(()) => Ok(next_copy(state, object, start, array, count, index)?),
+        Finished::Gives(()) => next_copy(state, object, start, array, count, index),
         Finished::Throws(thrown) => Ok(Act::Complete(Completion::Throw(thrown))),
         Finished::Fails(fault) => Ok(Act::Fault(fault_of(fault))),
     }

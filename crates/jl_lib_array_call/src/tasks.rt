@@ -52,7 +52,7 @@ pub(crate) fn end_task<'p>(
         Task::Filter { array, .. } => Ok(Act::Give(Value::Obj(array))),
         Task::Reduce { so_far, .. } => match so_far {
             Some(v) => Ok(Act::Give(v)),
-            None => Ok(throw_native(alloc, state, ErrorKind::TypeError, "empty array")?),
+            None => throw_native(alloc, state, ErrorKind::TypeError, "empty array"),
         },
     }
 }
@@ -71,14 +71,14 @@ pub(crate) fn step_element<'p>(
     ensures falls { IfOk result (λ act. Falls state.old 14 state.new act) }
 {
     match task {
-        Task::Any { wanted } => Ok(ask(alloc, state, walk, Task::Any { wanted }, index, v)?),
-        Task::ForEach => Ok(ask(alloc, state, walk, Task::ForEach, index, v)?),
-        Task::Map { array } => Ok(ask(alloc, state, walk, Task::Map { array }, index, v)?),
+        Task::Any { wanted } => ask(alloc, state, walk, Task::Any { wanted }, index, v),
+        Task::ForEach => ask(alloc, state, walk, Task::ForEach, index, v),
+        Task::Map { array } => ask(alloc, state, walk, Task::Map { array }, index, v),
         Task::Filter { array, to } => {
-            Ok(ask(alloc, state, walk, Task::Filter { array, to }, index, v)?)
+            ask(alloc, state, walk, Task::Filter { array, to }, index, v)
         }
         Task::Reduce { so_far, direction } => {
-            Ok(combine(alloc, state, walk, so_far, direction, index, v)?)
+            combine(alloc, state, walk, so_far, direction, index, v)
         }
     }
 }
@@ -146,8 +146,8 @@ fn combine<'p>(
     ensures falls { IfOk result (λ act. Falls state.old 14 state.new act) }
 {
     match so_far {
-        None => Ok(go_on_reducing(state, walk, v, direction, index)?),
-        Some(so_far) => Ok(call_to_combine(alloc, state, walk, so_far, direction, index, v)?),
+        None => go_on_reducing(state, walk, v, direction, index),
+        Some(so_far) => call_to_combine(alloc, state, walk, so_far, direction, index, v),
     }
 }
 
@@ -165,7 +165,7 @@ fn go_on_reducing<'p>(
 {
     let at = next_place(direction, index)?;
     let so_far = Some(so_far);
-    Ok(go_on_walking(state, walk, Task::Reduce { so_far, direction }, at)?)
+    go_on_walking(state, walk, Task::Reduce { so_far, direction }, at)
 }
 
 /// The function is called with what there is so far and an element (15.4.4.21, step 9.c.ii).
@@ -219,13 +219,13 @@ pub(crate) fn step_answer<'p>(
     ensures falls { IfOk result (λ act. Falls state.old 9 state.new act) }
 {
     match task {
-        Task::Any { wanted } => Ok(answer_any(state, walk, wanted, index, &v)?),
-        Task::ForEach => Ok(go_on_walking(state, walk, Task::ForEach, next_index(index)?)?),
-        Task::Map { array } => Ok(add_answer(alloc, state, walk, array, index, v)?),
+        Task::Any { wanted } => answer_any(state, walk, wanted, index, &v),
+        Task::ForEach => go_on_walking(state, walk, Task::ForEach, next_index(index)?),
+        Task::Map { array } => add_answer(alloc, state, walk, array, index, v),
         Task::Filter { array, to } => {
-            Ok(answer_filter(alloc, state, walk, array, to, index, element, &v)?)
+            answer_filter(alloc, state, walk, array, to, index, element, &v)
         }
-        Task::Reduce { direction, .. } => Ok(go_on_reducing(state, walk, v, direction, index)?),
+        Task::Reduce { direction, .. } => go_on_reducing(state, walk, v, direction, index),
     }
 }
 
@@ -246,7 +246,7 @@ fn answer_any<'p>(
         return Ok(Act::Give(Value::Bool(wanted)));
     }
     let at = next_index(index)?;
-    Ok(go_on_walking(state, walk, Task::Any { wanted }, at)?)
+    go_on_walking(state, walk, Task::Any { wanted }, at)
 }
 
 /// `filter` keeps the element for a true answer.
@@ -265,10 +265,10 @@ fn answer_filter<'p>(
     ensures falls { IfOk result (λ act. Falls state.old 9 state.new act) }
 {
     if to_boolean(v) {
-        return Ok(add_element(alloc, state, walk, array, to, index, element)?);
+        return add_element(alloc, state, walk, array, to, index, element);
     }
     let at = next_index(index)?;
-    Ok(go_on_walking(state, walk, Task::Filter { array, to }, at)?)
+    go_on_walking(state, walk, Task::Filter { array, to }, at)
 }
 
 /// `map` makes an answer the element at the same index of its array.
@@ -287,7 +287,7 @@ fn add_answer<'p>(
     let at = next_index(index)?;
     let answer = add_index(alloc, &mut state.store, array, index, v)?;
     match answer {
-        Finished::Gives(()) => Ok(go_on_walking(state, walk, Task::Map { array }, at)?),
+        Finished::Gives(()) => go_on_walking(state, walk, Task::Map { array }, at),
         Finished::Throws(thrown) => Ok(Act::Complete(Completion::Throw(thrown))),
         Finished::Fails(fault) => Ok(Act::Fault(fault_of(fault))),
     }
@@ -312,12 +312,7 @@ fn add_element<'p>(
     let next = next_index(to)?;
     let answer = add_index(alloc, &mut state.store, array, to, element)?;
     match answer {
-        Finished::Gives(()) => Ok(go_on_walking(
-            state,
-            walk,
-            Task::Filter { array, to: next },
-            at,
-        )?),
+        Finished::Gives(()) => go_on_walking(state, walk, Task::Filter { array, to: next }, at),
         Finished::Throws(thrown) => Ok(Act::Complete(Completion::Throw(thrown))),
         Finished::Fails(fault) => Ok(Act::Fault(fault_of(fault))),
     }

@@ -47,7 +47,7 @@ pub(crate) fn begin_walk<'p>(
                 function,
                 this,
             };
-            Ok(begin_task(alloc, state, purpose, walk, args)?)
+            begin_task(alloc, state, purpose, walk, args)
         }
     }
 }
@@ -78,14 +78,14 @@ fn begin_task<'p>(
     ensures falls { IfOk result (λ act. Falls state.old 9 state.new act) }
 {
     match purpose {
-        WalkFor::Any { wanted } => Ok(go_on_walking(state, walk, Task::Any { wanted }, 0)?),
-        WalkFor::ForEach => Ok(go_on_walking(state, walk, Task::ForEach, 0)?),
-        WalkFor::Map => Ok(begin_map(alloc, state, walk)?),
-        WalkFor::Filter => Ok(begin_filter(state, walk)?),
+        WalkFor::Any { wanted } => go_on_walking(state, walk, Task::Any { wanted }, 0),
+        WalkFor::ForEach => go_on_walking(state, walk, Task::ForEach, 0),
+        WalkFor::Map => begin_map(alloc, state, walk),
+        WalkFor::Filter => begin_filter(state, walk),
         WalkFor::Reduce { direction } => {
             let so_far = second(alloc, args)?;
             let at = first_place(direction, walk.length);
-            Ok(go_on_walking(state, walk, Task::Reduce { so_far, direction }, at)?)
+            go_on_walking(state, walk, Task::Reduce { so_far, direction }, at)
         }
     }
 }
@@ -98,7 +98,7 @@ fn begin_map<'p>(alloc: Global, state: &mut State<'p>, walk: Walk) -> Result<Act
     let length = number(walk.length)?;
     let answer = array_of_length(alloc, &mut state.store, length)?;
     match answer {
-        Finished::Gives(array) => Ok(go_on_walking(state, walk, Task::Map { array }, 0)?),
+        Finished::Gives(array) => go_on_walking(state, walk, Task::Map { array }, 0),
         Finished::Throws(thrown) => Ok(Act::Complete(Completion::Throw(thrown))),
         Finished::Fails(fault) => Ok(Act::Fault(fault_of(fault))),
     }
@@ -123,7 +123,7 @@ fn begin_filter<'p>(state: &mut State<'p>, walk: Walk) -> Result<Act<'p>, NoMemo
     ensures falls { IfOk result (λ act. Falls state.old 9 state.new act) }
 {
     let array = state.store.new_array()?;
-    Ok(go_on_walking(state, walk, Task::Filter { array, to: 0 }, 0)?)
+    go_on_walking(state, walk, Task::Filter { array, to: 0 }, 0)
 }
 
 /// A turn begins, if one is left (15.4.4.16, step 7).
@@ -138,12 +138,12 @@ pub(crate) fn turn<'p>(
     ensures falls { IfOk result (λ act. Falls state.old 3 state.new act) }
 {
     let Some(index) = index_at(direction_of(&task), at, walk.length) else {
-        return Ok(end_task(alloc, state, task)?);
+        return end_task(alloc, state, task);
     };
     if !state.spend() {
         return Ok(Act::Spent);
     }
-    Ok(visit(alloc, state, walk, task, index)?)
+    visit(alloc, state, walk, task, index)
 }
 
 /// The element of a turn is got, if there is one.
@@ -162,9 +162,9 @@ fn visit<'p>(
     let there = has_index(alloc, &state.store, object, index)?;
     if !there {
         let at = next_place(direction_of(&task), index)?;
-        return Ok(go_on_walking(state, walk, task, at)?);
+        return go_on_walking(state, walk, task, at);
     }
     let progress = ArrayCallProgress::Element { walk, task, index };
     state.push_algorithm(AlgorithmFrame::Builtin(Progress::ArrayCall(progress)))?;
-    Ok(get_index(alloc, state, object, index)?)
+    get_index(alloc, state, object, index)
 }

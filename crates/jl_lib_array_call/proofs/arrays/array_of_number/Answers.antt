@@ -1,4 +1,5 @@
 use Rattle.std.proofs.Common.{refl}
+use Rattle.std.proofs.lemmas.Result.{IfOk-weaker}
 use Rattle.jl_value.specs.declared.value.Value.TheVariants as value
 use Rattle.jl_meaning.specs.builtins.Arguments.{give_object}
 use Rattle.jl_meaning.specs.builtins.Elements.{array_of_length}
@@ -8,7 +9,8 @@ use Rattle.jl_lib_array_call.proofs.arrays.array_of_number.Goals as goal
 
 pub returns-then-not-is_length-clause-leads : goal.returns-then-not-is_length-clause-leads
 returns-then-not-is_length-clause-leads c =
-    bad_length _ c.args.n _ c.is_length.ensures _ _ c.if-not-is_length.true c.in_ok-throw_native.ensures.leads
+    IfOk-weaker _ _ _ (λ a leads. bad_length _ c.args.n _ c.is_length.ensures _ _ c.if-not-is_length.true leads)
+    c.throw_native.ensures.leads
 
 pub returns-in-Gives-clause-leads : goal.returns-in-Gives-clause-leads
 returns-in-Gives-clause-leads c =

@@ -1,4 +1,5 @@
 use Rattle.std.proofs.Common.{refl}
+use Rattle.std.proofs.lemmas.Result.{IfOk-weaker}
 use Rattle.jl_num.specs.Bits.{uint32_of}
 use Rattle.jl_progress.specs.ArrayCalls.{with_length}
 use Rattle.jl_progress.specs.declared.array_call.ArrayCallProgress.TheVariants as array_call
@@ -8,6 +9,7 @@ use Rattle.jl_lib_array_call.proofs.lengths.step_length.Goals as goal
 
 pub returns-clause-leads : goal.returns-clause-leads
 returns-clause-leads c =
-    builtin_waits _ _ (progress.ArrayCall (array_call.LengthPrimitive c.args.object c.args.args c.args.purpose))
-    (λ n. with_length c.args.purpose c.args.object c.args.args (uint32_of n)) c.args.v _ _ (λ w. refl)
-    c.in_ok-push_algorithm.ensures.waits c.in_ok-to_primitive.ensures.leads
+    IfOk-weaker _ _ _ (λ a leads. builtin_waits _ _ (progress.ArrayCall
+    (array_call.LengthPrimitive c.args.object c.args.args c.args.purpose)) (λ n. with_length c.args.purpose
+    c.args.object c.args.args (uint32_of n)) c.args.v _ _ (λ w. refl) c.in_ok-push_algorithm.ensures.waits leads)
+    c.to_primitive.ensures.leads

@@ -1,4 +1,5 @@
 use Rattle.std.proofs.Common.{ℕ}
+use Rattle.std.proofs.lemmas.Result.{IfOk-weaker}
 use Rattle.jl_num.specs.Bits.{uint32_of}
 use Rattle.jl_progress.specs.ArrayCalls.{with_length}
 use Rattle.jl_builtin.proofs.Waits.{number_given}
@@ -7,7 +8,7 @@ use Rattle.jl_lib_array_call.proofs.lengths.step_length_primitive.Goals as goal
 
 pub returns-clause-leads : goal.returns-clause-leads
 returns-clause-leads c =
-    number_given _ c.args.p.now _ _ (λ n. with_length c.args.purpose c.args.object c.args.args (uint32_of n)) _ _
-    c.number_of_primitive.ensures c.in-Some.is
-    (works_at _ _ _ (λ (m : ℕ). with_length c.args.purpose c.args.object c.args.args m) _ _ c.length_of.ensures
-    c.in_ok-with_length.ensures.leads)
+    IfOk-weaker _ _ _ (λ a leads. number_given _ c.args.p.now _ _ (λ n. with_length c.args.purpose c.args.object
+    c.args.args (uint32_of n)) _ _ c.number_of_primitive.ensures c.in-Some.is (works_at _ _ _
+    (λ (m : ℕ). with_length c.args.purpose c.args.object c.args.args m) _ _ c.length_of.ensures leads))
+    c.with_length.ensures.leads

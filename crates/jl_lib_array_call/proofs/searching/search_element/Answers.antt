@@ -1,4 +1,5 @@
 use Rattle.std.proofs.Common.{refl}
+use Rattle.std.proofs.lemmas.Result.{IfOk-weaker}
 use Rattle.jl_progress.specs.ArrayCalls.{search_with}
 use Rattle.jl_progress.specs.declared.array_call.ArrayCallProgress.TheVariants as array_call
 use Rattle.jl_progress.specs.declared.progress.Progress.TheVariants as progress
@@ -8,17 +9,14 @@ use Rattle.jl_lib_array_call.proofs.searching.search_element.Goals as goal
 
 pub returns-then-not-there-clause-leads : goal.returns-then-not-there-clause-leads
 returns-then-not-there-clause-leads c =
-    element_missing c.args.state.now c.args.object c.args.index _
-    (search_with c.args.direction c.args.object c.args.length c.args.sought c.args.index) _ _ c.in_ok-there.ensures
-    c.if-not-there.true
-    (search_misses _ c.args.direction c.args.object c.args.length c.args.sought c.args.index _ _ _ c.in_ok-at.ensures
-    c.in_ok-go_on_searching.ensures.leads)
+    IfOk-weaker _ _ _ (λ a leads. element_missing c.args.state.now c.args.object c.args.index _ (search_with
+    c.args.direction c.args.object c.args.length c.args.sought c.args.index) _ _ c.in_ok-there.ensures
+    c.if-not-there.true (search_misses _ c.args.direction c.args.object c.args.length c.args.sought c.args.index _ _ _
+    c.in_ok-at.ensures leads)) c.go_on_searching.ensures.leads
 
 pub returns-clause-leads : goal.returns-clause-leads
 returns-clause-leads c =
-    element_waits _ _
-    (progress.ArrayCall
-    (array_call.SearchElement c.args.object c.args.length c.args.sought c.args.direction c.args.index))
-    c.args.object c.args.index _ (search_with c.args.direction c.args.object c.args.length c.args.sought c.args.index)
-    _ _ c.in_ok-there.ensures c.if-not-there.false (λ v. refl) c.in_ok-push_algorithm.ensures.waits
-    c.in_ok-get_index.ensures.leads
+    IfOk-weaker _ _ _ (λ a leads. element_waits _ _ (progress.ArrayCall (array_call.SearchElement c.args.object
+    c.args.length c.args.sought c.args.direction c.args.index)) c.args.object c.args.index _ (search_with
+    c.args.direction c.args.object c.args.length c.args.sought c.args.index) _ _ c.in_ok-there.ensures
+    c.if-not-there.false (λ v. refl) c.in_ok-push_algorithm.ensures.waits leads) c.get_index.ensures.leads

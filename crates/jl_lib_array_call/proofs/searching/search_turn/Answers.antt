@@ -1,4 +1,5 @@
 use Rattle.std.proofs.Common.{refl, sym, ◌∙◌}
+use Rattle.std.proofs.lemmas.Result.{IfOk-weaker}
 use Rattle.jl_lib_array_call.proofs.Searches.{search_goes_on, search_over, search_spent}
 use Rattle.jl_lib_array_call.proofs.searching.search_turn.Goals as goal
 
@@ -14,5 +15,6 @@ returns-then-not-spend-clause-leads c =
 
 pub returns-clause-leads : goal.returns-clause-leads
 returns-clause-leads c =
-    search_goes_on _ _ c.args.direction c.args.object c.args.length c.args.sought c.args.at _ _ _
-    (sym c.index_at.ensures ∙ c.in-Some.is) (c.if-not-spend.ensures.took refl) c.in_ok-search_element.ensures.leads
+    IfOk-weaker _ _ _ (λ a leads. search_goes_on _ _ c.args.direction c.args.object c.args.length c.args.sought
+    c.args.at _ _ _ (sym c.index_at.ensures ∙ c.in-Some.is) (c.if-not-spend.ensures.took refl) leads)
+    c.search_element.ensures.leads

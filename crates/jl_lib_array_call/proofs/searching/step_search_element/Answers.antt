@@ -1,3 +1,4 @@
+use Rattle.std.proofs.lemmas.Result.{IfOk-weaker}
 use Rattle.jl_lib_array_call.proofs.Searches.{search_found, search_passes}
 use Rattle.jl_lib_array_call.proofs.searching.step_search_element.Goals as goal
 
@@ -8,5 +9,6 @@ returns-then-strict_equal-clause-leads c =
 
 pub returns-clause-leads : goal.returns-clause-leads
 returns-clause-leads c =
-    search_passes _ c.args.direction c.args.object c.args.length c.args.sought c.args.index _ c.args.v.now _ _ _
-    c.strict_equal.ensures c.if-strict_equal.false c.in_ok-at.ensures c.in_ok-go_on_searching.ensures.leads
+    IfOk-weaker _ _ _ (λ a leads. search_passes _ c.args.direction c.args.object c.args.length c.args.sought
+    c.args.index _ c.args.v.now _ _ _ c.strict_equal.ensures c.if-strict_equal.false c.in_ok-at.ensures leads)
+    c.go_on_searching.ensures.leads

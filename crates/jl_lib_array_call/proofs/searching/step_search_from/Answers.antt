@@ -1,4 +1,5 @@
 use Rattle.std.proofs.Common.{ℕ}
+use Rattle.std.proofs.lemmas.Result.{IfOk-weaker}
 use Rattle.jl_meaning.specs.Conversions.{integer_of}
 use Rattle.jl_progress.specs.ArrayCalls.{place_from, search_from}
 use Rattle.jl_builtin.proofs.Waits.{number_given}
@@ -7,8 +8,7 @@ use Rattle.jl_lib_array_call.proofs.searching.step_search_from.Goals as goal
 
 pub returns-clause-leads : goal.returns-clause-leads
 returns-clause-leads c =
-    number_given _ c.args.p.now _ _
-    (λ n. search_from c.args.direction c.args.object c.args.length c.args.sought
-    (place_from c.args.direction (integer_of n) c.args.length)) _ _ c.number_of_primitive.ensures c.in-Some.is
-    (works_at _ _ _ (λ (m : ℕ). search_from c.args.direction c.args.object c.args.length c.args.sought m) _ _
-    c.place_from-at.ensures c.in_ok-go_on_searching.ensures.leads)
+    IfOk-weaker _ _ _ (λ a leads. number_given _ c.args.p.now _ _ (λ n. search_from c.args.direction c.args.object
+    c.args.length c.args.sought (place_from c.args.direction (integer_of n) c.args.length)) _ _
+    c.number_of_primitive.ensures c.in-Some.is (works_at _ _ _ (λ (m : ℕ). search_from c.args.direction c.args.object
+    c.args.length c.args.sought m) _ _ c.place_from-at.ensures leads)) c.go_on_searching.ensures.leads

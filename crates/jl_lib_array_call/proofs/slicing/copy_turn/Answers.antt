@@ -1,4 +1,5 @@
 use Rattle.std.proofs.Common.{refl}
+use Rattle.std.proofs.lemmas.Result.{IfOk-weaker}
 use Rattle.jl_lib_array_call.proofs.Slices.{copied, copy_begins, copy_spent}
 use Rattle.jl_lib_array_call.proofs.slicing.copy_turn.Goals as goal
 
@@ -13,5 +14,5 @@ returns-then-not-spend-clause-leads c =
 
 pub returns-clause-leads : goal.returns-clause-leads
 returns-clause-leads c =
-    copy_begins _ _ c.args.object c.args.start c.args.array c.args.count c.args.at _ _ c.if-count-at.false
-    (c.if-not-spend.ensures.took refl) c.in_ok-copy_element.ensures.leads
+    IfOk-weaker _ _ _ (λ a leads. copy_begins _ _ c.args.object c.args.start c.args.array c.args.count c.args.at _ _
+    c.if-count-at.false (c.if-not-spend.ensures.took refl) leads) c.copy_element.ensures.leads

@@ -1,4 +1,5 @@
 use Rattle.std.proofs.Common.{ℕ, ◌-◌}
+use Rattle.std.proofs.lemmas.Result.{IfOk-weaker}
 use Rattle.jl_meaning.specs.Conversions.{integer_of}
 use Rattle.jl_meaning.specs.builtins.Elements.{relative_index}
 use Rattle.jl_progress.specs.ArrayCalls.{copy_from}
@@ -8,9 +9,7 @@ use Rattle.jl_lib_array_call.proofs.slicing.step_slice_end.Goals as goal
 
 pub returns-clause-leads : goal.returns-clause-leads
 returns-clause-leads c =
-    number_given _ c.args.p.now _ _
-    (λ n. copy_from c.args.object c.args.start c.args.array
-    (relative_index (integer_of n) c.args.length - c.args.start) 0) _ _
-    c.number_of_primitive.ensures c.in-Some.is
-    (works_at _ _ _ (λ (m : ℕ). copy_from c.args.object c.args.start c.args.array (m - c.args.start) 0) _ _
-    c.relative_index.ensures c.in_ok-begin_copy.ensures.leads)
+    IfOk-weaker _ _ _ (λ a leads. number_given _ c.args.p.now _ _ (λ n. copy_from c.args.object c.args.start
+    c.args.array (relative_index (integer_of n) c.args.length - c.args.start) 0) _ _ c.number_of_primitive.ensures
+    c.in-Some.is (works_at _ _ _ (λ (m : ℕ). copy_from c.args.object c.args.start c.args.array (m - c.args.start) 0) _ _
+    c.relative_index.ensures leads)) c.begin_copy.ensures.leads

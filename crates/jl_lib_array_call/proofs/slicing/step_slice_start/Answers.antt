@@ -1,4 +1,5 @@
 use Rattle.std.proofs.Common.{ℕ}
+use Rattle.std.proofs.lemmas.Result.{IfOk-weaker}
 use Rattle.jl_meaning.specs.Conversions.{integer_of}
 use Rattle.jl_meaning.specs.builtins.Elements.{relative_index}
 use Rattle.jl_progress.specs.ArrayCalls.{slice_to}
@@ -8,9 +9,7 @@ use Rattle.jl_lib_array_call.proofs.slicing.step_slice_start.Goals as goal
 
 pub returns-clause-leads : goal.returns-clause-leads
 returns-clause-leads c =
-    number_given _ c.args.p.now _ _
-    (λ n. slice_to c.args.object c.args.array c.args.length (relative_index (integer_of n) c.args.length) c.args.end)
-    _ _
-    c.number_of_primitive.ensures c.in-Some.is
-    (works_at _ _ _ (λ (m : ℕ). slice_to c.args.object c.args.array c.args.length m c.args.end) _ _
-    c.relative_index-start.ensures c.in_ok-slice_to.ensures.leads)
+    IfOk-weaker _ _ _ (λ a leads. number_given _ c.args.p.now _ _ (λ n. slice_to c.args.object c.args.array
+    c.args.length (relative_index (integer_of n) c.args.length) c.args.end) _ _ c.number_of_primitive.ensures
+    c.in-Some.is (works_at _ _ _ (λ (m : ℕ). slice_to c.args.object c.args.array c.args.length m c.args.end) _ _
+    c.relative_index-start.ensures leads)) c.slice_to.ensures.leads

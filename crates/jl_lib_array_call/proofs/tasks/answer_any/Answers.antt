@@ -1,4 +1,5 @@
 use Rattle.std.proofs.Common.{◌≡◌, false, refl, true, Bool}
+use Rattle.std.proofs.lemmas.Result.{IfOk-weaker}
 use mathlib.Core.Bool.{beq}
 use Rattle.jl_progress.specs.ArrayCalls.{walk_of}
 use Rattle.jl_lib_array_call.proofs.TaskTurns.{any_ends, any_passed}
@@ -23,6 +24,6 @@ returns-then-truth-wanted-clause-leads c =
 
 pub returns-clause-leads : goal.returns-clause-leads
 returns-clause-leads c =
-    any_passed _ (walk_of c.args.walk) _ _ c.args.wanted c.args.index _ c.args.v.now _ c.to_boolean-truth.ensures
-    (differs c.to_boolean-truth.result c.args.wanted c.if-truth-wanted.false) c.in_ok-at.ensures
-    c.in_ok-go_on_walking.ensures.leads
+    IfOk-weaker _ _ _ (λ a leads. any_passed _ (walk_of c.args.walk) _ _ c.args.wanted c.args.index _ c.args.v.now _
+    c.to_boolean-truth.ensures (differs c.to_boolean-truth.result c.args.wanted c.if-truth-wanted.false)
+    c.in_ok-at.ensures leads) c.go_on_walking.ensures.leads

@@ -1,4 +1,5 @@
 use Rattle.std.proofs.Common.{refl}
+use Rattle.std.proofs.lemmas.Result.{IfOk-weaker}
 use Rattle.jl_lib_array_call.proofs.Answering.{any_over, nothing_reduced}
 use Rattle.jl_lib_array_call.proofs.tasks.end_task.Goals as goal
 
@@ -6,6 +7,7 @@ pub returns-in-Any-clause-leads : goal.returns-in-Any-clause-leads
 returns-in-Any-clause-leads c =
     any_over _ c.args.task _ c.in-Any.is
 
-pub returns-in_ok-throw_native-in-None-clause-leads : goal.returns-in_ok-throw_native-in-None-clause-leads
-returns-in_ok-throw_native-in-None-clause-leads c =
-    nothing_reduced _ c.args.task _ _ _ _ c.in-Reduce.is _ c.in-None.is refl c.in_ok-throw_native-in-None.ensures.leads
+pub returns-in-None-clause-leads : goal.returns-in-None-clause-leads
+returns-in-None-clause-leads c =
+    IfOk-weaker _ _ _ (λ a leads. nothing_reduced _ c.args.task _ _ _ _ c.in-Reduce.is _ c.in-None.is refl leads)
+    c.throw_native.ensures.leads
