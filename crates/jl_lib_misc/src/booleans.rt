@@ -66,7 +66,7 @@ pub(crate) fn boolean_to_string<'p>(
 {
     match boolean_of_receiver(&state.store, &call.this) {
         Some(truth) => Ok(Act::Give(Value::Text(text_of(alloc, &Value::Bool(truth))?))),
-        None => Ok(throw_native(alloc, state, ErrorKind::TypeError, "wrong receiver")?),
+        None => throw_native(alloc, state, ErrorKind::TypeError, "wrong receiver"),
     }
 }
 
@@ -81,6 +81,6 @@ pub(crate) fn boolean_value_of<'p>(
 {
     match boolean_of_receiver(&state.store, &call.this) {
         Some(truth) => Ok(Act::Give(Value::Bool(truth))),
-        None => Ok(throw_native(alloc, state, ErrorKind::TypeError, "wrong receiver")?),
+        None => throw_native(alloc, state, ErrorKind::TypeError, "wrong receiver"),
     }
 }

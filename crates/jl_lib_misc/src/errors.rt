@@ -75,10 +75,10 @@ pub(crate) fn error_constructor<'p>(
 {
     let message = argument(alloc, call.args.items(), 0)?;
     if is_undefined(&message) {
-        return Ok(give_error(alloc, state, proto, None)?);
+        return give_error(alloc, state, proto, None);
     }
     let progress = Progress::Error(ErrorProgress::NewMessage { proto });
-    Ok(wait_for_string(alloc, state, progress, message)?)
+    wait_for_string(alloc, state, progress, message)
 }
 
 /// Goes on with the message of an error, which has been converted.
@@ -106,7 +106,7 @@ pub(crate) fn error_to_string<'p>(
     ensures falls { IfOk result (λ act. Falls state.old 84 state.new act) }
 {
     let Value::Obj(object) = &call.this else {
-        return Ok(throw_native(alloc, state, ErrorKind::TypeError, "not an object")?);
+        return throw_native(alloc, state, ErrorKind::TypeError, "not an object");
     };
     let object = *object;
     let name = word(alloc, "name")?;
@@ -127,10 +127,10 @@ fn resume_name<'p>(
 {
     if is_undefined(&v) {
         let name = word(alloc, "Error")?;
-        return Ok(get_message(alloc, state, object, name)?);
+        return get_message(alloc, state, object, name);
     }
     let progress = Progress::Error(ErrorProgress::NamePrimitive { object });
-    Ok(wait_for_string(alloc, state, progress, v)?)
+    wait_for_string(alloc, state, progress, v)
 }
 
 /// Goes on with that name, which has been converted.
@@ -145,7 +145,7 @@ fn resume_name_primitive<'p>(
     ensures falls { IfOk result (λ act. Falls state.old 44 state.new act) }
 {
     let name = text_of(alloc, p)?;
-    Ok(get_message(alloc, state, object, name)?)
+    get_message(alloc, state, object, name)
 }
 
 /// The message of an error with this name is got (step 5).
@@ -177,10 +177,10 @@ fn resume_message<'p>(
 {
     if is_undefined(&v) {
         let message = word(alloc, "")?;
-        return Ok(name_and_message(alloc, name, message)?);
+        return name_and_message(alloc, name, message);
     }
     let progress = Progress::Error(ErrorProgress::MessagePrimitive { name });
-    Ok(wait_for_string(alloc, state, progress, v)?)
+    wait_for_string(alloc, state, progress, v)
 }
 
 /// Goes on with that message, which has been converted.

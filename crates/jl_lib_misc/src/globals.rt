@@ -36,7 +36,7 @@ pub(crate) fn parse_int<'p>(
     let numeral = argument(alloc, args, 0)?;
     let radix = argument(alloc, args, 1)?;
     let progress = Progress::Global(GlobalProgress::Numeral { radix });
-    Ok(wait_for_string(alloc, state, progress, numeral)?)
+    wait_for_string(alloc, state, progress, numeral)
 }
 
 /// The radix of `parseInt` is converted.
@@ -51,7 +51,7 @@ fn convert_radix<'p>(
     ensures falls { IfOk result (λ act. Falls state.old 22 state.new act) }
 {
     let progress = Progress::Global(GlobalProgress::Radix { units });
-    Ok(wait_for_number(alloc, state, progress, radix)?)
+    wait_for_number(alloc, state, progress, radix)
 }
 
 /// The number that a string writes in front is given.
@@ -78,7 +78,7 @@ pub(crate) fn test_argument<'p>(
 {
     let first = argument(alloc, call.args.items(), 0)?;
     let progress = Progress::Global(GlobalProgress::Test { test });
-    Ok(wait_for_number(alloc, state, progress, first)?)
+    wait_for_number(alloc, state, progress, first)
 }
 
 /// What is asked of a number; none is an infinity.
@@ -103,7 +103,7 @@ fn resume_numeral<'p>(
     ensures falls { IfOk result (λ act. Falls state.old 22 state.new act) }
 {
     let units = text_of(alloc, p)?;
-    Ok(convert_radix(alloc, state, units, radix)?)
+    convert_radix(alloc, state, units, radix)
 }
 
 /// Goes on with the radix of `parseInt`.

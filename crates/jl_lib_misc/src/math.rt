@@ -34,7 +34,7 @@ pub(crate) fn on_argument<'p>(
 {
     let first = argument(alloc, call.args.items(), 0)?;
     let progress = Progress::Number(NumberProgress::Argument { function });
-    Ok(wait_for_number(alloc, state, progress, first)?)
+    wait_for_number(alloc, state, progress, first)
 }
 
 /// What a function gives for a number.
@@ -76,7 +76,7 @@ pub(crate) fn math_pow<'p>(
     let base = argument(alloc, args, 0)?;
     let exponent = argument(alloc, args, 1)?;
     let progress = Progress::Number(NumberProgress::Base { exponent });
-    Ok(wait_for_number(alloc, state, progress, base)?)
+    wait_for_number(alloc, state, progress, base)
 }
 
 /// The exponent of a power is converted.
@@ -91,7 +91,7 @@ fn convert_exponent<'p>(
     ensures falls { IfOk result (λ act. Falls state.old 22 state.new act) }
 {
     let progress = Progress::Number(NumberProgress::Exponent { base });
-    Ok(wait_for_number(alloc, state, progress, exponent)?)
+    wait_for_number(alloc, state, progress, exponent)
 }
 
 /// Goes on with the base of a power.

@@ -73,7 +73,7 @@ pub(crate) fn number_constructor<'p>(
         None => number_or_object(state, by_new, zero()),
         Some((v, _)) => {
             let progress = Progress::Number(NumberProgress::Given { by_new });
-            Ok(wait_for_number(alloc, state, progress, v)?)
+            wait_for_number(alloc, state, progress, v)
         }
     }
 }
@@ -187,10 +187,10 @@ fn convert_radix<'p>(
     ensures falls { IfOk result (λ act. Falls state.old 22 state.new act) }
 {
     if is_undefined(&radix) {
-        return Ok(give_in_radix(alloc, state, number, 10)?);
+        return give_in_radix(alloc, state, number, 10);
     }
     let progress = Progress::Number(NumberProgress::Radix { number });
-    Ok(wait_for_number(alloc, state, progress, radix)?)
+    wait_for_number(alloc, state, progress, radix)
 }
 
 /// `Number.prototype.toString(radix)` (15.7.4.2).
@@ -207,7 +207,7 @@ pub(crate) fn number_to_string<'p>(
             let radix = argument(alloc, call.args.items(), 0)?;
             convert_radix(alloc, state, n, radix)
         }
-        None => Ok(throw_native(alloc, state, ErrorKind::TypeError, "wrong receiver")?),
+        None => throw_native(alloc, state, ErrorKind::TypeError, "wrong receiver"),
     }
 }
 
@@ -238,6 +238,6 @@ pub(crate) fn number_value_of<'p>(
 {
     match number_of_receiver(&state.store, &call.this) {
         Some(n) => Ok(Act::Give(Value::Num(n))),
-        None => Ok(throw_native(alloc, state, ErrorKind::TypeError, "wrong receiver")?),
+        None => throw_native(alloc, state, ErrorKind::TypeError, "wrong receiver"),
     }
 }

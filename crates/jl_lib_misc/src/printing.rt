@@ -92,7 +92,7 @@ fn print_argument<'p>(
         args,
         from,
     });
-    Ok(wait_for_string(alloc, state, progress, v)?)
+    wait_for_string(alloc, state, progress, v)
 }
 
 /// The arguments from an index on, after those that the line has, or the end of the line.

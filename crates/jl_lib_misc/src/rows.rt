@@ -36,15 +36,15 @@ fn start_global<'p>(
     ensures falls { IfOk result (λ act. Falls state.old 46 state.new act) }
 {
     if row == 74 {
-        return Ok(parse_int(alloc, state, call)?);
+        return parse_int(alloc, state, call);
     }
     if row == 75 {
-        return Ok(test_argument(alloc, state, NumberTest::IsNan, call)?);
+        return test_argument(alloc, state, NumberTest::IsNan, call);
     }
     if row == 76 {
-        return Ok(test_argument(alloc, state, NumberTest::IsFinite, call)?);
+        return test_argument(alloc, state, NumberTest::IsFinite, call);
     }
-    Ok(print(alloc, state, call.args.items())?)
+    print(alloc, state, call.args.items())
 }
 
 /// Begins a builtin of numbers or booleans (15.6, 15.7).
@@ -60,22 +60,22 @@ fn start_primitive<'p>(
     ensures falls { IfOk result (λ act. Falls state.old 22 state.new act) }
 {
     if row == 77 {
-        return Ok(number_constructor(alloc, state, call)?);
+        return number_constructor(alloc, state, call);
     }
     if row == 78 {
-        return Ok(number_to_string(alloc, state, call)?);
+        return number_to_string(alloc, state, call);
     }
     if row == 79 {
-        return Ok(number_value_of(alloc, state, call)?);
+        return number_value_of(alloc, state, call);
     }
     if row == 84 {
-        return Ok(boolean_constructor(alloc, state, call)?);
+        return boolean_constructor(alloc, state, call);
     }
     if row == 85 {
-        return Ok(boolean_to_string(alloc, state, call)?);
+        return boolean_to_string(alloc, state, call);
     }
     if row == 86 {
-        return Ok(boolean_value_of(alloc, state, call)?);
+        return boolean_value_of(alloc, state, call);
     }
     Ok(fail_row(row))
 }
@@ -93,9 +93,9 @@ fn start_error<'p>(
     ensures falls { IfOk result (λ act. Falls state.old 84 state.new act) }
 {
     if row == 94 {
-        return Ok(error_to_string(alloc, state, call)?);
+        return error_to_string(alloc, state, call);
     }
-    Ok(error_constructor(alloc, state, ObjId(usize::from(row) - 80), call)?)
+    error_constructor(alloc, state, ObjId(usize::from(row) - 80), call)
 }
 
 /// Begins a function of Math (15.8.2).
@@ -111,18 +111,18 @@ fn start_math<'p>(
     ensures falls { IfOk result (λ act. Falls state.old 46 state.new act) }
 {
     if row == 95 {
-        return Ok(on_argument(alloc, state, NumberFunction::Absolute, call)?);
+        return on_argument(alloc, state, NumberFunction::Absolute, call);
     }
     if row == 98 {
-        return Ok(one_of_arguments(alloc, state, Extreme::Greatest, call.args.items())?);
+        return one_of_arguments(alloc, state, Extreme::Greatest, call.args.items());
     }
     if row == 99 {
-        return Ok(one_of_arguments(alloc, state, Extreme::Least, call.args.items())?);
+        return one_of_arguments(alloc, state, Extreme::Least, call.args.items());
     }
     if row == 100 {
-        return Ok(math_pow(alloc, state, call)?);
+        return math_pow(alloc, state, call);
     }
-    Ok(on_argument(alloc, state, NumberFunction::Whole, call)?)
+    on_argument(alloc, state, NumberFunction::Whole, call)
 }
 
 /// Begins a builtin of this crate.

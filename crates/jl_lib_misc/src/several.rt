@@ -78,7 +78,7 @@ fn convert_next<'p>(
         args,
         from,
     });
-    Ok(wait_for_number(alloc, state, progress, v)?)
+    wait_for_number(alloc, state, progress, v)
 }
 
 /// The greatest or least of the number so far and the arguments from an index on, one a turn.
@@ -96,7 +96,7 @@ fn one_of_all<'p>(
 {
     match value_from(alloc, args.items(), from)? {
         None => Ok(give_extreme(so_far)),
-        Some((v, next)) => Ok(convert_next(alloc, state, extreme, so_far, v, args, next)?),
+        Some((v, next)) => convert_next(alloc, state, extreme, so_far, v, args, next),
     }
 }
 

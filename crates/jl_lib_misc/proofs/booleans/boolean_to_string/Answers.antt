@@ -1,4 +1,5 @@
 use Rattle.std.proofs.Common.{refl, subst}
+use Rattle.std.proofs.lemmas.Result.{IfOk-weaker}
 use Rattle.jl_value.specs.declared.value.Value.TheVariants as value
 use Rattle.jl_conv.specs.Conversions.{text_of_value}
 use Rattle.jl_meaning.specs.builtins.Arguments.{give_string}
@@ -16,8 +17,8 @@ returns-in_ok-text_of-in-Some-clause-leads c =
     (act.Give (value.Text c.in_ok-text_of-in-Some.field-0))) c.in_ok-text_of-in-Some.ensures
     (record { is = λ kept told. refl }))
 
-pub returns-in_ok-throw_native-in-None-clause-leads : goal.returns-in_ok-throw_native-in-None-clause-leads
-returns-in_ok-throw_native-in-None-clause-leads c =
-    refuses c.args.state.now (λ store. boolean_of_receiver store.heap c.args.call.now.this) _
-    (λ b. give_string (text_of_value (value.Bool b))) _ _ c.boolean_of_receiver.ensures c.in-None.is
-    c.in_ok-throw_native-in-None.ensures.leads
+pub returns-in-None-clause-leads : goal.returns-in-None-clause-leads
+returns-in-None-clause-leads c =
+    IfOk-weaker _ _ _ (λ a leads. refuses c.args.state.now
+    (λ store. boolean_of_receiver store.heap c.args.call.now.this) _ (λ b. give_string (text_of_value (value.Bool b))) _
+    _ c.boolean_of_receiver.ensures c.in-None.is leads) c.throw_native.ensures.leads

@@ -1,10 +1,12 @@
 use Rattle.std.proofs.Common.{rules}
+use Rattle.std.proofs.lemmas.Result.{IfOk-weaker}
 use Rattle.jl_state.specs.Words.{call_of}
 use Rattle.jl_lib_misc.proofs.Messages.{no_error_object}
 use Rattle.jl_lib_misc.proofs.errors.error_to_string.Goals as goal
 
 pub returns-in_default : goal.returns-in_default
 returns-in_default c = record {
-  leads = no_error_object _ (call_of c.args.call.now) _ _ c.in_default.not-Obj c.in_ok-throw_native.ensures.leads;
+  leads = IfOk-weaker _ _ _ (λ a leads. no_error_object _ (call_of c.args.call.now) _ _ c.in_default.not-Obj leads)
+      c.throw_native.ensures.leads;
   falls = search rules;
 }

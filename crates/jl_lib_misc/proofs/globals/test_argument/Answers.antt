@@ -1,9 +1,9 @@
+use Rattle.std.proofs.lemmas.Result.{IfOk-weaker}
 use Rattle.jl_state.specs.Words.{call_of}
 use Rattle.jl_lib_misc.proofs.Arguments.{argument_is, test_waits}
 use Rattle.jl_lib_misc.proofs.globals.test_argument.Goals as goal
 
 pub returns-clause-leads : goal.returns-clause-leads
 returns-clause-leads c =
-    test_waits _ _ _ (call_of c.args.call.now) c.args.test _
-    (argument_is (call_of c.args.call.now) _ 0 _ c.items.ensures c.in_ok-first.ensures)
-    c.in_ok-wait_for_number.ensures.leads
+    IfOk-weaker _ _ _ (λ a leads. test_waits _ _ _ (call_of c.args.call.now) c.args.test _ (argument_is
+    (call_of c.args.call.now) _ 0 _ c.items.ensures c.in_ok-first.ensures) leads) c.wait_for_number.ensures.leads

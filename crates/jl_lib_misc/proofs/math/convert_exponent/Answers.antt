@@ -1,6 +1,13 @@
 use Rattle.std.proofs.Common.{refl}
+use Rattle.std.proofs.lemmas.Result.{IfOk-weaker}
+use Rattle.jl_progress.specs.Progress.{progress_after}
+use Rattle.jl_progress.specs.declared.number.NumberProgress.TheVariants as number
+use Rattle.jl_progress.specs.declared.progress.Progress.TheVariants as progress
 use Rattle.jl_builtin.proofs.Conversions.{as_number}
 use Rattle.jl_lib_misc.proofs.math.convert_exponent.Goals as goal
 
 pub returns-clause-leads : goal.returns-clause-leads
-returns-clause-leads c = as_number _ _ _ _ _ _ (λ p. refl) c.in_ok-wait_for_number.ensures.leads
+returns-clause-leads c =
+    IfOk-weaker _ _ _ (λ a leads. as_number _ _ _ c.args.exponent
+    (progress_after (progress.Number (number.Exponent c.args.base))) _ (λ p. refl) leads)
+    c.wait_for_number.ensures.leads

@@ -1,4 +1,5 @@
 use Rattle.std.proofs.Common.{pos}
+use Rattle.std.proofs.lemmas.Result.{IfOk-weaker}
 use Rattle.jl_meaning.specs.Conversions.{to_integer}
 use Rattle.jl_meaning.specs.Parts.{◌>>=◌}
 use Rattle.jl_meaning.specs.builtins.Arguments.{argument, unless_undefined}
@@ -7,8 +8,8 @@ use Rattle.jl_state.specs.Words.{call_of}
 use Rattle.jl_builtin.proofs.Receivers.{refuses}
 use Rattle.jl_lib_misc.proofs.numbers.number_to_string.Goals as goal
 
-pub returns-in_ok-throw_native-in-None-clause-leads : goal.returns-in_ok-throw_native-in-None-clause-leads
-returns-in_ok-throw_native-in-None-clause-leads c =
-    refuses c.args.state.now (λ store. number_of_receiver store.heap c.args.call.now.this) _
-    (λ n. unless_undefined (pos 10) to_integer (argument (call_of c.args.call.now) 0) >>= λ z. string_in_radix n z) _ _
-    c.number_of_receiver.ensures c.in-None.is c.in_ok-throw_native-in-None.ensures.leads
+pub returns-in-None-clause-leads : goal.returns-in-None-clause-leads
+returns-in-None-clause-leads c =
+    IfOk-weaker _ _ _ (λ a leads. refuses c.args.state.now (λ store. number_of_receiver store.heap c.args.call.now.this)
+    _ (λ n. unless_undefined (pos 10) to_integer (argument (call_of c.args.call.now) 0) >>= λ z. string_in_radix n z) _
+    _ c.number_of_receiver.ensures c.in-None.is leads) c.throw_native.ensures.leads

@@ -1,10 +1,11 @@
+use Rattle.std.proofs.lemmas.Result.{IfOk-weaker}
 use Rattle.jl_value.specs.declared.value.Value.TheVariants as value
 use Rattle.jl_meaning.specs.Parts.{give}
 use Rattle.jl_meaning.specs.builtins.Number.{number_of_receiver}
 use Rattle.jl_builtin.proofs.Receivers.{refuses}
 use Rattle.jl_lib_misc.proofs.numbers.number_value_of.Goals as goal
 
-pub returns-in_ok-throw_native-in-None-clause-leads : goal.returns-in_ok-throw_native-in-None-clause-leads
-returns-in_ok-throw_native-in-None-clause-leads c =
-    refuses c.args.state.now (λ store. number_of_receiver store.heap c.args.call.now.this) _
-    (λ n. give (value.Num n)) _ _ c.number_of_receiver.ensures c.in-None.is c.in_ok-throw_native-in-None.ensures.leads
+pub returns-in-None-clause-leads : goal.returns-in-None-clause-leads
+returns-in-None-clause-leads c =
+    IfOk-weaker _ _ _ (λ a leads. refuses c.args.state.now (λ store. number_of_receiver store.heap c.args.call.now.this)
+    _ (λ n. give (value.Num n)) _ _ c.number_of_receiver.ensures c.in-None.is leads) c.throw_native.ensures.leads

@@ -1,4 +1,5 @@
 use Rattle.std.proofs.Common.{subst, sym}
+use Rattle.std.proofs.lemmas.Result.{IfOk-weaker}
 use Rattle.jl_meaning.specs.builtins.Math.{one_of_all}
 use Rattle.jl_progress.specs.Numbers.{pick_of}
 use Rattle.jl_state.specs.Rest.{Works}
@@ -14,7 +15,7 @@ returns-in-None-clause-leads c =
 
 pub returns-clause-leads : goal.returns-clause-leads
 returns-clause-leads c =
-    subst (λ l. Works c.args.state.now (one_of_all (pick_of c.args.extreme) c.args.so_far l) c.convert_next.new.state
-    c.in_ok-convert_next-in-Some.field-0)
-    (sym (some_from c.args.from c.in-Some.next c.items.result.now c.args.args c.in-Some.v c.in_ok-value_from.field-0
-    c.items.ensures c.in_ok-value_from.ensures.found c.in-Some.is)) c.in_ok-convert_next-in-Some.ensures.leads
+    IfOk-weaker _ _ _ (λ a leads. subst (λ l. Works c.args.state.now
+    (one_of_all (pick_of c.args.extreme) c.args.so_far l) c.convert_next.new.state a) (sym (some_from c.args.from
+    c.in-Some.next c.items.result.now c.args.args c.in-Some.v c.in_ok-value_from.field-0 c.items.ensures
+    c.in_ok-value_from.ensures.found c.in-Some.is)) leads) c.convert_next.ensures.leads
