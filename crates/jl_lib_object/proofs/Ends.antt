@@ -25,6 +25,11 @@ pub gives_seen : (s : State) (f : Store → Value) (v : Value) → v ≡ f s.sto
 gives_seen s f v is =
     subst (λ w. Works s (look >>= λ store. give (f store)) s (act.Give w)) (sym is) (record { is = λ kept told. refl })
 
+-- what is done with what the store tells
+pub works_seen : (s : State) (f : Store → Algorithm Value) (t : State) (a : Act) → Works s (f s.store) t a
+    → Works s (look >>= f) t a
+works_seen s f t a leads = record { is = leads.is }
+
 module _ {A : Type 0} (s : State) (x : Store) (p : Algorithm A) (k : A → Algorithm Value) (answer : Answer A)
     (comes : Comes p s.store x (ends_with answer)) where
   -- what was given is gone on with

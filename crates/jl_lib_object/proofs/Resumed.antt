@@ -1,5 +1,6 @@
 -- A builtin of Object or its prototype that goes on, by what it has kept.
-use Rattle.std.proofs.Common.{◌≡◌, ◌≤◌, ◌+◌, arith, subst, sym, ℕ}
+use Rattle.std.proofs.Common.{◌≡◌, ◌≤◌, ◌+◌, arith, subst, sym, IfOk, Result, ℕ}
+use Rattle.std.proofs.lemmas.Result.{IfOk-weaker}
 use Rattle.jl_value.specs.declared.value.Value.{Value}
 use Rattle.jl_progress.specs.Objects.{object_after, rank_object}
 use Rattle.jl_progress.specs.declared.object.ObjectProgress.{ObjectProgress}
@@ -8,13 +9,14 @@ use Rattle.jl_state.specs.Rest.{Works}
 use Rattle.jl_state.specs.declared.act.Act.{Act}
 use Rattle.jl_state.specs.declared.state.State.{State}
 
-module _ (s : State) (progress kept : ObjectProgress) (t : State) (a : Act) where
-  pub resumes : (v : Value) → progress ≡ kept → Works s (object_after kept v) t a
-      → Works s (object_after progress v) t a
-  resumes v is leads = subst (λ p. Works s (object_after p v) t a) (sym is) leads
+module _ {E : Type 0} (s : State) (progress kept : ObjectProgress) (t : State) (r : Result Act E) where
+  pub resumes : (v : Value) → progress ≡ kept → IfOk r (λ a. Works s (object_after kept v) t a)
+      → IfOk r (λ a. Works s (object_after progress v) t a)
+  resumes v is leads = subst (λ p. IfOk r (λ a. Works s (object_after p v) t a)) (sym is) leads
 
-  pub falls_resumed : (m : ℕ) → progress ≡ kept → Falls s m t a → m ≤ rank_object kept + 2
-      → Falls s (rank_object progress + 2) t a
+  pub falls_resumed : (m : ℕ) → progress ≡ kept → IfOk r (λ a. Falls s m t a) → m ≤ rank_object kept + 2
+      → IfOk r (λ a. Falls s (rank_object progress + 2) t a)
   falls_resumed m is falls within =
-      subst (λ p. Falls s (rank_object p + 2) t a) (sym is)
-      (record { left = falls.left; lower = λ same. omega (arith, within, falls.lower same) })
+      subst (λ p. IfOk r (λ a. Falls s (rank_object p + 2) t a)) (sym is)
+      (IfOk-weaker r (λ a. Falls s m t a) (λ a. Falls s (rank_object kept + 2) t a)
+      (λ a less. record { left = less.left; lower = λ same. omega (arith, within, less.lower same) }) falls)

@@ -1,5 +1,6 @@
 -- The rows of objects and functions in the table of builtins.
-use Rattle.std.proofs.Common.{◌≡◌, refl, subst, sym, ℕ}
+use Rattle.std.proofs.Common.{◌≡◌, refl, subst, sym, IfOk, Result, ℕ}
+use Rattle.std.proofs.lemmas.Result.{IfOk-weaker}
 use Rattle.jl_value.specs.declared.value.Value.{Value}
 use Rattle.jl_meaning.specs.Parts.{Algorithm, Call}
 use Rattle.jl_meaning.specs.builtins.Arguments.{fail_row}
@@ -18,11 +19,19 @@ use Rattle.jl_state.specs.Rest.{Works}
 use Rattle.jl_state.specs.declared.act.Act.{Act}
 use Rattle.jl_state.specs.declared.state.State.{State}
 
--- the builtin of a row that is known
-pub begins_row : (s : State) (names : FunctionNames) (row n : ℕ) (c : Call) (p : Algorithm Value) (t : State) (a : Act)
+-- the builtin of a row that is known, which answers at once
+pub answers_row : (s : State) (names : FunctionNames) (row n : ℕ) (c : Call) (p : Algorithm Value) (t : State) (a : Act)
     → row ≡ n → builtin names n c ≡ p → Works s p t a → Works s (builtin names row c) t a
-begins_row s names row n c p t a is same leads =
+answers_row s names row n c p t a is same leads =
     subst (λ r. Works s (builtin names r c) t a) (sym is) (subst (λ q. Works s q t a) (sym same) leads)
+
+-- the same, which a function begins
+pub begins_row : {E : Type 0} (s : State) (names : FunctionNames) (row n : ℕ) (c : Call) (p : Algorithm Value)
+    (t : State) (r : Result Act E) → row ≡ n → builtin names n c ≡ p → IfOk r (λ a. Works s p t a)
+    → IfOk r (λ a. Works s (builtin names row c) t a)
+begins_row s names row n c p t r is same leads =
+    IfOk-weaker r (λ a. Works s p t a) (λ a. Works s (builtin names row c) t a)
+    (λ a here. answers_row s names row n c p t a is same here) leads
 
 -- one that isn't built
 

@@ -122,6 +122,6 @@ pub(crate) fn function_bind<'p>(
     let args = rest_of(alloc, call.args.items(), 1)?;
     match need_function(&mut state.store, &call.this)? {
         Answer::Throws(thrown) => Ok(Act::Complete(Completion::Throw(thrown))),
-        Answer::Gives(target) => Ok(give_bound(alloc, state, target, this, args)?),
+        Answer::Gives(target) => give_bound(alloc, state, target, this, args),
     }
 }

@@ -51,7 +51,7 @@ fn get_element<'p>(
             length,
         },
     )?;
-    Ok(get_index(alloc, state, list, at)?)
+    get_index(alloc, state, list, at)
 }
 
 /// A function is called with the arguments so far and those of a list from an index on.
@@ -70,7 +70,7 @@ fn apply_from<'p>(
     ensures falls { IfOk result (λ act. Falls state.old 3 state.new act) }
 {
     if from < length {
-        return Ok(get_element(alloc, state, function, this, list, args, from, length)?);
+        return get_element(alloc, state, function, this, list, args, from, length);
     }
     Ok(Act::Call(Invocation {
         callee: function,
@@ -98,7 +98,7 @@ pub(crate) fn step_element<'p>(
 {
     let mut args = args;
     args.push(v)?;
-    Ok(apply_from(alloc, state, function, this, list, args, from, length)?)
+    apply_from(alloc, state, function, this, list, args, from, length)
 }
 
 /// Goes on with the length of a list of arguments, which is converted.
@@ -122,7 +122,7 @@ pub(crate) fn step_length<'p>(
             list,
         },
     )?;
-    Ok(to_primitive(alloc, state, v, Hint::Number)?)
+    to_primitive(alloc, state, v, Hint::Number)
 }
 
 /// Goes on with that length, which has been converted.
@@ -142,7 +142,7 @@ pub(crate) fn step_length_primitive<'p>(
         return Ok(Act::Fault(Fault::NumberOutside));
     };
     let length = length_of(n);
-    Ok(apply_from(
+    apply_from(
         alloc,
         state,
         function,
@@ -151,7 +151,7 @@ pub(crate) fn step_length_primitive<'p>(
         List::new(alloc),
         0,
         length,
-    )?)
+    )
 }
 
 /// The length of a list of arguments is got.
@@ -174,7 +174,7 @@ fn get_length<'p>(
             list,
         },
     )?;
-    Ok(get(alloc, state, &Value::Obj(list), &name)?)
+    get(alloc, state, &Value::Obj(list), &name)
 }
 
 /// A function is called with the arguments that a value has (15.3.4.3, steps 2 to 9).
@@ -199,7 +199,7 @@ fn apply_values<'p>(
     }
     match need_object(&mut state.store, values)? {
         Answer::Throws(thrown) => Ok(Act::Complete(Completion::Throw(thrown))),
-        Answer::Gives(list) => Ok(get_length(alloc, state, function, this, list)?),
+        Answer::Gives(list) => get_length(alloc, state, function, this, list),
     }
 }
 
@@ -216,7 +216,7 @@ pub(crate) fn function_apply<'p>(
     let values = argument_of(alloc, call, 1)?;
     match need_function(&mut state.store, &call.this)? {
         Answer::Throws(thrown) => Ok(Act::Complete(Completion::Throw(thrown))),
-        Answer::Gives(function) => Ok(apply_values(alloc, state, function, this, &values)?),
+        Answer::Gives(function) => apply_values(alloc, state, function, this, &values),
     }
 }
 

@@ -49,7 +49,7 @@ pub(crate) fn use_change<'p>(
             let purpose = WrittenBy::Builtin {
                 gives: Value::Obj(object),
             };
-            Ok(define_own_property(alloc, state, object, &name, change, purpose)?)
+            define_own_property(alloc, state, object, &name, change, purpose)
         }
         DescriptorUse::Next {
             object,
@@ -61,7 +61,7 @@ pub(crate) fn use_change<'p>(
         } => {
             let mut changes = changes;
             changes.push(NamedChange::new(name, change))?;
-            Ok(read_changes(alloc, state, object, descriptors, changes, names, from)?)
+            read_changes(alloc, state, object, descriptors, changes, names, from)
         }
     }
 }
@@ -81,8 +81,8 @@ fn read_changes<'p>(
     ensures falls { IfOk result (λ act. Falls state.old (rank_definitions (length changes) + 2) state.new act) }
 {
     match name_from(alloc, names.items(), from)? {
-        None => Ok(define_from(alloc, state, object, changes, 0)?),
-        Some((name, next)) => Ok(get_descriptor(
+        None => define_from(alloc, state, object, changes, 0),
+        Some((name, next)) => get_descriptor(
             alloc,
             state,
             object,
@@ -91,7 +91,7 @@ fn read_changes<'p>(
             name,
             names,
             next,
-        )?),
+        ),
     }
 }
 
@@ -125,7 +125,7 @@ fn get_descriptor<'p>(
             from,
         },
     )?;
-    Ok(get(alloc, state, &Value::Obj(descriptors), &key)?)
+    get(alloc, state, &Value::Obj(descriptors), &key)
 }
 
 /// Goes on with the descriptor of a name.
@@ -156,7 +156,7 @@ pub(crate) fn define_from<'p>(
 {
     match change_from(alloc, changes.items(), from)? {
         None => Ok(Act::Give(Value::Obj(object))),
-        Some((named, next)) => Ok(define_one(alloc, state, object, &named, changes, next)?),
+        Some((named, next)) => define_one(alloc, state, object, &named, changes, next),
     }
 }
 
@@ -186,7 +186,7 @@ fn define_one<'p>(
             from,
         },
     )?;
-    Ok(define_own_property(alloc, state, object, named.name(), change, purpose)?)
+    define_own_property(alloc, state, object, named.name(), change, purpose)
 }
 
 /// The change at an index and the next index, if there is one.
@@ -250,7 +250,7 @@ fn define_all<'p>(
 {
     match state.store.to_object(v)? {
         Answer::Throws(thrown) => Ok(Act::Complete(Completion::Throw(thrown))),
-        Answer::Gives(descriptors) => Ok(read_all(alloc, state, object, descriptors)?),
+        Answer::Gives(descriptors) => read_all(alloc, state, object, descriptors),
     }
 }
 
@@ -268,7 +268,7 @@ fn read_all<'p>(
 {
     let names = enumerable_names(alloc, &state.store, descriptors)?;
     let changes = List::new(alloc);
-    Ok(read_changes(alloc, state, object, descriptors, changes, names, 0)?)
+    read_changes(alloc, state, object, descriptors, changes, names, 0)
 }
 
 /// A prototype: an object, or null (15.2.3.5, step 1).
@@ -296,7 +296,7 @@ fn define_given<'p>(
     if is_undefined(v) {
         return Ok(Act::Give(Value::Obj(object)));
     }
-    Ok(define_all(alloc, state, object, v)?)
+    define_all(alloc, state, object, v)
 }
 
 /// A new object of class Object with a prototype, or with none.
@@ -319,7 +319,7 @@ fn create_with<'p>(
     ensures falls { IfOk result (λ act. Falls state.old 9 state.new act) }
 {
     let object = new_object(&mut state.store, proto)?;
-    Ok(define_given(alloc, state, object, properties)?)
+    define_given(alloc, state, object, properties)
 }
 
 /// `Object.create(O, Properties)` (15.2.3.5).
@@ -335,7 +335,7 @@ pub(crate) fn object_create<'p>(
     let properties = argument_of(alloc, call, 1)?;
     match need_prototype(&mut state.store, &proto)? {
         Answer::Throws(thrown) => Ok(Act::Complete(Completion::Throw(thrown))),
-        Answer::Gives(proto) => Ok(create_with(alloc, state, proto, &properties)?),
+        Answer::Gives(proto) => create_with(alloc, state, proto, &properties),
     }
 }
 
@@ -352,7 +352,7 @@ pub(crate) fn object_define_properties<'p>(
     let properties = argument_of(alloc, call, 1)?;
     match first_object(alloc, &mut state.store, call)? {
         Answer::Throws(thrown) => Ok(Act::Complete(Completion::Throw(thrown))),
-        Answer::Gives(object) => Ok(define_all(alloc, state, object, &properties)?),
+        Answer::Gives(object) => define_all(alloc, state, object, &properties),
     }
 }
 
@@ -369,7 +369,7 @@ fn convert_name<'p>(
     ensures falls { IfOk result (λ act. Falls state.old 96 state.new act) }
 {
     wait_object(state, ObjectProgress::DefinedName { object, descriptor })?;
-    Ok(to_primitive(alloc, state, name, Hint::Text)?)
+    to_primitive(alloc, state, name, Hint::Text)
 }
 
 /// `Object.defineProperty(O, P, Attributes)` (15.2.3.6).
@@ -386,7 +386,7 @@ pub(crate) fn object_define_property<'p>(
     let descriptor = argument_of(alloc, call, 2)?;
     match first_object(alloc, &mut state.store, call)? {
         Answer::Throws(thrown) => Ok(Act::Complete(Completion::Throw(thrown))),
-        Answer::Gives(object) => Ok(convert_name(alloc, state, object, name, descriptor)?),
+        Answer::Gives(object) => convert_name(alloc, state, object, name, descriptor),
     }
 }
 
@@ -403,10 +403,10 @@ pub(crate) fn step_defined_name<'p>(
     ensures falls { IfOk result (λ act. Falls state.old 82 state.new act) }
 {
     let name = text_of(alloc, p)?;
-    Ok(step_descriptor(
+    step_descriptor(
         alloc,
         state,
         DescriptorUse::One { object, name },
         descriptor,
-    )?)
+    )
 }

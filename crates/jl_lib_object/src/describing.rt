@@ -185,7 +185,7 @@ pub(crate) fn step_described_name<'p>(
     ensures falls { IfOk result (λ act. Falls state.old 3 state.new act) }
 {
     let name = text_of(alloc, p)?;
-    Ok(describe_own(alloc, state, object, &name)?)
+    describe_own(alloc, state, object, &name)
 }
 
 /// The name of a property that is to be described is converted.
@@ -200,7 +200,7 @@ fn convert_name<'p>(
     ensures falls { IfOk result (λ act. Falls state.old 22 state.new act) }
 {
     wait_object(state, ObjectProgress::DescribedName { object })?;
-    Ok(to_primitive(alloc, state, name, Hint::Text)?)
+    to_primitive(alloc, state, name, Hint::Text)
 }
 
 /// `Object.getOwnPropertyDescriptor(O, P)` (15.2.3.3).
@@ -216,6 +216,6 @@ pub(crate) fn object_get_own_property_descriptor<'p>(
     let name = argument_of(alloc, call, 1)?;
     match first_object(alloc, &mut state.store, call)? {
         Answer::Throws(thrown) => Ok(Act::Complete(Completion::Throw(thrown))),
-        Answer::Gives(object) => Ok(convert_name(alloc, state, object, name)?),
+        Answer::Gives(object) => convert_name(alloc, state, object, name),
     }
 }

@@ -231,13 +231,13 @@ fn read_fields<'p>(
     ensures falls { IfOk result (λ act. Falls state.old (rank_use purpose + (4 * fields_from next + 4)) state.new act) }
 {
     let Some(field) = next else {
-        return Ok(take_change(alloc, state, change, purpose)?);
+        return take_change(alloc, state, change, purpose);
     };
     if has_field(alloc, &state.store, descriptor, field)? {
-        return Ok(get_field(alloc, state, field, descriptor, change, purpose)?);
+        return get_field(alloc, state, field, descriptor, change, purpose);
     }
     let change = without_field(field, change);
-    Ok(read_fields(alloc, state, next_field(field), descriptor, change, purpose)?)
+    read_fields(alloc, state, next_field(field), descriptor, change, purpose)
 }
 
 /// Whether a change is data and accessor at once.
@@ -259,9 +259,9 @@ fn take_change<'p>(
     ensures falls { IfOk result (λ act. Falls state.old (rank_use purpose) state.new act) }
 {
     if is_both_kinds(&change) {
-        return Ok(throw_native(alloc, state, ErrorKind::TypeError, "bad descriptor")?);
+        return throw_native(alloc, state, ErrorKind::TypeError, "bad descriptor");
     }
-    Ok(use_change(alloc, state, change, purpose)?)
+    use_change(alloc, state, change, purpose)
 }
 
 /// ToPropertyDescriptor (8.10.5), and then what it is done for.
@@ -279,7 +279,7 @@ pub(crate) fn to_property_descriptor<'p>(
         Answer::Throws(thrown) => Ok(Act::Complete(Completion::Throw(thrown))),
         Answer::Gives(descriptor) => {
             let first = Some(DescriptorField::Enumerable);
-            Ok(read_fields(alloc, state, first, descriptor, no_change(), purpose)?)
+            read_fields(alloc, state, first, descriptor, no_change(), purpose)
         }
     }
 }
@@ -303,7 +303,7 @@ pub(crate) fn step_field<'p>(
         Answer::Throws(thrown) => Ok(Act::Complete(Completion::Throw(thrown))),
         Answer::Gives(change) => {
             let next = next_field(field);
-            Ok(read_fields(alloc, state, next, descriptor, change, purpose)?)
+            read_fields(alloc, state, next, descriptor, change, purpose)
         }
     }
 }

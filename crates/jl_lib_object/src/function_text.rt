@@ -114,8 +114,8 @@ pub(crate) fn function_to_string<'p>(
     ensures falls { IfOk result (λ act. Falls state.old 3 state.new act) }
 {
     let Some(name) = name_of_function(alloc, state, &call.this)? else {
-        return Ok(throw_native(alloc, state, ErrorKind::TypeError, "wrong receiver")?);
+        return throw_native(alloc, state, ErrorKind::TypeError, "wrong receiver");
     };
     let text = function_text(alloc, &name)?;
-    Ok(give_text(alloc, text.items())?)
+    give_text(alloc, text.items())
 }

@@ -122,7 +122,7 @@ fn redefine<'p>(
     let purpose = WrittenBy::Builtin {
         gives: Value::Undefined,
     };
-    Ok(define_own_property(alloc, state, object, name, change, purpose)?)
+    define_own_property(alloc, state, object, name, change, purpose)
 }
 
 /// A turn takes a step, and a property is sealed or frozen; those of the names from an index on wait.
@@ -152,7 +152,7 @@ fn restrict_one<'p>(
             from,
         },
     )?;
-    Ok(redefine(alloc, state, integrity, object, name)?)
+    redefine(alloc, state, integrity, object, name)
 }
 
 /// The properties of the names from an index on are sealed or frozen, and no more may be added.
@@ -173,9 +173,7 @@ pub(crate) fn restrict_from<'p>(
             state.store.prevent_extensions(object);
             Ok(Act::Give(Value::Obj(object)))
         }
-        Some((name, next)) => Ok(restrict_one(
-            alloc, state, integrity, object, &name, names, next,
-        )?),
+        Some((name, next)) => restrict_one(alloc, state, integrity, object, &name, names, next),
     }
 }
 
@@ -191,7 +189,7 @@ fn restrict_all<'p>(
     ensures falls { IfOk result (λ act. Falls state.old 3 state.new act) }
 {
     let names = own_names(alloc, &state.store, object)?;
-    Ok(restrict_from(alloc, state, integrity, object, names, 0)?)
+    restrict_from(alloc, state, integrity, object, names, 0)
 }
 
 /// `Object.seal(O)` and `Object.freeze(O)` (15.2.3.8, 15.2.3.9).
@@ -207,7 +205,7 @@ pub(crate) fn redefine_all<'p>(
 {
     match first_object(alloc, &mut state.store, call)? {
         Answer::Throws(thrown) => Ok(Act::Complete(Completion::Throw(thrown))),
-        Answer::Gives(object) => Ok(restrict_all(alloc, state, integrity, object)?),
+        Answer::Gives(object) => restrict_all(alloc, state, integrity, object),
     }
 }
 
@@ -271,7 +269,7 @@ fn test_one<'p>(
         names,
         from,
     };
-    Ok(go_on(state, Progress::Object(progress))?)
+    go_on(state, Progress::Object(progress))
 }
 
 /// The properties of the names from an index on are tested, and whether more may be added.
@@ -293,7 +291,7 @@ pub(crate) fn test_from<'p>(
             let closed = both(holds, !state.store.is_extensible(object));
             Ok(Act::Give(Value::Bool(closed)))
         }
-        Some((name, next)) => Ok(test_one(state, integrity, object, holds, &name, names, next)?),
+        Some((name, next)) => test_one(state, integrity, object, holds, &name, names, next),
     }
 }
 
@@ -309,7 +307,7 @@ fn test_all<'p>(
     ensures falls { IfOk result (λ act. Falls state.old 3 state.new act) }
 {
     let names = own_names(alloc, &state.store, object)?;
-    Ok(test_from(alloc, state, integrity, object, true, names, 0)?)
+    test_from(alloc, state, integrity, object, true, names, 0)
 }
 
 /// `Object.isSealed(O)` and `Object.isFrozen(O)` (15.2.3.11, 15.2.3.12).
@@ -325,7 +323,7 @@ pub(crate) fn are_all<'p>(
 {
     match first_object(alloc, &mut state.store, call)? {
         Answer::Throws(thrown) => Ok(Act::Complete(Completion::Throw(thrown))),
-        Answer::Gives(object) => Ok(test_all(alloc, state, integrity, object)?),
+        Answer::Gives(object) => test_all(alloc, state, integrity, object),
     }
 }
 

@@ -148,7 +148,7 @@ fn array_of_names<'p>(
 {
     let values = text_values(alloc, names)?;
     let array = state.store.new_array()?;
-    Ok(fill_array(alloc, state, array, values, 0)?)
+    fill_array(alloc, state, array, values, 0)
 }
 
 /// An array of the names of all own properties of an object.
@@ -158,7 +158,7 @@ fn list_names<'p>(alloc: Global, state: &mut State<'p>, id: ObjId) -> Result<Act
     ensures falls { IfOk result (λ act. Falls state.old 6 state.new act) }
 {
     let names = own_names(alloc, &state.store, id)?;
-    Ok(array_of_names(alloc, state, names.items())?)
+    array_of_names(alloc, state, names.items())
 }
 
 /// An array of the names of those that are enumerable.
@@ -168,7 +168,7 @@ fn list_keys<'p>(alloc: Global, state: &mut State<'p>, id: ObjId) -> Result<Act<
     ensures falls { IfOk result (λ act. Falls state.old 6 state.new act) }
 {
     let names = enumerable_names(alloc, &state.store, id)?;
-    Ok(array_of_names(alloc, state, names.items())?)
+    array_of_names(alloc, state, names.items())
 }
 
 /// `Object.getOwnPropertyNames(O)` (15.2.3.4).
@@ -183,7 +183,7 @@ pub(crate) fn object_get_own_property_names<'p>(
 {
     match first_object(alloc, &mut state.store, call)? {
         Answer::Throws(thrown) => Ok(Act::Complete(Completion::Throw(thrown))),
-        Answer::Gives(id) => Ok(list_names(alloc, state, id)?),
+        Answer::Gives(id) => list_names(alloc, state, id),
     }
 }
 
@@ -198,6 +198,6 @@ pub(crate) fn object_keys<'p>(
 {
     match first_object(alloc, &mut state.store, call)? {
         Answer::Throws(thrown) => Ok(Act::Complete(Completion::Throw(thrown))),
-        Answer::Gives(id) => Ok(list_keys(alloc, state, id)?),
+        Answer::Gives(id) => list_keys(alloc, state, id),
     }
 }

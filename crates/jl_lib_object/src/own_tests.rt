@@ -42,7 +42,7 @@ pub(crate) fn this_has<'p>(
     let name = argument_of(alloc, call, 0)?;
     let this = share(alloc, &call.this)?;
     wait_object(state, ObjectProgress::OwnName { test, this })?;
-    Ok(to_primitive(alloc, state, name, Hint::Text)?)
+    to_primitive(alloc, state, name, Hint::Text)
 }
 
 /// Goes on with the name.

@@ -28,18 +28,16 @@ pub fn resume_object<'p>(
     ensures falls { IfOk result (λ act. Falls state.old (rank_object progress + 2) state.new act) }
 {
     match progress {
-        ObjectProgress::DescribedName { object } => {
-            Ok(step_described_name(alloc, state, object, &v)?)
-        }
+        ObjectProgress::DescribedName { object } => step_described_name(alloc, state, object, &v),
         ObjectProgress::DefinedName { object, descriptor } => {
-            Ok(step_defined_name(alloc, state, object, &descriptor, &v)?)
+            step_defined_name(alloc, state, object, &descriptor, &v)
         }
         ObjectProgress::Field {
             field,
             descriptor,
             change,
             purpose,
-        } => Ok(step_field(alloc, state, field, descriptor, change, purpose, v)?),
+        } => step_field(alloc, state, field, descriptor, change, purpose, v),
         ObjectProgress::Descriptor {
             object,
             descriptors,
@@ -56,29 +54,27 @@ pub fn resume_object<'p>(
                 names,
                 from,
             };
-            Ok(step_descriptor(alloc, state, purpose, &v)?)
+            step_descriptor(alloc, state, purpose, &v)
         }
         ObjectProgress::Define {
             object,
             changes,
             from,
-        } => Ok(define_from(alloc, state, object, changes, from)?),
+        } => define_from(alloc, state, object, changes, from),
         ObjectProgress::Restrict {
             integrity,
             object,
             names,
             from,
-        } => Ok(restrict_from(alloc, state, integrity, object, names, from)?),
+        } => restrict_from(alloc, state, integrity, object, names, from),
         ObjectProgress::Test {
             integrity,
             object,
             holds,
             names,
             from,
-        } => Ok(test_from(alloc, state, integrity, object, holds, names, from)?),
-        ObjectProgress::OwnName { test, this } => {
-            Ok(step_own_name(alloc, state, test, &this, &v)?)
-        }
+        } => test_from(alloc, state, integrity, object, holds, names, from),
+        ObjectProgress::OwnName { test, this } => step_own_name(alloc, state, test, &this, &v),
     }
 }
 

@@ -38,16 +38,16 @@ fn start_changing<'p>(
     ensures falls { IfOk result (λ act. Falls state.old 96 state.new act) }
 {
     match row {
-        0 => Ok(object_call(alloc, state, call)?),
-        1 => Ok(object_get_prototype_of(alloc, state, call)?),
-        2 => Ok(object_get_own_property_descriptor(alloc, state, call)?),
-        3 => Ok(object_get_own_property_names(alloc, state, call)?),
-        4 => Ok(object_create(alloc, state, call)?),
-        5 => Ok(object_define_property(alloc, state, call)?),
-        6 => Ok(object_define_properties(alloc, state, call)?),
-        7 => Ok(redefine_all(alloc, state, Integrity::Sealed, call)?),
-        8 => Ok(redefine_all(alloc, state, Integrity::Frozen, call)?),
-        _ => Ok(object_prevent_extensions(alloc, state, call)?),
+        0 => object_call(alloc, state, call),
+        1 => object_get_prototype_of(alloc, state, call),
+        2 => object_get_own_property_descriptor(alloc, state, call),
+        3 => object_get_own_property_names(alloc, state, call),
+        4 => object_create(alloc, state, call),
+        5 => object_define_property(alloc, state, call),
+        6 => object_define_properties(alloc, state, call),
+        7 => redefine_all(alloc, state, Integrity::Sealed, call),
+        8 => redefine_all(alloc, state, Integrity::Frozen, call),
+        _ => object_prevent_extensions(alloc, state, call),
     }
 }
 
@@ -64,16 +64,16 @@ fn start_asking<'p>(
     ensures falls { IfOk result (λ act. Falls state.old 96 state.new act) }
 {
     match row {
-        10 => Ok(are_all(alloc, state, Integrity::Sealed, call)?),
-        11 => Ok(are_all(alloc, state, Integrity::Frozen, call)?),
-        12 => Ok(object_is_extensible(alloc, state, call)?),
-        13 => Ok(object_keys(alloc, state, call)?),
-        14 => Ok(object_to_string(alloc, state, call)?),
+        10 => are_all(alloc, state, Integrity::Sealed, call),
+        11 => are_all(alloc, state, Integrity::Frozen, call),
+        12 => object_is_extensible(alloc, state, call),
+        13 => object_keys(alloc, state, call),
+        14 => object_to_string(alloc, state, call),
         15 => Ok(fail_row(row)),
-        16 => Ok(object_value_of(state, call)?),
-        17 => Ok(this_has(alloc, state, OwnTest::IsThere, call)?),
-        18 => Ok(object_is_prototype_of(alloc, state, call)?),
-        _ => Ok(this_has(alloc, state, OwnTest::IsEnumerable, call)?),
+        16 => object_value_of(state, call),
+        17 => this_has(alloc, state, OwnTest::IsThere, call),
+        18 => object_is_prototype_of(alloc, state, call),
+        _ => this_has(alloc, state, OwnTest::IsEnumerable, call),
     }
 }
 
@@ -111,12 +111,12 @@ fn start_row<'p>(
     match row {
         20 => Ok(Act::Fault(Fault::CodeFromText)),
         21 => Ok(Act::Give(Value::Undefined)),
-        22 => Ok(function_to_string(alloc, state, call)?),
-        23 => Ok(function_apply(alloc, state, call)?),
-        24 => Ok(function_call(alloc, state, call)?),
-        25 => Ok(function_bind(alloc, state, call)?),
+        22 => function_to_string(alloc, state, call),
+        23 => function_apply(alloc, state, call),
+        24 => function_call(alloc, state, call),
+        25 => function_bind(alloc, state, call),
         26 => Ok(fail_row(row)),
-        _ => Ok(throw_native(alloc, state, ErrorKind::TypeError, "forbidden")?),
+        _ => throw_native(alloc, state, ErrorKind::TypeError, "forbidden"),
     }
 }
 

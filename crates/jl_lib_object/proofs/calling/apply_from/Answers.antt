@@ -1,11 +1,13 @@
 use Rattle.std.proofs.Common.{refl}
+use Rattle.std.proofs.lemmas.Result.{IfOk-weaker}
 use Rattle.jl_builtin.proofs.Calls.{calls_now}
 use Rattle.jl_lib_object.proofs.Applications.{applies, applies_element}
 use Rattle.jl_lib_object.proofs.calling.apply_from.Goals as goal
 
 pub returns-then-from-length-clause-leads : goal.returns-then-from-length-clause-leads
 returns-then-from-length-clause-leads c =
-    applies_element _ _ _ _ _ _ _ _ _ c.if-from-length.true c.in_ok-get_element.ensures.leads
+    IfOk-weaker _ _ _ (λ a leads. applies_element c.args.function c.args.this c.args.list c.args.state.now c.args.args
+    _ _ _ _ c.if-from-length.true leads) c.get_element.ensures.leads
 
 pub returns-clause-leads : goal.returns-clause-leads
 returns-clause-leads c =

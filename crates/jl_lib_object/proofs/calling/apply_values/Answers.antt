@@ -1,4 +1,5 @@
 use Rattle.std.proofs.Common.{refl, sym, ◌∙◌}
+use Rattle.std.proofs.lemmas.Result.{IfOk-weaker}
 use Rattle.jl_builtin.proofs.Calls.{calls_now}
 use Rattle.jl_lib_object.proofs.Applications.{has_arguments, no_arguments}
 use Rattle.jl_lib_object.proofs.Ends.{goes_on, throws_on}
@@ -14,7 +15,8 @@ returns-then-is_nothing-clause-leads c =
     no_arguments _ _ _ _ _ _ (sym c.is_nothing.ensures ∙ c.if-is_nothing.true)
     (calls_now _ _ _ _ _ _ refl c.new.ensures)
 
-pub returns-in_ok-get_length-in-Gives-clause-leads : goal.returns-in_ok-get_length-in-Gives-clause-leads
-returns-in_ok-get_length-in-Gives-clause-leads c =
-    has_arguments _ _ _ _ _ _ (sym c.is_nothing.ensures ∙ c.if-is_nothing.false)
-    (goes_on _ _ _ _ _ c.in_ok-thrown.ensures _ _ _ c.in-Gives.is c.in_ok-get_length-in-Gives.ensures.leads)
+pub returns-in-Gives-clause-leads : goal.returns-in-Gives-clause-leads
+returns-in-Gives-clause-leads c =
+    IfOk-weaker _ _ _ (λ a leads. has_arguments c.args.function c.args.this c.args.state.now _ _ _
+    (sym c.is_nothing.ensures ∙ c.if-is_nothing.false)
+    (goes_on c.args.state.now _ _ _ _ c.in_ok-thrown.ensures _ _ _ c.in-Gives.is leads)) c.get_length.ensures.leads

@@ -1,3 +1,4 @@
+use Rattle.std.proofs.lemmas.Result.{IfOk-weaker}
 use Rattle.jl_meaning.specs.Parts.{call, ◌>>=◌}
 use Rattle.jl_meaning.specs.builtins.Arguments.{argument}
 use Rattle.jl_meaning.specs.builtins.Function.{arguments_in}
@@ -10,9 +11,7 @@ returns-in-Throws-clause-leads c = throws_on _ _ _ _ _ c.in_ok-thrown.ensures _ 
 
 pub returns-clause-leads : goal.returns-clause-leads
 returns-clause-leads c =
-    goes_on _ _ _ _ _ c.in_ok-thrown.ensures _ _ _ c.in-Gives.is
-    (works_of _ (λ v. arguments_in v >>= λ args. call c.in-Gives.function (argument (call_of c.args.call.now) 0) args)
-    _ _ _ _ c.in_ok-values.ensures
-    (works_of _ (λ w. arguments_in c.in_ok-values.values >>= λ args. call c.in-Gives.function w args) _ _ _ _
-    c.in_ok-this.ensures
-    (c.in_ok-apply_values-in-Gives.ensures.leads)))
+    IfOk-weaker _ _ _ (λ a leads. goes_on _ _ _ _ _ c.in_ok-thrown.ensures _ _ _ c.in-Gives.is (works_of _ (λ v.
+    arguments_in v >>= λ args. call c.in-Gives.function (argument (call_of c.args.call.now) 0) args) _ _ _ _
+    c.in_ok-values.ensures (works_of _ (λ w. arguments_in c.in_ok-values.values >>= λ args. call c.in-Gives.function w
+    args) _ _ _ _ c.in_ok-this.ensures leads))) c.apply_values.ensures.leads

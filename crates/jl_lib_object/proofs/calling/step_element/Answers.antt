@@ -1,6 +1,8 @@
+use Rattle.std.proofs.lemmas.Result.{IfOk-weaker}
 use Rattle.jl_lib_object.proofs.Applications.{goes_on_with}
 use Rattle.jl_lib_object.proofs.calling.step_element.Goals as goal
 
 pub returns-clause-leads : goal.returns-clause-leads
 returns-clause-leads c =
-    goes_on_with _ _ _ _ _ _ _ _ _ _ _ c.in_ok-push.ensures.ok c.in_ok-apply_from.ensures.leads
+    IfOk-weaker _ _ _ (λ a leads. goes_on_with c.args.function c.args.this c.args.list c.args.state.now _ _ c.args.from
+    c.args.length _ _ _ c.in_ok-push.ensures.ok leads) c.apply_from.ensures.leads

@@ -1,4 +1,5 @@
 use Rattle.std.proofs.Common.{refl}
+use Rattle.std.proofs.lemmas.Result.{IfOk-weaker}
 use Rattle.jl_value.specs.declared.object.Class.TheVariants as class
 use Rattle.jl_heap.specs.declared.inner.Inner.TheVariants as inner
 use Rattle.jl_meaning.specs.Parts.{new_object, ◌>>=◌}
@@ -9,7 +10,8 @@ use Rattle.jl_lib_object.proofs.defining.create_with.Goals as goal
 
 pub returns-clause-leads : goal.returns-clause-leads
 returns-clause-leads c =
-    works_comes c.args.state.now (record c.args.state.now { store = c.new_object.new.store }) refl
-    (new_object class.Object c.args.proto inner.Nothing) c.in_ok-object.object
-    (λ id. unless_undefined tt (define_all id) c.args.properties.now >>= λ _. give_object id) _ _
-    c.in_ok-object.ensures c.in_ok-define_given.ensures.leads
+    IfOk-weaker _ _ _ (λ a leads. works_comes c.args.state.now
+    (record c.args.state.now { store = c.new_object.new.store }) refl
+    (new_object class.Object c.args.proto inner.Nothing) c.in_ok-object.object (λ id. unless_undefined tt
+    (define_all id) c.args.properties.now >>= λ _. give_object id) _ _ c.in_ok-object.ensures leads)
+    c.define_given.ensures.leads

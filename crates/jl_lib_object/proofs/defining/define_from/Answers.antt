@@ -1,3 +1,4 @@
+use Rattle.std.proofs.lemmas.Result.{IfOk-weaker}
 use Rattle.jl_builtin.proofs.FoundItems.{none_from, some_from}
 use Rattle.jl_lib_object.proofs.Definitions.{defined_all, defined_next}
 use Rattle.jl_lib_object.proofs.Ranks.{falls_next}
@@ -10,12 +11,11 @@ returns-in-None-clause-leads c =
 
 pub returns-clause-leads : goal.returns-clause-leads
 returns-clause-leads c =
-    defined_next _ _ _ _ c.args.changes c.in-Some.next _ _
-    (some_from c.args.from _ _ c.args.changes _ _ c.items.ensures c.in_ok-change_from.ensures c.in-Some.is)
-    c.in_ok-define_one-in-Some.ensures.leads
+    IfOk-weaker _ _ _ (λ a leads. defined_next c.args.state.now c.args.object _ _ c.args.changes c.in-Some.next _ _
+    (some_from c.args.from _ _ c.args.changes _ _ c.items.ensures c.in_ok-change_from.ensures c.in-Some.is) leads)
+    c.define_one.ensures.leads
 
 pub returns-clause-falls : goal.returns-clause-falls
 returns-clause-falls c =
-    falls_next _ _ _ _ _ _ (some_from c.args.from _ _ c.args.changes _ _ c.items.ensures c.in_ok-change_from.ensures
-    c.in-Some.is)
-    c.in_ok-define_one-in-Some.ensures.falls
+    IfOk-weaker _ _ _ (λ a falls. falls_next _ _ _ _ _ _ (some_from c.args.from _ _ c.args.changes _ _ c.items.ensures
+    c.in_ok-change_from.ensures c.in-Some.is) falls) c.define_one.ensures.falls

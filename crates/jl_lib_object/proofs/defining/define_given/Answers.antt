@@ -1,4 +1,5 @@
 use Rattle.std.proofs.Common.{sym, ◌∙◌}
+use Rattle.std.proofs.lemmas.Result.{IfOk-weaker}
 use Rattle.jl_lib_object.proofs.Definitions.{none_given, some_given}
 use Rattle.jl_lib_object.proofs.defining.define_given.Goals as goal
 
@@ -7,4 +8,5 @@ returns-then-is_undefined-clause-leads c = none_given _ _ _ (sym c.is_undefined.
 
 pub returns-clause-leads : goal.returns-clause-leads
 returns-clause-leads c =
-    some_given _ _ _ _ _ (sym c.is_undefined.ensures ∙ c.if-is_undefined.false) c.in_ok-define_all.ensures.leads
+    IfOk-weaker _ _ _ (λ a leads. some_given c.args.state.now c.args.object _ _ _
+    (sym c.is_undefined.ensures ∙ c.if-is_undefined.false) leads) c.define_all.ensures.leads

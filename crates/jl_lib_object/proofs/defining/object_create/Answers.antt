@@ -1,3 +1,4 @@
+use Rattle.std.proofs.lemmas.Result.{IfOk-weaker}
 use Rattle.jl_meaning.specs.Parts.{◌>>=◌}
 use Rattle.jl_meaning.specs.builtins.Arguments.{argument}
 use Rattle.jl_meaning.specs.builtins.Object.{need_prototype}
@@ -14,8 +15,7 @@ returns-in-Throws-clause-leads c =
 
 pub returns-clause-leads : goal.returns-clause-leads
 returns-clause-leads c =
-    works_of _ (λ v. need_prototype v >>= λ proto. create_with proto (argument (call_of c.args.call.now) 1)) _ _ _ _
-    c.in_ok-proto.ensures
-    (goes_on _ _ _ _ _ c.in_ok-thrown.ensures _ _ _ c.in-Gives.is
-    (works_of _ (λ v. create_with c.in-Gives.proto v) _ _ _ _ c.in_ok-properties.ensures
-    (c.in_ok-create_with-in-Gives.ensures.leads)))
+    IfOk-weaker _ _ _ (λ a leads. works_of _ (λ v. need_prototype v >>= λ proto. create_with proto
+    (argument (call_of c.args.call.now) 1)) _ _ _ _ c.in_ok-proto.ensures (goes_on _ _ _ _ _ c.in_ok-thrown.ensures _ _
+    _ c.in-Gives.is (works_of _ (λ v. create_with c.in-Gives.proto v) _ _ _ _ c.in_ok-properties.ensures leads)))
+    c.create_with.ensures.leads

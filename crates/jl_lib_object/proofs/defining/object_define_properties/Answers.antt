@@ -1,3 +1,4 @@
+use Rattle.std.proofs.lemmas.Result.{IfOk-weaker}
 use Rattle.jl_meaning.specs.Parts.{◌>>=◌}
 use Rattle.jl_meaning.specs.builtins.Arguments.{give_object}
 use Rattle.jl_meaning.specs.builtins.Object.{define_all}
@@ -9,7 +10,6 @@ returns-in-Throws-clause-leads c = throws_on _ _ _ _ _ c.in_ok-thrown.ensures _ 
 
 pub returns-clause-leads : goal.returns-clause-leads
 returns-clause-leads c =
-    goes_on _ _ _ _ _ c.in_ok-thrown.ensures _ _ _ c.in-Gives.is
-    (works_of _ (λ v. define_all c.in-Gives.object v >>= λ _. give_object c.in-Gives.object) _ _ _ _
-    c.in_ok-properties.ensures
-    (c.in_ok-define_all-in-Gives.ensures.leads))
+    IfOk-weaker _ _ _ (λ a leads. goes_on _ _ _ _ _ c.in_ok-thrown.ensures _ _ _ c.in-Gives.is (works_of _ (λ v.
+    define_all c.in-Gives.object v >>= λ _. give_object c.in-Gives.object) _ _ _ _ c.in_ok-properties.ensures leads))
+    c.define_all.ensures.leads

@@ -1,3 +1,4 @@
+use Rattle.std.proofs.lemmas.Result.{IfOk-weaker}
 use Rattle.jl_meaning.specs.Conversions.{to_string}
 use Rattle.jl_meaning.specs.Parts.{◌>>=◌}
 use Rattle.jl_meaning.specs.builtins.Arguments.{argument}
@@ -10,11 +11,9 @@ use Rattle.jl_lib_object.proofs.defining.object_define_property.Goals as goal
 pub returns-in-Throws-clause-leads : goal.returns-in-Throws-clause-leads
 returns-in-Throws-clause-leads c = throws_on _ _ _ _ _ c.in_ok-thrown.ensures _ c.in-Throws.is
 
-pub returns-in_ok-convert_name-in-Gives-clause-leads : goal.returns-in_ok-convert_name-in-Gives-clause-leads
-returns-in_ok-convert_name-in-Gives-clause-leads c =
-    goes_on _ _ _ _ _ c.in_ok-thrown.ensures _ _ _ c.in-Gives.is
-    (works_of _ (λ v. to_string v >>= λ x. define_by (use_of.One c.in-Gives.object x)
-    (argument (call_of c.args.call.now) 2)) _ _ _ _ c.in_ok-name.ensures
-    (works_of _ (λ d. to_string c.in_ok-name.name >>= λ x. define_by (use_of.One c.in-Gives.object x) d) _ _ _ _
-    c.in_ok-descriptor.ensures
-    (c.in_ok-convert_name-in-Gives.ensures.leads)))
+pub returns-in-Gives-clause-leads : goal.returns-in-Gives-clause-leads
+returns-in-Gives-clause-leads c =
+    IfOk-weaker _ _ _ (λ a leads. goes_on _ _ _ _ _ c.in_ok-thrown.ensures _ _ _ c.in-Gives.is (works_of _ (λ v.
+    to_string v >>= λ x. define_by (use_of.One c.in-Gives.object x) (argument (call_of c.args.call.now) 2)) _ _ _ _
+    c.in_ok-name.ensures (works_of _ (λ d. to_string c.in_ok-name.name >>= λ x. define_by
+    (use_of.One c.in-Gives.object x) d) _ _ _ _ c.in_ok-descriptor.ensures leads))) c.convert_name.ensures.leads

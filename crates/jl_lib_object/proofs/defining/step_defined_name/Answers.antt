@@ -1,3 +1,4 @@
+use Rattle.std.proofs.lemmas.Result.{IfOk-weaker}
 use Rattle.jl_progress.specs.declared.object.DescriptorUse.TheVariants as use_of
 use Rattle.jl_lib_object.specs.inner.Parts.{define_by}
 use Rattle.jl_lib_object.proofs.Ends.{works_of}
@@ -5,5 +6,5 @@ use Rattle.jl_lib_object.proofs.defining.step_defined_name.Goals as goal
 
 pub returns-clause-leads : goal.returns-clause-leads
 returns-clause-leads c =
-    works_of _ (λ x. define_by (use_of.One c.args.object x) c.args.descriptor.now) _ _ _ _ c.in_ok-name.ensures
-    c.in_ok-step_descriptor.ensures.leads
+    IfOk-weaker _ _ _ (λ a leads. works_of _ (λ x. define_by (use_of.One c.args.object x) c.args.descriptor.now) _ _ _ _
+    c.in_ok-name.ensures leads) c.step_descriptor.ensures.leads

@@ -1,3 +1,4 @@
+use Rattle.std.proofs.lemmas.Result.{IfOk-weaker}
 use Rattle.jl_meaning.specs.Conversions.{to_string}
 use Rattle.jl_meaning.specs.Parts.{◌>>=◌}
 use Rattle.jl_lib_object.specs.inner.Parts.{describe_own}
@@ -7,8 +8,8 @@ use Rattle.jl_lib_object.proofs.describing.object_get_own_property_descriptor.Go
 pub returns-in-Throws-clause-leads : goal.returns-in-Throws-clause-leads
 returns-in-Throws-clause-leads c = throws_on _ _ _ _ _ c.in_ok-thrown.ensures _ c.in-Throws.is
 
-pub returns-in_ok-convert_name-in-Gives-clause-leads : goal.returns-in_ok-convert_name-in-Gives-clause-leads
-returns-in_ok-convert_name-in-Gives-clause-leads c =
-    goes_on _ _ _ _ _ c.in_ok-thrown.ensures _ _ _ c.in-Gives.is
-    (works_of _ (λ v. to_string v >>= describe_own c.in-Gives.object) _ _ _ _ c.in_ok-name.ensures
-    (c.in_ok-convert_name-in-Gives.ensures.leads))
+pub returns-in-Gives-clause-leads : goal.returns-in-Gives-clause-leads
+returns-in-Gives-clause-leads c =
+    IfOk-weaker _ _ _ (λ a leads. goes_on _ _ _ _ _ c.in_ok-thrown.ensures _ _ _ c.in-Gives.is (works_of _
+    (λ v. to_string v >>= describe_own c.in-Gives.object) _ _ _ _ c.in_ok-name.ensures leads))
+    c.convert_name.ensures.leads

@@ -1,3 +1,4 @@
+use Rattle.std.proofs.lemmas.Result.{IfOk-weaker}
 use Rattle.jl_meaning.specs.Parts.{◌>>=◌}
 use Rattle.jl_progress.specs.Objects.{after_descriptor}
 use Rattle.jl_lib_object.specs.inner.Fields.{change_from, next_field}
@@ -13,16 +14,14 @@ returns-in-Throws-clause-leads c =
     (λ ch. change_from (next_field c.args.field) c.args.descriptor ch >>= after_descriptor c.args.purpose)
     _ c.in_ok-thrown.ensures _ c.in-Throws.is)
 
-pub returns-in_ok-read_fields-in-Gives-clause-leads : goal.returns-in_ok-read_fields-in-Gives-clause-leads
-returns-in_ok-read_fields-in-Gives-clause-leads c =
-    field_got c.args.descriptor c.args.change c.args.purpose _ c.args.field c.args.v _ _
-    (goes_on _ _ _
-    (λ ch. change_from (next_field c.args.field) c.args.descriptor ch >>= after_descriptor c.args.purpose)
-    _ c.in_ok-thrown.ensures _ _ _ c.in-Gives.is
-    (next_read _ c.args.field _ c.args.descriptor c.in-Gives.change c.args.purpose _ _ c.next_field-next.ensures
-    c.in_ok-read_fields-in-Gives.ensures.leads))
+pub returns-in-Gives-clause-leads : goal.returns-in-Gives-clause-leads
+returns-in-Gives-clause-leads c =
+    IfOk-weaker _ _ _ (λ a leads. field_got c.args.descriptor c.args.change c.args.purpose _ c.args.field c.args.v _ _
+    (goes_on _ _ _ (λ ch. change_from (next_field c.args.field) c.args.descriptor ch >>= after_descriptor
+    c.args.purpose) _ c.in_ok-thrown.ensures _ _ _ c.in-Gives.is (next_read _ c.args.field _ c.args.descriptor
+    c.in-Gives.change c.args.purpose _ _ c.next_field-next.ensures leads))) c.read_fields.ensures.leads
 
-pub returns-in_ok-read_fields-in-Gives-clause-falls : goal.returns-in_ok-read_fields-in-Gives-clause-falls
-returns-in_ok-read_fields-in-Gives-clause-falls c =
-    falls_after _ _ _ c.args.field c.args.purpose _ c.args.descriptor c.args.change _ c.next_field-next.ensures
-    c.in_ok-read_fields-in-Gives.ensures.falls
+pub returns-in-Gives-clause-falls : goal.returns-in-Gives-clause-falls
+returns-in-Gives-clause-falls c =
+    IfOk-weaker _ _ _ (λ a falls. falls_after _ _ _ c.args.field c.args.purpose c.with_field.new.store c.args.descriptor
+    c.args.change _ c.next_field-next.ensures falls) c.read_fields.ensures.falls

@@ -1,3 +1,4 @@
+use Rattle.std.proofs.lemmas.Result.{IfOk-weaker}
 use Rattle.jl_builtin.proofs.FoundItems.{none_from, some_from}
 use Rattle.jl_lib_object.proofs.Restrictions.{restricted_all, restricts_next}
 use Rattle.jl_lib_object.proofs.integrity.restrict_from.Goals as goal
@@ -10,6 +11,6 @@ returns-in-None-clause-leads c =
 
 pub returns-clause-leads : goal.returns-clause-leads
 returns-clause-leads c =
-    restricts_next _ _ _ _ _ _ _ _ (some_from c.args.from _ _ c.args.names _ _ c.items.ensures
-    c.in_ok-name_from.ensures c.in-Some.is)
-    c.in_ok-restrict_one-in-Some.ensures.leads
+    IfOk-weaker _ _ _ (λ a leads. restricts_next c.args.state.now c.args.integrity c.args.object _ _ _ _ _
+    (some_from c.args.from _ _ c.args.names _ _ c.items.ensures c.in_ok-name_from.ensures c.in-Some.is) leads)
+    c.restrict_one.ensures.leads

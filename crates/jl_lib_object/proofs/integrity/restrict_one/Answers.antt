@@ -1,4 +1,5 @@
 use Rattle.std.proofs.Common.{drop, refl}
+use Rattle.std.proofs.lemmas.Result.{IfOk-weaker}
 use Rattle.jl_value.specs.declared.value.Value.TheVariants as value
 use Rattle.jl_meaning.specs.builtins.Object.{redefine}
 use Rattle.jl_progress.specs.Objects.{restricted_property}
@@ -8,7 +9,7 @@ use Rattle.jl_lib_object.proofs.integrity.restrict_one.Goals as goal
 
 pub returns-clause-leads : goal.returns-clause-leads
 returns-clause-leads c =
-    (c.if-not-spend.ensures.took refl).works _ _ _
-    (uncounted _ (redefine (restricted_property c.args.integrity) c.args.object c.args.name.now) value.Undefined
-    (restrict_and_give c.args.integrity c.args.object (drop c.args.from c.args.names)) _ _
-    (c.in_ok-wait_object.ensures.waits.works _ _ _ c.in_ok-redefine.ensures.leads))
+    IfOk-weaker _ _ _ (λ a leads. (c.if-not-spend.ensures.took refl).works _ _ _ (uncounted _ (redefine
+    (restricted_property c.args.integrity) c.args.object c.args.name.now) value.Undefined (restrict_and_give
+    c.args.integrity c.args.object (drop c.args.from c.args.names)) _ _
+    (c.in_ok-wait_object.ensures.waits.works _ _ _ leads))) c.redefine.ensures.leads

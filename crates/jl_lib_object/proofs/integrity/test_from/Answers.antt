@@ -1,4 +1,5 @@
 use Rattle.std.proofs.Common.{◌∙◌, ap}
+use Rattle.std.proofs.lemmas.Result.{IfOk-weaker}
 use Rattle.std.specs.Prelude.{not, ◌&&◌}
 use Rattle.jl_builtin.proofs.FoundItems.{none_from, some_from}
 use Rattle.jl_lib_object.proofs.Restrictions.{tested_all, tests_next}
@@ -12,6 +13,6 @@ returns-in-None-clause-leads c =
 
 pub returns-clause-leads : goal.returns-clause-leads
 returns-clause-leads c =
-    tests_next _ _ _ _ _ _ _ _ _ (some_from c.args.from _ _ c.args.names _ _ c.items.ensures c.in_ok-name_from.ensures
-    c.in-Some.is)
-    c.in_ok-test_one-in-Some.ensures.leads
+    IfOk-weaker _ _ _ (λ a leads. tests_next c.args.state.now c.args.integrity c.args.object c.args.holds _ _ _ _ _
+    (some_from c.args.from _ _ c.args.names _ _ c.items.ensures c.in_ok-name_from.ensures c.in-Some.is) leads)
+    c.test_one.ensures.leads
