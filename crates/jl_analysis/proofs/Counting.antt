@@ -87,7 +87,8 @@ fold-one : (ids : List OpId) (b : Bool) (id : OpId)
 fold-one ids true id = fold-push [] ids id
 fold-one ids false id = ap (fold add_hit []) (append-nil ids)
 
-plain_operations-push : (ops : List Operation) (x : Operation) → plain_operations (ops ++ x ∷ []) ≡ plain_operations ops ++ x.1 ∷ []
+plain_operations-push : (ops : List Operation) (x : Operation) → plain_operations (ops ++ x ∷ [])
+    ≡ plain_operations ops ++ x.1 ∷ []
 plain_operations-push [] x = refl
 plain_operations-push (y ∷ ops) x = ap (λ l. y.1 ∷ l) (plain_operations-push ops x)
 
@@ -161,7 +162,8 @@ hears rule told id op old new memory hit_now is hit_is new_is memory_is =
 -- where the rule hits
 pub hears_hit : (rule : ℕ) (told : List Operation) (id : OpId) (op : Op) (old new : Counts) (memory : Memory)
     (hit_now : Bool)
-    → hit_now ≡ true → old ≡ (summary rule told).counts → hit_now ≡ hit rule (plain_operations told) op → new ≡ add_hit old id
+    → hit_now ≡ true → old ≡ (summary rule told).counts → hit_now ≡ hit rule (plain_operations told) op
+    → new ≡ add_hit old id
     → memory ≡ memory_of rule (plain_operations told ++ op ∷ [])
     → record { counts = new; memory = memory } ≡ summary rule (told ++ (id, op) ∷ [])
 hears_hit rule told id op old new memory hit_now b is hit_is new_is memory_is =

@@ -104,7 +104,8 @@ object_joined_at : (op : Op) → types.object_joined op ≡ true → is_one_of (
 object_joined_at (ops.Binary op left right given) e = refl
 object_joined_at _ e = absurd (cc)
 
-undefined_key_at : (op : Op) → types.undefined_key op ≡ true → is_one_of (kinds.GetField ∷ kinds.PutField ∷ kinds.DeleteField ∷ []) (kind_of op) ≡ true
+undefined_key_at : (op : Op) → types.undefined_key op ≡ true
+    → is_one_of (kinds.GetField ∷ kinds.PutField ∷ kinds.DeleteField ∷ []) (kind_of op) ≡ true
 undefined_key_at (ops.GetField base name value found) e = refl
 undefined_key_at (ops.PutField base name value found) e = refl
 undefined_key_at (ops.DeleteField base name deleted) e = refl
@@ -114,7 +115,8 @@ put_on_primitive_at : (op : Op) → types.put_on_primitive op ≡ true → is_on
 put_on_primitive_at (ops.PutField base name value found) e = refl
 put_on_primitive_at _ e = absurd (cc)
 
-wrapped_condition_at : (op : Op) → types.wrapped_condition op ≡ true → is_one_of (kinds.Conditional ∷ []) (kind_of op) ≡ true
+wrapped_condition_at : (op : Op) → types.wrapped_condition op ≡ true → is_one_of (kinds.Conditional ∷ []) (kind_of op)
+    ≡ true
 wrapped_condition_at (ops.Conditional value) e = refl
 wrapped_condition_at _ e = absurd (cc)
 
@@ -126,7 +128,8 @@ odd_compare_at : (op : Op) → types.odd_compare op ≡ true → is_one_of (kind
 odd_compare_at (ops.Binary op left right given) e = refl
 odd_compare_at _ e = absurd (cc)
 
-bits_of_nothing_at : (op : Op) → types.bits_of_nothing op ≡ true → is_one_of (kinds.Binary ∷ kinds.Unary ∷ []) (kind_of op) ≡ true
+bits_of_nothing_at : (op : Op) → types.bits_of_nothing op ≡ true
+    → is_one_of (kinds.Binary ∷ kinds.Unary ∷ []) (kind_of op) ≡ true
 bits_of_nothing_at (ops.Binary op left right given) e = refl
 bits_of_nothing_at (ops.Unary op operand given) e = refl
 bits_of_nothing_at _ e = absurd (cc)
@@ -135,7 +138,8 @@ shadow_write_at : (op : Op) → uses.shadow_write op ≡ true → is_one_of (kin
 shadow_write_at (ops.PutField base name value found) e = refl
 shadow_write_at _ e = absurd (cc)
 
-object_prototype_write_at : (op : Op) → uses.object_prototype_write op ≡ true → is_one_of (kinds.PutField ∷ []) (kind_of op) ≡ true
+object_prototype_write_at : (op : Op) → uses.object_prototype_write op ≡ true
+    → is_one_of (kinds.PutField ∷ []) (kind_of op) ≡ true
 object_prototype_write_at (ops.PutField base name value found) e = refl
 object_prototype_write_at _ e = absurd (cc)
 
@@ -329,7 +333,8 @@ passes_at p first (suc count) n l h e =
     by_first (nat_eq first n) refl (λ later. passes_at p (first + 1) count n later (omega arith) e)
   where
     by_first : (b : Bool) → nat_eq first n ≡ b
-        → (first + 1 ≤ n → list_any p (numbers (first + 1) count) ≡ true) → (p first || list_any p (numbers (first + 1) count)) ≡ true
+        → (first + 1 ≤ n → list_any p (numbers (first + 1) count) ≡ true)
+        → (p first || list_any p (numbers (first + 1) count)) ≡ true
     by_first true s rest =
         let same : first ≡ n = grind arith in
         ap (λ m. p m || list_any p (numbers (first + 1) count)) same

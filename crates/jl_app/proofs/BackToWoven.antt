@@ -1,5 +1,6 @@
 -- The text of the woven script is short enough to be read back, and reads back as the woven script.
-use Rattle.std.proofs.Common.{◌≡◌, ◌∙◌, ◌<◌, ◌≤◌, ◌^◌, ap, sym, subst, refl, arith, length, true, false, ℕ, List, Option, None, Some}
+use Rattle.std.proofs.Common.{◌≡◌, ◌∙◌, ◌<◌, ◌≤◌, ◌^◌, ap, sym, subst, refl, arith, length, true, false, ℕ, List}
+use Rattle.std.proofs.Common.{Option, None, Some}
 use Rattle.std.specs.Char.Utf16.{has_unpaired_surrogate}
 use Rattle.std.specs.Prelude.{All}
 use Rattle.jl_ast.specs.Spans.{without_spans}
@@ -77,13 +78,15 @@ small law kinds bytes p is =
     subst (λ t. All (λ u. u < 2 ^ 16) t) (placed_text kinds p)
     (law kinds bytes is.tokens 200 p placed.0 is.decoded is.lexed is.read (omega arith) placed.1)
 
-pub back_to_woven : WovenReadsBack → WovenTextIsBounded → WovenScriptIsBounded → WovenScriptIsSmall → FirstIsReservedName → OneReading → (kinds : Kinds)
+pub back_to_woven : WovenReadsBack → WovenTextIsBounded → WovenScriptIsBounded → WovenScriptIsSmall
+    → FirstIsReservedName → OneReading → (kinds : Kinds)
     (bytes : List ℕ) (p : Program Span) → IsAccepted bytes p → ReadsBackAsWoven kinds p
 back_to_woven reads bounded bytes_bounded units_small keeps one kinds bytes p is =
     let placed = with_places (woven_program kinds p) in
     let within = units_within bytes is.decoded in
     let few = is.short in
-    let printed = reads kinds (units_of bytes) is.tokens 200 1000 p placed.0 is.lexed is.read (omega arith) (omega arith)
+    let printed = reads kinds (units_of bytes) is.tokens 200 1000 p placed.0 is.lexed is.read (omega arith)
+    (omega arith)
     placed.1 in
     let back = printed.back in
     let text = placed_text kinds p in

@@ -1,6 +1,6 @@
 -- The bytes of units of 16 bits are UTF-8.
-use Rattle.std.proofs.Common.{◌≡◌, ◌∙◌, ◌^◌, ◌<◌, ◌≤◌, ◌⊎◌, ◌&&◌, ap, arith, inl, inr, refl, true, ℕ, List, [], ◌∷◌, map}
-use Rattle.std.proofs.Common.{None, Option, Some}
+use Rattle.std.proofs.Common.{◌≡◌, ◌∙◌, ◌^◌, ◌<◌, ◌≤◌, ◌⊎◌, ◌&&◌, ap, arith, inl, inr, refl, true, ℕ, List, [], ◌∷◌}
+use Rattle.std.proofs.Common.{map, None, Option, Some}
 use Rattle.std.proofs.lemmas.Bool.{cases_lt}
 use Rattle.std.proofs.lemmas.List.Elements.{All-head, All-tail}
 use Rattle.std.proofs.lemmas.Str.{utf16_chars-nil, utf16_chars_lone, utf16_chars_pair}

@@ -38,7 +38,8 @@ is_executed {r = r} budget ran answer bytes is st b = (
   st ∙ ap ending_status is.outcome,
   b ∙ ap (λ x. x ++ (uncaught_line r.store.heap r.outcome ++ steps_line r.outcome r.steps)) is.output
       ∙ ap (λ x. (world_of ran).output ++ (uncaught_line x.heap r.outcome ++ steps_line r.outcome r.steps)) is.store
-      ∙ ap (λ x. (world_of ran).output ++ (uncaught_line (world_of ran).store.heap x ++ steps_line x r.steps)) is.outcome
+      ∙ ap (λ x. (world_of ran).output ++ (uncaught_line (world_of ran).store.heap x ++ steps_line x r.steps))
+      is.outcome
       ∙ ap (λ x. (world_of ran).output ++ (uncaught_line (world_of ran).store.heap (ending_of ran)
       ++ steps_line (ending_of ran) x)) is.steps,
 )

@@ -62,7 +62,8 @@ one_more_line units rows i kind span e f =
     ap (slice_get rows) (sym (index i)) ∙ pair_of (slice_get rows (i + 1 - 1)) kind span e f in
     let within = slice_get_within rows i (kind, span) is in
     let long : i ≡ 0 + length (take i rows) = omega (arith, length-take {A = MapRow}) in
-    sym (lines_push units 0 i (take i rows) (kind, span) long) ∙ ap (map_lines units) (sym (one_more rows i (kind, span) is))
+    sym (lines_push units 0 i (take i rows) (kind, span) long)
+    ∙ ap (map_lines units) (sym (one_more rows i (kind, span) is))
 
 -- the same of the places
 pub one_more_place : (rows : List MapRow) (i : ℕ) (span : Span)

@@ -33,7 +33,8 @@ module _ (one : OneReading) (never : NeverBoth) (comes_back : UnitsComeBack) (by
     short = back.few_bytes;
     decoded = bytes_are_utf8 (woven_text every_kind p) back.small;
     tokens = read.tokens;
-    lexed = subst (λ us. Tokens us read.tokens) (sym (comes_back (woven_text every_kind p) back.small back.paired)) read.lexed;
+    lexed = subst (λ us. Tokens us read.tokens) (sym (comes_back (woven_text every_kind p) back.small back.paired))
+    read.lexed;
     read = read.read;
     sound = read.sound;
   }

@@ -84,10 +84,12 @@ of_all_woven set all p = ap (λ chosen. woven_program chosen p) (fun_ext {f = is
 pub same_traced_run : (q : Program Span) (w : Program (Unit {0})) (steps budget : ℕ) {answer : Status} {bytes : List ℕ}
     → steps ≡ woven_budget budget
     → program_run q (woven_budget budget) ≡ program_run w (woven_budget budget)
-    → (answer ≡ (trace_due (program_run q steps) steps).status) × (bytes ≡ (trace_due (program_run q steps) steps).bytes)
+    → (answer ≡ (trace_due (program_run q steps) steps).status)
+    × (bytes ≡ (trace_due (program_run q steps) steps).bytes)
     → (answer ≡ (trace_due (program_run w (woven_budget budget)) (woven_budget budget)).status)
     × (bytes ≡ (trace_due (program_run w (woven_budget budget)) (woven_budget budget)).bytes)
 same_traced_run q w steps budget is same answered =
-    let run : trace_due (program_run q steps) steps ≡ trace_due (program_run w (woven_budget budget)) (woven_budget budget) =
+    let run : trace_due (program_run q steps) steps
+    ≡ trace_due (program_run w (woven_budget budget)) (woven_budget budget) =
     ap (λ n. trace_due (program_run q n) n) is ∙ ap (λ r. trace_due r (woven_budget budget)) same in
     (answered.0 ∙ ap (λ (d : Due). d.status) run, answered.1 ∙ ap (λ (d : Due). d.bytes) run)

@@ -1,4 +1,5 @@
--- A fold whose nodes look at no places gives the same of a tree whose places are renamed, and one whose nodes look at no
+-- A fold whose nodes look at no places gives the same of a tree whose places are renamed, and one whose nodes look at
+-- no
 -- numbers of functions the same of a tree that is numbered anew.
 use Rattle.std.proofs.Common.{◌≡◌, ℕ, ◌+◌, ap, ◌∙◌, refl}
 use Rattle.jl_ast.specs.Tree.{Sort, Tree, Forest, OptionalTree, this, name, number, string, boolean, null, array}

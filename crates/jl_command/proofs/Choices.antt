@@ -109,7 +109,8 @@ pub refused_turn : (r : Option RuleSet) (chosen text front back : List ℕ) → 
 refused_turn r chosen text front back is rest within none refused =
     subst (λ x. BothOrNeither IsChoice x (with_names chosen (slice_split (λ b. b == 44) text))) (sym none)
     (subst (λ o. BothOrNeither IsChoice None o) (sym (names_turn chosen text front back is rest within
-    ∙ ap (option_and_then (λ more. with_names more (slice_split (λ b. b == 44) back))) (neither IsChoice _ refused))) tt)
+    ∙ ap (option_and_then (λ more. with_names more (slice_split (λ b. b == 44) back))) (neither IsChoice _ refused)))
+    tt)
 
 -- and those of the rest otherwise
 pub taken_turn : (r : Option RuleSet) (set : RuleSet) (chosen text front back : List ℕ)

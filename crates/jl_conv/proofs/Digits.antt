@@ -21,7 +21,8 @@ digits_short (suc places) n (suc k) h =
     (λ above.
     let less : n / 10 < 10 ^ suc k = div_below n 10 (10 ^ suc k) (omega arith) (omega (arith, pow-suc 10 (suc k))) in
     let front = digits_short places (n / 10) k less in
-    let all = ap length (more_digits 10 places n above) ∙ length-append (digits_within 10 places (n / 10)) (last_digit 10 n) in
+    let all = ap length (more_digits 10 places n above)
+    ∙ length-append (digits_within 10 places (n / 10)) (last_digit 10 n) in
     omega arith)
     (cases_lt n 10)
 
@@ -33,4 +34,5 @@ pub number_short : (n : Number) → IsNumber n → length (number_text n 10) ≤
 number_short None h = omega arith
 number_short (Some z) h =
     let small = small_size z h in
-    signed_short (int_lt z (pos 0)) (digits_of 10 (unsigned_abs z)) (digits_short (unsigned_abs z + 1) (unsigned_abs z) 15 (omega arith))
+    signed_short (int_lt z (pos 0)) (digits_of 10 (unsigned_abs z))
+    (digits_short (unsigned_abs z + 1) (unsigned_abs z) 15 (omega arith))

@@ -26,7 +26,8 @@ use Rattle.jl_conv.proofs.ReadBack.{no_letter, no_point, all_before, nothing_aft
 
 -- ---- rows of digits
 
-many_row : {p : ℕ → Bool} {us ds rest : List ℕ} → Many (OneUnit p) us ds rest → (us ≡ ds ++ rest) × (list_all p ds ≡ true)
+many_row : {p : ℕ → Bool} {us ds rest : List ℕ} → Many (OneUnit p) us ds rest → (us ≡ ds ++ rest)
+    × (list_all p ds ≡ true)
 many_row no_more = (refl, refl)
 many_row (one_more {a = u} (unit t) m) = let x = many_row m in (ap (λ vs. u ∷ vs) x.0, rw t x.1)
 
@@ -48,7 +49,8 @@ digits_row (elements.digits {d = u} (unit t) m) =
 
 data Tail (mid : List ℕ) (r l : ℕ) : Type 0 where
   empty : mid ≡ [] → r ≡ 0 → l ≡ 0 → Tail mid r l
-  letter : (e : ℕ) (us : List ℕ) → mid ≡ e ∷ us → is_exponent_letter e ≡ true → exponent_of us ≡ Some (r, l) → Tail mid r l
+  letter : (e : ℕ) (us : List ℕ) → mid ≡ e ∷ us → is_exponent_letter e ≡ true → exponent_of us ≡ Some (r, l)
+      → Tail mid r l
 
 whole_row : {p : ℕ → Bool} {us ds : List ℕ} → Digits p us ds [] → (us ≡ ds) × (are_digits p us ≡ true)
 whole_row {p = p} {us = us} {ds = ds} d =
@@ -120,7 +122,8 @@ after_significand sig mid r l none (letter e us m h x) =
     let at = first_split is_exponent_letter sig us e none h in (
       ap significand is ∙ before_split is_exponent_letter sig us e h at,
       ap exponent_part is
-          ∙ rw (any_split is_exponent_letter sig us e h at) (ap exponent_of (after_split is_exponent_letter sig us e h at) ∙ x),
+          ∙ rw (any_split is_exponent_letter sig us e h at)
+          (ap exponent_of (after_split is_exponent_letter sig us e h at) ∙ x),
     )
 
 decimal_parts : (negative : Bool) (us sig mid ws fs : List ℕ) (r l : ℕ) → us ≡ sig ++ mid
@@ -169,7 +172,8 @@ unsigned_value negative {us = us} {r = r} {l = l} (whole {mid = mid} {ds = ds} d
     (both_parts ds [] row.all refl row.some) (tail_of x) (finite_digits us ds mid row.is row.all row.some)
     ∙ ap (λ v. exact_value negative (decimal_from 0 v) r (0 + l)) (append-nil ds)
     ∙ ap (λ k. exact_value negative (decimal_from 0 ds) r k) none
-unsigned_value negative {us = us} {r = r} {l = _} (with_point {mid = mid} {ds = ds} {fs = fs} {end = end} {l = l} d m x) =
+unsigned_value negative {us = us} {r = r} {l = _} (with_point {mid = mid} {ds = ds} {fs = fs} {end = end} {l = l} d m
+    x) =
     let row = digits_row d in
     let f = many_row m in
     let is : us ≡ (ds ++ 46 ∷ fs) ++ end =

@@ -70,7 +70,8 @@ exponent_sound : (e : ℕ) (us : List ℕ) (r l : ℕ) → is_exponent_letter e 
 exponent_sound e [] r l h is = absurd cc
 exponent_sound e (u ∷ us) r l h is = by (true_or_false (u == 43)) (true_or_false (u == 45))
   where
-    by : ((u == 43) ≡ true) ⊎ ((u == 43) ≡ false) → ((u == 45) ≡ true) ⊎ ((u == 45) ≡ false) → Exponent (e ∷ u ∷ us) r l []
+    by : ((u == 43) ≡ true) ⊎ ((u == 43) ≡ false) → ((u == 45) ≡ true) ⊎ ((u == 45) ≡ false)
+        → Exponent (e ∷ u ∷ us) r l []
     by (inl a) b =
         let x = raises_sound us r l (rw a at is) in
         subst (λ v. Exponent (e ∷ v ∷ us) r l []) (sym (is_unit u 43 a))
@@ -115,7 +116,8 @@ ended us r l e = by (true_or_false (list_any is_exponent_letter us))
         let y = some_pair x in
         record {
           mid = [];
-          is = sym (append-nil (significand us) ∙ all_before is_exponent_letter us (none_position is_exponent_letter us h));
+          is = sym (append-nil (significand us)
+          ∙ all_before is_exponent_letter us (none_position is_exponent_letter us h));
           exponent = powers_are [] 0 0 r l y.0 y.1 no_exponent;
         }
 
@@ -152,7 +154,8 @@ pointed us sig mid (w ∷ ws) fs r l is x split h =
       r = r;
       l = length fs + l;
       reads = subst (λ v. Unsigned v (decimal_from 0 ((w ∷ ws) ++ fs)) r (length fs + l)) (sym all)
-          (with_point (row_digits is_digit (w ∷ ws) (46 ∷ (fs ++ mid)) a.0 (omega arith)) (row_many is_digit fs mid a.1) x);
+          (with_point (row_digits is_digit (w ∷ ws) (46 ∷ (fs ++ mid)) a.0 (omega arith)) (row_many is_digit fs mid a.1)
+          x);
     }
 
 unpointed : (us sig mid : List ℕ) (r l : ℕ) → us ≡ sig ++ mid → Exponent mid r l [] → are_digits is_digit sig ≡ true
@@ -244,10 +247,12 @@ hexadecimal_literal (x ∷ us) h n = by (true_or_false (are_digits is_hex_digit 
 is_literal : (us : List ℕ) → literal_number us ≢ Some None → us ≢ [] → Literal us (literal_number us)
 is_literal [] n some = absurd (some refl)
 is_literal (u ∷ us) n some =
-    by (true_or_false (u == 43)) (true_or_false (u == 45)) (true_or_false (u == 48 && first_is is_hexadecimal_letter us))
+    by (true_or_false (u == 43)) (true_or_false (u == 45))
+    (true_or_false (u == 48 && first_is is_hexadecimal_letter us))
   where
     by : ((u == 43) ≡ true) ⊎ ((u == 43) ≡ false) → ((u == 45) ≡ true) ⊎ ((u == 45) ≡ false)
-        → ((u == 48 && first_is is_hexadecimal_letter us) ≡ true) ⊎ ((u == 48 && first_is is_hexadecimal_letter us) ≡ false)
+        → ((u == 48 && first_is is_hexadecimal_letter us) ≡ true)
+        ⊎ ((u == 48 && first_is is_hexadecimal_letter us) ≡ false)
         → Literal (u ∷ us) (literal_number (u ∷ us))
     by (inl a) b c =
         rw a (subst (λ v. Literal (v ∷ us) (decimal_number false us)) (sym (is_unit u 43 a))

@@ -66,7 +66,8 @@ some_within places n =
     ⊎_elim
     (λ below. omega (arith, ap length (one_digit 10 places n below)))
     (λ above.
-    let all = ap length (more_digits 10 places n above) ∙ length-append (digits_within 10 places (n / 10)) (last_digit 10 n) in
+    let all = ap length (more_digits 10 places n above)
+    ∙ length-append (digits_within 10 places (n / 10)) (last_digit 10 n) in
     omega arith)
     (cases_lt n 10)
 
@@ -120,15 +121,18 @@ decimal_digits : (negative : Bool) (ds : List ℕ) → list_all is_digit ds ≡ 
     → decimal_number negative ds ≡ Some (Some (with_sign negative (decimal_from 0 ds)))
 decimal_digits negative ds all some small =
     let whole : whole_part ds ≡ ds =
-    ap (before_first is_point) (all_before is_exponent_letter ds (no_letter ds all)) ∙ all_before is_point ds (no_point ds all) in
+    ap (before_first is_point) (all_before is_exponent_letter ds (no_letter ds all))
+    ∙ all_before is_point ds (no_point ds all) in
     let fraction : fraction_part ds ≡ [] =
-    ap (after_first is_point) (all_before is_exponent_letter ds (no_letter ds all)) ∙ nothing_after is_point ds (no_point ds all) in
+    ap (after_first is_point) (all_before is_exponent_letter ds (no_letter ds all))
+    ∙ nothing_after is_point ds (no_point ds all) in
     let exponent : exponent_part ds ≡ Some (0, 0) = rw (none_passes is_exponent_letter ds (no_letter ds all)) refl in
     rw (not_infinity ds all some)
     (ap (λ us. parts_number negative us (fraction_part ds) (exponent_part ds)) whole
     ∙ ap (λ us. parts_number negative ds us (exponent_part ds)) fraction
     ∙ ap (parts_number negative ds []) exponent
-    ∙ ap (λ us. if are_digits is_digit us then exact_value negative (decimal_from 0 us) 0 0 else Some None) (append-nil ds)
+    ∙ ap (λ us. if are_digits is_digit us then exact_value negative (decimal_from 0 us) 0 0 else Some None)
+    (append-nil ds)
     ∙ rw (digits_alone ds all some) (value_is negative (decimal_from 0 ds) 0 0 (decimal_from 0 ds) refl small))
 
 no_hexadecimal : (d : ℕ) (ds : List ℕ) → list_all is_digit (d ∷ ds) ≡ true
@@ -138,7 +142,8 @@ no_hexadecimal d [] all = never (d == 48)
     never : (b : Bool) → (b && false) ≡ false
     never true = refl
     never false = refl
-no_hexadecimal d (e ∷ ds) all = rw ((digits e (passes_at is_digit (d ∷ e ∷ ds) 1 all (omega arith))).x_mark) (never (d == 48))
+no_hexadecimal d (e ∷ ds) all =
+    rw ((digits e (passes_at is_digit (d ∷ e ∷ ds) 1 all (omega arith))).x_mark) (never (d == 48))
   where
     never : (b : Bool) → (b && false) ≡ false
     never true = refl

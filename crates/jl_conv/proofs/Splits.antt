@@ -13,7 +13,8 @@ pub found : (p : ℕ → Bool) (xs : List ℕ) (i : ℕ)
     → (position_or_len p xs ≡ i) × (i < length xs)
 found p xs i e = by_test (nat_lt (position_or_len p xs) (length xs)) refl e
   where
-    by_test : (t : Bool) → nat_lt (position_or_len p xs) (length xs) ≡ t → cond t (Some (position_or_len p xs)) None ≡ Some i
+    by_test : (t : Bool) → nat_lt (position_or_len p xs) (length xs) ≡ t → cond t (Some (position_or_len p xs)) None
+        ≡ Some i
         → (position_or_len p xs ≡ i) × (i < length xs)
     by_test true h e = let is : position_or_len p xs ≡ i = cc in (is, grind (arith, nat_tests))
     by_test false h e = absurd cc
@@ -23,7 +24,8 @@ pub not_found : (p : ℕ → Bool) (xs : List ℕ)
     → position_or_len p xs ≡ length xs
 not_found p xs e = by_test (nat_lt (position_or_len p xs) (length xs)) refl e
   where
-    by_test : (t : Bool) → nat_lt (position_or_len p xs) (length xs) ≡ t → cond t (Some (position_or_len p xs)) None ≡ None
+    by_test : (t : Bool) → nat_lt (position_or_len p xs) (length xs) ≡ t → cond t (Some (position_or_len p xs)) None
+        ≡ None
         → position_or_len p xs ≡ length xs
     by_test true h e = absurd cc
     by_test false h e =

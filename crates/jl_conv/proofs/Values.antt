@@ -23,8 +23,8 @@ use Rattle.jl_token.specs.Characters.{is_digit, decimal_from}
 use Rattle.jl_conv.specs.declared.decimal.Exponent.{Exponent}
 use Rattle.jl_conv.specs.Numerals.{are_digits, raises, lowers, is_exponent_letter, exponent_of, exponent_part}
 use Rattle.jl_conv.specs.Numerals.{whole_part, fraction_part, parts_number, decimal_number}
-use Rattle.jl_conv.specs.inner.Amounts.{Agree, equal, reached, Sized, known, high, low, IsExponent, Powers, exactly, above}
-use Rattle.jl_conv.specs.inner.Amounts.{below}
+use Rattle.jl_conv.specs.inner.Amounts.{Agree, equal, reached, Sized, known, high, low, IsExponent, Powers, exactly}
+use Rattle.jl_conv.specs.inner.Amounts.{above, below}
 
 not_zero : (l : ℕ) → pos (10 ^ l) ≢ pos 0
 not_zero l e = let h = ten_pos l in let is : 10 ^ l ≡ 0 = ap unsigned_abs e in absurd (omega arith)
@@ -103,7 +103,8 @@ no_digits negative z m r l (exact h e p) =
     zero_signed true = refl
 no_digits negative z m r l (beyond h g) = absurd (omega arith)
 
-pub many_digits : (negative : Bool) (c z m r l : ℕ) → 9007199254740991 < c → Stands c z m → exact_value negative m r l ≡ None
+pub many_digits : (negative : Bool) (c z m r l : ℕ) → 9007199254740991 < c → Stands c z m → exact_value negative m r l
+    ≡ None
 many_digits negative c z m r l h (exact i e p) = absurd (omega arith)
 many_digits negative c z m r l h (beyond i g) =
     no_value negative m r l (λ n e inside.
@@ -119,7 +120,8 @@ meant c z m r l n some h (exact i e p) is = whole_value c z r l n (λ g. some (p
 meant c z m r l n some h (beyond i g) is = absurd (omega arith)
 
 pub fraction : (negative : Bool) (c z m r' l' r l total : ℕ) → ¬ (c ≡ 0) → c ≤ 9007199254740991 → r' < 2 ^ 64
-    → total ≡ min (z + r') (2 ^ 64 - 1) → total < l' → Stands c z m → Powers z r' l' r l → exact_value negative m r l ≡ None
+    → total ≡ min (z + r') (2 ^ 64 - 1) → total < l' → Stands c z m → Powers z r' l' r l → exact_value negative m r l
+    ≡ None
 fraction negative c z m r' l' r l total some h fits is under_it s p =
     no_value negative m r l (λ n e inside.
     let w = meant c z m r l n some h s e in let order = w.0 in absurd (under p order))
@@ -254,5 +256,6 @@ literal negative units whole fraction e c z lower result finite is_whole is_frac
     ∙ sym (rw finite refl)
   where
     parts : are_digits is_digit (whole ++ fraction) ≡ true
-        → parts_number negative whole fraction (Some x.0) ≡ exact_value negative (decimal_from 0 (whole ++ fraction)) x.0.0 (length fraction + x.0.1)
+        → parts_number negative whole fraction (Some x.0) ≡ exact_value negative (decimal_from 0 (whole ++ fraction))
+        x.0.0 (length fraction + x.0.1)
     parts h = rw h refl

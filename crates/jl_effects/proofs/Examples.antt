@@ -159,7 +159,8 @@ job_of u = job u
 
 calls_follow : CallsFollow counter any (IsWithin any) (λ c. c) own_call hooked_call
 calls_follow k v n =
-    follows counter any (ArePaired (λ u. u) (λ u. u)) own_call hooked_call calls_match n (calls_begin k v.store) v.output
+    follows counter any (ArePaired (λ u. u) (λ u. u)) own_call hooked_call calls_match n (calls_begin k v.store)
+    v.output
     v.operations v.hooks
   where
     calls_begin : (k : Unit {0}) (s : ℕ)
@@ -168,4 +169,5 @@ calls_follow k v n =
 
 row_follows_calls : PartFollows counter any (IsWithin any) own_call hooked_call (row (λ c. c) of_row adds_one)
 row_follows_calls =
-    row_follows counter any (IsWithin any) (within_prefixed any) (λ c. c) of_row own_call hooked_call calls_follow adds_one
+    row_follows counter any (IsWithin any) (within_prefixed any) (λ c. c) of_row own_call hooked_call calls_follow
+    adds_one

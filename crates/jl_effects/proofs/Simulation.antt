@@ -47,7 +47,8 @@ module _ {S F O A : Type 0} (kept : O → Bool) (m : ℕ) where
   no_fewer (second_cut h) over = absurd over
   no_fewer (both_cut h) over = absurd over
 
-  not_many_more : {r q : Outcome S F O A} → Beside kept m r q → IsOver q → steps_taken m q ≤ step_bound (steps_taken m r)
+  not_many_more : {r q : Outcome S F O A} → Beside kept m r q → IsOver q
+      → steps_taken m q ≤ step_bound (steps_taken m r)
   not_many_more (both_over low high) over = high
   not_many_more (second_cut h) over = absurd over
   not_many_more (both_cut h) over = absurd over

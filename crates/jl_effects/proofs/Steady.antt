@@ -44,7 +44,8 @@ module _ {S C F J R I : Type 0} (apply : C → S → S) (Keeps : S → S → Typ
   module _ {E K A : Type 0} (call : K → J) (fault : E → F) (named : (k : K) → (i : I) × (job_of i ≡ call k))
       (faults : (e : E) → IsAllowed (fault e)) (changes : (c : C) (s : S) → Keeps s (apply c s))
       (on : (s t u : S) → Keeps s t → Keeps t u → Keeps s u) (s : S) where
-    row_from : (O : Type 0) (p : Row S C E K R A) (t : S) → Keeps s t → Steady {O = O} t (λ a u. Keeps s u) (row call fault p)
+    row_from : (O : Type 0) (p : Row S C E K R A) (t : S) → Keeps s t
+        → Steady {O = O} t (λ a u. Keeps s u) (row call fault p)
     row_from O (End a) t h = h
     row_from O (Fail e) t h = faults e
     row_from O (Step p) t h = row_from O p t h

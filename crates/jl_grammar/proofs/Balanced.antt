@@ -125,7 +125,8 @@ mutual
   postfix_closes (left a b) = let ra = left_closes a in omega arith
   postfix_closes (a_postfix a b c d) = let ra = left_closes a in let rc = after_update c in omega arith
 
-  pub unary_closes : {ts : List Token} {i : ℕ} {t : Expr} {j : ℕ} → ReadsUnary ts i t j → open_brackets ts j ≡ open_brackets ts i
+  pub unary_closes : {ts : List Token} {i : ℕ} {t : Expr} {j : ℕ} → ReadsUnary ts i t j
+      → open_brackets ts j ≡ open_brackets ts i
   unary_closes (postfix a) = let ra = postfix_closes a in omega arith
   unary_closes (a_prefix a b) = let ra = after_prefix a in let rb = unary_closes b in omega arith
   unary_closes (an_update a b c) = let ra = after_update a in let rb = left_closes b in omega arith
@@ -134,7 +135,8 @@ mutual
       → BeginsBinary ts no_in l i t j → open_brackets ts j ≡ open_brackets ts i
   begins_binary_closes (operand a) = let ra = unary_closes a in omega arith
   begins_binary_closes (tighter a) = let ra = binary_closes a in omega arith
-  begins_binary_closes (an_infix_operator a b c d) = let ra = begins_binary_closes a in let rb = after_infix_operator b in
+  begins_binary_closes (an_infix_operator a b c d) = let ra = begins_binary_closes a in
+      let rb = after_infix_operator b in
       let rd = binary_closes d in omega arith
 
   pub binary_closes : {ts : List Token} {no_in : Bool} {l i : ℕ} {t : Expr} {j : ℕ} → ReadsBinary ts no_in l i t j
@@ -209,7 +211,8 @@ mutual
       let rd = after d in let re = block_closes e in omega arith
   statement_closes (a_debugger a b) = let ra = after a in let rb = ends_at_closes b in omega arith
 
-  pub block_closes : {ts : List Token} {i : ℕ} {t : Stmts} {j : ℕ} → ReadsBlock ts i t j → open_brackets ts j ≡ open_brackets ts i
+  pub block_closes : {ts : List Token} {i : ℕ} {t : Stmts} {j : ℕ} → ReadsBlock ts i t j
+      → open_brackets ts j ≡ open_brackets ts i
   block_closes (in_braces a b c) = let ra = after a in let rb = statements_closes b in let rc = after c in omega arith
 
   pub statements_closes : {ts : List Token} {i : ℕ} {t : Stmts} {j : ℕ} → ReadsStatements ts i t j
@@ -217,11 +220,13 @@ mutual
   statements_closes (no_statements a) = refl
   statements_closes (more_statements a b) = let ra = statement_closes a in let rb = statements_closes b in omega arith
 
-  pub sub_closes : {ts : List Token} {i : ℕ} {t : Stmts} {j : ℕ} → ReadsSub ts i t j → open_brackets ts j ≡ open_brackets ts i
+  pub sub_closes : {ts : List Token} {i : ℕ} {t : Stmts} {j : ℕ} → ReadsSub ts i t j
+      → open_brackets ts j ≡ open_brackets ts i
   sub_closes (several a) = let ra = block_closes a in omega arith
   sub_closes (alone a b) = let rb = statement_closes b in omega arith
 
-  pub head_closes : {ts : List Token} {i : ℕ} {t : Expr} {j : ℕ} → ReadsHead ts i t j → open_brackets ts j ≡ open_brackets ts i
+  pub head_closes : {ts : List Token} {i : ℕ} {t : Expr} {j : ℕ} → ReadsHead ts i t j
+      → open_brackets ts j ≡ open_brackets ts i
   head_closes (a_head a b c) = let ra = after a in let rb = expression_closes b in let rc = after c in omega arith
 
   pub declaration_closes : {ts : List Token} {no_in : Bool} {i : ℕ} {t : Tree Span tree.decl} {j : ℕ}
@@ -242,7 +247,8 @@ mutual
   init_closes (an_init a) = let ra = expression_closes a in omega arith
   init_closes (init_vars a b) = let ra = after a in let rb = declarations_closes b in omega arith
 
-  pub optional_closes : {ts : List Token} {k : Terminal} {i : ℕ} {t : OptionalTree Span tree.expr} {j : ℕ} → ReadsOptional ts k i t j
+  pub optional_closes : {ts : List Token} {k : Terminal} {i : ℕ} {t : OptionalTree Span tree.expr} {j : ℕ}
+      → ReadsOptional ts k i t j
       → open_brackets ts j ≡ open_brackets ts i
   optional_closes (no_expression a) = refl
   optional_closes (one_expression a) = let ra = expression_closes a in omega arith
@@ -271,7 +277,8 @@ mutual
   function_closes (a_declared_function a b c) = let ra = after a in let rb = after_identifier b in
       let rc = rest_closes c in omega arith
 
-  pub body_closes : {ts : List Token} {i : ℕ} {t : Code} {j : ℕ} → ReadsBody ts i t j → open_brackets ts j ≡ open_brackets ts i
+  pub body_closes : {ts : List Token} {i : ℕ} {t : Code} {j : ℕ} → ReadsBody ts i t j
+      → open_brackets ts j ≡ open_brackets ts i
   body_closes (a_directive a b c d) = let ra = after a in let rc = ends_at_closes c in let rd = body_closes d in
       omega arith
   body_closes (no_directive a b) = let rb = elements_closes b in omega arith

@@ -108,7 +108,8 @@ ends_at_label {ts} {i} (there e) = ap (λ k. is_identifier k && not (line_at ts 
 ends_at_label {ts} {i} (inserted e f) = no_label (terminal_at ts i) (line_at ts i) f
 
 -- a statement that begins neither with a label nor with what bars one is an expression
-expresses : (ts : List Token) (d : Deeper) (i : ℕ) (k : Terminal) → begins_expression k ≡ true → bars_expression k ≡ false
+expresses : (ts : List Token) (d : Deeper) (i : ℕ) (k : Terminal) → begins_expression k ≡ true
+    → bars_expression k ≡ false
     → is_identifier k ≡ false → statement_by ts d i k ≡ express_at ts d i
 unfolding statement_by
 expresses ts d i (terminals.Punct puncts.LeftBrace) b h e = cc
@@ -150,7 +151,8 @@ module _ (ts : List Token) (cap : ℕ) (wide : (i : ℕ) → open_brackets ts i 
   fit f i h m = let w = wide i in let r = room_is ts cap f i in omega arith
 
   mutual
-    primary_complete : {i j : ℕ} {t : Expr} → ReadsPrimary ts i t j → (f : ℕ) → height t + cap ≤ suc (f + open_brackets ts i)
+    primary_complete : {i j : ℕ} {t : Expr} → ReadsPrimary ts i t j → (f : ℕ)
+        → height t + cap ≤ suc (f + open_brackets ts i)
         → primary_at ts (deeper ts cap f) i ≡ Some (t, j)
     primary_complete {i} (a_this a) f m = expressions.this_step ts (deeper ts cap f) i a
     primary_complete {i} (a_name a) f m = expressions.name_step ts (deeper ts cap f) i a
@@ -161,7 +163,8 @@ module _ (ts : List Token) (cap : ℕ) (wide : (i : ℕ) → open_brackets ts i 
     primary_complete {i} (a_string a) f m = expressions.string_step ts (deeper ts cap f) i a
     primary_complete {i} {j} (an_array {xs = xs} a b) f m =
         let p = after a in let w = items_within b in
-        expressions.array_step ts (deeper ts cap f) i j xs a (items_complete b f (omega arith) (length ts) (omega arith)) (fit f i _ m)
+        expressions.array_step ts (deeper ts cap f) i j xs a
+        (items_complete b f (omega arith) (length ts) (omega arith)) (fit f i _ m)
     primary_complete {i} {j} (an_object {xs = xs} a b) f m =
         let p = after a in let w = entries_within b in
         expressions.object_step ts (deeper ts cap f) i j xs a
@@ -177,10 +180,12 @@ module _ (ts : List Token) (cap : ℕ) (wide : (i : ℕ) → open_brackets ts i 
         (rest_complete b f (omega arith)) (fit f i _ m)
     primary_complete {i} {j} (a_named_function {ps = ps} {c = x} a b c) f m =
         let p = after a in let q = after_identifier b in
-        expressions.named_function_step ts (deeper ts cap f) i j ps x a b (rest_complete c f (omega arith)) (fit f i _ m)
+        expressions.named_function_step ts (deeper ts cap f) i j ps x a b (rest_complete c f (omega arith))
+        (fit f i _ m)
 
     items_complete : {i j : ℕ} {t : Forest Span tree.item} → ReadsItems ts i t j → (f : ℕ)
-        → forest_height t + cap ≤ f + open_brackets ts i → (n : ℕ) → j ≤ n + i → items_from ts (deeper ts cap f) n i ≡ Some (t, j)
+        → forest_height t + cap ≤ f + open_brackets ts i → (n : ℕ) → j ≤ n + i → items_from ts (deeper ts cap f) n i
+        ≡ Some (t, j)
     items_complete {i} (no_items a) f m n l = expressions.no_items_step ts (deeper ts cap f) n i a
     items_complete (a_hole a b) f m zero l = let g = items_goes b in absurd (omega arith)
     items_complete {i} {j} (a_hole {xs = xs} a b) f m (suc n) l =
@@ -202,7 +207,8 @@ module _ (ts : List Token) (cap : ℕ) (wide : (i : ℕ) → open_brackets ts i 
         (λ h z. assignment_complete a h (omega arith))) b (items_complete c f (omega arith) n (omega arith))
 
     entries_complete : {i j : ℕ} {t : Forest Span tree.entry} → ReadsEntries ts i t j → (f : ℕ)
-        → forest_height t + cap ≤ f + open_brackets ts i → (n : ℕ) → j ≤ n + i → entries_from ts (deeper ts cap f) n i ≡ Some (t, j)
+        → forest_height t + cap ≤ f + open_brackets ts i → (n : ℕ) → j ≤ n + i → entries_from ts (deeper ts cap f) n i
+        ≡ Some (t, j)
     entries_complete {i} (no_entries a) f m n l = expressions.no_entries_step ts (deeper ts cap f) n i a
     entries_complete (last_entry a b) f m zero l = let g = entry_goes a in absurd (omega arith)
     entries_complete {i} (last_entry {j = j} {t = t} a b) f m (suc n) l =
@@ -245,7 +251,8 @@ module _ (ts : List Token) (cap : ℕ) (wide : (i : ℕ) → open_brackets ts i 
         record {
           parts = f;
           is = expressions.left_step ts (deeper ts cap f) calls f i j t
-              (expressions.primary_start_step ts (deeper ts cap f) i (primary_is_not_new (terminal_at ts i) (primary_starts a))
+              (expressions.primary_start_step ts (deeper ts cap f) i
+              (primary_is_not_new (terminal_at ts i) (primary_starts a))
               ∙ primary_complete a f m);
           enough = omega arith;
         }
@@ -282,7 +289,8 @@ module _ (ts : List Token) (cap : ℕ) (wide : (i : ℕ) → open_brackets ts i 
           parts = f;
           is = expressions.left_step ts (deeper ts cap f) calls f i j
               (tree.new t tree.end (span ts i j)) (expressions.bare_new_start_step ts (deeper ts cap f) i j t a
-              (deeper_member ts cap f (suc i) (Some (t, j)) (omega arith) (λ h z. left_complete b h (omega arith))) c (fit f i _ m));
+              (deeper_member ts cap f (suc i) (Some (t, j)) (omega arith) (λ h z. left_complete b h (omega arith))) c
+              (fit f i _ m));
           enough = omega arith;
         }
 
@@ -319,7 +327,8 @@ module _ (ts : List Token) (cap : ℕ) (wide : (i : ℕ) → open_brackets ts i 
         (λ h z. assignment_complete a h (omega arith))) b
         (argument_list_complete c f (omega arith) n (omega arith))
 
-    postfix_complete : {i j : ℕ} {t : Expr} → ReadsPostfix ts i t j → (f : ℕ) → height t + cap ≤ suc (f + open_brackets ts i)
+    postfix_complete : {i j : ℕ} {t : Expr} → ReadsPostfix ts i t j → (f : ℕ)
+        → height t + cap ≤ suc (f + open_brackets ts i)
         → postfix_at ts (deeper ts cap f) f i ≡ Some (t, j)
     postfix_complete {i} {j} {t} (left a b) f m =
         expressions.no_postfix_step ts (deeper ts cap f) f i j t (left_complete a f m) b
@@ -327,7 +336,8 @@ module _ (ts : List Token) (cap : ℕ) (wide : (i : ℕ) → open_brackets ts i 
         let p = target_height t g b in
         expressions.postfix_step ts (deeper ts cap f) f i j t g up (left_complete a f (omega arith)) b c d (fit f i _ m)
 
-    unary_complete : {i j : ℕ} {t : Expr} → ReadsUnary ts i t j → (f : ℕ) → height t + cap ≤ suc (f + open_brackets ts i)
+    unary_complete : {i j : ℕ} {t : Expr} → ReadsUnary ts i t j → (f : ℕ)
+        → height t + cap ≤ suc (f + open_brackets ts i)
         → unary_at ts (deeper ts cap f) f i ≡ Some (t, j)
     unary_complete {i} {j} {t} (postfix a) f m =
         let s = postfix_starts a in
@@ -336,7 +346,8 @@ module _ (ts : List Token) (cap : ℕ) (wide : (i : ℕ) → open_brackets ts i 
     unary_complete {i} {j} (a_prefix {t = t} {op = op} a b) f m =
         let w = wide i in let p = height_pos t in let q = after_prefix a in
         expressions.prefix_step ts (deeper ts cap f) f i j t op a
-        (deeper_unary ts cap f (suc i) (Some (t, j)) (omega arith) (λ h z. unary_complete b h (omega arith))) (fit f i _ m)
+        (deeper_unary ts cap f (suc i) (Some (t, j)) (omega arith) (λ h z. unary_complete b h (omega arith)))
+        (fit f i _ m)
     unary_complete {i} {j} (an_update {t = t} {g = g} {up = up} a b c) f m =
         let p = target_height t g c in let q = after_update a in
         expressions.update_step ts (deeper ts cap f) f i j t g up (update_is_no_prefix (terminal_at ts i) up a.is) a
@@ -354,7 +365,8 @@ module _ (ts : List Token) (cap : ℕ) (wide : (i : ℕ) → open_brackets ts i 
           enough = omega arith;
         }
     begins_binary_complete (tighter (whole_binary a e)) x f b m = begins_binary_complete a x f (omega arith) m
-    begins_binary_complete {no_in} {i = i} (an_infix_operator {l = l} {j = j} {k = k} {a = u} {b = v} {op = op} a e s c) x f b
+    begins_binary_complete {no_in} {i = i} (an_infix_operator {l = l} {j = j} {k = k} {a = u} {b = v} {op = op} a e s c)
+        x f b
         m =
         let w = wide i in let p = height_pos v in let q = after_infix_operator e in let y = begins_binary_closes a in
         let g = joined_height op u v (span ts i k) in
@@ -429,7 +441,8 @@ module _ (ts : List Token) (cap : ℕ) (wide : (i : ℕ) → open_brackets ts i 
         (deeper_expression ts cap f false (suc i) (Some (t, j)) (omega arith)
         (λ h z. expression_complete b h (omega arith))) c
 
-    block_complete : {i j : ℕ} {t : Stmts} → ReadsBlock ts i t j → (f : ℕ) → forest_height t + cap ≤ f + open_brackets ts i
+    block_complete : {i j : ℕ} {t : Stmts} → ReadsBlock ts i t j → (f : ℕ)
+        → forest_height t + cap ≤ f + open_brackets ts i
         → block_at ts (deeper ts cap f) i ≡ Some (t, j)
     block_complete {i} (in_braces {j = j} {ws = ws} a b c) f m =
         let p = after a in let w = statements_within b in
@@ -481,7 +494,8 @@ module _ (ts : List Token) (cap : ℕ) (wide : (i : ℕ) → open_brackets ts i 
         statements.more_declarations_step ts (deeper ts cap f) no_in n i j k x xs
         (declaration_complete a f (omega arith)) b (declarations_complete c f (omega arith) n (omega arith))
 
-    optional_complete : {k : Terminal} {i j : ℕ} {t : OptionalTree Span tree.expr} → ReadsOptional ts k i t j → (ends : Terminal → Bool)
+    optional_complete : {k : Terminal} {i j : ℕ} {t : OptionalTree Span tree.expr} → ReadsOptional ts k i t j
+        → (ends : Terminal → Bool)
         → ends k ≡ true → ((s : Terminal) → begins_expression s ≡ true → ends s ≡ false) → (f : ℕ)
         → optional_height t + cap ≤ f + open_brackets ts i → optional_at ts (deeper ts cap f) ends i ≡ Some (t, j)
     optional_complete {i = i} (no_expression a) ends e stays f m =
@@ -535,7 +549,8 @@ module _ (ts : List Token) (cap : ℕ) (wide : (i : ℕ) → open_brackets ts i 
         let u = rest_closes c in
         statements.declared_step ts (deeper ts cap f) n i j k ps x fs ws a b
         (deeper_rest ts cap f (suc (suc i)) (Some ((ps, x), j)) (omega arith)
-        (λ h z. rest_complete c h (omega arith))) (elements_complete d f (omega arith) n (omega arith)) (fit f i (height x + 1) (omega arith))
+        (λ h z. rest_complete c h (omega arith))) (elements_complete d f (omega arith) n (omega arith))
+        (fit f i (height x + 1) (omega arith))
     elements_complete (a_statement a b) f m zero l = let g = statement_goes a in let h = elements_goes b in
         absurd (omega arith)
     elements_complete {i} (a_statement {j = j} {k = k} {w = x} {fs = fs} {ws = ws} a b) f m (suc n) l =
@@ -566,7 +581,8 @@ module _ (ts : List Token) (cap : ℕ) (wide : (i : ℕ) → open_brackets ts i 
     statement_complete {i} {j = k} (a_var {j = j} {ds = xs} a b c) f m =
         let p = after a in let w = declarations_within b in
         statements.var_step ts (deeper ts cap f) i j k xs a
-        (declarations_complete b f (omega arith) (length ts) (omega arith)) (statements.ends_step ts j k c) (fit f i _ m)
+        (declarations_complete b f (omega arith) (length ts) (omega arith)) (statements.ends_step ts j k c)
+        (fit f i _ m)
     statement_complete {i} (an_empty a) f m = statements.empty_step ts (deeper ts cap f) i a
     statement_complete {i} {j = k} (an_expression {j = j} {t = t} a b c d) f m =
         let w = wide i in let p = height_pos t in
@@ -596,7 +612,8 @@ module _ (ts : List Token) (cap : ℕ) (wide : (i : ℕ) → open_brackets ts i 
         statements.for_nothing_step ts (deeper ts cap f) i a b c
         ∙ statements.for_from_step ts (deeper ts cap f) i (suc (suc i)) k o n tree.nothing y z ws d
         (optional_complete e is_semicolon refl no_semicolon f (omega arith)) g
-        (optional_complete h is_close_paren refl no_close_paren f (omega arith)) q (sub_complete r f (omega arith)) (fit f i _ m)
+        (optional_complete h is_close_paren refl no_close_paren f (omega arith)) q (sub_complete r f (omega arith))
+        (fit f i _ m)
     statement_complete {i} {j = n} (a_for {j = j} {k = k} {m = o} {b = y} {c = z} {ws = ws} a b
         (an_init {t = t} c) d e g h q r) f m =
         let w = wide (suc (suc i)) in let p = height_pos t in let s = expression_starts c in
@@ -607,7 +624,8 @@ module _ (ts : List Token) (cap : ℕ) (wide : (i : ℕ) → open_brackets ts i 
         (omega arith) (λ h z. expression_complete c h (omega arith))) (ap is_in d.is)
         ∙ statements.for_from_step ts (deeper ts cap f) i j k o n (tree.init_expression t) y z ws d
         (optional_complete e is_semicolon refl no_semicolon f (omega arith)) g
-        (optional_complete h is_close_paren refl no_close_paren f (omega arith)) q (sub_complete r f (omega arith)) (fit f i _ m)
+        (optional_complete h is_close_paren refl no_close_paren f (omega arith)) q (sub_complete r f (omega arith))
+        (fit f i _ m)
     statement_complete {i} {j = n} (a_for {j = j} {k = k} {m = o} {b = y} {c = z} {ws = ws} a b
         (init_vars {ds = xs} v c) d e g h q r) f m =
         let w = declarations_within c in let pv = after v in
@@ -618,7 +636,8 @@ module _ (ts : List Token) (cap : ℕ) (wide : (i : ℕ) → open_brackets ts i 
         (declarations_complete c f (omega arith) (length ts) (omega arith))
         ∙ statements.for_from_step ts (deeper ts cap f) i j k o n (tree.init_var xs) y z ws d
         (optional_complete e is_semicolon refl no_semicolon f (omega arith)) g
-        (optional_complete h is_close_paren refl no_close_paren f (omega arith)) q (sub_complete r f (omega arith)) (fit f i _ m)
+        (optional_complete h is_close_paren refl no_close_paren f (omega arith)) q (sub_complete r f (omega arith))
+        (fit f i _ m)
     statement_complete {i} {j = o} (a_for_in {j = j} {k = k} {x = x} {s = s} {t = t} {ws = ws} a b c d e g h) f m =
         let w = wide (suc (suc i)) in let p = height_pos t in
         let y = left_begins_expression (terminal_at ts (suc (suc i))) (left_starts c) in

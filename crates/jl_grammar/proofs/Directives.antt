@@ -87,7 +87,8 @@ record Expresses (ts : List Token) (i : ℕ) (w : Stmt) (j : ℕ) : Type 0 where
   ends : EndsAt ts end j
   is : w ≡ tree.expression value (span ts i j)
 
-expressed : {ts : List Token} {i j : ℕ} {w : Stmt} → ReadsStatement ts i w j → At ts i terminals.Str → Expresses ts i w j
+expressed : {ts : List Token} {i j : ℕ} {w : Stmt} → ReadsStatement ts i w j → At ts i terminals.Str
+    → Expresses ts i w j
 expressed (a_block a) s = absurd (clash (block_starts a) s refl)
 expressed (a_var a b c) s = absurd (clash a s refl)
 expressed (an_empty a) s = absurd (clash a s refl)

@@ -5,9 +5,9 @@ use Rattle.jl_ast.specs.Tree as tree
 use Rattle.jl_token.specs.declared.punct.Punct.TheVariants as puncts
 use Rattle.jl_grammar.specs.Brackets.{open_brackets}
 use Rattle.jl_grammar.specs.Tokens.{span}
-use Rattle.jl_grammar.specs.Reader.{ends_at, names_from, parameters_at, label_at, then_close_paren, statements_from, block_at}
-use Rattle.jl_grammar.specs.Reader.{elements_from, body_from, rest_at, function_at, items_from, value_at, getter_by}
-use Rattle.jl_grammar.specs.Reader.{setter_by, accessor_at, entry_by, entry_at, entries_from, primary_by}
+use Rattle.jl_grammar.specs.Reader.{ends_at, names_from, parameters_at, label_at, then_close_paren, statements_from}
+use Rattle.jl_grammar.specs.Reader.{block_at, elements_from, body_from, rest_at, function_at, items_from, value_at}
+use Rattle.jl_grammar.specs.Reader.{getter_by, setter_by, accessor_at, entry_by, entry_at, entries_from, primary_by}
 use Rattle.jl_grammar.specs.Reader.{primary_at, arguments_from, arguments_at, new_at, start_at, left_by, left_from}
 use Rattle.jl_grammar.specs.Reader.{left_at, postfix_by, postfix_at, unary_by, unary_at, binary_by, binary_from}
 use Rattle.jl_grammar.specs.Reader.{binary_at, conditional_from, conditional_at, assignment_by, assignment_at}
@@ -41,13 +41,16 @@ pub places :
     (tree.object (tree.forest (tree.getter (named a 4 5)
     (tree.function 0 None [] (tree.body false tree.end tree.end) (from 3 9)) ∷ [])) (from 2 10)) (from 0 10))
     (from 0 10) ∷ [])))))
-unfolding span open_brackets ends_at names_from parameters_at label_at then_close_paren statements_from block_at elements_from
+unfolding span open_brackets ends_at names_from parameters_at label_at then_close_paren statements_from block_at
+    elements_from
     body_from rest_at function_at items_from value_at getter_by setter_by accessor_at entry_by entry_at entries_from
     primary_by primary_at arguments_from arguments_at new_at start_at left_by left_from left_at postfix_by postfix_at
     unary_by unary_at binary_by binary_from binary_at conditional_from conditional_at assignment_by assignment_at
     comma_from expression_at head_at sub_at declaration_at declarations_from var_at express_at else_from if_at do_at
-    while_at optional_at for_from for_in_from for_var_at for_expression_at for_at continue_at break_at return_by return_at
-    throw_at clauses_from switch_at catch_at finally_from try_at named_at statement_by statement_at node deeper program_at
+    while_at optional_at for_from for_in_from for_var_at for_expression_at for_at continue_at break_at return_by
+        return_at
+    throw_at clauses_from switch_at catch_at finally_from try_at named_at statement_by statement_at node deeper
+        program_at
 places = (refl, refl, refl)
 
 -- what is within a limit: as high as it at most, and twice as many brackets open at most
@@ -63,21 +66,28 @@ pub limits :
     -- - a within 3
     × (read_within 3 (terminal puncts.Minus ∷ word a ∷ []) ≡ true)
     -- ((((a)))) within 2: four brackets are open
-    × (read_within 2 (terminal puncts.LeftParen ∷ terminal puncts.LeftParen ∷ terminal puncts.LeftParen ∷ terminal puncts.LeftParen
-    ∷ word a ∷ terminal puncts.RightParen ∷ terminal puncts.RightParen ∷ terminal puncts.RightParen ∷ terminal puncts.RightParen
+    × (read_within 2 (terminal puncts.LeftParen ∷ terminal puncts.LeftParen ∷ terminal puncts.LeftParen
+    ∷ terminal puncts.LeftParen
+    ∷ word a ∷ terminal puncts.RightParen ∷ terminal puncts.RightParen ∷ terminal puncts.RightParen
+    ∷ terminal puncts.RightParen
     ∷ []) ≡ true)
     -- (((((a))))) within 2: five are, which is more than twice the limit
-    × (read_within 2 (terminal puncts.LeftParen ∷ terminal puncts.LeftParen ∷ terminal puncts.LeftParen ∷ terminal puncts.LeftParen
-    ∷ terminal puncts.LeftParen ∷ word a ∷ terminal puncts.RightParen ∷ terminal puncts.RightParen ∷ terminal puncts.RightParen
+    × (read_within 2 (terminal puncts.LeftParen ∷ terminal puncts.LeftParen ∷ terminal puncts.LeftParen
+    ∷ terminal puncts.LeftParen
+    ∷ terminal puncts.LeftParen ∷ word a ∷ terminal puncts.RightParen ∷ terminal puncts.RightParen
+    ∷ terminal puncts.RightParen
     ∷ terminal puncts.RightParen ∷ terminal puncts.RightParen ∷ []) ≡ false)
     -- [[[[[ within 9
     × (read_within 9 (terminal puncts.LeftBracket ∷ terminal puncts.LeftBracket ∷ terminal puncts.LeftBracket
     ∷ terminal puncts.LeftBracket ∷ terminal puncts.LeftBracket ∷ []) ≡ false)
-unfolding span open_brackets ends_at names_from parameters_at label_at then_close_paren statements_from block_at elements_from
+unfolding span open_brackets ends_at names_from parameters_at label_at then_close_paren statements_from block_at
+    elements_from
     body_from rest_at function_at items_from value_at getter_by setter_by accessor_at entry_by entry_at entries_from
     primary_by primary_at arguments_from arguments_at new_at start_at left_by left_from left_at postfix_by postfix_at
     unary_by unary_at binary_by binary_from binary_at conditional_from conditional_at assignment_by assignment_at
     comma_from expression_at head_at sub_at declaration_at declarations_from var_at express_at else_from if_at do_at
-    while_at optional_at for_from for_in_from for_var_at for_expression_at for_at continue_at break_at return_by return_at
-    throw_at clauses_from switch_at catch_at finally_from try_at named_at statement_by statement_at node deeper program_at
+    while_at optional_at for_from for_in_from for_var_at for_expression_at for_at continue_at break_at return_by
+        return_at
+    throw_at clauses_from switch_at catch_at finally_from try_at named_at statement_by statement_at node deeper
+        program_at
 limits = (refl, refl, refl, refl, refl, refl, refl, refl)

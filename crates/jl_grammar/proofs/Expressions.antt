@@ -23,13 +23,13 @@ use Rattle.jl_grammar.specs.Operators.{infix_precedence, infix_precedence_of}
 use Rattle.jl_grammar.specs.Operators.{continues, assign_operator, assigns, unary_operator, update_operator}
 use Rattle.jl_grammar.specs.Reads.{Expr, Exprs, Code, JoinsAt, AssignsAt, PrefixAt, UpdateAt, IsTarget}
 use Rattle.jl_grammar.specs.Tokens.{At, Is, terminal_at, line_at, text_at, number_at, span, ident_at, key_ident_at}
-use Rattle.jl_grammar.specs.Reader.{is_close_paren, is_close_bracket, is_close_brace, is_new, names_from}
-use Rattle.jl_grammar.specs.Reader.{parameters_at, then_close_paren, body_from, rest_at, function_at, items_from, value_at}
-use Rattle.jl_grammar.specs.Reader.{getter_by, setter_by, accessor_at, entry_by, entry_at, entries_from, primary_by}
-use Rattle.jl_grammar.specs.Reader.{primary_at, arguments_from, arguments_at, new_at, start_at, left_by, left_from}
-use Rattle.jl_grammar.specs.Reader.{left_at, postfix_by, postfix_at, unary_by, unary_at, binary_by, binary_from}
-use Rattle.jl_grammar.specs.Reader.{binary_at, conditional_from, conditional_at, assignment_by, assignment_at}
-use Rattle.jl_grammar.specs.Reader.{comma_from, expression_at, node, Read, Deeper}
+use Rattle.jl_grammar.specs.Reader.{is_close_paren, is_close_bracket, is_close_brace, is_new, names_from, parameters_at}
+use Rattle.jl_grammar.specs.Reader.{then_close_paren, body_from, rest_at, function_at, items_from, value_at, getter_by}
+use Rattle.jl_grammar.specs.Reader.{setter_by, accessor_at, entry_by, entry_at, entries_from, primary_by, primary_at}
+use Rattle.jl_grammar.specs.Reader.{arguments_from, arguments_at, new_at, start_at, left_by, left_from, left_at}
+use Rattle.jl_grammar.specs.Reader.{postfix_by, postfix_at, unary_by, unary_at, binary_by, binary_from, binary_at}
+use Rattle.jl_grammar.specs.Reader.{conditional_from, conditional_at, assignment_by, assignment_at, comma_from}
+use Rattle.jl_grammar.specs.Reader.{expression_at, node, Read, Deeper}
 
 -- a infix operator has a looseness, and so at least 1
 pub some_looseness : (o : Option InfixOperator) → nat_le 1 (infix_precedence_of o) ≡ is_some o
@@ -139,7 +139,8 @@ module _ (ts : List Token) (d : Deeper) where
 
   pub named_function_step : (i j : ℕ) (ps : List (Ident Span)) (c : Code) → At ts i (keyword words.Function)
       → Is is_identifier ts (suc i) → rest_at ts d (suc (suc i)) ≡ Some ((ps, c), j)
-      → height (tree.function_expression (tree.function 0 (Some (ident_at ts (suc i))) ps c (span ts i j)) (span ts i j)) ≤ suc (d.room i)
+      → height (tree.function_expression (tree.function 0 (Some (ident_at ts (suc i))) ps c (span ts i j))
+      (span ts i j)) ≤ suc (d.room i)
       → primary_at ts d i ≡ Some (
         tree.function_expression
             (tree.function 0 (Some (ident_at ts (suc i))) ps c (span ts i j)) (span ts i j),
@@ -164,7 +165,8 @@ module _ (ts : List Token) (d : Deeper) where
   unfolding items_from
   last_item_step n i j t a b h e = rw (a, b, h, e.is, items_from)
 
-  pub more_items_step : (n i j k : ℕ) (t : Expr) (xs : Forest Span tree.item) → is_close_bracket (terminal_at ts i) ≡ false
+  pub more_items_step : (n i j k : ℕ) (t : Expr) (xs : Forest Span tree.item) → is_close_bracket (terminal_at ts i)
+      ≡ false
       → is_comma (terminal_at ts i) ≡ false → d.assignment false i ≡ Some (t, j) → At ts j comma
       → items_from ts d n (suc j) ≡ Some (xs, k) → items_from ts d (suc n) i ≡ Some (tree.more (tree.filled t) xs, k)
   unfolding items_from
@@ -205,7 +207,8 @@ module _ (ts : List Token) (d : Deeper) where
   unfolding entry_at entry_by accessor_at getter_by
   getter_step i j c e a f h fits = rw (e.is, entry_at) (rw (a, f.is, h, accessor_at) (fitting _ _ _ _ fits))
 
-  pub setter_step : (i j : ℕ) (p : Ident Span) (c : Code) → At ts i terminals.Set → is_colon (terminal_at ts (suc i)) ≡ false
+  pub setter_step : (i j : ℕ) (p : Ident Span) (c : Code) → At ts i terminals.Set → is_colon (terminal_at ts (suc i))
+      ≡ false
       → Is is_key ts (suc i) → rest_at ts d (suc (suc i)) ≡ Some ((p ∷ [], c), j)
       → height (tree.function 0 None (p ∷ []) c (span ts i j)) ≤ suc (d.room i)
       → entry_at ts d i ≡ Some (
@@ -344,7 +347,8 @@ module _ (ts : List Token) (d : Deeper) where
   unfolding binary_at
   binary_step no_in n m i j t h = rw (h, binary_at)
 
-  pub infix_operator_step : (no_in : Bool) (n m i j k : ℕ) (a b : Expr) (op : InfixOperator) → JoinsAt ts no_in j op → infix_precedence op ≤ m
+  pub infix_operator_step : (no_in : Bool) (n m i j k : ℕ) (a b : Expr) (op : InfixOperator) → JoinsAt ts no_in j op
+      → infix_precedence op ≤ m
       → d.binary no_in (pred (infix_precedence op)) (suc j) ≡ Some (b, k)
       → height (infix_node op a b (span ts i k)) ≤ suc (d.room i)
       → binary_from ts d no_in (suc n) m i a j ≡ binary_from ts d no_in n m i (infix_node op a b (span ts i k)) k
@@ -353,7 +357,8 @@ module _ (ts : List Token) (d : Deeper) where
       rw (e.is, le-leb _ _ l, h, binary_from) (fitting _ _ _ _ fits)
 
   binary_by_stop : (no_in : Bool) (go : Expr → ℕ → Read Expr) (m i j : ℕ) (t : Expr) (o : Option InfixOperator)
-      → (nat_le 1 (infix_precedence_of o) && nat_le (infix_precedence_of o) m) ≡ false → nat_le 1 (infix_precedence_of o) ≡ is_some o
+      → (nat_le 1 (infix_precedence_of o) && nat_le (infix_precedence_of o) m) ≡ false
+      → nat_le 1 (infix_precedence_of o) ≡ is_some o
       → binary_by ts d no_in go m i t j o ≡ Some (t, j)
   unfolding binary_by
   binary_by_stop no_in go m i j t None h q = refl

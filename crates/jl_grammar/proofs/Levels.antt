@@ -35,7 +35,8 @@ pub statement_pos : (t : Stmt) → 1 ≤ height t
 statement_pos (tree.empty s) = omega arith
 statement_pos _ = omega arith
 
-pub joined_height : (op : InfixOperator) (a b : Expr) (s : Span) → height (infix_node op a b s) ≡ max (height a) (height b) + 1
+pub joined_height : (op : InfixOperator) (a b : Expr) (s : Span) → height (infix_node op a b s)
+    ≡ max (height a) (height b) + 1
 joined_height (plain op) a b s = refl
 joined_height both a b s = refl
 joined_height either a b s = refl
@@ -58,8 +59,10 @@ pub left_conditional : (ts : List Token) (d : Deeper) (no_in : Bool) (n i j : �
     → begins_left (terminal_at ts i) ≡ true → left_at ts d true n i ≡ Some (t, j) → AssignsAt ts j op
     → conditional_at ts d no_in n i ≡ Some (t, j)
 left_conditional ts d no_in n i j t op b h e =
-    let u : updates_at ts j ≡ false = ap (λ x. x && not (line_at ts j)) (assign_updates_not (terminal_at ts j) op e.is) in
-    let p = no_prefix_step ts d n i j t (left_is_no_prefix (terminal_at ts i) b) (left_is_no_update (terminal_at ts i) b)
+    let u : updates_at ts j ≡ false =
+    ap (λ x. x && not (line_at ts j)) (assign_updates_not (terminal_at ts j) op e.is) in
+    let p = no_prefix_step ts d n i j t (left_is_no_prefix (terminal_at ts i) b)
+    (left_is_no_update (terminal_at ts i) b)
     (no_postfix_step ts d n i j t h u) in
     no_question_step ts d no_in n i j t (binary_step ts d no_in n 10 i j t p
     ∙ binary_stop ts d no_in n 10 i j t (assign_joins_not no_in (terminal_at ts j) op e.is))
@@ -70,7 +73,8 @@ pub left_expression : (ts : List Token) (d : Deeper) (n i j : ℕ) (t : Expr) �
     → left_at ts d true n i ≡ Some (t, j) → At ts j (keyword words.In) → expression_at ts d true n i ≡ Some (t, j)
 left_expression ts d n i j t b h e =
     let u : updates_at ts j ≡ false = ap (λ k. updates k && not (line_at ts j)) e.is in
-    let p = no_prefix_step ts d n i j t (left_is_no_prefix (terminal_at ts i) b) (left_is_no_update (terminal_at ts i) b)
+    let p = no_prefix_step ts d n i j t (left_is_no_prefix (terminal_at ts i) b)
+    (left_is_no_update (terminal_at ts i) b)
     (no_postfix_step ts d n i j t h u) in
     let q = no_question_step ts d true n i j t (binary_step ts d true n 10 i j t p
     ∙ binary_stop ts d true n 10 i j t (ap (continues true 10) e.is)) (ap is_question e.is) in

@@ -58,14 +58,16 @@ read ts b f c j e = of_holds _ _ _ (body_sound ts (deeper ts b f) (deeper_sound 
     of_holds (Some x) c j h e = subst (λ (y : Code × ℕ). ReadsBody ts 0 y.0 y.1) (same_Some _ _ e) h.has
 
 -- no more brackets are open up to a place
-shallow_up_to : (ts : List Token) (most n : ℕ) → is_shallow ts most n ≡ true → (i : ℕ) → i ≤ n → open_brackets ts i ≤ most
+shallow_up_to : (ts : List Token) (most n : ℕ) → is_shallow ts most n ≡ true → (i : ℕ) → i ≤ n
+    → open_brackets ts i ≤ most
 shallow_up_to ts most zero h i l =
     let n = none_opened ts in let e : i ≡ 0 = omega arith in let q = ap (open_brackets ts) e in omega arith
 shallow_up_to ts most (suc n) h i l =
     let b = both_true (nat_le (open_brackets ts (suc n)) most) (is_shallow ts most n) h in
     up_to (cases_lt i (suc n)) (leb-true _ _ b.0) (λ k. shallow_up_to ts most n b.1 i k)
   where
-    up_to : (i < suc n) ⊎ (suc n ≤ i) → open_brackets ts (suc n) ≤ most → (i ≤ n → open_brackets ts i ≤ most) → open_brackets ts i ≤ most
+    up_to : (i < suc n) ⊎ (suc n ≤ i) → open_brackets ts (suc n) ≤ most → (i ≤ n → open_brackets ts i ≤ most)
+        → open_brackets ts i ≤ most
     up_to (inl k) a f = f (omega arith)
     up_to (inr k) a f = let e : i ≡ suc n = omega arith in let q = ap (open_brackets ts) e in omega arith
 
@@ -80,7 +82,8 @@ unfolding open_brackets
 opened_past ts zero = ap (open_brackets ts) (omega arith)
 opened_past ts (suc n) =
     let e : suc n + length ts ≡ suc (n + length ts) = omega arith in
-    ap (open_brackets ts) e ∙ ap (λ k. bracket k (open_brackets ts (n + length ts))) (end_past ts (n + length ts) (omega arith))
+    ap (open_brackets ts) e ∙ ap (λ k. bracket k (open_brackets ts (n + length ts)))
+    (end_past ts (n + length ts) (omega arith))
     ∙ opened_past ts n
 
 shallow_everywhere : (ts : List Token) (most : ℕ) → is_shallow ts most (length ts) ≡ true → (i : ℕ)
@@ -132,7 +135,8 @@ module _ (ts : List Token) (limit : ℕ) (p : Program Span) where
   told : Reads ts limit p → program_at ts limit ≡ Some p
   unfolding program_at
   told r =
-      let a = answer ts limit (2 * limit) (3 * limit) p r (omega arith) (omega arith) in let w = ap program_height r.is in let l = r.low in
+      let a = answer ts limit (2 * limit) (3 * limit) p r (omega arith) (omega arith) in
+      let w = ap program_height r.is in let l = r.low in
       rw (
         is_shallow_there ts (2 * limit) r.shallow (length ts),
         a,

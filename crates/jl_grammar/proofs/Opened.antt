@@ -13,7 +13,8 @@ use Rattle.jl_grammar.specs.Reads.{JoinsAt, AssignsAt, PrefixAt, UpdateAt}
 use Rattle.jl_grammar.specs.Tokens.{At, Is, terminal_at}
 
 -- after a token that is such a one
-pub after : {ts : List Token} {i : ℕ} {k : Terminal} → At ts i k → open_brackets ts (suc i) ≡ bracket k (open_brackets ts i)
+pub after : {ts : List Token} {i : ℕ} {k : Terminal} → At ts i k → open_brackets ts (suc i)
+    ≡ bracket k (open_brackets ts i)
 unfolding open_brackets
 after {ts} {i} e = ap (λ k. bracket k (open_brackets ts i)) e.is
 
@@ -41,7 +42,8 @@ pub after_key : {ts : List Token} {i : ℕ} → Is is_key ts i → open_brackets
 unfolding open_brackets
 after_key {ts} {i} e = key_keeps (terminal_at ts i) (open_brackets ts i) e.is
 
-infix_operator_keeps : (no_in : Bool) (k : Terminal) (n : ℕ) (op : InfixOperator) → infix_operator no_in k ≡ Some op → bracket k n ≡ n
+infix_operator_keeps : (no_in : Bool) (k : Terminal) (n : ℕ) (op : InfixOperator) → infix_operator no_in k ≡ Some op
+    → bracket k n ≡ n
 infix_operator_keeps true (terminals.Punct puncts.LeftParen) n op h = cc
 infix_operator_keeps true (terminals.Punct puncts.LeftBracket) n op h = cc
 infix_operator_keeps true (terminals.Punct puncts.LeftBrace) n op h = cc
@@ -59,7 +61,8 @@ infix_operator_keeps _ _ n op h = refl
 pub after_infix_operator : {ts : List Token} {no_in : Bool} {i : ℕ} {op : InfixOperator} → JoinsAt ts no_in i op
     → open_brackets ts (suc i) ≡ open_brackets ts i
 unfolding open_brackets
-after_infix_operator {ts} {no_in} {i} {op} e = infix_operator_keeps no_in (terminal_at ts i) (open_brackets ts i) op e.is
+after_infix_operator {ts} {no_in} {i} {op} e =
+    infix_operator_keeps no_in (terminal_at ts i) (open_brackets ts i) op e.is
 
 assign_keeps : (k : Terminal) (n : ℕ) (op : Option BinOp) → assign_operator k ≡ Some op → bracket k n ≡ n
 assign_keeps (terminals.Punct puncts.LeftParen) n op h = cc
@@ -70,7 +73,8 @@ assign_keeps (terminals.Punct puncts.RightBracket) n op h = cc
 assign_keeps (terminals.Punct puncts.RightBrace) n op h = cc
 assign_keeps _ n op h = refl
 
-pub after_assign : {ts : List Token} {i : ℕ} {op : Option BinOp} → AssignsAt ts i op → open_brackets ts (suc i) ≡ open_brackets ts i
+pub after_assign : {ts : List Token} {i : ℕ} {op : Option BinOp} → AssignsAt ts i op → open_brackets ts (suc i)
+    ≡ open_brackets ts i
 unfolding open_brackets
 after_assign {ts} {i} {op} e = assign_keeps (terminal_at ts i) (open_brackets ts i) op e.is
 
@@ -83,7 +87,8 @@ prefix_keeps (terminals.Punct puncts.RightBracket) n op h = cc
 prefix_keeps (terminals.Punct puncts.RightBrace) n op h = cc
 prefix_keeps _ n op h = refl
 
-pub after_prefix : {ts : List Token} {i : ℕ} {op : UnOp} → PrefixAt ts i op → open_brackets ts (suc i) ≡ open_brackets ts i
+pub after_prefix : {ts : List Token} {i : ℕ} {op : UnOp} → PrefixAt ts i op → open_brackets ts (suc i)
+    ≡ open_brackets ts i
 unfolding open_brackets
 after_prefix {ts} {i} {op} e = prefix_keeps (terminal_at ts i) (open_brackets ts i) op e.is
 
@@ -96,6 +101,7 @@ update_keeps (terminals.Punct puncts.RightBracket) n up h = cc
 update_keeps (terminals.Punct puncts.RightBrace) n up h = cc
 update_keeps _ n up h = refl
 
-pub after_update : {ts : List Token} {i : ℕ} {up : Bool} → UpdateAt ts i up → open_brackets ts (suc i) ≡ open_brackets ts i
+pub after_update : {ts : List Token} {i : ℕ} {up : Bool} → UpdateAt ts i up → open_brackets ts (suc i)
+    ≡ open_brackets ts i
 unfolding open_brackets
 after_update {ts} {i} {up} e = update_keeps (terminal_at ts i) (open_brackets ts i) up e.is

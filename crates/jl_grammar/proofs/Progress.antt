@@ -110,7 +110,8 @@ mutual
       → BeginsBinary ts no_in l i t j → i < j
   begins_binary_goes (operand a) = unary_goes a
   begins_binary_goes (tighter a) = binary_goes a
-  begins_binary_goes (an_infix_operator a b c d) = let ra = begins_binary_goes a in let rd = binary_goes d in omega arith
+  begins_binary_goes (an_infix_operator a b c d) = let ra = begins_binary_goes a in let rd = binary_goes d in
+      omega arith
 
   pub binary_goes : {ts : List Token} {no_in : Bool} {l i : ℕ} {t : Expr} {j : ℕ} → ReadsBinary ts no_in l i t j
       → i < j
@@ -148,7 +149,8 @@ mutual
   statement_goes (a_do_while a b c d e) = let rb = sub_goes b in let rd = head_goes d in let re = ends_at_goes e in
       omega arith
   statement_goes (a_while a b c) = let rb = head_goes b in let rc = sub_goes c in omega arith
-  statement_goes (a_for a b c d e f g h m) = let rc = init_goes c in let re = optional_goes e in let rg = optional_goes g in
+  statement_goes (a_for a b c d e f g h m) = let rc = init_goes c in let re = optional_goes e in
+      let rg = optional_goes g in
       let rm = sub_goes m in omega arith
   statement_goes (a_for_in a b c d e f g) = let rc = left_goes c in let re = expression_goes e in
       let rg = sub_goes g in omega arith
@@ -198,7 +200,8 @@ mutual
   init_goes (an_init a) = let ra = expression_goes a in omega arith
   init_goes (init_vars a b) = let rb = declarations_goes b in omega arith
 
-  pub optional_goes : {ts : List Token} {k : Terminal} {i : ℕ} {t : OptionalTree Span tree.expr} {j : ℕ} → ReadsOptional ts k i t j
+  pub optional_goes : {ts : List Token} {k : Terminal} {i : ℕ} {t : OptionalTree Span tree.expr} {j : ℕ}
+      → ReadsOptional ts k i t j
       → i ≤ j
   optional_goes (no_expression a) = omega arith
   optional_goes (one_expression a) = let ra = expression_goes a in omega arith

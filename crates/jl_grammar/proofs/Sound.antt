@@ -50,7 +50,8 @@ module _ (ts : List Token) (d : Deeper) (sound : Sound ts d) where
 
   sub_sound : (i : ℕ) → Holds (sub_at ts d i) (λ x. ReadsSub ts i x.0 x.1)
   unfolding sub_at
-  sub_sound i = test (is_open_brace (terminal_at ts i)) _ _ (λ h. weaken _ (block_sound ts d sound i) (λ x r. several r))
+  sub_sound i = test (is_open_brace (terminal_at ts i)) _ _
+      (λ h. weaken _ (block_sound ts d sound i) (λ x r. several r))
       (λ h. after _ _ (sound.statement i) (λ x r. just (alone h r)))
 
   declaration_sound : (no_in : Bool) (i : ℕ)
@@ -87,18 +88,21 @@ module _ (ts : List Token) (d : Deeper) (sound : Sound ts d) where
   unfolding if_at else_from
   if_sound i e = after _ _ (head_sound (suc i))
       (λ t r. after (else_from ts d i t.0) _ (sub_sound t.1) (λ x q. test (is_else (terminal_at ts x.1)) _ _
-      (λ h. after _ _ (sub_sound (suc x.1)) (λ y p. fits _ _ _ _ (just (an_if_else e r q (record { is = else_terminal _ h }) p))))
+      (λ h. after _ _ (sub_sound (suc x.1))
+      (λ y p. fits _ _ _ _ (just (an_if_else e r q (record { is = else_terminal _ h }) p))))
       (λ h. fits _ _ _ _ (just (an_if e r q h)))))
 
   do_sound : (i : ℕ) → At ts i (keyword words.Do) → Holds (do_at ts d i) (λ x. ReadsStatement ts i x.0 x.1)
   unfolding do_at
   do_sound i e = after _ _ (sub_sound (suc i))
       (λ x r. when_true (is_while (terminal_at ts x.1)) _ (λ h. after _ _ (head_sound (suc x.1)) (λ t q.
-      after _ _ (ends_sound ts t.1) (λ k f. fits _ _ _ _ (just (a_do_while e r (record { is = while_terminal _ h }) q f))))))
+      after _ _ (ends_sound ts t.1)
+      (λ k f. fits _ _ _ _ (just (a_do_while e r (record { is = while_terminal _ h }) q f))))))
 
   while_sound : (i : ℕ) → At ts i (keyword words.While) → Holds (while_at ts d i) (λ x. ReadsStatement ts i x.0 x.1)
   unfolding while_at
-  while_sound i e = after _ _ (head_sound (suc i)) (λ t r. after _ _ (sub_sound t.1) (λ x q. fits _ _ _ _ (just (a_while e r q))))
+  while_sound i e = after _ _ (head_sound (suc i))
+      (λ t r. after _ _ (sub_sound t.1) (λ x q. fits _ _ _ _ (just (a_while e r q))))
 
   optional_sound : (ends : Terminal → Bool) (k : Terminal) → ((s : Terminal) → ends s ≡ true → s ≡ k) → (i : ℕ)
       → Holds (optional_at ts d ends i) (λ x. ReadsOptional ts k i x.0 x.1)
@@ -114,7 +118,8 @@ module _ (ts : List Token) (d : Deeper) (sound : Sound ts d) where
       when_true (is_semicolon (terminal_at ts b.1)) _
       (λ g. after _ _ (optional_sound is_close_paren close_paren close_paren_terminal (suc b.1)) (λ c q.
       when_true (is_close_paren (terminal_at ts c.1)) _ (λ k. after _ _ (sub_sound (suc c.1)) (λ x s.
-      fits _ _ _ _ (just (a_for e f r (record { is = semicolon_terminal _ h }) p (record { is = semicolon_terminal _ g }) q
+      fits _ _ _ _ (just (a_for e f r (record { is = semicolon_terminal _ h }) p
+      (record { is = semicolon_terminal _ g }) q
       (record { is = close_paren_terminal _ k }) s))))))))
 
   for_in_from_sound : (i : ℕ) (is_var : Bool) (x : Ident Span) (j : ℕ)
@@ -185,7 +190,8 @@ module _ (ts : List Token) (d : Deeper) (sound : Sound ts d) where
   return_by_sound i (Some k) q h e = just (a_return e h.has)
   return_by_sound i None q h e = after _ _ (sound.expression false (suc i))
       (λ x r. after _ _ (ends_sound ts x.1) (λ k f.
-      fits _ _ _ _ (just (a_return_of e (no_line (is_semicolon (terminal_at ts (suc i))) (ends_statement (terminal_at ts (suc i)))
+      fits _ _ _ _ (just (a_return_of e
+      (no_line (is_semicolon (terminal_at ts (suc i))) (ends_statement (terminal_at ts (suc i)))
       (line_at ts (suc i)) (suc (suc i)) (suc i) q) r f))))
 
   return_sound : (i : ℕ) → At ts i (keyword words.Return)
@@ -227,7 +233,8 @@ module _ (ts : List Token) (d : Deeper) (sound : Sound ts d) where
       (λ t r. when_true (is_open_brace (terminal_at ts t.1)) _
       (λ h. after _ _ (clauses_sound (length ts) (suc t.1) true) (λ c q.
       when_true (is_close_brace (terminal_at ts c.1)) _
-      (λ g. fits _ _ _ _ (just (a_switch e r (record { is = open_brace_terminal _ h }) q (record { is = close_brace_terminal _ g })))))))
+      (λ g. fits _ _ _ _ (just
+      (a_switch e r (record { is = open_brace_terminal _ h }) q (record { is = close_brace_terminal _ g })))))))
 
   catch_sound : (i : ℕ) → At ts i (keyword words.Catch) → Holds (catch_at ts d i) (λ x. ReadsCatch ts i x.0 x.1)
   unfolding catch_at

@@ -37,13 +37,13 @@ use Rattle.jl_grammar.specs.Operators.{InfixOperator, plain, both, either, infix
 use Rattle.jl_grammar.specs.Operators.{infix_precedence, infix_precedence_of}
 use Rattle.jl_grammar.specs.Operators.{continues, assign_operator, unary_operator, update_operator}
 use Rattle.jl_grammar.specs.Reader.{is_close_paren, is_close_bracket, is_close_brace, is_function, is_new, name_of}
-use Rattle.jl_grammar.specs.Reader.{with_directive, ends_at, names_from, parameters_at, then_close_paren, statements_from}
-use Rattle.jl_grammar.specs.Reader.{block_at, elements_from, body_from, rest_at, function_at, items_from, value_at}
-use Rattle.jl_grammar.specs.Reader.{getter_by, setter_by, accessor_at, entry_by, entry_at, entries_from, primary_by}
-use Rattle.jl_grammar.specs.Reader.{primary_at, arguments_from, arguments_at, new_at, start_at, left_by, left_from}
-use Rattle.jl_grammar.specs.Reader.{left_at, postfix_by, postfix_at, unary_by, unary_at, binary_by, binary_from}
-use Rattle.jl_grammar.specs.Reader.{binary_at, conditional_from, conditional_at, assignment_by, assignment_at}
-use Rattle.jl_grammar.specs.Reader.{comma_from, expression_at, node, Read, Deeper}
+use Rattle.jl_grammar.specs.Reader.{with_directive, ends_at, names_from, parameters_at, then_close_paren}
+use Rattle.jl_grammar.specs.Reader.{statements_from, block_at, elements_from, body_from, rest_at, function_at}
+use Rattle.jl_grammar.specs.Reader.{items_from, value_at, getter_by, setter_by, accessor_at, entry_by, entry_at}
+use Rattle.jl_grammar.specs.Reader.{entries_from, primary_by, primary_at, arguments_from, arguments_at, new_at}
+use Rattle.jl_grammar.specs.Reader.{start_at, left_by, left_from, left_at, postfix_by, postfix_at, unary_by, unary_at}
+use Rattle.jl_grammar.specs.Reader.{binary_by, binary_from, binary_at, conditional_from, conditional_at, assignment_by}
+use Rattle.jl_grammar.specs.Reader.{assignment_at, comma_from, expression_at, node, Read, Deeper}
 use Rattle.jl_grammar.specs.Tokens.{At, Is, terminal_at, line_at, strict_at, span}
 use Rattle.jl_grammar.proofs.Expressions.{some_looseness}
 use Rattle.jl_grammar.proofs.Holds.{Holds, nothing, just, after, weaken, test, when_true, both_true, told}
@@ -99,7 +99,8 @@ mutual
       → BeginsBinary ts no_in l i t j → target_of t ≡ Some g → ReadsLeft ts true i t j
   left_of_begins (operand a) h = left_of_unary a h
   left_of_begins (tighter a) h = left_of_binary a h
-  left_of_begins {g = g} (an_infix_operator {a = a} {b = b} {op = op} p q r s) h = absurd (joined_is_no_target op a b _ g h)
+  left_of_begins {g = g} (an_infix_operator {a = a} {b = b} {op = op} p q r s) h = absurd
+      (joined_is_no_target op a b _ g h)
 
   left_of_binary : {ts : List Token} {no_in : Bool} {l i j : ℕ} {t : Expr} {g : Tree Span tree.target}
       → ReadsBinary ts no_in l i t j → target_of t ≡ Some g → ReadsLeft ts true i t j
@@ -150,7 +151,8 @@ lift ts no_in (suc n) l i t j r h =
     subst (λ x. continues no_in x (terminal_at ts j) ≡ false) (omega arith) h in
     subst (λ x. BeginsBinary ts no_in x i t j) (omega arith)
     (tighter (whole_binary (lift ts no_in n l i t j r
-    (tighter_stops (infix_precedence_of (infix_operator no_in (terminal_at ts j))) (pred (n + l)) (n + l) (omega arith) s)) s))
+    (tighter_stops (infix_precedence_of (infix_operator no_in (terminal_at ts j))) (pred (n + l)) (n + l) (omega arith)
+    s)) s))
 
 pub lift_to : (ts : List Token) (no_in : Bool) (l m i : ℕ) (t : Expr) (j : ℕ) → l ≤ m → BeginsBinary ts no_in l i t j
     → continues no_in (pred m) (terminal_at ts j) ≡ false → BeginsBinary ts no_in m i t j
@@ -174,7 +176,8 @@ no_line false false false x y h = refl
 
 pub ends_sound : (ts : List Token) (i : ℕ) → Holds (ends_at ts i) (λ j. EndsAt ts i j)
 unfolding ends_at
-ends_sound ts i = test (is_semicolon (terminal_at ts i)) _ _ (λ h. just (there (record { is = semicolon_terminal _ h })))
+ends_sound ts i = test (is_semicolon (terminal_at ts i)) _ _
+    (λ h. just (there (record { is = semicolon_terminal _ h })))
     (λ h. when_true (ends_statement (terminal_at ts i) || line_at ts i) _ (λ g. just (inserted h g)))
 
 names_sound : (ts : List Token) (n i : ℕ) → Holds (names_from ts n i) (λ x. ReadsNames ts i x.0 x.1)
@@ -246,7 +249,8 @@ module _ (ts : List Token) (d : Deeper) (sound : Sound ts d) where
       → Holds (function_at ts d i) (λ x. ReadsPrimary ts i x.0 x.1)
   unfolding function_at
   function_sound i e = test (is_identifier (terminal_at ts (suc i))) _ _
-      (λ h. after _ _ (rest_sound (suc (suc i))) (λ x r. fits _ _ _ _ (just (a_named_function e (record { is = h }) r))))
+      (λ h. after _ _ (rest_sound (suc (suc i)))
+      (λ x r. fits _ _ _ _ (just (a_named_function e (record { is = h }) r))))
       (λ h. after _ _ (rest_sound (suc i)) (λ x r. fits _ _ _ _ (just (a_function e r))))
 
   items_sound : (n i : ℕ) → Holds (items_from ts d n i) (λ x. ReadsItems ts i x.0 x.1)
@@ -283,7 +287,8 @@ module _ (ts : List Token) (d : Deeper) (sound : Sound ts d) where
   setter_sound i (p ∷ []) c j e h r = fits _ _ _ _ (just (a_setter e h r))
   setter_sound i (p ∷ q ∷ ps) c j e h r = nothing
 
-  entry_by_sound : (i : ℕ) (k : Terminal) → terminal_at ts i ≡ k → Holds (entry_by ts d i k) (λ x. ReadsEntry ts i x.0 x.1)
+  entry_by_sound : (i : ℕ) (k : Terminal) → terminal_at ts i ≡ k
+      → Holds (entry_by ts d i k) (λ x. ReadsEntry ts i x.0 x.1)
   unfolding entry_by accessor_at
   entry_by_sound i terminals.Get e = test (is_colon (terminal_at ts (suc i))) _ _ (λ h. value_sound i)
       (λ h. when_true (is_key (terminal_at ts (suc i))) _
@@ -327,7 +332,8 @@ module _ (ts : List Token) (d : Deeper) (sound : Sound ts d) where
       after _ _ (items_sound (length ts) (suc i)) (λ x r. fits _ _ _ _ (just (an_array (record { is = e }) r)))
   primary_by_sound i (terminals.Punct puncts.LeftBrace) e =
       after _ _ (entries_sound (length ts) (suc i)) (λ x r. fits _ _ _ _ (just (an_object (record { is = e }) r)))
-  primary_by_sound i (terminals.Punct puncts.LeftParen) e = after (then_close_paren ts d) _ (sound.expression false (suc i)) (λ x r.
+  primary_by_sound i (terminals.Punct puncts.LeftParen) e =
+      after (then_close_paren ts d) _ (sound.expression false (suc i)) (λ x r.
       when_true (is_close_paren (terminal_at ts x.1)) _
       (λ h. just (in_parens (record { is = e }) r (record { is = close_paren_terminal _ h }))))
   primary_by_sound i (terminals.Word words.Function) e = function_sound i (record { is = e })
@@ -357,7 +363,8 @@ module _ (ts : List Token) (d : Deeper) (sound : Sound ts d) where
       → Holds (new_at ts d i) (λ x. BeginsLeft ts calls i x.0 x.1)
   unfolding new_at
   new_sound calls i e = after _ _ (sound.member (suc i)) (λ x r. test (is_open_paren (terminal_at ts x.1)) _ _
-      (λ h. after _ _ (arguments_sound (suc x.1)) (λ y q. fits _ _ _ _ (just (a_new e r (record { is = open_paren_terminal _ h }) q))))
+      (λ h. after _ _ (arguments_sound (suc x.1))
+      (λ y q. fits _ _ _ _ (just (a_new e r (record { is = open_paren_terminal _ h }) q))))
       (λ h. fits _ _ _ _ (just (a_bare_new e r h))))
 
   start_sound : (calls : Bool) (i : ℕ) → Holds (start_at ts d i) (λ x. BeginsLeft ts calls i x.0 x.1)
@@ -365,15 +372,18 @@ module _ (ts : List Token) (d : Deeper) (sound : Sound ts d) where
   start_sound calls i = test (is_new (terminal_at ts i)) _ _ (λ h. new_sound calls i (record { is = new_terminal _ h }))
       (λ h. weaken _ (primary_sound i) (λ x r. primary r))
 
-  left_by_sound : (calls : Bool) (go : Expr → ℕ → Read Expr) (i : ℕ) (t : Expr) (j : ℕ) (k : Terminal) → terminal_at ts j ≡ k
+  left_by_sound : (calls : Bool) (go : Expr → ℕ → Read Expr) (i : ℕ) (t : Expr) (j : ℕ) (k : Terminal)
+      → terminal_at ts j ≡ k
       → BeginsLeft ts calls i t j
       → ((u : Expr) (m : ℕ) → BeginsLeft ts calls i u m → Holds (go u m) (λ x. ReadsLeft ts calls i x.0 x.1))
       → Holds (left_by ts d calls go i t j k) (λ x. ReadsLeft ts calls i x.0 x.1)
   unfolding left_by
   left_by_sound true go i t j (terminals.Punct puncts.Dot) e r g =
-      when_true (is_name (terminal_at ts (suc j))) _ (λ h. fits _ _ _ _ (g _ _ (a_dot r (record { is = e }) (record { is = h }))))
+      when_true (is_name (terminal_at ts (suc j))) _
+      (λ h. fits _ _ _ _ (g _ _ (a_dot r (record { is = e }) (record { is = h }))))
   left_by_sound false go i t j (terminals.Punct puncts.Dot) e r g =
-      when_true (is_name (terminal_at ts (suc j))) _ (λ h. fits _ _ _ _ (g _ _ (a_dot r (record { is = e }) (record { is = h }))))
+      when_true (is_name (terminal_at ts (suc j))) _
+      (λ h. fits _ _ _ _ (g _ _ (a_dot r (record { is = e }) (record { is = h }))))
   left_by_sound true go i t j (terminals.Punct puncts.LeftBracket) e r g =
       after _ _ (sound.expression false (suc j)) (λ x q.
       when_true (is_close_bracket (terminal_at ts x.1)) _
@@ -404,7 +414,8 @@ module _ (ts : List Token) (d : Deeper) (sound : Sound ts d) where
       → Holds (postfix_by ts d i t j o b) (λ x. ReadsPostfix ts i x.0 x.1)
   unfolding postfix_by
   postfix_by_sound i t j (Some up) false e l r =
-      after _ _ (told (target_of t)) (λ g h. fits _ _ _ _ (just (a_postfix r (record { is = h }) (record { is = e }) l)))
+      after _ _ (told (target_of t))
+      (λ g h. fits _ _ _ _ (just (a_postfix r (record { is = h }) (record { is = e }) l)))
   postfix_by_sound i t j (Some up) true e l r =
       just (left r (ap₂ (λ (x : Option Bool) (y : Bool). is_some x && not y) e l))
   postfix_by_sound i t j None b e l r = just (left r (ap (λ (x : Option Bool). is_some x && not (line_at ts j)) e))
@@ -417,29 +428,36 @@ module _ (ts : List Token) (d : Deeper) (sound : Sound ts d) where
   unary_by_sound : (n i : ℕ) (o : Option UnOp) (u : Option Bool) → unary_operator (terminal_at ts i) ≡ o
       → update_operator (terminal_at ts i) ≡ u → Holds (unary_by ts d n i o u) (λ x. ReadsUnary ts i x.0 x.1)
   unfolding unary_by
-  unary_by_sound n i (Some op) u e f = after _ _ (sound.unary (suc i)) (λ x r. fits _ _ _ _ (just (a_prefix (record { is = e }) r)))
+  unary_by_sound n i (Some op) u e f =
+      after _ _ (sound.unary (suc i)) (λ x r. fits _ _ _ _ (just (a_prefix (record { is = e }) r)))
   unary_by_sound n i None (Some up) e f = after _ _ (left_sound true n (suc i))
-      (λ x r. after _ _ (told (target_of x.0)) (λ g h. fits _ _ _ _ (just (an_update (record { is = f }) r (record { is = h })))))
+      (λ x r. after _ _ (told (target_of x.0))
+      (λ g h. fits _ _ _ _ (just (an_update (record { is = f }) r (record { is = h })))))
   unary_by_sound n i None None e f = weaken _ (postfix_sound n i) (λ x r. postfix r)
 
   pub unary_sound : (n i : ℕ) → Holds (unary_at ts d n i) (λ x. ReadsUnary ts i x.0 x.1)
   unfolding unary_at
-  unary_sound n i = unary_by_sound n i (unary_operator (terminal_at ts i)) (update_operator (terminal_at ts i)) refl refl
+  unary_sound n i = unary_by_sound n i (unary_operator (terminal_at ts i)) (update_operator (terminal_at ts i)) refl
+      refl
 
   more_infix_operators : (no_in : Bool) (m i : ℕ) (t : Expr) (j : ℕ) (op : InfixOperator) → Stands ts no_in m i t j
       → infix_operator no_in (terminal_at ts j) ≡ Some op → infix_precedence op ≤ m → (b : Expr) (n : ℕ)
-      → ReadsBinary ts no_in (pred (infix_precedence op)) (suc j) b n → Stands ts no_in m i (infix_node op t b (span ts i n)) n
+      → ReadsBinary ts no_in (pred (infix_precedence op)) (suc j) b n
+      → Stands ts no_in m i (infix_node op t b (span ts i n)) n
   more_infix_operators no_in m i t j op s e h b n (whole_binary r stop) =
-      let l : infix_precedence_of (infix_operator no_in (terminal_at ts j)) ≡ infix_precedence op = ap infix_precedence_of e in
+      let l : infix_precedence_of (infix_operator no_in (terminal_at ts j)) ≡ infix_precedence op =
+      ap infix_precedence_of e in
       let y = looseness_pos op in
       let p = suc_pred (infix_precedence op) y in
       let q : continues no_in (pred (infix_precedence op)) (terminal_at ts j) ≡ false =
-      looser_stops (infix_precedence_of (infix_operator no_in (terminal_at ts j))) (pred (infix_precedence op)) (omega arith) in
+      looser_stops (infix_precedence_of (infix_operator no_in (terminal_at ts j))) (pred (infix_precedence op))
+      (omega arith) in
       let f = tight (infix_precedence_of (infix_operator no_in (terminal_at ts j))) s.level (omega arith) s.stops in
       record {
         level = suc (pred (infix_precedence op));
         in_reach = omega arith;
-        begins = an_infix_operator (lift_to ts no_in s.level (suc (pred (infix_precedence op))) i t j (omega arith) s.begins q)
+        begins = an_infix_operator (lift_to ts no_in s.level (suc (pred (infix_precedence op))) i t j (omega arith)
+        s.begins q)
             (record { is = e }) (sym p) (whole_binary r stop);
         stops = stop;
       }
@@ -452,11 +470,13 @@ module _ (ts : List Token) (d : Deeper) (sound : Sound ts d) where
   binary_by_sound no_in go m i t j None e s g =
       just (whole ts no_in m i t j s (ap (λ o. nat_le 1 (infix_precedence_of o) && nat_le (infix_precedence_of o) m) e))
   binary_by_sound no_in go m i t j (Some op) e s g =
-      let l : infix_precedence_of (infix_operator no_in (terminal_at ts j)) ≡ infix_precedence op = ap infix_precedence_of e in
+      let l : infix_precedence_of (infix_operator no_in (terminal_at ts j)) ≡ infix_precedence op =
+      ap infix_precedence_of e in
       test (nat_le (infix_precedence op) m) _ _
       (λ h. after _ _ (sound.binary no_in (pred (infix_precedence op)) (suc j))
       (λ x r. fits _ _ _ _ (g _ _ (more_infix_operators no_in m i t j op s e (leb-true _ _ h) x.0 x.1 r))))
-      (λ h. just (whole ts no_in m i t j s (looser_stops (infix_precedence_of (infix_operator no_in (terminal_at ts j))) m
+      (λ h. just (whole ts no_in m i t j s (looser_stops (infix_precedence_of (infix_operator no_in (terminal_at ts j)))
+      m
       (subst (λ y. m < y) (sym l) (leb-false _ _ h)))))
 
   binary_from_sound : (no_in : Bool) (n m i : ℕ) (t : Expr) (j : ℕ) → Stands ts no_in m i t j

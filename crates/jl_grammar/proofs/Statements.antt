@@ -15,10 +15,10 @@ use Rattle.jl_grammar.specs.Next.{is_equals, is_else, is_finally, ends_statement
 use Rattle.jl_grammar.specs.Next.{continues_at, is_string}
 use Rattle.jl_grammar.specs.Reads.{Expr, Stmt, Stmts, Code, EndsAt, there, inserted}
 use Rattle.jl_grammar.specs.Tokens.{At, Is, terminal_at, line_at, strict_at, span, ident_at}
-use Rattle.jl_grammar.specs.Reader.{is_close_paren, is_function, is_in, is_var, name_of, ends_at, label_at, then_close_paren}
-use Rattle.jl_grammar.specs.Reader.{statements_from, block_at, elements_from, body_from, head_at, sub_at}
-use Rattle.jl_grammar.specs.Reader.{declaration_at, declarations_from, var_at, express_at, else_from, if_at, do_at}
-use Rattle.jl_grammar.specs.Reader.{while_at, optional_at, for_from, for_in_from, for_var_at, for_expression_at}
+use Rattle.jl_grammar.specs.Reader.{is_close_paren, is_function, is_in, is_var, name_of, ends_at, label_at}
+use Rattle.jl_grammar.specs.Reader.{then_close_paren, statements_from, block_at, elements_from, body_from, head_at}
+use Rattle.jl_grammar.specs.Reader.{sub_at, declaration_at, declarations_from, var_at, express_at, else_from, if_at}
+use Rattle.jl_grammar.specs.Reader.{do_at, while_at, optional_at, for_from, for_in_from, for_var_at, for_expression_at}
 use Rattle.jl_grammar.specs.Reader.{for_at, continue_at, break_at, return_by, return_at, throw_at, clauses_from}
 use Rattle.jl_grammar.specs.Reader.{switch_at, catch_at, finally_from, try_at, named_at, statement_by, statement_at}
 use Rattle.jl_grammar.specs.Reader.{Deeper}
@@ -41,13 +41,15 @@ module _ (ts : List Token) where
   unfolding label_at
   label_step i k e l h = rw (e.is, l, h, label_at)
 
-  pub no_label_step : (i k : ℕ) → (is_identifier (terminal_at ts i) && not (line_at ts i)) ≡ false → ends_at ts i ≡ Some k
+  pub no_label_step : (i k : ℕ) → (is_identifier (terminal_at ts i) && not (line_at ts i)) ≡ false
+      → ends_at ts i ≡ Some k
       → label_at ts i ≡ Some (None, k)
   unfolding label_at
   no_label_step i k e h = rw (e, h, label_at)
 
 module _ (ts : List Token) (d : Deeper) where
-  pub no_statements_step : (n i : ℕ) → ends_list (terminal_at ts i) ≡ true → statements_from ts d n i ≡ Some (tree.end, i)
+  pub no_statements_step : (n i : ℕ) → ends_list (terminal_at ts i) ≡ true → statements_from ts d n i
+      ≡ Some (tree.end, i)
   unfolding statements_from
   no_statements_step zero i e = rw (e, statements_from)
   no_statements_step (suc n) i e = rw (e, statements_from)
@@ -83,7 +85,8 @@ module _ (ts : List Token) (d : Deeper) where
         k,
       )
   unfolding elements_from
-  declared_step n i j k ps c fs ws e f h g fits = rw (e.is, elements_from) (rw (f.is, h) (fitting _ _ _ _ fits ∙ rw g refl))
+  declared_step n i j k ps c fs ws e f h g fits =
+      rw (e.is, elements_from) (rw (f.is, h) (fitting _ _ _ _ fits ∙ rw g refl))
 
   pub element_step : (n i j k : ℕ) (w : Stmt) (fs : Forest Span tree.func) (ws : Stmts)
       → ends_list (terminal_at ts i) ≡ false → is_function (terminal_at ts i) ≡ false → d.statement i ≡ Some (w, j)
@@ -175,7 +178,8 @@ module _ (ts : List Token) (d : Deeper) where
       → height (tree.if_else t ws (tree.present (tree.branch_of us)) (span ts i m)) ≤ suc (d.room i)
       → statement_at ts d i ≡ Some (tree.if_else t ws (tree.present (tree.branch_of us)) (span ts i m), m)
   unfolding statement_at statement_by if_at else_from
-  if_else_step i j k m t ws us e h g f q fits = rw (e.is, statement_at) (rw (h, g, f.is, q, if_at) (fitting _ _ _ _ fits))
+  if_else_step i j k m t ws us e h g f q fits =
+      rw (e.is, statement_at) (rw (h, g, f.is, q, if_at) (fitting _ _ _ _ fits))
 
   pub if_step : (i j k : ℕ) (t : Expr) (ws : Stmts) → At ts i (keyword words.If) → head_at ts d (suc i) ≡ Some (t, j)
       → sub_at ts d j ≡ Some (ws, k) → is_else (terminal_at ts k) ≡ false
@@ -315,7 +319,8 @@ module _ (ts : List Token) (d : Deeper) where
       → height (tree.switch t cs (span ts i (suc k))) ≤ suc (d.room i)
       → statement_at ts d i ≡ Some (tree.switch t cs (span ts i (suc k)), suc k)
   unfolding statement_at statement_by switch_at
-  switch_step i j k t cs e h f g q fits = rw (e.is, statement_at) (rw (h, f.is, g, q.is, switch_at) (fitting _ _ _ _ fits))
+  switch_step i j k t cs e h f g q fits =
+      rw (e.is, statement_at) (rw (h, f.is, g, q.is, switch_at) (fitting _ _ _ _ fits))
 
   pub catch_step : (i j : ℕ) (ws : Stmts) → At ts (suc i) open_paren → Is is_identifier ts (suc (suc i))
       → At ts (suc (suc (suc i))) close_paren → block_at ts d (suc (suc (suc (suc i)))) ≡ Some (ws, j)
@@ -344,7 +349,8 @@ module _ (ts : List Token) (d : Deeper) where
       → height (tree.try ws (tree.present h) (tree.present (tree.branch_of us)) (span ts i m)) ≤ suc (d.room i)
       → statement_at ts d i ≡ Some (tree.try ws (tree.present h) (tree.present (tree.branch_of us)) (span ts i m), m)
   unfolding statement_at statement_by try_at finally_from
-  try_both_step i j k m ws us h e b f g q r fits = rw (e.is, statement_at) (rw (b, f.is, g, q.is, r, try_at) (fitting _ _ _ _ fits))
+  try_both_step i j k m ws us h e b f g q r fits =
+      rw (e.is, statement_at) (rw (b, f.is, g, q.is, r, try_at) (fitting _ _ _ _ fits))
 
   pub debugger_step : (i k : ℕ) → At ts i (keyword words.Debugger) → ends_at ts (suc i) ≡ Some k
       → statement_at ts d i ≡ Some (tree.debugger (span ts i k), k)

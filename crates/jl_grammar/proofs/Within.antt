@@ -324,7 +324,8 @@ mutual
   init_within (init_vars a b) = let ra = at_within a refl in let rb = declarations_within b in
       let sb = declarations_goes b in omega arith
 
-  pub optional_within : {ts : List Token} {k : Terminal} {i : ℕ} {t : OptionalTree Span tree.expr} {j : ℕ} → ReadsOptional ts k i t j
+  pub optional_within : {ts : List Token} {k : Terminal} {i : ℕ} {t : OptionalTree Span tree.expr} {j : ℕ}
+      → ReadsOptional ts k i t j
       → j ≤ max i (length ts)
   optional_within (no_expression a) = omega arith
   optional_within (one_expression a) = expression_within a

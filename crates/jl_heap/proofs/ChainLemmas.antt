@@ -25,19 +25,22 @@ older_by a place (Some h) e older =
     subst (λ (o : Object). Before place o.proto) (sym (object_at-there a place h e)) (before place h.proto older)
 
 pub protos_are_older : (a : Inside) (heap : Objects) → IsKept a → objects_inside a ≡ heap → ProtosAreOlder heap
-protos_are_older a heap kept seen = subst ProtosAreOlder seen (λ place. older_by a place (slice_get a.headers place) refl (kept.older place))
+protos_are_older a heap kept seen =
+    subst ProtosAreOlder seen (λ place. older_by a place (slice_get a.headers place) refl (kept.older place))
 
 or_none : {A : Type 0} (o : Option A) → option_or o None ≡ o
 or_none None = refl
 or_none (Some x) = refl
 
 -- an object at place 0 has no prototype
-alone : {A : Type 0} (o : Option A) (f : ObjId → Option A) (proto : Option ObjId) → Before 0 proto → option_or o (option_and_then f proto) ≡ o
+alone : {A : Type 0} (o : Option A) (f : ObjId → Option A) (proto : Option ObjId) → Before 0 proto
+    → option_or o (option_and_then f proto) ≡ o
 alone o f None none = or_none o
 alone o f (Some p) below = absurd (omega (arith, below))
 
 along : {A : Type 0} (o : Option A) (f g : ObjId → Option A) (place : ℕ) (proto : Option ObjId) → Before place proto
-    → ((p : ObjId) → p.0 < place → f p ≡ g p) → option_or o (option_and_then f proto) ≡ option_or o (option_and_then g proto)
+    → ((p : ObjId) → p.0 < place → f p ≡ g p) → option_or o (option_and_then f proto)
+    ≡ option_or o (option_and_then g proto)
 along o f g place None below same = refl
 along o f g place (Some p) below same = ap (option_or o) (same p below)
 
@@ -59,11 +62,14 @@ pub find_on : (heap : Objects) → ProtosAreOlder heap → (name : List ℕ) (pl
     (option_and_then (λ proto. find heap proto.0 name) (object_at heap place).proto)
 find_on heap older name zero = sym (alone _ _ _ (older 0))
 find_on heap older name (suc q) =
-    along _ _ _ (suc q) _ (older (suc q)) (λ p below. bounds_agree heap older name q p.0 p.0 (omega arith) (omega arith))
+    along _ _ _ (suc q) _ (older (suc q))
+    (λ p below. bounds_agree heap older name q p.0 p.0 (omega arith) (omega arith))
 
 pub find_goes_on : (heap : Objects) → ProtosAreOlder heap → (name : List ℕ) (place : ℕ) (proto : ObjId)
-    → own heap place name ≡ None → (object_at heap place).proto ≡ Some proto → find heap place name ≡ find heap proto.0 name
+    → own heap place name ≡ None → (object_at heap place).proto ≡ Some proto → find heap place name
+    ≡ find heap proto.0 name
 find_goes_on heap older name place proto none there =
     find_on heap older name place
-    ∙ ap (λ o. option_or (option_map (λ p. (place, p)) o) (option_and_then (λ p. find heap p.0 name) (object_at heap place).proto)) none
+    ∙ ap (λ o. option_or (option_map (λ p. (place, p)) o)
+    (option_and_then (λ p. find heap p.0 name) (object_at heap place).proto)) none
     ∙ ap (option_and_then (λ p. find heap p.0 name)) there

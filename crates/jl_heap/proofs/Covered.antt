@@ -27,11 +27,13 @@ none_without (Some e) none some = none-some e.serial (sym none)
 pub no_serial : (h : Objects) (k : ℕ) (n : List ℕ) → serial_of h k n ≡ None → IsSome (own h k n) → ⊥
 no_serial h k n none some = none_without (entry_named n (object_at h k).properties) none some
 
-pub still_listed : (x : List ℕ) (ns : List (List ℕ × ℕ)) (n : List ℕ × ℕ) → is_listed x ns ≡ true → is_listed x (ns ++ n ∷ []) ≡ true
+pub still_listed : (x : List ℕ) (ns : List (List ℕ × ℕ)) (n : List ℕ × ℕ) → is_listed x ns ≡ true
+    → is_listed x (ns ++ n ∷ []) ≡ true
 still_listed x ns n listed = list_any-append (λ (m : List ℕ × ℕ). bytes_eq m.0 x) ns (n ∷ []) ∙ rw listed refl
 
 pub new_listed : (x : List ℕ) (ns : List (List ℕ × ℕ)) (serial : ℕ) → is_listed x (ns ++ (x, serial) ∷ []) ≡ true
-new_listed x ns serial = list_any-append (λ (m : List ℕ × ℕ). bytes_eq m.0 x) ns ((x, serial) ∷ []) ∙ rw (bytes_eq-same x) (last (is_listed x ns))
+new_listed x ns serial = list_any-append (λ (m : List ℕ × ℕ). bytes_eq m.0 x) ns ((x, serial) ∷ [])
+    ∙ rw (bytes_eq-same x) (last (is_listed x ns))
   where
     last : (b : Bool) → (b || true) ≡ true
     last true = refl
@@ -39,11 +41,13 @@ new_listed x ns serial = list_any-append (λ (m : List ℕ × ℕ). bytes_eq m.0
 
 -- the elements from one index to below another are listed
 abbrev pub Lists : Objects → ℕ → ℕ → ℕ → List (List ℕ × ℕ) → Type 0
-Lists h k low index ns = (i : ℕ) → low ≤ i → i < index → IsSome (own h k (digits_of 10 i)) → IsTrue (is_listed (digits_of 10 i) ns)
+Lists h k low index ns = (i : ℕ) → low ≤ i → i < index → IsSome (own h k (digits_of 10 i))
+    → IsTrue (is_listed (digits_of 10 i) ns)
 
 pub lists_more : (h : Objects) (k low index : ℕ) (ns more : List (List ℕ × ℕ)) → Lists h k low index ns
     → ((x : List ℕ) → is_listed x ns ≡ true → is_listed x more ≡ true)
-    → (IsSome (own h k (digits_of 10 index)) → is_listed (digits_of 10 index) more ≡ true) → Lists h k low (index + 1) more
+    → (IsSome (own h k (digits_of 10 index)) → is_listed (digits_of 10 index) more ≡ true)
+    → Lists h k low (index + 1) more
 lists_more h k low index ns more listed still new i above below there =
     ⊎_elim
     (λ (before : i < index). still (digits_of 10 i) (listed i above before there))
@@ -76,7 +80,8 @@ element low high name between = step (index_of name) refl
           short = at.below;
         }
 
-pub covers_from_lists : (h : Objects) (k low high index : ℕ) (ns : List (List ℕ × ℕ)) → Lists h k low index ns → high ≤ index
+pub covers_from_lists : (h : Objects) (k low high index : ℕ) (ns : List (List ℕ × ℕ)) → Lists h k low index ns
+    → high ≤ index
     → Covers h k low high ns
 covers_from_lists h k low high index ns listed past name there between =
     let e = element low high name between in
@@ -84,7 +89,8 @@ covers_from_lists h k low high index ns listed past name there between =
     rw digits (listed e.index e.above (let b = e.below in omega (arith, b, past)) (rw digits at there))
 
 -- no name has an index from 2^32 - 1 on
-pub covers_past : (h : Objects) (k low high end : ℕ) (ns : List (List ℕ × ℕ)) → ((i : ℕ) → i < high → i < 4294967295 → i < end)
+pub covers_past : (h : Objects) (k low high end : ℕ) (ns : List (List ℕ × ℕ))
+    → ((i : ℕ) → i < high → i < 4294967295 → i < end)
     → Covers h k low end ns → Covers h k low high ns
 covers_past h k low high end ns short covers name there between =
     covers name there (at (index_of name) refl)

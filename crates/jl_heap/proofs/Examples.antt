@@ -40,17 +40,20 @@ enumerable_asked = refl
 configurable_asked : property_after (plain 1 true false false) (record nothing { configurable = Some true }) ≡ None
 configurable_asked = refl
 
-writable_given_up : property_after (plain 1 true false false) (record nothing { writable = Some false }) ≡ Some (plain 1 false false false)
+writable_given_up : property_after (plain 1 true false false) (record nothing { writable = Some false })
+    ≡ Some (plain 1 false false false)
 writable_given_up = refl
 
-value_written : property_after (plain 1 true false false) (record nothing { value = Some (number 2) }) ≡ Some (plain 2 true false false)
+value_written : property_after (plain 1 true false false) (record nothing { value = Some (number 2) })
+    ≡ Some (plain 2 true false false)
 value_written = refl
 
 value_refused : property_after (plain 1 false false false) (record nothing { value = Some (number 2) }) ≡ None
 value_refused = refl
 
 -- a configurable one turns into an accessor, and keeps whether it can be seen
-turned_over : property_after (plain 1 false true true) (record nothing { set = Some None }) ≡ Some (Accessor None None true true)
+turned_over : property_after (plain 1 false true true) (record nothing { set = Some None })
+    ≡ Some (Accessor None None true true)
 turned_over = refl
 
 -- an array with one element at index 0, and then another at 2
@@ -58,7 +61,8 @@ abbrev empty : Objects
 empty = (with_new_object (record { objects = []; next = 0 }) class.Array None Nothing)
 
 abbrev element : Change
-element = record { value = Some (number 5); writable = Some true; get = None; set = None; enumerable = Some true; configurable = Some true }
+element = record { value = Some (number 5); writable = Some true; get = None; set = None; enumerable = Some true;
+    configurable = Some true }
 
 abbrev one : Objects
 one = (define_own_property empty 0 (codes "0") element).0
@@ -84,7 +88,8 @@ names_shorter = refl
 
 -- one that can't be deleted stops it, and what was asked is rejected
 abbrev read_only : Objects × Defined
-read_only = define_own_property (define_own_property two 0 (codes "0") (record nothing { configurable = Some false })).0 0 (codes "length") (record nothing { value = Some (number 0) })
+read_only = define_own_property (define_own_property two 0 (codes "0") (record nothing { configurable = Some false })).0
+    0 (codes "length") (record nothing { value = Some (number 0) })
 
 stops : read_only.1 ≡ Rejected
 unfolding length_name index_of

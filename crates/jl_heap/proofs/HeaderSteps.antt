@@ -23,7 +23,8 @@ pub no_header : Header
 no_header = record { class = class.Object; proto = None; extensible = false; inner = Nothing }
 
 -- what holds at each place of a list, and stays where an item is changed, holds at each place after it
-each_changed : {A : Type 0} (P : ℕ → Option A → Type 0) (xs : List A) (k : ℕ) (f : A → A) (d : A) → ((j : ℕ) → P j (slice_get xs j)) →
+each_changed : {A : Type 0} (P : ℕ → Option A → Type 0) (xs : List A) (k : ℕ) (f : A → A) (d : A)
+    → ((j : ℕ) → P j (slice_get xs j)) →
     ((j : ℕ) (x : A) → P j (Some x) → P j (Some (f x))) → (j : ℕ) → P j (slice_get (set xs k (f (get_or xs k d))) j)
 each_changed P [] k f d old step j = old j
 each_changed P (x ∷ xs) zero f d old step zero = step 0 x (old 0)
@@ -42,18 +43,22 @@ module _ (a : Inside) (k : ℕ) (f : Header → Header) (class_stays : (h : Head
         older = each_changed (λ j o. IsTrue (is_in_order j o)) a.headers k f no_header kept.older
             (λ j h older. subst (λ p. IsTrue (is_older j p)) (sym (proto_stays h)) older);
         none_past = λ j past. kept.none_past j (subst (λ n. n ≤ j) (length-set a.headers k _) past);
-        named = each_changed (λ j o. IsTrue (not (is_array_header o) || is_some a.length_name)) a.headers k f no_header kept.named
+        named = each_changed (λ j o. IsTrue (not (is_array_header o) || is_some a.length_name)) a.headers k f no_header
+            kept.named
             (λ j h named. subst (λ c. IsTrue (not (is_array c) || is_some a.length_name)) (sym (class_stays h)) named);
         right = kept.right;
       })
 
-  objects_changed : (F : Object → Object) (p : ℕ → List (Entry Prop)) → ((h : Header) (es : List (Entry Prop)) → F (object_of h es) ≡ object_of (f h) es) →
+  objects_changed : (F : Object → Object) (p : ℕ → List (Entry Prop))
+      → ((h : Header) (es : List (Entry Prop)) → F (object_of h es) ≡ object_of (f h) es) →
       Within a.headers k →
-      objects_of (set a.headers k (f (get_or a.headers k no_header))) p ≡ set (objects_of a.headers p) k (F (get_or (objects_of a.headers p) k absent_object))
+      objects_of (set a.headers k (f (get_or a.headers k no_header))) p
+      ≡ set (objects_of a.headers p) k (F (get_or (objects_of a.headers p) k absent_object))
   objects_changed F p same (inside i) =
       objects_of-set a.headers p k _
       ∙ ap (λ o. set (objects_of a.headers p) k o)
-      (sym (same (get_or a.headers k no_header) (p k)) ∙ ap F (sym (objects_of-at a.headers p k absent_object no_header i)))
+      (sym (same (get_or a.headers k no_header) (p k))
+      ∙ ap F (sym (objects_of-at a.headers p k absent_object no_header i)))
   objects_changed F p same (past i) =
       ap (λ l. objects_of l p) (set_past a.headers k _ i)
       ∙ sym (set_past (objects_of a.headers p) k _ (subst (λ n. n ≤ k) (sym (length-objects_of a.headers p)) i))
@@ -63,7 +68,8 @@ module _ (a : Inside) (k : ℕ) (f : Header → Header) (class_stays : (h : Head
       objects_inside (record a { headers = hs }) ≡ with_object heap k (F (object_at heap k))
   seen_changed heap F seen same =
       ap (λ l. objects_inside (record a { headers = l })) changed
-      ∙ ap (λ l. record (objects_inside a) { objects = l }) (objects_changed F (entries_of a.properties) same (within_or_past a.headers k))
+      ∙ ap (λ l. record (objects_inside a) { objects = l })
+      (objects_changed F (entries_of a.properties) same (within_or_past a.headers k))
       ∙ ap (λ g. with_object g k (F (object_at g k))) seen
 
 take_front : {A : Type 0} (xs ys : List A) → take (length xs) (xs ++ ys) ≡ xs

@@ -31,14 +31,16 @@ module _ (x n : List ℕ) (p : Prop) where
   item_in-with_item ne [] = refl
   item_in-with_item ne (e ∷ es) = step (item_in-with_item ne es) (has_name n e) refl (has_name x e) refl
     where
-      step : item_in x (with_item es n p) ≡ item_in x es → (bn : Bool) → has_name n e ≡ bn → (bx : Bool) → has_name x e ≡ bx →
+      step : item_in x (with_item es n p) ≡ item_in x es → (bn : Bool) → has_name n e ≡ bn → (bx : Bool)
+          → has_name x e ≡ bx →
           item_in x (with_item (e ∷ es) n p) ≡ item_in x (e ∷ es)
       step rest true en true ex = absurd (ne (sym (named_so x e ex) ∙ named_so n e en))
       step rest true en false ex = rw (en, ex) rest
       step rest false en true ex = rw (en, ex) refl
       step rest false en false ex = rw (en, ex) rest
 
-  pub item_in-with_new : x ≢ n → (serial : ℕ) (es : List (Entry Prop)) → item_in x (with_new es n serial p) ≡ item_in x es
+  pub item_in-with_new : x ≢ n → (serial : ℕ) (es : List (Entry Prop)) → item_in x (with_new es n serial p)
+      ≡ item_in x es
   item_in-with_new ne serial [] = rw (bytes_eq-other n x (λ e. ne (sym e))) refl
   item_in-with_new ne serial (e ∷ es) = step (item_in-with_new ne serial es) (has_name x e) refl
     where
@@ -52,7 +54,8 @@ pub item_in-filter : (keeps : List ℕ → Bool) (x : List ℕ) → keeps x ≡ 
 item_in-filter keeps x kept [] = refl
 item_in-filter keeps x kept (e ∷ es) = step (item_in-filter keeps x kept es) (has_name x e) refl (keeps e.name) refl
   where
-    step : item_in x (filter (λ e. keeps e.name) es) ≡ item_in x es → (bx : Bool) → has_name x e ≡ bx → (bk : Bool) → keeps e.name ≡ bk →
+    step : item_in x (filter (λ e. keeps e.name) es) ≡ item_in x es → (bx : Bool) → has_name x e ≡ bx → (bk : Bool)
+        → keeps e.name ≡ bk →
         item_in x (filter (λ e. keeps e.name) (e ∷ es)) ≡ item_in x (e ∷ es)
     step rest true ex true ek = rw (ek, ex) refl
     step rest true ex false ek = let same = named_so x e ex in let k = ap keeps same in cc

@@ -55,29 +55,35 @@ module _ (h : Objects) (k : ℕ) (P : Objects → Type 0) (stays : P h) (next : 
   lengthened g i None p = p
   lengthened g i (Some l) p = put g _ p
 
-  counted_so : (i : ℕ) (l : Option Prop) (g : Objects) (d : Defined) (b : Bool) → nat_le (length_of l) i ≡ b → P g → P (grow_length k i l (g, d)).0
+  counted_so : (i : ℕ) (l : Option Prop) (g : Objects) (d : Defined) (b : Bool) → nat_le (length_of l) i ≡ b → P g
+      → P (grow_length k i l (g, d)).0
   counted_so i l g Rejected b e p = p
   counted_so i l g Done true e p = rw e (lengthened g (i + 1) l p)
   counted_so i l g Done false e p = rw e p
 
-  element_if : (b : Bool) (n : List ℕ) (i : ℕ) (c : Change) (l : Option Prop) → P (pick b (h, Rejected) (grow_length k i l (define_ordinary h k n c))).0
+  element_if : (b : Bool) (n : List ℕ) (i : ℕ) (c : Change) (l : Option Prop)
+      → P (pick b (h, Rejected) (grow_length k i l (define_ordinary h k n c))).0
   element_if true n i c l = stays
-  element_if false n i c l = counted_so i l (define_ordinary h k n c).0 (define_ordinary h k n c).1 (nat_le (length_of l) i) refl (plainly n c)
+  element_if false n i c l =
+      counted_so i l (define_ordinary h k n c).0 (define_ordinary h k n c).1 (nat_le (length_of l) i) refl (plainly n c)
 
   shorter_to : (low high : ℕ) (w : Bool) (q : Option Prop) → P (shortened_to h k low high w q).0
   shorter_to low high w None = stays
   shorter_to low high w (Some q) = put h _ stays
 
-  shorter_if : (b : Bool) (low high : ℕ) (w : Bool) (q : Option Prop) → P (pick b (shortened_to h k low high w q) (h, Rejected)).0
+  shorter_if : (b : Bool) (low high : ℕ) (w : Bool) (q : Option Prop)
+      → P (pick b (shortened_to h k low high w q) (h, Rejected)).0
   shorter_if true low high w q = shorter_to low high w q
   shorter_if false low high w q = stays
 
   shorter : (c : Change) (low : ℕ) (l : Option Prop) → P (defined_shorter h k c low l).0
   shorter c low None = stays
   shorter c low (Some p) =
-      shorter_if (is_writable (Some p)) low (length_of (Some p)) (unwrap_or c.writable true) (property_after p (kept_open c))
+      shorter_if (is_writable (Some p)) low (length_of (Some p)) (unwrap_or c.writable true)
+      (property_after p (kept_open c))
 
-  length_if : (b : Bool) (c : Change) (low : ℕ) (l : Option Prop) → P (pick b (define_ordinary h k length_name c) (defined_shorter h k c low l)).0
+  length_if : (b : Bool) (c : Change) (low : ℕ) (l : Option Prop)
+      → P (pick b (define_ordinary h k length_name c) (defined_shorter h k c low l)).0
   length_if true c low l = plainly length_name c
   length_if false c low l = shorter c low l
 
@@ -88,21 +94,26 @@ module _ (h : Objects) (k : ℕ) (P : Objects → Type 0) (stays : P h) (next : 
   at : (n : List ℕ) (c : Change) (i : Option ℕ) → P (defined_at h k n c i).0
   at n c None = plainly n c
   at n c (Some i) =
-      element_if (nat_le (length_of (own h k length_name)) i && not (is_writable (own h k length_name))) n i c (own h k length_name)
+      element_if (nat_le (length_of (own h k length_name)) i && not (is_writable (own h k length_name))) n i c
+      (own h k length_name)
 
-  named_if : (b : Bool) (n : List ℕ) (c : Change) → P (pick b (define_array_length h k c c.value (own h k length_name)) (defined_at h k n c (index_of n))).0
+  named_if : (b : Bool) (n : List ℕ) (c : Change)
+      → P (pick b (define_array_length h k c c.value (own h k length_name)) (defined_at h k n c (index_of n))).0
   named_if true n c = of_length c c.value (own h k length_name)
   named_if false n c = at n c (index_of n)
 
   array_if : (b : Bool) (n : List ℕ) (c : Change) →
-      P (pick b (pick (bytes_eq n length_name) (define_array_length h k c c.value (own h k length_name)) (defined_at h k n c (index_of n))) (define_ordinary h k n c)).0
+      P (pick b (pick (bytes_eq n length_name) (define_array_length h k c c.value (own h k length_name))
+      (defined_at h k n c (index_of n))) (define_ordinary h k n c)).0
   array_if true n c = named_if (bytes_eq n length_name) n c
   array_if false n c = plainly n c
 
   any_change : (n : List ℕ) (c : Change) → P (define_own_property h k n c).0
   any_change n c = array_if (is_array (object_at h k).class) n c
 
-  delete_if : (b : Bool) (n : List ℕ) → P (let answer : Objects × Bool = if b then (with_properties h k (without (object_at h k).properties n), true) else (h, false) in answer.0)
+  delete_if : (b : Bool) (n : List ℕ)
+      → P (let answer : Objects × Bool = if b then (with_properties h k (without (object_at h k).properties n), true)
+      else (h, false) in answer.0)
   delete_if true n = put h _ stays
   delete_if false n = stays
 
@@ -116,12 +127,15 @@ module _ (h : Objects) (k : ℕ) (P : Objects → Type 0) (stays : P h) (next : 
 pub keeps_object : (h : Objects) (k j : ℕ) (n : List ℕ) (c : Change) → j ≢ k → KeepsObject h k j n c
 keeps_object h k j n c ne =
     let P = λ (g : Objects). object_at g j ≡ object_at h j in
-    let put = λ (g : Objects) (es : List (Entry Prop)) (p : object_at g j ≡ object_at h j). object_at-other g k j es ne ∙ p in
+    let put = λ (g : Objects) (es : List (Entry Prop)) (p : object_at g j ≡ object_at h j). object_at-other g k j es ne
+    ∙ p in
     record { defined_there = any_change h k P refl refl put n c; deleted_there = any_delete h k P refl refl put n }
 
 -- a delete leaves what can't be configured
-module _ (h : Objects) (k : ℕ) (x : List ℕ) (p : Prop) (non_configurable : is_configurable p ≡ false) (here : own h k x ≡ Some p) where
-  without_other : (n : List ℕ) → x ≢ n → Within h.objects k → own (with_properties h k (without (object_at h k).properties n)) k x ≡ Some p
+module _ (h : Objects) (k : ℕ) (x : List ℕ) (p : Prop) (non_configurable : is_configurable p ≡ false) (here : own h k x
+    ≡ Some p) where
+  without_other : (n : List ℕ) → x ≢ n → Within h.objects k
+      → own (with_properties h k (without (object_at h k).properties n)) k x ≡ Some p
   without_other n ne (inside i) =
       own-put h k _ x i
       ∙ item_in-filter (λ y. not (bytes_eq y n)) x (ap not (bytes_eq-other x n ne)) (object_at h k).properties
@@ -129,7 +143,8 @@ module _ (h : Objects) (k : ℕ) (x : List ℕ) (p : Prop) (non_configurable : i
   without_other n ne (past i) = ap (λ g. own g k x) (put_past h k _ i) ∙ here
 
   deleted_pick : (b : Bool) (n : List ℕ) → x ≢ n →
-      own (let answer : Objects × Bool = if b then (with_properties h k (without (object_at h k).properties n), true) else (h, false) in answer.0) k x ≡ Some p
+      own (let answer : Objects × Bool = if b then (with_properties h k (without (object_at h k).properties n), true)
+      else (h, false) in answer.0) k x ≡ Some p
   deleted_pick true n ne = without_other n ne (within_or_past h.objects k)
   deleted_pick false n ne = here
 
@@ -143,23 +158,30 @@ module _ (h : Objects) (k : ℕ) (x : List ℕ) (p : Prop) (non_configurable : i
       let there : own_or_unit h k n ≡ Some p =
       ap (λ o. option_or o (option_map unit_property (unit_at h k n))) (ap (own h k) (sym e) ∙ here) in
       ap (λ q. own (deleted_if h k n q).0 k x) there
-      ∙ ap (λ (b : Bool). own (let answer : Objects × Bool = if b then (with_properties h k (without (object_at h k).properties n), true) else (h, false) in answer.0) k x) non_configurable
+      ∙ ap (λ (b : Bool). own (let answer : Objects
+      × Bool = if b then (with_properties h k (without (object_at h k).properties n), true) else (h, false) in
+      answer.0) k x) non_configurable
       ∙ here
 
-pub non_configurable_is : (h : Objects) (k : ℕ) (x n : List ℕ) (p : Prop) → is_configurable p ≡ false → own h k x ≡ Some p → own (delete_property h k n).0 k x ≡ Some p
+pub non_configurable_is : (h : Objects) (k : ℕ) (x n : List ℕ) (p : Prop) → is_configurable p ≡ false
+    → own h k x ≡ Some p → own (delete_property h k n).0 k x ≡ Some p
 non_configurable_is h k x n p non_configurable here = deleted_by h k x p non_configurable here n (same_or_other x n)
 
 -- an object with units is no array
-no_array : (c : Class) (inner : Inner) (index : Option ℕ) (unit : ℕ) → option_and_then (λ i. slice_get (units_of c inner) i) index ≡ Some unit → is_array c ≡ false
+no_array : (c : Class) (inner : Inner) (index : Option ℕ) (unit : ℕ)
+    → option_and_then (λ i. slice_get (units_of c inner) i) index ≡ Some unit → is_array c ≡ false
 no_array class.Array inner None unit e = cc
 no_array class.Array inner (Some i) unit e = cc
 no_array _ inner index unit e = refl
 
-pub units_are : (h : Objects) (k : ℕ) (n : List ℕ) (c : Change) (unit : ℕ) → IsOneKind c → unit_at h k n ≡ Some unit → own h k n ≡ None →
+pub units_are : (h : Objects) (k : ℕ) (n : List ℕ) (c : Change) (unit : ℕ) → IsOneKind c → unit_at h k n ≡ Some unit
+    → own h k n ≡ None →
     (define_own_property h k n c).0 ≡ h
 units_are h k n c unit one there absent =
     let plain = no_array (object_at h k).class (object_at h k).inner (index_of n) unit there in
-    let at = λ (b : Bool). (pick b (pick (bytes_eq n length_name) (define_array_length h k c c.value (own h k length_name)) (defined_at h k n c (index_of n))) (define_ordinary h k n c)).0 in
+    let at = λ (b : Bool). (pick b
+    (pick (bytes_eq n length_name) (define_array_length h k c c.value (own h k length_name))
+    (defined_at h k n c (index_of n))) (define_ordinary h k n c)).0 in
     ap at plain ∙ on_unit (is_same (unit_property unit) c) refl
   where
     on_unit : (b : Bool) → is_same (unit_property unit) c ≡ b → (define_ordinary h k n c).0 ≡ h

@@ -15,7 +15,8 @@ use Rattle.jl_heap.proofs.InsideLemmas.{object_at-past, object_at-there}
 right_if : (found : Option (List ℕ)) (name : List ℕ) → found ≡ Some name →
     IsTrue (option_map_or (λ n. bytes_eq n length_name) found true) → name ≡ length_name
 right_if None name e h = cc
-right_if (Some n) name e h = subst (λ m. m ≡ length_name) (let f : n ≡ name = cc in f) ((bytes_eq-Decides n length_name).0 h)
+right_if (Some n) name e h =
+    subst (λ m. m ≡ length_name) (let f : n ≡ name = cc in f) ((bytes_eq-Decides n length_name).0 h)
 
 pub right_name : (a : Inside) (name : List ℕ) → IsKept a → a.length_name ≡ Some name → name ≡ length_name
 right_name a name kept e = right_if a.length_name name e kept.right
@@ -25,13 +26,16 @@ header_array : (a : Inside) (k : ℕ) (found : Option Header) → slice_get a.he
 header_array a k None e array = subst (λ (o : Object). IsTrue (is_array o.class)) (object_at-past a k e) array
 header_array a k (Some h) e array = subst (λ (o : Object). IsTrue (is_array o.class)) (object_at-there a k h e) array
 
-named_if : (array : Bool) (found : Option (List ℕ)) → IsTrue array → found ≡ None → IsTrue (not array || is_some found) → ⊥
+named_if : (array : Bool) (found : Option (List ℕ)) → IsTrue array → found ≡ None → IsTrue (not array || is_some found)
+    → ⊥
 named_if false found array e h = cc
 named_if true None array e h = cc
 named_if true (Some n) array e h = cc
 
 -- there is a name at hand
-pub named : (a : Inside) (heap : Objects) (k : ℕ) → IsKept a → objects_inside a ≡ heap → IsTrue (is_array (object_at heap k).class) →
+pub named : (a : Inside) (heap : Objects) (k : ℕ) → IsKept a → objects_inside a ≡ heap
+    → IsTrue (is_array (object_at heap k).class) →
     a.length_name ≡ None → ⊥
 named a heap k kept seen array e =
-    named_if _ _ (header_array a k (slice_get a.headers k) refl (subst (λ h. IsTrue (is_array (object_at h k).class)) (sym seen) array)) e (kept.named k)
+    named_if _ _ (header_array a k (slice_get a.headers k) refl
+    (subst (λ h. IsTrue (is_array (object_at h k).class)) (sym seen) array)) e (kept.named k)

@@ -43,16 +43,19 @@ module _ (h : Objects) (k : ℕ) (n : List ℕ) (P : Objects → Type 0) (same :
 pub own-define_ordinary : (h : Objects) (k : ℕ) (n x : List ℕ) (c : Change) → x ≢ n →
     own (define_ordinary h k n c).0 k x ≡ own h k x
 own-define_ordinary h k n x c ne =
-    by_plainly h k n (λ g. own g k x ≡ own h k x) refl (λ p. own-with_new_property h k n x p ne) (λ p. own-with_property h k n x p ne) c
+    by_plainly h k n (λ g. own g k x ≡ own h k x) refl (λ p. own-with_new_property h k n x p ne)
+    (λ p. own-with_property h k n x p ne) c
 
 -- and so does the class of each object
 pub class-define_ordinary : (h : Objects) (k j : ℕ) (n : List ℕ) (c : Change) →
     (object_at (define_ordinary h k n c).0 j).class ≡ (object_at h j).class
 class-define_ordinary h k j n c =
-    by_plainly h k n (λ g. (object_at g j).class ≡ (object_at h j).class) refl (λ p. class-put (record h { next = h.next + 1 }) k j _) (λ p. class-put h k j _) c
+    by_plainly h k n (λ g. (object_at g j).class ≡ (object_at h j).class) refl
+    (λ p. class-put (record h { next = h.next + 1 }) k j _) (λ p. class-put h k j _) c
 
 -- an array stays one
-pub array-define_ordinary : (h g : Objects) (k : ℕ) (n : List ℕ) (c : Change) (d : Defined) → (g, d) ≡ define_ordinary h k n c →
+pub array-define_ordinary : (h g : Objects) (k : ℕ) (n : List ℕ) (c : Change) (d : Defined)
+    → (g, d) ≡ define_ordinary h k n c →
     IsTrue (is_array (object_at h k).class) → IsTrue (is_array (object_at g k).class)
 array-define_ordinary h g k n c d e array =
     let after : g ≡ (define_ordinary h k n c).0 = ap (λ (p : Objects × Defined). p.0) e in
@@ -64,10 +67,12 @@ unfolding length_name index_of
 length_is_no_index = refl
 
 pub index_is_not_length : (n : List ℕ) (i : ℕ) → index_of n ≡ Some i → length_name ≢ n
-index_is_not_length n i e same = let f : index_of length_name ≡ index_of n = ap index_of same in let g = length_is_no_index in cc
+index_is_not_length n i e same = let f : index_of length_name ≡ index_of n = ap index_of same in
+    let g = length_is_no_index in cc
 
 -- and its `length` stays there where an element is defined
-pub there-define_ordinary : (h g : Objects) (k : ℕ) (n : List ℕ) (c : Change) (d : Defined) (i : ℕ) → (g, d) ≡ define_ordinary h k n c →
+pub there-define_ordinary : (h g : Objects) (k : ℕ) (n : List ℕ) (c : Change) (d : Defined) (i : ℕ)
+    → (g, d) ≡ define_ordinary h k n c →
     index_of n ≡ Some i → IsSome (own h k length_name) → IsSome (own g k length_name)
 there-define_ordinary h g k n c d i e index there =
     let after : g ≡ (define_ordinary h k n c).0 = ap (λ (p : Objects × Defined). p.0) e in
@@ -79,7 +84,8 @@ pub index_below : (n : List ℕ) (i : ℕ) → index_of n ≡ Some i → i < 429
 index_below n i e = (index_of_is n i e).below
 
 -- what is made of a property that is there shows that it is there
-pub there_if : (b : Bool) (f : Prop → Prop) (o : Option Prop) (p : Prop) → (if b then option_map f o else None) ≡ Some p → IsSome o
+pub there_if : (b : Bool) (f : Prop → Prop) (o : Option Prop) (p : Prop) → (if b then option_map f o else None) ≡ Some p
+    → IsSome o
 there_if true f None p e = cc
 there_if true f (Some q) p e = refl
 there_if false f o p e = cc

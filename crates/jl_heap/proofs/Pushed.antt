@@ -54,7 +54,8 @@ module _ (a : Inside) (h : Header) (kept : IsKept a) (older : IsTrue (is_older (
   kept_plain plain = record {
     older = each_pushed (λ k o. IsTrue (is_in_order k o)) a.headers h kept.older older;
     none_past = λ k past. kept.none_past k (omega (arith, past, length-append a.headers (h ∷ [])));
-    named = each_pushed (λ k o. IsTrue (not (is_array_header o) || is_some a.length_name)) a.headers h kept.named (rw plain refl);
+    named = each_pushed (λ k o. IsTrue (not (is_array_header o) || is_some a.length_name)) a.headers h kept.named
+    (rw plain refl);
     right = kept.right;
   }
 
@@ -63,7 +64,8 @@ module _ (a : Inside) (h : Header) (kept : IsKept a) (older : IsTrue (is_older (
   kept_pushed (Ok x) hs plain ok err = subst (λ l. IsKept (record a { headers = l })) (sym ok) (kept_plain plain)
   kept_pushed (Err e) hs plain ok err = subst (λ l. IsKept (record a { headers = l })) (sym err) kept
 
-  pub kept_array : (hs : List Header) (p : Properties Prop) (es : List (Entry Prop)) (next : ℕ) (name : List ℕ) → hs ≡ a.headers ++ h ∷ [] →
+  pub kept_array : (hs : List Header) (p : Properties Prop) (es : List (Entry Prop)) (next : ℕ) (name : List ℕ)
+      → hs ≡ a.headers ++ h ∷ [] →
       Changes a.properties p (length a.headers) es next → name ≡ length_name →
       IsKept (record a { headers = hs; properties = p; length_name = Some name })
   kept_array hs p es next name hs_is changes name_is =
@@ -84,7 +86,8 @@ module _ (a : Inside) (h : Header) (kept : IsKept a) (heap : Objects) (seen : ob
   bare : entries_of a.properties (length a.headers) ≡ []
   bare = no_entries _ (kept.none_past (length a.headers) (omega arith))
 
-  seen_plain : objects_inside (record a { headers = a.headers ++ h ∷ [] }) ≡ record heap { objects = heap.objects ++ object_of h [] ∷ [] }
+  seen_plain : objects_inside (record a { headers = a.headers ++ h ∷ [] })
+      ≡ record heap { objects = heap.objects ++ object_of h [] ∷ [] }
   seen_plain =
       ap (λ l. record (objects_inside a) { objects = l })
       (objects_of-push a.headers (entries_of a.properties) h
@@ -92,7 +95,8 @@ module _ (a : Inside) (h : Header) (kept : IsKept a) (heap : Objects) (seen : ob
       ∙ ap (λ (g : Objects). record g { objects = g.objects ++ object_of h [] ∷ [] }) seen
 
   pub seen_pushed : {T E : Type 0} (r : Result T E) (hs : List Header) → OnOk r (hs ≡ a.headers ++ h ∷ []) →
-      OnOk r (objects_inside (record a { headers = hs }) ≡ record heap { objects = heap.objects ++ object_of h [] ∷ [] })
+      OnOk r (objects_inside (record a { headers = hs })
+      ≡ record heap { objects = heap.objects ++ object_of h [] ∷ [] })
   seen_pushed (Ok x) hs e = ap (λ l. objects_inside (record a { headers = l })) e ∙ seen_plain
   seen_pushed (Err x) hs e = tt
 
@@ -103,35 +107,45 @@ module _ (a : Inside) (h : Header) (kept : IsKept a) (heap : Objects) (seen : ob
   places : length heap.objects ≡ length a.headers
   places = ap (λ (g : Objects). length g.objects) (sym seen) ∙ length-objects_of a.headers (entries_of a.properties)
 
-  pub seen_array : (hs : List Header) (p : Properties Prop) (n : List ℕ) (item : Prop) (name : Option (List ℕ)) → hs ≡ a.headers ++ h ∷ [] → n ≡ length_name →
-      Changes a.properties p (length a.headers) (with_new (entries_of a.properties (length a.headers)) n a.properties.next item) (a.properties.next + 1) →
+  pub seen_array : (hs : List Header) (p : Properties Prop) (n : List ℕ) (item : Prop) (name : Option (List ℕ))
+      → hs ≡ a.headers ++ h ∷ [] → n ≡ length_name →
+      Changes a.properties p (length a.headers)
+      (with_new (entries_of a.properties (length a.headers)) n a.properties.next item) (a.properties.next + 1) →
       objects_inside (record a { headers = hs; properties = p; length_name = name })
-      ≡ with_new_property (record heap { objects = heap.objects ++ object_of h [] ∷ [] }) (length heap.objects) length_name item
+      ≡ with_new_property (record heap { objects = heap.objects ++ object_of h [] ∷ [] }) (length heap.objects)
+      length_name item
   seen_array hs p n item name hs_is n_is changes =
       let b : Inside = record a { headers = a.headers ++ h ∷ [] } in
       let k = length a.headers in
-      let wider = λ (g : Objects) (es : List (Entry Prop)) (m : ℕ). with_properties (record g { next = m + 1 }) k (with_new es n m item) in
+      let wider = λ (g : Objects) (es : List (Entry Prop)) (m : ℕ). with_properties (record g { next = m + 1 }) k
+      (with_new es n m item) in
       ap (λ l. objects_inside (record a { headers = l; properties = p })) hs_is
       ∙ seen_put b p k _ _ changes
       ∙ ap (λ es. wider (objects_inside b) es a.properties.next) bare
       ∙ ap (λ (g : Objects). wider g [] g.next) seen_plain
-      ∙ ap (λ (o : Object). wider (record heap { objects = heap.objects ++ object_of h [] ∷ [] }) o.properties heap.next)
+      ∙ ap (λ (o : Object). wider (record heap { objects = heap.objects ++ object_of h [] ∷ [] }) o.properties
+      heap.next)
       (sym (last_object heap.objects (object_of h [])))
       ∙ ap (λ j. with_properties (record heap { objects = heap.objects ++ object_of h [] ∷ []; next = heap.next + 1 }) k
-      (with_new (get_or (heap.objects ++ object_of h [] ∷ []) (length heap.objects) absent_object).properties j heap.next item)) n_is
+      (with_new (get_or (heap.objects ++ object_of h [] ∷ []) (length heap.objects) absent_object).properties j
+      heap.next item)) n_is
       ∙ ap (λ j. with_properties (record heap { objects = heap.objects ++ object_of h [] ∷ []; next = heap.next + 1 }) j
-      (with_new (get_or (heap.objects ++ object_of h [] ∷ []) (length heap.objects) absent_object).properties length_name heap.next item)) (sym places)
+      (with_new (get_or (heap.objects ++ object_of h [] ∷ []) (length heap.objects) absent_object).properties
+      length_name heap.next item)) (sym places)
 
 -- a header that was added and taken off, and a store that stayed, are seen as before
-pub seen_back : (a : Inside) (heap : Objects) (hs : List Header) (p : Properties Prop) → objects_inside a ≡ heap → hs ≡ a.headers → IsUnchanged a.properties p →
+pub seen_back : (a : Inside) (heap : Objects) (hs : List Header) (p : Properties Prop) → objects_inside a ≡ heap
+    → hs ≡ a.headers → IsUnchanged a.properties p →
     objects_inside (record a { headers = hs; properties = p }) ≡ heap
 seen_back a heap hs p seen hs_is same =
     ap (λ l. objects_inside (record a { headers = l; properties = p })) hs_is
-    ∙ ap (λ l. record (objects_inside a) { objects = l; next = p.next }) (objects_of-same a.headers (entries_of p) (entries_of a.properties) same.entries)
+    ∙ ap (λ l. record (objects_inside a) { objects = l; next = p.next })
+    (objects_of-same a.headers (entries_of p) (entries_of a.properties) same.entries)
     ∙ ap (λ n. record (objects_inside a) { next = n }) same.next_serial
     ∙ seen
 
-pub kept_back : (a : Inside) (hs : List Header) (p : Properties Prop) → IsKept a → hs ≡ a.headers → IsUnchanged a.properties p →
+pub kept_back : (a : Inside) (hs : List Header) (p : Properties Prop) → IsKept a → hs ≡ a.headers
+    → IsUnchanged a.properties p →
     IsKept (record a { headers = hs; properties = p })
 kept_back a hs p kept hs_is same =
     subst (λ l. IsKept (record a { headers = l; properties = p })) (sym hs_is)

@@ -25,7 +25,8 @@ within_or_past (x ∷ xs) (suc k) = more (within_or_past xs k)
     more (past p) = past (omega (arith, p))
 
 pub put_past : (h : Objects) (k : ℕ) (es : List (Entry Prop)) → length h.objects ≤ k → with_properties h k es ≡ h
-put_past h k es p = ap (λ l. record h { objects = l }) (set_past h.objects k (record (object_at h k) { properties = es }) p)
+put_past h k es p = ap (λ l. record h { objects = l })
+    (set_past h.objects k (record (object_at h k) { properties = es }) p)
 
 pub put_same : (h : Objects) (k : ℕ) → with_properties h k (object_at h k).properties ≡ h
 put_same h k = ap (λ l. record h { objects = l }) (set-get_or h.objects k absent_object)
@@ -34,7 +35,8 @@ pub object_at-put : (h : Objects) (k : ℕ) (es : List (Entry Prop)) → k < len
     object_at (with_properties h k es) k ≡ record (object_at h k) { properties = es }
 object_at-put h k es p = get_or-set_same h.objects k _ absent_object p
 
-pub object_at-other : (h : Objects) (k j : ℕ) (es : List (Entry Prop)) → j ≢ k → object_at (with_properties h k es) j ≡ object_at h j
+pub object_at-other : (h : Objects) (k j : ℕ) (es : List (Entry Prop)) → j ≢ k → object_at (with_properties h k es) j
+    ≡ object_at h j
 object_at-other h k j es ne = get_or-set_other h.objects k j _ absent_object ne
 
 class_here : (h : Objects) (k : ℕ) (es : List (Entry Prop)) → Within h.objects k →
@@ -42,7 +44,8 @@ class_here : (h : Objects) (k : ℕ) (es : List (Entry Prop)) → Within h.objec
 class_here h k es (inside p) = ap (λ (o : Object). o.class) (object_at-put h k es p)
 class_here h k es (past p) = ap (λ (g : Objects). (object_at g k).class) (put_past h k es p)
 
-pub class-put : (h : Objects) (k j : ℕ) (es : List (Entry Prop)) → (object_at (with_properties h k es) j).class ≡ (object_at h j).class
+pub class-put : (h : Objects) (k j : ℕ) (es : List (Entry Prop)) → (object_at (with_properties h k es) j).class
+    ≡ (object_at h j).class
 class-put h k j es = by (eqb j k) refl
   where
     by : (b : Bool) → eqb j k ≡ b → (object_at (with_properties h k es) j).class ≡ (object_at h j).class
@@ -69,13 +72,16 @@ own_with_property : (h : Objects) (k : ℕ) (n x : List ℕ) (p : Prop) → x �
 own_with_property h k n x p ne (inside i) = own-put h k _ x i ∙ item_in-with_item x n p ne (object_at h k).properties
 own_with_property h k n x p ne (past i) = ap (λ g. own g k x) (put_past h k _ i)
 
-pub own-with_property : (h : Objects) (k : ℕ) (n x : List ℕ) (p : Prop) → x ≢ n → own (with_property h k n p) k x ≡ own h k x
+pub own-with_property : (h : Objects) (k : ℕ) (n x : List ℕ) (p : Prop) → x ≢ n → own (with_property h k n p) k x
+    ≡ own h k x
 own-with_property h k n x p ne = own_with_property h k n x p ne (within_or_past h.objects k)
 
 own_with_new : (h : Objects) (k : ℕ) (n x : List ℕ) (p : Prop) → x ≢ n → Within h.objects k →
     own (with_new_property h k n p) k x ≡ own h k x
-own_with_new h k n x p ne (inside i) = own-put (record h { next = h.next + 1 }) k _ x i ∙ item_in-with_new x n p ne h.next (object_at h k).properties
+own_with_new h k n x p ne (inside i) = own-put (record h { next = h.next + 1 }) k _ x i
+    ∙ item_in-with_new x n p ne h.next (object_at h k).properties
 own_with_new h k n x p ne (past i) = ap (λ g. own g k x) (put_past (record h { next = h.next + 1 }) k _ i)
 
-pub own-with_new_property : (h : Objects) (k : ℕ) (n x : List ℕ) (p : Prop) → x ≢ n → own (with_new_property h k n p) k x ≡ own h k x
+pub own-with_new_property : (h : Objects) (k : ℕ) (n x : List ℕ) (p : Prop) → x ≢ n
+    → own (with_new_property h k n p) k x ≡ own h k x
 own-with_new_property h k n x p ne = own_with_new h k n x p ne (within_or_past h.objects k)

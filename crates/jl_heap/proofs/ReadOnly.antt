@@ -27,39 +27,50 @@ differs true true false d true false one same = refl
 differs true true false d true true one same = cc
 
 refused-read_only : (value : Value) (enumerable : Bool) (change : Change) → IsOneKind change →
-    is_same (Plain value false enumerable false) change ≡ false → is_refused (Plain value false enumerable false) change ≡ true
+    is_same (Plain value false enumerable false) change ≡ false → is_refused (Plain value false enumerable false) change
+    ≡ true
 refused-read_only value enumerable change one same =
-    differs (stays same_bool change.configurable false) (stays same_bool change.enumerable enumerable) (is_accessor change) (is_data change)
+    differs (stays same_bool change.configurable false) (stays same_bool change.enumerable enumerable)
+    (is_accessor change) (is_data change)
     (stays same_bool change.writable false) (stays same_value change.value value) one same
 
 -- a change that asks for anything else is rejected
 pub property_after-read_only : (value : Value) (enumerable : Bool) (change : Change) → IsOneKind change →
-    is_same (Plain value false enumerable false) change ≡ false → property_after (Plain value false enumerable false) change ≡ None
+    is_same (Plain value false enumerable false) change ≡ false
+    → property_after (Plain value false enumerable false) change ≡ None
 property_after-read_only value enumerable change one same =
     let read_only : Prop = Plain value false enumerable false in
-    ap (λ refused. if true && refused then None else Some (with_fields (if turns read_only change then other_kind read_only else read_only) change))
+    ap (λ refused. if true && refused then None else Some
+    (with_fields (if turns read_only change then other_kind read_only else read_only) change))
     (refused-read_only value enumerable change one same)
 
-pub unit_is : (heap : Objects) (place : ℕ) (name : List ℕ) (unit : ℕ) → own heap place name ≡ None → unit_at heap place name ≡ Some unit →
+pub unit_is : (heap : Objects) (place : ℕ) (name : List ℕ) (unit : ℕ) → own heap place name ≡ None
+    → unit_at heap place name ≡ Some unit →
     own_or_unit heap place name ≡ Some (unit_property unit)
 unit_is heap place name unit absent e =
-    ap (λ o. option_or o (option_map unit_property (unit_at heap place name))) absent ∙ ap (λ u. option_map unit_property u) e
+    ap (λ o. option_or o (option_map unit_property (unit_at heap place name))) absent
+    ∙ ap (λ u. option_map unit_property u) e
 
 -- a change of a unit to anything else is rejected
-pub define_ordinary-unit : (heap : Objects) (place : ℕ) (name : List ℕ) (change : Change) (unit : ℕ) → IsOneKind change →
+pub define_ordinary-unit : (heap : Objects) (place : ℕ) (name : List ℕ) (change : Change) (unit : ℕ) → IsOneKind change
+    →
     own heap place name ≡ None → unit_at heap place name ≡ Some unit → is_same (unit_property unit) change ≡ false →
     define_ordinary heap place name change ≡ (heap, Rejected)
 define_ordinary-unit heap place name change unit one absent e same =
     ap (λ o. define_on heap place name change o) (unit_is heap place name unit absent e)
-    ∙ ap (λ b. if b then (heap, Done) else store_property heap place name (property_after (unit_property unit) change)) same
-    ∙ ap (λ o. store_property heap place name o) (property_after-read_only (value.Text (unit ∷ [])) true change one same)
+    ∙ ap (λ b. if b then (heap, Done) else store_property heap place name (property_after (unit_property unit) change))
+    same
+    ∙ ap (λ o. store_property heap place name o) (property_after-read_only (value.Text (unit ∷ [])) true change one
+    same)
 
 none_is : {A : Type 0} (o : Option A) → IsNone o → o ≡ None
 none_is None h = refl
 none_is (Some x) h = cc
 
-pub rejected-unit : (heap : Objects) (place : ℕ) (name : List ℕ) (change : Change) (found : Option ℕ) (unit : ℕ) → IsOneKind change →
-    IsNone (own heap place name) → found ≡ unit_at heap place name → found ≡ Some unit → is_same (unit_property unit) change ≡ false →
+pub rejected-unit : (heap : Objects) (place : ℕ) (name : List ℕ) (change : Change) (found : Option ℕ) (unit : ℕ)
+    → IsOneKind change →
+    IsNone (own heap place name) → found ≡ unit_at heap place name → found ≡ Some unit
+    → is_same (unit_property unit) change ≡ false →
     (heap, Rejected) ≡ define_ordinary heap place name change
 rejected-unit heap place name change found unit one absent at e same =
     sym (define_ordinary-unit heap place name change unit one (none_is _ absent) (sym at ∙ e) same)

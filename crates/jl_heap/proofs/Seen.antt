@@ -43,7 +43,8 @@ objects_of-put (h ∷ hs) f g zero d others =
     cc
 objects_of-put (h ∷ hs) f g (suc k) d others =
     let here = others 0 (λ e. omega (arith, e)) in
-    let tail = objects_of-put hs (λ j. f (suc j)) (λ j. g (suc j)) k d (λ j n. others (suc j) (λ e. n (omega (arith, e)))) in
+    let tail = objects_of-put hs (λ j. f (suc j)) (λ j. g (suc j)) k d
+    (λ j n. others (suc j) (λ e. n (omega (arith, e)))) in
     cc
 
 -- another header at one place is a write to that object

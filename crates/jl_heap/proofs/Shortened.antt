@@ -38,12 +38,14 @@ found_after : (low high : ℕ) (n : List ℕ) (p : Prop) (es : List (Entry Prop)
 found_after low high n p [] found = absurd (none-some p found)
 found_after low high n p (e ∷ es) found = step (has_name n e) refl (found_after low high n p es)
   where
-    step : (b : Bool) → has_name n e ≡ b → (item_in n es ≡ Some p → index_after low high n p ≤ reachable_length low high es)
+    step : (b : Bool) → has_name n e ≡ b
+        → (item_in n es ≡ Some p → index_after low high n p ≤ reachable_length low high es)
         → index_after low high n p ≤ reachable_length low high (e ∷ es)
     step true fits rest =
         let name : e.name ≡ n = named_so n e fits in
         let item : e.item ≡ p = same_Some e.item p (rw fits at found) in
-        let same : index_after low high e.name e.item ≡ index_after low high n p = λ i. index_after low high (name i) (item i) in
+        let same : index_after low high e.name e.item ≡ index_after low high n p =
+        λ i. index_after low high (name i) (item i) in
         omega (arith, same)
     step false fails rest = let below = rest (rw fails at found) in omega (arith, below)
 
@@ -58,7 +60,8 @@ module _ (h : Objects) (k low high : ℕ) where
   listed_after n (m ∷ ns) listed = step (bytes_eq m.0 n) refl (listed_after n ns)
     where
       step : (b : Bool) → bytes_eq m.0 n ≡ b
-          → (is_listed n ns ≡ true → option_map_or (index_after low high n) (own h k n) low ≤ reached_over h k low high ns)
+          → (is_listed n ns ≡ true → option_map_or (index_after low high n) (own h k n) low ≤ reached_over h k low high
+          ns)
           → option_map_or (index_after low high n) (own h k n) low ≤ reached_over h k low high (m ∷ ns)
       step true is rest =
           let name : m.0 ≡ n = (bytes_eq-Decides m.0 n).0 is in
@@ -81,13 +84,15 @@ module _ (h : Objects) (k low high : ℕ) where
       step here true inside =
           let listed = covers e.name (rw here refl) inside in
           let reached = listed_after e.name ns listed in
-          let same : option_map_or (index_after low high e.name) (own h k e.name) low ≡ index_after low high e.name e.item =
+          let same : option_map_or (index_after low high e.name) (own h k e.name) low
+          ≡ index_after low high e.name e.item =
           ap (λ o. option_map_or (index_after low high e.name) o low) here in
           omega (arith, reached, same)
       step here false outside =
           omega (arith, outside_after low high e.name e.item outside, reached_over-above h k low high ns)
 
-  names_reached : (ns : List (List ℕ × ℕ)) → reached_over h k low high ns ≤ reachable_length low high (object_at h k).properties
+  names_reached : (ns : List (List ℕ × ℕ))
+      → reached_over h k low high ns ≤ reachable_length low high (object_at h k).properties
   names_reached [] = reachable-above low high (object_at h k).properties
   names_reached (n ∷ ns) =
       let rest = names_reached ns in
@@ -95,7 +100,8 @@ module _ (h : Objects) (k low high : ℕ) where
       omega (arith, rest, first)
     where
       step : (o : Option Prop) → own h k n.0 ≡ o
-          → option_map_or (index_after low high n.0) (own h k n.0) low ≤ reachable_length low high (object_at h k).properties
+          → option_map_or (index_after low high n.0) (own h k n.0) low ≤ reachable_length low high
+          (object_at h k).properties
       step None none = rw none (reachable-above low high (object_at h k).properties)
       step (Some p) found = rw found (found_after low high n.0 p (object_at h k).properties found)
 
@@ -103,7 +109,8 @@ module _ (h : Objects) (k low high : ℕ) where
       reached_over h k low high ns ≡ reachable_length low high (object_at h k).properties
   reached_over-covering ns covers ordered =
       let more = entries_reached ns covers (object_at h k).properties
-      (λ i d within. ap (λ o. option_map (λ (e : Entry Prop). e.item) o) (finds_each (object_at h k).properties ordered i d within)) in
+      (λ i d within. ap (λ o. option_map (λ (e : Entry Prop). e.item) o)
+      (finds_each (object_at h k).properties ordered i d within)) in
       omega (arith, more, names_reached ns)
 
 and_false : (b : Bool) → (b && false) ≡ false
@@ -119,7 +126,8 @@ set_set (z ∷ xs) (suc k) x y = ap (λ l. z ∷ l) (set_set xs k x y)
 pub with_properties-twice : (h : Objects) (k : ℕ) (es fs : List (Entry Prop)) → k < length h.objects →
     with_properties (with_properties h k es) k fs ≡ with_properties h k fs
 with_properties-twice h k es fs within =
-    ap (λ (o : Object). record h { objects = set (set h.objects k (record (object_at h k) { properties = es })) k (record o { properties = fs }) })
+    ap (λ (o : Object). record h { objects = set (set h.objects k (record (object_at h k) { properties = es })) k
+    (record o { properties = fs }) })
     (object_at-put h k es within)
     ∙ ap (λ l. record h { objects = l }) (set_set h.objects k _ _)
 
@@ -149,11 +157,13 @@ module _ (low high : ℕ) where
       step rest true pe false qe = rw (pe, qe) rest
       step rest false pe c qe = rw pe rest
 
-  after_names-filter : (ns : List (List ℕ × ℕ)) (es : List (Entry Prop)) → after_names ns es ≡ filter (λ e. stays_of ns e.name) es
+  after_names-filter : (ns : List (List ℕ × ℕ)) (es : List (Entry Prop))
+      → after_names ns es ≡ filter (λ e. stays_of ns e.name) es
   after_names-filter [] es = filter_all es
   after_names-filter (n ∷ ns) es = step (is_between low high n.0) refl (after_names-filter ns)
     where
-      step : (b : Bool) → is_between low high n.0 ≡ b → ((fs : List (Entry Prop)) → after_names ns fs ≡ filter (λ e. stays_of ns e.name) fs) →
+      step : (b : Bool) → is_between low high n.0 ≡ b
+          → ((fs : List (Entry Prop)) → after_names ns fs ≡ filter (λ e. stays_of ns e.name) fs) →
           after_names (n ∷ ns) es ≡ filter (λ e. stays_of (n ∷ ns) e.name) es
       step true is rest =
           rw is (rest (without es n.0) ∙ filter_twice (λ x. not (bytes_eq x n.0)) (stays_of ns) es)
@@ -164,7 +174,8 @@ module _ (low high : ℕ) where
   stays_outside [] x out = refl
   stays_outside (n ∷ ns) x out = step (is_between low high n.0) refl (bytes_eq x n.0) refl (stays_outside ns x out)
     where
-      step : (b : Bool) → is_between low high n.0 ≡ b → (s : Bool) → bytes_eq x n.0 ≡ s → stays_of ns x ≡ true → stays_of (n ∷ ns) x ≡ true
+      step : (b : Bool) → is_between low high n.0 ≡ b → (s : Bool) → bytes_eq x n.0 ≡ s → stays_of ns x ≡ true
+          → stays_of (n ∷ ns) x ≡ true
       step false is s same rest = rw (is, rest) refl
       step true is false same rest = rw (is, same, rest) refl
       step true is true same rest =
@@ -173,11 +184,13 @@ module _ (low high : ℕ) where
           cc
 
   -- one that is goes, where it is among the names
-  goes_inside : (ns : List (List ℕ × ℕ)) (x : List ℕ) → is_between low high x ≡ true → is_listed x ns ≡ true → stays_of ns x ≡ false
+  goes_inside : (ns : List (List ℕ × ℕ)) (x : List ℕ) → is_between low high x ≡ true → is_listed x ns ≡ true
+      → stays_of ns x ≡ false
   goes_inside [] x is listed = absurd (false≢true listed)
   goes_inside (n ∷ ns) x is listed = step (bytes_eq n.0 x) refl (goes_inside ns x is)
     where
-      step : (b : Bool) → bytes_eq n.0 x ≡ b → (is_listed x ns ≡ true → stays_of ns x ≡ false) → stays_of (n ∷ ns) x ≡ false
+      step : (b : Bool) → bytes_eq n.0 x ≡ b → (is_listed x ns ≡ true → stays_of ns x ≡ false)
+          → stays_of (n ∷ ns) x ≡ false
       step true same rest =
           let name : n.0 ≡ x = (bytes_eq-Decides n.0 x).0 same in
           let at : is_between low high n.0 ≡ true = ap (is_between low high) name ∙ is in
@@ -189,12 +202,14 @@ module _ (low high : ℕ) where
   stays_same : (ns : List (List ℕ × ℕ)) (es : List (Entry Prop))
       → ((x : List ℕ) → IsSome (item_in x es) → is_between low high x ≡ true → is_listed x ns ≡ true)
       → All (λ e. item_in e.name es ≡ Some e.item) es
-      → (i : ℕ) (d : Entry Prop) → i < length es → stays_of ns (get_or es i d).name ≡ not (is_between low high (get_or es i d).name)
+      → (i : ℕ) (d : Entry Prop) → i < length es → stays_of ns (get_or es i d).name
+      ≡ not (is_between low high (get_or es i d).name)
   stays_same ns es covers found i d within = step (is_between low high (get_or es i d).name) refl
     where
       step : (b : Bool) → is_between low high (get_or es i d).name ≡ b →
           stays_of ns (get_or es i d).name ≡ not (is_between low high (get_or es i d).name)
-      step true is = rw is (goes_inside ns (get_or es i d).name is (covers (get_or es i d).name (rw (found i d within) refl) is))
+      step true is = rw is (goes_inside ns (get_or es i d).name is
+          (covers (get_or es i d).name (rw (found i d within) refl) is))
       step false is = rw is (stays_outside ns (get_or es i d).name is)
 
   filter_same : (p q : List ℕ → Bool) (es : List (Entry Prop)) →
@@ -220,14 +235,17 @@ module _ (low high : ℕ) where
   name_by_name (n ∷ ns) h k within = step (is_between low high n.0) refl (λ g. name_by_name ns g k)
     where
       step : (b : Bool) → is_between low high n.0 ≡ b →
-          ((g : Objects) → k < length g.objects → without_elements g k low high ns ≡ with_properties g k (after_names ns (object_at g k).properties)) →
+          ((g : Objects) → k < length g.objects → without_elements g k low high ns
+          ≡ with_properties g k (after_names ns (object_at g k).properties)) →
           without_elements h k low high (n ∷ ns) ≡ with_properties h k (after_names (n ∷ ns) (object_at h k).properties)
       step true is rest =
           let es = (object_at h k).properties in
           let g : Objects = with_properties h k (without es n.0) in
-          let inside : k < length g.objects = omega (arith, within, length-set h.objects k (record (object_at h k) { properties = without es n.0 })) in
+          let inside : k < length g.objects =
+          omega (arith, within, length-set h.objects k (record (object_at h k) { properties = without es n.0 })) in
           rw is (rest g inside
-          ∙ ap (λ (o : Object). with_properties g k (after_names ns o.properties)) (object_at-put h k (without es n.0) within)
+          ∙ ap (λ (o : Object). with_properties g k (after_names ns o.properties))
+          (object_at-put h k (without es n.0) within)
           ∙ with_properties-twice h k (without es n.0) (after_names ns (without es n.0)) within)
       step false is rest = rw is (rest h within)
 
@@ -238,20 +256,23 @@ module _ (low high : ℕ) where
   without_elements-entries_outside h k ns within covers ordered =
       name_by_name ns h k within
       ∙ ap (λ es. with_properties h k es) (after_names-entries_outside ns (object_at h k).properties covers
-      (λ i d inside. ap (λ o. option_map (λ (e : Entry Prop). e.item) o) (finds_each (object_at h k).properties ordered i d inside)))
+      (λ i d inside. ap (λ o. option_map (λ (e : Entry Prop). e.item) o)
+      (finds_each (object_at h k).properties ordered i d inside)))
 
   length_stays : not (is_between low high length_name) ≡ true
   length_stays = ap (λ o. not (option_map_or (λ i. nat_le low i && nat_lt i high) o false)) length_is_no_index
 
   -- `length` is there after it as before
   pub own-entries_outside : (h : Objects) (k : ℕ) → k < length h.objects →
-      own (with_properties h k (entries_outside low high (object_at h k).properties)) k length_name ≡ own h k length_name
+      own (with_properties h k (entries_outside low high (object_at h k).properties)) k length_name
+      ≡ own h k length_name
   own-entries_outside h k within =
       own-put h k _ length_name within
       ∙ item_in-filter (λ x. not (is_between low high x)) length_name length_stays (object_at h k).properties
 
 -- bounds within others are covered too
-inside_bounds : (low end high : ℕ) (x : List ℕ) → low ≤ end → is_between end high x ≡ true → is_between low high x ≡ true
+inside_bounds : (low end high : ℕ) (x : List ℕ) → low ≤ end → is_between end high x ≡ true → is_between low high x
+    ≡ true
 inside_bounds low end high x above is = step (index_of x) is
   where
     step : (o : Option ℕ) → option_map_or (λ i. nat_le end i && nat_lt i high) o false ≡ true
@@ -260,7 +281,8 @@ inside_bounds low end high x above is = step (index_of x) is
     step (Some i) between = grind (arith, above)
 
 -- what the loops of `shorten` and the write after them come to
-module _ (h g : Objects) (k low high end : ℕ) (within : k < length h.objects) (ordered : IsInOrder (object_at h k).properties)
+module _ (h g : Objects) (k low high end : ℕ) (within : k < length h.objects)
+    (ordered : IsInOrder (object_at h k).properties)
     (names : List (List ℕ × ℕ)) (covers : Covers h k low high names)
     (first : List (List ℕ × ℕ)) (first_is : first ≡ names) (end_is : end ≡ reached_over h k low high first)
     (second : List (List ℕ × ℕ)) (second_is : second ≡ names) (cut_is : g ≡ without_elements h k end high second) where
@@ -278,20 +300,28 @@ module _ (h g : Objects) (k low high end : ℕ) (within : k < length h.objects) 
   pub there_after : (n : List ℕ) → n ≡ length_name → IsSome (own h k length_name) → IsSome (own g k n)
   there_after n n_is there =
       subst (λ x. IsSome (own g k x)) (sym n_is)
-      (subst (λ o. IsSome (own o k length_name)) (sym is_cut) (subst (λ o. IsSome o) (sym (own-entries_outside end high h k within)) there))
+      (subst (λ o. IsSome (own o k length_name)) (sym is_cut)
+      (subst (λ o. IsSome o) (sym (own-entries_outside end high h k within)) there))
 
-  written : (p : Prop) → with_property g k length_name p ≡ with_properties h k (with_item (entries_outside end high (object_at h k).properties) length_name p)
+  written : (p : Prop) → with_property g k length_name p
+      ≡ with_properties h k (with_item (entries_outside end high (object_at h k).properties) length_name p)
   written p =
       let es = entries_outside end high (object_at h k).properties in
       ap (λ o. with_property o k length_name p) is_cut
-      ∙ ap (λ (o : Object). with_properties (with_properties h k es) k (with_item o.properties length_name p)) (object_at-put h k es within)
+      ∙ ap (λ (o : Object). with_properties (with_properties h k es) k (with_item o.properties length_name p))
+      (object_at-put h k es within)
       ∙ with_properties-twice h k es (with_item es length_name p) within
 
-  pub shortened_is : (f : Objects) (n : List ℕ) (p q : Prop) (stays : Bool) (b : Bool) → n ≡ length_name → q ≡ with_count end stays p →
-      f ≡ with_property g k n q → nat_le end low ≡ b → (f, (if b then Done else Rejected)) ≡ shorten_array h k p low high stays
+  pub shortened_is : (f : Objects) (n : List ℕ) (p q : Prop) (stays : Bool) (b : Bool) → n ≡ length_name
+      → q ≡ with_count end stays p →
+      f ≡ with_property g k n q → nat_le end low ≡ b → (f, (if b then Done else Rejected))
+      ≡ shorten_array h k p low high stays
   shortened_is f n p q stays b n_is q_is f_is b_is =
-      let at : f ≡ with_properties h k (with_item (entries_outside end high (object_at h k).properties) length_name (with_count end stays p)) =
-      f_is ∙ ap (λ x. with_property g k x q) n_is ∙ ap (λ x. with_property g k length_name x) q_is ∙ written (with_count end stays p) in
+      let at : f ≡ with_properties h k (with_item (entries_outside end high (object_at h k).properties) length_name
+      (with_count end stays p)) =
+      f_is ∙ ap (λ x. with_property g k x q) n_is ∙ ap (λ x. with_property g k length_name x) q_is
+      ∙ written (with_count end stays p) in
       ap (λ c. (f, (if c then Done else Rejected))) (sym b_is)
       ∙ ap (λ o. (o, (if nat_le end low then Done else Rejected))) at
-      ∙ ap (λ e. (with_properties h k (with_item (entries_outside e high (object_at h k).properties) length_name (with_count e stays p)), (if nat_le e low then Done else Rejected))) end_reached
+      ∙ ap (λ e. (with_properties h k (with_item (entries_outside e high (object_at h k).properties) length_name
+      (with_count e stays p)), (if nat_le e low then Done else Rejected))) end_reached

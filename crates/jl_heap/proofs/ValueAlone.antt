@@ -26,7 +26,8 @@ use Rattle.jl_heap.proofs.Items.{item_in}
 use Rattle.jl_heap.proofs.Puts.{put_same}
 
 -- an item that is written back changes nothing
-same_step : (e : Entry Prop) (es : List (Entry Prop)) (n : List ℕ) (p : Prop) (b : Bool) → has_name n e ≡ b → IsInOrder (e ∷ es)
+same_step : (e : Entry Prop) (es : List (Entry Prop)) (n : List ℕ) (p : Prop) (b : Bool) → has_name n e ≡ b
+    → IsInOrder (e ∷ es)
     → (item_in n es ≡ Some p → with_item es n p ≡ es) → item_in n (e ∷ es) ≡ Some p → with_item (e ∷ es) n p ≡ e ∷ es
 same_step e es n p true fits ordered rest found =
     let f : Entry Prop → Entry Prop = λ x. record x { item = p } in
@@ -35,7 +36,8 @@ same_step e es n p true fits ordered rest found =
     rw fits (λ i. record e { item = sym is i } ∷ others i)
 same_step e es n p false fails ordered rest found = rw fails (ap (λ l. e ∷ l) (rest (rw fails at found)))
 
-with_item-same : (es : List (Entry Prop)) (n : List ℕ) (p : Prop) → IsInOrder es → item_in n es ≡ Some p → with_item es n p ≡ es
+with_item-same : (es : List (Entry Prop)) (n : List ℕ) (p : Prop) → IsInOrder es → item_in n es ≡ Some p
+    → with_item es n p ≡ es
 with_item-same [] n p ordered found = refl
 with_item-same (e ∷ es) n p ordered found =
     same_step e es n p (has_name n e) refl ordered (with_item-same es n p (rest_in_order e es ordered)) found
@@ -49,13 +51,15 @@ same_values : SameValuesAreEqual
 same_values a b = grind (arith, bytes_eq-Decides)
 
 -- a property that can be written takes another value, and keeps all else
-written_plainly : (h : Objects) (k : ℕ) (n : List ℕ) (old v : Value) (enumerable configurable : Bool) (b : Bool) → same_value v old ≡ b
+written_plainly : (h : Objects) (k : ℕ) (n : List ℕ) (old v : Value) (enumerable configurable : Bool) (b : Bool)
+    → same_value v old ≡ b
     → IsInOrder (object_at h k).properties → own h k n ≡ Some (Plain old true enumerable configurable)
     → define_on h k n (value_change v) (Some (Plain old true enumerable configurable))
     ≡ (with_property h k n (Plain v true enumerable configurable), Done)
 written_plainly h k n old v e c true same ordered found =
     let is : v ≡ old = (same_values v old).0 same in
-    rw same (ap (λ g. (g, Done)) (sym (ap (λ (u : Value). with_property h k n (Plain u true e c)) is ∙ with_property-same h k n _ ordered found)))
+    rw same (ap (λ g. (g, Done))
+    (sym (ap (λ (u : Value). with_property h k n (Plain u true e c)) is ∙ with_property-same h k n _ ordered found)))
 written_plainly h k n old v e true false differs ordered found = rw differs refl
 written_plainly h k n old v e false false differs ordered found = rw differs refl
 
@@ -104,7 +108,8 @@ puts_by : (h f : Objects) (k : ℕ) (n : List ℕ) (p q : Prop) (v : Value) {T E
     → is_writable (Some p) ≡ w → IsInOrder (object_at h k).properties → own h k n ≡ Some p → keeps_length h k n ≡ true
     → f ≡ with_property h k n q → q ≡ (if w then with_value p v else p) → (IsOk r ↔ IsTrue w) → Puts h f k n v r
 puts_by h f k n p q v (Ok x) true writable ordered found keeps is q_is ok = record {
-  done = ap (λ g. (g, Done)) is ∙ ap (λ o. (with_property h k n o, Done)) q_is ∙ sym (value_alone h k n p v ordered found writable keeps);
+  done = ap (λ g. (g, Done)) is ∙ ap (λ o. (with_property h k n o, Done)) q_is
+  ∙ sym (value_alone h k n p v ordered found writable keeps);
   err = tt;
   taken = (λ _. rw (found, writable, keeps) refl, λ _. refl);
 }
@@ -120,4 +125,5 @@ pub puts : (h f : Objects) (k : ℕ) (n : List ℕ) (p q : Prop) (v : Value) {T 
     → IsInOrder (object_at h k).properties → own h k n ≡ Some p → keeps_length h k n ≡ true
     → f ≡ with_property h k n q → q ≡ (if is_writable (Some p) then with_value p v else p)
     → (IsOk r ↔ IsTrue (is_writable (Some p))) → Puts h f k n v r
-puts h f k n p q v r ordered found keeps is q_is ok = puts_by h f k n p q v r (is_writable (Some p)) refl ordered found keeps is q_is ok
+puts h f k n p q v r ordered found keeps is q_is ok =
+    puts_by h f k n p q v r (is_writable (Some p)) refl ordered found keeps is q_is ok

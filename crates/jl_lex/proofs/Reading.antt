@@ -47,9 +47,11 @@ module _ {A : Type 0} (whole left : List Piece → List A) (read : List A) (text
       → ((ps : List Piece) → now ++ then_left ps ≡ read ++ left (piece e i j ∷ ps))
       → ReadSoFar whole left read (drop i text) text → ReadSoFar whole then_left now (drop j text) text
   read_more then_left now i j e q a b f s =
-      let m = many_step (OnePiece text) (next_piece text) (reads_piece text) (drop i text) (piece e i j) (drop j text) (next_is text i j e q a b) in
+      let m = many_step (OnePiece text) (next_piece text) (reads_piece text) (drop i text) (piece e i j) (drop j text)
+      (next_is text i j e q a b) in
       record {
-        are = f (many (next_piece text) (drop j text)).0 ∙ (sym (ap (λ (x : List Piece × List ℕ). read ++ left x.0) m) ∙ s.are);
+        are = f (many (next_piece text) (drop j text)).0
+        ∙ (sym (ap (λ (x : List Piece × List ℕ). read ++ left x.0) m) ∙ s.are);
         rest = sym (ap (λ (x : List Piece × List ℕ). x.1) m) ∙ s.rest;
       }
 
@@ -57,21 +59,28 @@ module _ {A : Type 0} (whole left : List Piece → List A) (read : List A) (text
   pub read_ends : (us : List ℕ) → us ≡ [] → left [] ≡ [] → ReadSoFar whole left read us text
       → (ps : List Piece) × Many (OnePiece text) text ps [] × (read ≡ whole ps)
   read_ends us e none s =
-      let n = many_stop (OnePiece text) (next_piece text) (reads_piece text) us (ap (next_piece text) e ∙ nothing_at_end (OnePiece text) (next_piece text) (reads_piece text)) in
+      let n = many_stop (OnePiece text) (next_piece text) (reads_piece text) us (ap (next_piece text) e
+      ∙ nothing_at_end (OnePiece text) (next_piece text) (reads_piece text)) in
       let t = sym (ap (λ (x : List Piece × List ℕ). read ++ left x.0) n) ∙ s.are in
       let r = sym (ap (λ (x : List Piece × List ℕ). x.1) n) ∙ s.rest in
       let all = many_sound (OnePiece text) (next_piece text) (reads_piece text) text in
-      ((many (next_piece text) text).0, split_whole text (many (next_piece text) text) all (sym r ∙ e), sym (ap (λ l. read ++ l) none ∙ append-nil read) ∙ t)
+      ((many (next_piece text) text).0, split_whole text (many (next_piece text) text) all (sym r ∙ e),
+      sym (ap (λ l. read ++ l) none ∙ append-nil read) ∙ t)
 
-  read_bad : (i u : ℕ) (k : BadKind) → drop i text ≡ u ∷ drop (i + 1) text → i ≤ length text → scan (drop i text) ≡ bad k
+  read_bad : (i u : ℕ) (k : BadKind) → drop i text ≡ u ∷ drop (i + 1) text → i ≤ length text
+      → scan (drop i text) ≡ bad k
       → ReadSoFar whole left read (drop i text) text → BadAt text i k
   unfolding next_piece piece_found
   read_bad i u k e h q s =
       let n = many_stop (OnePiece text) (next_piece text) (reads_piece text) (drop i text) (rw q refl) in
       let r = sym (ap (λ (x : List Piece × List ℕ). x.1) n) ∙ s.rest in
-      let f = fault_of (u ∷ drop (i + 1) text) (scan (u ∷ drop (i + 1) text)) k (scan_right u (drop (i + 1) text)) (ap scan (sym e) ∙ q) in
+      let f = fault_of (u ∷ drop (i + 1) text) (scan (u ∷ drop (i + 1) text)) k (scan_right u (drop (i + 1) text))
+      (ap scan (sym e) ∙ q) in
       let m = (many_sound (OnePiece text) (next_piece text) (reads_piece text) text).row in
-      subst (λ p. BadAt text p k) (place_is text i h) (stopped text (many (next_piece text) text).0 (drop i text) k (subst (λ (w : List ℕ). Many (OnePiece text) text (many (next_piece text) text).0 w) (sym r) m) (subst (λ (w : List ℕ). Fault w k) (sym e) f))
+      subst (λ p. BadAt text p k) (place_is text i h)
+      (stopped text (many (next_piece text) text).0 (drop i text) k
+      (subst (λ (w : List ℕ). Many (OnePiece text) text (many (next_piece text) text).0 w) (sym r) m)
+      (subst (λ (w : List ℕ). Fault w k) (sym e) f))
 
   pub read_refused : (i u low : ℕ) (s : Stop) (r : LexRefusal) → drop i text ≡ u ∷ drop (i + 1) text → i ≤ length text
       → IsFrom text low (Err s) (scan (drop i text)) → r ≡ refusal_at s i
@@ -93,7 +102,8 @@ comments_end text us comments e s =
 
 -- the answer is the only one, where lists of a kind are alone, and no text has one beside a fault
 module _ {A C : Type 0} (text : List ℕ) (Are : List A → Type 0) (items : C → List A)
-    (alone : (xs ys : List A) → Are xs → Are ys → xs ≡ ys) (never : (xs : List A) (i : ℕ) (k : BadKind) → Are xs → BadAt text i k → ⊥) where
+    (alone : (xs ys : List A) → Are xs → Are ys → xs ≡ ys) (never : (xs : List A) (i : ℕ) (k : BadKind) → Are xs
+        → BadAt text i k → ⊥) where
   only_these : (r : Result C LexRefusal) → IfOk r (λ c. Are (items c)) → IfErr r (λ e. IsRefusal text e) → (xs : List A)
       → Are xs → MatchResult r (λ c. items c ≡ xs) (λ e. e ≡ refusals.NoMemory)
   only_these (Ok c) a b xs t = alone (items c) xs a t
@@ -122,12 +132,16 @@ pub only_there_tokens : (text : List ℕ) (r : Result (List Token) LexRefusal) �
     → MatchResult r (λ us. ⊥) (λ e. (e ≡ refusals.BadInput i k) ⊎ (e ≡ refusals.NoMemory))
 only_there_tokens text = only_there text (Tokens text) (λ ts. ts) (tokens_are_unique text) (never_both text)
 
-pub only_these_comments : (text : List ℕ) (r : Result (Vec Comment) LexRefusal) → IfOk r (λ found. Comments text found.items)
+pub only_these_comments : (text : List ℕ) (r : Result (Vec Comment) LexRefusal)
+    → IfOk r (λ found. Comments text found.items)
     → IfErr r (λ e. IsRefusal text e) → (cs : List Comment) → Comments text cs
     → MatchResult r (λ found. found.items ≡ cs) (λ e. e ≡ refusals.NoMemory)
-only_these_comments text = only_these text (Comments text) (λ found. found.items) (comments_are_unique text) (no_comments text)
+only_these_comments text =
+    only_these text (Comments text) (λ found. found.items) (comments_are_unique text) (no_comments text)
 
-pub only_there_comments : (text : List ℕ) (r : Result (Vec Comment) LexRefusal) → IfOk r (λ found. Comments text found.items)
+pub only_there_comments : (text : List ℕ) (r : Result (Vec Comment) LexRefusal)
+    → IfOk r (λ found. Comments text found.items)
     → IfErr r (λ e. IsRefusal text e) → (i : ℕ) (k : BadKind) → BadAt text i k
     → MatchResult r (λ found. ⊥) (λ e. (e ≡ refusals.BadInput i k) ⊎ (e ≡ refusals.NoMemory))
-only_there_comments text = only_there text (Comments text) (λ found. found.items) (comments_are_unique text) (no_comments text)
+only_there_comments text =
+    only_there text (Comments text) (λ found. found.items) (comments_are_unique text) (no_comments text)

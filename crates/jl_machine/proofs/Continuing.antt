@@ -61,7 +61,8 @@ body_continues s t how a leads = record { is = leads.is }
 pub misused : (s : State) (f : Frame) (g : Given) → after (table_of s.functions) s.calls f g ≡ Fail Misuse
     → Continues s f g s (act.Fault Misuse)
 misused s f g e = record {
-  is = λ kept told. ap (λ q. run_in kept told s (and_then q (rest (table_of s.functions) (calls_after s.calls f) s.stack)))
+  is = λ kept told. ap (λ q. run_in kept told s
+  (and_then q (rest (table_of s.functions) (calls_after s.calls f) s.stack)))
       (sym e);
 }
 
@@ -100,7 +101,8 @@ handed s t f frames g a e continues = record {
 
 -- there is none
 
-pub handed_nobody : (s t : State) (g : Given) → s.stack ≡ [] → t ≡ s → rest (table_of s.functions) s.calls [] g ≡ Fail Misuse
+pub handed_nobody : (s t : State) (g : Given) → s.stack ≡ [] → t ≡ s → rest (table_of s.functions) s.calls [] g
+    ≡ Fail Misuse
     → Hands s g t (next.Act (act.Fault Misuse))
 handed_nobody s t g e same fails = record {
   is = λ kept told.
@@ -115,5 +117,6 @@ ended s t how end e same ends = record {
   is = λ kept told.
       ap (λ (v : State). comes_of kept told v (next.Over end)) same
       ∙ ends.is s kept told
-      ∙ ap (λ (l : List Frame). run_in kept told s (rest (table_of s.functions) s.calls l (Completion-given how))) (sym e);
+      ∙ ap (λ (l : List Frame). run_in kept told s (rest (table_of s.functions) s.calls l (Completion-given how)))
+      (sym e);
 }

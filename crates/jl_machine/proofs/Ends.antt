@@ -34,8 +34,10 @@ module _ {O : Type 0} (stands_for : O → List Operation → Type 0) (before : L
     hooks = count;
   }
 
-  is_over : (end : Ending) (t : State) (told : List Operation) (o : O) (count : ℕ) → Heard stands_for before told o count
-      → IsRun stands_for before budget (over end t.left (run_state told t)) (answer_of end t count (steps_of end budget t.left)) o
+  is_over : (end : Ending) (t : State) (told : List Operation) (o : O) (count : ℕ)
+      → Heard stands_for before told o count
+      → IsRun stands_for before budget (over end t.left (run_state told t))
+      (answer_of end t count (steps_of end budget t.left)) o
   is_over ending.Normal t told o count heard =
       record { outcome = refl; output = refl; store = refl; steps = refl; hooks = heard.counted; told = heard.heard }
   is_over (ending.Thrown v) t told o count heard =

@@ -67,7 +67,8 @@ declared_then s t u b bound here a answer x stored comes is leads =
     })
     (subst (λ p. Completes t p u a) (statements_of (table_of s.functions) b (context_of s.calls here)) leads)
 
-pub declared_thrown : (s t : State) (b : Body) (bound : Context) (here : Here) (answer : Answered (Unit {0})) (v : Value)
+pub declared_thrown : (s t : State) (b : Body) (bound : Context) (here : Here) (answer : Answered (Unit {0}))
+    (v : Value)
     → t ≡ record s { store = t.store }
     → Comes (declare_program (plain_code b) bound) s.store t.store (ends_with answer) → answer ≡ Throws v
     → Completes s (program_body (table_of s.functions) (plain_code b) bound (context_of s.calls here)) t
@@ -133,7 +134,8 @@ module _ (kept : Operation → Bool) (t : Code) where
   each (throws v) n w = refl
 
   from_there : (n : ℕ) (w : RunState Store Operation)
-      → run language (quietly kept) (job table) n (whole table [] [] t (code_in 0 (strict_in false t)) (global_here t)) w
+      → run language (quietly kept) (job table) n (whole table [] [] t (code_in 0 (strict_in false t)) (global_here t))
+      w
       ≡ run language (quietly kept) (job table) n (script (program_of t)) w
   from_there n w =
       ap (λ q. run language (quietly kept) (job table) n q w) parted

@@ -25,7 +25,8 @@ number_of_inside z h = rw (passes z h) refl
 number_of_gives : (z : ℤ) (c : Number) → number_of z ≡ Some c → (c ≡ Some z) × IsNumber (Some z)
 number_of_gives z c e = by_test (is_number z) refl e
   where
-    by_test : (t : Bool) → is_number z ≡ t → (if t then Some (Some z) else None) ≡ Some c → (c ≡ Some z) × IsNumber (Some z)
+    by_test : (t : Bool) → is_number z ≡ t → (if t then Some (Some z) else None) ≡ Some c → (c ≡ Some z)
+        × IsNumber (Some z)
     by_test true h e = (cc, is_inside z h)
     by_test false h e = cc
 
@@ -56,7 +57,8 @@ quotient_gives (Some x) None c e = nan_given c e
 quotient_gives (Some x) (Some y) c e = by_tests (int_eq y (pos 0)) (int_eq x (pos 0)) (int_eq (int_div x y *ℤ y) x) e
   where
     by_tests : (s t u : Bool)
-        → (if s then (if t then Some None else None) else (if u then number_of (int_div x y) else None)) ≡ Some c → IsNumber c
+        → (if s then (if t then Some None else None) else (if u then number_of (int_div x y) else None)) ≡ Some c
+        → IsNumber c
     by_tests true true u e = nan_given c e
     by_tests true false u e = cc
     by_tests false t true e = given (int_div x y) c e
@@ -137,7 +139,8 @@ quotient_of_product (negsuc x) (negsuc b) n = ap (λ k. neg_ℤ (pos k)) (mul-di
 whole_from : (a b q : ℤ) → b ≢ pos 0 → quotient_of (Some a) (Some b) ≡ Some (Some q) → (q *ℤ b ≡ a) × IsNumber (Some q)
 whole_from a b q n e = by_test (int_eq (int_div a b *ℤ b) a) refl (rw (false_from (Decides-int_eq b (pos 0)) n) at e)
   where
-    by_test : (t : Bool) → int_eq (int_div a b *ℤ b) a ≡ t → (if t then number_of (int_div a b) else None) ≡ Some (Some q)
+    by_test : (t : Bool) → int_eq (int_div a b *ℤ b) a ≡ t → (if t then number_of (int_div a b) else None)
+        ≡ Some (Some q)
         → (q *ℤ b ≡ a) × IsNumber (Some q)
     by_test false h e = cc
     by_test true h e =
@@ -148,7 +151,8 @@ whole_from a b q n e = by_test (int_eq (int_div a b *ℤ b) a) refl (rw (false_f
 whole_to : (a b q : ℤ) → b ≢ pos 0 → q *ℤ b ≡ a → IsNumber (Some q) → quotient_of (Some a) (Some b) ≡ Some (Some q)
 whole_to a b q n e inside =
     let one : int_div a b ≡ q = sym (ap (λ z. int_div z b) e) ∙ quotient_of_product q b n in
-    let test : int_eq (int_div a b *ℤ b) a ≡ true = (Decides-int_eq (int_div a b *ℤ b) a).1 (ap (λ z. z *ℤ b) one ∙ e) in
+    let test : int_eq (int_div a b *ℤ b) a ≡ true =
+    (Decides-int_eq (int_div a b *ℤ b) a).1 (ap (λ z. z *ℤ b) one ∙ e) in
     rw (false_from (Decides-int_eq b (pos 0)) n, test) (ap number_of one ∙ number_of_inside q inside)
 
 pub quotients_are_exact : QuotientsAreExact

@@ -40,7 +40,8 @@ zero_text = refl
 nan_text : number_text None 36 ≡ codes "NaN"
 nan_text = refl
 
-product_of_opposites : product_of (Some (negsuc 9007199254740990)) (Some (negsuc 0)) ≡ Some (Some (pos 9007199254740991))
+product_of_opposites : product_of (Some (negsuc 9007199254740990)) (Some (negsuc 0))
+    ≡ Some (Some (pos 9007199254740991))
 product_of_opposites = refl
 
 difference_below_zero : difference_of (Some (pos 5)) (Some (pos 7)) ≡ Some (Some (negsuc 1))

@@ -37,7 +37,8 @@ power_gives None (Some (negsuc e)) c is = nan_given c is
 power_gives (Some a) (Some (pos (suc e))) c is = given (int_pow a (suc e)) c is
 power_gives (Some a) (Some (negsuc e)) c is = inverse_power_gives a (suc e) c is
 
-quotient_below : (z : ℤ) (m : ℕ) → negsuc 2147483647 ≤ℤ z → z <ℤ pos 2147483648 → IsNumber (Some (int_div_euclid z (pos m)))
+quotient_below : (z : ℤ) (m : ℕ) → negsuc 2147483647 ≤ℤ z → z <ℤ pos 2147483648
+    → IsNumber (Some (int_div_euclid z (pos m)))
 quotient_below (pos n) m low high = let le = div-le_self n m in (omega (arith, ints), omega (arith, ints))
 quotient_below (negsuc n) m low high = let le = div-le_self n m in (omega (arith, ints), omega (arith, ints))
 

@@ -50,7 +50,8 @@ numbers = refl
 only_there : (kind : OpKind) (index : ℕ) → slice_get all_kinds index ≡ Some kind → index ≡ number_of kind
 only_there kind index e =
     let number = counted_at 0 23 index (number_of kind)
-    (ap (λ l. slice_get l index) (sym numbers) ∙ slice_get-map number_of all_kinds index ∙ ap (option_map number_of) e) in
+    (ap (λ l. slice_get l index) (sym numbers) ∙ slice_get-map number_of all_kinds index
+    ∙ ap (option_map number_of) e) in
     omega arith
 
 pub each_once : EachKindOnce

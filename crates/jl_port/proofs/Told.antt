@@ -21,7 +21,8 @@ Grows-trans (Some zs) b c xs ys p q = q ∙ ap (λ s. with_end s ys) p ∙ ap So
 pub Grows-next : (a b c : Option (List ℕ)) (xs : List ℕ) (i n : ℕ) → Grows a b (take i xs)
     → Grows b c (take n (take (length xs - i) (drop i xs))) → Grows a c (take (i + n) xs)
 Grows-next a b c xs i n p q =
-    subst (Grows a c) (ap (λ l. take i xs ++ take n l) (take_rest xs i) ∙ sym (take-add i n xs)) (Grows-trans a b c _ _ p q)
+    subst (Grows a c) (ap (λ l. take i xs ++ take n l) (take_rest xs i) ∙ sym (take-add i n xs))
+    (Grows-trans a b c _ _ p q)
 
 -- a count that never falls and rose in a part has risen in the whole
 pub HasRisen-part : (a b c d : ℕ) → a ≤ b → b ≤ c → c ≤ d → HasRisen b c → HasRisen a d

@@ -131,8 +131,10 @@ module _ {ts : List Token} where
         record {
           tree = tree.function_expression
               (tree.function 0 (Some (ident_at ts (suc i))) x.names x.code (span ts i j)) (span ts i j);
-          same = ap (λ f. tree.function_expression (tree.function 0 (Some f) (map named x.names) (skeleton x.code) tt) tt) y
-              ∙ ap₂ (λ ps c. tree.function_expression (tree.function 0 (Some (named f)) ps c tt) tt) x.same_names x.same;
+          same = ap (λ f. tree.function_expression (tree.function 0 (Some f) (map named x.names) (skeleton x.code) tt)
+              tt) y
+              ∙ ap₂ (λ ps c. tree.function_expression (tree.function 0 (Some (named f)) ps c tt) tt) x.same_names
+              x.same;
           is = of_primary (reads.a_named_function (at h.0) (identifier w.0 h.1.0) x.is);
         }
     back (tree.dot a t s) w no_in i j line h q =
@@ -156,7 +158,8 @@ module _ {ts : List Token} where
           is = of_left (reads.an_index (to_left x.is) (at p.second.0) y.is c);
         }) r.second.1
     back (tree.call a b s) w no_in i j line h q =
-        let p = parts ts i line (in_parens_unless (fits a 0) (tokens_of_node a)) (in_parens (tokens_of_arguments b)) j h in
+        let p = parts ts i line (in_parens_unless (fits a 0) (tokens_of_node a)) (in_parens (tokens_of_arguments b)) j
+        h in
         let x = in_place a 0 (omega arith) (back a w.0) no_in i p.middle line p.first (quiet_zero no_in ts p.middle) in
         let y = back_arguments b w.1 (suc p.middle) j false p.second.1 in
         record {
@@ -201,14 +204,17 @@ module _ {ts : List Token} where
     back (tree.binary op a b s) w no_in i j line h q =
         binary_back no_in op a b (back a w.0) (back b w.1) s i j line h q
     back (tree.and a b s) w no_in i j line h q =
-        infix_operator_back no_in 8 (omega arith) both refl (punct puncts.AndAnd) (and_token no_in) a b (back a w.0) (back b w.1)
+        infix_operator_back no_in 8 (omega arith) both refl (punct puncts.AndAnd) (and_token no_in) a b (back a w.0)
+        (back b w.1)
         i j line h q (λ x y s u h g. ap₂ (λ x y. tree.and x y tt) h g) s
     back (tree.or a b s) w no_in i j line h q =
-        infix_operator_back no_in 9 (omega arith) either refl (punct puncts.OrOr) (or_token no_in) a b (back a w.0) (back b w.1)
+        infix_operator_back no_in 9 (omega arith) either refl (punct puncts.OrOr) (or_token no_in) a b (back a w.0)
+        (back b w.1)
         i j line h q (λ x y s u h g. ap₂ (λ x y. tree.or x y tt) h g) s
     back (tree.conditional a b c s) w no_in i j line h q =
         let p = parts ts i line (in_parens_unless (fits a 12) (tokens_of_node a)) (punct puncts.Question ∷
-        (in_parens_unless (fits b 13) (tokens_of_node b) ++ (punct puncts.Colon ∷ in_parens_unless (fits c 13) (tokens_of_node c)))) j h in
+        (in_parens_unless (fits b 13) (tokens_of_node b)
+        ++ (punct puncts.Colon ∷ in_parens_unless (fits c 13) (tokens_of_node c)))) j h in
         let x = in_place a 12 (omega arith) (back a w.0) no_in i p.middle line p.first (quiet_question p.second.0) in
         let r = parts ts (suc p.middle) false (in_parens_unless (fits b 13) (tokens_of_node b))
         (punct puncts.Colon ∷ in_parens_unless (fits c 13) (tokens_of_node c)) j p.second.1 in
@@ -224,7 +230,8 @@ module _ {ts : List Token} where
               (to_assignment z.is)) (q.assigns (omega arith)));
         }
     back (tree.assign None g a s) w no_in i j line h q =
-        let p = parts ts i line (tokens_of_node g) (punct puncts.Assign ∷ in_parens_unless (fits a 13) (tokens_of_node a)) j h in
+        let p = parts ts i line (tokens_of_node g)
+        (punct puncts.Assign ∷ in_parens_unless (fits a 13) (tokens_of_node a)) j h in
         let e = at p.second.0 in
         let x = back_target g w.1 i p.middle line p.first (ap (continues_left true) e.is) in
         let y = in_place a 13 (omega arith) (back a w.2) no_in (suc p.middle) j false p.second.1 q in
@@ -235,7 +242,8 @@ module _ {ts : List Token} where
               (record { is = ap assign_operator e.is }) (to_assignment y.is));
         }
     back (tree.assign (Some op) g a s) w no_in i j line h q =
-        let p = parts ts i line (tokens_of_node g) (punct (assign_punct op) ∷ in_parens_unless (fits a 13) (tokens_of_node a)) j h in
+        let p = parts ts i line (tokens_of_node g)
+        (punct (assign_punct op) ∷ in_parens_unless (fits a 13) (tokens_of_node a)) j h in
         let x = back_target g w.1 i p.middle line p.first (assign_is_no_part op p.second.0) in
         let y = in_place a 13 (omega arith) (back a w.2) no_in (suc p.middle) j
         (ends_line (punct (assign_punct op))) p.second.1 q in
@@ -245,7 +253,8 @@ module _ {ts : List Token} where
           is = of_assignment (reads.an_assignment x.is x.is_target (assigns_at op w.0 p.second.0) (to_assignment y.is));
         }
     back (tree.comma a b s) w no_in i j line h q =
-        let p = parts ts i line (tokens_of_node a) (punct puncts.Comma ∷ in_parens_unless (fits b 13) (tokens_of_node b)) j h in
+        let p = parts ts i line (tokens_of_node a)
+        (punct puncts.Comma ∷ in_parens_unless (fits b 13) (tokens_of_node b)) j h in
         let c = at p.second.0 in
         let e = ap stops c.is in
         let x = back a w.0 no_in i p.middle line p.first (quiet_stop no_in (precedence_of a) e) in
@@ -308,7 +317,8 @@ module _ {ts : List Token} where
         (punct puncts.RightParen ∷ []) j h in
         let c = at p.second.0 in
         let m = line_after line (in_parens_unless (fits t 13) (tokens_of_node t)) in
-        let o = parts ts i line (in_parens_unless (fits t 13) (tokens_of_node t)) (further_arguments r) p.middle p.first in
+        let o = parts ts i line (in_parens_unless (fits t 13) (tokens_of_node t)) (further_arguments r) p.middle
+        p.first in
         let x = in_place t 13 (omega arith) (back t w.0) false i o.middle line o.first
         (quiet_stop false 13 (arguments_stop ts r o.middle p.middle m o.second (ap stops c.is))) in
         let y = back_further_arguments r w.1 o.middle p.middle m o.second c i x.tree (to_assignment x.is) in
@@ -412,7 +422,8 @@ module _ {ts : List Token} where
           is = reads.more_items z (at h.0) y.is;
         }
 
-    back_entry : (e : Tree Span tree.entry) → WellFormed e → (i j : ℕ) (line : Bool) → Spells ts i line (tokens_of_node e) j
+    back_entry : (e : Tree Span tree.entry) → WellFormed e → (i j : ℕ) (line : Bool)
+        → Spells ts i line (tokens_of_node e) j
         → stops (terminal_at ts j) ≡ true → BackEntry ts i e j
     back_entry (tree.value k a) w i j line h c =
         let x = in_place a 13 (omega arith) (back a w.1) false (suc (suc i)) j false h.1.1 (quiet_stop false 13 c) in
@@ -476,7 +487,8 @@ module _ {ts : List Token} where
     back_further_entries (tree.more t r) w m j line h c i u z =
         let k = line_after false (tokens_of_node t) in
         let p = parts ts (suc m) false (tokens_of_node t) (further r) j h.1 in
-        let x = back_entry t w.0 (suc m) p.middle false p.first (further_stop ts r p.middle j k p.second (ap stops c.is)) in
+        let x = back_entry t w.0 (suc m) p.middle false p.first
+        (further_stop ts r p.middle j k p.second (ap stops c.is)) in
         let y = back_further_entries r w.1 p.middle j k p.second c (suc m) x.entry x.is in
         record {
           entries = tree.more x.entry y.entries;
@@ -501,8 +513,10 @@ module _ {ts : List Token} where
           is = reads.initialised (identifier w.0 h.0) (at h.1.0) (to_assignment y.is);
         }
 
-    back_declarators : (no_in : Bool) (ds : Forest Span tree.decl) → IsSome ds → AllWellFormed ds → (i j : ℕ) (line : Bool)
-        → Spells ts i line (tokens_of_declarators ds) j → stops (terminal_at ts j) ≡ true → is_comma (terminal_at ts j) ≡ false
+    back_declarators : (no_in : Bool) (ds : Forest Span tree.decl) → IsSome ds → AllWellFormed ds
+        → (i j : ℕ) (line : Bool)
+        → Spells ts i line (tokens_of_declarators ds) j → stops (terminal_at ts j) ≡ true → is_comma (terminal_at ts j)
+        ≡ false
         → BackDeclarations ts no_in i ds j
     back_declarators no_in tree.end o w i j line h c e = absurd o
     back_declarators no_in (tree.more t r) o w i j line h c e =
@@ -529,7 +543,8 @@ module _ {ts : List Token} where
     back_further_declarators no_in (tree.more t r) w m j line h c e i u z =
         let k = line_after false (tokens_of_node t) in
         let p = parts ts (suc m) false (tokens_of_node t) (further r) j h.1 in
-        let x = back_declarator no_in t w.0 (suc m) p.middle false p.first (further_stop ts r p.middle j k p.second c) in
+        let x = back_declarator no_in t w.0 (suc m) p.middle false p.first
+        (further_stop ts r p.middle j k p.second c) in
         let y = back_further_declarators no_in r w.1 p.middle j k p.second c e (suc m) x.declaration x.is in
         record {
           declarations = tree.more x.declaration y.declarations;
@@ -600,7 +615,8 @@ module _ {ts : List Token} where
           (reads.no_clauses (subst (λ n. At ts n close_brace) (sym h) c));
     }
     back_clauses fresh (tree.more (tree.case (tree.present a) ws) r) o w i j line h c =
-        let p = parts ts (suc i) false (tokens_of_node a ++ (punct puncts.Colon ∷ tokens_of_all ws)) (tokens_of_all r) j h.1 in
+        let p = parts ts (suc i) false (tokens_of_node a ++ (punct puncts.Colon ∷ tokens_of_all ws)) (tokens_of_all r) j
+        h.1 in
         let s = parts ts (suc i) false (tokens_of_node a) (punct puncts.Colon ∷ tokens_of_all ws) p.middle p.first in
         let k = at s.second.0 in
         let x = whole a (back a w.0.0) false (suc i) s.middle false s.first (ap stops k.is) (ap is_comma k.is) in
@@ -656,7 +672,8 @@ module _ {ts : List Token} where
     back_statement (tree.while a ws s) w i j line h q =
         while_back a (back a w.0) ws (back_statements ws w.1) s i j line h q
     back_statement (tree.for f a b ws s) w i j line h q =
-        for_back f (back_init f w.0) a b (back_optional a w.1) (back_optional b w.2) ws (back_statements ws w.3) s i j line h q
+        for_back f (back_init f w.0) a b (back_optional a w.1) (back_optional b w.2) ws (back_statements ws w.3) s i j
+        line h q
     back_statement (tree.for_in true x a ws s) w i j line h q =
         for_var_in_back x w.0 a (back a w.1) ws (back_statements ws w.2) s i j line h q
     back_statement (tree.for_in false x a ws s) w i j line h q =
@@ -736,7 +753,8 @@ module _ {ts : List Token} where
           opens = no_directive_before t i p.middle line p.first x;
         }
 
-    back_functions : (fs : Forest Span tree.func) → AreNamed fs → AllWellFormed fs → (ws : Stmts) (i m j : ℕ) (line : Bool)
+    back_functions : (fs : Forest Span tree.func) → AreNamed fs → AllWellFormed fs
+        → (ws : Stmts) (i m j : ℕ) (line : Bool)
         → Spells ts i line (tokens_of_all fs) m → BackElements ts m tree.end ws j → BackElements ts i fs ws j
     back_functions tree.end o w ws i m j line h rest =
         subst (λ n. BackElements ts n tree.end ws j) (sym h) rest

@@ -62,7 +62,8 @@ pub of_primary : {ts : List Token} {no_in : Bool} {i j : ℕ} {t : Expr} → Rea
 of_primary p = of_left (reads.primary p)
 
 -- two operands and what joins them
-pub infix_operator_back : {ts : List Token} (no_in : Bool) (l : ℕ) → l ≤ 9 → (o : InfixOperator) → infix_precedence o ≡ suc l → (k : TokenKind)
+pub infix_operator_back : {ts : List Token} (no_in : Bool) (l : ℕ) → l ≤ 9 → (o : InfixOperator)
+    → infix_precedence o ≡ suc l → (k : TokenKind)
     → InfixOperatorToken no_in k o → (a b : Expr) → Alone ts a → Alone ts b → (i j : ℕ) (line : Bool)
     → Spells ts i line (in_parens_unless (fits a (suc (suc (suc l)))) (tokens_of_node a) ++
     (k ∷ in_parens_unless (fits b (suc (suc l))) (tokens_of_node b))) j → Quiet no_in (suc (suc (suc l))) ts j
@@ -111,10 +112,12 @@ loose_of op =
     low n h = let a = h.0 in let b = h.1 in omega arith
 
 -- an operator and its operands, which are spelled without brackets round them
-pub operands_back : {ts : List Token} (no_in : Bool) (op : BinOp) → InfixOperatorToken no_in (operator op) (plain op) → (a b : Expr)
+pub operands_back : {ts : List Token} (no_in : Bool) (op : BinOp) → InfixOperatorToken no_in (operator op) (plain op)
+    → (a b : Expr)
     → Alone ts a → Alone ts b → (s : Span) (i j : ℕ) (line : Bool)
     → Spells ts i line (in_parens_unless (fits a (operator_precedence op)) (tokens_of_node a) ++
-    (operator op ∷ in_parens_unless (fits b (pred (operator_precedence op))) (tokens_of_node b))) j → Quiet no_in (operator_precedence op) ts j
+    (operator op ∷ in_parens_unless (fits b (pred (operator_precedence op))) (tokens_of_node b))) j
+    → Quiet no_in (operator_precedence op) ts j
     → Back ts no_in (operator_precedence op) i (tree.binary op a b s) j
 operands_back {ts} no_in op t a b back_a back_b s i j line h q =
     let e = loose_of op in
@@ -127,7 +130,8 @@ operands_back {ts} no_in op t a b back_a back_b s i j line h q =
     (subst (λ r. Quiet no_in r ts j) e.rank q) (λ x y s u. same_binary op a b x y s u) s)
 
 pub binary_back : {ts : List Token} (no_in : Bool) (op : BinOp) (a b : Expr) → Alone ts a → Alone ts b → (s : Span)
-    (i j : ℕ) (line : Bool) → Spells ts i line (in_parens_unless (not (is_in op)) (in_parens_unless (fits a (operator_precedence op)) (tokens_of_node a) ++
+    (i j : ℕ) (line : Bool) → Spells ts i line
+    (in_parens_unless (not (is_in op)) (in_parens_unless (fits a (operator_precedence op)) (tokens_of_node a) ++
     (operator op ∷ in_parens_unless (fits b (pred (operator_precedence op))) (tokens_of_node b)))) j
     → Quiet no_in (precedence_of (tree.binary op a b s)) ts j
     → Back ts no_in (precedence_of (tree.binary op a b s)) i (tree.binary op a b s) j
@@ -147,7 +151,8 @@ binary_back {ts} no_in op a b back_a back_b s i j line = go (is_in op) refl
         let x = operands_back false op (is_the_in op e) a b back_a back_b s i j line h
         (quiet_stop false (operator_precedence op) g) in
         let r = loose_of op in
-        let f = as_loose (operator_precedence op) 14 (omega (arith, r.rank, r.top)) (omega arith) x.is (quiet_stop false 14 g) in
+        let f = as_loose (operator_precedence op) 14 (omega (arith, r.rank, r.top)) (omega arith) x.is
+        (quiet_stop false 14 g) in
         record { tree = x.tree; same = x.same; is = reads.whole_expression (to_expression f) c }
 
     go : (x : Bool) → is_in op ≡ x → Spells ts i line (in_parens_unless (not x) ks) j
@@ -258,7 +263,8 @@ quiet_question {ts} {j} {no_in} s = record {
   assigns = λ g. absurd (omega arith);
 }
 
-pub same_conditional : (x a y b z c : Expr) → skeleton x ≡ skeleton a → skeleton y ≡ skeleton b → skeleton z ≡ skeleton c
+pub same_conditional : (x a y b z c : Expr) → skeleton x ≡ skeleton a → skeleton y ≡ skeleton b
+    → skeleton z ≡ skeleton c
     → tree.conditional (skeleton x) (skeleton y) (skeleton z) tt
     ≡ tree.conditional (skeleton a) (skeleton b) (skeleton c) tt
 same_conditional x a y b z c h g k = cc
@@ -327,7 +333,8 @@ module _ (ts : List Token) where
   further_stop (tree.more t r) m j line h c = ap stops (at h.0).is
 
   pub items_stop : (t : Expr) (r : Forest Span tree.item) (m j : ℕ) (line : Bool)
-      → Spells ts m line (items_after (tree.filled t) r) j → stops (terminal_at ts j) ≡ true → stops (terminal_at ts m) ≡ true
+      → Spells ts m line (items_after (tree.filled t) r) j → stops (terminal_at ts j) ≡ true → stops (terminal_at ts m)
+      ≡ true
   unfolding tokens_of_node
   items_stop t tree.end m j line h c = subst (λ n. stops (terminal_at ts n) ≡ true) (sym h) c
   items_stop t (tree.more u r) m j line h c = ap stops (at h.0).is
@@ -346,7 +353,8 @@ pub record BackInit (ts : List Token) (i : ℕ) (t : Tree Span tree.init) (j : �
   pub same : skeleton init ≡ skeleton t
   pub is : ReadsInit ts i init j
 
-pub record BackOptional (ts : List Token) (k : Terminal) (i : ℕ) (t : OptionalTree Span tree.expr) (j : ℕ) : Type 0 where
+pub record BackOptional (ts : List Token) (k : Terminal) (i : ℕ) (t : OptionalTree Span tree.expr) (j : ℕ) : Type
+    0 where
   pub optional : OptionalTree Span tree.expr
   pub same : skeleton_optional optional ≡ skeleton_optional t
   pub is : ReadsOptional ts k i optional j
@@ -401,8 +409,10 @@ pub same_when : (x a : Expr) (y b z c : Stmts) → skeleton x ≡ skeleton a →
     ≡ tree.if_else (skeleton a) (skeleton_forest b) (tree.present (tree.branch_of (skeleton_forest c))) tt
 same_when x a y b z c h g e = cc
 
-pub same_for : (x a : Tree Span tree.init) (y b z c : OptionalTree Span tree.expr) (u d : Stmts) → skeleton x ≡ skeleton a
-    → skeleton_optional y ≡ skeleton_optional b → skeleton_optional z ≡ skeleton_optional c → skeleton_forest u ≡ skeleton_forest d
+pub same_for : (x a : Tree Span tree.init) (y b z c : OptionalTree Span tree.expr) (u d : Stmts)
+    → skeleton x ≡ skeleton a
+    → skeleton_optional y ≡ skeleton_optional b → skeleton_optional z ≡ skeleton_optional c
+    → skeleton_forest u ≡ skeleton_forest d
     → tree.for (skeleton x) (skeleton_optional y) (skeleton_optional z) (skeleton_forest u) tt
     ≡ tree.for (skeleton a) (skeleton_optional b) (skeleton_optional c) (skeleton_forest d) tt
 same_for x a y b z c u d h g e f = cc
@@ -421,7 +431,8 @@ same_try y b x a z c h g e = cc
 
 -- an expression statement: in brackets where it would be read otherwise
 pub expression_statement : {ts : List Token} (a : Expr) → Alone ts a → (s : Span) (i j : ℕ) (line : Bool)
-    → Spells ts i line (in_parens_unless (not (begins_otherwise (tokens_of_node a) || is_string a)) (tokens_of_node a) ++
+    → Spells ts i line (in_parens_unless (not (begins_otherwise (tokens_of_node a) || is_string a)) (tokens_of_node a)
+    ++
     punct puncts.Semicolon ∷ []) j → BackStatement ts i (tree.expression a s) j
 expression_statement {ts} a alone s i j line h = go (begins_otherwise (tokens_of_node a)) (is_string a) refl h
   where
@@ -458,7 +469,8 @@ expression_statement {ts} a alone s i j line h = go (begins_otherwise (tokens_of
 
 -- statements in braces
 abbrev pub StatementsAlone : List Token → Stmts → Type 0
-StatementsAlone ts ws = (i j : ℕ) (line : Bool) → Spells ts i line (tokens_of_all ws) j → ends_list (terminal_at ts j) ≡ true
+StatementsAlone ts ws = (i j : ℕ) (line : Bool) → Spells ts i line (tokens_of_all ws) j → ends_list (terminal_at ts j)
+    ≡ true
     → BackStatements ts i ws j
 
 pub block_back : {ts : List Token} (ws : Stmts) → StatementsAlone ts ws → (i j : ℕ) (line : Bool)
@@ -474,7 +486,8 @@ block_back {ts} ws alone i j line h =
     }
 
 pub same_declaration : (k l : Ident Span) (ps qs : List (Ident Span)) (c d : Code) (fs gs : Forest Span tree.func)
-    → named k ≡ named l → map named ps ≡ map named qs → skeleton c ≡ skeleton d → skeleton_forest fs ≡ skeleton_forest gs
+    → named k ≡ named l → map named ps ≡ map named qs → skeleton c ≡ skeleton d
+    → skeleton_forest fs ≡ skeleton_forest gs
     → tree.more (tree.function 0 (Some (named k)) (map named ps) (skeleton c) tt) (skeleton_forest fs)
     ≡ tree.more (tree.function 0 (Some (named l)) (map named qs) (skeleton d) tt) (skeleton_forest gs)
 same_declaration k l ps qs c d fs gs h g e f = cc

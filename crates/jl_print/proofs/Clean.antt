@@ -76,7 +76,8 @@ terminal : (p : Punct) {ks : List TokenKind} → is_dot (punct p) ≡ false → 
 terminal p e q = token (punct p) tt e q
 
 -- a word of the language
-word : (t : Text) {ks : List TokenKind} → is_identifier_name t ≡ true → length t ≤ 1048576 → Good ks → Good (name t ∷ ks)
+word : (t : Text) {ks : List TokenKind} → is_identifier_name t ≡ true → length t ≤ 1048576 → Good ks
+    → Good (name t ∷ ks)
 word t h l p = named (record { letters = h; short = l }) p
 
 written_string : (t : Text) {ks : List TokenKind} → IsShort t → Good ks → Good (string t ∷ ks)
@@ -205,7 +206,8 @@ finally_word = record { letters = refl; short = omega arith }
 
 module _ {S : Type 0} where
   -- an expression in its place
-  placed : (r : ℕ) (t : Tree S tree.expr) → Good (tokens_of_node t) → Good (in_parens_unless (fits t r) (tokens_of_node t))
+  placed : (r : ℕ) (t : Tree S tree.expr) → Good (tokens_of_node t)
+      → Good (in_parens_unless (fits t r) (tokens_of_node t))
   placed r t p = fitting (fits t r) p
 
   mutual
@@ -267,12 +269,14 @@ module _ {S : Type 0} where
         (parens (infix_node (good i w.0) (semi (infix_node (good_optional a w.1) (semi (good_optional b w.2))))))
         (braces (good_all ws w.3)))
     good (tree.for_in true x a ws s) w = word (codes "for") refl (omega arith) (infix_node
-        (parens (word (codes "var") refl (omega arith) (named w.0.name (word (codes "in") refl (omega arith) (good a w.1)))))
+        (parens (word (codes "var") refl (omega arith)
+        (named w.0.name (word (codes "in") refl (omega arith) (good a w.1)))))
         (braces (good_all ws w.2)))
     good (tree.for_in false x a ws s) w = word (codes "for") refl (omega arith) (infix_node
         (parens (named w.0.name (word (codes "in") refl (omega arith) (good a w.1))))
         (braces (good_all ws w.2)))
-    good (tree.continue x s) w = word (codes "continue") refl (omega arith) (infix_node (optional_name_good x w) (semi none))
+    good (tree.continue x s) w =
+        word (codes "continue") refl (omega arith) (infix_node (optional_name_good x w) (semi none))
     good (tree.break x s) w = word (codes "break") refl (omega arith) (infix_node (optional_name_good x w) (semi none))
     good (tree.return a s) w = word (codes "return") refl (omega arith) (infix_node (good_optional a w) (semi none))
     good (tree.labelled x u s) w = named w.0.name (terminal _ refl (good u w.1))
@@ -302,7 +306,8 @@ module _ {S : Type 0} where
     good_optional tree.absent w = none
     good_optional (tree.present t) w = good t w
 
-    good_after : {x : Sort} (u : Text) (t : OptionalTree S x) → IsName u → OptionalWellFormed t → Good (tokens_after u t)
+    good_after : {x : Sort} (u : Text) (t : OptionalTree S x) → IsName u → OptionalWellFormed t
+        → Good (tokens_after u t)
     good_after u tree.absent h w = none
     good_after u (tree.present t) h w = named h (good t w)
 

@@ -70,7 +70,8 @@ token : (m : ℕ) (k : TokenKind) (ks : List TokenKind) → Flat k → Tame m ks
 token m k ks h p = record {
   closes = λ n. ap (λ x. left_open x ks) (h.is n) ∙ p.closes n;
   most = λ n. let x = p.most n in
-      let e : most_open (bracket (terminal_of k) n) ks ≡ most_open n ks = ap (λ x. most_open x ks) (h.is n) in omega arith;
+      let e : most_open (bracket (terminal_of k) n) ks ≡ most_open n ks = ap (λ x. most_open x ks) (h.is n) in
+      omega arith;
 }
 
 -- between two brackets one more is open
@@ -221,9 +222,11 @@ module _ {S : Type 0} where
         infix_node m _ _ (placed m 0 a (omega arith) (tame a)) (token m _ _ (record { is = λ n. refl })
         (token m _ _ (name_flat t) (none m)))
     tame (tree.index a b s) = let m = 2 * (max (height a) (height b) + 1) - 1 in let p = pos b in
-        infix_node m _ _ (placed m 0 a (omega arith) (tame a)) (weaker _ m _ (omega arith) (between _ _ squares (tame b)))
+        infix_node m _ _ (placed m 0 a (omega arith) (tame a))
+        (weaker _ m _ (omega arith) (between _ _ squares (tame b)))
     tame (tree.call a b s) = let m = 2 * (max (height a) (forest_height b) + 1) - 1 in
-        infix_node m _ _ (placed m 0 a (omega arith) (tame a)) (weaker _ m _ (omega arith) (between _ _ parens (tame_arguments b)))
+        infix_node m _ _ (placed m 0 a (omega arith) (tame a))
+        (weaker _ m _ (omega arith) (between _ _ parens (tame_arguments b)))
     tame (tree.new a b s) = let m = 2 * (max (height a) (forest_height b) + 1) - 1 in let p = pos a in
         token m _ _ (name_flat (codes "new")) (infix_node m _ _
         (weaker _ m _ (omega arith) (callee_tame _ (is_name a) _ (tame a)))
@@ -236,27 +239,34 @@ module _ {S : Type 0} where
         infix_node m _ _ (weaker _ m _ (omega arith) (tame g)) (token m _ _ (update_flat up) (none m))
     tame (tree.binary op a b s) = let m = 2 * max (height a) (height b) in
         weaker _ _ _ (omega arith) (fitting m (not (is_in op)) _ (infix_node m _ _
-        (placed m (operator_precedence op) a (omega arith) (tame a)) (token m _ _ (operator_flat op) (placed m _ b (omega arith) (tame b)))))
+        (placed m (operator_precedence op) a (omega arith) (tame a))
+        (token m _ _ (operator_flat op) (placed m _ b (omega arith) (tame b)))))
     tame (tree.and a b s) = let m = 2 * (max (height a) (height b) + 1) - 1 in
-        infix_node m _ _ (placed m 11 a (omega arith) (tame a)) (token m _ _ (record { is = λ n. refl }) (placed m 10 b (omega arith) (tame b)))
+        infix_node m _ _ (placed m 11 a (omega arith) (tame a))
+        (token m _ _ (record { is = λ n. refl }) (placed m 10 b (omega arith) (tame b)))
     tame (tree.or a b s) = let m = 2 * (max (height a) (height b) + 1) - 1 in
-        infix_node m _ _ (placed m 12 a (omega arith) (tame a)) (token m _ _ (record { is = λ n. refl }) (placed m 11 b (omega arith) (tame b)))
+        infix_node m _ _ (placed m 12 a (omega arith) (tame a))
+        (token m _ _ (record { is = λ n. refl }) (placed m 11 b (omega arith) (tame b)))
     tame (tree.conditional a b c s) = let m = 2 * (max (max (height a) (height b)) (height c) + 1) - 1 in
         infix_node m _ _ (placed m 12 a (omega arith) (tame a)) (token m _ _ (record { is = λ n. refl })
-        (infix_node m _ _ (placed m 13 b (omega arith) (tame b)) (token m _ _ colon_flat (placed m 13 c (omega arith) (tame c)))))
+        (infix_node m _ _ (placed m 13 b (omega arith) (tame b))
+        (token m _ _ colon_flat (placed m 13 c (omega arith) (tame c)))))
     tame (tree.assign None g a s) = let m = 2 * (max (height g) (height a) + 1) - 1 in
         infix_node m _ _ (weaker _ m _ (omega arith) (tame g))
         (token m _ _ (record { is = λ n. refl }) (placed m 13 a (omega arith) (tame a)))
     tame (tree.assign (Some op) g a s) = let m = 2 * (max (height g) (height a) + 1) - 1 in
-        infix_node m _ _ (weaker _ m _ (omega arith) (tame g)) (token m _ _ (assign_flat op) (placed m 13 a (omega arith) (tame a)))
+        infix_node m _ _ (weaker _ m _ (omega arith) (tame g))
+        (token m _ _ (assign_flat op) (placed m 13 a (omega arith) (tame a)))
     tame (tree.comma a b s) = let m = 2 * (max (height a) (height b) + 1) - 1 in
-        infix_node m _ _ (weaker _ m _ (omega arith) (tame a)) (token m _ _ comma_flat (placed m 13 b (omega arith) (tame b)))
+        infix_node m _ _ (weaker _ m _ (omega arith) (tame a))
+        (token m _ _ comma_flat (placed m 13 b (omega arith) (tame b)))
     tame (tree.to_name x) = token 0 _ _ (name_flat x.text) (none 0)
     tame (tree.to_dot a t s) = let m = 2 * (height a + 1) - 1 in
         infix_node m _ _ (placed m 0 a (omega arith) (tame a)) (token m _ _ (record { is = λ n. refl })
         (token m _ _ (name_flat t) (none m)))
     tame (tree.to_index a b s) = let m = 2 * (max (height a) (height b) + 1) - 1 in let p = pos b in
-        infix_node m _ _ (placed m 0 a (omega arith) (tame a)) (weaker _ m _ (omega arith) (between _ _ squares (tame b)))
+        infix_node m _ _ (placed m 0 a (omega arith) (tame a))
+        (weaker _ m _ (omega arith) (between _ _ squares (tame b)))
     tame tree.hole = none 0
     tame (tree.filled a) = placed (2 * height a) 13 a (omega arith) (tame a)
     tame (tree.value k a) = let m = 2 * height a in
@@ -282,11 +292,13 @@ module _ {S : Type 0} where
     tame (tree.block ws s) = weaker _ _ _ (omega arith) (between _ _ braces (tame_all ws))
     tame (tree.if_else a ws b s) =
         let m = 2 * (max (max (height a) (forest_height ws)) (optional_height b) + 1) - 1 in let p = pos a in
-        token m _ _ (name_flat (codes "if")) (infix_node m _ _ (weaker _ m _ (omega arith) (between _ _ parens (tame a)))
+        token m _ _ (name_flat (codes "if"))
+        (infix_node m _ _ (weaker _ m _ (omega arith) (between _ _ parens (tame a)))
         (infix_node m _ _ (weaker _ m _ (omega arith) (between _ _ braces (tame_all ws)))
         (weaker _ m _ (omega arith) (tame_after (codes "else") b))))
     tame (tree.do_while ws a s) = let m = 2 * (max (forest_height ws) (height a) + 1) - 1 in let p = pos a in
-        token m _ _ (name_flat (codes "do")) (infix_node m _ _ (weaker _ m _ (omega arith) (between _ _ braces (tame_all ws)))
+        token m _ _ (name_flat (codes "do"))
+        (infix_node m _ _ (weaker _ m _ (omega arith) (between _ _ braces (tame_all ws)))
         (token m _ _ (name_flat (codes "while")) (infix_node m _ _
         (weaker _ m _ (omega arith) (between _ _ parens (tame a))) (token m _ _ semicolon_flat (none m)))))
     tame (tree.while a ws s) = let m = 2 * (max (height a) (forest_height ws) + 1) - 1 in let p = pos a in
@@ -299,7 +311,8 @@ module _ {S : Type 0} where
         token o _ _ (name_flat (codes "for")) (infix_node o _ _ (weaker _ o _ (omega arith) (between m _ parens
         (infix_node m _ _ (weaker _ m _ (omega arith) (tame i)) (token m _ _ semicolon_flat
         (infix_node m _ _ (weaker _ m _ (omega arith) (tame_optional a)) (token m _ _ semicolon_flat
-        (weaker _ m _ (omega arith) (tame_optional b)))))))) (weaker _ o _ (omega arith) (between _ _ braces (tame_all ws))))
+        (weaker _ m _ (omega arith) (tame_optional b))))))))
+        (weaker _ o _ (omega arith) (between _ _ braces (tame_all ws))))
     tame (tree.for_in true x a ws s) =
         let n = max (height a) (forest_height ws) in let m = 2 * n in let o = 2 * (n + 1) - 1 in
         token o _ _ (name_flat (codes "for")) (infix_node o _ _ (weaker _ o _ (omega arith) (between m _ parens
@@ -328,7 +341,8 @@ module _ {S : Type 0} where
         (token m _ _ semicolon_flat (none m)))
     tame (tree.try ws h b s) =
         let m = 2 * (max (max (forest_height ws) (optional_height h)) (optional_height b) + 1) - 1 in
-        token m _ _ (name_flat (codes "try")) (infix_node m _ _ (weaker _ m _ (omega arith) (between _ _ braces (tame_all ws)))
+        token m _ _ (name_flat (codes "try"))
+        (infix_node m _ _ (weaker _ m _ (omega arith) (between _ _ braces (tame_all ws)))
         (infix_node m _ _ (weaker _ m _ (omega arith) (tame_optional h))
         (weaker _ m _ (omega arith) (tame_after (codes "finally") b))))
     tame (tree.debugger s) = token 1 _ _ (name_flat (codes "debugger")) (token 1 _ _ semicolon_flat (none 1))

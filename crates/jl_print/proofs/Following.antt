@@ -105,7 +105,8 @@ begins_so ts line [] s h e = absurd (omega (arith, s))
 begins_so ts line (k ∷ ks) s h e = ap bars_expression (at s.0).is ∙ e
 
 -- no label stands where an expression does
-pub no_label : {ts : List Token} {i j : ℕ} {t : Expr} → ReadsExpression ts false i t j → is_colon (terminal_at ts j) ≡ false
+pub no_label : {ts : List Token} {i j : ℕ} {t : Expr} → ReadsExpression ts false i t j → is_colon (terminal_at ts j)
+    ≡ false
     → is_label ts i ≡ false
 no_label {ts} {i} {j} {t} r c = go (is_identifier (terminal_at ts i)) (is_colon (terminal_at ts (suc i))) refl refl
   where
@@ -113,7 +114,8 @@ no_label {ts} {i} {j} {t} r c = go (is_identifier (terminal_at ts i)) (is_colon 
     the_colon (terminals.Punct puncts.Colon) h = refl
     the_colon _ h = cc
 
-    stops_at : (k : Terminal) → terminal_at ts (suc i) ≡ k → k ≡ terminals.Punct puncts.Colon → continues_at ts (suc i) ≡ false
+    stops_at : (k : Terminal) → terminal_at ts (suc i) ≡ k → k ≡ terminals.Punct puncts.Colon → continues_at ts (suc i)
+        ≡ false
     stops_at k e h = rw (e ∙ h) refl
 
     clash : true ≡ false → ⊥

@@ -30,7 +30,8 @@ target_formed (tree.dot a x s) g e w = subst (λ g. WellFormed g) (same_Some _ _
 target_formed (tree.index a b s) g e w = subst (λ g. WellFormed g) (same_Some _ _ e) w
 target_formed _ g e w = absurd (cc)
 
-joined_formed : (op : InfixOperator) (a b : Expr) (s : Span) → WellFormed a → WellFormed b → WellFormed (infix_node op a b s)
+joined_formed : (op : InfixOperator) (a b : Expr) (s : Span) → WellFormed a → WellFormed b
+    → WellFormed (infix_node op a b s)
 joined_formed (plain op) a b s w v = (w, v)
 joined_formed both a b s w v = (w, v)
 joined_formed either a b s w v = (w, v)
@@ -204,7 +205,8 @@ module _ {ts : List Token} (w : AreLexical ts) where
     init_formed (reads.an_init a) = expression_formed a
     init_formed (reads.init_vars a b) = declarations_formed b
 
-    optional_formed : {k : Terminal} {i j : ℕ} {t : OptionalTree Span tree.expr} → ReadsOptional ts k i t j → OptionalWellFormed t
+    optional_formed : {k : Terminal} {i j : ℕ} {t : OptionalTree Span tree.expr} → ReadsOptional ts k i t j
+        → OptionalWellFormed t
     optional_formed (reads.no_expression a) = tt
     optional_formed (reads.one_expression a) = expression_formed a
 

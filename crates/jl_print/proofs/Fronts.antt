@@ -71,7 +71,8 @@ pub quiet_less : {no_in : Bool} {ts : List Token} {j : ℕ} (r s : ℕ) → r �
 quiet_less {no_in} {ts} {j} r s h q = record {
   left = λ g. q.left (omega arith);
   update = λ g. q.update (omega arith);
-  operator = tighter_stops (infix_precedence_of (infix_operator no_in (terminal_at ts j))) (r - 3) (s - 3) (omega arith) q.operator;
+  operator = tighter_stops (infix_precedence_of (infix_operator no_in (terminal_at ts j))) (r - 3) (s - 3) (omega arith)
+  q.operator;
   question = λ g. q.question (omega arith);
   assigns = λ g. q.assigns (omega arith);
 }
@@ -96,12 +97,18 @@ record Stopping (no_in : Bool) (k : Terminal) : Type 0 where
   assigns : assigns k ≡ false
 
 stopping : (no_in : Bool) (k : Terminal) → stops k ≡ true → Stopping no_in k
-stopping no_in (terminals.Punct puncts.RightParen) h = record { left = refl; update = refl; loose = refl; question = refl; assigns = refl }
-stopping no_in (terminals.Punct puncts.RightBracket) h = record { left = refl; update = refl; loose = refl; question = refl; assigns = refl }
-stopping no_in (terminals.Punct puncts.RightBrace) h = record { left = refl; update = refl; loose = refl; question = refl; assigns = refl }
-stopping no_in (terminals.Punct puncts.Comma) h = record { left = refl; update = refl; loose = refl; question = refl; assigns = refl }
-stopping no_in (terminals.Punct puncts.Colon) h = record { left = refl; update = refl; loose = refl; question = refl; assigns = refl }
-stopping no_in (terminals.Punct puncts.Semicolon) h = record { left = refl; update = refl; loose = refl; question = refl; assigns = refl }
+stopping no_in (terminals.Punct puncts.RightParen) h =
+    record { left = refl; update = refl; loose = refl; question = refl; assigns = refl }
+stopping no_in (terminals.Punct puncts.RightBracket) h =
+    record { left = refl; update = refl; loose = refl; question = refl; assigns = refl }
+stopping no_in (terminals.Punct puncts.RightBrace) h =
+    record { left = refl; update = refl; loose = refl; question = refl; assigns = refl }
+stopping no_in (terminals.Punct puncts.Comma) h =
+    record { left = refl; update = refl; loose = refl; question = refl; assigns = refl }
+stopping no_in (terminals.Punct puncts.Colon) h =
+    record { left = refl; update = refl; loose = refl; question = refl; assigns = refl }
+stopping no_in (terminals.Punct puncts.Semicolon) h =
+    record { left = refl; update = refl; loose = refl; question = refl; assigns = refl }
 stopping no_in terminals.End h = record { left = refl; update = refl; loose = refl; question = refl; assigns = refl }
 stopping no_in _ h = cc
 
@@ -121,7 +128,8 @@ quiet_stop {ts} {j} no_in r h =
 
 looser : (ts : List Token) (no_in : Bool) (i : ℕ) (t : Expr) (j r : ℕ) → r ≤ 13 → Front ts no_in i t j r
     → Quiet no_in (suc r) ts j → Front ts no_in i t j (suc r)
-looser ts no_in i t j r h (of_left f) q = of_postfix (left (whole_left f (q.left (omega arith))) (q.update (omega arith)))
+looser ts no_in i t j r h (of_left f) q =
+    of_postfix (left (whole_left f (q.left (omega arith))) (q.update (omega arith)))
 looser ts no_in i t j r h (of_postfix f) q = of_binary (omega arith) (operand (postfix f))
 looser ts no_in i t j r h (of_binary {l = l} g f) q = go (cases_lt l 10)
   where

@@ -11,7 +11,8 @@ use Rattle.jl_print.specs.declared.piece.Piece.{Piece}
 use Rattle.jl_print.specs.Layout.{layout_of, ends_line, is_dot, is_number, joins_left, joins_right}
 use Rattle.jl_print.specs.Pieces.{is_bare_key, key, name, string}
 
-pub laid_next : (k : TokenKind) (ks : List TokenKind) → layout_of (k ∷ ks) ≡ spelling_of k ++ (after k ks ++ layout_of ks)
+pub laid_next : (k : TokenKind) (ks : List TokenKind)
+    → layout_of (k ∷ ks) ≡ spelling_of k ++ (after k ks ++ layout_of ks)
 laid_next k [] = refl
 laid_next k (l ∷ ks) = refl
 

@@ -61,7 +61,8 @@ punct_found {rest = rest} after_bracket = left_bracket_found rest
 punct_found {rest = rest} (after_point f) = dot_found rest f
 punct_found {p = p} (after_other f) = punctuator_scanned p f
 
-word_found : (k : TokenKind) (rest : List ℕ) → IsClean k → Fits k rest → scan (spelling_of k ++ rest) ≡ found (Word k) rest
+word_found : (k : TokenKind) (rest : List ℕ) → IsClean k → Fits k rest → scan (spelling_of k ++ rest)
+    ≡ found (Word k) rest
 word_found (kinds.Name t escaped) rest w f =
     name_found t rest w.1.letters w.1.short f ∙ ap (λ e. found (Word (kinds.Name t e)) rest) (sym w.0)
 word_found (kinds.Number n) rest w f =

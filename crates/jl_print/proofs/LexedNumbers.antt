@@ -9,8 +9,8 @@ use Rattle.jl_num.proofs.Places.{one_digit, more_digits, last_digit, quotient_le
 use Rattle.jl_token.specs.Characters.{is_digit, decimal_from}
 use Rattle.jl_token.specs.Elements.{Word, Many, no_more, one_more, OneUnit, unit, HasValue}
 use Rattle.jl_token.specs.inner.Scanner.{found, one_unit, letter, name_escape, scan, scan_word, numeral, after_zero}
-use Rattle.jl_token.specs.inner.Scanner.{after_whole, from_whole, with_exponent, exponent, number_end, number_of, value_of}
-use Rattle.jl_token.specs.inner.Scanner.{is_some_of}
+use Rattle.jl_token.specs.inner.Scanner.{after_whole, from_whole, with_exponent, exponent, number_end, number_of}
+use Rattle.jl_token.specs.inner.Scanner.{value_of, is_some_of}
 use Rattle.jl_token.specs.declared.token.TokenKind.TheVariants as kinds
 use Rattle.jl_token.proofs.Parts.{reads_unit}
 use Rattle.jl_token.proofs.Rows.{many_whole}

@@ -116,7 +116,8 @@ unit_back : (before u after : ℕ) → CanonicalTokens u (quoted_unit before u a
 unfolding single_escape is_line_terminator
 unit_back before u after = by34 (true_or_false (u == 0x22))
   where
-    at : (k : ℕ) → (u == k) ≡ true → CanonicalTokens k (quoted_unit before k after) → CanonicalTokens u (quoted_unit before u after)
+    at : (k : ℕ) → (u == k) ≡ true → CanonicalTokens k (quoted_unit before k after)
+        → CanonicalTokens u (quoted_unit before u after)
     at k e w = subst (λ v. CanonicalTokens v (quoted_unit before v after)) (sym (is_unit u k e)) w
 
     other : (u == 0x22) ≡ false → (u == 0x5C) ≡ false → (u == 0x0A) ≡ false → (u == 0x0D) ≡ false → (u == 0x09) ≡ false
@@ -134,7 +135,8 @@ unit_back before u after = by34 (true_or_false (u == 0x22))
             plain_back u (rw (a, b, c, d, r.0, r.1) refl)
 
     by12 : (u == 0x22) ≡ false → (u == 0x5C) ≡ false → (u == 0x0A) ≡ false → (u == 0x0D) ≡ false → (u == 0x09) ≡ false
-        → (u == 0x08) ≡ false → ((u == 0x0C) ≡ true) ⊎ ((u == 0x0C) ≡ false) → CanonicalTokens u (quoted_unit before u after)
+        → (u == 0x08) ≡ false → ((u == 0x0C) ≡ true) ⊎ ((u == 0x0C) ≡ false)
+        → CanonicalTokens u (quoted_unit before u after)
     by12 a b c d e f (inl h) = at 0x0C h (single_back 0x0C 0x66 refl)
     by12 a b c d e f (inr h) = other a b c d e f h
 
@@ -158,7 +160,8 @@ unit_back before u after = by34 (true_or_false (u == 0x22))
     by10 a b (inl h) = at 0x0A h (single_back 0x0A 0x6E refl)
     by10 a b (inr h) = by13 a b h (true_or_false (u == 0x0D))
 
-    by92 : (u == 0x22) ≡ false → ((u == 0x5C) ≡ true) ⊎ ((u == 0x5C) ≡ false) → CanonicalTokens u (quoted_unit before u after)
+    by92 : (u == 0x22) ≡ false → ((u == 0x5C) ≡ true) ⊎ ((u == 0x5C) ≡ false)
+        → CanonicalTokens u (quoted_unit before u after)
     by92 a (inl h) = at 0x5C h (single_back 0x5C 0x5C refl)
     by92 a (inr h) = by10 a h (true_or_false (u == 0x0A))
 
@@ -194,7 +197,8 @@ quotes_back before (u ∷ us) = with_unit (unit_back before u (slice_index us 0)
         record {
           characters = (u ∷ [], w.itself) ∷ q.characters;
           stand = λ rest. subst (λ l. Many (Character 34) l ((u ∷ [], w.itself) ∷ q.characters) rest)
-              (sym (append_assoc ks (quoted_after u us) rest)) (one_more (w.stands (quoted_after u us ++ rest)) (q.stand rest));
+              (sym (append_assoc ks (quoted_after u us) rest))
+              (one_more (w.stands (quoted_after u us ++ rest)) (q.stand rest));
           text = ap (λ l. u ∷ l) q.text;
           same = λ h. let p = and_true _ _ h in ap₂ (λ a b. a ++ b) (w.same p.0) (q.same p.1);
           longer = λ h. go w.itself refl h l n;

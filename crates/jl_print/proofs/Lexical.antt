@@ -101,7 +101,8 @@ no_terminal n = let e : nat_lt n 0 ≡ false = grind (arith, nat_tests) in e
 short_digits : (n : Number) → IsLiteral n → IsShort (number_text n 10)
 short_digits n w =
     let h = few_digits (w.value + 1) 15 w.value (omega (arith, w.inside)) in
-    let e : number_text (Some (pos w.value)) 10 ≡ digits_within 10 (w.value + 1) w.value = rw (no_terminal w.value) refl in
+    let e : number_text (Some (pos w.value)) 10 ≡ digits_within 10 (w.value + 1) w.value =
+    rw (no_terminal w.value) refl in
     let l = ap length e in
     subst (λ n. IsShort (number_text n 10)) (sym w.is) (omega arith)
 
@@ -112,7 +113,8 @@ only k = record { kind = k; span = record { from = 0; to = 0 }; line_before = fa
 identifier_of : (k : TokenKind) → IsLexical k → is_identifier (terminal_of k) ≡ true → IsIdentifier (text_at (only k) 0)
 identifier_of (kinds.Name t e) w h = record { name = w; free = go (word_of t) e refl h }
   where
-    go : (o : Option ReservedWord) (e : Bool) → word_of t ≡ o → is_identifier (name_terminal t e) ≡ true → word_of t ≡ None
+    go : (o : Option ReservedWord) (e : Bool) → word_of t ≡ o → is_identifier (name_terminal t e) ≡ true
+        → word_of t ≡ None
     go (Some k) true q h = absurd (no_word (sym (rw q refl) ∙ h))
       where
         no_word : is_identifier terminals.EscapedWord ≡ true → ⊥
@@ -153,7 +155,8 @@ unreserved_is_neither true b = (refl, refl)
 unreserved_is_neither false true = (refl, refl)
 unreserved_is_neither false false = (refl, refl)
 
-name_is_neither : (t : Text) (e : Bool) → (is_string (name_terminal t e) ≡ false) × (is_number (name_terminal t e) ≡ false)
+name_is_neither : (t : Text) (e : Bool) → (is_string (name_terminal t e) ≡ false)
+    × (is_number (name_terminal t e) ≡ false)
 name_is_neither t e = go (word_of t) e refl
   where
     go : (o : Option ReservedWord) (e : Bool) → word_of t ≡ o
@@ -214,7 +217,8 @@ module _ {ts : List Token} where
   pub literal_at : AreLexical ts → {i : ℕ} → At ts i terminals.Number → IsLiteral (number_at ts i)
   literal_at w {i} e = go ts w i (ap is_number e.is)
     where
-      go : (ts : List Token) → AreLexical ts → (i : ℕ) → is_number (terminal_at ts i) ≡ true → IsLiteral (number_at ts i)
+      go : (ts : List Token) → AreLexical ts → (i : ℕ) → is_number (terminal_at ts i) ≡ true
+          → IsLiteral (number_at ts i)
       go [] w i h = absurd (cc)
       go (t ∷ ts) w zero h = number_of t.kind w.0 h
       go (t ∷ ts) w (suc i) h = go ts w.1 i h

@@ -27,7 +27,8 @@ record BackNames (ts : List Token) (i : ℕ) (ps : List (Ident Span)) (j : ℕ) 
   is : ReadsNames ts i names j
 
 back_names : (ts : List Token) (p : Ident Span) (ps : List (Ident Span)) → AreIdentifiers (p ∷ ps) → (i j : ℕ)
-    (line : Bool) → Spells ts i line (name p.text ∷ (further_names ps ++ close_paren ∷ [])) j → BackNames ts i (p ∷ ps) j
+    (line : Bool) → Spells ts i line (name p.text ∷ (further_names ps ++ close_paren ∷ [])) j
+    → BackNames ts i (p ∷ ps) j
 back_names ts p [] w i j line s = record {
   names = ident_at ts i ∷ [];
   same = ap (λ x. x ∷ []) (same_name p s.0);

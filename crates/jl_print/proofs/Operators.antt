@@ -48,8 +48,10 @@ looser_stops : (s x : ℕ) → x < s → (nat_le 1 s && nat_le s x) ≡ false
 looser_stops s x l = grind (arith, leb_tells)
 
 -- it does not go on with what is as loose as it
-pub quiet_infix_operator : {ts : List Token} {j : ℕ} {line no_in : Bool} {k : TokenKind} {o : InfixOperator} (l : ℕ) → l ≤ 9
-    → Spelled ts j line k → InfixOperatorToken no_in k o → infix_precedence o ≡ suc l → Quiet no_in (suc (suc (suc l))) ts j
+pub quiet_infix_operator : {ts : List Token} {j : ℕ} {line no_in : Bool} {k : TokenKind} {o : InfixOperator} (l : ℕ)
+    → l ≤ 9
+    → Spelled ts j line k → InfixOperatorToken no_in k o → infix_precedence o ≡ suc l
+    → Quiet no_in (suc (suc (suc l))) ts j
 quiet_infix_operator {ts} {j} {line} {no_in} {k} {o} l top s t e = record {
   left = λ g. ap (continues_left true) (at s).is ∙ t.left;
   update = λ g. ap (λ x. updates x && not (line_at ts j)) (at s).is ∙ ap (λ b. b && not (line_at ts j)) t.update;
@@ -106,7 +108,8 @@ pub assigns_at : {ts : List Token} {i : ℕ} {line : Bool} (op : BinOp) → is_c
     → Spelled ts i line (punct (assign_punct op)) → AssignsAt ts i (Some op)
 assigns_at op h s = record { is = ap assign_operator (at s).is ∙ same op h }
   where
-    same : (op : BinOp) → is_compound op ≡ true → assign_operator (terminal_of (punct (assign_punct op))) ≡ Some (Some op)
+    same : (op : BinOp) → is_compound op ≡ true → assign_operator (terminal_of (punct (assign_punct op)))
+        ≡ Some (Some op)
     same ops.Mul h = refl
     same ops.Div h = refl
     same ops.Rem h = refl

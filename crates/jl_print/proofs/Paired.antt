@@ -85,7 +85,8 @@ no_part u from below =
     let low : nat_le 55296 u ≡ true = le-leb 55296 u from in
     let high : nat_le u 57343 ≡ true = le-leb u 57343 (omega arith) in
     let differs : (k : ℕ) → (u ≡ k → ⊥) → (u == k) ≡ false = λ k f. other_unit u k f in
-    rw (low, high, differs 36 (λ e. omega arith), differs 95 (λ e. omega arith), differs 8204 (λ e. omega arith), differs 8205 (λ e. omega arith)) refl
+    rw (low, high, differs 36 (λ e. omega arith), differs 95 (λ e. omega arith), differs 8204 (λ e. omega arith),
+    differs 8205 (λ e. omega arith)) refl
 
 part_whole : (u : ℕ) → is_identifier_part u ≡ true → Whole u
 part_whole u h = elim (cases_lt u 0xD800) [
@@ -153,7 +154,8 @@ paired_unit : (before u after : ℕ) → 0xD800 ≤ u → u < 0xE000 → is_lone
 paired_unit before u after from below h =
     let differs : (k : ℕ) → k < 0xD800 → (u == k) ≡ false = λ k l. other_unit u k (λ e. omega arith) in
     let seen : is_hidden u ≡ false = not_true (is_hidden u) (λ e. let l = hidden_low u e in omega arith) in
-    rw (differs 0x22 (omega arith), differs 0x5C (omega arith), differs 0x0A (omega arith), differs 0x0D (omega arith), differs 0x09 (omega arith), differs 0x08 (omega arith), differs 0x0C (omega arith), seen, h) refl
+    rw (differs 0x22 (omega arith), differs 0x5C (omega arith), differs 0x0A (omega arith), differs 0x0D (omega arith),
+    differs 0x09 (omega arith), differs 0x08 (omega arith), differs 0x0C (omega arith), seen, h) refl
 
 -- any other unit is written without a surrogate
 record Apart (before u after : ℕ) : Type 0 where
@@ -161,10 +163,12 @@ record Apart (before u after : ℕ) : Type 0 where
   second : is_high_surrogate before ≡ true → is_low_surrogate u ≡ false
 
 high_bounds : (u : ℕ) → is_high_surrogate u ≡ true → (0xD800 ≤ u) × (u < 0xDC00)
-high_bounds u h = let b = and_true (nat_le 0xD800 u) (nat_lt u 0xDC00) h in (leb-true 0xD800 u b.0, ltb-true u 0xDC00 b.1)
+high_bounds u h = let b = and_true (nat_le 0xD800 u) (nat_lt u 0xDC00) h in
+    (leb-true 0xD800 u b.0, ltb-true u 0xDC00 b.1)
 
 low_bounds : (u : ℕ) → is_low_surrogate u ≡ true → (0xDC00 ≤ u) × (u < 0xE000)
-low_bounds u h = let b = and_true (nat_le 0xDC00 u) (nat_lt u 0xE000) h in (leb-true 0xDC00 u b.0, ltb-true u 0xE000 b.1)
+low_bounds u h = let b = and_true (nat_le 0xDC00 u) (nat_lt u 0xE000) h in
+    (leb-true 0xDC00 u b.0, ltb-true u 0xE000 b.1)
 
 no_pair : (a b : Bool) → a ≡ true → (a && b) ≡ false → b ≡ false
 no_pair true b e f = f
@@ -180,7 +184,8 @@ lone_first before u after p h = rw (h, no_pair (is_high_surrogate u) (is_low_sur
 
 lone_second : (before u after : ℕ) → Apart before u after → is_low_surrogate u ≡ true → is_lone before u after ≡ true
 lone_second before u after p h =
-    rw (h, not_both (is_low_surrogate u) (is_high_surrogate before) h p.second) (by (is_high_surrogate u && not (is_low_surrogate after)))
+    rw (h, not_both (is_low_surrogate u) (is_high_surrogate before) h p.second)
+    (by (is_high_surrogate u && not (is_low_surrogate after)))
   where
     by : (b : Bool) → (b || true) ≡ true
     by true = refl
@@ -192,8 +197,10 @@ whole_unit before u after p h = elim (cases_lt u 0xD800) [
   | inr from ↦ elim (cases_lt u 0xE000) [
     | inr high ↦ inr high
     | inl below ↦ elim (cases_lt u 0xDC00) [
-      | inl first ↦ absurd (never_both (is_lone before u after) (lone_first before u after p (rw (le-leb 0xD800 u from, lt-ltb u 0xDC00 first) refl)) h)
-      | inr second ↦ absurd (never_both (is_lone before u after) (lone_second before u after p (rw (le-leb 0xDC00 u second, lt-ltb u 0xE000 below) refl)) h)
+      | inl first ↦ absurd (never_both (is_lone before u after)
+      (lone_first before u after p (rw (le-leb 0xD800 u from, lt-ltb u 0xDC00 first) refl)) h)
+      | inr second ↦ absurd (never_both (is_lone before u after)
+      (lone_second before u after p (rw (le-leb 0xDC00 u second, lt-ltb u 0xE000 below) refl)) h)
     ]
   ]
 ]
@@ -226,7 +233,8 @@ short_letter u =
 
 shown_paired : (o : Option ℕ) (other : List ℕ) → IsLetter o → Paired other → Paired (shown o other)
 shown_paired None other l p = p
-shown_paired (Some letter) other l p = whole (inl (omega arith)) (whole (inl (let h = l.small letter refl in omega arith)) none)
+shown_paired (Some letter) other l p =
+    whole (inl (omega arith)) (whole (inl (let h = l.small letter refl in omega arith)) none)
 
 unit_paired : (before u after : ℕ) → Apart before u after → Paired (quoted_unit before u after)
 unit_paired before u after p =
@@ -249,13 +257,16 @@ pair_is : (before u v after : ℕ) → is_high_surrogate u ≡ true → is_low_s
 pair_is before u v after high low =
     let a = high_bounds u high in
     let b = low_bounds v low in
-    let u_high : is_low_surrogate u ≡ false = not_true (is_low_surrogate u) (λ e. let c = low_bounds u e in omega arith) in
-    let v_low : is_high_surrogate v ≡ false = not_true (is_high_surrogate v) (λ e. let c = high_bounds v e in omega arith) in
+    let u_high : is_low_surrogate u ≡ false =
+    not_true (is_low_surrogate u) (λ e. let c = low_bounds u e in omega arith) in
+    let v_low : is_high_surrogate v ≡ false =
+    not_true (is_high_surrogate v) (λ e. let c = high_bounds v e in omega arith) in
     let first : is_lone before u v ≡ false = rw (high, low, u_high) refl in
     let second : is_lone u v after ≡ false = rw (high, low, v_low) refl in
     (paired_unit before u v a.0 (omega (arith, a.1)) first, paired_unit u v after (omega (arith, b.0)) b.1 second)
 
-quoted_paired : (before : ℕ) (us : List ℕ) → (is_high_surrogate before ≡ true → is_low_surrogate (slice_index us 0) ≡ false)
+quoted_paired : (before : ℕ) (us : List ℕ)
+    → (is_high_surrogate before ≡ true → is_low_surrogate (slice_index us 0) ≡ false)
     → Paired (quoted_after before us)
 quoted_paired before [] h = none
 quoted_paired before (u ∷ []) h =
@@ -272,7 +283,8 @@ quoted_paired before (u ∷ v ∷ us) h = elim (true_or_false (is_high_surrogate
 ]
 
 string_paired : (t : List ℕ) → Paired (quote t)
-string_paired t = whole (inl (omega arith)) (infix_node (quoted_paired 0 t (λ e. absurd (cc))) (whole (inl (omega arith)) none))
+string_paired t = whole (inl (omega arith))
+    (infix_node (quoted_paired 0 t (λ e. absurd (cc))) (whole (inl (omega arith)) none))
 
 number_paired : (n : ℕ) → Paired (number_text (Some (pos n)) 10)
 number_paired n = infix_node (choice _ (45 ∷ []) [] (whole (inl (omega arith)) none) none) (digits_paired (n + 1) n)

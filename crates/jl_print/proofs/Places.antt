@@ -49,7 +49,8 @@ rank_top _ = omega arith
 
 -- how an expression is read where it is written alone
 abbrev pub Alone : List Token → Expr → Type 0
-Alone ts t = (no_in : Bool) (i j : ℕ) (line : Bool) → Spells ts i line (tokens_of_node t) j → Quiet no_in (precedence_of t) ts j
+Alone ts t = (no_in : Bool) (i j : ℕ) (line : Bool) → Spells ts i line (tokens_of_node t) j
+    → Quiet no_in (precedence_of t) ts j
     → Back ts no_in (precedence_of t) i t j
 
 -- a whole expression, up to a token that ends it

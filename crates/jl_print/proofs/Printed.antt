@@ -40,18 +40,21 @@ end_past (t ∷ ts) = end_past ts
 opened_most : (ts : List Token) (i : ℕ) (line : _) (ks : List TokenKind) (j : ℕ) → Spells ts i line ks j → (k : ℕ)
     → i ≤ k → k ≤ j → open_brackets ts k ≤ most_open (open_brackets ts i) ks
 opened_most ts i line [] j h k a b =
-    let e : k ≡ i = omega (arith, h) in let g : open_brackets ts k ≡ open_brackets ts i = ap (open_brackets ts) e in omega arith
+    let e : k ≡ i = omega (arith, h) in let g : open_brackets ts k ≡ open_brackets ts i = ap (open_brackets ts) e in
+    omega arith
 opened_most ts i line (c ∷ ks) j h k a b =
     step (at h.0) (λ p. opened_most ts (suc i) (ends_line c) ks j h.1 k p b) (cases_lt i k)
   where
-    step : At ts i (terminal_of c) → (suc i ≤ k → open_brackets ts k ≤ most_open (open_brackets ts (suc i)) ks) → (i < k) ⊎ (k ≤ i)
+    step : At ts i (terminal_of c) → (suc i ≤ k → open_brackets ts k ≤ most_open (open_brackets ts (suc i)) ks)
+        → (i < k) ⊎ (k ≤ i)
         → open_brackets ts k ≤ most_open (open_brackets ts i) (c ∷ ks)
     step e rest (inl p) =
         let g = rest (omega arith) in
         let f : most_open (open_brackets ts (suc i)) ks ≡ most_open (bracket (terminal_of c) (open_brackets ts i)) ks =
         ap (λ x. most_open x ks) (after e) in omega arith
     step e rest (inr p) =
-        let q : k ≡ i = omega arith in let g : open_brackets ts k ≡ open_brackets ts i = ap (open_brackets ts) q in omega arith
+        let q : k ≡ i = omega arith in let g : open_brackets ts k ≡ open_brackets ts i = ap (open_brackets ts) q in
+        omega arith
 
 opened_none : (ts : List Token) → open_brackets ts 0 ≡ 0
 unfolding open_brackets
@@ -103,7 +106,8 @@ reads_back p limit w h l =
         is = refl;
         low = omega arith;
         shallow = everywhere ts (2 * limit) (λ k g.
-            let o = opened_most ts 0 false (tokens_of_node p.body) (length ts) l.spelled k (omega arith) g in omega arith);
+            let o = opened_most ts 0 false (tokens_of_node p.body) (length ts) l.spelled k (omega arith) g in
+            omega arith);
       };
       same = same_program b.code p (record { from = 0; to = last_end ts }) b.same w.numbers;
     }

@@ -34,7 +34,8 @@ default_numbered false n (tree.more (tree.case tree.absent ws) r) w = w
 named_numbered : {S : Type 0} (n : ℕ) (r : Forest S tree.func) → AreNamed r → AreNamed (numbered_forest n r)
 named_numbered n tree.end w = w
 named_numbered n (tree.more (tree.function m None ps c s) r) w = w
-named_numbered n (tree.more (tree.function m (Some x) ps c s) r) w = named_numbered (n + functions_in (tree.function m (Some x) ps c s)) r w
+named_numbered n (tree.more (tree.function m (Some x) ps c s) r) w =
+    named_numbered (n + functions_in (tree.function m (Some x) ps c s)) r w
 
 getter_numbered : {S : Type 0} (n : ℕ) (f : Tree S tree.func) → IsGetter f → IsGetter (numbered_tree n f)
 getter_numbered n (tree.function m None [] c s) w = w
@@ -114,7 +115,8 @@ module _ {S : Type 0} where
     all_formed n tree.end w = w
     all_formed n (tree.more a b) w = (numbered_formed _ a w.0, all_formed _ b w.1)
 
-    optional_formed : {x : Sort} (n : ℕ) (t : OptionalTree S x) → OptionalWellFormed t → OptionalWellFormed (numbered_optional n t)
+    optional_formed : {x : Sort} (n : ℕ) (t : OptionalTree S x) → OptionalWellFormed t
+        → OptionalWellFormed (numbered_optional n t)
     optional_formed n tree.absent w = w
     optional_formed n (tree.present a) w = numbered_formed _ a w
 

@@ -109,7 +109,8 @@ module _ {S : Type 0} where
       again m n a,
       again_optional (m + functions_in a) (n + functions_in a) b,
       again_optional (m + functions_in a + functions_in_optional b) (n + functions_in a + functions_in_optional b) c,
-      again_forest (m + functions_in a + functions_in_optional b + functions_in_optional c) (n + functions_in a + functions_in_optional b + functions_in_optional c) d,
+      again_forest (m + functions_in a + functions_in_optional b + functions_in_optional c)
+      (n + functions_in a + functions_in_optional b + functions_in_optional c) d,
       as_many_numbered n a,
       as_many_numbered_optional (n + functions_in a) b,
       as_many_numbered_optional (n + functions_in a + functions_in_optional b) c,
@@ -132,7 +133,8 @@ module _ {S : Type 0} where
     again m n (try a b c s) = cc (
       again_forest m n a,
       again_optional (m + functions_in_forest a) (n + functions_in_forest a) b,
-      again_optional (m + functions_in_forest a + functions_in_optional b) (n + functions_in_forest a + functions_in_optional b) c,
+      again_optional (m + functions_in_forest a + functions_in_optional b)
+      (n + functions_in_forest a + functions_in_optional b) c,
       as_many_numbered_forest n a,
       as_many_numbered_optional (n + functions_in_forest a) b,
     )
@@ -149,7 +151,8 @@ module _ {S : Type 0} where
     again m n (branch_of a) = cc (again_forest m n a)
     again m n (catch a b) = cc (again_forest m n b)
 
-    pub again_forest : {x : Sort} (m n : ℕ) (t : Forest S x) → numbered_forest m (numbered_forest n t) ≡ numbered_forest m t
+    pub again_forest : {x : Sort} (m n : ℕ) (t : Forest S x) → numbered_forest m (numbered_forest n t)
+        ≡ numbered_forest m t
     again_forest m n end = refl
     again_forest m n (more a b) = cc (
       again m n a,
@@ -157,6 +160,7 @@ module _ {S : Type 0} where
       as_many_numbered n a,
     )
 
-    pub again_optional : {x : Sort} (m n : ℕ) (t : OptionalTree S x) → numbered_optional m (numbered_optional n t) ≡ numbered_optional m t
+    pub again_optional : {x : Sort} (m n : ℕ) (t : OptionalTree S x) → numbered_optional m (numbered_optional n t)
+        ≡ numbered_optional m t
     again_optional m n absent = refl
     again_optional m n (present a) = cc (again m n a)

@@ -145,7 +145,8 @@ module _ {S : Type 0} where
     as_many (branch_of a) = cc (as_many_forest a)
     as_many (catch a b) = cc (as_many_forest b)
 
-    as_many_forest : {x : Sort} (t : Forest S x) → functions_in_forest (skeleton_forest t) ≡ functions_in_forest (map_forest no_place t)
+    as_many_forest : {x : Sort} (t : Forest S x) → functions_in_forest (skeleton_forest t)
+        ≡ functions_in_forest (map_forest no_place t)
     as_many_forest end = refl
     as_many_forest (more a b) = cc (as_many a, as_many_forest b)
 
@@ -168,14 +169,17 @@ module _ {S : Type 0} where
     same_numbers n (function_expression a s) = cc (same_numbers n a)
     same_numbers n (dot a b s) = cc (same_numbers n a)
     same_numbers n (index a b s) = cc (same_numbers n a, same_numbers (n + functions_in (skeleton a)) b, as_many a)
-    same_numbers n (call a b s) = cc (same_numbers n a, same_numbers_forest (n + functions_in (skeleton a)) b, as_many a)
+    same_numbers n (call a b s) =
+        cc (same_numbers n a, same_numbers_forest (n + functions_in (skeleton a)) b, as_many a)
     same_numbers n (new a b s) = cc (same_numbers n a, same_numbers_forest (n + functions_in (skeleton a)) b, as_many a)
     same_numbers n (unary a b s) = cc (same_numbers n b)
     same_numbers n (update up prefix a s) = cc (same_numbers n a)
     same_numbers n (binary a b c s) = cc (same_numbers n b, same_numbers (n + functions_in (skeleton b)) c, as_many b)
     same_numbers n (and a b s) = cc (same_numbers n a, same_numbers (n + functions_in (skeleton a)) b, as_many a)
     same_numbers n (or a b s) = cc (same_numbers n a, same_numbers (n + functions_in (skeleton a)) b, as_many a)
-    same_numbers n (conditional a b c s) = cc (same_numbers n a, same_numbers (n + functions_in (skeleton a)) b, same_numbers (n + functions_in (skeleton a) + functions_in (skeleton b)) c, as_many a, as_many b)
+    same_numbers n (conditional a b c s) =
+        cc (same_numbers n a, same_numbers (n + functions_in (skeleton a)) b,
+        same_numbers (n + functions_in (skeleton a) + functions_in (skeleton b)) c, as_many a, as_many b)
     same_numbers n (assign a b c s) = cc (same_numbers n b, same_numbers (n + functions_in (skeleton b)) c, as_many b)
     same_numbers n (comma a b s) = cc (same_numbers n a, same_numbers (n + functions_in (skeleton a)) b, as_many a)
     same_numbers n (to_name a) = refl
@@ -187,36 +191,55 @@ module _ {S : Type 0} where
     same_numbers n (getter a b) = cc (same_numbers n b)
     same_numbers n (setter a b) = cc (same_numbers n b)
     same_numbers n (function m a params b s) = cc (same_numbers (n + 1) b)
-    same_numbers n (body strict a b) = cc (same_numbers_forest n a, same_numbers_forest (n + functions_in_forest (skeleton_forest a)) b, as_many_forest a)
+    same_numbers n (body strict a b) =
+        cc (same_numbers_forest n a, same_numbers_forest (n + functions_in_forest (skeleton_forest a)) b,
+        as_many_forest a)
     same_numbers n (var a s) = cc (same_numbers_forest n a)
     same_numbers n (empty s) = refl
     same_numbers n (expression a s) = cc (same_numbers n a)
     same_numbers n (block a s) = cc (same_numbers_forest n a)
-    same_numbers n (if_else a b c s) = cc (same_numbers n a, same_numbers_forest (n + functions_in (skeleton a)) b, same_numbers_optional (n + functions_in (skeleton a) + functions_in_forest (skeleton_forest b)) c, as_many a, as_many_forest b)
-    same_numbers n (do_while a b s) = cc (same_numbers_forest n a, same_numbers (n + functions_in_forest (skeleton_forest a)) b, as_many_forest a)
-    same_numbers n (while a b s) = cc (same_numbers n a, same_numbers_forest (n + functions_in (skeleton a)) b, as_many a)
-    same_numbers n (for a b c d s) = cc (same_numbers n a, same_numbers_optional (n + functions_in (skeleton a)) b, same_numbers_optional (n + functions_in (skeleton a) + functions_in_optional (skeleton_optional b)) c, same_numbers_forest (n + functions_in (skeleton a) + functions_in_optional (skeleton_optional b) + functions_in_optional (skeleton_optional c)) d, as_many a, as_many_optional b, as_many_optional c)
-    same_numbers n (for_in is_var a b c s) = cc (same_numbers n b, same_numbers_forest (n + functions_in (skeleton b)) c, as_many b)
+    same_numbers n (if_else a b c s) =
+        cc (same_numbers n a, same_numbers_forest (n + functions_in (skeleton a)) b,
+        same_numbers_optional (n + functions_in (skeleton a) + functions_in_forest (skeleton_forest b)) c, as_many a,
+        as_many_forest b)
+    same_numbers n (do_while a b s) =
+        cc (same_numbers_forest n a, same_numbers (n + functions_in_forest (skeleton_forest a)) b, as_many_forest a)
+    same_numbers n (while a b s) =
+        cc (same_numbers n a, same_numbers_forest (n + functions_in (skeleton a)) b, as_many a)
+    same_numbers n (for a b c d s) =
+        cc (same_numbers n a, same_numbers_optional (n + functions_in (skeleton a)) b,
+        same_numbers_optional (n + functions_in (skeleton a) + functions_in_optional (skeleton_optional b)) c,
+        same_numbers_forest (n + functions_in (skeleton a) + functions_in_optional (skeleton_optional b)
+        + functions_in_optional (skeleton_optional c)) d, as_many a, as_many_optional b, as_many_optional c)
+    same_numbers n (for_in is_var a b c s) =
+        cc (same_numbers n b, same_numbers_forest (n + functions_in (skeleton b)) c, as_many b)
     same_numbers n (continue a s) = refl
     same_numbers n (break a s) = refl
     same_numbers n (return a s) = cc (same_numbers_optional n a)
     same_numbers n (labelled a b s) = cc (same_numbers n b)
-    same_numbers n (switch a b s) = cc (same_numbers n a, same_numbers_forest (n + functions_in (skeleton a)) b, as_many a)
+    same_numbers n (switch a b s) =
+        cc (same_numbers n a, same_numbers_forest (n + functions_in (skeleton a)) b, as_many a)
     same_numbers n (throw a s) = cc (same_numbers n a)
-    same_numbers n (try a b c s) = cc (same_numbers_forest n a, same_numbers_optional (n + functions_in_forest (skeleton_forest a)) b, same_numbers_optional (n + functions_in_forest (skeleton_forest a) + functions_in_optional (skeleton_optional b)) c, as_many_optional b, as_many_forest a)
+    same_numbers n (try a b c s) =
+        cc (same_numbers_forest n a, same_numbers_optional (n + functions_in_forest (skeleton_forest a)) b,
+        same_numbers_optional (n + functions_in_forest (skeleton_forest a)
+        + functions_in_optional (skeleton_optional b)) c, as_many_optional b, as_many_forest a)
     same_numbers n (debugger s) = refl
     same_numbers n nothing = refl
     same_numbers n (init_expression a) = cc (same_numbers n a)
     same_numbers n (init_var a) = cc (same_numbers_forest n a)
     same_numbers n (declarator a b) = cc (same_numbers_optional n b)
-    same_numbers n (case a b) = cc (same_numbers_optional n a, same_numbers_forest (n + functions_in_optional (skeleton_optional a)) b, as_many_optional a)
+    same_numbers n (case a b) =
+        cc (same_numbers_optional n a, same_numbers_forest (n + functions_in_optional (skeleton_optional a)) b,
+        as_many_optional a)
     same_numbers n (branch_of a) = cc (same_numbers_forest n a)
     same_numbers n (catch a b) = cc (same_numbers_forest n b)
 
     pub same_numbers_forest : {x : Sort} (n : ℕ) (t : Forest S x)
         → numbered_forest n (skeleton_forest t) ≡ numbered_forest n (map_forest no_place t)
     same_numbers_forest n end = refl
-    same_numbers_forest n (more a b) = cc (same_numbers n a, same_numbers_forest (n + functions_in (skeleton a)) b, as_many a)
+    same_numbers_forest n (more a b) =
+        cc (same_numbers n a, same_numbers_forest (n + functions_in (skeleton a)) b, as_many a)
 
     pub same_numbers_optional : {x : Sort} (n : ℕ) (t : OptionalTree S x)
         → numbered_optional n (skeleton_optional t) ≡ numbered_optional n (map_optional no_place t)

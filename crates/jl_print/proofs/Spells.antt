@@ -54,7 +54,8 @@ parts ts i line (k ∷ a) b j h =
     record { middle = p.middle; first = (h.0, p.first); second = p.second }
 
 -- what the grammar sees of such a token
-pub terminal_spelled : (ts : List Token) (i : ℕ) (k : TokenKind) → kind_at ts i ≡ Some k → terminal_at ts i ≡ terminal_of k
+pub terminal_spelled : (ts : List Token) (i : ℕ) (k : TokenKind) → kind_at ts i ≡ Some k
+    → terminal_at ts i ≡ terminal_of k
 terminal_spelled [] i k e = absurd (none-some _ e)
 terminal_spelled (t ∷ ts) zero k e = ap terminal_of (same_Some _ _ e)
 terminal_spelled (t ∷ ts) (suc i) k e = terminal_spelled ts i k e
@@ -68,7 +69,8 @@ text_spelled [] i k e = absurd (none-some _ e)
 text_spelled (t ∷ ts) zero k e = ap (λ k. text_at (only k) 0) (same_Some _ _ e)
 text_spelled (t ∷ ts) (suc i) k e = text_spelled ts i k e
 
-pub number_spelled : (ts : List Token) (i : ℕ) (k : TokenKind) → kind_at ts i ≡ Some k → number_at ts i ≡ number_at (only k) 0
+pub number_spelled : (ts : List Token) (i : ℕ) (k : TokenKind) → kind_at ts i ≡ Some k
+    → number_at ts i ≡ number_at (only k) 0
 number_spelled [] i k e = absurd (none-some _ e)
 number_spelled (t ∷ ts) zero k e = ap (λ k. number_at (only k) 0) (same_Some _ _ e)
 number_spelled (t ∷ ts) (suc i) k e = number_spelled ts i k e
@@ -84,7 +86,8 @@ strict_spelled [] i k e = absurd (none-some _ e)
 strict_spelled (t ∷ ts) zero k e = ap (λ k. strict_at (only k) 0) (same_Some _ _ e)
 strict_spelled (t ∷ ts) (suc i) k e = strict_spelled ts i k e
 
-unreserved_is : (a b : Bool) → is_identifier (if a then terminals.Get else if b then terminals.Set else terminals.Identifier) ≡ true
+unreserved_is : (a b : Bool)
+    → is_identifier (if a then terminals.Get else if b then terminals.Set else terminals.Identifier) ≡ true
 unreserved_is true b = refl
 unreserved_is false true = refl
 unreserved_is false false = refl
@@ -92,7 +95,8 @@ unreserved_is false false = refl
 identifier_terminal : (t : Text) → word_of t ≡ None → is_identifier (name_terminal t false) ≡ true
 identifier_terminal t e = rw e (unreserved_is (same_text (codes "get") t) (same_text (codes "set") t))
 
-unreserved_named : (a b : Bool) → is_name (if a then terminals.Get else if b then terminals.Set else terminals.Identifier) ≡ true
+unreserved_named : (a b : Bool)
+    → is_name (if a then terminals.Get else if b then terminals.Set else terminals.Identifier) ≡ true
 unreserved_named true b = refl
 unreserved_named false true = refl
 unreserved_named false false = refl
@@ -104,7 +108,8 @@ name_is t = go (word_of t) refl
     go (Some w) e = rw e refl
     go None e = rw e (unreserved_named (same_text (codes "get") t) (same_text (codes "set") t))
 
-unreserved_key : (a b : Bool) → is_key (if a then terminals.Get else if b then terminals.Set else terminals.Identifier) ≡ true
+unreserved_key : (a b : Bool) → is_key (if a then terminals.Get else if b then terminals.Set else terminals.Identifier)
+    ≡ true
 unreserved_key true b = refl
 unreserved_key false true = refl
 unreserved_key false false = refl
@@ -136,7 +141,8 @@ module _ {ts : List Token} {i : ℕ} {below : Bool} where
   at {k} s = record { is = terminal_spelled ts i k s.kind }
 
   pub identifier : {t : Text} → IsIdentifier t → Spelled ts i below (name t) → Is is_identifier ts i
-  identifier {t} w s = record { is = ap is_identifier (terminal_spelled ts i (name t) s.kind) ∙ identifier_terminal t w.free }
+  identifier {t} w s = record { is = ap is_identifier (terminal_spelled ts i (name t) s.kind)
+      ∙ identifier_terminal t w.free }
 
   pub any_name : {t : Text} → Spelled ts i below (name t) → Is is_name ts i
   any_name {t} s = record { is = ap is_name (terminal_spelled ts i (name t) s.kind) ∙ name_is t }

@@ -55,14 +55,16 @@ ClausesAlone ts cs =
 
 abbrev pub StatementAlone : List Token → Stmt → Type 0
 StatementAlone ts t =
-    (i j : ℕ) (line : Bool) → Spells ts i line (tokens_of_node t) j → goes_on (terminal_at ts j) ≡ false → BackStatement ts i t j
+    (i j : ℕ) (line : Bool) → Spells ts i line (tokens_of_node t) j → goes_on (terminal_at ts j) ≡ false
+    → BackStatement ts i t j
 
 pub if_back : {ts : List Token} (a : Expr) → Alone ts a → (ws : Stmts) → StatementsAlone ts ws → (s : Span)
     → StatementAlone ts (tree.if_else a ws tree.absent s)
 unfolding tokens_of_node
 if_back {ts} a alone ws inner s i j line h q =
     let p = parts ts (suc i) false (in_parens (tokens_of_node a)) (within_braces (tokens_of_all ws) ++ []) j h.1 in
-    let r = parts ts p.middle (line_after false (in_parens (tokens_of_node a))) (within_braces (tokens_of_all ws)) [] j p.second in
+    let r = parts ts p.middle (line_after false (in_parens (tokens_of_node a))) (within_braces (tokens_of_all ws)) [] j
+    p.second in
     let x = head_back a alone (suc i) p.middle false p.first in
     let y = block_back ws inner p.middle r.middle (line_after false (in_parens (tokens_of_node a))) r.first in
     let e = subst (λ n. is_else (terminal_at ts n) ≡ false) (sym r.second) (no_else (terminal_at ts j) q) in
@@ -72,7 +74,8 @@ if_back {ts} a alone ws inner s i j line h q =
       is = reads.an_if (at h.0) x.is (reads.several y.is) e;
     }) r.second
 
-pub if_else_back : {ts : List Token} (a : Expr) → Alone ts a → (ws : Stmts) → StatementsAlone ts ws → (us : Stmts) → StatementsAlone ts us → (s : Span)
+pub if_else_back : {ts : List Token} (a : Expr) → Alone ts a → (ws : Stmts) → StatementsAlone ts ws → (us : Stmts)
+    → StatementsAlone ts us → (s : Span)
     → StatementAlone ts (tree.if_else a ws (tree.present (tree.branch_of us)) s)
 unfolding tokens_of_node
 if_else_back {ts} a alone ws inner us other s i j line h q =
@@ -117,15 +120,18 @@ while_back {ts} a alone ws inner s i j line h q =
       is = reads.a_while (at h.0) x.is (reads.several y.is);
     }
 
-pub for_back : {ts : List Token} (f : Tree Span tree.init) → InitAlone ts f → (a b : OptionalTree Span tree.expr) → OptionalAlone ts a → OptionalAlone ts b → (ws : Stmts) → StatementsAlone ts ws → (s : Span)
+pub for_back : {ts : List Token} (f : Tree Span tree.init) → InitAlone ts f → (a b : OptionalTree Span tree.expr)
+    → OptionalAlone ts a → OptionalAlone ts b → (ws : Stmts) → StatementsAlone ts ws → (s : Span)
     → StatementAlone ts (tree.for f a b ws s)
 unfolding tokens_of_node
 for_back {ts} f first a b test step ws inner s i j line h q =
-    let ks = tokens_of_node f ++ (punct puncts.Semicolon ∷ (tokens_of_optional a ++ (punct puncts.Semicolon ∷ tokens_of_optional b))) in
+    let ks = tokens_of_node f
+    ++ (punct puncts.Semicolon ∷ (tokens_of_optional a ++ (punct puncts.Semicolon ∷ tokens_of_optional b))) in
     let p = parts ts (suc i) false (in_parens ks) (within_braces (tokens_of_all ws)) j h.1 in
     let r = parts ts (suc (suc i)) false ks (punct puncts.RightParen ∷ []) p.middle p.first.1 in
     let u = parts ts (suc (suc i)) false (tokens_of_node f)
-    (punct puncts.Semicolon ∷ (tokens_of_optional a ++ (punct puncts.Semicolon ∷ tokens_of_optional b))) r.middle r.first in
+    (punct puncts.Semicolon ∷ (tokens_of_optional a ++ (punct puncts.Semicolon ∷ tokens_of_optional b))) r.middle
+    r.first in
     let v = parts ts (suc u.middle) true (tokens_of_optional a) (punct puncts.Semicolon ∷ tokens_of_optional b) r.middle
     u.second.1 in
     let k = at r.second.0 in
@@ -140,14 +146,16 @@ for_back {ts} f first a b test step ws inner s i j line h q =
       is = reads.a_for (at h.0) (at p.first.0) x.is (at u.second.0) y.is (at v.second.0) z.is k (reads.several o);
     }
 
-pub for_var_in_back : {ts : List Token} (x : Ident Span) → IsIdentifier x.text → (a : Expr) → Alone ts a → (ws : Stmts) → StatementsAlone ts ws → (s : Span)
+pub for_var_in_back : {ts : List Token} (x : Ident Span) → IsIdentifier x.text → (a : Expr) → Alone ts a → (ws : Stmts)
+    → StatementsAlone ts ws → (s : Span)
     → StatementAlone ts (tree.for_in true x a ws s)
 unfolding tokens_of_node
 for_var_in_back {ts} x free a alone ws inner s i j line h q =
     let ks = name (codes "var") ∷ name x.text ∷ name (codes "in") ∷ tokens_of_node a in
     let p = parts ts (suc i) false (in_parens ks) (within_braces (tokens_of_all ws)) j h.1 in
     let g = p.first.1.1.1.1 in
-    let r = parts ts (suc (suc (suc (suc (suc i))))) false (tokens_of_node a) (punct puncts.RightParen ∷ []) p.middle g in
+    let r = parts ts (suc (suc (suc (suc (suc i))))) false (tokens_of_node a) (punct puncts.RightParen ∷ []) p.middle
+    g in
     let k = at r.second.0 in
     let y = whole a alone false (suc (suc (suc (suc (suc i))))) r.middle false r.first
     (ap stops k.is) (ap is_comma k.is) in
@@ -161,7 +169,8 @@ for_var_in_back {ts} x free a alone ws inner s i j line h q =
           (at p.first.1.1.1.0) y.is k (reads.several o);
     }
 
-pub for_in_back : {ts : List Token} (x : Ident Span) → IsIdentifier x.text → (a : Expr) → Alone ts a → (ws : Stmts) → StatementsAlone ts ws → (s : Span)
+pub for_in_back : {ts : List Token} (x : Ident Span) → IsIdentifier x.text → (a : Expr) → Alone ts a → (ws : Stmts)
+    → StatementsAlone ts ws → (s : Span)
     → StatementAlone ts (tree.for_in false x a ws s)
 unfolding tokens_of_node
 for_in_back {ts} x free a alone ws inner s i j line h q =
@@ -183,7 +192,8 @@ for_in_back {ts} x free a alone ws inner s i j line h q =
           (reads.a_name (identifier free p.first.1.0))) (ap (continues_left true) m.is)) m y.is k (reads.several o);
     }
 
-pub switch_back : {ts : List Token} (a : Expr) → Alone ts a → (cs : Forest Span tree.clause) → ClausesAlone ts cs → (s : Span)
+pub switch_back : {ts : List Token} (a : Expr) → Alone ts a → (cs : Forest Span tree.clause) → ClausesAlone ts cs
+    → (s : Span)
     → StatementAlone ts (tree.switch a cs s)
 unfolding tokens_of_node
 switch_back {ts} a alone cs inner s i j line h q =
@@ -226,7 +236,8 @@ throw_back {ts} a alone s i j line h q =
       is = reads.a_throw (at h.0) e x.is (there k);
     }) p.second.1
 
-pub try_catch_back : {ts : List Token} (ws : Stmts) → StatementsAlone ts ws → (c : Tree Span tree.handler) → HandlerAlone ts c → (s : Span)
+pub try_catch_back : {ts : List Token} (ws : Stmts) → StatementsAlone ts ws → (c : Tree Span tree.handler)
+    → HandlerAlone ts c → (s : Span)
     → StatementAlone ts (tree.try ws (tree.present c) tree.absent s)
 unfolding tokens_of_node
 try_catch_back {ts} ws inner c handler s i j line h q =
@@ -242,11 +253,13 @@ try_catch_back {ts} ws inner c handler s i j line h q =
       is = reads.a_try_catch (at h.0) x.is y.is e;
     }) r.second
 
-pub try_finally_back : {ts : List Token} (ws : Stmts) → StatementsAlone ts ws → (us : Stmts) → StatementsAlone ts us → (s : Span)
+pub try_finally_back : {ts : List Token} (ws : Stmts) → StatementsAlone ts ws → (us : Stmts) → StatementsAlone ts us
+    → (s : Span)
     → StatementAlone ts (tree.try ws tree.absent (tree.present (tree.branch_of us)) s)
 unfolding tokens_of_node
 try_finally_back {ts} ws inner us other s i j line h q =
-    let p = parts ts (suc i) false (within_braces (tokens_of_all ws)) (name (codes "finally") ∷ within_braces (tokens_of_all us)) j h.1 in
+    let p = parts ts (suc i) false (within_braces (tokens_of_all ws))
+    (name (codes "finally") ∷ within_braces (tokens_of_all us)) j h.1 in
     let x = block_back ws inner (suc i) p.middle false p.first in
     let y = block_back us other (suc p.middle) j false p.second.1 in
     record {
@@ -255,14 +268,16 @@ try_finally_back {ts} ws inner us other s i j line h q =
       is = reads.a_try_finally (at h.0) x.is (at p.second.0) y.is;
     }
 
-pub try_both_back : {ts : List Token} (ws : Stmts) → StatementsAlone ts ws → (c : Tree Span tree.handler) → HandlerAlone ts c → (us : Stmts) → StatementsAlone ts us → (s : Span)
+pub try_both_back : {ts : List Token} (ws : Stmts) → StatementsAlone ts ws → (c : Tree Span tree.handler)
+    → HandlerAlone ts c → (us : Stmts) → StatementsAlone ts us → (s : Span)
     → StatementAlone ts (tree.try ws (tree.present c) (tree.present (tree.branch_of us)) s)
 unfolding tokens_of_node
 try_both_back {ts} ws inner c handler us other s i j line h q =
     let p = parts ts (suc i) false (within_braces (tokens_of_all ws))
     (tokens_of_node c ++ (name (codes "finally") ∷ within_braces (tokens_of_all us))) j h.1 in
     let m = line_after false (within_braces (tokens_of_all ws)) in
-    let r = parts ts p.middle m (tokens_of_node c) (name (codes "finally") ∷ within_braces (tokens_of_all us)) j p.second in
+    let r = parts ts p.middle m (tokens_of_node c) (name (codes "finally") ∷ within_braces (tokens_of_all us)) j
+    p.second in
     let x = block_back ws inner (suc i) p.middle false p.first in
     let y = handler p.middle r.middle m r.first in
     let z = block_back us other (suc r.middle) j false r.second.1 in

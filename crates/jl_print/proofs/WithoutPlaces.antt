@@ -135,7 +135,8 @@ module _ {S T : Type 0} (f : S → T) where
     same_tokens (tree.var ds s) = ap (λ l. name (codes "var") ∷ (l ++ semicolon ∷ [])) (same_declarators ds)
     same_tokens (tree.empty s) = refl
     same_tokens (tree.expression a s) =
-        ap2 (λ b l. in_parens_unless (not (begins_otherwise l || b)) l ++ semicolon ∷ []) (also_string a) (same_tokens a)
+        ap2 (λ b l. in_parens_unless (not (begins_otherwise l || b)) l ++ semicolon ∷ []) (also_string a)
+        (same_tokens a)
     same_tokens (tree.block ws s) = ap within_braces (same_all ws)
     same_tokens (tree.if_else a ws b s) =
         ap3 (λ l m n. name (codes "if") ∷ (in_parens l ++ (within_braces m ++ n))) (same_tokens a) (same_all ws)

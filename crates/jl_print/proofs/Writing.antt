@@ -95,7 +95,8 @@ declarator_at o first l i d w h =
 
 -- what a node is written as, by its parts
 pub assign_parts : {S : Type 0} (op : Option BinOp) (g : Tree S tree.target) (a : Tree S tree.expr) (s : S) →
-    tokens_of_node (tree.assign op g a s) ≡ tokens_of_node g ++ (punct (assigning op) ∷ in_parens_unless (fits a 13) (tokens_of_node a))
+    tokens_of_node (tree.assign op g a s)
+    ≡ tokens_of_node g ++ (punct (assigning op) ∷ in_parens_unless (fits a 13) (tokens_of_node a))
 unfolding tokens_of_node
 assign_parts None g a s = refl
 assign_parts (Some op) g a s = refl
@@ -104,7 +105,8 @@ pub case_parts : {S : Type 0} (m : OptionalTree S tree.expr) (ws : Forest S tree
     tokens_of_node (tree.case m ws) ≡ case_head m ++ tokens_of_all ws
 unfolding tokens_of_node
 case_parts tree.absent ws = refl
-case_parts (tree.present a) ws = ap (λ l. name (codes "case") ∷ l) (sym (append_assoc (tokens_of_node a) (colon ∷ []) (tokens_of_all ws)))
+case_parts (tree.present a) ws =
+    ap (λ l. name (codes "case") ∷ l) (sym (append_assoc (tokens_of_node a) (colon ∷ []) (tokens_of_all ws)))
 
 pub getter_parts : {S : Type 0} (k : Ident S) (f : Tree S tree.func) →
     tokens_of_node (tree.getter k f) ≡ name (codes "get") ∷ key k.text ∷ after_name f
@@ -182,7 +184,8 @@ pub expression_first : {S : Type 0} (t : Tree S tree.expr) (ls : List TokenKind)
 expression_first t ls = same_begin _ ls (expression_begins t)
 
 pub operand_first : {S : Type 0} (t : Tree S tree.expr) (fits : Bool) (ls : List TokenKind) →
-    begins_otherwise (in_parens_unless fits (tokens_of_node t) ++ ls) ≡ begins_otherwise (in_parens_unless fits (tokens_of_node t))
+    begins_otherwise (in_parens_unless fits (tokens_of_node t) ++ ls)
+    ≡ begins_otherwise (in_parens_unless fits (tokens_of_node t))
 operand_first t fits ls = same_begin _ ls (fitted_begins fits _ (expression_begins t))
 
 pub target_first : {S : Type 0} (g : Tree S tree.target) (ls : List TokenKind) →

@@ -17,31 +17,38 @@ pub false_unless : (b : Bool) → (b ≡ true → ⊥) → b ≡ false
 false_unless true h = absurd (h refl)
 false_unless false h = refl
 
-pub apart : {T : Type 0} (name : List ℕ) (a b : Entry T) → a.name ≢ b.name → has_name name a ≡ true → has_name name b ≡ false
+pub apart : {T : Type 0} (name : List ℕ) (a b : Entry T) → a.name ≢ b.name → has_name name a ≡ true
+    → has_name name b ≡ false
 apart name a b differ is_a =
     false_unless (has_name name b) (λ is_b.
     differ ((bytes_eq-Decides a.name name).0 is_a ∙ sym ((bytes_eq-Decides b.name name).0 is_b)))
 
 pub none_found : {T : Type 0} (name : List ℕ) (entries : List (Entry T))
-    → IsNone (option_map {T = Entry T} {U = T} (λ e. e.item) (entry_named name entries)) → All (λ e. has_name name e ≡ false) entries
+    → IsNone (option_map {T = Entry T} {U = T} (λ e. e.item) (entry_named name entries))
+    → All (λ e. has_name name e ≡ false) entries
 none_found {T} name [] none = All-nil (λ (e : Entry T). has_name name e ≡ false)
 none_found {T} name (x ∷ xs) none =
     let here : has_name name x ≡ false = false_unless (has_name name x) (λ yes. false≢true (sym (rw yes at none))) in
     All-cons (λ (e : Entry T). has_name name e ≡ false) x xs here (none_found name xs (rw here at none))
 
 -- what keeps entries in order
-pub with_new-IsInOrder : {T : Type 0} (entries : List (Entry T)) (name : List ℕ) (serial : ℕ) (item : T) → IsInOrder entries
-    → IsNone (option_map {T = Entry T} {U = T} (λ e. e.item) (entry_named name entries)) → All (λ e. e.serial < serial) entries
+pub with_new-IsInOrder : {T : Type 0} (entries : List (Entry T)) (name : List ℕ) (serial : ℕ) (item : T)
+    → IsInOrder entries
+    → IsNone (option_map {T = Entry T} {U = T} (λ e. e.item) (entry_named name entries))
+    → All (λ e. e.serial < serial) entries
     → IsInOrder (with_new entries name serial item)
 with_new-IsInOrder {T} entries name serial item ordered none below =
     let new : Entry T = record { name = name; serial = serial; item = item } in
     let fails = none_found name entries none in
     all_pairs_push (λ (a b : Entry T). (a.name ≢ b.name) × (a.serial < b.serial)) entries new ordered
-    (λ k d within. ((λ same. absurd (false≢true (sym (fails k d within) ∙ (bytes_eq-Decides _ _).1 same))), below k d within))
+    (λ k d within. ((λ same. absurd (false≢true (sym (fails k d within) ∙ (bytes_eq-Decides _ _).1 same))),
+    below k d within))
 
-pub without-IsInOrder : {T : Type 0} (entries : List (Entry T)) (name : List ℕ) → IsInOrder entries → IsInOrder (without entries name)
+pub without-IsInOrder : {T : Type 0} (entries : List (Entry T)) (name : List ℕ) → IsInOrder entries
+    → IsInOrder (without entries name)
 without-IsInOrder {T} entries name ordered =
-    AllPairs-filter (λ (a b : Entry T). (a.name ≢ b.name) × (a.serial < b.serial)) (λ e. not (has_name name e)) entries ordered
+    AllPairs-filter (λ (a b : Entry T). (a.name ≢ b.name) × (a.serial < b.serial)) (λ e. not (has_name name e)) entries
+    ordered
 
 keeps : {T : Type 0} (name : List ℕ) (item : T) (b : Bool) (e : Entry T)
     → let e' = cond b (record e { item = item }) e in (e'.name ≡ e.name) × (e'.serial ≡ e.serial)

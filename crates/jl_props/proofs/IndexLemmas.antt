@@ -57,11 +57,13 @@ no_serial None none = refl
 no_serial (Some e) none = absurd (none-some e.serial none)
 
 pub absent : {T : Type 0} (name : List ℕ) (kept : BTreeMap ℕ (Entry T)) (serials : BTreeMap (List ℕ) ℕ)
-    → IsIndexed kept serials → None ≡ get (slice_cmp nat_cmp) serials name → All (λ e. has_name name e ≡ false) (values kept)
+    → IsIndexed kept serials → None ≡ get (slice_cmp nat_cmp) serials name
+    → All (λ e. has_name name e ≡ false) (values kept)
 absent name kept serials indexed none =
     none_found name (values kept) (no_serial (entry_named name (values kept)) (none ∙ indexed.named name))
 
-pub none_removed : {T : Type 0} (name : List ℕ) (es : List (Entry T)) → All (λ e. has_name name e ≡ false) es → es ≡ without es name
+pub none_removed : {T : Type 0} (name : List ℕ) (es : List (Entry T)) → All (λ e. has_name name e ≡ false) es
+    → es ≡ without es name
 none_removed name es none = sym (filter-none (has_name name) es none)
 
 pub none_set : {T : Type 0} (name : List ℕ) (item : T) (es : List (Entry T)) → All (λ e. has_name name e ≡ false) es
@@ -70,7 +72,8 @@ none_set {T} name item es none =
     let f : Entry T → Entry T = λ e. record e { item = item } in sym (map-none (has_name name) f es none)
 
 -- a serial has its entry
-pub kept_at : {T : Type 0} (name : List ℕ) (serial : ℕ) (kept : BTreeMap ℕ (Entry T)) (at : Stands name serial kept.entries)
+pub kept_at : {T : Type 0} (name : List ℕ) (serial : ℕ) (kept : BTreeMap ℕ (Entry T))
+    (at : Stands name serial kept.entries)
     → get nat_cmp kept serial ≡ Some at.entry
 kept_at name serial kept at = looked_up name serial kept.entries at.agree ∙ at.found
 
@@ -97,10 +100,12 @@ none_mapped (Some x) none = absurd (false≢true (sym none))
 serial_gone : {T : Type 0} (es : List (Entry T)) (name : List ℕ) → serial_in name (without es name) ≡ None
 serial_gone es name = none_mapped (entry_named name (without es name)) (removed_gone es name)
 
-pub removed-IsIndexed : {T : Type 0} (name : List ℕ) (serial : ℕ) (kept after : BTreeMap ℕ (Entry T)) (serials left : BTreeMap (List ℕ) ℕ)
+pub removed-IsIndexed : {T : Type 0} (name : List ℕ) (serial : ℕ) (kept after : BTreeMap ℕ (Entry T))
+    (serials left : BTreeMap (List ℕ) ℕ)
     → IsIndexed kept serials → Stands name serial kept.entries
     → after.entries ≡ remove_entry (is_at (nat_cmp serial)) kept.entries
-    → ((q : List ℕ) → get (slice_cmp nat_cmp) left q ≡ cond (is_at (slice_cmp nat_cmp name) q) None (get (slice_cmp nat_cmp) serials q))
+    → ((q : List ℕ) → get (slice_cmp nat_cmp) left q
+    ≡ cond (is_at (slice_cmp nat_cmp name) q) None (get (slice_cmp nat_cmp) serials q))
     → IsIndexed after left
 removed-IsIndexed {T} name serial kept after serials left indexed at is updates =
     let rest : values after ≡ without (values kept) name =
@@ -111,7 +116,8 @@ removed-IsIndexed {T} name serial kept after serials left indexed at is updates 
       named = λ q.
           updates q ∙ at_name name q None _ (serial_in q (values after))
           (λ same. rw (rest, ← same) (sym (serial_gone (values kept) name)))
-          (λ other. indexed.named q ∙ rw rest (sym (ap (option_map (λ (e : Entry T). e.serial)) (other_removed (values kept) name q other))));
+          (λ other. indexed.named q
+          ∙ rw rest (sym (ap (option_map (λ (e : Entry T). e.serial)) (other_removed (values kept) name q other))));
     }
 
 -- a written item leaves each name its serial
@@ -129,7 +135,8 @@ serial_written {T} q name item (x ∷ xs) =
     by false true not_it found rest = rw (not_it, found) refl
     by false false not_it fails rest = rw (not_it, fails) rest
 
-pub written-IsIndexed : {T : Type 0} (name : List ℕ) (item : T) (serial : ℕ) (kept after : BTreeMap ℕ (Entry T)) (serials : BTreeMap (List ℕ) ℕ)
+pub written-IsIndexed : {T : Type 0} (name : List ℕ) (item : T) (serial : ℕ) (kept after : BTreeMap ℕ (Entry T))
+    (serials : BTreeMap (List ℕ) ℕ)
     → IsIndexed kept serials → (at : Stands name serial kept.entries)
     → after.entries ≡ set_value (is_at (nat_cmp serial)) kept.entries (record at.entry { item = item })
     → (values after ≡ with_item (values kept) name item) × IsIndexed after serials
@@ -149,7 +156,8 @@ written-IsIndexed {T} name item serial kept after serials indexed at is =
       },
     )
 
-pub pushed-IsIndexed : {T : Type 0} (e : Entry T) (kept after : BTreeMap ℕ (Entry T)) (serials more : BTreeMap (List ℕ) ℕ)
+pub pushed-IsIndexed : {T : Type 0} (e : Entry T) (kept after : BTreeMap ℕ (Entry T))
+    (serials more : BTreeMap (List ℕ) ℕ)
     → IsIndexed kept serials → IsNone (entry_named e.name (values kept)) → All (λ x. x.serial < e.serial) (values kept)
     → after.entries ≡ insert_entry nat_cmp kept.entries e.serial e
     → ((q : List ℕ) → get (slice_cmp nat_cmp) more q
@@ -158,12 +166,14 @@ pub pushed-IsIndexed : {T : Type 0} (e : Entry T) (kept after : BTreeMap ℕ (En
 pushed-IsIndexed {T} e kept after serials more indexed new below is updates =
     let keys = keys_below e.serial kept.entries indexed.own_serial below in
     let last = is ∙ inserted e.serial e kept.entries keys in
-    let all : values after ≡ values kept ++ e ∷ [] = ap values_of last ∙ map-append _ kept.entries ((e.serial, e) ∷ []) in
+    let all : values after ≡ values kept ++ e ∷ [] =
+    ap values_of last ∙ map-append _ kept.entries ((e.serial, e) ∷ []) in
     let serial_of = option_map (λ (x : Entry T). x.serial) in (
       all,
       record {
         own_serial = rw last (All-push OwnSerial kept.entries (e.serial, e) indexed.own_serial refl);
-        in_order = rw all (with_new-IsInOrder (values kept) e.name e.serial e.item indexed.in_order (rw (none_named (entry_named e.name (values kept)) new) refl) below);
+        in_order = rw all (with_new-IsInOrder (values kept) e.name e.serial e.item indexed.in_order
+        (rw (none_named (entry_named e.name (values kept)) new) refl) below);
         named = λ q.
             updates q ∙ at_name e.name q (Some e.serial) _ (serial_in q (values after))
             (λ same. rw (all, ← same) (sym (ap serial_of (new_found (values kept) e new))))

@@ -55,7 +55,8 @@ pub no_other : {T : Type 0} (name : List ℕ) (x : Entry T) (xs : List (Entry T)
 no_other name x xs ordered fits = λ k d within. apart name x (get_or xs k d) ((later x xs ordered k d within).0) fits
 
 -- what is found is one of the entries
-found_step : {T : Type 0} (P : Entry T → Type 0) (name : List ℕ) (x : Entry T) (xs : List (Entry T)) (e : Entry T) (b : Bool)
+found_step : {T : Type 0} (P : Entry T → Type 0) (name : List ℕ) (x : Entry T) (xs : List (Entry T)) (e : Entry T)
+    (b : Bool)
     → has_name name x ≡ b → (entry_named name xs ≡ Some e → P e) → P x → entry_named name (x ∷ xs) ≡ Some e → P e
 found_step P name x xs e true fits rest here found = subst P (same_Some x e (rw fits at found)) here
 found_step P name x xs e false fails rest here found = rest (rw fails at found)
@@ -114,7 +115,8 @@ removed_step : {T : Type 0} (name : List ℕ) (serial : ℕ) (p : ℕ × Entry T
     → values_of (remove_entry (is_at (nat_cmp serial)) ps) ≡ without (values_of ps) name
     → values_of (remove_entry (is_at (nat_cmp serial)) (p ∷ ps)) ≡ without (values_of (p ∷ ps)) name
 removed_step name serial p ps true fits agree ordered rest =
-    rw (agree ∙ fits, fits) (sym (filter-none (has_name name) (values_of ps) (no_other name p.1 (values_of ps) ordered fits)))
+    rw (agree ∙ fits, fits) (sym
+    (filter-none (has_name name) (values_of ps) (no_other name p.1 (values_of ps) ordered fits)))
 removed_step name serial p ps false fails agree ordered rest =
     rw (agree ∙ fails, fails) (ap (λ l. p.1 ∷ l) rest)
 
@@ -125,12 +127,15 @@ removed name serial (p ∷ ps) agree ordered =
     removed_step name serial p ps (has_name name p.1) refl (first (Agrees name serial) p ps agree) ordered
     (removed name serial ps (others (Agrees name serial) p ps agree) (rest_in_order p.1 (values_of ps) ordered))
 
-written_step : {T : Type 0} (name : List ℕ) (item : T) (e : Entry T) (p : ℕ × Entry T) (ps : List (ℕ × Entry T)) (b : Bool)
+written_step : {T : Type 0} (name : List ℕ) (item : T) (e : Entry T) (p : ℕ × Entry T) (ps : List (ℕ × Entry T))
+    (b : Bool)
     → has_name name p.1 ≡ b → Agrees name e.serial p → IsInOrder (values_of (p ∷ ps))
     → entry_named name (values_of (p ∷ ps)) ≡ Some e
     → (entry_named name (values_of ps) ≡ Some e
-    → values_of (set_value (is_at (nat_cmp e.serial)) ps (record e { item = item })) ≡ with_item (values_of ps) name item)
-    → values_of (set_value (is_at (nat_cmp e.serial)) (p ∷ ps) (record e { item = item })) ≡ with_item (values_of (p ∷ ps)) name item
+    → values_of (set_value (is_at (nat_cmp e.serial)) ps (record e { item = item }))
+    ≡ with_item (values_of ps) name item)
+    → values_of (set_value (is_at (nat_cmp e.serial)) (p ∷ ps) (record e { item = item }))
+    ≡ with_item (values_of (p ∷ ps)) name item
 written_step {T} name item e p ps true fits agree ordered found rest =
     let f : Entry T → Entry T = λ x. record x { item = item } in
     let is : p.1 ≡ e = same_Some p.1 e (rw fits at found) in
@@ -140,9 +145,11 @@ written_step {T} name item e p ps true fits agree ordered found rest =
 written_step name item e p ps false fails agree ordered found rest =
     rw (agree ∙ fails, fails) (ap (λ l. p.1 ∷ l) (rest (rw fails at found)))
 
-pub written : {T : Type 0} (name : List ℕ) (item : T) (e : Entry T) (ps : List (ℕ × Entry T)) → All (Agrees name e.serial) ps
+pub written : {T : Type 0} (name : List ℕ) (item : T) (e : Entry T) (ps : List (ℕ × Entry T))
+    → All (Agrees name e.serial) ps
     → IsInOrder (values_of ps) → entry_named name (values_of ps) ≡ Some e
-    → values_of (set_value (is_at (nat_cmp e.serial)) ps (record e { item = item })) ≡ with_item (values_of ps) name item
+    → values_of (set_value (is_at (nat_cmp e.serial)) ps (record e { item = item }))
+    ≡ with_item (values_of ps) name item
 written name item e [] agree ordered found = refl
 written name item e (p ∷ ps) agree ordered found =
     written_step name item e p ps (has_name name p.1) refl (first (Agrees name e.serial) p ps agree) ordered found
@@ -165,16 +172,20 @@ taken_back serial x (p ∷ ps) below =
     (ap (λ l. p ∷ l) (taken_back serial x ps (others (λ q. q.0 < serial) p ps below)))
 
 -- entries keep standing under their own serials
-own_removed : {X : Type 0} (P : ℕ × X → Type 0) (test : ℕ → Bool) (p : ℕ × X) (ps : List (ℕ × X)) (b : Bool) → test p.0 ≡ b
+own_removed : {X : Type 0} (P : ℕ × X → Type 0) (test : ℕ → Bool) (p : ℕ × X) (ps : List (ℕ × X)) (b : Bool)
+    → test p.0 ≡ b
     → All P (p ∷ ps) → All P (remove_entry test ps) → All P (remove_entry test (p ∷ ps))
 own_removed P test p ps true fits all rest = rw fits (others P p ps all)
 own_removed P test p ps false fails all rest = rw fails (All-cons P p _ (first P p ps all) rest)
 
-pub All-remove_entry : {X : Type 0} (P : ℕ × X → Type 0) (test : ℕ → Bool) (ps : List (ℕ × X)) → All P ps → All P (remove_entry test ps)
+pub All-remove_entry : {X : Type 0} (P : ℕ × X → Type 0) (test : ℕ → Bool) (ps : List (ℕ × X)) → All P ps
+    → All P (remove_entry test ps)
 All-remove_entry P test [] all = all
-All-remove_entry P test (p ∷ ps) all = own_removed P test p ps (test p.0) refl all (All-remove_entry P test ps (others P p ps all))
+All-remove_entry P test (p ∷ ps) all =
+    own_removed P test p ps (test p.0) refl all (All-remove_entry P test ps (others P p ps all))
 
-own_written : {T : Type 0} (w : Entry T) (p : ℕ × Entry T) (ps : List (ℕ × Entry T)) (b : Bool) → is_at (nat_cmp w.serial) p.0 ≡ b
+own_written : {T : Type 0} (w : Entry T) (p : ℕ × Entry T) (ps : List (ℕ × Entry T)) (b : Bool)
+    → is_at (nat_cmp w.serial) p.0 ≡ b
     → All OwnSerial (p ∷ ps) → All OwnSerial (set_value (is_at (nat_cmp w.serial)) ps w)
     → All OwnSerial (set_value (is_at (nat_cmp w.serial)) (p ∷ ps) w)
 own_written w p ps true fits own rest =
@@ -191,6 +202,7 @@ own-set_value w (p ∷ ps) own =
 pub keys_below : {T : Type 0} (n : ℕ) (ps : List (ℕ × Entry T)) → All OwnSerial ps
     → All (λ (e : Entry T). e.serial < n) (values_of ps) → All (λ p. p.0 < n) ps
 keys_below {T} n ps own below k d within =
-    let at_k : get_or (values_of ps) k d.1 ≡ (get_or ps k d).1 = get_or-map (λ (x : ℕ × Entry T). x.1) ps k d d.1 within in
+    let at_k : get_or (values_of ps) k d.1 ≡ (get_or ps k d).1 =
+    get_or-map (λ (x : ℕ × Entry T). x.1) ps k d d.1 within in
     let under = rw at_k at (below k d.1 (rw length-map within)) in
     omega (arith, own k d within, under)

@@ -19,9 +19,11 @@ itself : (name : List ℕ) → bytes_eq name name ≡ true
 itself name = (bytes_eq-Decides name name).1 refl
 
 differ : (name other : List ℕ) → other ≢ name → bytes_eq name other ≡ false
-differ name other not_same = false_unless (bytes_eq name other) (λ same. not_same (sym ((bytes_eq-Decides name other).0 same)))
+differ name other not_same =
+    false_unless (bytes_eq name other) (λ same. not_same (sym ((bytes_eq-Decides name other).0 same)))
 
-new_step : {T : Type 0} (x : Entry T) (xs : List (Entry T)) (name : List ℕ) (new : Entry T) (b : Bool) → has_name name x ≡ b
+new_step : {T : Type 0} (x : Entry T) (xs : List (Entry T)) (name : List ℕ) (new : Entry T) (b : Bool)
+    → has_name name x ≡ b
     → (IsNone (entry_named name xs) → entry_named name (xs ++ new ∷ []) ≡ Some new)
     → IsNone (entry_named name (x ∷ xs)) → entry_named name (x ∷ xs ++ new ∷ []) ≡ Some new
 new_step x xs name new true fits rest none = absurd (false≢true (sym (rw fits at none)))
@@ -34,12 +36,14 @@ new_found (x ∷ xs) new none = new_step x xs new.name new (has_name new.name x)
 
 set_step : {T : Type 0} (x : Entry T) (xs : List (Entry T)) (name : List ℕ) (item : T) (b : Bool) → has_name name x ≡ b
     → (IsSome (entry_named name xs) → IsSomeAnd (entry_named name (with_item xs name item)) (λ e. e.item ≡ item))
-    → IsSome (entry_named name (x ∷ xs)) → IsSomeAnd (entry_named name (with_item (x ∷ xs) name item)) (λ e. e.item ≡ item)
+    → IsSome (entry_named name (x ∷ xs))
+    → IsSomeAnd (entry_named name (with_item (x ∷ xs) name item)) (λ e. e.item ≡ item)
 set_step x xs name item true fits rest some = rw (fits, fits) refl
 set_step x xs name item false fails rest some = rw (fails, fails) (rest (rw fails at some))
 
 set_found : {T : Type 0} (entries : List (Entry T)) (name : List ℕ) (item : T)
-    → IsSome (entry_named name entries) → IsSomeAnd (entry_named name (with_item entries name item)) (λ e. e.item ≡ item)
+    → IsSome (entry_named name entries)
+    → IsSomeAnd (entry_named name (with_item entries name item)) (λ e. e.item ≡ item)
 set_found [] name item some = absurd (false≢true some)
 set_found (x ∷ xs) name item some = set_step x xs name item (has_name name x) refl (set_found xs name item) some
 
@@ -48,7 +52,8 @@ removed_step : {T : Type 0} (x : Entry T) (xs : List (Entry T)) (name : List ℕ
 removed_step x xs name true fits rest = rw fits rest
 removed_step x xs name false fails rest = rw (fails, fails) rest
 
-pub removed_gone : {T : Type 0} (entries : List (Entry T)) (name : List ℕ) → IsNone (entry_named name (without entries name))
+pub removed_gone : {T : Type 0} (entries : List (Entry T)) (name : List ℕ)
+    → IsNone (entry_named name (without entries name))
 removed_gone [] name = refl
 removed_gone (x ∷ xs) name = removed_step x xs name (has_name name x) refl (removed_gone xs name)
 
@@ -63,8 +68,10 @@ finds_changes {T} entries name serial item = record {
 }
 
 -- an entry of this name has no other one
-elsewhere : {T : Type 0} (x : Entry T) (name other : List ℕ) → other ≢ name → has_name name x ≡ true → has_name other x ≡ false
-elsewhere x name other not_same fits = ap (λ n. bytes_eq n other) ((bytes_eq-Decides x.name name).0 fits) ∙ differ name other not_same
+elsewhere : {T : Type 0} (x : Entry T) (name other : List ℕ) → other ≢ name → has_name name x ≡ true
+    → has_name other x ≡ false
+elsewhere x name other not_same fits = ap (λ n. bytes_eq n other) ((bytes_eq-Decides x.name name).0 fits)
+    ∙ differ name other not_same
 
 more_step : {T : Type 0} (x : Entry T) (xs ys : List (Entry T)) (other : List ℕ) (b : Bool) → has_name other x ≡ b
     → entry_named other xs ≡ entry_named other ys → entry_named other (x ∷ xs) ≡ entry_named other (x ∷ ys)
@@ -76,12 +83,14 @@ pub other_new : {T : Type 0} (entries : List (Entry T)) (new : Entry T) (other :
 other_new [] new other not_same = rw (differ new.name other not_same) refl
 other_new (x ∷ xs) new other not_same = more_step x _ xs other (has_name other x) refl (other_new xs new other not_same)
 
-other_set_step : {T : Type 0} (x : Entry T) (xs : List (Entry T)) (name other : List ℕ) (item : T) (b : Bool) → other ≢ name
+other_set_step : {T : Type 0} (x : Entry T) (xs : List (Entry T)) (name other : List ℕ) (item : T) (b : Bool)
+    → other ≢ name
     → has_name name x ≡ b → entry_named other (with_item xs name item) ≡ entry_named other xs
     → entry_named other (with_item (x ∷ xs) name item) ≡ entry_named other (x ∷ xs)
 other_set_step x xs name other item true not_same fits rest =
     let fails = elsewhere x name other not_same fits in rw (fits, fails) rest
-other_set_step x xs name other item false not_same fails rest = rw fails (more_step x _ xs other (has_name other x) refl rest)
+other_set_step x xs name other item false not_same fails rest =
+    rw fails (more_step x _ xs other (has_name other x) refl rest)
 
 other_set : {T : Type 0} (entries : List (Entry T)) (name other : List ℕ) (item : T) → other ≢ name
     → entry_named other (with_item entries name item) ≡ entry_named other entries
@@ -94,7 +103,8 @@ other_removed_step : {T : Type 0} (x : Entry T) (xs : List (Entry T)) (name othe
     → entry_named other (without (x ∷ xs) name) ≡ entry_named other (x ∷ xs)
 other_removed_step x xs name other true not_same fits rest =
     let fails = elsewhere x name other not_same fits in rw (fits, fails) rest
-other_removed_step x xs name other false not_same fails rest = rw fails (more_step x _ xs other (has_name other x) refl rest)
+other_removed_step x xs name other false not_same fails rest =
+    rw fails (more_step x _ xs other (has_name other x) refl rest)
 
 pub other_removed : {T : Type 0} (entries : List (Entry T)) (name other : List ℕ) → other ≢ name
     → entry_named other (without entries name) ≡ entry_named other entries
@@ -123,10 +133,12 @@ finds_each {T} entries ordered k d within =
           ⊎_elim
           (λ (before : j < k).
           differ (get_or entries j d').name e.name
-          (λ same. (ordered j k d' before within).0 (sym same ∙ ap (λ (x : Entry T). x.name) (get_or_default entries k d d' within))))
+          (λ same. (ordered j k d' before within).0 (sym same
+          ∙ ap (λ (x : Entry T). x.name) (get_or_default entries k d d' within))))
           (λ (after : k ≤ j).
           differ (get_or entries j d').name e.name
-          (λ same. (ordered k j d' (omega arith) inside).0 (ap (λ (x : Entry T). x.name) (get_or_default entries k d' d within) ∙ same)))
+          (λ same. (ordered k j d' (omega arith) inside).0
+          (ap (λ (x : Entry T). x.name) (get_or_default entries k d' d within) ∙ same)))
           (cases_lt j k);
     } in
     find-only (has_name e.name) entries k one d

@@ -9,8 +9,9 @@ use Rattle.jl_op.specs.Operations.{Operation}
 use Rattle.jl_effects.specs.Effects.{and_then, Begin, Change, End, Look, Perform, Step}
 use Rattle.jl_meaning.specs.Changes.{StoreChange}
 use Rattle.jl_meaning.specs.Completions.{ends_as, if_normal, on_given, then_do}
-use Rattle.jl_meaning.specs.Parts.{answer_of, begin_call, do_loop, for_in_loop, for_loop, continue_with, gives, lift, throws}
-use Rattle.jl_meaning.specs.Parts.{while_loop, ◌>>=◌, Algorithm, Answer, Call, CallOf, Job, Loop, Part, Turn, TurnOf}
+use Rattle.jl_meaning.specs.Parts.{answer_of, begin_call, do_loop, for_in_loop, for_loop, continue_with, gives, lift}
+use Rattle.jl_meaning.specs.Parts.{throws, while_loop, ◌>>=◌, Algorithm, Answer, Call, CallOf, Job, Loop, Part, Turn}
+use Rattle.jl_meaning.specs.Parts.{TurnOf}
 use Rattle.jl_meaning.specs.Store.{Store}
 use Rattle.jl_quiet.proofs.Bare.{bare, bare_forest, bare_optional}
 use Rattle.jl_quiet.proofs.QuietParts.{quiet_part, quiet_then}

@@ -17,8 +17,8 @@ use Rattle.jl_scope.specs.Names.{with_name}
 use Rattle.jl_scope.specs.Scope.{bind, in_function_of, in_program, is_loop}
 use Rattle.jl_scope.specs.Scope.{Scope}
 use Rattle.jl_simulation.specs.HookCalls.{and_last, before_update, begin_and_end, catch_and_go_on, enter_and_leave}
-use Rattle.jl_simulation.specs.HookCalls.{hook, hook_1, hook_2, hook_of_1, hook_statement, no_exprs, string_of, without_id}
-use Rattle.jl_simulation.specs.HookCalls.{Expr, Exprs, Stmts, Woven}
+use Rattle.jl_simulation.specs.HookCalls.{hook, hook_1, hook_2, hook_of_1, hook_statement, no_exprs, string_of}
+use Rattle.jl_simulation.specs.HookCalls.{without_id, Expr, Exprs, Stmts, Woven}
 use Rattle.jl_simulation.specs.Weaving.{calls, weave, woven_body, woven_callee, woven_code}
 use Rattle.jl_simulation.specs.Weaving.{woven_delete, woven_forest, woven_typeof}
 use Rattle.jl_text.specs.declared.span.Span.{Span}

@@ -66,7 +66,8 @@ capped_twice n m = omega arith
 
 taken_by : (chosen same : Bool) (n t old new : ℕ) → (same ≡ true → chosen ≡ true)
     → old ≡ (if chosen then saturate_u64 n else 0)
-    → new ≡ saturate_u64 (old + (if same then t else 0)) → new ≡ (if chosen then saturate_u64 (n + (if same then t else 0)) else 0)
+    → new ≡ saturate_u64 (old + (if same then t else 0))
+    → new ≡ (if chosen then saturate_u64 (n + (if same then t else 0)) else 0)
 taken_by true same n t old new h e f =
     f ∙ ap (λ x. saturate_u64 (x + (if same then t else 0))) e ∙ capped_twice n (if same then t else 0)
 taken_by false true n t old new h e f = let no : false ≡ true = h refl in absurd (cc)
@@ -109,7 +110,8 @@ pub all_listed : (chosen : ℕ → Bool) (off : List Pair) (places : List Place)
     → i ≡ length fs
     → map (λ x. (key x, x.count)) lines ≡ filter (λ e. not (is_off off e.0.0 e.0.2)) hits.entries
     → IsOrdered by_place hits → HasHits hits
-    → ((k : Key) → number_in hits k ≡ (if chosen k.2 then saturate_u64 (found_at places (take i fs) k.2 (k.0, k.1)) else 0))
+    → ((k : Key) → number_in hits k
+    ≡ (if chosen k.2 then saturate_u64 (found_at places (take i fs) k.2 (k.0, k.1)) else 0))
     → IsReportOfFindings chosen off places fs lines
 all_listed chosen off places fs i hits lines e listed ordered some numbers =
     lists chosen off (λ rule at. saturate_u64 (found_at places fs rule at)) hits lines listed ordered some

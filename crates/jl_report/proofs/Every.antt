@@ -37,7 +37,8 @@ no_line false true n e = sym (ap if_any e)
 no_line false false n e = refl
 
 -- where all rules are chosen, no number has to be asked for
-pub of_every_rule : (chosen : ℕ → Bool) (off : List Pair) (places : List Place) (ops : List Operation) (lines : List Line)
+pub of_every_rule : (chosen : ℕ → Bool) (off : List Pair) (places : List Place) (ops : List Operation)
+    (lines : List Line)
     → ((rule : ℕ) → IsRule rule → chosen rule ≡ true) → IsReport chosen off places ops lines
     → IsReport (λ rule. true) off places ops lines
 of_every_rule chosen off places ops lines all is = record {

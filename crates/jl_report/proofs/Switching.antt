@@ -30,7 +30,8 @@ spelled [] [] = refl
 spelled [] (u ∷ us) = refl
 spelled (w ∷ ws) [] = refl
 spelled (w ∷ ws) (u ∷ us) = by (u == w) (spelled ws us) where
-  by : (b : Bool) → is_end (after ws us) ≡ bytes_eq us ws → is_end (if b then after ws us else None) ≡ (b && bytes_eq us ws)
+  by : (b : Bool) → is_end (after ws us) ≡ bytes_eq us ws → is_end (if b then after ws us else None)
+      ≡ (b && bytes_eq us ws)
   by true e = e
   by false e = refl
 
@@ -109,7 +110,8 @@ all_more (u ∷ us) = ap (λ b. (u == 32) && b) (all_more us)
 not_all : (u : ℕ) (us : List ℕ) → (u == 32) ≡ false → list_all (λ v. v == 32) (us ++ u ∷ []) ≡ false
 not_all u [] h = ap (λ b. b && true) h
 not_all u (v ∷ us) h = by (v == 32) (not_all u us h) where
-  by : (b : Bool) → list_all (λ v. v == 32) (us ++ u ∷ []) ≡ false → (b && list_all (λ v. v == 32) (us ++ u ∷ [])) ≡ false
+  by : (b : Bool) → list_all (λ v. v == 32) (us ++ u ∷ []) ≡ false → (b && list_all (λ v. v == 32) (us ++ u ∷ []))
+      ≡ false
   by true e = e
   by false e = refl
 
@@ -129,7 +131,8 @@ pub two_parts : (pairs a b : List Pair) → with_pairs (with_pairs pairs a) b �
 two_parts pairs a b = sym (fold-append _ pairs a b)
 
 -- a text up to a unit, and the text before that unit
-up_to : (us : List ℕ) (end : ℕ) → 0 < end → end ≤ length us → take end us ≡ take (end - 1) us ++ get_or us (end - 1) 0 ∷ []
+up_to : (us : List ℕ) (end : ℕ) → 0 < end → end ≤ length us → take end us ≡ take (end - 1) us ++ get_or us (end - 1) 0
+    ∷ []
 up_to us zero h l = absurd (omega (arith, h))
 up_to us (suc n) h l = ap (λ k. take (suc k) us) same ∙ take-suc us (suc n - 1) 0 (omega (arith, l)) where
   same : n ≡ suc n - 1

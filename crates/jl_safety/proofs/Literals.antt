@@ -19,9 +19,8 @@ use Rattle.jl_meaning.specs.FunctionObjects.{add_poison, create_function, functi
 use Rattle.jl_meaning.specs.FunctionObjects.{make_function, make_function_expression, make_named, whole}
 use Rattle.jl_meaning.specs.Intrinsics.{array_prototype, function_prototype, object_prototype}
 use Rattle.jl_meaning.specs.Noting.{note_or_misuse, performs}
-use Rattle.jl_meaning.specs.Parts.{add_property, change_store, fault_of, give, continue_with, gives, lift, new_object, throws}
-use Rattle.jl_meaning.specs.Parts.{◌>>=◌}
-use Rattle.jl_meaning.specs.Parts.{Algorithm, Answer, CallOf, Func, Part}
+use Rattle.jl_meaning.specs.Parts.{add_property, change_store, fault_of, give, continue_with, gives, lift, new_object}
+use Rattle.jl_meaning.specs.Parts.{throws, ◌>>=◌, Algorithm, Answer, CallOf, Func, Part}
 use Rattle.jl_meaning.specs.Store.{next_environment, next_object, Store}
 use Rattle.jl_meaning.specs.forms.Literals.{end_array, literal_of, literal_op, new_array, new_plain_object, of_array}
 use Rattle.jl_meaning.specs.forms.Literals.{of_function, of_object}
@@ -89,7 +88,8 @@ array_safe id f x = record {
 }
   where
     on : (s : Store) (o : ObjId) (made : Store) → Keeps s made → IsMade o (op.ArrayLiteral o) made.heap
-        → (r : Answer ℕ) (t : Store) → Keeps made t → From t (λ r u. Keeps s u) (continue_with (λ n. end_array id o n) r)
+        → (r : Answer ℕ) (t : Store) → Keeps made t
+        → From t (λ r u. Keeps s u) (continue_with (λ n. end_array id o n) r)
     on s o made new m (gives n) t kept =
         array_done id n o s t (keeps_then s made t new kept) (still_made m kept.heap)
     on s o made new m (throws v) t kept = keeps_then s made t new kept

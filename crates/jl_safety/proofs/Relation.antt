@@ -13,11 +13,10 @@ use Rattle.jl_effects.proofs.Steady.{row_steady, steady_then, steady_weaken}
 use Rattle.jl_meaning.specs.Changes.{apply}
 use Rattle.jl_meaning.specs.Completions.{ends_as, if_normal, normal, on_given, then_do}
 use Rattle.jl_meaning.specs.Mean.{IsNoMisuse}
-use Rattle.jl_meaning.specs.Parts.{answer_of, begin_call, do_loop, fault_of, for_in_loop, for_loop, give, continue_with, gives}
-use Rattle.jl_meaning.specs.Parts.{lift, throw, throws, while_loop, ◌>>=◌, Algorithm, AlgorithmFault, Answer, Call}
-use Rattle.jl_meaning.specs.Parts.{CallOf}
-use Rattle.jl_meaning.specs.Parts.{CodeFromText, Job, Loop, NumberOutside, Part, StringTooLong, Turn, TurnOf}
-use Rattle.jl_meaning.specs.Parts.{Unsupported}
+use Rattle.jl_meaning.specs.Parts.{answer_of, begin_call, do_loop, fault_of, for_in_loop, for_loop, give, continue_with}
+use Rattle.jl_meaning.specs.Parts.{gives, lift, throw, throws, while_loop, ◌>>=◌, Algorithm, AlgorithmFault, Answer}
+use Rattle.jl_meaning.specs.Parts.{Call, CallOf, CodeFromText, Job, Loop, NumberOutside, Part, StringTooLong, Turn}
+use Rattle.jl_meaning.specs.Parts.{TurnOf, Unsupported}
 use Rattle.jl_meaning.specs.Store.{Store}
 use Rattle.jl_meaning.specs.forms.Names.{is_hooks}
 use Rattle.jl_safety.specs.inner.Jumps.{in_a_loop, AllJumpsFit, Around, MayComplete}

@@ -63,13 +63,15 @@ break_to_block =
 -- L: { while (1) { continue L; } }
 abbrev continue_to_block : Program Span
 continue_to_block =
-    program false end (forest (labelled (x_L 0 1) (block (forest (while (number (Some (pos 1)) (at 12 13)) (forest (continue
+    program false end (forest
+    (labelled (x_L 0 1) (block (forest (while (number (Some (pos 1)) (at 12 13)) (forest (continue
     (Some (x_L 26 27)) (at 17 28) ∷ [])) (at 5 30) ∷ [])) (at 3 32)) (at 0 32) ∷ []))
 
 -- L: while (1) { continue L; }
 abbrev continue_to_loop : Program Span
 continue_to_loop =
-    program false end (forest (labelled (x_L 0 1) (while (number (Some (pos 1)) (at 10 11)) (forest (continue (Some (x_L 24
+    program false end (forest
+    (labelled (x_L 0 1) (while (number (Some (pos 1)) (at 10 11)) (forest (continue (Some (x_L 24
     25)) (at 15 26) ∷ [])) (at 3 28)) (at 0 28) ∷ []))
 
 -- L: L: ;
@@ -87,7 +89,8 @@ label_in_function =
 -- ({ a: 1, get a() { } });
 abbrev key_clash : Program Span
 key_clash =
-    program false end (forest (expression (object (forest (value (x_a 3 4) (number (Some (pos 1)) (at 6 7)) ∷ getter (x_a
+    program false end (forest
+    (expression (object (forest (value (x_a 3 4) (number (Some (pos 1)) (at 6 7)) ∷ getter (x_a
     13 14) (function 0 None [] (body false end end) (at 9 20)) ∷ [])) (at 1 22)) (at 0 24) ∷ []))
 
 -- "use strict"; eval = 1;
@@ -116,7 +119,8 @@ loose_param =
 -- "use strict"; ({ a: 1, a: 2 });
 abbrev strict_key : Program Span
 strict_key =
-    program true end (forest (expression (object (forest (value (x_a 17 18) (number (Some (pos 1)) (at 20 21)) ∷ value (x_a
+    program true end (forest
+    (expression (object (forest (value (x_a 17 18) (number (Some (pos 1)) (at 20 21)) ∷ value (x_a
     23 24) (number (Some (pos 2)) (at 26 27)) ∷ [])) (at 15 29)) (at 14 31) ∷ []))
 
 -- "use strict"; delete a;
@@ -174,7 +178,8 @@ pub examples :
     × (first_early_error left_out_before_hooks ≡ Some (left_out (codes "Date") (at 4 8)))
     × (first_early_error hooks_label ≡ Some (reserved_name (at 0 2)))
 unfolding left_out_names strict_words strict_names hooks_name is_left_out identifier_early_errors written_early_errors
-    free_early_errors read_early_errors target_early_errors label_early_errors break_early_errors continue_early_errors return_early_errors
+    free_early_errors read_early_errors target_early_errors label_early_errors break_early_errors continue_early_errors
+        return_early_errors
     delete_early_errors
 examples = (
   refl,

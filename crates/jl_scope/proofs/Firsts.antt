@@ -21,7 +21,8 @@ use Rattle.jl_scope.specs.NameSets.{SameNames}
 use Rattle.jl_scope.proofs.NameLists.{with_name_same}
 
 -- the first of two lists is found in the one and then in the other
-pub first_from-append : (a : Option EarlyError) (l m : List EarlyError) → first_from a (l ++ m) ≡ first_from (first_from a l) m
+pub first_from-append : (a : Option EarlyError) (l m : List EarlyError) → first_from a (l ++ m)
+    ≡ first_from (first_from a l) m
 first_from-append a [] m = refl
 first_from-append a (b ∷ l) m = first_from-append (sooner a b) l m
 

@@ -15,7 +15,8 @@ use Rattle.jl_scope.proofs.NameLists.{with_name_same}
 use Rattle.jl_scope.proofs.Firsts.{first_from-append, front}
 
 -- what is wrong with a property after others depends on the keys of these alone
-key_same : (s : Scope) (t : Tree Span entry) (a b : Keys) → SameKeys a b → key_early_errors s a t ≡ key_early_errors s b t
+key_same : (s : Scope) (t : Tree Span entry) (a b : Keys) → SameKeys a b → key_early_errors s a t
+    ≡ key_early_errors s b t
 key_same s (value k e) a b same =
     ap (λ t. broken_if (t || among k.text a.setters) KeyClash k.at
     ++ broken_if (s.strict && among k.text a.values) StrictKey k.at) (same.getters k.text)

@@ -54,7 +54,8 @@ itself a = by_numbers a a ∙ less_itself (kind a) (place a) (number a)
 
 behind : (b a r : EarlyError) → comes_before b a ≡ true → comes_before b r ≡ false → comes_before a r ≡ false
 behind b a r p q =
-    by_numbers a r ∙ less_behind (kind b) (kind a) (kind r) (place b) (place a) (place r) (number b) (number a) (number r)
+    by_numbers a r ∙ less_behind (kind b) (kind a) (kind r) (place b) (place a) (place r) (number b) (number a)
+    (number r)
     (sym (by_numbers b a) ∙ p) (sym (by_numbers b r) ∙ q)
 
 not_before : (b a r : EarlyError) → comes_before b a ≡ false → comes_before a r ≡ false → comes_before b r ≡ false

@@ -127,7 +127,8 @@ mutual
   few (do_while a b s) = let h0 = forest_few a in let h1 = few b in omega arith
   few (while a b s) = let h0 = few a in let h1 = forest_few b in omega arith
   few
-      (for a b c d s) = let h0 = few a in let h1 = optional_few c in let h2 = forest_few d in let h3 = test_few b in omega arith
+      (for a b c d s) = let h0 = few a in let h1 = optional_few c in let h2 = forest_few d in let h3 = test_few b in
+      omega arith
   few (for_in is_var a b c s) = let h0 = few b in let h1 = forest_few c in omega arith
   few (continue a s) = omega arith
   few (break a s) = omega arith

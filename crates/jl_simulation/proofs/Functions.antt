@@ -22,8 +22,8 @@ use Rattle.jl_meaning.specs.Completions.{ends_as, if_normal, normal, on_given, t
 use Rattle.jl_meaning.specs.DeclarationBinding.{declare_body}
 use Rattle.jl_meaning.specs.FunctionObjects.{callee_of, function_params, FunctionTable, ScriptFunction}
 use Rattle.jl_meaning.specs.Noting.{note, performs}
-use Rattle.jl_meaning.specs.Parts.{fault_of, give, continue_with, gives, lift, throws, ◌>>=◌, Algorithm, Answer, Call, CallOf}
-use Rattle.jl_meaning.specs.Parts.{Context, Func, Part, Running, Stmts}
+use Rattle.jl_meaning.specs.Parts.{fault_of, give, continue_with, gives, lift, throws, ◌>>=◌, Algorithm, Answer, Call}
+use Rattle.jl_meaning.specs.Parts.{CallOf, Context, Func, Part, Running, Stmts}
 use Rattle.jl_meaning.specs.Statements.{execute_all}
 use Rattle.jl_meaning.specs.Store.{next_environment, Store}
 use Rattle.jl_meaning.specs.forms.Functions.{begin_script, call_script, construct_script, enter_function}

@@ -198,7 +198,8 @@ module _ (chosen : Kinds) where
           way (chosen kind.GetField) _ _ n (two (same o _) (same k _)) (ap₂ ◌||◌ (same o _) (same k _))
       same (tree.call f l s) n = callee f s l n (λ n. same f n) (λ n. forests l n)
       same (tree.new f l s) n =
-          way (rewriting.calls chosen) _ _ n (ap₂ ◌||◌ (one (same f _)) (forests l _)) (ap₂ ◌||◌ (same f _) (forests l _))
+          way (rewriting.calls chosen) _ _ n (ap₂ ◌||◌ (one (same f _)) (forests l _))
+          (ap₂ ◌||◌ (same f _) (forests l _))
       same (tree.unary un.Typeof e s) n = typeof_same s e (weave chosen e) n (λ n. same e n)
       same (tree.unary un.Delete e s) n = deletes e s n (λ n. same e n)
       same (tree.unary o e s) n = way (chosen kind.Unary) _ _ n (one (same e _)) (same e _)
@@ -262,7 +263,8 @@ module _ (chosen : Kinds) where
           → mentions x (with_ids n (tree.call (woven_callee chosen f (weave chosen f) id) (woven_forest chosen l) tt))
           ≡ (mentions x f || forest_mentions x l)
       callee (tree.dot o k s) id l n e r =
-          by_callee (rewriting.calls_member chosen) _ _ l n (ap₂ ◌||◌ (one (same o _)) (r _)) (ap₂ ◌||◌ (same o _) (r _))
+          by_callee (rewriting.calls_member chosen) _ _ l n (ap₂ ◌||◌ (one (same o _)) (r _))
+          (ap₂ ◌||◌ (same o _) (r _))
       callee (tree.index o k s) id l n e r =
           by_callee (rewriting.calls_member chosen) _ _ l n (ap₂ ◌||◌ (two (same o _) (same k _)) (r _))
           (ap₂ ◌||◌ (ap₂ ◌||◌ (same o _) (same k _)) (r _))

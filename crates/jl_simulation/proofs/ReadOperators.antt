@@ -155,7 +155,8 @@ mutual
   assigned : {ts : List Token} {no_in : Bool} {i : ℕ} {t : Expr} {j : ℕ} → ReadsAssignment ts no_in i t j
       → AssignsByOperators t
   assigned (conditional a b) = read_conditional a
-  assigned (an_assignment {j = j} {op = op} a b c d) = (operator (terminal_at _ j) op c.is, target _ _ b (read_left a), assigned d)
+  assigned (an_assignment {j = j} {op = op} a b c d) = (operator (terminal_at _ j) op c.is, target _ _ b (read_left a),
+      assigned d)
 
   begins_expression : {ts : List Token} {no_in : Bool} {i : ℕ} {t : Expr} {j : ℕ} → BeginsExpression ts no_in i t j
       → AssignsByOperators t
@@ -211,12 +212,14 @@ mutual
       → AssignsByOperators t
   head (a_head a b c) = expression b
 
-  declaration : {ts : List Token} {no_in : Bool} {i : ℕ} {t : Tree Span tree.decl} {j : ℕ} → ReadsDeclaration ts no_in i t j
+  declaration : {ts : List Token} {no_in : Bool} {i : ℕ} {t : Tree Span tree.decl} {j : ℕ}
+      → ReadsDeclaration ts no_in i t j
       → AssignsByOperators t
   declaration (declared a b) = tt
   declaration (initialised a b c) = assigned c
 
-  declarations : {ts : List Token} {no_in : Bool} {i : ℕ} {t : Forest Span tree.decl} {j : ℕ} → ReadsDeclarations ts no_in i t j
+  declarations : {ts : List Token} {no_in : Bool} {i : ℕ} {t : Forest Span tree.decl} {j : ℕ}
+      → ReadsDeclarations ts no_in i t j
       → AllAssignByOperators t
   declarations (last_declaration a b) = (declaration a, tt)
   declarations (more_declarations a b c) = (declaration a, declarations c)
@@ -227,7 +230,8 @@ mutual
   init (an_init a) = expression a
   init (init_vars a b) = declarations b
 
-  optional : {ts : List Token} {k : Terminal} {i : ℕ} {t : OptionalTree Span tree.expr} {j : ℕ} → ReadsOptional ts k i t j
+  optional : {ts : List Token} {k : Terminal} {i : ℕ} {t : OptionalTree Span tree.expr} {j : ℕ}
+      → ReadsOptional ts k i t j
       → AssignsByOperatorsIfPresent t
   optional (no_expression a) = tt
   optional (one_expression a) = expression a
@@ -274,7 +278,8 @@ mutual
 
 -- however the functions are numbered
 mutual
-  numbered : {S : Type 0} {x : Sort} (n : ℕ) (t : Tree S x) → AssignsByOperators t → AssignsByOperators (numbered_tree n t)
+  numbered : {S : Type 0} {x : Sort} (n : ℕ) (t : Tree S x) → AssignsByOperators t
+      → AssignsByOperators (numbered_tree n t)
   numbered n (tree.array l s) h = forests_numbered _ l h
   numbered n (tree.object l s) h = forests_numbered _ l h
   numbered n (tree.function_expression f s) h = numbered _ f h

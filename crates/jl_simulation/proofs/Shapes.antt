@@ -1,4 +1,5 @@
--- What woven trees are not: what is no name is woven to none, what is no member to none, and what is called as it stands
+-- What woven trees are not: what is no name is woven to none, what is no member to none, and what is called as it
+-- stands
 -- is no first call of a pair.
 use Rattle.std.proofs.Common.{◌≡◌, ℕ, ◌+◌, List, [], Bool, true, false, Option, Some, None, codes, refl, sym, ap, subst}
 use Rattle.std.specs.Prelude.{if◌then◌else◌}

@@ -15,9 +15,8 @@ use Rattle.jl_meaning.specs.Completions.{on_given}
 use Rattle.jl_meaning.specs.Expressions.{evaluate}
 use Rattle.jl_meaning.specs.FunctionObjects.{FunctionTable}
 use Rattle.jl_meaning.specs.Mean.{language}
-use Rattle.jl_meaning.specs.Parts.{answer_of, begin_call, completion_of, fault_of, give, continue_with, gives, lift, throws}
-use Rattle.jl_meaning.specs.Parts.{◌>>=◌}
-use Rattle.jl_meaning.specs.Parts.{Algorithm, Answer, CallOf, Job, Part}
+use Rattle.jl_meaning.specs.Parts.{answer_of, begin_call, completion_of, fault_of, give, continue_with, gives, lift}
+use Rattle.jl_meaning.specs.Parts.{throws, ◌>>=◌, Algorithm, Answer, CallOf, Job, Part}
 use Rattle.jl_meaning.specs.Parts as parts
 use Rattle.jl_meaning.specs.Store.{Store}
 use Rattle.jl_state.specs.AlgorithmFrames.{algorithm_after}
@@ -74,7 +73,8 @@ module _ (table : FunctionTable) (calls : List Call) (frames : List Frame) where
   algorithm_same f p =
       and_then-assoc (lift p) (λ a. End (given_of a)) (rest table calls (frame.Algorithm f ∷ frames))
       ∙ ap (and_then (lift p)) (fun_ext each)
-      ∙ sym (and_then-assoc (lift p) (λ a. lift (continue_with (algorithm_after f) a)) (λ a. rest table calls frames (given_of a)))
+      ∙ sym (and_then-assoc (lift p) (λ a. lift (continue_with (algorithm_after f) a))
+      (λ a. rest table calls frames (given_of a)))
       ∙ ap (λ q. and_then q (λ a. rest table calls frames (given_of a)))
       (sym (row-and_then CallOf fault_of p (continue_with (algorithm_after f))))
       ∙ sym (and_then-assoc (lift (p >>= algorithm_after f)) (λ a. End (given_of a)) (rest table calls frames))
@@ -96,7 +96,8 @@ module _ (table : FunctionTable) (calls : List Call) (frames : List Frame) where
       (rest table calls frames))
     where
       each : (a : Answer Value) → rest table calls (frame.Statement f ∷ frames) (given_of a)
-          ≡ and_then (on_given (statement_after table calls f) a) (λ how. rest table calls frames (Completion-given how))
+          ≡ and_then (on_given (statement_after table calls f) a)
+          (λ how. rest table calls frames (Completion-given how))
       each (gives v) =
           and_then-assoc (statement_after table calls f v) (λ how. End (Completion-given how)) (rest table calls frames)
       each (throws v) = refl
@@ -107,7 +108,8 @@ module _ (table : FunctionTable) (calls : List Call) (frames : List Frame) where
   completion_same f p =
       and_then-assoc p (λ how. End (Completion-given how)) (rest table calls (frame.Completion f ∷ frames))
       ∙ ap (and_then p) (fun_ext (λ how.
-      and_then-assoc (completion_after table calls f how) (λ how. End (Completion-given how)) (rest table calls frames)))
+      and_then-assoc (completion_after table calls f how) (λ how. End (Completion-given how))
+      (rest table calls frames)))
       ∙ sym (and_then-assoc p (completion_after table calls f) (λ how. rest table calls frames (Completion-given how)))
       ∙ sym (and_then-assoc (and_then p (completion_after table calls f)) (λ how. End (Completion-given how))
       (rest table calls frames))
@@ -300,5 +302,7 @@ begins_turn s turn t a leads = record {
 }
   where
     same : and_then (as_completion (job (table_of s.functions) (parts.TurnOf turn))) (rest_of s)
-        ≡ and_then (job (table_of s.functions) (parts.TurnOf turn)) (λ end. and_then (as_completion (End end)) (rest_of s))
-    same = and_then-assoc (job (table_of s.functions) (parts.TurnOf turn)) (λ how. End (Completion-given how)) (rest_of s)
+        ≡ and_then (job (table_of s.functions) (parts.TurnOf turn))
+        (λ end. and_then (as_completion (End end)) (rest_of s))
+    same = and_then-assoc (job (table_of s.functions) (parts.TurnOf turn)) (λ how. End (Completion-given how))
+        (rest_of s)

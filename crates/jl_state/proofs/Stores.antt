@@ -10,8 +10,8 @@ use Rattle.jl_effects.specs.Traces.{quietly}
 use Rattle.jl_effects.proofs.Chains.{and_then-assoc, row-and_then}
 use Rattle.jl_meaning.specs.Completions.{on_given}
 use Rattle.jl_meaning.specs.Mean.{language}
-use Rattle.jl_meaning.specs.Parts.{fault_of, continue_with, gives, lift, throws, ◌>>=◌, Algorithm, AlgorithmFault, Answer}
-use Rattle.jl_meaning.specs.Parts.{CallOf, Part}
+use Rattle.jl_meaning.specs.Parts.{fault_of, continue_with, gives, lift, throws, ◌>>=◌, Algorithm, AlgorithmFault}
+use Rattle.jl_meaning.specs.Parts.{Answer, CallOf, Part}
 use Rattle.jl_store.specs.Comes.{Comes}
 use Rattle.jl_store.proofs.Chains.{comes_fails, comes_runs}
 use Rattle.jl_meaning.specs.Jobs.{job}
@@ -65,7 +65,8 @@ module _ {A : Type 0} (s t : State) (is : IsStored s t) (p : Algorithm A) where
       → and_then (as_value (lift (p >>= k))) (rest_of s) ≡ and_then (lift p) (later_work k)
   apart_work k =
       ap (λ q. and_then (as_value q) (rest_of s)) (row-and_then CallOf fault_of p (continue_with k))
-      ∙ ap (λ q. and_then q (rest_of s)) (and_then-assoc (lift p) (λ b. lift (continue_with k b)) (λ b. End (given_of b)))
+      ∙ ap (λ q. and_then q (rest_of s))
+      (and_then-assoc (lift p) (λ b. lift (continue_with k b)) (λ b. End (given_of b)))
       ∙ and_then-assoc (lift p) (λ b. as_value (lift (continue_with k b))) (rest_of s)
 
   abbrev later_completion : (A → Part Completion) → Answer A → Part Completion

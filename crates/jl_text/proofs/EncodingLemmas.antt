@@ -12,7 +12,8 @@ use Rattle.std.specs.Char.Utf16.{utf16_chars, utf16_lossy_chars, surrogate_pair_
 use lib.Utf8.{scalar, scalars, scalar_cases, encodes}
 use Rattle.jl_text.specs.Encoding.{encode_utf16_all, Utf8ComesBack}
 
-pub encode_utf16_all-append : (cs ds : List ℕ) → encode_utf16_all (cs ++ ds) ≡ encode_utf16_all cs ++ encode_utf16_all ds
+pub encode_utf16_all-append : (cs ds : List ℕ) → encode_utf16_all (cs ++ ds)
+    ≡ encode_utf16_all cs ++ encode_utf16_all ds
 encode_utf16_all-append [] ds = refl
 encode_utf16_all-append (c ∷ cs) ds =
     ap (λ us. encode_utf16 c ++ us) (encode_utf16_all-append cs ds)

@@ -85,7 +85,8 @@ line_at-cons at start starts low =
     let passes : cond {A = ℕ} (nat_le start at) 1 0 ≡ 1 = ap (λ b. cond b 1 0) (le-leb start at low) in
     omega (arith, sum_by-cons (λ y. cond (nat_le y at) 1 0) start starts, passes)
 
--- the line and the column at `at`, by the starts of lines behind the line that starts at `start` and has the number `line`
+-- the line and the column at `at`, by the starts of lines behind the line that starts at `start` and has the number
+-- `line`
 abbrev by_starts : ℕ → ℕ → List ℕ → ℕ → ℕ → ℕ × ℕ
 by_starts line start starts at passed = (line + passed, at - get_or (start ∷ starts) passed 0 + 1)
 

@@ -38,7 +38,8 @@ pair_or_not u v =
     ]
 
 -- The first character is c, which these units are, and others follow.
-module _ (c : ℕ) (front us units : List ℕ) (is : scalar c ≡ true) (code : encode_utf16 c ≡ front) (whole : front ++ us ≡ units)
+module _ (c : ℕ) (front us units : List ℕ) (is : scalar c ≡ true) (code : encode_utf16 c ≡ front) (whole : front ++ us
+    ≡ units)
     (first : utf16_chars units ≡ Some c ∷ utf16_chars us) where
   rest_is_paired : has_unpaired_surrogate units ≡ false → has_unpaired_surrogate us ≡ false
   rest_is_paired paired = sym (ap (list_any (λ o. not (is_some o))) first) ∙ paired
@@ -55,11 +56,13 @@ module _ (c : ℕ) (front us units : List ℕ) (is : scalar c ≡ true) (code : 
   spells_more paired rest = spelled (rest (rest_is_paired paired))
 
 -- a surrogate without a partner is one
-no_lone : (u : ℕ) (us : List ℕ) → utf16_chars (u ∷ us) ≡ None ∷ utf16_chars us → has_unpaired_surrogate (u ∷ us) ≡ false → ⊥
+no_lone : (u : ℕ) (us : List ℕ) → utf16_chars (u ∷ us) ≡ None ∷ utf16_chars us → has_unpaired_surrogate (u ∷ us) ≡ false
+    → ⊥
 no_lone u us first paired =
     let found : true ≡ false = sym (ap (list_any (λ o. not (is_some o))) first) ∙ paired in cc
 
-spells_lone : (u : ℕ) (us : List ℕ) → u < 2 ^ 16 → ¬ (IsPair u (get_or us 0 0)) → has_unpaired_surrogate (u ∷ us) ≡ false
+spells_lone : (u : ℕ) (us : List ℕ) → u < 2 ^ 16 → ¬ (IsPair u (get_or us 0 0)) → has_unpaired_surrogate (u ∷ us)
+    ≡ false
     → (has_unpaired_surrogate us ≡ false → Spells us) → Spells (u ∷ us)
 spells_lone u us small apart paired rest =
     let first = utf16_chars_lone u us apart in
@@ -67,10 +70,12 @@ spells_lone u us small apart paired rest =
     = λ o e. first ∙ ap (λ p. p ∷ utf16_chars us) e in
     let code : encode_utf16 u ≡ u ∷ [] = one_unit u (omega arith) in
     elim (cases_lt u 0xD800) [
-      | inl low ↦ spells_more u (u ∷ []) us (u ∷ us) (low_scalar u low) code refl (begins (Some u) (lone_unit_char_low u low)) paired rest
+      | inl low ↦ spells_more u (u ∷ []) us (u ∷ us) (low_scalar u low) code refl
+      (begins (Some u) (lone_unit_char_low u low)) paired rest
       | inr from ↦ elim (cases_lt u 0xE000) [
         | inl below ↦ absurd (no_lone u us (begins None (lone_unit_char_surrogate u from below)) paired)
-        | inr high ↦ spells_more u (u ∷ []) us (u ∷ us) (high_scalar u from high (omega arith)) code refl (begins (Some u) (lone_unit_char_high u high)) paired rest
+        | inr high ↦ spells_more u (u ∷ []) us (u ∷ us) (high_scalar u from high (omega arith)) code refl
+        (begins (Some u) (lone_unit_char_high u high)) paired rest
       ]
     ]
 
@@ -80,7 +85,9 @@ spells_pair u v us pair paired rest =
     let c : ℕ = surrogate_pair_char u v in
     let same : c ≡ 0x1_0000 + ((u - 0xD800) * 0x400 + (v - 0xDC00)) = omega arith in
     let code : encode_utf16 c ≡ u ∷ v ∷ [] = ap encode_utf16 same ∙ pair_units u v pair.0 pair.2 pair.3 in
-    spells_more c (u ∷ v ∷ []) us (u ∷ v ∷ us) (high_scalar c (omega (arith, pair.0, pair.1, pair.2, pair.3)) (omega (arith, pair.0, pair.1, pair.2, pair.3)) (omega (arith, pair.0, pair.1, pair.2, pair.3))) code refl (utf16_chars_pair u v us pair) paired rest
+    spells_more c (u ∷ v ∷ []) us (u ∷ v ∷ us)
+    (high_scalar c (omega (arith, pair.0, pair.1, pair.2, pair.3)) (omega (arith, pair.0, pair.1, pair.2, pair.3))
+    (omega (arith, pair.0, pair.1, pair.2, pair.3))) code refl (utf16_chars_pair u v us pair) paired rest
 
 spells : (units : List ℕ) → All (λ u. u < 2 ^ 16) units → has_unpaired_surrogate units ≡ false → Spells units
 spells [] small paired =

@@ -14,7 +14,8 @@ pub scan_white : (u : ℕ) (us : List ℕ) → is_white_space u ≡ true → sca
 unfolding scan scan_word
 scan_white u us h = rw h refl
 
-pub scan_line : (u : ℕ) (us : List ℕ) → is_line_terminator u ≡ true → scan (u ∷ us) ≡ found LineEnd (if u == 13 then after_line_feed us else us)
+pub scan_line : (u : ℕ) (us : List ℕ) → is_line_terminator u ≡ true
+    → scan (u ∷ us) ≡ found LineEnd (if u == 13 then after_line_feed us else us)
 unfolding scan scan_word
 scan_line u us h = rw ((lines u h).white, h) refl
 
@@ -34,12 +35,14 @@ pub scan_number : (us : List ℕ) → begins_at us ≡ true → scan us ≡ numb
 unfolding scan scan_word units
 scan_number [] h = absurd cc
 scan_number (u ∷ us) h = by (or_cases (is_digit u) (u == 46 && first_is is_digit us) h) where
-  by : (is_digit u ≡ true) ⊎ ((u == 46 && first_is is_digit us) ≡ true) → scan (u ∷ us) ≡ number_end (found_numeral (u ∷ us))
+  by : (is_digit u ≡ true) ⊎ ((u == 46 && first_is is_digit us) ≡ true)
+      → scan (u ∷ us) ≡ number_end (found_numeral (u ∷ us))
   by (inl d) = let x = digits u d in rw (x.white, x.line, x.slash, x.quote, h) refl
   by (inr p) = let a = and_true (u == 46) (first_is is_digit us) p in
       subst (λ v. scan (v ∷ us) ≡ number_end (found_numeral (v ∷ us))) (sym (is_unit u 46 a.0)) (rw a.1 refl)
 
-pub scan_start : (u : ℕ) (us : List ℕ) → is_identifier_start u ≡ true → scan (u ∷ us) ≡ name_from (letter is_identifier_start (u ∷ us))
+pub scan_start : (u : ℕ) (us : List ℕ) → is_identifier_start u ≡ true
+    → scan (u ∷ us) ≡ name_from (letter is_identifier_start (u ∷ us))
 unfolding scan scan_word
 scan_start u us h = let s = starts u h in rw (s.white, s.line, s.slash, s.quote, s.digit, s.point, h) refl
 
@@ -47,6 +50,7 @@ pub scan_backslash : (us : List ℕ) → scan (92 ∷ us) ≡ name_from (letter 
 unfolding scan scan_word units
 scan_backslash us = refl
 
-pub scan_letter : {us rest : List ℕ} {x : ℕ × Bool} → Letter is_identifier_start us x rest → scan us ≡ name_from (letter is_identifier_start us)
+pub scan_letter : {us rest : List ℕ} {x : ℕ × Bool} → Letter is_identifier_start us x rest
+    → scan us ≡ name_from (letter is_identifier_start us)
 scan_letter (itself {u} {us} h) = scan_start u us h
 scan_letter (escaped {a} {b} {c} {d} {us} h g) = scan_backslash (117 ∷ a ∷ b ∷ c ∷ d ∷ us)

@@ -16,7 +16,8 @@ IfPart P (Some (a, rest)) = P a rest
 pub record Holds {A : Type 0} (o : Option (A × List ℕ)) (P : A → List ℕ → Type 0) : Type 0 where
   pub has : IfPart P o
 
-pub test : {A : Type 0} {P : A → List ℕ → Type 0} (b : Bool) (x y : Option (A × List ℕ)) → (b ≡ true → Holds x P) → (b ≡ false → Holds y P) → Holds (if b then x else y) P
+pub test : {A : Type 0} {P : A → List ℕ → Type 0} (b : Bool) (x y : Option (A × List ℕ)) → (b ≡ true → Holds x P)
+    → (b ≡ false → Holds y P) → Holds (if b then x else y) P
 test true x y f g = f refl
 test false x y f g = g refl
 
@@ -26,7 +27,8 @@ just h = record { has = h }
 pub nothing : {A : Type 0} {P : A → List ℕ → Type 0} → Holds None P
 nothing = record { has = tt }
 
-pub at_some : {A : Type 0} {P : A → List ℕ → Type 0} (o : Option (A × List ℕ)) (a : A) (rest : List ℕ) → Holds o P → o ≡ Some (a, rest) → P a rest
+pub at_some : {A : Type 0} {P : A → List ℕ → Type 0} (o : Option (A × List ℕ)) (a : A) (rest : List ℕ) → Holds o P
+    → o ≡ Some (a, rest) → P a rest
 at_some {A} {P} o a rest h e = subst (IfPart P) e h.has
 
 -- one unit
@@ -35,7 +37,8 @@ unfolding one_unit
 unit_sound p [] = nothing
 unit_sound p (u ∷ us) = test (p u) _ _ (λ h. just (unit h)) (λ h. nothing)
 
-unit_complete : (p : ℕ → Bool) (us : List ℕ) (a : ℕ) (rest : List ℕ) → OneUnit p us a rest → one_unit p us ≡ Some (a, rest)
+unit_complete : (p : ℕ → Bool) (us : List ℕ) (a : ℕ) (rest : List ℕ) → OneUnit p us a rest
+    → one_unit p us ≡ Some (a, rest)
 unfolding one_unit
 unit_complete p us a rest (unit h) = rw h refl
 
@@ -43,7 +46,8 @@ unit_shorter : (p : ℕ → Bool) (us : List ℕ) (a : ℕ) (rest : List ℕ) �
 unit_shorter p us a rest (unit h) = omega arith
 
 pub reads_unit : (p : ℕ → Bool) → Reads (OneUnit p) (one_unit p)
-reads_unit p = record { complete = unit_complete p; sound = λ us a rest e. at_some _ a rest (unit_sound p us) e; shorter = unit_shorter p }
+reads_unit p = record { complete = unit_complete p; sound = λ us a rest e. at_some _ a rest (unit_sound p us) e;
+    shorter = unit_shorter p }
 
 -- a unit of a comment
 close_sound : (us : List ℕ) → Holds (before_close us) (BeforeClose us)
@@ -59,14 +63,16 @@ close_shorter : (us : List ℕ) (a : ℕ) (rest : List ℕ) → BeforeClose us a
 close_shorter us a rest (one_before h) = omega arith
 
 pub reads_before_close : Reads BeforeClose before_close
-reads_before_close = record { complete = close_complete; sound = λ us a rest e. at_some _ a rest (close_sound us) e; shorter = close_shorter }
+reads_before_close = record { complete = close_complete; sound = λ us a rest e. at_some _ a rest (close_sound us) e;
+    shorter = close_shorter }
 
 -- a character of a name
 escape_sound : (p : ℕ → Bool) (us : List ℕ) → Holds (name_escape p us) (Letter p (92 ∷ us))
 unfolding name_escape
 escape_sound p (v ∷ a ∷ b ∷ c ∷ d ∷ us) = test (v == 117 && are_hex_digits a b c d && p (hex_number a b c d)) _ _
     (λ h. let x = and_true _ _ h in let y = and_true _ _ x.0 in
-    just (subst (λ w. Letter p (92 ∷ w ∷ a ∷ b ∷ c ∷ d ∷ us) (hex_number a b c d, true) us) (sym (is_unit v 117 y.0)) (escaped y.1 x.1)))
+    just (subst (λ w. Letter p (92 ∷ w ∷ a ∷ b ∷ c ∷ d ∷ us) (hex_number a b c d, true) us) (sym (is_unit v 117 y.0))
+    (escaped y.1 x.1)))
     (λ h. nothing)
 escape_sound p _ = nothing
 
@@ -74,19 +80,23 @@ letter_sound : (p : ℕ → Bool) (us : List ℕ) → Holds (letter p us) (Lette
 unfolding letter
 letter_sound p [] = nothing
 letter_sound p (u ∷ us) = test (p u) _ _ (λ h. just (itself h)) (λ h. test (u == 92) _ _
-    (λ e. subst (λ w. Holds (name_escape p us) (Letter p (w ∷ us))) (sym (is_unit u 92 e)) (escape_sound p us)) (λ e. nothing))
+    (λ e. subst (λ w. Holds (name_escape p us) (Letter p (w ∷ us))) (sym (is_unit u 92 e)) (escape_sound p us))
+    (λ e. nothing))
 
-letter_complete : (p : ℕ → Bool) → p 92 ≡ false → (us : List ℕ) (a : ℕ × Bool) (rest : List ℕ) → Letter p us a rest → letter p us ≡ Some (a, rest)
+letter_complete : (p : ℕ → Bool) → p 92 ≡ false → (us : List ℕ) (a : ℕ × Bool) (rest : List ℕ) → Letter p us a rest
+    → letter p us ≡ Some (a, rest)
 unfolding letter name_escape
 letter_complete p b us a rest (itself h) = rw h refl
 letter_complete p b us a rest (escaped h g) = rw (b, h, g) refl
 
-letter_shorter : (p : ℕ → Bool) (us : List ℕ) (a : ℕ × Bool) (rest : List ℕ) → Letter p us a rest → length rest < length us
+letter_shorter : (p : ℕ → Bool) (us : List ℕ) (a : ℕ × Bool) (rest : List ℕ) → Letter p us a rest
+    → length rest < length us
 letter_shorter p us a rest (itself h) = omega arith
 letter_shorter p us a rest (escaped h g) = omega arith
 
 pub reads_letter : (p : ℕ → Bool) → p 92 ≡ false → Reads (Letter p) (letter p)
-reads_letter p b = record { complete = letter_complete p b; sound = λ us a rest e. at_some _ a rest (letter_sound p us) e; shorter = letter_shorter p }
+reads_letter p b = record { complete = letter_complete p b;
+    sound = λ us a rest e. at_some _ a rest (letter_sound p us) e; shorter = letter_shorter p }
 
 pub reads_start : Reads (Letter is_identifier_start) (letter is_identifier_start)
 reads_start = reads_letter is_identifier_start backslash_start

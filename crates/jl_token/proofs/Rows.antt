@@ -14,7 +14,8 @@ unfoldable pub prepend : {A : Type 0} → List A → List A × List ℕ → List
 prepend [] r = r
 prepend (x ∷ xs) r = with_first x (prepend xs r)
 
-module _ {A : Type 0} (One : List ℕ → A → List ℕ → Type 0) (one : List ℕ → Option (A × List ℕ)) (r : Reads One one) where
+module _ {A : Type 0} (One : List ℕ → A → List ℕ → Type 0) (one : List ℕ → Option (A × List ℕ))
+    (r : Reads One one) where
   nothing_by : (o : Option (A × List ℕ)) → one [] ≡ o → o ≡ None
   nothing_by None e = refl
   nothing_by (Some (a, rest)) e = let h = r.shorter [] a rest (r.sound [] a rest e) in absurd (omega arith)
@@ -22,7 +23,9 @@ module _ {A : Type 0} (One : List ℕ → A → List ℕ → Type 0) (one : List
   pub nothing_at_end : one [] ≡ None
   nothing_at_end = nothing_by (one []) refl
 
-  enough_by : (n m : ℕ) (us : List ℕ) (o : Option (A × List ℕ)) → one us ≡ o → ((vs : List ℕ) → length vs < length us → many_within one n vs ≡ many_within one m vs) → many_by (many_within one n) us o ≡ many_by (many_within one m) us o
+  enough_by : (n m : ℕ) (us : List ℕ) (o : Option (A × List ℕ)) → one us ≡ o
+      → ((vs : List ℕ) → length vs < length us → many_within one n vs ≡ many_within one m vs)
+      → many_by (many_within one n) us o ≡ many_by (many_within one m) us o
   unfolding many_by
   enough_by n m us None e h = refl
   enough_by n m us (Some (a, rest)) e h = ap (with_first a) (h rest (r.shorter us a rest (r.sound us a rest e)))
@@ -36,13 +39,16 @@ module _ {A : Type 0} (One : List ℕ → A → List ℕ → Type 0) (one : List
   enough (suc n) zero (u ∷ us) p q = absurd (omega arith)
   enough (suc n) (suc m) us p q = enough_by n m us (one us) refl (λ vs h. enough n m vs (omega arith) (omega arith))
 
-  step_by : (us rest : List ℕ) (a : A) → length rest < length us → one us ≡ Some (a, rest) → many_within one (length us) us ≡ with_first a (many_within one (length rest) rest)
+  step_by : (us rest : List ℕ) (a : A) → length rest < length us → one us ≡ Some (a, rest)
+      → many_within one (length us) us ≡ with_first a (many_within one (length rest) rest)
   unfolding many_within many_by
   step_by [] rest a h e = absurd (omega arith)
-  step_by (u ∷ us) rest a h e = rw e (ap (with_first a) (enough (length us) (length rest) rest (omega arith) (omega arith)))
+  step_by (u ∷ us) rest a h e =
+      rw e (ap (with_first a) (enough (length us) (length rest) rest (omega arith) (omega arith)))
 
   -- one part more
-  pub many_step : (us : List ℕ) (a : A) (rest : List ℕ) → one us ≡ Some (a, rest) → many one us ≡ with_first a (many one rest)
+  pub many_step : (us : List ℕ) (a : A) (rest : List ℕ) → one us ≡ Some (a, rest)
+      → many one us ≡ with_first a (many one rest)
   unfolding many
   many_step us a rest e = step_by us rest a (r.shorter us a rest (r.sound us a rest e)) e
 
@@ -60,7 +66,8 @@ module _ {A : Type 0} (One : List ℕ → A → List ℕ → Type 0) (one : List
   pub many_complete : {us rest : List ℕ} {xs : List A} → Many One us xs rest → many one us ≡ prepend xs (many one rest)
   unfolding prepend
   many_complete no_more = refl
-  many_complete (one_more {us} {mid} {rest} {a} o m) = many_step us a mid (r.complete us a mid o) ∙ ap (with_first a) (many_complete m)
+  many_complete (one_more {us} {mid} {rest} {a} o m) = many_step us a mid (r.complete us a mid o)
+      ∙ ap (with_first a) (many_complete m)
 
   -- a row that ends where no part stands is the row that the reader finds
   prepend_nil : (xs : List A) (rest : List ℕ) → prepend xs ([], rest) ≡ (xs, rest)
@@ -76,7 +83,8 @@ module _ {A : Type 0} (One : List ℕ → A → List ℕ → Type 0) (one : List
     pub row : Many One us x.0 x.1
     pub ends : one x.1 ≡ None
 
-  found_by : (n : ℕ) (us : List ℕ) → length us ≤ n → (o : Option (A × List ℕ)) → one us ≡ o → ((vs : List ℕ) → length vs < length us → Found vs (many one vs)) → Found us (many one us)
+  found_by : (n : ℕ) (us : List ℕ) → length us ≤ n → (o : Option (A × List ℕ)) → one us ≡ o
+      → ((vs : List ℕ) → length vs < length us → Found vs (many one vs)) → Found us (many one us)
   found_by n us h None e more = rw (many_stop us e) (record { row = no_more; ends = e })
   found_by n us h (Some (a, rest)) e more =
       let o = r.sound us a rest e in

@@ -27,7 +27,8 @@ strip_complete (w ∷ ws) rest = rw (same w) (strip_complete ws rest) where
   same : (n : ℕ) → (n == n) ≡ true
   same n = grind arith
 
-strip_by : (w u : ℕ) (ws us rest : List ℕ) (b : Bool) → (u == w) ≡ b → (if b then strip ws us else None) ≡ Some rest → (strip ws us ≡ Some rest → us ≡ ws ++ rest) → u ∷ us ≡ w ∷ (ws ++ rest)
+strip_by : (w u : ℕ) (ws us rest : List ℕ) (b : Bool) → (u == w) ≡ b → (if b then strip ws us else None) ≡ Some rest
+    → (strip ws us ≡ Some rest → us ≡ ws ++ rest) → u ∷ us ≡ w ∷ (ws ++ rest)
 strip_by w u ws us rest true h e f = let a = is_unit u w h in let b = f e in cc
 strip_by w u ws us rest false h e f = absurd cc
 
@@ -55,7 +56,8 @@ every_in f h (there {q} {ps} i) = every_in f (and_true (f q) (every f ps) h).1 i
 -- no later one is longer
 unfoldable longest_first : List Punct → Bool
 longest_first [] = true
-longest_first (p ∷ ps) = every (λ q. nat_le (length (punctuator_units q)) (length (punctuator_units p))) ps && longest_first ps
+longest_first (p ∷ ps) =
+    every (λ q. nat_le (length (punctuator_units q)) (length (punctuator_units p))) ps && longest_first ps
 
 table_sorted : longest_first all_punctuators ≡ true
 unfolding longest_first every
@@ -65,25 +67,34 @@ table_sorted = refl
 pub record Fits (us : List ℕ) (p : Punct) (rest : List ℕ) : Type 0 where
   pub is : us ≡ punctuator_units p ++ rest
 
-found_by : (q : Punct) (us : List ℕ) (others : Option (Punct × List ℕ)) (o : Option (List ℕ)) → strip (punctuator_units q) us ≡ o → (p : Punct) (rest : List ℕ) → or_else q o others ≡ Some (p, rest) → (others ≡ Some (p, rest) → Fits us p rest) → Fits us p rest
+found_by : (q : Punct) (us : List ℕ) (others : Option (Punct × List ℕ)) (o : Option (List ℕ))
+    → strip (punctuator_units q) us ≡ o → (p : Punct) (rest : List ℕ) → or_else q o others ≡ Some (p, rest)
+    → (others ≡ Some (p, rest) → Fits us p rest) → Fits us p rest
 unfolding or_else
 found_by q us others None e p rest g f = f g
-found_by q us others (Some r) e p rest g f = let a = some_pair g in subst (λ x. Fits us x rest) a.0 (subst (λ x. Fits us q x) a.1 (record { is = strip_sound (punctuator_units q) us r e }))
+found_by q us others (Some r) e p rest g f = let a = some_pair g in
+    subst (λ x. Fits us x rest) a.0
+    (subst (λ x. Fits us q x) a.1 (record { is = strip_sound (punctuator_units q) us r e }))
 
-pub first_sound : (ps : List Punct) (us : List ℕ) (p : Punct) (rest : List ℕ) → first_punctuator ps us ≡ Some (p, rest) → Fits us p rest
+pub first_sound : (ps : List Punct) (us : List ℕ) (p : Punct) (rest : List ℕ) → first_punctuator ps us ≡ Some (p, rest)
+    → Fits us p rest
 unfolding first_punctuator
 first_sound [] us p rest e = absurd cc
-first_sound (q ∷ ps) us p rest e = found_by q us (first_punctuator ps us) (strip (punctuator_units q) us) refl p rest e (first_sound ps us p rest)
+first_sound (q ∷ ps) us p rest e =
+    found_by q us (first_punctuator ps us) (strip (punctuator_units q) us) refl p rest e (first_sound ps us p rest)
 
-in_by : (q : Punct) (ps : List Punct) (others : Option (Punct × List ℕ)) (o : Option (List ℕ)) (p : Punct) (rest : List ℕ) → or_else q o others ≡ Some (p, rest) → (others ≡ Some (p, rest) → In p ps) → In p (q ∷ ps)
+in_by : (q : Punct) (ps : List Punct) (others : Option (Punct × List ℕ)) (o : Option (List ℕ)) (p : Punct)
+    (rest : List ℕ) → or_else q o others ≡ Some (p, rest) → (others ≡ Some (p, rest) → In p ps) → In p (q ∷ ps)
 unfolding or_else
 in_by q ps others None p rest g f = there (f g)
 in_by q ps others (Some r) p rest g f = subst (λ x. In x (q ∷ ps)) (some_pair g).0 here
 
-found_in : (ps : List Punct) (us : List ℕ) (p : Punct) (rest : List ℕ) → first_punctuator ps us ≡ Some (p, rest) → In p ps
+found_in : (ps : List Punct) (us : List ℕ) (p : Punct) (rest : List ℕ) → first_punctuator ps us ≡ Some (p, rest)
+    → In p ps
 unfolding first_punctuator
 found_in [] us p rest e = absurd cc
-found_in (q ∷ ps) us p rest e = in_by q ps (first_punctuator ps us) (strip (punctuator_units q) us) p rest e (found_in ps us p rest)
+found_in (q ∷ ps) us p rest e =
+    in_by q ps (first_punctuator ps us) (strip (punctuator_units q) us) p rest e (found_in ps us p rest)
 
 -- each is in the table, and its units are its own
 decoded : (p : Punct) → first_punctuator all_punctuators (punctuator_units p) ≡ Some (p, [])
@@ -156,7 +167,9 @@ pub data Longest (o : Option (Punct × List ℕ)) (p : Punct) (rest : List ℕ) 
   longer : {q : Punct} {r : List ℕ} → o ≡ Some (q, r) → length r < length rest → Longest o p rest
   same : o ≡ Some (p, rest) → Longest o p rest
 
-first_fits : (us : List ℕ) (p q : Punct) (rest r : List ℕ) → us ≡ punctuator_units p ++ rest → us ≡ punctuator_units q ++ r → length (punctuator_units p) ≤ length (punctuator_units q) → (others : Option (Punct × List ℕ)) → Longest (or_else q (Some r) others) p rest
+first_fits : (us : List ℕ) (p q : Punct) (rest r : List ℕ) → us ≡ punctuator_units p ++ rest
+    → us ≡ punctuator_units q ++ r → length (punctuator_units p) ≤ length (punctuator_units q)
+    → (others : Option (Punct × List ℕ)) → Longest (or_else q (Some r) others) p rest
 unfolding or_else
 first_fits us p q rest r e f h others =
     let l = length-append (punctuator_units p) rest in
@@ -174,24 +187,33 @@ first_fits us p q rest r e f h others =
       compared : (a b : ℕ) → a ≤ b → (a < b) ⊎ (a ≡ b)
       compared a b h = grind arith
 
-goes_by : (us : List ℕ) (p q : Punct) (rest : List ℕ) (o : Option (List ℕ)) → strip (punctuator_units q) us ≡ o → us ≡ punctuator_units p ++ rest → length (punctuator_units p) ≤ length (punctuator_units q) → (others : Option (Punct × List ℕ)) → (o ≡ None → Longest others p rest) → Longest (or_else q o others) p rest
+goes_by : (us : List ℕ) (p q : Punct) (rest : List ℕ) (o : Option (List ℕ)) → strip (punctuator_units q) us ≡ o
+    → us ≡ punctuator_units p ++ rest → length (punctuator_units p) ≤ length (punctuator_units q)
+    → (others : Option (Punct × List ℕ)) → (o ≡ None → Longest others p rest) → Longest (or_else q o others) p rest
 unfolding or_else
 goes_by us p q rest None s e h others f = f refl
-goes_by us p q rest (Some r) s e h others f = first_fits us p q rest r e (strip_sound (punctuator_units q) us r s) h others
+goes_by us p q rest (Some r) s e h others f =
+    first_fits us p q rest r e (strip_sound (punctuator_units q) us r s) h others
 
-longest_in : {p : Punct} {ps : List Punct} → In p ps → longest_first ps ≡ true → (us rest : List ℕ) → us ≡ punctuator_units p ++ rest → Longest (first_punctuator ps us) p rest
+longest_in : {p : Punct} {ps : List Punct} → In p ps → longest_first ps ≡ true → (us rest : List ℕ)
+    → us ≡ punctuator_units p ++ rest → Longest (first_punctuator ps us) p rest
 unfolding first_punctuator longest_first
-longest_in {p} (here {ps}) h us rest e = goes_by us p p rest (strip (punctuator_units p) us) refl e (omega arith) (first_punctuator ps us)
-    (λ n. let s = ap (strip (punctuator_units p)) e ∙ strip_complete (punctuator_units p) rest in absurd (clash s n)) where
+longest_in {p} (here {ps}) h us rest e =
+    goes_by us p p rest (strip (punctuator_units p) us) refl e (omega arith) (first_punctuator ps us)
+    (λ n. let s = ap (strip (punctuator_units p)) e ∙ strip_complete (punctuator_units p) rest in
+    absurd (clash s n)) where
       clash : {o : Option (List ℕ)} {r : List ℕ} → o ≡ Some r → o ≡ None → ⊥
       clash s n = cc
 longest_in {p} (there {q} {ps} i) h us rest e =
-    let a = and_true (every (λ x. nat_le (length (punctuator_units x)) (length (punctuator_units q))) ps) (longest_first ps) h in
+    let a = and_true (every (λ x. nat_le (length (punctuator_units x)) (length (punctuator_units q))) ps)
+    (longest_first ps) h in
     goes_by us p q rest (strip (punctuator_units q) us) refl e
-    (leb-true (length (punctuator_units p)) (length (punctuator_units q)) (every_in (λ x. nat_le (length (punctuator_units x)) (length (punctuator_units q))) a.0 i))
+    (leb-true (length (punctuator_units p)) (length (punctuator_units q))
+    (every_in (λ x. nat_le (length (punctuator_units x)) (length (punctuator_units q))) a.0 i))
     (first_punctuator ps us) (λ n. longest_in i a.1 us rest e)
 
-pub longest : (us : List ℕ) (p : Punct) (rest : List ℕ) → us ≡ punctuator_units p ++ rest → Longest (first_punctuator all_punctuators us) p rest
+pub longest : (us : List ℕ) (p : Punct) (rest : List ℕ) → us ≡ punctuator_units p ++ rest
+    → Longest (first_punctuator all_punctuators us) p rest
 longest us p rest e = longest_in (in_table p) table_sorted us rest e
 
 -- a punctuator's first unit is of no other kind
@@ -201,7 +223,9 @@ is_other u = is_white_space u || is_line_terminator u || is_quote u || is_digit 
 -- how a punctuator goes on after its first unit: no comment, no number
 unfoldable pub goes_well : List ℕ → Bool
 goes_well [] = false
-goes_well (u ∷ us) = (if is_other u then false else true) && (if u == 47 then (if first_is (λ v. v == 47 || v == 42) us then false else true) else true) && (if u == 46 then (if nat_le 1 (length us) then false else true) else true)
+goes_well (u ∷ us) = (if is_other u then false else true) &&
+    (if u == 47 then (if first_is (λ v. v == 47 || v == 42) us then false else true) else true) &&
+    (if u == 46 then (if nat_le 1 (length us) then false else true) else true)
 
 table_good : every (λ p. goes_well (punctuator_units p)) all_punctuators ≡ true
 unfolding every goes_well is_other units
@@ -219,20 +243,26 @@ first_unit : List ℕ → List ℕ
 first_unit [] = []
 first_unit (u ∷ us) = u ∷ []
 
-table_heads : every (λ p. is_one_unit (first_punctuator all_punctuators (first_unit (punctuator_units p)))) all_punctuators ≡ true
+table_heads : every (λ p. is_one_unit (first_punctuator all_punctuators (first_unit (punctuator_units p))))
+    all_punctuators ≡ true
 unfolding every is_one_unit first_unit first_punctuator or_else strip
 table_heads = refl
 
-head_by : (u : ℕ) (us : List ℕ) (o : Option (Punct × List ℕ)) → first_punctuator all_punctuators (u ∷ []) ≡ o → is_one_unit o ≡ true → first_punctuator all_punctuators (u ∷ us) ≡ None → ⊥
+head_by : (u : ℕ) (us : List ℕ) (o : Option (Punct × List ℕ)) → first_punctuator all_punctuators (u ∷ []) ≡ o
+    → is_one_unit o ≡ true → first_punctuator all_punctuators (u ∷ us) ≡ None → ⊥
 unfolding is_one_unit
 head_by u us None e h n = cc
 head_by u us (Some (q, [])) e h n =
     let f = (first_sound all_punctuators (u ∷ []) q [] e).is in
-    elim (longest (u ∷ us) q us (ap (λ x. x ++ us) f ∙ ap (λ x. x ++ us) (append-nil (punctuator_units q)))) [ longer a b ↦ cc | same a ↦ cc ]
+    elim (longest (u ∷ us) q us (ap (λ x. x ++ us) f ∙ ap (λ x. x ++ us) (append-nil (punctuator_units q))))
+    [ longer a b ↦ cc | same a ↦ cc ]
 head_by u us (Some (q, (v ∷ r))) e h n = let l = leb-true (length (v ∷ r)) 0 h in omega arith
 
-pub no_head : (u : ℕ) (us : List ℕ) → first_punctuator all_punctuators (u ∷ us) ≡ None → (p : Punct) (ws : List ℕ) → punctuator_units p ≡ u ∷ ws → ⊥
+pub no_head : (u : ℕ) (us : List ℕ) → first_punctuator all_punctuators (u ∷ us) ≡ None → (p : Punct) (ws : List ℕ)
+    → punctuator_units p ≡ u ∷ ws → ⊥
 unfolding first_unit
 no_head u us n p ws e =
-    let h = every_in (λ p. is_one_unit (first_punctuator all_punctuators (first_unit (punctuator_units p)))) table_heads (in_table p) in
-    head_by u us (first_punctuator all_punctuators (u ∷ [])) refl (subst (λ x. is_one_unit (first_punctuator all_punctuators (first_unit x)) ≡ true) e h) n
+    let h = every_in (λ p. is_one_unit (first_punctuator all_punctuators (first_unit (punctuator_units p)))) table_heads
+    (in_table p) in
+    head_by u us (first_punctuator all_punctuators (u ∷ [])) refl
+    (subst (λ x. is_one_unit (first_punctuator all_punctuators (first_unit x)) ≡ true) e h) n

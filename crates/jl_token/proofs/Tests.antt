@@ -45,6 +45,7 @@ second_or : {A B : Type 0} → B → Option (A × B) → B
 second_or d None = d
 second_or d (Some x) = x.1
 
-pub some_pair : {A B : Type 0} {a b : A} {x y : B} → ◌≡◌ {A = Option (A × B)} (Some (a, x)) (Some (b, y)) → (a ≡ b) × (x ≡ y)
+pub some_pair : {A B : Type 0} {a b : A} {x y : B} → ◌≡◌ {A = Option (A × B)} (Some (a, x)) (Some (b, y))
+    → (a ≡ b) × (x ≡ y)
 unfolding first_or second_or
 some_pair {A} {B} {a} {b} {x} {y} e = (ap (first_or {A = A} {B = B} a) e, ap (second_or {A = A} {B = B} x) e)

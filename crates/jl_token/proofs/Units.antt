@@ -19,7 +19,8 @@ all_below p (suc n) = p n && all_below p n
 
 -- `unfolding units` lets `refl` compute the tests of a unit
 unfoldable pub units : Unit {0}
-unfolding all_below ucd_category is_surrogate category is_space is_letter is_mark is_white_space is_line_terminator is_on_line is_identifier_start is_identifier_part is_digit is_hex_digit is_quote
+unfolding all_below ucd_category is_surrogate category is_space is_letter is_mark is_white_space is_line_terminator
+    is_on_line is_identifier_start is_identifier_part is_digit is_hex_digit is_quote
 units = tt
 
 below_suc : (k n : ℕ) → k < suc n → (k ≡ n) ⊎ (k < n)
@@ -34,7 +35,8 @@ each_below p (suc n) h k g = let a = and_true _ _ h in elim (below_suc k n g) [
 ]
 
 -- a test of each unit between two
-pub each_between : (p : ℕ → Bool) (low n : ℕ) → all_below (λ k. p (low + k)) n ≡ true → (u : ℕ) → low ≤ u → u < low + n → p u ≡ true
+pub each_between : (p : ℕ → Bool) (low n : ℕ) → all_below (λ k. p (low + k)) n ≡ true → (u : ℕ) → low ≤ u → u < low + n
+    → p u ≡ true
 each_between p low n h u a b =
     let e : low + (u - low) ≡ u = omega arith in
     subst (λ v. p v ≡ true) e (each_below (λ k. p (low + k)) n h (u - low) (omega arith))
@@ -48,8 +50,10 @@ unfolding is_digit
 digit_bounds u h = let a = and_true _ _ h in (leb-true 48 u a.0, leb-true u 57 a.1)
 
 -- what holds of each digit
-pub each_digit : (p : ℕ → Bool) → all_below (λ k. not (p (48 + k))) 10 ≡ true → (u : ℕ) → is_digit u ≡ true → p u ≡ false
-each_digit p h u g = let b = digit_bounds u g in not_false (p u) (each_between (λ v. not (p v)) 48 10 h u b.0 (omega arith))
+pub each_digit : (p : ℕ → Bool) → all_below (λ k. not (p (48 + k))) 10 ≡ true → (u : ℕ) → is_digit u ≡ true
+    → p u ≡ false
+each_digit p h u g = let b = digit_bounds u g in
+    not_false (p u) (each_between (λ v. not (p v)) 48 10 h u b.0 (omega arith))
 
 -- white space
 no_letter : (c : GeneralCategory) → is_space c ≡ true → is_letter c ≡ false
@@ -75,7 +79,8 @@ white_start u h = elim (or_cases _ _ h) [
     | inl h2 ↦ elim (or_cases _ _ h2) [
       | inl h3 ↦ elim (or_cases _ _ h3) [
         | inl h4 ↦ elim (or_cases _ _ h4) [
-          | inl h5 ↦ elim (or_cases _ _ h5) [ inl e ↦ at_unit is_identifier_start u 9 e refl | inr e ↦ at_unit is_identifier_start u 11 e refl ]
+          | inl h5 ↦ elim (or_cases _ _ h5) [ inl e ↦ at_unit is_identifier_start u 9 e refl | inr e
+          ↦ at_unit is_identifier_start u 11 e refl ]
           | inr e ↦ at_unit is_identifier_start u 12 e refl
         ]
         | inr e ↦ at_unit is_identifier_start u 32 e refl
@@ -84,11 +89,16 @@ white_start u h = elim (or_cases _ _ h) [
     ]
     | inr e ↦ at_unit is_identifier_start u 65279 e refl
   ]
-  | inr s ↦ both_false _ _ (both_false _ _ (other_unit u 36 (λ e. never_both _ s (subst (λ v. is_space (category v) ≡ false) (sym e) dollar))) (other_unit u 95 (λ e. never_both _ s (subst (λ v. is_space (category v) ≡ false) (sym e) low_line)))) (no_letter (category u) s)
+  | inr s ↦ both_false _ _
+      (both_false _ _ (other_unit u 36
+      (λ e. never_both _ s (subst (λ v. is_space (category v) ≡ false) (sym e) dollar)))
+      (other_unit u 95 (λ e. never_both _ s (subst (λ v. is_space (category v) ≡ false) (sym e) low_line))))
+      (no_letter (category u) s)
 ]
 
 -- line terminators
-pub each_line_terminator : (p : ℕ → Bool) → p 10 ≡ false → p 13 ≡ false → p 8232 ≡ false → p 8233 ≡ false → (u : ℕ) → is_line_terminator u ≡ true → p u ≡ false
+pub each_line_terminator : (p : ℕ → Bool) → p 10 ≡ false → p 13 ≡ false → p 8232 ≡ false → p 8233 ≡ false → (u : ℕ)
+    → is_line_terminator u ≡ true → p u ≡ false
 unfolding is_line_terminator
 each_line_terminator p a b c d u h = elim (or_cases _ _ h) [
   | inl h1 ↦ elim (or_cases _ _ h1) [
@@ -120,7 +130,8 @@ pub starts : (u : ℕ) → is_identifier_start u ≡ true → Starts u
 unfolding units
 starts u h = record {
   white = clash is_white_space is_identifier_start white_start u h;
-  line = clash is_line_terminator is_identifier_start (each_line_terminator is_identifier_start refl refl refl refl) u h;
+  line = clash is_line_terminator is_identifier_start (each_line_terminator is_identifier_start refl refl refl refl) u
+  h;
   slash = clash (λ v. v == 47) is_identifier_start (λ v e. at_unit is_identifier_start v 47 e refl) u h;
   quote = clash is_quote is_identifier_start (each_quote is_identifier_start refl refl) u h;
   digit = clash is_digit is_identifier_start (each_digit is_identifier_start refl) u h;

@@ -12,7 +12,9 @@ pub ten_pos : (l : ℕ) → 0 < 10 ^ l
 ten_pos zero = omega arith
 ten_pos (suc l) = let h = ten_pos l in omega (arith, pow-suc 10 l)
 
-sound_by : (m r l n : ℕ) (b : Bool) → (((m * 10 ^ r) % (10 ^ l) == 0) && nat_le ((m * 10 ^ r) / (10 ^ l)) 9007199254740991) ≡ b → (if b then Some ((m * 10 ^ r) / (10 ^ l)) else None) ≡ Some n → HasValue m r l n
+sound_by : (m r l n : ℕ) (b : Bool)
+    → (((m * 10 ^ r) % (10 ^ l) == 0) && nat_le ((m * 10 ^ r) / (10 ^ l)) 9007199254740991) ≡ b
+    → (if b then Some ((m * 10 ^ r) / (10 ^ l)) else None) ≡ Some n → HasValue m r l n
 sound_by m r l n false h e = absurd cc
 sound_by m r l n true h e =
     let a = and_true ((m * 10 ^ r) % (10 ^ l) == 0) (nat_le ((m * 10 ^ r) / (10 ^ l)) 9007199254740991) h in
@@ -27,7 +29,8 @@ pub value_sound : (m r l n : ℕ) → value_of m r l ≡ Some n → HasValue m r
 unfolding value_of
 value_sound m r l n e = sound_by m r l n _ refl e
 
-complete_by : (n d : ℕ) → 0 < d → n ≤ 9007199254740991 → (if ((n * d) % d == 0) && nat_le ((n * d) / d) 9007199254740991 then Some ((n * d) / d) else None) ≡ Some n
+complete_by : (n d : ℕ) → 0 < d → n ≤ 9007199254740991
+    → (if ((n * d) % d == 0) && nat_le ((n * d) / d) 9007199254740991 then Some ((n * d) / d) else None) ≡ Some n
 complete_by n d h i =
     let a : (n * d) % d ≡ 0 = (rw add-zero at (mod-mul-add n d 0 h)) in
     let b : (n * d) / d ≡ n = (rw add-zero at (div-mul-add n d 0 h)) in

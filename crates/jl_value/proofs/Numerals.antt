@@ -46,7 +46,8 @@ digits_of_more : (n d m : ℕ) → 0 < n → d < 10 → m ≡ n * 10 + d → dig
 digits_of_more n d m some h e =
     let q : m / 10 ≡ n = grind arith in
     let r : m % 10 ≡ d = grind arith in
-    let front : digits_within 10 m (m / 10) ≡ digits_of 10 n = rw q (enough_places m (n + 1) n (omega arith) (omega arith)) in
+    let front : digits_within 10 m (m / 10) ≡ digits_of 10 n =
+    rw q (enough_places m (n + 1) n (omega arith) (omega arith)) in
     rw add-one (more_digits 10 m m (omega arith) ∙ ap (λ ds. ds ++ last_digit 10 m) front
     ∙ ap (λ k. digits_of 10 n ++ digit_code k ∷ []) r
     ∙ ap (λ c. digits_of 10 n ++ c ∷ []) (code_of d h))
@@ -104,7 +105,8 @@ pub index_is : (units : List ℕ) (n : ℕ) → IsIndex units n → index_of uni
 unfolding index_of
 index_is units n i =
     ap (index_at units) (reads units n i)
-    ∙ both (bytes_eq units (digits_of 10 n)) (nat_lt n 4294967295) n ((bytes_eq-Decides units (digits_of 10 n)).1 i.digits) (below n i.below)
+    ∙ both (bytes_eq units (digits_of 10 n)) (nat_lt n 4294967295) n
+    ((bytes_eq-Decides units (digits_of 10 n)).1 i.digits) (below n i.below)
   where
     below : (n : ℕ) → n < 4294967295 → nat_lt n 4294967295 ≡ true
     below n h = grind (arith, nat_tests)
@@ -153,10 +155,12 @@ split (u ∷ units) h = ap (λ us. u ∷ us) (sym (take_all (suc (length units) 
 no_digit : (c : ℕ) (rest : List ℕ) → (48 ≤ c → 58 ≤ c) → index_of (c ∷ rest) ≡ None
 no_digit c rest h = no_index (c ∷ rest) (λ n is. let d = unit_is_digit (c ∷ rest) n 0 is (omega arith) in omega arith)
 
-pub no_digit_first : (units : List ℕ) → 1 ≤ length units → (48 ≤ get_or units 0 0 → 58 ≤ get_or units 0 0) → index_of units ≡ None
+pub no_digit_first : (units : List ℕ) → 1 ≤ length units → (48 ≤ get_or units 0 0 → 58 ≤ get_or units 0 0)
+    → index_of units ≡ None
 no_digit_first units some h = ap index_of (split units some) ∙ no_digit (get_or units 0 0) _ h
 
-pub begun : (units : List ℕ) (d : ℕ) → 1 ≤ length units → d < 10 → 48 + d ≡ get_or units 0 0 → IsRead units (take (length units - 1) (drop 1 units)) d 0
+pub begun : (units : List ℕ) (d : ℕ) → 1 ≤ length units → d < 10 → 48 + d ≡ get_or units 0 0
+    → IsRead units (take (length units - 1) (drop 1 units)) d 0
 begun units d some h e = record {
   first = get_or units 0 0;
   whole = split units some;
@@ -164,7 +168,8 @@ begun units d some h e = record {
 }
 
 -- a further digit, after those of a number other than 0
-pub one_more : (units rest : List ℕ) (n m u i : ℕ) → IsRead units rest n i → i < length rest → u ≡ get_or rest i 0 → 0 < n → 48 ≤ u → u ≤ 57 → m ≡ n * 10 + (u - 48) → IsRead units rest m (i + 1)
+pub one_more : (units rest : List ℕ) (n m u i : ℕ) → IsRead units rest n i → i < length rest → u ≡ get_or rest i 0
+    → 0 < n → 48 ≤ u → u ≤ 57 → m ≡ n * 10 + (u - 48) → IsRead units rest m (i + 1)
 one_more units rest n m u i r h g some low high is =
     let code : 48 + (u - 48) ≡ u = omega arith in
     record {
@@ -184,18 +189,22 @@ after_zero c i (suc k) rest e h is =
     (digits_write_numbers 10 (suc k) (omega arith) (omega arith)).no_zero_first (omega arith) first
 
 -- a further digit past 2^32 - 1
-too_large : (c n u i k : ℕ) (rest : List ℕ) → digits_of 10 n ≡ c ∷ take i rest → i < length rest → u ≡ get_or rest i 0 → IsIndex (c ∷ rest) k → IsDigit u → 4294967296 ≤ n * 10 + (u - 48) → ⊥
+too_large : (c n u i k : ℕ) (rest : List ℕ) → digits_of 10 n ≡ c ∷ take i rest → i < length rest → u ≡ get_or rest i 0
+    → IsIndex (c ∷ rest) k → IsDigit u → 4294967296 ≤ n * 10 + (u - 48) → ⊥
 too_large c n u i k rest e h g is d f =
     let units : List ℕ = c ∷ rest in
     let value : digits_value 10 (take (suc i) units) ≡ n = ap (digits_value 10) (sym e) ∙ value_of n in
     let more = digits_value_more 10 units (suc i) (omega arith) in
     let part = digits_value-take-le 10 units (suc i + 1) (omega arith) in
-    past _ _ (digit_value u) _ n u k value (more ∙ ap (λ v. digits_value 10 (take (suc i) units) * 10 + digit_value v) (sym g)) (digit_value_digit u d) part (reads units k is) is.below f
+    past _ _ (digit_value u) _ n u k value (more ∙ ap (λ v. digits_value 10 (take (suc i) units) * 10 + digit_value v)
+    (sym g)) (digit_value_digit u d) part (reads units k is) is.below f
   where
-    past : (a b v w n u k : ℕ) → b ≡ n → a ≡ b * 10 + v → v + 48 ≡ u → a ≤ w → w ≡ k → k < 4294967295 → 4294967296 ≤ n * 10 + (u - 48) → ⊥
+    past : (a b v w n u k : ℕ) → b ≡ n → a ≡ b * 10 + v → v + 48 ≡ u → a ≤ w → w ≡ k → k < 4294967295
+        → 4294967296 ≤ n * 10 + (u - 48) → ⊥
     past a b v w n u k p q r l s below f = omega arith
 
-no_more_after : (c n u i : ℕ) (rest : List ℕ) → digits_of 10 n ≡ c ∷ take i rest → i < length rest → u ≡ get_or rest i 0 → (0 < n → 48 ≤ u → u ≤ 57 → 4294967296 ≤ n * 10 + (u - 48)) → index_of (c ∷ rest) ≡ None
+no_more_after : (c n u i : ℕ) (rest : List ℕ) → digits_of 10 n ≡ c ∷ take i rest → i < length rest → u ≡ get_or rest i 0
+    → (0 < n → 48 ≤ u → u ≤ 57 → 4294967296 ≤ n * 10 + (u - 48)) → index_of (c ∷ rest) ≡ None
 no_more_after c zero u i rest e h g f = no_index (c ∷ rest) (λ k is. after_zero c i k rest e h is)
 no_more_after c (suc n) u i rest e h g f =
     no_index (c ∷ rest) (λ k is.
@@ -203,18 +212,22 @@ no_more_after c (suc n) u i rest e h g f =
     too_large c (suc n) u i k rest e h g is d (f (omega arith) d.0 d.1))
 
 -- a further unit that is no such digit
-pub no_more : (units rest : List ℕ) (n u i : ℕ) → IsRead units rest n i → i < length rest → u ≡ get_or rest i 0 → (0 < n → 48 ≤ u → u ≤ 57 → 4294967296 ≤ n * 10 + (u - 48)) → index_of units ≡ None
+pub no_more : (units rest : List ℕ) (n u i : ℕ) → IsRead units rest n i → i < length rest → u ≡ get_or rest i 0
+    → (0 < n → 48 ≤ u → u ≤ 57 → 4294967296 ≤ n * 10 + (u - 48)) → index_of units ≡ None
 no_more units rest n u i r h g f = ap index_of r.whole ∙ no_more_after r.first n u i rest r.digits h g f
 
 all_read : (units rest : List ℕ) (n i : ℕ) → IsRead units rest n i → length rest ≤ i → units ≡ digits_of 10 n
 all_read units rest n i r all = r.whole ∙ sym (r.digits ∙ ap (λ ds. r.first ∷ ds) (take_all i rest all))
 
-pub at_end : (units rest : List ℕ) (n i : ℕ) → IsRead units rest n i → length rest ≤ i → n < 4294967295 → index_of units ≡ Some n
+pub at_end : (units rest : List ℕ) (n i : ℕ) → IsRead units rest n i → length rest ≤ i → n < 4294967295
+    → index_of units ≡ Some n
 at_end units rest n i r all h = index_is units n record { digits = all_read units rest n i r all; below = h }
 
-pub past_end : (units rest : List ℕ) (n i : ℕ) → IsRead units rest n i → length rest ≤ i → 4294967295 ≤ n → index_of units ≡ None
+pub past_end : (units rest : List ℕ) (n i : ℕ) → IsRead units rest n i → length rest ≤ i → 4294967295 ≤ n
+    → index_of units ≡ None
 past_end units rest n i r all h = no_index units (λ k is.
-    let same : n ≡ k = sym (value_of n) ∙ ap (digits_value 10) (sym (all_read units rest n i r all)) ∙ reads units k is in
+    let same : n ≡ k = sym (value_of n) ∙ ap (digits_value 10) (sym (all_read units rest n i r all))
+    ∙ reads units k is in
     let below = is.below in
     omega arith)
 

@@ -6,7 +6,8 @@ use Rattle.jl_simulation.specs.Weaving.{woven_program}
 use Rattle.jl_text.specs.Encoding.{units_of}
 use Rattle.jl_token.specs.Tokens.{Tokens}
 use Rattle.jl_app.specs.Answers.{canonical_text, counted, ended, ended_alone, ended_woven, execute_due, functions_line}
-use Rattle.jl_app.specs.Answers.{instrument_due, listed, listed_map, refused_only, text, trace_due, woven_budget, written}
+use Rattle.jl_app.specs.Answers.{instrument_due, listed, listed_map, refused_only, text, trace_due, woven_budget}
+use Rattle.jl_app.specs.Answers.{written}
 use Rattle.jl_command.specs.Asked as asked
 use Rattle.jl_app.specs.Forms.{most_bytes}
 use Rattle.jl_command.specs.Meant.{Means, means_lint}

@@ -6,4 +6,5 @@ use Rattle.jl_conv.proofs.conversions.number_to_text.Goals as goal
 pub text_of-requires : goal.text_of-requires
 text_of-requires c =
     let inside : IsNumber c.args.number = search rules in
-    subst (λ ds. length ds ≤ 1048576) (sym (c.as_slice.ensures.value ∙ c.in_ok-digits.ensures)) (number_short c.args.number inside)
+    subst (λ ds. length ds ≤ 1048576) (sym (c.as_slice.ensures.value ∙ c.in_ok-digits.ensures))
+    (number_short c.args.number inside)

@@ -9,7 +9,8 @@ use Rattle.jl_conv.proofs.decimal.decimal.Goals as goal
 
 pub read-amount-requires-clause-digits : goal.read-amount-requires-clause-digits
 read-amount-requires-clause-digits c =
-    second_digits is_digit c.split_at_point.result.0.now c.split_at_point.result.1.now (sym c.are_digits.ensures ∙ c.if-not-are_digits.false)
+    second_digits is_digit c.split_at_point.result.0.now c.split_at_point.result.1.now (sym c.are_digits.ensures
+    ∙ c.if-not-are_digits.false)
 
 pub returns : goal.returns
 returns c =
@@ -20,7 +21,8 @@ returns c =
     let amount = c.read-amount.ensures.amount _ (c.read.ensures.amount 0 none_stands) in
     let few : c.read-amount.result.zeros < 2 ^ 63 = omega arith in
     let short : length fraction < 2 ^ 62 = omega arith in
-    literal c.args.negative units whole fraction c.in-Some.exponent c.read-amount.result.coefficient c.read-amount.result.zeros
+    literal c.args.negative units whole fraction c.in-Some.exponent c.read-amount.result.coefficient
+    c.read-amount.result.zeros
     c.saturating_add-lower.result _
     (sym c.is_infinity.ensures ∙ c.if-is_infinity.false)
     (c.split_at_point.ensures.before ∙ ap (before_first is_point) significand)

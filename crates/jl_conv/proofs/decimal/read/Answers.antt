@@ -16,6 +16,7 @@ loop-unit-preserved c =
       few = omega arith;
       amount = λ m s.
           subst (Stands new.coefficient new.zeros)
-          (ap (λ d. decimal_from m (take i units) * 10 + d) c.digit_value.ensures.value ∙ sym (decimal_more m units i c.loop-unit-test.true))
+          (ap (λ d. decimal_from m (take i units) * 10 + d) c.digit_value.ensures.value
+          ∙ sym (decimal_more m units i c.loop-unit-test.true))
           (c.with_digit-read.ensures.amount (decimal_from m (take i units)) (before.amount m s));
     }

@@ -10,7 +10,8 @@ pub returns-in-Some : goal.returns-in-Some
 returns-in-Some c =
     let units = c.args.units.now in
     let at = c.in-Some.at in
-    let e = position_from_yields_List is_point _ _ c.position.result c.position.ensures.ran (YieldsList-from_slice units cc)
+    let e = position_from_yields_List is_point _ _ c.position.result c.position.ensures.ran
+    (YieldsList-from_slice units cc)
     (λ x b q k. search (rules, tests)) in
     let f = found is_point units at (sym e ∙ c.in-Some.is) in
     record {
@@ -21,7 +22,8 @@ returns-in-Some c =
 pub returns-in-None : goal.returns-in-None
 returns-in-None c =
     let units = c.args.units.now in
-    let e = position_from_yields_List is_point _ _ c.position.result c.position.ensures.ran (YieldsList-from_slice units cc)
+    let e = position_from_yields_List is_point _ _ c.position.result c.position.ensures.ran
+    (YieldsList-from_slice units cc)
     (λ x b q k. search (rules, tests)) in
     let f = not_found is_point units (sym e ∙ c.in-None.is) in
     record {

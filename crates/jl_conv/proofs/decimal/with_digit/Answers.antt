@@ -12,5 +12,6 @@ returns-then-amount-gt15-clause-amount c =
 pub returns-clause-amount : goal.returns-clause-amount
 returns-clause-amount c =
     λ m s. near_digit _ _ m _ c.saturating_mul-shifted.result _ c.if-digit-eq0.false c.requires.digit
-    (c.saturating_mul-shifted.ensures ∙ ap (λ p. min (c.args.amount.coefficient * p) (2 ^ 64 - 1)) c.power_of_ten.ensures)
+    (c.saturating_mul-shifted.ensures ∙ ap (λ p. min (c.args.amount.coefficient * p) (2 ^ 64 - 1))
+    c.power_of_ten.ensures)
     c.saturating_add.ensures s

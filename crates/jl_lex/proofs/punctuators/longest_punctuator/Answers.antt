@@ -15,7 +15,10 @@ returns-then-stands_at-clause-found c =
     let i = c.loop-punct.punct-index in
     let p = get_or ps i LeftBrace in
     let rest = drop (c.args.at + length c.text-text.result.now) c.args.units.now in
-    sym c.loop-punct.invariant ∙ (ap (λ (x : List Punct). first_punctuator x us) (drop_more ps i LeftBrace c.loop-punct-test.true) ∙ table_found p (drop (i + 1) ps) us rest (subst (λ (w : List ℕ). strip w us ≡ Some rest) c.text-text.ensures c.if-stands_at.ensures.text))
+    sym c.loop-punct.invariant
+    ∙ (ap (λ (x : List Punct). first_punctuator x us) (drop_more ps i LeftBrace c.loop-punct-test.true)
+    ∙ table_found p (drop (i + 1) ps) us rest (subst (λ (w : List ℕ). strip w us ≡ Some rest) c.text-text.ensures
+    c.if-stands_at.ensures.text))
 
 pub loop-punct-preserved : goal.loop-punct-preserved
 loop-punct-preserved c =
@@ -23,12 +26,17 @@ loop-punct-preserved c =
     let ps = c.all-all.result.now in
     let i = c.loop-punct.punct-index in
     let p = get_or ps i LeftBrace in
-    sym (table_more p (drop (i + 1) ps) us (subst (λ (w : List ℕ). strip w us ≡ None) c.text-text.ensures c.if-stands_at.ensures.text)) ∙ (sym (ap (λ (x : List Punct). first_punctuator x us) (drop_more ps i LeftBrace c.loop-punct-test.true)) ∙ c.loop-punct.invariant)
+    sym (table_more p (drop (i + 1) ps) us
+    (subst (λ (w : List ℕ). strip w us ≡ None) c.text-text.ensures c.if-stands_at.ensures.text))
+    ∙ (sym (ap (λ (x : List Punct). first_punctuator x us) (drop_more ps i LeftBrace c.loop-punct-test.true))
+    ∙ c.loop-punct.invariant)
 
 pub returns-clause-found : goal.returns-clause-found
 returns-clause-found c =
     let us = drop c.args.at c.args.units.now in
-    sym c.loop-punct.invariant ∙ (ap (λ (x : List Punct). first_punctuator x us) (drop_all c.loop-punct.punct-index c.all-all.result.now c.loop-punct-test.false) ∙ table_end us)
+    sym c.loop-punct.invariant
+    ∙ (ap (λ (x : List Punct). first_punctuator x us)
+    (drop_all c.loop-punct.punct-index c.all-all.result.now c.loop-punct-test.false) ∙ table_end us)
 
 pub returns-then-stands_at-clause-places : goal.returns-then-stands_at-clause-places
 returns-then-stands_at-clause-places c =

@@ -12,4 +12,5 @@ returns-then-is_undefined-clause-leads c =
 pub returns-clause-leads : goal.returns-clause-leads
 returns-clause-leads c =
     IfOk-weaker _ _ _ (λ a leads. joins_by c.args.state.now _ _ c.args.object c.args.args.now c.args.length _
-    c.in_ok-separator.ensures (sym c.is_undefined.ensures ∙ c.if-is_undefined.false) leads) c.wait_for_string.ensures.leads
+    c.in_ok-separator.ensures (sym c.is_undefined.ensures ∙ c.if-is_undefined.false) leads)
+    c.wait_for_string.ensures.leads

@@ -13,7 +13,8 @@ use Rattle.jl_lib_array.proofs.splicing.step_splice_start.Goals as goal
 pub returns-in_default-clause-leads : goal.returns-in_default-clause-leads
 returns-in_default-clause-leads c =
     number_outside _ c.args.p.now _
-    (λ n. splice_from c.args.object c.args.array c.args.length (relative_index (integer_of n) c.args.length) c.args.args)
+    (λ n. splice_from c.args.object c.args.array c.args.length (relative_index (integer_of n) c.args.length)
+    c.args.args)
     c.number_of_primitive.ensures c.in_default.is
 
 pub returns-clause-leads : goal.returns-clause-leads

@@ -13,7 +13,8 @@ returns-then-is_spelled c =
     let same : c.as_bytes.result.now ≡ c.rule_name.result.now = c.as_bytes.ensures.value in
     ap (λ b. cond b (Some rule) (position_from (bytes_eq name) (rule + 1) (drop (rule + 1 - 1) rule_names)))
     c.if-is_spelled.ensures
-    ∙ sym (rule_turn name c.as_bytes.result.now rule (omega (arith, c.loop-rule.auto.rule)) (ap Some same ∙ c.rule_name.ensures))
+    ∙ sym (rule_turn name c.as_bytes.result.now rule (omega (arith, c.loop-rule.auto.rule)) (ap Some same
+    ∙ c.rule_name.ensures))
     ∙ c.loop-rule.invariant
 
 pub loop-rule-preserved : goal.loop-rule-preserved
@@ -23,12 +24,14 @@ loop-rule-preserved c =
     let same : c.as_bytes.result.now ≡ c.rule_name.result.now = c.as_bytes.ensures.value in
     ap (λ b. cond b (Some rule) (position_from (bytes_eq name) (rule + 1) (drop (rule + 1 - 1) rule_names)))
     c.if-is_spelled.ensures
-    ∙ sym (rule_turn name c.as_bytes.result.now rule (omega (arith, c.loop-rule.auto.rule)) (ap Some same ∙ c.rule_name.ensures))
+    ∙ sym (rule_turn name c.as_bytes.result.now rule (omega (arith, c.loop-rule.auto.rule)) (ap Some same
+    ∙ c.rule_name.ensures))
     ∙ c.loop-rule.invariant
 
 pub returns : goal.returns
 returns c =
     let name = c.args.name.now in
     let last : c.loop-rule.rule ≡ rule_count + 1 = omega arith in
-    sym (rule_end name (rule_count + 1)) ∙ ap (λ r. position_from (bytes_eq name) r (drop (r - 1) rule_names)) (sym last)
+    sym (rule_end name (rule_count + 1)) ∙ ap (λ r. position_from (bytes_eq name) r (drop (r - 1) rule_names))
+    (sym last)
     ∙ c.loop-rule.invariant

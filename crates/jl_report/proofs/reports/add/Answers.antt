@@ -56,7 +56,8 @@ loop-id-preserved c =
                 (c.loop-id.invariant.numbers k)
                 ∙ ap (λ n. saturate_u64 (number_in c.args.hits.now k + (if c.args.rule == k.2 then total k + n else 0)))
                 (sym (here-some places (k.0, k.1) (w.in-Some.line, w.in-Some.column) entry at))
-                ∙ ap (λ n. saturate_u64 (number_in c.args.hits.now k + (if c.args.rule == k.2 then n else 0))) (sym (next k));
+                ∙ ap (λ n. saturate_u64 (number_in c.args.hits.now k + (if c.args.rule == k.2 then n else 0)))
+                (sym (next k));
           }
       | in_default w ↦
           record {

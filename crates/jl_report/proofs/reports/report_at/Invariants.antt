@@ -11,5 +11,6 @@ invariant-loop-place g l = record {
   rules : AreOfRules l.hits;
   numbers : (k : Key) → number_in l.hits k
       ≡ (if is_chosen l.chosen k.2
-      then saturate_u64 (found_at l.places (take l.place ((ghosts g.dyn-1).findings l.fn.crowd)) k.2 (k.0, k.1)) else 0);
+      then saturate_u64 (found_at l.places (take l.place ((ghosts g.dyn-1).findings l.fn.crowd)) k.2 (k.0, k.1))
+      else 0);
 }

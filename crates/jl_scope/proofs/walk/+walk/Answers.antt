@@ -77,7 +77,8 @@ walk_items-loop-e-preserved t c =
       | walk_items-in-None w ↦ held_absent s _ _ _ w.in-None.is w.found-is
     ] in
     turn view_items (λ e. item (option_map view_expression e)) (λ a l. refl) s c.args.items.now _ _ _ _ _
-    c.e-item.is c.loop-e-test.true c.loop-e.invariant (held ∙ ap (first_from c.loop-e.found) (item_is s c.e-item.result))
+    c.e-item.is c.loop-e-test.true c.loop-e.invariant
+        (held ∙ ap (first_from c.loop-e.found) (item_is s c.e-item.result))
 
 pub walk_statement-walk_statements-requires-in-For : goal.walk_statement-walk_statements-requires-in-For
 walk_statement-walk_statements-requires-in-For t c =
@@ -113,7 +114,8 @@ pub walk_statement-returns-in_ok-walk_held-in-For-2 : goal.walk_statement-return
 walk_statement-returns-in_ok-walk_held-in-For-2 t c =
     let h = c.in-For in
     let s = scope_of c.args.s.now in
-    let v : view_statement c.args.statement.now ≡ tree.for (view_init h.init) (view_optional h.test) (view_optional h.step)
+    let v : view_statement c.args.statement.now
+    ≡ tree.for (view_init h.init) (view_optional h.test) (view_optional h.step)
     (view_statements c.items-in-For.result.now) c.args.statement.now.span =
     cc (
       statement_placed c.args.statement.now,
@@ -132,5 +134,6 @@ walk_statement-returns-in_ok-walk_held-in-For-2 t c =
     let n = then_part c.args.found.now c.walk_held.new.found c.walk_held-in-For.new.found (init ++ test) step
     m c.in_ok-walk_held-in-For-2.ensures in
     last_part c.walk_statements-in-For.result c.args.found.now c.walk_held-in-For.new.found
-    c.walk_statements-in-For.new.found (early_errors s (view_statement c.args.statement.now)) (init ++ test ++ step) body
+    c.walk_statements-in-For.new.found (early_errors s (view_statement c.args.statement.now)) (init ++ test ++ step)
+        body
     all n c.walk_statements-in-For.ensures

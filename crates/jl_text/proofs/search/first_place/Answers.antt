@@ -4,7 +4,8 @@ use Rattle.jl_text.proofs.SearchLemmas.{first_place-step, first_place-past, Stan
 use Rattle.jl_text.proofs.search.first_place.Goals as goal
 
 pub returns-then-part-units-clause-value : goal.returns-then-part-units-clause-value
-returns-then-part-units-clause-value c = sym (first_place-past c.args.units.now c.args.part.now c.args.from (omega arith))
+returns-then-part-units-clause-value c =
+    sym (first_place-past c.args.units.now c.args.part.now c.args.from (omega arith))
 
 pub returns-then-stands_at-clause-value : goal.returns-then-stands_at-clause-value
 returns-then-stands_at-clause-value c =

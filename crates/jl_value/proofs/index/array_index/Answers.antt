@@ -16,17 +16,21 @@ loop-unit-init c =
 pub returns-in_err-index-2 : goal.returns-in_err-index-2
 returns-in_err-index-2 c =
     c.from_residual-in_err-index-2.ensures
-    ∙ sym (no_more c.args.units.now _ c.loop-unit.index _ c.loop-unit.unit-index c.loop-unit.invariant (omega arith) refl c.in_err-index-2.ensures)
+    ∙ sym (no_more c.args.units.now _ c.loop-unit.index _ c.loop-unit.unit-index c.loop-unit.invariant (omega arith)
+    refl c.in_err-index-2.ensures)
 
 pub loop-unit-preserved : goal.loop-unit-preserved
 loop-unit-preserved c =
     let s = c.in_ok-index-2.ensures in
-    one_more c.args.units.now _ c.loop-unit.index _ _ c.loop-unit.unit-index c.loop-unit.invariant (omega arith) refl s.0 s.1 s.2 s.3
+    one_more c.args.units.now _ c.loop-unit.index _ _ c.loop-unit.unit-index c.loop-unit.invariant (omega arith) refl
+    s.0 s.1 s.2 s.3
 
 pub returns-then-index-lt4294967295 : goal.returns-then-index-lt4294967295
 returns-then-index-lt4294967295 c =
-    sym (at_end c.args.units.now _ c.loop-unit.index c.loop-unit.unit-index c.loop-unit.invariant (omega arith) c.if-index-lt4294967295.true)
+    sym (at_end c.args.units.now _ c.loop-unit.index c.loop-unit.unit-index c.loop-unit.invariant (omega arith)
+    c.if-index-lt4294967295.true)
 
 pub returns-else-index-lt4294967295 : goal.returns-else-index-lt4294967295
 returns-else-index-lt4294967295 c =
-    sym (past_end c.args.units.now _ c.loop-unit.index c.loop-unit.unit-index c.loop-unit.invariant (omega arith) c.if-index-lt4294967295.false)
+    sym (past_end c.args.units.now _ c.loop-unit.index c.loop-unit.unit-index c.loop-unit.invariant (omega arith)
+    c.if-index-lt4294967295.false)

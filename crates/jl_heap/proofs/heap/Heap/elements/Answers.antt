@@ -12,16 +12,19 @@ returns-then-saturating_sub-count-clause-covers c =
     IfOk-weaker c.elements_between.result (Covers c.args.self.now c.args.id.0 c.args.low c.min.result)
     (Covers c.args.self.now c.args.id.0 c.args.low c.args.high)
     (λ names covers. covers_past c.args.self.now c.args.id.0 c.args.low c.args.high c.min.result names
-    (λ i within short. omega (arith, c.min.ensures, c.from-then-saturating_sub-count.ensures, within, short)) covers) c.elements_between.ensures
+    (λ i within short. omega (arith, c.min.ensures, c.from-then-saturating_sub-count.ensures, within, short)) covers)
+    c.elements_between.ensures
 
 pub returns-then-saturating_sub-count-clause-in_order : goal.returns-then-saturating_sub-count-clause-in_order
 returns-then-saturating_sub-count-clause-in_order c =
     subst (λ h. IsInOrder (object_at h c.args.id.0).properties) c.self.view_is
-    (subst (λ es. IsInOrder es) (sym (properties_at c.self.inside c.args.id.0 c.self.invariant)) (c.count.ensures.kept.in_order c.args.id.0))
+    (subst (λ es. IsInOrder es) (sym (properties_at c.self.inside c.args.id.0 c.self.invariant))
+    (c.count.ensures.kept.in_order c.args.id.0))
 
 pub returns-else-saturating_sub-count-clause-covers : goal.returns-else-saturating_sub-count-clause-covers
 returns-else-saturating_sub-count-clause-covers c =
     let h = c.args.self.now in
     let k = c.args.id.0 in
-    IfOk-weaker c.names.result _ (Covers h k c.args.low c.args.high) (λ names is. names_cover h k c.args.low c.args.high names is)
+    IfOk-weaker c.names.result _ (Covers h k c.args.low c.args.high)
+    (λ names is. names_cover h k c.args.low c.args.high names is)
     c.names.ensures.names

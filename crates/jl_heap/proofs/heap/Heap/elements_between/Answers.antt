@@ -24,7 +24,8 @@ loop-index-preserved c =
           (λ x listed. rw w.found-is listed)
           (λ there.
           let none : serial_of h c.args.id.0 (digits_of 10 index) ≡ None =
-          subst (λ n. serial_of h c.args.id.0 n ≡ None) c.in_ok-name.ensures (sym c.serial_of.ensures ∙ w.in_default.is) in
+          subst (λ n. serial_of h c.args.id.0 n ≡ None) c.in_ok-name.ensures (sym c.serial_of.ensures
+          ∙ w.in_default.is) in
           absurd (no_serial h c.args.id.0 (digits_of 10 index) none there))
     ]
 

@@ -18,9 +18,12 @@ returns-clause-names c =
 pub returns-clause-in_order : goal.returns-clause-in_order
 returns-clause-in_order c =
     subst (λ h. IsInOrder (object_at h c.args.id.0).properties) c.self.view_is
-    (subst (λ es. IsInOrder es) (sym (properties_at c.self.inside c.args.id.0 c.self.invariant)) (c.in_order.ensures.kept.in_order c.args.id.0))
+    (subst (λ es. IsInOrder es) (sym (properties_at c.self.inside c.args.id.0 c.self.invariant))
+    (c.in_order.ensures.kept.in_order c.args.id.0))
 
 pub returns-clause-made_before : goal.returns-clause-made_before
 returns-clause-made_before c =
-    subst (λ (h : Objects). All (λ (e : Entry Prop). e.serial < h.next) (object_at h c.args.id.0).properties) c.self.view_is
-    (subst (λ es. All (λ (e : Entry Prop). e.serial < (objects_inside c.self.inside).next) es) (sym (properties_at c.self.inside c.args.id.0 c.self.invariant)) (c.in_order.ensures.kept.below_next c.args.id.0))
+    subst (λ (h : Objects). All (λ (e : Entry Prop). e.serial < h.next) (object_at h c.args.id.0).properties)
+    c.self.view_is
+    (subst (λ es. All (λ (e : Entry Prop). e.serial < (objects_inside c.self.inside).next) es)
+    (sym (properties_at c.self.inside c.args.id.0 c.self.invariant)) (c.in_order.ensures.kept.below_next c.args.id.0))

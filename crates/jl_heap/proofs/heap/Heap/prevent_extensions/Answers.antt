@@ -11,15 +11,19 @@ change h = record h { extensible = false }
 pub invariant_of-self : goal.invariant_of-self
 invariant_of-self c =
     kept_changed c.self.inside c.args.id.0 change (λ h. refl) (λ h. refl) _
-    (come_back c.self.inside.headers c.items_mut.result.now c.prevent_at.new.headers c.args.id.0 _ c.items_mut.ensures.value
+    (come_back c.self.inside.headers c.items_mut.result.now c.prevent_at.new.headers c.args.id.0 _
+    c.items_mut.ensures.value
     (c.prevent_at.ensures no_header)
-    ∙ ap (λ l. set c.self.inside.headers c.args.id.0 (change (get_or l c.args.id.0 no_header))) c.items_mut.ensures.value)
+    ∙ ap (λ l. set c.self.inside.headers c.args.id.0 (change (get_or l c.args.id.0 no_header)))
+    c.items_mut.ensures.value)
     c.self.invariant
 
 pub returns : goal.returns
 returns c =
     seen_changed c.self.inside c.args.id.0 change (λ h. refl) (λ h. refl) _
-    (come_back c.self.inside.headers c.items_mut.result.now c.prevent_at.new.headers c.args.id.0 _ c.items_mut.ensures.value
+    (come_back c.self.inside.headers c.items_mut.result.now c.prevent_at.new.headers c.args.id.0 _
+    c.items_mut.ensures.value
     (c.prevent_at.ensures no_header)
-    ∙ ap (λ l. set c.self.inside.headers c.args.id.0 (change (get_or l c.args.id.0 no_header))) c.items_mut.ensures.value)
+    ∙ ap (λ l. set c.self.inside.headers c.args.id.0 (change (get_or l c.args.id.0 no_header)))
+    c.items_mut.ensures.value)
     c.args.self.now (λ (o : Object). record o { extensible = false }) c.self.view_is (λ h es. refl)

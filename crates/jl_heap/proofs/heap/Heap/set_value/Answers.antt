@@ -30,12 +30,14 @@ outcome c =
     sym (own_is c.self.inside _ c.args.id.0 _ c.self.invariant c.self.view_is) ∙ sym c.get_mut.ensures.value
     ∙ ap option_copied_mut c.in-Some.is in
     let ordered = subst (λ h. IsInOrder (object_at h c.args.id.0).properties) c.self.view_is
-    (subst (λ es. IsInOrder es) (sym (properties_at c.self.inside c.args.id.0 c.self.invariant)) (c.get_mut.ensures.kept.in_order c.args.id.0)) in
+    (subst (λ es. IsInOrder es) (sym (properties_at c.self.inside c.args.id.0 c.self.invariant))
+    (c.get_mut.ensures.kept.in_order c.args.id.0)) in
     let seen = seen_replaced c.self.inside _ _ _ c.self.invariant _ c.self.view_is c.set_value.new.self
     (rw c.in-Some.is at (c.get_mut.follows.holds c.set_value.new.self)) in
     let keeps : keeps_length c.args.self.now c.args.id.0 c.args.name.now ≡ true =
     grind (arith, c.if-not-keeps_length.false, c.keeps_length.ensures) in
-    puts c.args.self.now _ c.args.id.0 c.args.name.now c.in-Some.property.now c.set_value.new.self c.args.value c.set_value.result
+    puts c.args.self.now _ c.args.id.0 c.args.name.now c.in-Some.property.now c.set_value.new.self c.args.value
+    c.set_value.result
     ordered found keeps seen c.set_value.ensures.property c.set_value.ensures.taken
 
 pub returns-clause-done : goal.returns-clause-done

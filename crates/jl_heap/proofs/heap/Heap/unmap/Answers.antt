@@ -12,15 +12,20 @@ change index h = record h { inner = unmapped_inside h.inner index }
 pub invariant_of-self : goal.invariant_of-self
 invariant_of-self c =
     kept_changed c.self.inside c.args.id.0 (change c.args.index) (λ h. refl) (λ h. refl) _
-    (come_back c.self.inside.headers c.items_mut.result.now c.unmap_at.new.headers c.args.id.0 _ c.items_mut.ensures.value
+    (come_back c.self.inside.headers c.items_mut.result.now c.unmap_at.new.headers c.args.id.0 _
+    c.items_mut.ensures.value
     (c.unmap_at.ensures no_header)
-    ∙ ap (λ l. set c.self.inside.headers c.args.id.0 (change c.args.index (get_or l c.args.id.0 no_header))) c.items_mut.ensures.value)
+    ∙ ap (λ l. set c.self.inside.headers c.args.id.0 (change c.args.index (get_or l c.args.id.0 no_header)))
+    c.items_mut.ensures.value)
     c.self.invariant
 
 pub returns : goal.returns
 returns c =
     seen_changed c.self.inside c.args.id.0 (change c.args.index) (λ h. refl) (λ h. refl) _
-    (come_back c.self.inside.headers c.items_mut.result.now c.unmap_at.new.headers c.args.id.0 _ c.items_mut.ensures.value
+    (come_back c.self.inside.headers c.items_mut.result.now c.unmap_at.new.headers c.args.id.0 _
+    c.items_mut.ensures.value
     (c.unmap_at.ensures no_header)
-    ∙ ap (λ l. set c.self.inside.headers c.args.id.0 (change c.args.index (get_or l c.args.id.0 no_header))) c.items_mut.ensures.value)
-    c.args.self.now (λ (o : Object). record o { inner = unmapped_inside o.inner c.args.index }) c.self.view_is (λ h es. refl)
+    ∙ ap (λ l. set c.self.inside.headers c.args.id.0 (change c.args.index (get_or l c.args.id.0 no_header)))
+    c.items_mut.ensures.value)
+    c.args.self.now (λ (o : Object). record o { inner = unmapped_inside o.inner c.args.index }) c.self.view_is
+    (λ h es. refl)

@@ -3,4 +3,5 @@ use Rattle.jl_state.proofs.Steps.{completion_waits}
 use Rattle.jl_state.proofs.state.State.push_completion.Goals as goal
 
 pub returns-clause-waits : goal.returns-clause-waits
-returns-clause-waits c = completion_waits _ _ _ (ap (λ frames. record c.args.self.now { stack = frames }) c.in_ok-push.ensures)
+returns-clause-waits c =
+    completion_waits _ _ _ (ap (λ frames. record c.args.self.now { stack = frames }) c.in_ok-push.ensures)
