@@ -57,7 +57,7 @@ pub fn put<'p>(
     }
 }
 
-/// A put on an object: in one look-up where it comes to another value of an own property alone.
+/// A put on an object: at once where it comes to another value of an own data property alone.
 fn put_on_object<'p>(
     alloc: Global,
     state: &mut State<'p>,

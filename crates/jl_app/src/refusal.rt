@@ -17,8 +17,8 @@ pub enum Refusal {
     NotUtf8 { at: usize },
     /// An input element can't be formed.
     BadInput { kind: BadKind, at: Position },
-    /// The tokens are no program within the levels of their form, 200, or 1,000 of a rewritten script, or they open more
-    /// brackets than it may.
+    /// The tokens are no program within the levels of their form, 200, or 1,000 of a rewritten script, or they open
+    /// more brackets than it may.
     Unreadable { at: Position },
     /// An early rule is broken.
     Early { rule: EarlyRule, at: Position },

@@ -219,8 +219,8 @@ pub fn jlint<S: Source, K: Sink, H: Shelf>(
           };
           knows = λ told. ⟦<Crowd as Observer>⟧.stands_for crowd.new told;
         }) (units_of bytes) p budget chosen result }
-    // Whatever accepted script is read or made, the fault Misuse ends no run that is answered of, but for `exec`, and for
-    // a program that is read from another text than the shelf was handed.
+    // Whatever accepted script is read or made, the fault Misuse ends no run that is answered of, but for `exec`, and
+    // for a program that is read from another text than the shelf was handed.
     ensures no_misuse { (a : Asked) (bytes : List ℕ) (p : Tree Span) → request (texts words.now) ≡ Some a
         → IsAccepted bytes p → RunsWithoutMisuse a p }
     // What `instrument` writes of an accepted script can be kept without the script: what is due to `exec` on these

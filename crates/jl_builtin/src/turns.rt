@@ -37,7 +37,7 @@ pub fn give_text<'p>(alloc: Global, units: &[u16]) -> Result<Act<'p>, NoMemory>
     }
 }
 
-/// The fault of the builtin in a row, which is in the table and isn't built; it ends the run.
+/// The fault of the builtin in a row, which is in the table and is left out; it ends the run.
 #[tactic(auto, unfolding(jl_value::specs::Builtins::builtin_names))]
 pub fn fail_row<'p>(row: u16) -> Act<'p>
     requires { row < 102 }

@@ -19,10 +19,10 @@ use jl_text::{List, NoMemory};
 use jl_value::{Completion, ObjId, Value};
 use std::alloc::Global;
 
-/// The row of `toLocaleString`, which isn't built.
+/// The row of `toLocaleString`, which is left out.
 const TO_LOCALE_STRING: u16 = 31;
 
-/// The row of `sort`, which isn't built with a function to compare by.
+/// The row of `sort`, which is left out with a function to compare by.
 const SORT: u16 = 39;
 
 /// Begins a function of this crate: one of the rows 30 to 41 but that of `slice`.

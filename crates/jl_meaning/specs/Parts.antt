@@ -98,7 +98,7 @@ pub data AlgorithmFault : Type 0 where
   -- a number that no script of this language has
   NumberOutside : AlgorithmFault
   StringTooLong : AlgorithmFault
-  -- a builtin that is there, and isn't built
+  -- a builtin that is there, and is left out
   Unsupported : (row : ℕ) → AlgorithmFault
   -- `Function` would make code of a string
   CodeFromText : AlgorithmFault

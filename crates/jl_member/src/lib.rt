@@ -1,4 +1,4 @@
-//! Names and members as expressions: read, typed, deleted, assigned and updated.
+//! Names and members as expressions: read, under `typeof`, deleted, assigned and updated.
 #![tactic(auto)]
 
 mod assigned_members;

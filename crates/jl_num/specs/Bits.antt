@@ -1,6 +1,5 @@
 -- The integers of 32 and of 16 bits that a number stands for (9.5 to 9.7), and the operations on their bits (11.4.8,
--- 11.7,
--- 11.10).
+-- 11.7, 11.10).
 use Rattle.std.specs.Prelude.{ℕ, ◌*◌, ◌/◌, ◌%◌, ◌^◌, ℤ, pos, ◌-ℤ◌, unsigned_abs, Some, None, nat_lt, if◌then◌else◌}
 use Rattle.std.specs.Prelude.{bit_and, bit_or, bit_xor}
 use Rattle.std.specs.Int.{w32, int_rem_euclid, int_div_euclid, bit_not}

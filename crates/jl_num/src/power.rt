@@ -7,7 +7,7 @@ ghost use Rattle.jl_num.specs.Power.{inverse_power_of, power_of};
 use crate::num::{Num, NumberOutside};
 
 /// The power (15.8.2.13): 1 where b is 0, else NaN where a number is NaN, and refused exactly where it is infinite, has
-/// a fraction or is of more than 2^53 - 1 in size. No exponent takes more than a few steps.
+/// a fraction or is of more than 2^53 - 1 in size. An exponent above 63 takes no multiplication.
 pub fn pow(a: Num, b: Num) -> Result<Num, NumberOutside>
     ensures { result_ok result ≡ power_of a b }
 {

@@ -2,6 +2,6 @@
 use Rattle.jl_op.specs.declared.op.Op.{Op}
 use Rattle.jl_op.specs.declared.op.OpId.{OpId}
 
--- what was done, and the id of the place where
+-- the id of a place, and what was done there
 abbrev pub Operation : Type 0
 Operation = OpId × Op

@@ -1,5 +1,6 @@
 -- The tokens that a program is written as: with a semicolon after each statement that has one in the standard, with
--- braces round each list of statements, and with no more brackets than are needed.
+-- braces round each list of statements, and with brackets where an operand would be read otherwise, and round `in` and
+-- round what `new` makes.
 use Rattle.std.specs.Prelude.{pred, Bool, true, false, not, ◌||◌, List, [], ◌∷◌, ◌++◌, Option, Some, None, codes}
 use Rattle.std.specs.Prelude.{if◌then◌else◌}
 use Rattle.jl_ast.specs.Tree.{Ident, Program, Sort, Tree, Forest, OptionalTree, Text}

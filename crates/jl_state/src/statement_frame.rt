@@ -5,7 +5,7 @@ use jl_ast::{Case, Expr, Ident, Stmt};
 use jl_text::{List, Text};
 use jl_value::{Completion, Value};
 
-/// The properties that a `for-in` may visit yet (12.6.4), seen as their list, the next one first.
+/// The properties that a `for-in` may still visit (12.6.4), seen as their list, the next one first.
 #[derive(Drop)]
 pub struct Visits {
     pub visits: List<Visit>,

@@ -12,10 +12,9 @@ use jl_text::Text;
 use jl_value::{ObjId, Value};
 
 impl Store {
-    /// [[Put]] on an object (8.12.5) where it comes to another value of an own data property alone, in one look-up. The
-    /// value comes back where there is no such property that can be written, for the `length` of an array and an
-    /// element from its length on, and for an index that is mapped to a parameter; then all is as before. It takes no
-    /// memory.
+    /// [[Put]] on an object (8.12.5) where it comes to another value of an own data property alone. The value comes
+    /// back where there is no such property that can be written, for the `length` of an array and an element from its
+    /// length on, and for an index that is mapped to a parameter; then all is as before. It takes no memory.
     #[tactic(auto, using(crate::proofs::PutValues::value_put))]
     pub fn set_value(&mut self, id: ObjId, name: &Text, value: Value) -> Result<(), Value>
         ensures done { OnOk result (Comes

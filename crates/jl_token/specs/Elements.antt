@@ -114,8 +114,8 @@ string_text cs = flat_map (λ c. c.0) cs
 abbrev pub is_plain : List (List ℕ × Bool) → Bool
 is_plain cs = list_all (λ c. c.1) cs
 
--- An input element (7, without the regular expressions of 7.8.5): a comment that goes to the end of its line, one
--- between `/*` and `*/` by whether it holds a line terminator, a token by its kind.
+-- An input element (clause 7, without the regular expressions of 7.8.5): a comment that goes to the end of its line,
+-- one between `/*` and `*/` by whether it holds a line terminator, a token by its kind.
 pub data Element : Type 0 where
   White : Element
   LineEnd : Element

@@ -17,7 +17,7 @@ use Rattle.jl_meaning.specs.Parts.{give, look, ◌>>=◌, Algorithm, Call, Unsup
 abbrev pub argument : Call → ℕ → Value
 argument c i = slice_index_or c.args i value.Undefined
 
--- a builtin that is there, and isn't built
+-- a builtin that is there, and is left out
 abbrev pub fail_row : (row : ℕ) → Call → Algorithm Value
 fail_row row c = Fail (Unsupported row)
 

@@ -1,4 +1,4 @@
--- Functions of the script: entered, run, called and constructed by (10.4.3, 13.2.1, 13.2.2).
+-- Functions of the script: entered, run, called and used as constructors (10.4.3, 13.2.1, 13.2.2).
 use Rattle.std.specs.Prelude.{codes, false, if◌then◌else◌, length, true, ◌+◌, Bool, Some, ℕ}
 use Rattle.jl_ast.specs.Table.{table}
 use Rattle.jl_ast.specs.Table as functions
