@@ -34,7 +34,7 @@ module _ (one : OneReading) (never : NeverBoth) (comes_back : UnitsComeBack) (by
     decoded = bytes_are_utf8 (woven_text every_kind p) back.small;
     tokens = read.tokens;
     lexed = subst (λ us. Tokens us read.tokens) (sym (comes_back (woven_text every_kind p) back.small back.paired))
-    read.lexed;
+        read.lexed;
     read = read.read;
     sound = read.sound;
   }

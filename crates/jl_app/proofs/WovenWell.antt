@@ -34,9 +34,9 @@ pub woven_well : ((chosen : Kinds) (ts : List Token) (limit : ℕ) (p : Program 
     → (kinds : Kinds) (bytes : List ℕ) (p : Program Span) → IsAccepted bytes p → IsWovenWell kinds p
 woven_well simulates reads bounded bytes_bounded units_small keeps one means hooked longer kept kinds bytes p is =
     record {
-  simulates = own_simulates kept kinds p
-      (simulates kinds is.tokens 200 p is.read (nothing_wrong bytes p is) (few_accepted_tokens bytes p is));
-  back = back_to_woven reads bounded bytes_bounded units_small keeps one kinds bytes p is;
-  runs = woven_runs means hooked kinds p;
-  longer = own_longer longer p;
-}
+      simulates = own_simulates kept kinds p
+          (simulates kinds is.tokens 200 p is.read (nothing_wrong bytes p is) (few_accepted_tokens bytes p is));
+      back = back_to_woven reads bounded bytes_bounded units_small keeps one kinds bytes p is;
+      runs = woven_runs means hooked kinds p;
+      longer = own_longer longer p;
+    }

@@ -117,7 +117,7 @@ ended us r l e = by (true_or_false (list_any is_exponent_letter us))
         record {
           mid = [];
           is = sym (append-nil (significand us)
-          ∙ all_before is_exponent_letter us (none_position is_exponent_letter us h));
+              ∙ all_before is_exponent_letter us (none_position is_exponent_letter us h));
           exponent = powers_are [] 0 0 r l y.0 y.1 no_exponent;
         }
 

@@ -67,9 +67,9 @@ unfolding span open_brackets ends_at names_from parameters_at label_at then_clos
     unary_by unary_at binary_by binary_from binary_at conditional_from conditional_at assignment_by assignment_at
     comma_from expression_at head_at sub_at declaration_at declarations_from var_at express_at else_from if_at do_at
     while_at optional_at for_from for_in_from for_var_at for_expression_at for_at continue_at break_at return_by
-        return_at
+    return_at
     throw_at clauses_from switch_at catch_at finally_from try_at named_at statement_by statement_at node deeper
-        program_at
+    program_at
 primaries = (refl, refl, refl, refl, refl, refl, refl, refl)
 
 -- object literals (11.1.5): keys that are words, strings and numbers, getters and setters
@@ -144,9 +144,9 @@ unfolding span open_brackets ends_at names_from parameters_at label_at then_clos
     unary_by unary_at binary_by binary_from binary_at conditional_from conditional_at assignment_by assignment_at
     comma_from expression_at head_at sub_at declaration_at declarations_from var_at express_at else_from if_at do_at
     while_at optional_at for_from for_in_from for_var_at for_expression_at for_at continue_at break_at return_by
-        return_at
+    return_at
     throw_at clauses_from switch_at catch_at finally_from try_at named_at statement_by statement_at node deeper
-        program_at
+    program_at
 objects = (refl, refl, refl, refl, refl, refl, refl, refl, refl)
 
 -- function expressions and declarations (clause 13), and the numbers of functions
@@ -206,9 +206,9 @@ unfolding span open_brackets ends_at names_from parameters_at label_at then_clos
     unary_by unary_at binary_by binary_from binary_at conditional_from conditional_at assignment_by assignment_at
     comma_from expression_at head_at sub_at declaration_at declarations_from var_at express_at else_from if_at do_at
     while_at optional_at for_from for_in_from for_var_at for_expression_at for_at continue_at break_at return_by
-        return_at
+    return_at
     throw_at clauses_from switch_at catch_at finally_from try_at named_at statement_by statement_at node deeper
-        program_at
+    program_at
 functions = (refl, refl, refl, refl, refl, refl)
 
 -- members, calls and `new` (11.2)
@@ -271,9 +271,9 @@ unfolding span open_brackets ends_at names_from parameters_at label_at then_clos
     unary_by unary_at binary_by binary_from binary_at conditional_from conditional_at assignment_by assignment_at
     comma_from expression_at head_at sub_at declaration_at declarations_from var_at express_at else_from if_at do_at
     while_at optional_at for_from for_in_from for_var_at for_expression_at for_at continue_at break_at return_by
-        return_at
+    return_at
     throw_at clauses_from switch_at catch_at finally_from try_at named_at statement_by statement_at node deeper
-        program_at
+    program_at
 left_sides = (refl, refl, refl, refl, refl, refl, refl, refl, refl)
 
 -- operators with one operand (11.3, 11.4)
@@ -323,9 +323,9 @@ unfolding span open_brackets ends_at names_from parameters_at label_at then_clos
     unary_by unary_at binary_by binary_from binary_at conditional_from conditional_at assignment_by assignment_at
     comma_from expression_at head_at sub_at declaration_at declarations_from var_at express_at else_from if_at do_at
     while_at optional_at for_from for_in_from for_var_at for_expression_at for_at continue_at break_at return_by
-        return_at
+    return_at
     throw_at clauses_from switch_at catch_at finally_from try_at named_at statement_by statement_at node deeper
-        program_at
+    program_at
 unaries = (refl, refl, refl, refl, refl, refl, refl)
 
 -- operators with two operands (11.5 to 11.11): each level stands under the next, and goes from the left
@@ -405,7 +405,7 @@ unfolding span open_brackets ends_at names_from parameters_at label_at then_clos
     unary_by unary_at binary_by binary_from binary_at conditional_from conditional_at assignment_by assignment_at
     comma_from expression_at head_at sub_at declaration_at declarations_from var_at express_at else_from if_at do_at
     while_at optional_at for_from for_in_from for_var_at for_expression_at for_at continue_at break_at return_by
-        return_at
+    return_at
     throw_at clauses_from switch_at catch_at finally_from try_at named_at statement_by statement_at node deeper
-        program_at
+    program_at
 binaries = (refl, refl, refl, refl, refl, refl, refl, refl, refl, refl, refl, refl, refl)

@@ -48,9 +48,9 @@ unfolding span open_brackets ends_at names_from parameters_at label_at then_clos
     unary_by unary_at binary_by binary_from binary_at conditional_from conditional_at assignment_by assignment_at
     comma_from expression_at head_at sub_at declaration_at declarations_from var_at express_at else_from if_at do_at
     while_at optional_at for_from for_in_from for_var_at for_expression_at for_at continue_at break_at return_by
-        return_at
+    return_at
     throw_at clauses_from switch_at catch_at finally_from try_at named_at statement_by statement_at node deeper
-        program_at
+    program_at
 places = (refl, refl, refl)
 
 -- what is within a limit: as high as it at most, and twice as many brackets open at most
@@ -87,7 +87,7 @@ unfolding span open_brackets ends_at names_from parameters_at label_at then_clos
     unary_by unary_at binary_by binary_from binary_at conditional_from conditional_at assignment_by assignment_at
     comma_from expression_at head_at sub_at declaration_at declarations_from var_at express_at else_from if_at do_at
     while_at optional_at for_from for_in_from for_var_at for_expression_at for_at continue_at break_at return_by
-        return_at
+    return_at
     throw_at clauses_from switch_at catch_at finally_from try_at named_at statement_by statement_at node deeper
-        program_at
+    program_at
 limits = (refl, refl, refl, refl, refl, refl, refl, refl)

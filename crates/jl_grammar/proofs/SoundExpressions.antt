@@ -457,7 +457,7 @@ module _ (ts : List Token) (d : Deeper) (sound : Sound ts d) where
         level = suc (pred (infix_precedence op));
         in_reach = omega arith;
         begins = an_infix_operator (lift_to ts no_in s.level (suc (pred (infix_precedence op))) i t j (omega arith)
-        s.begins q)
+            s.begins q)
             (record { is = e }) (sym p) (whole_binary r stop);
         stops = stop;
       }

@@ -61,8 +61,14 @@ abbrev empty : Objects
 empty = (with_new_object (record { objects = []; next = 0 }) class.Array None Nothing)
 
 abbrev element : Change
-element = record { value = Some (number 5); writable = Some true; get = None; set = None; enumerable = Some true;
-    configurable = Some true }
+element = record {
+  value = Some (number 5);
+  writable = Some true;
+  get = None;
+  set = None;
+  enumerable = Some true;
+  configurable = Some true;
+}
 
 abbrev one : Objects
 one = (define_own_property empty 0 (codes "0") element).0

@@ -52,8 +52,12 @@ index_at_most (Some i) low high b below = grind (arith, nat_tests)
 reachable_length-high : (low high : ℕ) (es : Entries) → low ≤ high → reachable_length low high es ≤ high
 reachable_length-high low high [] below = below
 reachable_length-high low high (e ∷ es) below =
-    omega (arith, reachable_length-high low high es below, index_at_most (index_of e.name) low high
-    (not (is_configurable e.item)) below)
+    omega (
+      arith,
+      reachable_length-high low high es below,
+      index_at_most (index_of e.name) low high
+          (not (is_configurable e.item)) below,
+    )
 
 reachable_length-none : (a : ℕ) (es : Entries) → reachable_length a a es ≡ a
 reachable_length-none a es = omega (arith, reachable_length-low a a es, reachable_length-high a a es (omega arith))
@@ -173,9 +177,11 @@ module _ (i : ℕ) (fits : i < 4294967295) where
 
 step_down : (low n : ℕ) (es : Entries) → IsInOrder es → low + n < 4294967295 →
     delete_elements_down low n (without es (digits_of 10 (low + n)))
-    ≡ (reachable_length low (low + n) (without es (digits_of 10 (low + n))),
-    entries_outside (reachable_length low (low + n) (without es (digits_of 10 (low + n)))) (low + n)
-    (without es (digits_of 10 (low + n)))) →
+    ≡ (
+      reachable_length low (low + n) (without es (digits_of 10 (low + n))),
+      entries_outside (reachable_length low (low + n) (without es (digits_of 10 (low + n)))) (low + n)
+          (without es (digits_of 10 (low + n))),
+    ) →
     (b : Bool) → is_non_configurable (item_in (digits_of 10 (low + n)) es) ≡ b →
     delete_elements_down low (suc n) es
     ≡ (reachable_length low (low + n + 1) es, entries_outside (reachable_length low (low + n + 1) es) (low + n + 1) es)

@@ -55,7 +55,7 @@ module _ (a : Inside) (h : Header) (kept : IsKept a) (older : IsTrue (is_older (
     older = each_pushed (λ k o. IsTrue (is_in_order k o)) a.headers h kept.older older;
     none_past = λ k past. kept.none_past k (omega (arith, past, length-append a.headers (h ∷ [])));
     named = each_pushed (λ k o. IsTrue (not (is_array_header o) || is_some a.length_name)) a.headers h kept.named
-    (rw plain refl);
+        (rw plain refl);
     right = kept.right;
   }
 

@@ -126,8 +126,10 @@ set_set (z ∷ xs) (suc k) x y = ap (λ l. z ∷ l) (set_set xs k x y)
 pub with_properties-twice : (h : Objects) (k : ℕ) (es fs : List (Entry Prop)) → k < length h.objects →
     with_properties (with_properties h k es) k fs ≡ with_properties h k fs
 with_properties-twice h k es fs within =
-    ap (λ (o : Object). record h { objects = set (set h.objects k (record (object_at h k) { properties = es })) k
-    (record o { properties = fs }) })
+    ap (λ (o : Object). record h {
+      objects = set (set h.objects k (record (object_at h k) { properties = es })) k
+          (record o { properties = fs });
+    })
     (object_at-put h k es within)
     ∙ ap (λ l. record h { objects = l }) (set_set h.objects k _ _)
 
@@ -323,5 +325,8 @@ module _ (h g : Objects) (k low high end : ℕ) (within : k < length h.objects)
       ∙ written (with_count end stays p) in
       ap (λ c. (f, (if c then Done else Rejected))) (sym b_is)
       ∙ ap (λ o. (o, (if nat_le end low then Done else Rejected))) at
-      ∙ ap (λ e. (with_properties h k (with_item (entries_outside e high (object_at h k).properties) length_name
-      (with_count e stays p)), (if nat_le e low then Done else Rejected))) end_reached
+      ∙ ap (λ e. (
+        with_properties h k (with_item (entries_outside e high (object_at h k).properties) length_name
+            (with_count e stays p)),
+        (if nat_le e low then Done else Rejected),
+      )) end_reached

@@ -109,7 +109,7 @@ puts_by : (h f : Objects) (k : ℕ) (n : List ℕ) (p q : Prop) (v : Value) {T E
     → f ≡ with_property h k n q → q ≡ (if w then with_value p v else p) → (IsOk r ↔ IsTrue w) → Puts h f k n v r
 puts_by h f k n p q v (Ok x) true writable ordered found keeps is q_is ok = record {
   done = ap (λ g. (g, Done)) is ∙ ap (λ o. (with_property h k n o, Done)) q_is
-  ∙ sym (value_alone h k n p v ordered found writable keeps);
+      ∙ sym (value_alone h k n p v ordered found writable keeps);
   err = tt;
   taken = (λ _. rw (found, writable, keeps) refl, λ _. refl);
 }

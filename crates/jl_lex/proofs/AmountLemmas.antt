@@ -36,8 +36,8 @@ scaled_step : (k c : ℕ) → Scaled (scale (c * 10) k) ((c * 10) * 10 ^ k) → 
 scaled_step k c i true h =
     subst (λ t. Scaled (scale (c * 10) k) t) (assoc c 10 (10 ^ k)
     ∙ ap (λ n. c * n) (turned (10 ^ k) ∙ sym (pow-suc 10 k))) i where
-  turned : (n : ℕ) → 10 * n ≡ n * 10
-  turned n = omega arith
+      turned : (n : ℕ) → 10 * n ≡ n * 10
+      turned n = omega arith
 scaled_step k c i false h = stopped (past c h) (at_least c (suc k))
 
 scaled_is : (k c : ℕ) → Scaled (scale c k) (c * 10 ^ k)
@@ -47,13 +47,23 @@ scaled_is (suc k) c = scaled_step k c (scaled_is k (c * 10)) (nat_le c 900719925
 
 pub large_itself : (m d : ℕ) → 0 < d → d < 10 → 9007199254740991 < m * 10 + d → Large (m * 10 + d)
 large_itself m d h g p =
-    record { digits = m * 10 + d; zeros = 0; is = omega arith; last = λ e. let l = last_digit m d g in omega arith;
-    past = p }
+    record {
+      digits = m * 10 + d;
+      zeros = 0;
+      is = omega arith;
+      last = λ e. let l = last_digit m d g in omega arith;
+      past = p;
+    }
 
 pub large_more : (m : ℕ) → Large m → Large (m * 10)
-large_more m l = record { digits = l.digits; zeros = l.zeros + 1; is = ap (λ n. n * 10) l.is
-    ∙ (assoc l.digits (10 ^ l.zeros) 10 ∙ ap (λ n. l.digits * n) (sym (ten_more l.zeros))); last = l.last;
-    past = l.past }
+large_more m l = record {
+  digits = l.digits;
+  zeros = l.zeros + 1;
+  is = ap (λ n. n * 10) l.is
+      ∙ (assoc l.digits (10 ^ l.zeros) 10 ∙ ap (λ n. l.digits * n) (sym (ten_more l.zeros)));
+  last = l.last;
+  past = l.past;
+}
 
 pub large_past : (m : ℕ) → Large m → 9007199254740991 < m
 large_past m l = let a = at_least l.digits l.zeros in let e = l.is in let p = l.past in omega arith
@@ -101,10 +111,10 @@ add_digit_stands u c z m d (exact h e l) = by (true_or_false (u == 48)) (true_or
       rw (a, b) (exact h (omega arith) l)
   by (inr a) b = let v = digit_value u d (λ q. absurd (clash u q a)) in
       rw (a, le-leb c 9007199254740991 h) (append_digit c z m (u - 48) h e v.0 v.1) where
-    clash : (u : ℕ) → u ≡ 48 → (u == 48) ≡ false → ⊥
-    clash u q a = absurd (two (subst (λ w. (w == 48) ≡ false) q a)) where
-      two : (48 == 48) ≡ false → ⊥
-      two e = cc
+        clash : (u : ℕ) → u ≡ 48 → (u == 48) ≡ false → ⊥
+        clash u q a = absurd (two (subst (λ w. (w == 48) ≡ false) q a)) where
+          two : (48 == 48) ≡ false → ⊥
+          two e = cc
 add_digit_stands u c z m d (beyond h g) = by (true_or_false (u == 48)) where
   by : ((u == 48) ≡ true) ⊎ ((u == 48) ≡ false)
       → Stands (add_digit u (c, z)).0 (add_digit u (c, z)).1 (m * 10 + (u - 48))
@@ -156,8 +166,11 @@ pub from_none : (m r l : ℕ) (o : Option ℕ) → o ≡ None → ((n : ℕ) →
 from_none m r l o e f = e ∙ no_value_by m r l (value_of m r l) refl f
 
 zero_value : (m r l : ℕ) → m ≡ 0 → HasValue m r l 0
-zero_value m r l e = record { exact = (let a : 0 * 10 ^ l ≡ 0 = omega arith in a)
-    ∙ sym (ap (λ n. n * 10 ^ r) e ∙ (omega arith)); inside = omega arith }
+zero_value m r l e = record {
+  exact = (let a : 0 * 10 ^ l ≡ 0 = omega arith in a)
+      ∙ sym (ap (λ n. n * 10 ^ r) e ∙ (omega arith));
+  inside = omega arith;
+}
 
 -- with the exponents of the literal
 module _ (c z m : ℕ) where
@@ -167,33 +180,35 @@ module _ (c z m : ℕ) where
   value_inside r l h e p n =
       rw (other_unit c 0 n, le-leb c 9007199254740991 h)
       (by (leb_tells l (z + r)) (scaled_is ((z + r) - l) c) (leb_tells (scale c ((z + r) - l)) 9007199254740991)) where
-    meant : (k : ℕ) → HasValue m r l k → (l ≤ z + r) × (k ≡ c * 10 ^ ((z + r) - l))
-    meant k v = whole_value c z r l k (λ g. n (p g)) (v.exact ∙ ap (λ x. x * 10 ^ r) e)
+        meant : (k : ℕ) → HasValue m r l k → (l ≤ z + r) × (k ≡ c * 10 ^ ((z + r) - l))
+        meant k v = whole_value c z r l k (λ g. n (p g)) (v.exact ∙ ap (λ x. x * 10 ^ r) e)
 
-    by : ((nat_le l (z + r) ≡ true) × (l ≤ z + r)) ⊎ ((nat_le l (z + r) ≡ false) × (z + r < l))
-        → Scaled (scale c ((z + r) - l)) (c * 10 ^ ((z + r) - l))
-        → ((nat_le (scale c ((z + r) - l)) 9007199254740991 ≡ true) × (scale c ((z + r) - l) ≤ 9007199254740991))
-        ⊎ ((nat_le (scale c ((z + r) - l)) 9007199254740991 ≡ false) × (9007199254740991 < scale c ((z + r) - l)))
-        → (if nat_le l (z + r) then (if nat_le (scale c ((z + r) - l)) 9007199254740991 then Some
-        (scale c ((z + r) - l)) else None) else None) ≡ value_of m r l
-    by (inr a) s t = rw (a.0) (from_none m r l None refl (λ k v. let w = meant k v in let g = w.0 in
-        absurd (omega (arith, a.1))))
-    by (inl a) s (inr t) = rw (a.0, t.0) (from_none m r l None refl (λ k v. let w = meant k v in let i = v.inside in
-        let g = w.1 in absurd (larger s t.1 (omega arith)))) where
-      larger : Scaled (scale c ((z + r) - l)) (c * 10 ^ ((z + r) - l)) → 9007199254740991 < scale c ((z + r) - l)
-          → c * 10 ^ ((z + r) - l) ≤ 9007199254740991 → ⊥
-      larger (is x) y w = omega arith
-      larger (stopped x q) y w = omega arith
-    by (inl a) (stopped x q) (inl t) = absurd (omega (arith, t.1))
-    by (inl a) (is x) (inl t) =
-        let q : ((z + r) - l) + l ≡ z + r = omega (arith, a.1) in
-        let w : scale c ((z + r) - l) * 10 ^ l ≡ m * 10 ^ r =
-        ap (λ k. k * 10 ^ l) x ∙ (assoc c (10 ^ ((z + r) - l)) (10 ^ l)
-        ∙ (ap (λ k. c * k) (sym (pow-add 10 ((z + r) - l) l))
-        ∙ (ap (λ k. c * 10 ^ k) q
-        ∙ (ap (λ k. c * k) (pow-add 10 z r) ∙ (sym (assoc c (10 ^ z) (10 ^ r)) ∙ ap (λ k. k * 10 ^ r) (sym e)))))) in
-        rw (a.0, t.0) (from_value m r l (scale c ((z + r) - l)) (Some (scale c ((z + r) - l))) refl
-        (record { exact = w; inside = t.1 }))
+        by : ((nat_le l (z + r) ≡ true) × (l ≤ z + r)) ⊎ ((nat_le l (z + r) ≡ false) × (z + r < l))
+            → Scaled (scale c ((z + r) - l)) (c * 10 ^ ((z + r) - l))
+            → ((nat_le (scale c ((z + r) - l)) 9007199254740991 ≡ true) × (scale c ((z + r) - l) ≤ 9007199254740991))
+            ⊎ ((nat_le (scale c ((z + r) - l)) 9007199254740991 ≡ false) × (9007199254740991 < scale c ((z + r) - l)))
+            → (if nat_le l (z + r) then (if nat_le (scale c ((z + r) - l)) 9007199254740991 then Some
+            (scale c ((z + r) - l)) else None) else None) ≡ value_of m r l
+        by (inr a) s t = rw (a.0) (from_none m r l None refl (λ k v. let w = meant k v in let g = w.0 in
+            absurd (omega (arith, a.1))))
+        by (inl a) s (inr t) = rw (a.0, t.0) (from_none m r l None refl (λ k v. let w = meant k v in let i = v.inside in
+            let g = w.1 in absurd (larger s t.1 (omega arith)))) where
+              larger : Scaled (scale c ((z + r) - l)) (c * 10 ^ ((z + r) - l))
+                  → 9007199254740991 < scale c ((z + r) - l)
+                  → c * 10 ^ ((z + r) - l) ≤ 9007199254740991 → ⊥
+              larger (is x) y w = omega arith
+              larger (stopped x q) y w = omega arith
+        by (inl a) (stopped x q) (inl t) = absurd (omega (arith, t.1))
+        by (inl a) (is x) (inl t) =
+            let q : ((z + r) - l) + l ≡ z + r = omega (arith, a.1) in
+            let w : scale c ((z + r) - l) * 10 ^ l ≡ m * 10 ^ r =
+            ap (λ k. k * 10 ^ l) x ∙ (assoc c (10 ^ ((z + r) - l)) (10 ^ l)
+            ∙ (ap (λ k. c * k) (sym (pow-add 10 ((z + r) - l) l))
+            ∙ (ap (λ k. c * 10 ^ k) q
+            ∙ (ap (λ k. c * k) (pow-add 10 z r) ∙ (sym (assoc c (10 ^ z) (10 ^ r)) ∙ ap (λ k. k * 10 ^ r) (sym e))))))
+            in
+            rw (a.0, t.0) (from_value m r l (scale c ((z + r) - l)) (Some (scale c ((z + r) - l))) refl
+            (record { exact = w; inside = t.1 }))
 
   value_zero : (r' l' r l : ℕ) → c ≡ 0 → m ≡ c * 10 ^ z → value_from c z r' l' ≡ value_of m r l
   unfolding value_from
@@ -290,17 +305,21 @@ pub digits_more : (c z e y : ℕ) (us mid : List ℕ) (u : ℕ) (first : ℕ × 
 unfolding add_digits
 digits_more c z e y us mid u first all q h a n =
     let m = unit_more is_digit us mid u q h in
-    record { amount = ap (λ (x : ℕ × ℕ). add_digits x (many (one_unit is_digit) mid).0) a
-    ∙ (sym (ap (λ (x : List ℕ × List ℕ). add_digits (c, z) x.0) m) ∙ n.amount);
-    rest = sym (ap (λ (x : List ℕ × List ℕ). x.1) m) ∙ n.rest }
+    record {
+      amount = ap (λ (x : ℕ × ℕ). add_digits x (many (one_unit is_digit) mid).0) a
+          ∙ (sym (ap (λ (x : List ℕ × List ℕ). add_digits (c, z) x.0) m) ∙ n.amount);
+      rest = sym (ap (λ (x : List ℕ × List ℕ). x.1) m) ∙ n.rest;
+    }
 
 digits_done : (c z : ℕ) (us : List ℕ) (first : ℕ × ℕ) (all : List ℕ) → many (one_unit is_digit) us ≡ ([], us)
     → DigitsSoFar c z us first all → ((c, z) ≡ add_digits first (many (one_unit is_digit) all).0)
     × (us ≡ (many (one_unit is_digit) all).1)
 unfolding add_digits
-digits_done c z us first all m n =
-    (sym (ap (λ (x : List ℕ × List ℕ). add_digits (c, z) x.0) m) ∙ n.amount, sym (ap (λ (x : List ℕ × List ℕ). x.1) m)
-    ∙ n.rest)
+digits_done c z us first all m n = (
+  sym (ap (λ (x : List ℕ × List ℕ). add_digits (c, z) x.0) m) ∙ n.amount,
+  sym (ap (λ (x : List ℕ × List ℕ). x.1) m)
+      ∙ n.rest,
+)
 
 pub digits_stop : (c z : ℕ) (us mid : List ℕ) (u : ℕ) (first : ℕ × ℕ) (all : List ℕ) → us ≡ u ∷ mid → is_digit u ≡ false
     → DigitsSoFar c z us first all → ((c, z) ≡ add_digits first (many (one_unit is_digit) all).0)
@@ -324,9 +343,11 @@ pub capped_more : (n k : ℕ) (us mid : List ℕ) (u : ℕ) (all : List ℕ) →
 unfolding capped_from
 capped_more n k us mid u all q h a s =
     let m = unit_more is_digit us mid u q h in
-    record { number = ap (λ x. capped_from x (many (one_unit is_digit) mid).0) a
-    ∙ (sym (ap (λ (x : List ℕ × List ℕ). capped_from n x.0) m) ∙ s.number);
-    rest = sym (ap (λ (x : List ℕ × List ℕ). x.1) m) ∙ s.rest }
+    record {
+      number = ap (λ x. capped_from x (many (one_unit is_digit) mid).0) a
+          ∙ (sym (ap (λ (x : List ℕ × List ℕ). capped_from n x.0) m) ∙ s.number);
+      rest = sym (ap (λ (x : List ℕ × List ℕ). x.1) m) ∙ s.rest;
+    }
 
 -- the digits are all there
 pub record CappedDone (n : ℕ) (us all : List ℕ) : Type 0 where
@@ -338,8 +359,10 @@ capped_done : (n : ℕ) (us all : List ℕ) → first_is is_digit all ≡ true �
 unfolding capped_from some_digits
 capped_done n us all f m s =
     let r = sym (ap (λ (x : List ℕ × List ℕ). x.1) m) ∙ s.rest in
-    record { digits = rw f (ap (λ (x : List ℕ). Some ((many (one_unit is_digit) all).0, x)) (sym r));
-    number = sym (ap (λ (x : List ℕ × List ℕ). capped_from n x.0) m) ∙ s.number }
+    record {
+      digits = rw f (ap (λ (x : List ℕ). Some ((many (one_unit is_digit) all).0, x)) (sym r));
+      number = sym (ap (λ (x : List ℕ × List ℕ). capped_from n x.0) m) ∙ s.number;
+    }
 
 pub capped_stop : (n : ℕ) (us mid all : List ℕ) (u : ℕ) → first_is is_digit all ≡ true → us ≡ u ∷ mid
     → is_digit u ≡ false → CappedSoFar n us all → CappedDone n us all

@@ -103,6 +103,6 @@ pub second_within : (a : Bool) (p : ℕ → Bool) (units : List ℕ) (i : ℕ) �
     → i + 1 ≤ length units
 second_within a p units i h =
     by (drop i units) (length-drop i units) (second_true a (first_is p (drop i units)) h) where
-  by : (us : List ℕ) → length us ≡ length units - i → first_is p us ≡ true → i + 1 ≤ length units
-  by [] e f = absurd cc
-  by (u ∷ us) e f = omega arith
+      by : (us : List ℕ) → length us ≡ length units - i → first_is p us ≡ true → i + 1 ≤ length units
+      by [] e f = absurd cc
+      by (u ∷ us) e f = omega arith

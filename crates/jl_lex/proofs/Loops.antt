@@ -95,8 +95,11 @@ inside_more lines units i all u e h n =
     let m = close_more (drop i units) (drop (i + 1) units) u e
     (ap (λ b. b && first_is (λ v. v == 47) (drop (i + 1) units))
     (sym (first_test u 42 (drop i units) (drop (i + 1) units) e)) ∙ h) in
-    record { rest = sym (ap (λ (x : List ℕ × List ℕ). x.1) m) ∙ n.rest; holds = or_turned (is_line_terminator u) lines _
-    ∙ (ap (λ (x : List ℕ × List ℕ). lines || list_any is_line_terminator x.0) (sym m) ∙ n.holds) }
+    record {
+      rest = sym (ap (λ (x : List ℕ × List ℕ). x.1) m) ∙ n.rest;
+      holds = or_turned (is_line_terminator u) lines _
+          ∙ (ap (λ (x : List ℕ × List ℕ). lines || list_any is_line_terminator x.0) (sym m) ∙ n.holds);
+    }
 
 block_found : (y : List ℕ × List ℕ) (lines : Bool) (u v : ℕ) (rest : List ℕ) → y.1 ≡ u ∷ v ∷ rest
     → lines ≡ list_any is_line_terminator y.0 → block_end y ≡ found (BlockComment lines) rest
@@ -361,10 +364,13 @@ pub name_more : (text us mid : List ℕ) (escaped e now : Bool) (u : ℕ) (all :
 name_more text us mid escaped e now u all h q n =
     let m = many_step _ (letter is_identifier_part) reads_part us (u, e) mid h in
     let r = many (letter is_identifier_part) mid in
-    record { is = rw (sym q, append_assoc)
-    (rw (← or_assoc escaped e (is_escaped r.0))
-    (ap (λ (x : List (ℕ × Bool) × List ℕ). name_done (text ++ name_text x.0) (escaped || is_escaped x.0) x.1) (sym m)
-    ∙ n.is)) }
+    record {
+      is = rw (sym q, append_assoc)
+          (rw (← or_assoc escaped e (is_escaped r.0))
+          (ap (λ (x : List (ℕ × Bool) × List ℕ). name_done (text ++ name_text x.0) (escaped || is_escaped x.0) x.1)
+          (sym m)
+          ∙ n.is));
+    }
 
 pub name_ends : (text us : List ℕ) (escaped : Bool) (all : Outcome) → letter is_identifier_part us ≡ None
     → NameSoFar text escaped us all → name_done text escaped us ≡ all

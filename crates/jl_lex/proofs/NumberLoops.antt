@@ -87,13 +87,13 @@ capped_is [] n m c = c
 capped_is (u ∷ us) n m c =
     capped_is us (if nat_le 1099511627776 n then n else n * 10 + (u - 48)) (m * 10 + (u - 48))
     (by c (leb_tells 1099511627776 n)) where
-  by : Capped n m → ((nat_le 1099511627776 n ≡ true) × (1099511627776 ≤ n))
-      ⊎ ((nat_le 1099511627776 n ≡ false) × (n < 1099511627776))
-      → Capped (if nat_le 1099511627776 n then n else n * 10 + (u - 48)) (m * 10 + (u - 48))
-  by (whole_number e) (inl h) = rw (h.0) (large_number h.1 (omega arith))
-  by (whole_number e) (inr h) = rw (h.0) (whole_number (ap (λ k. k * 10 + (u - 48)) e))
-  by (large_number a b) (inl h) = rw (h.0) (large_number h.1 (omega arith))
-  by (large_number a b) (inr h) = absurd (omega (arith, h.1))
+      by : Capped n m → ((nat_le 1099511627776 n ≡ true) × (1099511627776 ≤ n))
+          ⊎ ((nat_le 1099511627776 n ≡ false) × (n < 1099511627776))
+          → Capped (if nat_le 1099511627776 n then n else n * 10 + (u - 48)) (m * 10 + (u - 48))
+      by (whole_number e) (inl h) = rw (h.0) (large_number h.1 (omega arith))
+      by (whole_number e) (inr h) = rw (h.0) (whole_number (ap (λ k. k * 10 + (u - 48)) e))
+      by (large_number a b) (inl h) = rw (h.0) (large_number h.1 (omega arith))
+      by (large_number a b) (inr h) = absurd (omega (arith, h.1))
 
 capped_digits : (us : List ℕ) → Capped (capped_from 0 us) (decimal_from 0 us)
 capped_digits us = capped_is us 0 0 (whole_number refl)
@@ -142,9 +142,12 @@ pub finish : (units : List ℕ) (at c z places : ℕ) (e : Exponent) (v : Option
     → z < 4294967296 → places < 4294967296
     → NumeralFrom units at (record { value = v; end = e.end }) (with_exponent ds places x)
 unfolding with_exponent
-finish units at c z places e v ds (r, l, rest) s h q a b =
-    (q ∙ value_stands c z (decimal_from 0 ds) e.raise e.lower r l places s h.0 (omega arith) (omega arith), h.1, h.2,
-    h.3)
+finish units at c z places e v ds (r, l, rest) s h q a b = (
+  q ∙ value_stands c z (decimal_from 0 ds) e.raise e.lower r l places s h.0 (omega arith) (omega arith),
+  h.1,
+  h.2,
+  h.3,
+)
 
 digits_stand : {us fs rest : List ℕ} → Many (OneUnit is_digit) us fs rest → (c z m : ℕ) → Stands c z m
     → Stands (add_digits (c, z) fs).0 (add_digits (c, z) fs).1 (decimal_from m fs)
@@ -234,10 +237,12 @@ hex_more n k v units i all e a s =
     let d = hex_digit (drop i units) v e in
     let f : drop i units ≡ d.unit ∷ drop (i + 1) units = d.is ∙ ap (λ (x : List ℕ). d.unit ∷ x) (drop-drop 1 i units) in
     let m = unit_more is_hex_digit (drop i units) (drop (i + 1) units) d.unit f d.test in
-    record { number = ap (λ x. hex_capped_from x (many (one_unit is_hex_digit) (drop (i + 1) units)).0)
-    (a ∙ ap (λ w. if nat_le n 9007199254740991 then n * 16 + w else n) (sym d.value))
-    ∙ (sym (ap (λ (x : List ℕ × List ℕ). hex_capped_from n x.0) m) ∙ s.number);
-    rest = sym (ap (λ (x : List ℕ × List ℕ). x.1) m) ∙ s.rest }
+    record {
+      number = ap (λ x. hex_capped_from x (many (one_unit is_hex_digit) (drop (i + 1) units)).0)
+          (a ∙ ap (λ w. if nat_le n 9007199254740991 then n * 16 + w else n) (sym d.value))
+          ∙ (sym (ap (λ (x : List ℕ × List ℕ). hex_capped_from n x.0) m) ∙ s.number);
+      rest = sym (ap (λ (x : List ℕ × List ℕ). x.1) m) ∙ s.rest;
+    }
 
 no_hex : (us : List ℕ) → hex_first us ≡ None → first_is is_hex_digit us ≡ false
 unfolding hex_first
@@ -264,13 +269,13 @@ hex_capped_is [] n m c = c
 hex_capped_is (u ∷ us) n m c =
     hex_capped_is us (if nat_le n 9007199254740991 then n * 16 + hex_digit_value u else n) (m * 16 + hex_digit_value u)
     (by c (leb_tells n 9007199254740991)) where
-  by : HexCapped n m → ((nat_le n 9007199254740991 ≡ true) × (n ≤ 9007199254740991))
-      ⊎ ((nat_le n 9007199254740991 ≡ false) × (9007199254740991 < n))
-      → HexCapped (if nat_le n 9007199254740991 then n * 16 + hex_digit_value u else n) (m * 16 + hex_digit_value u)
-  by (hex_whole e) (inl h) = rw (h.0) (hex_whole (ap (λ k. k * 16 + hex_digit_value u) e))
-  by (hex_whole e) (inr h) = rw (h.0) (hex_large h.1 (omega arith))
-  by (hex_large a b) (inl h) = absurd (omega (arith, h.1))
-  by (hex_large a b) (inr h) = rw (h.0) (hex_large h.1 (omega arith))
+      by : HexCapped n m → ((nat_le n 9007199254740991 ≡ true) × (n ≤ 9007199254740991))
+          ⊎ ((nat_le n 9007199254740991 ≡ false) × (9007199254740991 < n))
+          → HexCapped (if nat_le n 9007199254740991 then n * 16 + hex_digit_value u else n) (m * 16 + hex_digit_value u)
+      by (hex_whole e) (inl h) = rw (h.0) (hex_whole (ap (λ k. k * 16 + hex_digit_value u) e))
+      by (hex_whole e) (inr h) = rw (h.0) (hex_large h.1 (omega arith))
+      by (hex_large a b) (inl h) = absurd (omega (arith, h.1))
+      by (hex_large a b) (inr h) = rw (h.0) (hex_large h.1 (omega arith))
 
 plain_value : (n : ℕ) → if_number n ≡ value_of n 0 0
 unfolding if_number
@@ -376,9 +381,9 @@ pub number_letter : (units : List ℕ) (low : ℕ) (n : Numeral) (x : ℕ × ℕ
 unfolding number_end is_some_of
 number_letter units low n (m, r, l, rest) y f h =
     rw (subst (λ (w : List ℕ). letter is_identifier_start w ≡ Some y) f.1 h, either (first_is is_digit rest)) refl where
-  either : (b : Bool) → (b || true) ≡ true
-  either true = refl
-  either false = refl
+      either : (b : Bool) → (b || true) ≡ true
+      either true = refl
+      either false = refl
 
 number_goes_on : (units : List ℕ) (low : ℕ) (n : Numeral) (m r l : ℕ) (rest : List ℕ)
     → NumeralFrom units low n (m, r, l, rest) → false ≡ first_is is_digit (drop n.end units)
@@ -386,8 +391,10 @@ number_goes_on : (units : List ℕ) (low : ℕ) (n : Numeral) (m r l : ℕ) (res
     ≡ number_of rest (value_of m r l)
 unfolding number_end is_some_of
 number_goes_on units low n m r l rest f h g =
-    rw (subst (λ (w : List ℕ). first_is is_digit w ≡ false) f.1 (sym h),
-    subst (λ (w : List ℕ). letter is_identifier_start w ≡ None) f.1 g) refl
+    rw (
+      subst (λ (w : List ℕ). first_is is_digit w ≡ false) f.1 (sym h),
+      subst (λ (w : List ℕ). letter is_identifier_start w ≡ None) f.1 g,
+    ) refl
 
 pub number_none : (units : List ℕ) (low : ℕ) (n : Numeral) (x : ℕ × ℕ × ℕ × List ℕ) → NumeralFrom units low n x
     → false ≡ first_is is_digit (drop n.end units) → letter is_identifier_start (drop n.end units) ≡ None

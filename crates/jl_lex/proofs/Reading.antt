@@ -51,7 +51,7 @@ module _ {A : Type 0} (whole left : List Piece → List A) (read : List A) (text
       (next_is text i j e q a b) in
       record {
         are = f (many (next_piece text) (drop j text)).0
-        ∙ (sym (ap (λ (x : List Piece × List ℕ). read ++ left x.0) m) ∙ s.are);
+            ∙ (sym (ap (λ (x : List Piece × List ℕ). read ++ left x.0) m) ∙ s.are);
         rest = sym (ap (λ (x : List Piece × List ℕ). x.1) m) ∙ s.rest;
       }
 
@@ -63,9 +63,11 @@ module _ {A : Type 0} (whole left : List Piece → List A) (read : List A) (text
       ∙ nothing_at_end (OnePiece text) (next_piece text) (reads_piece text)) in
       let t = sym (ap (λ (x : List Piece × List ℕ). read ++ left x.0) n) ∙ s.are in
       let r = sym (ap (λ (x : List Piece × List ℕ). x.1) n) ∙ s.rest in
-      let all = many_sound (OnePiece text) (next_piece text) (reads_piece text) text in
-      ((many (next_piece text) text).0, split_whole text (many (next_piece text) text) all (sym r ∙ e),
-      sym (ap (λ l. read ++ l) none ∙ append-nil read) ∙ t)
+      let all = many_sound (OnePiece text) (next_piece text) (reads_piece text) text in (
+        (many (next_piece text) text).0,
+        split_whole text (many (next_piece text) text) all (sym r ∙ e),
+        sym (ap (λ l. read ++ l) none ∙ append-nil read) ∙ t,
+      )
 
   read_bad : (i u : ℕ) (k : BadKind) → drop i text ≡ u ∷ drop (i + 1) text → i ≤ length text
       → scan (drop i text) ≡ bad k
@@ -103,7 +105,7 @@ comments_end text us comments e s =
 -- the answer is the only one, where lists of a kind are alone, and no text has one beside a fault
 module _ {A C : Type 0} (text : List ℕ) (Are : List A → Type 0) (items : C → List A)
     (alone : (xs ys : List A) → Are xs → Are ys → xs ≡ ys) (never : (xs : List A) (i : ℕ) (k : BadKind) → Are xs
-        → BadAt text i k → ⊥) where
+    → BadAt text i k → ⊥) where
   only_these : (r : Result C LexRefusal) → IfOk r (λ c. Are (items c)) → IfErr r (λ e. IsRefusal text e) → (xs : List A)
       → Are xs → MatchResult r (λ c. items c ≡ xs) (λ e. e ≡ refusals.NoMemory)
   only_these (Ok c) a b xs t = alone (items c) xs a t

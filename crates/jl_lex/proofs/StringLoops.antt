@@ -95,8 +95,12 @@ unicode_by (a ∷ b ∷ c ∷ d ∷ us) = written_if (are_hex_digits a b c d) (h
 unicode_at : (units : List ℕ) (i : ℕ) → unicode_escape (drop i units)
     ≡ written_of (four_at units i) (drop (i + 4) units)
 unfolding four_at
-unicode_at units i = rw (sym (drop-drop 1 i units), sym (drop-drop 2 i units), sym (drop-drop 3 i units),
-    sym (drop-drop 4 i units)) (unicode_by (drop i units))
+unicode_at units i = rw (
+  sym (drop-drop 1 i units),
+  sym (drop-drop 2 i units),
+  sym (drop-drop 3 i units),
+  sym (drop-drop 4 i units),
+) (unicode_by (drop i units))
 
 -- other escapes
 pub other_line : (u : ℕ) (us rest : List ℕ) → true ≡ is_line_terminator u
@@ -226,10 +230,15 @@ pub done_escape : (mark : ℕ) (text : List ℕ) (plain : Bool) (units : List �
     → string_done mark text plain (drop i units) ≡ bad faults.BadEscape
 unfolding string_done string_stop
 done_escape mark text plain units i u e n h l =
-    rw (e, other_unit u mark n, sym h, positive (length (drop (i + 1) units))
-    (omega (arith, length-drop (i + 1) units))) refl where
-  positive : (n : ℕ) → 0 < n → nat_le 1 n ≡ true
-  positive n h = grind (arith, nat_tests)
+    rw (
+      e,
+      other_unit u mark n,
+      sym h,
+      positive (length (drop (i + 1) units))
+          (omega (arith, length-drop (i + 1) units)),
+    ) refl where
+      positive : (n : ℕ) → 0 < n → nat_le 1 n ≡ true
+      positive n h = grind (arith, nat_tests)
 
 pub done_last : (mark : ℕ) (text : List ℕ) (plain : Bool) (units : List ℕ) (i u : ℕ)
     → drop i units ≡ u ∷ drop (i + 1) units → (u ≡ mark → ⊥) → false ≡ is_line_terminator u → length units ≤ i + 1
@@ -238,8 +247,8 @@ unfolding string_done string_stop
 done_last mark text plain units i u e n h l =
     rw (e, other_unit u mark n, sym h, none (length (drop (i + 1) units)) (omega (arith, length-drop (i + 1) units)))
     refl where
-  none : (n : ℕ) → n ≤ 0 → nat_le 1 n ≡ false
-  none n h = grind (arith, nat_tests)
+      none : (n : ℕ) → n ≤ 0 → nat_le 1 n ≡ false
+      none n h = grind (arith, nat_tests)
 
 -- a string so far, and how it goes on
 pub record StringSoFar (mark : ℕ) (text : List ℕ) (plain : Bool) (us : List ℕ) (all : Outcome) : Type 0 where
@@ -263,10 +272,13 @@ pub string_more : (mark : ℕ) → is_quote mark ≡ true → (text vs us mid : 
 string_more mark q text vs us mid plain p now all h e n =
     let m = many_step _ (character mark) (reads_character mark q) us (vs, p) mid h in
     let r = many (character mark) mid in
-    record { is = rw (sym e, append_assoc)
-    (rw (← and_assoc plain p (is_plain r.0))
-    (ap (λ (x : List (List ℕ × Bool) × List ℕ). string_done mark (text ++ string_text x.0) (plain && is_plain x.0) x.1)
-    (sym m) ∙ n.is)) }
+    record {
+      is = rw (sym e, append_assoc)
+          (rw (← and_assoc plain p (is_plain r.0))
+          (ap (λ (x : List (List ℕ × Bool) × List ℕ). string_done mark (text ++ string_text x.0) (plain && is_plain x.0)
+          x.1)
+          (sym m) ∙ n.is));
+    }
 
 pub string_ends : (mark : ℕ) → is_quote mark ≡ true → (text us : List ℕ) (plain : Bool) (all : Outcome)
     → character mark us ≡ None → StringSoFar mark text plain us all → string_done mark text plain us ≡ all

@@ -35,7 +35,7 @@ use Rattle.jl_builtin.proofs.Ends.{answer_given, answer_thrown}
 -- the function is there, and its `this`, or the argument is none
 module _ (s t : State) (stored : IsStored s t) (purpose : WalkFor) (o : ObjId) (length : ℕ) (args : List Value)
     (answer : Answer ObjId) (comes : Comes (need_function (argument_of args 0)) s.store t.store
-        (ends_with answer)) where
+    (ends_with answer)) where
   abbrev begun : (this : Value) → ObjId → Algorithm Value
   begun this f = begin_walk purpose (record { object = o; length = length; function = f; this = this }) args
 

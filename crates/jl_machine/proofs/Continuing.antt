@@ -62,7 +62,7 @@ pub misused : (s : State) (f : Frame) (g : Given) → after (table_of s.function
     → Continues s f g s (act.Fault Misuse)
 misused s f g e = record {
   is = λ kept told. ap (λ q. run_in kept told s
-  (and_then q (rest (table_of s.functions) (calls_after s.calls f) s.stack)))
+      (and_then q (rest (table_of s.functions) (calls_after s.calls f) s.stack)))
       (sym e);
 }
 

@@ -72,7 +72,7 @@ quiet_less {no_in} {ts} {j} r s h q = record {
   left = λ g. q.left (omega arith);
   update = λ g. q.update (omega arith);
   operator = tighter_stops (infix_precedence_of (infix_operator no_in (terminal_at ts j))) (r - 3) (s - 3) (omega arith)
-  q.operator;
+      q.operator;
   question = λ g. q.question (omega arith);
   assigns = λ g. q.assigns (omega arith);
 }

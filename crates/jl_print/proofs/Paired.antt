@@ -85,8 +85,14 @@ no_part u from below =
     let low : nat_le 55296 u ≡ true = le-leb 55296 u from in
     let high : nat_le u 57343 ≡ true = le-leb u 57343 (omega arith) in
     let differs : (k : ℕ) → (u ≡ k → ⊥) → (u == k) ≡ false = λ k f. other_unit u k f in
-    rw (low, high, differs 36 (λ e. omega arith), differs 95 (λ e. omega arith), differs 8204 (λ e. omega arith),
-    differs 8205 (λ e. omega arith)) refl
+    rw (
+      low,
+      high,
+      differs 36 (λ e. omega arith),
+      differs 95 (λ e. omega arith),
+      differs 8204 (λ e. omega arith),
+      differs 8205 (λ e. omega arith),
+    ) refl
 
 part_whole : (u : ℕ) → is_identifier_part u ≡ true → Whole u
 part_whole u h = elim (cases_lt u 0xD800) [
@@ -154,8 +160,17 @@ paired_unit : (before u after : ℕ) → 0xD800 ≤ u → u < 0xE000 → is_lone
 paired_unit before u after from below h =
     let differs : (k : ℕ) → k < 0xD800 → (u == k) ≡ false = λ k l. other_unit u k (λ e. omega arith) in
     let seen : is_hidden u ≡ false = not_true (is_hidden u) (λ e. let l = hidden_low u e in omega arith) in
-    rw (differs 0x22 (omega arith), differs 0x5C (omega arith), differs 0x0A (omega arith), differs 0x0D (omega arith),
-    differs 0x09 (omega arith), differs 0x08 (omega arith), differs 0x0C (omega arith), seen, h) refl
+    rw (
+      differs 0x22 (omega arith),
+      differs 0x5C (omega arith),
+      differs 0x0A (omega arith),
+      differs 0x0D (omega arith),
+      differs 0x09 (omega arith),
+      differs 0x08 (omega arith),
+      differs 0x0C (omega arith),
+      seen,
+      h,
+    ) refl
 
 -- any other unit is written without a surrogate
 record Apart (before u after : ℕ) : Type 0 where
@@ -198,9 +213,9 @@ whole_unit before u after p h = elim (cases_lt u 0xD800) [
     | inr high ↦ inr high
     | inl below ↦ elim (cases_lt u 0xDC00) [
       | inl first ↦ absurd (never_both (is_lone before u after)
-      (lone_first before u after p (rw (le-leb 0xD800 u from, lt-ltb u 0xDC00 first) refl)) h)
+          (lone_first before u after p (rw (le-leb 0xD800 u from, lt-ltb u 0xDC00 first) refl)) h)
       | inr second ↦ absurd (never_both (is_lone before u after)
-      (lone_second before u after p (rw (le-leb 0xDC00 u second, lt-ltb u 0xE000 below) refl)) h)
+          (lone_second before u after p (rw (le-leb 0xDC00 u second, lt-ltb u 0xE000 below) refl)) h)
     ]
   ]
 ]

@@ -110,7 +110,7 @@ module _ {S : Type 0} where
       again_optional (m + functions_in a) (n + functions_in a) b,
       again_optional (m + functions_in a + functions_in_optional b) (n + functions_in a + functions_in_optional b) c,
       again_forest (m + functions_in a + functions_in_optional b + functions_in_optional c)
-      (n + functions_in a + functions_in_optional b + functions_in_optional c) d,
+          (n + functions_in a + functions_in_optional b + functions_in_optional c) d,
       as_many_numbered n a,
       as_many_numbered_optional (n + functions_in a) b,
       as_many_numbered_optional (n + functions_in a + functions_in_optional b) c,
@@ -134,7 +134,7 @@ module _ {S : Type 0} where
       again_forest m n a,
       again_optional (m + functions_in_forest a) (n + functions_in_forest a) b,
       again_optional (m + functions_in_forest a + functions_in_optional b)
-      (n + functions_in_forest a + functions_in_optional b) c,
+          (n + functions_in_forest a + functions_in_optional b) c,
       as_many_numbered_forest n a,
       as_many_numbered_optional (n + functions_in_forest a) b,
     )

@@ -178,8 +178,13 @@ module _ {S : Type 0} where
     same_numbers n (and a b s) = cc (same_numbers n a, same_numbers (n + functions_in (skeleton a)) b, as_many a)
     same_numbers n (or a b s) = cc (same_numbers n a, same_numbers (n + functions_in (skeleton a)) b, as_many a)
     same_numbers n (conditional a b c s) =
-        cc (same_numbers n a, same_numbers (n + functions_in (skeleton a)) b,
-        same_numbers (n + functions_in (skeleton a) + functions_in (skeleton b)) c, as_many a, as_many b)
+        cc (
+          same_numbers n a,
+          same_numbers (n + functions_in (skeleton a)) b,
+          same_numbers (n + functions_in (skeleton a) + functions_in (skeleton b)) c,
+          as_many a,
+          as_many b,
+        )
     same_numbers n (assign a b c s) = cc (same_numbers n b, same_numbers (n + functions_in (skeleton b)) c, as_many b)
     same_numbers n (comma a b s) = cc (same_numbers n a, same_numbers (n + functions_in (skeleton a)) b, as_many a)
     same_numbers n (to_name a) = refl
@@ -192,25 +197,38 @@ module _ {S : Type 0} where
     same_numbers n (setter a b) = cc (same_numbers n b)
     same_numbers n (function m a params b s) = cc (same_numbers (n + 1) b)
     same_numbers n (body strict a b) =
-        cc (same_numbers_forest n a, same_numbers_forest (n + functions_in_forest (skeleton_forest a)) b,
-        as_many_forest a)
+        cc (
+          same_numbers_forest n a,
+          same_numbers_forest (n + functions_in_forest (skeleton_forest a)) b,
+          as_many_forest a,
+        )
     same_numbers n (var a s) = cc (same_numbers_forest n a)
     same_numbers n (empty s) = refl
     same_numbers n (expression a s) = cc (same_numbers n a)
     same_numbers n (block a s) = cc (same_numbers_forest n a)
     same_numbers n (if_else a b c s) =
-        cc (same_numbers n a, same_numbers_forest (n + functions_in (skeleton a)) b,
-        same_numbers_optional (n + functions_in (skeleton a) + functions_in_forest (skeleton_forest b)) c, as_many a,
-        as_many_forest b)
+        cc (
+          same_numbers n a,
+          same_numbers_forest (n + functions_in (skeleton a)) b,
+          same_numbers_optional (n + functions_in (skeleton a) + functions_in_forest (skeleton_forest b)) c,
+          as_many a,
+          as_many_forest b,
+        )
     same_numbers n (do_while a b s) =
         cc (same_numbers_forest n a, same_numbers (n + functions_in_forest (skeleton_forest a)) b, as_many_forest a)
     same_numbers n (while a b s) =
         cc (same_numbers n a, same_numbers_forest (n + functions_in (skeleton a)) b, as_many a)
     same_numbers n (for a b c d s) =
-        cc (same_numbers n a, same_numbers_optional (n + functions_in (skeleton a)) b,
-        same_numbers_optional (n + functions_in (skeleton a) + functions_in_optional (skeleton_optional b)) c,
-        same_numbers_forest (n + functions_in (skeleton a) + functions_in_optional (skeleton_optional b)
-        + functions_in_optional (skeleton_optional c)) d, as_many a, as_many_optional b, as_many_optional c)
+        cc (
+          same_numbers n a,
+          same_numbers_optional (n + functions_in (skeleton a)) b,
+          same_numbers_optional (n + functions_in (skeleton a) + functions_in_optional (skeleton_optional b)) c,
+          same_numbers_forest (n + functions_in (skeleton a) + functions_in_optional (skeleton_optional b)
+              + functions_in_optional (skeleton_optional c)) d,
+          as_many a,
+          as_many_optional b,
+          as_many_optional c,
+        )
     same_numbers n (for_in is_var a b c s) =
         cc (same_numbers n b, same_numbers_forest (n + functions_in (skeleton b)) c, as_many b)
     same_numbers n (continue a s) = refl
@@ -221,17 +239,25 @@ module _ {S : Type 0} where
         cc (same_numbers n a, same_numbers_forest (n + functions_in (skeleton a)) b, as_many a)
     same_numbers n (throw a s) = cc (same_numbers n a)
     same_numbers n (try a b c s) =
-        cc (same_numbers_forest n a, same_numbers_optional (n + functions_in_forest (skeleton_forest a)) b,
-        same_numbers_optional (n + functions_in_forest (skeleton_forest a)
-        + functions_in_optional (skeleton_optional b)) c, as_many_optional b, as_many_forest a)
+        cc (
+          same_numbers_forest n a,
+          same_numbers_optional (n + functions_in_forest (skeleton_forest a)) b,
+          same_numbers_optional (n + functions_in_forest (skeleton_forest a)
+              + functions_in_optional (skeleton_optional b)) c,
+          as_many_optional b,
+          as_many_forest a,
+        )
     same_numbers n (debugger s) = refl
     same_numbers n nothing = refl
     same_numbers n (init_expression a) = cc (same_numbers n a)
     same_numbers n (init_var a) = cc (same_numbers_forest n a)
     same_numbers n (declarator a b) = cc (same_numbers_optional n b)
     same_numbers n (case a b) =
-        cc (same_numbers_optional n a, same_numbers_forest (n + functions_in_optional (skeleton_optional a)) b,
-        as_many_optional a)
+        cc (
+          same_numbers_optional n a,
+          same_numbers_forest (n + functions_in_optional (skeleton_optional a)) b,
+          as_many_optional a,
+        )
     same_numbers n (branch_of a) = cc (same_numbers_forest n a)
     same_numbers n (catch a b) = cc (same_numbers_forest n b)
 

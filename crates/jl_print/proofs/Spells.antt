@@ -141,8 +141,10 @@ module _ {ts : List Token} {i : ℕ} {below : Bool} where
   at {k} s = record { is = terminal_spelled ts i k s.kind }
 
   pub identifier : {t : Text} → IsIdentifier t → Spelled ts i below (name t) → Is is_identifier ts i
-  identifier {t} w s = record { is = ap is_identifier (terminal_spelled ts i (name t) s.kind)
-      ∙ identifier_terminal t w.free }
+  identifier {t} w s = record {
+    is = ap is_identifier (terminal_spelled ts i (name t) s.kind)
+        ∙ identifier_terminal t w.free;
+  }
 
   pub any_name : {t : Text} → Spelled ts i below (name t) → Is is_name ts i
   any_name {t} s = record { is = ap is_name (terminal_spelled ts i (name t) s.kind) ∙ name_is t }

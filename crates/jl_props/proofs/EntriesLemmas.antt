@@ -41,8 +41,10 @@ with_new-IsInOrder {T} entries name serial item ordered none below =
     let new : Entry T = record { name = name; serial = serial; item = item } in
     let fails = none_found name entries none in
     all_pairs_push (λ (a b : Entry T). (a.name ≢ b.name) × (a.serial < b.serial)) entries new ordered
-    (λ k d within. ((λ same. absurd (false≢true (sym (fails k d within) ∙ (bytes_eq-Decides _ _).1 same))),
-    below k d within))
+    (λ k d within. (
+      (λ same. absurd (false≢true (sym (fails k d within) ∙ (bytes_eq-Decides _ _).1 same))),
+      below k d within,
+    ))
 
 pub without-IsInOrder : {T : Type 0} (entries : List (Entry T)) (name : List ℕ) → IsInOrder entries
     → IsInOrder (without entries name)

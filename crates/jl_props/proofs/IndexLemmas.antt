@@ -173,7 +173,7 @@ pushed-IsIndexed {T} e kept after serials more indexed new below is updates =
       record {
         own_serial = rw last (All-push OwnSerial kept.entries (e.serial, e) indexed.own_serial refl);
         in_order = rw all (with_new-IsInOrder (values kept) e.name e.serial e.item indexed.in_order
-        (rw (none_named (entry_named e.name (values kept)) new) refl) below);
+            (rw (none_named (entry_named e.name (values kept)) new) refl) below);
         named = λ q.
             updates q ∙ at_name e.name q (Some e.serial) _ (serial_in q (values after))
             (λ same. rw (all, ← same) (sym (ap serial_of (new_found (values kept) e new))))

@@ -209,7 +209,7 @@ all_total rule places at ops h = findings_total all_rules rule places at ops h
     ∙ (elim (once rule (hits_at places ops rule at)) [
       | inl one ↦ one
       | inr none ↦ none.0 ∙ sym
-      (ap (count_by (λ id. is_place at (place_of places id))) (no_hits_after rule [] ops none.1))
+          (ap (count_by (λ id. is_place at (place_of places id))) (no_hits_after rule [] ops none.1))
     ])
 
 -- so few hits are not capped

@@ -179,7 +179,7 @@ pub examples :
     × (first_early_error hooks_label ≡ Some (reserved_name (at 0 2)))
 unfolding left_out_names strict_words strict_names hooks_name is_left_out identifier_early_errors written_early_errors
     free_early_errors read_early_errors target_early_errors label_early_errors break_early_errors continue_early_errors
-        return_early_errors
+    return_early_errors
     delete_early_errors
 examples = (
   refl,

@@ -155,8 +155,11 @@ mutual
   assigned : {ts : List Token} {no_in : Bool} {i : ℕ} {t : Expr} {j : ℕ} → ReadsAssignment ts no_in i t j
       → AssignsByOperators t
   assigned (conditional a b) = read_conditional a
-  assigned (an_assignment {j = j} {op = op} a b c d) = (operator (terminal_at _ j) op c.is, target _ _ b (read_left a),
-      assigned d)
+  assigned (an_assignment {j = j} {op = op} a b c d) = (
+    operator (terminal_at _ j) op c.is,
+    target _ _ b (read_left a),
+    assigned d,
+  )
 
   begins_expression : {ts : List Token} {no_in : Bool} {i : ℕ} {t : Expr} {j : ℕ} → BeginsExpression ts no_in i t j
       → AssignsByOperators t

@@ -71,11 +71,11 @@ spells_lone u us small apart paired rest =
     let code : encode_utf16 u ≡ u ∷ [] = one_unit u (omega arith) in
     elim (cases_lt u 0xD800) [
       | inl low ↦ spells_more u (u ∷ []) us (u ∷ us) (low_scalar u low) code refl
-      (begins (Some u) (lone_unit_char_low u low)) paired rest
+          (begins (Some u) (lone_unit_char_low u low)) paired rest
       | inr from ↦ elim (cases_lt u 0xE000) [
         | inl below ↦ absurd (no_lone u us (begins None (lone_unit_char_surrogate u from below)) paired)
         | inr high ↦ spells_more u (u ∷ []) us (u ∷ us) (high_scalar u from high (omega arith)) code refl
-        (begins (Some u) (lone_unit_char_high u high)) paired rest
+            (begins (Some u) (lone_unit_char_high u high)) paired rest
       ]
     ]
 

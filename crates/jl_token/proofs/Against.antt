@@ -114,10 +114,10 @@ unfolding name_from
 name_covers {us} (name {mid} {rest} {x} {xs} s m) =
     rw (scan_letter s, reads_start.complete us x mid s)
     (elim (row_against (Letter is_identifier_part) (letter is_identifier_part) reads_part m) [
-  | longer_row h ↦ name_end_covers (x ∷ (many (letter is_identifier_part) mid).0)
-  (many (letter is_identifier_part) mid).1 _ rest h
-  | same_row e ↦ rw e (name_end_same (x ∷ xs) rest)
-])
+      | longer_row h ↦ name_end_covers (x ∷ (many (letter is_identifier_part) mid).0)
+          (many (letter is_identifier_part) mid).1 _ rest h
+      | same_row e ↦ rw e (name_end_same (x ∷ xs) rest)
+    ])
 
 -- numbers
 number_longer : (x : ℕ × ℕ × ℕ × List ℕ) (e : Element) (rest : List ℕ) → length x.3 < length rest
@@ -126,9 +126,9 @@ unfolding number_end
 number_longer (m, r, l, end) e rest h =
     choose (λ o. Covers o e rest) (first_is is_digit end || is_some_of (letter is_identifier_start end)) _ _
     (λ g. a_fault) (λ g. by (value_of m r l)) where
-  by : (o : Option ℕ) → Covers (number_of end o) e rest
-  by None = unfold number_of in a_fault
-  by (Some n) = unfold number_of in (a_longer h)
+      by : (o : Option ℕ) → Covers (number_of end o) e rest
+      by None = unfold number_of in a_fault
+      by (Some n) = unfold number_of in (a_longer h)
 
 number_same : (m r l n : ℕ) (rest : List ℕ) → HasValue m r l n
     → Covers (number_end (m, r, l, rest)) (Word (kinds.Number (Some (pos n)))) rest
@@ -156,10 +156,15 @@ string_covers : {us rest : List ℕ} {cs : List (List ℕ × Bool)} → StringLi
     → length (string_text cs) ≤ 1048576 → Covers (scan us) (Word (kinds.Str (string_text cs) (is_plain cs))) rest
 unfolding string_done string_stop
 string_covers (string {mark} {us} {rest} {cs} q m) h =
-    rw (scan_string mark us q, many_whole (Character mark) (character mark) (reads_character mark q) m
-    (mark_stops mark rest), same_unit mark, le-leb (length (string_text cs)) 1048576 h) the_same where
-  same_unit : (n : ℕ) → (n == n) ≡ true
-  same_unit n = grind arith
+    rw (
+      scan_string mark us q,
+      many_whole (Character mark) (character mark) (reads_character mark q) m
+          (mark_stops mark rest),
+      same_unit mark,
+      le-leb (length (string_text cs)) 1048576 h,
+    ) the_same where
+      same_unit : (n : ℕ) → (n == n) ≡ true
+      same_unit n = grind arith
 
 -- punctuators
 if_not : (b : Bool) → (if b then false else true) ≡ true → b ≡ false
@@ -183,8 +188,11 @@ well u ws h =
     (if u == 46 then (if nat_le 1 (length ws) then false else true) else true) h in
     let b = and_true (if is_other u then false else true)
     (if u == 47 then (if first_is (λ v. v == 47 || v == 42) ws then false else true) else true) a.0 in
-    record { other = if_not (is_other u) b.0; slash = if_on (u == 47) (first_is (λ v. v == 47 || v == 42) ws) b.1;
-    point = if_on (u == 46) (nat_le 1 (length ws)) a.1 }
+    record {
+      other = if_not (is_other u) b.0;
+      slash = if_on (u == 47) (first_is (λ v. v == 47 || v == 42) ws) b.1;
+      point = if_on (u == 46) (nat_le 1 (length ws)) a.1;
+    }
 
 block_longer : (x : List ℕ × List ℕ) (e : Element) (rest : List ℕ) → length x.1 < length rest
     → Covers (block_end x) e rest
@@ -269,8 +277,8 @@ punctuator_by : (p : Punct) (rest ws : List ℕ) → punctuator_units p ≡ ws
     → Covers (scan (ws ++ rest)) (Word (kinds.Punct p)) rest
 punctuator_by p rest [] e = let h = subst (λ x. goes_well x ≡ true) e (each_goes_well p) in
     absurd (nothing_well h) where
-  nothing_well : goes_well [] ≡ true → ⊥
-  nothing_well h = unfold goes_well in cc
+      nothing_well : goes_well [] ≡ true → ⊥
+      nothing_well h = unfold goes_well in cc
 punctuator_by p rest (u ∷ ws) e =
     punctuator_covers_by u ws rest p e (well u ws (subst (λ x. goes_well x ≡ true) e (each_goes_well p)))
 

@@ -107,9 +107,13 @@ name_blamed : {us rest : List ℕ} {xs : List (ℕ × Bool)} → Name us xs rest
     → scan us ≡ name_end xs rest
 unfolding name_from
 name_blamed {us} (name {mid} {rest} {x} {xs} s m) n =
-    rw (scan_letter s, reads_start.complete us x mid s, many_whole (Letter is_identifier_part)
-    (letter is_identifier_part) reads_part m (none_found (Letter is_identifier_part) (letter is_identifier_part)
-    reads_part rest n)) refl
+    rw (
+      scan_letter s,
+      reads_start.complete us x mid s,
+      many_whole (Letter is_identifier_part)
+          (letter is_identifier_part) reads_part m (none_found (Letter is_identifier_part) (letter is_identifier_part)
+          reads_part rest n),
+    ) refl
 
 backslash_end : (xs : List (ℕ × Bool)) (rest : List ℕ) → name_end xs (92 ∷ rest) ≡ bad faults.BadEscape
 unfolding name_done
@@ -122,8 +126,11 @@ long_name_end xs rest h g = rw (h, too_long (length (name_text xs)) g) refl
 
 no_name : (us : List ℕ) → No (Letter is_identifier_start) (92 ∷ us) → scan (92 ∷ us) ≡ bad faults.BadEscape
 unfolding name_from
-no_name us n = rw (scan_backslash us, none_found (Letter is_identifier_start) (letter is_identifier_start) reads_start
-    (92 ∷ us) n) refl
+no_name us n = rw (
+  scan_backslash us,
+  none_found (Letter is_identifier_start) (letter is_identifier_start) reads_start
+      (92 ∷ us) n,
+) refl
 
 -- numbers
 number_same : {us rest : List ℕ} {m r l : ℕ} → LongestNumeral us m r l rest → found_numeral us ≡ (m, r, l, rest)
@@ -209,16 +216,16 @@ no_digit : (u : ℕ) → NothingWith u → is_digit u ≡ true → ⊥
 no_digit u f d = elim (true_or_false (u == 48)) [
   | inl e ↦ no_zero (subst NothingWith (is_unit u 48 e) f)
   | inr z ↦ let b = digit_bounds u d in
-  f [] [] _ (numeric_literal (whole (nonzero z (some (unit d) no_more)) no_exponent)
-  (record { exact = refl; inside = omega arith }))
+      f [] [] _ (numeric_literal (whole (nonzero z (some (unit d) no_more)) no_exponent)
+      (record { exact = refl; inside = omega arith }))
 ]
 
 no_number_here : (u : ℕ) (vs us : List ℕ) → vs ≡ u ∷ us → NothingWith u → begins_at vs ≡ true → ⊥
 no_number_here u vs us e f h =
     elim (or_cases (is_digit u) (u == 46 && first_is is_digit us) (subst (λ w. begins_at w ≡ true) e h)) [
-  | inl d ↦ no_digit u f d
-  | inr p ↦ no_point (subst NothingWith (is_unit u 46 (and_true (u == 46) (first_is is_digit us) p).0) f)
-]
+      | inl d ↦ no_digit u f d
+      | inr p ↦ no_point (subst NothingWith (is_unit u 46 (and_true (u == 46) (first_is is_digit us) p).0) f)
+    ]
 
 only_character : (u : ℕ) (vs us : List ℕ) (k : BadKind) → vs ≡ u ∷ us → NothingWith u → Fault vs k
     → k ≡ faults.BadCharacter

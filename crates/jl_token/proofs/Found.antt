@@ -244,7 +244,7 @@ no_number_begins : (u : ℕ) (us : List ℕ) → Others u us → (others : List 
 no_number_begins u us o others h = elim (or_cases (is_digit u) (u == 46 && first_is is_digit others) h) [
   | inl d ↦ never_both (is_digit u) d o.digit
   | inr p ↦ no_head u us o.none Dot []
-  (ap (λ w. w ∷ []) (sym (is_unit u 46 (and_true (u == 46) (first_is is_digit others) p).0)))
+      (ap (λ w. w ∷ []) (sym (is_unit u 46 (and_true (u == 46) (first_is is_digit others) p).0)))
 ]
 
 nothing_begins : (u : ℕ) (us : List ℕ) → Others u us → (vs others rest : List ℕ) (e : Element) → vs ≡ u ∷ others
@@ -296,6 +296,12 @@ scan_right u us = choose (Right (u ∷ us)) (is_white_space u) _ _ (λ h. right_
     (λ d. choose (Right (u ∷ us)) (is_identifier_start u || u == 92) _ _
     (λ h. name_right u us h (letter is_identifier_start (u ∷ us)) refl)
     (λ s. punctuator_right u us
-    (λ e. record { white = w; line = l; quote = q;
-    digit = (or_false (is_digit u) (u == 46 && first_is is_digit us) d).0; start = s; none = e })
+    (λ e. record {
+      white = w;
+      line = l;
+      quote = q;
+      digit = (or_false (is_digit u) (u == 46 && first_is is_digit us) d).0;
+      start = s;
+      none = e;
+    })
     (first_punctuator all_punctuators (u ∷ us)) refl)))))))

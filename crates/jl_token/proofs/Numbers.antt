@@ -58,8 +58,10 @@ module _ (p : ℕ → Bool) where
 
   pub against : {us ds rest : List ℕ} → Many (OneUnit p) us ds rest → Against us ds rest
   against {us} {ds} {rest} m = elim (true_or_false (first_is p rest)) [
-    | inl h ↦ longer h (rw (many_complete (OneUnit p) (one_unit p) (reads_unit p) m,
-    prepend_rest ds (many (one_unit p) rest)) (goes_on rest h))
+    | inl h ↦ longer h (rw (
+      many_complete (OneUnit p) (one_unit p) (reads_unit p) m,
+      prepend_rest ds (many (one_unit p) rest),
+    ) (goes_on rest h))
     | inr h ↦ same (many_whole (OneUnit p) (one_unit p) (reads_unit p) m (not_first rest h))
   ]
 
@@ -121,8 +123,11 @@ taken (plus h d) = let i = row_shorter (reads_unit is_digit).shorter (as_row is_
 taken (minus h d) = let i = row_shorter (reads_unit is_digit).shorter (as_row is_digit d) in some_units (omega arith)
 
 exponent_shorter : (us : List ℕ) → length (exponent us).2 ≤ length us
-exponent_shorter us = elim (taken (exponent_sound us)) [ some_units h ↦ omega arith | no_units a b e
-    ↦ omega (arith, ap length e) ]
+exponent_shorter us = elim (taken (exponent_sound us)) [
+  | some_units h ↦ omega arith
+  | no_units a b e
+      ↦ omega (arith, ap length e)
+]
 
 -- what is found against what is told of: it is longer, or the same
 pub data ExponentAgainst (x : ℕ × ℕ × List ℕ) (r l : ℕ) (rest : List ℕ) : Type 0 where
@@ -159,8 +164,11 @@ none_at_digit [] rest r l h e = absurd cc
 none_at_digit (u ∷ us) rest r l h e = (none_before u us rest r l (digits u h).mark e).2
 
 no_exponent_found : (us : List ℕ) → ExponentAgainst (exponent us) 0 0 us
-no_exponent_found us = elim (taken (exponent_sound us)) [ some_units h ↦ longer_exponent h | no_units a b e
-    ↦ same_exponent (tuple3 (exponent us) 0 0 us a b e) ]
+no_exponent_found us = elim (taken (exponent_sound us)) [
+  | some_units h ↦ longer_exponent h
+  | no_units a b e
+      ↦ same_exponent (tuple3 (exponent us) 0 0 us a b e)
+]
 
 unsigned_against : (e : ℕ) (us ds rest : List ℕ) → (e == 101 || e == 69) ≡ true → Digits is_digit us ds rest
     → ExponentAgainst (exponent (e ∷ us)) (decimal_from 0 ds) 0 rest
@@ -259,7 +267,7 @@ fraction_against : (ds : List ℕ) {mid fs end rest : List ℕ} {r l : ℕ} → 
 unfolding after_fraction
 fraction_against ds {mid} {fs} {end} {rest} {r} {l} m e = elim (against is_digit m) [
   | longer h g ↦ longer_numeral (let a = fraction_rest ds (many (one_unit is_digit) mid) in
-  rw (none_at_digit end rest r l h e) (omega arith))
+      rw (none_at_digit end rest r l h e) (omega arith))
   | same q ↦ rw q (with_against (ds ++ fs) (length fs) (exponent end) r l rest (exponent_against e))
 ]
 
@@ -312,7 +320,7 @@ many_digits_against : (us ds mid rest : List ℕ) (r l : ℕ) → Many (OneUnit 
 unfolding from_whole
 many_digits_against us ds mid rest r l m e = elim (against is_digit m) [
   | longer h g ↦ longer_numeral (let a = whole_rest (many (one_unit is_digit) us).0 (many (one_unit is_digit) us).1 in
-  rw (none_at_digit mid rest r l h e) (omega arith))
+      rw (none_at_digit mid rest r l h e) (omega arith))
   | same q ↦ rw q (whole_against ds mid rest r l e)
 ]
 
@@ -353,9 +361,9 @@ numeral_against (with_point {mid} {ds} (nonzero {u} {us} z d) f e) =
 numeral_against (from_point d e) = fraction_against [] (as_row is_digit d) e
 numeral_against (hex {x} {us} {ds} {rest} h d) =
     rw (h, found_digits is_hex_digit d) (elim (against is_hex_digit (as_row is_hex_digit d)) [
-  | longer h l ↦ longer_numeral l
-  | same e ↦ same_numeral (rw e refl)
-])
+      | longer h l ↦ longer_numeral l
+      | same e ↦ same_numeral (rw e refl)
+    ])
 
 -- what is found is the longest literal
 pub numeral_longest : {us rest : List ℕ} {m r l : ℕ} → Numeral us m r l rest → length (found_numeral us).3 ≤ length rest

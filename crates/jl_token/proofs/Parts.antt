@@ -46,8 +46,11 @@ unit_shorter : (p : ℕ → Bool) (us : List ℕ) (a : ℕ) (rest : List ℕ) �
 unit_shorter p us a rest (unit h) = omega arith
 
 pub reads_unit : (p : ℕ → Bool) → Reads (OneUnit p) (one_unit p)
-reads_unit p = record { complete = unit_complete p; sound = λ us a rest e. at_some _ a rest (unit_sound p us) e;
-    shorter = unit_shorter p }
+reads_unit p = record {
+  complete = unit_complete p;
+  sound = λ us a rest e. at_some _ a rest (unit_sound p us) e;
+  shorter = unit_shorter p;
+}
 
 -- a unit of a comment
 close_sound : (us : List ℕ) → Holds (before_close us) (BeforeClose us)
@@ -63,8 +66,11 @@ close_shorter : (us : List ℕ) (a : ℕ) (rest : List ℕ) → BeforeClose us a
 close_shorter us a rest (one_before h) = omega arith
 
 pub reads_before_close : Reads BeforeClose before_close
-reads_before_close = record { complete = close_complete; sound = λ us a rest e. at_some _ a rest (close_sound us) e;
-    shorter = close_shorter }
+reads_before_close = record {
+  complete = close_complete;
+  sound = λ us a rest e. at_some _ a rest (close_sound us) e;
+  shorter = close_shorter;
+}
 
 -- a character of a name
 escape_sound : (p : ℕ → Bool) (us : List ℕ) → Holds (name_escape p us) (Letter p (92 ∷ us))
@@ -95,8 +101,11 @@ letter_shorter p us a rest (itself h) = omega arith
 letter_shorter p us a rest (escaped h g) = omega arith
 
 pub reads_letter : (p : ℕ → Bool) → p 92 ≡ false → Reads (Letter p) (letter p)
-reads_letter p b = record { complete = letter_complete p b;
-    sound = λ us a rest e. at_some _ a rest (letter_sound p us) e; shorter = letter_shorter p }
+reads_letter p b = record {
+  complete = letter_complete p b;
+  sound = λ us a rest e. at_some _ a rest (letter_sound p us) e;
+  shorter = letter_shorter p;
+}
 
 pub reads_start : Reads (Letter is_identifier_start) (letter is_identifier_start)
 reads_start = reads_letter is_identifier_start backslash_start

@@ -120,8 +120,8 @@ module _ (mark : ℕ) where
     mark_at : (92 == mark) ≡ false
     mark_at = other_unit 92 mark (λ e. never_both (mark == 92) (subst (λ w. (mark == w) ≡ true) (sym e) (same mark))
         (quotes mark q).backslash) where
-      same : (n : ℕ) → (n == n) ≡ true
-      same n = grind arith
+          same : (n : ℕ) → (n == n) ≡ true
+          same n = grind arith
 
     pub at_backslash : (us : List ℕ) → character mark (92 ∷ us) ≡ escape us
     unfolding character units
@@ -189,5 +189,8 @@ module _ (mark : ℕ) where
     character_shorter us a rest long_continuation = omega arith
 
     pub reads_character : Reads (Character mark) (character mark)
-    reads_character = record { complete = character_complete;
-        sound = λ us a rest e. at_some _ a rest (character_sound us) e; shorter = character_shorter }
+    reads_character = record {
+      complete = character_complete;
+      sound = λ us a rest e. at_some _ a rest (character_sound us) e;
+      shorter = character_shorter;
+    }

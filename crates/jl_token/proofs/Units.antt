@@ -79,8 +79,11 @@ white_start u h = elim (or_cases _ _ h) [
     | inl h2 ↦ elim (or_cases _ _ h2) [
       | inl h3 ↦ elim (or_cases _ _ h3) [
         | inl h4 ↦ elim (or_cases _ _ h4) [
-          | inl h5 ↦ elim (or_cases _ _ h5) [ inl e ↦ at_unit is_identifier_start u 9 e refl | inr e
-          ↦ at_unit is_identifier_start u 11 e refl ]
+          | inl h5 ↦ elim (or_cases _ _ h5) [
+            | inl e ↦ at_unit is_identifier_start u 9 e refl
+            | inr e
+                ↦ at_unit is_identifier_start u 11 e refl
+          ]
           | inr e ↦ at_unit is_identifier_start u 12 e refl
         ]
         | inr e ↦ at_unit is_identifier_start u 32 e refl
@@ -131,7 +134,7 @@ unfolding units
 starts u h = record {
   white = clash is_white_space is_identifier_start white_start u h;
   line = clash is_line_terminator is_identifier_start (each_line_terminator is_identifier_start refl refl refl refl) u
-  h;
+      h;
   slash = clash (λ v. v == 47) is_identifier_start (λ v e. at_unit is_identifier_start v 47 e refl) u h;
   quote = clash is_quote is_identifier_start (each_quote is_identifier_start refl refl) u h;
   digit = clash is_digit is_identifier_start (each_digit is_identifier_start refl) u h;

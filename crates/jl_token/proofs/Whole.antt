@@ -210,9 +210,11 @@ tokens_are_unique text ts us t u =
 
 pub bad_place_is_unique : BadPlaceIsUnique
 bad_place_is_unique text i j k l b c =
-    let e = same_second (sym (bad_found b) ∙ bad_found c) in
-    (b.there ∙ (ap (place text) e ∙ sym c.there), same_kind (sym (scan_blamed b.fault)
-    ∙ (ap scan e ∙ scan_blamed c.fault))) where
+    let e = same_second (sym (bad_found b) ∙ bad_found c) in (
+      b.there ∙ (ap (place text) e ∙ sym c.there),
+      same_kind (sym (scan_blamed b.fault)
+          ∙ (ap scan e ∙ scan_blamed c.fault)),
+    ) where
       same_kind : {k l : BadKind} → bad k ≡ bad l → k ≡ l
       same_kind e = cc
 

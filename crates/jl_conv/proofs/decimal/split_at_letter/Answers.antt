@@ -17,8 +17,11 @@ returns-in-Some c =
     let inside = f.1 in
     record {
       before = ap (λ n. take n units) (sym f.0);
-      after = (some_passes is_exponent_letter units (omega arith), take_rest units (at + 1)
-      ∙ ap (λ n. drop (n + 1) units) (sym f.0));
+      after = (
+        some_passes is_exponent_letter units (omega arith),
+        take_rest units (at + 1)
+            ∙ ap (λ n. drop (n + 1) units) (sym f.0),
+      );
     }
 
 pub returns-in-None : goal.returns-in-None

@@ -9,8 +9,8 @@ loop-unit-preserved c =
     let f = c.in-Ok.ensures in
     record {
       read = read_more comments_among comments_among c.loop-unit.comments.items c.args.units.now comments_among
-      c.add_comment.new.comments.items c.loop-unit.at c.in-Ok.end (element_of c.in-Ok.element) f.0
-      c.loop-unit.invariant.within f.2 c.in_ok-add_comment-in-Ok.ensures c.loop-unit.invariant.read;
+          c.add_comment.new.comments.items c.loop-unit.at c.in-Ok.end (element_of c.in-Ok.element) f.0
+          c.loop-unit.invariant.within f.2 c.in_ok-add_comment-in-Ok.ensures c.loop-unit.invariant.read;
       within = f.2;
     }
 

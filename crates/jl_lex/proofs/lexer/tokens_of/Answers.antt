@@ -9,8 +9,9 @@ loop-unit-preserved c =
     let f = c.in-Ok.ensures in
     record {
       read = read_more (tokens_among false) (tokens_among c.loop-unit.line) c.loop-unit.tokens c.args.units.now
-      (tokens_among c.in_ok-line-in-Ok.line) c.add.new.tokens c.loop-unit.at c.in-Ok.end (element_of c.in-Ok.element)
-      f.0 c.loop-unit.invariant.within f.2 c.in_ok-line-in-Ok.ensures c.loop-unit.invariant.read;
+          (tokens_among c.in_ok-line-in-Ok.line) c.add.new.tokens c.loop-unit.at c.in-Ok.end
+          (element_of c.in-Ok.element)
+          f.0 c.loop-unit.invariant.within f.2 c.in_ok-line-in-Ok.ensures c.loop-unit.invariant.read;
       within = f.2;
     }
 

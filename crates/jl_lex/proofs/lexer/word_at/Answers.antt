@@ -21,10 +21,13 @@ returns-then-begins_name c =
     c.if-is_quote.ensures c.if-begins_number.ensures c.if-begins_name.ensures) (omega arith) c.name.ensures
 
 pub returns-in-Some : goal.returns-in-Some
-returns-in-Some c = let f = c.in-Some.ensures.found in let p = c.in-Some.ensures.places in
-    (word_found c.args.unit (drop (c.args.at + 1) c.args.units.now) (drop c.args.at c.args.units.now)
-    (drop c.in-Some.end c.args.units.now) c.in-Some.punct c.requires.unit c.if-is_quote.ensures
-    c.if-begins_number.ensures c.if-begins_name.ensures f, p.0, p.1)
+returns-in-Some c = let f = c.in-Some.ensures.found in let p = c.in-Some.ensures.places in (
+  word_found c.args.unit (drop (c.args.at + 1) c.args.units.now) (drop c.args.at c.args.units.now)
+      (drop c.in-Some.end c.args.units.now) c.in-Some.punct c.requires.unit c.if-is_quote.ensures
+      c.if-begins_number.ensures c.if-begins_name.ensures f,
+  p.0,
+  p.1,
+)
 
 pub returns-in-None : goal.returns-in-None
 returns-in-None c = word_none c.args.unit (drop (c.args.at + 1) c.args.units.now) (drop c.args.at c.args.units.now)

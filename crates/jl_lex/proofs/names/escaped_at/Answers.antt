@@ -13,10 +13,12 @@ returns-in_default c = escape_no_digits (is_name_character c.args.part) c.args.u
 
 pub returns-then-is_allowed : goal.returns-then-is_allowed
 returns-then-is_allowed c =
-    let w = c.in-Some.ensures.within in
-    (escape_allowed (is_name_character c.args.part) c.args.units.now c.args.at c.in-Some.written
-    (sym c.if-not-is_at.ensures) (sym c.in-Some.ensures.value) (sym c.if-is_allowed.ensures), omega arith,
-    omega (arith, w))
+    let w = c.in-Some.ensures.within in (
+      escape_allowed (is_name_character c.args.part) c.args.units.now c.args.at c.in-Some.written
+          (sym c.if-not-is_at.ensures) (sym c.in-Some.ensures.value) (sym c.if-is_allowed.ensures),
+      omega arith,
+      omega (arith, w),
+    )
 
 pub returns-else-is_allowed : goal.returns-else-is_allowed
 returns-else-is_allowed c =

@@ -9,10 +9,12 @@ returns-in_default c = letter_none (is_name_character c.args.part) (drop c.args.
 
 pub returns-then-is_allowed : goal.returns-then-is_allowed
 returns-then-is_allowed c =
-    let e = c.in-Some.ensures in
-    (letter_itself (is_name_character c.args.part) (drop c.args.at c.args.units.now)
-    (drop (c.args.at + 1) c.args.units.now) c.in-Some.unit e.0 (sym c.if-is_allowed.ensures), omega arith,
-    omega (arith, e.1))
+    let e = c.in-Some.ensures in (
+      letter_itself (is_name_character c.args.part) (drop c.args.at c.args.units.now)
+          (drop (c.args.at + 1) c.args.units.now) c.in-Some.unit e.0 (sym c.if-is_allowed.ensures),
+      omega arith,
+      omega (arith, e.1),
+    )
 
 pub returns-then-unit-ne-BACKSLASH : goal.returns-then-unit-ne-BACKSLASH
 returns-then-unit-ne-BACKSLASH c =

@@ -15,9 +15,13 @@ loop-next-init c =
     c.in-Some.first.unit c.in-Some.first.escaped e.0 in
     let t : c.in-Some.first.unit ∷ [] ≡ c.push.new.self.items =
     sym (c.in_ok-push.ensures.items ∙ ap (λ (x : List ℕ). x ++ c.in-Some.first.unit ∷ []) c.new-text.ensures.items) in
-    record { name = subst (λ (x : List ℕ). NameSoFar x c.in-Some.first.escaped
-    (drop c.in-Some.first.end c.args.units.now)
-    (name_from (letter is_identifier_start (drop c.args.at c.args.units.now)))) t n; later = e.1; within = e.2 }
+    record {
+      name = subst (λ (x : List ℕ). NameSoFar x c.in-Some.first.escaped
+          (drop c.in-Some.first.end c.args.units.now)
+          (name_from (letter is_identifier_start (drop c.args.at c.args.units.now)))) t n;
+      later = e.1;
+      within = e.2;
+    }
 
 pub loop-next-preserved-then-next : goal.loop-next-preserved-then-next
 loop-next-preserved-then-next c =
@@ -27,9 +31,13 @@ loop-next-preserved-then-next c =
     let n = name_more c.loop-next.text.items us mid c.loop-next.escaped c.in-Some-letter_at.next.escaped true
     c.in-Some-letter_at.next.unit (name_from (letter is_identifier_start (drop c.args.at c.args.units.now))) e.0
     (or_true c.loop-next.escaped c.in-Some-letter_at.next.escaped c.if-next.true) c.loop-next.invariant.name in
-    record { name = subst (λ (x : List ℕ). NameSoFar x true mid
-    (name_from (letter is_identifier_start (drop c.args.at c.args.units.now)))) (sym c.in_ok-push-2.ensures.items) n;
-    later = omega (arith, e.1); within = e.2 } where
+    record {
+      name = subst (λ (x : List ℕ). NameSoFar x true mid
+          (name_from (letter is_identifier_start (drop c.args.at c.args.units.now)))) (sym c.in_ok-push-2.ensures.items)
+          n;
+      later = omega (arith, e.1);
+      within = e.2;
+    } where
       or_true : (a b : Bool) → b ≡ true → (a || b) ≡ true
       or_true true b h = refl
       or_true false b h = h
@@ -43,9 +51,13 @@ loop-next-preserved c =
     c.loop-next.escaped c.in-Some-letter_at.next.unit
     (name_from (letter is_identifier_start (drop c.args.at c.args.units.now))) e.0
     (or_same c.loop-next.escaped c.in-Some-letter_at.next.escaped c.if-next.false) c.loop-next.invariant.name in
-    record { name = subst (λ (x : List ℕ). NameSoFar x c.loop-next.escaped mid
-    (name_from (letter is_identifier_start (drop c.args.at c.args.units.now)))) (sym c.in_ok-push-2.ensures.items) n;
-    later = omega (arith, e.1); within = e.2 } where
+    record {
+      name = subst (λ (x : List ℕ). NameSoFar x c.loop-next.escaped mid
+          (name_from (letter is_identifier_start (drop c.args.at c.args.units.now)))) (sym c.in_ok-push-2.ensures.items)
+          n;
+      later = omega (arith, e.1);
+      within = e.2;
+    } where
       or_same : (a b : Bool) → b ≡ false → (a || b) ≡ a
       or_same true b h = refl
       or_same false b h = h

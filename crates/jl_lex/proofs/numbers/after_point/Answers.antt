@@ -10,8 +10,8 @@ returns c =
     let d = c.digits-end.ensures in
     record {
       read = λ ds s. point_from c.args.units.now c.args.at c.digits-end.result.1 (c.digits-end.result.1 - c.args.at)
-      c.with_exponent.result ds (many (one_unit is_digit) us) d.rest
-      (places_are c.args.units.now c.args.at c.digits-end.result.1 d.rest d.later d.within) d.later
+          c.with_exponent.result ds (many (one_unit is_digit) us) d.rest
+          (places_are c.args.units.now c.args.at c.digits-end.result.1 d.rest d.later d.within) d.later
           (c.with_exponent.ensures.read (ds ++ (many (one_unit is_digit) us).0)
           (point_stands c.args.amount.coefficient c.args.amount.zeros c.digits-end.result.0.coefficient
           c.digits-end.result.0.zeros ds us s d.amount));

@@ -8,9 +8,9 @@ loop-unit-preserved c =
     let r = c.add_digit-read.ensures in
     record {
       digits = digits_more c.loop-unit.read.coefficient c.loop-unit.read.zeros c.add_digit-read.result.coefficient
-      c.add_digit-read.result.zeros (drop c.loop-unit.end c.args.units.now)
-      (drop (c.loop-unit.end + 1) c.args.units.now) c.in-Some.unit (c.args.amount.coefficient, c.args.amount.zeros)
-      (drop c.args.at c.args.units.now) e.0 (sym c.if-not-is_digit.ensures) r.amount c.loop-unit.invariant.digits;
+          c.add_digit-read.result.zeros (drop c.loop-unit.end c.args.units.now)
+          (drop (c.loop-unit.end + 1) c.args.units.now) c.in-Some.unit (c.args.amount.coefficient, c.args.amount.zeros)
+          (drop c.args.at c.args.units.now) e.0 (sym c.if-not-is_digit.ensures) r.amount c.loop-unit.invariant.digits;
       small = r.small;
       few = omega (arith, r.few, c.loop-unit.invariant.few);
       later = omega arith;

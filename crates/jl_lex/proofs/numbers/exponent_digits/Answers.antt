@@ -12,8 +12,8 @@ loop-unit-preserved c =
     let e = c.in-Some.ensures in
     record {
       digits = capped_more c.loop-unit.number c.add_exponent_digit-number.result (drop c.loop-unit.end c.args.units.now)
-      (drop (c.loop-unit.end + 1) c.args.units.now) c.in-Some.unit (drop c.args.at c.args.units.now) e.0
-      (sym c.if-not-is_digit.ensures) c.add_exponent_digit-number.ensures.value c.loop-unit.invariant.digits;
+          (drop (c.loop-unit.end + 1) c.args.units.now) c.in-Some.unit (drop c.args.at c.args.units.now) e.0
+          (sym c.if-not-is_digit.ensures) c.add_exponent_digit-number.ensures.value c.loop-unit.invariant.digits;
       small = c.add_exponent_digit-number.ensures.small;
       later = omega arith;
       within = omega (arith, e.1);

@@ -10,8 +10,8 @@ loop-digit-preserved c =
     let s = c.in-Some-hex_at.ensures.small in
     record {
       digits = hex_more c.loop-digit.number c.hex_capped-number.result c.in-Some-hex_at.digit c.args.units.now
-      c.loop-digit.end (drop c.args.at c.args.units.now) (sym c.in-Some-hex_at.ensures.value)
-      c.hex_capped-number.ensures.value c.loop-digit.invariant.digits;
+          c.loop-digit.end (drop c.args.at c.args.units.now) (sym c.in-Some-hex_at.ensures.value)
+          c.hex_capped-number.ensures.value c.loop-digit.invariant.digits;
       small = c.hex_capped-number.ensures.small;
       later = omega arith;
       within = omega (arith, s.1);

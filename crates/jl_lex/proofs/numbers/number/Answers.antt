@@ -37,10 +37,13 @@ pub returns-in-Ok : goal.returns-in-Ok
 returns-in-Ok c =
     let n = c.numeral_after-numeral.ensures in
     let h = number_small c.args.units.now c.args.at c.numeral_after-numeral.result _ c.in-Some-value.value n
-    c.in-Some-value.is in
-    (number_some c.args.units.now c.args.at c.numeral_after-numeral.result _ c.in-Some-value.value c.in-Ok.number n
-    c.if-is_digit_at.ensures c.in_default.ensures c.in-Some-value.is (c.in-Ok.ensures.made
-    ∙ ap (λ (z : ℤ). Some z) (as_whole c.in-Some-value.value h)), n.2, n.3)
+    c.in-Some-value.is in (
+      number_some c.args.units.now c.args.at c.numeral_after-numeral.result _ c.in-Some-value.value c.in-Ok.number n
+          c.if-is_digit_at.ensures c.in_default.ensures c.in-Some-value.is (c.in-Ok.ensures.made
+          ∙ ap (λ (z : ℤ). Some z) (as_whole c.in-Some-value.value h)),
+      n.2,
+      n.3,
+    )
 
 pub returns-in-Err : goal.returns-in-Err
 returns-in-Err c =

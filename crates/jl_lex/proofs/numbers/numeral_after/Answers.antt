@@ -19,8 +19,11 @@ returns-then-unit-eq46 c =
 
 pub digits-end-requires-clause-few : goal.digits-end-requires-clause-few
 digits-end-requires-clause-few c =
-    omega (arith, first_zeros c.args.unit c.add_digit-first.result.coefficient c.add_digit-first.result.zeros
-    c.if-unit-eq48.false c.add_digit-first.ensures.amount)
+    omega (
+      arith,
+      first_zeros c.args.unit c.add_digit-first.result.coefficient c.add_digit-first.result.zeros
+          c.if-unit-eq48.false c.add_digit-first.ensures.amount,
+    )
 
 pub returns : goal.returns
 returns c =

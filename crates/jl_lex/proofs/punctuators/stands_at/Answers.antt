@@ -10,7 +10,7 @@ returns-then-not-is_at-clause-text c =
 pub loop-character-preserved : goal.loop-character-preserved
 loop-character-preserved c = record {
   rest = stands_more c.args.text.now c.args.units.now c.loop-character.character-index c.loop-character.end
-  c.from.result c.loop-character-test.true c.from.ensures c.if-not-is_at.ensures ∙ c.loop-character.invariant.rest;
+      c.from.result c.loop-character-test.true c.from.ensures c.if-not-is_at.ensures ∙ c.loop-character.invariant.rest;
   place = omega arith;
   within = first_within _ c.args.units.now c.loop-character.end c.if-not-is_at.ensures;
 }

@@ -25,7 +25,9 @@ returns-then-unit-eq-BACKSLASH c =
 
 pub returns : goal.returns
 returns c =
-    let e = c.in-Some.ensures in
-    (character_plain c.args.mark (drop c.args.at c.args.units.now) (drop (c.args.at + 1) c.args.units.now)
-    c.in-Some.unit e.0 c.if-unit-mark.false c.if-is_line_terminator.ensures c.if-unit-eq-BACKSLASH.false, omega arith,
-    omega (arith, e.1))
+    let e = c.in-Some.ensures in (
+      character_plain c.args.mark (drop c.args.at c.args.units.now) (drop (c.args.at + 1) c.args.units.now)
+          c.in-Some.unit e.0 c.if-unit-mark.false c.if-is_line_terminator.ensures c.if-unit-eq-BACKSLASH.false,
+      omega arith,
+      omega (arith, e.1),
+    )

@@ -8,10 +8,13 @@ returns-in_default c = done_end c.args.mark c.args.text.now c.args.plain (drop c
 
 pub returns-in-Ok : goal.returns-in-Ok
 returns-in-Ok c =
-    let e = c.in-Some.ensures in
-    (done_mark c.args.mark c.args.text.now c.in-Ok.text c.args.plain (drop c.args.end c.args.units.now)
-    (drop (c.args.end + 1) c.args.units.now) c.in-Some.unit e.0 c.if-unit-mark.true c.in-Ok.ensures.made
-    (λ h. apart (c.in-Ok.ensures.long.1 h)), omega arith, omega (arith, e.1)) where
+    let e = c.in-Some.ensures in (
+      done_mark c.args.mark c.args.text.now c.in-Ok.text c.args.plain (drop c.args.end c.args.units.now)
+          (drop (c.args.end + 1) c.args.units.now) c.in-Some.unit e.0 c.if-unit-mark.true c.in-Ok.ensures.made
+          (λ h. apart (c.in-Ok.ensures.long.1 h)),
+      omega arith,
+      omega (arith, e.1),
+    ) where
       apart : {A E : Type 0} {a : A} {e : E} → Ok a ≡ Err e → ⊥
       apart e = cc
 

@@ -5,9 +5,12 @@ use Rattle.jl_lex.proofs.strings.other_escape_at.Goals as goal
 
 pub returns-then-is_line_terminator : goal.returns-then-is_line_terminator
 returns-then-is_line_terminator c =
-    let e = c.line_terminator_end-end.ensures in
-    (other_line c.args.unit (drop c.args.at c.args.units.now) (drop c.line_terminator_end-end.result c.args.units.now)
-    c.if-is_line_terminator.ensures e.rest, e.later, e.within)
+    let e = c.line_terminator_end-end.ensures in (
+      other_line c.args.unit (drop c.args.at c.args.units.now) (drop c.line_terminator_end-end.result c.args.units.now)
+          c.if-is_line_terminator.ensures e.rest,
+      e.later,
+      e.within,
+    )
 
 pub returns-in_default : goal.returns-in_default
 returns-in_default c = other_hex_none c.args.unit c.args.units.now c.args.at c.if-is_line_terminator.ensures

@@ -7,11 +7,14 @@ use Rattle.jl_lex.proofs.Loops.{found_later}
 use Rattle.jl_lex.proofs.strings.string.Goals as goal
 
 pub loop-next-init : goal.loop-next-init
-loop-next-init c = record { string = subst
-    (λ (x : List ℕ). StringSoFar c.args.mark x true (drop c.args.at c.args.units.now)
-    (string_end c.args.mark (many (character c.args.mark) (drop c.args.at c.args.units.now))))
-    (sym c.new-text.ensures.items) (string_begins c.args.mark (drop c.args.at c.args.units.now)); later = omega arith;
-    within = c.requires.within }
+loop-next-init c = record {
+  string = subst
+      (λ (x : List ℕ). StringSoFar c.args.mark x true (drop c.args.at c.args.units.now)
+      (string_end c.args.mark (many (character c.args.mark) (drop c.args.at c.args.units.now))))
+      (sym c.new-text.ensures.items) (string_begins c.args.mark (drop c.args.at c.args.units.now));
+  later = omega arith;
+  within = c.requires.within;
+}
 
 pub loop-next-preserved-then-not-next : goal.loop-next-preserved-then-not-next
 loop-next-preserved-then-not-next c =
@@ -21,8 +24,11 @@ loop-next-preserved-then-not-next c =
     let n = string_more c.args.mark c.requires.quote c.loop-next.text.items (values c.in-Some.next.unit)
     (drop c.loop-next.end c.args.units.now) mid c.loop-next.plain c.in-Some.next.plain false all e.0
     (and_no c.loop-next.plain c.in-Some.next.plain c.if-not-next.true) c.loop-next.invariant.string in
-    record { string = subst (λ (x : List ℕ). StringSoFar c.args.mark x false mid all) (sym c.in_ok-put.ensures) n;
-    later = omega (arith, e.1); within = e.2 } where
+    record {
+      string = subst (λ (x : List ℕ). StringSoFar c.args.mark x false mid all) (sym c.in_ok-put.ensures) n;
+      later = omega (arith, e.1);
+      within = e.2;
+    } where
       and_no : (a b : Bool) → not b ≡ true → (a && b) ≡ false
       and_no true false h = refl
       and_no true true h = absurd cc
@@ -36,8 +42,12 @@ loop-next-preserved c =
     let n = string_more c.args.mark c.requires.quote c.loop-next.text.items (values c.in-Some.next.unit)
     (drop c.loop-next.end c.args.units.now) mid c.loop-next.plain c.in-Some.next.plain c.loop-next.plain all e.0
     (and_same c.loop-next.plain c.in-Some.next.plain c.if-not-next.false) c.loop-next.invariant.string in
-    record { string = subst (λ (x : List ℕ). StringSoFar c.args.mark x c.loop-next.plain mid all)
-    (sym c.in_ok-put.ensures) n; later = omega (arith, e.1); within = e.2 } where
+    record {
+      string = subst (λ (x : List ℕ). StringSoFar c.args.mark x c.loop-next.plain mid all)
+          (sym c.in_ok-put.ensures) n;
+      later = omega (arith, e.1);
+      within = e.2;
+    } where
       and_same : (a b : Bool) → not b ≡ false → (a && b) ≡ a
       and_same true true h = refl
       and_same true false h = absurd cc

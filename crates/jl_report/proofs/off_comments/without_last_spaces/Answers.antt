@@ -12,6 +12,6 @@ pub loop-end-preserved : goal.loop-end-preserved
 loop-end-preserved c = record {
   within = omega (arith, c.loop-end.invariant.within);
   same = sym (space_there c.args.text.now c.loop-end.end c.loop-end-test.true c.loop-end.invariant.within
-  c.if-text-end-ne-SPACE.false)
+      c.if-text-end-ne-SPACE.false)
       ∙ c.loop-end.invariant.same;
 }

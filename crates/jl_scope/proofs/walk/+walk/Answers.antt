@@ -78,7 +78,7 @@ walk_items-loop-e-preserved t c =
     ] in
     turn view_items (λ e. item (option_map view_expression e)) (λ a l. refl) s c.args.items.now _ _ _ _ _
     c.e-item.is c.loop-e-test.true c.loop-e.invariant
-        (held ∙ ap (first_from c.loop-e.found) (item_is s c.e-item.result))
+    (held ∙ ap (first_from c.loop-e.found) (item_is s c.e-item.result))
 
 pub walk_statement-walk_statements-requires-in-For : goal.walk_statement-walk_statements-requires-in-For
 walk_statement-walk_statements-requires-in-For t c =
@@ -135,5 +135,5 @@ walk_statement-returns-in_ok-walk_held-in-For-2 t c =
     m c.in_ok-walk_held-in-For-2.ensures in
     last_part c.walk_statements-in-For.result c.args.found.now c.walk_held-in-For.new.found
     c.walk_statements-in-For.new.found (early_errors s (view_statement c.args.statement.now)) (init ++ test ++ step)
-        body
+    body
     all n c.walk_statements-in-For.ensures

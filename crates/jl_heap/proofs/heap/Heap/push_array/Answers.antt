@@ -27,10 +27,15 @@ invariant_of-self-in-Ok c =
 pub returns-in-Ok-clause-ok : goal.returns-in-Ok-clause-ok
 returns-in-Ok-clause-ok c =
     let a = c.self.inside in
-    subst (λ item. objects_inside (record a { headers = c.push.new.self; properties = c.put_new.new.self;
-    length_name = Some c.in_ok-spare.spare })
-    ≡ with_new_property (record c.args.self.now { objects = c.args.self.now.objects ++ object_of c.args.header []
-    ∷ [] })
+    subst (λ item. objects_inside (record a {
+      headers = c.push.new.self;
+      properties = c.put_new.new.self;
+      length_name = Some c.in_ok-spare.spare;
+    })
+    ≡ with_new_property (record c.args.self.now {
+      objects = c.args.self.now.objects ++ object_of c.args.header []
+          ∷ [];
+    })
     (length c.args.self.now.objects) length_name item)
     c.first_length.ensures
     (seen_array a c.args.header c.self.invariant c.args.self.now c.self.view_is c.push.new.self c.put_new.new.self

@@ -5,7 +5,7 @@ use Rattle.jl_heap.proofs.heap.Heap.reachable_length.Given as goal
 abbrev pub invariant-loop-names : goal.invariant-loop-names
 invariant-loop-names l = record {
   so_far : max l.end (reached_over l.self l.id.0 l.low l.high l.names)
-  ≡ reached_over l.self l.id.0 l.low l.high l.fn.names;
+      ≡ reached_over l.self l.id.0 l.low l.high l.fn.names;
   above : l.low ≤ l.end;
 }
 

@@ -43,6 +43,9 @@ returns g c =
     ∙ ap (λ e. set_value (is_at (nat_cmp serial)) inside.entries.entries (record e { item = w })) entry)).0 in
     rw (← c.self.view_is) (
       ends_alike made,
-      record { comes_back = tt; value = ap (λ (e : Entry g.row.T.Denot). Some e.item) entry
-      ∙ ap (option_map (λ e. e.item)) (sym at.found) },
+      record {
+        comes_back = tt;
+        value = ap (λ (e : Entry g.row.T.Denot). Some e.item) entry
+            ∙ ap (option_map (λ e. e.item)) (sym at.found);
+      },
     )

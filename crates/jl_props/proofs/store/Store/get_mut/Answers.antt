@@ -10,6 +10,6 @@ invariant_of-self-lent g c =
     let is = c.in_ok-entries.ensures.value ∙ get_or_default lists c.args.obj c.in_ok-entries.entries.now [] within in
     λ _. (
       (λ w. rw is (item_set-IsWellKept lists c.args.obj (length c.self.inside.made.items) c.args.name.now w
-      c.self.invariant)),
+          c.self.invariant)),
       rw (is, set-get_or lists c.args.obj []) c.self.invariant,
     )
