@@ -1,10 +1,10 @@
 #!/usr/bin/env python3
-"""Tries the edits of `edits/`: wrong code of the large crates, which the prover has to refuse.
+"""Tries the edits of `edits/`: wrong code of most crates, which the prover has to refuse.
 
 usage: tools/edits.py [NAME..]      NAME is a crate that has a folder there; all of them where none is given
 
-Each edit of a crate costs the gate about as much as the proof of that crate. So the gate tries those in `must-fail/` of
-the small crates, and this script tries the others: in a clone of the last commit, by `rt must-fail`, over the libraries
+The edits of a crate cost the gate two more proofs of it, and those of a large crate a proof each. So the gate tries
+those in `must-fail/` of five small crates, and this script tries the others: in a clone of the last commit, by `rt must-fail`, over the libraries
 that a whole `rt ci` has left in this checkout, and else over libraries that it proves first. Run it for a crate before a
 change of it is handed in. The status is 0 where each edit was refused.
 """
