@@ -4,9 +4,9 @@
 usage: tools/edits.py [NAME..]      NAME is a crate that has a folder there; all of them where none is given
 
 The edits of a crate cost the gate two more proofs of it, and those of a large crate a proof each. So the gate tries
-those in `must-fail/` of five small crates, and this script tries the others: in a clone of the last commit, by `rt must-fail`, over the libraries
-that a whole `rt ci` has left in this checkout, and else over libraries that it proves first. Run it for a crate before a
-change of it is handed in. The status is 0 where each edit was refused.
+those in `must-fail/` of five small crates, and this script tries the others: in a clone of the last commit, by
+`rt must-fail`, over the libraries that a whole `rt ci` has left in this checkout, and else over libraries that it
+proves first. Run it for a crate before a change of it is handed in. The status is 0 where each edit was refused.
 """
 import os
 import shutil
