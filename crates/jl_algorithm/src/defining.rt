@@ -38,7 +38,7 @@ pub fn define_own_property<'p>(
     if is_array_length(&state.store, id, name) {
         return define_length(alloc, state, id, name, change, purpose);
     }
-    Ok(define_now(alloc, state, id, name, change, purpose)?)
+    define_now(alloc, state, id, name, change, purpose)
 }
 
 /// The same of the length of an array, whose value is converted twice (15.4.5.1, steps 3.c and 3.d).
@@ -58,7 +58,7 @@ fn define_length<'p>(
     ensures falls { IfOk result (λ act. Falls state.old 40 state.new act) }
 {
     let Some(length) = &change.value else {
-        return Ok(define_now(alloc, state, id, name, change, purpose)?);
+        return define_now(alloc, state, id, name, change, purpose);
     };
     let v = share(alloc, length)?;
     let length = share(alloc, length)?;
@@ -92,7 +92,7 @@ pub(crate) fn define_now<'p>(
     ensures falls { IfOk result (λ act. Falls state.old 3 state.new act) }
 {
     let done = state.store.define_with_number(id, name, change)?;
-    Ok(after_define(alloc, state, purpose, done)?)
+    after_define(alloc, state, purpose, done)
 }
 
 /// What follows when a property has been defined, or that was rejected: a put throws a TypeError if it is asked to,
@@ -110,13 +110,13 @@ pub(crate) fn after_define<'p>(
         WrittenBy::Literal => Ok(Act::Give(Value::Undefined)),
         WrittenBy::Put { throwing, gives } => {
             if throwing && !done {
-                return Ok(throw_native(alloc, state, ErrorKind::TypeError, "cannot write")?);
+                return throw_native(alloc, state, ErrorKind::TypeError, "cannot write");
             }
             Ok(Act::Give(gives))
         }
         WrittenBy::Builtin { gives } => {
             if !done {
-                return Ok(throw_native(alloc, state, ErrorKind::TypeError, "cannot define")?);
+                return throw_native(alloc, state, ErrorKind::TypeError, "cannot define");
             }
             Ok(Act::Give(gives))
         }

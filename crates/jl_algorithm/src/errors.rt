@@ -50,7 +50,7 @@ pub(crate) fn throw_not_defined<'p>(
 {
     let ending = word(alloc, " is not defined")?;
     match Text::concat(alloc, name, &ending) {
-        Ok(message) => Ok(throw_error(state, ErrorKind::ReferenceError, message)?),
+        Ok(message) => throw_error(state, ErrorKind::ReferenceError, message),
         Err(TextFault::TooLong) => Ok(Act::Fault(Fault::StringTooLong)),
         Err(TextFault::NoMemory) => Err(NoMemory),
     }

@@ -43,7 +43,7 @@ pub fn step_length_count<'p>(
         attributes,
         purpose,
     })?;
-    Ok(to_primitive(alloc, state, length, Hint::Number)?)
+    to_primitive(alloc, state, length, Hint::Number)
 }
 
 /// Goes on when it has been converted a second time: where it is a length, it is defined.
@@ -83,7 +83,7 @@ fn define_length<'p>(
     ensures falls { IfOk result (λ act. Falls state.old 3 state.new act) }
 {
     if !is_count(n, count) {
-        return Ok(throw_native(alloc, state, ErrorKind::RangeError, "bad array length")?);
+        return throw_native(alloc, state, ErrorKind::RangeError, "bad array length");
     }
     let name = word(alloc, "length")?;
     let change = Change {
@@ -94,7 +94,7 @@ fn define_length<'p>(
         enumerable: attributes.enumerable,
         configurable: attributes.configurable,
     };
-    Ok(define_now(alloc, state, array, &name, change, purpose)?)
+    define_now(alloc, state, array, &name, change, purpose)
 }
 
 /// Whether a number is this count.

@@ -82,7 +82,7 @@ pub fn put_value<'p>(
         Reference::OnGlobalObject => put(alloc, state, strict, global, name, v, gives),
         Reference::Unresolvable => {
             if strict {
-                return Ok(throw_not_defined(alloc, state, name)?);
+                return throw_not_defined(alloc, state, name);
             }
             put(alloc, state, false, global, name, v, gives)
         }
@@ -104,7 +104,7 @@ pub fn put_name<'p>(
     ensures falls { IfOk result (λ act. Falls state.old 44 state.new act) }
 {
     let reference = state.store.identifier_reference(env, name);
-    Ok(put_value(alloc, state, strict, name, v, reference, gives)?)
+    put_value(alloc, state, strict, name, v, reference, gives)
 }
 
 /// A value is put to the binding of a name in an environment (10.2.1.1.3), and then one is given.
@@ -139,7 +139,7 @@ pub fn type_of_name<'p>(
     ensures falls { IfOk result (λ act. Falls state.old 10 state.new act) }
 {
     let reference = state.store.identifier_reference(env, name);
-    Ok(type_of_reference(alloc, state, name, reference)?)
+    type_of_reference(alloc, state, name, reference)
 }
 
 /// The same of what the name refers to.
@@ -156,7 +156,7 @@ fn type_of_reference<'p>(
     match reference {
         Reference::Unresolvable => Ok(Act::Give(Value::Text(word(alloc, "undefined")?))),
         Reference::InEnvironment(_) | Reference::OnGlobalObject => {
-            Ok(type_of_value(alloc, state, name, reference)?)
+            type_of_value(alloc, state, name, reference)
         }
     }
 }

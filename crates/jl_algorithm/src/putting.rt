@@ -50,9 +50,9 @@ pub fn put<'p>(
     ensures falls { IfOk result (λ act. Falls state.old 42 state.new act) }
 {
     match base {
-        Value::Obj(id) => Ok(put_on_object(alloc, state, id, name, v, throwing, gives)?),
+        Value::Obj(id) => put_on_object(alloc, state, id, name, v, throwing, gives),
         Value::Undefined | Value::Null | Value::Bool(_) | Value::Num(_) | Value::Text(_) => {
-            Ok(put_on_primitive(alloc, state, base, name, v, throwing, gives)?)
+            put_on_primitive(alloc, state, base, name, v, throwing, gives)
         }
     }
 }
@@ -74,7 +74,7 @@ fn put_on_object<'p>(
     ensures falls { IfOk result (λ act. Falls state.old 42 state.new act) }
 {
     match state.store.set_value(id, name, v) {
-        Ok(()) => Ok(after_define(alloc, state, WrittenBy::Put { throwing, gives }, true)?),
+        Ok(()) => after_define(alloc, state, WrittenBy::Put { throwing, gives }, true),
         Err(v) => put_by_look_up(alloc, state, id, name, v, throwing, gives),
     }
 }
@@ -97,7 +97,7 @@ fn put_by_look_up<'p>(
 {
     let property = state.store.get_property(id, name);
     let way = way_of(can_put(state.store.is_extensible(id), &property), &property);
-    Ok(put_so(alloc, state, way, id, name, v, throwing, gives)?)
+    put_so(alloc, state, way, id, name, v, throwing, gives)
 }
 
 /// A put that is done so.
@@ -147,7 +147,7 @@ fn put_on_primitive<'p>(
     ensures falls { IfOk result (λ act. Falls state.old 42 state.new act) }
 {
     match found_setter(&state.store.property_of_value(&base, name)) {
-        Some(setter) => Ok(call_setter(alloc, state, setter, base, v, gives)?),
+        Some(setter) => call_setter(alloc, state, setter, base, v, gives),
         None => after_define(alloc, state, WrittenBy::Put { throwing, gives }, false),
     }
 }

@@ -1,5 +1,5 @@
 -- Steps that wait for an operand as a number or a text, and operations that hooks emit.
-use Rattle.std.proofs.Common.{◌≡◌, ◌∷◌, ◌∙◌, Bool, List, Option, Some, false, refl, sym, ap, subst, ℕ}
+use Rattle.std.proofs.Common.{◌≡◌, ◌∷◌, ◌∙◌, Bool, List, Option, Some, false, true, refl, sym, ap, subst, ℕ}
 use mathlib.Core.Path.{fun_ext}
 use Rattle.jl_num.specs.Number.{Number}
 use Rattle.jl_ast.specs.declared.ops.BinOp.{BinOp}
@@ -15,11 +15,13 @@ use Rattle.jl_effects.proofs.Chains.{and_then-assoc}
 use Rattle.jl_meaning.specs.Conversions.{number_hint, string_hint, to_number, to_primitive, to_string}
 use Rattle.jl_meaning.specs.Operators.{binary_result, unary_result}
 use Rattle.jl_meaning.specs.Parts.{give, continue_with, gives, lift, or_fault, throws, ◌>>=◌, Algorithm, Answer, NumberOutside}
+use Rattle.jl_meaning.specs.Parts.{Part}
 use Rattle.jl_meaning.specs.forms.Operators.{operate, operate_on}
 use Rattle.jl_state.specs.AlgorithmFrames.{algorithm_after, number_of_primitive}
 use Rattle.jl_state.specs.Rest.{rest_after, Gives, Works}
-use Rattle.jl_state.specs.Steps.{AlgorithmWaits}
-use Rattle.jl_state.specs.Words.{noting}
+use Rattle.jl_state.specs.Steps.{AlgorithmWaits, ValueWaits}
+use Rattle.jl_state.specs.ValueFrames.{value_after}
+use Rattle.jl_state.specs.Words.{noting, table_of}
 use Rattle.jl_state.specs.declared.act.Act.{Act}
 use Rattle.jl_state.specs.declared.act.Act.TheVariants as act
 use Rattle.jl_state.specs.declared.algorithm_frame.AlgorithmFrame.{AlgorithmFrame}
@@ -27,6 +29,7 @@ use Rattle.jl_state.specs.declared.frame.Frame.{Frame}
 use Rattle.jl_state.specs.declared.frame.Frame.TheVariants as frame
 use Rattle.jl_state.specs.declared.frame.ToldFrame.TheVariants as told
 use Rattle.jl_state.specs.declared.state.State.{State}
+use Rattle.jl_state.specs.declared.value_frame.ValueFrame.TheVariants as waiting
 use Rattle.jl_state.proofs.Steps.{gives_noted, gives_works}
 
 -- a number that there is
@@ -84,6 +87,20 @@ operates s t a emitting id o x y is leads =
           (seen_of store.heap v),
     )) (lift (binary_result o x y)) t a (gives_works s (binary_result o x y) t a leads))
 
+-- the same, of which a hook tells
+pub operates_told : (s t u : State) (a : Act) (emitting : Bool) (id : OpId) (o : BinOp) (x y left right : Value)
+    → emitting ≡ true → left ≡ x → right ≡ y → ValueWaits s (waiting.EmitBinary id o left right) t
+    → Works t (binary_result o x y) u a → Gives s (operate (noting emitting) id.0 o x y) u a
+unfolding operate
+operates_told s t u a emitting id o x y left right is first second waits leads =
+    subst (λ (b : Bool). Gives s (operate (noting b) id.0 o x y) u a) (sym is)
+    (subst (λ l. Gives s (emitted l y) u a) first
+    (subst (λ r. Gives s (emitted left r) u a) second (waits.works (binary_result o x y) u a leads)))
+  where
+    emitted : Value → Value → Part (Answer Value)
+    emitted l r =
+        lift (binary_result o x y) >>= value_after (table_of s.functions) s.calls (waiting.EmitBinary id o l r)
+
 -- an operator on one value, of which no hook tells
 pub operates_on : (s t : State) (a : Act) (emitting : Bool) (id : ℕ) (o : UnKind) (x : Value) → emitting ≡ false
     → Works s (unary_result o x) t a → Gives s (operate_on (noting emitting) id o x) t a
@@ -92,3 +109,15 @@ operates_on s t a emitting id o x is leads =
     subst (λ (b : Bool). Gives s (operate_on (noting b) id o x) t a) (sym is)
     (gives_noted s (λ store v. (record { 0 = id }, op.Unary o (seen_of store.heap x) (seen_of store.heap v)))
     (lift (unary_result o x)) t a (gives_works s (unary_result o x) t a leads))
+
+-- the same, of which a hook tells
+pub operates_on_told : (s t u : State) (a : Act) (emitting : Bool) (id : OpId) (o : UnKind) (x operand : Value)
+    → emitting ≡ true → operand ≡ x → ValueWaits s (waiting.EmitUnary id o operand) t
+    → Works t (unary_result o x) u a → Gives s (operate_on (noting emitting) id.0 o x) u a
+unfolding operate_on
+operates_on_told s t u a emitting id o x operand is same waits leads =
+    subst (λ (b : Bool). Gives s (operate_on (noting b) id.0 o x) u a) (sym is)
+    (subst (λ y. Gives s (emitted y) u a) same (waits.works (unary_result o x) u a leads))
+  where
+    emitted : Value → Part (Answer Value)
+    emitted y = lift (unary_result o x) >>= value_after (table_of s.functions) s.calls (waiting.EmitUnary id o y)

@@ -30,7 +30,7 @@ pub fn binary_result<'p>(
     match op {
         BinOp::Add => sum(alloc, state, a, b),
         BinOp::Less | BinOp::Greater | BinOp::LessEq | BinOp::GreaterEq => {
-            Ok(compare(alloc, state, op, a, b)?)
+            compare(alloc, state, op, a, b)
         }
         BinOp::InstanceOf => instance_of(alloc, state, a, &b),
         BinOp::In => in_object(alloc, state, a, &b),
@@ -47,6 +47,6 @@ pub fn binary_result<'p>(
         | BinOp::Shr
         | BinOp::BitAnd
         | BinOp::BitXor
-        | BinOp::BitOr => Ok(on_numbers(alloc, state, op, a, b)?),
+        | BinOp::BitOr => on_numbers(alloc, state, op, a, b),
     }
 }

@@ -84,7 +84,7 @@ fn equal_object<'p>(
         return Ok(Act::Give(Value::Bool(is_negative)));
     }
     state.push_algorithm(AlgorithmFrame::EqualTo { other, is_negative })?;
-    Ok(to_primitive(alloc, state, object, Hint::None)?)
+    to_primitive(alloc, state, object, Hint::None)
 }
 
 /// `a == b` of an object with another value, or its negation.
@@ -103,7 +103,7 @@ fn object_equals<'p>(
     if is_object(&b) {
         Ok(equal_primitives(is_negative, &a, &b))
     } else {
-        Ok(equal_object(alloc, state, is_negative, a, b)?)
+        equal_object(alloc, state, is_negative, a, b)
     }
 }
 
@@ -121,7 +121,7 @@ fn primitive_equals<'p>(
     ensures falls { IfOk result (λ act. Falls state.old 40 state.new act) }
 {
     if is_object(&b) {
-        Ok(equal_object(alloc, state, is_negative, b, a)?)
+        equal_object(alloc, state, is_negative, b, a)
     } else {
         Ok(equal_primitives(is_negative, &a, &b))
     }

@@ -51,7 +51,7 @@ fn is_instance<'p>(
             let is_prototype = state.store.is_prototype_of(*proto, object);
             Ok(Act::Give(Value::Bool(is_prototype)))
         }
-        _ => Ok(throw_native(alloc, state, ErrorKind::TypeError, "not an object")?),
+        _ => throw_native(alloc, state, ErrorKind::TypeError, "not an object"),
     }
 }
 
@@ -68,7 +68,7 @@ fn has_prototype<'p>(
 {
     match value {
         Value::Obj(object) => is_instance(alloc, state, *object, proto),
-        _ => Ok(throw_native(alloc, state, ErrorKind::TypeError, "not an object")?),
+        _ => throw_native(alloc, state, ErrorKind::TypeError, "not an object"),
     }
 }
 
@@ -131,7 +131,7 @@ fn convert_name<'p>(
     ensures falls { IfOk result (λ act. Falls state.old 40 state.new act) }
 {
     state.push_algorithm(AlgorithmFrame::In { object })?;
-    Ok(to_primitive(alloc, state, name, Hint::Text)?)
+    to_primitive(alloc, state, name, Hint::Text)
 }
 
 /// `a in b` (11.8.7).
@@ -146,6 +146,6 @@ pub(crate) fn in_object<'p>(
 {
     match b {
         Value::Obj(object) => convert_name(alloc, state, a, *object),
-        _ => Ok(throw_native(alloc, state, ErrorKind::TypeError, "not an object")?),
+        _ => throw_native(alloc, state, ErrorKind::TypeError, "not an object"),
     }
 }

@@ -72,7 +72,7 @@ fn with_left<'p>(
     ensures falls { IfOk result (λ act. Falls state.old 22 state.new act) }
 {
     state.push_algorithm(AlgorithmFrame::RightNumber { op, left })?;
-    Ok(to_primitive(alloc, state, right, Hint::Number)?)
+    to_primitive(alloc, state, right, Hint::Number)
 }
 
 /// Goes on with the left operand of an operator on two numbers, which is converted first.
@@ -122,5 +122,5 @@ pub(crate) fn on_numbers<'p>(
     ensures falls { IfOk result (λ act. Falls state.old 40 state.new act) }
 {
     state.push_algorithm(AlgorithmFrame::LeftNumber { op, right: b })?;
-    Ok(to_primitive(alloc, state, a, Hint::Number)?)
+    to_primitive(alloc, state, a, Hint::Number)
 }

@@ -133,9 +133,9 @@ pub fn operate<'p>(
             left,
             right,
         })?;
-        Ok(binary_result(alloc, state, op, a, b)?)
+        binary_result(alloc, state, op, a, b)
     } else {
-        Ok(binary_result(alloc, state, op, a, b)?)
+        binary_result(alloc, state, op, a, b)
     }
 }
 
@@ -155,8 +155,8 @@ pub fn operate_on<'p>(
     if emits {
         let operand = share(alloc, &v)?;
         state.push_value(ValueFrame::EmitUnary { id, op, operand })?;
-        Ok(unary_result(alloc, state, op, v)?)
+        unary_result(alloc, state, op, v)
     } else {
-        Ok(unary_result(alloc, state, op, v)?)
+        unary_result(alloc, state, op, v)
     }
 }

@@ -84,7 +84,7 @@ fn sum_of_primitives<'p>(alloc: Global, x: &Value, y: &Value) -> Result<Act<'p>,
     if are_texts(x, y) {
         let front = text_of(alloc, x)?;
         let back = text_of(alloc, y)?;
-        Ok(concatenate(alloc, &front, &back)?)
+        concatenate(alloc, &front, &back)
     } else {
         Ok(sum_of_numbers(x, y))
     }
@@ -116,7 +116,7 @@ pub fn step_right_summand<'p>(
         (algorithm_after (AlgorithmFrame.RightSummand left) v) state.new act) }
     ensures falls { IfOk result (λ act. Falls state.old 5 state.new act) }
 {
-    Ok(sum_of_primitives(alloc, &left, &v)?)
+    sum_of_primitives(alloc, &left, &v)
 }
 
 /// `a + b` (11.6.1).

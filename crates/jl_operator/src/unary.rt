@@ -81,7 +81,7 @@ fn on_number<'p>(
     ensures falls { IfOk result (λ act. Falls state.old 40 state.new act) }
 {
     state.push_algorithm(AlgorithmFrame::NumberOperand { op })?;
-    Ok(to_primitive(alloc, state, v, Hint::Number)?)
+    to_primitive(alloc, state, v, Hint::Number)
 }
 
 /// An operator on one operand (11.3, 11.4).

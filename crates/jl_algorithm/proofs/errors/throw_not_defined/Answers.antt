@@ -1,10 +1,11 @@
 use Rattle.std.proofs.Common.{◌++◌, ◌∙◌, ap}
+use Rattle.std.proofs.lemmas.Result.{IfOk-weaker}
 use Rattle.jl_algorithm.proofs.Throwing.{throws_message}
 use Rattle.jl_algorithm.proofs.errors.throw_not_defined.Goals as goal
 
 pub returns-in-Ok-clause-leads : goal.returns-in-Ok-clause-leads
 returns-in-Ok-clause-leads c =
-    throws_message _ c.args.name.now _ _ _
+    IfOk-weaker _ _ _ (λ a leads. throws_message c.args.state.now c.args.name.now _ _ _
     (c.in-Ok.ensures.made ∙ ap (λ ending. c.args.name.now ++ ending) c.in_ok-ending.ensures)
-    (λ more. let differ = c.in-Ok.ensures.long.1 (rw c.in_ok-ending.ensures more) in absurd cc)
-    c.in_ok-throw_error-in-Ok.ensures.leads
+    (λ more. let differ = c.in-Ok.ensures.long.1 (rw c.in_ok-ending.ensures more) in absurd cc) leads)
+    c.throw_error.ensures.leads

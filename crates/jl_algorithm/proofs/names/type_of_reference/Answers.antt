@@ -1,8 +1,10 @@
+use Rattle.std.proofs.lemmas.Result.{IfOk-weaker}
 use Rattle.jl_algorithm.proofs.Resolved.{types_value}
 use Rattle.jl_algorithm.proofs.names.type_of_reference.Goals as goal
 
-pub returns-in_ok-type_of_value-in-InEnvironment : goal.returns-in_ok-type_of_value-in-InEnvironment
-returns-in_ok-type_of_value-in-InEnvironment c = record {
-  leads = types_value _ _ _ _ _ c.in-InEnvironment.is c.in_ok-type_of_value-in-InEnvironment.ensures.leads;
-  falls = c.in_ok-type_of_value-in-InEnvironment.ensures.falls;
+pub returns-in-InEnvironment : goal.returns-in-InEnvironment
+returns-in-InEnvironment c = record {
+  leads = IfOk-weaker _ _ _ (λ a leads. types_value c.args.state.now _ c.args.name.now _ _ c.in-InEnvironment.is leads)
+      c.type_of_value.ensures.leads;
+  falls = c.type_of_value.ensures.falls;
 }

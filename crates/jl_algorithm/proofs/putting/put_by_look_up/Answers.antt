@@ -1,4 +1,5 @@
 use Rattle.std.proofs.Common.{ap, ◌∙◌}
+use Rattle.std.proofs.lemmas.Result.{IfOk-weaker}
 use Rattle.std.specs.Option.{option_map}
 use Rattle.jl_heap.specs.Objects.{object_at}
 use Rattle.jl_meaning.specs.Properties.{can_put, get_property}
@@ -13,10 +14,11 @@ returns-clause-leads c =
     let store = c.args.state.now.store in
     let property = get_property store c.args.id.0 c.args.name.now in
     let extensible = (object_at store.heap c.args.id.0).extensible in
+    IfOk-weaker _ _ _ (λ a leads.
     puts_so c.args.state.now c.args.id c.args.name.now c.args.v extensible c.can_put.result property
     c.way_of-way.result (Put c.args.throwing c.args.gives) _ _
     (c.can_put.ensures
     ∙ ap (λ e. can_put e (option_map property_seen c.get_property-property.result)) c.is_extensible.ensures
     ∙ ap (λ p. can_put extensible p) c.get_property-property.ensures)
-    (c.way_of-way.ensures ∙ ap (λ p. way_of c.can_put.result p) c.get_property-property.ensures)
-    c.in_ok-put_so.ensures.leads
+    (c.way_of-way.ensures ∙ ap (λ p. way_of c.can_put.result p) c.get_property-property.ensures) leads)
+    c.put_so.ensures.leads

@@ -1,4 +1,5 @@
 use Rattle.std.proofs.Common.{◌∙◌, sym, subst}
+use Rattle.std.proofs.lemmas.Result.{IfOk-weaker}
 use Rattle.jl_meaning.specs.Relations.{negate_if}
 use Rattle.jl_state.specs.Rest.{Works}
 use Rattle.jl_operator.proofs.Equalities.{of_objects_or_primitives, of_right_object}
@@ -13,6 +14,6 @@ returns-clause-leads c =
 
 pub returns-then-is_object-clause-leads : goal.returns-then-is_object-clause-leads
 returns-then-is_object-clause-leads c =
-    subst (λ q. Works c.args.state.now (negate_if c.args.is_negative q) c.equal_object.new.state c.in_ok-equal_object.field-0)
-    (of_right_object c.args.a c.args.b (sym c.requires) c.if-is_object.ensures)
-    c.in_ok-equal_object.ensures.leads
+    IfOk-weaker _ _ _ (λ a leads.
+    subst (λ q. Works c.args.state.now (negate_if c.args.is_negative q) c.equal_object.new.state a)
+    (of_right_object c.args.a c.args.b (sym c.requires) c.if-is_object.ensures) leads) c.equal_object.ensures.leads

@@ -1,10 +1,18 @@
+use Rattle.std.proofs.lemmas.Result.{IfOk-weaker}
+use Rattle.jl_meaning.specs.Operators.{sum_of_primitives}
+use Rattle.jl_state.specs.Rest.{Works}
+use Rattle.jl_state.specs.declared.act.Act.{Act}
+use Rattle.jl_state.specs.declared.state.State.{State}
+use Rattle.jl_operator.specs.inner.Sums.{text_of_texts}
 use Rattle.jl_operator.proofs.Additions.{adds_numbers, adds_texts}
 use Rattle.jl_operator.proofs.sums.sum_of_primitives.Goals as goal
 
-pub returns-in_ok-concatenate-clause-leads : goal.returns-in_ok-concatenate-clause-leads
-returns-in_ok-concatenate-clause-leads c = λ s.
-    adds_texts c.args.x.now c.args.y.now _ _ s _ c.if-are_texts.ensures c.in_ok-front.ensures c.in_ok-back.ensures
-    (c.in_ok-concatenate.ensures.leads s)
+pub returns-in_ok-back-clause-leads : goal.returns-in_ok-back-clause-leads
+returns-in_ok-back-clause-leads c =
+    IfOk-weaker _ (λ (a : Act). (s : State) → Works s (text_of_texts c.in_ok-front.front c.in_ok-back.back) s a)
+    (λ (a : Act). (s : State) → Works s (sum_of_primitives c.args.x.now c.args.y.now) s a)
+    (λ a leads s. adds_texts c.args.x.now c.args.y.now _ _ s _ c.if-are_texts.ensures c.in_ok-front.ensures
+    c.in_ok-back.ensures (leads s)) c.concatenate.ensures.leads
 
 pub returns-else-are_texts-clause-leads : goal.returns-else-are_texts-clause-leads
 returns-else-are_texts-clause-leads c = λ s.
