@@ -41,7 +41,7 @@ pub fn declare_program(
         store.new (ends_with answer)) }
 {
     match declare_functions(store, body.functions.items(), strict)? {
-        Answer::Gives(()) => Ok(declare_variables(alloc, store, body)?),
+        Answer::Gives(()) => declare_variables(alloc, store, body),
         Answer::Throws(thrown) => Ok(Answer::Throws(thrown)),
     }
 }
@@ -84,7 +84,7 @@ fn declare_function(store: &mut Store, f: &Function, strict: bool) -> Result<Ans
 {
     let id = store.make_function(strict, 0, f)?;
     match &f.name {
-        Some(name) => Ok(bind_function(store, strict, &name.text, id)?),
+        Some(name) => bind_function(store, strict, &name.text, id),
         None => Ok(Answer::Gives(())),
     }
 }
@@ -102,7 +102,7 @@ fn bind_function(
 {
     let end = store.prepare_global(name)?;
     match without_fault(end) {
-        Answer::Gives(()) => Ok(put_global(store, strict, name, Value::Obj(f))?),
+        Answer::Gives(()) => put_global(store, strict, name, Value::Obj(f)),
         Answer::Throws(thrown) => Ok(Answer::Throws(thrown)),
     }
 }
@@ -122,7 +122,7 @@ fn put_global(
         (ends_with answer)) }
 {
     let done = put_on_global(store, name, v)?;
-    Ok(store.require(is_met(throwing, done), "cannot write")?)
+    store.require(is_met(throwing, done), "cannot write")
 }
 
 /// Whether what was done is as much as was asked for.
@@ -144,7 +144,7 @@ fn put_on_global(store: &mut Store, name: &Text, v: Value) -> Result<bool, NoMem
         return Ok(false);
     }
     let change = put_change(v, &property);
-    Ok(store.define_with_number(ObjId::GLOBAL, name, change)?)
+    store.define_with_number(ObjId::GLOBAL, name, change)
 }
 
 /// What a put asks for where this property was found, or none, and no setter takes the value.

@@ -1,4 +1,5 @@
 use Rattle.std.proofs.Common.{subst, sym}
+use Rattle.std.proofs.lemmas.Result.{IfOk-weaker}
 use Rattle.jl_meaning.specs.DeclarationBinding.{prepare_global}
 use Rattle.jl_meaning.specs.Properties.{get_property}
 use Rattle.jl_store.specs.Comes.{Comes}
@@ -23,14 +24,13 @@ put_global-requires-clause-no_accessor c =
     (subst (λ e. Comes (prepare_global x (get_property s 1 x)) s c.prepare_global.new.self e) (sym c.in-Gives.ensures)
     c.in_ok-end.ensures)
 
-pub returns-in_ok-put_global-in-Gives : goal.returns-in_ok-put_global-in-Gives
-returns-in_ok-put_global-in-Gives c =
+pub returns-in-Gives : goal.returns-in-Gives
+returns-in-Gives c =
     let s = c.args.store.now in
     let x = c.args.name.now in
-    bound c.args.strict x c.args.f
+    IfOk-weaker _ _ _ (λ a is. bound c.args.strict x c.args.f
     (subst (λ e. Comes (prepare_global x (get_property s 1 x)) s c.prepare_global.new.self e) (sym c.in-Gives.ensures)
-    c.in_ok-end.ensures)
-    c.in_ok-put_global-in-Gives.ensures
+    c.in_ok-end.ensures) is) c.put_global.ensures
 
 pub returns-in-Throws : goal.returns-in-Throws
 returns-in-Throws c =

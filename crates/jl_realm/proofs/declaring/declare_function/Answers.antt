@@ -1,3 +1,4 @@
+use Rattle.std.proofs.lemmas.Result.{IfOk-weaker}
 use Rattle.std.specs.Prelude.{None, Some}
 use Rattle.jl_store.specs.Plain.{code_in}
 use Rattle.jl_store.proofs.Steps.{comes_to}
@@ -9,11 +10,11 @@ use Rattle.jl_realm.proofs.declaring.declare_function.Goals as goal
 pub bind_function-requires : goal.bind_function-requires
 bind_function-requires c = global_stays c.in_ok-id.ensures.made c.requires
 
-pub returns-in_ok-bind_function-in-Some : goal.returns-in_ok-bind_function-in-Some
-returns-in_ok-bind_function-in-Some c =
+pub returns-in-Some : goal.returns-in-Some
+returns-in-Some c =
+    IfOk-weaker _ _ _ (λ a is.
     declared (code_in 0 c.args.strict) c.args.f.now c.in_ok-id.id (Some c.in-Some.name.text)
-    (name_is c.args.f.now (Some c.in-Some.name) c.in-Some.is) c.in_ok-id.ensures.made
-    c.in_ok-bind_function-in-Some.ensures
+    (name_is c.args.f.now (Some c.in-Some.name) c.in-Some.is) c.in_ok-id.ensures.made is) c.bind_function.ensures
 
 pub returns-in-None : goal.returns-in-None
 returns-in-None c =

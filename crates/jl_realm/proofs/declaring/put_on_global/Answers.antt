@@ -1,4 +1,5 @@
 use Rattle.std.proofs.Common.{◌≡◌, ◌∙◌, ap, ap₂, subst, sym, true}
+use Rattle.std.proofs.lemmas.Result.{IfOk-weaker}
 use Rattle.jl_effects.specs.Running.{Ends}
 use Rattle.jl_heap.specs.Objects.{object_at}
 use Rattle.jl_meaning.specs.Defining.{define_with_number}
@@ -17,7 +18,8 @@ returns c =
     let found = c.get_property-property.ensures in
     let can : can_put (object_at s.heap 1).extensible (get_property s 1 x) ≡ true =
     sym (ap₂ can_put c.is_extensible.ensures found) ∙ sym c.can_put.ensures ∙ c.if-not-can_put.false in
-    let done = Ends (gives c.in_ok-define_with_number.field-0) in
-    put_done s c.define_with_number.new.self x c.args.v done c.requires.global c.requires.no_accessor can
-    (subst (λ change. Comes (define_with_number global_object x change) s c.define_with_number.new.self done)
-    (c.put_change-change.ensures ∙ ap (put_change c.args.v) found) c.in_ok-define_with_number.ensures)
+    IfOk-weaker _ _ _ (λ done is.
+    put_done s c.define_with_number.new.self x c.args.v (Ends (gives done)) c.requires.global c.requires.no_accessor can
+    (subst (λ change.
+    Comes (define_with_number global_object x change) s c.define_with_number.new.self (Ends (gives done)))
+    (c.put_change-change.ensures ∙ ap (put_change c.args.v) found) is)) c.define_with_number.ensures
