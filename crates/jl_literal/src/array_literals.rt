@@ -51,7 +51,7 @@ pub fn begin_array<'p>(
         list: items,
         from: 0,
     };
-    Ok(fill(alloc, state, array, 0, rest, here)?)
+    fill(alloc, state, array, 0, rest, here)
 }
 
 /// An array literal goes on with the value of an element.
@@ -71,7 +71,7 @@ pub fn step_element<'p>(
     let next = next_index(index)?;
     let answer = put_element(alloc, &mut state.store, array, index, v)?;
     match answer {
-        Finished::Gives(_) => Ok(fill(alloc, state, array, next, rest, here)?),
+        Finished::Gives(_) => fill(alloc, state, array, next, rest, here),
         Finished::Throws(thrown) => Ok(Act::Complete(Completion::Throw(thrown))),
         Finished::Fails(fault) => Ok(Act::Fault(fault_of(fault))),
     }
@@ -92,7 +92,7 @@ fn fill<'p>(
     ensures falls { IfOk result (λ act. Falls state.old 12 state.new act) }
 {
     match next_element(index, rest)? {
-        Next::Length(length) => Ok(end_array(alloc, state, array, length)?),
+        Next::Length(length) => end_array(alloc, state, array, length),
         Next::Element(index, e, rest) => {
             let frame = ValueFrame::Element {
                 array,
@@ -100,7 +100,7 @@ fn fill<'p>(
                 rest,
                 here,
             };
-            Ok(state.evaluate(frame, e, here)?)
+            state.evaluate(frame, e, here)
         }
     }
 }

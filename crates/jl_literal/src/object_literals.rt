@@ -38,7 +38,7 @@ pub fn begin_object<'p>(
         list: entries,
         from: 0,
     };
-    Ok(equip(alloc, state, object, rest, here)?)
+    equip(alloc, state, object, rest, here)
 }
 
 /// An object literal goes on with the value of a property.
@@ -90,7 +90,7 @@ fn equip<'p>(
 {
     match split_first(rest) {
         None => Ok(give_object(&state.store, object)),
-        Some((entry, others)) => Ok(equip_one(alloc, state, object, entry, others, here)?),
+        Some((entry, others)) => equip_one(alloc, state, object, entry, others, here),
     }
 }
 
@@ -118,17 +118,17 @@ fn equip_one<'p>(
                 rest,
                 here,
             };
-            Ok(state.evaluate(frame, e, here)?)
+            state.evaluate(frame, e, here)
         }
         Entry::Get(key, function) => {
             let getter = state.store.make_function(here.strict, here.env, function)?;
             let change = accessor_change(Some(Some(getter)), None);
-            Ok(define_entry(alloc, state, object, &key.text, change, rest, here)?)
+            define_entry(alloc, state, object, &key.text, change, rest, here)
         }
         Entry::Set(key, function) => {
             let setter = state.store.make_function(here.strict, here.env, function)?;
             let change = accessor_change(None, Some(Some(setter)));
-            Ok(define_entry(alloc, state, object, &key.text, change, rest, here)?)
+            define_entry(alloc, state, object, &key.text, change, rest, here)
         }
     }
 }
@@ -150,7 +150,7 @@ fn define_entry<'p>(
     ensures falls { IfOk result (λ act. Falls state.old (60 * length (items_left rest.entry) + 112) state.new act) }
 {
     state.push_value(ValueFrame::Entries { object, rest, here })?;
-    Ok(define_own_property(alloc, state, object, key, change, WrittenBy::Literal)?)
+    define_own_property(alloc, state, object, key, change, WrittenBy::Literal)
 }
 
 /// A getter or a setter is asked for (11.1.5).

@@ -116,7 +116,7 @@ pub fn step_left_operand<'p>(
         (ValueFrame.LeftOperand op right.entry here) v) state.new act) }
     ensures falls { IfOk result (λ act. Falls state.old 56 state.new act) }
 {
-    Ok(state.evaluate(ValueFrame::RightOperand { op, left: v }, right, here)?)
+    state.evaluate(ValueFrame::RightOperand { op, left: v }, right, here)
 }
 
 /// An operator goes on with the value of its right operand (11.5 to 11.10).

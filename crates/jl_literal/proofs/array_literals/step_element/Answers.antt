@@ -1,12 +1,13 @@
 use Rattle.std.proofs.Common.{refl}
+use Rattle.std.proofs.lemmas.Result.{IfOk-weaker}
 use Rattle.jl_literal.proofs.Elements.{element_failed, element_put, element_thrown}
 use Rattle.jl_literal.proofs.array_literals.step_element.Goals as goal
 
-pub returns-in_ok-fill-in-Gives-clause-leads : goal.returns-in_ok-fill-in-Gives-clause-leads
-returns-in_ok-fill-in-Gives-clause-leads c =
-    element_put c.args.state.now (record c.args.state.now { store = c.put_element.new.store }) refl c.args.array
-    c.args.index c.args.v c.args.rest c.args.here _ c.in_ok-answer.ensures _ _ _ _ c.in-Gives.is c.in_ok-next.ensures
-    c.in_ok-fill-in-Gives.ensures.leads
+pub returns-in-Gives-clause-leads : goal.returns-in-Gives-clause-leads
+returns-in-Gives-clause-leads c =
+    IfOk-weaker _ _ _ (λ a leads. element_put c.args.state.now
+    (record c.args.state.now { store = c.put_element.new.store }) refl c.args.array c.args.index c.args.v c.args.rest
+    c.args.here _ c.in_ok-answer.ensures _ _ _ _ c.in-Gives.is c.in_ok-next.ensures leads) c.fill.ensures.leads
 
 pub returns-in-Throws-clause-leads : goal.returns-in-Throws-clause-leads
 returns-in-Throws-clause-leads c =
