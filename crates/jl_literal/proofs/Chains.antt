@@ -4,7 +4,8 @@ use mathlib.Core.Path.{fun_ext}
 use Rattle.jl_value.specs.declared.value.Value.{Value}
 use Rattle.jl_effects.specs.Effects.{and_then, Look}
 use Rattle.jl_effects.proofs.Chains.{and_then-assoc, row-and_then}
-use Rattle.jl_meaning.specs.Parts.{fault_of, give, continue_with, gives, lift, throws, ◌>>=◌, Algorithm, Answer, CallOf, Part}
+use Rattle.jl_meaning.specs.Parts.{fault_of, give, continue_with, gives, lift, throws, ◌>>=◌, Algorithm, Answer, CallOf}
+use Rattle.jl_meaning.specs.Parts.{Part}
 use Rattle.jl_meaning.specs.Store.{Store}
 use Rattle.jl_state.specs.Rest.{as_value, rest_of, run_in, Gives}
 use Rattle.jl_state.specs.declared.act.Act.{Act}
@@ -40,6 +41,7 @@ lifted_then {A} {B} p v q =
     ∙ and_then-assoc (lift p) (λ b. lift (continue_with (λ _. give v) b)) (continue_with (λ _. q))
     ∙ ap (and_then (lift p)) (fun_ext each)
   where
-    each : (b : Answer A) → and_then (lift (continue_with (λ _. give v) b)) (continue_with (λ _. q)) ≡ continue_with (λ _. q) b
+    each : (b : Answer A) → and_then (lift (continue_with (λ _. give v) b)) (continue_with (λ _. q))
+        ≡ continue_with (λ _. q) b
     each (gives a) = refl
     each (throws w) = refl

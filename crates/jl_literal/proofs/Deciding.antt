@@ -48,7 +48,8 @@ module _ (s : State) (right : Bor (Box Expr Global)) (e : Expr) (here : Here) (v
       decided s v true (λ truth. if truth then value_of right.now.value else value_of other.now.value) t a holds
       (subst (λ b. Gives s (value_of b) t a) same leads)
 
-  pub takes_second : (other : Bor (Box Expr Global)) → false ≡ truth_of v → e ≡ right.now.value → Gives s (value_of e) t a
+  pub takes_second : (other : Bor (Box Expr Global)) → false ≡ truth_of v → e ≡ right.now.value
+      → Gives s (value_of e) t a
       → Gives s (value_after (table_of s.functions) s.calls (waiting.Conditional other right here) v) t a
   takes_second other fails same leads =
       decided s v false (λ truth. if truth then value_of other.now.value else value_of right.now.value) t a fails
@@ -58,5 +59,6 @@ module _ (s : State) (right : Bor (Box Expr Global)) (e : Expr) (here : Here) (v
       → Gives s (value_of e >>= value_after (table_of s.functions) s.calls (waiting.RightOperand o v)) t a
       → Gives s (value_after (table_of s.functions) s.calls (waiting.LeftOperand o right here) v) t a
   takes_right o same leads =
-      subst (λ b. Gives s (value_of b >>= value_after (table_of s.functions) s.calls (waiting.RightOperand o v)) t a) same
+      subst (λ b. Gives s (value_of b >>= value_after (table_of s.functions) s.calls (waiting.RightOperand o v)) t a)
+      same
       leads

@@ -79,13 +79,15 @@ module _ (s t : State) (a : Act) (rest : Remaining (Option Expr)) (array : ObjId
   array_goes_on n e others is leads =
       subst (λ p. Gives s p t a)
       (element_before (table_of s.functions) (plain_forest (view_items (items_left rest)))
-      (plain_forest (view_items (items_left others))) (plain (view_expression e.now)) array k n (context_of s.calls here)
+      (plain_forest (view_items (items_left others))) (plain (view_expression e.now)) array k n
+      (context_of s.calls here)
       (ap next_seen (sym is) ∙ seen)) leads
 
 -- an array literal begins with its elements
 pub array_begun : (s t : State) → IsStored s t → (array : ObjId) (items : List (Option Expr)) (here : Here) (u : State)
     (a : Act) → Comes new_array s.store t.store (Ends (gives array))
-    → Gives t (array_from (table_of t.functions) (plain_forest (view_items items)) array 0 (context_of t.calls here)) u a
+    → Gives t (array_from (table_of t.functions) (plain_forest (view_items items)) array 0 (context_of t.calls here)) u
+    a
     → Gives s (lift new_array >>= λ array. array_from (table_of s.functions) (plain_forest (view_items items)) array 0
     (context_of s.calls here)) u a
 array_begun s t stored array items here u a comes leads =
@@ -101,7 +103,8 @@ module _ (s t : State) (stored : IsStored s t) (array : ObjId) (index : ℕ) (v 
     (comes : Comes (put_element array index v) s.store t.store (finish_of answer)) where
   abbrev others : State → ℕ → parts.Part (parts.Answer Value)
   others u next =
-      array_from (table_of u.functions) (plain_forest (view_items (items_left rest))) array next (context_of u.calls here)
+      array_from (table_of u.functions) (plain_forest (view_items (items_left rest))) array next
+      (context_of u.calls here)
 
   puts : (end : Finished Bool) → answer ≡ end → Comes (put_element array index v) s.store t.store (finish_of end)
   puts end is = subst (λ (f : Finished Bool). Comes (put_element array index v) s.store t.store (finish_of f)) is comes
@@ -110,7 +113,8 @@ module _ (s t : State) (stored : IsStored s t) (array : ObjId) (index : ℕ) (v 
       → Gives t (others t next) u a
       → Gives s (value_after (table_of s.functions) s.calls (waiting.Element array index rest here) v) u a
   element_put next done u a end is leads =
-      gives_comes s t stored (put_element array index v) done (λ _. others s (index + 1)) u a (puts (ended.Gives done) end)
+      gives_comes s t stored (put_element array index v) done (λ _. others s (index + 1)) u a
+      (puts (ended.Gives done) end)
       (subst (λ p. Gives t p u a) (ap (others t) is ∙ ap (λ w. others w (index + 1)) stored) leads)
 
   pub element_thrown : (w : Value) → answer ≡ ended.Throws w

@@ -60,13 +60,16 @@ pub value_first : (table : FunctionTable) (e : parts.Expr) (object : ObjId) (x :
     (q : parts.Part (parts.Answer Value))
     → (evaluate table e c >>= λ v. define_entry object x (plain_change v) >>= λ _. q)
     ≡ (evaluate table e c >>= (λ v. define_entry object x (plain_change v)) >>= λ _. q)
-value_first table e object x c q = sym (part_assoc (evaluate table e c) (λ v. define_entry object x (plain_change v)) (λ _. q))
+value_first table e object x c q =
+    sym (part_assoc (evaluate table e c) (λ v. define_entry object x (plain_change v)) (λ _. q))
 
 -- an object literal begins with its properties
 pub object_begun : (s t : State) → IsStored s t → (object : ObjId) (entries : List Entry) (here : Here) (u : State)
     (a : Act) → Comes new_plain_object s.store t.store (Ends (gives object))
-    → Gives t (object_from (table_of t.functions) (plain_forest (view_entries entries)) object (context_of t.calls here)) u a
-    → Gives s (lift new_plain_object >>= λ object. object_from (table_of s.functions) (plain_forest (view_entries entries))
+    → Gives t (object_from (table_of t.functions) (plain_forest (view_entries entries)) object
+    (context_of t.calls here)) u a
+    → Gives s (lift new_plain_object >>= λ object. object_from (table_of s.functions)
+    (plain_forest (view_entries entries))
     object (context_of s.calls here)) u a
 object_begun s t stored object entries here u a comes leads =
     gives_comes s t stored new_plain_object object (equipping s) u a comes
@@ -80,7 +83,8 @@ module _ (s t : State) (stored : IsStored s t) (object : ObjId) (x : Ident) (f :
     (here : Here) (made : ObjId) (change : Change) (u : State) (a : Act)
     (comes : Comes (make_function here.strict here.env (plain_function f)) s.store t.store (Ends (gives made))) where
   abbrev left : State → parts.Part (parts.Answer Value)
-  left w = object_from (table_of w.functions) (plain_forest (view_entries (items_left rest))) object (context_of w.calls here)
+  left w = object_from (table_of w.functions) (plain_forest (view_entries (items_left rest))) object
+      (context_of w.calls here)
 
   accessor_first : (defined : ObjId → Change) → change ≡ defined made
       → Gives t (define_entry object x.text change >>= λ _. left t) u a
@@ -117,7 +121,8 @@ module _ (s t : State) (stored : IsStored s t) (object : ObjId) (x : Ident) (f :
 module _ (s u : State) (a : Act) (object : ObjId) (x : Ident) (e : Expr) (rest : Remaining Entry) (here : Here) where
   abbrev others : parts.Part (parts.Answer Value)
   others =
-      object_from (table_of s.functions) (plain_forest (view_entries (items_left rest))) object (context_of s.calls here)
+      object_from (table_of s.functions) (plain_forest (view_entries (items_left rest))) object
+      (context_of s.calls here)
 
   pub value_entry : (d : Entry) → d ≡ entry.Value x e
       → Gives s (evaluate (table_of s.functions) (plain (view_expression e)) (context_of s.calls here)

@@ -49,7 +49,8 @@ one_kind_accessor get set change is = subst IsOneKind (sym is) refl
 pub no_length_given : (heap : Objects) (address : ℕ) (index : ℕ) (x : Name) (change : Change) → x ≡ index_name index
     → LengthIsPrimitive heap address x change
 no_length_given heap address index x change is array_there same =
-    let differ = ap (λ (y : Name). bytes_eq y length_name) is ∙ no_length index in absurd (let no = sym same ∙ differ in cc)
+    let differ = ap (λ (y : Name). bytes_eq y length_name) is ∙ no_length index in
+    absurd (let no = sym same ∙ differ in cc)
 
 pub primitive_length : (heap : Objects) (address n : ℕ) (x : Name) (w : Value) (change : Change) → w ≡ whole n
     → change ≡ value_change w → LengthIsPrimitive heap address x change

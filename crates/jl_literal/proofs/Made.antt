@@ -44,7 +44,8 @@ noted : (s : State) (form : Option Op → Option Op) (v : Value) (o : Option Op)
     → Gives s (literal_of form 0 v) s (outcome o v)
 unfolding literal_of
 noted s form v o is =
-    gives_look s (λ store. note_or_misuse performs 0 v (form (literal_op store.heap v))) (note_or_misuse performs 0 v o) s
+    gives_look s (λ store. note_or_misuse performs 0 v (form (literal_op store.heap v))) (note_or_misuse performs 0 v o)
+    s
     (outcome o v) (ap (note_or_misuse performs 0 v) (sym is)) (ended s v o)
 
 abbrev literal_at : Store → ObjId → Option Op

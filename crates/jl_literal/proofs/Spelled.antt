@@ -11,4 +11,5 @@ pub either_way : (a b : List ℕ) → bytes_eq a b ≡ bytes_eq b a
 either_way [] [] = refl
 either_way [] (w ∷ ws) = refl
 either_way (u ∷ us) [] = refl
-either_way (u ∷ us) (w ∷ ws) = ap (λ b. b && bytes_eq us ws) (swapped u w) ∙ ap (λ b. nat_eq w u && b) (either_way us ws)
+either_way (u ∷ us) (w ∷ ws) = ap (λ b. b && bytes_eq us ws) (swapped u w)
+    ∙ ap (λ b. nat_eq w u && b) (either_way us ws)

@@ -12,12 +12,14 @@ pub adds_texts : (x y : Value) (front back : List ℕ) (s : State) (a : Act) →
     → front ≡ text_of_value x → back ≡ text_of_value y → Works s (text_of_texts front back) s a
     → Works s (sum_of_primitives x y) s a
 adds_texts x y front back s a is first second leads =
-    subst (λ (b : Bool). Works s (if b then text_of_texts (text_of_value x) (text_of_value y) else sum_of_numbers x y) s a) is
+    subst (λ (b : Bool). Works s (if b then text_of_texts (text_of_value x) (text_of_value y) else sum_of_numbers x y) s
+    a) is
     (subst (λ l. Works s (text_of_texts l (text_of_value y)) s a) first
     (subst (λ l. Works s (text_of_texts front l) s a) second leads))
 
 pub adds_numbers : (x y : Value) (s : State) (a : Act) → false ≡ (is_string x || is_string y)
     → Works s (sum_of_numbers x y) s a → Works s (sum_of_primitives x y) s a
 adds_numbers x y s a is leads =
-    subst (λ (b : Bool). Works s (if b then text_of_texts (text_of_value x) (text_of_value y) else sum_of_numbers x y) s a) is
+    subst (λ (b : Bool). Works s (if b then text_of_texts (text_of_value x) (text_of_value y) else sum_of_numbers x y) s
+    a) is
     leads

@@ -14,7 +14,8 @@ use Rattle.jl_state.specs.declared.algorithm_frame.AlgorithmFrame.TheVariants as
 use Rattle.jl_state.specs.declared.state.State.{State}
 use Rattle.jl_operator.proofs.Operands.{chained}
 
-pub of_objects_or_primitives : (a b : Value) → is_object a ≡ is_object b → abstract_equality a b ≡ primitive_equality a b
+pub of_objects_or_primitives : (a b : Value) → is_object a ≡ is_object b → abstract_equality a b
+    ≡ primitive_equality a b
 of_objects_or_primitives (value.Obj a) (value.Obj b) same = refl
 of_objects_or_primitives (value.Obj a) b same = absurd (let e = same in cc)
 of_objects_or_primitives a (value.Obj b) same = absurd (let e = same in cc)

@@ -26,6 +26,7 @@ no_prototype heap id (value.Obj proto) s t x none leads = absurd (none proto ref
 no_prototype heap id proto s t x none leads = leads
 
 pub no_instance : (v proto : Value) (s t : State) (x : Act) → IsNone v
-    → Works s (throw_type_error (codes "not an object")) t x → Works s (algorithm_after (algorithm.InstanceOf v) proto) t x
+    → Works s (throw_type_error (codes "not an object")) t x
+    → Works s (algorithm_after (algorithm.InstanceOf v) proto) t x
 no_instance (value.Obj id) proto s t x none leads = absurd (none id refl)
 no_instance v proto s t x none leads = record { is = leads.is }

@@ -14,8 +14,8 @@ use Rattle.jl_effects.specs.Effects.{and_then, Emit}
 use Rattle.jl_effects.proofs.Chains.{and_then-assoc}
 use Rattle.jl_meaning.specs.Conversions.{number_hint, string_hint, to_number, to_primitive, to_string}
 use Rattle.jl_meaning.specs.Operators.{binary_result, unary_result}
-use Rattle.jl_meaning.specs.Parts.{give, continue_with, gives, lift, or_fault, throws, ◌>>=◌, Algorithm, Answer, NumberOutside}
-use Rattle.jl_meaning.specs.Parts.{Part}
+use Rattle.jl_meaning.specs.Parts.{give, continue_with, gives, lift, or_fault, throws, ◌>>=◌, Algorithm, Answer}
+use Rattle.jl_meaning.specs.Parts.{NumberOutside, Part}
 use Rattle.jl_meaning.specs.forms.Operators.{operate, operate_on}
 use Rattle.jl_state.specs.AlgorithmFrames.{algorithm_after, number_of_primitive}
 use Rattle.jl_state.specs.Rest.{rest_after, Gives, Works}
@@ -41,7 +41,8 @@ found s t a o x k is leads = subst (λ q. Works s (or_fault NumberOutside q >>= 
 pub chained : {A B : Type 0} (p : Algorithm A) (f : A → Algorithm B) (k : B → Algorithm Value)
     → (p >>= λ a. f a >>= k) ≡ (p >>= f >>= k)
 chained {A} {B} p f k =
-    ap (λ (l : Answer A → Algorithm Value). and_then p l) (fun_ext each) ∙ sym (and_then-assoc p (continue_with f) (continue_with k))
+    ap (λ (l : Answer A → Algorithm Value). and_then p l) (fun_ext each)
+    ∙ sym (and_then-assoc p (continue_with f) (continue_with k))
   where
     each : (a : Answer A) → continue_with (λ b. f b >>= k) a ≡ and_then (continue_with f a) (continue_with k)
     each (gives a) = refl

@@ -12,7 +12,8 @@ use Rattle.jl_heap.specs.Define.{define_on, define_ordinary, is_writable, store_
 use Rattle.jl_heap.specs.Define.{with_new_property, with_property}
 use Rattle.jl_heap.specs.Define as heaps
 use Rattle.jl_heap.specs.Objects.{object_at, own, own_or_unit, unit_property, units_of, Name, Objects}
-use Rattle.jl_heap.specs.Property.{is_configurable, is_refused, is_same, new_property, property_after, other_kind, turns, with_fields}
+use Rattle.jl_heap.specs.Property.{is_configurable, is_refused, is_same, new_property, property_after, other_kind}
+use Rattle.jl_heap.specs.Property.{turns, with_fields}
 use Rattle.jl_heap.specs.declared.property.Change as asked
 use Rattle.jl_heap.specs.declared.property.Defined.{Defined}
 use Rattle.jl_heap.specs.declared.property.Defined.TheVariants.{Done, Rejected}
@@ -105,7 +106,8 @@ module _ (h : Objects) (k : ℕ) (x : Name) (within : k < length h.objects) wher
   by_new false none done = let no : false ≡ true = done in cc
 
   abbrev revised_so : Bool → Prop → Option Prop
-  revised_so refused p = if refused then None else Some (with_fields (if turns p created then other_kind p else p) created)
+  revised_so refused p = if refused then None else Some
+      (with_fields (if turns p created then other_kind p else p) created)
 
   by_revised : (refused : Bool) (p : Prop) → own h k x ≡ Some p → IsDone (store_property h k x (revised_so refused p))
       → Writes (store_property h k x (revised_so refused p))

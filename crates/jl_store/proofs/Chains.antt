@@ -9,8 +9,8 @@ use Rattle.jl_effects.specs.Effects.{and_then, Begin, Change, Emit, End, Fail, L
 use Rattle.jl_effects.specs.Running.{run_to, with_store, Ends, Fails, Finish, Outcome, Over, Recorded, RunState}
 use Rattle.jl_meaning.specs.Errors.{throw_error}
 use Rattle.jl_meaning.specs.Mean.{language}
-use Rattle.jl_meaning.specs.Parts.{fault_of, continue_with, gives, lift, throws, ◌>>=◌, Algorithm, AlgorithmFault, Answer, Job}
-use Rattle.jl_meaning.specs.Parts.{Part}
+use Rattle.jl_meaning.specs.Parts.{fault_of, continue_with, gives, lift, throws, ◌>>=◌, Algorithm, AlgorithmFault}
+use Rattle.jl_meaning.specs.Parts.{Answer, Job, Part}
 use Rattle.jl_meaning.specs.Store.{Store}
 use Rattle.jl_store.specs.Answers.{MakesError}
 use Rattle.jl_store.specs.Changes.{after}
@@ -25,7 +25,8 @@ gives_end a = Ends (gives a)
 given_on : {A B : Type 0} (a : Answer A) (k : A → Algorithm B) (s t u : Store) (b : A) (e : EndOf B) → a ≡ gives b
     → s ≡ t → leads (k b) t u e → leads (continue_with k a) s u e
 given_on {A} {B} a k s t u b e here same rest =
-    subst (λ (c : Answer A). leads (continue_with k c) s u e) (sym here) (subst (λ v. leads (k b) v u e) (sym same) rest)
+    subst (λ (c : Answer A). leads (continue_with k c) s u e) (sym here)
+    (subst (λ v. leads (k b) v u e) (sym same) rest)
 
 ended : {A : Type 0} (a b : Answer A) (x y : EndOf A) → x ≡ Ends a → y ≡ Ends b → x ≡ y → a ≡ b
 ended a b x y ea eb e = cc

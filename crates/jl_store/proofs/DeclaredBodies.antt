@@ -39,5 +39,6 @@ module _ (names : List Name) (mentioned strict : Bool) (callee : ObjId) (params 
       → Comes (declare_body (plain_code b) strict callee params args c) s w (Ends (gives tt))
   body_comes b declares bound functions arguments vars =
       subst (λ code. Comes (declare_body code strict callee params args c) s w (Ends (gives tt))) (sym (body_plain b))
-      (tree_comes _ _ _ (subst (λ code. Declares code names mentioned) (body_plain b) declares) bound functions arguments
+      (tree_comes _ _ _ (subst (λ code. Declares code names mentioned) (body_plain b) declares) bound functions
+      arguments
       vars)

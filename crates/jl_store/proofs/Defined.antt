@@ -31,14 +31,17 @@ pub done_comes : (id : ObjId) (x : Name) (change : Change) (s t u : Store) (r : 
     → Comes (remapped_if id x r) t u (Ends (gives tt)) → Comes (define_with_number id x change) s u (Ends (gives true))
 done_comes id x change s t u r d made is done mapping comes =
     let p = mapped_parameter s id.0 x in
-    let same : update_mapping id x change p ≡ remapped_if id x r = same_mapping id x change p ∙ ap (remapped_if id x) mapping in
+    let same : update_mapping id x change p ≡ remapped_if id x r =
+    same_mapping id x change p ∙ ap (remapped_if id x) mapping in
     let updated : Comes (update_mapping id x change p) t u (Ends (gives tt)) =
     subst (λ q. Comes q t u (Ends (gives tt))) (sym same) comes in
-    let all : leads (update_mapping_if true id x change p) t u (Ends (gives true)) = (comes_after updated comes_to).leads in
+    let all : leads (update_mapping_if true id x change p) t u (Ends (gives true)) =
+    (comes_after updated comes_to).leads in
     let truth : true ≡ is_done (heaps.define_own_property s.heap id.0 x change).1 = ap is_done (sym done ∙ is) in
     record {
       leads =
-          subst (λ b. leads (update_mapping_if b id x change p) (after (DefineProperty id x change) s) u (Ends (gives true)))
+          subst (λ b. leads (update_mapping_if b id x change p) (after (DefineProperty id x change) s) u
+          (Ends (gives true)))
           truth
           (subst (λ v. leads (update_mapping_if true id x change p) v u (Ends (gives true))) made all);
     }

@@ -195,7 +195,8 @@ pub seen_unbound : {T E : Type 0} (a : Inside) (p : Properties Bound) (seen : Li
     → environments_inside a ≡ seen → OnErr r (IsUnchanged a.bindings p)
     → OnErr r (environments_inside (record a { bindings = p }) ≡ seen)
 seen_unbound a p seen (Ok y) e same = tt
-seen_unbound a p seen (Err y) e same = environments-same a.outers (entries_of p) (entries_of a.bindings) same.entries ∙ e
+seen_unbound a p seen (Err y) e same = environments-same a.outers (entries_of p) (entries_of a.bindings) same.entries
+    ∙ e
 
 pub is_free : (a : Inside) (seen : List Environment) (k : ℕ) (x : List ℕ) → IsKept a → environments_inside a ≡ seen
     → IsNone (binding_named x (environment_in seen k).bindings) → IsNone (item_of a.bindings k x)

@@ -175,6 +175,7 @@ still_free {s} {id} {x'} {y} t x y' p x_is y_is made differ free =
           ap (λ o. is_some (option_map (λ (e : Entry Prop). e.item) o))
           (ap (λ (o : Object). entry_named y o.properties)
           (get_or-set_same s.heap.objects id.0 changed absent_object free.there)
-          ∙ name_stays x y (object_at s.heap id.0).properties s.heap.next p (ap (λ z. bytes_eq z y) x_is ∙ differ) none);
+          ∙ name_stays x y (object_at s.heap id.0).properties s.heap.next p (ap (λ z. bytes_eq z y) x_is ∙ differ)
+          none);
     } in
     subst (λ z. IsFree t id z) (sym y_is) (subst (λ (u : Store). IsFree u id y) (sym made) at)

@@ -24,13 +24,15 @@ or_none None = refl
 or_none (Some x) = refl
 
 -- an object at address 0 has no prototype
-alone : {A : Type 0} (o : Option A) (f : ObjId → Option A) (place : ℕ) (proto : Option ObjId) → place ≤ 0 → Before place proto
+alone : {A : Type 0} (o : Option A) (f : ObjId → Option A) (place : ℕ) (proto : Option ObjId) → place ≤ 0
+    → Before place proto
     → option_or o (option_and_then f proto) ≡ o
 alone o f place None bottom none = or_none o
 alone o f place (Some p) bottom below = absurd (omega (arith, below, bottom))
 
 along : {A : Type 0} (o : Option A) (f g : ObjId → Option A) (place : ℕ) (proto : Option ObjId) → Before place proto
-    → ((p : ObjId) → p.0 < place → f p ≡ g p) → option_or o (option_and_then f proto) ≡ option_or o (option_and_then g proto)
+    → ((p : ObjId) → p.0 < place → f p ≡ g p) → option_or o (option_and_then f proto)
+    ≡ option_or o (option_and_then g proto)
 along o f g place None below same = refl
 along o f g place (Some p) below same = ap (option_or o) (same p below)
 
@@ -55,7 +57,8 @@ pub found_here : (s : Store) → ProtosAreOlder s.heap → (x : List ℕ) (place
     → get_own_property s place x ≡ Some p → property_within place s place x ≡ Some p
 found_here s older x place p e =
     property_by s older x place
-    ∙ ap (λ o. option_or o (option_and_then (λ proto. property_within proto.0 s proto.0 x) (object_at s.heap place).proto)) e
+    ∙ ap (λ o. option_or o (option_and_then (λ proto. property_within proto.0 s proto.0 x)
+    (object_at s.heap place).proto)) e
 
 pub found_further : (s : Store) → ProtosAreOlder s.heap → (x : List ℕ) (place : ℕ) (proto : Option ObjId)
     → get_own_property s place x ≡ None → (object_at s.heap place).proto ≡ proto
@@ -168,7 +171,8 @@ pub reference_by : (s : Store) → OutersAreBefore s.environments → (x : List 
 reference_by s before x zero = ap (reference_from s 0 x) (no_outer _ _ 0 _ (omega arith) (before 0))
 reference_by s before x (suc n) =
     ap (reference_from s (suc n) x)
-    (same_outer _ _ _ (suc n) _ (before (suc n)) (λ o below. references_agree s before x n o o (omega arith) (omega arith)))
+    (same_outer _ _ _ (suc n) _ (before (suc n))
+    (λ o below. references_agree s before x n o o (omega arith) (omega arith)))
 
 -- steps of the loops
 
@@ -192,11 +196,13 @@ pub environment_goes_on : (s : Store) → OutersAreBefore s.environments → (x 
     → reference_within outer s outer x ≡ reference_within env s env x
 environment_goes_on s before x env outer unbound there =
     sym (reference_by s before x env
-    ∙ ap (λ b. if b then in_environment env else option_map_or (λ o. reference_within o s o x) (environment_at s env).outer (global_reference s x)) unbound
+    ∙ ap (λ b. if b then in_environment env else option_map_or (λ o. reference_within o s o x)
+    (environment_at s env).outer (global_reference s x)) unbound
     ∙ ap (λ o. option_map_or (λ o. reference_within o s o x) o (global_reference s x)) there)
 
 pub environment_here : (s : Store) → OutersAreBefore s.environments → (x : List ℕ) (env : ℕ)
     → has_binding s env x ≡ true → in_environment env ≡ reference_within env s env x
 environment_here s before x env bound =
     sym (reference_by s before x env
-    ∙ ap (λ b. if b then in_environment env else option_map_or (λ o. reference_within o s o x) (environment_at s env).outer (global_reference s x)) bound)
+    ∙ ap (λ b. if b then in_environment env else option_map_or (λ o. reference_within o s o x)
+    (environment_at s env).outer (global_reference s x)) bound)

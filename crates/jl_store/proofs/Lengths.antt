@@ -110,7 +110,8 @@ module _ (id : ObjId) (x : Name) (change : Change) (v : Value) (s : Store)
       → Comes (define_own_property id x change) s t e
   unfolding define_own_property
   own_defined w t e length comes =
-      let changed : Comes (with_length is_asked change change.value) s s (Ends (gives (record change { value = Some w }))) =
+      let changed : Comes (with_length is_asked change change.value) s s
+      (Ends (gives (record change { value = Some w }))) =
       with_it is_asked change.value _ s given (comes_on _ length comes_to) in
       record { leads = (comes_on (λ (c : Change). define_with_number id x c) changed comes).leads }
 
@@ -136,7 +137,8 @@ module _ (id : ObjId) (x : Name) (change : Change) (v : Value) (s : Store)
         → Comes (define_own_property id x change) s u (Ends (gives done))
     gives_length n done (is, length, same) comes =
         own_defined (value.Num n) u (Ends (gives done)) (length_given_comes v n s bare is length)
-        (subst (λ w. Comes (define_with_number id x (record change { value = Some (value.Num n) })) w u (Ends (gives done)))
+        (subst (λ w. Comes (define_with_number id x (record change { value = Some (value.Num n) })) w u
+        (Ends (gives done)))
         same comes)
 
     pub throws_length : (w : Value) → IsLengthOf v s t (ended.Throws w)

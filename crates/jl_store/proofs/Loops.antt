@@ -39,11 +39,13 @@ pub all_done : {p : Algorithm (Unit {0})} {s t : Store} → Leaves p s (give tt)
 all_done before = before.on _ _ comes_to
 
 -- the next one throws, or fails
-pub next_thrown : {p r : Algorithm (Unit {0})} {s t u : Store} {v : Value} (q : Algorithm (Unit {0})) → Leaves p s (r >>= (λ _. q)) t
+pub next_thrown : {p r : Algorithm (Unit {0})} {s t u : Store} {v : Value} (q : Algorithm (Unit {0}))
+    → Leaves p s (r >>= (λ _. q)) t
     → Comes r t u (Ends (throws v)) → Comes p s u (Ends (throws v))
 next_thrown q before step = before.on _ _ (comes_thrown _ step)
 
-pub next_failed : {p r : Algorithm (Unit {0})} {s t u : Store} {f : AlgorithmFault} (q : Algorithm (Unit {0})) → Leaves p s (r >>= (λ _. q)) t
+pub next_failed : {p r : Algorithm (Unit {0})} {s t u : Store} {f : AlgorithmFault} (q : Algorithm (Unit {0}))
+    → Leaves p s (r >>= (λ _. q)) t
     → Comes r t u (Fails f) → Comes p s u (Fails f)
 next_failed q before step = before.on _ _ (comes_failed _ step)
 
@@ -64,7 +66,8 @@ pub variable_done : {p : Algorithm (Unit {0})} {s t u : Store} (env i : ℕ) (na
     → Comes (declare_variable env x) t u (Ends (gives tt)) → Leaves p s (declare_variables env (drop (i + 1) names)) u
 variable_done {p} {s} {t} env i names x before within is step =
     let split : drop i names ≡ x ∷ drop (i + 1) names =
-    drop-cons names i x within ∙ ap (λ y. y ∷ drop (suc i) names) (sym is) ∙ ap (λ k. x ∷ drop k names) (sym (add-one i)) in
+    drop-cons names i x within ∙ ap (λ y. y ∷ drop (suc i) names) (sym is)
+    ∙ ap (λ k. x ∷ drop k names) (sym (add-one i)) in
     next_done (subst (λ l. Leaves p s (declare_variables env l) t) split before) step
 
 pub none_left : {A : Type 0} (xs : List A) (i : ℕ) → length xs ≡ i → drop i xs ≡ []

@@ -49,11 +49,13 @@ pub named_comes : (outer : Bool) (env inside : ℕ) (f : Func) (x : Name) (s t u
 named_comes outer env inside f x s t u v id is made first bound =
     let rest : Comes (make_function outer inside f >>= with_name inside x) t v (Ends (gives id)) =
     comes_on (with_name inside x) first (comes_changed _ bound comes_to) in
-    let all : Comes (change_store (NewEnvironment env) >>= (λ _. make_function outer inside f >>= with_name inside x)) s v
+    let all : Comes (change_store (NewEnvironment env) >>= (λ _. make_function outer inside f >>= with_name inside x)) s
+    v
     (Ends (gives id)) =
     comes_changed _ made rest in
     let here =
-    subst (λ k. leads (change_store (NewEnvironment env) >>= (λ _. make_function outer k f >>= with_name k x)) s v (Ends (gives id)))
+    subst (λ k. leads (change_store (NewEnvironment env) >>= (λ _. make_function outer k f >>= with_name k x)) s v
+    (Ends (gives id)))
     is all.leads in
     record { leads = here }
 

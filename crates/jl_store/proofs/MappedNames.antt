@@ -21,7 +21,8 @@ seam : (n : ℕ) (l : List (Option Name)) → no_mappings (suc n) ++ l ≡ no_ma
 seam zero l = refl
 seam (suc n) l = ap (λ m. None ∷ m) (seam n l)
 
-set_at_seam : (n : ℕ) (v : Option Name) (l : List (Option Name)) → set (no_mappings (suc n) ++ l) n v ≡ no_mappings n ++ v ∷ l
+set_at_seam : (n : ℕ) (v : Option Name) (l : List (Option Name)) → set (no_mappings (suc n) ++ l) n v
+    ≡ no_mappings n ++ v ∷ l
 set_at_seam zero v l = refl
 set_at_seam (suc n) v l = ap (λ m. None ∷ m) (set_at_seam n v l)
 

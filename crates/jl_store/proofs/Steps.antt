@@ -27,7 +27,8 @@ pub comes_new : {A : Type 0} {s t u : Store} {e : Finish AlgorithmFault (Answer 
     (proto : Option ObjId) (inner : Inner) (id : ObjId) (k : ObjId → Algorithm A) → id ≡ next_object s
     → t ≡ after (NewObject kind proto inner) s → Comes (k id) t u e → Comes (new_object kind proto inner >>= k) s u e
 comes_new {A} {s} {t} {u} {e} kind proto inner id k is made rest = record {
-  leads = subst (λ i. leads (k i) (after (NewObject kind proto inner) s) u e) is (subst (λ v. leads (k id) v u e) made rest.leads);
+  leads = subst (λ i. leads (k i) (after (NewObject kind proto inner) s) u e) is
+      (subst (λ v. leads (k id) v u e) made rest.leads);
 }
 
 pub comes_added : {A : Type 0} {s t u : Store} {e : Finish AlgorithmFault (Answer A)} {x y : Name} {p q : Prop}

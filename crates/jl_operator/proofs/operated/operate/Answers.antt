@@ -4,7 +4,8 @@ use Rattle.jl_operator.proofs.operated.operate.Goals as goal
 
 pub returns-in_ok-push_value-clause-leads : goal.returns-in_ok-push_value-clause-leads
 returns-in_ok-push_value-clause-leads c =
-    IfOk-weaker _ _ _ (λ a leads. operates_told c.args.state.now _ _ _ c.args.emits c.args.id c.args.op c.args.a c.args.b
+    IfOk-weaker _ _ _ (λ a leads. operates_told c.args.state.now _ _ _ c.args.emits c.args.id c.args.op c.args.a
+    c.args.b
     _ _ c.if-emits.true c.in_ok-left.ensures c.in_ok-right.ensures c.in_ok-push_value.ensures.waits leads)
     c.binary_result.ensures.leads
 

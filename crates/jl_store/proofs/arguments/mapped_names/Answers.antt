@@ -15,11 +15,13 @@ pub loop-at-preserved-then-branch : goal.loop-at-preserved-then-branch
 loop-at-preserved-then-branch c =
     let k = c.loop-at.at - 1 in
     let next : c.loop-at.at ≡ suc (c.loop-at.at - 1) = omega (arith, c.loop-at-test.true) in
-    let within : c.loop-at.at - 1 < length c.args.params.now = omega (arith, c.loop-at-test.true, c.loop-at.invariant.within) in
+    let within : c.loop-at.at - 1 < length c.args.params.now =
+    omega (arith, c.loop-at-test.true, c.loop-at.invariant.within) in
     let mapped =
     subst (λ n. c.loop-at.names ≡ no_mappings n ++ mapped_names (names_of (drop n c.args.params.now))) next
     c.loop-at.invariant.mapped in
-    let same = subst (λ n. SameNames c.loop-at.later (names_of (drop n c.args.params.now))) next c.loop-at.invariant.same in
+    let same = subst (λ n. SameNames c.loop-at.later (names_of (drop n c.args.params.now))) next
+    c.loop-at.invariant.same in
     record {
       mapped =
           c.set.ensures
@@ -28,7 +30,8 @@ loop-at-preserved-then-branch c =
           c.if-branch.true;
       same =
           same_before k c.args.params.now c.index-params-at.result c.loop-at.names c.loop-at.later _ _ within
-          c.index-params-at.is mapped same c.units.ensures.same c.in_ok-insert.ensures.added _ c.in_ok-insert.ensures.names;
+          c.index-params-at.is mapped same c.units.ensures.same c.in_ok-insert.ensures.added _
+          c.in_ok-insert.ensures.names;
       within = omega (arith, within);
     }
 
@@ -36,17 +39,20 @@ pub loop-at-preserved : goal.loop-at-preserved
 loop-at-preserved c =
     let k = c.loop-at.at - 1 in
     let next : c.loop-at.at ≡ suc (c.loop-at.at - 1) = omega (arith, c.loop-at-test.true) in
-    let within : c.loop-at.at - 1 < length c.args.params.now = omega (arith, c.loop-at-test.true, c.loop-at.invariant.within) in
+    let within : c.loop-at.at - 1 < length c.args.params.now =
+    omega (arith, c.loop-at-test.true, c.loop-at.invariant.within) in
     let mapped =
     subst (λ n. c.loop-at.names ≡ no_mappings n ++ mapped_names (names_of (drop n c.args.params.now))) next
     c.loop-at.invariant.mapped in
-    let same = subst (λ n. SameNames c.loop-at.later (names_of (drop n c.args.params.now))) next c.loop-at.invariant.same in
+    let same = subst (λ n. SameNames c.loop-at.later (names_of (drop n c.args.params.now))) next
+    c.loop-at.invariant.same in
     record {
       mapped =
           mapped_old k c.args.params.now c.index-params-at.result c.loop-at.names c.loop-at.later _ _ within
           c.index-params-at.is mapped same c.units.ensures.same c.in_ok-insert.ensures.added c.if-branch.false;
       same =
           same_before k c.args.params.now c.index-params-at.result c.loop-at.names c.loop-at.later _ _ within
-          c.index-params-at.is mapped same c.units.ensures.same c.in_ok-insert.ensures.added _ c.in_ok-insert.ensures.names;
+          c.index-params-at.is mapped same c.units.ensures.same c.in_ok-insert.ensures.added _
+          c.in_ok-insert.ensures.names;
       within = omega (arith, within);
     }

@@ -12,4 +12,5 @@ returns c =
     c.in_ok-names.ensures
     ∙ ap (λ l. mapped_names (names_of l)) c.first_ones.ensures
     ∙ ap mapped_names (sym (take-map (λ (x : Ident). x.text) _ c.args.params.now)) in
-    ap (Mapped c.args.env) names ∙ ap (λ b. mapping b c.args.env (names_of c.args.params.now) c.args.args.now) (sym c.if-strict.false)
+    ap (Mapped c.args.env) names ∙ ap (λ b. mapping b c.args.env (names_of c.args.params.now) c.args.args.now)
+    (sym c.if-strict.false)

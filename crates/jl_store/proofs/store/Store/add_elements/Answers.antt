@@ -14,7 +14,8 @@ add_property-requires c =
 pub loop-index-preserved : goal.loop-index-preserved
 loop-index-preserved c = record {
   left =
-      element_done c.args.id c.loop-index.index c.args.args.now c.index-args-index.result _ _ c.loop-index.invariant.left
+      element_done c.args.id c.loop-index.index c.args.args.now c.index-args-index.result _ _
+      c.loop-index.invariant.left
       c.loop-index-test.true c.index-args-index.is c.in_ok-name.ensures
       (c.data.ensures ∙ ap (λ v. Plain v true true true) c.in_ok-value.ensures) c.in_ok-add_property.ensures.made;
   names =

@@ -14,4 +14,5 @@ pub returns-clause-made : goal.returns-clause-made
 unfolding arguments_name
 returns-clause-made c =
     comes_added c.args.f c.in_ok-caller.ensures c.thrower_property.ensures c.in_ok-add_property.ensures.made
-    (comes_by_adding c.args.f c.in_ok-arguments.ensures c.thrower_property-2.ensures c.in_ok-add_property-2.ensures.made)
+    (comes_by_adding c.args.f c.in_ok-arguments.ensures c.thrower_property-2.ensures
+    c.in_ok-add_property-2.ensures.made)

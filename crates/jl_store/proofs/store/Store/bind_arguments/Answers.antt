@@ -13,8 +13,13 @@ pub returns : goal.returns
 unfolding arguments_name
 returns c =
     comes_on
-    (λ (id : ObjId). change_store (NewBinding c.args.env (record { name = arguments_name; value = value.Obj id; mutable = not c.args.strict })))
+    (λ (id : ObjId). change_store
+    (NewBinding c.args.env (record { name = arguments_name; value = value.Obj id; mutable = not c.args.strict })))
     c.in_ok-id.ensures.made
     (comes_by _ (c.in_ok-new_binding.ensures.made
-    ∙ ap (λ x. after (NewBinding c.args.env (record { name = x; value = value.Obj c.in_ok-id.id; mutable = not c.args.strict }))
+    ∙ ap (λ x. after (NewBinding c.args.env (record {
+      name = x;
+      value = value.Obj c.in_ok-id.id;
+      mutable = not c.args.strict;
+    }))
     c.create_arguments_object.new.self) c.in_ok-name.ensures))

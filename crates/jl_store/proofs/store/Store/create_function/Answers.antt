@@ -51,10 +51,13 @@ add_poison_if-requires-clause-arguments c = is_free _ refl (all_names c) refl
 pub returns-clause-made : goal.returns-clause-made
 unfolding create_function length_name
 returns-clause-made c =
-    comes_new _ _ _ c.in_ok-f.f (function_alone c.args.strict c.args.params) c.in_ok-f.ensures.next c.in_ok-f.ensures.made
-    (comes_added c.in_ok-f.f c.in_ok-length.ensures (c.data.ensures ∙ ap (λ v. Plain v false false false) c.in_ok-params.ensures)
+    comes_new _ _ _ c.in_ok-f.f (function_alone c.args.strict c.args.params) c.in_ok-f.ensures.next
+    c.in_ok-f.ensures.made
+    (comes_added c.in_ok-f.f c.in_ok-length.ensures (c.data.ensures
+    ∙ ap (λ v. Plain v false false false) c.in_ok-params.ensures)
     c.in_ok-add_property.ensures.made
-    (comes_new _ _ _ c.in_ok-proto.proto (function_with_prototype c.args.strict c.in_ok-f.f) c.in_ok-proto.ensures.next c.in_ok-proto.ensures.made
+    (comes_new _ _ _ c.in_ok-proto.proto (function_with_prototype c.args.strict c.in_ok-f.f) c.in_ok-proto.ensures.next
+    c.in_ok-proto.ensures.made
     (comes_added c.in_ok-proto.proto c.in_ok-constructor.ensures c.data-2.ensures c.in_ok-add_property-2.ensures.made
     (comes_added c.in_ok-f.f c.in_ok-prototype.ensures c.data-3.ensures c.in_ok-add_property-3.ensures.made
     (comes_after c.in_ok-add_poison_if.ensures.made comes_to)))))

@@ -10,7 +10,8 @@ pub returns-in_ok-require-in-Gives : goal.returns-in_ok-require-in-Gives
 returns-in_ok-require-in-Gives c =
     global_done c.args.name.now c.args.self.now c.define_own_property.new.self c.in_ok-done.field-0
     c.in_ok-done.ensures c.require.new.self c.in-Gives.done (finish_of c.finish.result) c.in-Gives.is
-    (subst (λ e. Comes (require c.in-Gives.done (codes "cannot define")) c.define_own_property.new.self c.require.new.self e)
+    (subst (λ e. Comes (require c.in-Gives.done (codes "cannot define")) c.define_own_property.new.self
+    c.require.new.self e)
     (sym c.finish.ensures) c.in_ok-require-in-Gives.ensures)
 
 pub returns-in-Throws : goal.returns-in-Throws

@@ -16,5 +16,6 @@ returns c =
     let vars =
     subst (λ xs. Comes (declare_variables c.args.env xs) c.bind_arguments_where.new.self c.declare_variables.new.self
     (Ends (gives tt))) c.as_slice.ensures.value c.in_ok-declare_variables.ensures in
-    body_comes c.args.declared.now.variables.items _ _ _ _ _ (code_in c.args.env c.args.strict) _ _ _ _ _ c.args.body.now
+    body_comes c.args.declared.now.variables.items _ _ _ _ _ (code_in c.args.env c.args.strict) _ _ _ _ _
+    c.args.body.now
     c.requires c.in_ok-bind_parameters.ensures functions c.in_ok-bind_arguments_where.ensures vars

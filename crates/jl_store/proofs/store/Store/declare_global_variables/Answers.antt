@@ -11,7 +11,8 @@ returns-in-Throws c =
     next_thrown (declare_global_variables (drop (c.loop-name.name-index + 1) c.args.names.now))
     (globals_from c.loop-name.name-index c.args.names.now c.name-item.result c.loop-name.invariant c.loop-name-test.true
     c.name-item.is)
-    (subst (λ end. Comes (declare_global_variable c.name-item.result) c.loop-name.self c.declare_global_variable.new.self
+    (subst (λ end. Comes (declare_global_variable c.name-item.result) c.loop-name.self
+    c.declare_global_variable.new.self
     (finish_of end)) c.in-Throws.is c.in_ok-declare_global_variable.ensures)
 
 pub returns-in-Fails : goal.returns-in-Fails
@@ -19,7 +20,8 @@ returns-in-Fails c =
     next_failed (declare_global_variables (drop (c.loop-name.name-index + 1) c.args.names.now))
     (globals_from c.loop-name.name-index c.args.names.now c.name-item.result c.loop-name.invariant c.loop-name-test.true
     c.name-item.is)
-    (subst (λ end. Comes (declare_global_variable c.name-item.result) c.loop-name.self c.declare_global_variable.new.self
+    (subst (λ end. Comes (declare_global_variable c.name-item.result) c.loop-name.self
+    c.declare_global_variable.new.self
     (finish_of end)) c.in-Fails.is c.in_ok-declare_global_variable.ensures)
 
 pub loop-name-preserved : goal.loop-name-preserved
@@ -27,5 +29,6 @@ loop-name-preserved c =
     next_done
     (globals_from c.loop-name.name-index c.args.names.now c.name-item.result c.loop-name.invariant c.loop-name-test.true
     c.name-item.is)
-    (subst (λ end. Comes (declare_global_variable c.name-item.result) c.loop-name.self c.declare_global_variable.new.self
+    (subst (λ end. Comes (declare_global_variable c.name-item.result) c.loop-name.self
+    c.declare_global_variable.new.self
     (finish_of end)) c.in-Gives.is c.in_ok-declare_global_variable.ensures)

@@ -6,7 +6,8 @@ use Rattle.jl_store.proofs.store.Store.make_function_expression.Goals as goal
 
 pub returns-in_ok-id-in-None : goal.returns-in_ok-id-in-None
 returns-in_ok-id-in-None c =
-    expression_comes c.args.outer_strict _ (plain_function c.args.f.now) None _ _ _ (name_is c.args.f.now _ c.in-None.is)
+    expression_comes c.args.outer_strict _ (plain_function c.args.f.now) None _ _ _
+    (name_is c.args.f.now _ c.in-None.is)
     c.in_ok-id-in-None.ensures.made
 
 pub returns-in_ok-make_named-in-Some : goal.returns-in_ok-make_named-in-Some
