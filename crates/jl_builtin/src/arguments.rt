@@ -53,10 +53,10 @@ pub fn need_function(store: &mut Store, v: &Value) -> Result<Answer<ObjId>, NoMe
     ensures { IfOk result (λ answer. Comes (need_function v.now) store.old store.new (ends_with answer)) }
 {
     let Value::Obj(id) = v else {
-        return Ok(no_function(store)?);
+        return no_function(store);
     };
     if !store.is_callable(v) {
-        return Ok(no_function(store)?);
+        return no_function(store);
     }
     Ok(Answer::Gives(*id))
 }

@@ -63,7 +63,7 @@ pub fn put_length<'p>(
         return Ok(Act::Fault(Fault::NumberOutside));
     };
     let name = word(alloc, "length")?;
-    Ok(put(
+    put(
         alloc,
         state,
         true,
@@ -71,7 +71,7 @@ pub fn put_length<'p>(
         &name,
         Value::Num(n),
         gives,
-    )?)
+    )
 }
 
 /// A length as a number of a script.

@@ -60,7 +60,7 @@ pub fn fill_array<'p>(
             if !state.spend() {
                 return Ok(Act::Spent);
             }
-            Ok(add_and_go_on(alloc, state, array, from, v, values, next)?)
+            add_and_go_on(alloc, state, array, from, v, values, next)
         }
     }
 }
@@ -88,7 +88,7 @@ fn add_and_go_on<'p>(
                 values,
                 from: next,
             };
-            Ok(go_on(state, progress)?)
+            go_on(state, progress)
         }
         Finished::Throws(thrown) => Ok(Act::Complete(Completion::Throw(thrown))),
         Finished::Fails(fault) => Ok(Act::Fault(fault_of(fault))),

@@ -1,16 +1,18 @@
 use Rattle.std.proofs.Common.{drop, refl}
+use Rattle.std.proofs.lemmas.Result.{IfOk-weaker}
 use Rattle.jl_meaning.specs.Parts.{◌>>=◌}
 use Rattle.jl_meaning.specs.builtins.Arguments.{give_object}
 use Rattle.jl_meaning.specs.builtins.Elements.{add_in_turns, add_index}
 use Rattle.jl_builtin.proofs.Ends.{end_failed, end_given, end_thrown}
 use Rattle.jl_builtin.proofs.filling.add_and_go_on.Goals as goal
 
-pub returns-in_ok-go_on-in-Gives-clause-leads : goal.returns-in_ok-go_on-in-Gives-clause-leads
-returns-in_ok-go_on-in-Gives-clause-leads c =
+pub returns-in-Gives-clause-leads : goal.returns-in-Gives-clause-leads
+returns-in-Gives-clause-leads c =
+    IfOk-weaker _ _ _ (λ a leads.
     end_given c.args.state.now (record c.args.state.now { store = c.add_index.new.store }) refl
     (add_index c.args.array c.args.index c.args.v)
     (λ _. add_in_turns c.args.array c.args.next (drop c.args.next c.args.values) >>= λ _. give_object c.args.array)
-    _ c.in_ok-answer.ensures _ _ _ c.in-Gives.is c.in_ok-go_on-in-Gives.ensures.leads
+    _ c.in_ok-answer.ensures _ _ _ c.in-Gives.is leads) c.go_on.ensures.leads
 
 pub returns-in-Throws-clause-leads : goal.returns-in-Throws-clause-leads
 returns-in-Throws-clause-leads c =
