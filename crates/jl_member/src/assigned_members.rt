@@ -40,7 +40,7 @@ pub fn assign_member<'p>(
         value,
         here,
     };
-    Ok(member_name(alloc, state, &base, key, purpose)?)
+    member_name(alloc, state, &base, key, purpose)
 }
 
 /// A member whose name has been found is assigned.
@@ -67,7 +67,7 @@ pub fn assign_by_key<'p>(
                 name,
                 strict: here.strict,
             };
-            Ok(state.evaluate(frame, value, here)?)
+            state.evaluate(frame, value, here)
         }
     }
 }
@@ -93,7 +93,7 @@ fn compute_by_key<'p>(
         value,
         here,
     })?;
-    Ok(get_member(alloc, state, by_script(), base, name)?)
+    get_member(alloc, state, by_script(), base, name)
 }
 
 /// An assignment to `o.k` goes on with o.
@@ -174,7 +174,7 @@ pub fn step_compute_member<'p>(
         held: v,
         strict: here.strict,
     };
-    Ok(state.evaluate(frame, value, here)?)
+    state.evaluate(frame, value, here)
 }
 
 /// `o[k] op= e` goes on with the value of e.

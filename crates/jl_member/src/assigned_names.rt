@@ -43,7 +43,7 @@ pub fn assign_name<'p>(
         reference,
         strict: here.strict,
     };
-    Ok(state.evaluate(frame, value, here)?)
+    state.evaluate(frame, value, here)
 }
 
 /// Goes on with a value that is written to a name (11.13.1, 12.2).
@@ -61,7 +61,7 @@ pub fn step_write_name<'p>(
     ensures falls { IfOk result (λ act. Falls state.old 46 state.new act) }
 {
     let given = share(alloc, &v)?;
-    Ok(put_value(alloc, state, strict, name, v, reference, given)?)
+    put_value(alloc, state, strict, name, v, reference, given)
 }
 
 /// A name gets what an operator makes of its value and another (11.13.2).
@@ -89,7 +89,7 @@ pub fn compute_name<'p>(
         value,
         here,
     })?;
-    Ok(get_value(alloc, state, name, reference)?)
+    get_value(alloc, state, name, reference)
 }
 
 /// Goes on with the value of a name that gets what an operator makes of that and another (11.13.2).
@@ -114,7 +114,7 @@ pub fn step_compute_name<'p>(
         held: v,
         strict: here.strict,
     };
-    Ok(state.evaluate(frame, value, here)?)
+    state.evaluate(frame, value, here)
 }
 
 /// Goes on with the other value.

@@ -41,7 +41,7 @@ pub fn delete_member<'p>(
         base: share(alloc, &base)?,
         strict,
     };
-    Ok(member_name(alloc, state, &base, key, purpose)?)
+    member_name(alloc, state, &base, key, purpose)
 }
 
 /// A member whose name has been found is deleted.
@@ -58,7 +58,7 @@ pub fn delete_by_key<'p>(
     ensures falls { IfOk result (λ act. Falls state.old 8 state.new act) }
 {
     match delete(alloc, state, strict, &base, &name)? {
-        Answer::Gives(free) => Ok(note_deleted(state, noted, &base, name, free)?),
+        Answer::Gives(free) => note_deleted(state, noted, &base, name, free),
         Answer::Throws(thrown) => Ok(Act::Complete(Completion::Throw(thrown))),
     }
 }
@@ -126,7 +126,7 @@ pub fn step_delete_index_base<'p>(
         base: v,
         strict: here.strict,
     };
-    Ok(state.evaluate(frame, key, here)?)
+    state.evaluate(frame, key, here)
 }
 
 /// `delete o[k]` goes on with k.
@@ -155,5 +155,5 @@ fn delete_own<'p>(
     ensures leads { IfOk result (λ act. Gives state.old (delete_member performs 0 strict base key) state.new act) }
     ensures falls { IfOk result (λ act. Falls state.old 30 state.new act) }
 {
-    Ok(delete_member(alloc, state, by_script(), strict, base, key)?)
+    delete_member(alloc, state, by_script(), strict, base, key)
 }

@@ -39,15 +39,15 @@ pub fn member_name<'p>(
     ensures falls { IfOk result (λ act. Falls state.old (rank_key purpose.entry + 20) state.new act) }
 {
     match base {
-        Value::Undefined => Ok(throw_native(
+        Value::Undefined => throw_native(
             alloc,
             state,
             ErrorKind::TypeError,
             "no property of undefined",
-        )?),
-        Value::Null => Ok(throw_native(alloc, state, ErrorKind::TypeError, "no property of null")?),
+        ),
+        Value::Null => throw_native(alloc, state, ErrorKind::TypeError, "no property of null"),
         Value::Bool(_) | Value::Num(_) | Value::Text(_) | Value::Obj(_) => {
-            Ok(convert_key(alloc, state, key, purpose)?)
+            convert_key(alloc, state, key, purpose)
         }
     }
 }
@@ -64,5 +64,5 @@ fn convert_key<'p>(
     ensures falls { IfOk result (λ act. Falls state.old (rank_key purpose.entry + 16) state.new act) }
 {
     state.push_value(ValueFrame::Key(purpose))?;
-    Ok(to_primitive(alloc, state, key, Hint::Text)?)
+    to_primitive(alloc, state, key, Hint::Text)
 }

@@ -35,7 +35,7 @@ pub fn put_member<'p>(
     if emits {
         emit_and_put(alloc, state, id, strict, base, name, v, gives)
     } else {
-        Ok(put(alloc, state, strict, base, &name, v, gives)?)
+        put(alloc, state, strict, base, &name, v, gives)
     }
 }
 

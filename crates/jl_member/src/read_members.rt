@@ -43,7 +43,7 @@ pub fn get_member<'p>(
     if noted.emits {
         get_and_emit(alloc, state, noted.id.first(), base, name)
     } else {
-        Ok(get(alloc, state, &base, &name)?)
+        get(alloc, state, &base, &name)
     }
 }
 
@@ -65,7 +65,7 @@ fn get_and_emit<'p>(
         name: name.share(alloc)?,
         found,
     })?;
-    Ok(get(alloc, state, &base, &name)?)
+    get(alloc, state, &base, &name)
 }
 
 /// The value of a member whose name has been found.
@@ -97,7 +97,7 @@ pub fn read_member<'p>(
         noted: by_script(),
         base: share(alloc, &base)?,
     };
-    Ok(member_name(alloc, state, &base, key, purpose)?)
+    member_name(alloc, state, &base, key, purpose)
 }
 
 /// `o.k` goes on with o.
@@ -126,7 +126,7 @@ pub fn step_index_base<'p>(
         (ValueFrame.IndexBase key.entry here) v) state.new act) }
     ensures falls { IfOk result (λ act. Falls state.old 44 state.new act) }
 {
-    Ok(state.evaluate(ValueFrame::IndexKey { base: v }, key, here)?)
+    state.evaluate(ValueFrame::IndexKey { base: v }, key, here)
 }
 
 /// `o[k]` goes on with k.

@@ -27,7 +27,7 @@ pub fn read_name<'p>(
     if is_hooks(name) {
         return Ok(Act::Fault(Fault::Misuse));
     }
-    Ok(get_name(alloc, state, here.env, name)?)
+    get_name(alloc, state, here.env, name)
 }
 
 /// `typeof` of a name (11.4.3).
@@ -44,7 +44,7 @@ pub fn typeof_name<'p>(
     if is_hooks(name) {
         return Ok(Act::Fault(Fault::Misuse));
     }
-    Ok(type_of_name(alloc, state, here.env, name)?)
+    type_of_name(alloc, state, here.env, name)
 }
 
 /// `delete` of a name (11.4.1).

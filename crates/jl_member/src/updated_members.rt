@@ -48,7 +48,7 @@ pub fn update_member<'p>(
         prefix,
         strict,
     };
-    Ok(member_name(alloc, state, &base, key, purpose)?)
+    member_name(alloc, state, &base, key, purpose)
 }
 
 /// `++` or `--` of a member whose name has been found.
@@ -74,7 +74,7 @@ pub fn update_by_key<'p>(
         prefix,
         strict,
     })?;
-    Ok(get_member(alloc, state, noted, base, name)?)
+    get_member(alloc, state, noted, base, name)
 }
 
 /// `++` or `--` of a member as an expression of the script.
@@ -92,7 +92,7 @@ fn update_expression<'p>(
     ensures falls { IfOk result (λ act. Falls state.old 146 state.new act) }
 {
     let noted = by_script();
-    Ok(update_member(alloc, state, noted, strict, up, prefix, base, key)?)
+    update_member(alloc, state, noted, strict, up, prefix, base, key)
 }
 
 /// `++` or `--` of `o.k` goes on with o.
@@ -179,7 +179,7 @@ pub fn step_update_member<'p>(
         strict,
         held,
     })?;
-    Ok(to_primitive(alloc, state, v, Hint::Number)?)
+    to_primitive(alloc, state, v, Hint::Number)
 }
 
 /// Goes on with the primitive value: the number after or before it is put to the member.
@@ -202,9 +202,9 @@ pub fn step_update_member_primitive<'p>(
     match next_of(up, &v) {
         Ok((n, next)) => {
             let given = value_of_update(prefix, n, next);
-            Ok(put_next(
+            put_next(
                 alloc, state, noted, base, name, up, strict, &held, next, given,
-            )?)
+            )
         }
         Err(NumberOutside) => Ok(Act::Fault(Fault::NumberOutside)),
     }

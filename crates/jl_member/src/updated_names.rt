@@ -40,7 +40,7 @@ pub fn update_name<'p>(
         prefix,
         strict: here.strict,
     })?;
-    Ok(get_value(alloc, state, name, reference)?)
+    get_value(alloc, state, name, reference)
 }
 
 /// Goes on with the value of the name, which is converted to a primitive one.
@@ -67,7 +67,7 @@ pub fn step_update_name<'p>(
         strict,
         held,
     })?;
-    Ok(to_primitive(alloc, state, v, Hint::Number)?)
+    to_primitive(alloc, state, v, Hint::Number)
 }
 
 /// Goes on with the primitive value: the number after or before it is written to the name.
@@ -90,7 +90,7 @@ pub fn step_update_name_primitive<'p>(
         Ok((n, next)) => {
             let given = value_of_update(prefix, n, next);
             let next = Value::Num(next);
-            Ok(put_value(alloc, state, strict, name, next, reference, given)?)
+            put_value(alloc, state, strict, name, next, reference, given)
         }
         Err(NumberOutside) => Ok(Act::Fault(Fault::NumberOutside)),
     }

@@ -1,4 +1,9 @@
 use Rattle.std.proofs.Common.{sym, ◌∙◌}
+use Rattle.std.proofs.lemmas.Result.{IfOk-weaker}
+use Rattle.jl_ast.specs.View.{view_expression}
+use Rattle.jl_meaning.specs.Expressions.{evaluate}
+use Rattle.jl_state.specs.Trees.{plain}
+use Rattle.jl_state.specs.Words.{context_of, table_of}
 use Rattle.jl_member.proofs.Names.{assigns, misuses}
 use Rattle.jl_member.proofs.assigned_names.assign_name.Goals as goal
 
@@ -8,6 +13,8 @@ returns-then-is_hooks-clause-leads c =
 
 pub returns-clause-leads : goal.returns-clause-leads
 returns-clause-leads c =
-    assigns _ c.args.here c.args.name _ _ _ _
-    (sym c.is_hooks.ensures ∙ c.if-is_hooks.false) c.identifier_reference-reference.ensures
-    c.in_ok-evaluate.ensures.leads
+    IfOk-weaker _ _ _ (λ a leads. assigns c.args.state.now c.args.here c.args.name
+    c.identifier_reference-reference.result (evaluate (table_of c.args.state.now.functions)
+    (plain (view_expression c.args.value.now)) (context_of c.args.state.now.calls c.args.here)) _ _
+    (sym c.is_hooks.ensures ∙ c.if-is_hooks.false) c.identifier_reference-reference.ensures leads)
+    c.evaluate.ensures.leads

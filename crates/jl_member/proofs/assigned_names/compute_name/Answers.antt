@@ -1,4 +1,5 @@
 use Rattle.std.proofs.Common.{sym, ◌∙◌}
+use Rattle.std.proofs.lemmas.Result.{IfOk-weaker}
 use Rattle.jl_member.proofs.Names.{computes, misuses}
 use Rattle.jl_member.proofs.assigned_names.compute_name.Goals as goal
 
@@ -8,6 +9,7 @@ returns-then-is_hooks-clause-leads c =
 
 pub returns-clause-leads : goal.returns-clause-leads
 returns-clause-leads c =
-    computes _ c.args.here c.args.name _ c.args.op c.args.value _ _ (sym c.is_hooks.ensures ∙ c.if-is_hooks.false)
-    c.identifier_reference-reference.ensures
-    (c.in_ok-push_value.ensures.waits.works _ _ _ c.in_ok-get_value.ensures.leads)
+    IfOk-weaker _ _ _ (λ a leads. computes c.args.state.now c.args.here c.args.name
+    c.identifier_reference-reference.result c.args.op c.args.value _ _ (sym c.is_hooks.ensures ∙ c.if-is_hooks.false)
+    c.identifier_reference-reference.ensures (c.in_ok-push_value.ensures.waits.works _ _ _ leads))
+    c.get_value.ensures.leads

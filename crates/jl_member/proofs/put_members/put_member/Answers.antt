@@ -1,6 +1,8 @@
+use Rattle.std.proofs.lemmas.Result.{IfOk-weaker}
 use Rattle.jl_member.proofs.Puts.{puts_quietly}
 use Rattle.jl_member.proofs.put_members.put_member.Goals as goal
 
 pub returns-clause-leads : goal.returns-clause-leads
 returns-clause-leads c =
-    puts_quietly _ c.args.emits c.args.id.0 _ _ _ _ _ _ _ c.if-emits.false c.in_ok-put.ensures.leads
+    IfOk-weaker _ _ _ (λ a leads. puts_quietly c.args.state.now c.args.emits c.args.id.0 c.args.strict c.args.base
+    c.args.name c.args.v c.args.gives _ _ c.if-emits.false leads) c.put.ensures.leads

@@ -1,4 +1,5 @@
 use Rattle.std.proofs.Common.{sym, ◌∙◌}
+use Rattle.std.proofs.lemmas.Result.{IfOk-weaker}
 use Rattle.jl_meaning.specs.forms.Names.{read_name}
 use Rattle.jl_member.proofs.Names.{misuses, reads}
 use Rattle.jl_member.proofs.read_names.read_name.Goals as goal
@@ -10,5 +11,5 @@ returns-then-is_hooks-clause-leads c =
 
 pub returns-clause-leads : goal.returns-clause-leads
 returns-clause-leads c =
-    reads _ c.args.here c.args.name.now _ _
-    (sym c.is_hooks.ensures ∙ c.if-is_hooks.false) c.in_ok-get_name.ensures.leads
+    IfOk-weaker _ _ _ (λ a leads. reads c.args.state.now c.args.here c.args.name.now _ _
+    (sym c.is_hooks.ensures ∙ c.if-is_hooks.false) leads) c.get_name.ensures.leads

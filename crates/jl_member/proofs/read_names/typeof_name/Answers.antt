@@ -1,4 +1,5 @@
 use Rattle.std.proofs.Common.{sym, ◌∙◌}
+use Rattle.std.proofs.lemmas.Result.{IfOk-weaker}
 use Rattle.jl_meaning.specs.forms.Names.{typeof_name}
 use Rattle.jl_member.proofs.Names.{misuses, types}
 use Rattle.jl_member.proofs.read_names.typeof_name.Goals as goal
@@ -10,5 +11,5 @@ returns-then-is_hooks-clause-leads c =
 
 pub returns-clause-leads : goal.returns-clause-leads
 returns-clause-leads c =
-    types _ c.args.here c.args.name.now _ _
-    (sym c.is_hooks.ensures ∙ c.if-is_hooks.false) c.in_ok-type_of_name.ensures.leads
+    IfOk-weaker _ _ _ (λ a leads. types c.args.state.now c.args.here c.args.name.now _ _
+    (sym c.is_hooks.ensures ∙ c.if-is_hooks.false) leads) c.type_of_name.ensures.leads
