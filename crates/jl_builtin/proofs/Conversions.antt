@@ -67,7 +67,8 @@ module _ (s t : State) (a : Act) where
       → ((p : Value) → f p ≡ (number_of_primitive p >>= λ n. k (integer_of n)))
       → Works s (to_primitive number_hint v >>= f) t a → Works s (to_integer v >>= k) t a
   as_integer v f k after leads =
-      as_other (to_primitive number_hint v) (to_integer v >>= k) f (λ p. number_of_primitive p >>= λ n. k (integer_of n))
+      as_other (to_primitive number_hint v) (to_integer v >>= k) f
+      (λ p. number_of_primitive p >>= λ n. k (integer_of n))
       after (integer_converts v k) leads
 
   -- a value is to be an integer of 32 bits

@@ -47,7 +47,8 @@ module _ (array : ObjId) (index : ℕ) (v : Value) (x : Name) (change : Change) 
       (subst (λ y. Comes (define_own_property array y (plain_change v)) from to (finish_of answer)) name_is
       (subst (λ c. Comes (define_own_property array x c) from to (finish_of answer)) change_is comes))
 
-  pub index_added : (done : Bool) → answer ≡ ended.Gives done → Comes (add_index array index v) from to (Ends (gives tt))
+  pub index_added : (done : Bool) → answer ≡ ended.Gives done
+      → Comes (add_index array index v) from to (Ends (gives tt))
   index_added done is = comes_on (λ _. give tt) (defines (ended.Gives done) is) comes_to
 
   pub index_thrown : (w : Value) → answer ≡ ended.Throws w → Comes (add_index array index v) from to (Ends (throws w))

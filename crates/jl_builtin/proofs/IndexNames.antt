@@ -48,7 +48,8 @@ no_length n =
 pub no_length_given : (heap : Objects) (address : ℕ) (index : ℕ) (x : Name) (change : Change) → x ≡ index_name index
     → LengthIsPrimitive heap address x change
 no_length_given heap address index x change is array_there same =
-    let differ = ap (λ (y : Name). bytes_eq y length_name) is ∙ no_length index in absurd (let no = sym same ∙ differ in cc)
+    let differ = ap (λ (y : Name). bytes_eq y length_name) is ∙ no_length index in
+    absurd (let no = sym same ∙ differ in cc)
 
 pub one_kind_plain : (v : Value) (change : Change) → change ≡ plain_change v → IsOneKind change
 one_kind_plain v change is = subst IsOneKind (sym is) refl
