@@ -39,7 +39,7 @@ pub fn begin_expression<'p>(
     if !state.spend() {
         return Ok(Act::Spent);
     }
-    Ok(begin(alloc, state, e, here)?)
+    begin(alloc, state, e, here)
 }
 
 /// What an expression does after the step that begins it.
@@ -57,40 +57,40 @@ fn begin<'p>(
 {
     match &e.kind {
         ExprKind::This => Ok(Act::Give(this_value(alloc, &state.calls)?)),
-        ExprKind::Name(name) => Ok(read_name(alloc, state, name, here)?),
+        ExprKind::Name(name) => read_name(alloc, state, name, here),
         ExprKind::Num(number) => Ok(give_number(*number)),
         ExprKind::Str(text) => give_text(alloc, text),
         ExprKind::Bool(truth) => Ok(give_boolean(*truth)),
         ExprKind::Null => Ok(give_null()),
-        ExprKind::Array(items) => Ok(begin_array(alloc, state, items, here)?),
-        ExprKind::Object(entries) => Ok(begin_object(alloc, state, entries, here)?),
-        ExprKind::Function(function) => Ok(begin_function(state, function, here)?),
+        ExprKind::Array(items) => begin_array(alloc, state, items, here),
+        ExprKind::Object(entries) => begin_object(alloc, state, entries, here),
+        ExprKind::Function(function) => begin_function(state, function, here),
         ExprKind::Dot(object, key) => {
-            Ok(evaluate_boxed(state, ValueFrame::DotBase { key }, object, here)?)
+            evaluate_boxed(state, ValueFrame::DotBase { key }, object, here)
         }
         ExprKind::Index(object, key) => {
-            Ok(evaluate_boxed(state, ValueFrame::IndexBase { key, here }, object, here)?)
+            evaluate_boxed(state, ValueFrame::IndexBase { key, here }, object, here)
         }
-        ExprKind::Call(callee, args) => Ok(begin_call(alloc, state, callee, args, here)?),
-        ExprKind::New(constructor, args) => Ok(begin_new(state, constructor, args, here)?),
-        ExprKind::Unary(op, operand) => Ok(begin_unary(alloc, state, *op, operand, here)?),
-        ExprKind::Update { up, prefix, target } => Ok(begin_update(
+        ExprKind::Call(callee, args) => begin_call(alloc, state, callee, args, here),
+        ExprKind::New(constructor, args) => begin_new(state, constructor, args, here),
+        ExprKind::Unary(op, operand) => begin_unary(alloc, state, *op, operand, here),
+        ExprKind::Update { up, prefix, target } => begin_update(
             alloc, state, *up, *prefix, target, here,
-        )?),
+        ),
         ExprKind::Binary(op, left, right) => {
             let op = *op;
-            Ok(evaluate_boxed(
+            evaluate_boxed(
                 state,
                 ValueFrame::LeftOperand { op, right, here },
                 left,
                 here,
-            )?)
+            )
         }
         ExprKind::And(left, right) => {
-            Ok(evaluate_boxed(state, ValueFrame::And { right, here }, left, here)?)
+            evaluate_boxed(state, ValueFrame::And { right, here }, left, here)
         }
         ExprKind::Or(left, right) => {
-            Ok(evaluate_boxed(state, ValueFrame::Or { right, here }, left, here)?)
+            evaluate_boxed(state, ValueFrame::Or { right, here }, left, here)
         }
         ExprKind::Cond(test, first, second) => {
             let frame = ValueFrame::Conditional {
@@ -98,13 +98,13 @@ fn begin<'p>(
                 second,
                 here,
             };
-            Ok(evaluate_boxed(state, frame, test, here)?)
+            evaluate_boxed(state, frame, test, here)
         }
         ExprKind::Assign(op, target, value) => {
-            Ok(begin_assignment(alloc, state, *op, target, value, here)?)
+            begin_assignment(alloc, state, *op, target, value, here)
         }
         ExprKind::Comma(left, right) => {
-            Ok(evaluate_boxed(state, ValueFrame::Comma { right, here }, left, here)?)
+            evaluate_boxed(state, ValueFrame::Comma { right, here }, left, here)
         }
     }
 }
@@ -174,7 +174,7 @@ fn begin_typeof<'p>(
         ExprKind::Name(name) => typeof_name(alloc, state, name, here),
         _ => {
             let op = UnKind::Typeof;
-            Ok(state.evaluate(ValueFrame::Operand { op }, operand, here)?)
+            state.evaluate(ValueFrame::Operand { op }, operand, here)
         }
     }
 }
@@ -197,20 +197,20 @@ fn begin_delete<'p>(
     match &operand.kind {
         ExprKind::Name(name) => delete_name(alloc, state, name, here),
         ExprKind::Dot(object, key) => {
-            Ok(evaluate_boxed(
+            evaluate_boxed(
                 state,
                 ValueFrame::DeleteDotBase { key, strict },
                 object,
                 here,
-            )?)
+            )
         }
         ExprKind::Index(object, key) => {
-            Ok(evaluate_boxed(
+            evaluate_boxed(
                 state,
                 ValueFrame::DeleteIndexBase { key, here },
                 object,
                 here,
-            )?)
+            )
         }
         _ => state.evaluate(ValueFrame::DeleteValue, operand, here),
     }
@@ -239,7 +239,7 @@ fn begin_update<'p>(
                 prefix,
                 strict: here.strict,
             };
-            Ok(state.evaluate(frame, object, here)?)
+            state.evaluate(frame, object, here)
         }
         Target::Index(object, key, _) => {
             let frame = ValueFrame::UpdateIndexBase {
@@ -248,7 +248,7 @@ fn begin_update<'p>(
                 prefix,
                 here,
             };
-            Ok(state.evaluate(frame, object, here)?)
+            state.evaluate(frame, object, here)
         }
     }
 }
@@ -278,7 +278,7 @@ fn begin_assignment<'p>(
                 value,
                 here,
             };
-            Ok(state.evaluate(frame, object, here)?)
+            state.evaluate(frame, object, here)
         }
         Target::Index(object, key, _) => {
             let frame = ValueFrame::AssignIndexBase {
@@ -287,7 +287,7 @@ fn begin_assignment<'p>(
                 value,
                 here,
             };
-            Ok(state.evaluate(frame, object, here)?)
+            state.evaluate(frame, object, here)
         }
     }
 }
@@ -307,7 +307,7 @@ fn assign_to_name<'p>(
     ensures left { IfOk result (λ _. state.new.left ≤ state.old.left) }
 {
     match op {
-        None => Ok(assign_name(alloc, state, name, value, here)?),
+        None => assign_name(alloc, state, name, value, here),
         Some(op) => compute_name(alloc, state, name, op, value, here),
     }
 }

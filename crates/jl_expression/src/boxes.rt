@@ -24,5 +24,5 @@ pub(crate) fn evaluate_boxed<'p>(
         then value_after (table_of state.old.functions) state.old.calls frame.entry) state.new act) }
     ensures left { IfOk result (λ _. state.new.left ≤ state.old.left) }
 {
-    Ok(state.evaluate(frame, e, here)?)
+    state.evaluate(frame, e, here)
 }

@@ -42,15 +42,15 @@ pub(crate) fn begin_call<'p>(
     ensures left { IfOk result (λ _. state.new.left ≤ state.old.left) }
 {
     match &callee.kind {
-        ExprKind::Dot(object, key) => Ok(call_member(alloc, state, object, key, args, here)?),
+        ExprKind::Dot(object, key) => call_member(alloc, state, object, key, args, here),
         ExprKind::Index(object, key) => {
             let frame = ValueFrame::CalleeIndexBase { key, args, here };
-            Ok(evaluate_boxed(state, frame, object, here)?)
+            evaluate_boxed(state, frame, object, here)
         }
         ExprKind::Call(inner, first) => {
-            Ok(call_of_call(alloc, state, callee, inner, first, args, here)?)
+            call_of_call(alloc, state, callee, inner, first, args, here)
         }
-        _ => Ok(call_value(state, callee, args, here)?),
+        _ => call_value(state, callee, args, here),
     }
 }
 
@@ -115,7 +115,7 @@ fn call_member<'p>(
     ensures left { IfOk result (λ _. state.new.left ≤ state.old.left) }
 {
     let form = form_of_member(object, key);
-    Ok(call_by_form(alloc, state, form, object, key, args, here)?)
+    call_by_form(alloc, state, form, object, key, args, here)
 }
 
 /// The same of a member that is a hook, begins a pair of calls, or is neither.
@@ -253,7 +253,7 @@ fn call_pair<'p>(
     if !state.spend() {
         return Ok(Act::Spent);
     }
-    Ok(begin_pair(alloc, state, call, first, second, here)?)
+    begin_pair(alloc, state, call, first, second, here)
 }
 
 /// The arguments of the first call of a pair are evaluated but for the literals that stand first.

@@ -1,4 +1,5 @@
 use Rattle.std.proofs.Common.{refl}
+use Rattle.std.proofs.lemmas.Result.{IfOk-weaker}
 use Rattle.jl_ast.specs.View.{view_expression}
 use Rattle.jl_state.specs.Trees.{plain}
 use Rattle.jl_expression.proofs.Begun.{begins, runs_out}
@@ -11,5 +12,5 @@ returns-then-not-spend-clause-leads c =
 
 pub returns-clause-leads : goal.returns-clause-leads
 returns-clause-leads c =
-    begins _ _ _ _ (plain (view_expression c.args.e.now)) c.args.here (c.if-not-spend.ensures.took refl)
-    (c.if-not-spend.ensures.left refl) c.in_ok-begin.ensures.leads
+    IfOk-weaker _ _ _ (λ a leads. begins _ _ _ _ (plain (view_expression c.args.e.now)) c.args.here
+    (c.if-not-spend.ensures.took refl) (c.if-not-spend.ensures.left refl) leads) c.begin.ensures.leads

@@ -1,10 +1,11 @@
+use Rattle.std.proofs.lemmas.Result.{IfOk-weaker}
 use Rattle.jl_ast.specs.View.{view_expression}
 use Rattle.jl_state.specs.Trees.{plain}
 use Rattle.jl_expression.proofs.Begun.{types_value}
 use Rattle.jl_expression.proofs.Refused.{no_name}
 use Rattle.jl_expression.proofs.beginning.begin_typeof.Goals as goal
 
-pub returns-in_ok-evaluate-in_default-clause-leads : goal.returns-in_ok-evaluate-in_default-clause-leads
-returns-in_ok-evaluate-in_default-clause-leads c =
-    types_value c.args.state.now c.args.here (plain (view_expression c.args.operand.now)) _ _
-    (no_name c.args.operand.now c.in_default.not-Name) c.in_ok-evaluate-in_default.ensures.leads
+pub returns-in_default-clause-leads : goal.returns-in_default-clause-leads
+returns-in_default-clause-leads c =
+    IfOk-weaker _ _ _ (λ a leads. types_value c.args.state.now c.args.here (plain (view_expression c.args.operand.now))
+    _ _ (no_name c.args.operand.now c.in_default.not-Name) leads) c.evaluate.ensures.leads

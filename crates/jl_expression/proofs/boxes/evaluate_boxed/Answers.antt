@@ -1,3 +1,4 @@
+use Rattle.std.proofs.lemmas.Result.{IfOk-weaker}
 use Rattle.jl_meaning.specs.Expressions.{evaluate}
 use Rattle.jl_meaning.specs.Parts as parts
 use Rattle.jl_meaning.specs.Parts.{◌>>=◌}
@@ -9,6 +10,6 @@ use Rattle.jl_expression.proofs.boxes.evaluate_boxed.Goals as goal
 pub returns-clause-leads : goal.returns-clause-leads
 returns-clause-leads c =
     let s = c.args.state.now in
-    of_same (λ (x : parts.Expr). evaluate (table_of s.functions) x (context_of s.calls c.args.here)
-    >>= value_after (table_of s.functions) s.calls c.args.frame) s c.deref.result.now c.args.e.now.value _ _
-    c.deref.ensures c.in_ok-evaluate.ensures.leads
+    IfOk-weaker _ _ _ (λ a leads. of_same (λ (x : parts.Expr). evaluate (table_of s.functions) x
+    (context_of s.calls c.args.here) >>= value_after (table_of s.functions) s.calls c.args.frame) s c.deref.result.now
+    c.args.e.now.value _ _ c.deref.ensures leads) c.evaluate.ensures.leads

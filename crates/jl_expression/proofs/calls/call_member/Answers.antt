@@ -1,3 +1,4 @@
+use Rattle.std.proofs.lemmas.Result.{IfOk-weaker}
 use Rattle.jl_ast.specs.View.{view_expressions}
 use Rattle.jl_state.specs.Trees.{plain_forest}
 use Rattle.jl_expression.proofs.Callees.{calls_member}
@@ -5,6 +6,6 @@ use Rattle.jl_expression.proofs.calls.call_member.Goals as goal
 
 pub returns-clause-leads : goal.returns-clause-leads
 returns-clause-leads c =
-    calls_member _ c.args.here (plain_forest (view_expressions c.args.args.now)) _ c.deref.result.now
-    c.args.object.now.value c.args.key.now _ _ c.deref.ensures c.form_of_member-form.ensures
-    c.in_ok-call_by_form.ensures.leads
+    IfOk-weaker _ _ _ (λ a leads. calls_member c.args.state.now c.args.here
+    (plain_forest (view_expressions c.args.args.now)) _ c.deref.result.now c.args.object.now.value c.args.key.now _ _
+    c.deref.ensures c.form_of_member-form.ensures leads) c.call_by_form.ensures.leads
