@@ -138,7 +138,7 @@ impl Store {
                 let id = self.make_function(outer_strict, env, f)?;
                 Ok(id)
             }
-            Some(name) => Ok(self.make_named(outer_strict, env, f, &name.text)?),
+            Some(name) => self.make_named(outer_strict, env, f, &name.text),
         }
     }
 
