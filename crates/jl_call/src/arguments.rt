@@ -35,7 +35,7 @@ pub fn start_arguments<'p>(
     ensures falls { IfOk result (λ act. Falls state.old 134 state.new act) }
 {
     let rest = Remaining { list: args, from };
-    Ok(evaluate_rest(alloc, state, purpose, List::new(alloc), rest, here)?)
+    evaluate_rest(alloc, state, purpose, List::new(alloc), rest, here)
 }
 
 /// An argument has been evaluated (11.2.4).
@@ -83,7 +83,7 @@ fn evaluate_rest<'p>(
                 rest,
                 here,
             };
-            Ok(state.evaluate(frame, e, here)?)
+            state.evaluate(frame, e, here)
         }
     }
 }

@@ -77,7 +77,7 @@ pub fn step_callee_index_base<'p>(
         args,
         here,
     };
-    Ok(state.evaluate(frame, key, here)?)
+    state.evaluate(frame, key, here)
 }
 
 /// The key of a method has been evaluated (11.2.3).
@@ -116,5 +116,5 @@ fn call_member<'p>(
 {
     let object = share(alloc, &base)?;
     let purpose = KeyFor::Call { base, args, here };
-    Ok(member_name(alloc, state, &object, key, purpose)?)
+    member_name(alloc, state, &object, key, purpose)
 }

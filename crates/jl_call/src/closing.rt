@@ -54,7 +54,7 @@ pub(crate) fn start_closing<'p>(
                 rest,
                 here,
             };
-            Ok(state.evaluate(frame, e, here)?)
+            state.evaluate(frame, e, here)
         }
     }
 }

@@ -59,7 +59,7 @@ fn invoke_function<'p>(
     ensures falls { IfOk result (λ act. Falls state.old 20 state.new act) }
 {
     if emits {
-        Ok(tell_call(alloc, state, id, call)?)
+        tell_call(alloc, state, id, call)
     } else {
         Ok(Act::Call(call))
     }

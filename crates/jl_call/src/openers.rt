@@ -41,7 +41,7 @@ pub(crate) fn start_opener<'p>(
     if !state.spend() {
         return Ok(Act::Spent);
     }
-    Ok(enter_opener(alloc, state, id, opener, values, second, here)?)
+    enter_opener(alloc, state, id, opener, values, second, here)
 }
 
 /// The first call of a pair is entered with these values, and then the arguments of the second are evaluated.
@@ -71,7 +71,7 @@ fn enter_opener<'p>(
                 args,
                 here,
             };
-            Ok(name_member(alloc, state, values, purpose)?)
+            name_member(alloc, state, values, purpose)
         }
         Opener::Assign(op) => {
             let args = second;
@@ -82,7 +82,7 @@ fn enter_opener<'p>(
                 args,
                 here,
             };
-            Ok(name_member(alloc, state, values, purpose)?)
+            name_member(alloc, state, values, purpose)
         }
         Opener::Call => {
             let pending = Pending::Call {
@@ -90,14 +90,14 @@ fn enter_opener<'p>(
                 callee: base,
                 this: Value::Undefined,
             };
-            Ok(start_closing(alloc, state, pending, second, here)?)
+            start_closing(alloc, state, pending, second, here)
         }
         Opener::New => {
             let pending = Pending::New {
                 id: id.call(),
                 callee: base,
             };
-            Ok(start_closing(alloc, state, pending, second, here)?)
+            start_closing(alloc, state, pending, second, here)
         }
         Opener::Method => {
             let args = second;
@@ -107,7 +107,7 @@ fn enter_opener<'p>(
                 args,
                 here,
             };
-            Ok(name_member(alloc, state, values, purpose)?)
+            name_member(alloc, state, values, purpose)
         }
     }
 }

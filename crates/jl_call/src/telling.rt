@@ -34,7 +34,7 @@ pub fn step_told<'p>(
             value,
             strict,
             gives,
-        } => Ok(put(alloc, state, strict, base, &name, value, gives)?),
+        } => put(alloc, state, strict, base, &name, value, gives),
         ToldFrame::PutMember {
             id,
             base,

@@ -1,4 +1,5 @@
 use Rattle.std.proofs.Common.{List, subst}
+use Rattle.std.proofs.lemmas.Result.{IfOk-weaker}
 use Rattle.jl_ast.specs.View.{view_expressions}
 use Rattle.jl_value.specs.declared.value.Value.{Value}
 use Rattle.jl_meaning.specs.Expressions.{evaluate_all}
@@ -15,7 +16,7 @@ returns-clause-leads c =
     let s = c.args.state.now in
     let here = context_of s.calls c.args.here in
     let uses = arguments_after (table_of s.functions) s.calls c.args.purpose c.args.here in
-    subst (λ (so_far : List Value). Gives s (evaluate_all (table_of s.functions) c.args.from so_far
-    (plain_forest (view_expressions c.args.args.now)) here >>= uses) c.evaluate_rest.new.state
-    c.in_ok-evaluate_rest.field-0) c.new.ensures
-    (skips_literals s c.args.from c.new.result c.args.args.now here uses _ _ c.in_ok-evaluate_rest.ensures.leads)
+    IfOk-weaker _ _ _ (λ a leads. subst (λ (so_far : List Value). Gives s (evaluate_all (table_of s.functions)
+    c.args.from so_far (plain_forest (view_expressions c.args.args.now)) here >>= uses) c.evaluate_rest.new.state a)
+    c.new.ensures (skips_literals s c.args.from c.new.result c.args.args.now here uses _ _ leads))
+    c.evaluate_rest.ensures.leads

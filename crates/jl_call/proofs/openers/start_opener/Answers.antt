@@ -1,8 +1,10 @@
 use Rattle.std.proofs.Common.{refl}
+use Rattle.std.proofs.lemmas.Result.{IfOk-weaker}
 use Rattle.jl_call.proofs.Pairs.{took_first}
 use Rattle.jl_call.proofs.openers.start_opener.Goals as goal
 
 pub returns-clause-leads : goal.returns-clause-leads
 returns-clause-leads c =
-    took_first c.args.id c.args.opener c.args.values.now c.args.second c.args.here _ _ _ _ _
-    (c.if-not-spend.ensures.took refl) (c.if-not-spend.ensures.left refl) c.in_ok-enter_opener.ensures.leads
+    IfOk-weaker _ _ _ (λ a leads. took_first c.args.id c.args.opener c.args.values.now c.args.second c.args.here
+    c.args.state.now _ _ _ _ (c.if-not-spend.ensures.took refl) (c.if-not-spend.ensures.left refl) leads)
+    c.enter_opener.ensures.leads

@@ -1,7 +1,8 @@
+use Rattle.std.proofs.lemmas.Result.{IfOk-weaker}
 use Rattle.jl_call.proofs.Told.{puts_told}
 use Rattle.jl_call.proofs.telling.step_told.Goals as goal
 
-pub returns-in_ok-put-in-Put-clause-leads : goal.returns-in_ok-put-in-Put-clause-leads
-returns-in_ok-put-in-Put-clause-leads c =
-    puts_told _ _ _ c.args.frame c.in-Put.base c.in-Put.name c.in-Put.value c.in-Put.strict c.in-Put.gives c.in-Put.is
-    c.in_ok-put-in-Put.ensures.leads
+pub returns-in-Put-clause-leads : goal.returns-in-Put-clause-leads
+returns-in-Put-clause-leads c =
+    IfOk-weaker _ _ _ (λ a leads. puts_told c.args.state.now _ _ c.args.frame c.in-Put.base c.in-Put.name c.in-Put.value
+    c.in-Put.strict c.in-Put.gives c.in-Put.is leads) c.put.ensures.leads
