@@ -67,7 +67,8 @@ pub calls_member : (s : State) (here : Here) (l : Exprs) (seen : CalleeForm) (e 
     (evaluate (table_of s.functions) (plain (view_expression b)) (context_of s.calls here)
     >>= λ base. call_member (table_of s.functions) 0 0 base (value.Text k)
     (arguments (table_of s.functions) l (context_of s.calls here) 0))) t a
-    → Gives s (call_expression (table_of s.functions) (tree.dot (plain (view_expression b)) k 0) l (context_of s.calls here)) t a
+    → Gives s (call_expression (table_of s.functions) (tree.dot (plain (view_expression b)) k 0) l
+    (context_of s.calls here)) t a
 calls_member s here l seen e b k t a same is leads =
     let table = table_of s.functions in
     let c = context_of s.calls here in
