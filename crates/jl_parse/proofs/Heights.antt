@@ -57,17 +57,6 @@ pub case_higher : (l : List CodeCase) (e : CodeCase)
     → forest_height (view_cases (l ++ (e ∷ []))) ≡ max (forest_height (view_cases l)) (height (view_case e))
 case_higher l e = ap forest_height (cases_push l e) ∙ one_more (view_cases l) (view_case e)
 
-pub ruleset higher = (
-  argument_higher,
-  hole_higher,
-  item_higher,
-  entry_higher,
-  statement_higher,
-  function_higher,
-  declarator_higher,
-  case_higher,
-)
-
 -- whether a node of which the parts are so high is made
 
 pub made_low : {x : tree.Sort} (most h : ℕ) (t : Tree Span x) (j : ℕ) → height t ≡ suc h → h ≤ most

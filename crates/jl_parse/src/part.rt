@@ -1,5 +1,5 @@
 //! Parts of a tree with their heights.
-#![tactic(auto, using(crate::proofs::Heights::higher))]
+#![tactic(auto)]
 
 ghost use Rattle.std.specs.Prelude.{◌≡◌, ℕ, ◌++◌, [], ◌∷◌, Some, None, OnOk, OnErr};
 ghost use Rattle.jl_ast.specs.Height.{height, forest_height, optional_height};
@@ -139,6 +139,7 @@ impl<T: Tall> Part<T> {
 }
 
 /// Adds an argument at the end.
+#[tactic(auto, using(crate::proofs::Heights::argument_higher))]
 pub fn push_argument(list: &mut Part<List<Expr>>, e: Part<Box<Expr>>) -> Result<(), AllocError>
     ensures ok { OnOk result (list.new ≡ list.old ++ (e.value ∷ [])) }
     ensures err { OnErr result (list.new ≡ list.old) }
@@ -149,6 +150,7 @@ pub fn push_argument(list: &mut Part<List<Expr>>, e: Part<Box<Expr>>) -> Result<
 }
 
 /// Adds a hole to an array at the end.
+#[tactic(auto, using(crate::proofs::Heights::hole_higher))]
 pub fn push_hole(list: &mut Part<List<Option<Expr>>>) -> Result<(), AllocError>
     ensures ok { OnOk result (list.new ≡ list.old ++ (None ∷ [])) }
     ensures err { OnErr result (list.new ≡ list.old) }
@@ -157,6 +159,7 @@ pub fn push_hole(list: &mut Part<List<Option<Expr>>>) -> Result<(), AllocError>
 }
 
 /// Adds an item to an array at the end.
+#[tactic(auto, using(crate::proofs::Heights::item_higher))]
 pub fn push_item(list: &mut Part<List<Option<Expr>>>, e: Part<Box<Expr>>) -> Result<(), AllocError>
     ensures ok { OnOk result (list.new ≡ list.old ++ (Some e.value ∷ [])) }
     ensures err { OnErr result (list.new ≡ list.old) }
@@ -167,6 +170,7 @@ pub fn push_item(list: &mut Part<List<Option<Expr>>>, e: Part<Box<Expr>>) -> Res
 }
 
 /// Adds a property at the end.
+#[tactic(auto, using(crate::proofs::Heights::entry_higher))]
 pub fn push_entry(list: &mut Part<List<Entry>>, e: Part<Entry>) -> Result<(), AllocError>
     ensures ok { OnOk result (list.new ≡ list.old ++ (e ∷ [])) }
     ensures err { OnErr result (list.new ≡ list.old) }
@@ -177,6 +181,7 @@ pub fn push_entry(list: &mut Part<List<Entry>>, e: Part<Entry>) -> Result<(), Al
 }
 
 /// Adds a statement at the end.
+#[tactic(auto, using(crate::proofs::Heights::statement_higher))]
 pub fn push_statement(list: &mut Part<List<Stmt>>, s: Part<Stmt>) -> Result<(), AllocError>
     ensures ok { OnOk result (list.new ≡ list.old ++ (s ∷ [])) }
     ensures err { OnErr result (list.new ≡ list.old) }
@@ -187,6 +192,7 @@ pub fn push_statement(list: &mut Part<List<Stmt>>, s: Part<Stmt>) -> Result<(), 
 }
 
 /// Adds a function declaration at the end.
+#[tactic(auto, using(crate::proofs::Heights::function_higher))]
 pub fn push_function(list: &mut Part<List<Function>>, f: Part<Function>) -> Result<(), AllocError>
     ensures ok { OnOk result (list.new ≡ list.old ++ (f ∷ [])) }
     ensures err { OnErr result (list.new ≡ list.old) }
@@ -197,6 +203,7 @@ pub fn push_function(list: &mut Part<List<Function>>, f: Part<Function>) -> Resu
 }
 
 /// Adds a variable at the end.
+#[tactic(auto, using(crate::proofs::Heights::declarator_higher))]
 pub fn push_declarator(
     list: &mut Part<List<(Ident, Option<Expr>)>>,
     d: Part<(Ident, Option<Expr>)>,
@@ -210,6 +217,7 @@ pub fn push_declarator(
 }
 
 /// Adds a clause of a `switch` at the end.
+#[tactic(auto, using(crate::proofs::Heights::case_higher))]
 pub fn push_case(list: &mut Part<List<Case>>, c: Part<Case>) -> Result<(), AllocError>
     ensures ok { OnOk result (list.new ≡ list.old ++ (c ∷ [])) }
     ensures err { OnErr result (list.new ≡ list.old) }

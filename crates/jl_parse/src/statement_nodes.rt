@@ -31,6 +31,8 @@ fn statement_node(
     ensures { MakesStatement tokens.now depth at end (view_statement_kind kind) result }
 {
     if height > tokens.room(depth, at) {
+        // A call is one path in the proof, where letting go at the end is a path for each form of statement.
+        drop(kind);
         return Err(Stop::At(end));
     }
     let span = tokens.span(at, end);
