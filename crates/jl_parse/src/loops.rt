@@ -6,9 +6,10 @@ ghost use Rattle.std.specs.Prelude.{◌≡◌, ◌&&◌, false, suc, true};
 ghost use Rattle.jl_ast.specs.View.{view_expression, view_ident, view_init, view_optional};
 ghost use Rattle.jl_grammar.specs.Next.{is_identifier, is_semicolon};
 ghost use Rattle.jl_grammar.specs.Reader.{for_at, for_expression_at, for_from, for_in_from, for_var_at};
-ghost use Rattle.jl_grammar.specs.Reader.{is_close_paren, is_in, optional_at, name_of};
+ghost use Rattle.jl_grammar.specs.Reader.{is_close_paren, is_in, name_of};
 ghost use Rattle.jl_grammar.specs.Tokens.{terminal_at};
-ghost use Rattle.jl_parse.specs.inner.Steps.{Gives, GivesStatement, for_head_from, is_end, within};
+ghost use Rattle.jl_parse.specs.inner.Steps.{Gives, GivesStatement, for_head_from, is_end, optional_until};
+ghost use Rattle.jl_parse.specs.inner.Steps.{test_and_step_at, within};
 
 use crate::depth::Depth;
 use crate::expressions::expression;
@@ -21,10 +22,10 @@ use crate::tokens::Tokens;
 use jl_ast::{Expr, ExprKind, ForInit, Ident, Stmt};
 use std::alloc::Global;
 
-// An expression, or none before a semicolon.
+// An expression, or none, and the semicolon after it.
 #[inline(never)]
 #[cycle(parser)]
-#[tactic(auto, unfolding(jl_grammar::specs::Reader::optional_at))]
+#[tactic(auto, unfolding(jl_grammar::specs::Reader::optional_at, crate::specs::inner::Steps::optional_until))]
 fn until_semicolon(
     alloc: Global,
     tokens: &Tokens,
@@ -32,34 +33,60 @@ fn until_semicolon(
     at: usize,
 ) -> Read<Part<Option<Expr>>>
     ensures { Gives (λ x. (view_optional x.0, x.1)) result
-        (optional_at tokens.now (within tokens.now depth) is_semicolon at) }
+        (optional_until tokens.now (within tokens.now depth) is_semicolon at) }
 {
     if is_semicolon(tokens.terminal(at)) {
-        return Ok((Part::flat(None), at));
+        return Ok((Part::flat(None), tokens.after(at)));
     }
     let (e, end) = expression(alloc, tokens, depth, false, at)?;
-    Ok((present(e), end))
+    if is_semicolon(tokens.terminal(end)) {
+        Ok((present(e), tokens.after(end)))
+    } else {
+        Err(Stop::At(end))
+    }
 }
 
-// An expression, or none before a `)`.
+// An expression, or none, and the `)` after it.
 #[inline(never)]
 #[cycle(parser)]
-#[tactic(auto, unfolding(jl_grammar::specs::Reader::optional_at))]
+#[tactic(auto, unfolding(jl_grammar::specs::Reader::optional_at, crate::specs::inner::Steps::optional_until))]
 fn until_close(alloc: Global, tokens: &Tokens, depth: Depth, at: usize) -> Read<Part<Option<Expr>>>
     ensures { Gives (λ x. (view_optional x.0, x.1)) result
-        (optional_at tokens.now (within tokens.now depth) is_close_paren at) }
+        (optional_until tokens.now (within tokens.now depth) is_close_paren at) }
 {
     if is_close_paren(tokens.terminal(at)) {
-        return Ok((Part::flat(None), at));
+        return Ok((Part::flat(None), tokens.after(at)));
     }
     let (e, end) = expression(alloc, tokens, depth, false, at)?;
-    Ok((present(e), end))
+    if is_close_paren(tokens.terminal(end)) {
+        Ok((present(e), tokens.after(end)))
+    } else {
+        Err(Stop::At(end))
+    }
+}
+
+// The test and the step of a `for`, with the semicolon between them and the `)` after them. They are read before they
+// stand beside the first part, since each form of a part that is let go of is a path of its own in the proof.
+#[cycle(parser)]
+#[tactic(auto, unfolding(crate::specs::inner::Steps::test_and_step_at))]
+fn test_and_step(
+    alloc: Global,
+    tokens: &Tokens,
+    depth: Depth,
+    at: usize,
+) -> Read<(Part<Option<Expr>>, Part<Option<Expr>>)>
+    ensures { Gives (λ x. ((view_optional x.0.0, view_optional x.0.1), x.1)) result
+        (test_and_step_at tokens.now (within tokens.now depth) at) }
+{
+    let (test, end) = until_semicolon(alloc, tokens, depth, at)?;
+    let (step, end) = until_close(alloc, tokens, depth, end)?;
+    Ok(((test, step), end))
 }
 
 // The head of a `for` from its first semicolon to behind its `)`.
 #[inline(never)]
 #[cycle(parser)]
-#[tactic(auto, using(jl_ast::proofs::Views::nodes), unfolding(crate::specs::inner::Steps::for_head_from))]
+#[tactic(auto, unfolding(crate::specs::inner::Steps::for_head_from))]
 fn for_head(
     alloc: Global,
     tokens: &Tokens,
@@ -73,15 +100,8 @@ fn for_head(
     if !is_semicolon(tokens.terminal(end)) {
         return Err(Stop::At(end));
     }
-    let (test, end) = until_semicolon(alloc, tokens, depth, tokens.after(end))?;
-    if !is_semicolon(tokens.terminal(end)) {
-        return Err(Stop::At(end));
-    }
-    let (step, end) = until_close(alloc, tokens, depth, tokens.after(end))?;
-    if !is_close_paren(tokens.terminal(end)) {
-        return Err(Stop::At(end));
-    }
-    Ok((ForHead { init, test, step }, tokens.after(end)))
+    let ((test, step), end) = test_and_step(alloc, tokens, depth, tokens.after(end))?;
+    Ok((ForHead { init, test, step }, end))
 }
 
 // A `for` from its first semicolon on.
@@ -99,8 +119,14 @@ fn for_rest(
     ensures { GivesStatement result (for_from tokens.now (within tokens.now depth) at (view_init init, end)) }
 {
     let (head, end) = for_head(alloc, tokens, depth, init, end)?;
-    let (body, end) = sub(alloc, tokens, depth, end)?;
-    for_node(tokens, depth, at, head, body, end)
+    match sub(alloc, tokens, depth, end) {
+        Ok((body, end)) => for_node(tokens, depth, at, head, body, end),
+        Err(stop) => {
+            // A call is one path in the proof, where letting go at the end is a path for each form of the three parts.
+            drop(head);
+            Err(stop)
+        }
+    }
 }
 
 // A `for` after its `in`, which stands before `next`.

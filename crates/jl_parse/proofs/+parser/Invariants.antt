@@ -163,8 +163,11 @@ decreases-loops::until_semicolon l = l.depth.levels * 20 + 1
 abbrev pub decreases-loops::until_close : goal.decreases-loops::until_close
 decreases-loops::until_close l = l.depth.levels * 20 + 1
 
+abbrev pub decreases-loops::test_and_step : goal.decreases-loops::test_and_step
+decreases-loops::test_and_step l = l.depth.levels * 20 + 2
+
 abbrev pub decreases-loops::for_head : goal.decreases-loops::for_head
-decreases-loops::for_head l = l.depth.levels * 20 + 2
+decreases-loops::for_head l = l.depth.levels * 20 + 3
 
 abbrev pub decreases-loops::for_rest : goal.decreases-loops::for_rest
 decreases-loops::for_rest l = l.depth.levels * 20 + 4

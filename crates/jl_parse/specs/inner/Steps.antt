@@ -107,15 +107,24 @@ clause_of ts d fresh i =
     then (statements_from ts d (length ts) (suc (suc i)) >>= λ x. Some (tree.case tree.absent x.0, x.1))
     else None)
 
+-- an expression, or none, and what ends it
+unfoldable pub optional_until : List Token → Deeper → (Terminal → Bool) → ℕ → Read (OptionalTree Span tree.expr)
+optional_until ts d ends i =
+    optional_at ts d ends i >>= λ x. if ends (terminal_at ts x.1) then Some (x.0, suc x.1) else None
+
+-- the test and the step of a `for` to behind its `)` (12.6.3)
+unfoldable pub test_and_step_at : List Token → Deeper → ℕ
+    → Read (OptionalTree Span tree.expr × OptionalTree Span tree.expr)
+test_and_step_at ts d i =
+    optional_until ts d is_semicolon i >>= λ b.
+    optional_until ts d is_close_paren b.1 >>= λ c. Some ((b.0, c.0), c.1)
+
 -- the head of a `for` from its first semicolon to behind its `)` (12.6.3): its first part, its test and its step
 unfoldable pub for_head_from : List Token → Deeper → Tree Span tree.init × ℕ
     → Read (Tree Span tree.init × (OptionalTree Span tree.expr × OptionalTree Span tree.expr))
 for_head_from ts d a =
     if is_semicolon (terminal_at ts a.1)
-    then (optional_at ts d is_semicolon (suc a.1) >>= λ b. if is_semicolon (terminal_at ts b.1)
-    then (optional_at ts d is_close_paren (suc b.1) >>= λ c.
-    if is_close_paren (terminal_at ts c.1) then Some ((a.0, (b.0, c.0)), suc c.1) else None)
-    else None)
+    then (test_and_step_at ts d (suc a.1) >>= λ b. Some ((a.0, b.0), b.1))
     else None
 
 -- the infix operator that the code's is
