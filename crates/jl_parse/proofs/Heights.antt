@@ -26,10 +26,12 @@ one_more tree.end t = omega arith
 one_more (tree.more u a) t = let h = one_more a t in omega arith
 
 pub argument_higher : (l : List CodeExpr) (e : CodeExpr)
-    → forest_height (view_expressions (l ++ (e ∷ []))) ≡ max (forest_height (view_expressions l)) (height (view_expression e))
+    → forest_height (view_expressions (l ++ (e ∷ [])))
+    ≡ max (forest_height (view_expressions l)) (height (view_expression e))
 argument_higher l e = ap forest_height (expressions_push l e) ∙ one_more (view_expressions l) (view_expression e)
 
-pub hole_higher : (l : List (Option CodeExpr)) → forest_height (view_items (l ++ (None ∷ []))) ≡ forest_height (view_items l)
+pub hole_higher : (l : List (Option CodeExpr)) → forest_height (view_items (l ++ (None ∷ [])))
+    ≡ forest_height (view_items l)
 hole_higher l =
     let h = one_more (view_items l) tree.hole in let e = ap forest_height (hole_push l) in omega arith
 
@@ -42,7 +44,8 @@ pub entry_higher : (l : List CodeEntry) (e : CodeEntry)
 entry_higher l e = ap forest_height (entries_push l e) ∙ one_more (view_entries l) (view_entry e)
 
 pub statement_higher : (l : List CodeStmt) (e : CodeStmt)
-    → forest_height (view_statements (l ++ (e ∷ []))) ≡ max (forest_height (view_statements l)) (height (view_statement e))
+    → forest_height (view_statements (l ++ (e ∷ [])))
+    ≡ max (forest_height (view_statements l)) (height (view_statement e))
 statement_higher l e = ap forest_height (statements_push l e) ∙ one_more (view_statements l) (view_statement e)
 
 pub function_higher : (l : List CodeFunction) (e : CodeFunction)
@@ -50,7 +53,8 @@ pub function_higher : (l : List CodeFunction) (e : CodeFunction)
 function_higher l e = ap forest_height (functions_push l e) ∙ one_more (view_functions l) (view_function e)
 
 pub declarator_higher : (l : List (CodeIdent × Option CodeExpr)) (e : CodeIdent × Option CodeExpr)
-    → forest_height (view_declarators (l ++ (e ∷ []))) ≡ max (forest_height (view_declarators l)) (height (view_declarator e))
+    → forest_height (view_declarators (l ++ (e ∷ [])))
+    ≡ max (forest_height (view_declarators l)) (height (view_declarator e))
 declarator_higher l e = ap forest_height (declarators_push l e) ∙ one_more (view_declarators l) (view_declarator e)
 
 pub case_higher : (l : List CodeCase) (e : CodeCase)

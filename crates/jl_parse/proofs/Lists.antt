@@ -192,14 +192,16 @@ module _ (ts : List Token) (d : Deeper) where
   declarations_fails no_in ls zero i q = refl
   declarations_fails no_in ls (suc n) i q = rw (q, declarations_from)
 
-  pub declarations_last : (no_in : Bool) (ls : Forest Span tree.decl) (n i : ℕ) (t : Tree Span tree.decl) (j : ℕ) → n ≢ 0
+  pub declarations_last : (no_in : Bool) (ls : Forest Span tree.decl) (n i : ℕ) (t : Tree Span tree.decl) (j : ℕ)
+      → n ≢ 0
       → declaration_at ts d no_in i ≡ Some (t, j) → is_comma (terminal_at ts j) ≡ false
       → with_forest ls (declarations_from ts d no_in n i) ≡ Some (append ls (tree.more t tree.end), j)
   unfolding declarations_from
   declarations_last no_in ls zero i t j h q e = absurd (h refl)
   declarations_last no_in ls (suc n) i t j h q e = rw (q, e, declarations_from)
 
-  pub declarations_more : (no_in : Bool) (ls : Forest Span tree.decl) (n i : ℕ) (t : Tree Span tree.decl) (j : ℕ) → n ≢ 0
+  pub declarations_more : (no_in : Bool) (ls : Forest Span tree.decl) (n i : ℕ) (t : Tree Span tree.decl) (j : ℕ)
+      → n ≢ 0
       → declaration_at ts d no_in i ≡ Some (t, j) → is_comma (terminal_at ts j) ≡ true
       → with_forest ls (declarations_from ts d no_in n i)
       ≡ with_forest (append ls (tree.more t tree.end)) (declarations_from ts d no_in (n - 1) (suc j))
@@ -224,22 +226,28 @@ module _ (ts : List Token) (d : Deeper) where
           ≡ then_on (clause_of ts d fresh i) (after_clause n (fresh && is_case (terminal_at ts i)))
       turn false true e =
           rw (h, e, clauses_from, clause_of) (then_if (d.expression false (suc i)) (λ j. is_colon (terminal_at ts j))
-          (λ j. statements_from ts d (length ts) (suc j)) (λ t x j. tree.case (tree.present t) x) (after_clause n false))
+          (λ j. statements_from ts d (length ts) (suc j)) (λ t x j. tree.case (tree.present t) x)
+          (after_clause n false))
       turn true true e =
           rw (h, e, clauses_from, clause_of) (then_if (d.expression false (suc i)) (λ j. is_colon (terminal_at ts j))
           (λ j. statements_from ts d (length ts) (suc j)) (λ t x j. tree.case (tree.present t) x) (after_clause n true))
       turn false false e =
-          rw (h, e, clauses_from, clause_of) (if_then (is_default (terminal_at ts i) && (false && is_colon (terminal_at ts (suc i))))
+          rw (h, e, clauses_from, clause_of)
+          (if_then (is_default (terminal_at ts i) && (false && is_colon (terminal_at ts (suc i))))
           (statements_from ts d (length ts) (suc (suc i))) (λ x j. tree.case tree.absent x) (after_clause n false))
       turn true false e =
-          rw (h, e, clauses_from, clause_of) (if_then (is_default (terminal_at ts i) && (true && is_colon (terminal_at ts (suc i))))
+          rw (h, e, clauses_from, clause_of)
+          (if_then (is_default (terminal_at ts i) && (true && is_colon (terminal_at ts (suc i))))
           (statements_from ts d (length ts) (suc (suc i))) (λ x j. tree.case tree.absent x) (after_clause n false))
 
-  pub clauses_stop : (ls : Forest Span tree.clause) (n : ℕ) (fresh : Bool) (i : ℕ) → is_close_brace (terminal_at ts i) ≡ true
+  pub clauses_stop : (ls : Forest Span tree.clause) (n : ℕ) (fresh : Bool) (i : ℕ) → is_close_brace (terminal_at ts i)
+      ≡ true
       → with_forest ls (clauses_from ts d n fresh i) ≡ Some (ls, i)
   unfolding clauses_from
-  clauses_stop ls zero fresh i e = rw (e, clauses_from) (ap (λ (a : Forest Span tree.clause). Some (a, i)) (append_end ls))
-  clauses_stop ls (suc n) fresh i e = rw (e, clauses_from) (ap (λ (a : Forest Span tree.clause). Some (a, i)) (append_end ls))
+  clauses_stop ls zero fresh i e =
+      rw (e, clauses_from) (ap (λ (a : Forest Span tree.clause). Some (a, i)) (append_end ls))
+  clauses_stop ls (suc n) fresh i e =
+      rw (e, clauses_from) (ap (λ (a : Forest Span tree.clause). Some (a, i)) (append_end ls))
 
   pub clauses_none : (ls : Forest Span tree.clause) (n : ℕ) (fresh : Bool) (i : ℕ) → n ≡ 0
       → is_close_brace (terminal_at ts i) ≡ false → with_forest ls (clauses_from ts d n fresh i) ≡ None
@@ -258,7 +266,8 @@ module _ (ts : List Token) (d : Deeper) where
   pub clauses_more : (ls : Forest Span tree.clause) (n : ℕ) (fresh : Bool) (i : ℕ) (c : Tree Span tree.clause) (j : ℕ)
       → n ≢ 0 → is_close_brace (terminal_at ts i) ≡ false → clause_of ts d fresh i ≡ Some (c, j)
       → with_forest ls (clauses_from ts d n fresh i)
-      ≡ with_forest (append ls (tree.more c tree.end)) (clauses_from ts d (n - 1) (fresh && is_case (terminal_at ts i)) j)
+      ≡ with_forest (append ls (tree.more c tree.end))
+      (clauses_from ts d (n - 1) (fresh && is_case (terminal_at ts i)) j)
   clauses_more ls zero fresh i c j h e q = absurd (h refl)
   clauses_more ls (suc n) fresh i c j h e q =
       let g : suc n - 1 ≡ n = omega arith in
@@ -271,8 +280,10 @@ module _ (ts : List Token) (d : Deeper) where
   pub entries_close : (ls : Forest Span tree.entry) (n i : ℕ) → is_close_brace (terminal_at ts i) ≡ true
       → with_forest ls (entries_from ts d n i) ≡ Some (ls, suc i)
   unfolding entries_from
-  entries_close ls zero i e = rw (e, entries_from) (ap (λ (a : Forest Span tree.entry). Some (a, suc i)) (append_end ls))
-  entries_close ls (suc n) i e = rw (e, entries_from) (ap (λ (a : Forest Span tree.entry). Some (a, suc i)) (append_end ls))
+  entries_close ls zero i e =
+      rw (e, entries_from) (ap (λ (a : Forest Span tree.entry). Some (a, suc i)) (append_end ls))
+  entries_close ls (suc n) i e =
+      rw (e, entries_from) (ap (λ (a : Forest Span tree.entry). Some (a, suc i)) (append_end ls))
 
   pub entries_none : (ls : Forest Span tree.entry) (n i : ℕ) → n ≡ 0 → is_close_brace (terminal_at ts i) ≡ false
       → with_forest ls (entries_from ts d n i) ≡ None
@@ -287,14 +298,16 @@ module _ (ts : List Token) (d : Deeper) where
   entries_fails ls (suc n) i f q = rw (f, q, entries_from)
 
   pub entries_last : (ls : Forest Span tree.entry) (n i : ℕ) (t : Tree Span tree.entry) (j : ℕ) → n ≢ 0
-      → is_close_brace (terminal_at ts i) ≡ false → entry_at ts d i ≡ Some (t, j) → is_close_brace (terminal_at ts j) ≡ true
+      → is_close_brace (terminal_at ts i) ≡ false → entry_at ts d i ≡ Some (t, j) → is_close_brace (terminal_at ts j)
+      ≡ true
       → with_forest ls (entries_from ts d n i) ≡ Some (append ls (tree.more t tree.end), suc j)
   unfolding entries_from
   entries_last ls zero i t j h f q g = absurd (h refl)
   entries_last ls (suc n) i t j h f q g = rw (f, q, g, entries_from)
 
   pub entries_more : (ls : Forest Span tree.entry) (n i : ℕ) (t : Tree Span tree.entry) (j : ℕ) → n ≢ 0
-      → is_close_brace (terminal_at ts i) ≡ false → entry_at ts d i ≡ Some (t, j) → is_close_brace (terminal_at ts j) ≡ false
+      → is_close_brace (terminal_at ts i) ≡ false → entry_at ts d i ≡ Some (t, j) → is_close_brace (terminal_at ts j)
+      ≡ false
       → is_comma (terminal_at ts j) ≡ true
       → with_forest ls (entries_from ts d n i)
       ≡ with_forest (append ls (tree.more t tree.end)) (entries_from ts d (n - 1) (suc j))
@@ -305,7 +318,8 @@ module _ (ts : List Token) (d : Deeper) where
       rw (g, f, q, c, k, entries_from) (regroup ls t (entries_from ts d n (suc j)))
 
   pub entries_end : (ls : Forest Span tree.entry) (n i : ℕ) (t : Tree Span tree.entry) (j : ℕ)
-      → is_close_brace (terminal_at ts i) ≡ false → entry_at ts d i ≡ Some (t, j) → is_close_brace (terminal_at ts j) ≡ false
+      → is_close_brace (terminal_at ts i) ≡ false → entry_at ts d i ≡ Some (t, j) → is_close_brace (terminal_at ts j)
+      ≡ false
       → is_comma (terminal_at ts j) ≡ false → with_forest ls (entries_from ts d n i) ≡ None
   unfolding entries_from
   entries_end ls zero i t j f q c k = rw (f, entries_from)
@@ -313,7 +327,8 @@ module _ (ts : List Token) (d : Deeper) where
 
   -- the elements of a body
 
-  pub elements_stop : (s : Bool) (fs : Forest Span tree.func) (ws : Stmts) (n i : ℕ) → ends_list (terminal_at ts i) ≡ true
+  pub elements_stop : (s : Bool) (fs : Forest Span tree.func) (ws : Stmts) (n i : ℕ) → ends_list (terminal_at ts i)
+      ≡ true
       → with_elements s fs ws (elements_from ts d n i) ≡ Some (tree.body s fs ws, i)
   unfolding elements_from
   elements_stop s fs ws zero i e = rw (e, elements_from) (ap (λ (c : Code). Some (c, i)) (append_ends s fs ws))
@@ -342,7 +357,8 @@ module _ (ts : List Token) (d : Deeper) where
   elements_no_function s fs ws (suc n) i h e f q =
       ap (with_elements s fs ws) (function_turn n i e f ∙ ap (λ o. then_on o (after_declaration n)) q)
 
-  pub elements_function : (s : Bool) (fs : Forest Span tree.func) (ws : Stmts) (n i : ℕ) (t : Tree Span tree.func) (j : ℕ)
+  pub elements_function : (s : Bool) (fs : Forest Span tree.func) (ws : Stmts) (n i : ℕ) (t : Tree Span tree.func)
+      (j : ℕ)
       → n ≢ 0 → ends_list (terminal_at ts i) ≡ false → is_function (terminal_at ts i) ≡ true
       → declaration_of ts d i ≡ Some (t, j)
       → with_elements s fs ws (elements_from ts d n i)
@@ -487,7 +503,8 @@ module _ (ts : List Token) where
   names_stuck xs zero i e c k = refl
   names_stuck xs (suc n) i e c k = rw (e, c, k, names_from)
 
-pub ruleset statements_loop = (with_end, statements_push, statements_stop, statements_none, statements_fails, statements_more)
+pub ruleset statements_loop =
+    (with_end, statements_push, statements_stop, statements_none, statements_fails, statements_more)
 
 pub ruleset declarations_loop = (
   with_end,

@@ -31,7 +31,8 @@ terminals_long : (ts : List Token) → length (map (λ (u : Token). terminal_of 
 terminals_long [] = refl
 terminals_long (u ∷ ts) = ap suc (terminals_long ts)
 
-pub terminal_in : (ts : List Token) (ss : List Terminal) (i : ℕ) (t : Terminal) → ss ≡ map (λ (u : Token). terminal_of u.kind) ts
+pub terminal_in : (ts : List Token) (ss : List Terminal) (i : ℕ) (t : Terminal)
+    → ss ≡ map (λ (u : Token). terminal_of u.kind) ts
     → i < length ss → t ≡ get_or ss i t → t ≡ terminal_at ts i
 terminal_in ts ss i t s h e =
     let l = terminals_long ts in let k = ap (λ (r : List Terminal). length r) s in
@@ -138,7 +139,8 @@ key_past [] i h = refl
 key_past (u ∷ ts) zero h = absurd (omega arith)
 key_past (u ∷ ts) (suc i) h = key_past ts i (omega arith)
 
-pub kind_in : (ts : List Token) (i : ℕ) (t : Token) → i < length ts → t ≡ get_or ts i t → terminal_of t.kind ≡ terminal_at ts i
+pub kind_in : (ts : List Token) (i : ℕ) (t : Token) → i < length ts → t ≡ get_or ts i t
+    → terminal_of t.kind ≡ terminal_at ts i
 kind_in [] i t h e = absurd (omega arith)
 kind_in (u ∷ ts) zero t h e = ap (λ (v : Token). terminal_of v.kind) e
 kind_in (u ∷ ts) (suc i) t h e = kind_in ts i t (omega arith) e
@@ -149,7 +151,8 @@ kind_past (u ∷ ts) zero h = absurd (omega arith)
 kind_past (u ∷ ts) (suc i) h = kind_past ts i (omega arith)
 
 -- a infix operator other than a logical one is an operator
-pub infix_operator_other : (no_in : Bool) (k : Terminal) → (k ≡ terminals.Punct puncts.AndAnd → ⊥) → (k ≡ terminals.Punct puncts.OrOr → ⊥)
+pub infix_operator_other : (no_in : Bool) (k : Terminal) → (k ≡ terminals.Punct puncts.AndAnd → ⊥)
+    → (k ≡ terminals.Punct puncts.OrOr → ⊥)
     → (no_in && is_in k) ≡ false → infix_operator no_in k ≡ option_map plain (binary_operator k)
 infix_operator_other no_in (terminals.Punct puncts.AndAnd) a b h = absurd (a refl)
 infix_operator_other no_in (terminals.Punct puncts.OrOr) a b h = absurd (b refl)
@@ -196,7 +199,8 @@ count_there ts (suc n) i x h = by_place (cases_lt i n) (λ l. count_there ts n i
         ap (λ k. get_or (counts ts (suc n)) k x) e ∙ get_or-append_seam (counts ts n) (open_brackets ts n) [] x
         ∙ ap (open_brackets ts) (omega arith)
 
-pub count_in : (ts : List Token) (cs : List ℕ) (i x : ℕ) → cs ≡ counts ts (length ts) → i < length cs → x ≡ get_or cs i x
+pub count_in : (ts : List Token) (cs : List ℕ) (i x : ℕ) → cs ≡ counts ts (length ts) → i < length cs
+    → x ≡ get_or cs i x
     → x ≡ open_brackets ts i
 count_in ts cs i x s h e =
     let l = counts_long ts (length ts) in let k = ap (λ (r : List ℕ). length r) s in

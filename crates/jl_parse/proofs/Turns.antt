@@ -63,9 +63,11 @@ beyond s x l = grind (arith, leb_tells)
 tight : (s x : ℕ) → 1 ≤ s → s ≤ x → (nat_le 1 s && nat_le s x) ≡ true
 tight s x p l = grind (arith, leb_tells)
 
-too_loose : (no_in : Bool) (k : Terminal) (m : ℕ) (op : InfixOperator) → infix_operator no_in k ≡ Some op → m < infix_precedence op
+too_loose : (no_in : Bool) (k : Terminal) (m : ℕ) (op : InfixOperator) → infix_operator no_in k ≡ Some op
+    → m < infix_precedence op
     → continues no_in m k ≡ false
-too_loose no_in k m op h l = let e = ap infix_precedence_of h in beyond (infix_precedence_of (infix_operator no_in k)) m (omega arith)
+too_loose no_in k m op h l = let e = ap infix_precedence_of h in
+    beyond (infix_precedence_of (infix_operator no_in k)) m (omega arith)
 
 no_infix_operator : (no_in : Bool) (k : Terminal) (m : ℕ) → infix_operator no_in k ≡ None → continues no_in m k ≡ false
 no_infix_operator no_in k m h = beyond_none (infix_precedence_of (infix_operator no_in k)) m (ap infix_precedence_of h)
@@ -126,17 +128,22 @@ module _ (ts : List Token) (d : Deeper) where
   unfolding binary_from
   binary_none no_in zero m i t j op e h p l =
       let q = ap infix_precedence_of h in
-      rw (tight (infix_precedence_of (infix_operator no_in (terminal_at ts j))) m (omega arith) (omega arith), binary_from)
+      rw (
+        tight (infix_precedence_of (infix_operator no_in (terminal_at ts j))) m (omega arith) (omega arith),
+        binary_from,
+      )
   binary_none no_in (suc n) m i t j op e h p l = absurd (omega arith)
 
-  pub binary_looser : (no_in : Bool) (n m i : ℕ) (t : Expr) (j : ℕ) (op : InfixOperator) → infix_operator no_in (terminal_at ts j) ≡ Some op
+  pub binary_looser : (no_in : Bool) (n m i : ℕ) (t : Expr) (j : ℕ) (op : InfixOperator)
+      → infix_operator no_in (terminal_at ts j) ≡ Some op
       → m < infix_precedence op → binary_from ts d no_in n m i t j ≡ Some (t, j)
   unfolding binary_from binary_by
   binary_looser no_in zero m i t j op h l = rw (too_loose no_in (terminal_at ts j) m op h l, binary_from)
   binary_looser no_in (suc n) m i t j op h l = rw (h, lt-leb (infix_precedence op) m l, binary_from)
 
   pub binary_fails : (no_in : Bool) (n m i : ℕ) (t : Expr) (j : ℕ) (op : InfixOperator) → n ≢ 0
-      → infix_operator no_in (terminal_at ts j) ≡ Some op → infix_precedence op ≤ m → d.binary no_in (infix_precedence op - 1) (suc j) ≡ None
+      → infix_operator no_in (terminal_at ts j) ≡ Some op → infix_precedence op ≤ m
+      → d.binary no_in (infix_precedence op - 1) (suc j) ≡ None
       → binary_from ts d no_in n m i t j ≡ None
   unfolding binary_from binary_by
   binary_fails no_in zero m i t j op h e l q = absurd (h refl)
@@ -153,7 +160,8 @@ module _ (ts : List Token) (d : Deeper) where
   unfolding binary_from binary_by
   binary_more no_in zero m i t j op b k u l h e r q f = absurd (h refl)
   binary_more no_in (suc n) m i t j op b k u l h e r q f =
-      let g : suc n - 1 ≡ n = omega arith in let p : pred (infix_precedence op) ≡ infix_precedence op - 1 = omega arith in
+      let g : suc n - 1 ≡ n = omega arith in let p : pred (infix_precedence op)
+      ≡ infix_precedence op - 1 = omega arith in
       rw (g, e, le-leb (infix_precedence op) m r, p, q, binary_from)
       (made_some (d.room i) (infix_node op t b (span ts i k)) k (binary_from ts d no_in n m i) u l f)
 
@@ -305,7 +313,8 @@ module _ (ts : List Token) (d : Deeper) where
 
   pub items_more : (ls : Forest Span tree.item) (n i : ℕ) (t : Expr) (j : ℕ) → n ≢ 0
       → is_close_bracket (terminal_at ts i) ≡ false → is_comma (terminal_at ts i) ≡ false
-      → d.assignment false i ≡ Some (t, j) → is_close_bracket (terminal_at ts j) ≡ false → is_comma (terminal_at ts j) ≡ true
+      → d.assignment false i ≡ Some (t, j) → is_close_bracket (terminal_at ts j) ≡ false → is_comma (terminal_at ts j)
+      ≡ true
       → with_forest ls (items_from ts d n i)
       ≡ with_forest (append ls (tree.more (tree.filled t) tree.end)) (items_from ts d (n - 1) (suc j))
   unfolding items_from
@@ -316,7 +325,8 @@ module _ (ts : List Token) (d : Deeper) where
 
   pub items_end : (ls : Forest Span tree.item) (n i : ℕ) (t : Expr) (j : ℕ)
       → is_close_bracket (terminal_at ts i) ≡ false → is_comma (terminal_at ts i) ≡ false
-      → d.assignment false i ≡ Some (t, j) → is_close_bracket (terminal_at ts j) ≡ false → is_comma (terminal_at ts j) ≡ false
+      → d.assignment false i ≡ Some (t, j) → is_close_bracket (terminal_at ts j) ≡ false → is_comma (terminal_at ts j)
+      ≡ false
       → with_forest ls (items_from ts d n i) ≡ None
   unfolding items_from
   items_end ls zero i t j f e q c k = rw (f, items_from)

@@ -28,7 +28,8 @@ pub clauses::clauses-parts-preserved : goal.clauses::clauses-parts-preserved
 clauses::clauses-parts-preserved t c =
     let ts = c.args.tokens.now in
     let d = within ts c.args.depth in
-    let p : view_cases c.push_case.new.list ≡ append (view_cases c.parts.clauses) (tree.more (view_case c.in_ok-c.c) tree.end) =
+    let p : view_cases c.push_case.new.list
+    ≡ append (view_cases c.parts.clauses) (tree.more (view_case c.in_ok-c.c) tree.end) =
     search (rules, cases_push) in
     let f : c.if-fresh.fresh ≡ (c.parts.fresh && is_case (terminal_at ts c.parts.next)) = elim c.if-fresh.branch [
       | clauses::clauses-then-fresh w ↦ search rules
@@ -36,7 +37,8 @@ clauses::clauses-parts-preserved t c =
     ] in
     let e : is_close_brace (terminal_at ts c.parts.next) ≡ false = search rules in
     let o : clause_of ts d c.parts.fresh c.parts.next ≡ Some (view_case c.in_ok-c.c, c.in_ok-c.end) = search rules in
-    let m = clauses_more ts d (view_cases c.parts.clauses) c.parts.room c.parts.fresh c.parts.next (view_case c.in_ok-c.c)
+    let m = clauses_more ts d (view_cases c.parts.clauses) c.parts.room c.parts.fresh c.parts.next
+    (view_case c.in_ok-c.c)
     c.in_ok-c.end (search rules) e o in
     rw (p, f) (sym m ∙ c.parts.invariant)
 
@@ -66,7 +68,8 @@ functions::getter-returns t c =
     let g : is_key (terminal_at ts (suc c.args.at)) ≡ true = search rules in
     let r : rest_at ts d (suc (suc c.args.at)) ≡ Some ((map view_ident ps, b), j) = search rules in
     let n : length ps ≡ 0 = search rules in
-    let m : node (d.room c.args.at) (tree.function 0 None (map view_ident ps) b (span ts c.args.at j)) j succeed ≡ Some (f, k) =
+    let m : node (d.room c.args.at) (tree.function 0 None (map view_ident ps) b (span ts c.args.at j)) j succeed
+    ≡ Some (f, k) =
     search rules in
     let y : view_ident c.in_ok-key.key ≡ key_ident_at ts (suc c.args.at) = search rules in
     let v : view_entry c.getter_entry.result ≡ tree.getter (view_ident c.in_ok-key.key) f = search rules in
@@ -86,7 +89,8 @@ functions::setter-returns t c =
     let g : is_key (terminal_at ts (suc c.args.at)) ≡ true = search rules in
     let r : rest_at ts d (suc (suc c.args.at)) ≡ Some ((map view_ident ps, b), j) = search rules in
     let n : length ps ≡ 1 = search rules in
-    let m : node (d.room c.args.at) (tree.function 0 None (map view_ident ps) b (span ts c.args.at j)) j succeed ≡ Some (f, k) =
+    let m : node (d.room c.args.at) (tree.function 0 None (map view_ident ps) b (span ts c.args.at j)) j succeed
+    ≡ Some (f, k) =
     search rules in
     let y : view_ident c.in_ok-key.key ≡ key_ident_at ts (suc c.args.at) = search rules in
     let v : view_entry c.setter_entry.result ≡ tree.setter (view_ident c.in_ok-key.key) f = search rules in

@@ -205,7 +205,8 @@ decreases-clauses::finally l = l.depth.levels * 20 + 4
 abbrev pub invariant-expressions::binary-parts : goal.invariant-expressions::binary-parts
 invariant-expressions::binary-parts l =
     binary_at l.tokens (within l.tokens l.depth) l.no_in l.depth.levels l.loosest l.at
-    ≡ binary_from l.tokens (within l.tokens l.depth) l.no_in l.room l.loosest l.at (view_expression l.operand.value) l.end
+    ≡ binary_from l.tokens (within l.tokens l.depth) l.no_in l.room l.loosest l.at (view_expression l.operand.value)
+    l.end
 
 abbrev pub decreases-expressions::binary-parts : goal.decreases-expressions::binary-parts
 decreases-expressions::binary-parts l = l.room
@@ -278,7 +279,8 @@ decreases-statements::statements-parts l = l.room
 
 abbrev pub invariant-statements::declarators-parts : goal.invariant-statements::declarators-parts
 invariant-statements::declarators-parts l =
-    with_forest (view_declarators l.declarators) (declarations_from l.tokens (within l.tokens l.depth) l.no_in l.room l.next)
+    with_forest (view_declarators l.declarators) (declarations_from l.tokens (within l.tokens l.depth) l.no_in l.room
+    l.next)
     ≡ declarations_from l.tokens (within l.tokens l.depth) l.no_in (length l.tokens) l.at
 
 abbrev pub decreases-statements::declarators-parts : goal.decreases-statements::declarators-parts

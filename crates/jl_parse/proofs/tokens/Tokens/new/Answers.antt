@@ -25,5 +25,6 @@ loop-token-preserved c =
       seen = grind (arith, common_steps);
       counted = search (rules, counts_more);
       now = b ∙ ap₂ bracket (t ∙ k) c.loop-token.invariant.now ∙ sym (opened_more ts i);
-      few = let f = bracket_few c.terminal_of-terminal.result c.loop-token.before i c.loop-token.invariant.few in omega arith;
+      few = let f = bracket_few c.terminal_of-terminal.result c.loop-token.before i c.loop-token.invariant.few in
+          omega arith;
     }
