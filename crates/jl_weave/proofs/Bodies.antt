@@ -1,18 +1,17 @@
--- The woven form of what holds statements: functions, programs and blocks that catch.
+-- The woven form of what holds statements: functions and programs.
 use Rattle.std.proofs.Common.{codes, if◌then◌else◌, ◌≡◌, ◌∙◌, ap, arith, refl, ℕ, ◌+◌, Bool, List, [], ◌∷◌, Option}
 use Rattle.std.proofs.Common.{false, map, option_map, true}
 use Rattle.jl_ast.specs.Tree as tree
-use Rattle.jl_ast.specs.Tree.{Forest, Ident, OptionalTree, Text}
+use Rattle.jl_ast.specs.Tree.{Forest, Ident}
 use Rattle.jl_op.specs.Chosen.{Kinds}
 use Rattle.jl_op.specs.Ids.{forest_id_count, forest_with_ids, ident_with_id, with_ids}
-use Rattle.jl_op.specs.declared.kind.OpKind.TheVariants as kind
-use Rattle.jl_simulation.specs.HookCalls.{and_last, begin_and_end, catch_and_go_on, enter_and_leave, hook, hook_of_1}
-use Rattle.jl_simulation.specs.HookCalls.{hook_statement, name_of, no_exprs, without_id, Stmts, Woven}
+use Rattle.jl_simulation.specs.HookCalls.{and_last, begin_and_end, enter_and_leave, hook}
+use Rattle.jl_simulation.specs.HookCalls.{hook_statement, no_exprs, without_id, Stmts, Woven}
 use Rattle.jl_simulation.specs.Weaving.{woven_code, woven_forest}
 use Rattle.jl_weave.specs.inner.Bare.{without_place}
-use Rattle.jl_weave.specs.inner.Forms.{beginning_form, caught_form, ended_form, entry_form, first_if, is_begun}
+use Rattle.jl_weave.specs.inner.Forms.{beginning_form, ended_form, entry_form, first_if, is_begun}
 use Rattle.jl_weave.specs.inner.Forms.{is_entered, append_forest, left_form}
-use Rattle.jl_weave.proofs.Weaves.{Weaves, WeavesAfter, WeavesAll, WeavesHandler}
+use Rattle.jl_weave.proofs.Weaves.{Weaves, WeavesAfter, WeavesAll}
 use Rattle.jl_weave.proofs.Parts.{ap2, ap4}
 use Rattle.jl_weave.proofs.StatementForms.{label_is}
 
@@ -21,7 +20,7 @@ labels_are : {S : Type 0} (n : ℕ) (l : List (Ident S)) →
 labels_are n [] = refl
 labels_are n (x ∷ l) = ap (λ r. without_place x ∷ r) (labels_are n l)
 
--- the three bodies that a hook may stand first in, by whether it does
+-- the two bodies that a hook may stand first in, by whether it does
 entered_is : (b : Bool) (id : ℕ) (l : Stmts) →
     (if b then tree.more (tree.try (append_forest (first_if b (hook_statement (hook (codes "E") id no_exprs))) l) tree.absent
     (tree.present (tree.branch_of (tree.more (hook_statement (hook (codes "L") (id + 1) no_exprs)) tree.end))) tt)
@@ -37,12 +36,6 @@ begun_is : (b : Bool) (id : ℕ) (l : Stmts) →
     ≡ (if b then begin_and_end id l else l)
 begun_is true id l = refl
 begun_is false id l = refl
-
-caught_is : (b : Bool) (id : ℕ) (x : Text) (l : Stmts) →
-    append_forest (first_if b (hook_statement (hook_of_1 (codes "H") id x (name_of x)))) l
-    ≡ (if b then catch_and_go_on id x l else l)
-caught_is true id x l = refl
-caught_is false id x l = refl
 
 module _ (chosen : Kinds) {S : Type 0} where
   -- statements after others, by what those are and by the id at which they are known to begin
@@ -66,22 +59,6 @@ module _ (chosen : Kinds) {S : Type 0} where
             (g ∙ ap (left_form chosen n) (after l u f c) ∙ entered_is (is_entered chosen) n rest);
         counted = omega arith;
       }
-
-  pub no_handler : {made : OptionalTree (Unit {0}) tree.handler} {id n : ℕ} → made ≡ tree.absent →
-      WeavesHandler chosen {S = S} tree.absent id n made n
-  no_handler e = record { is = e; counted = omega arith }
-
-  pub handler_woven : (x : Ident S) (l : Forest S tree.stmt) {first l' : Stmts}
-      {made : OptionalTree (Unit {0}) tree.handler} {id n next : ℕ} → first ≡ caught_form chosen id x.text →
-      WeavesAfter chosen first l n l' next →
-      made ≡ tree.present (tree.catch (without_place x) l') →
-      WeavesHandler chosen (tree.present (tree.catch x l)) id n made next
-  handler_woven x l {id = id} {n = n} f w e = record {
-    is = e ∙ ap (λ l. tree.present (tree.catch (without_place x) l))
-        (after l w f refl
-        ∙ caught_is (chosen kind.Catch) id x.text (woven_forest chosen (forest_with_ids n l)));
-    counted = w.counted;
-  }
 
   -- a program, whose hooks have the ids 1 and 2
   pub program_woven : (strict : Bool) (fs : Forest S tree.func) (l : Forest S tree.stmt)

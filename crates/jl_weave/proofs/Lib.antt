@@ -2,7 +2,6 @@ pub mod ListViews
 pub mod Targets
 pub mod Weaves
 pub mod Parts
-pub mod ExpressionForms
 pub mod StatementForms
 pub mod StatementViews
 pub mod Bodies

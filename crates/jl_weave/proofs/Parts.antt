@@ -11,10 +11,6 @@ use Rattle.jl_weave.proofs.Weaves.{Weaves, WeavesAll, WeavesIfPresent}
 pub ap2 : {A B C : Type 0} (F : A → B → C) {a a' : A} {b b' : B} → a ≡ a' → b ≡ b' → F a b ≡ F a' b'
 ap2 F d e = cc (d, e)
 
-pub ap3 : {A B C D : Type 0} (F : A → B → C → D) {a a' : A} {b b' : B} {c c' : C} → a ≡ a' → b ≡ b' → c ≡ c' →
-    F a b c ≡ F a' b' c'
-ap3 F d e g = cc (d, e, g)
-
 pub ap4 : {A B C D E : Type 0} (F : A → B → C → D → E) {a a' : A} {b b' : B} {c c' : C} {d d' : D} → a ≡ a' → b ≡ b' →
     c ≡ c' → d ≡ d' → F a b c d ≡ F a' b' c' d'
 ap4 F e g h i = cc (e, g, h, i)

@@ -5,7 +5,7 @@ use Rattle.jl_ast.specs.Tree.{Forest, OptionalTree, Sort, Tree}
 use Rattle.jl_op.specs.Chosen.{Kinds}
 use Rattle.jl_op.specs.Ids.{forest_id_count, id_count, optional_id_count}
 use Rattle.jl_simulation.specs.HookCalls.{Expr, Stmts, Woven}
-use Rattle.jl_weave.specs.inner.Woven.{callee_at, handler_at, tested_at, woven_after_at, woven_all_at, woven_at}
+use Rattle.jl_weave.specs.inner.Woven.{callee_at, woven_after_at, woven_all_at, woven_at}
 use Rattle.jl_weave.specs.inner.Woven.{woven_if_present_at}
 
 pub record Weaves (chosen : Kinds) {S : Type 0} {x : Sort} (t : Tree S x) (n : ℕ) (made : Woven x) (next : ℕ)
@@ -28,17 +28,7 @@ pub record WeavesAfter (chosen : Kinds) {S : Type 0} (first : Stmts) (l : Forest
   pub is : made ≡ woven_after_at chosen first n l
   pub counted : next ≡ n + forest_id_count l
 
-pub record WeavesTest (chosen : Kinds) {S : Type 0} (e : Tree S tree.expr) (n : ℕ) (made : Expr) (next : ℕ)
-    : Type 0 where
-  pub is : made ≡ tested_at chosen n e
-  pub counted : next ≡ n + 1 + id_count e
-
 pub record WeavesCallee (chosen : Kinds) {S : Type 0} (f : Tree S tree.expr) (n : ℕ) (made : Expr) (next : ℕ)
     : Type 0 where
   pub is : made ≡ callee_at chosen n f
   pub counted : next ≡ n + 2 + id_count f
-
-pub record WeavesHandler (chosen : Kinds) {S : Type 0} (h : OptionalTree S tree.handler) (id n : ℕ)
-    (made : OptionalTree (Unit {0}) tree.handler) (next : ℕ) : Type 0 where
-  pub is : made ≡ handler_at chosen id n h
-  pub counted : next ≡ n + optional_id_count h

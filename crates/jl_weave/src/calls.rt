@@ -4,7 +4,7 @@ ghost use Rattle.jl_weave.specs.inner.Bare.{bare_expression, bare_expressions};
 ghost use Rattle.jl_weave.specs.inner.Forms.{callee_form, new_form};
 ghost use Rattle.jl_weave.specs.inner.Woven.{chosen_of};
 
-use crate::hook_calls::hook_1;
+use crate::hook_calls::hook_call;
 use crate::nodes;
 use crate::weaver::Weaver;
 use jl_ast::Expr;
@@ -16,7 +16,7 @@ impl Weaver {
         ensures { IfOk result (λ made. bare_expression made ≡ callee_form (chosen_of self.now) id (bare_expression f)) }
     {
         if self.tells_calls() {
-            hook_1(self.alloc, "F", id, f, span)
+            hook_call(self.alloc, "F", id, [f], span)
         } else {
             Ok(f)
         }
@@ -34,7 +34,7 @@ impl Weaver {
             ≡ new_form (chosen_of self.now) id (bare_expression f) (bare_expressions arguments)) }
     {
         if self.tells_calls() {
-            let opener = hook_1(self.alloc, "N", id, f, span)?;
+            let opener = hook_call(self.alloc, "N", id, [f], span)?;
             nodes::call(self.alloc, opener, arguments, span)
         } else {
             nodes::new(self.alloc, f, arguments, span)

@@ -68,8 +68,9 @@ pub fn weave_expression(w: &Weaver, e: &Expr, ids: &mut Ids) -> Result<Expr, NoM
         }
         ExprKind::Dot(o, k) => {
             let id = ids.take(1);
+            let k = k.share(w.alloc)?;
             let o = weave_expression(w, o, ids)?;
-            w.member(id, Member::Dot(o, k.share(w.alloc)?), span)
+            w.member(id, Member::Dot(o, k), span)
         }
         ExprKind::Index(o, k) => {
             let id = ids.take(1);
@@ -168,8 +169,9 @@ fn weave_callee(w: &Weaver, f: &Expr, span: Span, ids: &mut Ids) -> Result<Expr,
     match &f.kind {
         ExprKind::Dot(o, k) => {
             let id = ids.take(3);
+            let k = k.share(w.alloc)?;
             let o = weave_expression(w, o, ids)?;
-            w.method(id, Member::Dot(o, k.share(w.alloc)?), f.span)
+            w.method(id, Member::Dot(o, k), f.span)
         }
         ExprKind::Index(o, k) => {
             let id = ids.take(3);
@@ -220,8 +222,9 @@ fn weave_delete(w: &Weaver, e: &Expr, span: Span, ids: &mut Ids) -> Result<Expr,
         }
         ExprKind::Dot(o, k) => {
             let id = ids.take(1);
+            let k = k.share(w.alloc)?;
             let o = weave_expression(w, o, ids)?;
-            w.member_delete(id, Member::Dot(o, k.share(w.alloc)?), span)
+            w.member_delete(id, Member::Dot(o, k), span)
         }
         ExprKind::Index(o, k) => {
             let id = ids.take(1);
@@ -265,8 +268,9 @@ fn weave_target(w: &Weaver, t: &Target, ids: &mut Ids) -> Result<Target, NoMemor
     match t {
         Target::Name(x) => Ok(nodes::to_name(copy_of(w.alloc, x)?)),
         Target::Dot(o, k, span) => {
+            let k = k.share(w.alloc)?;
             let o = weave_expression(w, o, ids)?;
-            Ok(nodes::to_dot(o, k.share(w.alloc)?, *span))
+            Ok(nodes::to_dot(o, k, *span))
         }
         Target::Index(o, k, span) => {
             let o = weave_expression(w, o, ids)?;
@@ -285,16 +289,19 @@ pub fn weave_entry(w: &Weaver, p: &Entry, ids: &mut Ids) -> Result<Entry, NoMemo
 {
     match p {
         Entry::Value(k, e) => {
+            let k = copy_of(w.alloc, k)?;
             let e = weave_expression(w, e, ids)?;
-            Ok(nodes::value(copy_of(w.alloc, k)?, e))
+            Ok(nodes::value(k, e))
         }
         Entry::Get(k, f) => {
+            let k = copy_of(w.alloc, k)?;
             let f = weave_function(w, f, ids)?;
-            Ok(nodes::getter(copy_of(w.alloc, k)?, f))
+            Ok(nodes::getter(k, f))
         }
         Entry::Set(k, f) => {
+            let k = copy_of(w.alloc, k)?;
             let f = weave_function(w, f, ids)?;
-            Ok(nodes::setter(copy_of(w.alloc, k)?, f))
+            Ok(nodes::setter(k, f))
         }
     }
 }

@@ -8,7 +8,7 @@ ghost use Rattle.jl_weave.specs.inner.Forms.{beginning_form, caught_form, ended_
 ghost use Rattle.jl_weave.specs.inner.Forms.{is_entered, left_form};
 ghost use Rattle.jl_weave.specs.inner.Woven.{chosen_of, HasIds};
 
-use crate::hook_calls::{hook_0, hook_of_1};
+use crate::hook_calls::{hook_call, hook_of_1};
 use crate::nodes;
 use crate::statement_nodes::{expression_statement, try_statement};
 use crate::weaver::Weaver;
@@ -30,7 +30,7 @@ impl Weaver {
         ensures { IfOk result (λ made. bare_statements made ≡ entry_form (chosen_of self.now) id) }
     {
         if self.tells_entries() {
-            one(self.alloc, hook_0(self.alloc, "E", id, span)?, span)
+            one(self.alloc, hook_call(self.alloc, "E", id, [], span)?, span)
         } else {
             Ok(List::new(self.alloc))
         }
@@ -50,7 +50,8 @@ impl Weaver {
         if !self.tells_entries() {
             return Ok(statements);
         }
-        let last = one(self.alloc, hook_0(self.alloc, "L", id + 1, span)?, span)?;
+        let last = hook_call(self.alloc, "L", id + 1, [], span)?;
+        let last = one(self.alloc, last, span)?;
         let mut made = List::new(self.alloc);
         made.push(try_statement(statements, None, Some(last), span))?;
         Ok(made)
@@ -68,7 +69,7 @@ impl Weaver {
         ensures { IfOk result (λ made. bare_statements made ≡ beginning_form (chosen_of self.now) id) }
     {
         if self.tells_scripts() {
-            one(self.alloc, hook_0(self.alloc, "S", id, span)?, span)
+            one(self.alloc, hook_call(self.alloc, "S", id, [], span)?, span)
         } else {
             Ok(List::new(self.alloc))
         }
@@ -89,7 +90,7 @@ impl Weaver {
         if !self.tells_scripts() {
             return Ok(statements);
         }
-        let last = hook_0(self.alloc, "X", id + 1, span)?;
+        let last = hook_call(self.alloc, "X", id + 1, [], span)?;
         let mut made = statements;
         made.push(expression_statement(last, span))?;
         Ok(made)
@@ -103,7 +104,7 @@ impl Weaver {
             return Ok(List::new(self.alloc));
         }
         let value = nodes::name(x.share(self.alloc)?, span);
-        let call = hook_of_1(self.alloc, "H", id, x.share(self.alloc)?, value, span)?;
+        let call = hook_of_1(self.alloc, "H", id, x, value, span)?;
         one(self.alloc, call, span)
     }
 }

@@ -1,13 +1,14 @@
 //! Calls of hooks: `J$.NAME(id, ..)`.
 #![tactic(auto, unfolding(jl_scope::specs::Names::hooks_name))]
 
-ghost use Rattle.std.specs.Prelude.{◌≡◌, ◌+◌, ◌<◌, ◌^◌, IfOk};
+ghost use Rattle.std.specs.Prelude.{◌≡◌, ◌≤◌, IfOk};
 ghost use Rattle.jl_ast.specs.Tree as tree;
+ghost use Rattle.jl_ast.specs.Tree.{more};
 ghost use Rattle.jl_op.specs.Ids.{ident_with_id};
 ghost use Rattle.jl_scope.specs.Names.{hooks_name};
 ghost use Rattle.jl_meaning.specs.forms.Operators.{update_kind};
-ghost use Rattle.jl_simulation.specs.HookCalls.{assign, assign_hook, before_update, binary_hook, hook, hook_1, hook_2};
-ghost use Rattle.jl_simulation.specs.HookCalls.{hook_of_1, hook_of_2, no_exprs, read, unary_hook, update_hook, write};
+ghost use Rattle.jl_simulation.specs.HookCalls.{assign, assign_hook, before_update, binary_hook, hook, hook_of_1};
+ghost use Rattle.jl_simulation.specs.HookCalls.{read, string_of, unary_hook, update_hook, write};
 ghost use Rattle.jl_weave.specs.inner.Bare.{bare_expression, bare_expressions, bare_ident};
 
 use crate::nodes;
@@ -17,86 +18,65 @@ use jl_op::{UnKind, binary_sign};
 use jl_text::{List, NoMemory, Span, Text};
 use std::alloc::Global;
 
-/// A call of a hook with these arguments.
-fn hook_call(alloc: Global, hook: &str, arguments: List<Expr>, span: Span) -> Result<Expr, NoMemory>
-    ensures { IfOk result (λ made. bare_expression made
-        ≡ tree.call (tree.dot (tree.name hooks_name tt) hook.now tt) (bare_expressions arguments) tt) }
+/// The function that is the hook of this name.
+fn hook_function(alloc: Global, name: &str, span: Span) -> Result<Expr, NoMemory>
+    ensures { IfOk result (λ made. bare_expression made ≡ tree.dot (tree.name hooks_name tt) name.now tt) }
 {
-    let hooks = nodes::name(word(alloc, "J$")?, span);
-    let callee = nodes::dot(alloc, hooks, word(alloc, hook)?, span)?;
-    nodes::call(alloc, callee, arguments, span)
+    let hooks = word(alloc, "J$")?;
+    let name = word(alloc, name)?;
+    nodes::dot(alloc, nodes::name(hooks, span), name, span)
 }
 
-/// A call with its id alone.
-pub fn hook_0(alloc: Global, name: &str, id: u32, span: Span) -> Result<Expr, NoMemory>
-    ensures { IfOk result (λ made. bare_expression made ≡ hook name.now id no_exprs) }
-{
-    let mut arguments = List::new(alloc);
-    arguments.push(nodes::whole(id, span))?;
-    hook_call(alloc, name, arguments, span)
-}
-
-/// A call with its id and an argument.
-pub fn hook_1(alloc: Global, name: &str, id: u32, e: Expr, span: Span) -> Result<Expr, NoMemory>
-    ensures { IfOk result (λ made. bare_expression made ≡ hook_1 name.now id (bare_expression e)) }
-{
-    let mut arguments = List::new(alloc);
-    arguments.push(nodes::whole(id, span))?;
-    arguments.push(e)?;
-    hook_call(alloc, name, arguments, span)
-}
-
-/// A call with its id and two arguments.
-pub fn hook_2(
+/// A call with its id, and these arguments after it.
+pub fn hook_call<const N: usize>(
     alloc: Global,
     name: &str,
     id: u32,
-    a: Expr,
-    b: Expr,
+    arguments: [Expr; N],
     span: Span,
 ) -> Result<Expr, NoMemory>
-    ensures { IfOk result (λ made. bare_expression made ≡ hook_2 name.now id (bare_expression a) (bare_expression b)) }
+    requires { N ≤ 3 }
+    ensures { IfOk result (λ made. bare_expression made ≡ hook name.now id (bare_expressions arguments.entry)) }
 {
-    let mut arguments = List::new(alloc);
-    arguments.push(nodes::whole(id, span))?;
-    arguments.push(a)?;
-    arguments.push(b)?;
-    hook_call(alloc, name, arguments, span)
+    let mut all = List::new(alloc);
+    all.push(nodes::whole(id, span))?;
+    for e in arguments {
+        all.push(e)?;
+    }
+    let callee = hook_function(alloc, name, span)?;
+    nodes::call(alloc, callee, all, span)
 }
 
-/// A call with its id, a name or an operator, and an argument.
+/// A call with its id, a name, and an argument.
 pub fn hook_of_1(
     alloc: Global,
     name: &str,
     id: u32,
-    word: Text,
+    word: &Text,
     e: Expr,
     span: Span,
 ) -> Result<Expr, NoMemory>
-    ensures { IfOk result (λ made. bare_expression made ≡ hook_of_1 name.now id word (bare_expression e)) }
+    ensures { IfOk result (λ made. bare_expression made ≡ hook_of_1 name.now id word.now (bare_expression e)) }
 {
-    hook_2(alloc, name, id, nodes::string(word, span), e, span)
+    let word = nodes::string(word.share(alloc)?, span);
+    hook_call(alloc, name, id, [word, e], span)
 }
 
-/// A call with its id, an operator, and two arguments.
-pub fn hook_of_2(
+/// A call with its id, the sign of an operator, and two arguments.
+fn hook_of_2(
     alloc: Global,
     name: &str,
     id: u32,
-    word: Text,
-    a: Expr,
-    b: Expr,
+    sign: &str,
+    operands: [Expr; 2],
     span: Span,
 ) -> Result<Expr, NoMemory>
     ensures { IfOk result (λ made. bare_expression made
-        ≡ hook_of_2 name.now id word (bare_expression a) (bare_expression b)) }
+        ≡ hook name.now id (more (string_of sign.now) (bare_expressions operands))) }
 {
-    let mut arguments = List::new(alloc);
-    arguments.push(nodes::whole(id, span))?;
-    arguments.push(nodes::string(word, span))?;
-    arguments.push(a)?;
-    arguments.push(b)?;
-    hook_call(alloc, name, arguments, span)
+    let sign = nodes::string(word(alloc, sign)?, span);
+    let [a, b] = operands;
+    hook_call(alloc, name, id, [sign, a, b], span)
 }
 
 /// `J$.R(id, "x", x)`.
@@ -104,14 +84,14 @@ pub fn read(alloc: Global, id: u32, x: &Text, span: Span) -> Result<Expr, NoMemo
     ensures { IfOk result (λ made. bare_expression made ≡ read id x.now) }
 {
     let value = nodes::name(x.share(alloc)?, span);
-    hook_of_1(alloc, "R", id, x.share(alloc)?, value, span)
+    hook_of_1(alloc, "R", id, x, value, span)
 }
 
 /// `J$.W(id, "x", e)`.
 pub fn write(alloc: Global, id: u32, x: &Text, e: Expr, span: Span) -> Result<Expr, NoMemory>
     ensures { IfOk result (λ made. bare_expression made ≡ write id x.now (bare_expression e)) }
 {
-    hook_of_1(alloc, "W", id, x.share(alloc)?, e, span)
+    hook_of_1(alloc, "W", id, x, e, span)
 }
 
 /// `x = J$.W(id, "x", e)`.
@@ -133,7 +113,8 @@ pub fn unary_hook(
 ) -> Result<Expr, NoMemory>
     ensures { IfOk result (λ made. bare_expression made ≡ unary_hook id kind (bare_expression e)) }
 {
-    hook_of_1(alloc, "U", id, word(alloc, kind.sign())?, e, span)
+    let sign = nodes::string(word(alloc, kind.sign())?, span);
+    hook_call(alloc, "U", id, [sign, e], span)
 }
 
 /// `J$.B(id, "op", a, b)`.
@@ -147,8 +128,7 @@ pub fn binary_hook(
 ) -> Result<Expr, NoMemory>
     ensures { IfOk result (λ made. bare_expression made ≡ binary_hook id op (bare_expression a) (bare_expression b)) }
 {
-    let sign = word(alloc, binary_sign(op))?;
-    hook_of_2(alloc, "B", id, sign, a, b, span)
+    hook_of_2(alloc, "B", id, binary_sign(op), [a, b], span)
 }
 
 /// The operation of `++` or `--`.
@@ -170,8 +150,8 @@ pub fn update_hook(
     ensures { IfOk result (λ made. bare_expression made
         ≡ update_hook id up (bare_expression base) (bare_expression key)) }
 {
-    let sign = word(alloc, update_kind(up).sign())?;
-    hook_of_2(alloc, "I", id, sign, base, key, span)
+    let sign = update_kind(up).sign();
+    hook_of_2(alloc, "I", id, sign, [base, key], span)
 }
 
 /// `J$.P(id, o, k)(e)`, or `J$.A(id, "op", o, k)(e)`.
@@ -187,14 +167,12 @@ pub fn assign_hook(
     ensures { IfOk result (λ made. bare_expression made
         ≡ assign_hook id op (bare_expression base) (bare_expression key) (bare_expression e)) }
 {
+    let place = [base, key];
     let mut arguments = List::new(alloc);
     arguments.push(e)?;
     let opener = match op {
-        None => hook_2(alloc, "P", id, base, key, span)?,
-        Some(op) => {
-            let sign = word(alloc, binary_sign(op))?;
-            hook_of_2(alloc, "A", id, sign, base, key, span)?
-        }
+        None => hook_call(alloc, "P", id, place, span)?,
+        Some(op) => hook_of_2(alloc, "A", id, binary_sign(op), place, span)?,
     };
     nodes::call(alloc, opener, arguments, span)
 }

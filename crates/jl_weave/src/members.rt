@@ -6,7 +6,7 @@ ghost use Rattle.jl_weave.specs.inner.Bare.{bare_expression};
 ghost use Rattle.jl_weave.specs.inner.Forms.{base_of, itself_of, key_of};
 ghost use Rattle.jl_weave.specs.inner.Woven.{chosen_of};
 
-use crate::hook_calls::hook_2;
+use crate::hook_calls::hook_call;
 use crate::nodes;
 use crate::weaver::Weaver;
 use jl_ast::{Expr, UnOp};
@@ -44,11 +44,11 @@ impl Member {
     }
 
     /// The hook of this name, which is handed the object and the key.
-    fn by_hook(self, alloc: Global, hook: &str, id: u32, span: Span) -> Result<Expr, NoMemory>
-        ensures { IfOk result (λ made. bare_expression made ≡ hook_2 hook.now id (base_of self) (key_of self)) }
+    fn by_hook(self, alloc: Global, name: &str, id: u32, span: Span) -> Result<Expr, NoMemory>
+        ensures { IfOk result (λ made. bare_expression made ≡ hook_2 name.now id (base_of self) (key_of self)) }
     {
         let (base, key) = self.into_parts(span);
-        hook_2(alloc, hook, id, base, key, span)
+        hook_call(alloc, name, id, [base, key], span)
     }
 }
 

@@ -6,7 +6,7 @@ ghost use Rattle.jl_weave.specs.inner.Bare.{bare_expression, bare_optional};
 ghost use Rattle.jl_weave.specs.inner.Forms.{name_form, told_if_present, written_form};
 ghost use Rattle.jl_weave.specs.inner.Woven.{chosen_of};
 
-use crate::hook_calls::{hook_1, read, write};
+use crate::hook_calls::{hook_call, read, write};
 use crate::nodes;
 use crate::weaver::Weaver;
 use jl_ast::Expr;
@@ -29,16 +29,16 @@ impl Weaver {
     pub fn hook_value(
         &self,
         kind: OpKind,
-        hook: &str,
+        name: &str,
         id: u32,
         e: Expr,
         span: Span,
     ) -> Result<Expr, NoMemory>
         ensures { IfOk result (λ made. bare_expression made
-            ≡ hooked_if (chosen_of self.now) kind (hook_1 hook.now id) (bare_expression e)) }
+            ≡ hooked_if (chosen_of self.now) kind (hook_1 name.now id) (bare_expression e)) }
     {
         if self.tells(kind) {
-            hook_1(self.alloc, hook, id, e, span)
+            hook_call(self.alloc, name, id, [e], span)
         } else {
             Ok(e)
         }
@@ -48,16 +48,16 @@ impl Weaver {
     pub fn told_if_present(
         &self,
         kind: OpKind,
-        hook: &str,
+        name: &str,
         id: u32,
         e: Option<Expr>,
         span: Span,
     ) -> Result<Option<Expr>, NoMemory>
         ensures { IfOk result (λ made. bare_optional made
-            ≡ told_if_present (chosen_of self.now) kind (hook_1 hook.now id) (bare_optional e)) }
+            ≡ told_if_present (chosen_of self.now) kind (hook_1 name.now id) (bare_optional e)) }
     {
         match e {
-            Some(e) => Ok(Some(self.hook_value(kind, hook, id, e, span)?)),
+            Some(e) => Ok(Some(self.hook_value(kind, name, id, e, span)?)),
             None => Ok(None),
         }
     }

@@ -12,6 +12,14 @@ use jl_num::Num;
 use jl_text::{List, NoMemory, Span, Text};
 use std::alloc::Global;
 
+/// Two operands, each in a box.
+fn boxed(alloc: Global, a: Expr, b: Expr) -> Result<(Box<Expr>, Box<Expr>), NoMemory>
+    ensures first { IfOk result (λ made. made.0.value ≡ a) }
+    ensures second { IfOk result (λ made. made.1.value ≡ b) }
+{
+    Ok((Box::new(alloc, a)?, Box::new(alloc, b)?))
+}
+
 /// `this` (11.1.1).
 pub fn this(span: Span) -> Expr
     ensures { bare_expression result ≡ tree.this tt }
@@ -122,7 +130,8 @@ pub fn dot(alloc: Global, o: Expr, k: Text, span: Span) -> Result<Expr, NoMemory
 pub fn index(alloc: Global, o: Expr, k: Expr, span: Span) -> Result<Expr, NoMemory>
     ensures { IfOk result (λ made. bare_expression made ≡ tree.index (bare_expression o) (bare_expression k) tt) }
 {
-    let kind = ExprKind::Index(Box::new(alloc, o)?, Box::new(alloc, k)?);
+    let (o, k) = boxed(alloc, o, k)?;
+    let kind = ExprKind::Index(o, k);
     Ok(Expr { kind, span })
 }
 
@@ -169,7 +178,8 @@ pub fn update(
 pub fn binary(alloc: Global, op: BinOp, a: Expr, b: Expr, span: Span) -> Result<Expr, NoMemory>
     ensures { IfOk result (λ made. bare_expression made ≡ tree.binary op (bare_expression a) (bare_expression b) tt) }
 {
-    let kind = ExprKind::Binary(op, Box::new(alloc, a)?, Box::new(alloc, b)?);
+    let (a, b) = boxed(alloc, a, b)?;
+    let kind = ExprKind::Binary(op, a, b);
     Ok(Expr { kind, span })
 }
 
@@ -177,7 +187,8 @@ pub fn binary(alloc: Global, op: BinOp, a: Expr, b: Expr, span: Span) -> Result<
 pub fn and(alloc: Global, a: Expr, b: Expr, span: Span) -> Result<Expr, NoMemory>
     ensures { IfOk result (λ made. bare_expression made ≡ tree.and (bare_expression a) (bare_expression b) tt) }
 {
-    let kind = ExprKind::And(Box::new(alloc, a)?, Box::new(alloc, b)?);
+    let (a, b) = boxed(alloc, a, b)?;
+    let kind = ExprKind::And(a, b);
     Ok(Expr { kind, span })
 }
 
@@ -185,7 +196,8 @@ pub fn and(alloc: Global, a: Expr, b: Expr, span: Span) -> Result<Expr, NoMemory
 pub fn or(alloc: Global, a: Expr, b: Expr, span: Span) -> Result<Expr, NoMemory>
     ensures { IfOk result (λ made. bare_expression made ≡ tree.or (bare_expression a) (bare_expression b) tt) }
 {
-    let kind = ExprKind::Or(Box::new(alloc, a)?, Box::new(alloc, b)?);
+    let (a, b) = boxed(alloc, a, b)?;
+    let kind = ExprKind::Or(a, b);
     Ok(Expr { kind, span })
 }
 
@@ -200,8 +212,8 @@ pub fn conditional(
     ensures { IfOk result (λ made. bare_expression made
         ≡ tree.conditional (bare_expression test) (bare_expression a) (bare_expression b) tt) }
 {
-    let test = Box::new(alloc, test)?;
-    let kind = ExprKind::Cond(test, Box::new(alloc, a)?, Box::new(alloc, b)?);
+    let (a, b) = boxed(alloc, a, b)?;
+    let kind = ExprKind::Cond(Box::new(alloc, test)?, a, b);
     Ok(Expr { kind, span })
 }
 
@@ -224,7 +236,8 @@ pub fn assign(
 pub fn comma(alloc: Global, a: Expr, b: Expr, span: Span) -> Result<Expr, NoMemory>
     ensures { IfOk result (λ made. bare_expression made ≡ tree.comma (bare_expression a) (bare_expression b) tt) }
 {
-    let kind = ExprKind::Comma(Box::new(alloc, a)?, Box::new(alloc, b)?);
+    let (a, b) = boxed(alloc, a, b)?;
+    let kind = ExprKind::Comma(a, b);
     Ok(Expr { kind, span })
 }
 

@@ -32,7 +32,7 @@ impl Weaver {
         let name = nodes::name(x.share(self.alloc)?, span);
         let itself = nodes::unary(self.alloc, UnOp::Typeof, name, span)?;
         if self.tells(OpKind::TypeofName) {
-            hook_of_1(self.alloc, "Y", id, x.share(self.alloc)?, itself, span)
+            hook_of_1(self.alloc, "Y", id, x, itself, span)
         } else {
             Ok(itself)
         }
