@@ -22,7 +22,8 @@ labels_are n (x ∷ l) = ap (λ r. without_place x ∷ r) (labels_are n l)
 
 -- the two bodies that a hook may stand first in, by whether it does
 entered_is : (b : Bool) (id : ℕ) (l : Stmts) →
-    (if b then tree.more (tree.try (append_forest (first_if b (hook_statement (hook (codes "E") id no_exprs))) l) tree.absent
+    (if b then tree.more (tree.try (append_forest (first_if b (hook_statement (hook (codes "E") id no_exprs))) l)
+    tree.absent
     (tree.present (tree.branch_of (tree.more (hook_statement (hook (codes "L") (id + 1) no_exprs)) tree.end))) tt)
     tree.end else append_forest (first_if b (hook_statement (hook (codes "E") id no_exprs))) l)
     ≡ (if b then enter_and_leave id l else l)

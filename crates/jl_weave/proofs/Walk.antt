@@ -26,7 +26,8 @@ pub record Seen (A : Type 0) (x : Sort) : Type 0 where
 -- the first k items of the list are woven and stand in `made`, after others, and the rest takes the ids from `next` on
 pub record Halfway (chosen : Kinds) {A : Type 0} {x : Sort} (seen : Seen A x) (first : Forest (Unit {0}) x) (l : List A)
     (made : List A) (k from next : ℕ) : Type 0 where
-  pub so_far : append_forest (bare_all seen.bare made) (woven_forest chosen (forest_with_ids next (seen.all (drop k l))))
+  pub so_far : append_forest (bare_all seen.bare made)
+      (woven_forest chosen (forest_with_ids next (seen.all (drop k l))))
       ≡ append_forest first (woven_forest chosen (forest_with_ids from (seen.all l)))
   pub counted : next + forest_id_count (seen.all (drop k l)) ≡ from + forest_id_count (seen.all l)
 
