@@ -15,8 +15,8 @@ use Rattle.jl_effects.proofs.Chains.{and_then-assoc, row-and_then}
 use Rattle.jl_meaning.specs.Changes.{NewObject}
 use Rattle.jl_meaning.specs.FunctionObjects.{FunctionTable, ScriptFunction}
 use Rattle.jl_meaning.specs.Getting.{get}
-use Rattle.jl_meaning.specs.Parts.{fault_of, give, continue_with, gives, lift, new_object, throws, ◌>>=◌, Algorithm, Answer}
-use Rattle.jl_meaning.specs.Parts.{CallOf, Part}
+use Rattle.jl_meaning.specs.Parts.{fault_of, give, continue_with, gives, lift, new_object, throws, ◌>>=◌, Algorithm}
+use Rattle.jl_meaning.specs.Parts.{Answer, CallOf, Part}
 use Rattle.jl_meaning.specs.Parts as parts
 use Rattle.jl_meaning.specs.Store.{next_object, Store}
 use Rattle.jl_meaning.specs.forms.Functions.{call_script, construct_script, new_instance, prototype_for}
@@ -56,7 +56,8 @@ unfolding new_instance
 construct_is table f env call =
     ap (and_then (lift (prototype_of call))) (fun_ext each)
     ∙ sym (and_then-assoc (lift (prototype_of call)) (λ a. lift (continue_with made a)) (continue_with constructed))
-    ∙ ap (λ q. and_then q (continue_with constructed)) (sym (row-and_then CallOf fault_of (prototype_of call) (continue_with made)))
+    ∙ ap (λ q. and_then q (continue_with constructed))
+    (sym (row-and_then CallOf fault_of (prototype_of call) (continue_with made)))
   where
     made : Value → Algorithm Value
     made proto =
@@ -67,7 +68,8 @@ construct_is table f env call =
         call_script table f env (record call { this = object }) >>= λ v. give (if is_object v then v else object)
 
     each : (a : Answer Value)
-        → continue_with (with_prototype table f env call) a ≡ and_then (lift (continue_with made a)) (continue_with constructed)
+        → continue_with (with_prototype table f env call) a
+        ≡ and_then (lift (continue_with made a)) (continue_with constructed)
     each (gives proto) = refl
     each (throws v) = refl
 

@@ -63,7 +63,8 @@ pub uncounted : (s : State) (p : Algorithm (Unit {0})) (v : Value) (q : Part Com
     → Completes s (and_then (lift p) (on_given (λ _. q))) t a
 uncounted s p v q t a leads = subst (λ r. Completes s r t a) same leads
   where
-    each : (b : Answer (Unit {0})) → and_then (lift (continue_with (λ _. give v) b)) (on_given (λ _. q)) ≡ on_given (λ _. q) b
+    each : (b : Answer (Unit {0})) → and_then (lift (continue_with (λ _. give v) b)) (on_given (λ _. q))
+        ≡ on_given (λ _. q) b
     each (gives u) = refl
     each (throws w) = refl
 
