@@ -51,9 +51,19 @@ CHAINS = [
 ]
 
 
-# Of these, 1,000 levels take more than 8 MB of stack as Rattle's own compiler builds the program, so the rows, which the
-# gate runs by both builds, have them at 200 alone.
-BUILT_ONCE = ("if(a){", "for(var a;;)", "for(;;)", "try{", "switch(a){case 0:")
+# Of these, 1,000 levels take more than 8 MB of stack as Rattle's own compiler builds the program. So the rows, which the
+# gate runs by both builds, have them at 200 levels and at so many; a brace may be opened twice as often.
+FEWER = {
+    "if(a)": 700,
+    "if(a);else ": 700,
+    "for(var a;;)": 700,
+    "for(;;)": 700,
+    "for(a in b)": 700,
+    "while(a)": 700,
+    "if(a){": 300,
+    "try{": 300,
+    "switch(a){case 0:": 300,
+}
 
 
 def row(limit, before, opening, opens, inside, link, links, closing, closes, accepted):
@@ -97,7 +107,10 @@ def rows(limits):
     for limit in limits:
         yield f"-- limit {limit}"
         yield from bracket_rows(limit)
-        yield from (line for line in chain_rows(limit) if limit == 200 or not line.split("|")[2] in BUILT_ONCE)
+        yield from (line for line in chain_rows(limit) if limit == 200 or line.split("|")[2] not in FEWER)
+    for limit in sorted({*FEWER.values()}):
+        yield f"-- limit {limit}"
+        yield from (line for line in chain_rows(limit) if FEWER.get(line.split("|")[2]) == limit)
 
 
 def runs(line, kilobytes):
