@@ -3,8 +3,8 @@
 
 `bench/depths.py --rows` writes the rows to standard output, each with the answer that is due by the height of its form.
 Without it, run at the top of the repository after `rt run` (or `rt run --backend rattle`) in crates/jl_parse_depths, it
-takes for each form at the limit the least stack, in kB, with which the program does not end by a signal, and what that is
-a level."""
+takes for each form at the limit the least stack, in kB, with which the program does not end by a signal, and what that
+is a level."""
 
 import os
 import resource
@@ -51,8 +51,9 @@ CHAINS = [
 ]
 
 
-# Of these, 1,000 levels take more than 8 MB of stack as Rattle's own compiler builds the program. So the rows, which the
-# gate runs by both builds, have them at 200 levels and at so many; a brace may be opened twice as often.
+# Of these, 1,000 levels take more than 8 MB of stack as Rattle's own compiler builds the program. So the rows, which
+# the gate runs by both builds, have them at 200 levels and at so many; a brace may be opened twice as often. At 1,000
+# the gate hands them to LLVM's build alone.
 FEWER = {
     "if(a)": 700,
     "if(a);else ": 700,
@@ -111,6 +112,11 @@ def rows(limits):
     for limit in sorted({*FEWER.values()}):
         yield f"-- limit {limit}"
         yield from (line for line in chain_rows(limit) if FEWER.get(line.split("|")[2]) == limit)
+
+
+def rows_built_once():
+    """The rows at the upper limit that the gate answers as LLVM builds the program alone (tools/deep_rows.py)."""
+    return [line for line in chain_rows(max(LIMITS)) if line.split("|")[2] in FEWER]
 
 
 def runs(line, kilobytes):

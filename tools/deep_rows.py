@@ -5,19 +5,22 @@ usage: tools/deep_rows.py [PROGRAM]      PROGRAM is ./jlint at the top where non
 
 The forms are those of bench/depths.py: those that stand in one another, and operands that go on, once in each kind of
 bracket. `exec`, which reads 1,000 levels, refuses 1,200 of each as Unreadable, whole and without its end; `check`,
-which reads 200, accepts 150 of those that are no higher, and refuses the others so. Ends with status 1 where a source
-is answered otherwise.
+which reads 200, accepts 150 of those that are no higher, and refuses the others so. Where jl_parse_depths is built, it
+is handed its rows at 1,000 levels that only LLVM's build of it answers. Ends with status 1 where a source is answered
+otherwise.
 """
 import os
+import subprocess
 import sys
 
 from rows import answer
 
 TOP = os.path.dirname(os.path.dirname(os.path.abspath(__file__)))
 sys.path.insert(0, os.path.join(TOP, 'bench'))
-from depths import BRACKETS, CHAINS, LINKS  # noqa: E402
+from depths import BRACKETS, CHAINS, LINKS, rows_built_once  # noqa: E402
 
 MANY, FEW, LIMIT = 1200, 150, 200
+PARSER = os.path.join(TOP, 'crates', 'jl_parse_depths', 'out', 'jl_parse_depths')
 REFUSED = b'jlint: refused Unreadable at '
 
 
@@ -63,6 +66,12 @@ def is_accepted(program, source):
     return answer(program, ['check'], source.encode()) == (0, b'jlint: accepted functions=%d\n' % functions)
 
 
+def is_parsed(row):
+    """Whether jl_parse_depths, as LLVM builds it, answers a row of its own as due."""
+    ran = subprocess.run([PARSER], input=row + '\n', text=True, capture_output=True, check=False)
+    return ran.returncode == 0 and ran.stdout == '1 rows, of which 0 are answered otherwise\n'
+
+
 def main():
     program = sys.argv[1] if len(sys.argv) > 1 else os.path.join(TOP, 'jlint')
     rows, differ = 0, 0
@@ -74,6 +83,8 @@ def main():
         low = height is not None and height <= LIMIT
         right = is_accepted(program, whole) if low else is_refused(program, 'check', whole)
         told.append((f'check of {FEW} of {name}', right))
+    if os.path.exists(PARSER):
+        told += [(f'jl_parse_depths of {row}', is_parsed(row)) for row in rows_built_once()]
     for row, right in told:
         rows += 1
         if not right:
