@@ -33,7 +33,8 @@ use Rattle.jl_state.specs.declared.algorithm_frame.Attributes.{Attributes}
 use Rattle.jl_state.specs.declared.algorithm_frame.WrittenBy.{WrittenBy}
 use Rattle.jl_state.specs.declared.state.State.{State}
 use Rattle.jl_algorithm.specs.inner.Lengths.{is_array_length}
-use Rattle.jl_algorithm.proofs.Chains.{bind_assoc, works_assoc}
+use Rattle.jl_meaning.proofs.Binds.{bind_assoc}
+use Rattle.jl_state.proofs.Chains.{works_assoc}
 use Rattle.jl_algorithm.proofs.Throwing.{works_left_out}
 
 -- numbers

@@ -1,4 +1,3 @@
-pub mod Chains
 pub mod Defined
 pub mod Deletes
 pub mod Found

@@ -18,7 +18,7 @@ use Rattle.jl_state.specs.declared.algorithm_frame.AlgorithmFrame.TheVariants as
 use Rattle.jl_state.specs.declared.algorithm_frame.Hint.{Hint}
 use Rattle.jl_state.specs.declared.algorithm_frame.Hint.TheVariants as hint
 use Rattle.jl_state.specs.declared.state.State.{State}
-use Rattle.jl_algorithm.proofs.Chains.{works_assoc}
+use Rattle.jl_state.proofs.Chains.{works_assoc}
 
 -- the method is got, and then tried
 pub works_method : (s u t : State) (object : ObjId) (h : Hint) (is_second : Bool) (a : Act)

@@ -21,7 +21,7 @@ use Rattle.jl_state.specs.declared.algorithm_frame.WrittenBy.TheVariants.{Builti
 use Rattle.jl_state.specs.declared.state.State.{State}
 use Rattle.jl_algorithm.specs.declared.putting.Way.{Way}
 use Rattle.jl_algorithm.specs.inner.Ways.{found_setter, put_so, way_of}
-use Rattle.jl_algorithm.proofs.Chains.{works_assoc}
+use Rattle.jl_state.proofs.Chains.{works_assoc}
 use Rattle.jl_algorithm.proofs.Throwing.{works_left_out}
 use Rattle.jl_algorithm.proofs.Ways.{way_is}
 

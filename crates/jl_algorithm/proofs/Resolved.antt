@@ -26,7 +26,7 @@ use Rattle.jl_state.specs.declared.act.Act.TheVariants as act
 use Rattle.jl_state.specs.declared.algorithm_frame.AlgorithmFrame.TheVariants as algorithm
 use Rattle.jl_state.specs.declared.state.State.{State}
 use Rattle.jl_state.proofs.Stores.{works_comes, works_thrown, IsStored}
-use Rattle.jl_algorithm.proofs.Chains.{works_assoc}
+use Rattle.jl_state.proofs.Chains.{works_assoc}
 use Rattle.jl_algorithm.proofs.Throwing.{works_not_defined}
 
 pub gets_name : (s : State) (env : ℕ) (x : Name) (r : Reference) (t : State) (a : Act)

@@ -98,7 +98,7 @@ fn define_length<'p>(
 }
 
 /// Whether a number is this count.
-fn is_count(n: Num, count: u32) -> bool
+pub fn is_count(n: Num, count: u32) -> bool
     ensures { result ≡ same_number (Some (pos count)) n }
 {
     match n.value() {

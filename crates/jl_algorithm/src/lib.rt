@@ -9,14 +9,16 @@ mod lengths;
 mod names;
 mod primitive;
 mod putting;
+mod values;
 
 pub use defining::define_own_property;
 pub use deleting::delete;
 pub use errors::throw_native;
 pub use getting::get;
-pub use lengths::{step_length_count, step_length_number};
+pub use lengths::{is_count, step_length_count, step_length_number};
 pub use names::{
     delete_name, get_name, get_value, put_name, put_value, step_type_of, type_of_name,
 };
 pub use primitive::{step_method, step_method_result, to_primitive};
-pub use putting::{plain_change, put};
+pub use putting::{plain_change, put, value_change};
+pub use values::is_nothing;

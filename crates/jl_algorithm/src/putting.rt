@@ -208,7 +208,7 @@ fn found_setter(property: &Option<Property<'_>>) -> Option<ObjId>
 }
 
 /// Another value is asked for.
-fn value_change(value: Value) -> Change
+pub fn value_change(value: Value) -> Change
     ensures { result ≡ value_change value }
 {
     Change {

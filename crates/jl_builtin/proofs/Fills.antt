@@ -31,7 +31,7 @@ use Rattle.jl_state.specs.Rest.{Works}
 use Rattle.jl_state.specs.Steps.{Took}
 use Rattle.jl_state.specs.declared.act.Act.{Act}
 use Rattle.jl_state.specs.declared.state.State.{State}
-use Rattle.jl_algorithm.proofs.Chains.{works_assoc}
+use Rattle.jl_state.proofs.Chains.{works_assoc}
 use Rattle.jl_builtin.proofs.FoundItems.{some_from, FoundFrom}
 use Rattle.jl_builtin.proofs.Waits.{length_is}
 

@@ -24,7 +24,7 @@ use Rattle.jl_state.specs.declared.act.Act.TheVariants as act
 use Rattle.jl_state.specs.declared.algorithm_frame.AlgorithmFrame.TheVariants as algorithm
 use Rattle.jl_state.specs.declared.state.State.{State}
 use Rattle.jl_state.proofs.Steps.{looks}
-use Rattle.jl_algorithm.proofs.Chains.{bind_assoc}
+use Rattle.jl_meaning.proofs.Binds.{bind_assoc}
 use Rattle.jl_operator.proofs.Operands.{chained, found, number_waits}
 
 -- lengths

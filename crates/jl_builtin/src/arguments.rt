@@ -2,7 +2,6 @@
 ghost use Rattle.std.specs.Prelude.{◌≡◌, codes, slice_index_or, IfOk};
 ghost use Rattle.jl_builtin.specs.Values.{is_undefined};
 ghost use Rattle.jl_meaning.specs.Errors.{throw_type_error};
-ghost use Rattle.jl_meaning.specs.Relations.{is_nothing};
 ghost use Rattle.jl_meaning.specs.builtins.Arguments.{need_function, need_object};
 ghost use Rattle.jl_store.specs.Answers.{ends_with};
 ghost use Rattle.jl_store.specs.Comes.{Comes};
@@ -28,13 +27,6 @@ pub fn is_undefined(v: &Value) -> bool
     ensures { result ≡ is_undefined v.now }
 {
     matches!(v, Value::Undefined)
-}
-
-/// Whether a value is undefined or null.
-pub fn is_nothing(v: &Value) -> bool
-    ensures { result ≡ is_nothing v.now }
-{
-    matches!(v, Value::Undefined | Value::Null)
 }
 
 /// The object that a value is. It throws a TypeError for any other value.

@@ -20,7 +20,7 @@ use std::alloc::Global;
 
 /// An element is defined that can be written, enumerated and configured, and nothing is done where that is rejected
 /// (15.4.5.1).
-#[tactic(auto, using(crate::proofs::IndexNames::elements))]
+#[tactic(auto, using(jl_store::proofs::PropertyChanges::elements))]
 pub fn add_index(
     alloc: Global,
     store: &mut Store,

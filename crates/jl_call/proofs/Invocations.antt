@@ -23,7 +23,7 @@ use Rattle.jl_state.specs.declared.act.Invocation.{Invocation}
 use Rattle.jl_state.specs.declared.state.State.{State}
 use Rattle.jl_state.proofs.Steps.{gives_noted}
 use Rattle.jl_call.specs.inner.Invoked.{function_found, invoke_function}
-use Rattle.jl_call.proofs.Chains.{gives_looked}
+use Rattle.jl_state.proofs.Chains.{gives_looked}
 
 abbrev given_or_thrown : (by_new : Bool) → Option ObjId → Algorithm ObjId
 given_or_thrown by_new (Some f) = give f

@@ -1,4 +1,3 @@
-pub mod Chains
 pub mod Closings
 pub mod Entries
 pub mod Invocations

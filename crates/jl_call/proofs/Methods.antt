@@ -20,7 +20,7 @@ use Rattle.jl_state.specs.declared.frame.Here.{Here}
 use Rattle.jl_state.specs.declared.state.State.{State}
 use Rattle.jl_state.specs.declared.value_frame.KeyFor.TheVariants as key_for
 use Rattle.jl_state.specs.declared.value_frame.ValueFrame.TheVariants as waiting
-use Rattle.jl_call.proofs.Chains.{gives_assoc}
+use Rattle.jl_state.proofs.Chains.{gives_assoc}
 
 module _ (s t : State) (a : Act) (args : Bor (List Expr)) (here : Here) where
   abbrev values : Part (Answer (List Value))

@@ -35,7 +35,8 @@ use Rattle.jl_state.specs.declared.value_frame.KeyFor.{KeyFor}
 use Rattle.jl_state.specs.declared.value_frame.KeyFor.TheVariants as key_for
 use Rattle.jl_state.specs.declared.act.Act.{Act}
 use Rattle.jl_state.specs.declared.state.State.{State}
-use Rattle.jl_call.proofs.Chains.{bind_assoc, gives_assoc}
+use Rattle.jl_meaning.proofs.Binds.{bind_assoc}
+use Rattle.jl_state.proofs.Chains.{gives_assoc}
 
 module _ (s t : State) (a : Act) (id : ℕ) (vs : List Value) (k : Pending → Part (Answer Value)) where
   abbrev named : (Name → Part (Answer Value)) → Part (Answer Value)

@@ -10,7 +10,7 @@ use Rattle.jl_state.specs.Trees.{plain, plain_forest}
 use Rattle.jl_state.specs.Words.{table_of}
 use Rattle.jl_state.specs.declared.act.Act.{Act}
 use Rattle.jl_state.specs.declared.state.State.{State}
-use Rattle.jl_call.proofs.Chains.{gives_assoc}
+use Rattle.jl_state.proofs.Chains.{gives_assoc}
 
 module _ (s t : State) (a : Act) (so_far : List Value) (items : List Expr) (c : Context)
     (k : List Value → Part (Answer Value)) where

@@ -22,7 +22,7 @@ use Rattle.jl_state.specs.declared.frame.Frame.{Frame}
 use Rattle.jl_state.specs.declared.frame.Frame.TheVariants as frame
 use Rattle.jl_state.specs.declared.frame.ToldFrame.{ToldFrame}
 use Rattle.jl_state.specs.declared.state.State.{State}
-use Rattle.jl_call.proofs.Chains.{gives_lifted}
+use Rattle.jl_state.proofs.Chains.{gives_lifted}
 
 -- an algorithm is done, and then a value given
 pub gives_then : {A : Type 0} (s : State) (p : Algorithm A) (v : Value) (t : State) (a : Act)

@@ -24,7 +24,7 @@ use Rattle.jl_state.specs.declared.act.Act.TheVariants as act
 use Rattle.jl_state.specs.declared.hook.HookId.{HookId}
 use Rattle.jl_state.specs.declared.state.State.{State}
 use Rattle.jl_state.specs.declared.value_frame.ValueFrame.TheVariants as waiting
-use Rattle.jl_call.proofs.Chains.{bind_assoc, lift_bind}
+use Rattle.jl_meaning.proofs.Binds.{bind_assoc, lift_bind}
 
 -- operators other than `++` and `--`
 

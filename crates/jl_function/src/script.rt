@@ -5,7 +5,6 @@ ghost use Rattle.jl_effects.specs.Running.{Ends};
 ghost use Rattle.jl_function.specs.inner.Entered.{body_result, call_if_known, construct_if_known, this_as_object};
 ghost use Rattle.jl_meaning.specs.Jobs.{begin_known};
 ghost use Rattle.jl_meaning.specs.Parts.{gives};
-ghost use Rattle.jl_meaning.specs.Relations.{is_nothing};
 ghost use Rattle.jl_meaning.specs.forms.Functions.{enter_function, function_context, prototype_for, this_within};
 ghost use Rattle.jl_state.specs.Rank.{Falls};
 ghost use Rattle.jl_state.specs.Rest.{Gives};
@@ -16,7 +15,7 @@ ghost use Rattle.jl_store.specs.Answers.{ends_with};
 ghost use Rattle.jl_store.specs.Comes.{Comes};
 ghost use Rattle.jl_value.specs.declared.value.Value.{Value as AnyValue};
 
-use jl_algorithm::get;
+use jl_algorithm::{get, is_nothing};
 use jl_ast::Function;
 use jl_heap::Inner;
 use jl_state::{Act, Call, Frame, Here, Invocation, ScriptFunction, State, ValueFrame};
@@ -25,12 +24,6 @@ use jl_store::{Answer, Store, word};
 use jl_text::{List, NoMemory};
 use jl_value::{Class, Completion, ObjId, Value, share};
 use std::alloc::Global;
-
-fn is_nothing(v: &Value) -> bool
-    ensures { result ≡ is_nothing v.now }
-{
-    matches!(v, Value::Undefined | Value::Null)
-}
 
 /// What `this` becomes in a function that is strict or not (10.4.3).
 #[tactic(auto, unfolding(jl_meaning::specs::forms::Functions::this_within))]

@@ -21,7 +21,8 @@ use Rattle.jl_state.specs.Rest.{Works}
 use Rattle.jl_state.specs.declared.act.Act.{Act}
 use Rattle.jl_state.specs.declared.state.State.{State}
 use Rattle.jl_state.proofs.Stores.{works_comes, IsStored}
-use Rattle.jl_algorithm.proofs.Chains.{bind_assoc, works_assoc}
+use Rattle.jl_meaning.proofs.Binds.{bind_assoc}
+use Rattle.jl_state.proofs.Chains.{works_assoc}
 use Rattle.jl_lib_array.specs.inner.Rows.{concat_on}
 
 module _ (s t : State) (a : Act) (o : ObjId) (n : ℕ) (v : Value) (items : List Value) (from : ℕ) where

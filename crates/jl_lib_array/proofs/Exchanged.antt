@@ -19,7 +19,8 @@ use Rattle.jl_state.specs.Steps.{RanOut, Took}
 use Rattle.jl_state.specs.declared.act.Act.{Act}
 use Rattle.jl_state.specs.declared.act.Act.TheVariants as act
 use Rattle.jl_state.specs.declared.state.State.{State}
-use Rattle.jl_algorithm.proofs.Chains.{bind_assoc, works_assoc}
+use Rattle.jl_meaning.proofs.Binds.{bind_assoc}
+use Rattle.jl_state.proofs.Chains.{works_assoc}
 use Rattle.jl_lib_array.proofs.Turns.{upward_ends, upward_spent, upward_takes}
 
 module _ (o : ObjId) (lower upper : ℕ) (k : Unit {0} → Algorithm Value) where

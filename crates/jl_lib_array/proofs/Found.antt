@@ -7,7 +7,7 @@ use Rattle.jl_meaning.specs.builtins.Elements.{element, get_index, has_index}
 use Rattle.jl_state.specs.Rest.{Works}
 use Rattle.jl_state.specs.declared.act.Act.{Act}
 use Rattle.jl_state.specs.declared.state.State.{State}
-use Rattle.jl_algorithm.proofs.Chains.{works_assoc}
+use Rattle.jl_state.proofs.Chains.{works_assoc}
 use Rattle.jl_builtin.proofs.Waits as waits
 
 module _ {A : Type 0} (s u : State) (a : Act) (o : ObjId) (i : ℕ) (f : Option Value → Algorithm A)

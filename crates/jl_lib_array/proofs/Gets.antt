@@ -12,7 +12,7 @@ use Rattle.jl_meaning.specs.builtins.Elements.{get_length}
 use Rattle.jl_state.specs.Rest.{Works}
 use Rattle.jl_state.specs.declared.act.Act.{Act}
 use Rattle.jl_state.specs.declared.state.State.{State}
-use Rattle.jl_algorithm.proofs.Chains.{works_assoc}
+use Rattle.jl_state.proofs.Chains.{works_assoc}
 use Rattle.jl_builtin.proofs.Waits.{length_is}
 
 -- a property is got by its name, for which a function waits

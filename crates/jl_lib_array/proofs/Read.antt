@@ -18,7 +18,7 @@ use Rattle.jl_state.specs.Steps.{RanOut, Took}
 use Rattle.jl_state.specs.declared.act.Act.{Act}
 use Rattle.jl_state.specs.declared.act.Act.TheVariants as act
 use Rattle.jl_state.specs.declared.state.State.{State}
-use Rattle.jl_algorithm.proofs.Chains.{bind_assoc}
+use Rattle.jl_meaning.proofs.Binds.{bind_assoc}
 use Rattle.jl_builtin.proofs.Conversions.{string_converts}
 use Rattle.jl_lib_array.proofs.Found.{element_missing, element_there}
 use Rattle.jl_lib_array.proofs.Turns.{upward_ends, upward_spent, upward_takes}

@@ -18,7 +18,8 @@ use Rattle.jl_state.specs.declared.act.Act.{Act}
 use Rattle.jl_state.specs.declared.act.Act.TheVariants as act
 use Rattle.jl_state.specs.declared.algorithm_frame.AlgorithmFrame.TheVariants as algorithm
 use Rattle.jl_state.specs.declared.state.State.{State}
-use Rattle.jl_algorithm.proofs.Chains.{bind_assoc, works_assoc}
+use Rattle.jl_meaning.proofs.Binds.{bind_assoc}
+use Rattle.jl_state.proofs.Chains.{works_assoc}
 
 pub one_more : (n : ℕ) → (n ≡ 0 → ⊥) → suc (n - 1) ≡ n
 one_more zero some = absurd (some refl)

@@ -9,7 +9,8 @@ ghost use Rattle.jl_state.specs.Rank.{Falls};
 ghost use Rattle.jl_state.specs.Rest.{Works};
 
 use crate::frames::{begin_turn, get_for, sum};
-use jl_builtin::{argument, give_text, is_nothing, is_undefined, wait_for_string, with_units};
+use jl_algorithm::is_nothing;
+use jl_builtin::{argument, give_text, is_undefined, wait_for_string, with_units};
 use jl_operator::text_of;
 use jl_progress::{ArrayProgress, Joining, LengthFunction, Progress};
 use jl_state::{Act, State};

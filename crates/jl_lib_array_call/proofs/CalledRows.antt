@@ -31,7 +31,7 @@ use Rattle.jl_progress.specs.declared.array_call.WalkFor.TheVariants as walk_for
 use Rattle.jl_state.specs.Rest.{Works}
 use Rattle.jl_state.specs.declared.act.Act.{Act}
 use Rattle.jl_state.specs.declared.state.State.{State}
-use Rattle.jl_algorithm.proofs.Chains.{bind_assoc}
+use Rattle.jl_meaning.proofs.Binds.{bind_assoc}
 use Rattle.jl_lib_array_call.specs.Rows.{is_array_call, length_call, purpose_of}
 
 -- those that go through the elements

@@ -2,7 +2,6 @@
 use Rattle.std.proofs.Common.{◌≡◌, ◌<◌, ◌+◌, ◌∙◌, ◌∷◌, [], ap, arith, codes, drop, false, get_or, length, pos, refl}
 use Rattle.std.proofs.Common.{subst, suc, sym}
 use Rattle.std.proofs.Common.{add-one, drop-cons, true, Bool, List, None, Option, Some, ℕ}
-use Rattle.std.specs.Option.{option_map_or}
 use Rattle.std.specs.Prelude.{if◌then◌else◌}
 use Rattle.jl_num.specs.Bits.{uint32_of}
 use Rattle.jl_num.specs.Number.{Number}
@@ -11,9 +10,8 @@ use Rattle.jl_value.specs.declared.error_kind.ErrorKind.TheVariants.{RangeError}
 use Rattle.jl_value.specs.declared.object.ObjId.{ObjId}
 use Rattle.jl_value.specs.declared.value.Value.{Value}
 use Rattle.jl_value.specs.declared.value.Value.TheVariants as value
-use Rattle.jl_conv.specs.Conversions.{is_object}
-use Rattle.jl_heap.specs.Define.{length_name, IsOneKind}
-use Rattle.jl_heap.specs.Objects.{Name, Objects}
+use Rattle.jl_heap.specs.Define.{length_name}
+use Rattle.jl_heap.specs.Objects.{Name}
 use Rattle.jl_heap.specs.declared.property.Change.{Change}
 use Rattle.jl_effects.specs.Running.{Ends, Fails}
 use Rattle.jl_meaning.specs.Defining.{define_own_property, value_change}
@@ -28,11 +26,11 @@ use Rattle.jl_meaning.specs.builtins.Elements.{add_index, array_of_length}
 use Rattle.jl_meaning.specs.forms.Literals.{new_array}
 use Rattle.jl_store.specs.Answers.{fault_seen, finish_of}
 use Rattle.jl_store.specs.Comes.{Comes}
-use Rattle.jl_store.specs.Defining.{LengthIsPrimitive}
 use Rattle.jl_store.specs.declared.answer.AlgorithmFault.{AlgorithmFault}
 use Rattle.jl_store.specs.declared.answer.Finished.{Finished}
 use Rattle.jl_store.specs.declared.answer.Finished.TheVariants as ended
 use Rattle.jl_store.proofs.Chains.{comes_failed, comes_on, comes_thrown}
+use Rattle.jl_store.proofs.PropertyChanges.{puts_length}
 use Rattle.jl_store.proofs.Loops.{all_done, next_done, next_failed, next_thrown, none_left, Leaves}
 use Rattle.jl_store.proofs.Steps.{comes_to}
 use Rattle.jl_state.specs.Rest.{Works}
@@ -114,18 +112,6 @@ tests_array s c v b is truth =
     looks s (λ store. give_truth (is_array_value store.heap (argument c 0))) (give_truth b) s (act.Give (value.Bool b))
     (ap give_truth (truth ∙ ap (is_array_value s.store.heap) is)) (record { is = λ kept told. refl })
 
-length_is : length_name ≡ codes "length"
-unfolding length_name
-length_is = refl
-
-pub one_kind_value : (v : Value) (change : Change) → change ≡ value_change v → IsOneKind change
-one_kind_value v change is = subst IsOneKind (sym is) refl
-
-pub number_given : (heap : Objects) (address : ℕ) (x : Name) (n : Number) (change : Change)
-    → change ≡ value_change (value.Num n) → LengthIsPrimitive heap address x change
-number_given heap address x n change is array_there same =
-    ap (λ (c : Change). option_map_or is_object c.value false) is
-
 -- an array gets its length
 module _ (from made to : Store) (a : ObjId) (n : Number) (x : Name) (change : Change)
     (new : Comes new_array from made (Ends (gives a))) (name_is : x ≡ codes "length")
@@ -136,10 +122,7 @@ module _ (from made to : Store) (a : ObjId) (n : Number) (x : Name) (change : Ch
 
   puts : (end : Finished Bool) → answer ≡ end → Comes length_put made to (finish_of end)
   puts end is =
-      subst (λ (f : Finished Bool). Comes length_put made to (finish_of f)) is
-      (subst (λ y. Comes (define_own_property a y (value_change (value.Num n))) made to (finish_of answer))
-      (name_is ∙ sym length_is)
-      (subst (λ c. Comes (define_own_property a x c) made to (finish_of answer)) change_is comes))
+      puts_length a x (value.Num n) (value.Num n) change made to answer end name_is refl change_is is comes
 
   abbrev with_length : ObjId → Algorithm ObjId
   with_length id = define_own_property id length_name (value_change (value.Num n)) >>= λ _. give id

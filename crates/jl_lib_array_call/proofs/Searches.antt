@@ -21,7 +21,7 @@ use Rattle.jl_state.specs.Steps.{RanOut, Took}
 use Rattle.jl_state.specs.declared.act.Act.{Act}
 use Rattle.jl_state.specs.declared.act.Act.TheVariants as act
 use Rattle.jl_state.specs.declared.state.State.{State}
-use Rattle.jl_algorithm.proofs.Chains.{bind_assoc}
+use Rattle.jl_meaning.proofs.Binds.{bind_assoc}
 use Rattle.jl_lib_array_call.specs.inner.Places.{index_at}
 use Rattle.jl_lib_array_call.proofs.Turns.{first_downward_turn, first_upward_over, first_upward_turn}
 

@@ -1,7 +1,6 @@
 //! Array and Array.isArray (15.4.1 to 15.4.3).
 ghost use Rattle.std.specs.Prelude.{◌≡◌, pos, IfOk, Some};
 ghost use Rattle.jl_lib_array_call.specs.inner.Arrays.{number_in, only_number};
-ghost use Rattle.jl_meaning.specs.Defining.{value_change};
 ghost use Rattle.jl_meaning.specs.builtins.Array.{add_all, array_by, array_is_array, array_of_one, array_of_values};
 ghost use Rattle.jl_meaning.specs.builtins.Array.{is_array_value};
 ghost use Rattle.jl_meaning.specs.builtins.Elements.{array_of_length};
@@ -14,9 +13,8 @@ ghost use Rattle.jl_store.specs.Comes.{Comes};
 ghost use Rattle.jl_value.specs.Same.{same_number};
 ghost use Rattle.jl_value.specs.declared.value.Value.TheVariants as value;
 
-use jl_algorithm::throw_native;
+use jl_algorithm::{is_count, throw_native, value_change};
 use jl_builtin::{add_index, argument, fault_of};
-use jl_heap::Change;
 use jl_num::{Num, to_uint32};
 use jl_state::{Act, Invocation, State};
 use jl_store::{Finished, Store, word};
@@ -83,16 +81,6 @@ fn is_length(n: Num) -> bool
     is_count(n, to_uint32(n))
 }
 
-/// Whether a number is this count.
-fn is_count(n: Num, count: u32) -> bool
-    ensures { result ≡ same_number (Some (pos count)) n }
-{
-    match n.value() {
-        Some(n) => i64::from(count) == n,
-        None => false,
-    }
-}
-
 /// An array with these elements (15.4.2.1).
 fn array_of_values<'p>(
     alloc: Global,
@@ -148,20 +136,6 @@ pub(crate) fn array_of_length(
         Finished::Gives(_) => Ok(Finished::Gives(array)),
         Finished::Throws(thrown) => Ok(Finished::Throws(thrown)),
         Finished::Fails(fault) => Ok(Finished::Fails(fault)),
-    }
-}
-
-/// Another value is asked for.
-fn value_change(value: Value) -> Change
-    ensures { result ≡ value_change value }
-{
-    Change {
-        value: Some(value),
-        writable: None,
-        get: None,
-        set: None,
-        enumerable: None,
-        configurable: None,
     }
 }
 

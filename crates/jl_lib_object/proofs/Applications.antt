@@ -30,7 +30,7 @@ use Rattle.jl_state.specs.declared.act.Act.{Act}
 use Rattle.jl_state.specs.declared.act.Act.TheVariants as act
 use Rattle.jl_state.specs.declared.algorithm_frame.AlgorithmFrame.TheVariants as algorithm
 use Rattle.jl_state.specs.declared.state.State.{State}
-use Rattle.jl_algorithm.proofs.Chains.{bind_assoc}
+use Rattle.jl_meaning.proofs.Binds.{bind_assoc}
 use Rattle.jl_operator.proofs.Operands.{number_waits}
 use Rattle.jl_builtin.proofs.Waits.{length_is}
 use Rattle.jl_lib_object.specs.inner.Calls.{apply_by, apply_element, apply_list}

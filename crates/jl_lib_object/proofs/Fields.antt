@@ -38,7 +38,7 @@ use Rattle.jl_state.specs.Rest.{Works}
 use Rattle.jl_state.specs.declared.act.Act.{Act}
 use Rattle.jl_state.specs.declared.act.Act.TheVariants as act
 use Rattle.jl_state.specs.declared.state.State.{State}
-use Rattle.jl_algorithm.proofs.Chains.{bind_assoc}
+use Rattle.jl_meaning.proofs.Binds.{bind_assoc}
 use Rattle.jl_algorithm.proofs.Throwing.{works_left_out}
 use Rattle.jl_builtin.specs.Values.{is_undefined}
 use Rattle.jl_lib_object.specs.inner.Fields.{change_from, field_name, function_or_undefined, next_field, with_field}

@@ -33,7 +33,7 @@ use Rattle.jl_state.specs.declared.act.Act.TheVariants as act
 use Rattle.jl_state.specs.declared.algorithm_frame.WrittenBy.TheVariants.{Builtin}
 use Rattle.jl_state.specs.declared.state.State.{State}
 use Rattle.jl_state.proofs.Stores.{works_comes}
-use Rattle.jl_algorithm.proofs.Chains.{bind_assoc}
+use Rattle.jl_meaning.proofs.Binds.{bind_assoc}
 use Rattle.jl_lib_object.specs.inner.Parts.{restrict_and_give, stays_writable, test_and_give, test_one}
 use Rattle.jl_lib_object.proofs.Definitions.{defines}
 

@@ -10,10 +10,8 @@ ghost use Rattle.jl_state.specs.Rest.{Works};
 ghost use Rattle.jl_state.specs.Words.{call_of};
 
 use crate::waiting::{argument_of, wait_function};
-use jl_algorithm::{get, to_primitive};
-use jl_builtin::{
-    get_index, is_nothing, length_of, need_function, need_object, number_of_primitive, rest_of,
-};
+use jl_algorithm::{get, is_nothing, to_primitive};
+use jl_builtin::{get_index, length_of, need_function, need_object, number_of_primitive, rest_of};
 use jl_progress::FunctionProgress;
 use jl_state::{Act, Hint, Invocation, State};
 use jl_store::{Answer, word};

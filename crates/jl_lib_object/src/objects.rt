@@ -13,7 +13,7 @@ ghost use Rattle.jl_store.specs.Comes.{Comes};
 ghost use Rattle.jl_value.specs.Texts.{class_name};
 
 use crate::waiting::{argument_of, first_object};
-use jl_builtin::is_nothing;
+use jl_algorithm::is_nothing;
 use jl_state::{Act, Invocation, State};
 use jl_store::{Answer, Store, word};
 use jl_text::NoMemory;

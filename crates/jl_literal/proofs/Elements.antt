@@ -11,7 +11,7 @@ use Rattle.jl_value.specs.declared.object.ObjId.{ObjId}
 use Rattle.jl_value.specs.declared.value.Value.{Value}
 use Rattle.jl_meaning.specs.Expressions.{evaluate, fill}
 use Rattle.jl_meaning.specs.FunctionObjects.{FunctionTable}
-use Rattle.jl_meaning.specs.Parts.{fault_of, gives, lift, throws, ◌>>=◌, Context}
+use Rattle.jl_meaning.specs.Parts.{fault_of, gives, lift, ◌>>=◌, Context}
 use Rattle.jl_meaning.specs.Parts as parts
 use Rattle.jl_meaning.specs.forms.Literals.{end_array, new_array, put_element}
 use Rattle.jl_effects.specs.Running.{Ends}
@@ -35,7 +35,7 @@ use Rattle.jl_literal.specs.Filling.{array_from}
 use Rattle.jl_literal.specs.inner.Elements.{after_holes, next_seen}
 use Rattle.jl_literal.specs.declared.array_literals.Next.{Next}
 use Rattle.jl_literal.specs.declared.array_literals.Next.TheVariants.{Element, Length}
-use Rattle.jl_literal.proofs.Chains.{part_assoc_twice}
+use Rattle.jl_literal.proofs.Chains.{bind_assoc_twice}
 
 -- holes are passed over
 passed : (table : FunctionTable) (l : tree.Forest ℕ tree.item) (array : ObjId) (k : ℕ) (c : Context)
@@ -55,7 +55,7 @@ element_before : (table : FunctionTable) (l m : tree.Forest ℕ tree.item) (e : 
     → (evaluate table e c >>= λ v. lift (put_element array n v) >>= λ _. array_from table m array (n + 1) c)
     ≡ array_from table l array k c
 element_before table l m e array k n c is =
-    sym (part_assoc_twice (evaluate table e c) (λ v. lift (put_element array n v)) (fill table m array (n + 1) c)
+    sym (bind_assoc_twice (evaluate table e c) (λ v. lift (put_element array n v)) (fill table m array (n + 1) c)
     (λ length. end_array 0 array length))
     ∙ filled_from table l (tree.more (tree.filled e) m) array k n c is
 

@@ -35,7 +35,8 @@ use Rattle.jl_state.specs.declared.state.State.{State}
 use Rattle.jl_state.specs.declared.value_frame.ValueFrame.TheVariants as waiting
 use Rattle.jl_state.proofs.Stores.{gives_comes, IsStored}
 use Rattle.jl_literal.specs.Filling.{object_from}
-use Rattle.jl_literal.proofs.Chains.{lifted_then, part_assoc}
+use Rattle.jl_literal.proofs.Chains.{lifted_then}
+use Rattle.jl_meaning.proofs.Binds.{bind_assoc}
 
 -- the properties that are left, by the first of them
 module _ (s t : State) (a : Act) (l : List Entry) (object : ObjId) (here : Here) where
@@ -51,7 +52,7 @@ module _ (s t : State) (a : Act) (l : List Entry) (object : ObjId) (here : Here)
   object_goes_on x m is leads =
       subst (λ (m : List Entry). Gives s (equipped m) t a) (sym is)
       (subst (λ p. Gives s p t a)
-      (sym (part_assoc (equip_one (table_of s.functions) (plain (view_entry x)) object (context_of s.calls here))
+      (sym (bind_assoc (equip_one (table_of s.functions) (plain (view_entry x)) object (context_of s.calls here))
       (λ _. equip (table_of s.functions) (plain_forest (view_entries m)) object (context_of s.calls here))
       (λ _. literal_of of_object 0 (value.Obj object)))) leads)
 
@@ -61,7 +62,7 @@ pub value_first : (table : FunctionTable) (e : parts.Expr) (object : ObjId) (x :
     → (evaluate table e c >>= λ v. define_entry object x (plain_change v) >>= λ _. q)
     ≡ (evaluate table e c >>= (λ v. define_entry object x (plain_change v)) >>= λ _. q)
 value_first table e object x c q =
-    sym (part_assoc (evaluate table e c) (λ v. define_entry object x (plain_change v)) (λ _. q))
+    sym (bind_assoc (evaluate table e c) (λ v. define_entry object x (plain_change v)) (λ _. q))
 
 -- an object literal begins with its properties
 pub object_begun : (s t : State) → IsStored s t → (object : ObjId) (entries : List Entry) (here : Here) (u : State)
@@ -92,7 +93,7 @@ module _ (s t : State) (stored : IsStored s t) (object : ObjId) (x : Ident) (f :
       >>= (λ g. define_entry object x.text (defined g)) >>= λ _. left s) u a
   accessor_first defined is leads =
       subst (λ p. Gives s p u a)
-      (sym (part_assoc (lift (make_function here.strict here.env (plain_function f)))
+      (sym (bind_assoc (lift (make_function here.strict here.env (plain_function f)))
       (λ g. define_entry object x.text (defined g)) (λ _. left s)))
       (gives_comes s t stored (make_function here.strict here.env (plain_function f)) made
       (λ g. define_entry object x.text (defined g) >>= λ _. left s) u a comes

@@ -1,21 +1,18 @@
 -- Elements and lengths of array literals, as properties.
-use Rattle.std.proofs.Common.{◌≡◌, ◌∙◌, ℕ, Bool, codes, false, refl, sym, ap, subst}
-use Rattle.std.specs.Option.{option_map_or}
+use Rattle.std.proofs.Common.{◌≡◌, ℕ, Bool, codes, refl, sym, subst}
 use Rattle.std.specs.Prelude.{Option}
-use Rattle.std.specs.Str.{bytes_eq}
 use Rattle.jl_value.specs.declared.ending.Completion.TheVariants as completion
 use Rattle.jl_value.specs.declared.ending.Fault.{Fault}
 use Rattle.jl_value.specs.declared.object.ObjId.{ObjId}
 use Rattle.jl_value.specs.declared.value.Value.{Value}
 use Rattle.jl_value.specs.declared.value.Value.TheVariants as value
-use Rattle.jl_conv.specs.Conversions.{is_object}
 use Rattle.jl_heap.specs.Define.{length_name, IsOneKind}
 use Rattle.jl_heap.specs.Objects.{Name, Objects}
 use Rattle.jl_heap.specs.declared.property.Change.{Change}
 use Rattle.jl_effects.specs.Running.{Finish}
 use Rattle.jl_meaning.specs.Defining.{define_own_property, plain_change, value_change}
 use Rattle.jl_meaning.specs.FunctionObjects.{whole}
-use Rattle.jl_meaning.specs.Parts.{fault_of, lift, ◌>>=◌, Part}
+use Rattle.jl_meaning.specs.Parts.{fault_of, Part}
 use Rattle.jl_meaning.specs.Parts as parts
 use Rattle.jl_meaning.specs.Store.{Store}
 use Rattle.jl_meaning.specs.forms.Literals.{accessor_change, end_array, index_name, literal_of, of_array, put_element}
@@ -25,37 +22,21 @@ use Rattle.jl_store.specs.Defining.{LengthIsPrimitive}
 use Rattle.jl_store.specs.declared.answer.AlgorithmFault.{AlgorithmFault}
 use Rattle.jl_store.specs.declared.answer.Finished.{Finished}
 use Rattle.jl_store.specs.declared.answer.Finished.TheVariants as ended
+use Rattle.jl_store.proofs.PropertyChanges.{primitive_given, puts_length}
 use Rattle.jl_state.specs.Rest.{Gives}
 use Rattle.jl_state.specs.declared.act.Act.{Act}
 use Rattle.jl_state.specs.declared.act.Act.TheVariants as act
 use Rattle.jl_state.specs.declared.state.State.{State}
 use Rattle.jl_state.proofs.Stores.{gives_comes, gives_failed, gives_thrown, IsStored}
-use Rattle.jl_literal.proofs.IndexNames.{no_length}
-
--- changes of one kind
-
-pub one_kind_plain : (v : Value) (change : Change) → change ≡ plain_change v → IsOneKind change
-one_kind_plain v change is = subst IsOneKind (sym is) refl
-
-pub one_kind_value : (v : Value) (change : Change) → change ≡ value_change v → IsOneKind change
-one_kind_value v change is = subst IsOneKind (sym is) refl
 
 pub one_kind_accessor : (get set : Option (Option ObjId)) (change : Change) → change ≡ accessor_change get set
     → IsOneKind change
 one_kind_accessor get set change is = subst IsOneKind (sym is) refl
 
--- an element is no length, and a length is no object
-
-pub no_length_given : (heap : Objects) (address : ℕ) (index : ℕ) (x : Name) (change : Change) → x ≡ index_name index
-    → LengthIsPrimitive heap address x change
-no_length_given heap address index x change is array_there same =
-    let differ = ap (λ (y : Name). bytes_eq y length_name) is ∙ no_length index in
-    absurd (let no = sym same ∙ differ in cc)
-
+-- a length is no object
 pub primitive_length : (heap : Objects) (address n : ℕ) (x : Name) (w : Value) (change : Change) → w ≡ whole n
     → change ≡ value_change w → LengthIsPrimitive heap address x change
-primitive_length heap address n x w change w_is is array_there same =
-    ap (λ (c : Change). option_map_or is_object c.value false) is ∙ ap is_object w_is
+primitive_length heap address n x w change = primitive_given heap address x (whole n) w change refl
 
 -- an element is put
 pub puts_element : (array : ObjId) (index : ℕ) (v : Value) (x : Name) (change : Change) (from to : Store)
@@ -65,10 +46,6 @@ unfolding put_element
 puts_element array index v x change from to end name_is change_is comes =
     subst (λ y. Comes (define_own_property array y (plain_change v)) from to end) name_is
     (subst (λ c. Comes (define_own_property array x c) from to end) change_is comes)
-
-length_is : length_name ≡ codes "length"
-unfolding length_name
-length_is = refl
 
 -- an array that has been filled gets its length
 module _ (s t : State) (stored : IsStored s t) (array : ObjId) (n : ℕ) (x : Name) (w : Value) (change : Change)
@@ -82,11 +59,7 @@ module _ (s t : State) (stored : IsStored s t) (array : ObjId) (n : ℕ) (x : Na
 
   puts : (end : Finished Bool) → answer ≡ end → Comes length_put s.store t.store (finish_of end)
   puts end is =
-      subst (λ (f : Finished Bool). Comes length_put s.store t.store (finish_of f)) is
-      (subst (λ y. Comes (define_own_property array y (value_change (whole n))) s.store t.store (finish_of answer))
-      (name_is ∙ sym length_is)
-      (subst (λ m. Comes (define_own_property array x (value_change m)) s.store t.store (finish_of answer)) w_is
-      (subst (λ c. Comes (define_own_property array x c) s.store t.store (finish_of answer)) change_is comes)))
+      puts_length array x (whole n) w change s.store t.store answer end name_is w_is change_is is comes
 
   pub length_given : (done : Bool) (u : State) (a : Act) → answer ≡ ended.Gives done
       → Gives t (literal_of of_array 0 (value.Obj array)) u a → Gives s (end_array 0 array n) u a
@@ -105,9 +78,3 @@ module _ (s t : State) (stored : IsStored s t) (array : ObjId) (n : ℕ) (x : Na
   length_failed f g is fault_is =
       subst (λ h. Gives s (end_array 0 array n) t (act.Fault h)) (sym fault_is)
       (gives_failed s t stored length_put (fault_seen f) then_given (puts (ended.Fails f) is))
-
-pub ruleset elements = (no_length_given, one_kind_plain, puts_element)
-
-pub ruleset lengths = (primitive_length, one_kind_value)
-
-pub ruleset kinds = (one_kind_plain, one_kind_accessor)

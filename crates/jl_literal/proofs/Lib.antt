@@ -2,7 +2,5 @@ pub mod Chains
 pub mod Deciding
 pub mod Elements
 pub mod Entries
-pub mod IndexNames
 pub mod Lengths
 pub mod Made
-pub mod Spelled

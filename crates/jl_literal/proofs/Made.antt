@@ -29,7 +29,7 @@ use Rattle.jl_state.specs.declared.act.Act.{Act}
 use Rattle.jl_state.specs.declared.act.Act.TheVariants as act
 use Rattle.jl_state.specs.declared.state.State.{State}
 use Rattle.jl_state.proofs.Stores.{gives_comes, IsStored}
-use Rattle.jl_literal.proofs.Chains.{gives_look}
+use Rattle.jl_state.proofs.Chains.{gives_looked}
 
 abbrev outcome : Option Op → Value → Act
 outcome None v = act.Fault Misuse
@@ -44,7 +44,7 @@ noted : (s : State) (form : Option Op → Option Op) (v : Value) (o : Option Op)
     → Gives s (literal_of form 0 v) s (outcome o v)
 unfolding literal_of
 noted s form v o is =
-    gives_look s (λ store. note_or_misuse performs 0 v (form (literal_op store.heap v))) (note_or_misuse performs 0 v o)
+    gives_looked s (λ store. note_or_misuse performs 0 v (form (literal_op store.heap v))) (note_or_misuse performs 0 v o)
     s
     (outcome o v) (ap (note_or_misuse performs 0 v) (sym is)) (ended s v o)
 

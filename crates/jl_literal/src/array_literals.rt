@@ -3,7 +3,6 @@ ghost use Rattle.std.specs.Prelude.{◌+◌, ◌≡◌, IfOk};
 ghost use Rattle.jl_ast.specs.View.{view_items};
 ghost use Rattle.jl_effects.specs.Running.{Ends};
 ghost use Rattle.jl_meaning.specs.FunctionObjects.{whole};
-ghost use Rattle.jl_meaning.specs.Defining.{value_change};
 ghost use Rattle.jl_meaning.specs.Parts.{lift, ◌>>=◌ as ◌then◌};
 ghost use Rattle.jl_meaning.specs.Parts as parts;
 ghost use Rattle.jl_meaning.specs.forms.Literals.{end_array, index_name, new_array, put_element};
@@ -18,9 +17,8 @@ ghost use Rattle.jl_literal.specs.Filling.{array_from};
 ghost use Rattle.jl_literal.specs.inner.Elements.{after_holes, next_seen};
 
 use crate::literals::give_array;
-use jl_algorithm::plain_change;
+use jl_algorithm::{plain_change, value_change};
 use jl_ast::Expr;
-use jl_heap::Change;
 use jl_state::{Act, Here, Remaining, State, ValueFrame, split_first};
 use jl_store::{AlgorithmFault, Finished, Store, count, index_name, word};
 use jl_text::{List, NoMemory};
@@ -135,7 +133,7 @@ fn next_index(index: usize) -> Result<usize, NoMemory>
 }
 
 /// An element of an array literal.
-#[tactic(auto, using(crate::proofs::Lengths::elements))]
+#[tactic(auto, using(jl_store::proofs::PropertyChanges::elements, crate::proofs::Lengths::puts_element))]
 fn put_element(
     alloc: Global,
     store: &mut Store,
@@ -152,7 +150,7 @@ fn put_element(
 }
 
 /// An array that has been filled is given its length, and then it is given.
-#[tactic(auto, using(crate::proofs::Lengths::lengths))]
+#[tactic(auto, using(crate::proofs::Lengths::primitive_length, jl_store::proofs::PropertyChanges::one_kind_value))]
 fn end_array<'p>(
     alloc: Global,
     state: &mut State<'p>,
@@ -170,20 +168,6 @@ fn end_array<'p>(
         Finished::Gives(_) => Ok(give_array(&state.store, array)),
         Finished::Throws(thrown) => Ok(Act::Complete(Completion::Throw(thrown))),
         Finished::Fails(fault) => Ok(Act::Fault(fault_of(fault))),
-    }
-}
-
-/// Another value is asked for.
-fn value_change(value: Value) -> Change
-    ensures { result ≡ value_change value }
-{
-    Change {
-        value: Some(value),
-        writable: None,
-        get: None,
-        set: None,
-        enumerable: None,
-        configurable: None,
     }
 }
 

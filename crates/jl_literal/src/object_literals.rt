@@ -42,7 +42,7 @@ pub fn begin_object<'p>(
 }
 
 /// An object literal goes on with the value of a property.
-#[tactic(auto, using(crate::proofs::Lengths::kinds))]
+#[tactic(auto, using(crate::proofs::Lengths::one_kind_accessor, jl_store::proofs::PropertyChanges::one_kind_plain))]
 pub fn step_entry_value<'p>(
     alloc: Global,
     state: &mut State<'p>,
@@ -95,7 +95,7 @@ fn equip<'p>(
 }
 
 /// One property, and then those that are left.
-#[tactic(auto, using(crate::proofs::Lengths::kinds))]
+#[tactic(auto, using(crate::proofs::Lengths::one_kind_accessor, jl_store::proofs::PropertyChanges::one_kind_plain))]
 fn equip_one<'p>(
     alloc: Global,
     state: &mut State<'p>,

@@ -1,3 +1,4 @@
 mod SameTable
 mod KeptHooks
 mod Places
+pub mod Binds

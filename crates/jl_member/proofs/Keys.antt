@@ -33,7 +33,7 @@ use Rattle.jl_state.specs.declared.state.State.{State}
 use Rattle.jl_state.specs.declared.value_frame.KeyFor.{KeyFor}
 use Rattle.jl_state.specs.declared.value_frame.KeyFor.TheVariants as key_for
 use Rattle.jl_state.specs.declared.value_frame.ValueFrame.TheVariants as waiting
-use Rattle.jl_member.proofs.Binds.{bind_assoc, bind_same, lift_bind}
+use Rattle.jl_meaning.proofs.Binds.{bind_assoc, bind_same, lift_bind}
 
 -- a key is converted for a frame
 pub converts_key : (s t u : State) (purpose : KeyFor) (key : Value) (a : Act) → ValueWaits s (waiting.Key purpose) t

@@ -1,4 +1,3 @@
-pub mod Binds
 pub mod Deletes
 pub mod Gets
 pub mod Keys

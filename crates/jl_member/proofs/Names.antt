@@ -41,7 +41,8 @@ use Rattle.jl_state.specs.declared.state.State.{State}
 use Rattle.jl_state.specs.declared.value_frame.ValueFrame.TheVariants as waiting
 use Rattle.jl_state.proofs.Steps.{gives_noted, gives_works}
 use Rattle.jl_state.proofs.Stores.{gives_comes, gives_thrown, IsStored}
-use Rattle.jl_member.proofs.Binds.{bind_assoc, gives_lifted}
+use Rattle.jl_meaning.proofs.Binds.{bind_assoc}
+use Rattle.jl_state.proofs.Chains.{gives_lifted}
 use Rattle.jl_member.proofs.Quiet.{performed_after}
 
 -- the name of the object with the hooks ends the run

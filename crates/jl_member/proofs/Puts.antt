@@ -21,7 +21,7 @@ use Rattle.jl_state.specs.declared.frame.Frame.{Frame}
 use Rattle.jl_state.specs.declared.frame.Frame.TheVariants as frame
 use Rattle.jl_state.specs.declared.frame.ToldFrame.TheVariants as told
 use Rattle.jl_state.specs.declared.state.State.{State}
-use Rattle.jl_member.proofs.Binds.{gives_lifted}
+use Rattle.jl_state.proofs.Chains.{gives_lifted}
 use Rattle.jl_member.proofs.Quiet.{emits_so}
 
 -- by the script

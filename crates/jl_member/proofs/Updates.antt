@@ -24,7 +24,7 @@ use Rattle.jl_state.specs.declared.act.Act.TheVariants as act
 use Rattle.jl_state.specs.declared.state.State.{State}
 use Rattle.jl_state.specs.declared.value_frame.ValueFrame.{ValueFrame}
 use Rattle.jl_member.specs.inner.Nexts.{next_after, next_of, pair_from, pair_of}
-use Rattle.jl_member.proofs.Binds.{bind_assoc, bind_same, lift_bind}
+use Rattle.jl_meaning.proofs.Binds.{bind_assoc, bind_same, lift_bind}
 
 -- a primitive value as a number, the one after it, and what is done with both
 abbrev pub next_then : UnKind → Value → (Number → Value → Part (Answer Value)) → Part (Answer Value)

@@ -3,14 +3,14 @@ ghost use Rattle.std.specs.Prelude.{◌≡◌, ◌≤◌, false, true, not, if�
 ghost use Rattle.std.specs.Result.{result_ok};
 ghost use Rattle.jl_conv.specs.Comparisons.{loosely_equal, strictly_equal};
 ghost use Rattle.jl_conv.specs.Conversions.{is_object};
-ghost use Rattle.jl_meaning.specs.Relations.{abstract_equality, equality_of_object, give_truth, is_nothing, negate_if};
+ghost use Rattle.jl_meaning.specs.Relations.{abstract_equality, equality_of_object, give_truth, negate_if};
 ghost use Rattle.jl_meaning.specs.Relations.{primitive_equality};
 ghost use Rattle.jl_state.specs.AlgorithmFrames.{algorithm_after};
 ghost use Rattle.jl_state.specs.Rank.{rank_act, Falls};
 ghost use Rattle.jl_state.specs.Rest.{Works};
 ghost use Rattle.jl_state.specs.declared.state.State.{State as Machine};
 
-use jl_algorithm::to_primitive;
+use jl_algorithm::{is_nothing, to_primitive};
 use jl_conv::{primitive_equal, strict_equal};
 use jl_num::NumberOutside;
 use jl_state::{Act, AlgorithmFrame, Hint, State};
@@ -23,13 +23,6 @@ pub(crate) fn is_object(v: &Value) -> bool
     ensures { result ≡ is_object v.now }
 {
     matches!(v, Value::Obj(_))
-}
-
-/// Whether a value is undefined or null.
-fn is_nothing(v: &Value) -> bool
-    ensures { result ≡ is_nothing v.now }
-{
-    matches!(v, Value::Undefined | Value::Null)
 }
 
 /// `a == b` of values that need no conversion of an object (11.9.3). An object equals no other value.

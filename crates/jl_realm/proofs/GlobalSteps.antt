@@ -33,7 +33,7 @@ use Rattle.jl_store.specs.Plain.{plain_code, plain_function, plain_functions}
 use Rattle.jl_store.proofs.Chains.{comes_after, comes_on, comes_thrown}
 use Rattle.jl_store.proofs.Loops.{Leaves}
 use Rattle.jl_store.proofs.Trees.{body_plain}
-use Rattle.jl_algorithm.proofs.Chains.{bind_assoc}
+use Rattle.jl_meaning.proofs.Binds.{bind_assoc}
 use Rattle.jl_realm.specs.Global.{declare_made, is_no_accessor, put_change, HasGlobalObject}
 
 abbrev EndOf : Type 0 → Type 0

@@ -3,7 +3,6 @@ ghost use Rattle.std.specs.Prelude.{◌≡◌, if◌then◌else◌, true, IfOk, 
 ghost use Rattle.std.specs.Option.{option_map};
 ghost use Rattle.jl_value.specs.declared.value.Value.TheVariants as value;
 ghost use Rattle.jl_effects.specs.Running.{Ends};
-ghost use Rattle.jl_heap.specs.Property.{value_change};
 ghost use Rattle.jl_meaning.specs.DeclarationBinding.{declare_global_function, declare_global_functions};
 ghost use Rattle.jl_meaning.specs.DeclarationBinding.{declare_global_variables, declare_program};
 ghost use Rattle.jl_meaning.specs.Intrinsics.{global_object};
@@ -17,7 +16,7 @@ ghost use Rattle.jl_store.specs.LookUps.{property_seen};
 ghost use Rattle.jl_store.specs.Plain.{code_in, plain_code, plain_function, plain_functions};
 ghost use Rattle.jl_realm.specs.Global.{declare_made, is_no_accessor, is_no_fault, put_change, HasGlobalObject};
 
-use jl_algorithm::plain_change;
+use jl_algorithm::{plain_change, value_change};
 use jl_ast::{Body, Function};
 use jl_heap::Change;
 use jl_scope::vars;
@@ -155,20 +154,6 @@ fn put_change(v: Value, property: &Option<Property<'_>>) -> Change
         Some(Property { own: true, .. }) => value_change(v),
         Some(Property { own: false, .. }) => plain_change(v),
         None => plain_change(v),
-    }
-}
-
-/// Another value is asked for.
-fn value_change(v: Value) -> Change
-    ensures { result ≡ value_change v }
-{
-    Change {
-        value: Some(v),
-        writable: None,
-        get: None,
-        set: None,
-        enumerable: None,
-        configurable: None,
     }
 }
 

@@ -1,8 +1,7 @@
 -- Calls of functions match calls of the woven functions.
-use Rattle.std.proofs.Common.{◌≡◌, ℕ, ◌+◌, ◌<◌, List, [], length, Bool, false, Option, Some, codes, refl, sym, ap, ap₂}
+use Rattle.std.proofs.Common.{◌≡◌, ℕ, ◌+◌, ◌<◌, List, [], length, Bool, false, Option, Some, codes, sym, ap, ap₂}
 use Rattle.std.proofs.Common.{◌∙◌, subst, arith}
 use Rattle.std.specs.Prelude.{if◌then◌else◌, ◌||◌}
-use mathlib.Core.Path.{fun_ext}
 use Rattle.jl_ast.specs.Tree as tree
 use Rattle.jl_ast.specs.Tree.{Forest, Ident}
 use Rattle.jl_value.specs.declared.ending.Completion.{Completion}
@@ -16,14 +15,14 @@ use Rattle.jl_op.specs.declared.kind.OpKind.TheVariants as kind
 use Rattle.jl_op.specs.declared.op.Op.TheVariants as op
 use Rattle.jl_effects.specs.Effects.{and_then, End, Step}
 use Rattle.jl_effects.specs.Matching.{changes, ends, extra, fails, looks, own, peeks, plus, told}
-use Rattle.jl_effects.proofs.Chains.{and_then-assoc, row-and_then}
+use Rattle.jl_effects.proofs.Chains.{and_then-assoc}
 use Rattle.jl_meaning.specs.Changes.{apply, NewEnvironment}
 use Rattle.jl_meaning.specs.Completions.{ends_as, if_normal, normal, on_given, then_do}
 use Rattle.jl_meaning.specs.DeclarationBinding.{declare_body}
 use Rattle.jl_meaning.specs.FunctionObjects.{callee_of, function_params, FunctionTable, ScriptFunction}
 use Rattle.jl_meaning.specs.Noting.{note, performs}
-use Rattle.jl_meaning.specs.Parts.{fault_of, give, continue_with, gives, lift, throws, ◌>>=◌, Algorithm, Answer, Call}
-use Rattle.jl_meaning.specs.Parts.{CallOf, Context, Func, Part, Running, Stmts}
+use Rattle.jl_meaning.specs.Parts.{give, lift, ◌>>=◌, Algorithm, Answer, Call}
+use Rattle.jl_meaning.specs.Parts.{Context, Func, Part, Running, Stmts}
 use Rattle.jl_meaning.specs.Statements.{execute_all}
 use Rattle.jl_meaning.specs.Store.{next_environment, Store}
 use Rattle.jl_meaning.specs.forms.Functions.{begin_script, call_script, construct_script, enter_function}
@@ -31,6 +30,7 @@ use Rattle.jl_meaning.specs.forms.Functions.{function_context, new_instance, res
 use Rattle.jl_meaning.specs.forms.HookCalls.{enters_function, exits_function}
 use Rattle.jl_meaning.specs.forms.Hooks.{enter_hook}
 use Rattle.jl_meaning.specs.forms.Try.{unless_abrupt}
+use Rattle.jl_meaning.proofs.Binds.{lift_bind}
 use Rattle.jl_simulation.specs.HookCalls as weaving
 use Rattle.jl_simulation.specs.HookCalls.{enter_and_leave, hook, hook_statement}
 use Rattle.jl_simulation.specs.Plain.{id_limit}
@@ -43,14 +43,6 @@ use Rattle.jl_simulation.proofs.HookNames.{form_E, form_L}
 use Rattle.jl_simulation.proofs.Relation.{algorithm, bind, bind_both, followed, lifted, pick, quiet, Matched}
 use Rattle.jl_simulation.proofs.Relation.{StatementMatch}
 use Rattle.jl_simulation.proofs.Statements.{execute_all_match}
-
--- an algorithm in a part, one thing after another
-lift_then : {A B : Type 0} (p : Algorithm A) (k : A → Algorithm B) → lift (p >>= k) ≡ (lift p >>= (λ a. lift (k a)))
-lift_then {A} {B} p k = row-and_then CallOf fault_of p (continue_with k) ∙ ap (and_then (lift p)) (fun_ext on)
-  where
-    on : (r : Answer A) → ◌≡◌ {A = Part (Answer B)} (lift (continue_with k r)) (continue_with (λ a. lift (k a)) r)
-    on (gives a) = refl
-    on (throws v) = refl
 
 -- the body of a woven function, with what its hooks E and L do
 abbrev woven_function : (enters exits : Part (Answer Value)) → Part Completion → Part Completion
@@ -183,7 +175,7 @@ module _ (chosen : Kinds) (table table' : FunctionTable)
       (enter_same chosen (tree.function m x ps (tree.body st fs l) id) strict j env this call)
       (looks (peeks (changes (subst (λ p. Matched chosen (apply (NewEnvironment env) t) 31 0 (p >>= k this)
       (p >>= k' this))
-      (sym (lift_then declared (λ _. give inside)))
+      (sym (lift_bind declared (λ _. give inside)))
       (bind_both (λ _. give inside) (k this) (λ _. give inside) (k' this) (omega arith) (algorithm declared)
       (λ u t'. run_match m x ps st fs l id p.0.1 p.1 j strict (next_environment t) this call t')))))))
 

@@ -20,11 +20,11 @@ use Rattle.jl_meaning.specs.forms.HookCalls.{Hook, Opener, Shape, HookCall, hook
 use Rattle.jl_meaning.specs.forms.HookCalls.{count, takes_arguments}
 use Rattle.jl_meaning.specs.forms.Hooks.{enter_hook, enter_opener, close, call_hook, call_pair, call_by_form}
 use Rattle.jl_meaning.specs.forms.Hooks.{call_of_call}
+use Rattle.jl_meaning.proofs.Binds.{bind_assoc}
 use Rattle.jl_simulation.specs.HookCalls as weaving
 use Rattle.jl_simulation.specs.HookCalls.{Expr, Exprs}
 use Rattle.jl_simulation.specs.Plain.{id_limit}
 use Rattle.jl_simulation.proofs.HookNames.{hook_form}
-use Rattle.jl_simulation.proofs.Relation.{assoc}
 
 is_small : (id : ℕ) → id < id_limit → nat_lt id id_limit ≡ true
 is_small id h = lt-ltb id id_limit h
@@ -33,8 +33,8 @@ is_small id h = lt-ltb id id_limit h
 two_values : {A : Type 0} (a b : Part (Answer Value)) (k : List Value → Part (Answer A))
     → ((a >>= (λ v. (b >>= (λ w. give (v ∷ w ∷ []))))) >>= k) ≡ (a >>= (λ v. (b >>= (λ w. k (v ∷ w ∷ [])))))
 two_values a b k =
-    assoc a (λ v. (b >>= (λ w. give (v ∷ w ∷ [])))) k
-    ∙ ap (λ f. a >>= f) (fun_ext (λ v. assoc b (λ w. give (v ∷ w ∷ [])) k))
+    bind_assoc a (λ v. (b >>= (λ w. give (v ∷ w ∷ [])))) k
+    ∙ ap (λ f. a >>= f) (fun_ext (λ v. bind_assoc b (λ w. give (v ∷ w ∷ [])) k))
 
 -- the arguments of a hook, and what it is asked for
 abbrev with_id : (id : ℕ) → Exprs → Exprs
@@ -79,7 +79,7 @@ module _ (table : FunctionTable) (c : Context) where
       let l : Exprs = tree.more e tree.end in
       call_of_hook k (plain h 1) f id l n
       ∙ ap (λ call. Step (call_hook c call (values (with_id id l) (n + 2 + 2)))) (small_call (Some h) 1 id small)
-      ∙ ap Step (assoc (one e (n + 2 + 2 + 1)) (λ v. give (v ∷ [])) (λ vs. Step (enter_hook c id h vs)))
+      ∙ ap Step (bind_assoc (one e (n + 2 + 2 + 1)) (λ v. give (v ∷ [])) (λ vs. Step (enter_hook c id h vs)))
 
   pub hook_plain_2 : (k : Text) (h : Hook) → hook_form k ≡ hook (plain h 2) → (id : ℕ) → id < id_limit → (a b : Expr)
       (n : ℕ) → one (weaving.hook_2 k id a b) n
@@ -101,7 +101,7 @@ module _ (table : FunctionTable) (c : Context) where
       call_of_hook k (worded f 1) is id l n
       ∙ ap (λ call. Step (call_hook c call (values (with_id id l) (n + 2 + 2))))
       (small_call (f word) 2 id small ∙ ap (λ o. asks o 2 id) asked)
-      ∙ ap Step (assoc (one e (n + 2 + 2 + 1 + 1)) (λ v. give (v ∷ [])) (λ vs. Step (enter_hook c id h vs)))
+      ∙ ap Step (bind_assoc (one e (n + 2 + 2 + 1 + 1)) (λ v. give (v ∷ [])) (λ vs. Step (enter_hook c id h vs)))
 
   pub hook_worded_2 : (k : Text) (f : List ℕ → Option Hook) → hook_form k ≡ hook (worded f 2) → (id : ℕ)
       → id < id_limit → (word : Text) (h : Hook) → f word ≡ Some h → (a b : Expr) (n : ℕ)
@@ -149,7 +149,7 @@ module _ (table : FunctionTable) (c : Context) where
       call_of_opener k (plain h 1) f id inner l n takes
       ∙ ap (λ call. Step (call_pair table c call (values (with_id id inner) (n + 2 + 2 + 2)) (values l m 0)))
       (small_call (Some h) 1 id small)
-      ∙ ap (λ p. Step (Step p)) (assoc (one e (n + 2 + 2 + 2 + 1)) (λ v. give (v ∷ [])) (closed id h l m))
+      ∙ ap (λ p. Step (Step p)) (bind_assoc (one e (n + 2 + 2 + 2 + 1)) (λ v. give (v ∷ [])) (closed id h l m))
 
   pub opener_plain_2 : (k : Text) (h : Opener) → hook_form k ≡ opener (plain h 2) → (id : ℕ) → id < id_limit
       → (a b : Expr) (l : Exprs) (n : ℕ)

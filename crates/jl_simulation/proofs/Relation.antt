@@ -12,12 +12,13 @@ use Rattle.jl_op.specs.declared.op.Op.{Op}
 use Rattle.jl_effects.specs.Effects.{End, Perform, and_then}
 use Rattle.jl_effects.specs.Matching.{Matches, ends, begins, silent, plus}
 use Rattle.jl_effects.proofs.Match as match
-use Rattle.jl_effects.proofs.Chains.{and_then-assoc, and_then-end}
+use Rattle.jl_effects.proofs.Chains.{and_then-end}
 use Rattle.jl_meaning.specs.Store.{Store}
 use Rattle.jl_meaning.specs.Changes.{apply}
 use Rattle.jl_meaning.specs.Parts.{Context, Call, Loop, Turn, Job, CallOf, TurnOf, Part, Answer, gives, throws}
 use Rattle.jl_meaning.specs.Parts.{Algorithm, continue_with, ◌>>=◌, give, lift, fault_of, answer_of, begin_call}
 use Rattle.jl_meaning.specs.Parts.{do_loop, while_loop, for_loop, for_in_loop}
+use Rattle.jl_meaning.proofs.Binds.{bind_assoc}
 use Rattle.jl_simulation.specs.Weaving.{weave, woven_forest, woven_optional, woven_test, hook_test}
 use Rattle.jl_simulation.specs.inner.Fit.{LoopFits}
 
@@ -46,20 +47,12 @@ pub data AreJobs (chosen : Kinds) : Job → Job → Type 0 where
 abbrev pub Matched : {A : Type 0} → Kinds → Store → (c d : ℕ) → Part A → Part A → Type 0
 Matched chosen s c d p q = Matches apply (is_kept chosen) (AreJobs chosen) s c d p q
 
-pub assoc : {A B C : Type 0} (p : Part (Answer A)) (k : A → Part (Answer B)) (l : B → Part (Answer C))
-    → ((p >>= k) >>= l) ≡ (p >>= (λ a. (k a >>= l)))
-assoc p k l = and_then-assoc p (continue_with k) (continue_with l) ∙ ap (and_then p) (fun_ext on)
-  where
-    on : (r : Answer _) → and_then (continue_with k r) (continue_with l) ≡ continue_with (λ a. (k a >>= l)) r
-    on (gives a) = refl
-    on (throws v) = refl
-
-pub assoc4 : {A B B' B'' C : Type 0} (q : Part (Answer A)) (f : A → Part (Answer B)) (g : B → Part (Answer B'))
+pub bind_assoc4 : {A B B' B'' C : Type 0} (q : Part (Answer A)) (f : A → Part (Answer B)) (g : B → Part (Answer B'))
     (h : B' → Part (Answer B'')) (i : B'' → Part (Answer C))
     → ((((q >>= f) >>= g) >>= h) >>= i) ≡ (q >>= (λ a. (((f a >>= g) >>= h) >>= i)))
-assoc4 q f g h i =
-    ap (λ x. (x >>= h) >>= i) (assoc q f g) ∙ ap (λ x. x >>= i) (assoc q (λ a. (f a >>= g)) h)
-    ∙ assoc q (λ a. ((f a >>= g) >>= h)) i
+bind_assoc4 q f g h i =
+    ap (λ x. (x >>= h) >>= i) (bind_assoc q f g) ∙ ap (λ x. x >>= i) (bind_assoc q (λ a. (f a >>= g)) h)
+    ∙ bind_assoc q (λ a. ((f a >>= g) >>= h)) i
 
 -- a part, and what it gives given on
 pub unit : {A : Type 0} (p : Part (Answer A)) → (p >>= give) ≡ p
@@ -135,7 +128,7 @@ module _ {chosen : Kinds} where
       → ((a : A) (t : Store) → Matched chosen t d e (k a) (l a >>= m))
       → Matched chosen s c e (p >>= k) ((q >>= l) >>= m)
   bind2 {s = s} {c = c} {e = e} {p = p} {q = q} {k = k} l m le x f =
-      subst (Matched chosen s c e (p >>= k)) (sym (assoc q l m)) (bind le x f)
+      subst (Matched chosen s c e (p >>= k)) (sym (bind_assoc q l m)) (bind le x f)
 
   -- both parts put together otherwise
   pub bind_both : {A B C D : Type 0} {s : Store} {c d e : ℕ} {p q : Part (Answer A)} (k : A → Part (Answer B))
@@ -143,7 +136,7 @@ module _ {chosen : Kinds} where
       → Matched chosen s c d p q → ((a : A) (t : Store) → Matched chosen t d e (k a >>= m) (l a >>= n))
       → Matched chosen s c e ((p >>= k) >>= m) ((q >>= l) >>= n)
   bind_both {s = s} {c = c} {e = e} {p = p} {q = q} k m l n le x f =
-      subst₂ (Matched chosen s c e) (sym (assoc p k m)) (sym (assoc q l n)) (bind le x f)
+      subst₂ (Matched chosen s c e) (sym (bind_assoc p k m)) (sym (bind_assoc q l n)) (bind le x f)
 
   -- the second's parts put together otherwise, more deeply
   pub bind3 : {A B B' C : Type 0} {s : Store} {c d e : ℕ} {p q : Part (Answer A)} {k : A → Part (Answer C)}
@@ -152,7 +145,7 @@ module _ {chosen : Kinds} where
       → Matched chosen s c e (p >>= k) (((q >>= f) >>= g) >>= h)
   bind3 {s = s} {c = c} {e = e} {p = p} {q = q} {k = k} f g h le x y =
       subst (Matched chosen s c e (p >>= k))
-      (sym (ap (λ x. x >>= h) (assoc q f g) ∙ assoc q (λ a. (f a >>= g)) h)) (bind le x y)
+      (sym (ap (λ x. x >>= h) (bind_assoc q f g) ∙ bind_assoc q (λ a. (f a >>= g)) h)) (bind le x y)
 
   pub bind4 : {A B B' B'' C : Type 0} {s : Store} {c d e : ℕ} {p q : Part (Answer A)} {k : A → Part (Answer C)}
       (f : A → Part (Answer B)) (g : B → Part (Answer B')) (h : B' → Part (Answer B'')) (i : B'' → Part (Answer C))
@@ -160,7 +153,7 @@ module _ {chosen : Kinds} where
       → ((a : A) (t : Store) → Matched chosen t d e (k a) (((f a >>= g) >>= h) >>= i))
       → Matched chosen s c e (p >>= k) ((((q >>= f) >>= g) >>= h) >>= i)
   bind4 {s = s} {c = c} {e = e} {p = p} {q = q} {k = k} f g h i le x y =
-      subst (Matched chosen s c e (p >>= k)) (sym (assoc4 q f g h i)) (bind le x y)
+      subst (Matched chosen s c e (p >>= k)) (sym (bind_assoc4 q f g h i)) (bind le x y)
 
 -- An expression's own step is worth 31; four of these are left.
 pub record ExpressionMatch (chosen : Kinds) (p q : Part (Answer Value)) : Type 0 where

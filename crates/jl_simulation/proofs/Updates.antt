@@ -28,11 +28,12 @@ use Rattle.jl_meaning.specs.forms.Literals.{literal}
 use Rattle.jl_meaning.specs.forms.Members.{get_member, member_name, put_member, update_expression, update_member}
 use Rattle.jl_meaning.specs.forms.Names.{assign_name, is_hooks, read_reference, update_name, write_name}
 use Rattle.jl_meaning.specs.forms.Operators.{operate, update, update_kind}
+use Rattle.jl_meaning.proofs.Binds.{bind_assoc}
 use Rattle.jl_simulation.proofs.Members.{get_told, key_argument, put_told}
 use Rattle.jl_simulation.proofs.Names.{assigning, no_hooks, read_by_hook, read_to, tell_write, written}
 use Rattle.jl_simulation.proofs.Numbers.{down_again, up_again}
 use Rattle.jl_simulation.proofs.Operators.{updated_number, update_told}
-use Rattle.jl_simulation.proofs.Relation.{Matched, done, algorithm, bind2, bind4, bind_both, assoc, assoc4, unit}
+use Rattle.jl_simulation.proofs.Relation.{Matched, done, algorithm, bind2, bind4, bind_both, bind_assoc4, unit}
 use Rattle.jl_simulation.proofs.Relation.{ExpressionMatch}
 
 -- the operator that has the number back that an update began with
@@ -128,7 +129,7 @@ module _ {chosen : Kinds} where
       let after : Number × Value → Part (Answer Value) = λ v. (write_name (id + 2) k x reference v.1 >>=
       (λ _. give (g v))) in
       extra (subst (Matched chosen t (plus 3 c) c (update performs (id + 1) (update_kind true) h >>= after))
-      (sym (assoc4 (update emits (id + 1) (update_kind true) h) (λ r. give r.1) (tell_write (id + 2) k x)
+      (sym (bind_assoc4 (update emits (id + 1) (update_kind true) h) (λ r. give r.1) (tell_write (id + 2) k x)
       (written id2 k x reference) T))
       (update_told (update_kind true) (id + 1) h after
       (λ r. (((give r.1 >>= tell_write (id + 2) k x) >>= written id2 k x reference) >>= T)) (omega arith)
@@ -138,7 +139,7 @@ module _ {chosen : Kinds} where
       let after : Number × Value → Part (Answer Value) = λ v. (write_name (id + 2) k x reference v.1 >>=
       (λ _. give (g v))) in
       extra (subst (Matched chosen t (plus 3 c) c (update performs (id + 1) (update_kind false) h >>= after))
-      (sym (assoc4 (update emits (id + 1) (update_kind false) h) (λ r. give r.1) (tell_write (id + 2) k x)
+      (sym (bind_assoc4 (update emits (id + 1) (update_kind false) h) (λ r. give r.1) (tell_write (id + 2) k x)
       (written id2 k x reference) T))
       (update_told (update_kind false) (id + 1) h after
       (λ r. (((give r.1 >>= tell_write (id + 2) k x) >>= written id2 k x reference) >>= T)) (omega arith)
@@ -205,8 +206,8 @@ module _ {chosen : Kinds} where
       (get_member how id base x >>= from_held how x) in
       bind_both (from performs) k (from emits) l le (algorithm (member_name base key))
       (λ x t. bind_both (from_held performs x) k (from_held emits x) l le (get_told id base x)
-      (λ held t. subst₂ (Matched chosen t c d) (sym (assoc (update performs (id + 1) o held) (put_back performs x) k))
-      (sym (assoc (update emits (id + 1) o held) (put_back emits x) l))
+      (λ held t. subst₂ (Matched chosen t c d) (sym (bind_assoc (update performs (id + 1) o held) (put_back performs x) k))
+      (sym (bind_assoc (update emits (id + 1) o held) (put_back emits x) l))
       (update_told o (id + 1) held (λ v. (put_back performs x v >>= k)) (λ v. (put_back emits x v >>= l)) le
       (λ n m e t. bind_both (λ _. give (n, value.Num m)) k (λ _. give (n, value.Num m)) l le
       (put_told (id + 2) strict base x (value.Num m)) (λ u t. f n m e t)))))
@@ -223,7 +224,7 @@ module _ {chosen : Kinds} where
       spare {c = plus 3 d} le (extra
       (subst (Matched chosen s (plus 2 d) d
       (update_member performs id k.strict (update_kind up) base key >>= (λ v. give (g v))))
-      (sym (assoc (update_member emits id k.strict (update_kind up) base key) (λ r. give r.1) T))
+      (sym (bind_assoc (update_member emits id k.strict (update_kind up) base key) (λ r. give r.1) T))
       (update_member_told id k.strict (update_kind up) base key (λ v. give (g v)) (λ r. T r.1) (omega arith)
       (λ n m e t. f n m e t d))))
 

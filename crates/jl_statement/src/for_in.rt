@@ -4,7 +4,6 @@ ghost use Rattle.jl_ast.specs.View.{view_statements};
 ghost use Rattle.jl_meaning.specs.Completions.{◌>>=◌ as ◌then◌};
 ghost use Rattle.jl_meaning.specs.Parts.{for_in_loop, lift};
 ghost use Rattle.jl_meaning.specs.References.{put_name};
-ghost use Rattle.jl_meaning.specs.Relations.{is_nothing};
 ghost use Rattle.jl_meaning.specs.forms.Loops.{begin_loop, visit_next, visits_of};
 ghost use Rattle.jl_meaning.specs.forms.Names.{is_hooks, unless_hooks};
 ghost use Rattle.jl_state.specs.Rank.{Falls};
@@ -16,7 +15,7 @@ ghost use Rattle.jl_statement.specs.inner.Beginnings.{labels_seen};
 ghost use Rattle.jl_statement.specs.inner.Turns.{visits_seen};
 
 use crate::visits::{next_visit, visits_of};
-use jl_algorithm::put_name;
+use jl_algorithm::{is_nothing, put_name};
 use jl_ast::Stmt;
 use jl_state::{Act, Here, Loop, LoopTurn, State, StatementFrame, Visits};
 use jl_store::Answer;
@@ -160,11 +159,4 @@ fn visit_object<'p>(
     let visits = visits_of(alloc, &state.store, object)?;
     let visits = Visits { visits, from: 0 };
     visit_next(alloc, state, variable, visits, body, here, labels)
-}
-
-/// Whether a value is undefined or null.
-fn is_nothing(v: &Value) -> bool
-    ensures { result ≡ is_nothing v.now }
-{
-    matches!(v, Value::Undefined | Value::Null)
 }

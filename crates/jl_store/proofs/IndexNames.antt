@@ -74,17 +74,22 @@ lacks_more : (l : List Name) (y x : Name) → IsTrue (lacks l x) → bytes_eq y 
 lacks_more [] y x free differ = rw differ refl
 lacks_more (z ∷ l) y x free differ = lacks_by l y x (bytes_eq z x) (λ more. lacks_more l y x more differ) free
 
-no_length : (m : ℕ) → bytes_eq length_name (index_name m) ≡ false
+-- `length` is such a word
+pub no_length : (n : ℕ) → bytes_eq (index_name n) length_name ≡ false
 unfolding length_name
-no_length m =
+no_length n = no_index length_name n refl
+
+length_first : (n : ℕ) → bytes_eq length_name (index_name n) ≡ false
+length_first n =
     false_unless _ (λ same.
-    let is : length_name ≡ index_name m = (bytes_eq-Decides length_name (index_name m)).0 same in
-    let low : Low length_name = subst Low (sym is) (low_digits (m + 1) m) in
-    omega (arith, low.0))
+    let is : length_name ≡ index_name n = (bytes_eq-Decides length_name (index_name n)).0 same in
+    let alike : bytes_eq (index_name n) length_name ≡ true =
+    (bytes_eq-Decides (index_name n) length_name).1 (sym is) in
+    let differ = sym alike ∙ no_length n in cc)
 
 -- an index from this one on is no name yet
 lacks_later : (n m : ℕ) → n ≤ m → IsTrue (lacks (names_with n) (index_name m))
-lacks_later zero m below = rw (no_length m) refl
+lacks_later zero m below = rw (length_first m) refl
 lacks_later (suc n) m below =
     lacks_more (names_with n) (index_name n) (index_name m) (lacks_later n m (omega arith))
     (indices_differ n m (λ e. omega (arith, e, below)))

@@ -11,6 +11,7 @@ pub mod Trees
 pub mod MadeFunctions
 pub mod Defined
 pub mod IndexNames
+pub mod PropertyChanges
 pub mod MappedNames
 pub mod DeclaredBodies
 pub mod Lengths

@@ -1,4 +1,7 @@
-use Rattle.jl_lib_array_call.proofs.NewArrays.{length_failed, length_given, length_thrown, number_given, one_kind_value}
+use Rattle.std.proofs.Common.{refl}
+use Rattle.jl_value.specs.declared.value.Value.TheVariants as value
+use Rattle.jl_store.proofs.PropertyChanges.{one_kind_value, primitive_given}
+use Rattle.jl_lib_array_call.proofs.NewArrays.{length_failed, length_given, length_thrown}
 use Rattle.jl_lib_array_call.proofs.arrays.array_of_length.Goals as goal
 
 pub define_own_property-requires-clause-one_kind : goal.define_own_property-requires-clause-one_kind
@@ -7,8 +10,8 @@ define_own_property-requires-clause-one_kind c =
 
 pub define_own_property-requires-clause-primitive : goal.define_own_property-requires-clause-primitive
 define_own_property-requires-clause-primitive c =
-    number_given c.new_array.new.self.heap c.in_ok-array.array.0 c.in_ok-name.name c.args.length _
-    c.value_change-change.ensures
+    primitive_given c.new_array.new.self.heap c.in_ok-array.array.0 c.in_ok-name.name (value.Num c.args.length) _ _ refl
+    refl c.value_change-change.ensures
 
 pub returns-in-Gives : goal.returns-in-Gives
 returns-in-Gives c =
