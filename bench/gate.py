@@ -7,8 +7,9 @@
   --edits                       also each edit, the dearest first
 
 A row is a crate: its proof, its tests (which prove the crate once more, with the tests), and its edits that must fail
-(with the two checks of the whole crate that they begin and end with). The last column is their sum. Other work is what
-is run, linked and laid out, and what ended between two looks. The status is that of `rt ci`.
+(with the two checks of the whole crate that they begin and end with). Then comes their sum, and the minute of the run at
+which the last of them ended. Other work is what is run, linked and laid out, and what ended between two looks. The
+status is that of `rt ci`.
 """
 import os
 import resource
@@ -63,6 +64,7 @@ class Gate:
 
     def __init__(self, rt):
         self.rt, self.kinds, self.taken = rt, {}, {}
+        self.began, self.ended = time.monotonic(), {}
 
     def look(self):
         children = {}
@@ -78,6 +80,7 @@ class Gate:
         self.taken[key] = seconds
         if kind:
             self.kinds[key] = kind
+            self.ended[kind[0]] = time.monotonic() - self.began
         for child, its_seconds in children.get(key[0], ()):
             self.note(children, child, its_seconds, kind)
 
@@ -103,18 +106,20 @@ class Gate:
         return lines
 
 
-def table(rows, whole, elapsed):
+def table(gate, whole, elapsed):
     """Returns the table's lines: the crates by their sums, and the sums of all."""
-    line = "{:<16}" + "{:>9}" * 4
-    lines = [line.format("crate", *KINDS, "sum")]
+    rows = gate.rows()
+    line = "{:<18}" + "{:>9}" * 5
+    lines = [line.format("crate", *KINDS, "sum", "minute")]
     of_kind = dict.fromkeys(KINDS, 0)
     for crate, row in sorted(rows.items(), key=lambda it: -sum(it[1].values())):
-        lines.append(line.format(crate, *(round(row[it]) for it in KINDS), round(sum(row.values()))))
+        minute = f"{gate.ended[crate] / 60:.0f}"
+        lines.append(line.format(crate, *(round(row[it]) for it in KINDS), round(sum(row.values())), minute))
         for kind in KINDS:
             of_kind[kind] += row[kind]
     counted = sum(of_kind.values())
     whole = max(whole, counted)
-    lines.append(line.format("all crates", *(round(of_kind[it]) for it in KINDS), round(counted)))
+    lines.append(line.format("all crates", *(round(of_kind[it]) for it in KINDS), round(counted), ""))
     lines.append(f"other work: {whole - counted:.0f} s; all: {whole:.0f} s = {whole / 60:.1f} processor minutes")
     lines.append(f"from start to end: {elapsed / 60:.1f} minutes on {len(os.sched_getaffinity(0))} processors")
     return lines
@@ -161,7 +166,7 @@ def measured(folder, log, with_edits):
             started.send_signal(signal.SIGINT)
             started.wait()
     usage = resource.getrusage(resource.RUSAGE_CHILDREN)
-    lines = table(gate.rows(), usage.ru_utime + usage.ru_stime, time.monotonic() - began)
+    lines = table(gate, usage.ru_utime + usage.ru_stime, time.monotonic() - began)
     return started.returncode, (gate.edits(folder) if with_edits else []) + lines
 
 
