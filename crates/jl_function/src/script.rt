@@ -93,7 +93,7 @@ fn run_body<'p>(
 {
     state.calls.push(call)?;
     state.stack.push(Frame::Body)?;
-    Ok(begin_statements(alloc, state, &function.body.statements, here)?)
+    begin_statements(alloc, state, &function.body.statements, here)
 }
 
 /// [[Call]] of the function with this number (13.2.1), if there is one.
@@ -128,7 +128,7 @@ fn call_if_known<'p>(
         args: call.args.len(),
         by_new: call.by_new,
     };
-    Ok(run_body(alloc, state, function, here, running)?)
+    run_body(alloc, state, function, here, running)
 }
 
 /// Whether a function of the script has this number.
@@ -161,7 +161,7 @@ fn construct_if_known<'p>(
         env,
         call,
     })?;
-    Ok(get(alloc, state, &callee, &name)?)
+    get(alloc, state, &callee, &name)
 }
 
 /// The function with this number is called, or with `new` constructed by.
@@ -222,5 +222,5 @@ pub fn step_instance_prototype<'p>(
         args: call.args,
         by_new: call.by_new,
     };
-    Ok(call_if_known(alloc, state, function, env, &with_object)?)
+    call_if_known(alloc, state, function, env, &with_object)
 }

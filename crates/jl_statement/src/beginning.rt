@@ -36,7 +36,7 @@ pub fn begin_statement<'p>(
     if !state.spend() {
         return Ok(Act::Spent);
     }
-    Ok(begin_kind(alloc, state, t, here, labels)?)
+    begin_kind(alloc, state, t, here, labels)
 }
 
 /// What a statement does after that step.

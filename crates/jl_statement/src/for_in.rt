@@ -59,7 +59,7 @@ pub(crate) fn put_visited<'p>(
     };
     let turn = LoopTurn { kind, here, labels };
     state.push_statement(StatementFrame::ForInBody { turn })?;
-    Ok(put_name(
+    put_name(
         alloc,
         state,
         here.strict,
@@ -67,7 +67,7 @@ pub(crate) fn put_visited<'p>(
         variable,
         Value::Text(name),
         Value::Undefined,
-    )?)
+    )
 }
 
 /// A `for-in` goes on with the next property that is still there, if there is one.
@@ -87,9 +87,9 @@ pub(crate) fn visit_next<'p>(
 {
     match next_visit(alloc, &state.store, visits)? {
         None => Ok(Act::Complete(Completion::Normal)),
-        Some((name, visits)) => Ok(begin_visit(
+        Some((name, visits)) => begin_visit(
             alloc, state, variable, name, visits, body, here, labels,
-        )?),
+        ),
     }
 }
 
@@ -112,7 +112,7 @@ fn begin_visit<'p>(
     if !state.spend() {
         return Ok(Act::Spent);
     }
-    Ok(put_visited(alloc, state, variable, name, visits, body, here, labels)?)
+    put_visited(alloc, state, variable, name, visits, body, here, labels)
 }
 
 /// A `for-in` goes on with the value that it waited for.
@@ -135,9 +135,7 @@ pub(crate) fn step_for_in_object<'p>(
     }
     match state.store.to_object(&v)? {
         Answer::Throws(thrown) => Ok(Act::Complete(Completion::Throw(thrown))),
-        Answer::Gives(object) => Ok(visit_object(
-            alloc, state, variable, object, body, here, labels,
-        )?),
+        Answer::Gives(object) => visit_object(alloc, state, variable, object, body, here, labels),
     }
 }
 

@@ -42,7 +42,7 @@ pub(crate) fn begin_body<'p>(
     let body = body_of(&turn.kind);
     let here = turn.here;
     state.push_completion(CompletionFrame::LoopBody { turn })?;
-    Ok(begin_statements(alloc, state, body, here)?)
+    begin_statements(alloc, state, body, here)
 }
 
 /// A turn of a loop takes a step, and begins.
@@ -58,7 +58,7 @@ pub(crate) fn begin_turn<'p>(
     if !state.spend() {
         return Ok(Act::Spent);
     }
-    Ok(take_turn(alloc, state, turn)?)
+    take_turn(alloc, state, turn)
 }
 
 /// What a turn does after that step.

@@ -62,7 +62,7 @@ fn begin_clauses<'p>(
         None => Ok(Act::Complete(Completion::Normal)),
         Some((case, rest)) => {
             state.push_completion(CompletionFrame::Clauses { rest, here })?;
-            Ok(begin_statements(alloc, state, &case.body, here)?)
+            begin_statements(alloc, state, &case.body, here)
         }
     }
 }
@@ -104,7 +104,7 @@ fn begin_from<'p>(
     state.push_completion(CompletionFrame::Switch)?;
     match selected {
         None => Ok(Act::Complete(Completion::Normal)),
-        Some(from) => Ok(begin_clauses(alloc, state, Remaining { list: cases, from }, here)?),
+        Some(from) => begin_clauses(alloc, state, Remaining { list: cases, from }, here),
     }
 }
 

@@ -35,7 +35,7 @@ pub(crate) fn begin_finally<'p>(
         None => Ok(Act::Complete(before)),
         Some(list) => {
             state.push_completion(CompletionFrame::FinallyBlock { before })?;
-            Ok(begin_statements(alloc, state, list, here)?)
+            begin_statements(alloc, state, list, here)
         }
     }
 }
@@ -57,7 +57,7 @@ fn begin_catch<'p>(
     ensures falls { IfOk result (λ act. Falls state.old 52 state.new act) }
 {
     state.push_completion(CompletionFrame::CatchBlock { finally, here })?;
-    Ok(enter_catch(alloc, state, handler, here, thrown)?)
+    enter_catch(alloc, state, handler, here, thrown)
 }
 
 /// The statements of a `catch` begin, where the caught value is bound.
@@ -78,7 +78,7 @@ fn enter_catch<'p>(
         env,
         strict: here.strict,
     };
-    Ok(begin_statements(alloc, state, &handler.1, inside)?)
+    begin_statements(alloc, state, &handler.1, inside)
 }
 
 /// A `try` goes on after its block (12.14).

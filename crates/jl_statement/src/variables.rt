@@ -54,7 +54,7 @@ pub(crate) fn declare_variables<'p>(
         None => Ok(Act::Complete(Completion::Normal)),
         Some((name, value, rest)) => {
             state.push_statement(StatementFrame::Variables { rest, here })?;
-            Ok(assign_name(alloc, state, name, value, here)?)
+            assign_name(alloc, state, name, value, here)
         }
     }
 }
@@ -76,7 +76,7 @@ pub(crate) fn declare_head<'p>(
         None => begin_turn(alloc, state, turn),
         Some((name, value, rest)) => {
             state.push_statement(StatementFrame::ForHead { rest, turn })?;
-            Ok(assign_name(alloc, state, name, value, here)?)
+            assign_name(alloc, state, name, value, here)
         }
     }
 }

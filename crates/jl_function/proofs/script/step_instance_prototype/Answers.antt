@@ -1,4 +1,5 @@
 use Rattle.std.proofs.Common.{ap, sym, ◌∙◌, Some}
+use Rattle.std.proofs.lemmas.Result.{IfOk-weaker}
 use Rattle.jl_value.specs.declared.object.Class.TheVariants as class
 use Rattle.jl_value.specs.declared.object.ObjId.{ObjId}
 use Rattle.jl_heap.specs.declared.inner.Inner.TheVariants as inner
@@ -10,10 +11,8 @@ use Rattle.jl_function.proofs.script.step_instance_prototype.Goals as goal
 
 pub returns-clause-leads : goal.returns-clause-leads
 returns-clause-leads c =
-    goes_on_with c.args.state.now c.new_object.new.self _ c.args.function c.args.env c.args.call c.args.proto _ _ _
-    (sym c.is_known.ensures ∙ c.if-not-is_known.false) c.in_ok-id.ensures.next
-    (c.in_ok-id.ensures.made
-    ∙ ap (λ (p : ObjId). after (NewObject class.Object (Some p) inner.Nothing) c.args.state.now.store)
-    c.prototype_for.ensures)
-    c.in_ok-push_value.ensures.waits (ap (λ (s : State). s.functions) c.in_ok-push_value.ensures.pushed)
-    c.in_ok-call_if_known.ensures.leads
+    IfOk-weaker _ _ _ (λ a leads. goes_on_with c.args.state.now c.new_object.new.self _ c.args.function c.args.env
+    c.args.call c.args.proto _ _ _ (sym c.is_known.ensures ∙ c.if-not-is_known.false) c.in_ok-id.ensures.next
+    (c.in_ok-id.ensures.made ∙ ap (λ (p : ObjId). after (NewObject class.Object (Some p) inner.Nothing)
+    c.args.state.now.store) c.prototype_for.ensures) c.in_ok-push_value.ensures.waits
+    (ap (λ (s : State). s.functions) c.in_ok-push_value.ensures.pushed) leads) c.call_if_known.ensures.leads

@@ -3,6 +3,7 @@ use Rattle.jl_ast.specs.View.{view_statement}
 use Rattle.jl_state.specs.Trees.{plain}
 use Rattle.jl_statement.specs.inner.Beginnings.{labels_seen}
 use Rattle.jl_statement.proofs.Begun.{begins, spent}
+use Rattle.jl_statement.proofs.Results.{if_ok}
 use Rattle.jl_statement.proofs.beginning.begin_statement.Goals as goal
 
 pub returns-then-not-spend-clause-leads : goal.returns-then-not-spend-clause-leads
@@ -12,5 +13,6 @@ returns-then-not-spend-clause-leads c =
 
 pub returns-clause-leads : goal.returns-clause-leads
 returns-clause-leads c =
-    begins _ _ (plain (view_statement c.args.t.now)) (labels_seen c.args.labels) c.args.here _ _
-    (c.if-not-spend.ensures.took refl) (c.if-not-spend.ensures.left refl) c.in_ok-begin_kind.ensures.leads
+    if_ok _ _ _ c.begin_kind.ensures.leads (λ a leads. begins _ _ (plain (view_statement c.args.t.now))
+    (labels_seen c.args.labels) c.args.here _ _ (c.if-not-spend.ensures.took refl) (c.if-not-spend.ensures.left refl)
+    leads)

@@ -3,6 +3,7 @@ use Rattle.jl_meaning.specs.References.{put_name}
 use Rattle.jl_state.specs.StatementFrames.{loop_body}
 use Rattle.jl_state.specs.Words.{table_of}
 use Rattle.jl_state.specs.declared.statement_frame.Loop.TheVariants as loop
+use Rattle.jl_statement.proofs.Results.{if_ok}
 use Rattle.jl_statement.proofs.Visiting.{no_hooks, uncounted, unless_hooked}
 use Rattle.jl_statement.proofs.for_in.put_visited.Goals as goal
 
@@ -17,7 +18,6 @@ returns-clause-leads c =
       here = c.args.here;
       labels = c.args.labels;
     }) in
-    unless_hooked _ c.args.variable.now _ _ _ _ c.if-is_hooks.ensures
+    if_ok _ _ _ c.put_name.ensures.leads (λ a leads. unless_hooked _ c.args.variable.now _ _ _ _ c.if-is_hooks.ensures
     (uncounted _ (put_name c.args.here.strict c.args.here.env c.args.variable.now (value.Text c.args.name))
-    value.Undefined body _ _
-    (c.in_ok-push_statement.ensures.waits.works _ _ _ c.in_ok-put_name.ensures.leads))
+    value.Undefined body _ _ (c.in_ok-push_statement.ensures.waits.works _ _ _ leads)))

@@ -1,4 +1,5 @@
 use Rattle.std.proofs.Common.{refl}
+use Rattle.jl_statement.proofs.Results.{if_ok}
 use Rattle.jl_statement.proofs.Visiting.{visits_nothing, visits_object, visits_thrown}
 use Rattle.jl_statement.proofs.for_in.step_for_in_object.Goals as goal
 
@@ -13,6 +14,6 @@ returns-in-Throws-clause-leads c =
 
 pub returns-clause-leads : goal.returns-clause-leads
 returns-clause-leads c =
-    visits_object _ c.args.variable c.args.body c.args.here c.args.labels c.args.v _ _ _ _ _ c.if-is_nothing.ensures
-    refl c.in_ok-thrown.ensures c.in-Gives.is
-    c.in_ok-visit_object-in-Gives.ensures.leads
+    if_ok _ _ _ c.visit_object.ensures.leads (λ a leads. visits_object _ c.args.variable c.args.body c.args.here
+    c.args.labels c.args.v (record c.args.state.now { store = c.to_object.new.self }) _ _ _ _ c.if-is_nothing.ensures
+    refl c.in_ok-thrown.ensures c.in-Gives.is leads)

@@ -1,4 +1,5 @@
 use Rattle.jl_statement.specs.inner.Turns.{visits_seen}
+use Rattle.jl_statement.proofs.Results.{if_ok}
 use Rattle.jl_statement.proofs.Visiting.{visited_none, visited_some}
 use Rattle.jl_statement.proofs.for_in.visit_next.Goals as goal
 
@@ -8,5 +9,5 @@ returns-in-None-clause-leads c =
 
 pub returns-clause-leads : goal.returns-clause-leads
 returns-clause-leads c =
-    visited_some _ _ _ _ _ (visits_seen c.args.visits) _ _ _ _ _ c.in_ok-next_visit.ensures c.in-Some.is
-    c.in_ok-begin_visit-in-Some.ensures.leads
+    if_ok _ _ _ c.begin_visit.ensures.leads (λ a leads. visited_some _ _ _ _ _ (visits_seen c.args.visits) _ _ _ _ _
+    c.in_ok-next_visit.ensures c.in-Some.is leads)

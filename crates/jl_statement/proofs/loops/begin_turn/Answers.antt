@@ -1,4 +1,5 @@
 use Rattle.std.proofs.Common.{refl}
+use Rattle.jl_statement.proofs.Results.{if_ok}
 use Rattle.jl_statement.proofs.Turning.{turn_spent, turns}
 use Rattle.jl_statement.proofs.loops.begin_turn.Goals as goal
 
@@ -8,5 +9,5 @@ returns-then-not-spend-clause-leads c =
 
 pub returns-clause-leads : goal.returns-clause-leads
 returns-clause-leads c =
-    turns _ _ _ _ _ (c.if-not-spend.ensures.took refl) (c.if-not-spend.ensures.left refl)
-    c.in_ok-take_turn.ensures.leads
+    if_ok _ _ _ c.take_turn.ensures.leads (λ a leads. turns _ _ c.args.turn _ _ (c.if-not-spend.ensures.took refl)
+    (c.if-not-spend.ensures.left refl) leads)

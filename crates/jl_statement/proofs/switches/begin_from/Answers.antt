@@ -1,3 +1,4 @@
+use Rattle.jl_statement.proofs.Results.{if_ok}
 use Rattle.jl_statement.proofs.Selecting.{from_none, from_selected}
 use Rattle.jl_statement.proofs.switches.begin_from.Goals as goal
 
@@ -5,7 +6,7 @@ pub returns-in-None-clause-leads : goal.returns-in-None-clause-leads
 returns-in-None-clause-leads c =
     from_none _ _ c.args.selected c.args.cases.now c.args.here c.in-None.is c.in_ok-push_completion.ensures.pushed
 
-pub returns-in_ok-begin_clauses-in-Some-clause-leads : goal.returns-in_ok-begin_clauses-in-Some-clause-leads
-returns-in_ok-begin_clauses-in-Some-clause-leads c =
-    from_selected _ _ c.args.selected _ c.args.cases.now c.args.here _ _ c.in-Some.is
-    c.in_ok-push_completion.ensures.pushed c.in_ok-begin_clauses-in-Some.ensures.leads
+pub returns-in-Some-clause-leads : goal.returns-in-Some-clause-leads
+returns-in-Some-clause-leads c =
+    if_ok _ _ _ c.begin_clauses.ensures.leads (λ a leads. from_selected _ _ c.args.selected _ c.args.cases.now
+    c.args.here _ _ c.in-Some.is c.in_ok-push_completion.ensures.pushed leads)
