@@ -9,14 +9,7 @@ use Rattle.jl_ast.specs.Tree.{null, number, object, or, present, return, setter,
 use Rattle.jl_ast.specs.Tree.{to_index, to_name, try, unary, update, value, var, while, Forest, Ident, OptionalTree}
 use Rattle.jl_ast.specs.Tree.{Program, Sort, Tree}
 use Rattle.jl_text.specs.declared.span.Span.{Span}
-
-ap3 : {A B C D : Type 0} (F : A → B → C → D) {a a' : A} {b b' : B} {c c' : C} → a ≡ a' → b ≡ b' → c ≡ c'
-    → F a b c ≡ F a' b' c'
-ap3 F d e g = ap₂ (λ f c. f c) (ap₂ F d e) g
-
-ap4 : {A B C D E : Type 0} (F : A → B → C → D → E) {a a' : A} {b b' : B} {c c' : C} {d d' : D} → a ≡ a' → b ≡ b'
-    → c ≡ c' → d ≡ d' → F a b c d ≡ F a' b' c' d'
-ap4 F e g h i = ap₂ (λ f d. f d) (ap3 F e g h) i
+use Rattle.jl_ast.proofs.Congruences.{ap₃, ap₄}
 
 abbrev forget : {T : Type 0} → T → Unit {0}
 forget s = tt
@@ -50,7 +43,7 @@ module _ {T : Type 0} (f : Unit {0} → T) where
     placed (binary a b c s) = ap₂ (λ p q. binary a p q s) (placed b) (placed c)
     placed (and a b s) = ap₂ (λ p q. and p q s) (placed a) (placed b)
     placed (or a b s) = ap₂ (λ p q. or p q s) (placed a) (placed b)
-    placed (conditional a b c s) = ap3 (λ p q r. conditional p q r s) (placed a) (placed b) (placed c)
+    placed (conditional a b c s) = ap₃ (λ p q r. conditional p q r s) (placed a) (placed b) (placed c)
     placed (assign a b c s) = ap₂ (λ p q. assign a p q s) (placed b) (placed c)
     placed (comma a b s) = ap₂ (λ p q. comma p q s) (placed a) (placed b)
     placed (to_name a) = refl
@@ -62,17 +55,17 @@ module _ {T : Type 0} (f : Unit {0} → T) where
     placed (getter a b) = ap (λ p. getter a p) (placed b)
     placed (setter a b) = ap (λ p. setter a p) (placed b)
     placed (function m a params b s) =
-        ap3 (λ p q r. function m p q r s) (placed_name a) (placed_names params) (placed b)
+        ap₃ (λ p q r. function m p q r s) (placed_name a) (placed_names params) (placed b)
     placed (body strict a b) = ap₂ (λ p q. body strict p q) (placed_forest a) (placed_forest b)
     placed (var a s) = ap (λ p. var p s) (placed_forest a)
     placed (empty s) = refl
     placed (expression a s) = ap (λ p. expression p s) (placed a)
     placed (block a s) = ap (λ p. block p s) (placed_forest a)
-    placed (if_else a b c s) = ap3 (λ p q r. if_else p q r s) (placed a) (placed_forest b) (placed_optional c)
+    placed (if_else a b c s) = ap₃ (λ p q r. if_else p q r s) (placed a) (placed_forest b) (placed_optional c)
     placed (do_while a b s) = ap₂ (λ p q. do_while p q s) (placed_forest a) (placed b)
     placed (while a b s) = ap₂ (λ p q. while p q s) (placed a) (placed_forest b)
     placed (for a b c d s) =
-        ap4 (λ p q r u. for p q r u s) (placed a) (placed_optional b) (placed_optional c) (placed_forest d)
+        ap₄ (λ p q r u. for p q r u s) (placed a) (placed_optional b) (placed_optional c) (placed_forest d)
     placed (for_in is_var a b c s) = ap₂ (λ p q. for_in is_var a p q s) (placed b) (placed_forest c)
     placed (continue a s) = ap (λ p. continue p s) (placed_name a)
     placed (break a s) = ap (λ p. break p s) (placed_name a)
@@ -80,7 +73,7 @@ module _ {T : Type 0} (f : Unit {0} → T) where
     placed (labelled a b s) = ap (λ p. labelled a p s) (placed b)
     placed (switch a b s) = ap₂ (λ p q. switch p q s) (placed a) (placed_forest b)
     placed (throw a s) = ap (λ p. throw p s) (placed a)
-    placed (try a b c s) = ap3 (λ p q r. try p q r s) (placed_forest a) (placed_optional b) (placed_optional c)
+    placed (try a b c s) = ap₃ (λ p q r. try p q r s) (placed_forest a) (placed_optional b) (placed_optional c)
     placed (debugger s) = refl
     placed nothing = refl
     placed (init_expression a) = ap (λ p. init_expression p) (placed a)

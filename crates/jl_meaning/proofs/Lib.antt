@@ -2,3 +2,4 @@ mod SameTable
 mod KeptHooks
 mod Places
 pub mod Binds
+pub mod NoEarlyErrors

@@ -1,6 +1,5 @@
 -- Ids don't depend on where nodes stand.
-use Rattle.std.proofs.Common.{◌≡◌, ◌∙◌, ℕ, ◌+◌, List, [], ◌∷◌, map, option_map, refl, ap, Option, Some, None}
-use Rattle.jl_ast.specs.declared.ops.BinOp.{BinOp}
+use Rattle.std.proofs.Common.{◌≡◌, ◌∙◌, ℕ, ◌+◌, List, [], ◌∷◌, map, option_map, refl, ap, ap₂, Option, Some, None}
 use Rattle.jl_ast.specs.declared.ops.UnOp.{UnOp}
 use Rattle.jl_ast.specs.declared.ops.UnOp.TheVariants as un
 use Rattle.jl_ast.specs.Tree.{Ident, Program, Sort, expr, handler, Tree, Forest, OptionalTree, this, name, number}
@@ -12,20 +11,10 @@ use Rattle.jl_ast.specs.Tree.{for, for_in, continue, break, return, labelled, sw
 use Rattle.jl_ast.specs.Tree.{init_expression, init_var, declarator, case, branch_of, catch, end, more, absent}
 use Rattle.jl_ast.specs.Tree.{present}
 use Rattle.jl_ast.specs.Spans.{ident, map_tree, map_forest, map_optional, without_spans}
+use Rattle.jl_ast.proofs.Congruences.{ap₃, ap₄}
 use Rattle.jl_op.specs.Ids.{id_count, forest_id_count, optional_id_count, unary_id_count, with_ids, forest_with_ids}
 use Rattle.jl_op.specs.Ids.{optional_with_ids, handler_with_ids, callee_with_ids, member_ids, assignment_id_count}
 use Rattle.jl_op.specs.Ids.{one_if_present, ident_with_id, program_with_ids}
-
-ap2 : {A B C : Type 0} (F : A → B → C) {a a' : A} {b b' : B} → a ≡ a' → b ≡ b' → F a b ≡ F a' b'
-ap2 F d e = cc (d, e)
-
-ap3 : {A B C D : Type 0} (F : A → B → C → D) {a a' : A} {b b' : B} {c c' : C} → a ≡ a' → b ≡ b' → c ≡ c' →
-    F a b c ≡ F a' b' c'
-ap3 F d e g = cc (d, e, g)
-
-ap4 : {A B C D E : Type 0} (F : A → B → C → D → E) {a a' : A} {b b' : B} {c c' : C} {d d' : D} → a ≡ a' → b ≡ b' →
-    c ≡ c' → d ≡ d' → F a b c d ≡ F a' b' c' d'
-ap4 F e g h i = cc (e, g, h, i)
 
 module _ {S T : Type 0} (f : S → T) where
   -- a part that stands after others
@@ -227,11 +216,11 @@ module _ {S T : Type 0} (f : S → T) where
     same_ids n (object a s) = ap (λ p. object p n) (forest_same_ids (n + 1) a)
     same_ids n (function_expression a s) = ap (λ p. function_expression p n) (same_ids (n + 1) a)
     same_ids n (dot a b s) = ap (λ p. dot p b n) (same_ids (n + 1) a)
-    same_ids n (index a b s) = ap2 (λ p q. index p q n) (same_ids (n + 1) a) (shift b (ap (λ h. n + 1 + h)
+    same_ids n (index a b s) = ap₂ (λ p q. index p q n) (same_ids (n + 1) a) (shift b (ap (λ h. n + 1 + h)
         (same_count a)) (same_ids (n + 1 + id_count a) b))
-    same_ids n (call a b s) = ap3 (λ g l j. call g l (n + j)) (same_callee n a (same_ids (n + 2) a))
+    same_ids n (call a b s) = ap₃ (λ g l j. call g l (n + j)) (same_callee n a (same_ids (n + 2) a))
         (forest_shift b (ap (λ h. n + 2 + h) (same_count a)) (forest_same_ids (n + 2 + id_count a) b)) (same_member a)
-    same_ids n (new a b s) = ap2 (λ p q. new p q n) (same_ids (n + 2) a) (forest_shift b (ap (λ h. n + 2 + h)
+    same_ids n (new a b s) = ap₂ (λ p q. new p q n) (same_ids (n + 2) a) (forest_shift b (ap (λ h. n + 2 + h)
         (same_count a)) (forest_same_ids (n + 2 + id_count a) b))
     same_ids n (unary un.Minus b s) = ap (λ e. unary un.Minus e n) (same_ids (n + 1) b)
     same_ids n (unary un.Plus b s) = ap (λ e. unary un.Plus e n) (same_ids (n + 1) b)
@@ -241,22 +230,22 @@ module _ {S T : Type 0} (f : S → T) where
     same_ids n (unary un.Void b s) = ap (λ e. unary un.Void e n) (same_ids (n + 1) b)
     same_ids n (unary un.Delete b s) = ap (λ e. unary un.Delete e n) (same_ids n b)
     same_ids n (update up prefix a s) = ap (λ p. update up prefix p n) (same_ids (n + 3) a)
-    same_ids n (binary a b c s) = ap2 (λ p q. binary a p q n) (same_ids (n + 1) b) (shift c (ap (λ h. n + 1 + h)
+    same_ids n (binary a b c s) = ap₂ (λ p q. binary a p q n) (same_ids (n + 1) b) (shift c (ap (λ h. n + 1 + h)
         (same_count b)) (same_ids (n + 1 + id_count b) c))
-    same_ids n (and a b s) = ap2 (λ p q. and p q n) (same_ids (n + 1) a) (shift b (ap (λ h. n + 1 + h)
+    same_ids n (and a b s) = ap₂ (λ p q. and p q n) (same_ids (n + 1) a) (shift b (ap (λ h. n + 1 + h)
         (same_count a)) (same_ids (n + 1 + id_count a) b))
-    same_ids n (or a b s) = ap2 (λ p q. or p q n) (same_ids (n + 1) a) (shift b (ap (λ h. n + 1 + h)
+    same_ids n (or a b s) = ap₂ (λ p q. or p q n) (same_ids (n + 1) a) (shift b (ap (λ h. n + 1 + h)
         (same_count a)) (same_ids (n + 1 + id_count a) b))
-    same_ids n (conditional a b c s) = ap3 (λ p q r. conditional p q r n) (same_ids (n + 1) a) (shift b (ap
-        (λ h. n + 1 + h) (same_count a)) (same_ids (n + 1 + id_count a) b)) (shift c (ap2 (λ h i. n + 1 + h + i)
+    same_ids n (conditional a b c s) = ap₃ (λ p q r. conditional p q r n) (same_ids (n + 1) a) (shift b (ap
+        (λ h. n + 1 + h) (same_count a)) (same_ids (n + 1 + id_count a) b)) (shift c (ap₂ (λ h i. n + 1 + h + i)
         (same_count a) (same_count b)) (same_ids (n + 1 + id_count a + id_count b) c))
-    same_ids n (assign a b c s) = ap2 (λ p q. assign a p q n) (same_ids (n + assignment_id_count a) b) (shift c (ap
+    same_ids n (assign a b c s) = ap₂ (λ p q. assign a p q n) (same_ids (n + assignment_id_count a) b) (shift c (ap
         (λ h. n + assignment_id_count a + h) (same_count b)) (same_ids (n + assignment_id_count a + id_count b) c))
-    same_ids n (comma a b s) = ap2 (λ p q. comma p q n) (same_ids n a) (shift b (ap (λ h. n + h) (same_count a))
+    same_ids n (comma a b s) = ap₂ (λ p q. comma p q n) (same_ids n a) (shift b (ap (λ h. n + h) (same_count a))
         (same_ids (n + id_count a) b))
     same_ids n (to_name a) = refl
     same_ids n (to_dot a b s) = ap (λ p. to_dot p b n) (same_ids n a)
-    same_ids n (to_index a b s) = ap2 (λ p q. to_index p q n) (same_ids n a) (shift b (ap (λ h. n + h)
+    same_ids n (to_index a b s) = ap₂ (λ p q. to_index p q n) (same_ids n a) (shift b (ap (λ h. n + h)
         (same_count a)) (same_ids (n + id_count a) b))
     same_ids n hole = refl
     same_ids n (filled a) = ap (λ p. filled p) (same_ids n a)
@@ -264,45 +253,45 @@ module _ {S T : Type 0} (f : S → T) where
     same_ids n (getter a b) = ap (λ p. getter (ident_with_id a n) p) (same_ids n b)
     same_ids n (setter a b) = ap (λ p. setter (ident_with_id a n) p) (same_ids n b)
     same_ids n (function m a params b s) =
-        ap3 (λ x l c. function m x l c n) (same_name n a) (same_params n params) (same_ids (n + 2) b)
-    same_ids n (body strict a b) = ap2 (λ p q. body strict p q) (forest_same_ids n a) (forest_shift b (ap
+        ap₃ (λ x l c. function m x l c n) (same_name n a) (same_params n params) (same_ids (n + 2) b)
+    same_ids n (body strict a b) = ap₂ (λ p q. body strict p q) (forest_same_ids n a) (forest_shift b (ap
         (λ h. n + h) (forest_same_count a)) (forest_same_ids (n + forest_id_count a) b))
     same_ids n (var a s) = ap (λ p. var p n) (forest_same_ids n a)
     same_ids n (empty s) = refl
     same_ids n (expression a s) = ap (λ p. expression p n) (same_ids n a)
     same_ids n (block a s) = ap (λ p. block p n) (forest_same_ids n a)
-    same_ids n (if_else a b c s) = ap3 (λ p q r. if_else p q r n) (same_ids (n + 1) a) (forest_shift b (ap
-        (λ h. n + 1 + h) (same_count a)) (forest_same_ids (n + 1 + id_count a) b)) (optional_shift c (ap2
+    same_ids n (if_else a b c s) = ap₃ (λ p q r. if_else p q r n) (same_ids (n + 1) a) (forest_shift b (ap
+        (λ h. n + 1 + h) (same_count a)) (forest_same_ids (n + 1 + id_count a) b)) (optional_shift c (ap₂
         (λ h i. n + 1 + h + i) (same_count a) (forest_same_count b)) (optional_same_ids
         (n + 1 + id_count a + forest_id_count b) c))
-    same_ids n (do_while a b s) = ap2 (λ p q. do_while p q n) (forest_same_ids (n + 1) a) (shift b (ap
+    same_ids n (do_while a b s) = ap₂ (λ p q. do_while p q n) (forest_same_ids (n + 1) a) (shift b (ap
         (λ h. n + 1 + h) (forest_same_count a)) (same_ids (n + 1 + forest_id_count a) b))
-    same_ids n (while a b s) = ap2 (λ p q. while p q n) (same_ids (n + 1) a) (forest_shift b (ap (λ h. n + 1 + h)
+    same_ids n (while a b s) = ap₂ (λ p q. while p q n) (same_ids (n + 1) a) (forest_shift b (ap (λ h. n + 1 + h)
         (same_count a)) (forest_same_ids (n + 1 + id_count a) b))
-    same_ids n (for a b c d s) = ap4 (λ i e u l. for i e u l n)
+    same_ids n (for a b c d s) = ap₄ (λ i e u l. for i e u l n)
         (shift a (ap (λ h. n + h) (same_presence b)) (same_ids (n + one_if_present b) a))
-        (optional_shift b (ap2 (λ h i. n + h + i) (same_presence b) (same_count a))
+        (optional_shift b (ap₂ (λ h i. n + h + i) (same_presence b) (same_count a))
         (optional_same_ids (n + one_if_present b + id_count a) b))
-        (optional_shift c (ap3 (λ h i j. n + h + i + j) (same_presence b) (same_count a) (optional_same_count b))
+        (optional_shift c (ap₃ (λ h i j. n + h + i + j) (same_presence b) (same_count a) (optional_same_count b))
         (optional_same_ids (n + one_if_present b + id_count a + optional_id_count b) c))
-        (forest_shift d (ap4 (λ h i j k. n + h + i + j + k) (same_presence b) (same_count a) (optional_same_count b)
+        (forest_shift d (ap₄ (λ h i j k. n + h + i + j + k) (same_presence b) (same_count a) (optional_same_count b)
         (optional_same_count c))
         (forest_same_ids (n + one_if_present b + id_count a + optional_id_count b + optional_id_count c) d))
-    same_ids n (for_in is_var a b c s) = ap2 (λ p q. for_in is_var (ident_with_id a n) p q n) (same_ids (n + 1) b)
+    same_ids n (for_in is_var a b c s) = ap₂ (λ p q. for_in is_var (ident_with_id a n) p q n) (same_ids (n + 1) b)
         (forest_shift c (ap (λ h. n + 1 + h) (same_count b)) (forest_same_ids (n + 1 + id_count b) c))
     same_ids n (continue a s) = ap (λ x. continue x n) (same_name n a)
     same_ids n (break a s) = ap (λ x. break x n) (same_name n a)
     same_ids n (return a s) = ap (λ e. return e n)
         (optional_shift a (ap (λ h. n + h) (same_presence a)) (optional_same_ids (n + one_if_present a) a))
     same_ids n (labelled a b s) = ap (λ p. labelled (ident_with_id a n) p n) (same_ids n b)
-    same_ids n (switch a b s) = ap2 (λ p q. switch p q n) (same_ids n a) (forest_shift b (ap (λ h. n + h)
+    same_ids n (switch a b s) = ap₂ (λ p q. switch p q n) (same_ids n a) (forest_shift b (ap (λ h. n + h)
         (same_count a)) (forest_same_ids (n + id_count a) b))
     same_ids n (throw a s) = ap (λ p. throw p n) (same_ids (n + 1) a)
-    same_ids n (try a b c s) = ap3 (λ l h g. try l h g n)
+    same_ids n (try a b c s) = ap₃ (λ l h g. try l h g n)
         (forest_shift a (ap (λ h. n + h) (same_presence b)) (forest_same_ids (n + one_if_present b) a))
-        (handler_shift n b (ap2 (λ h i. n + h + i) (same_presence b) (forest_same_count a))
+        (handler_shift n b (ap₂ (λ h i. n + h + i) (same_presence b) (forest_same_count a))
         (same_handler n (n + one_if_present b + forest_id_count a) b))
-        (optional_shift c (ap3 (λ h i j. n + h + i + j) (same_presence b) (forest_same_count a)
+        (optional_shift c (ap₃ (λ h i j. n + h + i + j) (same_presence b) (forest_same_count a)
         (optional_same_count b))
         (optional_same_ids (n + one_if_present b + forest_id_count a + optional_id_count b) c))
     same_ids n (debugger s) = refl
@@ -311,7 +300,7 @@ module _ {S T : Type 0} (f : S → T) where
     same_ids n (init_var a) = ap (λ p. init_var p) (forest_same_ids n a)
     same_ids n (declarator a b) = ap (λ e. declarator (ident_with_id a n) e)
         (optional_shift b (ap (λ h. n + h) (same_presence b)) (optional_same_ids (n + one_if_present b) b))
-    same_ids n (case a b) = ap2 (λ p q. case p q) (optional_same_ids n a) (forest_shift b (ap (λ h. n + h)
+    same_ids n (case a b) = ap₂ (λ p q. case p q) (optional_same_ids n a) (forest_shift b (ap (λ h. n + h)
         (optional_same_count a)) (forest_same_ids (n + optional_id_count a) b))
     same_ids n (branch_of a) = ap (λ p. branch_of p) (forest_same_ids n a)
     same_ids n (catch a b) = ap (λ p. catch (ident_with_id a n) p) (forest_same_ids n b)
@@ -319,7 +308,7 @@ module _ {S T : Type 0} (f : S → T) where
     pub forest_same_ids : {x : Sort} (n : ℕ) (l : Forest S x) → forest_with_ids n
         (map_forest f l) ≡ forest_with_ids n l
     forest_same_ids n end = refl
-    forest_same_ids n (more t l) = ap2 (λ u m. more u m) (same_ids n t)
+    forest_same_ids n (more t l) = ap₂ (λ u m. more u m) (same_ids n t)
         (forest_shift l (ap (λ h. n + h) (same_count t)) (forest_same_ids (n + id_count t) l))
 
     pub optional_same_ids : {x : Sort} (n : ℕ) (o : OptionalTree S x) →
@@ -345,7 +334,7 @@ module _ {S T : Type 0} (f : S → T) where
     same_callee n (function_expression f s) h = h
     same_callee n (dot o k s) h = ap (λ p. dot p k n) (same_ids (n + 3) o)
     same_callee n (index o k s) h =
-        ap2 (λ p q. index p q n) (same_ids (n + 3) o)
+        ap₂ (λ p q. index p q n) (same_ids (n + 3) o)
         (shift k (ap (λ h. n + 3 + h) (same_count o)) (same_ids (n + 3 + id_count o) k))
     same_callee n (call f l s) h = h
     same_callee n (new f l s) h = h

@@ -8,15 +8,8 @@ use Rattle.jl_ast.specs.Tree.{hole, if_else, index, init_expression, init_var, l
 use Rattle.jl_ast.specs.Tree.{null, number, object, or, present, return, setter, string, switch, this, throw, to_dot}
 use Rattle.jl_ast.specs.Tree.{to_index, to_name, try, unary, update, value, var, while, Forest, Ident, OptionalTree}
 use Rattle.jl_ast.specs.Tree.{Program, Sort, Tree}
+use Rattle.jl_ast.proofs.Congruences.{ap₃, ap₄}
 use Rattle.jl_quiet.specs.QuietMean.{without_ids}
-
-pub ap3 : {A B C D : Type 0} (F : A → B → C → D) {a a' : A} {b b' : B} {c c' : C} → a ≡ a' → b ≡ b' → c ≡ c'
-    → F a b c ≡ F a' b' c'
-ap3 F d e g = ap₂ (λ f c. f c) (ap₂ F d e) g
-
-pub ap4 : {A B C D E : Type 0} (F : A → B → C → D → E) {a a' : A} {b b' : B} {c c' : C} {d d' : D} → a ≡ a' → b ≡ b'
-    → c ≡ c' → d ≡ d' → F a b c d ≡ F a' b' c' d'
-ap4 F e g h i = ap₂ (λ f d. f d) (ap3 F e g h) i
 
 abbrev pub bare : {S : Type 0} {x : Sort} → Tree S x → Tree ℕ x
 bare t = map_tree (λ s. 0) t
@@ -60,7 +53,7 @@ module _ {S T : Type 0} (f : S → T) where
     bare_map (binary a b c s) = ap₂ (λ p q. binary a p q 0) (bare_map b) (bare_map c)
     bare_map (and a b s) = ap₂ (λ p q. and p q 0) (bare_map a) (bare_map b)
     bare_map (or a b s) = ap₂ (λ p q. or p q 0) (bare_map a) (bare_map b)
-    bare_map (conditional a b c s) = ap3 (λ p q r. conditional p q r 0) (bare_map a) (bare_map b) (bare_map c)
+    bare_map (conditional a b c s) = ap₃ (λ p q r. conditional p q r 0) (bare_map a) (bare_map b) (bare_map c)
     bare_map (assign a b c s) = ap₂ (λ p q. assign a p q 0) (bare_map b) (bare_map c)
     bare_map (comma a b s) = ap₂ (λ p q. comma p q 0) (bare_map a) (bare_map b)
     bare_map (to_name a) = refl
@@ -72,17 +65,17 @@ module _ {S T : Type 0} (f : S → T) where
     bare_map (getter a b) = ap (λ p. getter (without_id a) p) (bare_map b)
     bare_map (setter a b) = ap (λ p. setter (without_id a) p) (bare_map b)
     bare_map (function m a params b s) =
-        ap3 (λ p q r. function m p q r 0) (bare_map_name a) (bare_map_names params) (bare_map b)
+        ap₃ (λ p q r. function m p q r 0) (bare_map_name a) (bare_map_names params) (bare_map b)
     bare_map (body strict a b) = ap₂ (λ p q. body strict p q) (bare_map_forest a) (bare_map_forest b)
     bare_map (var a s) = ap (λ p. var p 0) (bare_map_forest a)
     bare_map (empty s) = refl
     bare_map (expression a s) = ap (λ p. expression p 0) (bare_map a)
     bare_map (block a s) = ap (λ p. block p 0) (bare_map_forest a)
-    bare_map (if_else a b c s) = ap3 (λ p q r. if_else p q r 0) (bare_map a) (bare_map_forest b) (bare_map_optional c)
+    bare_map (if_else a b c s) = ap₃ (λ p q r. if_else p q r 0) (bare_map a) (bare_map_forest b) (bare_map_optional c)
     bare_map (do_while a b s) = ap₂ (λ p q. do_while p q 0) (bare_map_forest a) (bare_map b)
     bare_map (while a b s) = ap₂ (λ p q. while p q 0) (bare_map a) (bare_map_forest b)
     bare_map (for a b c d s) =
-        ap4 (λ p q r u. for p q r u 0) (bare_map a) (bare_map_optional b) (bare_map_optional c) (bare_map_forest d)
+        ap₄ (λ p q r u. for p q r u 0) (bare_map a) (bare_map_optional b) (bare_map_optional c) (bare_map_forest d)
     bare_map (for_in is_var a b c s) = ap₂ (λ p q. for_in is_var (without_id a) p q 0) (bare_map b) (bare_map_forest c)
     bare_map (continue a s) = ap (λ p. continue p 0) (bare_map_name a)
     bare_map (break a s) = ap (λ p. break p 0) (bare_map_name a)
@@ -90,7 +83,7 @@ module _ {S T : Type 0} (f : S → T) where
     bare_map (labelled a b s) = ap (λ p. labelled (without_id a) p 0) (bare_map b)
     bare_map (switch a b s) = ap₂ (λ p q. switch p q 0) (bare_map a) (bare_map_forest b)
     bare_map (throw a s) = ap (λ p. throw p 0) (bare_map a)
-    bare_map (try a b c s) = ap3 (λ p q r. try p q r 0) (bare_map_forest a) (bare_map_optional b) (bare_map_optional c)
+    bare_map (try a b c s) = ap₃ (λ p q r. try p q r 0) (bare_map_forest a) (bare_map_optional b) (bare_map_optional c)
     bare_map (debugger s) = refl
     bare_map nothing = refl
     bare_map (init_expression a) = ap (λ p. init_expression p) (bare_map a)

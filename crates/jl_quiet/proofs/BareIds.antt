@@ -8,10 +8,11 @@ use Rattle.jl_ast.specs.Tree.{null, number, object, or, present, return, setter,
 use Rattle.jl_ast.specs.Tree.{to_index, to_name, try, unary, update, value, var, while, Forest, Ident, OptionalTree}
 use Rattle.jl_ast.specs.Tree.{Program, Sort, Tree}
 use Rattle.jl_ast.specs.declared.ops.UnOp.TheVariants as un
+use Rattle.jl_ast.proofs.Congruences.{ap₃, ap₄}
 use Rattle.jl_op.specs.Ids.{callee_with_ids, forest_with_ids, handler_with_ids, ident_with_id, optional_with_ids}
 use Rattle.jl_op.specs.Ids.{program_with_ids, with_ids}
 use Rattle.jl_quiet.specs.QuietMean.{without_ids}
-use Rattle.jl_quiet.proofs.Bare.{ap3, ap4, bare, bare_forest, bare_optional, without_id}
+use Rattle.jl_quiet.proofs.Bare.{bare, bare_forest, bare_optional, without_id}
 
 module _ {S : Type 0} where
   bare_ids_name : (n : ℕ) (x : Option (Ident S))
@@ -44,7 +45,7 @@ module _ {S : Type 0} where
     bare_ids n (binary a b c s) = ap₂ (λ p q. binary a p q 0) (bare_ids _ b) (bare_ids _ c)
     bare_ids n (and a b s) = ap₂ (λ p q. and p q 0) (bare_ids _ a) (bare_ids _ b)
     bare_ids n (or a b s) = ap₂ (λ p q. or p q 0) (bare_ids _ a) (bare_ids _ b)
-    bare_ids n (conditional a b c s) = ap3 (λ p q r. conditional p q r 0) (bare_ids _ a) (bare_ids _ b) (bare_ids _ c)
+    bare_ids n (conditional a b c s) = ap₃ (λ p q r. conditional p q r 0) (bare_ids _ a) (bare_ids _ b) (bare_ids _ c)
     bare_ids n (assign a b c s) = ap₂ (λ p q. assign a p q 0) (bare_ids _ b) (bare_ids _ c)
     bare_ids n (comma a b s) = ap₂ (λ p q. comma p q 0) (bare_ids _ a) (bare_ids _ b)
     bare_ids n (to_name a) = refl
@@ -56,17 +57,17 @@ module _ {S : Type 0} where
     bare_ids n (getter a b) = ap (λ p. getter (without_id a) p) (bare_ids _ b)
     bare_ids n (setter a b) = ap (λ p. setter (without_id a) p) (bare_ids _ b)
     bare_ids n (function m a params b s) =
-        ap3 (λ p q r. function m p q r 0) (bare_ids_name _ a) (bare_ids_names _ params) (bare_ids _ b)
+        ap₃ (λ p q r. function m p q r 0) (bare_ids_name _ a) (bare_ids_names _ params) (bare_ids _ b)
     bare_ids n (body strict a b) = ap₂ (λ p q. body strict p q) (bare_ids_forest _ a) (bare_ids_forest _ b)
     bare_ids n (var a s) = ap (λ p. var p 0) (bare_ids_forest _ a)
     bare_ids n (empty s) = refl
     bare_ids n (expression a s) = ap (λ p. expression p 0) (bare_ids _ a)
     bare_ids n (block a s) = ap (λ p. block p 0) (bare_ids_forest _ a)
     bare_ids n (if_else a b c s) =
-        ap3 (λ p q r. if_else p q r 0) (bare_ids _ a) (bare_ids_forest _ b) (bare_ids_optional _ c)
+        ap₃ (λ p q r. if_else p q r 0) (bare_ids _ a) (bare_ids_forest _ b) (bare_ids_optional _ c)
     bare_ids n (do_while a b s) = ap₂ (λ p q. do_while p q 0) (bare_ids_forest _ a) (bare_ids _ b)
     bare_ids n (while a b s) = ap₂ (λ p q. while p q 0) (bare_ids _ a) (bare_ids_forest _ b)
-    bare_ids n (for a b c d s) = ap4 (λ p q r u. for p q r u 0) (bare_ids _ a) (bare_ids_optional _ b)
+    bare_ids n (for a b c d s) = ap₄ (λ p q r u. for p q r u 0) (bare_ids _ a) (bare_ids_optional _ b)
         (bare_ids_optional _ c) (bare_ids_forest _ d)
     bare_ids n (for_in is_var a b c s) =
         ap₂ (λ p q. for_in is_var (without_id a) p q 0) (bare_ids _ b) (bare_ids_forest _ c)
@@ -77,7 +78,7 @@ module _ {S : Type 0} where
     bare_ids n (switch a b s) = ap₂ (λ p q. switch p q 0) (bare_ids _ a) (bare_ids_forest _ b)
     bare_ids n (throw a s) = ap (λ p. throw p 0) (bare_ids _ a)
     bare_ids n (try a b c s) =
-        ap3 (λ p q r. try p q r 0) (bare_ids_forest _ a) (bare_ids_handler _ _ b) (bare_ids_optional _ c)
+        ap₃ (λ p q r. try p q r 0) (bare_ids_forest _ a) (bare_ids_handler _ _ b) (bare_ids_optional _ c)
     bare_ids n (debugger s) = refl
     bare_ids n nothing = refl
     bare_ids n (init_expression a) = ap (λ p. init_expression p) (bare_ids _ a)

@@ -8,6 +8,7 @@ use Rattle.jl_ast.specs.Tree.{Forest}
 use Rattle.jl_scope.specs.Hoisting.{variables}
 use Rattle.jl_scope.specs.Mentions.{mentions}
 use Rattle.jl_scope.specs.Names.{arguments_name}
+use Rattle.jl_scope.proofs.Places.{mentions_same, variables_same}
 use Rattle.jl_value.specs.declared.object.ObjId.{ObjId}
 use Rattle.jl_value.specs.declared.value.Value.{Value}
 use Rattle.jl_heap.specs.Objects.{Name}
@@ -20,7 +21,6 @@ use Rattle.jl_meaning.specs.Parts.{change_store, give, look, ◌>>=◌, Algorith
 use Rattle.jl_meaning.specs.Store.{has_binding, next_environment}
 use Rattle.jl_meaning.specs.forms.Functions.{enter_function, function_context}
 use Rattle.jl_quiet.proofs.Bare.{bare, bare_forest}
-use Rattle.jl_quiet.proofs.Mentions.{mentions_same, variables_same}
 use Rattle.jl_quiet.proofs.MadeFunctions.{make_same, name_same, params_same}
 use Rattle.jl_quiet.proofs.Tables.{bare_function}
 
@@ -58,7 +58,7 @@ body_declared (tree.body st fs l) strict callee params args c =
     let b : Code = tree.body st fs l in
     ap (λ p. binding p (mentions arguments_name b) (variables b) strict callee params args c) (functions_same fs c)
     ∙ ap₂ (λ m names. binding (declare_functions (bare_forest fs) c) m names strict callee params args c)
-    (sym (mentions_same arguments_name b)) (sym (variables_same b))
+    (sym (mentions_same (λ s. 0) arguments_name b)) (sym (variables_same (λ s. 0) b))
 
 -- a function with no ids is entered like the function
 pub enter_same : (f : Func) (strict : Bool) (env : ℕ) (this : Value) (call : Call)
@@ -83,4 +83,4 @@ pub program_same : (b : Code) (c : Context) → declare_program b c ≡ declare_
 unfolding declare_program
 program_same (tree.body strict fs l) c =
     ap₂ (λ p names. p >>= (λ _. declare_global_variables names)) (global_functions_same fs c)
-    (sym (variables_same (tree.body strict fs l)))
+    (sym (variables_same (λ s. 0) (tree.body strict fs l)))

@@ -6,6 +6,7 @@ use Rattle.jl_heap.specs.declared.inner.Inner.{Inner}
 use Rattle.jl_heap.specs.declared.inner.Inner.TheVariants as inner
 use Rattle.jl_op.specs.declared.callee.Callee.TheVariants as callee
 use Rattle.jl_scope.specs.Names.{arguments_name}
+use Rattle.jl_scope.proofs.Places.{mentions_same}
 use Rattle.jl_effects.specs.Effects.{End}
 use Rattle.jl_meaning.specs.FunctionObjects.{callee_of, script_callee, FunctionTable, ScriptFunction}
 use Rattle.jl_meaning.specs.Jobs.{begin_known, call_inside, job}
@@ -13,7 +14,6 @@ use Rattle.jl_meaning.specs.Parts.{completion_of, lift, Call, CallOf, Func, Job,
 use Rattle.jl_meaning.specs.builtins.Function.{names_of}
 use Rattle.jl_meaning.specs.builtins.Table.{builtin}
 use Rattle.jl_quiet.proofs.Bare.{bare}
-use Rattle.jl_quiet.proofs.Mentions.{mentions_same}
 use Rattle.jl_quiet.proofs.Functions.{script_alike}
 use Rattle.jl_quiet.proofs.MadeFunctions.{name_same, params_same}
 use Rattle.jl_quiet.proofs.Relation.{bare_job, then_alike, itself, look_alike, second_is, Alike}
@@ -29,7 +29,7 @@ script_same number f = at f.func
         ≡ script_callee number (Some (record { func = bare g; strict = f.strict }))
     at (tree.function m x params b s) =
         ap₂ (λ names mentioned. callee.Script number (length names) mentioned) (params_same params)
-        (sym (mentions_same arguments_name b))
+        (sym (mentions_same (λ s. 0) arguments_name b))
 
 lookup_same : (l : FunctionTable) (number k : ℕ)
     → script_callee number (slice_get l k) ≡ script_callee number (slice_get (bare_table l) k)

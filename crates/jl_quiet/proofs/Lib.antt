@@ -1,7 +1,6 @@
 mod QuietParts
 pub mod Bare
 mod BareIds
-mod Mentions
 mod Tables
 mod Relation
 mod Forms

@@ -3,7 +3,8 @@ use Rattle.std.proofs.Common.{◌≡◌, ℕ, ◌+◌, List, [], ◌∷◌, Opti
 use Rattle.std.specs.Option.{option_or}
 use Rattle.std.specs.Prelude.{option_map}
 use Rattle.jl_ast.specs.Tree as tree
-use Rattle.jl_ast.specs.Tree.{Forest, Ident, OptionalTree, Text, Tree}
+use Rattle.jl_ast.specs.Tree.{Forest, OptionalTree, Text, Tree}
+use Rattle.jl_ast.proofs.Congruences.{ap₃}
 use Rattle.jl_value.specs.declared.ending.Completion.{Completion}
 use Rattle.jl_value.specs.declared.ending.Completion.TheVariants as completion
 use Rattle.jl_value.specs.declared.value.Value.{Value}
@@ -22,7 +23,7 @@ use Rattle.jl_meaning.specs.forms.Loops.{begin_loop, visit_all, visit_first, vis
 use Rattle.jl_meaning.specs.forms.Simple.{begin_for, declare, declare_all}
 use Rattle.jl_meaning.specs.forms.Switch.{after_switch, default_of}
 use Rattle.jl_meaning.specs.forms.Try.{begin_catch, unless_abrupt}
-use Rattle.jl_quiet.proofs.Bare.{bare_map, bare_map_forest, bare_map_optional, ap3, bare, bare_forest, bare_optional}
+use Rattle.jl_quiet.proofs.Bare.{bare_map, bare_map_forest, bare_map_optional, bare, bare_forest, bare_optional}
 use Rattle.jl_quiet.proofs.Expressions.{evaluate_alike}
 use Rattle.jl_quiet.proofs.Forms.{assign_name_alike, decide_alike}
 use Rattle.jl_quiet.proofs.Relation.{bare_loop, bind, ending_alike, then_alike, itself, look_alike, perform_alike}
@@ -34,7 +35,7 @@ loop_again : (l : Loop) → bare_loop (bare_loop l) ≡ bare_loop l
 loop_again (do_loop l e) = ap₂ (λ p q. do_loop p q) (bare_map_forest (λ s. 0) l) (bare_map (λ s. 0) e)
 loop_again (while_loop e l) = ap₂ (λ p q. while_loop p q) (bare_map (λ s. 0) e) (bare_map_forest (λ s. 0) l)
 loop_again (for_loop e u l) =
-    ap3 (λ p q r. for_loop p q r) (bare_map_optional (λ s. 0) e) (bare_map_optional (λ s. 0) u)
+    ap₃ (λ p q r. for_loop p q r) (bare_map_optional (λ s. 0) e) (bare_map_optional (λ s. 0) u)
     (bare_map_forest (λ s. 0) l)
 loop_again (for_in_loop x y rest l) = ap (λ p. for_in_loop x y rest p) (bare_map_forest (λ s. 0) l)
 

@@ -1,6 +1,6 @@
 -- The functions of the woven script have the numbers of the script's, a line for each form.
 use Rattle.std.proofs.Common.{◌≡◌, ℕ, ◌+◌, Bool, Option, refl, ap, subst, sym}
-use Rattle.std.proofs.Common.{arith}
+use Rattle.std.proofs.Common.{arith, ap₂}
 use Rattle.jl_ast.specs.Numbering.{functions_in, functions_in_forest, functions_in_optional, numbered_forest}
 use Rattle.jl_ast.specs.Numbering.{numbered_optional, numbered_tree}
 use Rattle.jl_ast.specs.Tree as tree
@@ -9,6 +9,7 @@ use Rattle.std.specs.Prelude.{List}
 use Rattle.jl_num.specs.Number.{Number}
 use Rattle.jl_ast.specs.declared.ops.BinOp.{BinOp}
 use Rattle.jl_ast.specs.declared.ops.UnOp.{UnOp}
+use Rattle.jl_ast.proofs.Congruences.{ap₃, ap₄}
 
 -- the functions of a tree have the numbers from n up to the one before m
 pub record Counts {S : Type 0} {x : Sort} (n : ℕ) (t : Tree S x) (m : ℕ) : Type 0 where
@@ -22,17 +23,6 @@ pub record CountsAll {S : Type 0} {x : Sort} (n : ℕ) (l : Forest S x) (m : ℕ
 pub record CountsIfPresent {S : Type 0} {x : Sort} (n : ℕ) (o : OptionalTree S x) (m : ℕ) : Type 0 where
   pub fixed : numbered_optional n o ≡ o
   pub next : n + functions_in_optional o ≡ m
-
-pub ap2 : {A B C : Type 0} (F : A → B → C) {a a' : A} {b b' : B} → a ≡ a' → b ≡ b' → F a b ≡ F a' b'
-ap2 F d e = cc (d, e)
-
-pub ap3 : {A B C D : Type 0} (F : A → B → C → D) {a a' : A} {b b' : B} {c c' : C} → a ≡ a' → b ≡ b' → c ≡ c'
-    → F a b c ≡ F a' b' c'
-ap3 F d e g = cc (d, e, g)
-
-pub ap4 : {A B C D E : Type 0} (F : A → B → C → D → E) {a a' : A} {b b' : B} {c c' : C} {d d' : D} → a ≡ a' → b ≡ b'
-    → c ≡ c' → d ≡ d' → F a b c d ≡ F a' b' c' d'
-ap4 F e g h i = cc (e, g, h, i)
 
 module _ {S : Type 0} where
   -- a part that stands after others
@@ -50,7 +40,7 @@ module _ {S : Type 0} where
       → Counts n a i → Counts i b m
       → Counts n (tree.index a b s) m
   index_counts {n} {i} {m} {a} {b} {s} p q = record {
-    fixed = ap2 (λ (a' : Tree S tree.expr) (b' : Tree S tree.expr). tree.index a' b' s) p.fixed (later (omega arith) q);
+    fixed = ap₂ (λ (a' : Tree S tree.expr) (b' : Tree S tree.expr). tree.index a' b' s) p.fixed (later (omega arith) q);
     next = omega arith;
   }
 
@@ -58,7 +48,7 @@ module _ {S : Type 0} where
       → Counts n a i → CountsAll i b m
       → Counts n (tree.call a b s) m
   call_counts {n} {i} {m} {a} {b} {s} p q = record {
-    fixed = ap2 (λ (a' : Tree S tree.expr) (b' : Forest S tree.expr). tree.call a' b' s) p.fixed
+    fixed = ap₂ (λ (a' : Tree S tree.expr) (b' : Forest S tree.expr). tree.call a' b' s) p.fixed
         (later_all (omega arith) q);
     next = omega arith;
   }
@@ -67,7 +57,7 @@ module _ {S : Type 0} where
       → Counts n a i → CountsAll i b m
       → Counts n (tree.new a b s) m
   new_counts {n} {i} {m} {a} {b} {s} p q = record {
-    fixed = ap2 (λ (a' : Tree S tree.expr) (b' : Forest S tree.expr). tree.new a' b' s) p.fixed
+    fixed = ap₂ (λ (a' : Tree S tree.expr) (b' : Forest S tree.expr). tree.new a' b' s) p.fixed
         (later_all (omega arith) q);
     next = omega arith;
   }
@@ -76,7 +66,7 @@ module _ {S : Type 0} where
       → Counts n a i → Counts i b m
       → Counts n (tree.binary u a b s) m
   binary_counts {n} {i} {m} {u} {a} {b} {s} p q = record {
-    fixed = ap2 (λ (a' : Tree S tree.expr) (b' : Tree S tree.expr). tree.binary u a' b' s) p.fixed
+    fixed = ap₂ (λ (a' : Tree S tree.expr) (b' : Tree S tree.expr). tree.binary u a' b' s) p.fixed
         (later (omega arith) q);
     next = omega arith;
   }
@@ -85,7 +75,7 @@ module _ {S : Type 0} where
       → Counts n a i → Counts i b m
       → Counts n (tree.and a b s) m
   and_counts {n} {i} {m} {a} {b} {s} p q = record {
-    fixed = ap2 (λ (a' : Tree S tree.expr) (b' : Tree S tree.expr). tree.and a' b' s) p.fixed (later (omega arith) q);
+    fixed = ap₂ (λ (a' : Tree S tree.expr) (b' : Tree S tree.expr). tree.and a' b' s) p.fixed (later (omega arith) q);
     next = omega arith;
   }
 
@@ -93,7 +83,7 @@ module _ {S : Type 0} where
       → Counts n a i → Counts i b m
       → Counts n (tree.or a b s) m
   or_counts {n} {i} {m} {a} {b} {s} p q = record {
-    fixed = ap2 (λ (a' : Tree S tree.expr) (b' : Tree S tree.expr). tree.or a' b' s) p.fixed (later (omega arith) q);
+    fixed = ap₂ (λ (a' : Tree S tree.expr) (b' : Tree S tree.expr). tree.or a' b' s) p.fixed (later (omega arith) q);
     next = omega arith;
   }
 
@@ -101,7 +91,7 @@ module _ {S : Type 0} where
       → Counts n a i → Counts i b j → Counts j c m
       → Counts n (tree.conditional a b c s) m
   conditional_counts {n} {i} {j} {m} {a} {b} {c} {s} p q r = record {
-    fixed = ap3 (λ (a' : Tree S tree.expr) (b' : Tree S tree.expr) (c' : Tree S tree.expr). tree.conditional a' b' c'
+    fixed = ap₃ (λ (a' : Tree S tree.expr) (b' : Tree S tree.expr) (c' : Tree S tree.expr). tree.conditional a' b' c'
         s) p.fixed (later (omega arith) q) (later (omega arith) r);
     next = omega arith;
   }
@@ -110,7 +100,7 @@ module _ {S : Type 0} where
       → Counts n a i → Counts i b m
       → Counts n (tree.assign u a b s) m
   assign_counts {n} {i} {m} {u} {a} {b} {s} p q = record {
-    fixed = ap2 (λ (a' : Tree S tree.target) (b' : Tree S tree.expr). tree.assign u a' b' s) p.fixed
+    fixed = ap₂ (λ (a' : Tree S tree.target) (b' : Tree S tree.expr). tree.assign u a' b' s) p.fixed
         (later (omega arith) q);
     next = omega arith;
   }
@@ -119,7 +109,7 @@ module _ {S : Type 0} where
       → Counts n a i → Counts i b m
       → Counts n (tree.comma a b s) m
   comma_counts {n} {i} {m} {a} {b} {s} p q = record {
-    fixed = ap2 (λ (a' : Tree S tree.expr) (b' : Tree S tree.expr). tree.comma a' b' s) p.fixed (later (omega arith) q);
+    fixed = ap₂ (λ (a' : Tree S tree.expr) (b' : Tree S tree.expr). tree.comma a' b' s) p.fixed (later (omega arith) q);
     next = omega arith;
   }
 
@@ -127,7 +117,7 @@ module _ {S : Type 0} where
       → Counts n a i → Counts i b m
       → Counts n (tree.to_index a b s) m
   to_index_counts {n} {i} {m} {a} {b} {s} p q = record {
-    fixed = ap2 (λ (a' : Tree S tree.expr) (b' : Tree S tree.expr). tree.to_index a' b' s) p.fixed
+    fixed = ap₂ (λ (a' : Tree S tree.expr) (b' : Tree S tree.expr). tree.to_index a' b' s) p.fixed
         (later (omega arith) q);
     next = omega arith;
   }
@@ -137,7 +127,7 @@ module _ {S : Type 0} where
       → Counts n a i → CountsAll i b j → CountsIfPresent j c m
       → Counts n (tree.if_else a b c s) m
   if_else_counts {n} {i} {j} {m} {a} {b} {c} {s} p q r = record {
-    fixed = ap3 (λ (a' : Tree S tree.expr) (b' : Forest S tree.stmt) (c' : OptionalTree S tree.branch). tree.if_else
+    fixed = ap₃ (λ (a' : Tree S tree.expr) (b' : Forest S tree.stmt) (c' : OptionalTree S tree.branch). tree.if_else
         a' b' c' s) p.fixed (later_all (omega arith) q) (later_optional (omega arith) r);
     next = omega arith;
   }
@@ -146,7 +136,7 @@ module _ {S : Type 0} where
       → CountsAll n a i → Counts i b m
       → Counts n (tree.do_while a b s) m
   do_while_counts {n} {i} {m} {a} {b} {s} p q = record {
-    fixed = ap2 (λ (a' : Forest S tree.stmt) (b' : Tree S tree.expr). tree.do_while a' b' s) p.fixed
+    fixed = ap₂ (λ (a' : Forest S tree.stmt) (b' : Tree S tree.expr). tree.do_while a' b' s) p.fixed
         (later (omega arith) q);
     next = omega arith;
   }
@@ -155,7 +145,7 @@ module _ {S : Type 0} where
       → Counts n a i → CountsAll i b m
       → Counts n (tree.while a b s) m
   while_counts {n} {i} {m} {a} {b} {s} p q = record {
-    fixed = ap2 (λ (a' : Tree S tree.expr) (b' : Forest S tree.stmt). tree.while a' b' s) p.fixed
+    fixed = ap₂ (λ (a' : Tree S tree.expr) (b' : Forest S tree.stmt). tree.while a' b' s) p.fixed
         (later_all (omega arith) q);
     next = omega arith;
   }
@@ -165,7 +155,7 @@ module _ {S : Type 0} where
       → Counts n a i → CountsIfPresent i b j → CountsIfPresent j c k → CountsAll k d m
       → Counts n (tree.for a b c d s) m
   for_counts {n} {i} {j} {k} {m} {a} {b} {c} {d} {s} p q r z = record {
-    fixed = ap4 (λ (a' : Tree S tree.init) (b' : OptionalTree S tree.expr) (c' : OptionalTree S tree.expr)
+    fixed = ap₄ (λ (a' : Tree S tree.init) (b' : OptionalTree S tree.expr) (c' : OptionalTree S tree.expr)
         (d' : Forest S tree.stmt). tree.for a' b' c' d' s) p.fixed (later_optional (omega arith) q)
         (later_optional (omega arith) r) (later_all (omega arith) z);
     next = omega arith;
@@ -175,7 +165,7 @@ module _ {S : Type 0} where
       → Counts n a i → CountsAll i b m
       → Counts n (tree.for_in u v a b s) m
   for_in_counts {n} {i} {m} {u} {v} {a} {b} {s} p q = record {
-    fixed = ap2 (λ (a' : Tree S tree.expr) (b' : Forest S tree.stmt). tree.for_in u v a' b' s) p.fixed
+    fixed = ap₂ (λ (a' : Tree S tree.expr) (b' : Forest S tree.stmt). tree.for_in u v a' b' s) p.fixed
         (later_all (omega arith) q);
     next = omega arith;
   }
@@ -184,7 +174,7 @@ module _ {S : Type 0} where
       → Counts n a i → CountsAll i b m
       → Counts n (tree.switch a b s) m
   switch_counts {n} {i} {m} {a} {b} {s} p q = record {
-    fixed = ap2 (λ (a' : Tree S tree.expr) (b' : Forest S tree.clause). tree.switch a' b' s) p.fixed
+    fixed = ap₂ (λ (a' : Tree S tree.expr) (b' : Forest S tree.clause). tree.switch a' b' s) p.fixed
         (later_all (omega arith) q);
     next = omega arith;
   }
@@ -194,7 +184,7 @@ module _ {S : Type 0} where
       → CountsAll n a i → CountsIfPresent i b j → CountsIfPresent j c m
       → Counts n (tree.try a b c s) m
   try_counts {n} {i} {j} {m} {a} {b} {c} {s} p q r = record {
-    fixed = ap3 (λ (a' : Forest S tree.stmt) (b' : OptionalTree S tree.handler) (c' : OptionalTree S tree.branch).
+    fixed = ap₃ (λ (a' : Forest S tree.stmt) (b' : OptionalTree S tree.handler) (c' : OptionalTree S tree.branch).
         tree.try a' b' c' s) p.fixed (later_optional (omega arith) q) (later_optional (omega arith) r);
     next = omega arith;
   }
@@ -203,7 +193,7 @@ module _ {S : Type 0} where
       → CountsAll n a i → CountsAll i b m
       → Counts n (tree.body u a b) m
   body_counts {n} {i} {m} {u} {a} {b} p q = record {
-    fixed = ap2 (λ (a' : Forest S tree.func) (b' : Forest S tree.stmt). tree.body u a' b') p.fixed
+    fixed = ap₂ (λ (a' : Forest S tree.func) (b' : Forest S tree.stmt). tree.body u a' b') p.fixed
         (later_all (omega arith) q);
     next = omega arith;
   }
@@ -212,7 +202,7 @@ module _ {S : Type 0} where
       → CountsIfPresent n a i → CountsAll i b m
       → Counts n (tree.case a b) m
   case_counts {n} {i} {m} {a} {b} p q = record {
-    fixed = ap2 (λ (a' : OptionalTree S tree.expr) (b' : Forest S tree.stmt). tree.case a' b') p.fixed
+    fixed = ap₂ (λ (a' : OptionalTree S tree.expr) (b' : Forest S tree.stmt). tree.case a' b') p.fixed
         (later_all (omega arith) q);
     next = omega arith;
   }
@@ -396,7 +386,7 @@ module _ {S : Type 0} where
   pub one_counts : {n i m : ℕ} {x : Sort} {t : Tree S x} {l : Forest S x} → Counts n t i → CountsAll i l m
       → CountsAll n (tree.more t l) m
   one_counts {n} {i} {m} {x} {t} {l} p q = record {
-    fixed = ap2 (λ (u : Tree S x) (v : Forest S x). tree.more u v) p.fixed (later_all (omega arith) q);
+    fixed = ap₂ (λ (u : Tree S x) (v : Forest S x). tree.more u v) p.fixed (later_all (omega arith) q);
     next = omega arith;
   }
 

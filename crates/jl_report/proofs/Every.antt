@@ -1,4 +1,4 @@
--- The report of all rules: a number that is no rule's has no hits.
+-- Reports by tests that agree on all rules: a number that is no rule's has no hits.
 use Rattle.std.proofs.Common.{◌≡◌, ℕ, zero, suc, ◌≤◌, Bool, true, false, ◌&&◌, not, nat_lt, List, [], None}
 use Rattle.std.proofs.Common.{if◌then◌else◌}
 use Rattle.std.proofs.Common.{◌⊎◌, inl, inr, refl, sym, ap, ◌∙◌, arith, count_by}
@@ -30,23 +30,31 @@ none_at : (places : List Place) (ops : List Operation) (rule : ℕ) (at : Place)
     → hits_at places ops rule at ≡ 0
 none_at places ops rule at e = ap (count_by (λ id. is_place at (place_of places id))) (no_hits_after rule [] ops e)
 
-no_line : (b on : Bool) (n : ℕ) → n ≡ 0
-    → (if b && on then if_any n else None) ≡ (if true && on then if_any n else None)
-no_line true on n e = refl
-no_line false true n e = sym (ap if_any e)
-no_line false false n e = refl
+no_line : (b d on : Bool) (n : ℕ) → n ≡ 0 → (if b && on then if_any n else None) ≡ (if d && on then if_any n else None)
+no_line true true on n e = refl
+no_line false false on n e = refl
+no_line true false true n e = ap if_any e
+no_line true false false n e = refl
+no_line false true true n e = sym (ap if_any e)
+no_line false true false n e = refl
+
+-- reports by tests that agree on all rules
+pub same_reports : (chosen other : ℕ → Bool) → ((rule : ℕ) → IsRule rule → chosen rule ≡ other rule)
+    → (off : List Pair) (places : List Place) (ops : List Operation) (lines : List Line)
+    → IsReport chosen off places ops lines → IsReport other off places ops lines
+same_reports chosen other same off places ops lines is = record {
+  in_order = is.in_order;
+  counts = λ rule at. is.counts rule at ∙ (elim (rule_or_none rule) [
+    | inl listed ↦ ap (λ b. if b && not (is_off off at.0 rule) then if_any (hits_at places ops rule at) else None)
+        (same rule listed)
+    | inr none ↦ no_line (chosen rule) (other rule) (not (is_off off at.0 rule)) (hits_at places ops rule at)
+        (none_at places ops rule at none)
+  ]);
+}
 
 -- where all rules are chosen, no number has to be asked for
 pub of_every_rule : (chosen : ℕ → Bool) (off : List Pair) (places : List Place) (ops : List Operation)
     (lines : List Line)
     → ((rule : ℕ) → IsRule rule → chosen rule ≡ true) → IsReport chosen off places ops lines
     → IsReport (λ rule. true) off places ops lines
-of_every_rule chosen off places ops lines all is = record {
-  in_order = is.in_order;
-  counts = λ rule at. is.counts rule at ∙ (elim (rule_or_none rule) [
-    | inl listed ↦ ap (λ b. if b && not (is_off off at.0 rule) then if_any (hits_at places ops rule at) else None)
-        (all rule listed)
-    | inr none ↦ no_line (chosen rule) (not (is_off off at.0 rule)) (hits_at places ops rule at)
-        (none_at places ops rule at none)
-  ]);
-}
+of_every_rule chosen off places ops lines all = same_reports chosen (λ rule. true) all off places ops lines

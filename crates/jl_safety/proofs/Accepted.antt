@@ -1,38 +1,16 @@
 -- A script without early errors is sound.
-use Rattle.std.proofs.Common.{◌≡◌, ℕ, ◌+◌, [], Bool, true, false}
+use Rattle.std.proofs.Common.{◌≡◌, ℕ, ◌+◌, []}
 use Rattle.jl_text.specs.declared.span.Span.{Span}
 use Rattle.jl_ast.specs.Tree as tree
-use Rattle.jl_ast.specs.Tree.{Forest, OptionalTree, Sort, Text, Tree}
+use Rattle.jl_ast.specs.Tree.{Forest, OptionalTree, Sort, Tree}
 use Rattle.jl_ast.specs.declared.ops.UnOp.TheVariants as un
-use Rattle.jl_scope.specs.EarlyErrors.{early_errors, for_in_early_errors, forest_early_errors}
-use Rattle.jl_scope.specs.EarlyErrors.{identifier_early_errors, optional_early_errors, read_early_errors}
-use Rattle.jl_scope.specs.EarlyErrors.{target_early_errors, written_early_errors}
+use Rattle.jl_scope.specs.EarlyErrors.{early_errors, forest_early_errors}
+use Rattle.jl_scope.specs.EarlyErrors.{optional_early_errors}
 use Rattle.jl_scope.specs.Scope.{in_a_loop, in_a_switch, in_catch, in_function_of, is_loop, under_label, Scope}
 use Rattle.jl_op.specs.Ids.{callee_with_ids, forest_with_ids, handler_with_ids, optional_with_ids, with_ids}
-use Rattle.jl_meaning.specs.forms.Names.{is_hooks}
+use Rattle.jl_meaning.proofs.NoEarlyErrors.{for_in, none, read, target, written}
 use Rattle.jl_safety.specs.inner.Sound.{AreSound, IsSound, IsSoundIfPresent}
-use Rattle.jl_safety.proofs.Scopes.{function_fits, is_false, none}
-
-module _ (s : Scope) (x : Text) (at : Span) where
-  identifier : identifier_early_errors s x at ≡ [] → is_hooks x ≡ false
-  unfolding identifier_early_errors
-  identifier e = is_false (is_hooks x) _ (none _ _ e).1
-
-  written : written_early_errors s x at ≡ [] → is_hooks x ≡ false
-  unfolding written_early_errors
-  written e = identifier (none _ _ e).1
-
-  read : read_early_errors s x at ≡ [] → is_hooks x ≡ false
-  unfolding read_early_errors
-  read e = identifier (none _ _ e).1
-
-  target : target_early_errors s x at ≡ [] → is_hooks x ≡ false
-  unfolding target_early_errors
-  target e = written (none _ _ e).1
-
-  for_in : (is_var : Bool) → for_in_early_errors s is_var x at ≡ [] → is_hooks x ≡ false
-  for_in true e = written e
-  for_in false e = target e
+use Rattle.jl_safety.proofs.Scopes.{function_fits}
 
 mutual
   pub sound : {x : Sort} (s : Scope) (t : Tree Span x) → early_errors s t ≡ [] → (n : ℕ) → IsSound (with_ids n t)

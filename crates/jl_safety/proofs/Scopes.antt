@@ -1,7 +1,6 @@
 -- In a script without early errors each jump has where to go.
-use Rattle.std.proofs.Common.{◌≡◌, ℕ, ◌+◌, List, [], ◌∷◌, ◌++◌, Bool, true, false, not, ◌&&◌, ◌||◌, Option, Some, None}
+use Rattle.std.proofs.Common.{◌≡◌, ℕ, List, [], ◌∷◌, Bool, true, false, not, ◌&&◌, ◌||◌, Option, Some, None}
 use Rattle.std.proofs.Common.{refl, ◌∙◌}
-use Rattle.std.specs.Prelude.{if◌then◌else◌}
 use Rattle.std.proofs.lemmas.List.Folds.{list_any-append}
 use Rattle.jl_text.specs.declared.span.Span.{Span}
 use Rattle.jl_ast.specs.Tree as tree
@@ -13,17 +12,9 @@ use Rattle.jl_scope.specs.Scope as around
 use Rattle.jl_scope.specs.Scope.{has_label, has_loop_label, in_catch, in_function_of, in_program, is_loop, Scope}
 use Rattle.jl_scope.specs.declared.rules.EarlyRule.{EarlyRule}
 use Rattle.jl_op.specs.Ids.{forest_with_ids, handler_with_ids, optional_with_ids, with_ids}
+use Rattle.jl_meaning.proofs.NoEarlyErrors.{none}
 use Rattle.jl_safety.specs.inner.Jumps.{in_a_loop, in_a_switch, nothing_around, under_label, AllJumpsFit, Around}
 use Rattle.jl_safety.specs.inner.Jumps.{BranchFits, ClausesFit, CodeFits, HandlerFits, JumpsFit}
-
--- both lists are empty
-pub none : {A : Type 0} (a b : List A) → (a ++ b) ≡ [] → (a ≡ []) × (b ≡ [])
-none [] b e = (refl, e)
-none (x ∷ a) b e = cc
-
-pub is_false : {A : Type 0} (b : Bool) (x : A) → (if b then x ∷ [] else []) ≡ [] → b ≡ false
-is_false true x e = cc
-is_false false x e = refl
 
 -- a rule that asks for this is not broken
 is_met : (b : Bool) (rule : EarlyRule) (at : Span) → broken_if (not b) rule at ≡ [] → b ≡ true

@@ -4,3 +4,4 @@ pub mod KeyLists
 pub mod Examples
 pub mod Order
 pub mod Binding
+pub mod Places

@@ -1,47 +1,15 @@
 -- A script without early errors is plain, where its compound assignments have operators of 11.13.
-use Rattle.std.proofs.Common.{◌≡◌, List, [], ◌∷◌, ◌++◌, Bool, true, false, refl}
-use Rattle.std.specs.Prelude.{if◌then◌else◌}
+use Rattle.std.proofs.Common.{◌≡◌, []}
 use Rattle.jl_text.specs.declared.span.Span.{Span}
 use Rattle.jl_ast.specs.Tree as tree
-use Rattle.jl_ast.specs.Tree.{Forest, OptionalTree, Sort, Text, Tree}
-use Rattle.jl_scope.specs.EarlyErrors.{early_errors, for_in_early_errors, forest_early_errors}
-use Rattle.jl_scope.specs.EarlyErrors.{identifier_early_errors, optional_early_errors, read_early_errors}
-use Rattle.jl_scope.specs.EarlyErrors.{target_early_errors, written_early_errors}
+use Rattle.jl_ast.specs.Tree.{Forest, OptionalTree, Sort, Tree}
+use Rattle.jl_scope.specs.EarlyErrors.{early_errors, forest_early_errors}
+use Rattle.jl_scope.specs.EarlyErrors.{optional_early_errors}
 use Rattle.jl_scope.specs.Scope.{in_a_loop, in_a_switch, in_catch, in_function_of, is_loop, under_label, Scope}
-use Rattle.jl_meaning.specs.forms.Names.{is_hooks}
+use Rattle.jl_meaning.proofs.NoEarlyErrors.{for_in, none, read, target, written}
 use Rattle.jl_simulation.specs.CompoundAssignments.{AllAssignByOperators, AssignsByOperators}
 use Rattle.jl_simulation.specs.CompoundAssignments.{AssignsByOperatorsIfPresent}
 use Rattle.jl_simulation.specs.Plain.{ArePlain, IsPlain, IsPlainIfPresent}
-
--- both lists are empty
-none : {A : Type 0} (a b : List A) → (a ++ b) ≡ [] → (a ≡ []) × (b ≡ [])
-none [] b e = (refl, e)
-none (x ∷ a) b e = cc
-
-is_false : {A : Type 0} (b : Bool) (x : A) → (if b then x ∷ [] else []) ≡ [] → b ≡ false
-is_false true x e = cc
-is_false false x e = refl
-
-module _ (s : Scope) (x : Text) (at : Span) where
-  identifier : identifier_early_errors s x at ≡ [] → is_hooks x ≡ false
-  unfolding identifier_early_errors
-  identifier e = is_false (is_hooks x) _ (none _ _ e).1
-
-  written : written_early_errors s x at ≡ [] → is_hooks x ≡ false
-  unfolding written_early_errors
-  written e = identifier (none _ _ e).1
-
-  read : read_early_errors s x at ≡ [] → is_hooks x ≡ false
-  unfolding read_early_errors
-  read e = identifier (none _ _ e).1
-
-  target : target_early_errors s x at ≡ [] → is_hooks x ≡ false
-  unfolding target_early_errors
-  target e = written (none _ _ e).1
-
-  for_in : (is_var : Bool) → for_in_early_errors s is_var x at ≡ [] → is_hooks x ≡ false
-  for_in true e = written e
-  for_in false e = target e
 
 mutual
   pub plain : {x : Sort} (s : Scope) (t : Tree Span x) → early_errors s t ≡ [] → AssignsByOperators t → IsPlain t

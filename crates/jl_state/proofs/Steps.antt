@@ -207,22 +207,22 @@ looks s k p t a e leads = record {
 }
 
 -- two continuations of a part between which no quiet run makes a difference
-pub gives_alike : (s : State) (p : Part (Answer Value)) (k l : Value → Part (Answer Value)) (t : State) (a : Act)
-    → ((v : Value) (kept : Operation → Bool) (n : ℕ) (w : RunState Store Operation)
-    → run language (quietly kept) (job (table_of s.functions)) n (and_then (as_value (k v)) (rest_of s)) w
-    ≡ run language (quietly kept) (job (table_of s.functions)) n (and_then (as_value (l v)) (rest_of s)) w)
+pub gives_alike : {A : Type 0} (s : State) (p : Part (Answer A)) (k l : A → Part (Answer Value)) (t : State) (a : Act)
+    → ((b : A) (kept : Operation → Bool) (n : ℕ) (w : RunState Store Operation)
+    → run language (quietly kept) (job (table_of s.functions)) n (and_then (as_value (k b)) (rest_of s)) w
+    ≡ run language (quietly kept) (job (table_of s.functions)) n (and_then (as_value (l b)) (rest_of s)) w)
     → Gives s (p >>= k) t a → Gives s (p >>= l) t a
-gives_alike s p k l t a alike leads = record { is = λ kept told. leads.is kept told ∙ same kept told }
+gives_alike {A} s p k l t a alike leads = record { is = λ kept told. leads.is kept told ∙ same kept told }
   where
-    later : (Value → Part (Answer Value)) → Answer Value → Part Completion
+    later : (A → Part (Answer Value)) → Answer A → Part Completion
     later m b = and_then (as_value (continue_with m b)) (rest_of s)
 
-    apart : (m : Value → Part (Answer Value)) → and_then (as_value (p >>= m)) (rest_of s) ≡ and_then p (later m)
+    apart : (m : A → Part (Answer Value)) → and_then (as_value (p >>= m)) (rest_of s) ≡ and_then p (later m)
     apart m =
         ap (λ q. and_then q (rest_of s)) (and_then-assoc p (continue_with m) (λ b. End (given_of b)))
         ∙ and_then-assoc p (λ b. as_value (continue_with m b)) (rest_of s)
 
-    each : (kept : Operation → Bool) (b : Answer Value) (n : ℕ) (w : RunState Store Operation)
+    each : (kept : Operation → Bool) (b : Answer A) (n : ℕ) (w : RunState Store Operation)
         → run language (quietly kept) (job (table_of s.functions)) n (later k b) w
         ≡ run language (quietly kept) (job (table_of s.functions)) n (later l b) w
     each kept (gives v) n w = alike v kept n w

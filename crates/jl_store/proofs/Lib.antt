@@ -16,5 +16,4 @@ pub mod MappedNames
 pub mod DeclaredBodies
 pub mod Lengths
 pub mod GlobalNames
-pub mod Places
 pub mod PutValues

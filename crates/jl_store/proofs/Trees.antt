@@ -12,7 +12,7 @@ use Rattle.jl_scope.specs.Mentions.{mentions}
 use Rattle.jl_scope.specs.Names.{arguments_name}
 use Rattle.jl_heap.specs.Objects.{Name}
 use Rattle.jl_store.specs.Declarations.{Declares}
-use Rattle.jl_store.proofs.Places.{mentions_same, variables_same}
+use Rattle.jl_scope.proofs.Places.{mentions_same, variables_same}
 use Rattle.jl_ast.proofs.Views.{body_is, function_is}
 use Rattle.jl_meaning.specs.FunctionObjects.{function_body, function_name, function_params}
 use Rattle.jl_store.specs.Plain.{names_of, plain_code, plain_function, plain_functions}

@@ -1,8 +1,9 @@
 -- The woven form of what holds statements: functions and programs.
 use Rattle.std.proofs.Common.{codes, if◌then◌else◌, ◌≡◌, ◌∙◌, ap, arith, refl, ℕ, ◌+◌, Bool, List, [], ◌∷◌, Option}
-use Rattle.std.proofs.Common.{false, map, option_map, true}
+use Rattle.std.proofs.Common.{false, map, option_map, true, ap₂}
 use Rattle.jl_ast.specs.Tree as tree
 use Rattle.jl_ast.specs.Tree.{Forest, Ident}
+use Rattle.jl_ast.proofs.Congruences.{ap₄}
 use Rattle.jl_op.specs.Chosen.{Kinds}
 use Rattle.jl_op.specs.Ids.{forest_id_count, forest_with_ids, ident_with_id, with_ids}
 use Rattle.jl_simulation.specs.HookCalls.{and_last, begin_and_end, enter_and_leave, hook}
@@ -12,7 +13,6 @@ use Rattle.jl_weave.specs.inner.Bare.{without_place}
 use Rattle.jl_weave.specs.inner.Forms.{beginning_form, ended_form, entry_form, first_if, is_begun}
 use Rattle.jl_weave.specs.inner.Forms.{is_entered, append_forest, left_form}
 use Rattle.jl_weave.proofs.Weaves.{Weaves, WeavesAfter, WeavesAll}
-use Rattle.jl_weave.proofs.Parts.{ap2, ap4}
 use Rattle.jl_weave.proofs.StatementForms.{label_is}
 
 labels_are : {S : Type 0} (n : ℕ) (l : List (Ident S)) →
@@ -42,7 +42,7 @@ module _ (chosen : Kinds) {S : Type 0} where
   -- statements after others, by what those are and by the id at which they are known to begin
   after : (l : Forest S tree.stmt) {first known l' : Stmts} {n next k : ℕ} → WeavesAfter chosen first l n l' next →
       first ≡ known → n ≡ k → l' ≡ append_forest known (woven_forest chosen (forest_with_ids k l))
-  after l w f e = w.is ∙ ap2 (λ first k. append_forest first (woven_forest chosen (forest_with_ids k l))) f e
+  after l w f e = w.is ∙ ap₂ (λ first k. append_forest first (woven_forest chosen (forest_with_ids k l))) f e
 
   pub function_woven : (m : ℕ) (x : Option (Ident S)) (params : List (Ident S)) (strict : Bool)
       (fs : Forest S tree.func) (l : Forest S tree.stmt) (s : S) {fs' : Forest (Unit {0}) tree.func}
@@ -55,7 +55,7 @@ module _ (chosen : Kinds) {S : Type 0} where
       let c = w.counted in let d = u.counted in
       let rest = woven_forest chosen (forest_with_ids (n + 2 + forest_id_count fs) l) in
       record {
-        is = e ∙ ap4 (λ x params fs l. tree.function m x params (tree.body strict fs l) tt) (label_is n x)
+        is = e ∙ ap₄ (λ x params fs l. tree.function m x params (tree.body strict fs l) tt) (label_is n x)
             (labels_are n params) w.is
             (g ∙ ap (left_form chosen n) (after l u f c) ∙ entered_is (is_entered chosen) n rest);
         counted = omega arith;
@@ -68,5 +68,5 @@ module _ (chosen : Kinds) {S : Type 0} where
       tree.body strict fs' whole ≡ woven_code chosen 1 (with_ids 3 (tree.body strict fs l))
   program_woven strict fs l w f u g =
       let rest = woven_forest chosen (forest_with_ids (3 + forest_id_count fs) l) in
-      ap2 (λ fs l. tree.body strict fs l) w.is
+      ap₂ (λ fs l. tree.body strict fs l) w.is
       (g ∙ ap (ended_form chosen 1) (after l u f w.counted) ∙ begun_is (is_begun chosen) 1 rest)

@@ -1,19 +1,11 @@
 -- Woven parts, wherever they stand.
 use Rattle.std.proofs.Common.{◌≡◌, ◌∙◌, ap, subst, sym, ℕ, ◌+◌, IfOk, Err, Ok, Result}
-use Rattle.jl_ast.specs.Tree as tree
 use Rattle.jl_ast.specs.Tree.{Forest, OptionalTree, Sort, Tree}
 use Rattle.jl_op.specs.Chosen.{Kinds}
 use Rattle.jl_op.specs.Ids.{forest_with_ids, id_count, optional_with_ids, with_ids}
 use Rattle.jl_simulation.specs.HookCalls.{Woven}
 use Rattle.jl_simulation.specs.Weaving.{weave, woven_forest, woven_optional}
 use Rattle.jl_weave.proofs.Weaves.{Weaves, WeavesAll, WeavesIfPresent}
-
-pub ap2 : {A B C : Type 0} (F : A → B → C) {a a' : A} {b b' : B} → a ≡ a' → b ≡ b' → F a b ≡ F a' b'
-ap2 F d e = cc (d, e)
-
-pub ap4 : {A B C D E : Type 0} (F : A → B → C → D → E) {a a' : A} {b b' : B} {c c' : C} {d d' : D} → a ≡ a' → b ≡ b' →
-    c ≡ c' → d ≡ d' → F a b c d ≡ F a' b' c' d'
-ap4 F e g h i = cc (e, g, h, i)
 
 -- what a call gives that is known to be something else
 pub given : {A B E : Type 0} (bare : A → B) (r : Result A E) {a b : B} → a ≡ b → IfOk r (λ made. bare made ≡ a) →

@@ -1,5 +1,5 @@
 -- The program that is made of woven parts.
-use Rattle.std.proofs.Common.{◌≡◌, ◌∙◌, ap, rules, sym, ◌+◌, Bool, List, ℕ}
+use Rattle.std.proofs.Common.{◌≡◌, ◌∙◌, ap, ap₂, rules, sym, ◌+◌, Bool, List, ℕ}
 use Rattle.jl_text.specs.declared.span.Span.{Span}
 use Rattle.jl_ast.specs.Spans.{tree_without_spans, without_spans}
 use Rattle.jl_ast.specs.Tree as tree
@@ -19,7 +19,6 @@ use Rattle.jl_weave.specs.inner.Forms.{beginning_form, ended_form}
 use Rattle.jl_weave.proofs.Weaves.{WeavesAfter, WeavesAll}
 use Rattle.jl_weave.proofs.Bodies.{program_woven}
 use Rattle.jl_weave.proofs.ListViews.{functions_bare, statements_bare}
-use Rattle.jl_weave.proofs.Parts.{ap2}
 
 -- a body of the code as a tree
 body_seen : (strict : Bool) (fs : List Function) (l : List Stmt)
@@ -32,7 +31,7 @@ body_bare : (strict : Bool) (fs : List Function) (l : List Stmt)
     ≡ tree.body strict (bare_functions fs) (bare_statements l)
 body_bare strict fs l =
     ap tree_without_spans (body_seen strict fs l)
-    ∙ ap2 (λ fs l. tree.body strict fs l) (functions_bare fs) (statements_bare l)
+    ∙ ap₂ (λ fs l. tree.body strict fs l) (functions_bare fs) (statements_bare l)
 
 -- how many ids the parts of a program have
 pub count_of_parts : (p : Program) → id_count (view p).body

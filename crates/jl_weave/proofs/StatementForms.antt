@@ -2,6 +2,7 @@
 use Rattle.std.proofs.Common.{codes, ◌≡◌, ◌∙◌, ap, arith, refl, ℕ, ◌+◌, None, Option, Some, option_map}
 use Rattle.jl_ast.specs.Tree as tree
 use Rattle.jl_ast.specs.Tree.{Forest, Ident, OptionalTree, Tree}
+use Rattle.jl_ast.proofs.Congruences.{ap₄}
 use Rattle.jl_op.specs.Chosen.{Kinds}
 use Rattle.jl_op.specs.Ids.{ident_with_id, id_count, one_if_present}
 use Rattle.jl_op.specs.Ids.{optional_id_count, optional_with_ids}
@@ -11,7 +12,7 @@ use Rattle.jl_simulation.specs.Weaving.{weave, woven_optional, woven_test}
 use Rattle.jl_weave.specs.inner.Bare.{without_place}
 use Rattle.jl_weave.specs.inner.Forms.{told_if_present}
 use Rattle.jl_weave.proofs.Weaves.{Weaves, WeavesAll, WeavesIfPresent}
-use Rattle.jl_weave.proofs.Parts.{ap4, part, part_if_present, parts}
+use Rattle.jl_weave.proofs.Parts.{part, part_if_present, parts}
 
 -- a name without its place has none once it has an id
 pub label_is : {S : Type 0} (n : ℕ) (x : Option (Ident S)) →
@@ -47,7 +48,7 @@ module _ (chosen : Kinds) {S : Type 0} where
       let k' : q ≡ n + one_if_present v + id_count i + optional_id_count v = omega arith in
       let k'' : r ≡ n + one_if_present v + id_count i + optional_id_count v + optional_id_count u = omega arith in
       record {
-        is = e ∙ ap4 (λ i v u l. tree.for i v u l tt) (part chosen i w f)
+        is = e ∙ ap₄ (λ i v u l. tree.for i v u l tt) (part chosen i w f)
             (t ∙ ap (told_if_present chosen kind.Conditional (hook_1 (codes "C") n)) (part_if_present chosen v x k)
             ∙ test_is chosen n (optional_with_ids (n + one_if_present v + id_count i) v))
             (part_if_present chosen u y k') (parts chosen l z k'');

@@ -1,6 +1,6 @@
 -- A list of which the first items are woven, and the others not yet.
 use Rattle.std.proofs.Common.{◌≡◌, ◌∙◌, ap, arith, refl, sym, ℕ, ◌+◌, ◌<◌, suc, List, [], ◌∷◌, ◌++◌, drop, get_or}
-use Rattle.std.proofs.Common.{add-one, drop-cons, length}
+use Rattle.std.proofs.Common.{add-one, drop-cons, length, ap₂}
 use Rattle.std.proofs.lemmas.List.{drop_all}
 use Rattle.jl_text.specs.declared.span.Span.{Span}
 use Rattle.jl_ast.specs.Tree as tree
@@ -8,12 +8,11 @@ use Rattle.jl_ast.specs.Tree.{Forest, Sort, Tree}
 use Rattle.jl_op.specs.Chosen.{Kinds}
 use Rattle.jl_op.specs.Ids.{forest_id_count, forest_with_ids, id_count}
 use Rattle.jl_simulation.specs.HookCalls.{Woven}
-use Rattle.jl_simulation.specs.Weaving.{weave, woven_forest}
+use Rattle.jl_simulation.specs.Weaving.{woven_forest}
 use Rattle.jl_weave.specs.inner.Bare.{bare_all}
 use Rattle.jl_weave.specs.inner.Forms.{append_forest}
 use Rattle.jl_weave.specs.inner.Woven.{HasIds}
 use Rattle.jl_weave.proofs.Weaves.{Weaves}
-use Rattle.jl_weave.proofs.Parts.{ap2}
 
 -- how items are seen: one of them and a list of them, and one without its places
 pub record Seen (A : Type 0) (x : Sort) : Type 0 where
@@ -53,7 +52,7 @@ module _ (chosen : Kinds) {A : Type 0} {x : Sort} (seen : Seen A x) where
       seen.all (drop k l) ≡ tree.more (seen.one a) (seen.all (drop (k + 1) l))
   split l k a h i =
       ap seen.all (drop-cons l k a h) ∙ seen.next (get_or l k a) (drop (suc k) l)
-      ∙ ap2 (λ a l. tree.more (seen.one a) (seen.all l)) (sym i) (ap (λ k. drop k l) (sym (add-one k)))
+      ∙ ap₂ (λ a l. tree.more (seen.one a) (seen.all l)) (sym i) (ap (λ k. drop k l) (sym (add-one k)))
 
   pub item_has_ids : (first : Forest (Unit {0}) x) (l made : List A) (k from next : ℕ) (a : A) →
       Halfway chosen seen first l made k from next → k < length l → a ≡ get_or l k a →
@@ -71,7 +70,7 @@ module _ (chosen : Kinds) {A : Type 0} {x : Sort} (seen : Seen A x) where
       let unrolled : woven_forest chosen (forest_with_ids next (seen.all (drop k l)))
       ≡ tree.more (seen.bare b) (woven_forest chosen (forest_with_ids later rest)) =
       ap (λ f. woven_forest chosen (forest_with_ids next f)) s
-      ∙ ap2 (λ t n. tree.more t (woven_forest chosen (forest_with_ids n rest))) (sym u.is) (sym u.counted) in
+      ∙ ap₂ (λ t n. tree.more t (woven_forest chosen (forest_with_ids n rest))) (sym u.is) (sym u.counted) in
       let p = ap forest_id_count s in let c = w.counted in let d = u.counted in
       record {
         so_far = ap (λ m. append_forest (bare_all seen.bare m) (woven_forest chosen (forest_with_ids later rest))) m

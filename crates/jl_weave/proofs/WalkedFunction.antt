@@ -1,5 +1,5 @@
 -- A function of the code of which each part is woven.
-use Rattle.std.proofs.Common.{◌≡◌, ◌∙◌, ap, map, option_map, refl, ℕ, ◌+◌, List, [], ◌∷◌, None, Option, Some}
+use Rattle.std.proofs.Common.{◌≡◌, ◌∙◌, ap, ap₂, map, option_map, refl, ℕ, ◌+◌, List, [], ◌∷◌, None, Option, Some}
 use Rattle.jl_ast.specs.Tree as tree
 use Rattle.jl_ast.specs.View.{view_function, view_functions, view_ident, view_statements}
 use Rattle.jl_ast.specs.declared.tree.Body.{out-Body}
@@ -13,7 +13,7 @@ use Rattle.jl_weave.specs.inner.Bare.{bare_function, bare_functions, bare_ident,
 use Rattle.jl_weave.specs.inner.Forms.{entry_form, left_form}
 use Rattle.jl_weave.specs.inner.Woven.{woven_after_at, woven_all_at}
 use Rattle.jl_weave.proofs.Bodies.{function_woven}
-use Rattle.jl_weave.proofs.Parts.{all_from, ap2, placed}
+use Rattle.jl_weave.proofs.Parts.{all_from, placed}
 use Rattle.jl_weave.proofs.Weaves.{Weaves}
 
 name_unplaced : (x : Option Ident) → option_map bare_ident x ≡ option_map without_place (option_map view_ident x)
@@ -57,6 +57,6 @@ function_walked chosen f made name params fs fs' l first l' whole id from n p ne
       counted = d ∙ ap (λ l. p + forest_id_count (view_statements l)) l_is;
     })
     (h ∙ ap (λ id. left_form chosen id (bare_statements l')) i)
-    (m ∙ ap2 (λ x y. tree.function o.number x y (tree.body b.strict (bare_functions fs') (bare_statements whole)) tt)
+    (m ∙ ap₂ (λ x y. tree.function o.number x y (tree.body b.strict (bare_functions fs') (bare_statements whole)) tt)
     (ap (option_map bare_ident) name_is ∙ name_unplaced o.name)
     (ap (map bare_ident) params_are ∙ names_unplaced o.params)))

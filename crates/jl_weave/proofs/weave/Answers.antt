@@ -1,10 +1,9 @@
-use Rattle.std.proofs.Common.{◌∙◌, ap, arith, ◌+◌}
+use Rattle.std.proofs.Common.{◌∙◌, ap, ap₂, arith, ◌+◌}
 use Rattle.jl_ast.specs.View.{view_functions, view_statements}
 use Rattle.jl_op.specs.Ids.{forest_id_count}
 use Rattle.jl_op.specs.KindSets.{is_member}
 use Rattle.jl_weave.specs.inner.Bare.{bare_statements}
 use Rattle.jl_weave.specs.inner.Woven.{woven_after_at, woven_all_at}
-use Rattle.jl_weave.proofs.Parts.{ap2}
 use Rattle.jl_weave.proofs.Programs.{count_of_parts, whole_woven}
 use Rattle.jl_weave.proofs.weave.Goals as goal
 
@@ -31,9 +30,9 @@ returns c =
     whole_woven chosen p c.in_ok-functions.functions c.in_ok-statements-2.statements p.span
     (record {
       is = c.in_ok-functions.ensures.woven
-          ∙ ap2 (λ n l. woven_all_at chosen n (view_functions l)) c.starting_at-ids.ensures c.items.ensures;
+          ∙ ap₂ (λ n l. woven_all_at chosen n (view_functions l)) c.starting_at-ids.ensures c.items.ensures;
       counted = c.in_ok-functions.ensures.counted
-          ∙ ap2 (λ n l. n + forest_id_count (view_functions l)) c.starting_at-ids.ensures c.items.ensures;
+          ∙ ap₂ (λ n l. n + forest_id_count (view_functions l)) c.starting_at-ids.ensures c.items.ensures;
     })
     c.in_ok-first.ensures
     (record {

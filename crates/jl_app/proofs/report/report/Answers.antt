@@ -5,7 +5,7 @@ use Rattle.jl_report.specs.Off.{Pair}
 use Rattle.jl_report.specs.Reports.{IsReport}
 use Rattle.jl_command.specs.Asked.{is_among}
 use Rattle.jl_app.specs.Reporting.{positions}
-use Rattle.jl_app.proofs.ChosenRules.{same_reports}
+use Rattle.jl_report.proofs.Every.{same_reports}
 use Rattle.jl_app.proofs.report.report.Goals as goal
 
 pub returns-clause-report : goal.returns-clause-report

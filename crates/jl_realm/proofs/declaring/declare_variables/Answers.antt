@@ -3,7 +3,7 @@ use Rattle.jl_ast.specs.View.{view_body}
 use Rattle.jl_meaning.specs.DeclarationBinding.{declare_global_variables}
 use Rattle.jl_store.specs.Answers.{ends_with}
 use Rattle.jl_store.specs.Comes.{Comes}
-use Rattle.jl_store.proofs.Places.{variables_same}
+use Rattle.jl_scope.proofs.Places.{variables_same}
 use Rattle.jl_realm.proofs.Faults.{variables_without_fault}
 use Rattle.jl_realm.proofs.declaring.declare_variables.Goals as goal
 
