@@ -1,6 +1,6 @@
 -- How high a list of parts is with one more.
-use Rattle.std.proofs.Common.{◌≡◌, ℕ, suc, ◌≤◌, ◌<◌, max, ap, ◌∙◌, List, [], ◌∷◌, ◌++◌, arith, refl}
-use Rattle.std.specs.Prelude.{Option, Some, None}
+use Rattle.std.proofs.Common.{◌≡◌, ℕ, suc, ◌≤◌, ◌<◌, max, ap, sym, subst, ◌∙◌, List, [], ◌∷◌, ◌++◌, arith, refl}
+use Rattle.std.specs.Prelude.{Option, Some, None, Err, IsErr, IsErrAnd, Ok, Result}
 use Rattle.jl_text.specs.declared.span.Span.{Span}
 use Rattle.jl_ast.specs.declared.tree.Case.{Case as CodeCase}
 use Rattle.jl_ast.specs.declared.tree.Entry.{Entry as CodeEntry}
@@ -16,7 +16,9 @@ use Rattle.jl_ast.specs.View.{view_expression, view_expressions, view_function, 
 use Rattle.jl_ast.specs.View.{view_statement, view_statements}
 use Rattle.std.proofs.lemmas.Bool.{le-leb, lt-leb}
 use Rattle.jl_grammar.specs.Reader.{succeed, node}
-use Rattle.jl_parse.specs.inner.Steps.{append}
+use Rattle.jl_parse.specs.declared.refusal.Stop.{Stop}
+use Rattle.jl_parse.specs.declared.refusal.Stop.TheVariants as stops
+use Rattle.jl_parse.specs.inner.Steps.{append, Gives, Refuses}
 use Rattle.jl_parse.proofs.Lists.{cases_push, declarators_push, entries_push, functions_push, statements_push}
 use Rattle.jl_parse.proofs.Turns.{expressions_push, hole_push, item_push}
 
@@ -63,12 +65,20 @@ case_higher l e = ap forest_height (cases_push l e) ∙ one_more (view_cases l) 
 
 -- whether a node of which the parts are so high is made
 
-pub made_low : {x : tree.Sort} (most h : ℕ) (t : Tree Span x) (j : ℕ) → height t ≡ suc h → h ≤ most
+pub made_low : {x : tree.Sort} {most h : ℕ} (t : Tree Span x) (j : ℕ) → height t ≡ h → h ≤ suc most
     → node most t j succeed ≡ Some (t, j)
 unfolding node
-made_low most h t j e l = rw (le-leb (height t) (suc most) (omega arith), node)
+made_low {x} {most} {h} t j e l = rw (le-leb (height t) (suc most) (omega arith), node)
 
 pub made_high : {x : tree.Sort} (most h : ℕ) (t : Tree Span x) (j : ℕ) → height t ≡ suc h → most < h
     → node most t j succeed ≡ None
 unfolding node
 made_high most h t j e l = rw (lt-leb (height t) (suc most) (omega arith), node)
+
+-- a node is refused for its height
+pub refused : {X : Type 0} {x : tree.Sort} (view : X → Tree Span x × ℕ) (most h j : ℕ) (t : Tree Span x)
+    (r : Result X Stop) (stop : Stop) → IsErr r × IsErrAnd r (λ e. e ≡ stop) → stop ≡ stops.At j → most < h
+    → height t ≡ suc h → Gives view r (node most t j succeed)
+refused view most h j t (Ok y) stop same is above high = absurd same.1
+refused view most h j t (Err e) stop same is above high =
+    subst (λ s. Refuses s (node most t j succeed)) (sym (same.1 ∙ is)) (made_high most h t j high above)

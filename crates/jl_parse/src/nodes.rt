@@ -36,14 +36,11 @@ fn expression_node(
     requires { height_of (view_expression_kind kind (span tokens.now at end)) ≡ suc height }
     ensures { MakesExpression tokens.now depth at end (view_expression_kind kind) result }
 {
-    if height > tokens.room(depth, at) {
-        // A call is one path in the proof, where letting go at the end is a path for each form of expression.
-        drop(kind);
-        return Err(Stop::At(end));
-    }
+    // What is refused lies in a box, which is let go of by a call: an expression would be, form by form.
     let span = tokens.span(at, end);
     let node = Box::new(alloc, Expr { kind, span })?;
-    Ok((Part::new(node, height + 1), end))
+    let height = tokens.node_height(depth, at, end, height)?;
+    Ok((Part::new(node, height), end))
 }
 
 /// An expression that is one token.
@@ -311,9 +308,7 @@ pub fn function_node(
         (span tokens.now at end)) end succeed) }
 {
     let height = body.height();
-    if height > tokens.room(depth, at) {
-        return Err(Stop::At(end));
-    }
+    let height = tokens.node_height(depth, at, end, height)?;
     let function = Function {
         number: 0,
         name,
@@ -321,7 +316,7 @@ pub fn function_node(
         body: body.into_node(),
         span: tokens.span(at, end),
     };
-    Ok((Part::new(function, height + 1), end))
+    Ok((Part::new(function, height), end))
 }
 
 /// A function as an expression (clause 13).

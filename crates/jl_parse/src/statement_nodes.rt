@@ -1,24 +1,24 @@
 //! The nodes of statements: each is refused where it is higher than its place allows.
 #![tactic(auto, using(jl_ast::proofs::Views::nodes))]
 
-ghost use Rattle.std.specs.Prelude.{◌≡◌, suc, None, option_map, Some};
+ghost use Rattle.std.specs.Prelude.{◌≡◌, ◌≤◌, suc, None, Ok, option_map, Some};
 ghost use Rattle.jl_ast.specs.Height.{height as height_of};
 ghost use Rattle.jl_ast.specs.Tree as tree;
 ghost use Rattle.jl_ast.specs.View.{view_case, view_cases, view_declarator, view_declarators, view_expression};
 ghost use Rattle.jl_ast.specs.View.{view_ident};
 ghost use Rattle.jl_ast.specs.View.{view_init, view_optional, view_statement, view_statement_kind, view_statements};
 ghost use Rattle.jl_grammar.specs.Tokens.{span};
-ghost use Rattle.jl_parse.specs.inner.Steps.{MakesStatement};
+ghost use Rattle.jl_parse.specs.inner.Steps.{MakesStatement, within};
 
 use crate::depth::Depth;
 use crate::part::Part;
-use crate::refusal::{Read, Stop};
+use crate::refusal::Read;
 use crate::tokens::Tokens;
 use jl_ast::{Case, Expr, ForInit, Ident, Stmt, StmtKind};
 use jl_text::List;
 use std::alloc::Global;
 
-// A statement from one place to another, of which the highest part is so high.
+// A statement from one place to another that is so high, which its place allows.
 fn statement_node(
     tokens: &Tokens,
     depth: Depth,
@@ -26,17 +26,13 @@ fn statement_node(
     end: usize,
     kind: StmtKind,
     height: u64,
-) -> Read<Part<Stmt>>
-    requires { height_of (view_statement_kind kind (span tokens.now at end)) ≡ suc height }
-    ensures { MakesStatement tokens.now depth at end (view_statement_kind kind) result }
+) -> (Part<Stmt>, usize)
+    requires high { height_of (view_statement_kind kind (span tokens.now at end)) ≡ height }
+    requires low { height ≤ suc ((within tokens.now depth).room at) }
+    ensures { MakesStatement tokens.now depth at end (view_statement_kind kind) (Ok result) }
 {
-    if height > tokens.room(depth, at) {
-        // A call is one path in the proof, where letting go at the end is a path for each form of statement.
-        drop(kind);
-        return Err(Stop::At(end));
-    }
     let span = tokens.span(at, end);
-    Ok((Part::new(Stmt { kind, span }, height + 1), end))
+    (Part::new(Stmt { kind, span }, height), end)
 }
 
 /// A statement without parts.
@@ -59,8 +55,9 @@ pub fn block_node(
     ensures { MakesStatement tokens.now depth at end (tree.block (view_statements body)) result }
 {
     let height = body.height();
+    let height = tokens.node_height(depth, at, end, height)?;
     let kind = StmtKind::Block(body.into_node());
-    statement_node(tokens, depth, at, end, kind, height)
+    Ok(statement_node(tokens, depth, at, end, kind, height))
 }
 
 /// A `var` statement (12.2).
@@ -74,8 +71,9 @@ pub fn var_node(
     ensures { MakesStatement tokens.now depth at end (tree.var (view_declarators declarators)) result }
 {
     let height = declarators.height();
+    let height = tokens.node_height(depth, at, end, height)?;
     let kind = StmtKind::Var(declarators.into_node());
-    statement_node(tokens, depth, at, end, kind, height)
+    Ok(statement_node(tokens, depth, at, end, kind, height))
 }
 
 /// An expression statement (12.4).
@@ -89,8 +87,9 @@ pub fn expression_statement_node(
     ensures { MakesStatement tokens.now depth at end (tree.expression (view_expression e.value)) result }
 {
     let height = e.height();
+    let height = tokens.node_height(depth, at, end, height)?;
     let kind = StmtKind::Expr(Box::into_inner(e.into_node()));
-    statement_node(tokens, depth, at, end, kind, height)
+    Ok(statement_node(tokens, depth, at, end, kind, height))
 }
 
 /// An `if` statement without an `else` (12.5).
@@ -107,8 +106,9 @@ pub fn if_node(
         (tree.if_else (view_expression test.value) (view_statements body) tree.absent) result }
 {
     let height = test.height().max(body.height());
+    let height = tokens.node_height(depth, at, end, height)?;
     let kind = StmtKind::If(Box::into_inner(test.into_node()), body.into_node(), None);
-    statement_node(tokens, depth, at, end, kind, height)
+    Ok(statement_node(tokens, depth, at, end, kind, height))
 }
 
 /// An `if` statement with an `else` (12.5).
@@ -126,12 +126,13 @@ pub fn if_else_node(
         (tree.present (tree.branch_of (view_statements other)))) result }
 {
     let height = test.height().max(body.height()).max(other.height());
+    let height = tokens.node_height(depth, at, end, height)?;
     let kind = StmtKind::If(
         Box::into_inner(test.into_node()),
         body.into_node(),
         Some(other.into_node()),
     );
-    statement_node(tokens, depth, at, end, kind, height)
+    Ok(statement_node(tokens, depth, at, end, kind, height))
 }
 
 /// A `do` statement (12.6.1).
@@ -147,8 +148,9 @@ pub fn do_node(
         (tree.do_while (view_statements body) (view_expression test.value)) result }
 {
     let height = body.height().max(test.height());
+    let height = tokens.node_height(depth, at, end, height)?;
     let kind = StmtKind::DoWhile(body.into_node(), Box::into_inner(test.into_node()));
-    statement_node(tokens, depth, at, end, kind, height)
+    Ok(statement_node(tokens, depth, at, end, kind, height))
 }
 
 /// A `while` statement (12.6.2).
@@ -164,8 +166,9 @@ pub fn while_node(
         result }
 {
     let height = test.height().max(body.height());
+    let height = tokens.node_height(depth, at, end, height)?;
     let kind = StmtKind::While(Box::into_inner(test.into_node()), body.into_node());
-    statement_node(tokens, depth, at, end, kind, height)
+    Ok(statement_node(tokens, depth, at, end, kind, height))
 }
 
 /// What stands in the brackets of a `for` (12.6.3): its first part, its test and its step.
@@ -192,13 +195,14 @@ pub fn for_node(
     let ForHead { init, test, step } = head;
     let height = init.height().max(test.height());
     let height = height.max(step.height()).max(body.height());
+    let height = tokens.node_height(depth, at, end, height)?;
     let kind = StmtKind::For(
         init.into_node(),
         test.into_node(),
         step.into_node(),
         body.into_node(),
     );
-    statement_node(tokens, depth, at, end, kind, height)
+    Ok(statement_node(tokens, depth, at, end, kind, height))
 }
 
 /// A `for` statement with an `in` (12.6.4).
@@ -216,13 +220,14 @@ pub fn for_in_node(
         (tree.for_in is_var (view_ident name) (view_expression object.value) (view_statements body)) result }
 {
     let height = object.height().max(body.height());
+    let height = tokens.node_height(depth, at, end, height)?;
     let kind = StmtKind::ForIn {
         is_var,
         name,
         object: Box::into_inner(object.into_node()),
         body: body.into_node(),
     };
-    statement_node(tokens, depth, at, end, kind, height)
+    Ok(statement_node(tokens, depth, at, end, kind, height))
 }
 
 /// A `return` statement with a value (12.9).
@@ -237,8 +242,9 @@ pub fn return_node(
     ensures { MakesStatement tokens.now depth at end (tree.return (tree.present (view_expression e.value))) result }
 {
     let height = e.height();
+    let height = tokens.node_height(depth, at, end, height)?;
     let kind = StmtKind::Return(Some(Box::into_inner(e.into_node())));
-    statement_node(tokens, depth, at, end, kind, height)
+    Ok(statement_node(tokens, depth, at, end, kind, height))
 }
 
 /// A statement with a label (12.12).
@@ -254,8 +260,10 @@ pub fn labelled_node(
     ensures { MakesStatement tokens.now depth at end (tree.labelled (view_ident label) (view_statement s)) result }
 {
     let height = s.height();
-    let kind = StmtKind::Labelled(label, Box::new(alloc, s.into_node())?);
-    statement_node(tokens, depth, at, end, kind, height)
+    let s = Box::new(alloc, s.into_node())?;
+    let height = tokens.node_height(depth, at, end, height)?;
+    let kind = StmtKind::Labelled(label, s);
+    Ok(statement_node(tokens, depth, at, end, kind, height))
 }
 
 /// A `switch` statement (12.11).
@@ -271,8 +279,9 @@ pub fn switch_node(
         result }
 {
     let height = e.height().max(clauses.height());
+    let height = tokens.node_height(depth, at, end, height)?;
     let kind = StmtKind::Switch(Box::into_inner(e.into_node()), clauses.into_node());
-    statement_node(tokens, depth, at, end, kind, height)
+    Ok(statement_node(tokens, depth, at, end, kind, height))
 }
 
 /// A `throw` statement (12.13).
@@ -286,8 +295,9 @@ pub fn throw_node(
     ensures { MakesStatement tokens.now depth at end (tree.throw (view_expression e.value)) result }
 {
     let height = e.height();
+    let height = tokens.node_height(depth, at, end, height)?;
     let kind = StmtKind::Throw(Box::into_inner(e.into_node()));
-    statement_node(tokens, depth, at, end, kind, height)
+    Ok(statement_node(tokens, depth, at, end, kind, height))
 }
 
 /// A `try` statement with a `catch` alone (12.14).
@@ -304,12 +314,13 @@ pub fn try_catch_node(
         (tree.present (tree.catch (view_ident caught.0) (view_statements caught.1))) tree.absent) result }
 {
     let height = body.height().max(caught.height());
+    let height = tokens.node_height(depth, at, end, height)?;
     let kind = StmtKind::Try {
         body: body.into_node(),
         catch: Some(caught.into_node()),
         finally: None,
     };
-    statement_node(tokens, depth, at, end, kind, height)
+    Ok(statement_node(tokens, depth, at, end, kind, height))
 }
 
 /// A `try` statement with a `finally` alone (12.14).
@@ -326,12 +337,13 @@ pub fn try_finally_node(
         (tree.present (tree.branch_of (view_statements last)))) result }
 {
     let height = body.height().max(last.height());
+    let height = tokens.node_height(depth, at, end, height)?;
     let kind = StmtKind::Try {
         body: body.into_node(),
         catch: None,
         finally: Some(last.into_node()),
     };
-    statement_node(tokens, depth, at, end, kind, height)
+    Ok(statement_node(tokens, depth, at, end, kind, height))
 }
 
 /// A `try` statement with both (12.14).
@@ -350,12 +362,13 @@ pub fn try_both_node(
         (tree.present (tree.branch_of (view_statements last)))) result }
 {
     let height = body.height().max(caught.height()).max(last.height());
+    let height = tokens.node_height(depth, at, end, height)?;
     let kind = StmtKind::Try {
         body: body.into_node(),
         catch: Some(caught.into_node()),
         finally: Some(last.into_node()),
     };
-    statement_node(tokens, depth, at, end, kind, height)
+    Ok(statement_node(tokens, depth, at, end, kind, height))
 }
 
 /// A variable without an initialiser (12.2).

@@ -1,5 +1,5 @@
 //! The tokens at the places of a list, counted from 0.
-ghost use Rattle.std.specs.Prelude.{◌≡◌, ◌≤◌, ◌<◌, ◌^◌, [], ◌∷◌, length, IfOk, nat_le, suc, false, true, option_map};
+ghost use Rattle.std.specs.Prelude.{◌≡◌, ◌≤◌, ◌<◌, ◌^◌, [], ◌∷◌, length, IfErr, IfOk, OnErr, OnOk, nat_le, suc, false, true, option_map};
 ghost use Rattle.jl_ast.specs.View.{view_ident};
 ghost use Rattle.jl_grammar.specs.Tokens.{terminal_at, line_at, text_at, number_at, key_at, strict_at, from_at};
 ghost use Rattle.jl_grammar.specs.Tokens.{to_at, span, ident_at, key_ident_at};
@@ -7,10 +7,12 @@ ghost use Rattle.jl_grammar.specs.Program.{last_end};
 ghost use Rattle.jl_grammar.specs.Next.{continues_at, is_directive};
 ghost use Rattle.jl_grammar.specs.Operators.{infix_operator, binary_operator, assign_operator};
 ghost use Rattle.jl_grammar.specs.Brackets.{bracket, open_brackets};
+ghost use Rattle.jl_parse.specs.declared.refusal.Stop.TheVariants.{At};
 ghost use Rattle.jl_parse.specs.inner.Steps.{is_end, infix_operator_of, within};
 
 use crate::depth::Depth;
 use crate::operators::{InfixOperator, continues_left, update_op};
+use crate::refusal::Stop;
 use crate::terminals::{is_comma, is_in, is_question};
 use jl_ast::{BinOp, Ident};
 use jl_grammar::{Terminal, assign_op, binary_op, has_spelling, terminal_of};
@@ -102,6 +104,26 @@ impl<'a> Tokens<'a> {
     {
         let brackets = depth.brackets.saturating_sub(self.open_brackets(at));
         depth.levels.saturating_sub(brackets)
+    }
+
+    /// How high a node from `at` to `end` is, of which the highest part is so high. Where that is more than its place
+    /// allows, nothing can be read on at `end`.
+    pub fn node_height(
+        &self,
+        depth: Depth,
+        at: usize,
+        end: usize,
+        highest: u64,
+    ) -> Result<u64, Stop>
+        ensures is { IfOk result (λ height. height ≡ suc highest) }
+        ensures low { OnOk result (highest ≤ (within self.now depth).room at) }
+        ensures high { OnErr result ((within self.now depth).room at < highest) }
+        ensures place { IfErr result (λ stop. stop ≡ At end) }
+    {
+        if highest > self.room(depth, at) {
+            return Err(Stop::At(end));
+        }
+        Ok(highest + 1)
     }
 
     /// Whether a node that begins there may have parts.

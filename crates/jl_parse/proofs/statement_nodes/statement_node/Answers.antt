@@ -1,12 +1,9 @@
-use Rattle.std.proofs.Common.{◌≡◌, ◌∙◌, ap, arith, rules}
+use Rattle.std.proofs.Common.{◌≡◌, ◌∙◌, arith, rules}
 use Rattle.jl_ast.proofs.Views.{nodes}
-use Rattle.jl_parse.proofs.Heights.{made_high, made_low}
+use Rattle.jl_parse.proofs.Heights.{made_low}
 use Rattle.jl_parse.proofs.statement_nodes.statement_node.Goals as goal
-
-pub returns-then-height-room : goal.returns-then-height-room
-returns-then-height-room c = made_high _ c.args.height _ _ c.requires (omega arith)
 
 pub returns : goal.returns
 returns c =
-    made_low _ c.args.height _ _ c.requires (omega arith)
+    made_low _ _ c.requires.high c.requires.low
     ∙ search (rules, nodes)
