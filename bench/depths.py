@@ -55,12 +55,8 @@ CHAINS = [
 # the gate runs by both builds, have them at 200 levels and at so many; a brace may be opened twice as often. At 1,000
 # the gate hands them to LLVM's build alone.
 FEWER = {
-    "if(a)": 700,
-    "if(a);else ": 700,
     "for(var a;;)": 700,
     "for(;;)": 700,
-    "for(a in b)": 700,
-    "while(a)": 700,
     "if(a){": 300,
     "try{": 300,
     "switch(a){case 0:": 300,
