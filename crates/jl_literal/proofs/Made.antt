@@ -44,9 +44,8 @@ noted : (s : State) (form : Option Op → Option Op) (v : Value) (o : Option Op)
     → Gives s (literal_of form 0 v) s (outcome o v)
 unfolding literal_of
 noted s form v o is =
-    gives_looked s (λ store. note_or_misuse performs 0 v (form (literal_op store.heap v))) (note_or_misuse performs 0 v o)
-    s
-    (outcome o v) (ap (note_or_misuse performs 0 v) (sym is)) (ended s v o)
+    gives_looked s (λ store. note_or_misuse performs 0 v (form (literal_op store.heap v)))
+    (note_or_misuse performs 0 v o) s (outcome o v) (ap (note_or_misuse performs 0 v) (sym is)) (ended s v o)
 
 abbrev literal_at : Store → ObjId → Option Op
 literal_at store id = object_literal id (object_at store.heap id.0).class (object_at store.heap id.0).inner

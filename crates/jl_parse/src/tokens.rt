@@ -1,5 +1,6 @@
 //! The tokens at the places of a list, counted from 0.
-ghost use Rattle.std.specs.Prelude.{◌≡◌, ◌≤◌, ◌<◌, ◌^◌, [], ◌∷◌, length, IfErr, IfOk, OnErr, OnOk, nat_le, suc, false, true, option_map};
+ghost use Rattle.std.specs.Prelude.{◌≡◌, ◌≤◌, ◌<◌, ◌^◌, [], ◌∷◌, length, nat_le, suc, false, true, option_map};
+ghost use Rattle.std.specs.Prelude.{IfErr, IfOk, OnErr, OnOk};
 ghost use Rattle.jl_ast.specs.View.{view_ident};
 ghost use Rattle.jl_grammar.specs.Tokens.{terminal_at, line_at, text_at, number_at, key_at, strict_at, from_at};
 ghost use Rattle.jl_grammar.specs.Tokens.{to_at, span, ident_at, key_ident_at};

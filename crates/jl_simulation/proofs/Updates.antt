@@ -206,7 +206,8 @@ module _ {chosen : Kinds} where
       (get_member how id base x >>= from_held how x) in
       bind_both (from performs) k (from emits) l le (algorithm (member_name base key))
       (λ x t. bind_both (from_held performs x) k (from_held emits x) l le (get_told id base x)
-      (λ held t. subst₂ (Matched chosen t c d) (sym (bind_assoc (update performs (id + 1) o held) (put_back performs x) k))
+      (λ held t. subst₂ (Matched chosen t c d)
+      (sym (bind_assoc (update performs (id + 1) o held) (put_back performs x) k))
       (sym (bind_assoc (update emits (id + 1) o held) (put_back emits x) l))
       (update_told o (id + 1) held (λ v. (put_back performs x v >>= k)) (λ v. (put_back emits x v >>= l)) le
       (λ n m e t. bind_both (λ _. give (n, value.Num m)) k (λ _. give (n, value.Num m)) l le

@@ -49,8 +49,8 @@ pub puts_length : (array : ObjId) (x : Name) (v w : Value) (change : Change) (fr
     → Comes (define_own_property array x change) from to (finish_of answer)
     → Comes (define_own_property array length_name (value_change v)) from to (finish_of end)
 puts_length array x v w change from to answer end name_is w_is change_is is comes =
-    subst (λ (f : Finished Bool). Comes (define_own_property array length_name (value_change v)) from to (finish_of f)) is
-    (subst (λ y. Comes (define_own_property array y (value_change v)) from to (finish_of answer))
+    subst (λ (f : Finished Bool). Comes (define_own_property array length_name (value_change v)) from to (finish_of f))
+    is (subst (λ y. Comes (define_own_property array y (value_change v)) from to (finish_of answer))
     (name_is ∙ sym length_is)
     (subst (λ m. Comes (define_own_property array x (value_change m)) from to (finish_of answer)) w_is
     (subst (λ c. Comes (define_own_property array x c) from to (finish_of answer)) change_is comes)))

@@ -6,7 +6,8 @@ use Rattle.jl_parse.proofs.nodes.function_node.Goals as goal
 
 pub returns-in_err-height : goal.returns-in_err-height
 returns-in_err-height c =
-    refused _ _ _ _ _ _ _ c.from_residual.ensures c.in_err-height.ensures.place c.in_err-height.ensures.high (omega arith)
+    refused _ _ _ _ _ _ _ c.from_residual.ensures c.in_err-height.ensures.place c.in_err-height.ensures.high
+    (omega arith)
 
 pub returns : goal.returns
 returns c =
