@@ -6,7 +6,8 @@ use Rattle.jl_op.specs.Chosen.{Kinds}
 use Rattle.jl_op.specs.declared.kind.OpKind.TheVariants as kind
 use Rattle.jl_examples.proofs.Computing as computing
 use Rattle.jl_examples.proofs.Running.{weaves}
-use Rattle.jl_examples.proofs.Trees.{script, name, number, object, value, dot, call, operator, compute, to_dot}
+use Rattle.jl_examples.proofs.Scripts.{quotient}
+use Rattle.jl_examples.proofs.Trees.{script, name, number, object, value, dot, call, compute, to_dot}
 use Rattle.jl_examples.proofs.Trees.{declarator, var, expression}
 
 abbrev operators : Kinds
@@ -31,31 +32,17 @@ keyed kind.DeleteField = true
 keyed _ = false
 
 --     print(0 / 0);
-abbrev nan_made : Program (Unit {0})
-nan_made =
-    script false [] (expression (call (name (codes "print")) (operator binary.Div (number 0) (number 0) ∷ [])) ∷ [])
-
-nan_made_holds : weaves operators nan_made (codes "NaN" ∷ codes "jlint: normal steps=9 hooks=1" ∷ []) ≡ true
+nan_made_holds : weaves operators quotient (codes "NaN" ∷ codes "jlint: normal steps=9 hooks=1" ∷ []) ≡ true
 unfolding computing.run
 nan_made_holds = refl
 
---     print(0 / 0);
-abbrev global_this : Program (Unit {0})
-global_this =
-    script false [] (expression (call (name (codes "print")) (operator binary.Div (number 0) (number 0) ∷ [])) ∷ [])
-
-global_this_holds : weaves of_global_this global_this
+global_this_holds : weaves of_global_this quotient
     (codes "NaN" ∷ codes "jlint: normal steps=8 hooks=0" ∷ [])
     ≡ true
 unfolding computing.run
 global_this_holds = refl
 
---     print(0 / 0);
-abbrev loose_equal : Program (Unit {0})
-loose_equal =
-    script false [] (expression (call (name (codes "print")) (operator binary.Div (number 0) (number 0) ∷ [])) ∷ [])
-
-loose_equal_holds : weaves binaries loose_equal (codes "NaN" ∷ codes "jlint: normal steps=9 hooks=1" ∷ []) ≡ true
+loose_equal_holds : weaves binaries quotient (codes "NaN" ∷ codes "jlint: normal steps=9 hooks=1" ∷ []) ≡ true
 unfolding computing.run
 loose_equal_holds = refl
 

@@ -4,6 +4,7 @@ use Rattle.jl_ast.specs.declared.ops.UnOp.TheVariants as un
 use Rattle.jl_ast.specs.Tree.{Program}
 use Rattle.jl_examples.proofs.Computing as computing
 use Rattle.jl_examples.proofs.Running.{executes, ends_with}
+use Rattle.jl_examples.proofs.Scripts.{hooked_quotient}
 use Rattle.jl_examples.proofs.Trees.{script, function_of, name, number, string, object, value, dot, index, call, new}
 use Rattle.jl_examples.proofs.Trees.{unary, declarator, var, expression, for_in, return}
 
@@ -11,28 +12,7 @@ use Rattle.jl_examples.proofs.Trees.{unary, declarator, var, expression, for_in,
 --     J$.F(3, J$.R(5, "print", print))(J$.B(6, "/", J$.T(7, 0), J$.T(8, 0)));
 --     J$.X(2);
 --
-abbrev exec_quotient : Program (Unit {0})
-exec_quotient =
-    script false []
-    (expression (call (dot (name (codes "J$")) (codes "S")) (number 1 ∷ []))
-    ∷ expression
-    (call
-    (call (dot (name (codes "J$")) (codes "F"))
-    (number 3
-    ∷ call (dot (name (codes "J$")) (codes "R"))
-    (number 5 ∷ string (codes "print") ∷ name (codes "print") ∷ [])
-    ∷ []))
-    (call (dot (name (codes "J$")) (codes "B"))
-    (number 6
-    ∷ string (codes "/")
-    ∷ call (dot (name (codes "J$")) (codes "T")) (number 7 ∷ number 0 ∷ [])
-    ∷ call (dot (name (codes "J$")) (codes "T")) (number 8 ∷ number 0 ∷ [])
-    ∷ [])
-    ∷ []))
-    ∷ expression (call (dot (name (codes "J$")) (codes "X")) (number 2 ∷ []))
-    ∷ [])
-
-exec_quotient_holds : executes 1000 exec_quotient
+exec_quotient_holds : executes 1000 hooked_quotient
     (codes "1 ScriptEnter"
     ∷ codes "5 Read 'print' [Function]"
     ∷ codes "7 Literal 0"

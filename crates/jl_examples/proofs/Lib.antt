@@ -1,6 +1,7 @@
 mod Computing
 mod Trees
 mod Running
+mod Scripts
 mod Woven
 mod Steps
 mod Budgets

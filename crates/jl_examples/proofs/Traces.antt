@@ -1,16 +1,10 @@
 -- What the hooks of woven scripts emit, line by line, with ids.
-use Rattle.std.specs.Prelude.{◌≡◌, refl, ◌∷◌, [], codes, true, false}
-use Rattle.jl_ast.specs.declared.ops.BinOp.TheVariants as binary
-use Rattle.jl_ast.specs.Tree.{Program}
+use Rattle.std.specs.Prelude.{◌≡◌, refl, ◌∷◌, [], codes, true}
 use Rattle.jl_examples.proofs.Computing as computing
 use Rattle.jl_examples.proofs.Running.{traces}
-use Rattle.jl_examples.proofs.Trees.{script, name, number, call, operator, expression}
+use Rattle.jl_examples.proofs.Scripts.{empty, quotient}
 
 --     print(0 / 0);
-abbrev quotient : Program (Unit {0})
-quotient =
-    script false [] (expression (call (name (codes "print")) (operator binary.Div (number 0) (number 0) ∷ [])) ∷ [])
-
 quotient_holds : traces quotient
     (codes "1 ScriptEnter"
     ∷ codes "5 Read 'print' [Function]"
@@ -26,13 +20,9 @@ quotient_holds : traces quotient
 unfolding computing.run
 quotient_holds = refl
 
---
-abbrev empty_2 : Program (Unit {0})
-empty_2 =
-    script false [] []
-
-empty_2_holds : traces empty_2
+-- no statement at all
+empty_holds : traces empty
     (codes "1 ScriptEnter" ∷ codes "2 ScriptExit" ∷ codes "jlint: normal steps=6 hooks=2" ∷ [])
     ≡ true
 unfolding computing.run
-empty_2_holds = refl
+empty_holds = refl

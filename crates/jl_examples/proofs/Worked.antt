@@ -8,7 +8,7 @@ use Rattle.jl_examples.proofs.Running.{prints}
 use Rattle.jl_examples.proofs.Trees.{script, function_of, this, name, number, string, boolean, null, array, hole}
 use Rattle.jl_examples.proofs.Trees.{filled, object, value, getter, function_expression, dot, call, new, unary}
 use Rattle.jl_examples.proofs.Trees.{update, operator, assign, to_name, to_dot, to_index, declarator, var, expression}
-use Rattle.jl_examples.proofs.Trees.{if_else, for_in, return, catch, try}
+use Rattle.jl_examples.proofs.Trees.{if_else, for_in, return}
 
 --     print(9007199254740990 + 1);
 abbrev at_the_limit : Program (Unit {0})
@@ -99,23 +99,6 @@ brackets_on_the_next_line =
 brackets_on_the_next_line_holds : prints brackets_on_the_next_line (codes "2" ∷ codes "jlint: normal" ∷ []) ≡ true
 unfolding computing.run
 brackets_on_the_next_line_holds = refl
-
---     function f() {
---       return
---       1
---     }
---     print(f());
-abbrev return_ends_at_the_line : Program (Unit {0})
-return_ends_at_the_line =
-    script false
-    (function_of 0 (Some (codes "f")) [] false [] (return None ∷ expression (number 1) ∷ []) ∷ [])
-    (expression (call (name (codes "print")) (call (name (codes "f")) [] ∷ [])) ∷ [])
-
-return_ends_at_the_line_holds : prints return_ends_at_the_line
-    (codes "undefined" ∷ codes "jlint: normal" ∷ [])
-    ≡ true
-unfolding computing.run
-return_ends_at_the_line_holds = refl
 
 --     var o = { a: 1, b: 2, c: 3, d: 4 }, k;
 --     for (k in o) { print(k); if (k === "a") { delete o.b; delete o.c; o.c = 5; o.e = 6; } }
@@ -303,29 +286,6 @@ function_text_holds : prints function_text (codes "function f() { [code] }" ∷ 
 unfolding computing.run
 function_text_holds = refl
 
---     try { Object.defineProperty(Object.freeze({ a: 1 }), "a", { value: 2 }); } catch (e) { print(e); }
-abbrev frozen : Program (Unit {0})
-frozen =
-    script false []
-    (try
-    (expression
-    (call
-    (dot (name (codes "Object")) (codes "defineProperty"))
-    (call
-    (dot (name (codes "Object")) (codes "freeze"))
-    (object (value (codes "a") (number 1) ∷ []) ∷ [])
-    ∷ string (codes "a")
-    ∷ object (value (codes "value") (number 2) ∷ [])
-    ∷ []))
-    ∷ [])
-    (catch (codes "e") (expression (call (name (codes "print")) (name (codes "e") ∷ [])) ∷ []))
-    None
-    ∷ [])
-
-frozen_holds : prints frozen (codes "TypeError: cannot define" ∷ codes "jlint: normal" ∷ []) ≡ true
-unfolding computing.run
-frozen_holds = refl
-
 --     print(new RangeError("x"));
 abbrev range_error : Program (Unit {0})
 range_error =
@@ -446,21 +406,6 @@ parse_and_print =
 parse_and_print_holds : prints parse_and_print (codes "31 35 5 ff x|" ∷ codes "jlint: normal" ∷ []) ≡ true
 unfolding computing.run
 parse_and_print_holds = refl
-
---     [].reduce(function () { });
-abbrev reduce_of_nothing : Program (Unit {0})
-reduce_of_nothing =
-    script false []
-    (expression
-    (call (dot (array []) (codes "reduce"))
-    (function_expression (function_of 0 None [] false [] []) ∷ []))
-    ∷ [])
-
-reduce_of_nothing_holds : prints reduce_of_nothing
-    (codes "uncaught TypeError: empty array" ∷ codes "jlint: thrown" ∷ [])
-    ≡ true
-unfolding computing.run
-reduce_of_nothing_holds = refl
 
 --     Math.max();
 abbrev no_greatest : Program (Unit {0})

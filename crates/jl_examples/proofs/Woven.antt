@@ -6,27 +6,20 @@ use Rattle.jl_ast.specs.Tree.{Program}
 use Rattle.jl_op.specs.Chosen.{every_kind}
 use Rattle.jl_examples.proofs.Computing as computing
 use Rattle.jl_examples.proofs.Running.{weaves}
-use Rattle.jl_examples.proofs.Trees.{script, function_of, name, number, string, boolean, null, dot, call, unary}
-use Rattle.jl_examples.proofs.Trees.{update, operator, assign, to_name, to_dot, declarator, var, expression, while}
-use Rattle.jl_examples.proofs.Trees.{break, return, throw, labelled, catch, no_catch, try}
+use Rattle.jl_examples.proofs.Scripts.{break_in_finally, empty, quotient, typeof_update}
+use Rattle.jl_examples.proofs.Trees.{script, function_of, name, number, string, null, dot, call, unary}
+use Rattle.jl_examples.proofs.Trees.{operator, assign, to_dot, expression}
+use Rattle.jl_examples.proofs.Trees.{throw, catch, try}
 
 --     print(0 / 0);
-abbrev quotient : Program (Unit {0})
-quotient =
-    script false [] (expression (call (name (codes "print")) (operator binary.Div (number 0) (number 0) ∷ [])) ∷ [])
-
 quotient_holds : weaves every_kind quotient (codes "NaN" ∷ codes "jlint: normal steps=23 hooks=8" ∷ []) ≡ true
 unfolding computing.run
 quotient_holds = refl
 
---
-abbrev empty_2 : Program (Unit {0})
-empty_2 =
-    script false [] []
-
-empty_2_holds : weaves every_kind empty_2 (codes "jlint: normal steps=6 hooks=2" ∷ []) ≡ true
+-- no statement at all
+empty_holds : weaves every_kind empty (codes "jlint: normal steps=6 hooks=2" ∷ []) ≡ true
 unfolding computing.run
-empty_2_holds = refl
+empty_holds = refl
 
 --     print(7 / 2);
 abbrev fraction : Program (Unit {0})
@@ -71,15 +64,6 @@ unfolding computing.run
 null_member_holds = refl
 
 --     var x = "5"; print(typeof x++, x);
-abbrev typeof_update : Program (Unit {0})
-typeof_update =
-    script false []
-    (var (declarator (codes "x") (Some (string (codes "5"))) ∷ [])
-    ∷ expression
-    (call (name (codes "print"))
-    (unary un.Typeof (update true false (to_name (codes "x"))) ∷ name (codes "x") ∷ []))
-    ∷ [])
-
 typeof_update_holds : weaves every_kind typeof_update
     (codes "number 6" ∷ codes "jlint: normal steps=37 hooks=12" ∷ [])
     ≡ true
@@ -88,18 +72,6 @@ typeof_update_holds = refl
 
 --     function f() { L: while (true) { try { return 1; } finally { break L; } } return 2; }
 --     print(f());
-abbrev break_in_finally : Program (Unit {0})
-break_in_finally =
-    script false
-    (function_of 0 (Some (codes "f")) [] false []
-    (labelled (codes "L")
-    (while (boolean true)
-    (try (return (Some (number 1)) ∷ []) no_catch (Some (break (Some (codes "L")) ∷ [])) ∷ []))
-    ∷ return (Some (number 2))
-    ∷ [])
-    ∷ [])
-    (expression (call (name (codes "print")) (call (name (codes "f")) [] ∷ [])) ∷ [])
-
 break_in_finally_holds : weaves every_kind break_in_finally
     (codes "2" ∷ codes "jlint: normal steps=51 hooks=16" ∷ [])
     ≡ true
