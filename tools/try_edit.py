@@ -24,19 +24,21 @@ METHOD = re.compile(r'\s*(?:pub(?:\(crate\))? )?(?:const )?fn (\w+)')
 IMPL = re.compile(r'(?:impl|pub trait|trait)\b(?:<[^{]*?>)? (?:[\w:<>\' ,]+ for )?(\w+)')
 
 
-def function_at(lines, path, at):
-    """The whole name, without the crate's, of the function that a line stands in, or the module where it is in none."""
+def function_at(crate, lines, path, at):
+    """The name of the function that a line stands in, or of the module where it is in none, as `--only` takes it."""
     stem = path.removeprefix('src/').removesuffix('.rt').replace('/', '::')
-    module = '' if stem in ('lib', 'main') else stem
+    module = crate if stem in ('lib', 'main') else f'{crate}::{stem}'
     for back in range(at, -1, -1):
         found = METHOD.match(lines[back])
         if not found:
             continue
-        owner = ''
         if lines[back][0].isspace():
             heads = (IMPL.match(line) for line in lines[back::-1])
-            owner = next((head.group(1) for head in heads if head), '')
-        return '::'.join(part for part in (module, owner, found.group(1)) if part)
+            owner = next((head.group(1) for head in heads if head), None)
+            if owner:
+                # the whole name has the module of the type, which may be another; the end of it does
+                return f'{owner}::{found.group(1)}'
+        return f'{module}::{found.group(1)}'
     return module
 
 
@@ -49,7 +51,7 @@ def touched(crate, texts):
         new = text.split('\n')
         for at, (before, after) in enumerate(zip(old, new)):
             if before != after:
-                names.add(f'{crate.name}::{function_at(new, path, at)}')
+                names.add(function_at(crate.name, new, path, at))
     return sorted(names)
 
 
