@@ -17,6 +17,7 @@ use Rattle.jl_meaning.specs.Store.{next_object}
 use Rattle.jl_meaning.specs.forms.Hooks.{Arguments}
 use Rattle.jl_meaning.specs.forms.Literals.{of_function, of_object}
 use Rattle.jl_meaning.specs.forms.Operators.{unary_kind}
+use Rattle.jl_meaning.proofs.MadeFunctions.{expression_same, make_same}
 use Rattle.jl_quiet.proofs.Bare.{bare, bare_forest}
 use Rattle.jl_quiet.proofs.Calls.{by_form_alike, call_member_alike, call_of_call_alike, call_value_alike, invoke_alike}
 use Rattle.jl_quiet.proofs.Calls.{ArgumentsAlike}
@@ -25,19 +26,20 @@ use Rattle.jl_quiet.proofs.Forms.{delete_alike}
 use Rattle.jl_quiet.proofs.Forms.{end_array_alike, literal_alike, literal_of_alike, operate_alike, operate_on_alike}
 use Rattle.jl_quiet.proofs.Forms.{read_alike, read_member_alike, typeof_alike, update_expression_alike}
 use Rattle.jl_quiet.proofs.Forms.{update_name_alike}
-use Rattle.jl_quiet.proofs.MadeFunctions.{expression_same, make_same}
+use Rattle.jl_quiet.proofs.MadeFunctions.{made_alike}
 use Rattle.jl_quiet.proofs.Relation.{bind, change_alike, itself, look_alike, pick, second_is, step_alike, Alike}
 
 make_alike : (c : Context) (f : Func)
     → Alike (lift (make_function c.strict c.env f)) (lift (make_function c.strict c.env (bare f)))
 make_alike c f =
-    second_is (ap (λ p. lift p) (make_same c.strict c.env f)) (itself (lift (make_function c.strict c.env f)))
+    second_is (ap (λ p. lift p) (make_same (made_alike f) c.strict c.env))
+    (itself (lift (make_function c.strict c.env f)))
 
 expression_alike : (c : Context) (f : Func)
     → Alike (lift (make_function_expression c.strict c.env f))
     (lift (make_function_expression c.strict c.env (bare f)))
 expression_alike c f =
-    second_is (ap (λ p. lift p) (expression_same c.strict c.env f))
+    second_is (ap (λ p. lift p) (expression_same (made_alike f) c.strict c.env))
     (itself (lift (make_function_expression c.strict c.env f)))
 
 module _ (table table' : FunctionTable) (same : (i : Inner) → callee_of table i ≡ callee_of table' i) where

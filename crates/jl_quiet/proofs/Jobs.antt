@@ -15,7 +15,7 @@ use Rattle.jl_meaning.specs.builtins.Function.{names_of}
 use Rattle.jl_meaning.specs.builtins.Table.{builtin}
 use Rattle.jl_quiet.proofs.Bare.{bare}
 use Rattle.jl_quiet.proofs.Functions.{script_alike}
-use Rattle.jl_quiet.proofs.MadeFunctions.{name_same, params_same}
+use Rattle.jl_quiet.proofs.MadeFunctions.{made_alike, params_same}
 use Rattle.jl_quiet.proofs.Relation.{bare_job, then_alike, itself, look_alike, second_is, Alike}
 use Rattle.jl_quiet.proofs.Tables.{bare_function, bare_table}
 use Rattle.jl_quiet.proofs.Turns.{turn_alike}
@@ -45,7 +45,7 @@ callees_same l _ = refl
 
 names_same : (l : FunctionTable) → names_of l ≡ names_of (bare_table l)
 names_same [] = refl
-names_same (f ∷ l) = ap₂ (λ x names. x ∷ names) (name_same f.func) (names_same l)
+names_same (f ∷ l) = ap₂ (λ x names. x ∷ names) (made_alike f.func).name (names_same l)
 
 module _ (table : FunctionTable) where
   known_alike : (l : FunctionTable) (k env : ℕ) (call : Call)

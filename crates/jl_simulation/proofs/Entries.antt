@@ -10,8 +10,9 @@ use Rattle.jl_meaning.specs.FunctionObjects.{make_function}
 use Rattle.jl_meaning.specs.Parts.{lift, ◌>>=◌, Context, Func}
 use Rattle.jl_meaning.specs.Store.{Store}
 use Rattle.jl_meaning.specs.forms.Literals.{accessor_change, define_entry}
+use Rattle.jl_meaning.proofs.MadeFunctions.{make_same}
 use Rattle.jl_simulation.specs.Weaving.{weave}
-use Rattle.jl_simulation.proofs.MadeFunctions.{make_same}
+use Rattle.jl_simulation.proofs.MadeFunctions.{made_alike}
 use Rattle.jl_simulation.proofs.Relation.{algorithm, bind, Matched}
 
 module _ {chosen : Kinds} where
@@ -26,7 +27,7 @@ module _ {chosen : Kinds} where
       subst (λ p. Matched chosen s d d
       (lift (make_function c.strict c.env f) >>= (λ g. define_entry object k (accessor_change (Some (Some g)) None)))
       (lift p >>= (λ g. define_entry object k (accessor_change (Some (Some g)) None))))
-      (make_same chosen n c.strict c.env f)
+      (make_same (made_alike chosen n f) c.strict c.env)
       (bind (omega arith) (algorithm (make_function c.strict c.env f))
       (λ g t. algorithm (define_own_property object k (accessor_change (Some (Some g)) None))))
 
@@ -40,7 +41,7 @@ module _ {chosen : Kinds} where
       subst (λ p. Matched chosen s d d
       (lift (make_function c.strict c.env f) >>= (λ g. define_entry object k (accessor_change None (Some (Some g)))))
       (lift p >>= (λ g. define_entry object k (accessor_change None (Some (Some g))))))
-      (make_same chosen n c.strict c.env f)
+      (make_same (made_alike chosen n f) c.strict c.env)
       (bind (omega arith) (algorithm (make_function c.strict c.env f))
       (λ g t. algorithm (define_own_property object k (accessor_change None (Some (Some g))))))
 

@@ -28,6 +28,7 @@ use Rattle.jl_meaning.specs.forms.Hooks.{call_by_form, call_of_call}
 use Rattle.jl_meaning.specs.forms.Literals.{put_element}
 use Rattle.jl_meaning.specs.forms.Names.{assign_name}
 use Rattle.jl_meaning.specs.forms.Operators.{decide, unary_kind, update_kind}
+use Rattle.jl_meaning.proofs.MadeFunctions.{expression_same}
 use Rattle.jl_simulation.specs.HookCalls as weaving
 use Rattle.jl_simulation.specs.HookCalls.{hook_1, hook_2, name_of, string_of, test}
 use Rattle.jl_simulation.specs.Plain.{id_limit}
@@ -49,7 +50,7 @@ use Rattle.jl_simulation.proofs.HookNames.{form_Z, word_A, word_B, word_I, word_
 use Rattle.jl_simulation.proofs.HookedNames.{computed_hook, had_back_hook, updated_hook}
 use Rattle.jl_simulation.proofs.Literals.{array_as_is, array_told, function_as_is, function_told, literal_silent}
 use Rattle.jl_simulation.proofs.Literals.{literal_told, object_as_is, object_told}
-use Rattle.jl_simulation.proofs.MadeFunctions.{expression_same}
+use Rattle.jl_simulation.proofs.MadeFunctions.{made_alike}
 use Rattle.jl_simulation.proofs.Members.{compute_dot_silent, compute_index_silent, delete_dot_silent, delete_dot_told}
 use Rattle.jl_simulation.proofs.Members.{delete_index_silent, delete_index_told, delete_other, dot_silent, dot_told}
 use Rattle.jl_simulation.proofs.Members.{index_silent, index_told, put_dot_silent, put_index_silent, update_dot_silent}
@@ -169,10 +170,10 @@ module _ (chosen : Kinds) (table table' : FunctionTable)
         (weave chosen f) tt) j)
         (function_told c (make_function_expression c.strict c.env f)
         (make_function_expression c.strict c.env (with_ids (j + 2 + 2 + 1 + 1) (weave chosen f))) s (j + 2 + 2 + 1)
-        (expression_same chosen (j + 2 + 2 + 1 + 1) c.strict c.env f)))
+        (expression_same (made_alike chosen (j + 2 + 2 + 1 + 1) f) c.strict c.env)))
         (λ e. function_as_is (make_function_expression c.strict c.env f)
         (make_function_expression c.strict c.env (with_ids (j + 1) (weave chosen f))) s _ e
-        (expression_same chosen (j + 1) c.strict c.env f))
+        (expression_same (made_alike chosen (j + 1) f) c.strict c.env))
     evaluate_match (tree.dot o k s) p j c =
         way (chosen kind.GetField) _ _ j c
         (second_is (hook_plain_2 table' c (codes "G") gets form_G s p.1 (weave chosen o) (string_of k) j)

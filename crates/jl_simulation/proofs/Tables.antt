@@ -23,8 +23,8 @@ use Rattle.jl_simulation.specs.Weaving as rewriting
 use Rattle.jl_simulation.specs.Weaving.{weave, woven_callee, woven_delete, woven_forest, woven_optional, woven_test}
 use Rattle.jl_simulation.specs.Weaving.{woven_typeof, woven_update}
 use Rattle.jl_simulation.specs.inner.Fit.{AllFit, Fits, FitsIfPresent, UnaryFits}
-use Rattle.jl_simulation.proofs.Declarations.{arguments_other, function_of, name_same}
-use Rattle.jl_simulation.proofs.MadeFunctions.{params_same}
+use Rattle.jl_simulation.proofs.Declarations.{arguments_other, function_of}
+use Rattle.jl_simulation.proofs.MadeFunctions.{made_alike, params_same}
 use Rattle.jl_simulation.proofs.Mentions.{body_same}
 use Rattle.jl_simulation.proofs.Shapes.{call_with_ids}
 
@@ -58,7 +58,7 @@ module _ {chosen : Kinds} where
   -- and so are their names
   pub names_same : {l m : FunctionTable} → TableMatch chosen l m → names_of l ≡ names_of m
   names_same none = refl
-  names_same (one f p j strict x) = ap₂ (λ y names. y ∷ names) (name_same chosen j f) (names_same x)
+  names_same (one f p j strict x) = ap₂ (λ y names. y ∷ names) (made_alike chosen j f).name (names_same x)
 
   pub table_append : {a b l m : FunctionTable} → TableMatch chosen a b → TableMatch chosen l m
       → TableMatch chosen (a ++ l) (b ++ m)
