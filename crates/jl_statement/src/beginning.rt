@@ -59,15 +59,15 @@ fn begin_kind<'p>(
         }
         StmtKind::Empty => Ok(Act::Complete(Completion::Normal)),
         StmtKind::Debugger => Ok(Act::Complete(Completion::Normal)),
-        StmtKind::Expr(e) => Ok(state.evaluate_for(StatementFrame::Expression, e, here)?),
-        StmtKind::Block(list) => Ok(begin_statements(alloc, state, list, here)?),
+        StmtKind::Expr(e) => state.evaluate_for(StatementFrame::Expression, e, here),
+        StmtKind::Block(list) => begin_statements(alloc, state, list, here),
         StmtKind::If(test, then, otherwise) => {
             let frame = StatementFrame::If {
                 then,
                 otherwise,
                 here,
             };
-            Ok(state.evaluate_for(frame, test, here)?)
+            state.evaluate_for(frame, test, here)
         }
         StmtKind::DoWhile(body, test) => {
             let kind = Loop::Do { body, test };
@@ -79,7 +79,7 @@ fn begin_kind<'p>(
         }
         StmtKind::For(init, test, update, body) => {
             let kind = Loop::For { test, update, body };
-            Ok(begin_for(alloc, state, init, LoopTurn { kind, here, labels })?)
+            begin_for(alloc, state, init, LoopTurn { kind, here, labels })
         }
         StmtKind::ForIn {
             is_var: _,
@@ -94,14 +94,14 @@ fn begin_kind<'p>(
                 here,
                 labels,
             };
-            Ok(state.evaluate_for(frame, object, here)?)
+            state.evaluate_for(frame, object, here)
         }
         StmtKind::Continue(label) => Ok(Act::Complete(Completion::Continue(label_text(
             alloc, label,
         )?))),
         StmtKind::Break(label) => Ok(Act::Complete(Completion::Break(label_text(alloc, label)?))),
         StmtKind::Return(None) => Ok(Act::Complete(Completion::Return(Value::Undefined))),
-        StmtKind::Return(Some(e)) => Ok(state.evaluate_for(StatementFrame::Return, e, here)?),
+        StmtKind::Return(Some(e)) => state.evaluate_for(StatementFrame::Return, e, here),
         StmtKind::Labelled(label, inner) => begin_labelled(
             alloc,
             state,
@@ -111,9 +111,9 @@ fn begin_kind<'p>(
             labels,
         ),
         StmtKind::Switch(e, cases) => {
-            Ok(state.evaluate_for(StatementFrame::Switch { cases, here }, e, here)?)
+            state.evaluate_for(StatementFrame::Switch { cases, here }, e, here)
         }
-        StmtKind::Throw(e) => Ok(state.evaluate_for(StatementFrame::Throw, e, here)?),
+        StmtKind::Throw(e) => state.evaluate_for(StatementFrame::Throw, e, here),
         StmtKind::Try {
             body,
             catch,
@@ -124,7 +124,7 @@ fn begin_kind<'p>(
                 finally,
                 here,
             })?;
-            Ok(begin_statements(alloc, state, body, here)?)
+            begin_statements(alloc, state, body, here)
         }
     }
 }

@@ -51,7 +51,7 @@ pub(crate) fn begin_remaining<'p>(
         None => Ok(Act::Complete(Completion::Normal)),
         Some((first, rest)) => {
             let frame = CompletionFrame::Statements { rest, here };
-            Ok(execute_for(state, frame, first, here, List::new(alloc))?)
+            execute_for(state, frame, first, here, List::new(alloc))
         }
     }
 }

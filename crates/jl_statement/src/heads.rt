@@ -33,7 +33,7 @@ pub(crate) fn begin_for<'p>(
         ForInit::Nothing => begin_turn(alloc, state, turn),
         ForInit::Expr(e) => {
             let here = turn.here;
-            Ok(state.evaluate_for(StatementFrame::ForExpression { turn }, e, here)?)
+            state.evaluate_for(StatementFrame::ForExpression { turn }, e, here)
         }
         ForInit::Var(list) => declare_head(alloc, state, Remaining { list, from: 0 }, turn),
     }

@@ -76,16 +76,16 @@ fn take_turn<'p>(
     match kind {
         Loop::Do { body, test } => {
             let kind = Loop::Do { body, test };
-            Ok(begin_body(alloc, state, LoopTurn { kind, here, labels })?)
+            begin_body(alloc, state, LoopTurn { kind, here, labels })
         }
         Loop::While { test, body } => {
             let kind = Loop::While { test, body };
             let turn = LoopTurn { kind, here, labels };
-            Ok(state.evaluate_for(StatementFrame::Test { turn }, test, here)?)
+            state.evaluate_for(StatementFrame::Test { turn }, test, here)
         }
-        Loop::For { test, update, body } => Ok(turn_for(
-            alloc, state, test, update, body, here, labels,
-        )?),
+        Loop::For { test, update, body } => {
+            turn_for(alloc, state, test, update, body, here, labels)
+        }
         Loop::ForIn {
             variable,
             visits,
@@ -117,7 +117,7 @@ fn turn_for<'p>(
     let kind = Loop::For { test, update, body };
     let turn = LoopTurn { kind, here, labels };
     match test {
-        Some(test) => Ok(state.evaluate_for(StatementFrame::Test { turn }, test, here)?),
+        Some(test) => state.evaluate_for(StatementFrame::Test { turn }, test, here),
         None => begin_body(alloc, state, turn),
     }
 }
@@ -150,9 +150,9 @@ pub(crate) fn step_test<'p>(
         return Ok(Act::Complete(Completion::Normal));
     }
     if is_do(&turn.kind) {
-        return Ok(begin_turn(alloc, state, turn)?);
+        return begin_turn(alloc, state, turn);
     }
-    Ok(begin_body(alloc, state, turn)?)
+    begin_body(alloc, state, turn)
 }
 
 /// A loop goes on after its body, or ends (12.6.1 to 12.6.4).
@@ -185,15 +185,15 @@ fn go_on<'p>(alloc: Global, state: &mut State<'p>, turn: LoopTurn<'p>) -> Result
         Loop::Do { body, test } => {
             let kind = Loop::Do { body, test };
             let turn = LoopTurn { kind, here, labels };
-            Ok(state.evaluate_for(StatementFrame::Test { turn }, test, here)?)
+            state.evaluate_for(StatementFrame::Test { turn }, test, here)
         }
         Loop::While { test, body } => {
             let kind = Loop::While { test, body };
             begin_turn(alloc, state, LoopTurn { kind, here, labels })
         }
-        Loop::For { test, update, body } => Ok(go_on_for(
-            alloc, state, test, update, body, here, labels,
-        )?),
+        Loop::For { test, update, body } => {
+            go_on_for(alloc, state, test, update, body, here, labels)
+        }
         Loop::ForIn {
             variable,
             visits,
@@ -222,7 +222,7 @@ fn go_on_for<'p>(
     let kind = Loop::For { test, update, body };
     let turn = LoopTurn { kind, here, labels };
     match update {
-        Some(update) => Ok(state.evaluate_for(StatementFrame::Update { turn }, update, here)?),
+        Some(update) => state.evaluate_for(StatementFrame::Update { turn }, update, here),
         None => begin_turn(alloc, state, turn),
     }
 }

@@ -123,7 +123,7 @@ fn select_from<'p>(
     ensures falls { IfOk result (λ act. Falls state.old (20 * length cases.now + 52) state.new act) }
 {
     match next_test(cases, from) {
-        None => Ok(begin_from(alloc, state, default_of(cases.items()), cases, here)?),
+        None => begin_from(alloc, state, default_of(cases.items()), cases, here),
         Some((index, test)) => {
             let frame = StatementFrame::CaseTest {
                 value,
@@ -131,7 +131,7 @@ fn select_from<'p>(
                 cases,
                 here,
             };
-            Ok(state.evaluate_for(frame, test, here)?)
+            state.evaluate_for(frame, test, here)
         }
     }
 }
@@ -168,10 +168,10 @@ pub(crate) fn step_case_test<'p>(
     ensures falls { IfOk result (λ act. Falls state.old (20 * length cases.now + 52) state.new act) }
 {
     if strict_equal(&value, &w) {
-        return Ok(begin_from(alloc, state, Some(index), cases, here)?);
+        return begin_from(alloc, state, Some(index), cases, here);
     }
     if index >= cases.len() {
-        return Ok(begin_from(alloc, state, default_of(cases.items()), cases, here)?);
+        return begin_from(alloc, state, default_of(cases.items()), cases, here);
     }
-    Ok(select_from(alloc, state, value, index + 1, cases, here)?)
+    select_from(alloc, state, value, index + 1, cases, here)
 }

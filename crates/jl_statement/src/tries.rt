@@ -96,8 +96,8 @@ pub(crate) fn step_try<'p>(
     ensures falls { IfOk result (λ act. Falls state.old 52 state.new act) }
 {
     match catch {
-        None => Ok(begin_finally(alloc, state, finally, how, here)?),
-        Some(handler) => Ok(after_block(alloc, state, handler, finally, here, how)?),
+        None => begin_finally(alloc, state, finally, how, here),
+        Some(handler) => after_block(alloc, state, handler, finally, here, how),
     }
 }
 

@@ -1,6 +1,8 @@
 use Rattle.jl_statement.proofs.Executes.{executes_first}
+use Rattle.jl_statement.proofs.Results.{if_ok}
 use Rattle.jl_statement.proofs.executing.begin_remaining.Goals as goal
 
-pub returns-in_ok-execute_for-in-Some-clause-leads : goal.returns-in_ok-execute_for-in-Some-clause-leads
-returns-in_ok-execute_for-in-Some-clause-leads c =
-    executes_first _ _ _ _ _ _ _ _ c.in-Some.ensures c.new.ensures c.in_ok-execute_for-in-Some.ensures.leads
+pub returns-in-Some-clause-leads : goal.returns-in-Some-clause-leads
+returns-in-Some-clause-leads c =
+    if_ok _ _ _ c.execute_for.ensures.leads (λ a leads. executes_first c.args.state.now _ _ _ c.args.here _ _ _
+    c.in-Some.ensures c.new.ensures leads)

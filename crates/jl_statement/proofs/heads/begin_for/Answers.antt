@@ -1,6 +1,8 @@
 use Rattle.jl_statement.proofs.Heading.{for_expression}
+use Rattle.jl_statement.proofs.Results.{if_ok}
 use Rattle.jl_statement.proofs.heads.begin_for.Goals as goal
 
-pub returns-in_ok-evaluate_for-in-Expr-clause-leads : goal.returns-in_ok-evaluate_for-in-Expr-clause-leads
-returns-in_ok-evaluate_for-in-Expr-clause-leads c =
-    for_expression _ _ _ c.args.turn _ _ c.in-Expr.is c.in_ok-evaluate_for-in-Expr.ensures.leads
+pub returns-in-Expr-clause-leads : goal.returns-in-Expr-clause-leads
+returns-in-Expr-clause-leads c =
+    if_ok _ _ _ c.evaluate_for.ensures.leads
+    (λ a leads. for_expression c.args.state.now _ _ c.args.turn _ _ c.in-Expr.is leads)

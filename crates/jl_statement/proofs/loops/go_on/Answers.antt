@@ -1,11 +1,13 @@
 use Rattle.jl_statement.proofs.Followed.{tests}
+use Rattle.jl_statement.proofs.Results.{if_ok}
 use Rattle.jl_statement.proofs.Turning.{end_of_kind}
 use Rattle.jl_statement.proofs.loops.go_on.Goals as goal
 
-pub returns-in_ok-evaluate_for-in-Do-clause-leads : goal.returns-in_ok-evaluate_for-in-Do-clause-leads
-returns-in_ok-evaluate_for-in-Do-clause-leads c =
-    end_of_kind _ _ _ _ _ c.in-Do.is (tests _ _ _ _ _ c.in_ok-evaluate_for-in-Do.ensures.leads)
+pub returns-in-Do-clause-leads : goal.returns-in-Do-clause-leads
+returns-in-Do-clause-leads c =
+    if_ok _ _ _ c.evaluate_for.ensures.leads (λ a leads. end_of_kind c.args.state.now c.args.turn _ _ _ c.in-Do.is
+    (tests c.args.state.now _ _ _ _ leads))
 
-pub returns-in_ok-go_on_for-in-For-clause-leads : goal.returns-in_ok-go_on_for-in-For-clause-leads
-returns-in_ok-go_on_for-in-For-clause-leads c =
-    end_of_kind _ _ _ _ _ c.in-For.is c.in_ok-go_on_for-in-For.ensures.leads
+pub returns-in-For-clause-leads : goal.returns-in-For-clause-leads
+returns-in-For-clause-leads c =
+    if_ok _ _ _ c.go_on_for.ensures.leads (λ a leads. end_of_kind c.args.state.now c.args.turn _ _ _ c.in-For.is leads)
