@@ -1,13 +1,11 @@
 -- What follows when the observer has been told of an operation.
 use Rattle.jl_value.specs.declared.value.Value.{Value}
 use Rattle.jl_meaning.specs.Parts.{begin_call, give, lift, ◌>>=◌, Algorithm, CallOf}
-use Rattle.jl_op.specs.declared.op.Op.{Op}
 use Rattle.jl_op.specs.declared.op.OpId.{OpId}
-use Rattle.jl_effects.specs.Effects.{Emit}
-use Rattle.std.proofs.Common.{◌≡◌, ◌∷◌, ◌+◌, ap, refl, subst, sym, Bool, List}
+use Rattle.std.proofs.Common.{◌≡◌, ◌+◌, refl, subst, sym, Bool}
 use Rattle.jl_heap.specs.Objects.{Name}
 use Rattle.jl_meaning.specs.Putting.{put}
-use Rattle.jl_state.specs.Rest.{rest_after, Gives, Works}
+use Rattle.jl_state.specs.Rest.{Gives, Works}
 use Rattle.jl_state.specs.Steps.{ValueWaits}
 use Rattle.jl_state.specs.ToldFrames.{told_after}
 use Rattle.jl_state.specs.ValueFrames.{value_after}
@@ -18,8 +16,6 @@ use Rattle.jl_state.specs.declared.frame.ToldFrame.TheVariants as told
 use Rattle.jl_state.specs.declared.value_frame.ValueFrame.TheVariants as waiting
 use Rattle.jl_state.specs.declared.act.Act.{Act}
 use Rattle.jl_state.specs.declared.act.Act.TheVariants as act
-use Rattle.jl_state.specs.declared.frame.Frame.{Frame}
-use Rattle.jl_state.specs.declared.frame.Frame.TheVariants as frame
 use Rattle.jl_state.specs.declared.frame.ToldFrame.{ToldFrame}
 use Rattle.jl_state.specs.declared.state.State.{State}
 use Rattle.jl_state.proofs.Chains.{gives_lifted}
@@ -28,14 +24,6 @@ use Rattle.jl_state.proofs.Chains.{gives_lifted}
 pub gives_then : {A : Type 0} (s : State) (p : Algorithm A) (v : Value) (t : State) (a : Act)
     → Works s (p >>= λ _. give v) t a → Gives s (lift p >>= λ _. give v) t a
 gives_then s p v t a leads = gives_lifted s p (λ _. give v) t a leads
-
--- the observer is told of an operation, and then a frame goes on
-pub emits_for : (s : State) (frames : List Frame) (id : OpId) (o : Op) (f : ToldFrame)
-    → frames ≡ frame.Told f ∷ s.stack
-    → Gives s (Emit (id, o) (told_after f)) (record s { stack = frames }) (act.Emit id o)
-emits_for s frames id o f is = record {
-  is = λ kept before. ap (λ (l : List Frame). rest_after kept before (record s { stack = l }) (act.Emit id o)) is;
-}
 
 -- a call is made, and what it gives is emitted
 pub makes_call : (s t : State) (id : CallId) (post : OpId) (c : Invocation) → post ≡ record { 0 = id.pre + 1 }

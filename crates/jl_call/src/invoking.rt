@@ -8,9 +8,9 @@ ghost use Rattle.jl_state.specs.Words.{call_of, noting, table_of};
 ghost use Rattle.jl_call.specs.inner.Invoked.{invoke_function};
 
 use crate::targets::{function_of, no_function, seen_values, target_of};
-use crate::telling::emit_for;
 use jl_algorithm::throw_native;
 use jl_op::Op;
+use jl_operator::emit_for;
 use jl_state::{Act, CallId, Invocation, State, ToldFrame};
 use jl_text::{List, NoMemory};
 use jl_value::{ErrorKind, Value};

@@ -1,6 +1,5 @@
 //! What follows once the observer has been told of an operation.
 ghost use Rattle.std.specs.Prelude.{◌≡◌, ◌+◌, IfOk};
-ghost use Rattle.jl_effects.specs.Effects.{Emit};
 ghost use Rattle.jl_meaning.specs.Noting.{emits};
 ghost use Rattle.jl_meaning.specs.Parts.{give, ◌>>=◌ as ◌then◌};
 ghost use Rattle.jl_meaning.specs.Properties.{found_of, property_of_value};
@@ -11,7 +10,8 @@ ghost use Rattle.jl_state.specs.ToldFrames.{told_after};
 
 use jl_algorithm::put;
 use jl_op::{Found, Op, OpId};
-use jl_state::{Act, CallId, Frame, Invocation, State, ToldFrame, ValueFrame};
+use jl_operator::emit_for;
+use jl_state::{Act, CallId, Invocation, State, ToldFrame, ValueFrame};
 use jl_store::Store;
 use jl_text::{NoMemory, Text};
 use jl_value::Value;
@@ -99,19 +99,4 @@ fn found_of(store: &Store, base: &Value, name: &Text) -> Found
         Some(property) => property.as_told(),
         None => Found::Absent,
     }
-}
-
-/// The observer is told of an operation, and then a frame goes on.
-#[tactic(auto, using(crate::proofs::Told::emits_for))]
-pub(crate) fn emit_for<'p>(
-    state: &mut State<'p>,
-    id: OpId,
-    told: Op,
-    frame: ToldFrame,
-) -> Result<Act<'p>, NoMemory>
-    ensures leads { IfOk result (λ act. Gives state.old (Emit (id, told) (told_after frame)) state.new act) }
-    ensures falls { IfOk result (λ act. Falls state.old (rank_told frame + 2) state.new act) }
-{
-    state.stack.push(Frame::Told(frame))?;
-    Ok(Act::Emit(id, told))
 }

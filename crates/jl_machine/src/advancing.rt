@@ -40,7 +40,9 @@ fn advance<'p, O: Observer>(
         Act::Complete(how) => give_completion(alloc, state, how),
         Act::Call(call) => Ok(Next::Act(begin_call(alloc, state, call)?)),
         Act::Emit(id, op) => {
-            tell(kinds, observer, hooks, id, op)?;
+            let told = tell(kinds, observer, hooks, id, &op);
+            drop(op);
+            told?;
             Ok(Next::Act(resume(alloc, state)?))
         }
         Act::Fault(fault) => Ok(Next::Over(Outcome::Fault(fault))),

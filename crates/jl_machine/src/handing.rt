@@ -10,9 +10,7 @@ use crate::ending::Next;
 use jl_call::step_told;
 use jl_expression::step_value;
 use jl_function::step_body;
-use jl_state::{
-    Act, AlgorithmFrame, CompletionFrame, Frame, State, StatementFrame, ToldFrame, ValueFrame,
-};
+use jl_state::{Act, Frame, State};
 use jl_statement::{step_completion, step_statement};
 use jl_text::NoMemory;
 use jl_value::{Completion, Fault, Outcome, Value};
@@ -33,8 +31,14 @@ fn continue_with_value<'p>(
         Frame::Value(frame) => step_value(alloc, state, frame, v),
         Frame::Algorithm(frame) => step_algorithm(alloc, state, frame, v),
         Frame::Statement(frame) => step_statement(alloc, state, frame, v),
-        Frame::Completion(_) => Ok(Act::Fault(Fault::Misuse)),
-        Frame::Told(_) => Ok(Act::Fault(Fault::Misuse)),
+        Frame::Completion(frame) => {
+            drop(frame);
+            Ok(Act::Fault(Fault::Misuse))
+        }
+        Frame::Told(frame) => {
+            drop(frame);
+            Ok(Act::Fault(Fault::Misuse))
+        }
         Frame::Body => Ok(Act::Fault(Fault::Misuse)),
     }
 }
@@ -66,20 +70,20 @@ fn continue_with_completion<'p>(
 {
     match frame {
         Frame::Value(frame) => {
-            drop_value_frame(frame);
+            drop(frame);
             Ok(pass(how))
         }
         Frame::Algorithm(frame) => {
-            drop_algorithm_frame(frame);
+            drop(frame);
             Ok(pass(how))
         }
         Frame::Statement(frame) => {
-            drop_statement_frame(frame);
+            drop(frame);
             Ok(pass(how))
         }
         Frame::Completion(frame) => step_completion(alloc, state, frame, how),
         Frame::Told(frame) => {
-            drop_told_frame(frame);
+            drop(frame);
             Ok(Act::Fault(Fault::Misuse))
         }
         Frame::Body => step_body(state, how),
@@ -99,19 +103,19 @@ fn continue_by_itself<'p>(
     match frame {
         Frame::Told(frame) => step_told(alloc, state, frame),
         Frame::Value(frame) => {
-            drop_value_frame(frame);
+            drop(frame);
             Ok(Act::Fault(Fault::Misuse))
         }
         Frame::Algorithm(frame) => {
-            drop_algorithm_frame(frame);
+            drop(frame);
             Ok(Act::Fault(Fault::Misuse))
         }
         Frame::Statement(frame) => {
-            drop_statement_frame(frame);
+            drop(frame);
             Ok(Act::Fault(Fault::Misuse))
         }
         Frame::Completion(frame) => {
-            drop_completion_frame(frame);
+            drop(frame);
             Ok(Act::Fault(Fault::Misuse))
         }
         Frame::Body => Ok(Act::Fault(Fault::Misuse)),
@@ -161,18 +165,6 @@ pub(crate) fn resume<'p>(alloc: Global, state: &mut State<'p>) -> Result<Act<'p>
         Some(frame) => continue_by_itself(alloc, state, frame),
     }
 }
-
-// A frame is let go in a function of its own: the paths of its variants then stand in no other proof.
-
-fn drop_value_frame<'p>(_frame: ValueFrame<'p>) {}
-
-fn drop_algorithm_frame(_frame: AlgorithmFrame) {}
-
-fn drop_statement_frame<'p>(_frame: StatementFrame<'p>) {}
-
-fn drop_completion_frame<'p>(_frame: CompletionFrame<'p>) {}
-
-fn drop_told_frame(_frame: ToldFrame) {}
 
 /// How a program ends whose statements have completed so (clause 14). None completes but normally or by what it throws.
 fn end_program(how: Completion) -> Outcome

@@ -1,20 +1,12 @@
--- Operations of the script's own, which no run is told of that records hooks alone, and operations that hooks emit.
-use Rattle.std.proofs.Common.{◌≡◌, ◌∷◌, List, refl, ap}
+-- Operations of the script's own, which no run is told of that records hooks alone.
+use Rattle.std.proofs.Common.{refl}
 use Rattle.jl_value.specs.declared.value.Value.{Value}
 use Rattle.jl_op.specs.Operations.{Operation}
-use Rattle.jl_op.specs.declared.op.Op.{Op}
-use Rattle.jl_op.specs.declared.op.OpId.{OpId}
-use Rattle.jl_effects.specs.Effects.{Emit, Look, Perform}
-use Rattle.jl_effects.specs.Running.{run}
+use Rattle.jl_effects.specs.Effects.{Look, Perform}
 use Rattle.jl_meaning.specs.Parts.{gives, ◌>>=◌, Answer, Part}
 use Rattle.jl_meaning.specs.Store.{Store}
-use Rattle.jl_state.specs.Rest.{rest_after, Gives}
-use Rattle.jl_state.specs.ToldFrames.{told_after}
+use Rattle.jl_state.specs.Rest.{Gives}
 use Rattle.jl_state.specs.declared.act.Act.{Act}
-use Rattle.jl_state.specs.declared.act.Act.TheVariants as act
-use Rattle.jl_state.specs.declared.frame.Frame.{Frame}
-use Rattle.jl_state.specs.declared.frame.Frame.TheVariants as frame
-use Rattle.jl_state.specs.declared.frame.ToldFrame.{ToldFrame}
 use Rattle.jl_state.specs.declared.state.State.{State}
 use Rattle.jl_state.proofs.Steps.{gives_alike}
 
@@ -29,11 +21,3 @@ pub performed_after : {A : Type 0} (s : State) (p : Part (Answer A)) (o : Store 
     → Gives s (p >>= k) t a → Gives s (p >>= λ b. Look (λ store. Perform (o store b) (k b))) t a
 performed_after s p o k t a leads =
     gives_alike s p k (λ b. Look (λ store. Perform (o store b) (k b))) t a (λ b kept n w. refl) leads
-
--- a hook emits an operation, and then a frame goes on
-pub emits_so : (s : State) (frames : List Frame) (id : OpId) (o : Op) (f : ToldFrame)
-    → frames ≡ frame.Told f ∷ s.stack
-    → Gives s (Emit (id, o) (told_after f)) (record s { stack = frames }) (act.Emit id o)
-emits_so s frames id o f is = record {
-  is = λ kept before. ap (λ (l : List Frame). rest_after kept before (record s { stack = l }) (act.Emit id o)) is;
-}

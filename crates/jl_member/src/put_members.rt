@@ -11,7 +11,8 @@ ghost use Rattle.jl_state.specs.Words.{noting, table_of};
 use crate::read_members::found_on;
 use jl_algorithm::put;
 use jl_op::{Op, OpId};
-use jl_state::{Act, Frame, State, ToldFrame, ValueFrame};
+use jl_operator::emit_for;
+use jl_state::{Act, State, ToldFrame, ValueFrame};
 use jl_text::{NoMemory, Text};
 use jl_value::{Value, share};
 use std::alloc::Global;
@@ -60,14 +61,14 @@ fn emit_and_put<'p>(
         value: state.store.seen(&v)?,
         found: found_on(&state.store, &base, &name),
     };
-    state.stack.push(Frame::Told(ToldFrame::Put {
+    let frame = ToldFrame::Put {
         base,
         name,
         value: v,
         strict,
         gives,
-    }))?;
-    Ok(Act::Emit(id, told))
+    };
+    emit_for(state, id, told, frame)
 }
 
 /// Goes on with a value that is put to a member.

@@ -20,7 +20,8 @@ use jl_algorithm::to_primitive;
 use jl_ast::Expr;
 use jl_num::{Num, NumberOutside};
 use jl_op::Op;
-use jl_state::{Act, Frame, Here, Hint, KeyFor, Noted, State, ToldFrame, ValueFrame};
+use jl_operator::emit_for;
+use jl_state::{Act, Here, Hint, KeyFor, Noted, State, ToldFrame, ValueFrame};
 use jl_text::{NoMemory, Text};
 use jl_value::{Fault, Value, share};
 use std::alloc::Global;
@@ -239,13 +240,13 @@ fn put_next<'p>(
         operand: state.store.seen(held)?,
         result: state.store.seen(&value)?,
     };
-    state.stack.push(Frame::Told(ToldFrame::PutMember {
+    let frame = ToldFrame::PutMember {
         id,
         base,
         name,
         value,
         strict,
         gives,
-    }))?;
-    Ok(Act::Emit(noted.id.second(), told))
+    };
+    emit_for(state, noted.id.second(), told, frame)
 }

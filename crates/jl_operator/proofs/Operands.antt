@@ -20,6 +20,7 @@ use Rattle.jl_meaning.specs.forms.Operators.{operate, operate_on}
 use Rattle.jl_state.specs.AlgorithmFrames.{algorithm_after, number_of_primitive}
 use Rattle.jl_state.specs.Rest.{rest_after, Gives, Works}
 use Rattle.jl_state.specs.Steps.{AlgorithmWaits, ValueWaits}
+use Rattle.jl_state.specs.ToldFrames.{told_after}
 use Rattle.jl_state.specs.ValueFrames.{value_after}
 use Rattle.jl_state.specs.Words.{noting, table_of}
 use Rattle.jl_state.specs.declared.act.Act.{Act}
@@ -27,7 +28,7 @@ use Rattle.jl_state.specs.declared.act.Act.TheVariants as act
 use Rattle.jl_state.specs.declared.algorithm_frame.AlgorithmFrame.{AlgorithmFrame}
 use Rattle.jl_state.specs.declared.frame.Frame.{Frame}
 use Rattle.jl_state.specs.declared.frame.Frame.TheVariants as frame
-use Rattle.jl_state.specs.declared.frame.ToldFrame.TheVariants as told
+use Rattle.jl_state.specs.declared.frame.ToldFrame.{ToldFrame}
 use Rattle.jl_state.specs.declared.state.State.{State}
 use Rattle.jl_state.specs.declared.value_frame.ValueFrame.TheVariants as waiting
 use Rattle.jl_state.proofs.Steps.{gives_noted, gives_works}
@@ -68,11 +69,11 @@ text_waits s t u f k v a after waits leads =
     (subst (λ (g : Value → Algorithm Value). Works s (to_primitive string_hint v >>= g) u a) (fun_ext after)
     (waits.works (to_primitive string_hint v) u a leads))
 
--- the observer is told of an operation, and then a value is given
-pub emits_then : (s : State) (frames : List Frame) (id : OpId) (o : Op) (v : Value)
-    → frames ≡ frame.Told (told.Give v) ∷ s.stack
-    → Gives s (Emit (id, o) (give v)) (record s { stack = frames }) (act.Emit id o)
-emits_then s frames id o v is = record {
+-- the observer is told of an operation, and then a frame goes on
+pub emits_for : (s : State) (frames : List Frame) (id : OpId) (o : Op) (f : ToldFrame)
+    → frames ≡ frame.Told f ∷ s.stack
+    → Gives s (Emit (id, o) (told_after f)) (record s { stack = frames }) (act.Emit id o)
+emits_for s frames id o f is = record {
   is = λ kept before. ap (λ (l : List Frame). rest_after kept before (record s { stack = l }) (act.Emit id o)) is;
 }
 

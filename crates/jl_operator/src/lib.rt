@@ -15,7 +15,8 @@ pub use equality::step_equal_to;
 pub use instances::{step_in, step_instance_of};
 pub use numbers::{number_of, step_left_number, step_right_number};
 pub use operated::{
-    emit, operate, operate_on, step_emit_binary, step_emit_get, step_emit_invoke, step_emit_unary,
+    emit, emit_for, operate, operate_on, step_emit_binary, step_emit_get, step_emit_invoke,
+    step_emit_unary,
 };
 pub use relations::{step_left_compared, step_right_compared};
 pub use sums::{step_left_summand, step_right_summand, text_of};

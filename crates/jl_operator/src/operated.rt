@@ -1,12 +1,13 @@
 //! Operators as expressions, and what hooks emit of them and of what was got and called (11.3 to 11.10).
-ghost use Rattle.std.specs.Prelude.{◌≡◌, ◌∷◌, IfOk};
+ghost use Rattle.std.specs.Prelude.{◌≡◌, ◌∷◌, ◌+◌, IfOk};
 ghost use Rattle.jl_effects.specs.Effects.{Emit, Look};
 ghost use Rattle.jl_heap.specs.Describe.{seen_of};
 ghost use Rattle.jl_heap.specs.Objects.{Objects};
 ghost use Rattle.jl_meaning.specs.Parts.{give};
 ghost use Rattle.jl_meaning.specs.forms.Operators.{operate, operate_on};
+ghost use Rattle.jl_state.specs.ToldFrames.{told_after};
 ghost use Rattle.jl_state.specs.ValueFrames.{value_after};
-ghost use Rattle.jl_state.specs.Rank.{Falls};
+ghost use Rattle.jl_state.specs.Rank.{Falls, rank_told};
 ghost use Rattle.jl_state.specs.Rest.{Gives};
 ghost use Rattle.jl_state.specs.Words.{noting, table_of};
 
@@ -19,13 +20,33 @@ use jl_text::{NoMemory, Text};
 use jl_value::{ObjId, Value, share};
 use std::alloc::Global;
 
+/// The observer is told of an operation, and then a frame goes on.
+#[tactic(auto, using(crate::proofs::Operands::emits_for))]
+pub fn emit_for<'p>(
+    state: &mut State<'p>,
+    id: OpId,
+    op: Op,
+    frame: ToldFrame,
+) -> Result<Act<'p>, NoMemory>
+    ensures leads { IfOk result (λ act. Gives state.old (Emit (id, op) (told_after frame)) state.new act) }
+    ensures falls { IfOk result (λ act. Falls state.old (rank_told frame + 2) state.new act) }
+{
+    match state.stack.push(Frame::Told(frame)) {
+        Ok(()) => Ok(Act::Emit(id, op)),
+        Err(refusal) => {
+            // One call: by `?` the proof would have a path for each kind of operation.
+            drop(op);
+            Err(refusal)
+        }
+    }
+}
+
 /// The observer is told of an operation, and then a value is given.
 pub fn emit<'p>(state: &mut State<'p>, id: OpId, op: Op, then: Value) -> Result<Act<'p>, NoMemory>
     ensures leads { IfOk result (λ act. Gives state.old (Emit (id, op) (give then)) state.new act) }
     ensures falls { IfOk result (λ act. Falls state.old 5 state.new act) }
 {
-    state.stack.push(Frame::Told(ToldFrame::Give(then)))?;
-    Ok(Act::Emit(id, op))
+    emit_for(state, id, op, ToldFrame::Give(then))
 }
 
 /// A hook emits what an operator gave.

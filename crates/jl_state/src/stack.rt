@@ -43,8 +43,14 @@ impl<'p> Stack<'p> {
     pub fn push(&mut self, frame: Frame<'p>) -> Result<(), NoMemory>
         ensures { OnOk result (self.new ≡ frame.entry ∷ self.old) }
     {
-        self.frames.push(frame)?;
-        Ok(())
+        match self.frames.push(frame) {
+            Ok(()) => Ok(()),
+            Err(full) => {
+                // One call: by `?` the proof would have a path for each kind of frame.
+                drop(full);
+                Err(NoMemory)
+            }
+        }
     }
 
     /// The innermost frame is taken off.
