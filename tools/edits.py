@@ -1,11 +1,11 @@
 #!/usr/bin/env python3
-"""Tries the edits of `edits/`: wrong code of most crates, which the prover has to refuse.
+"""Tries the edits of `edits/`: wrong code, which the prover has to refuse.
 
 usage: tools/edits.py [NAME..]            NAME is a crate that has a folder there; all of them where none is given
        tools/edits.py --apply [NAME..]    tries none, and says which can't be applied, since their text is not there
 
 The edits of a crate cost the gate two more proofs of it, and those of a large crate a proof each. So the gate tries
-those in `must-fail/` of five small crates, and this script tries the others: in a clone of the last commit, by
+those in `must-fail/` of the two crates of rules, and this script tries the others: in a clone of the last commit, by
 `rt must-fail`, over the libraries that a whole `rt ci` has left in this checkout, and else over libraries that it
 proves first. Run it for a crate before a change of it is handed in. The status is 0 where each edit was refused,
 and with `--apply` where each can be applied.
