@@ -28,10 +28,8 @@ pub fn to_primitive<'p>(
     ensures falls { IfOk result (λ act. Falls state.old 16 state.new act) }
 {
     match v {
-        Value::Obj(object) => try_method(alloc, state, object, hint, false),
-        Value::Undefined | Value::Null | Value::Bool(_) | Value::Num(_) | Value::Text(_) => {
-            Ok(Act::Give(v))
-        }
+        Value::Obj(object, ..) => try_method(alloc, state, object, hint, false),
+        _ => Ok(Act::Give(v)),
     }
 }
 
@@ -52,7 +50,7 @@ pub fn step_method<'p>(
     if !state.store.is_callable(&v) {
         return after_none(alloc, state, object, hint, is_second);
     }
-    let Value::Obj(callee) = v else {
+    let Value::Obj(callee, ..) = v else {
         return after_none(alloc, state, object, hint, is_second);
     };
     state.push_algorithm(AlgorithmFrame::MethodResult {
@@ -82,10 +80,8 @@ pub fn step_method_result<'p>(
     ensures falls { IfOk result (λ act. Falls state.old (rank_method_result is_second) state.new act) }
 {
     match v {
-        Value::Obj(_) => after_none(alloc, state, object, hint, is_second),
-        Value::Undefined | Value::Null | Value::Bool(_) | Value::Num(_) | Value::Text(_) => {
-            Ok(Act::Give(v))
-        }
+        Value::Obj(..) => after_none(alloc, state, object, hint, is_second),
+        _ => Ok(Act::Give(v)),
     }
 }
 

@@ -50,10 +50,8 @@ pub fn put<'p>(
     ensures falls { IfOk result (λ act. Falls state.old 42 state.new act) }
 {
     match base {
-        Value::Obj(id) => put_on_object(alloc, state, id, name, v, throwing, gives),
-        Value::Undefined | Value::Null | Value::Bool(_) | Value::Num(_) | Value::Text(_) => {
-            put_on_primitive(alloc, state, base, name, v, throwing, gives)
-        }
+        Value::Obj(id, ..) => put_on_object(alloc, state, id, name, v, throwing, gives),
+        _ => { put_on_primitive(alloc, state, base, name, v, throwing, gives) }
     }
 }
 

@@ -1,3 +1,6 @@
+ghost use Rattle.std.specs.Prelude.{◌≡◌};
+ghost use Rattle.jl_ast.specs.View.{view_expression, view_expression_kind};
+
 use crate::ops::{BinOp, UnOp};
 use jl_num::Num;
 use jl_text::{List, Span, Text};
@@ -30,7 +33,6 @@ pub struct Body {
 /// functions of a program from 0: the declarations of a body come first, each before what it holds, then the functions
 /// of its statements in the order of the text.
 #[cycle(tree)]
-#[derive(Drop)]
 pub struct Function {
     pub number: u32,
     pub name: Option<Ident>,
@@ -39,12 +41,35 @@ pub struct Function {
     pub span: Span,
 }
 
+// By hand, as those of statements and expressions: a proof calls it, where it would open a derived one with all
+// variants below.
+impl Drop for Function {
+    #[cycle(tree)]
+    fn drop(self) {
+        let Function {
+            number: _,
+            name: _,
+            params: _,
+            body,
+            span: _,
+        } = self;
+        drop(body);
+    }
+}
+
 /// A statement (clause 12), from its first token to the end of its last.
 #[cycle(tree)]
-#[derive(Drop)]
 pub struct Stmt {
     pub kind: StmtKind,
     pub span: Span,
+}
+
+impl Drop for Stmt {
+    #[cycle(tree)]
+    fn drop(self) {
+        let Stmt { kind, span: _ } = self;
+        drop(kind);
+    }
 }
 
 /// What a statement is. A statement under another is a list: that of a block, or the one statement.
@@ -98,10 +123,28 @@ pub enum ForInit {
 
 /// An expression (clause 11), from its first token to the end of its last, without brackets round it.
 #[cycle(tree)]
-#[derive(Drop)]
 pub struct Expr {
     pub kind: ExprKind,
     pub span: Span,
+}
+
+impl Drop for Expr {
+    #[cycle(tree)]
+    fn drop(self) {
+        let Expr { kind, span: _ } = self;
+        drop(kind);
+    }
+}
+
+impl Expr {
+    /// What it is, and its span.
+    #[tactic(auto, using(crate::proofs::Views::nodes))]
+    pub fn into_parts(self) -> (ExprKind, Span)
+        ensures { view_expression_kind result.0 result.1 ≡ view_expression self }
+    {
+        let Expr { kind, span } = self;
+        (kind, span)
+    }
 }
 
 /// What an expression is. Brackets round it leave no node.

@@ -124,10 +124,10 @@ pub(crate) fn emit_type<'p>(
         (note_or_misuse emits id.id v (type_op name v)) state.new act) }
     ensures falls { IfOk result (λ act. Falls state.old 6 state.new act) }
 {
-    match v {
-        Value::Text(result) => {
-            let given = Value::Text(result.share(alloc)?);
-            emit(state, id.first(), Op::TypeofName { name, result }, given)
+    match &v {
+        Value::Text(text) => {
+            let result = text.share(alloc)?;
+            emit(state, id.first(), Op::TypeofName { name, result }, v)
         }
         Value::Undefined | Value::Null | Value::Bool(_) | Value::Num(_) | Value::Obj(_) => {
             Ok(Act::Fault(Fault::Misuse))

@@ -2,7 +2,6 @@ use jl_text::{List, Text};
 use jl_value::{Builtin, ObjId, Value};
 
 /// What an object holds beside its properties (8.6.2, table 9).
-#[derive(Drop)]
 pub enum Inner {
     Nothing,
     /// The primitive value that it stands for, its [[PrimitiveValue]].
@@ -26,4 +25,25 @@ pub enum Inner {
         env: usize,
         names: List<Option<Text>>,
     },
+}
+
+// By hand, as that of a value.
+impl Drop for Inner {
+    fn drop(self) {
+        match self {
+            Inner::Nothing
+            | Inner::Wrapped(_)
+            | Inner::Script {
+                function: _,
+                env: _,
+            }
+            | Inner::Native(_)
+            | Inner::Bound {
+                target: _,
+                this: _,
+                args: _,
+            }
+            | Inner::Mapped { env: _, names: _ } => {}
+        }
+    }
 }

@@ -184,7 +184,7 @@ fn for_var(alloc: Global, tokens: &Tokens, depth: Depth, at: usize, var: usize) 
 fn name(e: Part<Box<Expr>>, at: usize) -> Result<Ident, Stop>
     ensures { Gives view_ident result (name_of (view_expression e.value)) }
 {
-    let Expr { kind, span } = Box::into_inner(e.into_node());
+    let (kind, span) = Box::into_inner(e.into_node()).into_parts();
     match kind {
         ExprKind::Name(text) => Ok(Ident { text, span }),
         _ => Err(Stop::At(at)),

@@ -394,7 +394,7 @@ pub fn target(alloc: Global, e: Part<Box<Expr>>, at: usize) -> Result<Part<Box<T
     ensures { Gives (λ t. view_target t.value) result (target_of (view_expression e.value)) }
 {
     let height = e.height();
-    let Expr { kind, span } = Box::into_inner(e.into_node());
+    let (kind, span) = Box::into_inner(e.into_node()).into_parts();
     match kind {
         ExprKind::Name(text) => {
             let target = Box::new(alloc, Target::Name(Ident { text, span }))?;

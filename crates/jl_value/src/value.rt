@@ -6,7 +6,6 @@ use jl_text::Text;
 use std::alloc::{AllocError, Global};
 
 /// A value of a running script (8.1 to 8.6).
-#[derive(Drop)]
 pub enum Value {
     Undefined,
     Null,
@@ -14,6 +13,20 @@ pub enum Value {
     Num(Num),
     Text(Text),
     Obj(ObjId),
+}
+
+// By hand: a proof that lets go of a value calls it, where it would open a derived one with all variants.
+impl Drop for Value {
+    fn drop(self) {
+        match self {
+            Value::Undefined
+            | Value::Null
+            | Value::Bool(_)
+            | Value::Num(_)
+            | Value::Text(_)
+            | Value::Obj(_) => {}
+        }
+    }
 }
 
 /// A value as an operation saw it, with the class that it had then, which is `Primitive` for a value that is no object.
