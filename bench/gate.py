@@ -3,13 +3,14 @@
 
   bench/gate.py                 clones the last commit, runs `rt ci` there, and removes the clone
   bench/gate.py NAME..          the same with these crates and those below them alone
+  --kept                        takes what is kept on the machine of crates that were proved before, and measures the others
   --log FILE                    what `rt ci` says (otherwise a file among the temporary ones, which is named)
   --edits                       also each edit, the dearest first
 
-A row is a crate: its proof, its tests (which prove the crate once more, with the tests), and its edits that must fail
-(with the two checks of the whole crate that they begin and end with). Then comes their sum, and the minute of the run at
-which the last of them ended. Other work is what is run, linked and laid out, and what ended between two looks. The
-status is that of `rt ci`.
+A row is a crate: its proof, what two compilers take to make a program of it with all crates below, its tests (which
+prove the crate once more, with the tests), and its edits that must fail (with the two checks of the whole crate that
+they begin and end with). Then comes their sum, and the minute of the run at which the last of them ended. Other work is
+what is run, linked and laid out, and what ended between two looks. The status is that of `rt ci`.
 """
 import os
 import resource
@@ -21,7 +22,7 @@ import tempfile
 import time
 
 PAUSE = 0.25
-KINDS = ("proof", "tests", "edits")
+KINDS = ("proof", "builds", "tests", "edits")
 TICKS = os.sysconf("SC_CLK_TCK")
 
 
@@ -54,7 +55,9 @@ def kind_of(number):
         kept = words[words.index("--incremental") + 1] if "--incremental" in words else ""
         edit = os.path.basename(kept)
         return crate, "edits", int(edit) if edit.isdigit() else None
-    return crate, "tests" if "--test" in words else "proof", None
+    # A program is compiled from what its check proved.
+    kind = "tests" if "--test" in words else "builds" if "--crate-checked" in words else "proof"
+    return crate, kind, None
 
 
 class Gate:
@@ -109,7 +112,7 @@ class Gate:
 def table(gate, whole, elapsed):
     """Returns the table's lines: the crates by their sums, and the sums of all."""
     rows = gate.rows()
-    line = "{:<18}" + "{:>9}" * 5
+    line = "{:<18}" + "{:>9}" * (len(KINDS) + 2)
     lines = [line.format("crate", *KINDS, "sum", "minute")]
     of_kind = dict.fromkeys(KINDS, 0)
     for crate, row in sorted(rows.items(), key=lambda it: -sum(it[1].values())):
@@ -148,12 +151,12 @@ def keep_below(folder, names):
         shutil.rmtree(f"{folder}/crates/{crate}")
 
 
-def measured(folder, log, with_edits):
+def measured(folder, log, with_edits, with_kept):
     """Runs rt there, and returns its status and the lines to print."""
     began = time.monotonic()
     with open(log, "w", encoding="utf-8") as out:
         started = subprocess.Popen(
-            ["rt", "ci", *anew()], cwd=folder, stdin=subprocess.DEVNULL, stdout=out, stderr=subprocess.STDOUT
+            ["rt", "ci", *([] if with_kept else anew())], cwd=folder, stdin=subprocess.DEVNULL, stdout=out, stderr=subprocess.STDOUT
         )
         gate = Gate(started.pid)
         try:
@@ -178,7 +181,7 @@ def main(words):
         log = os.path.realpath(words[at + 1])
         words = words[:at] + words[at + 2 :]
     names = [it for it in words if not it.startswith("-")]
-    if "-h" in words or "--help" in words or set(words) - {"--edits", *names}:
+    if "-h" in words or "--help" in words or set(words) - {"--edits", "--kept", *names}:
         print(__doc__)
         return 2
     if log is None:
@@ -190,7 +193,7 @@ def main(words):
         if names:
             keep_below(clone, names)
         # (the clone itself is no part of what the gate costs)
-        status, lines = measured(clone, log, "--edits" in words)
+        status, lines = measured(clone, log, "--edits" in words, "--kept" in words)
     print("\n".join(lines))
     with open(log, encoding="utf-8", errors="replace") as it:
         print(it.read().rstrip().rpartition("\n")[2])

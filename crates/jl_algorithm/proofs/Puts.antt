@@ -1,7 +1,6 @@
 -- Values that are put.
 use Rattle.std.proofs.Common.{◌≡◌, refl, subst, sym, ap, ◌∙◌, codes, false, true, [], ◌∷◌, Bool, None, Option, Some}
-use Rattle.std.proofs.Common.{if◌then◌else◌, inl, inr, ◌⊎◌}
-use Rattle.jl_num.specs.Number.{Number}
+use Rattle.std.proofs.Common.{if◌then◌else◌}
 use Rattle.jl_value.specs.declared.error_kind.ErrorKind.TheVariants.{TypeError}
 use Rattle.jl_value.specs.declared.object.ObjId.{ObjId}
 use Rattle.jl_value.specs.declared.value.Value.{Value}
@@ -59,17 +58,13 @@ puts_primitive s throwing base x v given t a is leads = puts s throwing base x v
     by (value.Text y) e l = l
     by (value.Obj id) e l = absurd (let differ = e in cc)
 
--- the kinds of values that are no objects
-abbrev pub IsPrimitive : Value → Type 0
-IsPrimitive v = (v ≡ value.Undefined) ⊎ ((v ≡ value.Null) ⊎ (((b : Bool) × (v ≡ value.Bool b))
-    ⊎ (((n : Number) × (v ≡ value.Num n)) ⊎ ((x : Name) × (v ≡ value.Text x)))))
-
-pub no_object : (v : Value) → IsPrimitive v → is_object v ≡ false
-no_object v (inl e) = ap is_object e
-no_object v (inr (inl e)) = ap is_object e
-no_object v (inr (inr (inl e))) = ap is_object e.1
-no_object v (inr (inr (inr (inl e)))) = ap is_object e.1
-no_object v (inr (inr (inr (inr e)))) = ap is_object e.1
+pub no_object : (v : Value) → ((id : ObjId) → v ≡ value.Obj id → ⊥) → is_object v ≡ false
+no_object value.Undefined differs = refl
+no_object value.Null differs = refl
+no_object (value.Bool b) differs = refl
+no_object (value.Num n) differs = refl
+no_object (value.Text x) differs = refl
+no_object (value.Obj id) differs = absurd (differs id refl)
 
 pub puts_so : (s : State) (id : ObjId) (x : Name) (v : Value) (extensible done : Bool) (property : Option Property)
     (way : Way) (purpose : WrittenBy) (t : State) (a : Act) → done ≡ can_put extensible property
