@@ -3,7 +3,7 @@
 
   bench/gate.py                 clones the last commit, runs `rt ci` there, and removes the clone
   bench/gate.py NAME..          the same with these crates and those below them alone
-  --kept                        takes what is kept on the machine of crates that were proved before, and measures the others
+  --kept                        takes what this machine keeps of crates that were proved before, and measures the others
   --log FILE                    what `rt ci` says (otherwise a file among the temporary ones, which is named)
   --edits                       also each edit, the dearest first
 
@@ -155,8 +155,9 @@ def measured(folder, log, with_edits, with_kept):
     """Runs rt there, and returns its status and the lines to print."""
     began = time.monotonic()
     with open(log, "w", encoding="utf-8") as out:
+        command = ["rt", "ci", *([] if with_kept else anew())]
         started = subprocess.Popen(
-            ["rt", "ci", *([] if with_kept else anew())], cwd=folder, stdin=subprocess.DEVNULL, stdout=out, stderr=subprocess.STDOUT
+            command, cwd=folder, stdin=subprocess.DEVNULL, stdout=out, stderr=subprocess.STDOUT
         )
         gate = Gate(started.pid)
         try:

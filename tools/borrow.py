@@ -30,10 +30,12 @@ def link_kept(name, out):
     with open(os.path.join(found[-1], "made.json"), encoding="utf-8") as it:
         files = json.load(it)["files"]
     for number, (file, _sum) in enumerate(files):
-        place = os.path.join(out, file)
-        os.makedirs(os.path.dirname(place), exist_ok=True)
-        os.link(os.path.join(found[-1], str(number)), place)
-    return True
+        # (of a program what two compilers made is kept, which no crate stands on)
+        if file.startswith("rlib/"):
+            place = os.path.join(out, file)
+            os.makedirs(os.path.dirname(place), exist_ok=True)
+            os.link(os.path.join(found[-1], str(number)), place)
+    return os.path.isdir(os.path.join(out, "rlib"))
 
 
 def link_from(clone, name, out):
