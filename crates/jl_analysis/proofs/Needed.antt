@@ -1,24 +1,23 @@
 -- A rule looks at operations of the kinds in its row alone, so others can be left out.
 use Rattle.std.proofs.Common.{◌≡◌, ℕ, zero, suc, ◌+◌, ◌-◌, ◌≤◌, ◌<◌, Bool, true, false, List, [], ◌∷◌, ◌++◌, length}
-use Rattle.std.proofs.Common.{map}
 use Rattle.std.proofs.Common.{Option, None, Some, slice_get, refl, sym, ap, ◌∙◌, subst, arith, append-nil}
 use Rattle.std.proofs.Common.{if◌then◌else◌}
-use Rattle.std.specs.Prelude.{filter, option_map, count_by, nat_lt, nat_eq, ◌||◌, ◌&&◌, ◌==◌, not, min, ◌^◌}
+use Rattle.std.specs.Prelude.{filter, count_by, nat_lt, nat_eq, ◌||◌, ◌&&◌, not, min, ◌^◌}
 use Rattle.std.specs.List.{list_any}
 use Rattle.std.proofs.lemmas.List.Elements.{filter-append}
 use Rattle.std.proofs.lemmas.List.Sums.{length-filter}
-use Rattle.std.proofs.lemmas.Option.{slice_get-map, slice_get_within}
+use Rattle.std.proofs.lemmas.Option.{slice_get_within}
 use Rattle.jl_op.specs.declared.callee.Callee.TheVariants as callees
 use Rattle.jl_op.specs.declared.kind.OpKind.{OpKind}
 use Rattle.jl_op.specs.declared.kind.OpKind.TheVariants as kinds
 use Rattle.jl_op.specs.declared.op.Op.{Op}
 use Rattle.jl_op.specs.declared.op.Op.TheVariants as ops
 use Rattle.jl_op.specs.KindSets.{of_kinds}
-use Rattle.jl_op.specs.Kinds.{kind_of, all_kinds, number_of}
+use Rattle.jl_op.specs.Kinds.{kind_of, all_kinds}
 use Rattle.jl_op.specs.Operations.{Operation}
 use Rattle.jl_value.specs.declared.value.Value.{Value}
 use Rattle.jl_analysis.specs.Laws.{NeededIsEnough}
-use Rattle.jl_analysis.specs.Rules.{RuleRow, rules, rule_count, all_rules, numbers, rule_at, hit, hits_by, is_one_of}
+use Rattle.jl_analysis.specs.Rules.{RuleRow, rules, rule_count, numbers, rule_at, hit, hits_by, is_one_of}
 use Rattle.jl_analysis.specs.Rules.{looks_at, needed_by, is_needed}
 use Rattle.jl_analysis.specs.Summary.{hits, hits_after}
 use Rattle.jl_analysis.specs.TypeRules as types

@@ -4,7 +4,7 @@ use Rattle.std.proofs.Common.{List, None, if◌then◌else◌, refl, ap, ap₂, 
 use Rattle.std.specs.List.{list_any}
 use Rattle.jl_analysis.specs.Chosen.{is_chosen}
 use Rattle.jl_analysis.specs.Laws.{NeededIsEnough}
-use Rattle.jl_analysis.specs.Rules.{is_needed, looks_at, numbers, rules}
+use Rattle.jl_analysis.specs.Rules.{is_needed, looks_at, numbers}
 use Rattle.jl_analysis.specs.Summary.{hits}
 use Rattle.jl_analysis.specs.declared.rule_set.RuleSet.{RuleSet}
 use Rattle.jl_op.specs.Chosen.{is_kept}

@@ -1,5 +1,5 @@
 -- Values that have to be objects or functions.
-use Rattle.std.proofs.Common.{◌≡◌, ap, codes, false, refl, subst, sym, true, Bool}
+use Rattle.std.proofs.Common.{◌≡◌, codes, false, refl, subst, sym, true, Bool}
 use Rattle.jl_value.specs.declared.object.ObjId.{ObjId}
 use Rattle.jl_value.specs.declared.value.Value.{Value}
 use Rattle.jl_value.specs.declared.value.Value.TheVariants as value

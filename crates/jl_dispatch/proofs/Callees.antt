@@ -4,7 +4,7 @@ use Rattle.jl_value.specs.declared.value.Value.{Value}
 use Rattle.jl_heap.specs.Objects.{object_at}
 use Rattle.jl_effects.specs.Effects.{Look}
 use Rattle.jl_meaning.specs.FunctionObjects.{FunctionTable}
-use Rattle.jl_meaning.specs.Parts.{begin_call, give, Answer, CallOf, Part}
+use Rattle.jl_meaning.specs.Parts.{begin_call, Answer, CallOf, Part}
 use Rattle.jl_meaning.specs.Parts as parts
 use Rattle.jl_meaning.specs.Jobs.{call_inside}
 use Rattle.jl_state.specs.Rest.{Gives}

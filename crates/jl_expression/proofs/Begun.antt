@@ -1,5 +1,5 @@
 -- Expressions begun.
-use Rattle.std.proofs.Common.{◌≡◌, ◌-◌, Bool, false, true, refl, sym, ap, subst}
+use Rattle.std.proofs.Common.{◌≡◌, ◌-◌, Bool, false, refl, sym, ap, subst}
 use Rattle.std.proofs.lemmas.Bool.{false≢true}
 use Rattle.jl_ast.specs.Tree as tree
 use Rattle.jl_ast.specs.declared.ops.UnOp.{UnOp}

@@ -1,5 +1,5 @@
 -- Calls by what stands as their callee.
-use Rattle.std.proofs.Common.{◌≡◌, ◌∙◌, Bool, List, false, true, ℕ, ap, refl, length, subst, sym}
+use Rattle.std.proofs.Common.{◌≡◌, ◌∙◌, Bool, List, true, ℕ, ap, refl, length, subst, sym}
 use Rattle.std.proofs.lemmas.Bool.{false≢true}
 use Rattle.jl_text.specs.declared.span.Span.{Span}
 use Rattle.jl_ast.specs.Tree as tree

@@ -1,5 +1,5 @@
 -- What an expression is that is of none of some kinds.
-use Rattle.std.proofs.Common.{◌≡◌, List, arith, false, refl, rules, true}
+use Rattle.std.proofs.Common.{◌≡◌, List, arith, false, rules, true}
 use Rattle.std.specs.Global.{Global}
 use Rattle.std.specs.declared.boxed.Box.{Box}
 use Rattle.jl_ast.specs.Tree.{Text}

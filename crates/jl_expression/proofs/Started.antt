@@ -1,5 +1,5 @@
 -- Expressions by their kinds, after the step that begins them.
-use Rattle.std.proofs.Common.{◌≡◌, Bool, List, Option, refl, subst}
+use Rattle.std.proofs.Common.{◌≡◌, Bool, List, Option, subst}
 use Rattle.std.specs.Global.{Global}
 use Rattle.std.specs.declared.boxed.Box.{Box}
 use Rattle.jl_text.specs.declared.span.Span.{Span}

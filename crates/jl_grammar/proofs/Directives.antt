@@ -1,7 +1,7 @@
 -- A directive is a statement that is one string token.
 use Rattle.std.proofs.Common.{◌≡◌, ℕ, zero, suc, ◌+◌, ◌-◌, ◌≤◌, ◌<◌, ◌⊎◌, inl, inr, Bool, true}
 use Rattle.std.proofs.Common.{false, not}
-use Rattle.std.proofs.Common.{◌&&◌, ◌||◌, ap, refl, sym, ◌∙◌, subst, List, length, arith}
+use Rattle.std.proofs.Common.{◌||◌, ap, refl, sym, ◌∙◌, subst, List, length, arith}
 use Rattle.std.proofs.lemmas.Bool.{cases_lt}
 use Rattle.std.proofs.lemmas.Option.{same_Some}
 use Rattle.jl_ast.specs.Height.{height}

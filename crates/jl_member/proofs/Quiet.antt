@@ -3,7 +3,7 @@ use Rattle.std.proofs.Common.{refl}
 use Rattle.jl_value.specs.declared.value.Value.{Value}
 use Rattle.jl_op.specs.Operations.{Operation}
 use Rattle.jl_effects.specs.Effects.{Look, Perform}
-use Rattle.jl_meaning.specs.Parts.{gives, ◌>>=◌, Answer, Part}
+use Rattle.jl_meaning.specs.Parts.{◌>>=◌, Answer, Part}
 use Rattle.jl_meaning.specs.Store.{Store}
 use Rattle.jl_state.specs.Rest.{Gives}
 use Rattle.jl_state.specs.declared.act.Act.{Act}

@@ -1,5 +1,5 @@
 -- Primitive values added as strings, or as numbers.
-use Rattle.std.proofs.Common.{◌≡◌, List, false, true, if◌then◌else◌, ◌||◌, sym, subst, ℕ, Bool}
+use Rattle.std.proofs.Common.{◌≡◌, List, false, true, if◌then◌else◌, ◌||◌, subst, ℕ, Bool}
 use Rattle.jl_value.specs.declared.value.Value.{Value}
 use Rattle.jl_conv.specs.Conversions.{text_of_value}
 use Rattle.jl_meaning.specs.Operators.{is_string, sum_of_primitives}

@@ -1,5 +1,5 @@
 -- Equalities by what their operands are (11.9.3).
-use Rattle.std.proofs.Common.{◌≡◌, false, true, if◌then◌else◌, not, refl, sym, subst, Bool}
+use Rattle.std.proofs.Common.{◌≡◌, false, true, if◌then◌else◌, not, refl, subst, Bool}
 use Rattle.jl_value.specs.declared.value.Value.{Value}
 use Rattle.jl_value.specs.declared.value.Value.TheVariants as value
 use Rattle.jl_conv.specs.Conversions.{is_object}

@@ -1,5 +1,5 @@
 -- How high a list of parts is with one more.
-use Rattle.std.proofs.Common.{◌≡◌, ℕ, suc, ◌≤◌, ◌<◌, max, ap, sym, subst, ◌∙◌, List, [], ◌∷◌, ◌++◌, arith, refl}
+use Rattle.std.proofs.Common.{◌≡◌, ℕ, suc, ◌≤◌, ◌<◌, max, ap, sym, subst, ◌∙◌, List, [], ◌∷◌, ◌++◌, arith}
 use Rattle.std.specs.Prelude.{Option, Some, None, Err, IsErr, IsErrAnd, Ok, Result}
 use Rattle.jl_text.specs.declared.span.Span.{Span}
 use Rattle.jl_ast.specs.declared.tree.Case.{Case as CodeCase}

@@ -21,7 +21,7 @@ use Rattle.jl_simulation.specs.Weaving.{woven_optional}
 use Rattle.jl_text.specs.declared.span.Span.{Span}
 use Rattle.jl_read_back.specs.EarlyErrors.{none, AreReservedNames}
 use Rattle.jl_read_back.proofs.EarlyForms as form
-use Rattle.jl_read_back.proofs.EarlyForms.{all_spanned, spanned, AllClear, Clear}
+use Rattle.jl_read_back.proofs.EarlyForms.{spanned, AllClear, Clear}
 use Rattle.jl_read_back.proofs.Rules as rule
 use Rattle.jl_read_back.proofs.Rules.{both, first, no_delete, no_name_deleted, second}
 

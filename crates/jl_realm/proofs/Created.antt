@@ -8,7 +8,7 @@ use Rattle.jl_props.specs.declared.entries.Entry.{Entry}
 use Rattle.jl_value.specs.Indices.{index_of}
 use Rattle.jl_value.specs.Same.{same_value}
 use Rattle.jl_value.specs.declared.value.Value.TheVariants as value
-use Rattle.jl_heap.specs.Define.{define_on, define_ordinary, is_writable, store_property}
+use Rattle.jl_heap.specs.Define.{define_on, is_writable, store_property}
 use Rattle.jl_heap.specs.Define.{with_new_property, with_property}
 use Rattle.jl_heap.specs.Define as heaps
 use Rattle.jl_heap.specs.Objects.{object_at, own, own_or_unit, unit_property, units_of, Name, Objects}

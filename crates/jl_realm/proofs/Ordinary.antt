@@ -12,7 +12,7 @@ use Rattle.jl_value.specs.declared.object.Class.TheVariants as class
 use Rattle.jl_value.specs.declared.object.ObjId.{ObjId}
 use Rattle.jl_effects.specs.Effects.{Begin, Change, Emit, End, Fail, Look, Perform, Print, Step}
 use Rattle.jl_effects.specs.Running.{Finish}
-use Rattle.jl_heap.specs.Define.{define_ordinary, is_array, length_name, with_new_property, with_property}
+use Rattle.jl_heap.specs.Define.{define_ordinary, is_array, length_name, with_new_property}
 use Rattle.jl_heap.specs.Define as heaps
 use Rattle.jl_heap.specs.Headers.{unmap_argument, unmapped_inside, without_extensions}
 use Rattle.jl_heap.specs.NewObject.{first_length, proto_there, with_bare_object, with_new_object}

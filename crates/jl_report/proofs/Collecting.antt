@@ -1,5 +1,5 @@
 -- The numbers grow by what each checker of a chosen rule found, and are in the end those of the report.
-use Rattle.std.proofs.Common.{◌≡◌, ℕ, ◌+◌, ◌<◌, ◌≤◌, ◌^◌, Bool, true, false, nat_eq, ◌==◌, List, length, take}
+use Rattle.std.proofs.Common.{◌≡◌, ℕ, ◌+◌, ◌<◌, ◌^◌, Bool, true, false, nat_eq, ◌==◌, List, length, take}
 use Rattle.std.proofs.Common.{get_or, map}
 use Rattle.std.proofs.Common.{Option, None, Some, Result, Ok, Err, IfOk, Vec, Global, slice_get, option_map}
 use Rattle.std.proofs.Common.{refl, sym, ap, ◌∙◌, subst, arith, inl, inr}

@@ -21,7 +21,7 @@ use Rattle.jl_simulation.specs.HookCalls.{before_update, hook, hook_1, hook_of_1
 use Rattle.jl_simulation.specs.HookCalls.{Woven}
 use Rattle.jl_simulation.specs.Weaving as rewriting
 use Rattle.jl_simulation.specs.Weaving.{weave, woven_assignment, woven_body, woven_callee, woven_delete, woven_forest}
-use Rattle.jl_simulation.specs.Weaving.{woven_optional, woven_test, woven_typeof, woven_update}
+use Rattle.jl_simulation.specs.Weaving.{woven_optional, woven_typeof, woven_update}
 use Rattle.jl_simulation.proofs.Shapes.{call_with_ids}
 
 or_false : (b : Bool) → (b || false) ≡ b

@@ -20,7 +20,7 @@ use Rattle.jl_scope.specs.Names.{arguments_name}
 use Rattle.jl_simulation.specs.HookCalls as weaving
 use Rattle.jl_simulation.specs.HookCalls.{before_update, hook_1}
 use Rattle.jl_simulation.specs.Weaving as rewriting
-use Rattle.jl_simulation.specs.Weaving.{weave, woven_callee, woven_delete, woven_forest, woven_optional, woven_test}
+use Rattle.jl_simulation.specs.Weaving.{weave, woven_callee, woven_delete, woven_forest, woven_optional}
 use Rattle.jl_simulation.specs.Weaving.{woven_typeof, woven_update}
 use Rattle.jl_simulation.specs.inner.Fit.{AllFit, Fits, FitsIfPresent, UnaryFits}
 use Rattle.jl_simulation.proofs.Declarations.{arguments_other, function_of}

@@ -9,7 +9,7 @@ use Rattle.jl_meaning.specs.DeclarationBinding.{create_global}
 use Rattle.jl_meaning.specs.Defining.{define_own_property, no_change}
 use Rattle.jl_meaning.specs.Errors.{require}
 use Rattle.jl_meaning.specs.Intrinsics.{global_object}
-use Rattle.jl_meaning.specs.Parts.{gives, throws, Algorithm, Answer}
+use Rattle.jl_meaning.specs.Parts.{throws, Algorithm, Answer}
 use Rattle.jl_meaning.specs.Parts as parts
 use Rattle.jl_meaning.specs.Store.{Store}
 use Rattle.jl_store.specs.Answers.{fault_seen, finish_of}

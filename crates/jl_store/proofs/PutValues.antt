@@ -17,7 +17,7 @@ use Rattle.jl_meaning.specs.Defining.{define_own_property, define_with_number, v
 use Rattle.jl_meaning.specs.Parts.{gives, ◌>>=◌}
 use Rattle.jl_meaning.specs.Properties.{can_put, get_own_property, get_property, holding, inherited_property}
 use Rattle.jl_meaning.specs.Properties.{mapped_parameter}
-use Rattle.jl_meaning.specs.Properties.{own_or_inherited, parameter_value}
+use Rattle.jl_meaning.specs.Properties.{own_or_inherited}
 use Rattle.jl_meaning.specs.Putting.{put_if}
 use Rattle.jl_meaning.specs.Store.{binding_of, Store}
 use Rattle.jl_store.specs.Changes.{after}

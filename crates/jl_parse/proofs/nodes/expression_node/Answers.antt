@@ -1,4 +1,4 @@
-use Rattle.std.proofs.Common.{◌≡◌, ◌∙◌, suc, ap, arith, rules}
+use Rattle.std.proofs.Common.{◌∙◌, suc, arith, rules}
 use Rattle.jl_ast.proofs.Views.{nodes}
 use Rattle.jl_parse.proofs.Heights.{made_low, refused}
 use Rattle.jl_parse.proofs.nodes.expression_node.Goals as goal

@@ -1,4 +1,4 @@
-use Rattle.std.proofs.Common.{◌≡◌, ◌∙◌, suc, arith, rules}
+use Rattle.std.proofs.Common.{◌∙◌, suc, arith, rules}
 use Rattle.jl_ast.specs.declared.tree.Entry.TheViews.{out-roll-Function}
 use Rattle.jl_ast.proofs.Views.{function_is}
 use Rattle.jl_parse.proofs.Heights.{made_low, refused}

@@ -1,4 +1,4 @@
-use Rattle.std.proofs.Common.{◌≡◌, ◌∙◌, arith, rules}
+use Rattle.std.proofs.Common.{◌∙◌, rules}
 use Rattle.jl_ast.proofs.Views.{nodes}
 use Rattle.jl_parse.proofs.Heights.{made_low}
 use Rattle.jl_parse.proofs.statement_nodes.statement_node.Goals as goal

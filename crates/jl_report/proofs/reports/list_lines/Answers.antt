@@ -1,9 +1,9 @@
-use Rattle.std.proofs.Common.{◌≡◌, ◌∙◌, ℕ, Bool, not, map, refl, ap, sym, ◌∷◌, []}
+use Rattle.std.proofs.Common.{◌∙◌, ℕ, Bool, not, map, refl, ap, sym, ◌∷◌, []}
 use Rattle.std.proofs.lemmas.List.{map-append}
 use Rattle.std.specs.Map.Iter.{deref_pair}
 use Rattle.std.specs.Prelude.{filter}
 use Rattle.jl_report.specs.Off.{is_off}
-use Rattle.jl_report.specs.Reports.{Key, key}
+use Rattle.jl_report.specs.Reports.{Key}
 use Rattle.jl_report.specs.declared.line.Line.{Line}
 use Rattle.jl_report.proofs.Listing.{entry, listed_more}
 use Rattle.jl_report.proofs.reports.list_lines.Goals as goal

@@ -1,6 +1,6 @@
-use Rattle.std.proofs.Common.{◌≡◌, ◌∙◌, ap, ap₂, arith, rules, sym}
+use Rattle.std.proofs.Common.{◌≡◌, ◌∙◌, ap₂, arith, rules, sym}
 use Rattle.std.proofs.lemmas.Grind.{common_steps}
-use Rattle.jl_grammar.specs.Brackets.{bracket, open_brackets}
+use Rattle.jl_grammar.specs.Brackets.{bracket}
 use Rattle.jl_grammar.specs.Terminals.{terminal_of}
 use Rattle.jl_grammar.specs.Tokens.{terminal_at}
 use Rattle.jl_parse.proofs.Places.{bracket_few, counts_more, kind_in, opened_more, opened_none}
