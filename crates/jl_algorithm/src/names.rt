@@ -2,9 +2,8 @@
 ghost use Rattle.std.specs.Prelude.{◌≡◌, IfOk};
 ghost use Rattle.jl_value.specs.declared.value.Value.TheVariants as value;
 ghost use Rattle.jl_meaning.specs.Parts.{give, ◌>>=◌ as ◌then◌};
-ghost use Rattle.jl_meaning.specs.References.{binding_value, delete_name, get_name, get_value, in_environment};
+ghost use Rattle.jl_meaning.specs.References.{delete_name, get_name, get_value, in_environment};
 ghost use Rattle.jl_meaning.specs.References.{put_name, put_value, type_of_name, type_of_reference};
-ghost use Rattle.jl_meaning.specs.Store.{binding_of};
 ghost use Rattle.jl_state.specs.AlgorithmFrames.{algorithm_after};
 ghost use Rattle.jl_state.specs.Rank.{Falls};
 ghost use Rattle.jl_state.specs.Rest.{Works};
@@ -18,9 +17,9 @@ use crate::getting::get;
 use crate::putting::put;
 use jl_conv::type_name;
 use jl_state::{Act, AlgorithmFrame, State};
-use jl_store::{Answer, Reference, Store, word};
+use jl_store::{Answer, Reference, word};
 use jl_text::{NoMemory, Text};
-use jl_value::{Completion, ObjId, Value, share};
+use jl_value::{Completion, ObjId, Value};
 use std::alloc::Global;
 
 /// GetValue of what a name refers to (8.7.1, 10.2.1.2.4). It throws a ReferenceError where that is nothing.
@@ -37,7 +36,7 @@ pub fn get_value<'p>(
 {
     match reference {
         Reference::InEnvironment(env) => {
-            Ok(Act::Give(bound_value(alloc, &state.store, env, name)?))
+            Ok(Act::Give(state.store.binding_value(env, name)?))
         }
         Reference::OnGlobalObject => get(alloc, state, &Value::Obj(ObjId::GLOBAL), name),
         Reference::Unresolvable => throw_not_defined(alloc, state, name),
@@ -205,15 +204,5 @@ pub fn delete_name<'p>(
             delete(alloc, state, strict, &Value::Obj(ObjId::GLOBAL), name)
         }
         Reference::Unresolvable => Ok(Answer::Gives(true)),
-    }
-}
-
-/// GetBindingValue (10.2.1.1.4).
-fn bound_value(alloc: Global, store: &Store, env: usize, name: &Text) -> Result<Value, NoMemory>
-    ensures { IfOk result (λ v. v ≡ binding_value (binding_of store.now env name.now)) }
-{
-    match store.binding(env, name) {
-        Some(bound) => share(alloc, &bound.value),
-        None => Ok(Value::Undefined),
     }
 }

@@ -1,7 +1,8 @@
 -- The table of rules.
 use Rattle.std.specs.Prelude.{ℕ, zero, suc, ◌+◌, ◌≤◌, ◌==◌, ◌&&◌, Bool, false, List, [], ◌∷◌, Option, None, Some}
-use Rattle.std.specs.Prelude.{slice_get, codes, fold, option_map}
-use Rattle.std.specs.List.{list_any}
+use Rattle.std.specs.Prelude.{slice_get, codes, fold, map, option_map}
+use Rattle.std.specs.List.{list_any, position_from}
+use Rattle.std.specs.Str.{bytes_eq}
 use Rattle.jl_op.specs.declared.kind.OpKind.{OpKind}
 use Rattle.jl_op.specs.declared.kind.OpKind.TheVariants as kinds
 use Rattle.jl_op.specs.declared.op.Op.{Op}
@@ -96,6 +97,10 @@ rule_at (suc n) = slice_get rules n
 -- its name
 abbrev pub name_at : ℕ → Option (List ℕ)
 name_at rule = option_map (λ row. row.name) (rule_at rule)
+
+-- the number of the rule with this name, if there is one; numbers count from 1
+abbrev pub rule_with : (name : List ℕ) → Option ℕ
+rule_with name = position_from (bytes_eq name) 1 (map (λ row. row.name) rules)
 
 abbrev pub hits_by : Option RuleRow → List Op → Op → Bool
 hits_by None before op = false

@@ -10,12 +10,13 @@ use Rattle.jl_heap.specs.Describe.{seen_of}
 use Rattle.jl_op.specs.declared.op.Op.TheVariants as op
 use Rattle.jl_op.specs.declared.sign.UnKind.{UnKind}
 use Rattle.jl_op.specs.declared.sign.UnKind.TheVariants as unary
+use Rattle.jl_op.specs.UnaryKinds.{update_kind}
 use Rattle.jl_meaning.specs.Conversions.{number_hint, to_number, to_primitive}
 use Rattle.jl_meaning.specs.Noting.{emits, note}
 use Rattle.jl_meaning.specs.Operators.{give_next, give_number}
 use Rattle.jl_meaning.specs.Parts.{give, lift, or_fault, ◌>>=◌, Answer, NumberOutside, Part}
 use Rattle.jl_meaning.specs.forms.Hooks.{hooked_unary, hooked_update}
-use Rattle.jl_meaning.specs.forms.Operators.{operate_on, update, update_kind}
+use Rattle.jl_meaning.specs.forms.Operators.{operate_on, update}
 use Rattle.jl_state.specs.AlgorithmFrames.{number_of_primitive}
 use Rattle.jl_state.specs.Rest.{Gives, Works}
 use Rattle.jl_state.specs.Steps.{ValueWaits}

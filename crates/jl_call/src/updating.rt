@@ -1,12 +1,12 @@
 //! Hooks of operators on one operand, of `++` and `--` among them (11.3, 11.4).
 ghost use Rattle.std.specs.Prelude.{◌≡◌, ◌+◌, IfOk};
 ghost use Rattle.jl_heap.specs.Describe.{seen_of};
+ghost use Rattle.jl_op.specs.UnaryKinds.{update_kind};
 ghost use Rattle.jl_meaning.specs.Noting.{emits, note};
 ghost use Rattle.jl_meaning.specs.Operators.{give_next};
 ghost use Rattle.jl_meaning.specs.Parts.{give, lift, ◌>>=◌ as ◌then◌};
 ghost use Rattle.jl_meaning.specs.forms.Hooks.{first_of, hooked_unary, hooked_update, second_of};
 ghost use Rattle.jl_meaning.specs.forms.Members.{update_member};
-ghost use Rattle.jl_meaning.specs.forms.Operators.{update_kind};
 ghost use Rattle.jl_state.specs.Rank.{Falls};
 ghost use Rattle.jl_state.specs.Rest.{Gives};
 ghost use Rattle.jl_state.specs.ValueFrames.{value_after};
@@ -16,7 +16,7 @@ use crate::values::{first_of, second_of};
 use jl_algorithm::to_primitive;
 use jl_member::update_member;
 use jl_num::{Num, NumberOutside};
-use jl_op::{Op, UnKind};
+use jl_op::{Op, UnKind, update_kind};
 use jl_operator::{next_number, number_of, operate_on, step_emit_unary};
 use jl_state::{Act, Hint, HookId, Noted, State, ValueFrame};
 use jl_text::{List, NoMemory};
@@ -117,13 +117,6 @@ fn emit_unary<'p>(
     ensures falls { IfOk result (λ act. Falls state.old 6 state.new act) }
 {
     step_emit_unary(state, id.first(), op, operand, v)
-}
-
-/// The kind of `++`, or of `--` with `false`.
-fn update_kind(up: bool) -> UnKind
-    ensures { result ≡ update_kind up }
-{
-    if up { UnKind::Up } else { UnKind::Down }
 }
 
 /// A hook of `++` or `--` on a member (11.3, 11.4.4, 11.4.5), which gives the new value.

@@ -7,9 +7,9 @@ use Rattle.std.proofs.lemmas.Bool.Decides.{nat_tests}
 use Rattle.std.proofs.lemmas.List.Splits.{slice_split_first, slice_split_none}
 use Rattle.std.proofs.lemmas.List.Sums.{fails_before_first}
 use Rattle.jl_analysis.specs.Chosen.{is_chosen}
-use Rattle.jl_analysis.specs.Rules.{IsRule, all_rules, numbers, rule_count}
+use Rattle.jl_analysis.specs.Rules.{IsRule, all_rules, numbers, rule_count, rule_with}
 use Rattle.jl_analysis.specs.declared.rule_set.RuleSet.{RuleSet}
-use Rattle.jl_command.specs.Asked.{is_among, rule_with, with_names, with_rule}
+use Rattle.jl_command.specs.Asked.{is_among, with_names, with_rule}
 use Rattle.jl_command.specs.Meant.{IsChoice}
 use Rattle.jl_command.specs.inner.Optional.{BothOrNeither}
 use Rattle.jl_command.proofs.Optional.{both, neither}

@@ -7,8 +7,7 @@ use Rattle.std.specs.Str.{bytes_eq}
 use Rattle.std.proofs.lemmas.Slice.Eq.{bytes_eq-Decides}
 use Rattle.jl_analysis.proofs.RuleNames.{named, rule_names}
 use Rattle.jl_analysis.specs.Laws.{OneName}
-use Rattle.jl_analysis.specs.Rules.{IsRule, name_at}
-use Rattle.jl_command.specs.Asked.{rule_with}
+use Rattle.jl_analysis.specs.Rules.{IsRule, name_at, rule_with}
 
 -- the name stands there
 has_name : (name : List ℕ) (first : ℕ) (names : List (List ℕ)) (rule : ℕ)

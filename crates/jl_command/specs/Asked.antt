@@ -3,10 +3,10 @@ use Rattle.std.specs.Prelude.{ℕ, ◌&&◌, ◌==◌, nat_le, not, Bool, List, 
 use Rattle.std.specs.Prelude.{map, length, codes, option_and_then, option_map, if◌then◌else◌}
 use Rattle.std.specs.Borrow.{Bor}
 use Rattle.std.specs.Char.{is_ascii_digit}
-use Rattle.std.specs.List.{list_all, list_any, position_from, slice_split}
+use Rattle.std.specs.List.{list_all, list_any, slice_split}
 use Rattle.std.specs.Str.{bytes_eq}
 use Rattle.std.specs.Str.Parse.{digits_value}
-use Rattle.jl_analysis.specs.Rules.{all_rules, rules}
+use Rattle.jl_analysis.specs.Rules.{all_rules, rule_with}
 use Rattle.jl_command.specs.CommandLine.{Text, is_refused, value_of}
 
 -- the texts of borrowed words
@@ -60,10 +60,6 @@ soak_number (Some text) = at_most most_functions (number_in text)
 -- the rule is one of these
 abbrev pub is_among : List ℕ → (rule : ℕ) → Bool
 is_among chosen rule = list_any (λ r. r == rule) chosen
-
--- the number of the rule with this name, if there is one; numbers count from 1
-abbrev pub rule_with : (name : Text) → Option ℕ
-rule_with name = position_from (bytes_eq name) 1 (map (λ row. row.name) rules)
 
 -- one rule more, unless there is none, or it is there already
 abbrev pub with_rule : List ℕ → Option ℕ → Option (List ℕ)

@@ -1,7 +1,8 @@
 //! The rules that a word names.
 ghost use Rattle.std.specs.Prelude.{◌≡◌, ◌==◌, ℕ, List, option_map};
 ghost use Rattle.std.specs.List.{slice_split};
-ghost use Rattle.jl_command.specs.Asked.{rule_with, rules_in, with_names, with_rule};
+ghost use Rattle.jl_analysis.specs.Rules.{rule_with};
+ghost use Rattle.jl_command.specs.Asked.{rules_in, with_names, with_rule};
 ghost use Rattle.jl_command.specs.Meant.{IsChoice};
 ghost use Rattle.jl_command.specs.inner.Optional.{BothOrNeither};
 

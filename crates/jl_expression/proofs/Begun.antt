@@ -6,12 +6,13 @@ use Rattle.jl_ast.specs.declared.ops.UnOp.{UnOp}
 use Rattle.jl_ast.specs.declared.ops.UnOp.TheVariants as un
 use Rattle.jl_value.specs.declared.value.Value.{Value}
 use Rattle.jl_op.specs.declared.sign.UnKind.TheVariants as unary
+use Rattle.jl_op.specs.UnaryKinds.{unary_kind}
 use Rattle.jl_effects.specs.Effects.{Step}
 use Rattle.jl_meaning.specs.Expressions.{evaluate, evaluate_typeof}
 use Rattle.jl_meaning.specs.FunctionObjects.{FunctionTable}
 use Rattle.jl_meaning.specs.Noting.{performs}
 use Rattle.jl_meaning.specs.Parts.{◌>>=◌, Answer, Context, Expr, Part}
-use Rattle.jl_meaning.specs.forms.Operators.{operate_on, unary_kind}
+use Rattle.jl_meaning.specs.forms.Operators.{operate_on}
 use Rattle.jl_state.specs.Rest.{Gives}
 use Rattle.jl_state.specs.Steps.{RanOut, Took}
 use Rattle.jl_state.specs.Words.{context_of, table_of}

@@ -2,9 +2,9 @@
 ghost use Rattle.std.specs.Prelude.{◌≡◌, ◌≤◌, IfOk};
 ghost use Rattle.jl_ast.specs.Tree as tree;
 ghost use Rattle.jl_ast.specs.View.{view_expression, view_target};
+ghost use Rattle.jl_op.specs.UnaryKinds.{unary_kind};
 ghost use Rattle.jl_meaning.specs.Expressions.{evaluate, evaluate_assignment, evaluate_delete, evaluate_typeof};
 ghost use Rattle.jl_meaning.specs.Expressions.{evaluate_update};
-ghost use Rattle.jl_meaning.specs.forms.Operators.{unary_kind};
 ghost use Rattle.jl_state.specs.Rank.{Falls};
 ghost use Rattle.jl_state.specs.Rest.{Gives};
 ghost use Rattle.jl_state.specs.Trees.{plain};
@@ -18,7 +18,7 @@ use jl_literal::{
     begin_array, begin_function, begin_object, give_boolean, give_null, give_number, give_text,
 };
 use jl_member::{assign_name, compute_name, delete_name, read_name, typeof_name, update_name};
-use jl_op::UnKind;
+use jl_op::{UnKind, unary_kind};
 use jl_state::{Act, Calls, Here, State, ValueFrame};
 use jl_text::{NoMemory, Text};
 use jl_value::{ObjId, Value, share};
@@ -139,20 +139,6 @@ fn begin_unary<'p>(
             let op = unary_kind(op);
             state.evaluate(ValueFrame::Operand { op }, operand, here)
         }
-    }
-}
-
-/// The kind of an operator that is neither `typeof` of a name nor `delete`.
-fn unary_kind(op: UnOp) -> UnKind
-    ensures { result ≡ unary_kind op }
-{
-    match op {
-        UnOp::Minus => UnKind::Minus,
-        UnOp::Plus => UnKind::Plus,
-        UnOp::Not => UnKind::Not,
-        UnOp::Tilde => UnKind::Tilde,
-        UnOp::Typeof => UnKind::Typeof,
-        UnOp::Void | UnOp::Delete => UnKind::Void,
     }
 }
 

@@ -3,9 +3,9 @@
 
 ghost use Rattle.std.specs.Prelude.{◌≡◌, option_map};
 ghost use Rattle.std.specs.Str.{bytes_eq};
+ghost use Rattle.jl_op.specs.UnaryKinds.{update_kind};
 ghost use Rattle.jl_meaning.specs.forms.HookCalls.{assignment_operators, binary_among, binary_named, unary_among};
 ghost use Rattle.jl_meaning.specs.forms.HookCalls.{relational_operators, unary_kinds, update_kinds};
-ghost use Rattle.jl_meaning.specs.forms.Operators.{update_kind};
 
 use jl_ast::BinOp;
 use jl_op::{UnKind, binary_sign};

@@ -1,7 +1,6 @@
 //! The names of the own properties of objects; `Object.getOwnPropertyNames`, `Object.keys` (15.2.3.4, 15.2.3.14).
 ghost use Rattle.std.specs.List.{range_with_len};
-ghost use Rattle.std.specs.Prelude.{◌≡◌, ◌++◌, ◌∷◌, [], drop, filter, length, map, IfOk, MatchOption};
-ghost use Rattle.jl_heap.specs.Objects.{object_at, units_of};
+ghost use Rattle.std.specs.Prelude.{◌≡◌, ◌++◌, ◌∷◌, [], drop, filter, map, IfOk, MatchOption};
 ghost use Rattle.jl_lib_object.specs.inner.Names.{name_of_entry, text_value};
 ghost use Rattle.jl_meaning.specs.builtins.Descriptors.{enumerable_names, has_enumerable, own_names};
 ghost use Rattle.jl_meaning.specs.builtins.Object.{array_of_names, object_get_own_property_names, object_keys};
@@ -12,23 +11,11 @@ ghost use Rattle.jl_state.specs.Words.{call_of};
 
 use crate::waiting::first_object;
 use jl_builtin::fill_array;
-use jl_heap::Inner;
 use jl_state::{Act, Invocation, State};
 use jl_store::{Answer, Store, index_name};
 use jl_text::{List, NoMemory, Text};
-use jl_value::{Class, Completion, ObjId, Value};
+use jl_value::{Completion, ObjId, Value};
 use std::alloc::Global;
-
-/// How many units an object has as properties, which is none but of a String object (15.5.5.2).
-fn unit_count(store: &Store, id: ObjId) -> usize
-    ensures { result ≡ length (units_of (object_at store.now.heap id.0).class (object_at store.now.heap id.0).inner) }
-{
-    let class = store.class_of(id);
-    match (&class, store.inner_of(id)) {
-        (Class::String, Inner::Wrapped(Value::Text(text))) => text.units().len(),
-        _ => 0,
-    }
-}
 
 /// The names of so many units.
 fn unit_names(alloc: Global, count: usize) -> Result<List<Text>, NoMemory>
@@ -62,7 +49,7 @@ pub(crate) fn own_names(alloc: Global, store: &Store, id: ObjId) -> Result<List<
     ensures { IfOk result (λ names. names ≡ own_names store.now id.0) }
 {
     let stored = store.heap().names(id)?;
-    let units = unit_names(alloc, unit_count(store, id))?;
+    let units = unit_names(alloc, store.unit_count(id))?;
     let all = with_stored(alloc, units, stored.items())?;
     Ok(all)
 }

@@ -13,6 +13,7 @@ use Rattle.jl_value.specs.declared.object.ObjId.{ObjId}
 use Rattle.jl_value.specs.declared.value.Value.{Value}
 use Rattle.jl_value.specs.declared.value.Value.TheVariants as value
 use Rattle.jl_op.specs.declared.sign.UnKind.TheVariants as unary
+use Rattle.jl_op.specs.UnaryKinds.{unary_kind}
 use Rattle.jl_effects.specs.Effects.{Step}
 use Rattle.jl_meaning.specs.Defining.{plain_change}
 use Rattle.jl_meaning.specs.FunctionObjects.{make_function, make_function_expression, FunctionTable}
@@ -27,7 +28,7 @@ use Rattle.jl_meaning.specs.forms.Literals.{new_plain_object, of_function, of_ob
 use Rattle.jl_meaning.specs.forms.Members.{assign_member, delete_member, read_member, update_expression}
 use Rattle.jl_meaning.specs.forms.Names.{assign_name, compute_name, delete_identifier, read_name, typeof_name}
 use Rattle.jl_meaning.specs.forms.Names.{update_name}
-use Rattle.jl_meaning.specs.forms.Operators.{decide, operate, operate_on, unary_kind}
+use Rattle.jl_meaning.specs.forms.Operators.{decide, operate, operate_on}
 
 -- what `this` is (10.3, 11.1.1): in global code the global object
 abbrev pub this_of : Context → Value

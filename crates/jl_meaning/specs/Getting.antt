@@ -28,7 +28,8 @@ value_of_property this (Some (_, Plain v _ _ _)) = give v
 value_of_property this (Some (_, Accessor None _ _ _)) = give value.Undefined
 value_of_property this (Some (_, Accessor (Some getter) _ _ _)) = call getter this []
 
--- [[Get]] (8.12.3), and that of a base that is no object (8.7.1)
+-- [[Get]] (8.12.3), and that of a base that is no object (8.7.1). That of functions and of arguments objects is the
+-- same, also of `caller` (15.3.5.4, 10.6).
 unfoldable pub get : (base : Value) → Name → Algorithm Value
 get base x = do
   store ← look

@@ -100,8 +100,12 @@ abbrev pub is_script_number : Number → Bool
 is_script_number None = true
 is_script_number (Some z) = is_number z
 
+-- the number after this one, or before it, if it is one of a script
+abbrev pub next_after : UnKind → Number → Option Number
+next_after o n = if is_script_number n then next_number o n else None
+
 abbrev pub give_next : UnKind → Number → Algorithm Value
-give_next o n = give_number (if is_script_number n then next_number o n else None)
+give_next o n = give_number (next_after o n)
 
 -- the new value of `++` and `--`
 abbrev pub updated_value : UnKind → Value → Algorithm Value

@@ -40,11 +40,10 @@ constant x v = (x, Plain v false false false)
 abbrev pub at_address : ℕ → Value
 at_address n = value.Obj (record { 0 = n })
 
--- the last part of a path
 abbrev pub is_dot : ℕ → Bool
 is_dot unit = unit == 46
 
--- a path has at most two dots
+-- the last part of a path, which has at most two dots
 abbrev pub last_part : List ℕ → List ℕ
 last_part path =
     let rest = if list_any is_dot path then after_first is_dot path else path in

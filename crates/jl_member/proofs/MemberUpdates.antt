@@ -8,11 +8,11 @@ use Rattle.jl_heap.specs.Objects.{Name, Objects}
 use Rattle.jl_op.specs.declared.op.Op.{Op}
 use Rattle.jl_op.specs.declared.op.Op.TheVariants as op
 use Rattle.jl_op.specs.declared.op.OpId.{OpId}
+use Rattle.jl_op.specs.UnaryKinds.{update_kind}
 use Rattle.jl_meaning.specs.Conversions.{number_hint, to_primitive}
 use Rattle.jl_meaning.specs.Noting.{note, performs}
 use Rattle.jl_meaning.specs.Parts.{give, lift, ◌>>=◌, Answer, Context, Part}
 use Rattle.jl_meaning.specs.forms.Members.{get_member, member_name, put_member, update_expression, update_member}
-use Rattle.jl_meaning.specs.forms.Operators.{update_kind}
 use Rattle.jl_state.specs.Rest.{Gives, Works}
 use Rattle.jl_state.specs.Steps.{ValueWaits}
 use Rattle.jl_state.specs.ValueFrames.{key_after, value_after}

@@ -7,11 +7,12 @@ use Rattle.jl_value.specs.declared.value.Value.TheVariants as value
 use Rattle.jl_heap.specs.Describe.{seen_of}
 use Rattle.jl_heap.specs.Objects.{Name}
 use Rattle.jl_op.specs.declared.op.Op.TheVariants as op
+use Rattle.jl_op.specs.UnaryKinds.{update_kind}
 use Rattle.jl_meaning.specs.Conversions.{number_hint, to_primitive}
 use Rattle.jl_meaning.specs.Noting.{note, note_value, performs}
 use Rattle.jl_meaning.specs.Parts.{give, lift, ◌>>=◌, Answer, Part}
 use Rattle.jl_meaning.specs.References.{put_value}
-use Rattle.jl_meaning.specs.forms.Operators.{update, update_kind}
+use Rattle.jl_meaning.specs.forms.Operators.{update}
 use Rattle.jl_store.specs.LookUps.{reference_seen}
 use Rattle.jl_store.specs.declared.names.Reference.{Reference as Resolved}
 use Rattle.jl_state.specs.Rest.{Gives, Works}

@@ -14,6 +14,7 @@ use Rattle.jl_heap.specs.Describe.{seen_of}
 use Rattle.jl_heap.specs.Objects.{Name}
 use Rattle.jl_op.specs.Operations.{Operation}
 use Rattle.jl_op.specs.declared.op.Op.TheVariants as op
+use Rattle.jl_op.specs.UnaryKinds.{update_kind}
 use Rattle.jl_effects.specs.Effects.{Fail, Look, Perform}
 use Rattle.jl_meaning.specs.Expressions.{evaluate}
 use Rattle.jl_meaning.specs.Noting.{performs}
@@ -23,7 +24,7 @@ use Rattle.jl_meaning.specs.References.{type_of_name, Reference}
 use Rattle.jl_meaning.specs.Store.{Store}
 use Rattle.jl_meaning.specs.forms.Names.{assign_name, compute_name, delete_identifier, is_hooks, read_name}
 use Rattle.jl_meaning.specs.forms.Names.{read_reference, typeof_name, unless_hooks, update_name, write_name}
-use Rattle.jl_meaning.specs.forms.Operators.{operate, update, update_kind}
+use Rattle.jl_meaning.specs.forms.Operators.{operate, update}
 use Rattle.jl_store.specs.Answers.{ends_with}
 use Rattle.jl_store.specs.Comes.{Comes}
 use Rattle.jl_store.specs.LookUps.{reference_seen}

@@ -2,20 +2,13 @@
 ghost use Rattle.std.specs.Prelude.{◌≡◌, if◌then◌else◌};
 ghost use Rattle.std.specs.Result.{result_ok};
 ghost use Rattle.jl_value.specs.declared.value.Value.TheVariants as value;
-ghost use Rattle.jl_meaning.specs.forms.Operators.{update_kind};
+ghost use Rattle.jl_op.specs.UnaryKinds.{update_kind};
 ghost use Rattle.jl_member.specs.inner.Nexts.{next_of};
 
 use jl_num::{Num, NumberOutside};
-use jl_op::UnKind;
+use jl_op::update_kind;
 use jl_operator::{next_number, number_of};
 use jl_value::Value;
-
-/// The operator `++` or `--`.
-pub(crate) fn update_kind(up: bool) -> UnKind
-    ensures { result ≡ update_kind up }
-{
-    if up { UnKind::Up } else { UnKind::Down }
-}
 
 /// A primitive value as a number, and the number after or before it. Refused exactly where one of them is none of a
 /// script.

@@ -2,10 +2,10 @@
 ghost use Rattle.std.specs.Prelude.{◌+◌, if◌then◌else◌, IfOk};
 ghost use Rattle.jl_heap.specs.Describe.{seen_of};
 ghost use Rattle.jl_value.specs.declared.value.Value.TheVariants as value;
+ghost use Rattle.jl_op.specs.UnaryKinds.{update_kind};
 ghost use Rattle.jl_meaning.specs.Noting.{note};
 ghost use Rattle.jl_meaning.specs.Parts.{give, ◌>>=◌ as ◌then◌};
 ghost use Rattle.jl_meaning.specs.forms.Members.{put_member, update_expression, update_member};
-ghost use Rattle.jl_meaning.specs.forms.Operators.{update_kind};
 ghost use Rattle.jl_op.specs.declared.op.Op.TheVariants as op;
 ghost use Rattle.jl_state.specs.Rank.{Falls};
 ghost use Rattle.jl_state.specs.Rest.{Gives};
@@ -13,13 +13,13 @@ ghost use Rattle.jl_state.specs.ValueFrames.{key_after, value_after};
 ghost use Rattle.jl_state.specs.Words.{context_of, noting, table_of};
 
 use crate::members::{by_script, member_name};
-use crate::nexts::{next_of, update_kind, value_of_update};
+use crate::nexts::{next_of, value_of_update};
 use crate::put_members::put_member;
 use crate::read_members::get_member;
 use jl_algorithm::to_primitive;
 use jl_ast::Expr;
 use jl_num::{Num, NumberOutside};
-use jl_op::Op;
+use jl_op::{Op, update_kind};
 use jl_operator::emit_for;
 use jl_state::{Act, Here, Hint, KeyFor, Noted, State, ToldFrame, ValueFrame};
 use jl_text::{NoMemory, Text};

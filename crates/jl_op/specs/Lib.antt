@@ -4,6 +4,7 @@ pub mod Laws
 pub mod Map
 pub mod Operations
 pub mod Trace
+pub mod UnaryKinds
 pub mod Chosen
 pub mod Ids
 pub mod IdMap

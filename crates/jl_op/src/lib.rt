@@ -21,5 +21,5 @@ pub use kind_set::KindSet;
 pub use map::{OpMap, map_text};
 pub use observer::{Nobody, Observer};
 pub use op::{Op, OpId};
-pub use sign::{UnKind, binary_sign};
+pub use sign::{UnKind, binary_sign, unary_kind, update_kind};
 pub use trace::op_text;

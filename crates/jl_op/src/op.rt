@@ -16,7 +16,7 @@ pub enum Op {
     ScriptEnter,
     /// The statements of the script have ended normally.
     ScriptExit,
-    /// A function of the script has been entered (10.5), with so many arguments.
+    /// A function of the script has been entered (10.4.3), with so many arguments.
     FunctionEnter {
         function: u32,
         this: Seen,

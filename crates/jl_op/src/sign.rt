@@ -1,7 +1,8 @@
 ghost use Rattle.std.specs.Prelude.{◌≡◌};
 ghost use Rattle.jl_op.specs.Trace.{binary_sign, unary_sign};
+ghost use Rattle.jl_op.specs.UnaryKinds.{unary_kind, update_kind};
 
-use jl_ast::BinOp;
+use jl_ast::{BinOp, UnOp};
 
 /// An operator with one operand that is told of (11.3, 11.4).
 #[derive(Clone, Copy, PartialEq, Eq, Debug)]
@@ -39,6 +40,27 @@ impl UnKind {
             UnKind::Up => "++",
             UnKind::Down => "--",
         }
+    }
+}
+
+/// `++`, or `--` where `up` is false (11.3, 11.4.4, 11.4.5).
+pub fn update_kind(up: bool) -> UnKind
+    ensures { result ≡ update_kind up }
+{
+    if up { UnKind::Up } else { UnKind::Down }
+}
+
+/// The kind of an operator that is neither `typeof` of a name nor `delete` (11.4).
+pub fn unary_kind(op: UnOp) -> UnKind
+    ensures { result ≡ unary_kind op }
+{
+    match op {
+        UnOp::Minus => UnKind::Minus,
+        UnOp::Plus => UnKind::Plus,
+        UnOp::Not => UnKind::Not,
+        UnOp::Tilde => UnKind::Tilde,
+        UnOp::Typeof => UnKind::Typeof,
+        UnOp::Void | UnOp::Delete => UnKind::Void,
     }
 }
 

@@ -2,7 +2,7 @@
 ghost use Rattle.std.specs.Prelude.{◌≡◌, ◌≤◌, None, if◌then◌else◌, IfOk};
 ghost use Rattle.std.specs.Result.{result_ok};
 ghost use Rattle.jl_meaning.specs.Conversions.{to_number};
-ghost use Rattle.jl_meaning.specs.Operators.{give_next, is_script_number, next_number, unary_result};
+ghost use Rattle.jl_meaning.specs.Operators.{give_next, next_after, unary_result};
 ghost use Rattle.jl_meaning.specs.Parts.{◌>>=◌ as ◌then◌};
 ghost use Rattle.jl_state.specs.AlgorithmFrames.{algorithm_after, number_operand};
 ghost use Rattle.jl_state.specs.Rank.{rank_act, Falls};
@@ -23,7 +23,7 @@ use std::alloc::Global;
 /// The number after another one, or before it with `UnKind::Down` (11.3, 11.4.4, 11.4.5). Refused exactly where it is
 /// no number of a script.
 pub fn next_number(op: UnKind, n: Num) -> Result<Num, NumberOutside>
-    ensures { result_ok result ≡ (if is_script_number n then next_number op n else None) }
+    ensures { result_ok result ≡ next_after op n }
 {
     let one = Num::new(1)?;
     match op {

@@ -9,6 +9,7 @@ use Rattle.jl_value.specs.declared.value.Value.{Value}
 use Rattle.jl_value.specs.declared.value.Value.TheVariants as value
 use Rattle.jl_heap.specs.declared.inner.Inner.{Inner}
 use Rattle.jl_op.specs.declared.sign.UnKind.TheVariants as unary
+use Rattle.jl_op.specs.UnaryKinds.{unary_kind}
 use Rattle.jl_meaning.specs.Expressions.{equip, equip_one, evaluate, evaluate_all, evaluate_assignment, evaluate_call}
 use Rattle.jl_meaning.specs.Expressions.{evaluate_delete, evaluate_typeof, evaluate_update, fill, fill_one}
 use Rattle.jl_meaning.specs.FunctionObjects.{callee_of, make_function, make_function_expression, FunctionTable}
@@ -16,7 +17,6 @@ use Rattle.jl_meaning.specs.Parts.{give, lift, Answer, Context, Expr, Exprs, Fun
 use Rattle.jl_meaning.specs.Store.{next_object}
 use Rattle.jl_meaning.specs.forms.Hooks.{Arguments}
 use Rattle.jl_meaning.specs.forms.Literals.{of_function, of_object}
-use Rattle.jl_meaning.specs.forms.Operators.{unary_kind}
 use Rattle.jl_meaning.proofs.MadeFunctions.{expression_same, make_same}
 use Rattle.jl_quiet.proofs.Bare.{bare, bare_forest}
 use Rattle.jl_quiet.proofs.Calls.{by_form_alike, call_member_alike, call_of_call_alike, call_value_alike, invoke_alike}

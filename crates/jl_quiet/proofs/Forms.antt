@@ -8,6 +8,7 @@ use Rattle.jl_heap.specs.Define.{length_name}
 use Rattle.jl_heap.specs.Objects.{Name}
 use Rattle.jl_op.specs.declared.op.Op.{Op}
 use Rattle.jl_op.specs.declared.sign.UnKind.{UnKind}
+use Rattle.jl_op.specs.UnaryKinds.{update_kind}
 use Rattle.jl_effects.specs.Effects.{Fail}
 use Rattle.jl_meaning.specs.Conversions.{to_number}
 use Rattle.jl_meaning.specs.Defining.{define_own_property, value_change}
@@ -24,7 +25,7 @@ use Rattle.jl_meaning.specs.forms.Members.{read_member}
 use Rattle.jl_meaning.specs.forms.Members.{update_expression, update_member}
 use Rattle.jl_meaning.specs.forms.Names.{assign_name, compute_name, is_hooks, read_name, read_reference, typeof_name}
 use Rattle.jl_meaning.specs.forms.Names.{unless_hooks, update_name}
-use Rattle.jl_meaning.specs.forms.Operators.{decide, decide_by, operate, operate_on, update, update_kind}
+use Rattle.jl_meaning.specs.forms.Operators.{decide, decide_by, operate, operate_on, update}
 use Rattle.jl_quiet.proofs.Relation.{bind, itself, lift_alike, look_alike, pick, Alike}
 
 -- LITERALS

@@ -8,13 +8,13 @@ use Rattle.jl_ast.specs.declared.ops.UnOp.TheVariants as un
 use Rattle.jl_op.specs.Chosen.{Kinds}
 use Rattle.jl_op.specs.Ids.{forest_id_count, forest_with_ids, id_count, ident_with_id, optional_id_count}
 use Rattle.jl_op.specs.Ids.{optional_with_ids, with_ids}
-use Rattle.jl_meaning.specs.forms.Operators.{unary_kind, update_kind}
 use Rattle.jl_op.specs.Trace.{binary_sign, unary_sign}
 use Rattle.jl_op.specs.declared.kind.OpKind.TheVariants as kind
 use Rattle.jl_scope.specs.EarlyErrors.{early_errors, forest_early_errors, name_early_errors, no_keys}
 use Rattle.jl_scope.specs.EarlyErrors.{optional_early_errors, parameter_early_errors}
 use Rattle.jl_scope.specs.Scope.{in_a_loop, in_a_switch, in_catch, in_function_of, in_program, is_loop, under_label}
 use Rattle.jl_scope.specs.Scope.{Scope}
+use Rattle.jl_op.specs.UnaryKinds.{unary_kind, update_kind}
 use Rattle.jl_simulation.specs.HookCalls.{binary_hook, read, unary_hook, without_id}
 use Rattle.jl_simulation.specs.Weaving.{calls, calls_member, computes, weave, woven_body, woven_code, woven_forest}
 use Rattle.jl_simulation.specs.Weaving.{woven_optional}

@@ -2,10 +2,10 @@
 use Rattle.std.proofs.Common.{codes, ℕ, ◌≤◌, Bool, true, false, Some, pos, refl, arith}
 use Rattle.jl_ast.specs.declared.ops.BinOp.{BinOp}
 use Rattle.jl_ast.specs.declared.ops.BinOp.TheVariants as binary
-use Rattle.jl_meaning.specs.forms.Operators.{update_kind}
 use Rattle.jl_op.specs.Trace.{binary_sign, unary_sign}
 use Rattle.jl_print.specs.WellFormed.{IsIdentifier, IsLiteral, IsName, IsShort}
 use Rattle.jl_scope.specs.Names.{hooks_name}
+use Rattle.jl_op.specs.UnaryKinds.{update_kind}
 use Rattle.jl_token.proofs.Units.{units}
 
 pub hooks : IsIdentifier hooks_name

@@ -5,13 +5,13 @@ use Rattle.std.specs.Prelude.{if◌then◌else◌}
 use Rattle.jl_ast.specs.Tree as tree
 use Rattle.jl_ast.specs.Tree.{Forest, Ident, OptionalTree, Sort, Text, Tree}
 use Rattle.jl_ast.specs.declared.ops.UnOp.TheVariants as un
-use Rattle.jl_meaning.specs.forms.Operators.{unary_kind, update_kind}
 use Rattle.jl_op.specs.Chosen.{Kinds}
 use Rattle.jl_op.specs.Ids.{forest_id_count, forest_with_ids, id_count, ident_with_id, optional_id_count}
 use Rattle.jl_op.specs.Ids.{optional_with_ids, with_ids}
 use Rattle.jl_op.specs.declared.kind.OpKind.TheVariants as kind
 use Rattle.jl_op.specs.declared.sign.UnKind.TheVariants as unary
 use Rattle.jl_scope.specs.Names.{hooks_name}
+use Rattle.jl_op.specs.UnaryKinds.{unary_kind, update_kind}
 use Rattle.jl_simulation.specs.HookCalls.{before_update, catch_and_go_on, enter_and_leave}
 use Rattle.jl_simulation.specs.HookCalls.{hook_1, hook_2, hook_of_1, string_of, unary_hook, without_id, Expr}
 use Rattle.jl_simulation.specs.HookCalls.{Stmts, Woven}

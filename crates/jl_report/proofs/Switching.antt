@@ -16,7 +16,7 @@ use Rattle.jl_token.specs.declared.token.Comment.{Comment}
 use Rattle.jl_token.specs.Tokens.{CommentsInOrder}
 use Rattle.jl_analysis.specs.Rules.{rules, rule_count, name_at}
 use Rattle.jl_analysis.proofs.RuleNames.{rule_names, named}
-use Rattle.jl_report.specs.Off.{Pair, with_pairs, without_last_spaces, with_rule}
+use Rattle.jl_report.specs.Off.{Pair, with_pairs, without_last_spaces, with_each_rule}
 use Rattle.jl_report.specs.Off.{after, pairs_of}
 
 -- a word that a text begins with is the text where nothing follows it
@@ -60,7 +60,7 @@ abbrev pub with_rules : List ℕ → Option (List ℕ) → Option (List ℕ)
 with_rules first more = option_map (λ l. first ++ l) more
 
 pub next_rule : (first : List ℕ) (rule : ℕ) (more : Option (List ℕ))
-    → with_rules first (with_rule (Some rule) more) ≡ with_rules (first ++ rule ∷ []) more
+    → with_rules first (with_each_rule (Some rule) more) ≡ with_rules (first ++ rule ∷ []) more
 next_rule first rule None = refl
 next_rule first rule (Some l) = ap Some (sym (append_assoc first (rule ∷ []) l))
 

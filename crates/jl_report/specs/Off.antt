@@ -3,14 +3,13 @@
 -- follow. Units stand here by their numbers: 32 is a space, 44 a comma.
 use Rattle.std.specs.Prelude.{ℕ, ◌+◌, Bool, ◌&&◌, ◌==◌, List, [], ◌∷◌, ◌++◌, Option, None, Some}
 use Rattle.std.specs.Prelude.{map, fold, codes, if◌then◌else◌}
-use Rattle.std.specs.List.{list_all, list_any, slice_split, slice_range, flat_map, position_from}
-use Rattle.std.specs.Str.{bytes_eq}
+use Rattle.std.specs.List.{list_all, list_any, slice_split, slice_range, flat_map}
 use Rattle.std.specs.Ordering.{nat_cmp, ordering_then}
 use Rattle.std.specs.declared.cmp.Ordering.{Ordering}
 use Rattle.std.specs.BTreeSet.{insert_key}
 use Rattle.jl_text.specs.Places.{position_of}
 use Rattle.jl_token.specs.declared.token.Comment.{Comment}
-use Rattle.jl_analysis.specs.Rules.{rules}
+use Rattle.jl_analysis.specs.Rules.{rule_with}
 
 -- a line and the number of a rule
 abbrev pub Pair : Type 0
@@ -34,19 +33,15 @@ without_last_spaces [] = []
 without_last_spaces (u ∷ us) =
     if list_all (λ v. v == 32) (u ∷ us) then [] else u ∷ without_last_spaces us
 
--- the number of the rule with this name, if there is one; numbers count from 1
-abbrev pub rule_with : (name : List ℕ) → Option ℕ
-rule_with name = position_from (bytes_eq name) 1 (map (λ row. row.name) rules)
-
--- one more rule, if all are
-abbrev pub with_rule : Option ℕ → Option (List ℕ) → Option (List ℕ)
-with_rule (Some rule) (Some more) = Some (rule ∷ more)
-with_rule _ _ = None
+-- one more rule, if all are rules
+abbrev pub with_each_rule : Option ℕ → Option (List ℕ) → Option (List ℕ)
+with_each_rule (Some rule) (Some more) = Some (rule ∷ more)
+with_each_rule _ _ = None
 
 -- the numbers of the rules with these names, if each is the name of one
 abbrev pub rules_with : (names : List (List ℕ)) → Option (List ℕ)
 rules_with [] = Some []
-rules_with (name ∷ names) = with_rule (rule_with name) (rules_with names)
+rules_with (name ∷ names) = with_each_rule (rule_with name) (rules_with names)
 
 -- the rules that a text names: what stands between its commas is the name of a rule each time, but for spaces at the
 -- end

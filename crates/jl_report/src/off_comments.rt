@@ -6,7 +6,8 @@ ghost use Rattle.std.specs.Option.{option_copied};
 ghost use Rattle.std.specs.Str.{bytes_eq};
 ghost use Rattle.jl_text.specs.Places.{line_table, position_of};
 ghost use Rattle.jl_token.specs.Tokens.{Comments};
-ghost use Rattle.jl_report.specs.Off.{without_last_spaces, rule_with, rules_in, after, pairs_with, pairs_of_text};
+ghost use Rattle.jl_analysis.specs.Rules.{rule_with};
+ghost use Rattle.jl_report.specs.Off.{without_last_spaces, rules_in, after, pairs_with, pairs_of_text};
 ghost use Rattle.jl_report.specs.Off.{with_pairs, pairs_named, pairs_of, off_by};
 
 use crate::off_list::Off;

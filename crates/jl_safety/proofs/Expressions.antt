@@ -12,6 +12,7 @@ use Rattle.jl_value.specs.declared.value.Value.{Value}
 use Rattle.jl_value.specs.declared.value.Value.TheVariants as value
 use Rattle.jl_heap.specs.Objects.{Name}
 use Rattle.jl_op.specs.declared.sign.UnKind.TheVariants as unary
+use Rattle.jl_op.specs.UnaryKinds.{unary_kind}
 use Rattle.jl_meaning.specs.Defining.{plain_change}
 use Rattle.jl_meaning.specs.Expressions.{equip, equip_one, evaluate, evaluate_all, evaluate_assignment, evaluate_call}
 use Rattle.jl_meaning.specs.Expressions.{evaluate_delete, evaluate_typeof, evaluate_update, fill, fill_one, this_of}
@@ -24,7 +25,6 @@ use Rattle.jl_meaning.specs.forms.HookCalls.{shape_named}
 use Rattle.jl_meaning.specs.forms.Hooks.{call_by_form, call_of_call, Arguments}
 use Rattle.jl_meaning.specs.forms.Literals.{accessor_change, literal, put_element}
 use Rattle.jl_meaning.specs.forms.Names.{is_hooks}
-use Rattle.jl_meaning.specs.forms.Operators.{unary_kind}
 use Rattle.jl_safety.specs.inner.Sound.{AreSound, IsSound}
 use Rattle.jl_safety.proofs.Forms.{assign_member_safe, assign_safe, call_member_safe, call_value_safe, compute_safe}
 use Rattle.jl_safety.proofs.Forms.{decide_safe, delete_safe, deletion_safe, entry_safe, invoke_safe, operate_on_safe}

@@ -9,6 +9,7 @@ use Rattle.jl_heap.specs.Objects.{Name}
 use Rattle.jl_heap.specs.declared.property.Change.{Change}
 use Rattle.jl_value.specs.declared.object.ObjId.{ObjId}
 use Rattle.jl_op.specs.declared.sign.UnKind.{UnKind}
+use Rattle.jl_op.specs.UnaryKinds.{update_kind}
 use Rattle.jl_effects.specs.Effects.{Fail}
 use Rattle.jl_meaning.specs.Conversions.{to_number}
 use Rattle.jl_meaning.specs.Defining.{define_own_property}
@@ -26,7 +27,7 @@ use Rattle.jl_meaning.specs.forms.Members.{assign_member, delete_member, get_mem
 use Rattle.jl_meaning.specs.forms.Members.{read_member, update_expression, update_member}
 use Rattle.jl_meaning.specs.forms.Names.{assign_name, compute_name, delete_identifier, is_hooks, read_name}
 use Rattle.jl_meaning.specs.forms.Names.{read_reference, typeof_name, unless_hooks, update_name, write_name}
-use Rattle.jl_meaning.specs.forms.Operators.{decide, decide_by, operate, operate_on, update, update_kind}
+use Rattle.jl_meaning.specs.forms.Operators.{decide, decide_by, operate, operate_on, update}
 use Rattle.jl_safety.proofs.Relation.{algorithm, bind, call_safe, lift_then, look_safe, ok, perform_safe, Safe}
 
 -- OPERATORS

@@ -14,6 +14,7 @@ use Rattle.jl_op.specs.Ids.{forest_with_ids, id_count, with_ids}
 use Rattle.jl_op.specs.Trace.{binary_sign, unary_sign}
 use Rattle.jl_op.specs.declared.kind.OpKind.TheVariants as kind
 use Rattle.jl_op.specs.declared.sign.UnKind.TheVariants as unary
+use Rattle.jl_op.specs.UnaryKinds.{unary_kind, update_kind}
 use Rattle.jl_effects.specs.Effects.{Step}
 use Rattle.jl_effects.specs.Matching.{ends, both, spare, plus}
 use Rattle.jl_meaning.specs.Expressions.{equip, evaluate, evaluate_all, fill}
@@ -27,7 +28,7 @@ use Rattle.jl_meaning.specs.forms.HookCalls.{writes}
 use Rattle.jl_meaning.specs.forms.Hooks.{call_by_form, call_of_call}
 use Rattle.jl_meaning.specs.forms.Literals.{put_element}
 use Rattle.jl_meaning.specs.forms.Names.{assign_name}
-use Rattle.jl_meaning.specs.forms.Operators.{decide, unary_kind, update_kind}
+use Rattle.jl_meaning.specs.forms.Operators.{decide}
 use Rattle.jl_meaning.proofs.MadeFunctions.{expression_same}
 use Rattle.jl_simulation.specs.HookCalls as weaving
 use Rattle.jl_simulation.specs.HookCalls.{hook_1, hook_2, name_of, string_of, test}

@@ -8,6 +8,7 @@ use Rattle.jl_scope.specs.Names.{hooks_name}
 use Rattle.jl_op.specs.Trace.{binary_sign, unary_sign}
 use Rattle.jl_op.specs.declared.sign.UnKind.{UnKind}
 use Rattle.jl_op.specs.declared.sign.UnKind.TheVariants as unary
+use Rattle.jl_op.specs.UnaryKinds.{update_kind}
 use Rattle.jl_meaning.specs.forms.HookCalls.{assignment_operators, binary_among, binary_named, binary_of, catches}
 use Rattle.jl_meaning.specs.forms.HookCalls.{deletes, enters_function, enters_script, exits_function, exits_script}
 use Rattle.jl_meaning.specs.forms.HookCalls.{form_of_member, gets, hook, hooks, makes, opener, openers, opens_assign}
@@ -15,7 +16,6 @@ use Rattle.jl_meaning.specs.forms.HookCalls.{opens_call, opens_method, opens_new
 use Rattle.jl_meaning.specs.forms.HookCalls.{relational_operators, returns, tests, throws_value, types, unary_among}
 use Rattle.jl_meaning.specs.forms.HookCalls.{unary_kinds, unary_of, update_kinds, updates, visits, worded, writes}
 use Rattle.jl_meaning.specs.forms.HookCalls.{CalleeForm, Hook, Opener}
-use Rattle.jl_meaning.specs.forms.Operators.{update_kind}
 use Rattle.jl_simulation.specs.CompoundAssignments.{IsAssignmentOperator}
 
 -- what the member of this name of the object with the hooks is

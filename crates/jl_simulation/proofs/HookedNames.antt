@@ -4,12 +4,12 @@ use Rattle.jl_ast.specs.Tree.{Text}
 use Rattle.jl_ast.specs.declared.ops.BinOp.{BinOp}
 use Rattle.jl_op.specs.Ids.{id_count, with_ids}
 use Rattle.jl_op.specs.Trace.{binary_sign, unary_sign}
+use Rattle.jl_op.specs.UnaryKinds.{update_kind}
 use Rattle.jl_effects.specs.Effects.{Step}
 use Rattle.jl_meaning.specs.Expressions.{evaluate}
 use Rattle.jl_meaning.specs.FunctionObjects.{FunctionTable}
 use Rattle.jl_meaning.specs.Parts.{Context, Part, Answer, ◌>>=◌}
 use Rattle.jl_meaning.specs.forms.HookCalls.{binary_of, reads, unary_of, writes}
-use Rattle.jl_meaning.specs.forms.Operators.{update_kind}
 use Rattle.jl_value.specs.declared.value.Value.{Value}
 use Rattle.jl_simulation.specs.HookCalls as weaving
 use Rattle.jl_simulation.specs.HookCalls.{name_of}

@@ -9,6 +9,7 @@ use Rattle.jl_heap.specs.Objects.{Name}
 use Rattle.jl_op.specs.Chosen.{Kinds}
 use Rattle.jl_op.specs.declared.kind.OpKind.TheVariants as kind
 use Rattle.jl_op.specs.declared.op.Op.TheVariants as op
+use Rattle.jl_op.specs.UnaryKinds.{update_kind}
 use Rattle.jl_effects.specs.Effects.{Fail, Step}
 use Rattle.jl_effects.specs.Matching.{ends, fails, both, extra, looks, peeks, told, own, spare, plus}
 use Rattle.jl_meaning.specs.Noting.{note, note_value, performs}
@@ -20,7 +21,7 @@ use Rattle.jl_meaning.specs.forms.HookCalls.{binary_of, reads, types, writes}
 use Rattle.jl_meaning.specs.forms.Hooks.{enter_hook}
 use Rattle.jl_meaning.specs.forms.Names.{assign_name, compute_name, delete_identifier, is_hooks, read_name}
 use Rattle.jl_meaning.specs.forms.Names.{read_reference, typeof_name, unless_hooks, update_name, write_name}
-use Rattle.jl_meaning.specs.forms.Operators.{operate, update_kind}
+use Rattle.jl_meaning.specs.forms.Operators.{operate}
 use Rattle.jl_simulation.proofs.Operators.{operate_silent, operate_told, update_silent}
 use Rattle.jl_simulation.proofs.Relation.{Matched, done, bind, algorithm, lifted, bind2, bind3, quiet, fewer}
 use Rattle.jl_simulation.proofs.Relation.{ExpressionMatch}

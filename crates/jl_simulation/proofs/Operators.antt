@@ -1,6 +1,5 @@
 -- Operators, tests, and parts in a row: each is matched by its woven form, by the call of a hook or as it stands.
 use Rattle.std.proofs.Common.{◌≡◌, ℕ, ◌≤◌, [], ◌∷◌, Bool, false, Option, Some, None, refl, sym, subst, arith}
-use Rattle.std.specs.Prelude.{if◌then◌else◌}
 use Rattle.jl_num.specs.Number.{Number}
 use Rattle.jl_ast.specs.declared.ops.BinOp.{BinOp}
 use Rattle.jl_value.specs.declared.value.Value.{Value}
@@ -15,8 +14,7 @@ use Rattle.jl_effects.specs.Effects.{Step}
 use Rattle.jl_effects.specs.Matching.{fails, both, extra, looks, peeks, told, own, spare, plus}
 use Rattle.jl_meaning.specs.Conversions.{to_number}
 use Rattle.jl_meaning.specs.Noting.{performs, emits, note, Noting}
-use Rattle.jl_meaning.specs.Operators.{binary_result, give_next, give_number, is_script_number, next_number}
-use Rattle.jl_meaning.specs.Operators.{unary_result}
+use Rattle.jl_meaning.specs.Operators.{binary_result, give_next, give_number, next_after, unary_result}
 use Rattle.jl_meaning.specs.Parts.{Context, Part, Answer, ◌>>=◌, give, lift}
 use Rattle.jl_meaning.specs.Store.{Store}
 use Rattle.jl_meaning.specs.forms.HookCalls.{binary_of, tests, unary_of}
@@ -24,10 +22,6 @@ use Rattle.jl_meaning.specs.forms.Hooks.{enter_hook, hooked_unary}
 use Rattle.jl_meaning.specs.forms.Operators.{decide, operate, operate_on, update}
 use Rattle.jl_simulation.proofs.Relation.{Matched, done, bind, algorithm, lifted, bind2, bind_both, quiet, fewer}
 use Rattle.jl_simulation.proofs.Relation.{ExpressionMatch}
-
--- the new number of an update, by the number that it was
-abbrev pub updated_number : UnKind → Number → Option Number
-updated_number o n = if is_script_number n then next_number o n else None
 
 -- what tells of a test
 abbrev pub tell_test : (id : ℕ) → Context → Value → Part (Answer Value)
@@ -68,7 +62,7 @@ module _ {chosen : Kinds} where
   -- `++` and `--`: the number that it was, and the new one, which is known by it
   pub update_told : (o : UnKind) (id : ℕ) (a : Value) {A : Type 0} (k l : Number × Value → Part (Answer A)) {s : Store}
       {c d : ℕ} → d ≤ c
-      → ((n m : Number) → updated_number o n ≡ Some m
+      → ((n m : Number) → next_after o n ≡ Some m
       → (t : Store) → Matched chosen t c d (k (n, value.Num m)) (l (n, value.Num m)))
       → Matched chosen s c d (update performs id o a >>= k) (update emits id o a >>= l)
   unfolding update
@@ -76,15 +70,15 @@ module _ {chosen : Kinds} where
       let made_of : Noting → Number → Option Number → Part (Answer (Number × Value)) = λ how n r.
       (lift (give_number r) >>= (λ v.
       (note how id (λ heap. op.Unary o (seen_of heap a) (seen_of heap v)) >>= (λ _. give (n, v))))) in
-      let at : (n : Number) (r : Option Number) → updated_number o n ≡ r → (t : Store)
+      let at : (n : Number) (r : Option Number) → next_after o n ≡ r → (t : Store)
       → Matched chosen t c d (made_of performs n r >>= k) (made_of emits n r >>= l) = λ n r.
-      elim r as (λ r. updated_number o n ≡ r → (t : Store)
+      elim r as (λ r. next_after o n ≡ r → (t : Store)
       → Matched chosen t c d (made_of performs n r >>= k) (made_of emits n r >>= l)) [
         | None ↦ λ e t. fails
         | Some m ↦ λ e t. looks (peeks (told (f n m e t)))
       ] in
-      bind_both (λ n. made_of performs n (updated_number o n)) k (λ n. made_of emits n (updated_number o n)) l le
-      (algorithm (to_number a)) (λ n t. at n (updated_number o n) refl t)
+      bind_both (λ n. made_of performs n (next_after o n)) k (λ n. made_of emits n (next_after o n)) l le
+      (algorithm (to_number a)) (λ n t. at n (next_after o n) refl t)
 
   -- EXPRESSIONS
   pub unary_told : (k : Context) {e e' : Part (Answer Value)} (o : UnKind) (id : ℕ) → ExpressionMatch chosen e e'

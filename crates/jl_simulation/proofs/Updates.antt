@@ -14,11 +14,12 @@ use Rattle.jl_heap.specs.Objects.{Name}
 use Rattle.jl_op.specs.Chosen.{Kinds}
 use Rattle.jl_op.specs.declared.op.Op.TheVariants as op
 use Rattle.jl_op.specs.declared.sign.UnKind.{UnKind}
+use Rattle.jl_op.specs.UnaryKinds.{update_kind}
 use Rattle.jl_effects.specs.Effects.{Step}
 use Rattle.jl_effects.specs.Matching.{ends, both, extra, looks, peeks, told, own, spare, plus}
 use Rattle.jl_meaning.specs.Conversions.{to_number, to_primitive}
 use Rattle.jl_meaning.specs.Noting.{emits, note, performs, Noting}
-use Rattle.jl_meaning.specs.Operators.{binary_result, give_number, one}
+use Rattle.jl_meaning.specs.Operators.{binary_result, give_number, next_after, one}
 use Rattle.jl_meaning.specs.Parts.{Context, Part, Answer, ◌>>=◌, give, lift}
 use Rattle.jl_meaning.specs.References.{identifier_reference, put_value, resolve, Reference}
 use Rattle.jl_meaning.specs.Store.{Store}
@@ -27,12 +28,12 @@ use Rattle.jl_meaning.specs.forms.Hooks.{enter_hook}
 use Rattle.jl_meaning.specs.forms.Literals.{literal}
 use Rattle.jl_meaning.specs.forms.Members.{get_member, member_name, put_member, update_expression, update_member}
 use Rattle.jl_meaning.specs.forms.Names.{assign_name, is_hooks, read_reference, update_name, write_name}
-use Rattle.jl_meaning.specs.forms.Operators.{operate, update, update_kind}
+use Rattle.jl_meaning.specs.forms.Operators.{operate, update}
 use Rattle.jl_meaning.proofs.Binds.{bind_assoc}
 use Rattle.jl_simulation.proofs.Members.{get_told, key_argument, put_told}
 use Rattle.jl_simulation.proofs.Names.{assigning, no_hooks, read_by_hook, read_to, tell_write, written}
 use Rattle.jl_simulation.proofs.Numbers.{down_again, up_again}
-use Rattle.jl_simulation.proofs.Operators.{updated_number, update_told}
+use Rattle.jl_simulation.proofs.Operators.{update_told}
 use Rattle.jl_simulation.proofs.Relation.{Matched, done, algorithm, bind2, bind4, bind_both, bind_assoc4, unit}
 use Rattle.jl_simulation.proofs.Relation.{ExpressionMatch}
 
@@ -45,7 +46,7 @@ abbrev back_number : (up : Bool) → Number → Option Number
 back_number true m = difference_of m one
 back_number false m = sum_of m one
 
-back_is : (up : Bool) (n m : Number) → updated_number (update_kind up) n ≡ Some m → back_number up m ≡ Some n
+back_is : (up : Bool) (n m : Number) → next_after (update_kind up) n ≡ Some m → back_number up m ≡ Some n
 back_is true None m e = let is : None ≡ m = cc in subst (λ m. difference_of m one ≡ Some None) is refl
 back_is true (Some z) m e = at (is_number z) refl e
   where
@@ -102,7 +103,7 @@ abbrev pub tell_update_member : (id : ℕ) → Context → (up : Bool) → (base
 tell_update_member id k up base key = Step (enter_hook k id (updates (update_kind up)) (base ∷ key ∷ []))
 
 module _ {chosen : Kinds} where
-  pub one_back_to : (id id' : ℕ) (up : Bool) (n m : Number) → updated_number (update_kind up) n ≡ Some m → {s : Store}
+  pub one_back_to : (id id' : ℕ) (up : Bool) (n m : Number) → next_after (update_kind up) n ≡ Some m → {s : Store}
       {c d : ℕ} → suc d ≤ c → Matched chosen s c d (give (value.Num n)) (one_back id id' up (value.Num m))
   unfolding literal operate binary_result to_number to_primitive
   one_back_to id id' true n m e {s} {d = d} le =
@@ -117,7 +118,7 @@ module _ {chosen : Kinds} where
   -- what follows the update of a name, once its value is read
   update_rest : (x : Name) (k : Context) (up : Bool) (reference : Reference) (g : Number × Value → Value) (id id2 : ℕ)
       (T : Value → Part (Answer Value))
-      → ((n m : Number) → updated_number (update_kind up) n ≡ Some m
+      → ((n m : Number) → next_after (update_kind up) n ≡ Some m
       → (t : Store) (c : ℕ) → Matched chosen t (plus 2 c) c (give (g (n, value.Num m))) (T (value.Num m)))
       → (h : Value) (t : Store) (c : ℕ)
       → Matched chosen t (plus 4 c) c
@@ -148,7 +149,7 @@ module _ {chosen : Kinds} where
 
   update_name_to : (x : Name) (k : Context) (up : Bool) (g : Number × Value → Value) (id id' id2 : ℕ)
       (T : Value → Part (Answer Value)) → is_hooks x ≡ false
-      → ((n m : Number) → updated_number (update_kind up) n ≡ Some m
+      → ((n m : Number) → next_after (update_kind up) n ≡ Some m
       → (t : Store) (c : ℕ) → Matched chosen t (plus 2 c) c (give (g (n, value.Num m))) (T (value.Num m)))
       → (s : Store) (c : ℕ)
       → Matched chosen s (plus 9 c) c (updating id k x up g) (assigned_update id id' id2 k x up >>= T)
@@ -192,7 +193,7 @@ module _ {chosen : Kinds} where
   -- ++o[k] and o[k]++
   update_member_told : (id : ℕ) (strict : Bool) (o : UnKind) (base key : Value) {A : Type 0}
       (k l : Number × Value → Part (Answer A)) {s : Store} {c d : ℕ} → d ≤ c
-      → ((n m : Number) → updated_number o n ≡ Some m
+      → ((n m : Number) → next_after o n ≡ Some m
       → (t : Store) → Matched chosen t c d (k (n, value.Num m)) (l (n, value.Num m)))
       → Matched chosen s c d (update_member performs id strict o base key >>= k)
       (update_member emits id strict o base key >>= l)
@@ -215,7 +216,7 @@ module _ {chosen : Kinds} where
 
   member_to : (id : ℕ) (k : Context) (up : Bool) (base key : Value) (g : Number × Value → Value)
       (T : Value → Part (Answer Value)) {s : Store} {c d : ℕ}
-      → ((n m : Number) → updated_number (update_kind up) n ≡ Some m
+      → ((n m : Number) → next_after (update_kind up) n ≡ Some m
       → (t : Store) (c : ℕ) → Matched chosen t (plus 2 c) c (give (g (n, value.Num m))) (T (value.Num m)))
       → plus 3 d ≤ c
       → Matched chosen s c d (update_member performs id k.strict (update_kind up) base key >>= (λ v. give (g v)))
@@ -233,7 +234,7 @@ module _ {chosen : Kinds} where
     -- the update of a member, and what is made of the new value
     update_dot_to : {o o' : Part (Answer Value)} (key : Text) (id' : ℕ) (g : Number × Value → Value)
         (T : Value → Part (Answer Value)) → ExpressionMatch chosen o o'
-        → ((n m : Number) → updated_number (update_kind up) n ≡ Some m
+        → ((n m : Number) → next_after (update_kind up) n ≡ Some m
         → (t : Store) (c : ℕ) → Matched chosen t (plus 2 c) c (give (g (n, value.Num m))) (T (value.Num m)))
         → (s : Store) (c : ℕ)
         → Matched chosen s (plus 4 c) c
@@ -247,7 +248,7 @@ module _ {chosen : Kinds} where
 
     update_index_to : {o o' e e' : Part (Answer Value)} (g : Number × Value → Value) (T : Value → Part (Answer Value))
         → ExpressionMatch chosen o o' → ExpressionMatch chosen e e'
-        → ((n m : Number) → updated_number (update_kind up) n ≡ Some m
+        → ((n m : Number) → next_after (update_kind up) n ≡ Some m
         → (t : Store) (c : ℕ) → Matched chosen t (plus 2 c) c (give (g (n, value.Num m))) (T (value.Num m)))
         → (s : Store) (c : ℕ)
         → Matched chosen s (plus 4 c) c

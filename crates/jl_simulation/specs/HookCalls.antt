@@ -7,7 +7,7 @@ use Rattle.jl_ast.specs.declared.ops.BinOp.TheVariants as binary
 use Rattle.jl_scope.specs.Names.{hooks_name}
 use Rattle.jl_op.specs.Trace.{binary_sign, unary_sign}
 use Rattle.jl_op.specs.declared.sign.UnKind.{UnKind}
-use Rattle.jl_meaning.specs.forms.Operators.{update_kind}
+use Rattle.jl_op.specs.UnaryKinds.{update_kind}
 
 abbrev pub Woven : Sort → Type 0
 Woven x = Tree (Unit {0}) x

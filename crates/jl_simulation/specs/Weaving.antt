@@ -12,7 +12,7 @@ use Rattle.jl_op.specs.Ids.{program_with_ids}
 use Rattle.jl_op.specs.declared.kind.OpKind.{OpKind}
 use Rattle.jl_op.specs.declared.kind.OpKind.TheVariants as kind
 use Rattle.jl_op.specs.declared.sign.UnKind.TheVariants as unary
-use Rattle.jl_meaning.specs.forms.Operators.{unary_kind, update_kind}
+use Rattle.jl_op.specs.UnaryKinds.{unary_kind, update_kind}
 use Rattle.jl_simulation.specs.HookCalls.{assign, assign_hook, before_update, begin_and_end, binary_hook}
 use Rattle.jl_simulation.specs.HookCalls.{catch_and_go_on}
 use Rattle.jl_simulation.specs.HookCalls.{enter_and_leave, hook_1, hook_2, hook_of_1, literal, name_of, string_of, read}

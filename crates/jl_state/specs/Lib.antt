@@ -5,5 +5,6 @@ pub mod StatementFrames
 pub mod Steps
 pub mod ToldFrames
 pub mod Trees
+pub mod Turns
 pub mod ValueFrames
 pub mod Words

@@ -1,8 +1,7 @@
 -- What a statement does that waits for a value or for the completion of another.
 use Rattle.std.specs.Option.{option_or}
-use Rattle.std.specs.Prelude.{[], drop, if◌then◌else◌, map, ◌+◌}
+use Rattle.std.specs.Prelude.{drop, if◌then◌else◌, ◌+◌}
 use Rattle.std.specs.Prelude.{List, Option, Some, ℕ}
-use Rattle.std.specs.Borrow.{Bor}
 use Rattle.jl_ast.specs.Tree as tree
 use Rattle.jl_ast.specs.View.{view_branch, view_cases, view_catch, view_declarators, view_expression}
 use Rattle.jl_ast.specs.View.{view_optional, view_statements}
@@ -13,17 +12,14 @@ use Rattle.jl_ast.specs.declared.tree.Stmt.{Stmt}
 use Rattle.jl_value.specs.declared.ending.Completion.{Completion}
 use Rattle.jl_value.specs.declared.value.Value.{Value}
 use Rattle.jl_conv.specs.Comparisons.{strictly_equal}
-use Rattle.jl_heap.specs.Objects.{Name}
 use Rattle.jl_op.specs.declared.op.Op.TheVariants as op
 use Rattle.jl_effects.specs.Effects.{and_then, End}
 use Rattle.jl_meaning.specs.Completions.{ends_as, if_normal, normal, then_do}
 use Rattle.jl_meaning.specs.Completions as completions
 use Rattle.jl_meaning.specs.FunctionObjects.{FunctionTable}
 use Rattle.jl_meaning.specs.Noting.{note_value, performs}
-use Rattle.jl_meaning.specs.Parts.{begin_call, do_loop, for_in_loop, for_loop, gives, give, lift, look, new_object}
-use Rattle.jl_meaning.specs.Parts.{or_fault, while_loop}
+use Rattle.jl_meaning.specs.Parts.{begin_call, gives, give, lift, look, new_object, or_fault}
 use Rattle.jl_meaning.specs.Parts.{◌>>=◌, Algorithm, Answer, CallOf, Context, NumberOutside, Part}
-use Rattle.jl_meaning.specs.Parts as parts
 use Rattle.jl_meaning.specs.Statements.{execute_all, execute_branch, execute_from, handle, select, test_loop}
 use Rattle.jl_meaning.specs.Statements.{update_loop}
 use Rattle.jl_meaning.specs.forms.Jumps.{after_labelled, return_value, throw_value}
@@ -33,7 +29,8 @@ use Rattle.jl_meaning.specs.forms.Simple.{declare_all}
 use Rattle.jl_meaning.specs.forms.Switch.{after_switch, default_of}
 use Rattle.jl_meaning.specs.forms.Try.{unless_abrupt}
 use Rattle.jl_state.specs.Trees.{items_left, plain, plain_forest, plain_optional}
-use Rattle.jl_state.specs.Words.{context_of, visit_of}
+use Rattle.jl_state.specs.Turns.{body_seen, labels_seen, turn_seen, visits_seen}
+use Rattle.jl_state.specs.Words.{context_of}
 use Rattle.jl_state.specs.declared.calls.Call.{Call}
 use Rattle.jl_state.specs.declared.statement_frame.CompletionFrame.{CompletionFrame}
 use Rattle.jl_state.specs.declared.statement_frame.CompletionFrame.TheVariants as completing
@@ -43,7 +40,6 @@ use Rattle.jl_state.specs.declared.statement_frame.Loop.TheVariants as loop
 use Rattle.jl_state.specs.declared.statement_frame.LoopTurn.{LoopTurn}
 use Rattle.jl_state.specs.declared.statement_frame.StatementFrame.{StatementFrame}
 use Rattle.jl_state.specs.declared.statement_frame.StatementFrame.TheVariants as statement
-use Rattle.jl_state.specs.declared.statement_frame.Visits.{Visits}
 
 module _ (table : FunctionTable) (calls : List Call) where
   abbrev context : Here → Context
@@ -58,33 +54,8 @@ module _ (table : FunctionTable) (calls : List Call) where
   abbrev declared_variables : List (Ident × Option Expr) → Here → Part (Answer (Unit {0}))
   declared_variables l here = declare_all table (plain_forest (view_declarators l)) (context here)
 
-  abbrev labels_of : List (Bor (List ℕ)) → List Name
-  labels_of l = map (λ (x : Bor (List ℕ)). x.now) l
-
-  abbrev visits_in : Visits → List parts.Visit
-  visits_in v = map visit_of (drop v.from v.visits)
-
-  -- a turn of a loop, which is none of a `for-in`
-  abbrev turn_with : LoopTurn → parts.Loop → parts.Turn
-  turn_with t l = record { loop = l; context = context t.here; labels = labels_of t.labels; id = 0 }
-
-  abbrev loop_of : Loop → parts.Loop
-  loop_of (loop.Do l e) = do_loop (plain_forest (view_statements l.now)) (plain (view_expression e.now))
-  loop_of (loop.While e l) = while_loop (plain (view_expression e.now)) (plain_forest (view_statements l.now))
-  loop_of (loop.For e u l) =
-      for_loop (plain_optional (view_optional e.now)) (plain_optional (view_optional u.now))
-      (plain_forest (view_statements l.now))
-  loop_of (loop.ForIn x visits l) =
-      for_in_loop x.now [] (visits_in visits) (plain_forest (view_statements l.now))
-
   abbrev pub next_turn : LoopTurn → Part Completion
-  next_turn t = begin_turn (turn_with t (loop_of t.kind))
-
-  abbrev body_of : Loop → List Stmt
-  body_of (loop.Do l e) = l.now
-  body_of (loop.While e l) = l.now
-  body_of (loop.For e u l) = l.now
-  body_of (loop.ForIn x visits l) = l.now
+  next_turn t = begin_turn (turn_seen calls t)
 
   -- what follows the body of a loop that has completed and goes on
   abbrev after_turn : LoopTurn → Loop → Part Completion
@@ -95,14 +66,14 @@ module _ (table : FunctionTable) (calls : List Call) where
   after_turn t (loop.For e u l) =
       then_do (update_loop table (plain_optional (view_optional u.now)) (context t.here)) (next_turn t)
   after_turn t (loop.ForIn x visits l) =
-      visit_next x.now (plain_forest (view_statements l.now)) (context t.here) (labels_of t.labels) 0 (visits_in visits)
+      visit_next x.now (plain_forest (view_statements l.now)) (context t.here) (labels_seen t.labels) 0 (visits_seen visits)
 
   abbrev pub after_loop_body : LoopTurn → Completion → Part Completion
-  after_loop_body t how = after_body (labels_of t.labels) (after_turn t t.kind) how
+  after_loop_body t how = after_body (labels_seen t.labels) (after_turn t t.kind) how
 
   -- the body of a turn, and what follows
   abbrev pub loop_body : LoopTurn → Part Completion
-  loop_body t = and_then (statements (body_of t.kind) t.here) (after_loop_body t)
+  loop_body t = and_then (statements (body_seen t.kind) t.here) (after_loop_body t)
 
   -- what the test of a loop leads to, if it holds
   abbrev after_loop_test : LoopTurn → Loop → Part Completion
@@ -126,7 +97,7 @@ module _ (table : FunctionTable) (calls : List Call) where
       completions.◌>>=◌ (decide 0 v) (λ truth. if truth then statements a.now here else branch b.now here)
   statement_after (statement.ForInObject x l here labels) v =
       completions.◌>>=◌ (note_value performs 0 op.ForIn v)
-      (λ _. visit_all x.now (plain_forest (view_statements l.now)) (context here) (labels_of labels) 0 v)
+      (λ _. visit_all x.now (plain_forest (view_statements l.now)) (context here) (labels_seen labels) 0 v)
   statement_after (statement.ForInBody t) _ = loop_body t
   statement_after (statement.Test t) v =
       completions.◌>>=◌ (decide 0 v) (λ truth. if truth then after_loop_test t t.kind else normal)

@@ -15,6 +15,7 @@ use Rattle.jl_heap.specs.Describe.{seen_of}
 use Rattle.jl_heap.specs.Objects.{Name}
 use Rattle.jl_heap.specs.declared.inner.Inner.TheVariants as inner
 use Rattle.jl_op.specs.declared.op.Op.TheVariants as op
+use Rattle.jl_op.specs.UnaryKinds.{update_kind}
 use Rattle.jl_effects.specs.Effects.{Step}
 use Rattle.jl_meaning.specs.Defining.{plain_change}
 use Rattle.jl_meaning.specs.Expressions.{equip, evaluate, evaluate_all, fill}
@@ -34,7 +35,7 @@ use Rattle.jl_meaning.specs.forms.Hooks.{close, enter_hook, enter_opener, pendin
 use Rattle.jl_meaning.specs.forms.Literals.{define_entry, end_array, literal_of, of_object, put_element}
 use Rattle.jl_meaning.specs.forms.Members.{assign_member, delete_member, get_member, put_member, read_member}
 use Rattle.jl_meaning.specs.forms.Members.{update_expression}
-use Rattle.jl_meaning.specs.forms.Operators.{decide, operate, operate_on, update, update_kind}
+use Rattle.jl_meaning.specs.forms.Operators.{decide, operate, operate_on, update}
 use Rattle.jl_store.specs.LookUps.{reference_seen}
 use Rattle.jl_state.specs.AlgorithmFrames.{number_of_primitive}
 use Rattle.jl_state.specs.Trees.{items_left, plain, plain_forest}

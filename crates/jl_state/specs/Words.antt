@@ -1,5 +1,6 @@
 -- What the code's own types stand for in the definitions of the language.
 use Rattle.std.specs.Prelude.{[], false, map, true, ◌∷◌, Bool, List, None, Option, Some}
+use Rattle.jl_op.specs.UnaryKinds.{update_kind}
 use Rattle.jl_meaning.specs.Conversions.{no_hint, number_hint, string_hint}
 use Rattle.jl_meaning.specs.Conversions as conversions
 use Rattle.jl_meaning.specs.FunctionObjects as functions
@@ -9,7 +10,6 @@ use Rattle.jl_meaning.specs.Parts.{Context, Running}
 use Rattle.jl_meaning.specs.Parts as parts
 use Rattle.jl_meaning.specs.forms.HookCalls as hooks
 use Rattle.jl_meaning.specs.forms.Hooks as pairs
-use Rattle.jl_meaning.specs.forms.Operators.{update_kind}
 use Rattle.jl_ast.specs.View.{view_function}
 use Rattle.jl_state.specs.Trees.{plain}
 use Rattle.jl_state.specs.declared.act.Invocation.{Invocation}

@@ -12,6 +12,7 @@ use Rattle.jl_meaning.specs.Statements.{execute, execute_all}
 use Rattle.jl_state.specs.StatementFrames.{completion_after}
 use Rattle.jl_state.specs.Rest.{Completes}
 use Rattle.jl_state.specs.Trees.{plain, plain_forest}
+use Rattle.jl_state.specs.Turns.{labels_seen}
 use Rattle.jl_state.specs.Words.{context_of, table_of}
 use Rattle.jl_state.specs.declared.act.Act.{Act}
 use Rattle.jl_state.specs.declared.act.Act.TheVariants as act
@@ -21,7 +22,6 @@ use Rattle.jl_state.specs.declared.frame.Here.{Here}
 use Rattle.jl_state.specs.declared.statement_frame.CompletionFrame.{CompletionFrame}
 use Rattle.jl_state.specs.declared.state.State.{State}
 use Rattle.jl_state.proofs.Steps.{completion_waits}
-use Rattle.jl_statement.specs.inner.Beginnings.{labels_seen}
 
 abbrev statement_of : State → Bor Stmt → Here → List (Bor (List ℕ)) → Part Completion
 statement_of s e here labels =

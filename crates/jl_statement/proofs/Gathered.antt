@@ -20,10 +20,10 @@ use Rattle.jl_meaning.specs.Parts.{Visit}
 use Rattle.jl_meaning.specs.forms.Loops.{first_of_each_name, is_named_among, is_still_there, own_visits, visits_left}
 use Rattle.jl_meaning.specs.forms.Literals.{index_name}
 use Rattle.jl_meaning.specs.forms.Loops.{visits_within}
+use Rattle.jl_state.specs.Turns.{visits_seen}
 use Rattle.jl_state.specs.Words.{visit_of}
 use Rattle.jl_state.specs.declared.statement_frame.Visit.{Visit as Gathered}
 use Rattle.jl_state.specs.declared.statement_frame.Visits.{Visits}
-use Rattle.jl_statement.specs.inner.Turns.{visits_seen}
 use Rattle.jl_statement.specs.inner.Visited.{all_seen, property_visit, unit_visit, IsNext}
 use Rattle.jl_statement.proofs.Dropped.{dropped_here, dropped_next, dropped_none, found_at}
 

@@ -22,6 +22,7 @@ use Rattle.jl_state.specs.Rest.{Completes}
 use Rattle.jl_state.specs.StatementFrames.{after_loop_body, loop_body, next_turn, statement_after}
 use Rattle.jl_state.specs.Steps.{RanOut, Took}
 use Rattle.jl_state.specs.Trees.{plain, plain_forest, plain_optional}
+use Rattle.jl_state.specs.Turns.{body_seen, labels_seen, turn_seen}
 use Rattle.jl_state.specs.Words.{context_of, table_of}
 use Rattle.jl_state.specs.declared.act.Act.{Act}
 use Rattle.jl_state.specs.declared.act.Act.TheVariants as act
@@ -35,9 +36,8 @@ use Rattle.jl_state.specs.declared.statement_frame.LoopTurn.{LoopTurn}
 use Rattle.jl_state.specs.declared.statement_frame.StatementFrame.TheVariants as statement
 use Rattle.jl_state.specs.declared.state.State.{State}
 use Rattle.jl_state.proofs.Steps.{begins_turn}
-use Rattle.jl_statement.specs.inner.Beginnings.{labels_seen}
 use Rattle.jl_statement.specs.inner.Ends.{ends_or}
-use Rattle.jl_statement.specs.inner.Turns.{body_seen, is_do, turn_inside, turn_seen}
+use Rattle.jl_statement.specs.inner.Turns.{is_do, turn_inside}
 use Rattle.jl_statement.proofs.Executes.{statements_over}
 use Rattle.jl_statement.proofs.Followed.{decided, tests, updates}
 

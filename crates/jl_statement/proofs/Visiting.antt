@@ -30,6 +30,7 @@ use Rattle.jl_state.specs.Rest.{Completes}
 use Rattle.jl_state.specs.StatementFrames.{statement_after}
 use Rattle.jl_state.specs.Steps.{RanOut, Took}
 use Rattle.jl_state.specs.Trees.{plain_forest}
+use Rattle.jl_state.specs.Turns.{labels_seen, visits_seen}
 use Rattle.jl_state.specs.Words.{context_of, table_of}
 use Rattle.jl_state.specs.declared.act.Act.{Act}
 use Rattle.jl_state.specs.declared.act.Act.TheVariants as act
@@ -40,8 +41,6 @@ use Rattle.jl_state.specs.declared.state.State.{State}
 use Rattle.jl_state.proofs.Steps.{begins_turn}
 use Rattle.jl_state.proofs.Stores.{completes_comes, completes_thrown, IsStored}
 use Rattle.jl_state.specs.declared.statement_frame.Visits.{Visits}
-use Rattle.jl_statement.specs.inner.Beginnings.{labels_seen}
-use Rattle.jl_statement.specs.inner.Turns.{visits_seen}
 use Rattle.jl_statement.specs.inner.Visited.{IsNext}
 
 -- the name of the hooks is no variable

@@ -6,8 +6,9 @@ ghost use Rattle.jl_meaning.specs.Statements.{execute};
 ghost use Rattle.jl_state.specs.Rank.{Falls};
 ghost use Rattle.jl_state.specs.Rest.{Completes};
 ghost use Rattle.jl_state.specs.Trees.{plain};
+ghost use Rattle.jl_state.specs.Turns.{labels_seen};
 ghost use Rattle.jl_state.specs.Words.{context_of, table_of};
-ghost use Rattle.jl_statement.specs.inner.Beginnings.{begin, labels_seen};
+ghost use Rattle.jl_statement.specs.inner.Beginnings.{begin};
 
 use crate::executing::begin_statements;
 use crate::heads::begin_for;

@@ -6,7 +6,7 @@ ghost use Rattle.jl_meaning.specs.forms.Loops.{after_body};
 ghost use Rattle.jl_meaning.specs.forms.Switch.{after_switch};
 ghost use Rattle.jl_meaning.specs.forms.Try.{unless_abrupt};
 ghost use Rattle.jl_scope.specs.Names.{among};
-ghost use Rattle.jl_statement.specs.inner.Beginnings.{labels_seen};
+ghost use Rattle.jl_state.specs.Turns.{labels_seen};
 ghost use Rattle.jl_statement.specs.inner.Ends.{ends_or};
 ghost use Rattle.jl_value.specs.declared.ending.Completion.{Completion as Ended};
 

@@ -7,8 +7,8 @@ ghost use Rattle.jl_state.specs.Rank.{Falls};
 ghost use Rattle.jl_state.specs.Rest.{Completes};
 ghost use Rattle.jl_state.specs.StatementFrames.{completion_after};
 ghost use Rattle.jl_state.specs.Trees.{items_left, plain, plain_forest};
+ghost use Rattle.jl_state.specs.Turns.{labels_seen};
 ghost use Rattle.jl_state.specs.Words.{context_of, table_of};
-ghost use Rattle.jl_statement.specs.inner.Beginnings.{labels_seen};
 
 use jl_ast::Stmt;
 use jl_state::{Act, CompletionFrame, Frame, Here, Remaining, State, split_first};

@@ -10,9 +10,8 @@ ghost use Rattle.jl_state.specs.Rank.{Falls};
 ghost use Rattle.jl_state.specs.Rest.{Completes};
 ghost use Rattle.jl_state.specs.StatementFrames.{loop_body, statement_after};
 ghost use Rattle.jl_state.specs.Trees.{plain_forest};
+ghost use Rattle.jl_state.specs.Turns.{labels_seen, visits_seen};
 ghost use Rattle.jl_state.specs.Words.{context_of, table_of};
-ghost use Rattle.jl_statement.specs.inner.Beginnings.{labels_seen};
-ghost use Rattle.jl_statement.specs.inner.Turns.{visits_seen};
 
 use crate::visits::{next_visit, visits_of};
 use jl_algorithm::{is_nothing, put_name};

@@ -7,9 +7,9 @@ ghost use Rattle.jl_meaning.specs.forms.Jumps.{after_labelled, return_value, thr
 ghost use Rattle.jl_state.specs.Rank.{Falls};
 ghost use Rattle.jl_state.specs.Rest.{Completes};
 ghost use Rattle.jl_state.specs.Trees.{plain};
+ghost use Rattle.jl_state.specs.Turns.{labels_seen};
 ghost use Rattle.jl_state.specs.Words.{context_of, table_of};
 ghost use Rattle.jl_statement.specs.inner.Beginnings as beginnings;
-ghost use Rattle.jl_statement.specs.inner.Beginnings.{labels_seen};
 
 use crate::executing::execute_for;
 use jl_ast::{Ident, Stmt};

@@ -3,8 +3,9 @@ ghost use Rattle.std.specs.Prelude.{◌≡◌, ◌≤◌, ◌+◌, IfOk};
 ghost use Rattle.jl_state.specs.Rank.{Falls, rank_test};
 ghost use Rattle.jl_state.specs.Rest.{Completes};
 ghost use Rattle.jl_state.specs.StatementFrames.{after_loop_body, loop_body, next_turn, statement_after};
+ghost use Rattle.jl_state.specs.Turns.{body_seen};
 ghost use Rattle.jl_state.specs.Words.{table_of};
-ghost use Rattle.jl_statement.specs.inner.Turns.{body_seen, is_do, turn_inside};
+ghost use Rattle.jl_statement.specs.inner.Turns.{is_do, turn_inside};
 
 use crate::completions::after_body;
 use crate::executing::begin_statements;

@@ -1,32 +1,20 @@
 //! What a `for-in` visits (12.6.4).
 ghost use Rattle.std.specs.List.{range_with_len};
-ghost use Rattle.std.specs.Prelude.{◌≡◌, ◌++◌, [], drop, length, map, IfOk, OnOk};
-ghost use Rattle.jl_heap.specs.Objects.{object_at, units_of};
+ghost use Rattle.std.specs.Prelude.{◌≡◌, ◌++◌, [], drop, map, IfOk, OnOk};
 ghost use Rattle.jl_meaning.specs.forms.Loops.{first_of_each_name, is_still_there, own_visits};
 ghost use Rattle.jl_meaning.specs.forms.Loops.{visits_left, visits_of, visits_within};
+ghost use Rattle.jl_state.specs.Turns.{visits_seen};
 ghost use Rattle.jl_state.specs.Words.{visit_of};
-ghost use Rattle.jl_statement.specs.inner.Turns.{visits_seen};
 ghost use Rattle.jl_statement.specs.inner.Visited.{all_seen, property_visit, unit_visit, IsNext};
 
 use crate::stored::has_entry;
-use jl_heap::{Heap, Inner};
+use jl_heap::Heap;
 use jl_scope::NameSet;
 use jl_state::{Visit, Visits};
 use jl_store::{Store, index_name};
 use jl_text::{List, NoMemory, Text};
-use jl_value::{Class, ObjId, Value};
+use jl_value::ObjId;
 use std::alloc::Global;
-
-/// How many units an object has as properties, which is none but of a String object (15.5.5.2).
-fn unit_count(store: &Store, id: ObjId) -> usize
-    ensures { result ≡ length (units_of (object_at store.now.heap id.0).class (object_at store.now.heap id.0).inner) }
-{
-    let class = store.class_of(id);
-    match (&class, store.inner_of(id)) {
-        (Class::String, Inner::Wrapped(Value::Text(text))) => text.units().len(),
-        _ => 0,
-    }
-}
 
 /// Adds the units of a String object.
 fn add_units(
@@ -79,7 +67,7 @@ fn add_own(
     ensures { OnOk result (all_seen visits.new ≡ all_seen visits.old ++ own_visits store.now.heap id.0) }
 {
     let names = store.heap().names(id)?;
-    add_units(alloc, id.0, unit_count(store, id), visits)?;
+    add_units(alloc, id.0, store.unit_count(id), visits)?;
     add_properties(alloc, id.0, names.items(), visits)?;
     Ok(())
 }

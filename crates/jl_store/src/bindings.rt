@@ -4,7 +4,7 @@ ghost use Rattle.std.specs.Option.{option_copied, option_map};
 ghost use Rattle.jl_effects.specs.Running.{Ends};
 ghost use Rattle.jl_meaning.specs.DeclarationBinding.{bind_parameters, declare_binding, declare_variables};
 ghost use Rattle.jl_meaning.specs.Parts.{gives};
-ghost use Rattle.jl_meaning.specs.References.{binding_value, in_environment, put_value, set_mutable_binding};
+ghost use Rattle.jl_meaning.specs.References.{binding_value, set_mutable_binding};
 ghost use Rattle.jl_meaning.specs.Store.{binding_of};
 ghost use Rattle.jl_store.specs.Answers.{ends_with};
 ghost use Rattle.jl_store.specs.Comes.{Comes};
@@ -119,23 +119,6 @@ impl Store {
             Some(bound) => share(self.alloc, &bound.value),
             None => Ok(Value::Undefined),
         }
-    }
-
-    /// PutValue to a name that an environment binds (8.7.2). Where the binding can't be changed, that throws in
-    /// strict code.
-    #[tactic(auto, unfolding(jl_meaning::specs::References::put_value))]
-    pub fn put_in_environment(
-        &mut self,
-        strict: bool,
-        env: usize,
-        name: &Text,
-        value: Value,
-    ) -> Result<Answer<()>, NoMemory>
-        ensures { IfOk result (λ answer. Comes (put_value strict name.now value (in_environment env)) self.old self.new
-            (ends_with answer)) }
-    {
-        let answer = self.set_mutable_binding(strict, env, name, value)?;
-        Ok(answer)
     }
 
     /// Makes the environment of a `catch` block, in which the caught value is bound (12.14).

@@ -1,8 +1,8 @@
-ghost use Rattle.std.specs.Prelude.{◌≡◌, [], ◌∷◌, IfOk};
+ghost use Rattle.std.specs.Prelude.{◌≡◌, [], ◌∷◌, length, IfOk};
 ghost use Rattle.std.specs.Option.{option_copied};
 ghost use Rattle.jl_heap.specs.Chain.{ProtosAreOlder};
 ghost use Rattle.jl_heap.specs.Describe.{seen_of};
-ghost use Rattle.jl_heap.specs.Objects.{object_at, own, unit_at};
+ghost use Rattle.jl_heap.specs.Objects.{object_at, own, unit_at, units_of};
 ghost use Rattle.jl_meaning.specs.Store.{environment_at, no_environment};
 ghost use Rattle.jl_store.specs.Environments.{OutersAreBefore};
 
@@ -106,5 +106,16 @@ impl Store {
         ensures { result ≡ unit_at self.now.heap id.0 name.now }
     {
         self.heap.unit_at(id, name)
+    }
+
+    /// How many units an object has as properties, which is none but of a String object (15.5.5.2).
+    pub fn unit_count(&self, id: ObjId) -> usize
+        ensures { result ≡ length (units_of (object_at self.now.heap id.0).class (object_at self.now.heap id.0).inner) }
+    {
+        let class = self.class_of(id);
+        match (&class, self.inner_of(id)) {
+            (Class::String, Inner::Wrapped(Value::Text(text))) => text.units().len(),
+            _ => 0,
+        }
     }
 }

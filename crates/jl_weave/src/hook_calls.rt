@@ -6,7 +6,7 @@ ghost use Rattle.jl_ast.specs.Tree as tree;
 ghost use Rattle.jl_ast.specs.Tree.{more};
 ghost use Rattle.jl_op.specs.Ids.{ident_with_id};
 ghost use Rattle.jl_scope.specs.Names.{hooks_name};
-ghost use Rattle.jl_meaning.specs.forms.Operators.{update_kind};
+ghost use Rattle.jl_op.specs.UnaryKinds.{update_kind};
 ghost use Rattle.jl_simulation.specs.HookCalls.{assign, assign_hook, before_update, binary_hook, hook, hook_of_1};
 ghost use Rattle.jl_simulation.specs.HookCalls.{read, string_of, unary_hook, update_hook, write};
 ghost use Rattle.jl_weave.specs.inner.Bare.{bare_expression, bare_expressions, bare_ident};
@@ -14,7 +14,7 @@ ghost use Rattle.jl_weave.specs.inner.Bare.{bare_expression, bare_expressions, b
 use crate::nodes;
 use crate::words::word;
 use jl_ast::{BinOp, Expr, Ident};
-use jl_op::{UnKind, binary_sign};
+use jl_op::{UnKind, binary_sign, update_kind};
 use jl_text::{List, NoMemory, Span, Text};
 use std::alloc::Global;
 
@@ -129,13 +129,6 @@ pub fn binary_hook(
     ensures { IfOk result (λ made. bare_expression made ≡ binary_hook id op (bare_expression a) (bare_expression b)) }
 {
     hook_of_2(alloc, "B", id, binary_sign(op), [a, b], span)
-}
-
-/// The operation of `++` or `--`.
-pub fn update_kind(up: bool) -> UnKind
-    ensures { result ≡ update_kind up }
-{
-    if up { UnKind::Up } else { UnKind::Down }
 }
 
 /// `J$.I(id, "op", o, k)`.

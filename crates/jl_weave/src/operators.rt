@@ -1,6 +1,6 @@
 //! Operators (11.4 to 11.10) but for those that assign.
 ghost use Rattle.std.specs.Prelude.{◌≡◌, IfOk};
-ghost use Rattle.jl_meaning.specs.forms.Operators.{unary_kind};
+ghost use Rattle.jl_op.specs.UnaryKinds.{unary_kind};
 ghost use Rattle.jl_weave.specs.inner.Bare.{bare_expression};
 ghost use Rattle.jl_weave.specs.inner.Forms.{binary_form, typeof_name_form, unary_form};
 ghost use Rattle.jl_weave.specs.inner.Woven.{chosen_of};
@@ -9,7 +9,7 @@ use crate::hook_calls::{binary_hook, hook_of_1, unary_hook};
 use crate::nodes;
 use crate::weaver::Weaver;
 use jl_ast::{BinOp, Expr, UnOp};
-use jl_op::{OpKind, UnKind};
+use jl_op::{OpKind, unary_kind};
 use jl_text::{NoMemory, Span, Text};
 
 impl Weaver {
@@ -48,19 +48,5 @@ impl Weaver {
         } else {
             nodes::binary(self.alloc, op, a, b, span)
         }
-    }
-}
-
-/// The operation of an operator before its operand. No hook does that of `delete`.
-fn unary_kind(op: UnOp) -> UnKind
-    ensures { result ≡ unary_kind op }
-{
-    match op {
-        UnOp::Minus => UnKind::Minus,
-        UnOp::Plus => UnKind::Plus,
-        UnOp::Not => UnKind::Not,
-        UnOp::Tilde => UnKind::Tilde,
-        UnOp::Typeof => UnKind::Typeof,
-        UnOp::Void | UnOp::Delete => UnKind::Void,
     }
 }

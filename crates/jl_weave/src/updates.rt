@@ -10,12 +10,12 @@ ghost use Rattle.jl_weave.specs.inner.Forms.{update_form, updated_form};
 ghost use Rattle.jl_weave.specs.inner.Woven.{chosen_of, HasIds};
 
 use crate::hook_calls::{
-    assign, assign_hook, before_update, binary_hook, read, unary_hook, update_hook, update_kind,
+    assign, assign_hook, before_update, binary_hook, read, unary_hook, update_hook,
 };
 use crate::nodes;
 use crate::weaver::Weaver;
 use jl_ast::{BinOp, Expr, Ident, Target};
-use jl_op::OpKind;
+use jl_op::{OpKind, update_kind};
 use jl_text::{NoMemory, Span};
 use std::alloc::Global;
 

@@ -107,7 +107,7 @@ array_concat c = do
   _ ← append_all a 0 (value.Obj o ∷ c.args)
   give (value.Obj a)
 
--- the string of an element, which is empty for undefined and null (15.4.4.5, steps 8 and 10.d)
+-- the string of an element, which is empty for undefined and null (15.4.4.5, steps 8 and 10.c)
 abbrev pub string_or_empty : Value → Algorithm (List ℕ)
 string_or_empty v = if is_nothing v then give [] else to_string v
 

@@ -68,12 +68,12 @@ abbrev pub after_hex_prefix : List ℕ → Option (List ℕ)
 after_hex_prefix (u ∷ x ∷ us) = if u == 48 && is_hexadecimal_letter x then Some us else None
 after_hex_prefix _ = None
 
--- in radix 16 after such a sign, and else in this one
+-- in radix 16 after such a prefix, and else in this one
 abbrev pub parse_after_prefix : (negative : Bool) → (radix : ℕ) → List ℕ → Option (List ℕ) → Option Number
 parse_after_prefix negative radix units (Some us) = parse_in_radix negative 16 us
 parse_after_prefix negative radix units None = parse_in_radix negative radix units
 
--- steps 7 to 15: of the radixes 0 stands for 10, and it and 16 allow the sign
+-- steps 7 to 15: of the radixes 0 stands for 10, and it and 16 allow the prefix
 abbrev pub parse_after_sign : (negative : Bool) → (radix : ℤ) → List ℕ → Option Number
 parse_after_sign negative (negsuc r) units = Some None
 parse_after_sign negative (pos r) units =

@@ -9,13 +9,14 @@ use Rattle.jl_heap.specs.Describe.{seen_of}
 use Rattle.jl_heap.specs.Objects.{Name}
 use Rattle.jl_op.specs.declared.op.Op.TheVariants as op
 use Rattle.jl_op.specs.declared.sign.UnKind.{UnKind}
+use Rattle.jl_op.specs.UnaryKinds.{update_kind}
 use Rattle.jl_meaning.specs.Conversions.{check_object_coercible, to_string}
 use Rattle.jl_meaning.specs.Getting.{get}
 use Rattle.jl_meaning.specs.Noting.{note, performs, Noting}
 use Rattle.jl_meaning.specs.Parts.{give, lift, look, ◌>>=◌, Algorithm, Answer, Context, Part}
 use Rattle.jl_meaning.specs.Properties.{found_of, property_of_value}
 use Rattle.jl_meaning.specs.Putting.{delete, put}
-use Rattle.jl_meaning.specs.forms.Operators.{operate, update, update_kind}
+use Rattle.jl_meaning.specs.forms.Operators.{operate, update}
 
 -- the name of a member, after the test of what it is a member of (11.2.1, steps 5 and 6)
 abbrev pub member_name : (base key : Value) → Algorithm Name

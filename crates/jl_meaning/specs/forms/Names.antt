@@ -8,11 +8,12 @@ use Rattle.jl_value.specs.declared.value.Value.{Value}
 use Rattle.jl_value.specs.declared.value.Value.TheVariants as value
 use Rattle.jl_heap.specs.Objects.{Name}
 use Rattle.jl_op.specs.declared.op.Op.TheVariants as op
+use Rattle.jl_op.specs.UnaryKinds.{update_kind}
 use Rattle.jl_effects.specs.Effects.{Fail}
 use Rattle.jl_meaning.specs.Noting.{note, note_value, performs}
 use Rattle.jl_meaning.specs.Parts.{give, lift, ◌>>=◌, Answer, Context, Part}
 use Rattle.jl_meaning.specs.References.{delete_name, get_name, get_value, put_value, resolve, type_of_name, Reference}
-use Rattle.jl_meaning.specs.forms.Operators.{operate, update, update_kind}
+use Rattle.jl_meaning.specs.forms.Operators.{operate, update}
 
 -- the name is that of the object with the hooks
 abbrev pub is_hooks : Name → Bool

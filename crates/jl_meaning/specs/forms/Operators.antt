@@ -1,15 +1,12 @@
 -- Operators as expressions, and tests (11.3 to 11.12, 12.5).
-use Rattle.std.specs.Prelude.{if◌then◌else◌, Bool, ℕ}
+use Rattle.std.specs.Prelude.{Bool, ℕ}
 use Rattle.jl_num.specs.Number.{Number}
 use Rattle.jl_ast.specs.declared.ops.BinOp.{BinOp}
-use Rattle.jl_ast.specs.declared.ops.UnOp.{UnOp}
-use Rattle.jl_ast.specs.declared.ops.UnOp.TheVariants as un
 use Rattle.jl_value.specs.declared.value.Value.{Value}
 use Rattle.jl_conv.specs.Conversions.{truth_of}
 use Rattle.jl_heap.specs.Describe.{seen_of}
 use Rattle.jl_op.specs.declared.op.Op.TheVariants as op
 use Rattle.jl_op.specs.declared.sign.UnKind.{UnKind}
-use Rattle.jl_op.specs.declared.sign.UnKind.TheVariants as unary
 use Rattle.jl_meaning.specs.Conversions.{to_number}
 use Rattle.jl_meaning.specs.Noting.{note, note_value, performs, Noting}
 use Rattle.jl_meaning.specs.Operators.{binary_result, give_next, unary_result}
@@ -29,9 +26,6 @@ operate_on how id o a = do
   _ ← note how id (λ heap. op.Unary o (seen_of heap a) (seen_of heap v))
   give v
 
-abbrev pub update_kind : (up : Bool) → UnKind
-update_kind up = if up then unary.Up else unary.Down
-
 -- `++` or `--` on a value: the number that it was, and the new value (11.3, 11.4.4, 11.4.5)
 unfoldable pub update : Noting → (id : ℕ) → UnKind → Value → Part (Answer (Number × Value))
 update how id o a = do
@@ -39,16 +33,6 @@ update how id o a = do
   v ← lift (give_next o n)
   _ ← note how id (λ heap. op.Unary o (seen_of heap a) (seen_of heap v))
   give (n, v)
-
--- the kind of an operator that is neither `typeof` of a name nor `delete`
-abbrev pub unary_kind : UnOp → UnKind
-unary_kind un.Minus = unary.Minus
-unary_kind un.Plus = unary.Plus
-unary_kind un.Not = unary.Not
-unary_kind un.Tilde = unary.Tilde
-unary_kind un.Typeof = unary.Typeof
-unary_kind un.Void = unary.Void
-unary_kind un.Delete = unary.Void
 
 -- the value that decides in `&&`, `||`, `? :` and in a test (11.11, 11.12, 12.5, 12.6)
 unfoldable pub decide : (id : ℕ) → Value → Part (Answer Bool)

@@ -18,7 +18,7 @@ enter_catch env x v = do
   _ ← change_store (NewBinding (next_environment store) (record { name = x; value = v; mutable = true }))
   give (next_environment store)
 
--- a `catch` begins: what it has caught is noted first
+-- a `catch` begins: what it has caught is bound, and noted before the statements of the block
 unfoldable pub begin_catch : (id env : ℕ) → Name → Value → Part (Answer ℕ)
 begin_catch id env x v = do
   inside ← enter_catch env x v

@@ -1,14 +1,10 @@
 -- The numbers of `++` and `--`.
-use Rattle.std.specs.Prelude.{if◌then◌else◌, None, Option, Some}
+use Rattle.std.specs.Prelude.{None, Option, Some}
 use Rattle.jl_num.specs.Number.{Number}
 use Rattle.jl_value.specs.declared.value.Value.{Value}
 use Rattle.jl_conv.specs.Conversions.{number_of_value}
 use Rattle.jl_op.specs.declared.sign.UnKind.{UnKind}
-use Rattle.jl_meaning.specs.Operators.{is_script_number, next_number}
-
--- the number after this one, or before it, if it is one of a script
-abbrev pub next_after : UnKind → Number → Option Number
-next_after o n = if is_script_number n then next_number o n else None
+use Rattle.jl_meaning.specs.Operators.{next_after}
 
 -- a number with the one after it
 abbrev pub pair_of : Number → Option Number → Option (Number × Number)

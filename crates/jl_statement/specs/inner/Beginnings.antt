@@ -1,6 +1,5 @@
 -- What a statement does after the step with which it begins.
-use Rattle.std.specs.Borrow.{Bor}
-use Rattle.std.specs.Prelude.{map, option_map, List, Option, ℕ}
+use Rattle.std.specs.Prelude.{option_map, List, Option, ℕ}
 use Rattle.jl_ast.specs.Spans.{ident}
 use Rattle.jl_ast.specs.Tree as tree
 use Rattle.jl_ast.specs.Tree.{Text, Tree}
@@ -15,10 +14,6 @@ use Rattle.jl_meaning.specs.forms.Jumps.{label_of}
 use Rattle.jl_state.specs.Words.{context_of}
 use Rattle.jl_state.specs.declared.calls.Call.{Call}
 use Rattle.jl_state.specs.declared.frame.Here.{Here}
-
--- the labels before a statement, the innermost one first
-abbrev pub labels_seen : List (Bor (List ℕ)) → List Text
-labels_seen labels = map (λ (x : Bor (List ℕ)). x.now) labels
 
 abbrev pub after_step : Part Completion → Part Completion
 after_step (Step p) = p

@@ -3,10 +3,10 @@ use Rattle.std.specs.Prelude.{[], ◌∷◌, ◌≡◌, map, List, None, Option,
 use Rattle.jl_heap.specs.Objects.{Name}
 use Rattle.jl_meaning.specs.Parts as parts
 use Rattle.jl_meaning.specs.forms.Literals.{index_name}
+use Rattle.jl_state.specs.Turns.{visits_seen}
 use Rattle.jl_state.specs.Words.{visit_of}
 use Rattle.jl_state.specs.declared.statement_frame.Visit.{Visit}
 use Rattle.jl_state.specs.declared.statement_frame.Visits.{Visits}
-use Rattle.jl_statement.specs.inner.Turns.{visits_seen}
 
 abbrev pub all_seen : List Visit → List parts.Visit
 all_seen visits = map visit_of visits

@@ -9,7 +9,7 @@ use Rattle.jl_op.specs.Chosen.{Kinds}
 use Rattle.jl_op.specs.Ids.{ident_with_id}
 use Rattle.jl_op.specs.declared.kind.OpKind.{OpKind}
 use Rattle.jl_op.specs.declared.kind.OpKind.TheVariants as kind
-use Rattle.jl_meaning.specs.forms.Operators.{unary_kind, update_kind}
+use Rattle.jl_op.specs.UnaryKinds.{unary_kind, update_kind}
 use Rattle.jl_simulation.specs.HookCalls.{assign, assign_hook, before_update, binary_hook, hook, hook_1, hook_of_1}
 use Rattle.jl_simulation.specs.HookCalls.{hook_statement, name_of, no_exprs, string_of, read, unary_hook, update_hook}
 use Rattle.jl_simulation.specs.HookCalls.{write}

@@ -2,7 +2,7 @@ use Rattle.std.proofs.Common.{◌≡◌, ◌-◌, drop}
 use Rattle.std.specs.List.{position_from}
 use Rattle.std.specs.Str.{bytes_eq}
 use Rattle.jl_analysis.proofs.RuleNames.{rule_names}
-use Rattle.jl_report.specs.Off.{rule_with}
+use Rattle.jl_analysis.specs.Rules.{rule_with}
 use Rattle.jl_report.proofs.off_comments.rule_with.Given as goal
 
 abbrev pub invariant-loop-rule : goal.invariant-loop-rule

@@ -1,5 +1,5 @@
 use Rattle.jl_ast.proofs.Views.{statement_For, statement_ForIn, statement_If, statement_Switch, statement_Try}
-use Rattle.jl_statement.specs.inner.Beginnings.{labels_seen}
+use Rattle.jl_state.specs.Turns.{labels_seen}
 use Rattle.jl_statement.proofs.Dispatched.{of_kind}
 use Rattle.jl_statement.proofs.Executes.{statements_over}
 use Rattle.jl_statement.proofs.Results.{if_ok}

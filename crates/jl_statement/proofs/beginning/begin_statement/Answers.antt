@@ -1,7 +1,7 @@
 use Rattle.std.proofs.Common.{refl}
 use Rattle.jl_ast.specs.View.{view_statement}
 use Rattle.jl_state.specs.Trees.{plain}
-use Rattle.jl_statement.specs.inner.Beginnings.{labels_seen}
+use Rattle.jl_state.specs.Turns.{labels_seen}
 use Rattle.jl_statement.proofs.Begun.{begins, spent}
 use Rattle.jl_statement.proofs.Results.{if_ok}
 use Rattle.jl_statement.proofs.beginning.begin_statement.Goals as goal

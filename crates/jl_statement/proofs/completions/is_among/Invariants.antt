@@ -1,6 +1,6 @@
 use Rattle.std.proofs.Common.{◌≡◌, length}
 use Rattle.jl_scope.specs.Names.{among}
-use Rattle.jl_statement.specs.inner.Beginnings.{labels_seen}
+use Rattle.jl_state.specs.Turns.{labels_seen}
 use Rattle.jl_statement.proofs.completions.is_among.Given as goal
 
 abbrev pub invariant-loop-labels : goal.invariant-loop-labels

@@ -1,6 +1,5 @@
 use Rattle.std.proofs.Common.{refl}
-use Rattle.jl_statement.specs.inner.Beginnings.{labels_seen}
-use Rattle.jl_statement.specs.inner.Turns.{visits_seen}
+use Rattle.jl_state.specs.Turns.{labels_seen, visits_seen}
 use Rattle.jl_statement.proofs.Results.{if_ok}
 use Rattle.jl_statement.proofs.Visiting.{visit_spent, visit_turns}
 use Rattle.jl_statement.proofs.for_in.begin_visit.Goals as goal

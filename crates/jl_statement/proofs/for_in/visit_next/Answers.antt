@@ -1,4 +1,4 @@
-use Rattle.jl_statement.specs.inner.Turns.{visits_seen}
+use Rattle.jl_state.specs.Turns.{visits_seen}
 use Rattle.jl_statement.proofs.Results.{if_ok}
 use Rattle.jl_statement.proofs.Visiting.{visited_none, visited_some}
 use Rattle.jl_statement.proofs.for_in.visit_next.Goals as goal

@@ -1,5 +1,5 @@
 use Rattle.std.proofs.Common.{◌≡◌, ◌++◌, ◌∷◌, drop}
-use Rattle.jl_statement.specs.inner.Beginnings.{labels_seen}
+use Rattle.jl_state.specs.Turns.{labels_seen}
 use Rattle.jl_statement.proofs.jumps.with_label.Given as goal
 
 abbrev pub invariant-loop-other : goal.invariant-loop-other
