@@ -66,7 +66,8 @@ module _ (table : FunctionTable) (calls : List Call) where
   after_turn t (loop.For e u l) =
       then_do (update_loop table (plain_optional (view_optional u.now)) (context t.here)) (next_turn t)
   after_turn t (loop.ForIn x visits l) =
-      visit_next x.now (plain_forest (view_statements l.now)) (context t.here) (labels_seen t.labels) 0 (visits_seen visits)
+      visit_next x.now (plain_forest (view_statements l.now)) (context t.here) (labels_seen t.labels) 0
+      (visits_seen visits)
 
   abbrev pub after_loop_body : LoopTurn → Completion → Part Completion
   after_loop_body t how = after_body (labels_seen t.labels) (after_turn t t.kind) how
