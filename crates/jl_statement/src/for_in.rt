@@ -15,12 +15,12 @@ ghost use Rattle.jl_statement.specs.inner.Beginnings.{labels_seen};
 ghost use Rattle.jl_statement.specs.inner.Turns.{visits_seen};
 
 use crate::visits::{next_visit, visits_of};
-use jl_algorithm::{is_nothing, put_name};
+use jl_algorithm::put_name;
 use jl_ast::Stmt;
 use jl_state::{Act, Here, Loop, LoopTurn, State, StatementFrame, Visits};
 use jl_store::Answer;
 use jl_text::{List, NoMemory, Text, is_spelled};
-use jl_value::{Completion, Fault, ObjId, Value};
+use jl_value::{Completion, Fault, ObjId, Value, is_nothing};
 use std::alloc::Global;
 
 /// Whether a name is that of the object with the hooks.
