@@ -1,11 +1,11 @@
 -- Values that are put.
 use Rattle.std.proofs.Common.{◌≡◌, refl, subst, sym, ap, ◌∙◌, codes, false, true, [], ◌∷◌, Bool, None, Option, Some}
 use Rattle.std.proofs.Common.{if◌then◌else◌}
+use Rattle.jl_value.specs.Tests.{is_object}
 use Rattle.jl_value.specs.declared.error_kind.ErrorKind.TheVariants.{TypeError}
 use Rattle.jl_value.specs.declared.object.ObjId.{ObjId}
 use Rattle.jl_value.specs.declared.value.Value.{Value}
 use Rattle.jl_value.specs.declared.value.Value.TheVariants as value
-use Rattle.jl_conv.specs.Conversions.{is_object}
 use Rattle.jl_heap.specs.Objects.{Name}
 use Rattle.jl_heap.specs.declared.property.Prop.TheVariants.{Accessor, Plain}
 use Rattle.jl_meaning.specs.Errors.{require, throw_error}

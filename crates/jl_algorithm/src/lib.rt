@@ -9,7 +9,6 @@ mod lengths;
 mod names;
 mod primitive;
 mod putting;
-mod values;
 
 pub use defining::define_own_property;
 pub use deleting::delete;
@@ -21,4 +20,3 @@ pub use names::{
 };
 pub use primitive::{step_method, step_method_result, to_primitive};
 pub use putting::{plain_change, put, value_change};
-pub use values::is_nothing;

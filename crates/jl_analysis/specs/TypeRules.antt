@@ -7,9 +7,10 @@ use Rattle.jl_ast.specs.declared.ops.BinOp.TheVariants as binary
 use Rattle.jl_op.specs.declared.op.Op.{Op}
 use Rattle.jl_op.specs.declared.op.Op.TheVariants as ops
 use Rattle.jl_op.specs.declared.sign.UnKind.TheVariants as unary
+use Rattle.jl_value.specs.Tests.{is_nothing, is_object, is_undefined}
 use Rattle.jl_value.specs.declared.value.Value.{Value}
 use Rattle.jl_value.specs.declared.value.Value.TheVariants as values
-use Rattle.jl_analysis.specs.Values.{is_undefined, is_nothing, is_number, is_nan, is_text, is_object, is_wrapper}
+use Rattle.jl_analysis.specs.Values.{is_number, is_nan, is_text, is_wrapper}
 use Rattle.jl_analysis.specs.Values.{are_of_one_type}
 
 -- 1, nan-made: an operator makes NaN of operands none of which is NaN

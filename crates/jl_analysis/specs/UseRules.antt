@@ -10,9 +10,10 @@ use Rattle.jl_op.specs.declared.found.Found.TheVariants as found
 use Rattle.jl_op.specs.declared.op.Op.{Op}
 use Rattle.jl_op.specs.declared.op.Op.TheVariants as ops
 use Rattle.jl_value.specs.Builtins.{name_of}
+use Rattle.jl_value.specs.Tests.{is_object}
 use Rattle.jl_value.specs.declared.value.Seen.{Seen}
 use Rattle.jl_value.specs.declared.value.Value.{Value}
-use Rattle.jl_analysis.specs.Values.{is_object, is_object_at, object_prototype, global_object, is_function, is_array}
+use Rattle.jl_analysis.specs.Values.{is_object_at, object_prototype, global_object, is_function, is_array}
 
 -- the look-up came to a data property of a prototype
 abbrev pub is_inherited : Found → Bool

@@ -5,16 +5,6 @@ use Rattle.jl_value.specs.declared.object.Class.TheVariants as classes
 use Rattle.jl_value.specs.declared.value.Value.{Value}
 use Rattle.jl_value.specs.declared.value.Value.TheVariants as values
 
-abbrev pub is_undefined : Value → Bool
-is_undefined values.Undefined = true
-is_undefined _ = false
-
--- it is undefined or null
-abbrev pub is_nothing : Value → Bool
-is_nothing values.Undefined = true
-is_nothing values.Null = true
-is_nothing _ = false
-
 abbrev pub is_number : Value → Bool
 is_number (values.Num n) = true
 is_number _ = false
@@ -27,10 +17,6 @@ is_nan _ = false
 abbrev pub is_text : Value → Bool
 is_text (values.Text units) = true
 is_text _ = false
-
-abbrev pub is_object : Value → Bool
-is_object (values.Obj place) = true
-is_object _ = false
 
 -- they are values of one type (clause 8)
 abbrev pub are_of_one_type : Value → Value → Bool

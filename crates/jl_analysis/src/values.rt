@@ -1,23 +1,9 @@
 //! What rules ask of the values that an operation saw.
 ghost use Rattle.std.specs.Prelude.{◌≡◌};
-ghost use Rattle.jl_analysis.specs.Values.{is_undefined, is_nothing, is_number, is_nan, is_text, is_object};
+ghost use Rattle.jl_analysis.specs.Values.{is_number, is_nan, is_text};
 ghost use Rattle.jl_analysis.specs.Values.{is_object_at, is_wrapper, are_of_one_type};
 
 use jl_value::{Class, ObjId, Value};
-
-/// Whether the value is undefined.
-pub fn is_undefined(value: &Value) -> bool
-    ensures { result ≡ is_undefined value.now }
-{
-    matches!(value, Value::Undefined)
-}
-
-/// Whether the value is undefined or null.
-pub fn is_nothing(value: &Value) -> bool
-    ensures { result ≡ is_nothing value.now }
-{
-    matches!(value, Value::Undefined | Value::Null)
-}
 
 /// Whether the value is a number, or NaN.
 pub fn is_number(value: &Value) -> bool
@@ -41,13 +27,6 @@ pub fn is_text(value: &Value) -> bool
     ensures { result ≡ is_text value.now }
 {
     matches!(value, Value::Text(_))
-}
-
-/// Whether the value is an object.
-pub fn is_object(value: &Value) -> bool
-    ensures { result ≡ is_object value.now }
-{
-    matches!(value, Value::Obj(_))
 }
 
 /// Whether the value is this object.

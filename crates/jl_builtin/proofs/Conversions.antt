@@ -3,6 +3,7 @@ use Rattle.std.proofs.Common.{◌≡◌, ◌∙◌, false, subst, true, List, �
 use mathlib.Core.Path.{fun_ext}
 use Rattle.jl_num.specs.Bits.{uint32_of}
 use Rattle.jl_num.specs.Number.{Number}
+use Rattle.jl_value.specs.Tests.{is_undefined}
 use Rattle.jl_value.specs.declared.value.Value.{Value}
 use Rattle.jl_value.specs.declared.value.Value.TheVariants as value
 use Rattle.jl_conv.specs.Conversions.{text_of_value}
@@ -15,7 +16,6 @@ use Rattle.jl_state.specs.Rest.{Works}
 use Rattle.jl_state.specs.declared.act.Act.{Act}
 use Rattle.jl_state.specs.declared.state.State.{State}
 use Rattle.jl_operator.proofs.Operands.{chained}
-use Rattle.jl_builtin.specs.Values.{is_undefined}
 
 -- what is done with a primitive value, as what is done with the number, string or integer that it converts to
 

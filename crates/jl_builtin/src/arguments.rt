@@ -1,6 +1,5 @@
 //! What builtins ask of their arguments.
 ghost use Rattle.std.specs.Prelude.{◌≡◌, codes, slice_index_or, IfOk};
-ghost use Rattle.jl_builtin.specs.Values.{is_undefined};
 ghost use Rattle.jl_meaning.specs.Errors.{throw_type_error};
 ghost use Rattle.jl_meaning.specs.builtins.Arguments.{need_function, need_object};
 ghost use Rattle.jl_store.specs.Answers.{ends_with};
@@ -20,13 +19,6 @@ pub fn argument(alloc: Global, args: &[Value], index: usize) -> Result<Value, No
         Some(v) => share(alloc, v),
         None => Ok(Value::Undefined),
     }
-}
-
-/// Whether a value is undefined.
-pub fn is_undefined(v: &Value) -> bool
-    ensures { result ≡ is_undefined v.now }
-{
-    matches!(v, Value::Undefined)
 }
 
 /// The object that a value is. It throws a TypeError for any other value.

@@ -9,7 +9,7 @@ mod lists;
 mod turns;
 mod waiting;
 
-pub use arguments::{argument, is_undefined, need_function, need_object};
+pub use arguments::{argument, need_function, need_object};
 pub use elements::{delete_index, get_index, has_index, put_index, put_length};
 pub use filling::{add_index, fault_of, fill_array};
 pub use integers::{

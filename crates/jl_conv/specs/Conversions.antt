@@ -7,10 +7,6 @@ use Rattle.jl_value.specs.declared.value.Value.{Value}
 use Rattle.jl_value.specs.declared.value.Value.TheVariants as values
 use Rattle.jl_conv.specs.Numerals.{text_number}
 
-abbrev pub is_object : Value → Bool
-is_object (values.Obj o) = true
-is_object _ = false
-
 -- ToBoolean (9.2): of numbers 0 and NaN are false, and of strings the empty one
 abbrev pub number_truth : Number → Bool
 number_truth None = false

@@ -1,6 +1,6 @@
 ghost use Rattle.std.specs.Prelude.{◌≡◌, false};
 ghost use Rattle.std.specs.Result.{result_ok};
-ghost use Rattle.jl_conv.specs.Conversions.{is_object};
+ghost use Rattle.jl_value.specs.Tests.{is_object};
 ghost use Rattle.jl_conv.specs.Comparisons.{equal_numbers, strictly_equal, loosely_equal, less_than};
 
 use crate::conversions::{bool_to_num, primitive_to_num};

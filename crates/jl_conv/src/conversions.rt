@@ -2,7 +2,8 @@ ghost use Rattle.std.specs.Prelude.{◌≡◌, ◌≤◌, false, length, IfOk};
 ghost use Rattle.std.specs.Result.{result_ok};
 ghost use Rattle.jl_text.specs.Limits.{most_units};
 ghost use Rattle.jl_num.specs.Digits.{number_text};
-ghost use Rattle.jl_conv.specs.Conversions.{is_object, truth_of, type_text, bool_number, number_of_value};
+ghost use Rattle.jl_value.specs.Tests.{is_object};
+ghost use Rattle.jl_conv.specs.Conversions.{truth_of, type_text, bool_number, number_of_value};
 ghost use Rattle.jl_conv.specs.Conversions.{text_of_value};
 
 use crate::numerals::text_to_num;

@@ -1,6 +1,5 @@
 //! What functions give whose bodies have completed (13.2.1, 13.2.2).
 ghost use Rattle.std.specs.Prelude.{◌≡◌, ◌≤◌, IfOk};
-ghost use Rattle.jl_conv.specs.Conversions.{is_object};
 ghost use Rattle.jl_meaning.specs.forms.Functions.{result_of};
 ghost use Rattle.jl_state.specs.Rank.{rank_act, Falls};
 ghost use Rattle.jl_state.specs.Rest.{Gives};
@@ -10,7 +9,7 @@ ghost use Rattle.jl_state.specs.declared.state.State.{State as Machine};
 
 use jl_state::{Act, State, ValueFrame};
 use jl_text::NoMemory;
-use jl_value::{Completion, Fault, Value};
+use jl_value::{Completion, Fault, Value, is_object};
 
 /// The body of a function has completed: the call is over (13.2.1).
 pub fn step_body<'p>(state: &mut State<'p>, how: Completion) -> Result<Act<'p>, NoMemory>
@@ -58,10 +57,4 @@ pub fn step_constructed<'p>(
     } else {
         Ok(Act::Give(object))
     }
-}
-
-fn is_object(v: &Value) -> bool
-    ensures { result ≡ is_object v.now }
-{
-    matches!(v, Value::Obj(_))
 }

@@ -15,14 +15,14 @@ ghost use Rattle.jl_store.specs.Answers.{ends_with};
 ghost use Rattle.jl_store.specs.Comes.{Comes};
 ghost use Rattle.jl_value.specs.declared.value.Value.{Value as AnyValue};
 
-use jl_algorithm::{get, is_nothing};
+use jl_algorithm::get;
 use jl_ast::Function;
 use jl_heap::Inner;
 use jl_state::{Act, Call, Frame, Here, Invocation, ScriptFunction, State, ValueFrame};
 use jl_statement::begin_statements;
 use jl_store::{Answer, Store, word};
 use jl_text::{List, NoMemory};
-use jl_value::{Class, Completion, ObjId, Value, share};
+use jl_value::{Class, Completion, ObjId, Value, is_nothing, share};
 use std::alloc::Global;
 
 /// What `this` becomes in a function that is strict or not (10.4.3).

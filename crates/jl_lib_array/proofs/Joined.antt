@@ -6,6 +6,7 @@ use mathlib.Core.Path.{fun_ext}
 use Rattle.std.specs.Prelude.{if◌then◌else◌, nat_lt, slice_index_or}
 use Rattle.std.proofs.lemmas.Bool.{le-ltb}
 use Rattle.std.proofs.lemmas.List.{length-append}
+use Rattle.jl_value.specs.Tests.{is_nothing, is_undefined}
 use Rattle.jl_value.specs.declared.ending.Fault.TheVariants as fault
 use Rattle.jl_value.specs.declared.object.ObjId.{ObjId}
 use Rattle.jl_value.specs.declared.value.Value.{Value}
@@ -15,12 +16,10 @@ use Rattle.jl_effects.specs.Effects.{Fail, Step}
 use Rattle.jl_meaning.specs.Conversions.{string_hint, to_primitive, to_string}
 use Rattle.jl_meaning.specs.Errors.{string_limit, string_within}
 use Rattle.jl_meaning.specs.Parts.{give, ◌>>=◌, Algorithm, StringTooLong}
-use Rattle.jl_meaning.specs.Relations.{is_nothing}
 use Rattle.jl_meaning.specs.builtins.Arguments.{give_string}
 use Rattle.jl_meaning.specs.builtins.Array.{element_string, join_elements, join_turn, separator_of, string_or_empty}
 use Rattle.jl_meaning.specs.builtins.Elements.{get_index}
 use Rattle.jl_meaning.specs.builtins.Turns.{upward}
-use Rattle.jl_builtin.specs.Values.{is_undefined}
 use Rattle.jl_progress.specs.Arrays.{array_after, join_first, join_others, with_length}
 use Rattle.jl_progress.specs.declared.array.ArrayProgress.TheVariants as array
 use Rattle.jl_progress.specs.declared.array.Joining.{Joining}

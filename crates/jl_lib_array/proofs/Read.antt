@@ -1,6 +1,7 @@
 -- `sort`: elements that are read, each with the string that it is compared by.
 use Rattle.std.proofs.Common.{◌≡◌, ◌∙◌, ◌+◌, ◌-◌, ◌++◌, ◌∷◌, [], ap, false, map, subst, sym, true, Bool, List, None}
 use Rattle.std.proofs.Common.{Option, Some, ℕ}
+use Rattle.jl_value.specs.Tests.{is_undefined}
 use Rattle.jl_value.specs.declared.value.Value.{Value}
 use Rattle.jl_value.specs.declared.value.Value.TheVariants as value
 use Rattle.jl_conv.specs.Conversions.{text_of_value}
@@ -8,7 +9,6 @@ use Rattle.jl_meaning.specs.Conversions.{string_hint, to_primitive, to_string}
 use Rattle.jl_meaning.specs.Parts.{give, ◌>>=◌, Algorithm}
 use Rattle.jl_meaning.specs.builtins.ArrayChanges.{key_of, read_turn, sort_by_keys, with_element, KeyedValue}
 use Rattle.jl_meaning.specs.builtins.Elements.{get_index, has_index}
-use Rattle.jl_builtin.specs.Values.{is_undefined}
 use Rattle.jl_progress.specs.Arrays.{array_after, put_others, sort_others}
 use Rattle.jl_progress.specs.declared.array.AfterPutting.TheVariants as put
 use Rattle.jl_progress.specs.declared.array.ArrayProgress.TheVariants as array

@@ -3,6 +3,7 @@ use Rattle.std.proofs.Common.{◌≡◌, ◌+◌, ◌-◌, ◌<◌, arith, false
 use Rattle.std.proofs.Common.{eqb, inl, inr, ◌⊎◌, List, ℕ}
 use Rattle.std.specs.Prelude.{if◌then◌else◌, ◌==◌}
 use Rattle.std.proofs.lemmas.Bool.Decides.{eqb_tells, nat_tests}
+use Rattle.jl_value.specs.Tests.{is_undefined}
 use Rattle.jl_value.specs.declared.object.ObjId.{ObjId}
 use Rattle.jl_value.specs.declared.value.Value.{Value}
 use Rattle.jl_value.specs.declared.value.Value.TheVariants as value
@@ -20,7 +21,6 @@ use Rattle.jl_store.specs.Comes.{Comes}
 use Rattle.jl_progress.specs.Arrays.{with_length}
 use Rattle.jl_progress.specs.declared.array.LengthFunction.{LengthFunction}
 use Rattle.jl_progress.specs.declared.array.LengthFunction.TheVariants as for_length
-use Rattle.jl_builtin.specs.Values.{is_undefined}
 use Rattle.jl_state.specs.Rest.{Works}
 use Rattle.jl_state.specs.declared.act.Act.{Act}
 use Rattle.jl_state.specs.declared.state.State.{State}

@@ -9,14 +9,13 @@ ghost use Rattle.jl_state.specs.Rank.{Falls};
 ghost use Rattle.jl_state.specs.Rest.{Works};
 
 use crate::frames::{begin_turn, get_for, sum};
-use jl_algorithm::is_nothing;
-use jl_builtin::{argument, give_text, is_undefined, wait_for_string, with_units};
+use jl_builtin::{argument, give_text, wait_for_string, with_units};
 use jl_operator::text_of;
 use jl_progress::{ArrayProgress, Joining, LengthFunction, Progress};
 use jl_state::{Act, State};
 use jl_store::word;
 use jl_text::{List, MOST_UNITS, NoMemory, Text};
-use jl_value::{Fault, ObjId, Value};
+use jl_value::{Fault, ObjId, Value, is_nothing, is_undefined};
 use std::alloc::Global;
 
 /// Whether so many units have room in a string after so many.

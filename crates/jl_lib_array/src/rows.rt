@@ -11,12 +11,12 @@ ghost use Rattle.jl_state.specs.Words.{call_of, table_of};
 use crate::appending::concat;
 use crate::lengths::begin_with_length;
 use crate::strings::array_to_string;
-use jl_builtin::{argument, fail_row, is_undefined};
+use jl_builtin::{argument, fail_row};
 use jl_progress::LengthFunction;
 use jl_state::{Act, Invocation, State};
 use jl_store::Answer;
 use jl_text::{List, NoMemory};
-use jl_value::{Completion, ObjId, Value};
+use jl_value::{Completion, ObjId, Value, is_undefined};
 use std::alloc::Global;
 
 /// The row of `toLocaleString`, which is left out.

@@ -10,12 +10,12 @@ ghost use Rattle.jl_value.specs.declared.value.Value.TheVariants as value;
 
 use crate::frames::{begin_turn, get_for, sum};
 use crate::ordering::{in_order, values_of};
-use jl_builtin::{has_index, is_undefined, wait_for_string};
+use jl_builtin::{has_index, wait_for_string};
 use jl_operator::text_of;
 use jl_progress::{AfterPutting, ArrayProgress, Progress, Reading};
 use jl_state::{Act, State};
 use jl_text::{List, NoMemory, Text};
-use jl_value::{ObjId, Value, share};
+use jl_value::{ObjId, Value, is_undefined, share};
 use std::alloc::Global;
 
 /// A turn begins in which an element is read, if any is left.

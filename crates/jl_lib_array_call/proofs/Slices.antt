@@ -3,6 +3,7 @@ use Rattle.std.proofs.Common.{◌≡◌, ◌≤◌, ◌<◌, ◌+◌, ◌-◌, �
 use Rattle.std.proofs.Common.{Bool, List, Option, ℕ}
 use Rattle.std.specs.Prelude.{min}
 use mathlib.Core.Path.{fun_ext}
+use Rattle.jl_value.specs.Tests.{is_undefined}
 use Rattle.jl_value.specs.declared.object.ObjId.{ObjId}
 use Rattle.jl_value.specs.declared.value.Value.{Value}
 use Rattle.jl_value.specs.declared.value.Value.TheVariants as value
@@ -26,7 +27,6 @@ use Rattle.jl_state.specs.declared.act.Act.TheVariants as act
 use Rattle.jl_state.specs.declared.algorithm_frame.AlgorithmFrame.TheVariants as algorithm
 use Rattle.jl_state.specs.declared.state.State.{State}
 use Rattle.jl_meaning.proofs.Binds.{bind_assoc}
-use Rattle.jl_builtin.specs.Values.{is_undefined}
 use Rattle.jl_builtin.proofs.Waits.{element_missing, element_waits, integer_waits}
 
 abbrev turn : ObjId → ℕ → ObjId → ℕ → Unit {0} → Algorithm (Unit {0})

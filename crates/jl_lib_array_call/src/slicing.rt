@@ -12,14 +12,13 @@ use crate::lengths::get_length;
 use crate::places::{next_index, sum};
 use jl_algorithm::to_primitive;
 use jl_builtin::{
-    add_index, argument, fault_of, get_index, go_on, has_index, is_undefined, number_of_primitive,
-    relative_index,
+    add_index, argument, fault_of, get_index, go_on, has_index, number_of_primitive, relative_index,
 };
 use jl_progress::{ArrayCallProgress, LengthFor, Progress};
 use jl_state::{Act, AlgorithmFrame, Hint, Invocation, State};
 use jl_store::{Answer, Finished};
 use jl_text::{List, NoMemory};
-use jl_value::{Completion, Fault, ObjId, Value};
+use jl_value::{Completion, Fault, ObjId, Value, is_undefined};
 use std::alloc::Global;
 
 /// `slice` begins: its array is made before the length is asked for.

@@ -3,6 +3,7 @@ use Rattle.std.proofs.Common.{◌≡◌, ◌∙◌, ap, false, pos, refl, subst,
 use Rattle.std.specs.Prelude.{slice_index_or}
 use Rattle.jl_num.specs.Number.{Number}
 use Rattle.jl_num.specs.Power.{power_of}
+use Rattle.jl_value.specs.Tests.{is_undefined}
 use Rattle.jl_value.specs.declared.value.Value.{Value}
 use Rattle.jl_value.specs.declared.value.Value.TheVariants as value
 use Rattle.jl_meaning.specs.Conversions.{number_hint, string_hint, to_integer, to_number, to_primitive}
@@ -25,7 +26,6 @@ use Rattle.jl_progress.specs.declared.progress.Progress.TheVariants as progress
 use Rattle.jl_state.specs.Rest.{Works}
 use Rattle.jl_state.specs.declared.act.Act.{Act}
 use Rattle.jl_state.specs.declared.state.State.{State}
-use Rattle.jl_builtin.specs.Values.{is_undefined}
 use Rattle.jl_builtin.proofs.Conversions.{as_integer, as_number, as_string, missing, there}
 
 -- an argument by its index

@@ -1,5 +1,6 @@
 -- Names and messages of errors, which may be missing.
 use Rattle.std.proofs.Common.{◌≡◌, [], codes, refl, subst, sym, false, true, List, None, Option, Some, ℕ}
+use Rattle.jl_value.specs.Tests.{is_undefined}
 use Rattle.jl_value.specs.declared.error_kind.ErrorKind.TheVariants.{TypeError}
 use Rattle.jl_value.specs.declared.object.ObjId.{ObjId}
 use Rattle.jl_value.specs.declared.value.Value.{Value}
@@ -26,7 +27,6 @@ use Rattle.jl_state.specs.declared.state.State.{State}
 use Rattle.jl_state.proofs.Stores.{works_comes}
 use Rattle.jl_meaning.proofs.Binds.{bind_assoc}
 use Rattle.jl_algorithm.proofs.Throwing.{works_left_out}
-use Rattle.jl_builtin.specs.Values.{is_undefined}
 use Rattle.jl_builtin.proofs.Conversions.{as_string, missing, there}
 
 -- the error that was made is given

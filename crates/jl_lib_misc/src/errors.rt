@@ -15,14 +15,14 @@ ghost use Rattle.jl_store.specs.Comes.{Comes};
 ghost use Rattle.jl_value.specs.declared.value.Value.TheVariants as value;
 
 use jl_algorithm::{get, throw_native};
-use jl_builtin::{argument, is_undefined, wait_for_string, with_units};
+use jl_builtin::{argument, wait_for_string, with_units};
 use jl_heap::{Inner, Prop};
 use jl_operator::text_of;
 use jl_progress::{ErrorProgress, Progress};
 use jl_state::{Act, AlgorithmFrame, Invocation, State};
 use jl_store::{Store, word};
 use jl_text::{List, NoMemory, Text, TextFault};
-use jl_value::{Class, ErrorKind, Fault, ObjId, Value};
+use jl_value::{Class, ErrorKind, Fault, ObjId, Value, is_undefined};
 use std::alloc::Global;
 
 /// A new error, with its message where there is one (15.11.1.1, 15.11.7.4).

@@ -14,7 +14,7 @@ ghost use Rattle.jl_state.specs.Rest.{Works};
 ghost use Rattle.jl_state.specs.Words.{call_of};
 
 use jl_algorithm::throw_native;
-use jl_builtin::{argument, integer_of, is_undefined, value_from, wait_for_number};
+use jl_builtin::{argument, integer_of, value_from, wait_for_number};
 use jl_heap::Inner;
 use jl_num::{Num, NumberOutside, digits};
 use jl_operator::number_of;
@@ -22,7 +22,7 @@ use jl_progress::{NumberProgress, Progress};
 use jl_state::{Act, Invocation, State};
 use jl_store::Store;
 use jl_text::{List, NoMemory, Text, TextFault};
-use jl_value::{Class, ErrorKind, Fault, ObjId, Value};
+use jl_value::{Class, ErrorKind, Fault, ObjId, Value, is_undefined};
 use std::alloc::Global;
 
 const NUMBER_PROTOTYPE: ObjId = ObjId(5);

@@ -5,6 +5,7 @@ use Rattle.std.proofs.Common.{true, List, None, Some, ℕ}
 use mathlib.Core.Path.{fun_ext}
 use Rattle.jl_num.specs.Bits.{uint32_of}
 use Rattle.jl_num.specs.Number.{Number}
+use Rattle.jl_value.specs.Tests.{is_nothing}
 use Rattle.jl_value.specs.declared.ending.Fault.TheVariants as fault
 use Rattle.jl_value.specs.declared.object.ObjId.{ObjId}
 use Rattle.jl_value.specs.declared.value.Value.{Value}
@@ -16,7 +17,6 @@ use Rattle.jl_effects.specs.Effects.{Step}
 use Rattle.jl_meaning.specs.Conversions.{number_hint, to_number, to_primitive, to_uint32}
 use Rattle.jl_meaning.specs.Getting.{get}
 use Rattle.jl_meaning.specs.Parts.{call, give, or_fault, ◌>>=◌, Algorithm, NumberOutside}
-use Rattle.jl_meaning.specs.Relations.{is_nothing}
 use Rattle.jl_meaning.specs.builtins.Arguments.{need_object}
 use Rattle.jl_meaning.specs.builtins.Elements.{get_index, get_length}
 use Rattle.jl_meaning.specs.builtins.Function.{append_element, arguments_in}

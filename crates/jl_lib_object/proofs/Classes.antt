@@ -1,5 +1,6 @@
 -- Objects that values convert to, and their classes (15.2.1, 15.2.4.2).
 use Rattle.std.proofs.Common.{◌≡◌, ◌++◌, codes, false, refl, subst, sym, true, List, ℕ}
+use Rattle.jl_value.specs.Tests.{is_nothing}
 use Rattle.jl_value.specs.Texts.{class_name}
 use Rattle.jl_value.specs.declared.object.Class.{Class}
 use Rattle.jl_value.specs.declared.object.ObjId.{ObjId}
@@ -10,7 +11,6 @@ use Rattle.jl_effects.specs.Running.{Finish}
 use Rattle.jl_meaning.specs.Conversions.{to_object}
 use Rattle.jl_meaning.specs.Parts.{give, look, ◌>>=◌, Algorithm, AlgorithmFault}
 use Rattle.jl_meaning.specs.Parts as parts
-use Rattle.jl_meaning.specs.Relations.{is_nothing}
 use Rattle.jl_meaning.specs.Store.{Store}
 use Rattle.jl_meaning.specs.builtins.Object.{class_text, give_class, object_for, object_to_string}
 use Rattle.jl_meaning.specs.forms.Literals.{new_plain_object}

@@ -1,6 +1,7 @@
 -- Properties that are defined, one after another (15.2.3.5 to 15.2.3.7).
 use Rattle.std.proofs.Common.{◌≡◌, ◌∙◌, ◌++◌, ◌∷◌, [], ap, codes, drop, false, refl, subst, sym, true, List, ℕ}
 use mathlib.Core.Path.{fun_ext}
+use Rattle.jl_value.specs.Tests.{is_undefined}
 use Rattle.jl_value.specs.declared.ending.Completion.TheVariants as completion
 use Rattle.jl_value.specs.declared.error_kind.ErrorKind.TheVariants.{TypeError}
 use Rattle.jl_value.specs.declared.object.ObjId.{ObjId}
@@ -39,7 +40,6 @@ use Rattle.jl_state.specs.declared.algorithm_frame.WrittenBy.TheVariants.{Builti
 use Rattle.jl_state.specs.declared.state.State.{State}
 use Rattle.jl_meaning.proofs.Binds.{bind_assoc}
 use Rattle.jl_state.proofs.Chains.{works_assoc}
-use Rattle.jl_builtin.specs.Values.{is_undefined}
 use Rattle.jl_lib_object.specs.inner.Parts.{define_and_give, read_descriptor}
 use Rattle.jl_lib_object.proofs.Ends.{goes_on, throws_on}
 

@@ -2,6 +2,7 @@
 use Rattle.std.proofs.Common.{◌≡◌, ◌∙◌, ap, codes, false, refl, subst, sym, true, Bool, None, Option, Some}
 use Rattle.std.specs.Prelude.{if◌then◌else◌, not, option_map, ◌&&◌}
 use mathlib.Core.Path.{fun_ext}
+use Rattle.jl_value.specs.Tests.{is_undefined}
 use Rattle.jl_value.specs.declared.ending.Completion.TheVariants as completion
 use Rattle.jl_value.specs.declared.error_kind.ErrorKind.TheVariants.{TypeError}
 use Rattle.jl_value.specs.declared.object.ObjId.{ObjId}
@@ -40,7 +41,6 @@ use Rattle.jl_state.specs.declared.act.Act.TheVariants as act
 use Rattle.jl_state.specs.declared.state.State.{State}
 use Rattle.jl_meaning.proofs.Binds.{bind_assoc}
 use Rattle.jl_algorithm.proofs.Throwing.{works_left_out}
-use Rattle.jl_builtin.specs.Values.{is_undefined}
 use Rattle.jl_lib_object.specs.inner.Fields.{change_from, field_name, function_or_undefined, next_field, with_field}
 use Rattle.jl_lib_object.specs.inner.Fields.{without_field}
 use Rattle.jl_lib_object.proofs.Ends.{goes_on, throws_on}

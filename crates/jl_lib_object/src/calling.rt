@@ -10,13 +10,13 @@ ghost use Rattle.jl_state.specs.Rest.{Works};
 ghost use Rattle.jl_state.specs.Words.{call_of};
 
 use crate::waiting::{argument_of, wait_function};
-use jl_algorithm::{get, is_nothing, to_primitive};
+use jl_algorithm::{get, to_primitive};
 use jl_builtin::{get_index, length_of, need_function, need_object, number_of_primitive, rest_of};
 use jl_progress::FunctionProgress;
 use jl_state::{Act, Hint, Invocation, State};
 use jl_store::{Answer, word};
 use jl_text::{List, NoMemory};
-use jl_value::{Completion, Fault, ObjId, Value};
+use jl_value::{Completion, Fault, ObjId, Value, is_nothing};
 use std::alloc::Global;
 
 /// An element of a list of arguments takes a step, and is got; the index is that of the one after it.

@@ -23,14 +23,13 @@ use crate::descriptors::to_property_descriptor;
 use crate::own_names::{enumerable_names, name_from};
 use crate::waiting::{argument_of, first_object, wait_object};
 use jl_algorithm::{define_own_property, get, to_primitive};
-use jl_builtin::is_undefined;
 use jl_heap::{Change, Inner};
 use jl_operator::text_of;
 use jl_progress::{DescriptorUse, NamedChange, ObjectProgress};
 use jl_state::{Act, Hint, Invocation, State, WrittenBy};
 use jl_store::{Answer, Store};
 use jl_text::{List, NoMemory, Text};
-use jl_value::{Class, Completion, ObjId, Value, share};
+use jl_value::{Class, Completion, ObjId, Value, is_undefined, share};
 use std::alloc::Global;
 
 /// What a descriptor was read for, with the change that it describes.

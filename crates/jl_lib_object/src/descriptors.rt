@@ -16,14 +16,14 @@ ghost use Rattle.jl_store.specs.Comes.{Comes};
 use crate::defining::use_change;
 use crate::waiting::wait_object;
 use jl_algorithm::{get, throw_native};
-use jl_builtin::{is_undefined, need_function, need_object};
+use jl_builtin::{need_function, need_object};
 use jl_conv::to_boolean;
 use jl_heap::Change;
 use jl_progress::{DescriptorField, DescriptorUse, ObjectProgress};
 use jl_state::{Act, State};
 use jl_store::{Answer, Store, word};
 use jl_text::NoMemory;
-use jl_value::{Completion, ErrorKind, ObjId, Value};
+use jl_value::{Completion, ErrorKind, ObjId, Value, is_undefined};
 use std::alloc::Global;
 
 fn field_name(field: DescriptorField) -> &'static str

@@ -1,7 +1,6 @@
 //! `Object` itself, prototypes, and what the prototype of objects has for every object (15.2.1 to 15.2.4).
 ghost use Rattle.std.specs.Prelude.{◌≡◌, ◌++◌, codes, false, IfOk};
 ghost use Rattle.jl_heap.specs.Objects.{object_at};
-ghost use Rattle.jl_meaning.specs.Relations.{is_nothing};
 ghost use Rattle.jl_meaning.specs.builtins.Object.{class_text, is_prototype_of_value, object_call, object_for};
 ghost use Rattle.jl_meaning.specs.builtins.Object.{object_get_prototype_of, object_is_prototype_of, object_to_string};
 ghost use Rattle.jl_meaning.specs.builtins.Object.{object_value_of, prototype_value};
@@ -10,14 +9,14 @@ ghost use Rattle.jl_state.specs.Rest.{Works};
 ghost use Rattle.jl_state.specs.Words.{call_of};
 ghost use Rattle.jl_store.specs.Answers.{ends_with};
 ghost use Rattle.jl_store.specs.Comes.{Comes};
+ghost use Rattle.jl_value.specs.Tests.{is_nothing};
 ghost use Rattle.jl_value.specs.Texts.{class_name};
 
 use crate::waiting::{argument_of, first_object};
-use jl_algorithm::is_nothing;
 use jl_state::{Act, Invocation, State};
 use jl_store::{Answer, Store, word};
 use jl_text::NoMemory;
-use jl_value::{Class, Completion, ObjId, Value};
+use jl_value::{Class, Completion, ObjId, Value, is_nothing};
 use std::alloc::Global;
 
 /// A new object, or the object that a value converts to.

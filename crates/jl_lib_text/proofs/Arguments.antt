@@ -1,6 +1,7 @@
 -- Methods of strings that begin with an argument.
 use Rattle.std.proofs.Common.{◌≡◌, false, length, pos, refl, subst, true, List, Some, ℕ, ℤ}
 use Rattle.jl_num.specs.Number.{Number}
+use Rattle.jl_value.specs.Tests.{is_undefined}
 use Rattle.jl_value.specs.declared.value.Value.{Value}
 use Rattle.jl_value.specs.declared.object.ObjId.{ObjId}
 use Rattle.jl_effects.specs.Running.{Ends}
@@ -24,7 +25,6 @@ use Rattle.jl_state.specs.Rest.{Works}
 use Rattle.jl_state.specs.declared.act.Act.{Act}
 use Rattle.jl_state.specs.declared.state.State.{State}
 use Rattle.jl_state.proofs.Stores.{works_comes}
-use Rattle.jl_builtin.specs.Values.{is_undefined}
 use Rattle.jl_builtin.proofs.Conversions.{as_integer, as_string, missing, there}
 
 module _ (s t : State) (a : Act) (units : List ℕ) (args : List Value) where

@@ -1,6 +1,7 @@
 -- `split`, when its array has been made.
 use Rattle.std.proofs.Common.{◌≡◌, ◌∷◌, ◌∙◌, [], ap, drop, false, map, refl, subst, take, true, List, ℕ}
 use Rattle.std.proofs.lemmas.List.{take-map}
+use Rattle.jl_value.specs.Tests.{is_undefined}
 use Rattle.jl_value.specs.declared.object.ObjId.{ObjId}
 use Rattle.jl_value.specs.declared.value.Value.{Value}
 use Rattle.jl_value.specs.declared.value.Value.TheVariants as value
@@ -16,7 +17,6 @@ use Rattle.jl_state.specs.Rest.{Works}
 use Rattle.jl_state.specs.declared.act.Act.{Act}
 use Rattle.jl_state.specs.declared.state.State.{State}
 use Rattle.jl_operator.proofs.Operands.{chained}
-use Rattle.jl_builtin.specs.Values.{is_undefined}
 use Rattle.jl_builtin.proofs.Conversions.{as_string, as_uint32, missing, there}
 
 -- an array is filled with values

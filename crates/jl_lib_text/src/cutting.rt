@@ -12,13 +12,13 @@ ghost use Rattle.jl_state.specs.Rest.{Works};
 ghost use Rattle.jl_state.specs.declared.state.State.{State as Machine};
 
 use crate::texts::range_of;
-use jl_builtin::{argument, clamp, is_undefined, relative_index, wait_for_number};
+use jl_builtin::{argument, clamp, relative_index, wait_for_number};
 use jl_num::{Num, NumberOutside};
 use jl_operator::number_of;
 use jl_progress::{Cut, Progress, StringProgress};
 use jl_state::{Act, State};
 use jl_text::{NoMemory, Text};
-use jl_value::{Fault, Value};
+use jl_value::{Fault, Value, is_undefined};
 use std::alloc::Global;
 
 /// The start of a part is converted, whose end waits.

@@ -13,13 +13,13 @@ ghost use Rattle.jl_state.specs.Rest.{Works};
 ghost use Rattle.jl_value.specs.declared.value.Value.TheVariants as value;
 
 use crate::texts::text_of_units;
-use jl_builtin::{argument, copy_of, fill_array, is_undefined, wait_for_number, wait_for_string};
+use jl_builtin::{argument, copy_of, fill_array, wait_for_number, wait_for_string};
 use jl_num::{NumberOutside, to_uint32};
 use jl_operator::{number_of, text_of};
 use jl_progress::{Progress, StringProgress};
 use jl_state::{Act, State};
 use jl_text::{List, NoMemory, Text};
-use jl_value::{Fault, ObjId, Value};
+use jl_value::{Fault, ObjId, Value, is_undefined};
 use std::alloc::Global;
 
 /// The pieces of a string between the places of a separator that isn't empty.

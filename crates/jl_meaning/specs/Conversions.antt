@@ -3,12 +3,13 @@ use Rattle.std.specs.Prelude.{[], codes, false, if◌then◌else◌, length, pos
 use Rattle.std.specs.Prelude.{ℤ}
 use Rattle.jl_num.specs.Bits.{uint32_of}
 use Rattle.jl_num.specs.Number.{Number}
+use Rattle.jl_value.specs.Tests.{is_object}
 use Rattle.jl_value.specs.declared.object.Class.{Class}
 use Rattle.jl_value.specs.declared.object.Class.TheVariants as class
 use Rattle.jl_value.specs.declared.object.ObjId.{ObjId}
 use Rattle.jl_value.specs.declared.value.Value.{Value}
 use Rattle.jl_value.specs.declared.value.Value.TheVariants as value
-use Rattle.jl_conv.specs.Conversions.{is_object, number_of_value, text_of_value}
+use Rattle.jl_conv.specs.Conversions.{number_of_value, text_of_value}
 use Rattle.jl_heap.specs.Define.{length_name}
 use Rattle.jl_heap.specs.Objects.{Name}
 use Rattle.jl_heap.specs.declared.inner.Inner.TheVariants as inner

@@ -1,12 +1,12 @@
 -- What the relational and the equality operators do with their operands (11.8, 11.9).
 use Rattle.std.specs.Option.{option_map_or}
-use Rattle.std.specs.Prelude.{codes, false, if◌then◌else◌, nat_lt, not, suc, true, zero, ◌==◌, ◌||◌, Bool, None}
+use Rattle.std.specs.Prelude.{codes, false, if◌then◌else◌, nat_lt, not, suc, zero, ◌==◌, ◌||◌, Bool, None}
 use Rattle.std.specs.Prelude.{Option, Some, ℕ}
+use Rattle.jl_value.specs.Tests.{is_nothing, is_object}
 use Rattle.jl_value.specs.declared.object.ObjId.{ObjId}
 use Rattle.jl_value.specs.declared.value.Value.{Value}
 use Rattle.jl_value.specs.declared.value.Value.TheVariants as value
 use Rattle.jl_conv.specs.Comparisons.{less_than, loosely_equal}
-use Rattle.jl_conv.specs.Conversions.{is_object}
 use Rattle.jl_heap.specs.Objects.{object_at, Objects}
 use Rattle.jl_heap.specs.declared.inner.Inner.{Inner}
 use Rattle.jl_heap.specs.declared.inner.Inner.TheVariants as inner
@@ -18,12 +18,6 @@ use Rattle.jl_meaning.specs.Properties.{has_property}
 
 abbrev pub give_truth : Bool → Algorithm Value
 give_truth b = give (value.Bool b)
-
--- undefined and null
-abbrev pub is_nothing : Value → Bool
-is_nothing value.Undefined = true
-is_nothing value.Null = true
-is_nothing _ = false
 
 -- a relation where a number is NaN, which is false
 abbrev pub or_false : Option Bool → Bool

@@ -1,11 +1,11 @@
 -- Equalities by what their operands are (11.9.3).
 use Rattle.std.proofs.Common.{◌≡◌, false, true, if◌then◌else◌, not, refl, subst, Bool}
+use Rattle.jl_value.specs.Tests.{is_nothing, is_object}
 use Rattle.jl_value.specs.declared.value.Value.{Value}
 use Rattle.jl_value.specs.declared.value.Value.TheVariants as value
-use Rattle.jl_conv.specs.Conversions.{is_object}
 use Rattle.jl_meaning.specs.Conversions.{no_hint, to_primitive}
 use Rattle.jl_meaning.specs.Parts.{give, ◌>>=◌}
-use Rattle.jl_meaning.specs.Relations.{abstract_equality, equality_of_object, give_truth, is_nothing, negate_if}
+use Rattle.jl_meaning.specs.Relations.{abstract_equality, equality_of_object, give_truth, negate_if}
 use Rattle.jl_meaning.specs.Relations.{primitive_equality}
 use Rattle.jl_state.specs.Rest.{Works}
 use Rattle.jl_state.specs.Steps.{AlgorithmWaits}

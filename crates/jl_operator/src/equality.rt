@@ -1,8 +1,8 @@
 //! Equalities (11.9).
 ghost use Rattle.std.specs.Prelude.{◌≡◌, ◌≤◌, false, true, not, if◌then◌else◌, IfOk};
 ghost use Rattle.std.specs.Result.{result_ok};
+ghost use Rattle.jl_value.specs.Tests.{is_object};
 ghost use Rattle.jl_conv.specs.Comparisons.{loosely_equal, strictly_equal};
-ghost use Rattle.jl_conv.specs.Conversions.{is_object};
 ghost use Rattle.jl_meaning.specs.Relations.{abstract_equality, equality_of_object, give_truth, negate_if};
 ghost use Rattle.jl_meaning.specs.Relations.{primitive_equality};
 ghost use Rattle.jl_state.specs.AlgorithmFrames.{algorithm_after};
@@ -10,20 +10,13 @@ ghost use Rattle.jl_state.specs.Rank.{rank_act, Falls};
 ghost use Rattle.jl_state.specs.Rest.{Works};
 ghost use Rattle.jl_state.specs.declared.state.State.{State as Machine};
 
-use jl_algorithm::{is_nothing, to_primitive};
+use jl_algorithm::to_primitive;
 use jl_conv::{primitive_equal, strict_equal};
 use jl_num::NumberOutside;
 use jl_state::{Act, AlgorithmFrame, Hint, State};
 use jl_text::NoMemory;
-use jl_value::{Fault, ObjId, Value};
+use jl_value::{Fault, ObjId, Value, is_nothing, is_object};
 use std::alloc::Global;
-
-/// Whether a value is an object.
-pub(crate) fn is_object(v: &Value) -> bool
-    ensures { result ≡ is_object v.now }
-{
-    matches!(v, Value::Obj(_))
-}
 
 /// `a == b` of values that need no conversion of an object (11.9.3). An object equals no other value.
 fn loosely_equal(a: &Value, b: &Value) -> Result<bool, NumberOutside>

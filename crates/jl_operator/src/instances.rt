@@ -5,13 +5,12 @@ ghost use Rattle.jl_state.specs.AlgorithmFrames.{algorithm_after};
 ghost use Rattle.jl_state.specs.Rank.{Falls};
 ghost use Rattle.jl_state.specs.Rest.{Works};
 
-use crate::equality::is_object;
 use crate::sums::text_of;
 use jl_algorithm::{get, throw_native, to_primitive};
 use jl_state::{Act, AlgorithmFrame, Hint, State};
 use jl_store::word;
 use jl_text::NoMemory;
-use jl_value::{ErrorKind, ObjId, Value};
+use jl_value::{ErrorKind, ObjId, Value, is_object};
 use std::alloc::Global;
 
 /// [[HasInstance]] of a function, if it is one (15.3.5.3).

@@ -5,6 +5,7 @@ use Rattle.std.specs.Prelude.{option_map}
 use Rattle.jl_ast.specs.Tree as tree
 use Rattle.jl_ast.specs.Tree.{Forest, OptionalTree, Text, Tree}
 use Rattle.jl_ast.proofs.Congruences.{ap₃}
+use Rattle.jl_value.specs.Tests.{is_nothing}
 use Rattle.jl_value.specs.declared.ending.Completion.{Completion}
 use Rattle.jl_value.specs.declared.ending.Completion.TheVariants as completion
 use Rattle.jl_value.specs.declared.value.Value.{Value}
@@ -16,7 +17,6 @@ use Rattle.jl_meaning.specs.Conversions.{to_object}
 use Rattle.jl_meaning.specs.FunctionObjects.{callee_of, FunctionTable}
 use Rattle.jl_meaning.specs.Parts.{do_loop, for_in_loop, for_loop, give, lift, while_loop, Context, Loop}
 use Rattle.jl_meaning.specs.Parts.{Stmt, Stmts, TurnOf, Visit}
-use Rattle.jl_meaning.specs.Relations.{is_nothing}
 use Rattle.jl_meaning.specs.Statements.{execute, execute_all, execute_branch, execute_from, handle, select}
 use Rattle.jl_meaning.specs.forms.Jumps.{after_labelled, return_value, throw_value}
 use Rattle.jl_meaning.specs.forms.Loops.{begin_loop, visit_all, visit_first, visit_next, visits_left, visits_of}

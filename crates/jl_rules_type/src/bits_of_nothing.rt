@@ -4,11 +4,11 @@ ghost use Rattle.std.proofs.Common.{rules};
 ghost use Rattle.std.specs.Prelude.{◌≡◌, []};
 ghost use Rattle.jl_analysis.specs.TypeRules.{bits_of_nothing, is_bitwise, has_no_bits};
 
-use jl_analysis::values::{is_nan, is_undefined};
+use jl_analysis::values::is_nan;
 use jl_analysis::{Checker, Rule};
 use jl_ast::BinOp;
 use jl_op::{Op, UnKind};
-use jl_value::Value;
+use jl_value::{Value, is_undefined};
 use std::alloc::{AllocError, Global};
 
 /// Rule 10: an operator takes the bits of undefined or of NaN, which it has none of (9.5, 9.6).

@@ -4,10 +4,11 @@ ghost use Rattle.std.proofs.Common.{rules};
 ghost use Rattle.std.specs.Prelude.{◌≡◌, []};
 ghost use Rattle.jl_analysis.specs.TypeRules.{loose_equal, is_loose};
 
-use jl_analysis::values::{are_of_one_type, is_nothing};
+use jl_analysis::values::are_of_one_type;
 use jl_analysis::{Checker, Rule};
 use jl_ast::BinOp;
 use jl_op::Op;
+use jl_value::is_nothing;
 use std::alloc::{AllocError, Global};
 
 /// Rule 7: `==` or `!=` converts one of its operands, neither of which is undefined or null (11.9.3).

@@ -4,10 +4,10 @@ ghost use Rattle.std.proofs.Common.{rules};
 ghost use Rattle.std.specs.Prelude.{◌≡◌, []};
 ghost use Rattle.jl_analysis.specs.TypeRules.{object_joined};
 
-use jl_analysis::values::is_object;
 use jl_analysis::{Checker, Rule};
 use jl_ast::BinOp;
 use jl_op::Op;
+use jl_value::is_object;
 use std::alloc::{AllocError, Global};
 
 /// Rule 3: an operand of `+` is an object.

@@ -4,9 +4,9 @@ ghost use Rattle.std.proofs.Common.{rules};
 ghost use Rattle.std.specs.Prelude.{◌≡◌, []};
 ghost use Rattle.jl_analysis.specs.TypeRules.{put_on_primitive};
 
-use jl_analysis::values::is_object;
 use jl_analysis::{Checker, Rule};
 use jl_op::Op;
+use jl_value::is_object;
 use std::alloc::{AllocError, Global};
 
 /// Rule 5: a property is put on a value that is no object, which makes no property (8.7.2).

@@ -4,10 +4,11 @@ ghost use Rattle.std.proofs.Common.{rules};
 ghost use Rattle.std.specs.Prelude.{◌≡◌, []};
 ghost use Rattle.jl_analysis.specs.TypeRules.{undefined_joined};
 
-use jl_analysis::values::{is_text, is_undefined};
+use jl_analysis::values::is_text;
 use jl_analysis::{Checker, Rule};
 use jl_ast::BinOp;
 use jl_op::Op;
+use jl_value::is_undefined;
 use std::alloc::{AllocError, Global};
 
 /// Rule 2: `+` makes a text of an operand that is undefined (11.6.1).

@@ -4,9 +4,10 @@ ghost use Rattle.std.proofs.Common.{rules};
 ghost use Rattle.std.specs.Prelude.{◌≡◌, []};
 ghost use Rattle.jl_analysis.specs.TypeRules.{wrapped_condition};
 
-use jl_analysis::values::{is_object, is_wrapper};
+use jl_analysis::values::is_wrapper;
 use jl_analysis::{Checker, Rule};
 use jl_op::Op;
+use jl_value::is_object;
 use std::alloc::{AllocError, Global};
 
 /// Rule 6: what is tested is an object that stands for a primitive value, and so counts as true (9.2).

@@ -4,10 +4,9 @@ ghost use Rattle.std.proofs.Common.{rules};
 ghost use Rattle.std.specs.Prelude.{◌≡◌, []};
 ghost use Rattle.jl_analysis.specs.UseRules.{for_in_array};
 
-use jl_analysis::values::is_object;
 use jl_analysis::{Checker, Rule};
 use jl_op::Op;
-use jl_value::Class;
+use jl_value::{Class, is_object};
 use std::alloc::{AllocError, Global};
 
 /// Rule 16: the object of a `for-in` statement is an array, of which it gives the indices as texts, and the names of

@@ -5,9 +5,9 @@ ghost use Rattle.std.specs.Prelude.{◌≡◌, []};
 ghost use Rattle.jl_analysis.specs.UseRules.{odd_prototype};
 
 use crate::prototype::is_prototype_of_function;
-use jl_analysis::values::is_object;
 use jl_analysis::{Checker, Rule};
 use jl_op::Op;
+use jl_value::is_object;
 use std::alloc::{AllocError, Global};
 
 /// Rule 14: the property `prototype` of a function is set to a value that is no object, which `new` then passes over

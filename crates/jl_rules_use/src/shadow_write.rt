@@ -4,10 +4,9 @@ ghost use Rattle.std.proofs.Common.{rules};
 ghost use Rattle.std.specs.Prelude.{◌≡◌, []};
 ghost use Rattle.jl_analysis.specs.UseRules.{shadow_write};
 
-use jl_analysis::values::is_object;
 use jl_analysis::{Checker, Rule};
 use jl_op::{Found, Op};
-use jl_value::Class;
+use jl_value::{Class, is_object};
 use std::alloc::{AllocError, Global};
 
 /// Rule 11: a value that is no function is put on an object, under the name of a data property that it inherits from a

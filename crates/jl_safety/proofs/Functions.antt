@@ -2,11 +2,11 @@
 use Rattle.std.proofs.Common.{ℕ, Bool, true, Some, None}
 use Rattle.std.specs.Prelude.{if◌then◌else◌}
 use Rattle.jl_ast.specs.Tree as tree
+use Rattle.jl_value.specs.Tests.{is_object}
 use Rattle.jl_value.specs.declared.ending.Completion.{Completion}
 use Rattle.jl_value.specs.declared.ending.Completion.TheVariants as completion
 use Rattle.jl_value.specs.declared.value.Value.{Value}
 use Rattle.jl_value.specs.declared.value.Value.TheVariants as value
-use Rattle.jl_conv.specs.Conversions.{is_object}
 use Rattle.jl_meaning.specs.FunctionObjects.{FunctionTable, ScriptFunction}
 use Rattle.jl_meaning.specs.Parts.{Call, Code, Context, Func}
 use Rattle.jl_meaning.specs.forms.Functions.{begin_script, call_script, enter_function}

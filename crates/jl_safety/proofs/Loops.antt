@@ -6,6 +6,7 @@ use Rattle.std.proofs.lemmas.List.Folds.{list_any-append}
 use Rattle.std.proofs.lemmas.Slice.Eq.{bytes_eq-Decides}
 use Rattle.jl_ast.specs.Tree.{Text}
 use Rattle.jl_scope.specs.Names.{among, same_text}
+use Rattle.jl_value.specs.Tests.{is_nothing}
 use Rattle.jl_value.specs.declared.ending.Completion.{Completion}
 use Rattle.jl_value.specs.declared.ending.Completion.TheVariants as completion
 use Rattle.jl_value.specs.declared.value.Value.{Value}
@@ -14,7 +15,6 @@ use Rattle.jl_effects.specs.Effects.{End}
 use Rattle.jl_meaning.specs.Changes.{apply, NewBinding, NewEnvironment}
 use Rattle.jl_meaning.specs.Conversions.{to_object}
 use Rattle.jl_meaning.specs.Parts.{for_in_loop, Context, Loop, Part, Stmts, Visit}
-use Rattle.jl_meaning.specs.Relations.{is_nothing}
 use Rattle.jl_meaning.specs.Store.{next_environment}
 use Rattle.jl_meaning.specs.forms.Jumps.{after_labelled, return_value, throw_value}
 use Rattle.jl_meaning.specs.forms.Loops.{after_body, begin_loop, visit_all, visit_first, visit_next, visits_left}

@@ -8,11 +8,12 @@ use Rattle.jl_num.specs.Bits.{xor_of}
 use Rattle.jl_num.specs.Number.{Number}
 use Rattle.jl_ast.specs.declared.ops.BinOp.{BinOp}
 use Rattle.jl_ast.specs.declared.ops.BinOp.TheVariants as binary
+use Rattle.jl_value.specs.Tests.{is_object}
 use Rattle.jl_value.specs.declared.object.ObjId.{ObjId}
 use Rattle.jl_value.specs.declared.value.Value.{Value}
 use Rattle.jl_value.specs.declared.value.Value.TheVariants as value
 use Rattle.jl_conv.specs.Comparisons.{less_than}
-use Rattle.jl_conv.specs.Conversions.{is_object, number_of_value, text_of_value, type_text}
+use Rattle.jl_conv.specs.Conversions.{number_of_value, text_of_value, type_text}
 use Rattle.jl_heap.specs.Define.{length_name}
 use Rattle.jl_heap.specs.Objects.{Name}
 use Rattle.jl_heap.specs.declared.property.Change.{Change}

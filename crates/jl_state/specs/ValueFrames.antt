@@ -7,10 +7,11 @@ use Rattle.std.specs.declared.boxed.Box.{Box}
 use Rattle.jl_ast.specs.View.{view_entries, view_expression}
 use Rattle.jl_ast.specs.View.{view_expressions, view_items}
 use Rattle.jl_ast.specs.declared.tree.Expr.{Expr}
+use Rattle.jl_value.specs.Tests.{is_object}
 use Rattle.jl_value.specs.declared.object.Class.TheVariants as class
 use Rattle.jl_value.specs.declared.value.Value.{Value}
 use Rattle.jl_value.specs.declared.value.Value.TheVariants as value
-use Rattle.jl_conv.specs.Conversions.{is_object, text_of_value}
+use Rattle.jl_conv.specs.Conversions.{text_of_value}
 use Rattle.jl_heap.specs.Describe.{seen_of}
 use Rattle.jl_heap.specs.Objects.{Name}
 use Rattle.jl_heap.specs.declared.inner.Inner.TheVariants as inner

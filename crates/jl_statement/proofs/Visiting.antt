@@ -5,6 +5,7 @@ use mathlib.Core.Path.{fun_ext}
 use Rattle.std.specs.Borrow.{Bor}
 use Rattle.jl_ast.specs.View.{view_statements}
 use Rattle.jl_ast.specs.declared.tree.Stmt.{Stmt}
+use Rattle.jl_value.specs.Tests.{is_nothing}
 use Rattle.jl_value.specs.declared.ending.Completion.{Completion}
 use Rattle.jl_value.specs.declared.ending.Completion.TheVariants as completion
 use Rattle.jl_value.specs.declared.ending.Fault.TheVariants.{Misuse}
@@ -18,7 +19,6 @@ use Rattle.jl_meaning.specs.Conversions.{to_object}
 use Rattle.jl_meaning.specs.Parts.{fault_of, for_in_loop, give, continue_with, gives, lift, throws, ◌>>=◌}
 use Rattle.jl_meaning.specs.Parts.{Algorithm, Answer, CallOf, Context, Part, Stmts, Turn, TurnOf, Visit}
 use Rattle.jl_meaning.specs.Statements.{turn}
-use Rattle.jl_meaning.specs.Relations.{is_nothing}
 use Rattle.jl_meaning.specs.forms.Loops.{begin_loop, visit_all, visit_first, visit_next, visits_left, visits_of}
 use Rattle.jl_meaning.specs.forms.Names.{is_hooks, unless_hooks}
 use Rattle.jl_store.specs.Answers.{ends_with}

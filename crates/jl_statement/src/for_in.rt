@@ -14,12 +14,12 @@ ghost use Rattle.jl_state.specs.Turns.{labels_seen, visits_seen};
 ghost use Rattle.jl_state.specs.Words.{context_of, table_of};
 
 use crate::visits::{next_visit, visits_of};
-use jl_algorithm::{is_nothing, put_name};
+use jl_algorithm::put_name;
 use jl_ast::Stmt;
 use jl_state::{Act, Here, Loop, LoopTurn, State, StatementFrame, Visits};
 use jl_store::Answer;
 use jl_text::{List, NoMemory, Text, is_spelled};
-use jl_value::{Completion, Fault, ObjId, Value};
+use jl_value::{Completion, Fault, ObjId, Value, is_nothing};
 use std::alloc::Global;
 
 /// Whether a name is that of the object with the hooks.

@@ -8,10 +8,11 @@ use Rattle.std.specs.Str.{bytes_eq}
 use Rattle.jl_num.specs.Bits.{uint32_of}
 use Rattle.jl_num.specs.Number.{Number}
 use Rattle.jl_value.specs.Same.{same_number}
+use Rattle.jl_value.specs.Tests.{is_object}
 use Rattle.jl_value.specs.declared.error_kind.ErrorKind.TheVariants.{RangeError}
 use Rattle.jl_value.specs.declared.value.Value.{Value}
 use Rattle.jl_value.specs.declared.value.Value.TheVariants as value
-use Rattle.jl_conv.specs.Conversions.{is_object, number_of_value}
+use Rattle.jl_conv.specs.Conversions.{number_of_value}
 use Rattle.jl_value.specs.declared.object.ObjId.{ObjId}
 use Rattle.jl_heap.specs.Define.{is_array, is_length, length_name}
 use Rattle.jl_heap.specs.Objects.{object_at, Name, Objects}

@@ -2,9 +2,9 @@
 use Rattle.std.proofs.Common.{◌≡◌, ◌∙◌, ℕ, Bool, codes, false, refl, sym, ap, subst}
 use Rattle.std.specs.Option.{option_map_or}
 use Rattle.std.specs.Str.{bytes_eq}
+use Rattle.jl_value.specs.Tests.{is_object}
 use Rattle.jl_value.specs.declared.object.ObjId.{ObjId}
 use Rattle.jl_value.specs.declared.value.Value.{Value}
-use Rattle.jl_conv.specs.Conversions.{is_object}
 use Rattle.jl_heap.specs.Define.{length_name, IsOneKind}
 use Rattle.jl_heap.specs.Objects.{Name, Objects}
 use Rattle.jl_heap.specs.declared.property.Change.{Change}

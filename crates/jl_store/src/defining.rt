@@ -9,12 +9,12 @@ ghost use Rattle.jl_meaning.specs.Defining.{set_parameter};
 ghost use Rattle.jl_meaning.specs.Defining.{update_mapping_if};
 ghost use Rattle.jl_meaning.specs.Parts.{gives};
 ghost use Rattle.jl_meaning.specs.Properties.{mapped_parameter};
-ghost use Rattle.jl_conv.specs.Conversions.{is_object};
 ghost use Rattle.jl_store.specs.Answers.{finish_of};
 ghost use Rattle.jl_store.specs.Comes.{Comes};
 ghost use Rattle.jl_store.specs.Defining.{end_mapping_where, IsLengthOf, length_given, LengthIsPrimitive};
 ghost use Rattle.jl_store.specs.Defining.{remap_parameter, remapped_if, remapping_of};
 ghost use Rattle.jl_value.specs.Indices.{index_of};
+ghost use Rattle.jl_value.specs.Tests.{is_object};
 
 use crate::answer::{AlgorithmFault, Finished};
 use crate::properties::is_length_name;

@@ -1,4 +1,5 @@
 ghost use Rattle.std.specs.Prelude.{◌≡◌, IfOk};
+ghost use Rattle.jl_value.specs.Tests.{is_nothing, is_object, is_undefined};
 
 use crate::object::{Class, ObjId};
 use jl_num::Num;
@@ -48,4 +49,25 @@ pub fn share(alloc: Global, v: &Value) -> Result<Value, AllocError>
         Value::Text(text) => Value::Text(text.share(alloc)?),
         Value::Obj(id) => Value::Obj(*id),
     })
+}
+
+/// Whether a value is undefined (8.1).
+pub fn is_undefined(v: &Value) -> bool
+    ensures { result ≡ is_undefined v.now }
+{
+    matches!(v, Value::Undefined)
+}
+
+/// Whether a value is undefined or null (8.1, 8.2).
+pub fn is_nothing(v: &Value) -> bool
+    ensures { result ≡ is_nothing v.now }
+{
+    matches!(v, Value::Undefined | Value::Null)
+}
+
+/// Whether a value is an object (8.6).
+pub fn is_object(v: &Value) -> bool
+    ensures { result ≡ is_object v.now }
+{
+    matches!(v, Value::Obj(_))
 }

@@ -1,6 +1,6 @@
 //! Calls of jl_value and jl_conv.
 ghost use Rattle.std.specs.Prelude.{◌≡◌, false, not};
-ghost use Rattle.jl_conv.specs.Conversions.{is_object};
+ghost use Rattle.jl_value.specs.Tests.{is_object};
 
 use crate::fault::Fault;
 use crate::words::{number_of, repeated, shown_number, shown_units, size_of, text_of, units_of};

@@ -1,6 +1,7 @@
 -- The functions of arrays that change or copy, after ToObject of what they are called on.
 use Rattle.std.specs.Prelude.{codes, false, if◌then◌else◌, length, slice_index_or, true, ◌+◌, ◌-◌, ◌==◌, ◌∷◌, Bool}
 use Rattle.std.specs.Prelude.{List, ℕ}
+use Rattle.jl_value.specs.Tests.{is_undefined}
 use Rattle.jl_value.specs.declared.object.ObjId.{ObjId}
 use Rattle.jl_value.specs.declared.value.Value.{Value}
 use Rattle.jl_value.specs.declared.value.Value.TheVariants as value
@@ -11,7 +12,6 @@ use Rattle.jl_meaning.specs.builtins.Array.{append_all, standard_to_string}
 use Rattle.jl_meaning.specs.builtins.Elements.{delete_index, get_length, move_element}
 use Rattle.jl_meaning.specs.builtins.Turns.{downward, upward}
 use Rattle.jl_meaning.specs.forms.Literals.{new_array}
-use Rattle.jl_builtin.specs.Values.{is_undefined}
 use Rattle.jl_progress.specs.Arrays.{array_after, with_length}
 use Rattle.jl_progress.specs.declared.array.ArrayProgress.TheVariants as array
 use Rattle.jl_progress.specs.declared.array.LengthFunction.{LengthFunction}

@@ -4,6 +4,7 @@ use Rattle.std.specs.Prelude.{[], codes, false, if◌then◌else◌, length, min
 use Rattle.std.specs.Prelude.{◌++◌, ◌+◌, ◌-◌, ◌∷◌, Bool, List, None, Option, Some, ℕ, ℤ}
 use Rattle.jl_num.specs.Bits.{uint32_of}
 use Rattle.jl_value.specs.BuiltinPlaces.{place_of_builtin}
+use Rattle.jl_value.specs.Tests.{is_nothing}
 use Rattle.jl_value.specs.declared.object.ObjId.{ObjId}
 use Rattle.jl_value.specs.declared.value.Value.{Value}
 use Rattle.jl_value.specs.declared.value.Value.TheVariants as value
@@ -16,7 +17,7 @@ use Rattle.jl_meaning.specs.Defining.{length_within}
 use Rattle.jl_meaning.specs.Errors.{string_within}
 use Rattle.jl_meaning.specs.Getting.{get, is_callable}
 use Rattle.jl_meaning.specs.Parts.{call, give, look, ◌>>=◌, Algorithm, Call}
-use Rattle.jl_meaning.specs.Relations.{give_truth, is_nothing}
+use Rattle.jl_meaning.specs.Relations.{give_truth}
 use Rattle.jl_meaning.specs.builtins.Arguments.{argument}
 use Rattle.jl_meaning.specs.builtins.Elements.{add_index, array_of_length, copy, element, get_index, get_length}
 use Rattle.jl_meaning.specs.builtins.Elements.{index_or_none, relative_index, to_end}

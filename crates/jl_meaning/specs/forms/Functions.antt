@@ -3,6 +3,7 @@ use Rattle.std.specs.Prelude.{codes, false, if◌then◌else◌, length, true, �
 use Rattle.jl_ast.specs.Table.{table}
 use Rattle.jl_ast.specs.Table as functions
 use Rattle.jl_ast.specs.Tree as tree
+use Rattle.jl_value.specs.Tests.{is_nothing, is_object}
 use Rattle.jl_value.specs.declared.ending.Completion.{Completion}
 use Rattle.jl_value.specs.declared.ending.Completion.TheVariants as completion
 use Rattle.jl_value.specs.declared.ending.Fault.TheVariants.{Misuse}
@@ -10,7 +11,6 @@ use Rattle.jl_value.specs.declared.object.Class.TheVariants as class
 use Rattle.jl_value.specs.declared.object.ObjId.{ObjId}
 use Rattle.jl_value.specs.declared.value.Value.{Value}
 use Rattle.jl_value.specs.declared.value.Value.TheVariants as value
-use Rattle.jl_conv.specs.Conversions.{is_object}
 use Rattle.jl_heap.specs.Describe.{seen_of}
 use Rattle.jl_heap.specs.declared.inner.Inner.TheVariants as inner
 use Rattle.jl_op.specs.declared.op.Op.TheVariants as op
@@ -25,7 +25,6 @@ use Rattle.jl_meaning.specs.Intrinsics.{global_object, object_prototype}
 use Rattle.jl_meaning.specs.Noting.{note, performs}
 use Rattle.jl_meaning.specs.Parts.{call, change_store, give, lift, look, new_object, throw, ◌>>=◌, Algorithm, Answer}
 use Rattle.jl_meaning.specs.Parts.{Call, Code, Context, Part}
-use Rattle.jl_meaning.specs.Relations.{is_nothing}
 use Rattle.jl_meaning.specs.Statements.{execute_all}
 use Rattle.jl_meaning.specs.Store.{next_environment}
 

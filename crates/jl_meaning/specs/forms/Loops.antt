@@ -6,6 +6,7 @@ use Rattle.std.specs.Prelude.{List, None, Option, Some, ℕ}
 use Rattle.std.specs.Str.{bytes_eq}
 use Rattle.jl_ast.specs.Tree.{Text}
 use Rattle.jl_scope.specs.Names.{among}
+use Rattle.jl_value.specs.Tests.{is_nothing}
 use Rattle.jl_value.specs.declared.ending.Completion.{Completion}
 use Rattle.jl_value.specs.declared.ending.Completion.TheVariants as completion
 use Rattle.jl_value.specs.declared.value.Value.{Value}
@@ -18,7 +19,6 @@ use Rattle.jl_effects.specs.Effects.{Begin, End}
 use Rattle.jl_meaning.specs.Completions.{normal, ◌>>=◌}
 use Rattle.jl_meaning.specs.Conversions.{to_object}
 use Rattle.jl_meaning.specs.Parts.{for_in_loop, lift, look, Context, Loop, Part, Stmts, Turn, TurnOf, Visit}
-use Rattle.jl_meaning.specs.Relations.{is_nothing}
 use Rattle.jl_meaning.specs.forms.Literals.{index_name}
 
 -- the next turn of a loop
