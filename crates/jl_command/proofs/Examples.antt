@@ -2,7 +2,7 @@
 use Rattle.std.proofs.Common.{◌≡◌, [], ◌∷◌, Some, None, codes, refl}
 use Rattle.clap.proofs.OnLiterals.{clap_on_literals}
 use Rattle.jl_analysis.specs.Rules.{all_rules, rules}
-use Rattle.jl_command.specs.Asked.{request, check, lint}
+use Rattle.jl_command.specs.Asked.{request, check, exec, lint, run, soak}
 use Rattle.jl_command.specs.CommandLine.{command_line, is_refused, value_of}
 
 plain_check : request (codes "check" ∷ []) ≡ Some check

@@ -11,7 +11,7 @@ use Rattle.jl_op.specs.declared.op.Op.TheVariants as op
 use Rattle.jl_op.specs.declared.sign.UnKind.{UnKind}
 use Rattle.jl_meaning.specs.Conversions.{number_hint, to_number, to_primitive}
 use Rattle.jl_meaning.specs.Noting.{note, Noting}
-use Rattle.jl_meaning.specs.Operators.{give_next, give_number}
+use Rattle.jl_meaning.specs.Operators.{give_next, give_number, next_after}
 use Rattle.jl_meaning.specs.Parts.{give, lift, or_fault, ◌>>=◌, Answer, NumberOutside, Part}
 use Rattle.jl_meaning.specs.forms.Operators.{update}
 use Rattle.jl_state.specs.AlgorithmFrames.{number_of_primitive}
@@ -23,7 +23,7 @@ use Rattle.jl_state.specs.declared.act.Act.{Act}
 use Rattle.jl_state.specs.declared.act.Act.TheVariants as act
 use Rattle.jl_state.specs.declared.state.State.{State}
 use Rattle.jl_state.specs.declared.value_frame.ValueFrame.{ValueFrame}
-use Rattle.jl_member.specs.inner.Nexts.{next_after, next_of, pair_from, pair_of}
+use Rattle.jl_member.specs.inner.Nexts.{next_of, pair_from, pair_of}
 use Rattle.jl_meaning.proofs.Binds.{bind_assoc, bind_same, lift_bind}
 
 -- a primitive value as a number, the one after it, and what is done with both
