@@ -9,8 +9,7 @@ use crate::equality::is_object;
 use crate::sums::text_of;
 use jl_algorithm::{get, throw_native, to_primitive};
 use jl_state::{Act, AlgorithmFrame, Hint, State};
-use jl_store::word;
-use jl_text::NoMemory;
+use jl_text::{NoMemory, word};
 use jl_value::{ErrorKind, ObjId, Value};
 use std::alloc::Global;
 

@@ -49,3 +49,13 @@ pub fn share(alloc: Global, v: &Value) -> Result<Value, AllocError>
         Value::Obj(id) => Value::Obj(*id),
     })
 }
+
+/// The same value, if there is one.
+pub fn share_optional(alloc: Global, value: &Option<Value>) -> Result<Option<Value>, AllocError>
+    ensures { IfOk result (λ same. same ≡ value.now) }
+{
+    match value {
+        Some(value) => Ok(Some(share(alloc, value)?)),
+        None => Ok(None),
+    }
+}
