@@ -10,8 +10,8 @@ ghost use Rattle.jl_store.specs.Comes.{Comes};
 ghost use Rattle.jl_store.specs.LookUps.{property_seen};
 
 use jl_state::State;
-use jl_store::{Answer, Property, Store, word};
-use jl_text::{NoMemory, Text};
+use jl_store::{Answer, Property, Store};
+use jl_text::{NoMemory, Text, word};
 use jl_value::{ErrorKind, ObjId, Value};
 use std::alloc::Global;
 

@@ -5,8 +5,7 @@ ghost use Rattle.jl_state.specs.Rank.{Falls};
 ghost use Rattle.jl_state.specs.Rest.{Works};
 
 use jl_state::{Act, State};
-use jl_store::word;
-use jl_text::{NoMemory, Text, TextFault};
+use jl_text::{NoMemory, Text, TextFault, word};
 use jl_value::{Completion, ErrorKind, Fault};
 use std::alloc::Global;
 

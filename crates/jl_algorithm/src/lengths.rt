@@ -13,8 +13,7 @@ use jl_conv::primitive_to_num;
 use jl_heap::Change;
 use jl_num::{Num, to_uint32};
 use jl_state::{Act, AlgorithmFrame, Attributes, Hint, State, WrittenBy};
-use jl_store::word;
-use jl_text::NoMemory;
+use jl_text::{NoMemory, word};
 use jl_value::{ErrorKind, Fault, ObjId, Value};
 use std::alloc::Global;
 

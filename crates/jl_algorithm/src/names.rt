@@ -17,8 +17,8 @@ use crate::getting::get;
 use crate::putting::put;
 use jl_conv::type_name;
 use jl_state::{Act, AlgorithmFrame, State};
-use jl_store::{Answer, Reference, word};
-use jl_text::{NoMemory, Text};
+use jl_store::{Answer, Reference};
+use jl_text::{NoMemory, Text, word};
 use jl_value::{Completion, ObjId, Value};
 use std::alloc::Global;
 

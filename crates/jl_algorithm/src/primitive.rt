@@ -11,8 +11,7 @@ ghost use Rattle.jl_state.specs.Words.{hint_of};
 use crate::errors::throw_native;
 use crate::getting::get;
 use jl_state::{Act, AlgorithmFrame, Hint, Invocation, State};
-use jl_store::word;
-use jl_text::{List, NoMemory, Text};
+use jl_text::{List, NoMemory, Text, word};
 use jl_value::{ErrorKind, ObjId, Value};
 use std::alloc::Global;
 

@@ -1,6 +1,6 @@
 -- The same tree with its places renamed, and without places.
 use Rattle.std.specs.Prelude.{map, option_map}
-use Rattle.jl_ast.specs.Tree.{Ident, Program, Sort, expr, stmt, func, target, Tree, Forest, OptionalTree, this, name}
+use Rattle.jl_ast.specs.Tree.{Ident, Program, Sort, expr, Tree, Forest, OptionalTree, this, name}
 use Rattle.jl_ast.specs.Tree.{number}
 use Rattle.jl_ast.specs.Tree.{string, boolean, null, array, object, function_expression, dot, index, call, new}
 use Rattle.jl_ast.specs.Tree.{unary, update, binary, and, or, conditional, assign, comma, to_name, to_dot, to_index}
@@ -112,33 +112,3 @@ place (or a b s) = s
 place (conditional a b c s) = s
 place (assign a b c s) = s
 place (comma a b s) = s
-
--- where a statement stands
-abbrev pub statement_place : {S : Type 0} → Tree S stmt → S
-statement_place (var a s) = s
-statement_place (empty s) = s
-statement_place (expression a s) = s
-statement_place (block a s) = s
-statement_place (if_else a b c s) = s
-statement_place (do_while a b s) = s
-statement_place (while a b s) = s
-statement_place (for a b c d s) = s
-statement_place (for_in is_var a b c s) = s
-statement_place (continue a s) = s
-statement_place (break a s) = s
-statement_place (return a s) = s
-statement_place (labelled a b s) = s
-statement_place (switch a b s) = s
-statement_place (throw a s) = s
-statement_place (try a b c s) = s
-statement_place (debugger s) = s
-
--- where a function stands: an accessor's from its `get` or `set` on
-abbrev pub function_place : {S : Type 0} → Tree S func → S
-function_place (function m a params b s) = s
-
--- where what is assigned to stands
-abbrev pub target_place : {S : Type 0} → Tree S target → S
-target_place (to_name a) = a.at
-target_place (to_dot a b s) = s
-target_place (to_index a b s) = s

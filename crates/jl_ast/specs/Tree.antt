@@ -1,7 +1,7 @@
 -- The syntax tree of a script (clauses 11 to 14), with no memory in it. S is what says where a node stands: a span,
 -- or nothing. Brackets round an expression leave no node. Parts stand in the order of the text, and last a node's
 -- place.
-use Rattle.std.specs.Prelude.{ℕ, Bool, List, [], ◌∷◌, Option}
+use Rattle.std.specs.Prelude.{ℕ, Bool, true, false, List, [], ◌∷◌, Option}
 use Rattle.jl_ast.specs.declared.ops.BinOp.{BinOp}
 use Rattle.jl_ast.specs.declared.ops.UnOp.{UnOp}
 use Rattle.jl_num.specs.Number.{Number}
@@ -126,3 +126,8 @@ pub record Program (S : Type 0) : Type 0 where
 abbrev pub forest : {S : Type 0} {x : Sort} → List (Tree S x) → Forest S x
 forest [] = end
 forest (t ∷ l) = more t (forest l)
+
+-- whether an expression is a name
+abbrev pub is_name : {S : Type 0} → Tree S expr → Bool
+is_name (name t s) = true
+is_name _ = false

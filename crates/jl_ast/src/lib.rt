@@ -12,4 +12,5 @@ pub use heights::height;
 pub use ops::{BinOp, UnOp};
 pub use tree::{
     Body, Case, Entry, Expr, ExprKind, ForInit, Function, Ident, Program, Stmt, StmtKind, Target,
+    is_name,
 };

@@ -1,4 +1,5 @@
 ghost use Rattle.std.specs.Prelude.{◌≡◌};
+ghost use Rattle.jl_ast.specs.Tree.{is_name};
 ghost use Rattle.jl_ast.specs.View.{view_expression, view_expression_kind};
 
 use crate::ops::{BinOp, UnOp};
@@ -176,6 +177,17 @@ pub enum ExprKind {
     Cond(Box<Expr>, Box<Expr>, Box<Expr>),
     Assign(Option<BinOp>, Box<Target>, Box<Expr>),
     Comma(Box<Expr>, Box<Expr>),
+}
+
+/// Whether it is a name (11.1.2).
+#[tactic(auto, using(crate::proofs::Views::nodes))]
+pub fn is_name(e: &Expr) -> bool
+    ensures { result ≡ is_name (view_expression e.now) }
+{
+    match &e.kind {
+        ExprKind::Name(_) => true,
+        _ => false,
+    }
 }
 
 /// What an assignment, `++` or `--` writes to (11.13, 11.3, 11.4): a name, or a member with its span.

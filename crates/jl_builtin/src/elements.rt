@@ -12,8 +12,8 @@ ghost use Rattle.jl_store.specs.Comes.{Comes};
 use jl_algorithm::{delete, get, put};
 use jl_num::{Num, NumberOutside};
 use jl_state::{Act, State};
-use jl_store::{Answer, Store, index_name, word};
-use jl_text::NoMemory;
+use jl_store::{Answer, Store, index_name};
+use jl_text::{NoMemory, word};
 use jl_value::{Fault, ObjId, Value};
 use std::alloc::Global;
 

@@ -20,8 +20,8 @@ use jl_ast::Function;
 use jl_heap::Inner;
 use jl_state::{Act, Call, Frame, Here, Invocation, ScriptFunction, State, ValueFrame};
 use jl_statement::begin_statements;
-use jl_store::{Answer, Store, word};
-use jl_text::{List, NoMemory};
+use jl_store::{Answer, Store};
+use jl_text::{List, NoMemory, word};
 use jl_value::{Class, Completion, ObjId, Value, is_nothing, share};
 use std::alloc::Global;
 

@@ -14,7 +14,7 @@ use jl_value::Value;
 pub(crate) const LENGTH: [u16; 6] = [0x6C, 0x65, 0x6E, 0x67, 0x74, 0x68];
 
 /// Whether a name is `length`.
-pub(crate) fn is_length_name(name: &Text) -> bool
+pub fn is_length_name(name: &Text) -> bool
     ensures { result ≡ bytes_eq name.now length_name }
 {
     name.units() == LENGTH.as_slice()

@@ -19,6 +19,7 @@ mod put;
 mod revise;
 mod shorten;
 
+pub use array::is_length_name;
 pub use heap::Heap;
 pub use inner::Inner;
 pub use property::{Change, Defined, Prop};

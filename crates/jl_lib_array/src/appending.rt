@@ -17,8 +17,8 @@ use jl_algorithm::get;
 use jl_builtin::{value_from, with_values};
 use jl_progress::{AfterCopying, ArrayProgress, Copying};
 use jl_state::{Act, State};
-use jl_store::{Store, word};
-use jl_text::{List, NoMemory};
+use jl_store::Store;
+use jl_text::{List, NoMemory, word};
 use jl_value::{Class, ObjId, Value};
 use std::alloc::Global;
 

@@ -13,8 +13,7 @@ use jl_builtin::{argument, give_text, wait_for_string, with_units};
 use jl_operator::text_of;
 use jl_progress::{ArrayProgress, Joining, LengthFunction, Progress};
 use jl_state::{Act, State};
-use jl_store::word;
-use jl_text::{List, MOST_UNITS, NoMemory, Text};
+use jl_text::{List, MOST_UNITS, NoMemory, Text, word};
 use jl_value::{Fault, ObjId, Value, is_nothing, is_undefined};
 use std::alloc::Global;
 

@@ -17,8 +17,7 @@ use jl_progress::{
     AfterMoving, AfterPutting, ArrayProgress, LengthFunction, Moving, Progress, Reading, Reversing,
 };
 use jl_state::{Act, State};
-use jl_store::word;
-use jl_text::{List, NoMemory};
+use jl_text::{List, NoMemory, word};
 use jl_value::{Fault, ObjId, Value};
 use std::alloc::Global;
 

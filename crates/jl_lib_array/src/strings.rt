@@ -10,8 +10,7 @@ use crate::frames::wait;
 use jl_algorithm::get;
 use jl_progress::ArrayProgress;
 use jl_state::{Act, Invocation, State};
-use jl_store::word;
-use jl_text::{List, NoMemory};
+use jl_text::{List, NoMemory, word};
 use jl_value::{Builtin, ObjId, Value};
 use std::alloc::Global;
 

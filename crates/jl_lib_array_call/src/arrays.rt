@@ -17,8 +17,8 @@ use jl_algorithm::{is_count, throw_native, value_change};
 use jl_builtin::{add_index, argument, fault_of};
 use jl_num::{Num, to_uint32};
 use jl_state::{Act, Invocation, State};
-use jl_store::{Finished, Store, word};
-use jl_text::NoMemory;
+use jl_store::{Finished, Store};
+use jl_text::{NoMemory, word};
 use jl_value::{Class, Completion, ErrorKind, ObjId, Value, share};
 use std::alloc::Global;
 

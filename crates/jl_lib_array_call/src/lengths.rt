@@ -15,8 +15,8 @@ use jl_algorithm::{get, to_primitive};
 use jl_builtin::{length_of, number_of_primitive};
 use jl_progress::{ArrayCallProgress, LengthFor, Progress};
 use jl_state::{Act, AlgorithmFrame, Hint, Invocation, State};
-use jl_store::{Answer, word};
-use jl_text::{List, NoMemory};
+use jl_store::Answer;
+use jl_text::{List, NoMemory, word};
 use jl_value::{Completion, Fault, ObjId, Value};
 use std::alloc::Global;
 

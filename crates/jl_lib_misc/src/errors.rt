@@ -20,8 +20,8 @@ use jl_heap::{Inner, Prop};
 use jl_operator::text_of;
 use jl_progress::{ErrorProgress, Progress};
 use jl_state::{Act, AlgorithmFrame, Invocation, State};
-use jl_store::{Store, word};
-use jl_text::{List, NoMemory, Text, TextFault};
+use jl_store::Store;
+use jl_text::{List, NoMemory, Text, TextFault, word};
 use jl_value::{Class, ErrorKind, Fault, ObjId, Value, is_undefined};
 use std::alloc::Global;
 

@@ -16,8 +16,8 @@ use crate::waiting::argument_of;
 use jl_builtin::{need_function, rest_of};
 use jl_heap::{Inner, Prop};
 use jl_state::{Act, Invocation, State};
-use jl_store::{Answer, Store, count, word};
-use jl_text::{List, NoMemory, Text};
+use jl_store::{Answer, Store, count};
+use jl_text::{List, NoMemory, Text, word};
 use jl_value::{Class, Completion, ObjId, Value};
 use std::alloc::Global;
 

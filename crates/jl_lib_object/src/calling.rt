@@ -14,8 +14,8 @@ use jl_algorithm::{get, to_primitive};
 use jl_builtin::{get_index, length_of, need_function, need_object, number_of_primitive, rest_of};
 use jl_progress::FunctionProgress;
 use jl_state::{Act, Hint, Invocation, State};
-use jl_store::{Answer, word};
-use jl_text::{List, NoMemory};
+use jl_store::Answer;
+use jl_text::{List, NoMemory, word};
 use jl_value::{Completion, Fault, ObjId, Value, is_nothing};
 use std::alloc::Global;
 

@@ -29,7 +29,7 @@ use jl_progress::{DescriptorUse, NamedChange, ObjectProgress};
 use jl_state::{Act, Hint, Invocation, State, WrittenBy};
 use jl_store::{Answer, Store};
 use jl_text::{List, NoMemory, Text};
-use jl_value::{Class, Completion, ObjId, Value, is_undefined, share};
+use jl_value::{Class, Completion, ObjId, Value, is_undefined, share_optional};
 use std::alloc::Global;
 
 /// What a descriptor was read for, with the change that it describes.
@@ -217,23 +217,13 @@ fn copy_of(alloc: Global, change: &Change) -> Result<Change, NoMemory>
     ensures { IfOk result (λ copy. copy ≡ change.now) }
 {
     Ok(Change {
-        value: value_of(alloc, &change.value)?,
+        value: share_optional(alloc, &change.value)?,
         writable: change.writable,
         get: change.get,
         set: change.set,
         enumerable: change.enumerable,
         configurable: change.configurable,
     })
-}
-
-/// The same value, if there is one.
-fn value_of(alloc: Global, value: &Option<Value>) -> Result<Option<Value>, NoMemory>
-    ensures { IfOk result (λ same. same ≡ value.now) }
-{
-    match value {
-        Some(value) => Ok(Some(share(alloc, value)?)),
-        None => Ok(None),
-    }
 }
 
 /// What an object of descriptors describes is defined (15.2.3.7, steps 2 to 6), and the object that has it now given.

@@ -21,8 +21,8 @@ use jl_heap::{Inner, Prop};
 use jl_operator::text_of;
 use jl_progress::ObjectProgress;
 use jl_state::{Act, Hint, Invocation, State};
-use jl_store::{Answer, Found, Store, word};
-use jl_text::{NoMemory, Text};
+use jl_store::{Answer, Found, Store};
+use jl_text::{NoMemory, Text, word};
 use jl_value::{Class, Completion, ObjId, Value};
 use std::alloc::Global;
 

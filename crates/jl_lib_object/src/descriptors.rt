@@ -21,8 +21,8 @@ use jl_conv::to_boolean;
 use jl_heap::Change;
 use jl_progress::{DescriptorField, DescriptorUse, ObjectProgress};
 use jl_state::{Act, State};
-use jl_store::{Answer, Store, word};
-use jl_text::NoMemory;
+use jl_store::{Answer, Store};
+use jl_text::{NoMemory, word};
 use jl_value::{Completion, ErrorKind, ObjId, Value, is_undefined};
 use std::alloc::Global;
 

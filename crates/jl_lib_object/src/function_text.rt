@@ -12,8 +12,7 @@ use jl_algorithm::throw_native;
 use jl_builtin::{give_text, with_units};
 use jl_heap::Inner;
 use jl_state::{Act, Invocation, ScriptFunction, State};
-use jl_store::word;
-use jl_text::{List, NoMemory, Text};
+use jl_text::{List, NoMemory, Text, word};
 use jl_value::{Class, ErrorKind, Value};
 use std::alloc::Global;
 

@@ -14,8 +14,8 @@ ghost use Rattle.jl_value.specs.Texts.{class_name};
 
 use crate::waiting::{argument_of, first_object};
 use jl_state::{Act, Invocation, State};
-use jl_store::{Answer, Store, word};
-use jl_text::NoMemory;
+use jl_store::{Answer, Store};
+use jl_text::{NoMemory, word};
 use jl_value::{Class, Completion, ObjId, Value, is_nothing};
 use std::alloc::Global;
 

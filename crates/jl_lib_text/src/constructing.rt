@@ -13,8 +13,8 @@ use jl_heap::Inner;
 use jl_operator::text_of;
 use jl_progress::{Progress, StringProgress};
 use jl_state::{Act, Invocation, State};
-use jl_store::{Store, word};
-use jl_text::{NoMemory, Text};
+use jl_store::Store;
+use jl_text::{NoMemory, Text, word};
 use jl_value::{Class, ErrorKind, Value};
 use std::alloc::Global;
 

@@ -16,8 +16,8 @@ use jl_num::{Num, NumberOutside};
 use jl_operator::number_of;
 use jl_progress::{Progress, StringProgress, UnitForm};
 use jl_state::{Act, State};
-use jl_store::{count, word};
-use jl_text::{NoMemory, Text};
+use jl_store::count;
+use jl_text::{NoMemory, Text, word};
 use jl_value::{Fault, Value};
 use std::alloc::Global;
 

@@ -20,8 +20,8 @@ use crate::literals::give_array;
 use jl_algorithm::{plain_change, value_change};
 use jl_ast::Expr;
 use jl_state::{Act, Here, Remaining, State, ValueFrame, split_first};
-use jl_store::{AlgorithmFault, Finished, Store, count, index_name, word};
-use jl_text::{List, NoMemory};
+use jl_store::{AlgorithmFault, Finished, Store, count, index_name};
+use jl_text::{List, NoMemory, word};
 use jl_value::{Completion, Fault, ObjId, Value};
 use std::alloc::Global;
 

@@ -18,6 +18,7 @@ use jl_ast::{BinOp, Entry, Expr, ExprKind, Function, Target, UnOp};
 use jl_op::{OpKind, OpMap};
 use jl_text::{NoMemory, Span};
 
+/// The rows of an expression (clause 11).
 #[cycle(mapping)]
 pub fn add_expression(map: &mut OpMap, e: &Expr) -> Result<(), NoMemory>
     requires few { HasRoom map.old (id_count (view_expression e.now)) }
@@ -100,6 +101,7 @@ pub fn add_test(map: &mut OpMap, e: &Expr) -> Result<(), NoMemory>
     add_with(map, OpKind::Conditional, e.span, e)
 }
 
+/// The rows of an expression, if there is one.
 #[cycle(mapping)]
 pub fn add_optional(map: &mut OpMap, e: &Option<Expr>) -> Result<(), NoMemory>
     requires few { HasRoom map.old (optional_id_count (view_optional e.now)) }
@@ -257,6 +259,7 @@ fn add_target(map: &mut OpMap, t: &Target) -> Result<(), NoMemory>
     }
 }
 
+/// A property of an object literal (11.1.5).
 #[cycle(mapping)]
 pub fn add_entry(map: &mut OpMap, p: &Entry) -> Result<(), NoMemory>
     requires few { HasRoom map.old (id_count (view_entry p.now)) }

@@ -39,6 +39,7 @@ fn add_functions(map: &mut OpMap, functions: &List<Function>) -> Result<(), NoMe
     Ok(())
 }
 
+/// Statements, in their order.
 #[cycle(mapping)]
 pub fn add_statements(map: &mut OpMap, statements: &List<Stmt>) -> Result<(), NoMemory>
     requires few { HasRoom map.old (forest_id_count (view_statements statements.now)) }
@@ -51,6 +52,7 @@ pub fn add_statements(map: &mut OpMap, statements: &List<Stmt>) -> Result<(), No
     Ok(())
 }
 
+/// The variables of a `var` (12.2).
 #[cycle(mapping)]
 pub fn add_declarators(
     map: &mut OpMap,
@@ -67,6 +69,7 @@ pub fn add_declarators(
     Ok(())
 }
 
+/// The clauses of a `switch` (12.11).
 #[cycle(mapping)]
 pub fn add_cases(map: &mut OpMap, cases: &List<Case>) -> Result<(), NoMemory>
     requires few { HasRoom map.old (forest_id_count (view_cases cases.now)) }
@@ -109,6 +112,7 @@ pub fn add_object(map: &mut OpMap, entries: &List<Entry>, span: Span) -> Result<
     Ok(())
 }
 
+/// Expressions, in their order: the arguments of a call (11.2.4).
 #[cycle(mapping)]
 pub fn add_expressions(map: &mut OpMap, expressions: &List<Expr>) -> Result<(), NoMemory>
     requires few { HasRoom map.old (forest_id_count (view_expressions expressions.now)) }

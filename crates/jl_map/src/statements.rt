@@ -16,6 +16,7 @@ use jl_ast::{Case, Expr, ForInit, Ident, Stmt, StmtKind};
 use jl_op::{OpKind, OpMap};
 use jl_text::{List, NoMemory, Span};
 
+/// The rows of a statement (clause 12).
 #[cycle(mapping)]
 pub fn add_statement(map: &mut OpMap, s: &Stmt) -> Result<(), NoMemory>
     requires few { HasRoom map.old (id_count (view_statement s.now)) }

@@ -8,8 +8,7 @@ ghost use Rattle.jl_state.specs.Rest.{Works};
 use crate::sums::text_of;
 use jl_algorithm::{get, throw_native, to_primitive};
 use jl_state::{Act, AlgorithmFrame, Hint, State};
-use jl_store::word;
-use jl_text::NoMemory;
+use jl_text::{NoMemory, word};
 use jl_value::{ErrorKind, ObjId, Value, is_object};
 use std::alloc::Global;
 

@@ -15,8 +15,7 @@ use jl_conv::{to_boolean, type_name};
 use jl_num::{Num, NumberOutside, add, neg, not, sub};
 use jl_op::UnKind;
 use jl_state::{Act, AlgorithmFrame, Hint, State};
-use jl_store::word;
-use jl_text::NoMemory;
+use jl_text::{NoMemory, word};
 use jl_value::{Fault, Value};
 use std::alloc::Global;
 

@@ -16,7 +16,7 @@ use crate::tokens::Tokens;
 use jl_ast::Expr;
 use std::alloc::Global;
 
-// An AssignmentExpression (11.13) one level deeper.
+/// An AssignmentExpression (11.13) one level deeper.
 #[cycle(parser)]
 #[tactic(auto, using(crate::proofs::Levels::levels))]
 pub fn inner_assignment(

@@ -53,7 +53,7 @@ pub fn ends(tokens: &Tokens, at: usize) -> Option<usize>
     }
 }
 
-// The statements up to what ends their list.
+/// The statements up to what ends their list.
 #[cycle(parser)]
 #[tactic(auto, using(crate::proofs::Lists::statements_loop))]
 pub fn statements(alloc: Global, tokens: &Tokens, depth: Depth, at: usize) -> Read<Part<List<Stmt>>>

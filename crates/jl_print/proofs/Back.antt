@@ -2,7 +2,7 @@
 use Rattle.std.proofs.Common.{◌≡◌, ℕ, suc, Bool, true, false, ◌||◌, refl, ap, ap₂}
 use Rattle.std.proofs.Common.{sym, ◌∙◌, subst, List, [], ◌∷◌, ◌++◌, arith}
 use Rattle.std.specs.Prelude.{Some, None, map, if◌then◌else◌}
-use Rattle.jl_ast.specs.Tree.{Ident, Sort, Tree, Forest, OptionalTree, Text}
+use Rattle.jl_ast.specs.Tree.{Ident, Sort, Tree, Forest, OptionalTree, Text, is_name}
 use Rattle.jl_ast.specs.Tree as tree
 use Rattle.jl_text.specs.declared.span.Span.{Span}
 use Rattle.jl_token.specs.declared.punct.Punct.TheVariants as puncts
@@ -28,7 +28,7 @@ use Rattle.jl_print.specs.WellFormed.{WellFormed, AllWellFormed, OptionalWellFor
 use Rattle.jl_print.specs.WellFormed.{HasOneDefault, AreNamed, IsSome}
 use Rattle.jl_print.specs.CanonicalTokens.{tokens_of_node, tokens_of_arguments, further_arguments, tokens_of_entries}
 use Rattle.jl_print.specs.CanonicalTokens.{further}
-use Rattle.jl_print.specs.CanonicalTokens.{tokens_of_items, items_after, is_name, parameters, tokens_of_all}
+use Rattle.jl_print.specs.CanonicalTokens.{tokens_of_items, items_after, parameters, tokens_of_all}
 use Rattle.jl_print.specs.CanonicalTokens.{tokens_of_declarators}
 use Rattle.jl_print.proofs.Fronts.{of_left, of_postfix, of_assignment, of_expression, to_left}
 use Rattle.jl_print.proofs.Fronts.{to_binary, to_assignment, to_expression, as_loose, quiet_zero, quiet_less}

@@ -4,7 +4,7 @@ use Rattle.std.proofs.Common.{sym, ◌∙◌, subst, List, [], ◌∷◌, ◌++�
 use Rattle.std.specs.Prelude.{Some, None, codes, map, if◌then◌else◌}
 use Rattle.jl_ast.specs.declared.ops.BinOp.{BinOp}
 use Rattle.jl_ast.specs.declared.ops.BinOp.TheVariants as ops
-use Rattle.jl_ast.specs.Tree.{Ident, Sort, Tree, Forest, OptionalTree, Text}
+use Rattle.jl_ast.specs.Tree.{Ident, Sort, Tree, Forest, OptionalTree, Text, is_name}
 use Rattle.jl_ast.specs.Tree as tree
 use Rattle.jl_text.specs.declared.span.Span.{Span}
 use Rattle.jl_token.specs.declared.punct.Punct.TheVariants as puncts
@@ -34,7 +34,7 @@ use Rattle.jl_print.specs.Pieces.{in_parens, in_parens_unless, within_braces}
 use Rattle.jl_print.specs.Precedence.{precedence_of, fits, is_in, operator_precedence}
 use Rattle.jl_print.specs.WellFormed.{WellFormed, AreIdentifiers}
 use Rattle.jl_print.specs.CanonicalTokens.{tokens_of_node, further_arguments, further}
-use Rattle.jl_print.specs.CanonicalTokens.{items_after, is_name, parameters, tokens_of_all}
+use Rattle.jl_print.specs.CanonicalTokens.{items_after, parameters, tokens_of_all}
 use Rattle.jl_print.specs.CanonicalTokens.{begins_otherwise, is_string}
 use Rattle.jl_print.proofs.Fronts.{Front, of_left, of_binary}
 use Rattle.jl_print.proofs.Fronts.{to_binary, to_expression, as_loose, Quiet, quiet_less}

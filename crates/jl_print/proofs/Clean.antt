@@ -7,7 +7,7 @@ use Rattle.jl_ast.specs.declared.ops.BinOp.{BinOp}
 use Rattle.jl_ast.specs.declared.ops.BinOp.TheVariants as ops
 use Rattle.jl_ast.specs.declared.ops.UnOp.{UnOp}
 use Rattle.jl_ast.specs.declared.ops.UnOp.TheVariants as prefixes
-use Rattle.jl_ast.specs.Tree.{Ident, Sort, Tree, Forest, OptionalTree, Text}
+use Rattle.jl_ast.specs.Tree.{Ident, Sort, Tree, Forest, OptionalTree, Text, is_name}
 use Rattle.jl_ast.specs.Tree as tree
 use Rattle.jl_token.specs.Characters.{is_identifier_start, is_identifier_part}
 use Rattle.jl_token.specs.declared.punct.Punct.{Punct}
@@ -27,7 +27,7 @@ use Rattle.jl_print.specs.CanonicalTokens.{tokens_of_node, tokens_of_all, tokens
 use Rattle.jl_print.specs.CanonicalTokens.{tokens_of_arguments}
 use Rattle.jl_print.specs.CanonicalTokens.{further_arguments, tokens_of_entries, tokens_of_declarators, further}
 use Rattle.jl_print.specs.CanonicalTokens.{tokens_of_items}
-use Rattle.jl_print.specs.CanonicalTokens.{items_after, parameters, further_names, optional_name, directive, is_name}
+use Rattle.jl_print.specs.CanonicalTokens.{items_after, parameters, further_names, optional_name, directive}
 use Rattle.jl_print.specs.CanonicalTokens.{last_item}
 use Rattle.jl_print.proofs.Lexed.{IsClean, CleanFrom}
 

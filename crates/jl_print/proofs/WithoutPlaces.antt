@@ -4,11 +4,11 @@ use Rattle.std.proofs.Common.{refl, ap, ap₂}
 use Rattle.std.specs.Prelude.{codes, not, pred, ◌||◌, if◌then◌else◌, nat_le}
 use Rattle.jl_ast.specs.Spans.{ident, map_tree, map_forest, map_optional, without_spans}
 use Rattle.jl_ast.specs.Tree as tree
-use Rattle.jl_ast.specs.Tree.{Ident, Program, Sort, Tree, Forest, OptionalTree, Text}
+use Rattle.jl_ast.specs.Tree.{Ident, Program, Sort, Tree, Forest, OptionalTree, Text, is_name}
 use Rattle.jl_ast.proofs.Congruences.{ap₃, ap₄}
 use Rattle.jl_token.specs.declared.punct.Punct.TheVariants as puncts
 use Rattle.jl_print.specs.CanonicalTokens.{begins_otherwise, close_paren, colon, comma, directive, further}
-use Rattle.jl_print.specs.CanonicalTokens.{further_arguments, further_names, is_name, is_string, items_after, last_item}
+use Rattle.jl_print.specs.CanonicalTokens.{further_arguments, further_names, is_string, items_after, last_item}
 use Rattle.jl_print.specs.CanonicalTokens.{open_paren, optional_name, parameters, semicolon, tokens_after}
 use Rattle.jl_print.specs.CanonicalTokens.{tokens_of_all}
 use Rattle.jl_print.specs.CanonicalTokens.{tokens_of_arguments, tokens_of_declarators, tokens_of_entries}

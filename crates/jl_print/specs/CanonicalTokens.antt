@@ -3,7 +3,7 @@
 -- round what `new` makes.
 use Rattle.std.specs.Prelude.{pred, Bool, true, false, not, ◌||◌, List, [], ◌∷◌, ◌++◌, Option, Some, None, codes}
 use Rattle.std.specs.Prelude.{if◌then◌else◌}
-use Rattle.jl_ast.specs.Tree.{Ident, Program, Sort, Tree, Forest, OptionalTree, Text}
+use Rattle.jl_ast.specs.Tree.{Ident, Program, Sort, Tree, Forest, OptionalTree, Text, is_name}
 use Rattle.jl_ast.specs.Tree as tree
 use Rattle.jl_token.specs.declared.punct.Punct.TheVariants as puncts
 use Rattle.jl_token.specs.declared.token.TokenKind.{TokenKind}
@@ -28,10 +28,6 @@ open_paren = punct puncts.LeftParen
 
 abbrev pub close_paren : TokenKind
 close_paren = punct puncts.RightParen
-
-abbrev pub is_name : {S : Type 0} → Tree S tree.expr → Bool
-is_name (tree.name t s) = true
-is_name _ = false
 
 abbrev pub is_string : {S : Type 0} → Tree S tree.expr → Bool
 is_string (tree.string t s) = true

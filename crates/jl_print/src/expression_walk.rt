@@ -17,9 +17,9 @@ ghost use Rattle.jl_print.specs.inner.Kinds.{item_with_comma};
 use crate::name_lists::{add_comma_unless, add_optional_name, add_parameters};
 use crate::operator_words::{add_operator, add_prefix, add_update, assigning};
 use crate::piece::Pieces;
-use crate::precedence::{fits, is_in, is_name, operator_precedence, right_precedence};
+use crate::precedence::{fits, is_in, operator_precedence, right_precedence};
 use crate::statement_walk::add_code;
-use jl_ast::{Entry, Expr, ExprKind, Function, Target};
+use jl_ast::{Entry, Expr, ExprKind, Function, Target, is_name};
 use jl_text::{List, NoMemory};
 use jl_token::Punct;
 

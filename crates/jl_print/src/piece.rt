@@ -42,6 +42,7 @@ impl<'a> Model for Pieces<'a> {
 }
 
 impl<'a> Pieces<'a> {
+    /// No tokens.
     pub fn new(alloc: Global) -> Pieces<'a>
         ensures { result ≡ [] }
     {
@@ -50,12 +51,14 @@ impl<'a> Pieces<'a> {
         }
     }
 
+    /// The tokens, in their order.
     pub fn items(&self) -> &[Piece<'a>]
         ensures { map kind_of result.now ≡ self.now }
     {
         self.pieces.as_slice()
     }
 
+    /// A word of the language, in ASCII, comes next.
     pub fn word(&mut self, word: &'a [u8]) -> Result<(), NoMemory>
         ensures { OnOk result (self.new ≡ self.old ++ name word.now ∷ []) }
     {
@@ -63,6 +66,7 @@ impl<'a> Pieces<'a> {
         Ok(())
     }
 
+    /// A name of the program comes next (7.6).
     pub fn name(&mut self, text: &'a Text) -> Result<(), NoMemory>
         ensures { OnOk result (self.new ≡ self.old ++ name text.now ∷ []) }
     {
@@ -70,6 +74,7 @@ impl<'a> Pieces<'a> {
         Ok(())
     }
 
+    /// The key of a property comes next (11.1.5).
     pub fn key(&mut self, text: &'a Text) -> Result<(), NoMemory>
         ensures { OnOk result (self.new ≡ self.old ++ key text.now ∷ []) }
     {
@@ -77,6 +82,7 @@ impl<'a> Pieces<'a> {
         Ok(())
     }
 
+    /// A punctuator comes next (7.7).
     pub fn punct(&mut self, mark: Punct) -> Result<(), NoMemory>
         ensures { OnOk result (self.new ≡ self.old ++ punct mark ∷ []) }
     {
@@ -84,6 +90,7 @@ impl<'a> Pieces<'a> {
         Ok(())
     }
 
+    /// A string comes next (7.8.4).
     pub fn string(&mut self, text: &'a Text) -> Result<(), NoMemory>
         ensures { OnOk result (self.new ≡ self.old ++ string text.now ∷ []) }
     {
@@ -91,6 +98,7 @@ impl<'a> Pieces<'a> {
         Ok(())
     }
 
+    /// A number comes next (7.8.3).
     pub fn number(&mut self, number: &'a Num) -> Result<(), NoMemory>
         ensures { OnOk result (self.new ≡ self.old ++ kinds.Number number.now ∷ []) }
     {
@@ -98,6 +106,7 @@ impl<'a> Pieces<'a> {
         Ok(())
     }
 
+    /// The directive of strict code comes next (14.1).
     pub fn strict(&mut self) -> Result<(), NoMemory>
         ensures { OnOk result (self.new ≡ self.old ++ string (codes "use strict") ∷ []) }
     {

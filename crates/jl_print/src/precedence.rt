@@ -2,7 +2,7 @@ ghost use Rattle.std.specs.Prelude.{◌≡◌, pred};
 ghost use Rattle.jl_ast.specs.View.{view_expression};
 ghost use Rattle.jl_grammar.specs.Operators.{infix_precedence, plain};
 ghost use Rattle.jl_print.specs.Precedence.{fits, is_in, operator_precedence, precedence_of};
-ghost use Rattle.jl_print.specs.CanonicalTokens.{is_name, is_string};
+ghost use Rattle.jl_print.specs.CanonicalTokens.{is_string};
 
 use jl_ast::{BinOp, Expr, ExprKind};
 use jl_grammar::level;
@@ -60,16 +60,6 @@ pub(crate) fn fits(e: &Expr, most: u32) -> bool
     ensures { result ≡ fits (view_expression e.now) most }
 {
     precedence_of(e) <= most
-}
-
-#[tactic(auto, using(jl_ast::proofs::Views::nodes))]
-pub(crate) fn is_name(e: &Expr) -> bool
-    ensures { result ≡ is_name (view_expression e.now) }
-{
-    match &e.kind {
-        ExprKind::Name(_) => true,
-        _ => false,
-    }
 }
 
 #[tactic(auto, using(jl_ast::proofs::Views::nodes))]

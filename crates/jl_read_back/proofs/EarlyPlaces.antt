@@ -3,8 +3,8 @@ use Rattle.std.proofs.Common.{◌≡◌, ◌∙◌, Bool, true, false, List, [],
 use Rattle.std.proofs.Common.{refl, ap, ap₂, subst}
 use Rattle.jl_ast.specs.Spans.{ident, map_forest, map_optional, map_tree}
 use Rattle.jl_ast.specs.Tree as tree
-use Rattle.jl_ast.specs.Tree.{Forest, Ident, OptionalTree, Sort, Text, Tree}
-use Rattle.jl_scope.specs.EarlyErrors.{early_errors, forest_early_errors, is_name, literal_early_errors}
+use Rattle.jl_ast.specs.Tree.{is_name, Forest, Ident, OptionalTree, Sort, Text, Tree}
+use Rattle.jl_scope.specs.EarlyErrors.{early_errors, forest_early_errors, literal_early_errors}
 use Rattle.jl_scope.specs.EarlyErrors.{name_early_errors, no_keys, optional_early_errors, parameter_early_errors}
 use Rattle.jl_scope.specs.EarlyErrors.{with_key, Keys}
 use Rattle.jl_scope.specs.Hoisting.{bound_by_body, bound_by_function, declared_in, declared_in_forest}

@@ -3,13 +3,12 @@ use Rattle.std.proofs.Common.{◌≡◌, ℕ, Bool, true, false, Option, Some, N
 use Rattle.std.specs.Prelude.{if◌then◌else◌}
 use Rattle.jl_ast.specs.Spans.{map_tree}
 use Rattle.jl_ast.specs.Tree as tree
-use Rattle.jl_ast.specs.Tree.{Tree}
+use Rattle.jl_ast.specs.Tree.{is_name, Tree}
 use Rattle.jl_ast.specs.declared.ops.BinOp.{BinOp}
 use Rattle.jl_ast.specs.declared.ops.UnOp.TheVariants as un
 use Rattle.jl_op.specs.Chosen.{Kinds}
 use Rattle.jl_op.specs.Ids.{with_ids}
 use Rattle.jl_op.specs.declared.kind.OpKind.TheVariants as kind
-use Rattle.jl_scope.specs.EarlyErrors.{is_name}
 use Rattle.jl_simulation.specs.HookCalls.{before_update, Expr}
 use Rattle.jl_simulation.specs.Weaving.{assigns, calls, computes, weave, woven_assignment, woven_delete, woven_typeof}
 use Rattle.jl_simulation.specs.Weaving.{woven_update}

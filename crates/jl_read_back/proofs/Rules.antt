@@ -3,12 +3,12 @@ use Rattle.std.proofs.Common.{◌≡◌, ◌∙◌, Bool, true, false, ◌&&◌,
 use Rattle.std.proofs.Common.{Some, None, subst}
 use Rattle.std.specs.Prelude.{if◌then◌else◌}
 use Rattle.jl_ast.specs.Tree as tree
-use Rattle.jl_ast.specs.Tree.{Ident, Text, Tree}
+use Rattle.jl_ast.specs.Tree.{is_name, Ident, Text, Tree}
 use Rattle.jl_ast.specs.declared.ops.UnOp.{UnOp}
 use Rattle.jl_scope.proofs.Binding.{with_one}
 use Rattle.jl_scope.specs.EarlyErrors.{break_early_errors, broken_if, continue_early_errors, delete_early_errors}
 use Rattle.jl_scope.specs.EarlyErrors.{for_in_early_errors, free_early_errors, identifier_early_errors, is_delete}
-use Rattle.jl_scope.specs.EarlyErrors.{is_name, key_early_errors, label_early_errors, with_key, Keys}
+use Rattle.jl_scope.specs.EarlyErrors.{key_early_errors, label_early_errors, with_key, Keys}
 use Rattle.jl_scope.specs.EarlyErrors.{read_early_errors, return_early_errors, target_early_errors}
 use Rattle.jl_scope.specs.EarlyErrors.{written_early_errors}
 use Rattle.jl_scope.specs.Kinds.{early, left_out, reserved_name, EarlyError}

@@ -4,10 +4,10 @@ use Rattle.std.proofs.Common.{subst, sym}
 use Rattle.std.proofs.lemmas.Bool.Decides.{nat_tests}
 use Rattle.std.specs.Prelude.{codes, nat_le, pred, if◌then◌else◌, Option, Some, None}
 use Rattle.jl_ast.specs.Tree as tree
-use Rattle.jl_ast.specs.Tree.{Forest, Ident, OptionalTree, Sort, Text, Tree}
+use Rattle.jl_ast.specs.Tree.{is_name, Forest, Ident, OptionalTree, Sort, Text, Tree}
 use Rattle.jl_ast.specs.declared.ops.BinOp.{BinOp}
 use Rattle.jl_print.specs.CanonicalTokens.{begins_otherwise, further, further_arguments, further_names}
-use Rattle.jl_print.specs.CanonicalTokens.{is_name, is_string, items_after, last_item, optional_name, parameters}
+use Rattle.jl_print.specs.CanonicalTokens.{is_string, items_after, last_item, optional_name, parameters}
 use Rattle.jl_print.specs.CanonicalTokens.{tokens_after, tokens_of_all, tokens_of_arguments, tokens_of_declarators}
 use Rattle.jl_print.specs.CanonicalTokens.{tokens_of_entries, tokens_of_items, tokens_of_node, tokens_of_optional}
 use Rattle.jl_print.specs.Pieces.{in_parens, in_parens_unless, operator}

@@ -15,8 +15,8 @@ use crate::builtins::{builtin, length, name, place};
 use crate::steps::{Initial, Inside, STEPS, Step, Word};
 use jl_heap::{Inner, Prop};
 use jl_num::Num;
-use jl_store::{Store, word};
-use jl_text::{NoMemory, Text};
+use jl_store::Store;
+use jl_text::{NoMemory, Text, word};
 use jl_value::{Class, ObjId, Value};
 use std::alloc::Global;
 

@@ -9,7 +9,7 @@ use Rattle.jl_ast.specs.Tree.{function_expression, dot, index, call, new, unary,
 use Rattle.jl_ast.specs.Tree.{conditional, assign, comma, to_name, to_dot, to_index, filled, value, getter, setter}
 use Rattle.jl_ast.specs.Tree.{function, body, var, expression, block, if_else, do_while, while, for, for_in, continue}
 use Rattle.jl_ast.specs.Tree.{break, return, labelled, switch, throw, try, init_expression, init_var, declarator}
-use Rattle.jl_ast.specs.Tree.{case, branch_of, catch, end, more, absent, present}
+use Rattle.jl_ast.specs.Tree.{case, branch_of, catch, end, more, absent, present, is_name}
 use Rattle.jl_scope.specs.declared.rules.EarlyRule.{EarlyRule}
 use Rattle.jl_scope.specs.declared.rules.EarlyRule.TheVariants as rules
 use Rattle.jl_scope.specs.Kinds.{EarlyError, early, left_out, reserved_name}
@@ -74,10 +74,6 @@ unfoldable pub return_early_errors : Scope → Span → List EarlyError
 return_early_errors s at = broken_if (not s.in_function) rules.ReturnOutside at
 
 -- expressions
-
-abbrev pub is_name : Tree Span expr → Bool
-is_name (name x at) = true
-is_name _ = false
 
 abbrev pub is_delete : UnOp → Bool
 is_delete Delete = true

@@ -9,14 +9,14 @@ ghost use Rattle.jl_scope.specs.EarlyErrors.{identifier_early_errors, written_ea
 ghost use Rattle.jl_scope.specs.EarlyErrors.{read_early_errors};
 ghost use Rattle.jl_scope.specs.EarlyErrors.{target_early_errors, label_early_errors, break_early_errors};
 ghost use Rattle.jl_scope.specs.EarlyErrors.{continue_early_errors};
-ghost use Rattle.jl_scope.specs.EarlyErrors.{return_early_errors, delete_early_errors, is_name, is_delete};
+ghost use Rattle.jl_scope.specs.EarlyErrors.{return_early_errors, delete_early_errors, is_delete};
 ghost use Rattle.jl_scope.specs.EarlyErrors.{for_in_early_errors};
 
 use crate::found::{Finding, Found};
 use crate::names::{is_among, is_hooks_name, is_left_out, is_strict_name, is_strict_word};
 use crate::rules::EarlyRule;
 use crate::scope::{Scope, has_label, has_loop_label};
-use jl_ast::{Expr, ExprKind, Ident, UnOp};
+use jl_ast::{Expr, Ident, UnOp, is_name};
 use jl_text::{Span, Text};
 
 impl<'a> Found<'a> {
@@ -146,16 +146,6 @@ fn is_delete(op: UnOp) -> bool
 {
     match op {
         UnOp::Delete => true,
-        _ => false,
-    }
-}
-
-#[tactic(auto, using(jl_ast::proofs::Views::nodes))]
-fn is_name(e: &Expr) -> bool
-    ensures { result ≡ is_name (view_expression e.now) }
-{
-    match &e.kind {
-        ExprKind::Name(_) => true,
         _ => false,
     }
 }

@@ -13,8 +13,7 @@ use crate::for_in::{put_visited, visit_next};
 use jl_ast::{Expr, Stmt};
 use jl_conv::to_boolean;
 use jl_state::{Act, CompletionFrame, Here, Loop, LoopTurn, State, StatementFrame};
-use jl_store::word;
-use jl_text::{List, NoMemory, Text};
+use jl_text::{List, NoMemory, Text, word};
 use jl_value::{Completion, Value};
 use std::alloc::Global;
 

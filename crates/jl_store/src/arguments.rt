@@ -11,11 +11,11 @@ ghost use Rattle.jl_store.specs.inner.Arguments.{names_with, no_mappings};
 
 use crate::functions::{data, thrower_property};
 use crate::store::Store;
-use crate::words::{count, index_name, word};
+use crate::words::{count, index_name};
 use jl_ast::Ident;
 use jl_heap::Inner;
 use jl_scope::NameSet;
-use jl_text::{List, NoMemory, Text};
+use jl_text::{List, NoMemory, Text, word};
 use jl_value::{Class, ObjId, Value, share};
 use std::alloc::Global;
 

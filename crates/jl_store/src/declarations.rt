@@ -13,10 +13,9 @@ ghost use Rattle.jl_store.specs.Plain.{code_in, names_of, plain_code, plain_func
 
 use crate::environments::Bound;
 use crate::store::Store;
-use crate::words::word;
 use jl_ast::{Body, Function, Ident};
 use jl_scope::{mentions_arguments, vars};
-use jl_text::{NoMemory, Text};
+use jl_text::{NoMemory, Text, word};
 use jl_value::{ObjId, Value};
 use std::alloc::Global;
 

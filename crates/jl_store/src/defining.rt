@@ -17,15 +17,12 @@ ghost use Rattle.jl_value.specs.Indices.{index_of};
 ghost use Rattle.jl_value.specs.Tests.{is_object};
 
 use crate::answer::{AlgorithmFault, Finished};
-use crate::properties::is_length_name;
 use crate::store::Store;
-use crate::words::word;
 use jl_conv::primitive_to_num;
-use jl_heap::{Change, Defined};
+use jl_heap::{Change, Defined, is_length_name};
 use jl_num::Num;
-use jl_text::{NoMemory, Text};
-use jl_value::{Class, ErrorKind, ObjId, Value, array_index, share};
-use std::alloc::Global;
+use jl_text::{NoMemory, Text, word};
+use jl_value::{Class, ErrorKind, ObjId, Value, array_index, share_optional};
 
 /// What becomes of the parameter that an index is mapped to when the index is defined (10.6).
 #[derive(Drop)]
@@ -208,16 +205,6 @@ fn makes_read_only(change: &Change) -> bool
     match change.writable {
         Some(writable) => !writable,
         None => false,
-    }
-}
-
-/// The same value, if there is one.
-fn share_optional(alloc: Global, value: &Option<Value>) -> Result<Option<Value>, NoMemory>
-    ensures { IfOk result (λ same. same ≡ value.now) }
-{
-    match value {
-        Some(value) => Ok(Some(share(alloc, value)?)),
-        None => Ok(None),
     }
 }
 

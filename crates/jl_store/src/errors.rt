@@ -7,9 +7,8 @@ ghost use Rattle.jl_meaning.specs.Errors.{require};
 
 use crate::answer::Answer;
 use crate::store::Store;
-use crate::words::word;
 use jl_heap::{Inner, Prop};
-use jl_text::{NoMemory, Text, TextFault};
+use jl_text::{NoMemory, Text, TextFault, word};
 use jl_value::{Class, ErrorKind, ObjId, Value};
 
 /// The prototype of a kind of errors (15.11.7.7).

@@ -8,11 +8,11 @@ ghost use Rattle.jl_store.specs.Comes.{Comes};
 use crate::environments::Bound;
 use crate::intrinsics::{FUNCTION_PROTOTYPE, THROWER};
 use crate::store::Store;
-use crate::words::{count, word};
+use crate::words::count;
 use jl_ast::Function;
 use jl_heap::{Inner, Prop};
 use jl_scope::is_strict;
-use jl_text::{NoMemory, Text};
+use jl_text::{NoMemory, Text, word};
 use jl_value::{Class, ObjId, Value};
 
 /// A data property.

@@ -30,4 +30,4 @@ pub use found::{Found, Property, can_put};
 pub use inner::{has_call, has_construct, script_number};
 pub use names::Reference;
 pub use store::Store;
-pub use words::{count, index_name, word};
+pub use words::{count, index_name};

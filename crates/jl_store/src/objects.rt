@@ -11,9 +11,9 @@ use crate::answer::Answer;
 use crate::functions::data;
 use crate::intrinsics::{ARRAY_PROTOTYPE, BOOLEAN_PROTOTYPE, NUMBER_PROTOTYPE, STRING_PROTOTYPE};
 use crate::store::Store;
-use crate::words::{count, word};
+use crate::words::count;
 use jl_heap::Inner;
-use jl_text::{NoMemory, Text};
+use jl_text::{NoMemory, Text, word};
 use jl_value::{Class, ObjId, Value};
 
 impl Store {

@@ -1,8 +1,6 @@
 //! Properties looked up (8.12.1, 8.12.2, 8.12.6).
 ghost use Rattle.std.specs.Prelude.{◌≡◌};
 ghost use Rattle.std.specs.Option.{option_copied, option_map};
-ghost use Rattle.std.specs.Str.{bytes_eq};
-ghost use Rattle.jl_heap.specs.Define.{length_name};
 ghost use Rattle.jl_meaning.specs.Properties.{get_own_property, get_property, has_property, inherited_property};
 ghost use Rattle.jl_meaning.specs.Properties.{mapped_parameter};
 ghost use Rattle.jl_meaning.specs.Properties.{parameter_at, parameter_value, property_of_value, property_on};
@@ -12,20 +10,9 @@ ghost use Rattle.jl_store.specs.LookUps.{property_found, property_seen};
 use crate::found::{Found, Property};
 use crate::intrinsics::{BOOLEAN_PROTOTYPE, NUMBER_PROTOTYPE, STRING_PROTOTYPE};
 use crate::store::Store;
-use jl_heap::{Inner, Prop};
+use jl_heap::{Inner, Prop, is_length_name};
 use jl_text::Text;
 use jl_value::{ObjId, Value, array_index};
-
-/// The units of the name `length`.
-const LENGTH: [u16; 6] = [0x6C, 0x65, 0x6E, 0x67, 0x74, 0x68];
-
-/// Whether a name is `length`.
-#[tactic(auto, unfolding(jl_heap::specs::Define::length_name))]
-pub(crate) fn is_length_name(name: &Text) -> bool
-    ensures { result ≡ bytes_eq name.now length_name }
-{
-    name.units() == LENGTH.as_slice()
-}
 
 /// The parameter that an index of an object with this inner part is mapped to, with its environment (10.6).
 fn parameter_at<'a>(inner: &'a Inner, name: &Text) -> Option<(usize, &'a Text)>

@@ -1,19 +1,12 @@
-//! Words of the standard, indices and counts, as texts and values.
+//! Indices, counts and units, as texts and values.
 ghost use Rattle.std.specs.Prelude.{◌≡◌, pos, IfOk, Some};
 ghost use Rattle.jl_meaning.specs.FunctionObjects.{whole};
 ghost use Rattle.jl_meaning.specs.forms.Literals.{index_name};
 
 use jl_num::{Num, digits};
-use jl_text::{NoMemory, Text, TextFault};
+use jl_text::{NoMemory, Text, TextFault, ascii};
 use jl_value::Value;
 use std::alloc::Global;
-
-/// The text of a word of ASCII characters.
-pub fn word(alloc: Global, word: &str) -> Result<Text, NoMemory>
-    ensures { IfOk result (λ text. text ≡ word.now) }
-{
-    ascii(alloc, word.as_bytes())
-}
 
 /// The name of an index (9.8.1).
 pub fn index_name(alloc: Global, index: usize) -> Result<Text, NoMemory>
@@ -21,17 +14,6 @@ pub fn index_name(alloc: Global, index: usize) -> Result<Text, NoMemory>
 {
     let digits = digits(alloc, number(index)?, 10)?;
     ascii(alloc, digits.as_slice())
-}
-
-/// The text of ASCII characters.
-fn ascii(alloc: Global, bytes: &[u8]) -> Result<Text, NoMemory>
-    ensures { IfOk result (λ text. text ≡ bytes.now) }
-{
-    let mut units = Vec::with_capacity(alloc, bytes.len())?;
-    for byte in bytes {
-        units.push(u16::from(*byte))?;
-    }
-    text_of(alloc, units.as_slice())
 }
 
 /// The text of units that are far fewer than a text may have.

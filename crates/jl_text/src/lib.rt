@@ -10,6 +10,7 @@ mod search;
 mod span;
 mod spelling;
 mod text;
+mod words;
 
 pub use encoding::{Utf8Fault, from_utf8, to_utf8};
 pub use lines::Lines;
@@ -19,3 +20,4 @@ pub use span::Span;
 pub use spelling::is_spelled;
 pub use std::alloc::AllocError as NoMemory;
 pub use text::{MOST_UNITS, Text, TextFault};
+pub use words::{ascii, word};

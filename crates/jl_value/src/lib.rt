@@ -18,4 +18,4 @@ pub use index::array_index;
 pub use jl_text::NoMemory;
 pub use object::{Class, ObjId};
 pub use same::same_value;
-pub use value::{Seen, Value, is_nothing, is_object, is_undefined, share};
+pub use value::{Seen, Value, is_nothing, is_object, is_undefined, share, share_optional};

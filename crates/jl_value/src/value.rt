@@ -51,6 +51,16 @@ pub fn share(alloc: Global, v: &Value) -> Result<Value, AllocError>
     })
 }
 
+/// The same value, if there is one.
+pub fn share_optional(alloc: Global, value: &Option<Value>) -> Result<Option<Value>, AllocError>
+    ensures { IfOk result (λ same. same ≡ value.now) }
+{
+    match value {
+        Some(value) => Ok(Some(share(alloc, value)?)),
+        None => Ok(None),
+    }
+}
+
 /// Whether a value is undefined (8.1).
 pub fn is_undefined(v: &Value) -> bool
     ensures { result ≡ is_undefined v.now }

@@ -21,6 +21,7 @@ use jl_ast::{Entry, Expr, ExprKind, Function, Target, UnOp};
 use jl_op::OpKind;
 use jl_text::{NoMemory, Span};
 
+/// An expression (clause 11).
 #[cycle(weaving)]
 pub fn weave_expression(w: &Weaver, e: &Expr, ids: &mut Ids) -> Result<Expr, NoMemory>
     requires few { HasIds ids.old.next (id_count (view_expression e.now)) }
@@ -145,6 +146,7 @@ pub fn weave_test(w: &Weaver, e: &Expr, ids: &mut Ids) -> Result<Expr, NoMemory>
     w.hook_value(OpKind::Conditional, "C", id, e, span)
 }
 
+/// An expression, if there is one.
 #[cycle(weaving)]
 pub fn weave_optional(w: &Weaver, e: &Option<Expr>, ids: &mut Ids) -> Result<Option<Expr>, NoMemory>
     requires few { HasIds ids.old.next (optional_id_count (view_optional e.now)) }
@@ -280,6 +282,7 @@ fn weave_target(w: &Weaver, t: &Target, ids: &mut Ids) -> Result<Target, NoMemor
     }
 }
 
+/// A property of an object literal (11.1.5).
 #[cycle(weaving)]
 pub fn weave_entry(w: &Weaver, p: &Entry, ids: &mut Ids) -> Result<Entry, NoMemory>
     requires few { HasIds ids.old.next (id_count (view_entry p.now)) }

@@ -12,10 +12,9 @@ ghost use Rattle.jl_simulation.specs.HookCalls.{read, string_of, unary_hook, upd
 ghost use Rattle.jl_weave.specs.inner.Bare.{bare_expression, bare_expressions, bare_ident};
 
 use crate::nodes;
-use crate::words::word;
 use jl_ast::{BinOp, Expr, Ident};
 use jl_op::{UnKind, binary_sign, update_kind};
-use jl_text::{List, NoMemory, Span, Text};
+use jl_text::{List, NoMemory, Span, Text, word};
 use std::alloc::Global;
 
 /// The function that is the hook of this name.

@@ -24,7 +24,6 @@ mod statement_nodes;
 mod statements;
 mod updates;
 mod weaver;
-mod words;
 
 use crate::ids::Ids;
 use crate::lists::{weave_functions, weave_statements};

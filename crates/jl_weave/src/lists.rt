@@ -16,6 +16,7 @@ use crate::weaver::Weaver;
 use jl_ast::{Case, Entry, Expr, Function, Ident, Stmt};
 use jl_text::{List, NoMemory};
 
+/// Expressions, in their order: the arguments of a call (11.2.4).
 #[cycle(weaving)]
 pub fn weave_expressions(
     w: &Weaver,
@@ -34,6 +35,7 @@ pub fn weave_expressions(
     Ok(made)
 }
 
+/// What stands at the places of an array literal (11.1.4).
 #[cycle(weaving)]
 pub fn weave_items(
     w: &Weaver,
@@ -52,6 +54,7 @@ pub fn weave_items(
     Ok(made)
 }
 
+/// The properties of an object literal (11.1.5).
 #[cycle(weaving)]
 pub fn weave_entries(w: &Weaver, entries: &[Entry], ids: &mut Ids) -> Result<List<Entry>, NoMemory>
     requires few { HasIds ids.old.next (forest_id_count (view_entries entries.now)) }
@@ -66,6 +69,7 @@ pub fn weave_entries(w: &Weaver, entries: &[Entry], ids: &mut Ids) -> Result<Lis
     Ok(made)
 }
 
+/// The functions that a program or a function declares (clause 13).
 #[cycle(weaving)]
 pub fn weave_functions(
     w: &Weaver,
@@ -115,6 +119,7 @@ pub fn weave_block(w: &Weaver, body: &List<Stmt>, ids: &mut Ids) -> Result<List<
     weave_statements(w, body.items(), List::new(w.alloc), ids)
 }
 
+/// The variables of a `var` (12.2).
 #[cycle(weaving)]
 pub fn weave_declarators(
     w: &Weaver,
@@ -133,6 +138,7 @@ pub fn weave_declarators(
     Ok(made)
 }
 
+/// The clauses of a `switch` (12.11).
 #[cycle(weaving)]
 pub fn weave_cases(w: &Weaver, cases: &[Case], ids: &mut Ids) -> Result<List<Case>, NoMemory>
     requires few { HasIds ids.old.next (forest_id_count (view_cases cases.now)) }

@@ -20,6 +20,7 @@ use jl_ast::{Case, Expr, ForInit, Ident, Stmt, StmtKind};
 use jl_op::OpKind;
 use jl_text::{List, NoMemory};
 
+/// A statement (clause 12).
 #[cycle(weaving)]
 pub fn weave_statement(w: &Weaver, s: &Stmt, ids: &mut Ids) -> Result<Stmt, NoMemory>
     requires few { HasIds ids.old.next (id_count (view_statement s.now)) }

@@ -1,6 +1,7 @@
 //! Names that are bound in an environment (10.2).
 use crate::fault::Fault;
-use jl_store::{Store, word};
+use jl_store::Store;
+use jl_text::word;
 use jl_value::Value;
 use std::alloc::Global;
 

@@ -1,5 +1,5 @@
 use Rattle.std.proofs.Common.{◌≡◌, take}
-use Rattle.jl_store.proofs.words.ascii.Given as goal
+use Rattle.jl_text.proofs.words.ascii.Given as goal
 
 abbrev pub invariant-loop-byte : goal.invariant-loop-byte
 invariant-loop-byte l = l.units.items ≡ take l.byte-index l.bytes
