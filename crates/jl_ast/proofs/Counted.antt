@@ -13,7 +13,7 @@ use Rattle.jl_ast.specs.Numbering.{functions_in, functions_in_forest, functions_
 use Rattle.jl_ast.specs.Numbering.{numbered_forest, numbered_optional}
 use Rattle.jl_ast.specs.Table.{functions_of, functions_of_forest, functions_of_optional, number_of}
 
-range-append : (n a b m : ℕ) → n + a ≡ m → range_with_len n a ++ range_with_len m b ≡ range_with_len n (a + b)
+pub range-append : (n a b m : ℕ) → n + a ≡ m → range_with_len n a ++ range_with_len m b ≡ range_with_len n (a + b)
 range-append n zero b m e = cc (let h : n ≡ m = omega arith in h, let h : 0 + b ≡ b = omega arith in h)
 range-append n (suc a) b m e =
     let s : suc a + b ≡ suc (a + b) = omega arith in

@@ -16,12 +16,13 @@ use Rattle.jl_num.proofs.Quotient.{small_size}
 use Rattle.jl_token.specs.Characters.{is_white_space, is_line_terminator, is_digit, decimal_from, first_is}
 use Rattle.jl_token.proofs.Tests.{or_false, both_false}
 use Rattle.jl_token.proofs.Units.{units, all_below, digits, each_digit}
+use Rattle.jl_lex.proofs.NumberLoops.{decimal_append}
 use Rattle.jl_conv.specs.Numerals.{is_space, without_end, trim, are_digits, with_sign, exact_value, is_exponent_letter}
 use Rattle.jl_conv.specs.Numerals.{is_point, whole_part, fraction_part, exponent_part, parts_number, decimal_number}
 use Rattle.jl_conv.specs.Numerals.{is_hexadecimal_letter, literal_number, text_number}
 use Rattle.jl_conv.specs.Laws.{TextsReadBack}
 use Rattle.jl_conv.proofs.Splits.{passes_at, none_passes}
-use Rattle.jl_conv.proofs.Values.{value_is, decimal_from-append}
+use Rattle.jl_conv.proofs.Values.{value_is}
 
 -- ---- spaces
 
@@ -82,7 +83,7 @@ digits_value (suc places) n h =
     (λ above.
     let less = quotient_less 10 n (omega arith) above in
     let rest : n % 10 < 10 = omega arith in
-    rw (more_digits 10 places n above) (decimal_from-append 0 (digits_within 10 places (n / 10)) (last_digit 10 n)
+    rw (more_digits 10 places n above) (decimal_append 0 (digits_within 10 places (n / 10)) (last_digit 10 n)
     ∙ rw (digits_value places (n / 10) (omega arith), code_value (n % 10) rest) (omega arith)))
     (cases_lt n 10)
 

@@ -1,6 +1,6 @@
 -- The exact value of an amount with an exponent.
 use Rattle.std.proofs.Common.{◌≡◌, ◌≢◌, refl, sym, ap, ◌∙◌, subst, ℕ, zero, suc, ◌+◌, ◌-◌, ◌*◌, ◌^◌, ◌<◌, ◌≤◌, min, ℤ}
-use Rattle.std.proofs.Common.{pos, ◌*ℤ◌, unsigned_abs, Bool, true, false, Bor, List, [], ◌∷◌, ◌++◌, length, Option}
+use Rattle.std.proofs.Common.{pos, ◌*ℤ◌, unsigned_abs, Bool, true, false, Bor, List, ◌++◌, length, Option}
 use Rattle.std.proofs.Common.{Some, None, ◌⊎◌, inl, inr, arith, ⊎_elim}
 use Rattle.std.proofs.lemmas.Int.{ints, unsigned_abs-mul}
 use Rattle.std.proofs.lemmas.Nat.{pow-add}
@@ -13,11 +13,14 @@ use Rattle.std.specs.Str.{bytes_eq}
 use Rattle.std.specs.List.{list_any, after_first}
 use Rattle.jl_num.specs.Number.{Number, IsNumber, is_number}
 use Rattle.jl_num.specs.Arithmetic.{number_of, quotient_of}
-use Rattle.jl_num.proofs.Exact.{quotients_are_exact, is_inside}
+use Rattle.jl_num.proofs.Exact.{quotients_are_exact}
+use Rattle.jl_num.proofs.Powers.{too_large}
 use Rattle.jl_num.proofs.Quotient.{false_from, small_size}
+use Rattle.jl_token.proofs.Values.{ten_pos}
 use Rattle.jl_lex.specs.inner.Amounts.{Stands, exact, beyond}
-use Rattle.jl_lex.proofs.Powers.{ten_pos, at_least, far, assoc}
+use Rattle.jl_lex.proofs.Powers.{at_least, far, assoc}
 use Rattle.jl_lex.proofs.AmountLemmas.{whole_value}
+use Rattle.jl_lex.proofs.NumberLoops.{decimal_append}
 use Rattle.jl_conv.specs.Numerals.{with_sign, exact_value}
 use Rattle.jl_token.specs.Characters.{is_digit, decimal_from}
 use Rattle.jl_conv.specs.declared.decimal.Exponent.{Exponent}
@@ -34,13 +37,6 @@ number_of_inside z h = rw (passes z h) refl
   where
     passes : (z : ℤ) → IsNumber (Some z) → is_number z ≡ true
     passes z h = let low = h.0 in let high = h.1 in grind (arith, ints)
-
-too_large : (z : ℤ) → 2 ^ 53 ≤ unsigned_abs z → number_of z ≡ None
-too_large z h = by_test (is_number z) refl
-  where
-    by_test : (t : Bool) → is_number z ≡ t → (if t then Some (Some z) else None) ≡ None
-    by_test true e = let s = small_size z (is_inside z e) in absurd (omega arith)
-    by_test false e = refl
 
 size_of_signed : (negative : Bool) (n : ℕ) → unsigned_abs (with_sign negative n) ≡ n
 size_of_signed false n = refl
@@ -232,10 +228,6 @@ sized_powers z f r' l' r l lower a b e (known p q x y) = exactly p (omega arith)
 sized_powers z f r' l' r l lower a b e (high x y p q) = above (omega arith) (omega arith)
 sized_powers z f r' l' r l lower a b e (low x y p q) = below (omega arith) (omega arith)
 
-pub decimal_from-append : (m : ℕ) (xs ys : List ℕ) → decimal_from m (xs ++ ys) ≡ decimal_from (decimal_from m xs) ys
-decimal_from-append m [] ys = refl
-decimal_from-append m (x ∷ xs) ys = decimal_from-append (m * 10 + (x - 48)) xs ys
-
 -- the literal of two parts that were read, and an exponent
 pub literal : (negative : Bool) (units whole fraction : List ℕ) (e : Exponent) (c z lower : ℕ) (result : Option Number)
     → bytes_eq units (codes "Infinity") ≡ false → whole ≡ whole_part units → fraction ≡ fraction_part units
@@ -247,7 +239,7 @@ pub literal : (negative : Bool) (units whole fraction : List ℕ) (e : Exponent)
 literal negative units whole fraction e c z lower result finite is_whole is_fraction digits x few short is_lower s v =
     let p = x.0 in
     let m = decimal_from 0 (whole ++ fraction) in
-    let stands = subst (Stands c z) (sym (decimal_from-append 0 whole fraction)) s in
+    let stands = subst (Stands c z) (sym (decimal_append 0 whole fraction)) s in
     let powers = sized_powers z (length fraction) e.raise e.lower p.0 p.1 lower few short is_lower x.2 in
     v m p.0 (length fraction + p.1) stands powers
     ∙ sym (parts digits) ∙ ap (parts_number negative whole fraction) (sym x.1)

@@ -63,7 +63,7 @@ fits most t j go h = when_true (nat_le (height t) (suc most)) _ (λ l. h)
 pub tighter_stops : (s x y : ℕ) → x ≤ y → (nat_le 1 s && nat_le s y) ≡ false → (nat_le 1 s && nat_le s x) ≡ false
 tighter_stops s x y l h = grind (arith, leb_tells)
 
-looser_stops : (s x : ℕ) → x < s → (nat_le 1 s && nat_le s x) ≡ false
+pub looser_stops : (s x : ℕ) → x < s → (nat_le 1 s && nat_le s x) ≡ false
 looser_stops s x l = grind (arith, leb_tells)
 
 -- a infix operator that does not go on at once is as loose as it can be

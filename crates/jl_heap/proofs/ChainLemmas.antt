@@ -28,7 +28,7 @@ pub protos_are_older : (a : Inside) (heap : Objects) → IsKept a → objects_in
 protos_are_older a heap kept seen =
     subst ProtosAreOlder seen (λ place. older_by a place (slice_get a.headers place) refl (kept.older place))
 
-or_none : {A : Type 0} (o : Option A) → option_or o None ≡ o
+pub or_none : {A : Type 0} (o : Option A) → option_or o None ≡ o
 or_none None = refl
 or_none (Some x) = refl
 
@@ -38,7 +38,7 @@ alone : {A : Type 0} (o : Option A) (f : ObjId → Option A) (proto : Option Obj
 alone o f None none = or_none o
 alone o f (Some p) below = absurd (omega (arith, below))
 
-along : {A : Type 0} (o : Option A) (f g : ObjId → Option A) (place : ℕ) (proto : Option ObjId) → Before place proto
+pub along : {A : Type 0} (o : Option A) (f g : ObjId → Option A) (place : ℕ) (proto : Option ObjId) → Before place proto
     → ((p : ObjId) → p.0 < place → f p ≡ g p) → option_or o (option_and_then f proto)
     ≡ option_or o (option_and_then g proto)
 along o f g place None below same = refl

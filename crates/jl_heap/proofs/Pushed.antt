@@ -18,7 +18,7 @@ use Rattle.jl_heap.proofs.Items.{bytes_eq-same}
 use Rattle.jl_heap.proofs.Seen.{length-objects_of, objects_of-push, objects_of-same}
 
 -- what holds at each place of a list, and at the next place for one more item, holds at each place of the longer list
-each_pushed : {A : Type 0} (P : ℕ → Option A → Type 0) (xs : List A) (x : A) → ((k : ℕ) → P k (slice_get xs k)) →
+pub each_pushed : {A : Type 0} (P : ℕ → Option A → Type 0) (xs : List A) (x : A) → ((k : ℕ) → P k (slice_get xs k)) →
     P (length xs) (Some x) → (k : ℕ) → P k (slice_get (xs ++ x ∷ []) k)
 each_pushed P [] x old new zero = new
 each_pushed P [] x old new (suc k) = old (suc k)

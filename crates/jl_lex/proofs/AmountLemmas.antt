@@ -12,10 +12,10 @@ use Rattle.jl_token.specs.inner.Scanner.{many, one_unit, some_digits, value_of}
 use Rattle.jl_lex.proofs.Loops.{unit_more, unit_stop, unit_end}
 use Rattle.jl_token.proofs.Tests.{true_or_false, other_unit, is_unit}
 use Rattle.jl_token.proofs.Units.{digit_bounds}
-use Rattle.jl_token.proofs.Values.{value_sound, value_complete}
+use Rattle.jl_token.proofs.Values.{value_sound, value_complete, ten_pos}
 use Rattle.jl_lex.specs.inner.Amounts.{scale, add_digit, add_digits, if_number, value_from, capped_from, Exponents}
 use Rattle.jl_lex.specs.inner.Amounts.{the_same, is_high, is_low, Large, Stands, exact, beyond}
-use Rattle.jl_lex.proofs.Powers.{ten_pos, ten_more, cancel, times_ten, last_digit, assoc, at_least, far}
+use Rattle.jl_lex.proofs.Powers.{ten_more, cancel, times_ten, last_digit, assoc, at_least, far}
 
 past : (n : ℕ) → nat_le n 9007199254740991 ≡ false → 9007199254740991 < n
 past n h = grind (arith, nat_tests)

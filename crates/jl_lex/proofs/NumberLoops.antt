@@ -156,7 +156,7 @@ digits_stand no_more c z m s = s
 digits_stand (one_more (unit {u} h) d) c z m s =
     digits_stand d (add_digit u (c, z)).0 (add_digit u (c, z)).1 (m * 10 + (u - 48)) (add_digit_stands u c z m h s)
 
-decimal_append : (n : ℕ) (ds fs : List ℕ) → decimal_from n (ds ++ fs) ≡ decimal_from (decimal_from n ds) fs
+pub decimal_append : (n : ℕ) (ds fs : List ℕ) → decimal_from n (ds ++ fs) ≡ decimal_from (decimal_from n ds) fs
 decimal_append n [] fs = refl
 decimal_append n (d ∷ ds) fs = decimal_append (n * 10 + (d - 48)) ds fs
 

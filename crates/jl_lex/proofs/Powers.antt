@@ -1,12 +1,9 @@
 -- Powers of ten.
-use Rattle.std.proofs.Common.{◌≡◌, sym, ap, ◌∙◌, subst, ℕ, zero, suc, ◌+◌, ◌-◌, ◌*◌, ◌/◌, ◌%◌, ◌^◌, ◌<◌, ◌≤◌, arith}
+use Rattle.std.proofs.Common.{◌≡◌, sym, ap, ◌∙◌, subst, ℕ, suc, ◌+◌, ◌-◌, ◌*◌, ◌/◌, ◌%◌, ◌^◌, ◌<◌, ◌≤◌, arith}
 use Rattle.std.proofs.Common.{add-zero}
 use Rattle.std.proofs.Math.Nat.{pow-suc}
 use Rattle.std.proofs.lemmas.Nat.{pow-add, div-mul-add, mod-mul-add, mul-le}
-
-pub ten_pos : (l : ℕ) → 0 < 10 ^ l
-ten_pos zero = omega arith
-ten_pos (suc l) = let h = ten_pos l in omega (arith, pow-suc 10 l)
+use Rattle.jl_token.proofs.Values.{ten_pos}
 
 pub ten_more : (z : ℕ) → 10 ^ (z + 1) ≡ 10 ^ z * 10
 ten_more z = (let e : z + 1 ≡ suc z = omega arith in ap (λ k. 10 ^ k) e) ∙ pow-suc 10 z

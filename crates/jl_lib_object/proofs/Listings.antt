@@ -1,6 +1,6 @@
 -- The names of own properties, as lists and in arrays (15.2.3.4, 15.2.3.14).
 use Rattle.std.proofs.Common.{◌≡◌, ◌<◌, ◌++◌, ◌+◌, ◌∷◌, ◌∙◌, [], append_assoc, ap, arith, drop, false, get_or, length}
-use Rattle.std.proofs.Common.{map, refl, subst, sym, take, true, Bool, List, None, Some, ℕ}
+use Rattle.std.proofs.Common.{append-nil, map, refl, subst, sym, take, true, Bool, List, None, Some, ℕ}
 use Rattle.std.proofs.lemmas.List.Elements.{filter_more}
 use Rattle.std.proofs.lemmas.List.FromFn.{map-range_with_len_more}
 use Rattle.std.specs.Prelude.{filter}
@@ -80,10 +80,6 @@ fills_names s x array names values t a is comes leads =
 
 -- lists that grow by one
 
-append_none : {A : Type 0} (l : List A) → l ++ [] ≡ l
-append_none [] = refl
-append_none (x ∷ l) = ap (λ m. x ∷ m) (append_none l)
-
 pub units_more : (i : ℕ) (names more : List Name) (name : Name) → names ≡ map index_name (range_with_len 0 i)
     → name ≡ index_name i → more ≡ names ++ name ∷ [] → more ≡ map index_name (range_with_len 0 (i + 1))
 units_more i names more name is same grown =
@@ -127,6 +123,6 @@ pub passed_more : (p : Name → Bool) (l all : List Name) (i : ℕ) (x : Name) (
     → l ≡ filter p (take (i + 1) all)
 passed_more p l all i x b is within here tests fails =
     is
-    ∙ sym (append_none (filter p (take i all)))
+    ∙ sym (append-nil (filter p (take i all)))
     ∙ ap (λ (c : Bool). filter p (take i all) ++ cond c (get_or all i x ∷ []) []) (sym fails ∙ tests ∙ ap p here)
     ∙ sym (filter_more p all i x within)

@@ -44,7 +44,7 @@ size_of_power (negsuc a) e = by_test (e % 2 == 0)
     by_test true = refl
     by_test false = size_of_negative (suc a ^ e)
 
-too_large : (z : ℤ) → 2 ^ 53 ≤ unsigned_abs z → number_of z ≡ None
+pub too_large : (z : ℤ) → 2 ^ 53 ≤ unsigned_abs z → number_of z ≡ None
 too_large z h = by_test (is_number z) refl
   where
     by_test : (t : Bool) → is_number z ≡ t → (if t then Some (Some z) else None) ≡ None

@@ -1,5 +1,5 @@
 -- The ids of the operations of a numbered tree are the numbers from its first id on.
-use Rattle.std.proofs.Common.{◌≡◌, ℕ, ◌+◌, suc, zero, List, [], ◌∷◌, ◌++◌, refl, arith, Option, Some, None}
+use Rattle.std.proofs.Common.{◌≡◌, ℕ, ◌+◌, suc, List, [], ◌∷◌, ◌++◌, refl, arith, Option, Some, None}
 use Rattle.std.specs.List.{range_with_len}
 use Rattle.std.proofs.lemmas.List.{map-append}
 use Rattle.jl_ast.specs.declared.ops.BinOp.{BinOp}
@@ -13,18 +13,13 @@ use Rattle.jl_ast.specs.Tree.{getter, setter, function, body, var, empty, expres
 use Rattle.jl_ast.specs.Tree.{for, for_in, continue, break, return, labelled, switch, throw, try, debugger, nothing}
 use Rattle.jl_ast.specs.Tree.{init_expression, init_var, declarator, case, branch_of, catch, end, more, absent}
 use Rattle.jl_ast.specs.Tree.{present}
+use Rattle.jl_ast.proofs.Counted.{range-append}
 use Rattle.jl_op.specs.declared.kind.OpKind.{OpKind}
 use Rattle.jl_op.specs.declared.kind.OpKind.TheVariants as kind
 use Rattle.jl_op.specs.Ids.{id_count, forest_id_count, optional_id_count, unary_id_count, with_ids, forest_with_ids}
 use Rattle.jl_op.specs.Ids.{optional_with_ids, callee_with_ids, member_ids, assignment_id_count, one_if_present}
 use Rattle.jl_op.specs.IdMap.{MapEntries, ids_in, id_of, entries, forest_entries, optional_entries, call_entries}
 use Rattle.jl_op.specs.IdMap.{unary_entries, compute_entries, assign_entries, optional_test_entries}
-
-range-append : (n a b m : ℕ) → n + a ≡ m → range_with_len n a ++ range_with_len m b ≡ range_with_len n (a + b)
-range-append n zero b m e = cc (let h : n ≡ m = omega arith in h, let h : 0 + b ≡ b = omega arith in h)
-range-append n (suc a) b m e =
-    let s : suc a + b ≡ suc (a + b) = omega arith in
-    cc (s, range-append (n + 1) a b m (omega arith))
 
 pub first : (i n m a c : ℕ) (l : List ℕ) → i ≡ n → n + 1 ≡ m → c ≡ suc a → l ≡ range_with_len m a →
     i ∷ l ≡ range_with_len n c

@@ -21,6 +21,7 @@ use Rattle.jl_grammar.specs.Reader.{binary_from}
 use Rattle.jl_grammar.specs.Reader.{binary_by, left_from, left_by, items_from, arguments_at, arguments_from}
 use Rattle.jl_grammar.specs.Reads.{Expr, Exprs}
 use Rattle.jl_grammar.specs.Tokens.{terminal_at, text_at, span}
+use Rattle.jl_grammar.proofs.SoundExpressions.{looser_stops}
 use Rattle.jl_parse.specs.inner.Steps.{append}
 use Rattle.jl_parse.proofs.Rows.{with_forest, append_end, with_end, regroup, made_none, made_on, made_some, then_on}
 
@@ -57,9 +58,6 @@ bind_made : {A : Type 0} (o : Option A) (most : ℕ) (u : A → Expr) (k : A →
 bind_made None most u k go = refl
 bind_made (Some x) most u k go = made_on most (u x) (k x) go
 
-beyond : (s x : ℕ) → x < s → (nat_le 1 s && nat_le s x) ≡ false
-beyond s x l = grind (arith, leb_tells)
-
 tight : (s x : ℕ) → 1 ≤ s → s ≤ x → (nat_le 1 s && nat_le s x) ≡ true
 tight s x p l = grind (arith, leb_tells)
 
@@ -67,7 +65,7 @@ too_loose : (no_in : Bool) (k : Terminal) (m : ℕ) (op : InfixOperator) → inf
     → m < infix_precedence op
     → continues no_in m k ≡ false
 too_loose no_in k m op h l = let e = ap infix_precedence_of h in
-    beyond (infix_precedence_of (infix_operator no_in k)) m (omega arith)
+    looser_stops (infix_precedence_of (infix_operator no_in k)) m (omega arith)
 
 no_infix_operator : (no_in : Bool) (k : Terminal) (m : ℕ) → infix_operator no_in k ≡ None → continues no_in m k ≡ false
 no_infix_operator no_in k m h = beyond_none (infix_precedence_of (infix_operator no_in k)) m (ap infix_precedence_of h)

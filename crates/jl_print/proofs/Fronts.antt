@@ -15,6 +15,7 @@ use Rattle.jl_grammar.specs.Reads.{Expr, BeginsLeft, whole_left, ReadsPostfix, l
 use Rattle.jl_grammar.specs.Reads.{operand, tighter, ReadsBinary, whole_binary, operands}
 use Rattle.jl_grammar.specs.Reads.{ReadsAssignment, conditional, BeginsExpression, assignment}
 use Rattle.jl_grammar.specs.Tokens.{terminal_at, line_at}
+use Rattle.jl_grammar.proofs.SoundExpressions.{tighter_stops}
 
 -- from i to j the tokens read as a prefix of an expression of this rank
 pub data Front (ts : List Token) (no_in : Bool) (i : ℕ) (t : Expr) (j : ℕ) : ℕ → Type 0 where
@@ -49,14 +50,8 @@ pub record Quiet (no_in : Bool) (r : ℕ) (ts : List Token) (j : ℕ) : Type 0 w
   pub question : 13 ≤ r → is_question (terminal_at ts j) ≡ false
   pub assigns : 13 ≤ r → assigns (terminal_at ts j) ≡ false
 
-tighter_stops : (s x y : ℕ) → x ≤ y → (nat_le 1 s && nat_le s y) ≡ false → (nat_le 1 s && nat_le s x) ≡ false
-tighter_stops s x y l h = grind (arith, leb_tells)
-
 no_tighter : (s : ℕ) → (nat_le 1 s && nat_le s 0) ≡ false
 no_tighter s = grind (arith, leb_tells)
-
-looser_stops : (s x : ℕ) → x < s → (nat_le 1 s && nat_le s x) ≡ false
-looser_stops s x l = grind (arith, leb_tells)
 
 pub quiet_zero : (no_in : Bool) (ts : List Token) (j : ℕ) → Quiet no_in 0 ts j
 quiet_zero no_in ts j = record {

@@ -29,6 +29,7 @@ use Rattle.jl_grammar.specs.Terminals.{terminal_of, name_terminal}
 use Rattle.jl_grammar.specs.Tokens.{At, Is, terminal_at, text_at, number_at, key_at}
 use Rattle.jl_grammar.specs.Words.{same_text, word_of}
 use Rattle.jl_print.specs.WellFormed.{is_identifier_name, are_parts, IsName, IsIdentifier, IsLiteral, IsShort}
+use Rattle.jl_print.proofs.Spells.{only}
 
 -- a token as the lexer makes it
 abbrev pub IsLexical : TokenKind → Type 0
@@ -105,10 +106,6 @@ short_digits n w =
     rw (no_terminal w.value) refl in
     let l = ap length e in
     subst (λ n. IsShort (number_text n 10)) (sym w.is) (omega arith)
-
--- one token of a kind
-abbrev only : TokenKind → List Token
-only k = record { kind = k; span = record { from = 0; to = 0 }; line_before = false } ∷ []
 
 identifier_of : (k : TokenKind) → IsLexical k → is_identifier (terminal_of k) ≡ true → IsIdentifier (text_at (only k) 0)
 identifier_of (kinds.Name t e) w h = record { name = w; free = go (word_of t) e refl h }

@@ -1,8 +1,7 @@
 -- What the grammar sees of the operators that are written.
 use Rattle.std.proofs.Common.{◌≡◌, ℕ, suc, ◌-◌, ◌≤◌, ◌<◌, Bool, true, false, ◌&&◌, not, refl, ap, ◌∙◌}
 use Rattle.std.proofs.Common.{List, arith}
-use Rattle.std.specs.Prelude.{Option, Some, None, nat_le}
-use Rattle.std.proofs.lemmas.Bool.Decides.{leb_tells}
+use Rattle.std.specs.Prelude.{Some}
 use Rattle.jl_ast.specs.declared.ops.BinOp.{BinOp}
 use Rattle.jl_ast.specs.declared.ops.BinOp.TheVariants as ops
 use Rattle.jl_ast.specs.declared.ops.UnOp.{UnOp}
@@ -17,6 +16,7 @@ use Rattle.jl_grammar.specs.Operators.{assign_operator, unary_operator, update_o
 use Rattle.jl_grammar.specs.Reads.{JoinsAt, AssignsAt, PrefixAt, UpdateAt}
 use Rattle.jl_grammar.specs.Terminals.{terminal_of}
 use Rattle.jl_grammar.specs.Tokens.{terminal_at, line_at}
+use Rattle.jl_grammar.proofs.SoundExpressions.{looser_stops}
 use Rattle.jl_print.specs.Pieces.{punct, operator, prefix_operator, update_operator, assign_punct}
 use Rattle.jl_print.specs.Precedence.{is_in}
 use Rattle.jl_print.specs.WellFormed.{is_compound}
@@ -43,9 +43,6 @@ and_token no_in = record { joins = refl; left = refl; update = refl }
 
 pub or_token : (no_in : Bool) → InfixOperatorToken no_in (punct puncts.OrOr) either
 or_token no_in = record { joins = refl; left = refl; update = refl }
-
-looser_stops : (s x : ℕ) → x < s → (nat_le 1 s && nat_le s x) ≡ false
-looser_stops s x l = grind (arith, leb_tells)
 
 -- it does not go on with what is as loose as it
 pub quiet_infix_operator : {ts : List Token} {j : ℕ} {line no_in : Bool} {k : TokenKind} {o : InfixOperator} (l : ℕ)
@@ -98,11 +95,6 @@ update_is_no_part up s = ap (continues_left true) (at s).is ∙ same up
     same : (up : Bool) → continues_left true (terminal_of (update_operator up)) ≡ false
     same true = refl
     same false = refl
-
--- `=`, or an operator with it
-abbrev pub assign_kind : Option BinOp → TokenKind
-assign_kind None = punct puncts.Assign
-assign_kind (Some op) = punct (assign_punct op)
 
 pub assigns_at : {ts : List Token} {i : ℕ} {line : Bool} (op : BinOp) → is_compound op ≡ true
     → Spelled ts i line (punct (assign_punct op)) → AssignsAt ts i (Some op)

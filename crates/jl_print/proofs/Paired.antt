@@ -13,6 +13,7 @@ use Rattle.std.proofs.lemmas.Str.{utf16_chars-nil, utf16_chars_lone, utf16_chars
 use Rattle.std.proofs.str.Utf16.{IsPair, lone_unit_char_low, lone_unit_char_high}
 use Rattle.jl_num.specs.Digits.{digit_code, digits_within, number_text}
 use Rattle.jl_text.specs.Quoted.{short_escape, is_hidden, is_lone, unicode_escape, quoted_unit, quoted_after, quote}
+use Rattle.jl_text.proofs.SearchLemmas.{false_unless}
 use Rattle.jl_token.specs.Characters.{is_identifier_start, is_identifier_part, is_surrogate, category, is_letter}
 use Rattle.jl_token.specs.Characters.{is_mark}
 use Rattle.jl_token.specs.Punctuators.{punctuator_units}
@@ -21,7 +22,7 @@ use Rattle.jl_token.specs.declared.punct.Punct.{Punct}
 use Rattle.jl_token.specs.declared.punct.Punct.TheVariants as puncts
 use Rattle.jl_token.specs.declared.token.TokenKind.{TokenKind}
 use Rattle.jl_token.specs.declared.token.TokenKind.TheVariants as kinds
-use Rattle.jl_token.proofs.Tests.{and_true, not_true, true_or_false, other_unit, never_both}
+use Rattle.jl_token.proofs.Tests.{and_true, true_or_false, other_unit, never_both}
 use Rattle.jl_print.specs.Layout.{ends_line, is_number, is_dot, joins_right, joins_left, between, layout_of, text_of}
 use Rattle.jl_print.specs.Laws.{TextIsPaired}
 use Rattle.jl_print.specs.WellFormed.{is_identifier_name, are_parts}
@@ -159,7 +160,7 @@ paired_unit : (before u after : ℕ) → 0xD800 ≤ u → u < 0xE000 → is_lone
     → quoted_unit before u after ≡ u ∷ []
 paired_unit before u after from below h =
     let differs : (k : ℕ) → k < 0xD800 → (u == k) ≡ false = λ k l. other_unit u k (λ e. omega arith) in
-    let seen : is_hidden u ≡ false = not_true (is_hidden u) (λ e. let l = hidden_low u e in omega arith) in
+    let seen : is_hidden u ≡ false = false_unless (is_hidden u) (λ e. let l = hidden_low u e in omega arith) in
     rw (
       differs 0x22 (omega arith),
       differs 0x5C (omega arith),
@@ -230,17 +231,17 @@ quoted_shown : (before u after : ℕ) → quoted_unit before u after
 quoted_shown before u after = refl
 
 -- a letter of ASCII, if any
-record IsLetter (o : Option ℕ) : Type 0 where
-  small : (letter : ℕ) → o ≡ Some letter → letter < 128
+pub record IsLetter (o : Option ℕ) : Type 0 where
+  pub small : (letter : ℕ) → o ≡ Some letter → letter < 128
 
-no_letter : IsLetter None
+pub no_letter : IsLetter None
 no_letter = record { small = λ letter e. absurd (cc) }
 
-letter_or : (b : Bool) {k : ℕ} {o : Option ℕ} → k < 128 → IsLetter o → IsLetter (if b then Some k else o)
+pub letter_or : (b : Bool) {k : ℕ} {o : Option ℕ} → k < 128 → IsLetter o → IsLetter (if b then Some k else o)
 letter_or true {k} l h = record { small = λ letter e. let same : k ≡ letter = cc in omega arith }
 letter_or false l h = h
 
-short_letter : (u : ℕ) → IsLetter (short_escape u)
+pub short_letter : (u : ℕ) → IsLetter (short_escape u)
 short_letter u =
     letter_or (u == 0x22) (omega arith) (letter_or (u == 0x5C) (omega arith) (letter_or (u == 0x0A) (omega arith)
     (letter_or (u == 0x0D) (omega arith) (letter_or (u == 0x09) (omega arith) (letter_or (u == 0x08) (omega arith)
@@ -273,9 +274,9 @@ pair_is before u v after high low =
     let a = high_bounds u high in
     let b = low_bounds v low in
     let u_high : is_low_surrogate u ≡ false =
-    not_true (is_low_surrogate u) (λ e. let c = low_bounds u e in omega arith) in
+    false_unless (is_low_surrogate u) (λ e. let c = low_bounds u e in omega arith) in
     let v_low : is_high_surrogate v ≡ false =
-    not_true (is_high_surrogate v) (λ e. let c = high_bounds v e in omega arith) in
+    false_unless (is_high_surrogate v) (λ e. let c = high_bounds v e in omega arith) in
     let first : is_lone before u v ≡ false = rw (high, low, u_high) refl in
     let second : is_lone u v after ≡ false = rw (high, low, v_low) refl in
     (paired_unit before u v a.0 (omega (arith, a.1)) first, paired_unit u v after (omega (arith, b.0)) b.1 second)

@@ -10,12 +10,9 @@ use Rattle.std.proofs.lemmas.List.Elements.{All-nil, All-cons}
 use Rattle.std.proofs.lemmas.List.Kept.{AllPairs-filter}
 use Rattle.std.proofs.lemmas.List.Quantifiers.{all_pairs_push}
 use Rattle.std.proofs.lemmas.Slice.Eq.{bytes_eq-Decides}
+use Rattle.jl_text.proofs.SearchLemmas.{false_unless}
 use Rattle.jl_props.specs.declared.entries.Entry.{Entry}
 use Rattle.jl_props.specs.Entries.{has_name, entry_named, with_new, with_item, without, IsInOrder}
-
-pub false_unless : (b : Bool) → (b ≡ true → ⊥) → b ≡ false
-false_unless true h = absurd (h refl)
-false_unless false h = refl
 
 pub apart : {T : Type 0} (name : List ℕ) (a b : Entry T) → a.name ≢ b.name → has_name name a ≡ true
     → has_name name b ≡ false

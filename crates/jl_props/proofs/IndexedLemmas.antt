@@ -13,9 +13,10 @@ use Rattle.std.proofs.lemmas.Bool.{eqb-true, eq-eqb}
 use Rattle.std.proofs.lemmas.Option.{same_Some, none-some}
 use Rattle.std.proofs.lemmas.List.{get_or-map, length-map}
 use Rattle.std.proofs.lemmas.List.Elements.{All-nil, All-cons}
+use Rattle.jl_text.proofs.SearchLemmas.{false_unless}
 use Rattle.jl_props.specs.declared.entries.Entry.{Entry}
 use Rattle.jl_props.specs.Entries.{has_name, entry_named, with_item, without, IsInOrder}
-use Rattle.jl_props.proofs.EntriesLemmas.{false_unless, apart}
+use Rattle.jl_props.proofs.EntriesLemmas.{apart}
 use Rattle.jl_props.proofs.OneLemmas.{filter-none, map-none}
 
 -- an entry, under its serial

@@ -21,11 +21,12 @@ use Rattle.jl_simulation.specs.HookCalls.{hook, hook_1, hook_2, hook_of_1, hook_
 use Rattle.jl_simulation.specs.HookCalls.{without_id, Expr, Exprs, Stmts, Woven}
 use Rattle.jl_simulation.specs.Weaving.{calls, weave, woven_body, woven_callee, woven_code}
 use Rattle.jl_simulation.specs.Weaving.{woven_delete, woven_forest, woven_typeof}
+use Rattle.jl_simulation.proofs.Shapes.{IsNoMember}
 use Rattle.jl_text.specs.declared.span.Span.{Span}
 use Rattle.jl_read_back.specs.EarlyErrors.{none, AreReservedNames}
 use Rattle.jl_read_back.proofs.Declared.{body_strict, function_bound, program_bound, program_strict}
 use Rattle.jl_read_back.proofs.EarlyPlaces.{bound_in_function, bound_same, strict_same}
-use Rattle.jl_read_back.proofs.Forms.{callee_is, delete_is, typeof_is, IsNoMember, IsNoName}
+use Rattle.jl_read_back.proofs.Forms.{callee_is, delete_is, typeof_is, IsNoName}
 use Rattle.jl_read_back.proofs.NoNames.{no_name}
 use Rattle.jl_read_back.proofs.Rules as rule
 use Rattle.jl_read_back.proofs.Rules.{both, first, getters, hooks_read, no_delete, no_name_deleted, second, setters}

@@ -16,7 +16,8 @@ use Rattle.jl_simulation.specs.HookCalls.{hook, hook_1, hook_2, hook_of_1, hook_
 use Rattle.jl_simulation.specs.HookCalls.{unary_hook, Expr, Stmt, Stmts}
 use Rattle.jl_simulation.specs.Weaving.{calls, calls_member, computes, weave, woven_callee, woven_code}
 use Rattle.jl_simulation.specs.Weaving.{woven_delete, woven_forest, woven_optional, woven_program, woven_typeof}
-use Rattle.jl_read_back.proofs.Forms.{callee_is, delete_is, typeof_is, IsNoMember, IsNoName}
+use Rattle.jl_simulation.proofs.Shapes.{IsNoMember}
+use Rattle.jl_read_back.proofs.Forms.{callee_is, delete_is, typeof_is, IsNoName}
 use Rattle.jl_read_back.proofs.HookWords.{binary_short, hooks, literal, name_A, name_B, name_C, name_E, name_F}
 use Rattle.jl_read_back.proofs.HookWords.{name_G, name_H, name_I, name_K, name_L, name_M, name_N, name_O, name_P}
 use Rattle.jl_read_back.proofs.HookWords.{name_R, name_S, name_T, name_U, name_V, name_W, name_X, name_Y, name_Z}

@@ -10,15 +10,11 @@ use Rattle.jl_op.specs.declared.kind.OpKind.TheVariants as kind
 use Rattle.jl_op.specs.declared.sign.UnKind.TheVariants as unary
 use Rattle.jl_simulation.specs.HookCalls.{hook_1, unary_hook, Expr}
 use Rattle.jl_simulation.specs.Weaving.{calls, woven_callee, woven_delete, woven_typeof}
+use Rattle.jl_simulation.proofs.Shapes.{IsNoMember}
 
 abbrev pub IsNoName : {S : Type 0} → Tree S tree.expr → Type 0
 IsNoName (tree.name x s) = ⊥
 IsNoName _ = Unit {0}
-
-abbrev pub IsNoMember : {S : Type 0} → Tree S tree.expr → Type 0
-IsNoMember (tree.dot o k s) = ⊥
-IsNoMember (tree.index o k s) = ⊥
-IsNoMember _ = Unit {0}
 
 -- what holds of both holds of the one that is chosen
 pub way : {S : Type 0} {x : Sort} (P : Tree S x → Type 0) (b : Bool) (t u : Tree S x) → P t → P u

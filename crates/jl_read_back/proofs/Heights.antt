@@ -17,7 +17,8 @@ use Rattle.jl_simulation.specs.HookCalls.{unary_hook, Expr, Stmt}
 use Rattle.jl_simulation.specs.HookCalls.{Stmts, Woven}
 use Rattle.jl_simulation.specs.Weaving.{calls, calls_member, computes, weave, woven_forest, woven_optional}
 use Rattle.jl_simulation.specs.Weaving.{woven_callee, woven_code, woven_delete, woven_typeof, woven_program}
-use Rattle.jl_read_back.proofs.Forms.{callee_is, delete_is, typeof_is, IsNoMember, IsNoName}
+use Rattle.jl_simulation.proofs.Shapes.{IsNoMember}
+use Rattle.jl_read_back.proofs.Forms.{callee_is, delete_is, typeof_is, IsNoName}
 
 -- what the woven tree may be higher by than three times the tree
 abbrev extra : Sort → ℕ

@@ -31,6 +31,7 @@ use Rattle.jl_token.specs.declared.punct.Punct.TheVariants as puncts
 use Rattle.jl_token.specs.declared.token.Token.{Token}
 use Rattle.jl_token.specs.declared.token.TokenKind.{TokenKind}
 use Rattle.jl_token.specs.declared.token.TokenKind.TheVariants as kinds
+use Rattle.jl_print.proofs.Spells.{only}
 use Rattle.jl_read_back.specs.inner.Bytes.{excess, text_weight}
 use Rattle.jl_read_back.specs.inner.Weight.{assigning_weight, key_weight, name_weight}
 use Rattle.jl_read_back.proofs.Bytes.{excess_none, long_weight, weight_append}
@@ -40,10 +41,6 @@ use Rattle.jl_read_back.proofs.Escapes.{four_small, single_small, two_small}
 punct_one : (p : Punct) → 1 ≤ length (punctuator_units p)
 punct_one puncts.LeftBrace = omega arith
 punct_one _ = omega arith
-
--- one token of a kind
-abbrev only : TokenKind → List Token
-only k = record { kind = k; span = record { from = 0; to = 0 }; line_before = false } ∷ []
 
 -- no name is a punctuator
 no_punct : (t : Text) (e : Bool) (p : Punct) → name_terminal t e ≡ terminals.Punct p → ⊥

@@ -17,13 +17,14 @@ use Rattle.jl_simulation.specs.HookCalls.{hook_1, hook_2, hook_of_1, string_of, 
 use Rattle.jl_simulation.specs.HookCalls.{Stmts, Woven}
 use Rattle.jl_simulation.specs.Weaving.{calls, calls_member, computes, weave, woven_forest, woven_optional}
 use Rattle.jl_simulation.specs.Weaving.{woven_callee, woven_delete, woven_typeof}
+use Rattle.jl_simulation.proofs.Shapes.{IsNoMember}
 use Rattle.jl_read_back.specs.inner.Bytes.{most_bytes, text_weight}
 use Rattle.jl_read_back.specs.inner.Weight.{directive_weight, name_weight, names_weight}
 use Rattle.jl_read_back.specs.inner.Weight.{optional_name_weight, optional_weight, weight, weights}
 use Rattle.jl_read_back.specs.inner.Width.{directive_width, names_width, optional_name_width, optional_width}
 use Rattle.jl_read_back.specs.inner.Width.{separator, width, widths}
 use Rattle.jl_read_back.proofs.Bytes.{bytes_few}
-use Rattle.jl_read_back.proofs.Forms.{callee_is, delete_is, typeof_is, IsNoMember, IsNoName}
+use Rattle.jl_read_back.proofs.Forms.{callee_is, delete_is, typeof_is, IsNoName}
 use Rattle.jl_read_back.proofs.Spelled.{binary_sign_few, string_few, unary_sign_few}
 
 -- what the woven tree is narrower by: an expression leaves room for the brackets and the semicolon of a statement, and

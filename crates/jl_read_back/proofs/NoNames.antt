@@ -12,8 +12,9 @@ use Rattle.jl_op.specs.declared.kind.OpKind.TheVariants as kind
 use Rattle.jl_simulation.specs.HookCalls.{before_update, Expr}
 use Rattle.jl_simulation.specs.Weaving.{assigns, calls, computes, weave, woven_assignment, woven_delete, woven_typeof}
 use Rattle.jl_simulation.specs.Weaving.{woven_update}
+use Rattle.jl_simulation.proofs.Shapes.{IsNoMember}
 use Rattle.jl_text.specs.declared.span.Span.{Span}
-use Rattle.jl_read_back.proofs.Forms.{IsNoMember, IsNoName}
+use Rattle.jl_read_back.proofs.Forms.{IsNoName}
 
 module _ (chosen : Kinds) (at : Span) where
   abbrev IsOther : Expr → Type 0

@@ -16,10 +16,11 @@ use Rattle.jl_simulation.specs.HookCalls.{hook, hook_1, hook_of_1, hook_statemen
 use Rattle.jl_simulation.specs.HookCalls.{Exprs, Stmts, Woven}
 use Rattle.jl_simulation.specs.Weaving.{calls, calls_member, computes, weave, woven_callee, woven_code}
 use Rattle.jl_simulation.specs.Weaving.{woven_delete, woven_forest, woven_optional, woven_program, woven_typeof}
+use Rattle.jl_simulation.proofs.Shapes.{IsNoMember}
 use Rattle.jl_read_back.proofs.Counts as count
 use Rattle.jl_read_back.proofs.Counts.{absent_counts, none_counts, one_counts, present_counts, up_to, Counts, CountsAll}
 use Rattle.jl_read_back.proofs.Counts.{CountsIfPresent}
-use Rattle.jl_read_back.proofs.Forms.{callee_is, delete_is, typeof_is, IsNoMember, IsNoName}
+use Rattle.jl_read_back.proofs.Forms.{callee_is, delete_is, typeof_is, IsNoName}
 
 -- a call of a hook has the functions of what it is told
 told : {n m : ℕ} {h : Text} {id : ℕ} {l : Exprs} → CountsAll n l m → Counts n (hook h id l) m

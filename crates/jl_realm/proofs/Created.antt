@@ -19,6 +19,7 @@ use Rattle.jl_heap.specs.declared.property.Defined.{Defined}
 use Rattle.jl_heap.specs.declared.property.Defined.TheVariants.{Done, Rejected}
 use Rattle.jl_heap.specs.declared.property.Prop.{Prop}
 use Rattle.jl_heap.specs.declared.property.Prop.TheVariants.{Accessor, Plain}
+use Rattle.jl_heap.proofs.ChainLemmas.{or_none}
 use Rattle.jl_heap.proofs.Items.{bytes_eq-same, item_in}
 use Rattle.jl_heap.proofs.Puts.{own-put}
 use Rattle.jl_meaning.specs.Defining.{is_done, no_change}
@@ -39,10 +40,6 @@ no_unit : (i : Option ℕ) → option_map unit_property (option_and_then (λ k. 
 no_unit None = refl
 no_unit (Some i) = refl
 
-or_nothing : {A : Type 0} (o : Option A) → option_or o None ≡ o
-or_nothing None = refl
-or_nothing (Some a) = refl
-
 pub own_alone : (h : Objects) (k : ℕ) (x : Name) → IsOrdinary (object_at h k) → own_or_unit h k x ≡ own h k x
 own_alone h k x ordinary =
     let units : units_of (object_at h k).class (object_at h k).inner ≡ [] =
@@ -50,7 +47,7 @@ own_alone h k x ordinary =
     ap (λ (us : List ℕ). option_or (own h k x)
     (option_map unit_property (option_and_then (λ i. slice_get us i) (index_of x)))) units
     ∙ ap (option_or (own h k x)) (no_unit (index_of x))
-    ∙ or_nothing (own h k x)
+    ∙ or_none (own h k x)
 
 module _ (x : Name) (p : Prop) where
   new_item : (serial : ℕ) (es : List (Entry Prop)) → item_in x es ≡ None → item_in x (with_new es x serial p) ≡ Some p

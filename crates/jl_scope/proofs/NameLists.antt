@@ -27,7 +27,7 @@ or_swap : (a b c : Bool) → (a || (b || c)) ≡ ((a || b) || c)
 or_swap true b c = refl
 or_swap false b c = refl
 
-or_comm : (a b : Bool) → (a || b) ≡ (b || a)
+pub or_comm : (a b : Bool) → (a || b) ≡ (b || a)
 or_comm true true = refl
 or_comm true false = refl
 or_comm false true = refl

@@ -1,7 +1,7 @@
 -- What a `for-in` may visit, gathered (12.6.4).
 use Rattle.std.proofs.Common.{◌≡◌, ◌+◌, ◌++◌, ◌∷◌, ◌<◌, ◌≤◌, ◌∙◌, ◌||◌, [], append_assoc, ap, arith, drop, false}
 use Rattle.std.proofs.Common.{get_or, length, map, not, refl, subst, suc, sym, true, zero, Bool, List, None, Option}
-use Rattle.std.proofs.Common.{Some, ℕ}
+use Rattle.std.proofs.Common.{append-nil, Some, ℕ}
 use Rattle.std.proofs.lemmas.List.FromFn.{map-range_with_len_more}
 use Rattle.std.specs.List.{range_with_len, slice_get}
 use Rattle.std.specs.Option.{option_map_or}
@@ -16,6 +16,7 @@ use Rattle.jl_heap.specs.Objects.{names_of, object_at, units_of, Name, Objects}
 use Rattle.jl_heap.specs.declared.property.Prop.{Prop}
 use Rattle.jl_scope.specs.Names.{among, with_name}
 use Rattle.jl_scope.specs.NameSets.{SameNames}
+use Rattle.jl_scope.proofs.NameLists.{or_comm}
 use Rattle.jl_meaning.specs.Parts.{Visit}
 use Rattle.jl_meaning.specs.forms.Loops.{first_of_each_name, is_named_among, is_still_there, own_visits, visits_left}
 use Rattle.jl_meaning.specs.forms.Literals.{index_name}
@@ -95,16 +96,12 @@ own_added heap place count l m more names units properties counted found =
 abbrev Before : ℕ → Option ObjId → Type 0
 Before place proto = IfSome proto (λ p. p.0 < place)
 
-append_none : {A : Type 0} (l : List A) → l ++ [] ≡ l
-append_none [] = refl
-append_none (x ∷ l) = ap (λ m. x ∷ m) (append_none l)
-
 abbrev onward : (ObjId → List Visit) → Option ObjId → List Visit
 onward f proto = option_map_or f proto []
 
 alone : (o : List Visit) (f : ObjId → List Visit) (place : ℕ) (proto : Option ObjId) → place ≤ 0 → Before place proto
     → o ++ onward f proto ≡ o
-alone o f place None bottom none = append_none o
+alone o f place None bottom none = append-nil o
 alone o f place (Some p) bottom below = absurd (omega (arith, below, bottom))
 
 along : (o : List Visit) (f g : ObjId → List Visit) (place : ℕ) (proto : Option ObjId) → Before place proto
@@ -144,7 +141,7 @@ pub gathered_last : (heap : Objects) → ProtosAreOlder heap → (l m : List Gat
     → (object_at heap place).proto ≡ None → all_seen m ≡ all
 gathered_last heap older l m place all before added proto =
     added
-    ∙ ap (λ o. all_seen l ++ o) (sym (append_none (own_visits heap place)))
+    ∙ ap (λ o. all_seen l ++ o) (sym (append-nil (own_visits heap place)))
     ∙ ap (λ o. all_seen l ++ (own_visits heap place ++ onward (λ q. visits_within q.0 heap q.0) o)) (sym proto)
     ∙ ap (λ o. all_seen l ++ o) (sym (within_by heap older place))
     ∙ before
@@ -215,12 +212,6 @@ is_true false is = absurd (let differ = is in cc)
 pub firsts_begin : (l : List Gathered) → FirstsLeft (all_seen l) [] [] l
 firsts_begin l = record { is = refl }
 
-or_turned : (a b : Bool) → (a || b) ≡ (b || a)
-or_turned true true = refl
-or_turned true false = refl
-or_turned false true = refl
-or_turned false false = refl
-
 or_last : (a : Bool) → a ≡ (a || false)
 or_last true = refl
 or_last false = refl
@@ -231,7 +222,7 @@ named_so : (v : Visit) (before after : List Name) → among v.name before ≡ fa
     → is_named_among x (v ∷ named before) ≡ is_named_among x (named after)
 named_so v before after fresh names x =
     ap (λ c. bytes_eq v.name x || c) (among_named x before)
-    ∙ or_turned (bytes_eq v.name x) (among x before)
+    ∙ or_comm (bytes_eq v.name x) (among x before)
     ∙ ap (λ b. among x before || b) (bytes_turned v.name x ∙ or_last (bytes_eq x v.name))
     ∙ sym (list_any-append (λ y. bytes_eq x y) before (v.name ∷ []))
     ∙ ap (λ (b : Bool). among x (if b then before else before ++ v.name ∷ [])) (sym fresh)
@@ -295,7 +286,7 @@ firsts_passed l first before after i v x fresh left within is name tells old nam
 
 pub firsts_end : (all : List Visit) (first : List Gathered) (before : List Name) → FirstsLeft all first before []
     → all_seen first ≡ first_of_each_name [] all
-firsts_end all first before left = sym (append_none (all_seen first)) ∙ sym left.is
+firsts_end all first before left = sym (append-nil (all_seen first)) ∙ sym left.is
 
 -- what is still there
 

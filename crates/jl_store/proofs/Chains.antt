@@ -19,9 +19,6 @@ use Rattle.jl_store.specs.Comes.{leads, Comes}
 abbrev EndOf : Type 0 → Type 0
 EndOf A = Finish AlgorithmFault (Answer A)
 
-abbrev gives_end : {A : Type 0} → A → EndOf A
-gives_end a = Ends (gives a)
-
 given_on : {A B : Type 0} (a : Answer A) (k : A → Algorithm B) (s t u : Store) (b : A) (e : EndOf B) → a ≡ gives b
     → s ≡ t → leads (k b) t u e → leads (continue_with k a) s u e
 given_on {A} {B} a k s t u b e here same rest =

@@ -1,5 +1,5 @@
 -- What environments are seen as, by their parts, and after a change of these.
-use Rattle.std.proofs.Common.{◌≡◌, ℕ, zero, suc, ◌<◌, ◌≤◌, Bool, true, false, List, [], ◌∷◌, ◌++◌, length}
+use Rattle.std.proofs.Common.{◌≡◌, ℕ, ◌<◌, ◌≤◌, Bool, true, false, List, [], ◌∷◌, ◌++◌, length}
 use Rattle.std.proofs.Common.{◌+◌, refl, ap, sym, ◌∙◌, subst, eqb, arith, length-append}
 use Rattle.std.proofs.lemmas.Bool.{eqb-true, eqb-false, ltb-true}
 use Rattle.std.proofs.lemmas.List.{set-get_or, set_past}
@@ -13,6 +13,8 @@ use Rattle.jl_props.specs.Entries.{entry_named, with_item, with_new}
 use Rattle.jl_props.specs.Store.{Changes, IsUnchanged, IsWellKept, Properties, entries_of, item_of}
 use Rattle.jl_props.specs.declared.entries.Entry.{Entry}
 use Rattle.jl_value.specs.declared.value.Value.{Value}
+use Rattle.jl_heap.proofs.InsideLemmas.{slice_get-None}
+use Rattle.jl_heap.proofs.Pushed.{each_pushed}
 use Rattle.jl_meaning.specs.Changes.{rebound}
 use Rattle.jl_meaning.specs.Store.{binding_named, no_environment, Binding, Environment}
 use Rattle.jl_store.specs.Environments.{bound_to, environment_in, outer_in, OutersAreBefore, with_bindings_in}
@@ -26,11 +28,6 @@ use Rattle.jl_store.proofs.Seen.{environments-at, environments-past, environment
 use Rattle.jl_store.proofs.Seen.{environments-same}
 use Rattle.jl_store.proofs.Seen.{length-environments}
 
-past_end : {A : Type 0} (xs : List A) (k : ℕ) → slice_get xs k ≡ None → length xs ≤ k
-past_end [] k e = omega arith
-past_end (x ∷ xs) zero e = cc
-past_end (x ∷ xs) (suc k) e = let i = past_end xs k e in omega arith
-
 no_entries : (es : List (Entry Bound)) → length es ≡ 0 → es ≡ []
 no_entries [] e = refl
 no_entries (x ∷ es) e = absurd (omega (arith, e))
@@ -42,7 +39,7 @@ there a k o e =
     ∙ ap (λ i. environment_with i (entries_of a.bindings k)) (get_or_from_slice_get a.outers k o o e)
 
 past : (a : Inside) (k : ℕ) → slice_get a.outers k ≡ None → environment_in (environments_inside a) k ≡ no_environment
-past a k e = environments-past a.outers (entries_of a.bindings) k no_environment (past_end a.outers k e)
+past a k e = environments-past a.outers (entries_of a.bindings) k no_environment (slice_get-None a.outers k e)
 
 -- the environment around one, if it is there
 abbrev pub joined : Option (Option ℕ) → Option ℕ
@@ -73,7 +70,7 @@ bindings_by : (a : Inside) (k : ℕ) → IsKept a → (found : Option (Option �
     → (environment_in (environments_inside a) k).bindings ≡ map binding_of_entry (entries_of a.bindings k)
 bindings_by a k kept None e =
     ap (λ (i : Environment). i.bindings) (past a k e)
-    ∙ ap (map binding_of_entry) (sym (no_entries _ (kept.none_past k (past_end a.outers k e))))
+    ∙ ap (map binding_of_entry) (sym (no_entries _ (kept.none_past k (slice_get-None a.outers k e))))
 bindings_by a k kept (Some o) e = ap (λ (i : Environment). i.bindings) (there a k o e)
 
 pub bindings_at : (a : Inside) (k : ℕ) → IsKept a
@@ -97,13 +94,6 @@ none_under f None none = none
 none_under f (Some x) none = none
 
 -- one more environment
-
-each_pushed : {A : Type 0} (P : ℕ → Option A → Type 0) (xs : List A) (x : A) → ((k : ℕ) → P k (slice_get xs k))
-    → P (length xs) (Some x) → (k : ℕ) → P k (slice_get (xs ++ x ∷ []) k)
-each_pushed P [] x old new zero = new
-each_pushed P [] x old new (suc k) = old (suc k)
-each_pushed P (y ∷ ys) x old new zero = old zero
-each_pushed P (y ∷ ys) x old new (suc k) = each_pushed (λ j. P (suc j)) ys x (λ j. old (suc j)) new k
 
 kept_wider : (a : Inside) (o : Option ℕ) → IsKept a → IsTrue (is_before (length a.outers) (Some o))
     → IsKept (record a { outers = a.outers ++ o ∷ [] })

@@ -15,13 +15,10 @@ use Rattle.jl_store.specs.Environments.{OutersAreBefore}
 use Rattle.jl_meaning.specs.References.{global_reference, in_environment, reference_from, reference_within, Reference}
 use Rattle.jl_meaning.specs.Store.{environment_at, has_binding, Store}
 use Rattle.jl_heap.specs.declared.property.Prop.{Prop}
+use Rattle.jl_heap.proofs.ChainLemmas.{along, or_none}
 
 abbrev Before : ℕ → Option ObjId → Type 0
 Before place proto = IfSome proto (λ p. p.0 < place)
-
-or_none : {A : Type 0} (o : Option A) → option_or o None ≡ o
-or_none None = refl
-or_none (Some x) = refl
 
 -- an object at address 0 has no prototype
 alone : {A : Type 0} (o : Option A) (f : ObjId → Option A) (place : ℕ) (proto : Option ObjId) → place ≤ 0
@@ -29,12 +26,6 @@ alone : {A : Type 0} (o : Option A) (f : ObjId → Option A) (place : ℕ) (prot
     → option_or o (option_and_then f proto) ≡ o
 alone o f place None bottom none = or_none o
 alone o f place (Some p) bottom below = absurd (omega (arith, below, bottom))
-
-along : {A : Type 0} (o : Option A) (f g : ObjId → Option A) (place : ℕ) (proto : Option ObjId) → Before place proto
-    → ((p : ObjId) → p.0 < place → f p ≡ g p) → option_or o (option_and_then f proto)
-    ≡ option_or o (option_and_then g proto)
-along o f g place None below same = refl
-along o f g place (Some p) below same = ap (option_or o) (same p below)
 
 properties_agree : (s : Store) → ProtosAreOlder s.heap → (x : List ℕ) (m n place : ℕ) → place ≤ m → place ≤ n
     → property_within m s place x ≡ property_within n s place x

@@ -11,15 +11,12 @@ use Rattle.std.specs.Str.Parse.{digits_value}
 use Rattle.jl_num.specs.Digits.{digit_code, digits_within}
 use Rattle.jl_num.proofs.Numeral.{digits_write_numbers}
 use Rattle.jl_num.proofs.Places.{last_digit, more_digits, one_digit}
+use Rattle.jl_text.proofs.SearchLemmas.{false_unless}
 use Rattle.jl_heap.specs.Define.{length_name}
 use Rattle.jl_heap.specs.Objects.{Name}
 use Rattle.jl_meaning.specs.forms.Literals.{index_name}
 use Rattle.jl_store.specs.inner.Arguments.{names_with}
 use Rattle.jl_store.proofs.Fresh.{lacks}
-
-false_unless : (b : Bool) → (b ≡ true → ⊥) → b ≡ false
-false_unless true h = absurd (h refl)
-false_unless false h = refl
 
 -- no element is past the digits
 abbrev Low : List ℕ → Type 0

@@ -6,6 +6,7 @@ use Rattle.std.proofs.Math.ListN.{set}
 use Rattle.std.specs.Prelude.{None, Option, Some}
 use Rattle.jl_ast.specs.declared.tree.Ident.{Ident}
 use Rattle.jl_scope.proofs.Binding.{with_one}
+use Rattle.jl_scope.proofs.NameLists.{or_comm}
 use Rattle.jl_scope.specs.Names.{among, same_text, with_name}
 use Rattle.jl_scope.specs.NameSets.{SameNames}
 use Rattle.jl_heap.specs.Objects.{Name}
@@ -35,12 +36,6 @@ mapped_last n x rest new = set_at_seam n (Some x) (mapped_names rest) ∙ sym (r
 pub mapped_again : (n : ℕ) (x : Name) (rest : List Name) → among x rest ≡ true
     → no_mappings (suc n) ++ mapped_names rest ≡ no_mappings n ++ mapped_names (x ∷ rest)
 mapped_again n x rest again = seam n (mapped_names rest) ∙ sym (rw again refl)
-
-or_comm : (a b : Bool) → (a || b) ≡ (b || a)
-or_comm true true = refl
-or_comm true false = refl
-or_comm false true = refl
-or_comm false false = refl
 
 pub same_with : (set rest after : List Name) (x : Name) → SameNames set rest → SameNames after (with_name set x)
     → SameNames after (x ∷ rest)

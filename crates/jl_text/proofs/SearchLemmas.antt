@@ -11,7 +11,8 @@ use Rattle.std.proofs.str.Laws.{both}
 use Rattle.std.specs.List.{starts_with}
 use Rattle.jl_text.specs.Search.{StandsAt, place_in, first_place, place_below, last_place}
 
-false_unless : (b : Bool) → (b ≡ true → ⊥) → b ≡ false
+-- a test that can't be true is false
+pub false_unless : (b : Bool) → (b ≡ true → ⊥) → b ≡ false
 false_unless true h = absurd (h refl)
 false_unless false h = refl
 

@@ -2,6 +2,7 @@
 use Rattle.std.proofs.Common.{◌≡◌, refl, sym, ap, ◌∙◌, subst, ℕ, ◌<◌, inl, inr, Bool, true, false, ◌&&◌, ◌||◌, ◌==◌}
 use Rattle.std.proofs.Common.{nat_le, List, [], ◌∷◌, length, Option, Some, None, arith}
 use Rattle.std.proofs.lemmas.Bool.Decides.{nat_tests}
+use Rattle.jl_text.proofs.SearchLemmas.{false_unless}
 use Rattle.jl_token.specs.Characters.{is_identifier_start, is_identifier_part, is_digit, are_hex_digits, hex_number}
 use Rattle.jl_token.specs.Characters.{hex_digit_value, is_quote, first_is}
 use Rattle.jl_token.specs.Elements.{Element, Many, no_more, unit, digits as some, zero_digit, nonzero, no_exponent}
@@ -18,7 +19,7 @@ use Rattle.jl_token.specs.declared.token.BadKind.{BadKind}
 use Rattle.jl_token.specs.declared.token.BadKind.TheVariants as faults
 use Rattle.jl_token.specs.declared.punct.Punct.TheVariants.{Dot, Slash}
 use Rattle.jl_token.proofs.Rows.{Reads, nothing_at_end, many_sound, many_whole, Found}
-use Rattle.jl_token.proofs.Tests.{or_cases, and_true, true_or_false, not_true, never_both, is_unit}
+use Rattle.jl_token.proofs.Tests.{or_cases, and_true, true_or_false, never_both, is_unit}
 use Rattle.jl_token.proofs.Units.{units, lines, quotes, digit_bounds}
 use Rattle.jl_token.proofs.Parts.{reads_before_close, reads_start, reads_part}
 use Rattle.jl_token.proofs.Strings.{reads_character, at_backslash}
@@ -66,7 +67,7 @@ module _ (mark : ℕ) (q : is_quote mark ≡ true) where
   not_mark u h = subst (λ w. is_quote w ≡ true) (sym (is_unit u mark h)) q
 
   backslash_mark : (92 == mark) ≡ false
-  backslash_mark = not_true (92 == mark) (λ h. never_both (92 == 92) refl (quotes 92 (not_mark 92 h)).backslash)
+  backslash_mark = false_unless (92 == mark) (λ h. never_both (92 == 92) refl (quotes 92 (not_mark 92 h)).backslash)
 
   unclosed_stops : (rest : List ℕ) → Unclosed rest → character mark rest ≡ None
   unfolding character escape
@@ -83,7 +84,7 @@ module _ (mark : ℕ) (q : is_quote mark ≡ true) where
   unclosed_end cs rest at_end = refl
   unclosed_end cs rest at_last_backslash = rw (backslash_mark) refl
   unclosed_end cs rest (at_line_terminator {u} {us} h) =
-      rw (not_true (u == mark) (λ g. never_both (is_quote u) (not_mark u g) (lines u h).quote), h) refl
+      rw (false_unless (u == mark) (λ g. never_both (is_quote u) (not_mark u g) (lines u h).quote), h) refl
 
   escape_end : (cs : List (List ℕ × Bool)) (u : ℕ) (rest : List ℕ) → string_end mark (cs, 92 ∷ u ∷ rest)
       ≡ bad faults.BadEscape

@@ -1,6 +1,7 @@
 -- Tests taken apart.
 use Rattle.std.proofs.Common.{◌≡◌, refl, ap, ℕ, ◌⊎◌, inl, inr, Bool, true, false, ◌&&◌, ◌||◌, ◌==◌, Option, None, Some}
 use Rattle.std.proofs.lemmas.Bool.{eqb-true}
+use Rattle.jl_text.proofs.SearchLemmas.{false_unless}
 
 pub or_cases : (a b : Bool) → (a || b) ≡ true → (a ≡ true) ⊎ (b ≡ true)
 or_cases true b h = inl refl
@@ -21,11 +22,6 @@ pub true_or_false : (a : Bool) → (a ≡ true) ⊎ (a ≡ false)
 true_or_false true = inl refl
 true_or_false false = inr refl
 
--- a test that can't be true is false
-pub not_true : (a : Bool) → (a ≡ true → ⊥) → a ≡ false
-not_true true h = absurd (h refl)
-not_true false h = refl
-
 pub never_both : (a : Bool) → a ≡ true → a ≡ false → ⊥
 never_both a h g = cc
 
@@ -34,7 +30,7 @@ pub is_unit : (u k : ℕ) → (u == k) ≡ true → u ≡ k
 is_unit u k h = eqb-true u k h
 
 pub other_unit : (u k : ℕ) → (u ≡ k → ⊥) → (u == k) ≡ false
-other_unit u k h = not_true (u == k) (λ e. h (eqb-true u k e))
+other_unit u k h = false_unless (u == k) (λ e. h (eqb-true u k e))
 
 -- a pair that is found
 first_or : {A B : Type 0} → A → Option (A × B) → A

@@ -7,10 +7,11 @@ use Rattle.std.proofs.lemmas.Bool.Decides.{leb_tells}
 use Rattle.unicode.proofs.CategoryComputing.{ucd_category}
 use Rattle.ucd_category.specs.declared.GeneralCategory.{GeneralCategory}
 use Rattle.ucd_category.specs.declared.GeneralCategory.TheVariants.{SpaceSeparator}
+use Rattle.jl_text.proofs.SearchLemmas.{false_unless}
 use Rattle.jl_token.specs.Characters.{is_surrogate, category, is_space, is_letter, is_mark, is_white_space}
 use Rattle.jl_token.specs.Characters.{is_line_terminator, is_on_line, is_identifier_start, is_identifier_part, is_digit}
 use Rattle.jl_token.specs.Characters.{is_hex_digit, is_quote}
-use Rattle.jl_token.proofs.Tests.{or_cases, both_false, and_true, not_true, never_both, is_unit, other_unit}
+use Rattle.jl_token.proofs.Tests.{or_cases, both_false, and_true, never_both, is_unit, other_unit}
 
 -- a test of each number below a bound, computed
 unfoldable pub all_below : (ℕ → Bool) → ℕ → Bool
@@ -118,7 +119,7 @@ each_quote p a b u h = elim (or_cases _ _ h) [ inl e ↦ at_unit p u 34 e a | in
 
 -- the other way round
 clash : (p q : ℕ → Bool) → ((u : ℕ) → p u ≡ true → q u ≡ false) → (u : ℕ) → q u ≡ true → p u ≡ false
-clash p q f u h = not_true (p u) (λ e. never_both (q u) h (f u e))
+clash p q f u h = false_unless (p u) (λ e. never_both (q u) h (f u e))
 
 pub record Starts (u : ℕ) : Type 0 where
   pub white : is_white_space u ≡ false

@@ -7,13 +7,9 @@ use Rattle.jl_op.specs.Chosen.{Kinds}
 use Rattle.jl_op.specs.Ids.{callee_with_ids, member_ids, with_ids}
 use Rattle.jl_simulation.specs.HookCalls.{Expr}
 use Rattle.jl_simulation.specs.Weaving.{weave, woven_callee}
+use Rattle.jl_simulation.proofs.Shapes.{IsNoMember}
 use Rattle.jl_weave.specs.inner.Forms.{callee_form}
 use Rattle.jl_weave.proofs.Weaves.{Weaves, WeavesCallee}
-
-abbrev pub IsNoMember : {S : Type 0} → Tree S tree.expr → Type 0
-IsNoMember (tree.dot o k s) = ⊥
-IsNoMember (tree.index o k s) = ⊥
-IsNoMember e = Unit {0}
 
 module _ (chosen : Kinds) {S : Type 0} where
   callee_is : (f : Tree S tree.expr) (n : ℕ) → IsNoMember f →

@@ -10,7 +10,7 @@ use Rattle.jl_ast.specs.declared.tree.Expr.{Expr}
 use Rattle.jl_ast.specs.declared.tree.ExprKind as expression
 use Rattle.jl_ast.specs.declared.tree.ExprKind.{the_lemmas}
 use Rattle.jl_ast.proofs.Views.{nodes}
-use Rattle.jl_weave.proofs.Callees.{IsNoMember}
+use Rattle.jl_simulation.proofs.Shapes.{IsNoMember}
 
 abbrev is_member : {S : Type 0} → Tree S tree.expr → Bool
 is_member (tree.dot o k s) = true
