@@ -35,9 +35,7 @@ pub fn get_value<'p>(
     ensures falls { IfOk result (λ act. Falls state.old 4 state.new act) }
 {
     match reference {
-        Reference::InEnvironment(env) => {
-            Ok(Act::Give(state.store.binding_value(env, name)?))
-        }
+        Reference::InEnvironment(env) => { Ok(Act::Give(state.store.binding_value(env, name)?)) }
         Reference::OnGlobalObject => get(alloc, state, &Value::Obj(ObjId::GLOBAL), name),
         Reference::Unresolvable => throw_not_defined(alloc, state, name),
     }
