@@ -10,7 +10,7 @@ use Rattle.jl_heap.specs.Objects.{Name}
 use Rattle.jl_meaning.specs.Changes.{NewBinding, NewEnvironment}
 use Rattle.jl_meaning.specs.FunctionObjects.{create_function, function_name, function_params, is_strict}
 use Rattle.jl_meaning.specs.FunctionObjects.{make_function, make_function_expression, make_named}
-use Rattle.jl_meaning.specs.Parts.{change_store, give, look, Algorithm, Func}
+use Rattle.jl_meaning.specs.Parts.{change_store, give, look, ◌>>=◌, Algorithm, Func}
 use Rattle.jl_meaning.specs.Store.{next_environment}
 
 -- a function has the number, the name and the parameters of another one, and is as strict

@@ -18,7 +18,7 @@ use Rattle.jl_op.specs.declared.op.Op.TheVariants as op
 use Rattle.jl_effects.specs.Effects.{Fail, Step}
 use Rattle.jl_meaning.specs.FunctionObjects.{callee_of, FunctionTable}
 use Rattle.jl_meaning.specs.Noting.{emits, note, note_value, performs}
-use Rattle.jl_meaning.specs.Parts.{begin_call, give, lift, look, Answer, CallOf, Context, Expr, Exprs, Part}
+use Rattle.jl_meaning.specs.Parts.{begin_call, give, lift, look, ◌>>=◌, Answer, CallOf, Context, Expr, Exprs, Part}
 use Rattle.jl_meaning.specs.forms.Calls.{call_member, call_value, function_of, invoke}
 use Rattle.jl_meaning.specs.forms.HookCalls.{asked_of, count, form_of, form_of_member, hook, hook_call, id_in}
 use Rattle.jl_meaning.specs.forms.HookCalls.{literals_of, no_hook, opener, plain, takes_arguments, word_in, worded}

@@ -9,7 +9,7 @@ use Rattle.jl_effects.specs.Effects.{and_then}
 use Rattle.jl_effects.specs.Running.{nothing_done, run}
 use Rattle.jl_effects.specs.Traces.{quietly}
 use Rattle.jl_effects.proofs.Traces.{run_quietly}
-use Rattle.jl_meaning.specs.Completions.{normal, then_do}
+use Rattle.jl_meaning.specs.Completions.{normal, then_do, ◌>>=◌}
 use Rattle.jl_meaning.specs.DeclarationBinding.{declare_program}
 use Rattle.jl_meaning.specs.FunctionObjects.{FunctionTable}
 use Rattle.jl_meaning.specs.FunctionTable.{function_table}

@@ -18,7 +18,7 @@ use Rattle.jl_meaning.specs.Expressions.{equip, equip_one, evaluate, evaluate_al
 use Rattle.jl_meaning.specs.Expressions.{evaluate_delete, evaluate_typeof, evaluate_update, fill, fill_one, this_of}
 use Rattle.jl_meaning.specs.FunctionObjects.{make_function, FunctionTable}
 use Rattle.jl_meaning.specs.Noting.{performs}
-use Rattle.jl_meaning.specs.Parts.{Answer, Context, Expr, Exprs, Part}
+use Rattle.jl_meaning.specs.Parts.{◌>>=◌, Answer, Context, Expr, Exprs, Part}
 use Rattle.jl_meaning.specs.forms.Calls.{call_member, call_value}
 use Rattle.jl_meaning.specs.forms.HookCalls.{count, form_named, form_of, form_of_member, no_hook, hooks, openers}
 use Rattle.jl_meaning.specs.forms.HookCalls.{shape_named}

@@ -10,7 +10,7 @@ use Rattle.jl_heap.specs.declared.property.Prop.TheVariants.{Plain}
 use Rattle.jl_meaning.specs.ArgumentsObject.{add_callee, add_elements}
 use Rattle.jl_meaning.specs.FunctionObjects.{add_poison, whole}
 use Rattle.jl_meaning.specs.Intrinsics.{object_prototype}
-use Rattle.jl_meaning.specs.Parts.{add_property, give, new_object, Algorithm}
+use Rattle.jl_meaning.specs.Parts.{add_property, give, new_object, ◌>>=◌, Algorithm}
 
 abbrev pub function_with_prototype : (strict : Bool) → (f proto : ObjId) → Algorithm ObjId
 function_with_prototype strict f proto = do
