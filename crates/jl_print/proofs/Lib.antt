@@ -26,3 +26,5 @@ mod Examples
 mod Writing
 mod Laying
 pub mod WithoutPlaces
+pub mod Paired
+pub mod Spells

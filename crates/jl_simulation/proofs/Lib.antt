@@ -33,3 +33,4 @@ mod Programs
 mod Accepted
 mod ReadOperators
 mod AcceptedScripts
+pub mod Shapes
