@@ -1,4 +1,4 @@
-mod Spells
+pub mod Spells
 mod Fronts
 mod Skeleton
 mod Places
@@ -20,11 +20,9 @@ mod LexedNumbers
 mod LexedStrings
 mod Lexed
 mod Clean
-mod Paired
+pub mod Paired
 mod Printed
 mod Examples
 mod Writing
 mod Laying
 pub mod WithoutPlaces
-pub mod Paired
-pub mod Spells

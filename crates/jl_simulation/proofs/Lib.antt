@@ -9,7 +9,7 @@ mod Names
 mod Numbers
 mod Updates
 mod Calls
-mod Shapes
+pub mod Shapes
 mod MadeFunctions
 mod Entries
 mod HookedNames
@@ -33,4 +33,3 @@ mod Programs
 mod Accepted
 mod ReadOperators
 mod AcceptedScripts
-pub mod Shapes
