@@ -27,7 +27,8 @@ fn bind(alloc: Global, store: &mut Store, env: usize, name: &str) -> Result<(), 
 
 fn bound_text(alloc: Global, store: &Store, env: usize, name: &str) -> Result<String, Fault> {
     let name = word(alloc, name)?;
-    match store.binding_value(env, &name)? {
+    let value = store.binding_value(env, &name)?;
+    match &value {
         Value::Text(text) => Ok(String::from_utf16_lossy(alloc, text.units())?),
         _ => Ok(String::from_str(alloc, "undefined")?),
     }
