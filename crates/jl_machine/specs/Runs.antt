@@ -1,5 +1,5 @@
 -- What a run of the machine comes to.
-use Rattle.std.specs.Prelude.{◌≡◌, ◌++◌, ◌-◌, ◌<◌, ◌^◌, length, List, ℕ}
+use Rattle.std.specs.Prelude.{◌≡◌, ◌++◌, ◌-◌, length, List, ℕ}
 use Rattle.jl_ast.specs.Tree.{Program}
 use Rattle.jl_value.specs.declared.ending.Completion.TheVariants as completion
 use Rattle.jl_value.specs.declared.ending.Fault.TheVariants.{Misuse}
@@ -31,13 +31,12 @@ steps_of ending.Spent budget left = budget
 steps_of end budget left = budget - left
 
 -- What was answered is what the run came to that began with so many steps, and the observer, who was told of those from
--- before, was told of what its hooks emitted. Of these there are as many as was answered, as long as there are so few
--- that a count may say how many.
+-- before, was told of what its hooks emitted, of which there are as many as was answered.
 pub record IsRun {O : Type 0} (stands_for : O → List Operation → Type 0) (before : List Operation) (budget : ℕ)
     (r : mean.Run) (answer : Run) (observer : O) : Type 0 where
   pub outcome : answer.outcome ≡ ending_of r
   pub output : answer.output ≡ (state_of r).output
   pub store : answer.store ≡ (state_of r).store
   pub steps : answer.steps ≡ steps_taken budget r
-  pub hooks : length (state_of r).hooks < 2 ^ 64 → answer.hooks ≡ length (state_of r).hooks
+  pub hooks : answer.hooks ≡ length (state_of r).hooks
   pub told : stands_for observer (before ++ (state_of r).hooks)

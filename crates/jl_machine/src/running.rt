@@ -12,6 +12,7 @@ use jl_ast::Program;
 use jl_op::{KindSet, Observer};
 use jl_scope::is_strict;
 use jl_state::{Here, State};
+use jl_tally::laws::hooks_take_steps;
 use jl_text::NoMemory;
 use jl_value::Outcome;
 use std::alloc::Global;
@@ -45,6 +46,7 @@ pub fn run<O: Observer>(
     ensures accepted { OnOk result (O.has_refused observer.new ≡ O.has_refused observer.old) }
     ensures fixed { O.fixed observer.new ≡ O.fixed observer.old }
 {
+    hooks_take_steps::<jl_text::Span>();
     let mut state = start(alloc, program, budget)?;
     let here = Here {
         env: 0,
