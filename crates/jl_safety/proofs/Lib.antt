@@ -13,3 +13,4 @@ mod Functions
 mod Jobs
 mod Programs
 mod Woven
+mod Ends

@@ -8,6 +8,7 @@ ghost use Rattle.jl_effects.specs.Keeping.{FailsAllowed};
 ghost use Rattle.jl_meaning.specs.Mean.{IsNoMisuse, mean};
 ghost use Rattle.jl_op.specs.Chosen.{Kinds};
 ghost use Rattle.jl_quiet.specs.QuietMean.{quiet_mean};
+ghost use Rattle.jl_safety.specs.Ends.{EndsOrThrows};
 ghost use Rattle.jl_scope.specs.EarlyErrors.{early_errors_of};
 ghost use Rattle.jl_simulation.specs.Weaving.{woven_program};
 
@@ -37,3 +38,10 @@ pub fn woven_never_misuses()
 {
     accepted_scripts_simulate();
 }
+
+/// A run that has come to the end of its program, be it any, completed normally or threw (clause 14): what completes
+/// otherwise ends by the fault Misuse.
+pub fn programs_end_or_throw<S>()
+    ensures meant { (chosen : Kinds) (p : Program S) (n : ℕ) → EndsOrThrows (mean chosen p n) }
+    ensures quietly { (chosen : Kinds) (p : Program S) (n : ℕ) → EndsOrThrows (quiet_mean chosen p n) }
+{}
