@@ -4,7 +4,7 @@ use Rattle.std.proofs.Common.{◌∙◌, subst, arith}
 use Rattle.jl_analysis.specs.Laws.{NeededIsEnough}
 use Rattle.jl_ast.specs.Tree.{Program}
 use Rattle.jl_effects.specs.Growing.{IsLonger}
-use Rattle.jl_effects.specs.Matching.{Alike, SameSeen, Simulates, step_bound}
+use Rattle.jl_effects.specs.Matching.{Alike, IsWithin, SameSeen, Simulates, step_bound}
 use Rattle.jl_effects.specs.Running.{Ends, Fails, Finish, IsOver, Over, RunState, Spent, state_of as world_of}
 use Rattle.jl_effects.specs.Running.{steps_taken}
 use Rattle.jl_effects.specs.Traces.{with_state, without_operations}
@@ -18,6 +18,7 @@ use Rattle.jl_text.specs.declared.span.Span.{Span}
 use Rattle.jl_value.specs.declared.ending.Completion.{Completion}
 use Rattle.jl_value.specs.declared.ending.Completion.TheVariants as completion
 use Rattle.jl_value.specs.declared.ending.Fault.{Fault}
+use Rattle.jl_value.specs.declared.ending.Outcome.TheVariants as ending
 use Rattle.jl_app.specs.Answers.{IsReported, end_line, lint_bytes, lint_status, places}
 use Rattle.jl_app.specs.Endings.{Call}
 use Rattle.jl_app.specs.Headline.{IsAbout, IsAboutBeginning, kept_of}
@@ -69,6 +70,15 @@ module _ (kept : Operation → Bool) where
   alike_over (Over e m v) (Spent w) a = absurd a
   alike_over (Spent v) r a = absurd a
 
+  -- the same without what the second performs itself
+  quiet_alike : (own other : mean.Run) → Alike kept own other → Alike kept own (quiet other)
+  quiet_alike (Over e m v) (Over f n w) a = (
+    a.0,
+    record { store = a.1.store; output = a.1.output; hooks = a.1.hooks },
+  )
+  quiet_alike (Over e m v) (Spent w) a = a
+  quiet_alike (Spent v) r a = absurd a
+
 -- the bytes of the answer
 same_bytes : (own r : mean.Run) (lines : Lines) (steps count : ℕ) → (world_of r).output ≡ (world_of own).output
     → (world_of r).store ≡ (world_of own).store → ending_of r ≡ ending_of own
@@ -95,7 +105,7 @@ reported : NeededIsEnough → (units : List ℕ) (p : Program Span) (chosen : Li
     → IsReported units p chosen (kept_of chosen operations) operations lines count
 reported enough units p chosen operations lines count is = record {
   counted = is.counted;
-  report = λ few. all_reported enough units (places p) chosen operations lines (is.report few);
+  report = all_reported enough units (places p) chosen operations lines is.report;
 }
 
 module _ (enough : NeededIsEnough) (call : Call) (units : List ℕ) (p : Program Span) (chosen : List ℕ) where
@@ -107,7 +117,7 @@ module _ (enough : NeededIsEnough) (call : Call) (units : List ℕ) (p : Program
       → IsReported units p chosen (world_of (quiet other)).hooks (world_of (quiet other)).hooks lines count
       → Grows call.written.0 call.written.1 (lint_bytes (quiet other) lines steps count)
       → call.knows (world_of (quiet other)).hooks → steps_taken n own ≤ steps → steps ≤ 32 * steps_taken n own + 64
-      → IsAbout call units p chosen n own (lint_status (ending_of (quiet other)) lines)
+      → IsAbout call units p chosen n own (quiet other) (lint_status (ending_of (quiet other)) lines)
   about n steps own other lines count alike report grows knows low high =
       let seen = alike_seen kept own other alike in
       let world = quiet_world other in
@@ -116,6 +126,7 @@ module _ (enough : NeededIsEnough) (call : Call) (units : List ℕ) (p : Program
       ap (λ (w : World). w.hooks) world ∙ seen.hooks in
       record {
         over = (alike_over kept own other alike).0;
+        alike = quiet_alike kept own other alike;
         lines = lines;
         steps = steps;
         count = count;
@@ -144,7 +155,8 @@ module _ (enough : NeededIsEnough) (call : Call) (units : List ℕ) (p : Program
     -- the first run is over within fewer steps
     pub about_own : (n d : ℕ) → most ≡ step_bound n → most ≡ n + d → IsLonger d (first n) (first (n + d))
         → IsOver (first n)
-        → IsAbout call units p chosen n (first n) (lint_status (ending_of (quiet (second most))) lines)
+        → IsAbout call units p chosen n (first n) (quiet (second most))
+        (lint_status (ending_of (quiet (second most))) lines)
     about_own n d enough_steps more longer over =
         let alike : Alike kept (first n) (second most) =
         subst (λ m. Alike kept (first n) (second m)) (sym enough_steps) (simulates.follows n over) in
@@ -159,7 +171,8 @@ module _ (enough : NeededIsEnough) (call : Call) (units : List ℕ) (p : Program
 
     -- the second one is over
     about_most : IsOver (second most)
-        → IsAbout call units p chosen most (first most) (lint_status (ending_of (quiet (second most))) lines)
+        → IsAbout call units p chosen most (first most) (quiet (second most))
+        (lint_status (ending_of (quiet (second most))) lines)
     about_most ended =
         let alike = simulates.leads most ended in
         let told = same_taken in
@@ -170,34 +183,37 @@ module _ (enough : NeededIsEnough) (call : Call) (units : List ℕ) (p : Program
 
     -- the second one is spent
     about_beginning : (w : World) → second most ≡ Spent w
-        → IsAboutBeginning call units p chosen most (first most) (lint_status (ending_of (quiet (second most))) lines)
+        → IsAboutBeginning call units p chosen most (first most) (quiet (second most))
+        (lint_status (ending_of (quiet (second most))) lines)
     about_beginning w is =
         let spent : quiet (second most) ≡ Spent (without_operations w) = ap quiet is in
         let within = simulates.within most w is in
         record {
-          output = w.output;
-          operations = w.hooks;
+          spent = λ over. subst (λ (r : mean.Run). IsOver r) spent over;
+          within = subst (λ (r : mean.Run). IsWithin kept (world_of (first most)) (world_of r)) (sym spent)
+              (record { output = within.output; hooks = within.hooks });
           lines = lines;
           count = count;
-          printed = within.output;
-          performed = within.hooks;
-          report = subst (λ (r : mean.Run). IsReported units p chosen (world_of r).hooks (world_of r).hooks lines count)
-              spent report;
+          report = report;
           status = ap (λ (r : mean.Run). lint_status (ending_of r) lines) spent;
           written = subst (λ (r : mean.Run). Grows call.written.0 call.written.1
-              (lint_bytes r lines (steps_taken most r) count)) spent grows;
-          told = subst (λ (r : mean.Run). call.knows (world_of r).hooks) spent knows;
+              ((world_of r).output ++ (lines_text lines ++ end_line ending.Spent most count (length lines))))
+              (sym spent) (subst (λ (r : mean.Run). Grows call.written.0 call.written.1
+              (lint_bytes r lines (steps_taken most r) count)) spent grows);
+          told = knows;
         }
 
     -- one of the two
-    pub about_script :
-        IsAbout call units p chosen most (first most) (lint_status (ending_of (quiet (second most))) lines)
-        ⊎ IsAboutBeginning call units p chosen most (first most) (lint_status (ending_of (quiet (second most))) lines)
+    abbrev AboutMost : Type 0
+    AboutMost =
+        IsAbout call units p chosen most (first most) (quiet (second most))
+        (lint_status (ending_of (quiet (second most))) lines)
+        ⊎ IsAboutBeginning call units p chosen most (first most) (quiet (second most))
+        (lint_status (ending_of (quiet (second most))) lines)
+
+    pub about_script : AboutMost
     about_script = go (second most) refl
       where
-        go : (r : mean.Run) → second most ≡ r
-            → IsAbout call units p chosen most (first most) (lint_status (ending_of (quiet (second most))) lines)
-            ⊎ IsAboutBeginning call units p chosen most (first most)
-            (lint_status (ending_of (quiet (second most))) lines)
+        go : (r : mean.Run) → second most ≡ r → AboutMost
         go (Over e left w) is = inl (about_most (subst (λ (x : mean.Run). IsOver x) (sym is) tt))
         go (Spent w) is = inr (about_beginning w is)

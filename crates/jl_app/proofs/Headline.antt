@@ -14,7 +14,7 @@ use Rattle.jl_app.specs.Answers.{Due, IsAnswered, IsLinted, IsReported, accepted
 use Rattle.jl_app.specs.Answers.{hooked_run, lint_bytes, lint_status, ran, refused, unread, woven_budget}
 use Rattle.jl_command.specs.Asked.{Asked, request, lint}
 use Rattle.jl_app.specs.Endings.{Call, EndsWith, HasAnswered, answered, no_memory, read_failed, write_failed}
-use Rattle.jl_app.specs.Headline.{IsAbout, IsAboutBeginning, IsAboutScript, own_run, woven_mean}
+use Rattle.jl_app.specs.Headline.{IsAbout, IsAboutBeginning, IsAboutScript, own_run, woven_mean, woven_run}
 use Rattle.jl_app.specs.ReadBack.{IsReadBack}
 use Rattle.jl_app.specs.Refusals.{NeverBoth}
 use Rattle.jl_app.specs.Reporting.{Lines}
@@ -82,33 +82,82 @@ module _ (call : Call) (p : Program Span) (budget : ℕ) (chosen : List ℕ) (we
       same says = absurd answers
   says_so one never (no_memory same2) a bytes words reports script is lent answers same says = absurd answers
 
+-- the shelf lends the text of the woven script
+module _ (call : Call) (p : Program Span) (budget : ℕ) (chosen : List ℕ) where
+  answer_lends : (one : OneReading) (never : NeverBoth) (bytes : List ℕ) (due : Due) → IsAccepted bytes p
+      → call.shelf.lent ≡ call.shelf.handed → IsAnswered (lint budget chosen) bytes call.shelf due
+      → call.shelf.lent ≡ woven_text (kinds_of chosen) p
+  answer_lends one never bytes _ is lent (refused cause why kept) = absurd (never forms.Script bytes p cause is why)
+  answer_lends one never bytes due is lent (accepted q a responds) =
+      lent ∙ responds.0 ∙ ap (woven_text (kinds_of chosen)) (one forms.Script bytes q p a is)
+
+  lends : {answer : Status} → (one : OneReading) (never : NeverBoth) → EndsWith call answer → (a : Asked)
+      (bytes : List ℕ) → request call.words ≡ Some a → Reports a budget chosen → IsScriptFor call.held a bytes
+      → IsAccepted bytes p → call.shelf.lent ≡ call.shelf.handed → HasAnswered answer
+      → call.shelf.lent ≡ woven_text (kinds_of chosen) p
+  lends one never (answered due answer grows knows) a bytes words reports script is lent answers =
+      answer_lends one never bytes due is lent
+      (due_to_script a bytes budget chosen due words reports script answer)
+  lends one never (write_failed due n is2 risen less grows knows) a bytes words reports script is lent answers =
+      absurd answers
+  lends one never (read_failed a2 words2 reads risen same2 kept knows) a bytes words reports script is lent answers =
+      absurd answers
+  lends one never (no_memory same2) a bytes words reports script is lent answers = absurd answers
+
 module _ {call : Call} {answer : Status} (enough : NeededIsEnough) (one : OneReading) (never : NeverBoth)
     (ends : EndsWith call answer) (a : Asked) (bytes : List ℕ) (p : Program Span) (budget : ℕ) (chosen : List ℕ)
     (well : IsWovenWell (kinds_of chosen) p) (words : request call.words ≡ Some a) (reports : Reports a budget chosen)
     (script : IsScriptFor call.held a bytes) (is : IsAccepted bytes p) (lent : call.shelf.lent ≡ call.shelf.handed)
     (answers : HasAnswered answer) where
   abbrev about : Program Span → ℕ → Status → Type 0
-  about p n s = IsAbout call (units_of bytes) p chosen n (own_run p n) s
+  about p n s =
+      IsAbout call (units_of bytes) p chosen n (own_run p n) (woven_run (kinds_of chosen) p (woven_budget budget)) s
 
   abbrev about_some : Program Span → Status → Type 0
   about_some p s =
       about p (woven_budget budget) s
-      ⊎ IsAboutBeginning call (units_of bytes) p chosen (woven_budget budget) (own_run p (woven_budget budget)) s
+      ⊎ IsAboutBeginning call (units_of bytes) p chosen (woven_budget budget) (own_run p (woven_budget budget))
+      (woven_run (kinds_of chosen) p (woven_budget budget)) s
+
+  abbrev quiet_woven : mean.Run
+  quiet_woven = with_state without_operations (woven_mean (kinds_of chosen) p (woven_budget budget))
+
+  is_woven : quiet_woven ≡ woven_run (kinds_of chosen) p (woven_budget budget)
+  is_woven = sym (well.runs (woven_budget budget))
 
   in_time : IsOver (own_run p budget) → about p budget answer
   in_time over =
       says_so call p budget chosen well (units_of bytes) (about p budget) one never ends a bytes words reports script is
       lent answers refl
-      (λ lines count report grows knows. about_own enough call (units_of bytes) p chosen (own_run p)
+      (λ lines count report grows knows.
+      subst (λ (r : mean.Run). IsAbout call (units_of bytes) p chosen budget (own_run p budget) r
+      (lint_status (ending_of quiet_woven) lines)) is_woven
+      (about_own enough call (units_of bytes) p chosen (own_run p)
       (woven_mean (kinds_of chosen) p) well.simulates (woven_budget budget) lines count report grows knows budget
-      (31 * budget + 64) refl (omega arith) (well.longer budget (31 * budget + 64)) over)
+      (31 * budget + 64) refl (omega arith) (well.longer budget (31 * budget + 64)) over))
 
   in_any_case : about_some p answer
   in_any_case =
       says_so call p budget chosen well (units_of bytes) (about_some p) one never ends a bytes words reports script is
       lent answers refl
-      (λ lines count report grows knows. about_script enough call (units_of bytes) p chosen (own_run p)
-      (woven_mean (kinds_of chosen) p) well.simulates (woven_budget budget) lines count report grows knows)
+      (λ lines count report grows knows.
+      subst (λ (r : mean.Run).
+      IsAbout call (units_of bytes) p chosen (woven_budget budget) (own_run p (woven_budget budget)) r
+      (lint_status (ending_of quiet_woven) lines)
+      ⊎ IsAboutBeginning call (units_of bytes) p chosen (woven_budget budget) (own_run p (woven_budget budget)) r
+      (lint_status (ending_of quiet_woven) lines)) is_woven
+      (about_script enough call (units_of bytes) p chosen (own_run p)
+      (woven_mean (kinds_of chosen) p) well.simulates (woven_budget budget) lines count report grows knows))
+
+  text : call.shelf.lent ≡ woven_text (kinds_of chosen) p
+  text = lends call p budget chosen one never ends a bytes words reports script is lent answers
 
   pub headline : IsAboutScript call (units_of bytes) p budget chosen answer
-  headline = record { in_time = in_time; in_any_case = in_any_case }
+  headline = record {
+    program = well.back.program;
+    read = subst (λ units. IsReadBack units well.back.program) (sym text) well.back.read;
+    ran = same_run (kinds_of chosen) p well.back.program (woven_budget budget)
+        (well.back.same well.back.program well.back.read);
+    in_time = in_time;
+    in_any_case = in_any_case;
+  }

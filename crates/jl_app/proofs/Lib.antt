@@ -5,6 +5,7 @@ pub mod PositionLemmas
 pub mod MapLines
 pub mod WovenTexts
 pub mod Refusing
+pub mod OneCause
 pub mod ChosenRules
 pub mod Reported
 pub mod Answering
@@ -22,3 +23,4 @@ pub mod WithoutMisuse
 pub mod BytesOfUnits
 pub mod StandsAlone
 pub mod Headline
+pub mod OneAnswer

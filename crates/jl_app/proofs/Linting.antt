@@ -1,14 +1,17 @@
 -- The answer that the code makes of the run of a woven program is the one that is due.
-use Rattle.std.proofs.Common.{◌≡◌, ◌∙◌, ◌++◌, ◌<◌, ◌^◌, ℕ, List, [], ap, length, subst}
+use Rattle.std.proofs.Common.{◌≡◌, ◌∙◌, ◌++◌, ◌<◌, ◌≤◌, ◌^◌, ℕ, List, [], ap, arith, length, subst}
 use Rattle.jl_ast.specs.Tree.{Program}
-use Rattle.jl_effects.specs.Running.{state_of as world_of}
+use Rattle.jl_effects.specs.Running.{state_of as world_of, steps_taken, Over, Spent}
 use Rattle.jl_machine.specs.Runs.{hooked_mean, ending_of, IsRun}
 use Rattle.jl_machine.specs.declared.ending.Run.{Run}
+use Rattle.jl_meaning.specs.Mean.{Run as Comes-to}
 use Rattle.jl_meaning.specs.Store.{Store}
+use Rattle.jl_op.specs.Chosen.{Kinds}
 use Rattle.jl_op.specs.KindSets.{is_member}
 use Rattle.jl_op.specs.Operations.{Operation}
 use Rattle.jl_op.specs.declared.kind.OpKind.{OpKind}
 use Rattle.jl_op.specs.declared.kind_set.KindSet.{KindSet}
+use Rattle.jl_quiet.specs.QuietMean.{quiet_mean}
 use Rattle.jl_text.specs.declared.span.Span.{Span}
 use Rattle.jl_app.specs.Answers.{IsReported, end_line, hooked_run, lint_status, lint_due, places}
 use Rattle.jl_app.specs.OwnRuns.{uncaught_line}
@@ -16,6 +19,17 @@ use Rattle.jl_app.specs.Reporting.{IsReport, Lines, lines_text}
 use Rattle.jl_app.specs.WovenText.{kinds_of}
 use Rattle.jl_app.specs.declared.status.Status.{Status}
 use Rattle.jl_app.proofs.Executing.{of_these_kinds}
+
+-- hooks tell of no more operations than a run takes steps
+few_steps : (n : ℕ) (r : Comes-to) → steps_taken n r ≤ n
+few_steps n (Over e left w) = omega arith
+few_steps n (Spent w) = omega arith
+
+pub few_kept : ((kinds : Kinds) (p : Program Span) (n : ℕ)
+    → length (world_of (quiet_mean kinds p n)).hooks ≤ steps_taken n (quiet_mean kinds p n))
+    → (kinds : Kinds) (p : Program Span) (n : ℕ) → length (world_of (hooked_run kinds p n)).hooks ≤ n
+unfolding hooked_run hooked_mean
+few_kept law kinds p n = let kept = law kinds p n in let taken = few_steps n (quiet_mean kinds p n) in omega arith
 
 module _ {O : Type 0} (stands_for : O → List Operation → Type 0) (o : O) (r : Run) (set : KindSet) (chosen : List ℕ)
     (same : (kind : OpKind) → is_member set kind ≡ kinds_of chosen kind) (q : Program Span)
@@ -48,6 +62,7 @@ module _ {O : Type 0} (stands_for : O → List Operation → Type 0) (o : O) (r 
   pub is_linted : (units : List ℕ) (p : Program Span) (begun : List ℕ) (lines : Lines) (answer : Status)
       (bytes : List ℕ) → begun ≡ places p
       → ((told : List Operation) → stands_for o told → length told < 2 ^ 64 → IsReport units begun chosen told lines)
+      → length (world_of (hooked_run (kinds_of chosen) q steps)).hooks ≤ steps → steps < 2 ^ 64
       → answer ≡ lint_status r.outcome lines
       → bytes ≡ r.output ++ (lines_text lines ++ (uncaught_line r.store.heap r.outcome
       ++ end_line r.outcome r.steps r.hooks (length lines)))
@@ -56,14 +71,14 @@ module _ {O : Type 0} (stands_for : O → List Operation → Type 0) (o : O) (r 
       (world_of (hooked_run (kinds_of chosen) q steps)).hooks lines hooks
       × (answer ≡ (lint_due (hooked_run (kinds_of chosen) q steps) steps lines hooks).status)
       × (bytes ≡ (lint_due (hooked_run (kinds_of chosen) q steps) steps lines hooks).bytes)
-  is_linted units p begun lines answer bytes begins report st b = (
+  is_linted units p begun lines answer bytes begins report least most st b = (
     lines,
     r.hooks,
     record {
       counted = is_hooked.hooks;
-      report = λ few.
-          subst (λ places. IsReport units places chosen (world_of (hooked_run (kinds_of chosen) q steps)).hooks lines)
-          begins (report (world_of (hooked_run (kinds_of chosen) q steps)).hooks told few);
+      report = subst (λ places.
+          IsReport units places chosen (world_of (hooked_run (kinds_of chosen) q steps)).hooks lines) begins
+          (report (world_of (hooked_run (kinds_of chosen) q steps)).hooks told (omega arith));
     },
     st ∙ ap (λ e. lint_status e lines) is_hooked.outcome,
     same_bytes lines bytes b,

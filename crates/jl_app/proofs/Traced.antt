@@ -1,6 +1,6 @@
 -- The lines of a trace grow by one, and the answer that is made of them is the one that is due.
-use Rattle.std.proofs.Common.{◌≡◌, ◌∙◌, ◌++◌, ◌<◌, ◌≤◌, ◌^◌, List, [], ◌∷◌, ap, sym, subst, true, ℕ, length, arith}
-use Rattle.std.proofs.Common.{append_assoc, append-nil, length-append}
+use Rattle.std.proofs.Common.{◌≡◌, ◌∙◌, ◌++◌, List, [], ◌∷◌, ap, sym, subst, true, ℕ}
+use Rattle.std.proofs.Common.{append_assoc, append-nil}
 use mathlib.Core.Path.{fun_ext}
 use Rattle.jl_ast.specs.Tree.{Program}
 use Rattle.jl_effects.specs.Running.{state_of as world_of, steps_taken}
@@ -11,11 +11,9 @@ use Rattle.jl_meaning.specs.Store.{Store}
 use Rattle.jl_op.specs.Chosen.{every_kind}
 use Rattle.jl_op.specs.KindSets.{is_member}
 use Rattle.jl_op.specs.Operations.{Operation}
-use Rattle.jl_op.specs.Trace.{op_line}
 use Rattle.jl_op.specs.declared.kind.OpKind.{OpKind}
 use Rattle.jl_op.specs.declared.kind_set.KindSet.{KindSet}
 use Rattle.jl_simulation.specs.Weaving.{woven_program}
-use Rattle.jl_text.specs.Encoding.{bytes_of}
 use Rattle.jl_text.specs.declared.span.Span.{Span}
 use Rattle.jl_app.specs.Answers.{Due, trace_due, woven_budget}
 use Rattle.jl_app.specs.OwnRuns.{ending_status, program_run, uncaught_line}
@@ -30,23 +28,8 @@ trace_lines-push (x ∷ told) o =
     ap (λ text. trace_line x ++ text) (trace_lines-push told o)
     ∙ sym (append_assoc (trace_line x) (trace_lines told) (trace_line o))
 
--- each line has its LF at least
-pub few_told : (told : List Operation) → length told ≤ length (trace_lines told)
-few_told [] = omega arith
-few_told (o ∷ told) =
-    omega (
-      arith,
-      few_told told,
-      length-append (trace_line o) (trace_lines told),
-      length-append (bytes_of (op_line o.0 o.1)) (10 ∷ []),
-    )
-
 module _ {O : Type 0} {stands_for : O → List Operation → Type 0} {o : O} {r : Run} (budget : ℕ) (ran : mean.Run)
-    (is : IsRun stands_for [] budget ran r o) (lines : List ℕ) (told : lines ≡ trace_lines (world_of ran).hooks)
-    (few : length lines < 2 ^ 64) where
-  counted : r.hooks ≡ length (world_of ran).hooks
-  counted = is.hooks (omega (arith, ap length told, few_told (world_of ran).hooks))
-
+    (is : IsRun stands_for [] budget ran r o) (lines : List ℕ) (told : lines ≡ trace_lines (world_of ran).hooks) where
   -- the bytes of the answer
   same_traced : (bytes : List ℕ)
       → bytes ≡ lines ++ (uncaught_line r.store.heap r.outcome ++ hooks_line r.outcome r.steps r.hooks)
@@ -60,7 +43,7 @@ module _ {O : Type 0} {stands_for : O → List Operation → Type 0} {o : O} {r 
       ∙ ap (λ n. trace_lines (world_of ran).hooks ++ (uncaught_line (world_of ran).store.heap (ending_of ran)
       ++ hooks_line (ending_of ran) n r.hooks)) is.steps
       ∙ ap (λ n. trace_lines (world_of ran).hooks ++ (uncaught_line (world_of ran).store.heap (ending_of ran)
-      ++ hooks_line (ending_of ran) (steps_taken budget ran) n)) counted
+      ++ hooks_line (ending_of ran) (steps_taken budget ran) n)) is.hooks
 
   pub is_traced : (answer : Status) (bytes : List ℕ) → answer ≡ ending_status r.outcome
       → bytes ≡ lines ++ (uncaught_line r.store.heap r.outcome ++ hooks_line r.outcome r.steps r.hooks)

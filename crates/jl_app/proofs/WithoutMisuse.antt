@@ -3,15 +3,19 @@ use Rattle.std.proofs.Common.{◌≡◌, ◌<◌, [], ℕ, List, length, subst, 
 use Rattle.jl_ast.specs.Tree.{Program}
 use Rattle.jl_command.specs.Asked.{Asked, check, exec, instrument, lint, map_of_ids, print, run, soak, trace}
 use Rattle.jl_effects.specs.Keeping.{FailsAllowed}
+use Rattle.jl_effects.specs.Running.{Ends, Fails, Over, Spent}
 use Rattle.jl_grammar.specs.Program.{Reads}
 use Rattle.jl_machine.specs.Runs.{hooked_mean}
 use Rattle.jl_meaning.specs.Mean.{IsNoMisuse, Run}
 use Rattle.jl_op.specs.Chosen.{every_kind, Kinds}
 use Rattle.jl_quiet.specs.QuietMean.{quiet_mean}
+use Rattle.jl_safety.specs.Ends.{EndsOrThrows}
 use Rattle.jl_scope.specs.EarlyErrors.{early_errors_of}
 use Rattle.jl_simulation.specs.Weaving.{woven_program}
 use Rattle.jl_text.specs.declared.span.Span.{Span}
 use Rattle.jl_token.specs.declared.token.Token.{Token}
+use Rattle.jl_value.specs.declared.ending.Completion.TheVariants as completion
+use Rattle.jl_value.specs.declared.ending.Fault.TheVariants.{Misuse}
 use Rattle.jl_app.specs.Accepting.{IsAccepted}
 use Rattle.jl_app.specs.Answers.{hooked_run, woven_budget}
 use Rattle.jl_app.specs.Headline.{woven_run}
@@ -24,31 +28,47 @@ use Rattle.jl_app.proofs.Legal.{nothing_wrong}
 use Rattle.jl_app.proofs.OwnRun.{same_run}
 use Rattle.jl_app.proofs.Sizes.{few_accepted_tokens}
 
+-- a run that is ended by no Misuse is told so: it has not completed as no program does
+without : (r : Run) → FailsAllowed IsNoMisuse r → EndsOrThrows r → EndsWithoutMisuse r
+without (Over (Ends completion.Normal) left w) h e is = cc
+without (Over (Ends (completion.Throw v)) left w) h e is = cc
+without (Over (Ends _) left w) h e is = absurd e
+without (Over (Fails f) left w) h e is = let same : f ≡ Misuse = cc in h same
+without (Spent w) h e is = cc
+
 -- what the laws say of quiet runs, said of the runs that answers are made of
 module _ (p : Program Span) where
-  own : ((chosen : Kinds) (n : ℕ) → FailsAllowed IsNoMisuse (quiet_mean chosen p n)) → (n : ℕ)
+  own : ((chosen : Kinds) (n : ℕ) → FailsAllowed IsNoMisuse (quiet_mean chosen p n))
+      → ((chosen : Kinds) (n : ℕ) → EndsOrThrows (quiet_mean chosen p n)) → (n : ℕ)
       → EndsWithoutMisuse (program_run p n)
   unfolding program_run hooked_mean
-  own safe n = safe every_kind n
+  own safe ends n = without (quiet_mean every_kind p n) (safe every_kind n) (ends every_kind n)
 
   traced : ((chosen : Kinds) (n : ℕ) → FailsAllowed IsNoMisuse (quiet_mean chosen (woven_program chosen p) n))
+      → ((chosen : Kinds) (w : Program (Unit {0})) (n : ℕ) → EndsOrThrows (quiet_mean chosen w n))
       → (n : ℕ) → EndsWithoutMisuse (program_run (woven_program every_kind p) n)
   unfolding program_run hooked_mean
-  traced safe n = safe every_kind n
+  traced safe ends n =
+      let w = woven_program every_kind p in
+      without (quiet_mean every_kind w n) (safe every_kind n) (ends every_kind w n)
 
   woven : ((chosen : Kinds) (n : ℕ) → FailsAllowed IsNoMisuse (quiet_mean chosen (woven_program chosen p) n))
+      → ((chosen : Kinds) (w : Program (Unit {0})) (n : ℕ) → EndsOrThrows (quiet_mean chosen w n))
       → (kinds : Kinds) (n : ℕ) → EndsWithoutMisuse (woven_run kinds p n)
   unfolding woven_run hooked_run hooked_mean
-  woven safe kinds n = safe kinds n
+  woven safe ends kinds n =
+      let w = woven_program kinds p in without (quiet_mean kinds w n) (safe kinds n) (ends kinds w n)
 
 pub without_misuse : ((chosen : Kinds) (p : Program Span) → early_errors_of p ≡ [] → (n : ℕ)
     → FailsAllowed IsNoMisuse (quiet_mean chosen p n))
     → ((chosen : Kinds) (ts : List Token) (limit : ℕ) (p : Program Span) → Reads ts limit p
     → early_errors_of p ≡ [] → length ts < 1073741823 → (n : ℕ)
     → FailsAllowed IsNoMisuse (quiet_mean chosen (woven_program chosen p) n))
+    → ((chosen : Kinds) (p : Program Span) (n : ℕ) → EndsOrThrows (quiet_mean chosen p n))
+    → ((chosen : Kinds) (w : Program (Unit {0})) (n : ℕ) → EndsOrThrows (quiet_mean chosen w n))
     → ((kinds : Kinds) (bytes : List ℕ) (p : Program Span) → IsAccepted bytes p → IsWovenWell kinds p)
     → AcceptedScriptsRunWithoutMisuse
-without_misuse safe woven_safe well a bytes p is = by_command a
+without_misuse safe woven_safe ends woven_ends well a bytes p is = by_command a
   where
     legal : early_errors_of p ≡ []
     legal = nothing_wrong bytes p is
@@ -61,12 +81,12 @@ without_misuse safe woven_safe well a bytes p is = by_command a
         subst (λ (r : Run). EndsWithoutMisuse r)
         (sym (same_run (kinds_of chosen) p q (woven_budget budget)
         ((well (kinds_of chosen) bytes p is).back.same q read)))
-        (woven p all_woven (kinds_of chosen) (woven_budget budget))
+        (woven p all_woven woven_ends (kinds_of chosen) (woven_budget budget))
 
     by_command : (a : Asked) → RunsWithoutMisuse a p
     by_command (lint budget chosen) = reporting budget chosen
-    by_command (run budget) = own p (λ chosen n. safe chosen p legal n) budget
-    by_command (trace budget) = traced p all_woven (woven_budget budget)
+    by_command (run budget) = own p (λ chosen n. safe chosen p legal n) (λ chosen n. ends chosen p n) budget
+    by_command (trace budget) = traced p all_woven woven_ends (woven_budget budget)
     by_command check = tt
     by_command print = tt
     by_command instrument = tt

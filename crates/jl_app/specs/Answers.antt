@@ -1,5 +1,5 @@
 -- What is due to a list of words, and to a script.
-use Rattle.std.specs.Prelude.{◌≡◌, ℕ, ◌+◌, ◌*◌, ◌<◌, ◌^◌, List, [], ◌∷◌, ◌++◌, Option, Some, None, IfSome}
+use Rattle.std.specs.Prelude.{◌≡◌, ℕ, ◌+◌, ◌*◌, List, [], ◌∷◌, ◌++◌, Option, Some, None, IfSome}
 use Rattle.std.specs.Prelude.{codes, length}
 use Rattle.std.specs.Fmt.{decimal}
 use Rattle.jl_ast.specs.Table.{table}
@@ -93,12 +93,11 @@ abbrev pub places : Program Span → List ℕ
 places p = begins (id_map p)
 
 -- These are the lines of the report, by the rules with these numbers, of operations that the program p performs, which
--- stands in a source of these units; and so many of them were kept, as long as they are so few that a count may say how
--- many.
+-- stands in a source of these units; and so many of them were kept.
 pub record IsReported (units : List ℕ) (p : Program Span) (chosen : List ℕ) (kept operations : List Operation)
     (lines : Lines) (count : ℕ) : Type 0 where
-  pub counted : length kept < 2 ^ 64 → count ≡ length kept
-  pub report : length kept < 2 ^ 64 → IsReport units (places p) chosen operations lines
+  pub counted : count ≡ length kept
+  pub report : IsReport units (places p) chosen operations lines
 
 -- What `lint` answers to a source of these units that is accepted as the program p, with this budget and the rules with
 -- these numbers, where the shelf lends this text: that no program is read from it, or what comes of the run of that

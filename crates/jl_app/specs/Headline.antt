@@ -1,7 +1,7 @@
 -- What the answer of `lint` says of the script's own run.
 use Rattle.std.specs.Prelude.{◌≡◌, ℕ, ◌≤◌, ◌*◌, ◌+◌, ◌++◌, ◌⊎◌, List, filter, length}
 use Rattle.jl_ast.specs.Tree.{Program}
-use Rattle.jl_effects.specs.Growing.{IsPrefix}
+use Rattle.jl_effects.specs.Matching.{Alike, IsWithin}
 use Rattle.jl_effects.specs.Running.{IsOver, state_of as world_of, steps_taken}
 use Rattle.jl_machine.specs.Runs.{ending_of}
 use Rattle.jl_meaning.specs.Mean as mean
@@ -13,6 +13,7 @@ use Rattle.jl_text.specs.declared.span.Span.{Span}
 use Rattle.jl_value.specs.declared.ending.Outcome.TheVariants as ending
 use Rattle.jl_app.specs.Answers.{IsReported, end_line, hooked_run, lint_bytes, lint_status, woven_budget}
 use Rattle.jl_app.specs.Endings.{Call}
+use Rattle.jl_app.specs.ReadBack.{IsReadBack}
 use Rattle.jl_app.specs.Reporting.{Lines, lines_text}
 use Rattle.jl_app.specs.WovenText.{kinds_of}
 use Rattle.jl_app.specs.declared.status.Status.{Status}
@@ -34,14 +35,16 @@ woven_run kinds p n = hooked_run kinds (woven_program kinds p) n
 abbrev pub kept_of : (chosen : List ℕ) → List Operation → List Operation
 kept_of chosen operations = filter (is_kept (kinds_of chosen)) operations
 
--- The answer is about this run of the script p with n steps, which is over. The script stands in a source of these
--- units. What was written begins with what the run printed; the lines are those of all of the run's operations by the
--- rules with these numbers; the crowd was told of those operations whose kind one of these rules looks at, and they are
--- counted; the end and the status are those of the run; and the steps that are told are no fewer than the run's, and
--- not many more.
-pub record IsAbout (call : Call) (units : List ℕ) (p : Program Span) (chosen : List ℕ) (n : ℕ) (own : mean.Run)
+-- The answer is about this run of the script p with n steps, and it was made of this run of the woven script. Both are
+-- over, in the same way, and with the same output and store; and the hooks of the woven script told of those operations
+-- of the script's own run whose kind one of the rules with these numbers looks at, in order. The script stands in a
+-- source of these units. What was written begins with what the run printed; the lines are those of all of the run's
+-- operations by these rules; the crowd was told of those that hooks told of, and they are counted; the end and the
+-- status are those of the run; and the steps that are told are no fewer than the run's, and not many more.
+pub record IsAbout (call : Call) (units : List ℕ) (p : Program Span) (chosen : List ℕ) (n : ℕ) (own woven : mean.Run)
     (answer : Status) : Type 0 where
   pub over : IsOver own
+  pub alike : Alike (is_kept (kinds_of chosen)) own woven
   pub lines : Lines
   pub steps : ℕ
   pub count : ℕ
@@ -54,27 +57,35 @@ pub record IsAbout (call : Call) (units : List ℕ) (p : Program Span) (chosen :
   pub told : call.knows (kept_of chosen (world_of own).operations)
 
 -- The steps of the woven script, which are so many, were spent, and the answer is about the beginning of this run of
--- the script p: what was written begins with the first that the run printed; and the lines are those of the first of
--- its operations whose kind one of the rules looks at, which the crowd was told of.
-pub record IsAboutBeginning (call : Call) (units : List ℕ) (p : Program Span) (chosen : List ℕ) (n : ℕ) (own : mean.Run)
-    (answer : Status) : Type 0 where
-  pub output : List ℕ
-  pub operations : List Operation
+-- the script p: what the woven script printed are the first bytes that the run printed, and what its hooks told of are
+-- the first of the run's operations whose kind one of the rules looks at. The lines are those of these operations, and
+-- the crowd was told of them.
+pub record IsAboutBeginning (call : Call) (units : List ℕ) (p : Program Span) (chosen : List ℕ) (n : ℕ)
+    (own woven : mean.Run) (answer : Status) : Type 0 where
+  pub spent : IsOver woven → ⊥
+  pub within : IsWithin (is_kept (kinds_of chosen)) (world_of own) (world_of woven)
   pub lines : Lines
   pub count : ℕ
-  pub printed : IsPrefix output (world_of own).output
-  pub performed : IsPrefix operations (kept_of chosen (world_of own).operations)
-  pub report : IsReported units p chosen operations operations lines count
+  pub report : IsReported units p chosen (world_of woven).hooks (world_of woven).hooks lines count
   pub status : answer ≡ status.Spent
   pub written : Grows call.written.0 call.written.1
-      (output ++ (lines_text lines ++ end_line ending.Spent n count (length lines)))
-  pub told : call.knows operations
+      ((world_of woven).output ++ (lines_text lines ++ end_line ending.Spent n count (length lines)))
+  pub told : call.knows (world_of woven).hooks
 
 -- What the answer says of the script's own run: all, where that is over within the budget; and in any case all, or the
--- beginning, of its run with as many steps as the woven script has.
+-- beginning, of its run with as many steps as the woven script has. It was made of the run of a program that is read
+-- from what the shelf lends, and that is the woven script's.
 pub record IsAboutScript (call : Call) (units : List ℕ) (p : Program Span) (budget : ℕ) (chosen : List ℕ)
     (answer : Status) : Type 0 where
-  pub in_time : IsOver (own_run p budget) → IsAbout call units p chosen budget (own_run p budget) answer
+  pub program : Program Span
+  pub read : IsReadBack call.shelf.lent program
+  pub ran : hooked_run (kinds_of chosen) program (woven_budget budget)
+      ≡ woven_run (kinds_of chosen) p (woven_budget budget)
+  pub in_time : IsOver (own_run p budget)
+      → IsAbout call units p chosen budget (own_run p budget) (woven_run (kinds_of chosen) p (woven_budget budget))
+      answer
   pub in_any_case :
-      IsAbout call units p chosen (woven_budget budget) (own_run p (woven_budget budget)) answer
-      ⊎ IsAboutBeginning call units p chosen (woven_budget budget) (own_run p (woven_budget budget)) answer
+      IsAbout call units p chosen (woven_budget budget) (own_run p (woven_budget budget))
+      (woven_run (kinds_of chosen) p (woven_budget budget)) answer
+      ⊎ IsAboutBeginning call units p chosen (woven_budget budget) (own_run p (woven_budget budget))
+      (woven_run (kinds_of chosen) p (woven_budget budget)) answer

@@ -14,5 +14,6 @@ pub mod Answers
 pub mod Endings
 pub mod Headline
 pub mod StandsAlone
+pub mod OneAnswer
 pub mod Misuse
 pub mod inner

@@ -1,21 +1,23 @@
 -- That the fault Misuse ends no run that a command other than `exec` answers of.
-use Rattle.std.specs.Prelude.{ℕ, List}
+use Rattle.std.specs.Prelude.{◌≡◌, ℕ, List}
 use Rattle.jl_ast.specs.Tree.{Program}
 use Rattle.jl_command.specs.Asked.{Asked, lint, run, soak, trace}
-use Rattle.jl_effects.specs.Keeping.{FailsAllowed}
-use Rattle.jl_meaning.specs.Mean.{IsNoMisuse, Run}
+use Rattle.jl_machine.specs.Runs.{ending_of}
+use Rattle.jl_meaning.specs.Mean.{Run}
 use Rattle.jl_op.specs.Chosen.{every_kind}
 use Rattle.jl_simulation.specs.Weaving.{woven_program}
 use Rattle.jl_text.specs.declared.span.Span.{Span}
+use Rattle.jl_value.specs.declared.ending.Fault.TheVariants.{Misuse}
+use Rattle.jl_value.specs.declared.ending.Outcome.TheVariants as ending
 use Rattle.jl_app.specs.Accepting.{IsAccepted}
 use Rattle.jl_app.specs.Answers.{hooked_run, woven_budget}
 use Rattle.jl_app.specs.OwnRuns.{program_run}
 use Rattle.jl_app.specs.ReadBack.{IsReadBack}
 use Rattle.jl_app.specs.WovenText.{kinds_of, woven_text}
 
--- the run is not ended by the fault Misuse
+-- the run is not told to have ended by the fault Misuse
 abbrev pub EndsWithoutMisuse : Run → Type 0
-EndsWithoutMisuse r = FailsAllowed IsNoMisuse r
+EndsWithoutMisuse r = ending_of r ≡ ending.Fault Misuse → ⊥
 
 -- the program that is read from the text of the woven script p is not ended by it
 abbrev pub ReportsWithoutMisuse : (budget : ℕ) → (chosen : List ℕ) → Program Span → Type 0

@@ -6,6 +6,7 @@ ghost use Rattle.jl_text.specs.declared.span.Span.{Span};
 ghost use Rattle.jl_app.specs.inner.Woven.{IsWovenWell};
 ghost use Rattle.jl_app.specs.Accepting.{IsAccepted, OneReading};
 ghost use Rattle.jl_app.specs.Misuse.{AcceptedScriptsRunWithoutMisuse};
+ghost use Rattle.jl_app.specs.OneAnswer.{OneAnswer};
 ghost use Rattle.jl_app.specs.Refusals.{NeverBoth, AcceptedOrRefused};
 ghost use Rattle.jl_app.specs.StandsAlone.{TextStandsAlone};
 
@@ -16,7 +17,7 @@ use jl_read_back::laws::{
     woven_bytes_are_bounded, woven_keeps_rules, woven_reads_back, woven_text_is_bounded,
     woven_units_are_small,
 };
-use jl_safety::laws::{quietly_never_misuses, woven_never_misuses};
+use jl_safety::laws::{programs_end_or_throw, quietly_never_misuses, woven_never_misuses};
 use jl_simulation::laws::accepted_scripts_simulate;
 use jl_text::laws::units_come_back;
 
@@ -53,13 +54,15 @@ pub(crate) fn scripts_are_woven_well()
     woven_keeps_rules();
 }
 
-/// The fault Misuse ends no run of an accepted script that `run` answers of, nor of its woven script that `lint` or
-/// `trace` does, with any budget and any choice of rules.
+/// The fault Misuse is not told as the end of any run of an accepted script that `run` answers of, nor of its woven
+/// script that `lint` or `trace` does, with any budget and any choice of rules.
 pub fn accepted_scripts_run_without_misuse()
     ensures { AcceptedScriptsRunWithoutMisuse }
 {
     quietly_never_misuses();
     woven_never_misuses();
+    programs_end_or_throw::<jl_text::Span>();
+    programs_end_or_throw::<()>();
     scripts_are_woven_well();
 }
 
@@ -73,3 +76,9 @@ pub fn text_stands_alone()
     units_come_back();
     scripts_are_woven_well();
 }
+
+/// What is due to a call is one answer, where the source tells what it holds; only the place of a refusal as unreadable
+/// is not determined. T stands for what it is that the shelf is as it was.
+pub fn one_answer<T>()
+    ensures { OneAnswer T }
+{}

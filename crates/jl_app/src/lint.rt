@@ -29,6 +29,7 @@ use jl_map::map_of;
 use jl_op::Observer;
 use jl_port::Shelf;
 use jl_report::Line;
+use jl_tally::laws::hooks_take_steps;
 use jl_value::Outcome;
 use std::alloc::{AllocError, Global};
 
@@ -131,6 +132,7 @@ fn run_answer(
         (world_of (hooked_run (kinds_of chosen) (view woven.now) (woven_budget budget))).hooks) }
     ensures same_rules { ⟦<Crowd as Findings>⟧.rules crowd.new ≡ ⟦<Crowd as Findings>⟧.rules crowd.old }
 {
+    hooks_take_steps::<jl_text::Span>();
     let places = places(alloc, &map_of(alloc, &accepted.program)?)?;
     let run = run(alloc, woven, woven_budget(budget), needs(rules), crowd)?;
     let lines = report(alloc, &accepted.source, &places, rules, crowd)?;

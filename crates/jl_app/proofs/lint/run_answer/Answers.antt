@@ -1,4 +1,4 @@
-use Rattle.std.proofs.Common.{◌≡◌, ◌∙◌, ◌++◌, [], ap, length}
+use Rattle.std.proofs.Common.{◌≡◌, ◌∙◌, ◌++◌, [], ap, arith, length}
 use Rattle.jl_ast.specs.View.{view}
 use Rattle.jl_machine.specs.declared.ending.Run.{Run}
 use Rattle.jl_op.specs.KindSets.{is_member}
@@ -9,7 +9,7 @@ use Rattle.jl_app.specs.OwnRuns.{uncaught_line}
 use Rattle.jl_app.specs.Reporting.{lines_text}
 use Rattle.jl_app.specs.WovenText.{kinds_of}
 use Rattle.jl_app.proofs.ChosenRules.{same_kinds}
-use Rattle.jl_app.proofs.Linting.{is_linted, told}
+use Rattle.jl_app.proofs.Linting.{few_kept, is_linted, told}
 use Rattle.jl_app.proofs.lint.run_answer.Goals as goal
 
 pub returns-clause-run : goal.returns-clause-run
@@ -23,6 +23,8 @@ returns-clause-run g c = λ chosen choice.
     c.deref.result.now c.in_ok-lines.lines.items c.lint_status.result c.in_ok-answer_bytes.field-0.items
     (c.deref.ensures.value ∙ c.in_ok-places.ensures ∙ ap begins c.in_ok-map_of.ensures)
     (c.in_ok-lines.ensures.report chosen choice)
+    (few_kept c.hooks_take_steps.ensures.quietly (kinds_of chosen) (view c.args.woven.now) (woven_budget c.args.budget))
+    (let most = c.requires.budget in omega arith)
     (c.lint_status.ensures ∙ ap (λ l. lint_status run.outcome l) c.deref-2.ensures.value)
     (c.in_ok-answer_bytes.ensures ∙ ap (λ l. run.output ++ (lines_text l ++ (uncaught_line run.store.heap run.outcome
     ++ end_line run.outcome run.steps run.hooks (length l)))) c.deref-3.ensures.value)

@@ -1,4 +1,4 @@
-use Rattle.std.proofs.Common.{[], arith}
+use Rattle.std.proofs.Common.{[]}
 use Rattle.jl_ast.specs.View.{view}
 use Rattle.jl_effects.specs.Running.{state_of as world_of}
 use Rattle.jl_app.specs.OwnRuns.{program_run}
@@ -12,6 +12,5 @@ returns c =
     let is = all_kinds c.all.result c.all.ensures p budget (c.in_ok-run.ensures.is [] c.new-tracer.ensures) in
     let told = c.into_lines.ensures (world_of (program_run p budget)).hooks is.told in
     is_traced budget (program_run p budget) is c.into_lines.result.items told
-    (omega (arith, c.into_lines.result.ok.0, c.into_lines.result.ok.1, c.into_lines.result.small))
     c.ending_status.result c.in_ok-answer_bytes.field-0.items
     c.ending_status.ensures c.in_ok-answer_bytes.ensures
