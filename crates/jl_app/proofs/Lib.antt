@@ -23,4 +23,5 @@ pub mod WithoutMisuse
 pub mod BytesOfUnits
 pub mod StandsAlone
 pub mod Headline
+pub mod Statuses
 pub mod OneAnswer

@@ -26,9 +26,9 @@ use std::alloc::{AllocError, Global};
 
 /// A status, and the bytes that are written with it.
 #[derive(Drop)]
-pub(crate) struct Answer {
-    pub(crate) status: Status,
-    pub(crate) bytes: Vec<u8>,
+pub struct Answer {
+    pub status: Status,
+    pub bytes: Vec<u8>,
 }
 
 /// The answer without a run: a line.

@@ -21,5 +21,6 @@ mod top;
 mod trace;
 mod tracer;
 
+pub use answer::Answer;
 pub use status::Status;
-pub use top::jlint;
+pub use top::{answer_to, jlint};

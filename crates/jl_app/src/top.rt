@@ -86,6 +86,36 @@ fn respond_to_source<S: Source, H: Shelf>(
 }
 
 /// What `lint` answers to the script that is made of so many functions.
+fn lint_made<H: Shelf>(
+    alloc: Global,
+    number: u32,
+    budget: u64,
+    rules: RuleSet,
+    shelf: &mut H,
+    crowd: &mut Crowd,
+) -> Result<Answer, AllocError>
+    requires few { number ≤ 8000 }
+    requires budget { budget ≤ 1000000000 }
+    requires choice { (chosen : List ℕ) × IsChoice rules chosen }
+    requires rules { ⟦<Crowd as Findings>⟧.rules crowd.old ≡ all_rules }
+    requires fresh { ⟦<Crowd as Observer>⟧.stands_for crowd.old [] }
+    ensures due { (chosen : List ℕ) → IsChoice rules chosen → IfOk result (λ given. (due : Due)
+        × IsAnswered (lint budget chosen) (script_of number) (record {
+          handed = H.handed shelf.new;
+          lent = H.lent shelf.new;
+          same = shelf.new ≡ shelf.old;
+        }) due
+        × (given.status ≡ due.status)
+        × (given.bytes.items ≡ due.bytes)
+        × ⟦<Crowd as Observer>⟧.stands_for crowd.new due.told) }
+    ensures same_rules { ⟦<Crowd as Findings>⟧.rules crowd.new ≡ ⟦<Crowd as Findings>⟧.rules crowd.old }
+{
+    let script = script_from(alloc, number)?;
+    let command = Command::Lint { budget, rules };
+    respond(alloc, command, &script, shelf, crowd)
+}
+
+/// The same, where a source might have been read.
 fn respond_to_made<H: Shelf>(
     alloc: Global,
     number: u32,
@@ -111,9 +141,7 @@ fn respond_to_made<H: Shelf>(
     ensures reads { IsErrOf result Unanswered.ReadFault → ⊥ }
     ensures same_rules { ⟦<Crowd as Findings>⟧.rules crowd.new ≡ ⟦<Crowd as Findings>⟧.rules crowd.old }
 {
-    let script = script_from(alloc, number)?;
-    let command = Command::Lint { budget, rules };
-    Ok(respond(alloc, command, &script, shelf, crowd)?)
+    Ok(lint_made(alloc, number, budget, rules, shelf, crowd)?)
 }
 
 /// The answer to bad words.
@@ -166,6 +194,119 @@ fn due<S: Source, H: Shelf>(
         Err(WordsRefusal::BadWords) => bad_words(alloc),
         Err(WordsRefusal::NoMemory) => Err(Unanswered::NoMemory),
     }
+}
+
+/// What a command answers to these bytes, however many there are.
+fn respond_to_all<H: Shelf>(
+    alloc: Global,
+    command: Command,
+    bytes: &[u8],
+    shelf: &mut H,
+    crowd: &mut Crowd,
+) -> Result<Answer, AllocError>
+    requires meant { (a : Asked) × ReadsSource a × Means command a }
+    requires rules { ⟦<Crowd as Findings>⟧.rules crowd.old ≡ all_rules }
+    requires fresh { ⟦<Crowd as Observer>⟧.stands_for crowd.old [] }
+    ensures due { (a : Asked) → Means command a → IfOk result (λ given. (due : Due)
+        × IsAnswered a bytes.now (record {
+          handed = H.handed shelf.new;
+          lent = H.lent shelf.new;
+          same = shelf.new ≡ shelf.old;
+        }) due
+        × (given.status ≡ due.status)
+        × (given.bytes.items ≡ due.bytes)
+        × ⟦<Crowd as Observer>⟧.stands_for crowd.new due.told) }
+    ensures same_rules { ⟦<Crowd as Findings>⟧.rules crowd.new ≡ ⟦<Crowd as Findings>⟧.rules crowd.old }
+{
+    let limit = Form::of(command).most_bytes();
+    if limit < bytes.len() {
+        return refusal_answer(alloc, &Refusal::TooLong);
+    }
+    respond(alloc, command, bytes, shelf, crowd)
+}
+
+/// What is due to these words, where the source holds these bytes.
+fn due_to_bytes<H: Shelf>(
+    alloc: Global,
+    words: &[&str],
+    bytes: &[u8],
+    shelf: &mut H,
+    crowd: &mut Crowd,
+) -> Result<Answer, AllocError>
+    requires rules { ⟦<Crowd as Findings>⟧.rules crowd.old ≡ all_rules }
+    requires fresh { ⟦<Crowd as Observer>⟧.stands_for crowd.old [] }
+    ensures due { IfOk result (λ a. (due : Due)
+        × IsDue (texts words.now) (Some bytes.now) (record {
+          handed = H.handed shelf.new;
+          lent = H.lent shelf.new;
+          same = shelf.new ≡ shelf.old;
+        }) due
+        × (a.status ≡ due.status)
+        × (a.bytes.items ≡ due.bytes)
+        × ⟦<Crowd as Observer>⟧.stands_for crowd.new due.told) }
+    ensures same_rules { ⟦<Crowd as Findings>⟧.rules crowd.new ≡ ⟦<Crowd as Findings>⟧.rules crowd.old }
+{
+    match parse_words(alloc, words) {
+        Ok(
+            Command::Soak {
+                number,
+                budget,
+                rules,
+            },
+        ) => lint_made(alloc, number, budget, rules, shelf, crowd),
+        Ok(command) => respond_to_all(alloc, command, bytes, shelf, crowd),
+        Err(WordsRefusal::BadWords) => line_only(alloc, Status::BadWords, "bad words"),
+        Err(WordsRefusal::NoMemory) => Err(AllocError),
+    }
+}
+
+/// The answer to these words, where the source holds these bytes: its status, and the bytes that are to be written.
+///
+/// `soak` and words that are no command don't look at the bytes. Of bytes that are too many for the command more than
+/// its limit have to be given, and no more have to be read (`jl_port::read_all` says that it was so).
+pub fn answer_to<H: Shelf>(
+    alloc: Global,
+    words: &[&str],
+    bytes: &[u8],
+    shelf: &mut H,
+    crowd: &mut Crowd,
+) -> Result<Answer, AllocError>
+    requires rules { ⟦<Crowd as Findings>⟧.rules crowd.old ≡ all_rules }
+    requires fresh { ⟦<Crowd as Observer>⟧.stands_for crowd.old [] }
+    ensures due { IfOk result (λ a. (due : Due)
+        × IsDue (texts words.now) (Some bytes.now) (record {
+          handed = H.handed shelf.new;
+          lent = H.lent shelf.new;
+          same = shelf.new ≡ shelf.old;
+        }) due
+        × (a.status ≡ due.status)
+        × (a.bytes.items ≡ due.bytes)
+        × ⟦<Crowd as Observer>⟧.stands_for crowd.new due.told) }
+    // Where the shelf lends what it was handed, the answer to an accepted script is about the script's own run, for
+    // every budget and every choice of rules.
+    ensures headline { IfOk result (λ given. (a : Asked) (script : List ℕ) (p : Tree Span) (budget : ℕ) (chosen : List ℕ)
+        → request (texts words.now) ≡ Some a → Reports a budget chosen → IsScriptFor (Some bytes.now) a script
+        → IsAccepted script p → H.lent shelf.new ≡ H.handed shelf.new
+        → IsAboutScript (record {
+          words = texts words.now;
+          held = Some bytes.now;
+          read_faults = (0, 0);
+          written = (Some [], Some given.bytes.items);
+          write_faults = (0, 0);
+          shelf = record {
+            handed = H.handed shelf.new;
+            lent = H.lent shelf.new;
+            same = shelf.new ≡ shelf.old;
+          };
+          knows = λ told. ⟦<Crowd as Observer>⟧.stands_for crowd.new told;
+        }) (units_of script) p budget chosen given.status) }
+    ensures same_rules { ⟦<Crowd as Findings>⟧.rules crowd.new ≡ ⟦<Crowd as Findings>⟧.rules crowd.old }
+{
+    one_reading();
+    never_both();
+    scripts_are_woven_well();
+    needed_is_enough();
+    due_to_bytes(alloc, words, bytes, shelf, crowd)
 }
 
 /// Runs the command that the words name, with the source as the script and the sink for the answer; all bytes of an

@@ -1,10 +1,11 @@
 use Rattle.std.proofs.Common.{◌∙◌, ap, arith, length}
+use Rattle.std.proofs.lemmas.Result.{IfOk-weaker}
 use Rattle.jl_command.specs.Asked.{lint}
 use Rattle.jl_command.specs.Meant.{means_lint}
 use Rattle.jl_command.specs.declared.command.Command.TheVariants as commands
 use Rattle.jl_app.specs.Forms.{most_bytes}
 use Rattle.jl_app.proofs.Answering.{same_form, same_script}
-use Rattle.jl_app.proofs.top.respond_to_made.Goals as goal
+use Rattle.jl_app.proofs.top.lint_made.Goals as goal
 
 pub respond-requires-clause-small : goal.respond-requires-clause-small
 respond-requires-clause-small g c = λ a means.
@@ -18,11 +19,13 @@ respond-requires-clause-meant g c =
 
 pub returns-clause-due : goal.returns-clause-due
 returns-clause-due g c = λ chosen choice.
-    let due = c.in_ok-respond.ensures.due (lint c.args.budget chosen)
-    (means_lint c.args.budget c.args.rules chosen c.requires.budget choice) in (
+    IfOk-weaker c.respond.result _ _
+    (λ given due. (
       due.0,
       same_script _ _ (c.deref.ensures.value ∙ c.in_ok-script.ensures.text) due.1,
       due.2,
       due.3,
       due.4,
-    )
+    ))
+    (c.respond.ensures.due (lint c.args.budget chosen)
+    (means_lint c.args.budget c.args.rules chosen c.requires.budget choice))
