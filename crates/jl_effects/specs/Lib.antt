@@ -3,6 +3,8 @@ pub mod Running
 pub mod Traces
 pub mod Growing
 pub mod Keeping
+pub mod Credit
+pub mod Telling
 pub mod Matching
 pub mod Following
 pub mod inner

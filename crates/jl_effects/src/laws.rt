@@ -1,10 +1,13 @@
 //! Laws over the definitions; each is the contract of a function that does nothing. S is what a store is, C a change
 //! of it, F a fault, J a job, R what a job ends with, O an operation, and A what a part ends with; of a row E is a
 //! fault and K a call.
-ghost use Rattle.std.specs.Prelude.{◌≡◌, ℕ, ◌+◌, Bool};
+ghost use Rattle.std.specs.Prelude.{◌≡◌, ℕ, ◌+◌, ◌≤◌, All, Bool, length};
 ghost use Rattle.jl_effects.specs.Effects.{Part, End, and_then, job, Row, row};
 ghost use Rattle.jl_effects.specs.Running.{Language, Recorded, RunState, nothing_done, state_of, outcome_then, run};
 ghost use Rattle.jl_effects.specs.Running.{everything, keeping};
+ghost use Rattle.jl_effects.specs.Running.{steps_taken};
+ghost use Rattle.jl_effects.specs.Credit.{Pays};
+ghost use Rattle.jl_effects.specs.Telling.{Tells};
 ghost use Rattle.jl_effects.specs.Traces.{quietly, with_state, keep_hooks, without_operations};
 ghost use Rattle.jl_effects.specs.Growing.{GoesOn, HasLeft, IsLonger};
 ghost use Rattle.jl_effects.specs.Keeping.{IsOneOf, FailsAllowed};
@@ -116,4 +119,22 @@ pub fn rows_add_no_faults<S, C, E, F, K, J, R, O, A, T>()
         → ((c : K) (n : ℕ) (w : RunState S O) → FailsAllowed (IsOneOf faults) (run l k jobs n (job (call c)) w))
         → (p : Row S C E K R A) (n : ℕ) (w : RunState S O)
         → FailsAllowed (IsOneOf faults) (run l k jobs n (row call fault p) w) }
+{}
+
+/// A run emits no more operations by hooks than it takes steps, where its part and the parts of its jobs pay by steps
+/// for what they emit.
+pub fn emitted_within_steps<S, C, F, J, R, O, A>()
+    ensures { (l : Language S C F) (k : Recorded O) (jobs : J → Part S C F J R O R)
+        → ((j : J) → Pays (λ end. 0) (jobs j) 0) → (n : ℕ) (p : Part S C F J R O A) (s : S) → Pays (λ end. 0) p 0
+        → length (state_of (run l k jobs n p (nothing_done s))).hooks
+        ≤ steps_taken n (run l k jobs n p (nothing_done s)) }
+{}
+
+/// What a run performs are operations that a T names, where its part performs such alone and begins such jobs alone
+/// as an I names, and the parts of these do the same.
+pub fn performed_is_named<S, C, F, J, R, O, A, T, I>()
+    ensures { (l : Language S C F) (k : Recorded O) (jobs : J → Part S C F J R O R) (named : T → O) (job_of : I → J)
+        → ((j : J) → IsOneOf job_of j → Tells (IsOneOf named) (IsOneOf job_of) (jobs j))
+        → (n : ℕ) (p : Part S C F J R O A) (s : S) → Tells (IsOneOf named) (IsOneOf job_of) p
+        → All (IsOneOf named) (state_of (run l k jobs n p (nothing_done s))).operations }
 {}
