@@ -1,9 +1,12 @@
-ghost use Rattle.std.specs.Prelude.{◌≡◌, ◌<◌, ◌≢◌, ◌↔◌, Some, IsSome, IfSome, codes, length, map, slice_get};
+ghost use Rattle.std.specs.Prelude.{◌≡◌, ◌<◌, ◌≢◌, ◌↔◌, ℕ, Some, IsSome, IfNone, IfSome, codes, length, map, slice_get};
 ghost use Rattle.jl_value.specs.Builtins.{builtin_names};
 ghost use Rattle.jl_value.specs.BuiltinPlaces.{bound_row, place_of_builtin, print_row};
 
 use crate::object::ObjId;
 use std::marker::Model;
+
+// How many functions there are.
+const NAME_COUNT: u16 = 102;
 
 // The paths of the functions, by row.
 const NAMES: [&str; 102] = [
@@ -144,6 +147,21 @@ impl Builtin {
         } else {
             None
         }
+    }
+
+    /// The builtin with this path, where the table has one. Compares the path with each of the table in turn.
+    #[tactic(auto, using(crate::proofs::Rows::name_count))]
+    pub fn named(name: &str) -> Option<Builtin>
+        ensures found { IfSome result (λ b. slice_get builtin_names b ≡ Some name.now) }
+        ensures none { IfNone result ((row : ℕ) → slice_get builtin_names row ≢ Some name.now) }
+    {
+        for row in 0..NAME_COUNT {
+            let builtin = Builtin { row };
+            if builtin.name() == name {
+                return Some(builtin);
+            }
+        }
+        None
     }
 
     /// The builtin `print`.
