@@ -29,7 +29,7 @@ use jl_map::map_of;
 use jl_op::Observer;
 use jl_port::Shelf;
 use jl_report::Line;
-use jl_tally::laws::hooks_take_steps;
+use jl_hook_bound::laws::hooks_take_steps;
 use jl_value::Outcome;
 use std::alloc::{AllocError, Global};
 

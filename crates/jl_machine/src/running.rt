@@ -12,7 +12,7 @@ use jl_ast::Program;
 use jl_op::{KindSet, Observer};
 use jl_scope::is_strict;
 use jl_state::{Here, State};
-use jl_tally::laws::hooks_take_steps;
+use jl_hook_bound::laws::hooks_take_steps;
 use jl_text::NoMemory;
 use jl_value::Outcome;
 use std::alloc::Global;

@@ -1,0 +1,9 @@
+mod Relation
+mod Forms
+mod Hooks
+mod HookCalls
+mod Expressions
+mod Loops
+mod Statements
+mod Functions
+mod Programs

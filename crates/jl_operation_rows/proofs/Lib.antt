@@ -1,0 +1,11 @@
+mod Relation
+mod Forms
+mod Hooks
+mod Splitting
+mod Tables
+mod Expressions
+mod Loops
+mod Statements
+mod Functions
+mod Programs
+mod MapRows

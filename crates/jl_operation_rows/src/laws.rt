@@ -1,0 +1,40 @@
+//! Laws over the definitions; each is the contract of a function that does nothing.
+ghost use Rattle.std.specs.Prelude.{◌≡◌, ◌<◌, [], ℕ, All, Contains, List, length};
+ghost use Rattle.jl_text.specs.declared.span.Span.{Span};
+ghost use Rattle.jl_token.specs.declared.token.Token.{Token};
+ghost use Rattle.jl_ast.specs.Tree.{Program};
+ghost use Rattle.jl_grammar.specs.Program.{Reads};
+ghost use Rattle.jl_effects.specs.Running.{state_of};
+ghost use Rattle.jl_meaning.specs.Mean.{mean, run_of};
+ghost use Rattle.jl_op.specs.Chosen.{Kinds};
+ghost use Rattle.jl_op.specs.IdMap.{operation_ids};
+ghost use Rattle.jl_op.specs.Kinds.{kind_of};
+ghost use Rattle.jl_operation_rows.specs.Rows.{HasRow};
+ghost use Rattle.jl_scope.specs.EarlyErrors.{early_errors_of};
+ghost use Rattle.jl_simulation.specs.Weaving.{woven_program};
+
+use jl_simulation::laws::accepted_scripts_simulate;
+
+/// Each operation that a run performs has a row of its kind in the map of the program: that which its id names. So it
+/// is of any program, with however many steps.
+pub fn operations_have_rows<S>()
+    ensures { (chosen : Kinds) (p : Program S) (n : ℕ) → All (HasRow p) (state_of (mean chosen p n)).operations }
+{}
+
+/// So does each operation that the hooks of its woven script tell of, for any set of kinds, where the script is read of
+/// fewer than 2^30 - 1 tokens and has no early errors.
+pub fn hooks_have_rows()
+    ensures { (chosen : Kinds) (ts : List Token) (limit : ℕ) (p : Program Span) → Reads ts limit p
+        → early_errors_of p ≡ [] → length ts < 1073741823 → (n : ℕ)
+        → All (HasRow p) (state_of (mean chosen (woven_program chosen p) n)).hooks }
+{
+    accepted_scripts_simulate();
+}
+
+/// Whatever numbers the places of the nodes are, ids or others: each operation is performed with a number that the
+/// definition of the map makes of the place of a node that does an operation of its kind. So where the places are those
+/// of the text, as `map_spans` gives them, it tells at which node an operation is performed.
+pub fn operations_are_numbered_by_their_nodes()
+    ensures { (chosen : Kinds) (p : Program ℕ) (n : ℕ)
+        → All (λ o. Contains (operation_ids p) (kind_of o.1, o.0.0)) (state_of (run_of chosen p n)).operations }
+{}
