@@ -1,16 +1,17 @@
-//! What is handed to the innermost of the frames.
-ghost use Rattle.std.specs.Prelude.{◌+◌, ◌≤◌, IfOk};
-ghost use Rattle.jl_state.specs.Rank.{rank, rank_act, Falls};
+//! What is handed to the innermost of the frames, or to the innermost that takes it.
+ghost use Rattle.std.specs.Prelude.{◌+◌, ◌≡◌, true, IfOk};
+ghost use Rattle.jl_state.specs.Handlers.{handles, is_abrupt};
+ghost use Rattle.jl_state.specs.Rank.{rank, Falls};
 ghost use Rattle.jl_state.specs.Rest.{Completion-given, Nothing, Value-given};
 ghost use Rattle.jl_machine.specs.inner.Going.{Sinks};
-ghost use Rattle.jl_machine.specs.inner.Handed.{Continues, EndsProgram, Hands, Passes};
+ghost use Rattle.jl_machine.specs.inner.Handed.{Continues, EndsProgram, Hands, InnermostHandles};
 
 use crate::algorithms::step_algorithm;
 use crate::ending::Next;
 use jl_call::step_told;
 use jl_expression::step_value;
 use jl_function::step_body;
-use jl_state::{Act, Frame, State};
+use jl_state::{Act, Frame, State, is_abrupt};
 use jl_statement::{step_completion, step_statement};
 use jl_text::NoMemory;
 use jl_value::{Completion, Fault, Outcome, Value};
@@ -43,43 +44,30 @@ fn continue_with_value<'p>(
     }
 }
 
-/// What was thrown passes over a frame that waits for a value. No other completion is handed to one (8.9).
-fn pass<'p>(how: Completion) -> Act<'p>
-    ensures passes { Passes how result }
-    ensures falls { rank_act result ≤ 2 }
-{
-    match how {
-        Completion::Throw(v) => Act::Complete(Completion::Throw(v)),
-        Completion::Normal => Act::Fault(Fault::Misuse),
-        Completion::Return(_) => Act::Fault(Fault::Misuse),
-        Completion::Break(_) => Act::Fault(Fault::Misuse),
-        Completion::Continue(_) => Act::Fault(Fault::Misuse),
-    }
-}
-
-/// A frame goes on with a completion.
-#[tactic(auto, using(crate::proofs::Continuing::completion_continues, crate::proofs::Continuing::body_continues, crate::proofs::Continuing::misused))]
+/// A frame goes on with a completion, which it takes or which is a normal one. One that waits for none ends the run.
+#[tactic(auto, using(crate::proofs::Continuing::completion_continues, crate::proofs::Continuing::body_continues))]
 fn continue_with_completion<'p>(
     alloc: Global,
     state: &mut State<'p>,
     frame: Frame<'p>,
     how: Completion,
 ) -> Result<Act<'p>, NoMemory>
+    requires { is_abrupt how ≡ true → handles frame how ≡ true }
     ensures continues { IfOk result (λ act. Continues state.old frame.entry (Completion-given how) state.new act) }
     ensures falls { IfOk result (λ act. Falls state.old (rank frame.entry + 2) state.new act) }
 {
     match frame {
         Frame::Value(frame) => {
             drop(frame);
-            Ok(pass(how))
+            Ok(Act::Fault(Fault::Misuse))
         }
         Frame::Algorithm(frame) => {
             drop(frame);
-            Ok(pass(how))
+            Ok(Act::Fault(Fault::Misuse))
         }
         Frame::Statement(frame) => {
             drop(frame);
-            Ok(pass(how))
+            Ok(Act::Fault(Fault::Misuse))
         }
         Frame::Completion(frame) => step_completion(alloc, state, frame, how),
         Frame::Told(frame) => {
@@ -140,6 +128,40 @@ pub(crate) fn give_value<'p>(
 
 /// The innermost frame is handed a completion, or where there is none, the program has completed so.
 #[tactic(auto, using(crate::proofs::Continuing::handed, crate::proofs::Continuing::ended, crate::proofs::Ranks::falls_popped))]
+fn give_innermost<'p>(
+    alloc: Global,
+    state: &mut State<'p>,
+    how: Completion,
+) -> Result<Next<'p>, NoMemory>
+    requires { is_abrupt how ≡ true → InnermostHandles how state.old.stack }
+    ensures hands { IfOk result (λ n. Hands state.old (Completion-given how) state.new n) }
+    ensures falls { IfOk result (λ n. Sinks state.old 2 state.new n) }
+{
+    match state.stack.pop() {
+        None => Ok(Next::Over(end_program(how))),
+        Some(frame) => Ok(Next::Act(continue_with_completion(alloc, state, frame, how)?)),
+    }
+}
+
+/// The innermost frame that takes an abrupt completion is handed it, and those above it are let go. Where none takes
+/// it, the program has completed so.
+fn give_handler<'p>(
+    alloc: Global,
+    state: &mut State<'p>,
+    how: Completion,
+) -> Result<Next<'p>, NoMemory>
+    requires { is_abrupt how ≡ true }
+    ensures hands { IfOk result (λ n. Hands state.old (Completion-given how) state.new n) }
+    ensures falls { IfOk result (λ n. Sinks state.old 2 state.new n) }
+{
+    match state.unwind(&how) {
+        None => Ok(Next::Over(end_program(how))),
+        Some(_) => give_innermost(alloc, state, how),
+    }
+}
+
+/// A completion is handed on: a normal one to the innermost frame, and any other to the innermost that takes it. Where
+/// there is no such frame, the program has completed so.
 pub(crate) fn give_completion<'p>(
     alloc: Global,
     state: &mut State<'p>,
@@ -148,10 +170,10 @@ pub(crate) fn give_completion<'p>(
     ensures hands { IfOk result (λ n. Hands state.old (Completion-given how) state.new n) }
     ensures falls { IfOk result (λ n. Sinks state.old 2 state.new n) }
 {
-    match state.stack.pop() {
-        None => Ok(Next::Over(end_program(how))),
-        Some(frame) => Ok(Next::Act(continue_with_completion(alloc, state, frame, how)?)),
+    if is_abrupt(&how) {
+        return give_handler(alloc, state, how);
     }
+    give_innermost(alloc, state, how)
 }
 
 /// The innermost frame goes on.

@@ -1,4 +1,6 @@
 pub mod AlgorithmFrames
+pub mod HandlerDepths
+pub mod Handlers
 pub mod Rank
 pub mod Rest
 pub mod StatementFrames

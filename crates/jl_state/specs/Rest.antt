@@ -52,16 +52,22 @@ as_value p = and_then p (λ a. End (given_of a))
 abbrev pub as_completion : Part Completion → Part Given
 as_completion p = and_then p (λ how. End (Completion-given how))
 
+-- a frame that takes no completion, over which each passes that is abrupt
+abbrev pub passed_on : Completion → Part Given
+passed_on completion.Normal = Fail Misuse
+passed_on how = End (Completion-given how)
+
 -- a frame that goes on by itself
 abbrev pub on_nothing : Part Given → Given → Part Given
 on_nothing p Nothing = p
-on_nothing p g = Fail Misuse
+on_nothing p (Value-given v) = Fail Misuse
+on_nothing p (Completion-given how) = passed_on how
 
--- a frame that waits for a value, over which a throw passes
+-- a frame that waits for a value
 abbrev pub on_value : (Value → Part Given) → Given → Part Given
+on_value k Nothing = Fail Misuse
 on_value k (Value-given v) = k v
-on_value k (Completion-given (completion.Throw v)) = End (Completion-given (completion.Throw v))
-on_value k g = Fail Misuse
+on_value k (Completion-given how) = passed_on how
 
 -- a frame that waits for a completion
 abbrev pub on_completion : (Completion → Part Given) → Given → Part Given

@@ -1,5 +1,6 @@
 -- What the calls of a state do to what is left to do: each turns what holds of the state after it into what holds of
 -- the state before.
+use Rattle.std.specs.Prelude.{◌≡◌}
 use Rattle.jl_value.specs.declared.ending.Completion.{Completion}
 use Rattle.jl_value.specs.declared.value.Value.{Value}
 use Rattle.jl_effects.specs.Effects.{and_then, Step}
@@ -8,7 +9,7 @@ use Rattle.jl_meaning.specs.Parts.{lift, ◌>>=◌, Algorithm, Answer, Part}
 use Rattle.jl_state.specs.AlgorithmFrames.{algorithm_after}
 use Rattle.jl_state.specs.StatementFrames.{completion_after, statement_after}
 use Rattle.jl_state.specs.ValueFrames.{value_after}
-use Rattle.jl_state.specs.Rest.{Completes, Gives, Works}
+use Rattle.jl_state.specs.Rest.{end_program, rest_of, Completes, Completion-given, Gives, Works}
 use Rattle.jl_state.specs.Words.{table_of}
 use Rattle.jl_state.specs.declared.act.Act.{Act}
 use Rattle.jl_state.specs.declared.act.Act.TheVariants as act
@@ -49,3 +50,11 @@ pub record StatementWaits (s : State) (f : StatementFrame) (t : State) : Type 0 
 pub record CompletionWaits (s : State) (f : CompletionFrame) (t : State) : Type 0 where
   pub completes : (p : Part Completion) (u : State) (a : Act) → Completes t p u a
       → Completes s (and_then p (completion_after (table_of s.functions) s.calls f)) u a
+
+-- what the frames of s do with a completion, those of t do
+pub record LeavesTo (s : State) (how : Completion) (t : State) : Type 0 where
+  pub is : rest_of s (Completion-given how) ≡ rest_of t (Completion-given how)
+
+-- no frame handles it, so that the program ends with it
+pub record IsUncaught (s : State) (how : Completion) : Type 0 where
+  pub is : rest_of s (Completion-given how) ≡ end_program how

@@ -1,5 +1,5 @@
 //! The state of a run, and what steps do to it.
-ghost use Rattle.std.specs.Prelude.{◌≡◌, ◌-◌, ◌<◌, ◌∷◌, [], IfOk, OnOk, true, false};
+ghost use Rattle.std.specs.Prelude.{◌≡◌, ◌-◌, ◌<◌, ◌≤◌, ◌∷◌, [], IfOk, MatchOption, OnOk, true, false};
 
 use crate::act::Act;
 use crate::algorithm_frame::AlgorithmFrame;
@@ -12,6 +12,7 @@ use crate::value_frame::ValueFrame;
 use jl_ast::{Expr, Stmt};
 use jl_store::Store;
 use jl_text::{List, NoMemory};
+use jl_value::Completion;
 
 /// The state of a run: its store, the functions of the script by number, the calls that are running, the frames, the
 /// bytes of the output, and how many steps are left.
@@ -33,8 +34,11 @@ impl<'p> State<'p> {
     ghost use Rattle.jl_meaning.specs.Parts.{◌>>=◌ as ◌then◌};
     ghost use Rattle.jl_state.specs.StatementFrames.{statement_after};
     ghost use Rattle.jl_state.specs.ValueFrames.{value_after};
+    ghost use Rattle.jl_state.specs.Handlers.{is_abrupt, IsUnwound, NoneHandles};
+    ghost use Rattle.jl_state.specs.Rank.{ranks};
     ghost use Rattle.jl_state.specs.Rest.{Gives, Completes};
     ghost use Rattle.jl_state.specs.Steps.{Took, RanOut, ValueWaits, AlgorithmWaits, StatementWaits, CompletionWaits};
+    ghost use Rattle.jl_state.specs.Steps.{IsUncaught, LeavesTo};
     ghost use Rattle.jl_state.specs.Trees.{plain};
     ghost use Rattle.jl_state.specs.Words.{table_of, context_of};
 
@@ -93,6 +97,20 @@ impl<'p> State<'p> {
     {
         self.stack.push(Frame::Completion(frame))?;
         Ok(())
+    }
+
+    /// The frames above the innermost one that handles a completion are let go. Gives the depth of that frame, counted
+    /// from 0 at the bottom of the stack, or `None` where no frame handles it, and then nothing changes. What is left to
+    /// do of an abrupt completion stays the same.
+    pub fn unwind(&mut self, how: &Completion) -> Option<usize>
+        ensures unwound { MatchOption result (NoneHandles how.now self.old.stack × (self.new ≡ self.old))
+            (λ depth. IsUnwound how.now self.old.stack self.new.stack depth) }
+        ensures others { self.new ≡ record self.old { stack = self.new.stack } }
+        ensures leaves { is_abrupt how.now ≡ true → MatchOption result (IsUncaught self.old how.now)
+            (λ _. LeavesTo self.old how.now self.new) }
+        ensures falls { ranks self.new.stack ≤ ranks self.old.stack }
+    {
+        self.stack.unwind(how)
     }
 
     /// An expression is to be evaluated, for whose value another one waits.

@@ -5,11 +5,11 @@ ghost use Rattle.jl_meaning.specs.forms.Jumps.{after_labelled};
 ghost use Rattle.jl_meaning.specs.forms.Loops.{after_body};
 ghost use Rattle.jl_meaning.specs.forms.Switch.{after_switch};
 ghost use Rattle.jl_meaning.specs.forms.Try.{unless_abrupt};
-ghost use Rattle.jl_scope.specs.Names.{among};
 ghost use Rattle.jl_state.specs.Turns.{labels_seen};
 ghost use Rattle.jl_statement.specs.inner.Ends.{ends_or};
 ghost use Rattle.jl_value.specs.declared.ending.Completion.{Completion as Ended};
 
+use jl_state::is_among;
 use jl_text::Text;
 use jl_value::Completion;
 
@@ -88,17 +88,4 @@ fn after_continue(labels: &[&Text], x: Text) -> Option<Completion>
         return None;
     }
     Some(Completion::Continue(Some(x)))
-}
-
-/// Whether a label is one of these.
-fn is_among(x: &Text, mut labels: &[&Text]) -> bool
-    ensures { result ≡ among x.now (labels_seen labels.entry.now) }
-{
-    while let [first, rest @ ..] = labels {
-        if x.units() == first.units() {
-            return true;
-        }
-        labels = rest;
-    }
-    false
 }

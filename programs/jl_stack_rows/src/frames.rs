@@ -2,7 +2,7 @@
 use crate::fault::Fault;
 use jl_num::Num;
 use jl_state::{AlgorithmFrame, CompletionFrame, Frame, StatementFrame, ToldFrame, ValueFrame};
-use jl_value::Value;
+use jl_value::{Completion, Value};
 
 /// Which frame it is.
 #[derive(Clone, Copy)]
@@ -29,6 +29,18 @@ pub fn frame_of<'p>(word: &str) -> Result<Frame<'p>, Fault> {
         "switch" => Ok(Frame::Completion(CompletionFrame::Switch)),
         "body" => Ok(Frame::Body),
         _ => frame_of_number(word),
+    }
+}
+
+/// The completion of this word. What it gives is undefined, and it has no label.
+pub fn completion_of(word: &str) -> Option<Completion> {
+    match word {
+        "to-normal" => Some(Completion::Normal),
+        "to-return" => Some(Completion::Return(Value::Undefined)),
+        "to-throw" => Some(Completion::Throw(Value::Undefined)),
+        "to-break" => Some(Completion::Break(None)),
+        "to-continue" => Some(Completion::Continue(None)),
+        _ => None,
     }
 }
 

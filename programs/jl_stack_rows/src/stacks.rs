@@ -1,12 +1,12 @@
 //! The stack of frames.
 use crate::fault::Fault;
-use crate::frames::{Name, frame_giving, frame_of, name_of, word_of};
+use crate::frames::{Name, completion_of, frame_giving, frame_of, name_of, word_of};
 use jl_num::Num;
 use jl_state::Stack;
 use std::alloc::Global;
 
 /// `stack WORDS`: on a new stack each word pushes the frame of this name, but `pop`, which answers the frame that it
-/// took off, or `none`.
+/// took off, or `none`, and the words of completions, which answer the depth to which they unwound it, or `none`.
 pub fn answer(alloc: Global, words: &str) -> Result<String, Fault> {
     let mut stack = Stack::new(alloc);
     let mut popped = Stack::new(alloc);
@@ -15,6 +15,10 @@ pub fn answer(alloc: Global, words: &str) -> Result<String, Fault> {
         if word == "pop" {
             let name = pop(&mut stack, &mut popped)?;
             add_name(&mut answers, name)?;
+        } else if let Some(how) = completion_of(word) {
+            let depth = stack.unwind(&how);
+            drop(how);
+            add_depth(&mut answers, depth)?;
         } else {
             push(&mut stack, word)?;
         }
@@ -46,6 +50,17 @@ fn add_name(answers: &mut String, name: Option<Name>) -> Result<(), Fault> {
     match name {
         Some(Name::Number(number)) => write!(answers, "{number}")?,
         other => answers.push_str(word_of(other))?,
+    }
+    Ok(())
+}
+
+fn add_depth(answers: &mut String, depth: Option<usize>) -> Result<(), Fault> {
+    if !answers.is_empty() {
+        answers.push(' ')?;
+    }
+    match depth {
+        Some(depth) => write!(answers, "{depth}")?,
+        None => answers.push_str("none")?,
     }
     Ok(())
 }

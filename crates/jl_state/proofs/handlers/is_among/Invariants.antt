@@ -1,7 +1,7 @@
 use Rattle.std.proofs.Common.{◌≡◌, length}
 use Rattle.jl_scope.specs.Names.{among}
 use Rattle.jl_state.specs.Turns.{labels_seen}
-use Rattle.jl_statement.proofs.completions.is_among.Given as goal
+use Rattle.jl_state.proofs.handlers.is_among.Given as goal
 
 abbrev pub invariant-loop-labels : goal.invariant-loop-labels
 invariant-loop-labels l = among l.x (labels_seen l.labels) ≡ among l.x (labels_seen l.fn.labels)
