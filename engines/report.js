@@ -1,0 +1,86 @@
+'use strict';
+// The report of a run, by jlint's proved rules.
+//
+//   node report.js FOLDER [FORMAT]      of a run that is over, or was killed
+
+const fs = require('fs');
+const path = require('path');
+const { jlint } = require('./jlint.js');
+const { readRun } = require('./run-folder.js');
+
+// `extra-arguments` and `shadow-write` say much that is meant of callbacks and of defaults on prototypes, so on engines
+// they have to be asked for.
+const DEFAULT_RULES = ['nan-made', 'undefined-joined', 'object-joined', 'undefined-key', 'put-on-primitive',
+  'wrapped-condition', 'loose-equal', 'odd-compare', 'typeof-text', 'bits-of-nothing', 'mixed-new',
+  'object-prototype-write', 'odd-prototype', 'late-prototype', 'for-in-array', 'wrapper-made', 'no-radix', 'global-this'
+].join(',');
+
+// JLINT_RULES names rules, or `all`.
+function chosenRules(named) {
+  if (named === 'all') return [];
+  return ['--rules', named || DEFAULT_RULES];
+}
+
+function reportLine(file, line) {
+  const [, at, column, rule, count] = /^(\d+):(\d+) (\S+) (\d+)$/.exec(line);
+  return { file, line: Number(at), column: Number(column), rule, count: Number(count) };
+}
+
+// Report lines { file, line, column, rule, count } of the files of a run.
+function report(files, named) {
+  const lines = [];
+  for (const { name, record } of files) {
+    const answer = jlint(['replay', ...chosenRules(named)], record).trimEnd().split('\n');
+    const last = answer.pop();
+    if (!last.startsWith('jlint: replayed')) throw new Error(`${name}: ${last}`);
+    lines.push(...answer.map(line => reportLine(name, line)));
+  }
+  return lines;
+}
+
+const formats = {
+  text: lines => lines.map(l => `${l.file}:${l.line}:${l.column} ${l.rule} ${l.count}\n`).join(''),
+  unix: lines => lines
+    .map(l => `${l.file}:${l.line}:${l.column}: ${l.rule} (${l.count}) [Warning/${l.rule}]\n`).join(''),
+  json: (lines, summary) => JSON.stringify({ lines, summary }, null, 1) + '\n'
+};
+
+function formatted(name, lines, summary) {
+  const format = formats[name || 'text'];
+  if (!format) throw new Error(`no format ${name}: ${Object.keys(formats).join(', ')}`);
+  return format(lines, summary);
+}
+
+function summaryOf(files, notWoven, lines) {
+  const reasons = {};
+  let left = 0;
+  for (const file of files) {
+    for (const { reason, count } of file.left) {
+      left += count;
+      reasons[reason] = (reasons[reason] || 0) + count;
+    }
+  }
+  const operations = files.reduce((n, file) => n + file.operations, 0);
+  return { files: files.length, notWoven, operations, left, reasons, reports: lines.length };
+}
+
+function summaryText({ files, notWoven, operations, left, reasons, reports }) {
+  const why = Object.entries(reasons).sort((a, b) => b[1] - a[1]).map(([reason, n]) => `${reason} ${n}`).join(', ');
+  return notWoven.map(file => `jlint: not woven ${file.name}: ${file.why}\n`).join('') +
+    `jlint: files=${files} not-woven=${notWoven.length} hooks=${operations} left-out=${left}` +
+    `${why ? ` (${why})` : ''} reports=${reports}\n`;
+}
+
+function main([folder, format]) {
+  if (!folder) throw new Error('usage: node report.js FOLDER [text|unix|json]');
+  const files = readRun(folder);
+  const lines = report(files, process.env.JLINT_RULES);
+  const notWoven = path.join(folder, 'not-woven.json');
+  const summary = summaryOf(files, fs.existsSync(notWoven) ? JSON.parse(fs.readFileSync(notWoven)) : [], lines);
+  process.stdout.write(formatted(format, lines, summary));
+  process.stderr.write(summaryText(summary));
+  process.exitCode = lines.length ? 1 : 0;
+}
+
+module.exports = { report, formatted, summaryOf, summaryText };
+if (require.main === module) main(process.argv.slice(2));

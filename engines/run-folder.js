@@ -1,0 +1,87 @@
+'use strict';
+// The records of a run on disk, in a folder of its own. For file number N there are
+//
+//   N.name   its path            N.ops    the lines of operations as they came
+//   N.head   rows and off        N.left   what was left out: `ID KIND REASON COUNT` a line
+//
+// All but N.left are there also where the process was killed.
+
+const fs = require('fs');
+const path = require('path');
+
+const LONGEST_RECORD = 268435456; // bytes that `replay` accepts
+const RECORD_FRAME = 64; // bytes for the lines `ops N` and `end`
+
+// A folder that takes the lines of operations. `write` is a host's for the hooks.
+function openRun(folder) {
+  const { writeSync, openSync } = fs;
+  const { byteLength } = Buffer;
+  const files = [];
+  fs.mkdirSync(folder, { recursive: true });
+  const inFolder = (n, part) => path.join(folder, `${n}.${part}`);
+
+  return {
+    folder,
+    add(name, head) {
+      const n = files.length;
+      fs.writeFileSync(inFolder(n, 'name'), name);
+      fs.writeFileSync(inFolder(n, 'head'), head);
+      files.push({ out: openSync(inFolder(n, 'ops'), 'w'), room: LONGEST_RECORD - head.length - RECORD_FRAME });
+      return n;
+    },
+    // Whether the record takes more.
+    write(n, lines) {
+      try {
+        const file = files[n];
+        const bytes = byteLength(lines);
+        if (file.room < bytes) return false;
+        writeSync(file.out, lines);
+        file.room -= bytes;
+        return true;
+      } catch (e) {
+        if (e instanceof RangeError) throw e; // the program's stack is full, and not the disk
+        return false;
+      }
+    },
+    left(n, lines) {
+      if (n < files.length) fs.writeFileSync(inFolder(n, 'left'), lines);
+    }
+  };
+}
+
+function leftOut(lines) {
+  return lines.split('\n').filter(Boolean).map(line => {
+    const [, id, kind, truth, reason, count] = /^(\d+) (\w+)( [tf])? (.+) (\d+)$/.exec(line);
+    return { id: Number(id), kind, truth: (truth || '').trim(), reason, count: Number(count) };
+  });
+}
+
+function lineCount(bytes) {
+  let n = 0;
+  for (let i = bytes.indexOf(10); i >= 0; i = bytes.indexOf(10, i + 1)) n++;
+  return n;
+}
+
+// The files of a run: { name, left, operations, record }.
+function readRun(folder) {
+  const files = [];
+  const read = (n, part) => {
+    const file = path.join(folder, `${n}.${part}`);
+    return fs.existsSync(file) ? fs.readFileSync(file) : Buffer.alloc(0);
+  };
+  for (let n = 0; fs.existsSync(path.join(folder, `${n}.name`)); n++) {
+    const all = read(n, 'ops');
+    const whole = all.subarray(0, all.lastIndexOf(10) + 1); // a killed process may leave part of a line
+    const operations = lineCount(whole);
+    const frame = [read(n, 'head'), Buffer.from(`ops ${operations}\n`), whole, Buffer.from('end\n')];
+    files.push({
+      name: read(n, 'name').toString(),
+      left: leftOut(read(n, 'left').toString()),
+      operations,
+      record: Buffer.concat(frame)
+    });
+  }
+  return files;
+}
+
+module.exports = { openRun, readRun };
