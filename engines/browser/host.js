@@ -1,5 +1,6 @@
 'use strict';
-// The host of the hooks in a page: it keeps the lines of each file's record, and hands them out for download.
+// The host of the hooks in a page: it keeps the lines of each file's record, and hands them out for download. The page may
+// have redefined the methods of arrays when it does, so it goes by indices.
 
 var jlintPage = (function () {
   const LONGEST_RECORD = 268435456; // bytes
@@ -56,20 +57,27 @@ var jlintPage = (function () {
     pre.className = part;
     pre.textContent = text;
   }
+  function recordText(file) {
+    const list = pieces(file);
+    let text = '';
+    for (let i = 0; i < list.length; i++) {
+      text += typeof list[i] === 'string' ? list[i] : new TextDecoder().decode(list[i]);
+    }
+    return text;
+  }
   function writeAll() {
     hooks.flush();
-    for (const file of files) {
-      if (!file) continue;
-      const text = pieces(file).map(piece => (typeof piece === 'string' ? piece : new TextDecoder().decode(piece)));
-      writeInto(file, 'record', text.join(''));
-      writeInto(file, 'left', file.file.counts().left);
+    for (let n = 0; n < files.length; n++) {
+      if (!files[n]) continue;
+      writeInto(files[n], 'record', recordText(files[n]));
+      writeInto(files[n], 'left', files[n].file.counts().left);
     }
   }
 
   // A link for each record, which gives what was recorded until it is used. With `#text` in the address, or `#text=2000`
   // for what happens in the first 2 seconds, the records themselves are put into the page.
   function show(list) {
-    files.forEach((file, n) => list.appendChild(item(file, n)));
+    for (let n = 0; n < files.length; n++) if (files[n]) list.appendChild(item(files[n], n));
     const text = /^#text(?:=(\d+))?$/.exec(location.hash);
     if (text && text[1]) setTimeout(writeAll, Number(text[1]));
     else if (text) writeAll();

@@ -1,0 +1,77 @@
+'use strict';
+// The ways in which a process under register.js may end: the report has to come each time, and output, status and signal
+// have to be those of the process without it.
+
+const assert = require('assert');
+const fs = require('fs');
+const path = require('path');
+const { spawn, spawnSync } = require('child_process');
+const { test } = require('node:test');
+const { ENGINES, missing, inNewFolder } = require('./support.js');
+
+const skip = missing();
+const NAN = 'function n() { return 0 / 0; } n(); ';
+const BEFORE_SIGNAL = 2500; // milliseconds
+const REPORTED = /^app.js:1:23 nan-made \d+$/m;
+
+const ROWS = [
+  ['normal', NAN],
+  ['process.exit in a function', NAN + '(function () { process.exit(5); })();'],
+  ['exit from a timer', NAN + 'setTimeout(function () { n(); process.exit(6); }, 5);'],
+  ['uncaught error', NAN + 'null.x;'],
+  ['uncaught error in a timer', NAN + 'setTimeout(function () { throw 1; }, 5);'],
+  ['unhandled rejection', NAN + 'Promise.reject(new Error("r"));'],
+  ['exitCode', NAN + 'process.exitCode = 9;'],
+  ['exit handler of the program', NAN + 'process.on("exit", function (c) { console.log("bye", c); });'],
+  ['a module with a syntax error', NAN + 'try { require("./bad.js"); } catch (e) { console.log(e.name); }'],
+  ['SIGTERM', NAN + 'setInterval(n, 10);', 'SIGTERM'],
+  ['SIGINT', NAN + 'setInterval(n, 10);', 'SIGINT'],
+  ['SIGTERM that the program handles',
+    NAN + 'process.on("SIGTERM", function () { console.log("mine"); process.exit(4); }); setInterval(n, 10);', 'SIGTERM'],
+  ['SIGKILL, reported afterwards', NAN + 'for (var i = 0; i < 3000; i++) n(); setInterval(n, 10);', 'SIGKILL']
+];
+
+function ran(cwd, words, signal, env) {
+  return new Promise(resolve => {
+    const child = spawn(process.execPath, [...words, 'app.js'], { cwd, env: { ...process.env, ...env } });
+    let out = '';
+    child.stdout.on('data', data => { out += data; });
+    if (signal) setTimeout(() => child.kill(signal), BEFORE_SIGNAL);
+    child.on('close', (status, ended) => resolve({ status, signal: ended, out }));
+  });
+}
+
+// The report that the process wrote, or that is made of its records.
+function reportOf(folder, kept, signal) {
+  if (signal !== 'SIGKILL') return fs.readFileSync(path.join(folder, 'out'), 'utf8');
+  const run = path.join(kept, fs.readdirSync(kept)[0]);
+  return spawnSync(process.execPath, [path.join(ENGINES, 'report.js'), run]).stdout.toString();
+}
+
+async function pair(folder, source, signal) {
+  fs.writeFileSync(path.join(folder, 'app.js'), source);
+  fs.writeFileSync(path.join(folder, 'bad.js'), 'var = 1;');
+  const kept = path.join(folder, 'kept');
+  const env = { JLINT_RUN: kept, JLINT_OUT: path.join(folder, 'out'), JLINT_FILES: '' };
+  const plain = await ran(folder, [], signal, {});
+  const woven = await ran(folder, ['-r', path.join(ENGINES, 'register.js')], signal, env);
+  return { plain, woven, report: reportOf(folder, kept, signal) };
+}
+
+for (const [name, source, signal] of ROWS) {
+  test(name, { skip }, async () => {
+    const folder = fs.mkdtempSync(path.join(require('os').tmpdir(), 'jlint-test-'));
+    const { plain, woven, report } = await pair(folder, source, signal);
+    fs.rmSync(folder, { recursive: true, force: true });
+    assert.deepStrictEqual(woven, plain);
+    assert.match(report, REPORTED);
+  });
+}
+
+test('a module that is of a later edition runs as it stands, and is named', { skip }, async () => {
+  const folder = fs.mkdtempSync(path.join(require('os').tmpdir(), 'jlint-test-'));
+  const { plain, woven, report } = await pair(folder, NAN + 'const x = 1; console.log(x);', undefined);
+  fs.rmSync(folder, { recursive: true, force: true });
+  assert.deepStrictEqual(woven, plain);
+  assert.match(report, /not woven app.js: not of edition/);
+});

@@ -1,0 +1,1 @@
+function f() { return arguments + ""; } print(f()); print(new TypeError("x") + "", Math + "", [] + "", null + "");

@@ -1,0 +1,1 @@
+var f = function () { }, o = { k: function () { }, "a b": function () { } }, g; g = function () { }; o.p = function () { }; print(f.name, o.k.name, o["a b"].name, g.name, o.p.name, (function () { }).name);

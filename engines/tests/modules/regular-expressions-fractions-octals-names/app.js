@@ -1,0 +1,1 @@
+var r = /a\/[/]"b/gi, d = new Date(0), o = { 1.5: 1, 0.25: 2, Date: 3 }, x = [.5, 1e21, 0x10, 017, 5., 1.50]; console.log(r.source, r.flags, d.getTime(), o, x, "\101\0", JSON.stringify({ JSON: Infinity }), -Infinity, escape("ü"), o.Date, /x/.test("x") ? /y/ : 1, typeof eval); o[undefined] = 1.5 == "1.5";
