@@ -20,8 +20,17 @@ function acorn() {
   }
 }
 
+const EDITION = { ecmaVersion: 5, allowHashBang: true, allowReturnOutsideFunction: true };
+
 function parse(source) {
-  return acorn().parse(source, { ecmaVersion: 5, allowHashBang: true, allowReturnOutsideFunction: true });
+  return acorn().parse(source, EDITION);
+}
+
+// The tree of a text, and its comments { text, start, isLine }.
+function parseWithComments(text) {
+  const comments = [];
+  const onComment = (isBlock, comment, start) => comments.push({ text: comment, start, isLine: !isBlock });
+  return { tree: acorn().parse(text, { ...EDITION, onComment }), comments };
 }
 
 function isFunction(node) {
@@ -153,4 +162,4 @@ function asItStands(source) {
   return { text: source, restore: woven => woven, place: (line, column) => [line, column] };
 }
 
-module.exports = { adapt, asItStands };
+module.exports = { adapt, asItStands, parseWithComments };

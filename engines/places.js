@@ -8,6 +8,21 @@ function lineStarts(source) {
   return starts;
 }
 
+// From an offset to its line and column.
+function placesIn(source) {
+  const starts = lineStarts(source);
+  return offset => {
+    let low = 0;
+    let high = starts.length;
+    while (high - low > 1) {
+      const middle = (low + high) >> 1;
+      if (starts[middle] <= offset) low = middle;
+      else high = middle;
+    }
+    return [low + 1, offset - starts[low] + 1];
+  };
+}
+
 // The edits of each line, in order. Edits add no line but at the very end of the source.
 function editsByLine(edits, starts) {
   const byLine = new Map();
@@ -35,4 +50,4 @@ function placesAfter(source, edits) {
   };
 }
 
-module.exports = { lineStarts, placesAfter };
+module.exports = { placesIn, placesAfter };

@@ -14,6 +14,9 @@ const CALL = 'J$call';
 const TOKEN = /"(?:[^"\\]|\\[^])*"|[\w$\u0080-\uffff]+|[^\s]/g;
 const HOOKS = 'J$';
 
+// How many further ids a hook has after its first.
+const FURTHER_IDS = { A: 2, I: 2, M: 2, F: 1, N: 1 };
+
 const isWord = token => token !== undefined && /^[\w$\u0080-\uffff]/.test(token);
 const nameIn = token => (token[0] === '"' ? JSON.parse(token) : token);
 
@@ -51,6 +54,7 @@ class Scanner {
     this.changes = []; // [from, to, text]
     this.functions = [];
     this.strictIds = [];
+    this.lastId = 0;
     this.braces = [{ strict: this.tokens[0] === '"use strict"', body: null }];
     this.openBrackets = []; // indices of the tokens
     this.lastClosed = -1; // the `(` of the last `)`
@@ -115,6 +119,7 @@ class Scanner {
     const letter = tokens[i + 2];
     const id = Number(tokens[i + 4]);
     if (this.hooks !== HOOKS && letter !== 'E') this.change(starts[i], starts[i] + HOOKS.length, this.hooks);
+    this.lastId = Math.max(this.lastId, id + (FURTHER_IDS[letter] || 0));
     if (this.strict) this.strictIds.push(id);
     if (letter === 'E') return this.enterHook(i, id);
     if (letter === 'L') this.change(starts[i + 5], starts[i + 5], ', ' + CALL);
@@ -169,6 +174,7 @@ class Scanner {
   run() {
     for (let i = 0; i < this.tokens.length; i++) i = this.token(i);
     return {
+      lastId: this.lastId,
       text: changed(this.woven, this.changes),
       functions: this.functions
         .sort((a, b) => a.id - b.id)

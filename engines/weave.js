@@ -8,7 +8,8 @@
 
 const { SourceMap } = require('module');
 const { jlint } = require('./jlint.js');
-const { adapt, asItStands } = require('./adapt.js');
+const { adapt, asItStands, parseWithComments } = require('./adapt.js');
+const { headOf } = require('./rows.js');
 const { CALL, scan } = require('./scan.js');
 
 const INLINE_MAP = /\/\/[#@] sourceMappingURL=data:application\/json;(?:charset=[^;]*;)?base64,(\S+)\s*$/;
@@ -29,8 +30,8 @@ function refusal(answer, place) {
     .replace(/(\d+):(\d+)$/, (all, line, column) => place(Number(line), Number(column)).join(':'));
 }
 
-// The rows and the switched-off rules of a record, with other places.
-function headOf(record, place) {
+// The rows and the switched-off rules of a record of the program's own, with other places.
+function headOfRecord(record, place) {
   const lines = record.split('\n');
   const rows = Number(lines[1].split(' ')[1]);
   for (let i = 2; i < 2 + rows; i++) {
@@ -42,6 +43,13 @@ function headOf(record, place) {
   return { rows, text: lines.slice(0, 3 + rows + off).join('\n') + '\n' };
 }
 
+// The head of the file's record, which has a row for each id of the rewritten text. Where the tree has another number of
+// rows, the program is asked: a run of no steps is recorded.
+function head(text, lastId, place) {
+  const made = headOf(text, parseWithComments(text), place);
+  return made.rows === lastId ? made : headOfRecord(jlint(['record', '--budget', '0'], text), place);
+}
+
 function weave(source, options) {
   const original = originalPlaces(source);
   const code = source.replace(INLINE_MAP, '');
@@ -50,14 +58,12 @@ function weave(source, options) {
   const woven = jlint(['instrument'], adapted.text);
   if (woven.startsWith('jlint: refused')) return { refused: refusal(woven, adapted.place) };
   if (woven.includes(CALL)) return { refused: 'uses the name ' + CALL };
-  // A run of no steps is recorded for its rows; the operations are the engine's.
-  const record = jlint(['record', '--budget', '0'], adapted.text);
-  const head = headOf(record, (line, column) => original(adapted.place(line, column)));
-  const { text, functions, strict } = scan(woven, options);
+  const { text, functions, strict, lastId } = scan(woven, options);
+  const { rows, text: begin } = head(adapted.text, lastId, (line, column) => original(adapted.place(line, column)));
   return {
     text: adapted.restore(text),
-    table: { number: options.number, rows: head.rows, functions, strict },
-    head: head.text
+    table: { number: options.number, rows, functions, strict },
+    head: begin
   };
 }
 
