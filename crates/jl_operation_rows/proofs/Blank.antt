@@ -75,19 +75,23 @@ module _ {P : Type 0} (at : P) where
       blank_map (empty s) = refl
       blank_map (expression a s) = ap (λ p. expression p at) (blank_map a)
       blank_map (block a s) = ap (λ p. block p at) (blank_map_forest a)
-      blank_map (if_else a b c s) = ap₃ (λ p q r. if_else p q r at) (blank_map a) (blank_map_forest b) (blank_map_optional c)
+      blank_map (if_else a b c s) =
+          ap₃ (λ p q r. if_else p q r at) (blank_map a) (blank_map_forest b) (blank_map_optional c)
       blank_map (do_while a b s) = ap₂ (λ p q. do_while p q at) (blank_map_forest a) (blank_map b)
       blank_map (while a b s) = ap₂ (λ p q. while p q at) (blank_map a) (blank_map_forest b)
       blank_map (for a b c d s) =
-          ap₄ (λ p q r u. for p q r u at) (blank_map a) (blank_map_optional b) (blank_map_optional c) (blank_map_forest d)
-      blank_map (for_in is_var a b c s) = ap₂ (λ p q. for_in is_var (blank_name a) p q at) (blank_map b) (blank_map_forest c)
+          ap₄ (λ p q r u. for p q r u at) (blank_map a) (blank_map_optional b) (blank_map_optional c)
+          (blank_map_forest d)
+      blank_map (for_in is_var a b c s) =
+          ap₂ (λ p q. for_in is_var (blank_name a) p q at) (blank_map b) (blank_map_forest c)
       blank_map (continue a s) = ap (λ p. continue p at) (blank_map_name a)
       blank_map (break a s) = ap (λ p. break p at) (blank_map_name a)
       blank_map (return a s) = ap (λ p. return p at) (blank_map_optional a)
       blank_map (labelled a b s) = ap (λ p. labelled (blank_name a) p at) (blank_map b)
       blank_map (switch a b s) = ap₂ (λ p q. switch p q at) (blank_map a) (blank_map_forest b)
       blank_map (throw a s) = ap (λ p. throw p at) (blank_map a)
-      blank_map (try a b c s) = ap₃ (λ p q r. try p q r at) (blank_map_forest a) (blank_map_optional b) (blank_map_optional c)
+      blank_map (try a b c s) =
+          ap₃ (λ p q r. try p q r at) (blank_map_forest a) (blank_map_optional b) (blank_map_optional c)
       blank_map (debugger s) = refl
       blank_map nothing = refl
       blank_map (init_expression a) = ap (λ p. init_expression p) (blank_map a)
@@ -137,7 +141,8 @@ module _ {P : Type 0} (at : P) where
       blank_ids n (binary a b c s) = ap₂ (λ p q. binary a p q at) (blank_ids _ b) (blank_ids _ c)
       blank_ids n (and a b s) = ap₂ (λ p q. and p q at) (blank_ids _ a) (blank_ids _ b)
       blank_ids n (or a b s) = ap₂ (λ p q. or p q at) (blank_ids _ a) (blank_ids _ b)
-      blank_ids n (conditional a b c s) = ap₃ (λ p q r. conditional p q r at) (blank_ids _ a) (blank_ids _ b) (blank_ids _ c)
+      blank_ids n (conditional a b c s) =
+          ap₃ (λ p q r. conditional p q r at) (blank_ids _ a) (blank_ids _ b) (blank_ids _ c)
       blank_ids n (assign a b c s) = ap₂ (λ p q. assign a p q at) (blank_ids _ b) (blank_ids _ c)
       blank_ids n (comma a b s) = ap₂ (λ p q. comma p q at) (blank_ids _ a) (blank_ids _ b)
       blank_ids n (to_name a) = refl

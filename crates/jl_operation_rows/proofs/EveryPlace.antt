@@ -1,5 +1,5 @@
 -- Trees of which each place passes a test, and the rows of their maps.
-use Rattle.std.proofs.Common.{ℕ, List, [], ◌∷◌, ◌++◌, Option, Some, None}
+use Rattle.std.proofs.Common.{ℕ, [], ◌∷◌, ◌++◌, Option, Some, None}
 use Rattle.jl_ast.specs.Numbering.{numbered_forest, numbered_optional, numbered_tree}
 use Rattle.jl_ast.specs.Spans.{place}
 use Rattle.jl_ast.specs.Tree.{absent, and, array, assign, binary, block, body, boolean, branch_of, break, call, case}
@@ -12,7 +12,7 @@ use Rattle.jl_ast.specs.Tree.{Sort, Tree}
 use Rattle.jl_ast.specs.declared.ops.BinOp.{BinOp}
 use Rattle.jl_ast.specs.declared.ops.UnOp.TheVariants as un
 use Rattle.jl_op.specs.IdMap.{assign_entries, call_entries, compute_entries, entries, forest_entries, insert_second}
-use Rattle.jl_op.specs.IdMap.{invoke_entries, optional_entries, optional_test_entries, place_of, test_entry}
+use Rattle.jl_op.specs.IdMap.{invoke_entries, optional_entries, optional_test_entries, place_of}
 use Rattle.jl_op.specs.IdMap.{unary_entries, without_first, MapEntries, MapEntry}
 use Rattle.jl_op.specs.declared.kind.OpKind.{OpKind}
 use Rattle.jl_op.specs.declared.kind.OpKind.TheVariants as kind
@@ -107,7 +107,8 @@ module _ {S : Type 0} (P : S → Type 0) where
     every_numbered n (binary o a b s) h = (every_numbered _ a h.0, every_numbered _ b h.1, h.2)
     every_numbered n (and a b s) h = (every_numbered _ a h.0, every_numbered _ b h.1, h.2)
     every_numbered n (or a b s) h = (every_numbered _ a h.0, every_numbered _ b h.1, h.2)
-    every_numbered n (conditional a b c s) h = (every_numbered _ a h.0, every_numbered _ b h.1, every_numbered _ c h.2, h.3)
+    every_numbered n (conditional a b c s) h =
+        (every_numbered _ a h.0, every_numbered _ b h.1, every_numbered _ c h.2, h.3)
     every_numbered n (assign o a b s) h = (every_numbered _ a h.0, every_numbered _ b h.1, h.2)
     every_numbered n (comma a b s) h = (every_numbered _ a h.0, every_numbered _ b h.1, h.2)
     every_numbered n (to_name a) h = tt
@@ -127,7 +128,8 @@ module _ {S : Type 0} (P : S → Type 0) where
     every_numbered n (if_else a b c s) h = (every_numbered _ a h.0, all_numbered _ b h.1, any_numbered _ c h.2, h.3)
     every_numbered n (do_while a b s) h = (all_numbered _ a h.0, every_numbered _ b h.1, h.2)
     every_numbered n (while a b s) h = (every_numbered _ a h.0, all_numbered _ b h.1, h.2)
-    every_numbered n (for a b c d s) h = (every_numbered _ a h.0, any_numbered _ b h.1, any_numbered _ c h.2, all_numbered _ d h.3, h.4)
+    every_numbered n (for a b c d s) h =
+        (every_numbered _ a h.0, any_numbered _ b h.1, any_numbered _ c h.2, all_numbered _ d h.3, h.4)
     every_numbered n (for_in is_var x a b s) h = (every_numbered _ a h.0, all_numbered _ b h.1, h.2)
     every_numbered n (continue x s) h = h
     every_numbered n (break x s) h = h

@@ -31,7 +31,8 @@ use Rattle.jl_meaning.specs.forms.Hooks.{Pending}
 use Rattle.jl_meaning.specs.forms.Literals.{literal, literal_op}
 use Rattle.jl_meaning.specs.forms.Members.{delete_member, get_member, member_name, put_member, update_member}
 use Rattle.jl_meaning.specs.forms.Operators.{operate, operate_on, update}
-use Rattle.jl_operation_rows.proofs.Relation.{algorithm, bind, call_told, emit_now, emit_told, fails, lift_then, look_told, ok}
+use Rattle.jl_operation_rows.proofs.Relation.{algorithm, bind, call_told, emit_now, emit_told, fails, lift_then}
+use Rattle.jl_operation_rows.proofs.Relation.{look_told, ok}
 use Rattle.jl_operation_rows.proofs.Relation.{pick, step_told, Performs}
 
 module _ {IsRow : MapEntry ℕ → Type 0} {IsTurn : Turn → Type 0} where
@@ -72,7 +73,8 @@ module _ {IsRow : MapEntry ℕ → Type 0} {IsTurn : Turn → Type 0} where
   unfolding put_member
   put_emits id strict base x v = look_told (λ s. emit_told (algorithm (put strict base x v)))
 
-  delete_emits : (id : ℕ) (strict : Bool) (base key : Value) → Performs IsRow IsTurn (delete_member emits id strict base key)
+  delete_emits : (id : ℕ) (strict : Bool) (base key : Value)
+      → Performs IsRow IsTurn (delete_member emits id strict base key)
   unfolding delete_member
   delete_emits id strict base key =
       lift_then (member_name base key) (λ x. lift_then (delete strict base x) (λ free.
@@ -144,7 +146,8 @@ module _ {IsRow : MapEntry ℕ → Type 0} {IsTurn : Turn → Type 0} where
   close_emits table c (pending_new pre callee) vs = invoke_emits table pre callee value.Undefined vs true
 
   -- CALLS
-  call_of_hook : (c : Context) (h : Option (HookCall Hook)) (args : Arguments) → ((k : ℕ) → Performs IsRow IsTurn (args k))
+  call_of_hook : (c : Context) (h : Option (HookCall Hook)) (args : Arguments)
+      → ((k : ℕ) → Performs IsRow IsTurn (args k))
       → Performs IsRow IsTurn (call_hook c h args)
   call_of_hook c None args x = fails Misuse
   call_of_hook c (Some h) args x = bind (x h.literals) (λ vs. step_told (hook_emits c h.id h.asked vs))
@@ -158,15 +161,18 @@ module _ {IsRow : MapEntry ℕ → Type 0} {IsTurn : Turn → Type 0} where
       bind y (λ ws. close_emits table c pending ws))))
 
   -- a call of a member, by what that is
-  pub by_form : (form : CalleeForm) (l : Exprs) (c : Context) (args : Arguments) → ((k : ℕ) → Performs IsRow IsTurn (args k))
-      → {otherwise : Part (Answer Value)} → Performs IsRow IsTurn otherwise → Performs IsRow IsTurn (call_by_form form l c args otherwise)
+  pub by_form : (form : CalleeForm) (l : Exprs) (c : Context) (args : Arguments)
+      → ((k : ℕ) → Performs IsRow IsTurn (args k))
+      → {otherwise : Part (Answer Value)} → Performs IsRow IsTurn otherwise
+      → Performs IsRow IsTurn (call_by_form form l c args otherwise)
   by_form (hook shape) l c args x y = call_of_hook c (hook_call shape l) args x
   by_form (opener shape) l c args x y = fails Misuse
   by_form no_hook l c args x y = y
 
   -- a call of a call
   pub of_call : (table : FunctionTable) (c : Context) (form : CalleeForm) (inner : Exprs) (first : Arguments)
-      → ((k : ℕ) → Performs IsRow IsTurn (first k)) → (n : ℕ) {second : Part (Answer (List Value))} → Performs IsRow IsTurn second
+      → ((k : ℕ) → Performs IsRow IsTurn (first k)) → (n : ℕ) {second : Part (Answer (List Value))}
+      → Performs IsRow IsTurn second
       → {otherwise : Part (Answer Value)} → Performs IsRow IsTurn otherwise
       → Performs IsRow IsTurn (call_of_call table c form inner first n second otherwise)
   of_call table c (hook shape) inner first x n y z = z

@@ -1,5 +1,6 @@
 -- The ids of what a program performs name rows of its map, of the same kinds.
-use Rattle.std.proofs.Common.{◌≡◌, ℕ, zero, suc, ◌+◌, List, [], ◌∷◌, Bool, true, false, Option, Some, None, All, Contains, ◌<◌}
+use Rattle.std.proofs.Common.{◌≡◌, ℕ, zero, suc, ◌+◌, List, [], ◌∷◌, Bool, true, false, Option, Some, None, All}
+use Rattle.std.proofs.Common.{Contains, ◌<◌}
 use Rattle.std.proofs.Common.{length, option_map, slice_get, slice_index_or, filter, refl, sym, ap, ◌∙◌, subst, arith}
 use Rattle.std.specs.Prelude.{if◌then◌else◌}
 use Rattle.std.specs.List.{range_with_len}

@@ -1,5 +1,5 @@
 -- What is said of the operations of a tree with other places.
-use Rattle.std.proofs.Common.{◌≡◌, ◌∙◌, List, [], ◌∷◌, ◌++◌, map, refl, sym, ap, ap₂, Option, Some, None}
+use Rattle.std.proofs.Common.{◌≡◌, ◌∙◌, [], ◌∷◌, ◌++◌, map, refl, sym, ap, ap₂, Option, Some, None}
 use Rattle.std.proofs.lemmas.List.{map-append}
 use Rattle.jl_ast.specs.Spans.{map_forest, map_optional, map_spans, map_tree, place}
 use Rattle.jl_ast.specs.Tree.{absent, and, array, assign, binary, block, body, boolean, branch_of, break, call, case}
@@ -10,13 +10,12 @@ use Rattle.jl_ast.specs.Tree.{number, object, or, present, return, setter, strin
 use Rattle.jl_ast.specs.Tree.{to_dot, to_index, to_name, try, unary, update, value, var, while, Forest, OptionalTree}
 use Rattle.jl_ast.specs.Tree.{Program, Sort, Tree}
 use Rattle.jl_ast.specs.declared.ops.BinOp.{BinOp}
-use Rattle.jl_ast.specs.declared.ops.UnOp.{UnOp}
 use Rattle.jl_ast.specs.declared.ops.UnOp.TheVariants as un
 use Rattle.jl_ast.proofs.Congruences.{ap₃}
 use Rattle.jl_op.specs.IdMap.{assign_entries, call_entries, compute_entries, entries, forest_entries, insert_second}
 use Rattle.jl_op.specs.IdMap.{invoke_entries, without_first}
 use Rattle.jl_op.specs.IdMap.{optional_entries, optional_test_entries, program_entries, test_entry, unary_entries}
-use Rattle.jl_op.specs.IdMap.{MapEntries, MapEntry, Saying}
+use Rattle.jl_op.specs.IdMap.{MapEntries, Saying}
 use Rattle.jl_op.specs.declared.kind.OpKind.{OpKind}
 use Rattle.jl_op.specs.declared.kind.OpKind.TheVariants as kind
 

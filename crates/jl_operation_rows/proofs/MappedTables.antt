@@ -11,7 +11,7 @@ use Rattle.jl_ast.specs.Tree.{to_index, to_name, try, unary, update, value, var,
 use Rattle.jl_ast.specs.Tree.{Program, Sort, Tree}
 use Rattle.jl_ast.specs.Tree.{code}
 use Rattle.jl_scope.specs.Hoisting.{strict_in}
-use Rattle.jl_meaning.specs.FunctionObjects.{FunctionTable, ScriptFunction}
+use Rattle.jl_meaning.specs.FunctionObjects.{FunctionTable}
 use Rattle.jl_meaning.specs.FunctionTable.{forest_functions, function_table, functions_in, optional_functions}
 use Rattle.jl_operation_rows.proofs.SameJobs.{map_table}
 use Rattle.jl_operation_rows.proofs.SameMade.{map_function}
@@ -58,7 +58,8 @@ module _ (f : ℕ → ℕ) where
     table_same strict (getter k f) = table_same strict f
     table_same strict (setter k f) = table_same strict f
     table_same strict (function m x params b s) =
-        ap₂ (λ inside l. record { func = map_tree f (function m x params b s); strict = inside } ∷ l) (strict_same strict b)
+        ap₂ (λ inside l. record { func = map_tree f (function m x params b s); strict = inside } ∷ l)
+        (strict_same strict b)
         (ap (λ inside. functions_in inside (map_tree f b)) (strict_same strict b) ∙ table_same (strict_in strict b) b)
     table_same strict (body is_strict fs l) = join _ _ (table_forest strict fs) (table_forest strict l)
     table_same strict (var l s) = table_forest strict l

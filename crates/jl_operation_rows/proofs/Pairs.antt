@@ -3,7 +3,7 @@
 use Rattle.std.proofs.Common.{ℕ, zero, suc, List, [], ◌∷◌, ◌++◌, Bool}
 use Rattle.jl_effects.specs.Effects.{Part, End, Fail, Step, Look, Change, Begin, Print, Perform, Emit, and_then}
 use Rattle.jl_effects.specs.Effects.{Row, row}
-use Rattle.jl_effects.specs.Running.{keeping, has_room, run, run_to, state_of, step, trace_with, with_line}
+use Rattle.jl_effects.specs.Running.{keeping, has_room, run, run_to, state_of, step, trace_with}
 use Rattle.jl_effects.specs.Running.{Language, Outcome, RunState}
 use Rattle.jl_effects.specs.Telling.{Tells}
 use Rattle.jl_effects.proofs.Growth.{both_ways}

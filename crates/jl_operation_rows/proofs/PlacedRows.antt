@@ -13,9 +13,10 @@ use Rattle.jl_op.specs.declared.op.Op.{Op}
 use Rattle.jl_effects.specs.Running.{state_of}
 use Rattle.jl_effects.proofs.Tells.{Each}
 use Rattle.jl_meaning.specs.Mean.{run_of}
-use Rattle.jl_operation_rows.specs.Places.{counted_from, first_of, second_of, test_of, third_of, OneByOne, Origin, SameRow}
+use Rattle.jl_operation_rows.specs.Places.{counted_from, first_of, second_of, test_of, third_of, OneByOne, Origin}
+use Rattle.jl_operation_rows.specs.Places.{SameRow}
 use Rattle.jl_operation_rows.proofs.MapRows.{each_from}
-use Rattle.jl_operation_rows.proofs.MappedEntries.{program_said, said, SaysAfter}
+use Rattle.jl_operation_rows.proofs.MappedEntries.{program_said, SaysAfter}
 use Rattle.jl_operation_rows.proofs.Pairs.{AllPaired}
 use Rattle.jl_operation_rows.proofs.Programs.{run_told, same_entries}
 use Rattle.jl_operation_rows.proofs.Relation.{IsOwn}
@@ -153,10 +154,12 @@ module _ (t : Program ℕ) where
     same_rows [] [] (b ∷ n) rows x y = absurd y
     same_rows (o ∷ l) (a ∷ m) [] rows x y = absurd y
 
-  rows_there : (chosen : Kinds) (n : ℕ) → Each (IsOwn IsRow) (state_of (run_of chosen (map_spans triple t) n)).operations
+  rows_there : (chosen : Kinds) (n : ℕ)
+      → Each (IsOwn IsRow) (state_of (run_of chosen (map_spans triple t) n)).operations
   rows_there chosen n =
       let p = map_spans triple t in
-      run_told IsRow p (subst (Each IsRow) (sym (same_entries p)) (each_from (operation_ids p) IsRow (λ k e is. (k, is))))
+      run_told IsRow p
+      (subst (Each IsRow) (sym (same_entries p)) (each_from (operation_ids p) IsRow (λ k e is. (k, is))))
       chosen n
 
   renamed_rows : (f g : ℕ → ℕ) (chosen : Kinds) (n : ℕ)

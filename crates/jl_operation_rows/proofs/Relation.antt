@@ -83,7 +83,8 @@ module _ {IsRow : MapEntry ℕ → Type 0} {IsTurn : Turn → Type 0} where
   ok a = record { at = tt }
 
   -- parts in a row
-  pub in_a_row : {A B : Type 0} {p : Part A} {k : A → Part B} → Performs IsRow IsTurn p → ((a : A) → Performs IsRow IsTurn (k a))
+  pub in_a_row : {A B : Type 0} {p : Part A} {k : A → Part B} → Performs IsRow IsTurn p
+      → ((a : A) → Performs IsRow IsTurn (k a))
       → Performs IsRow IsTurn (and_then p k)
   in_a_row {p = p} {k = k} x f = record {
     at = tells_then (IsOwn IsRow) (IsBegun IsTurn) p k x.at (λ a. (f a).at);
@@ -108,7 +109,8 @@ module _ {IsRow : MapEntry ℕ → Type 0} {IsTurn : Turn → Type 0} where
   pub step_told : {A : Type 0} {p : Part A} → Performs IsRow IsTurn p → Performs IsRow IsTurn (Step p)
   step_told x = record { at = x.at }
 
-  pub look_told : {A : Type 0} {p : Store → Part A} → ((s : Store) → Performs IsRow IsTurn (p s)) → Performs IsRow IsTurn (Look p)
+  pub look_told : {A : Type 0} {p : Store → Part A} → ((s : Store) → Performs IsRow IsTurn (p s))
+      → Performs IsRow IsTurn (Look p)
   look_told f = record { at = λ s. (f s).at }
 
   -- the script performs an operation
@@ -136,7 +138,8 @@ module _ {IsRow : MapEntry ℕ → Type 0} {IsTurn : Turn → Type 0} where
       on (gives v) = f v
       on (throws v) = ended _
 
-  pub pick : {A : Type 0} (b : Bool) {p q : Part A} → Performs IsRow IsTurn p → Performs IsRow IsTurn q → Performs IsRow IsTurn (if b then p else q)
+  pub pick : {A : Type 0} (b : Bool) {p q : Part A} → Performs IsRow IsTurn p → Performs IsRow IsTurn q
+      → Performs IsRow IsTurn (if b then p else q)
   pick true x y = x
   pick false x y = y
 
@@ -150,7 +153,8 @@ module _ {IsRow : MapEntry ℕ → Type 0} {IsTurn : Turn → Type 0} where
       on (gives v) = f v
       on (throws v) = ended _
 
-  pub sequence : {p q : Part Completion} → Performs IsRow IsTurn p → Performs IsRow IsTurn q → Performs IsRow IsTurn (then_do p q)
+  pub sequence : {p q : Part Completion} → Performs IsRow IsTurn p → Performs IsRow IsTurn q
+      → Performs IsRow IsTurn (then_do p q)
   sequence {q = q} x y = in_a_row x on
     where
       on : (how : Completion) → Performs IsRow IsTurn (if_normal q how)
@@ -160,9 +164,11 @@ module _ {IsRow : MapEntry ℕ → Type 0} {IsTurn : Turn → Type 0} where
       on (completion.Break l) = ended _
       on (completion.Continue l) = ended _
 
-  pub ending : (f : Completion → Completion) {p : Part Completion} → Performs IsRow IsTurn p → Performs IsRow IsTurn (ends_as f p)
+  pub ending : (f : Completion → Completion) {p : Part Completion} → Performs IsRow IsTurn p
+      → Performs IsRow IsTurn (ends_as f p)
   ending f x = in_a_row x (λ how. ended _)
 
 -- a turn begins
-pub turn_begins : {IsRow : MapEntry ℕ → Type 0} (t : Turn) → LoopRows IsRow t.loop t.id → Told IsRow (Begin (TurnOf t) End)
+pub turn_begins : {IsRow : MapEntry ℕ → Type 0} (t : Turn) → LoopRows IsRow t.loop t.id
+    → Told IsRow (Begin (TurnOf t) End)
 turn_begins t h = record { at = (h, λ end. tt) }

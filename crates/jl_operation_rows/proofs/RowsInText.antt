@@ -1,13 +1,15 @@
 -- The rows of a program that is read from the tokens of a text stand in the text.
-use Rattle.std.proofs.Common.{◌≡◌, ℕ, zero, suc, ◌≤◌, ◌<◌, List, [], ◌∷◌, All, length, sym, subst, arith}
+use Rattle.std.proofs.Common.{ℕ, zero, suc, ◌≤◌, List, [], ◌∷◌, All, length, sym, subst, arith}
 use Rattle.jl_ast.specs.Numbering.{numbered_tree}
 use Rattle.jl_ast.specs.Tree.{Program}
+use Rattle.jl_text.specs.Places.{line_table}
 use Rattle.jl_text.specs.declared.span.Span.{Span}
 use Rattle.jl_token.specs.Tokens.{InOrder}
 use Rattle.jl_token.specs.declared.token.Token.{Token}
-use Rattle.jl_grammar.specs.Program.{last_end, program_of, Reads}
+use Rattle.jl_grammar.specs.Program.{last_end, Reads}
 use Rattle.jl_grammar.specs.Tokens.{from_at, span, to_at}
 use Rattle.jl_op.specs.IdMap.{id_map}
+use Rattle.jl_op.specs.Map.{BeginsIn}
 use Rattle.jl_effects.proofs.Tells.{Each}
 use Rattle.jl_operation_rows.specs.InText.{LiesIn}
 use Rattle.jl_operation_rows.proofs.EveryPlace.{every_numbered, rows}
@@ -55,3 +57,8 @@ module _ (end : ℕ) where
   pub rows_lie : (ts : List Token) (limit : ℕ) (p : Program Span) → InOrder 0 end ts → Reads ts limit p
       → All (LiesIn end) (id_map p)
   rows_lie ts limit p order read = each_all (LiesIn end) (id_map p) (rows_within ts limit p order read)
+
+-- each begins at a place that has a line and a column
+pub rows_begin : (text : List ℕ) (ts : List Token) (limit : ℕ) (p : Program Span) → InOrder 0 (length text) ts
+    → Reads ts limit p → All (BeginsIn (line_table text)) (id_map p)
+rows_begin text ts limit p order read = λ k d less. (rows_lie (length text) ts limit p order read k d less).0

@@ -121,7 +121,8 @@ module _ (table table' : FunctionTable) (same : (i : Inner) → callee_of table 
   close_over c (pending_call pre callee this) vs = over_table emits pre callee this vs false
   close_over c (pending_new pre callee) vs = over_table emits pre callee value.Undefined vs true
 
-module _ {r : Renaming} (table table' : FunctionTable) (same : (i : Inner) → callee_of table i ≡ callee_of table' i) where
+module _ {r : Renaming} (table table' : FunctionTable)
+    (same : (i : Inner) → callee_of table i ≡ callee_of table' i) where
   -- CALLS OF FUNCTIONS
   with_ids : {i j : ℕ} → Twins r i j → (callee this : Value) (args : List Value) (by_new : Bool)
       → Same r (invoke table performs i callee this args by_new) (invoke table performs j callee this args by_new)
@@ -149,7 +150,8 @@ module _ {r : Renaming} (table table' : FunctionTable) (same : (i : Inner) → c
   -- PAIRS OF CALLS
   close_same : (c : Context) (pending : Pending) (vs : List Value)
       → Same r (close table c pending vs) (close table' c pending vs)
-  close_same c pending vs = second_is (close_over table table' same c pending vs) (silent (close_emits table c pending vs))
+  close_same c pending vs =
+      second_is (close_over table table' same c pending vs) (silent (close_emits table c pending vs))
 
   pair_same : (c : Context) (h : Option (HookCall Opener)) {first first' : Arguments} → SameArguments r first first'
       → {second second' : Part (Answer (List Value))} → Same r second second'

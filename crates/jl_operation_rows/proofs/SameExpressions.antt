@@ -21,7 +21,8 @@ use Rattle.jl_meaning.specs.forms.Literals.{accessor_change, new_array, new_plai
 use Rattle.jl_meaning.specs.forms.Literals.{put_element}
 use Rattle.jl_meaning.proofs.MadeFunctions as meant
 use Rattle.jl_operation_rows.proofs.Pairs.{ends, steps}
-use Rattle.jl_operation_rows.proofs.Renaming.{algorithm, at_first, at_place, bind, lift_then, pick, second_is, Renaming, Same}
+use Rattle.jl_operation_rows.proofs.Renaming.{algorithm, at_first, at_place, bind, lift_then, pick, second_is, Renaming}
+use Rattle.jl_operation_rows.proofs.Renaming.{Same}
 use Rattle.jl_operation_rows.proofs.Renaming.{Twins}
 use Rattle.jl_operation_rows.proofs.SameCalls.{by_form_same, call_member_same, call_of_call_same, call_value_same}
 use Rattle.jl_operation_rows.proofs.SameCalls.{invoke_same, SameArguments}
@@ -46,7 +47,8 @@ module _ (r : Renaming) where
       second_is (ap (λ p. lift p) (meant.expression_same (made_same r.from r.to f) c.strict c.env))
       (algorithm (make_function_expression c.strict c.env (map_tree r.from f)))
 
-module _ (r : Renaming) (table table' : FunctionTable) (same : (i : Inner) → callee_of table i ≡ callee_of table' i) where
+module _ (r : Renaming) (table table' : FunctionTable)
+    (same : (i : Inner) → callee_of table i ≡ callee_of table' i) where
   abbrev old : {x : tree.Sort} → Tree ℕ x → Tree ℕ x
   old t = map_tree r.from t
 

@@ -1,9 +1,8 @@
 -- Forms of expressions do the same with other ids, but for these.
-use Rattle.std.proofs.Common.{ℕ, ◌+◌, Bool, List, Option, Some, None}
+use Rattle.std.proofs.Common.{ℕ, Bool, Option, Some, None}
 use Rattle.jl_ast.specs.declared.ops.BinOp.{BinOp}
 use Rattle.jl_value.specs.declared.object.ObjId.{ObjId}
 use Rattle.jl_value.specs.declared.value.Value.{Value}
-use Rattle.jl_value.specs.declared.value.Value.TheVariants as value
 use Rattle.jl_heap.specs.Define.{length_name}
 use Rattle.jl_heap.specs.Objects.{Name}
 use Rattle.jl_heap.specs.declared.property.Change.{Change}

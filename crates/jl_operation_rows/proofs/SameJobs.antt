@@ -1,5 +1,5 @@
 -- Calls of functions, and all jobs, do the same with other places, but for the ids of what they perform.
-use Rattle.std.proofs.Common.{◌≡◌, ◌∙◌, ◌++◌, ℕ, zero, suc, Bool, List, [], ◌∷◌, length, slice_get, Some, None, refl}
+use Rattle.std.proofs.Common.{◌≡◌, ◌∙◌, ◌++◌, ℕ, zero, suc, Bool, [], ◌∷◌, length, slice_get, Some, refl}
 use Rattle.std.proofs.Common.{sym, ap, ap₂}
 use Rattle.std.specs.Prelude.{map}
 use Rattle.jl_ast.specs.Spans.{map_tree}
@@ -15,7 +15,7 @@ use Rattle.jl_heap.specs.declared.inner.Inner.TheVariants as inner
 use Rattle.jl_op.specs.declared.callee.Callee.TheVariants as callee
 use Rattle.jl_meaning.specs.FunctionObjects.{callee_of, has_construct, script_callee, FunctionTable, ScriptFunction}
 use Rattle.jl_meaning.specs.Jobs.{begin_known, call_bound, call_inside, job}
-use Rattle.jl_meaning.specs.Parts.{lift, Call, CallOf, Code, Context, Func, Job, TurnOf}
+use Rattle.jl_meaning.specs.Parts.{lift, Call, Code, Context, Func, Job}
 use Rattle.jl_meaning.specs.builtins.Function.{names_of}
 use Rattle.jl_meaning.specs.builtins.Table.{builtin}
 use Rattle.jl_meaning.specs.forms.Functions.{begin_script, call_script, construct_script, enter_function}

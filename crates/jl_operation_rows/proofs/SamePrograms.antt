@@ -4,7 +4,6 @@ use Rattle.jl_ast.specs.Spans.{map_spans, map_tree}
 use Rattle.jl_ast.specs.Tree as tree
 use Rattle.jl_ast.specs.Tree.{Program}
 use Rattle.jl_op.specs.Chosen.{is_kept, Kinds}
-use Rattle.jl_op.specs.Operations.{Operation}
 use Rattle.jl_op.specs.declared.op.Op.TheVariants as op
 use Rattle.jl_value.specs.declared.ending.Completion.{Completion}
 use Rattle.jl_value.specs.declared.ending.Completion.TheVariants as completion

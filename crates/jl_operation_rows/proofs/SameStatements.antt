@@ -27,7 +27,8 @@ use Rattle.jl_meaning.specs.forms.Simple.{begin_for, declare, declare_all}
 use Rattle.jl_meaning.specs.forms.Switch.{after_switch, default_of}
 use Rattle.jl_meaning.specs.forms.Try.{begin_catch, unless_abrupt}
 use Rattle.jl_operation_rows.proofs.Pairs.{begins, changes, ends, looks, steps}
-use Rattle.jl_operation_rows.proofs.Renaming.{algorithm, at_first, at_place, bind, ending, map_loop, map_turn, perform, pick}
+use Rattle.jl_operation_rows.proofs.Renaming.{algorithm, at_first, at_place, bind, ending, map_loop, map_turn, perform}
+use Rattle.jl_operation_rows.proofs.Renaming.{pick}
 use Rattle.jl_operation_rows.proofs.Renaming.{same_turn, second_is, sequence, then_same, value_then, Renaming, Same}
 use Rattle.jl_operation_rows.proofs.Renaming.{Twin}
 use Rattle.jl_operation_rows.proofs.SameExpressions.{evaluate_same}
@@ -90,7 +91,8 @@ module _ (r : Renaming) where
   default_same (tree.more (tree.case tree.absent b) l) = refl
   default_same (tree.more (tree.case (tree.present e) b) l) = ap (option_map suc) (default_same l)
 
-module _ (r : Renaming) (table table' : FunctionTable) (same : (i : Inner) → callee_of table i ≡ callee_of table' i) where
+module _ (r : Renaming) (table table' : FunctionTable)
+    (same : (i : Inner) → callee_of table i ≡ callee_of table' i) where
   abbrev old : {x : tree.Sort} → Tree ℕ x → Tree ℕ x
   old t = map_tree r.from t
 

@@ -9,7 +9,6 @@ use Rattle.jl_ast.specs.Tree.{index, init_expression, init_var, labelled, more, 
 use Rattle.jl_ast.specs.Tree.{object, or, present, return, setter, string, switch, this, throw, to_dot, to_index}
 use Rattle.jl_ast.specs.Tree.{to_name, try, unary, update, value, var, while, Forest, Ident, OptionalTree, Program}
 use Rattle.jl_ast.specs.Tree.{Sort, Tree}
-use Rattle.jl_ast.proofs.Congruences.{ap₃, ap₄}
 
 -- NUMBERS IN TWO PARTS
 abbrev twice : ℕ → ℕ
@@ -161,7 +160,8 @@ module _ {S : Type 0} (some : S) where
       (make : X → Y → Z → W → V) → Built b x → Built d y → Built e z → Built g w
       → Built (λ c f. make (b (evens c) f) (d (evens (odds c)) f) (e (evens (odds (odds c))) f)
       (g (odds (odds (odds c))) f)) (make x y z w)
-  four {Y = Y} {Z = Z} {W = W} make p q r s = two (λ x (l : Y × Z × W). make x l.0 l.1 l.2) p (three (λ y z w. (y, z, w)) q r s)
+  four {Y = Y} {Z = Z} {W = W} make p q r s =
+      two (λ x (l : Y × Z × W). make x l.0 l.1 l.2) p (three (λ y z w. (y, z, w)) q r s)
 
   five : {X Y Z W V U : Type 0} {b : (ℕ → ℕ) → (ℕ → S) → X} {d : (ℕ → ℕ) → (ℕ → S) → Y}
       {e : (ℕ → ℕ) → (ℕ → S) → Z} {g : (ℕ → ℕ) → (ℕ → S) → W} {k : (ℕ → ℕ) → (ℕ → S) → V} {x : X} {y : Y} {z : Z}

@@ -1,5 +1,6 @@
 //! Laws over the definitions; each is the contract of a function that does nothing.
 ghost use Rattle.std.specs.Prelude.{◌≡◌, ◌<◌, [], ℕ, All, Contains, List, length};
+ghost use Rattle.jl_text.specs.Places.{line_table};
 ghost use Rattle.jl_text.specs.declared.span.Span.{Span};
 ghost use Rattle.jl_token.specs.Tokens.{Tokens};
 ghost use Rattle.jl_token.specs.declared.token.Token.{Token};
@@ -11,6 +12,7 @@ ghost use Rattle.jl_meaning.specs.Mean.{mean, run_of};
 ghost use Rattle.jl_op.specs.Chosen.{Kinds};
 ghost use Rattle.jl_op.specs.IdMap.{id_map, operation_ids};
 ghost use Rattle.jl_op.specs.Kinds.{kind_of};
+ghost use Rattle.jl_op.specs.Map.{BeginsIn};
 ghost use Rattle.jl_operation_rows.specs.InText.{LiesIn};
 ghost use Rattle.jl_operation_rows.specs.Places.{OneByOne, PerformedAt, SameRow};
 ghost use Rattle.jl_operation_rows.specs.Rows.{HasRow};
@@ -54,17 +56,19 @@ pub fn operations_have_the_same_rows()
 /// Each operation that a run performs has the row that its id names, and that row shows the node that performs it: the
 /// node whose number the operation has where the places of nodes are numbers, whichever these are. The row of a test
 /// shows the tested expression, and the number is that of the node which decides by it.
-pub fn operations_are_performed_by_the_nodes_of_their_rows<S>()
+pub fn rows_show_the_nodes<S>()
     ensures { (chosen : Kinds) (p : Program S) (number : S → ℕ) (n : ℕ)
         → OneByOne (PerformedAt p number) (state_of (mean chosen p n)).operations
         (state_of (run_of chosen (map_spans number p) n)).operations }
 {}
 
-/// The row of each operation stands in the source: where a program is read from the tokens of a text, each part that its
-/// map shows begins and ends in the text.
+/// Where a program is read from the tokens of a text, each part that its map shows begins and ends in the text; so it
+/// has a line and a column there, as `jl_op::map_text` and `jl_report::report` require.
 pub fn rows_lie_in_the_text()
-    ensures { (text : List ℕ) (ts : List Token) (limit : ℕ) (p : Program Span) → Tokens text ts → Reads ts limit p
-        → All (LiesIn (length text)) (id_map p) }
+    ensures lies { (text : List ℕ) (ts : List Token) (limit : ℕ) (p : Program Span) → Tokens text ts
+        → Reads ts limit p → All (LiesIn (length text)) (id_map p) }
+    ensures begins { (text : List ℕ) (ts : List Token) (limit : ℕ) (p : Program Span) → Tokens text ts
+        → Reads ts limit p → All (BeginsIn (line_table text)) (id_map p) }
 {
     spans_are_in_order();
 }
