@@ -1,5 +1,6 @@
-ghost use Rattle.std.specs.Prelude.{◌≡◌, ◌&&◌, ◌||◌, ◌==◌, false, nat_eq, ℕ, List, [], All, IfOk, OnOk, map};
+ghost use Rattle.std.specs.Prelude.{◌≡◌, ◌&&◌, ◌||◌, ◌==◌, false, nat_eq, ℕ, List, [], All, IfOk, OnOk, is_none, map};
 ghost use Rattle.indexmap.specs.IndexSet.{contains};
+ghost use Rattle.jl_op.specs.Kinds.{number_of};
 ghost use Rattle.jl_op.specs.Map.{BeginsIn};
 ghost use Rattle.jl_op.specs.Operations.{Operation};
 ghost use Rattle.jl_cover.specs.Coverage.{condition_gap, covered_count, gap_of, gaps_of, has_id, in_order, is_false};
@@ -168,6 +169,13 @@ impl Cover {
         Ok(gaps)
     }
 
+    /// Whether the row with this id and kind is of the kind that is wanted, and lacks nothing.
+    fn is_covered(&self, id: OpId, kind: OpKind, wanted: OpKind) -> bool
+        ensures { result ≡ (number_of kind == number_of wanted && is_none (lacks_by self.now id.0 kind)) }
+    {
+        is_of(kind, wanted) && self.gap(id.0, kind).is_none()
+    }
+
     /// How many rows of this kind lack nothing.
     fn covered(&self, map: &OpMap, kind: OpKind) -> u32
         ensures { result ≡ covered_count map.now (lacks_by self.now) kind }
@@ -175,12 +183,19 @@ impl Cover {
         let mut count = 0;
         for before in 0..map.len() {
             let id = OpId(before + 1);
-            if map.kind_of(id) == kind && self.gap(id.0, kind).is_none() {
+            if self.is_covered(id, map.kind_of(id), kind) {
                 count += 1;
             }
         }
         count
     }
+}
+
+/// Whether it is the kind that is wanted.
+fn is_of(kind: OpKind, wanted: OpKind) -> bool
+    ensures { result ≡ (number_of kind == number_of wanted) }
+{
+    kind == wanted
 }
 
 /// How many rows are of this kind.
@@ -189,7 +204,7 @@ fn rows_of(map: &OpMap, kind: OpKind) -> u32
 {
     let mut count = 0;
     for before in 0..map.len() {
-        if map.kind_of(OpId(before + 1)) == kind {
+        if is_of(map.kind_of(OpId(before + 1)), kind) {
             count += 1;
         }
     }

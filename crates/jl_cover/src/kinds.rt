@@ -9,5 +9,7 @@ use jl_op::{KindSet, OpKind};
 pub fn covered_kinds() -> KindSet
     ensures { (kind : Kind) → is_member result kind ≡ is_covered kind }
 {
-    KindSet::none().with(OpKind::FunctionEnter).with(OpKind::Conditional)
+    KindSet::none()
+        .with(OpKind::FunctionEnter)
+        .with(OpKind::Conditional)
 }
