@@ -150,8 +150,8 @@ abbrev pub keyed_births : LineTable → List MapRow → List Born → List (Key 
 keyed_births lines rows births = flat_map (λ born. keyed lines (row_at rows born.1.id.0) born) births
 
 -- the keys of births, each once, in order
-abbrev pub keys_of : List (Key × ℕ) → List Key
-keys_of births = fold (insert_key by_place) [] (map (λ b. b.0) births)
+abbrev pub sorted_keys : List (Key × ℕ) → List Key
+sorted_keys births = fold (insert_key by_place) [] (map (λ b. b.0) births)
 
 abbrev pub has_key : Key → Key × ℕ → Bool
 has_key key birth = is_eq (by_place birth.0 key)
@@ -175,7 +175,7 @@ row_of used births key = record {
 
 -- a row for each line, column and way with a birth
 abbrev pub rows_of : (used : ℕ → Bool) → List (Key × ℕ) → List Births
-rows_of used births = map (row_of used births) (keys_of births)
+rows_of used births = map (row_of used births) (sorted_keys births)
 
 -- the rows of these operations
 abbrev pub births_in : LineTable → List MapRow → List Operation → List Births

@@ -6,8 +6,10 @@ mod kinds;
 pub mod laws;
 mod profile;
 mod rows;
+mod total;
 
 pub use births::{Births, Way, births_text};
 pub use jl_op::NoMemory;
 pub use kinds::profiled_kinds;
 pub use profile::Profile;
+pub use total::{Total, sums};

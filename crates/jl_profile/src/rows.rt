@@ -3,7 +3,7 @@ ghost use Rattle.std.specs.Prelude.{◌≡◌, ◌≤◌, ◌<◌, ◌^◌, nat_
 ghost use Rattle.std.specs.BTreeMap.{keys, values};
 ghost use Rattle.indexmap.specs.IndexSet.{contains};
 ghost use Rattle.jl_op.specs.Map.{BeginsIn};
-ghost use Rattle.jl_profile.specs.Births.{keyed_births, keys_of, row_at};
+ghost use Rattle.jl_profile.specs.Births.{keyed_births, sorted_keys, row_at};
 ghost use Rattle.jl_profile.specs.inner.Rows.{count_at, listed};
 
 use crate::births::{Births, Way};
@@ -60,7 +60,7 @@ pub(crate) fn count_births(
     births: &[(Key, usize)],
     used: &IndexSet<usize>,
 ) -> Result<BTreeMap<Key, Count>, AllocError>
-    ensures all { IfOk result (λ counts. keys counts ≡ keys_of births.now) }
+    ensures all { IfOk result (λ counts. keys counts ≡ sorted_keys births.now) }
     ensures counted { IfOk result (λ counts.
         All (λ e. e.1 ≡ count_at (contains nat_eq used.now) births.now e.0) counts.entries) }
     ensures made { IfOk result (λ counts. sum_by (λ x. x.made) (values counts) ≤ length births.now) }
