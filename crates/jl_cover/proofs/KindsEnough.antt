@@ -1,5 +1,6 @@
 -- Operations of other kinds change nothing that is missed.
-use Rattle.std.proofs.Common.{◌≡◌, ◌+◌, ◌&&◌, ◌||◌, ℕ, zero, suc, Bool, true, false, List, [], ◌∷◌, ◌++◌, Option, None, Some}
+use Rattle.std.proofs.Common.{◌≡◌, ◌+◌, ◌&&◌, ◌||◌, ℕ, zero, suc, Bool, true, false, List, [], ◌∷◌, ◌++◌, Option, None}
+use Rattle.std.proofs.Common.{Some}
 use Rattle.std.proofs.Common.{slice_get, refl, sym, ap, ◌∙◌, arith, map}
 use Rattle.std.proofs.lemmas.List.Elements.{All-head, All-tail}
 use Rattle.std.specs.List.{enumerate_from, flat_map, list_any}
@@ -12,7 +13,8 @@ use Rattle.jl_op.specs.Kinds.{kind_of}
 use Rattle.jl_op.specs.Map.{MapRow}
 use Rattle.jl_op.specs.Operations.{Operation}
 use Rattle.jl_cover.specs.Coverage.{Lacks, covered_count, gap_after, gap_of, gaps_of, has_id, in_order, is_covered}
-use Rattle.jl_cover.specs.Coverage.{is_false, is_kind, is_true, missed_at, missed_in, numbered, placed, row_count, totals_in}
+use Rattle.jl_cover.specs.Coverage.{is_false, is_kind, is_true, missed_at, missed_in, numbered, placed, row_count}
+use Rattle.jl_cover.specs.Coverage.{totals_in}
 use Rattle.jl_cover.specs.Coverage.{condition_gap, function_gap, was_false, was_reached, was_true}
 use Rattle.jl_cover.specs.Laws.{HasRowOfKind, KindsAreEnough}
 
@@ -58,37 +60,38 @@ module _ (kept : OpKind → Bool) (holds : (kind : OpKind) → is_covered kind �
       → has_id id o ≡ true → kept (kind_of o.1) ≡ true
   keeps id kind covered o has same = ap kept (has same) ∙ holds kind covered
 
-  module _ (id : ℕ) (kind : OpKind) (told : List Operation) (have : All (HasKind id kind) told) where
-    reached_kept : is_covered kind ≡ true → was_reached (of_kinds kept told) id ≡ was_reached told id
+  module _ (id : ℕ) (kind : OpKind) (observed : List Operation) (have : All (HasKind id kind) observed) where
+    reached_kept : is_covered kind ≡ true → was_reached (of_kinds kept observed) id ≡ was_reached observed id
     reached_kept covered =
-        any_kept (has_id id) (λ o. kept (kind_of o.1)) told
+        any_kept (has_id id) (λ o. kept (kind_of o.1)) observed
         (λ k d within same. keeps id kind covered _ (have k d within) same)
 
-    true_kept : is_covered kind ≡ true → was_true (of_kinds kept told) id ≡ was_true told id
+    true_kept : is_covered kind ≡ true → was_true (of_kinds kept observed) id ≡ was_true observed id
     true_kept covered =
-        any_kept (λ o. has_id id o && is_true o.1) (λ o. kept (kind_of o.1)) told
+        any_kept (λ o. has_id id o && is_true o.1) (λ o. kept (kind_of o.1)) observed
         (λ k d within both. keeps id kind covered _ (have k d within) (both_first _ _ both))
 
-    false_kept : is_covered kind ≡ true → was_false (of_kinds kept told) id ≡ was_false told id
+    false_kept : is_covered kind ≡ true → was_false (of_kinds kept observed) id ≡ was_false observed id
     false_kept covered =
-        any_kept (λ o. has_id id o && is_false o.1) (λ o. kept (kind_of o.1)) told
+        any_kept (λ o. has_id id o && is_false o.1) (λ o. kept (kind_of o.1)) observed
         (λ k d within both. keeps id kind covered _ (have k d within) (both_first _ _ both))
 
-  same_gap : (id : ℕ) (kind : OpKind) (told : List Operation) → All (HasKind id kind) told
-      → gap_after (of_kinds kept told) id kind ≡ gap_after told id kind
-  same_gap id kinds.FunctionEnter told have = ap function_gap (reached_kept id kinds.FunctionEnter told have refl)
-  same_gap id kinds.Conditional told have = λ j.
-      condition_gap (reached_kept id kinds.Conditional told have refl j)
-      (true_kept id kinds.Conditional told have refl j) (false_kept id kinds.Conditional told have refl j)
-  same_gap id _ told have = refl
+  same_gap : (id : ℕ) (kind : OpKind) (observed : List Operation) → All (HasKind id kind) observed
+      → gap_after (of_kinds kept observed) id kind ≡ gap_after observed id kind
+  same_gap id kinds.FunctionEnter observed have =
+      ap function_gap (reached_kept id kinds.FunctionEnter observed have refl)
+  same_gap id kinds.Conditional observed have = λ j.
+      condition_gap (reached_kept id kinds.Conditional observed have refl j)
+      (true_kept id kinds.Conditional observed have refl j) (false_kept id kinds.Conditional observed have refl j)
+  same_gap id _ observed have = refl
 
   -- of each row
-  same_gaps : (rows : List MapRow) (told : List Operation) → All (HasRowOfKind rows) told
+  same_gaps : (rows : List MapRow) (observed : List Operation) → All (HasRowOfKind rows) observed
       → (at id : ℕ) (row : MapRow) → id ≡ 1 + at → slice_get rows at ≡ Some row
-      → gap_after (of_kinds kept told) id row.0 ≡ gap_after told id row.0
-  same_gaps rows told have at id row is here =
+      → gap_after (of_kinds kept observed) id row.0 ≡ gap_after observed id row.0
+  same_gaps rows observed have at id row is here =
       let next : at + 1 ≡ id = omega arith in
-      same_gap id row.0 told (λ k d within. at_id id next (slice_index_or told k d) (have k d within))
+      same_gap id row.0 observed (λ k d within. at_id id next (slice_index_or observed k d) (have k d within))
     where
       at_id : (n : ℕ) → at + 1 ≡ n → (o : Operation) → HasRowOfKind rows o → HasKind n row.0 o
       at_id n next o has same =
@@ -115,13 +118,13 @@ count_same p q n first (row ∷ rows) same =
     ∙ count_same p q (n + cond (q (first, row)) 1 0) (first + 1) rows (λ at id r is. same (suc at) id r (omega arith))
 
 pub kinds_enough : KindsAreEnough
-kinds_enough kept holds lines rows told have =
-    let same = same_gaps kept holds rows told have in
-    let gaps_are : gaps_of lines (gap_after (of_kinds kept told)) (numbered rows)
-    ≡ gaps_of lines (gap_after told) (numbered rows) =
+kinds_enough kept holds lines rows observed have =
+    let same = same_gaps kept holds rows observed have in
+    let gaps_are : gaps_of lines (gap_after (of_kinds kept observed)) (numbered rows)
+    ≡ gaps_of lines (gap_after observed) (numbered rows) =
     flat_map_same _ _ 1 rows (λ at id row is here. ap (placed lines (id, row)) (same at id row is here)) in
-    let counts_are : (kind : OpKind) → covered_count rows (gap_after (of_kinds kept told)) kind
-    ≡ covered_count rows (gap_after told) kind =
+    let counts_are : (kind : OpKind) → covered_count rows (gap_after (of_kinds kept observed)) kind
+    ≡ covered_count rows (gap_after observed) kind =
     λ kind. count_same _ _ 0 1 rows
     (λ at id row is here. ap (λ found. is_kind kind (id, row) && is_none found) (same at id row is here)) in (
       ap (λ l. map missed_at (in_order l)) gaps_are,

@@ -7,7 +7,7 @@ use Rattle.jl_cover.specs.Coverage.{gap_after, gap_of}
 use Rattle.jl_cover.specs.inner.Observed.{IsCoverOf, lacks_by}
 
 -- so it knows what each row lacks
-pub lacks_is : (c : Cover) (told : List Operation)
-    → IsCoverOf (contains nat_eq c.reached) (contains nat_eq c.trues) (contains nat_eq c.falses) told
-    → lacks_by c ≡ gap_after told
-lacks_is c told is = λ j id kind. gap_of kind (is.all id j) (is.true_ones id j) (is.false_ones id j)
+pub lacks_is : (c : Cover) (observed : List Operation)
+    → IsCoverOf (contains nat_eq c.reached) (contains nat_eq c.trues) (contains nat_eq c.falses) observed
+    → lacks_by c ≡ gap_after observed
+lacks_is c observed is = λ j id kind. gap_of kind (is.all id j) (is.true_ones id j) (is.false_ones id j)

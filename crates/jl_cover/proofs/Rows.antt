@@ -1,5 +1,6 @@
 -- How what is found of the rows of a map grows by a row.
-use Rattle.std.proofs.Common.{◌≡◌, ℕ, zero, suc, ◌+◌, ◌-◌, ◌<◌, ◌&&◌, Bool, List, [], ◌∷◌, ◌++◌, length, get_or, take, refl}
+use Rattle.std.proofs.Common.{◌≡◌, ℕ, zero, suc, ◌+◌, ◌-◌, ◌<◌, ◌&&◌, Bool, List, [], ◌∷◌, ◌++◌, length, get_or, take}
+use Rattle.std.proofs.Common.{refl}
 use Rattle.std.proofs.Common.{Option, None, Some, slice_get, sym, ap, ◌∙◌, arith, add-one, append-nil, length-take}
 use Rattle.std.proofs.Math.Seq.{take-suc}
 use Rattle.std.proofs.lemmas.List.Concat.{flat_map-append}
@@ -101,7 +102,8 @@ pub without_gap : (lines : LineTable) (lacks : Lacks) (rows : List MapRow) (at :
 without_gap lines lacks rows at kind before within kinds none so_far =
     let there = row_there rows at within in
     let same = part_of (λ row. row.0) rows at there.0 kind there.1 kinds in
-    so_far ∙ ap in_order (sym (gaps-push lines lacks rows at there.0 None within there.1 (ap (lacks (at + 1)) same ∙ none)
+    so_far ∙ ap in_order (sym (gaps-push lines lacks rows at there.0 None within there.1
+    (ap (lacks (at + 1)) same ∙ none)
     ∙ append-nil (gaps_of lines lacks (numbered (take at rows)))))
 
 pub with_gap : (lines : LineTable) (lacks : Lacks) (rows : List MapRow) (at : ℕ) (kind : OpKind) (span : Span)

@@ -37,13 +37,13 @@ is_false _ = false
 
 -- some operation has the id
 abbrev pub was_reached : List Operation → (id : ℕ) → Bool
-was_reached told id = list_any (has_id id) told
+was_reached observed id = list_any (has_id id) observed
 
 abbrev pub was_true : List Operation → (id : ℕ) → Bool
-was_true told id = list_any (λ o. has_id id o && is_true o.1) told
+was_true observed id = list_any (λ o. has_id id o && is_true o.1) observed
 
 abbrev pub was_false : List Operation → (id : ℕ) → Bool
-was_false told id = list_any (λ o. has_id id o && is_false o.1) told
+was_false observed id = list_any (λ o. has_id id o && is_false o.1) observed
 
 -- what a function lacks
 abbrev pub function_gap : (entered : Bool) → Option Gap
@@ -69,7 +69,7 @@ Lacks = (id : ℕ) → OpKind → Option Gap
 
 -- after these operations
 abbrev pub gap_after : List Operation → Lacks
-gap_after told id kind = gap_of kind (was_reached told id) (was_true told id) (was_false told id)
+gap_after observed id kind = gap_of kind (was_reached observed id) (was_true observed id) (was_false observed id)
 
 -- rows with their ids, of which the first is 1
 abbrev pub numbered : List MapRow → List (ℕ × MapRow)
@@ -105,7 +105,7 @@ missed_by lines rows lacks = map missed_at (in_order (gaps_of lines lacks (numbe
 
 -- what is missed after these operations
 abbrev pub missed_in : LineTable → List MapRow → List Operation → List Missed
-missed_in lines rows told = missed_by lines rows (gap_after told)
+missed_in lines rows observed = missed_by lines rows (gap_after observed)
 
 abbrev pub is_kind : OpKind → ℕ × MapRow → Bool
 is_kind kind row = number_of row.1.0 == number_of kind
@@ -128,7 +128,7 @@ totals_by rows lacks = record {
 }
 
 abbrev pub totals_in : List MapRow → List Operation → Totals
-totals_in rows told = totals_by rows (gap_after told)
+totals_in rows observed = totals_by rows (gap_after observed)
 
 -- how a gap is written
 abbrev pub gap_text : Gap → List ℕ

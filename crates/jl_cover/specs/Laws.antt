@@ -17,6 +17,6 @@ HasRowOfKind rows o =
 abbrev pub KindsAreEnough : Type 0
 KindsAreEnough =
     (kept : OpKind → Bool) → ((kind : OpKind) → is_covered kind ≡ true → kept kind ≡ true)
-    → (lines : LineTable) (rows : List MapRow) (told : List Operation) → All (HasRowOfKind rows) told
-    → (missed_in lines rows (of_kinds kept told) ≡ missed_in lines rows told)
-    × (totals_in rows (of_kinds kept told) ≡ totals_in rows told)
+    → (lines : LineTable) (rows : List MapRow) (observed : List Operation) → All (HasRowOfKind rows) observed
+    → (missed_in lines rows (of_kinds kept observed) ≡ missed_in lines rows observed)
+    × (totals_in rows (of_kinds kept observed) ≡ totals_in rows observed)

@@ -30,8 +30,8 @@ pub struct Cover {
 }
 
 impl Observer for Cover {
-    ghost stands_for = { λ c told.
-        IsCoverOf (contains nat_eq c.reached) (contains nat_eq c.trues) (contains nat_eq c.falses) told };
+    ghost stands_for = { λ c observed.
+        IsCoverOf (contains nat_eq c.reached) (contains nat_eq c.trues) (contains nat_eq c.falses) observed };
 
     ghost has_refused = { λ c. c.refused };
 
@@ -99,8 +99,8 @@ impl Cover {
         lines: &Lines,
     ) -> Result<Vec<Missed>, AllocError>
         requires { All (BeginsIn lines.now) map.now }
-        ensures { IfOk result (λ missed. (told : List Operation) → ⟦<Cover as Observer>⟧.stands_for self.now told
-            → missed.items ≡ missed_in lines.now map.now told) }
+        ensures { IfOk result (λ missed. (observed : List Operation)
+            → ⟦<Cover as Observer>⟧.stands_for self.now observed → missed.items ≡ missed_in lines.now map.now observed) }
     {
         let gaps = self.gaps(alloc, map, lines)?;
         list(alloc, &gaps)
@@ -108,8 +108,8 @@ impl Cover {
 
     /// How many functions of the map were entered, and how many of its conditions were both true and false.
     pub fn totals(&self, map: &OpMap) -> Totals
-        ensures { (told : List Operation) → ⟦<Cover as Observer>⟧.stands_for self.now told
-            → result ≡ totals_in map.now told }
+        ensures { (observed : List Operation) → ⟦<Cover as Observer>⟧.stands_for self.now observed
+            → result ≡ totals_in map.now observed }
     {
         Totals {
             entered: self.covered(map, OpKind::FunctionEnter),

@@ -1,6 +1,8 @@
 -- How births are counted, one after another.
-use Rattle.std.proofs.Common.{◌≡◌, ℕ, zero, suc, ◌+◌, ◌≤◌, ◌<◌, ◌&&◌, Bool, true, false, not, List, [], ◌∷◌, ◌++◌, length}
-use Rattle.std.proofs.Common.{Option, None, Some, All, add-one, ap, arith, get_or, length-take, map, refl, slice_get, sym}
+use Rattle.std.proofs.Common.{◌≡◌, ℕ, zero, suc, ◌+◌, ◌≤◌, ◌<◌, ◌&&◌, Bool, true, false, not, List, [], ◌∷◌, ◌++◌}
+use Rattle.std.proofs.Common.{length}
+use Rattle.std.proofs.Common.{Option, None, Some, All, add-one, ap, arith, get_or, length-take, map, refl, slice_get}
+use Rattle.std.proofs.Common.{sym}
 use Rattle.std.proofs.Common.{take, ◌∙◌}
 use Rattle.std.proofs.Math.Seq.{take-suc}
 use Rattle.std.proofs.lemmas.List.{map-append}
@@ -57,6 +59,7 @@ counted_more used births key object old new so_far written k =
     added : (here : Bool) → Count → Count
     added here c =
         record { made = c.made + one_if here; unused = c.unused + one_if (here && not (used object)) }
+
     by : (here : Bool) → is_eq (by_place key k) ≡ here
         → unwrap_or (cond here (Some (one_more_of (used object) (unwrap_or (old key) no_births))) (old k)) no_births
         ≡ record {

@@ -35,7 +35,8 @@ pub with_place : (lines : LineTable) (rows : List MapRow) (before : List Born) (
     → later ≡ keyed_births lines rows (before ++ born ∷ [])
 with_place lines rows before born span place items later so_far is here grown =
     grown ∙ ap (λ l. l ++ ((place.0, place.1, born.1.way), born.0) ∷ []) so_far
-    ∙ ap (λ l. keyed_births lines rows before ++ l) (sym (placed lines (row_at rows born.1.id.0) born span place is here))
+    ∙ ap (λ l. keyed_births lines rows before ++ l)
+    (sym (placed lines (row_at rows born.1.id.0) born span place is here))
     ∙ sym (keyed-push lines rows before born)
 
 -- or none

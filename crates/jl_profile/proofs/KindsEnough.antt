@@ -42,7 +42,7 @@ module _ (kept : OpKind → Bool) (holds : (kind : OpKind) → is_profiled kind 
   is_kept o = kept (kind_of o.1)
 
   abbrev those : List Operation → List Operation
-  those told = filter is_kept told
+  those observed = filter is_kept observed
 
   left_out : (o : Operation) → is_kept o ≡ false → IsIdle o.1
   left_out o h =
@@ -60,14 +60,14 @@ module _ (kept : OpKind → Bool) (holds : (kind : OpKind) → is_profiled kind 
       ∙ ap (λ b. those before ++ (if b then o ∷ [] else [])) (sym h) ∙ sym (filter-append is_kept before (o ∷ []))
 
   any_kept : (p : Operation → Bool) → ((o : Operation) → is_kept o ≡ false → p o ≡ false)
-      → (told : List Operation) → list_any p (those told) ≡ list_any p told
+      → (observed : List Operation) → list_any p (those observed) ≡ list_any p observed
   any_kept p passes [] = refl
-  any_kept p passes (o ∷ told) = by (is_kept o) refl (any_kept p passes told)
+  any_kept p passes (o ∷ observed) = by (is_kept o) refl (any_kept p passes observed)
     where
-      by : (b : Bool) → is_kept o ≡ b → list_any p (those told) ≡ list_any p told
-          → list_any p (if b then o ∷ those told else those told) ≡ (p o || list_any p told)
+      by : (b : Bool) → is_kept o ≡ b → list_any p (those observed) ≡ list_any p observed
+          → list_any p (if b then o ∷ those observed else those observed) ≡ (p o || list_any p observed)
       by true h rest = ap (λ b. p o || b) rest
-      by false h rest = rest ∙ ap (λ b. b || list_any p told) (sym (passes o h))
+      by false h rest = rest ∙ ap (λ b. b || list_any p observed) (sym (passes o h))
 
   same_began : (before : List Operation) (id : ℕ) → new_began (those before) id ≡ new_began before id
   same_began before id =
@@ -92,21 +92,22 @@ module _ (kept : OpKind → Bool) (holds : (kind : OpKind) → is_profiled kind 
       → makes before object o ≡ false
   none_makes before object o h = ap (λ m. is_the object (option_map (λ it. it.1) m)) (none_made before o h)
 
-  made_kept : (before told : List Operation) (object : ℕ)
-      → is_made_after (those before) (those told) object ≡ is_made_after before told object
+  made_kept : (before observed : List Operation) (object : ℕ)
+      → is_made_after (those before) (those observed) object ≡ is_made_after before observed object
   made_kept before [] object = refl
-  made_kept before (o ∷ told) object = by (is_kept o) refl (made_kept (before ++ o ∷ []) told object)
+  made_kept before (o ∷ observed) object = by (is_kept o) refl (made_kept (before ++ o ∷ []) observed object)
     where
       by : (b : Bool) → is_kept o ≡ b
-          → is_made_after (those (before ++ o ∷ [])) (those told) object ≡ is_made_after (before ++ o ∷ []) told object
-          → is_made_after (those before) (if b then o ∷ those told else those told) object
-          ≡ (makes before object o || is_made_after (before ++ o ∷ []) told object)
+          → is_made_after (those (before ++ o ∷ [])) (those observed) object
+          ≡ is_made_after (before ++ o ∷ []) observed object
+          → is_made_after (those before) (if b then o ∷ those observed else those observed) object
+          ≡ (makes before object o || is_made_after (before ++ o ∷ []) observed object)
       by true h rest = λ j.
           same_makes before object o j
-          || (ap (λ l. is_made_after l (those told) object) (one_kept before o h) ∙ rest) j
+          || (ap (λ l. is_made_after l (those observed) object) (one_kept before o h) ∙ rest) j
       by false h rest =
-          ap (λ l. is_made_after l (those told) object) (one_left before o h) ∙ rest
-          ∙ ap (λ b. b || is_made_after (before ++ o ∷ []) told object) (sym (none_makes before object o h))
+          ap (λ l. is_made_after l (those observed) object) (one_left before o h) ∙ rest
+          ∙ ap (λ b. b || is_made_after (before ++ o ∷ []) observed object) (sym (none_makes before object o h))
 
   same_born : (before : List Operation) (o : Operation) → born_at (those before) o ≡ born_at before o
   same_born before o = ap (λ m. born_of m (those before) o) (same_made before o) ∙ by (made_after before o)
@@ -116,41 +117,44 @@ module _ (kept : OpKind → Bool) (holds : (kind : OpKind) → is_profiled kind 
       by (Some made) =
           ap (λ b. if b then [] else (made.1, record { id = o.0; way = made.0 }) ∷ []) (made_kept [] before made.1)
 
-  births_kept : (before told : List Operation) → births_after (those before) (those told) ≡ births_after before told
+  births_kept : (before observed : List Operation)
+      → births_after (those before) (those observed) ≡ births_after before observed
   births_kept before [] = refl
-  births_kept before (o ∷ told) = by (is_kept o) refl (births_kept (before ++ o ∷ []) told)
+  births_kept before (o ∷ observed) = by (is_kept o) refl (births_kept (before ++ o ∷ []) observed)
     where
       by : (b : Bool) → is_kept o ≡ b
-          → births_after (those (before ++ o ∷ [])) (those told) ≡ births_after (before ++ o ∷ []) told
-          → births_after (those before) (if b then o ∷ those told else those told)
-          ≡ born_at before o ++ births_after (before ++ o ∷ []) told
+          → births_after (those (before ++ o ∷ [])) (those observed) ≡ births_after (before ++ o ∷ []) observed
+          → births_after (those before) (if b then o ∷ those observed else those observed)
+          ≡ born_at before o ++ births_after (before ++ o ∷ []) observed
       by true h rest = λ j.
-          same_born before o j ++ (ap (λ l. births_after l (those told)) (one_kept before o h) ∙ rest) j
+          same_born before o j ++ (ap (λ l. births_after l (those observed)) (one_kept before o h) ∙ rest) j
       by false h rest =
-          ap (λ l. births_after l (those told)) (one_left before o h) ∙ rest
-          ∙ ap (λ m. born_of m before o ++ births_after (before ++ o ∷ []) told) (sym (none_made before o h))
+          ap (λ l. births_after l (those observed)) (one_left before o h) ∙ rest
+          ∙ ap (λ m. born_of m before o ++ births_after (before ++ o ∷ []) observed) (sym (none_made before o h))
 
-  used_kept : (before told : List Operation) (object : ℕ)
-      → used_after (those before) (those told) object ≡ used_after before told object
+  used_kept : (before observed : List Operation) (object : ℕ)
+      → used_after (those before) (those observed) object ≡ used_after before observed object
   used_kept before [] object = refl
-  used_kept before (o ∷ told) object = by (is_kept o) refl (used_kept (before ++ o ∷ []) told object)
+  used_kept before (o ∷ observed) object = by (is_kept o) refl (used_kept (before ++ o ∷ []) observed object)
     where
-      uses_kept : list_any (uses object) (those told) ≡ list_any (uses object) told
-      uses_kept = any_kept (uses object) (λ x h. ap (is_the object) (left_out x h).uses_none) told
+      uses_kept : list_any (uses object) (those observed) ≡ list_any (uses object) observed
+      uses_kept = any_kept (uses object) (λ x h. ap (is_the object) (left_out x h).uses_none) observed
+
       by : (b : Bool) → is_kept o ≡ b
-          → used_after (those (before ++ o ∷ [])) (those told) object ≡ used_after (before ++ o ∷ []) told object
-          → used_after (those before) (if b then o ∷ those told else those told) object
-          ≡ (if makes before object o then list_any (uses object) told
-          else used_after (before ++ o ∷ []) told object)
+          → used_after (those (before ++ o ∷ [])) (those observed) object
+          ≡ used_after (before ++ o ∷ []) observed object
+          → used_after (those before) (if b then o ∷ those observed else those observed) object
+          ≡ (if makes before object o then list_any (uses object) observed
+          else used_after (before ++ o ∷ []) observed object)
       by true h rest = λ j.
           if same_makes before object o j then uses_kept j
-          else (ap (λ l. used_after l (those told) object) (one_kept before o h) ∙ rest) j
+          else (ap (λ l. used_after l (those observed) object) (one_kept before o h) ∙ rest) j
       by false h rest =
-          ap (λ l. used_after l (those told) object) (one_left before o h) ∙ rest
-          ∙ ap (λ b. if b then list_any (uses object) told else used_after (before ++ o ∷ []) told object)
+          ap (λ l. used_after l (those observed) object) (one_left before o h) ∙ rest
+          ∙ ap (λ b. if b then list_any (uses object) observed else used_after (before ++ o ∷ []) observed object)
           (sym (none_makes before object o h))
 
 pub kinds_enough : KindsAreEnough
-kinds_enough kept holds lines rows told = λ j.
-    rows_of (λ object. used_kept kept holds [] told object j)
-    (keyed_births lines rows (births_kept kept holds [] told j))
+kinds_enough kept holds lines rows observed = λ j.
+    rows_of (λ object. used_kept kept holds [] observed object j)
+    (keyed_births lines rows (births_kept kept holds [] observed j))

@@ -50,56 +50,59 @@ known-borne births (Some made) id object = by (known births made.1) refl
     one : (b : Bool) → is_some (cond b (Some (let birth : Birth = record { id = id; way = made.0 } in birth)) None) ≡ b
     one true = refl
     one false = refl
+
     there : (b : Bool) → nat_eq object made.1 ≡ b → known births made.1 ≡ true
         → (known births object || false) ≡ (known births object || b)
     there true same before =
         let is : known births object ≡ true = ap (known births) (eqb-true object made.1 same) ∙ before in
         or-false (known births object) ∙ is ∙ ap (λ b. b || true) (sym is)
     there false other before = refl
+
     by : (b : Bool) → known births made.1 ≡ b
         → (known births object || known (if b then [] else (made.1, record { id = id; way = made.0 }) ∷ []) object)
         ≡ (known births object || nat_eq object made.1)
     by true before = there (nat_eq object made.1) refl before
     by false new = ap (λ b. known births object || b) (one (nat_eq object made.1))
 
-ends_is : (news : ℕ → Bool) (told : List Operation) → ((id : ℕ) → news id ≡ new_began told id) → (id : ℕ)
-    → new_ends_by news id ≡ new_ends told id
-ends_is news told is zero = refl
-ends_is news told is (suc id) = is id
+ends_is : (news : ℕ → Bool) (observed : List Operation) → ((id : ℕ) → news id ≡ new_began observed id) → (id : ℕ)
+    → new_ends_by news id ≡ new_ends observed id
+ends_is news observed is zero = refl
+ends_is news observed is (suc id) = is id
 
-borne_is : (births : List Born) (told : List Operation) → ((object : ℕ) → known births object ≡ is_born told object)
-    → (made : Option Made) (o : Operation) → borne made births o.0 ≡ born_of made told o
-borne_is births told is None o = refl
-borne_is births told is (Some made) o =
+borne_is : (births : List Born) (observed : List Operation)
+    → ((object : ℕ) → known births object ≡ is_born observed object)
+    → (made : Option Made) (o : Operation) → borne made births o.0 ≡ born_of made observed o
+borne_is births observed is None o = refl
+borne_is births observed is (Some made) o =
     ap (λ b. if b then [] else (made.1, record { id = o.0; way = made.0 }) ∷ []) (is made.1)
 
 -- one more operation is observed
-pub one_more : (births later : List Born) (used used_later news news_later : ℕ → Bool) (told : List Operation)
+pub one_more : (births later : List Born) (used used_later news news_later : ℕ → Bool) (observed : List Operation)
     (id : OpId) (op : Op)
     → ((object : ℕ) → used_later object ≡ (used object || (known births object && is_the object (used_by op))))
     → later ≡ births ++ borne (made_by (new_ends_by news id.0) op) births id
     → ((begin : ℕ) → news_later begin ≡ (news begin || (begins_new op && nat_eq begin id.0)))
-    → IsProfileOf births (known births) used news told
-    → IsProfileOf later (known later) used_later news_later (told ++ (id, op) ∷ [])
-one_more births later used used_later news news_later told id op uses_is later_is news_is is =
+    → IsProfileOf births (known births) used news observed
+    → IsProfileOf later (known later) used_later news_later (observed ++ (id, op) ∷ [])
+one_more births later used used_later news news_later observed id op uses_is later_is news_is is =
     let made = made_by (new_ends_by news id.0) op in
-    let made_is : made ≡ made_after told (id, op) = ap (λ b. made_by b op) (ends_is news told is.begun id.0) in
+    let made_is : made ≡ made_after observed (id, op) = ap (λ b. made_by b op) (ends_is news observed is.begun id.0) in
     record {
       all = later_is ∙ ap (λ l. l ++ borne made births id) is.all
-          ∙ ap (λ l. births_among told ++ l) (borne_is births told is.born_ones made (id, op)
-          ∙ ap (λ m. born_of m told (id, op)) made_is)
-          ∙ sym (births_among-push told (id, op));
+          ∙ ap (λ l. births_among observed ++ l) (borne_is births observed is.born_ones made (id, op)
+          ∙ ap (λ m. born_of m observed (id, op)) made_is)
+          ∙ sym (births_among-push observed (id, op));
       born_ones = λ object.
           ap (λ l. known l object) later_is ∙ found_in (nat_eq object) births (borne made births id)
           ∙ known-borne births made id object
           ∙ (λ j. is.born_ones object j || is_the object (option_map (λ it. it.1) (made_is j)))
-          ∙ sym (is_born-push told (id, op) object);
+          ∙ sym (is_born-push observed (id, op) object);
       used_ones = λ object.
           uses_is object
           ∙ (λ j. is.used_ones object j || (is.born_ones object j && is_the object (used_by op)))
-          ∙ sym (is_used-push told (id, op) object);
+          ∙ sym (is_used-push observed (id, op) object);
       begun = λ begin.
           news_is begin ∙ ap (λ b. b || (begins_new op && nat_eq begin id.0)) (is.begun begin)
-          ∙ ap (λ b. new_began told begin || b) (sym (or-false (begins_new op && nat_eq begin id.0)))
-          ∙ sym (list_any-append (λ o. begins_new o.1 && nat_eq begin o.0.0) told ((id, op) ∷ []));
+          ∙ ap (λ b. new_began observed begin || b) (sym (or-false (begins_new op && nat_eq begin id.0)))
+          ∙ sym (list_any-append (λ o. begins_new o.1 && nat_eq begin o.0.0) observed ((id, op) ∷ []));
     }

@@ -83,13 +83,13 @@ abbrev pub makes : (before : List Operation) → (object : ℕ) → Operation �
 makes before object o = is_the object (option_map (λ it. it.1) (made_after before o))
 
 -- one of these operations, which come after those before, makes the object
-abbrev pub is_made_after : (before told : List Operation) → (object : ℕ) → Bool
+abbrev pub is_made_after : (before observed : List Operation) → (object : ℕ) → Bool
 is_made_after before [] object = false
-is_made_after before (o ∷ told) object = makes before object o || is_made_after (before ++ o ∷ []) told object
+is_made_after before (o ∷ observed) object = makes before object o || is_made_after (before ++ o ∷ []) observed object
 
 -- an object is born at the first operation that makes it; so it has been born here
 abbrev pub is_born : List Operation → (object : ℕ) → Bool
-is_born told object = is_made_after [] told object
+is_born observed object = is_made_after [] observed object
 
 -- an object, and its birth
 abbrev pub Born : Type 0
@@ -104,22 +104,22 @@ born_of (Some made) before o =
 abbrev pub born_at : (before : List Operation) → Operation → List Born
 born_at before o = born_of (made_after before o) before o
 
-abbrev pub births_after : (before told : List Operation) → List Born
+abbrev pub births_after : (before observed : List Operation) → List Born
 births_after before [] = []
-births_after before (o ∷ told) = born_at before o ++ births_after (before ++ o ∷ []) told
+births_after before (o ∷ observed) = born_at before o ++ births_after (before ++ o ∷ []) observed
 
 -- all births, in their order
 abbrev pub births_among : List Operation → List Born
-births_among told = births_after [] told
+births_among observed = births_after [] observed
 
 -- a later operation than the one at which the object is born uses it, where these come after those before
-abbrev pub used_after : (before told : List Operation) → (object : ℕ) → Bool
+abbrev pub used_after : (before observed : List Operation) → (object : ℕ) → Bool
 used_after before [] object = false
-used_after before (o ∷ told) object =
-    if makes before object o then list_any (uses object) told else used_after (before ++ o ∷ []) told object
+used_after before (o ∷ observed) object =
+    if makes before object o then list_any (uses object) observed else used_after (before ++ o ∷ []) observed object
 
 abbrev pub is_used : List Operation → (object : ℕ) → Bool
-is_used told object = used_after [] told object
+is_used observed object = used_after [] observed object
 
 -- a line, a column and a way, by which births are counted
 abbrev pub Key : Type 0
@@ -179,7 +179,7 @@ rows_of used births = map (row_of used births) (sorted_keys births)
 
 -- the rows of these operations
 abbrev pub births_in : LineTable → List MapRow → List Operation → List Births
-births_in lines rows told = rows_of (is_used told) (keyed_births lines rows (births_among told))
+births_in lines rows observed = rows_of (is_used observed) (keyed_births lines rows (births_among observed))
 
 -- the sums of rows
 abbrev pub all_made : List Births → ℕ

@@ -11,5 +11,5 @@ use Rattle.jl_profile.specs.Births.{is_profiled, births_in}
 abbrev pub KindsAreEnough : Type 0
 KindsAreEnough =
     (kept : OpKind → Bool) → ((kind : OpKind) → is_profiled kind ≡ true → kept kind ≡ true)
-    → (lines : LineTable) (rows : List MapRow) (told : List Operation)
-    → births_in lines rows (of_kinds kept told) ≡ births_in lines rows told
+    → (lines : LineTable) (rows : List MapRow) (observed : List Operation)
+    → births_in lines rows (of_kinds kept observed) ≡ births_in lines rows observed

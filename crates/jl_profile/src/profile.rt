@@ -34,8 +34,8 @@ pub struct Profile {
 }
 
 impl Observer for Profile {
-    ghost stands_for = { λ p told. IsProfileOf p.born.entries (λ object. is_some (get nat_eq p.born object))
-        (contains nat_eq p.used) (contains nat_eq p.news) told };
+    ghost stands_for = { λ p observed. IsProfileOf p.born.entries (λ object. is_some (get nat_eq p.born object))
+        (contains nat_eq p.used) (contains nat_eq p.news) observed };
 
     ghost has_refused = { λ p. p.refused };
 
@@ -76,8 +76,8 @@ impl Profile {
         lines: &Lines,
     ) -> Result<Vec<Births>, AllocError>
         requires { All (BeginsIn lines.now) map.now }
-        ensures found { IfOk result (λ births. (told : List Operation) → ⟦<Profile as Observer>⟧.stands_for self.now told
-            → births.items ≡ births_in lines.now map.now told) }
+        ensures found { IfOk result (λ births. (observed : List Operation)
+            → ⟦<Profile as Observer>⟧.stands_for self.now observed → births.items ≡ births_in lines.now map.now observed) }
         ensures fit { IfOk result (λ births. (all_made births.items < 2 ^ 64) × (all_unused births.items < 2 ^ 64)) }
     {
         let keyed = keyed(alloc, &self.born, map, lines)?;
@@ -93,7 +93,8 @@ fn note_use(
     op: &Op,
 ) -> Result<(), AllocError>
     ensures { OnOk result ((object : ℕ) → contains nat_eq used.new object
-        ≡ (contains nat_eq used.old object || (is_some (get nat_eq born.now object) && is_the object (used_by op.now)))) }
+        ≡ (contains nat_eq used.old object
+        || (is_some (get nat_eq born.now object) && is_the object (used_by op.now)))) }
 {
     if let Some(object) = used_by(op)
         && born.contains_key(&object)
@@ -111,7 +112,8 @@ fn note_birth(
     op: &Op,
 ) -> Result<(), AllocError>
     ensures { OnOk result (born.new.entries
-        ≡ born.old.entries ++ borne (made_by (new_ends_by (contains nat_eq news.now) id.0) op.now) born.old.entries id) }
+        ≡ born.old.entries
+        ++ borne (made_by (new_ends_by (contains nat_eq news.now) id.0) op.now) born.old.entries id) }
 {
     if let Some((way, object)) = made_by(op, new_ends(news, id))
         && !born.contains_key(&object)
@@ -126,11 +128,7 @@ fn note_new(news: &mut IndexSet<u32>, id: OpId, op: &Op) -> Result<(), AllocErro
     ensures { OnOk result ((known : ℕ) → contains nat_eq news.new known
         ≡ (contains nat_eq news.old known || (begins_new op.now && nat_eq known id.0))) }
 {
-    if let Op::InvokePre {
-        by_new: true,
-        ..
-    } = op
-    {
+    if let Op::InvokePre { by_new: true, .. } = op {
         news.insert(id.0)?;
     }
     Ok(())

@@ -68,7 +68,10 @@ pub(crate) fn count_births(
 {
     let mut counts = BTreeMap::new(alloc);
     for (key, object) in births {
-        let before = counts.get(key).copied().unwrap_or(Count { made: 0, unused: 0 });
+        let before = counts
+            .get(key)
+            .copied()
+            .unwrap_or(Count { made: 0, unused: 0 });
         let unused = u64::from(!used.contains(object));
         let count = Count {
             made: before.made + 1,

@@ -6,10 +6,10 @@ use Rattle.jl_cover.specs.Coverage.{Lacks, gap_of, was_reached, was_true, was_fa
 use Rattle.jl_cover.specs.declared.cover.Cover.{Cover}
 
 -- it knows, by id, what was reached, and which conditions were true and false
-pub record IsCoverOf (reached trues falses : ℕ → Bool) (told : List Operation) : Type 0 where
-  pub all : (id : ℕ) → reached id ≡ was_reached told id
-  pub true_ones : (id : ℕ) → trues id ≡ was_true told id
-  pub false_ones : (id : ℕ) → falses id ≡ was_false told id
+pub record IsCoverOf (reached trues falses : ℕ → Bool) (observed : List Operation) : Type 0 where
+  pub all : (id : ℕ) → reached id ≡ was_reached observed id
+  pub true_ones : (id : ℕ) → trues id ≡ was_true observed id
+  pub false_ones : (id : ℕ) → falses id ≡ was_false observed id
 
 -- what rows lack, by what is known
 abbrev pub lacks_by : Cover → Lacks

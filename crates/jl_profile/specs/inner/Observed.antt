@@ -7,11 +7,11 @@ use Rattle.jl_op.specs.Operations.{Operation}
 use Rattle.jl_profile.specs.Births.{Born, Made, births_among, is_born, is_used, new_began}
 
 -- it knows the births, the objects that were born and used, and the calls by `new` that began
-pub record IsProfileOf (births : List Born) (born used news : ℕ → Bool) (told : List Operation) : Type 0 where
-  pub all : births ≡ births_among told
-  pub born_ones : (object : ℕ) → born object ≡ is_born told object
-  pub used_ones : (object : ℕ) → used object ≡ is_used told object
-  pub begun : (id : ℕ) → news id ≡ new_began told id
+pub record IsProfileOf (births : List Born) (born used news : ℕ → Bool) (observed : List Operation) : Type 0 where
+  pub all : births ≡ births_among observed
+  pub born_ones : (object : ℕ) → born object ≡ is_born observed object
+  pub used_ones : (object : ℕ) → used object ≡ is_used observed object
+  pub begun : (id : ℕ) → news id ≡ new_began observed id
 
 -- whether the operation with this id ends a call by `new`, by the ids with which such calls began
 abbrev pub new_ends_by : (news : ℕ → Bool) → (id : ℕ) → Bool

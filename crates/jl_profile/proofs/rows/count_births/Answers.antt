@@ -8,7 +8,8 @@ use Rattle.jl_profile.specs.Births.{Key, by_place}
 use Rattle.jl_profile.specs.declared.births.Way.TheVariants as ways
 use Rattle.jl_profile.specs.declared.rows.Count.{Count}
 use Rattle.jl_profile.specs.inner.Rows.{count_at, no_births}
-use Rattle.jl_profile.proofs.Counting.{all_counted, counts_more, from_bool-one_if, keys_more, one_at_most, one_if, sum_more}
+use Rattle.jl_profile.proofs.Counting.{all_counted, counts_more, from_bool-one_if, keys_more, one_at_most, one_if}
+use Rattle.jl_profile.proofs.Counting.{sum_more}
 use Rattle.jl_profile.proofs.Keys.{same_order}
 use Rattle.jl_profile.proofs.rows.count_births.Goals as goal
 

@@ -5,8 +5,8 @@ use Rattle.jl_cover.proofs.Observing.{lacks_is}
 use Rattle.jl_cover.proofs.cover.Cover.totals.Goals as goal
 
 pub returns : goal.returns
-returns c = λ told is.
-    let same = lacks_is c.args.self.now told is in
+returns c = λ observed is.
+    let same = lacks_is c.args.self.now observed is in
     λ j. record {
       entered = (c.covered.ensures ∙ ap (λ l. covered_count c.args.map.now l kinds.FunctionEnter) same) j;
       functions = c.rows_of.ensures j;

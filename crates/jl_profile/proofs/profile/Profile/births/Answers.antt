@@ -9,9 +9,10 @@ pub returns-clause-found : goal.returns-clause-found
 returns-clause-found c =
     let used = contains nat_eq c.args.self.now.used in
     IfOk-weaker c.list.result _ _
-    (λ births is told stands.
+    (λ births is observed stands.
     is ∙ rows_listed used c.deref.result.now c.in_ok-counts.counts.entries c.in_ok-counts.ensures.counted
     ∙ ap (map (row_of used c.deref.result.now)) c.in_ok-counts.ensures.all
     ∙ ap (rows_of used) (c.deref.ensures.value ∙ c.in_ok-keyed.ensures)
-    ∙ (λ j. rows_of (λ object. stands.used_ones object j) (keyed_births c.args.lines.now c.args.map.now (stands.all j))))
+    ∙ (λ j. rows_of (λ object. stands.used_ones object j)
+    (keyed_births c.args.lines.now c.args.map.now (stands.all j))))
     c.list.ensures
