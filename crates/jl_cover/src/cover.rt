@@ -100,7 +100,8 @@ impl Cover {
     ) -> Result<Vec<Missed>, AllocError>
         requires { All (BeginsIn lines.now) map.now }
         ensures { IfOk result (λ missed. (observed : List Operation)
-            → ⟦<Cover as Observer>⟧.stands_for self.now observed → missed.items ≡ missed_in lines.now map.now observed) }
+            → ⟦<Cover as Observer>⟧.stands_for self.now observed
+            → missed.items ≡ missed_in lines.now map.now observed) }
     {
         let gaps = self.gaps(alloc, map, lines)?;
         list(alloc, &gaps)

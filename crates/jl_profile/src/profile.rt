@@ -77,7 +77,8 @@ impl Profile {
     ) -> Result<Vec<Births>, AllocError>
         requires { All (BeginsIn lines.now) map.now }
         ensures found { IfOk result (λ births. (observed : List Operation)
-            → ⟦<Profile as Observer>⟧.stands_for self.now observed → births.items ≡ births_in lines.now map.now observed) }
+            → ⟦<Profile as Observer>⟧.stands_for self.now observed
+            → births.items ≡ births_in lines.now map.now observed) }
         ensures fit { IfOk result (λ births. (all_made births.items < 2 ^ 64) × (all_unused births.items < 2 ^ 64)) }
     {
         let keyed = keyed(alloc, &self.born, map, lines)?;
