@@ -1,0 +1,65 @@
+"""`jl [OPTIONS] FILE|FOLDER|-..`"""
+
+from __future__ import annotations
+
+import argparse
+import sys
+
+from . import formats
+from .cache import Cache
+from .findings import FileResult, Totals
+from .gather import scripts
+from .linting import Linter
+from .options import lint_parser
+from .output import write_answer
+from .pool import Progress, map_in_order
+from .program import find_program
+from .wrapping import read_prelude
+
+
+def main(words: list[str]) -> int:
+    options = lint_parser().parse_args(words)
+    if not options.files:
+        lint_parser().error("no file is named")
+    found = scripts(options.files, tuple(options.ext.split(",")), options.ignore, options.stdin_filename)
+    standard_input = sys.stdin.buffer.read() if any(it.is_standard_input for it in found) else b""
+    linter = make_linter(options)
+    progress = Progress(len(found), not options.no_progress)
+    results = list(map_in_order(lambda it: linter.lint(it, standard_input), found, options.jobs, progress))
+    is_terminal = options.output is None and sys.stdout.isatty()
+    colour = is_terminal if options.colour is None else options.colour
+    write = formats.writer_of(options.format or ("stylish" if is_terminal else "unix"))
+    write_answer(options.output, lambda out: write(results, out, colour))
+    if not found:
+        print("jl: the folders have no scripts", file=sys.stderr)
+    say_notes(results)
+    return status_of(results, options.max_reports)
+
+
+def make_linter(options: argparse.Namespace) -> Linter:
+    program = find_program(options.timeout)
+    names = (["commonjs"] if options.commonjs else []) + options.prelude
+    return Linter(
+        program,
+        options.rules,
+        options.budget,
+        read_prelude(program, names),
+        options.commonjs,
+        Cache(options.cache_location, program.path) if options.cache else None,
+    )
+
+
+def say_notes(results: list[FileResult]) -> None:
+    """Says on standard error what no finding says, and which files could not be looked at."""
+    for result in results:
+        for note in result.notes:
+            print(f"jl: {result.path}: {note}", file=sys.stderr)
+        if result.trouble is not None:
+            print(f"jl: {result.path}: {result.trouble}", file=sys.stderr)
+
+
+def status_of(results: list[FileResult], most_reports: int) -> int:
+    totals = Totals.of(results)
+    if totals.troubles:
+        return 2
+    return 1 if totals.errors or totals.warnings > most_reports else 0
