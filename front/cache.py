@@ -36,13 +36,13 @@ def map_sum(text: str, path: str) -> str | None:
 
 def write_finding(finding: Finding) -> list[Any]:
     place = [finding.place.line, finding.place.column]
-    about = [finding.rule, finding.message, finding.severity.value, finding.count, finding.source_line]
-    return [finding.path, *place, *about]
+    about = [finding.rule, finding.message, finding.severity.value, finding.count]
+    return [finding.path, *place, *about, finding.source_line, finding.source_column]
 
 
 def read_finding(parts: list[Any]) -> Finding:
-    path, line, column, rule, message, severity, count, source_line = parts
-    return Finding(path, Place(line, column), rule, message, Severity(severity), count, source_line)
+    path, line, column, rule, message, severity, count, source_line, source_column = parts
+    return Finding(path, Place(line, column), rule, message, Severity(severity), count, source_line, source_column)
 
 
 class Cache:

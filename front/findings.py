@@ -53,6 +53,9 @@ class Finding:
     severity: Severity
     count: int = 1
     source_line: str | None = None
+    """The line, or the part of a long one that is round the place."""
+    source_column: int = 1
+    """The column in that part."""
 
     @property
     def text(self) -> str:

@@ -12,7 +12,7 @@ from .gather import NotAccepted, Script, Unreadable, read_script
 from .original import MapError, SourceMap, find_map
 from .program import Program, ProgramError
 from .refusals import TRANSPILE, explain
-from .source import Place
+from .source import Place, part_of_line
 from .wrapping import Prelude, Wrapped
 
 DEFAULT_BUDGET = 1_000_000
@@ -75,7 +75,7 @@ class Linter:
         found = [look.of_line(line) for line in answer.lines]
         findings = [it for it in found if it is not None]
         if len(findings) < len(found):
-            look.notes.append(f"{len(found) - len(findings)} report lines in preludes are not shown")
+            look.notes.append(f"report lines in preludes, which are not shown: {len(found) - len(findings)}")
         if answer.end != "normal":
             findings.append(self.of_end(look, answer, given))
         return FileResult(path, tuple(findings), answer.end, None, tuple(look.notes))
@@ -119,9 +119,10 @@ class Look:
     def found(self, place: Place, rule: str, message: str, severity: Severity, count: int = 1) -> Finding:
         """A finding at a place in the script."""
         original = self.source_map.original(place) if self.source_map else None
+        path, line = self.path, self.wrapped.source.line(place.line)
         if original is not None:
-            return Finding(original.path, original.place, rule, message, severity, count, original.line)
-        return Finding(self.path, place, rule, message, severity, count, self.wrapped.source.line(place.line))
+            path, place, line = original.path, original.place, original.line
+        return Finding(path, place, rule, message, severity, count, *part_of_line(line, place.column))
 
     def of_line(self, line: ReportLine) -> Finding | None:
         """The finding of a report line, or None where it is in a prelude."""

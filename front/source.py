@@ -81,6 +81,23 @@ class SourceText:
         return self.place_of(len(self.text))
 
 
+LONGEST_LINE = 400
+"""Of a longer line, only what is round a column is kept with a finding."""
+LONGEST_WIDE_LINE = 20_000
+"""In a longer line that is not ASCII, columns are not looked up, since that takes as long as the line."""
+
+
+def part_of_line(line: str | None, column: int) -> tuple[str | None, int]:
+    """A line and a column in it, or of a long line the part round the column and the column in that part."""
+    if line is None or len(line) <= LONGEST_LINE:
+        return line, column
+    if len(line) > LONGEST_WIDE_LINE and not line.isascii():
+        return None, column
+    index = index_of_column(line, column)
+    first = max(0, index - LONGEST_LINE // 2)
+    return line[first : first + LONGEST_LINE], utf16_length(line[first:index]) + 1
+
+
 def shown_width(text: str) -> int:
     """How many cells of a terminal a text takes."""
     wide = sum(unicodedata.east_asian_width(it) in "WF" for it in text)

@@ -184,7 +184,7 @@ function afterScript() {
   document.dispatchEvent(new Event("DOMContentLoaded"));
   windowEvents.dispatchEvent(new Event("load"));
   if (typeof window.onload === "function") {
-    window.onload(new Event("load"));
+    window.onload.call(window, new Event("load"));
   }
   timers.run();
 }

@@ -359,7 +359,7 @@ var JSON = (function () {
         }
       }
     }
-    items = sorted(items, function (left, right) { return Number(compare(left, right)) > 0; });
+    items = sorted(items, function (left, right) { return Number(compare.call(undefined, left, right)) > 0; });
     for (index = 0; index < length; index += 1) {
       if (index < items.length) {
         this[index] = items[index];

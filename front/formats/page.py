@@ -62,10 +62,16 @@ def link_to(path: str, line: int) -> str:
     return "#" + urllib.parse.quote(f"{path}-{line}", safe="/", errors="backslashreplace")
 
 
+LONGEST_LINE = 1_000
+"""Under a longer line a note has its column in words, in place of a caret."""
+
+
 def caret_under(line: str, column: int) -> str:
-    """What brings a caret under a column: spaces, with the line's own tabs, and wide characters kept invisible."""
+    """A caret under a column, after spaces, with the line's own tabs, and wide spaces for wide characters."""
+    if len(line) > LONGEST_LINE:
+        return f"column {column}:"
     before = line[: index_of_column(line, column)]
-    return "".join(it if it == "\t" else " " if it.isascii() else "\u3000" if is_wide(it) else " " for it in before)
+    return "".join(it if it == "\t" else "\u3000" if is_wide(it) else " " for it in before) + "^"
 
 
 def is_wide(character: str) -> bool:
@@ -97,6 +103,6 @@ def write_source(out: TextIO, path: str, rows: Sequence[Row]) -> None:
             caret = escape(caret_under(row.text, note.column))
             out.write(
                 f'<tr class="{note.css_class}" data-line="{row.number}"><td></td><td class="count"></td>'
-                f"<td><pre>{caret}^ {rule}{escape(note.text)}</pre></td></tr>\n"
+                f"<td><pre>{caret} {rule}{escape(note.text)}</pre></td></tr>\n"
             )
     out.write("</table>\n")

@@ -28,7 +28,7 @@ def write_finding(finding: Finding, out: TextIO, paint: Paint) -> None:
     rule = paint(DIM, finding.rule)
     out.write(f"  {str(finding.place):>8}  {severity}  {printable(finding.text)}  {rule}\n")
     if finding.source_line is not None:
-        part, caret = excerpt(finding.source_line, finding.place.column)
+        part, caret = excerpt(finding.source_line, finding.source_column)
         out.write(f"            {part}\n            {paint(colour, caret)}\n")
 
 
