@@ -82,8 +82,8 @@ def read_record(text: bytes) -> Record:
         counts[found[1]] += 1
         if found[2] is not None:
             (false if found[2] in FALSE else true)[found[1]] += 1
-    if counts.total() != count:
-        raise BadRecord(f"no record: it has {counts.total()} operations, and says {count}")
+    if sum(counts.values()) != count:
+        raise BadRecord(f"no record: it has {sum(counts.values())} operations, and says {count}")
     return Record(rows, by_number(counts), by_number(true), by_number(false))
 
 

@@ -136,18 +136,28 @@ def explain_syntax(refusal: Refusal, source: SourceText, place: Place) -> Reason
             f"string, or see {SCRIPTS_PAGE}",
             source.place_of(regex.start),
         )
-    said = newer_syntax(around) or bad_input(refusal, around) or unreadable(around)
-    return Reason(said, place)
+    newer = newer_syntax(around)
+    if newer is not None:
+        return Reason(newer.sentence, source.place_of(newer.token.start) if newer.token else place)
+    return Reason(bad_input(refusal, around) or unreadable(around), place)
 
 
-def newer_syntax(around: Surroundings) -> str | None:
+@dataclass(frozen=True)
+class Newer:
+    """A sentence on syntax of a later edition, and the token that shows it where that is at the place."""
+
+    sentence: str
+    token: Token | None
+
+
+def newer_syntax(around: Surroundings) -> Newer | None:
     """Which later edition the syntax at a place is of."""
     word, before = around.word(), around.word_before()
     if around.here is not None and around.here.kind is TokenKind.TEMPLATE:
-        return f"template literals are of ES2015: {TRANSPILE}"
-    for candidate in (word, before):
+        return Newer(f"template literals are of ES2015: {TRANSPILE}", around.here)
+    for candidate, token in ((word, around.here), (before, None)):
         if candidate in ES2015_WORDS:
-            return f"{ES2015_WORDS[candidate]}: {TRANSPILE}"
+            return Newer(f"{ES2015_WORDS[candidate]}: {TRANSPILE}", token)
     return None
 
 

@@ -60,7 +60,6 @@ def write(coverages: Sequence[Coverage], out: TextIO) -> None:
     branches += f'branches-valid="{sum(it.branches for it in coverages)}"'
     about = f'complexity="0" version="jl {VERSION}" timestamp="{int(time.time())}"'
     out.write('<?xml version="1.0" encoding="utf-8"?>\n')
-    out.write('<!DOCTYPE coverage SYSTEM "http://cobertura.sourceforge.net/xml/coverage-04.dtd">\n')
     out.write(f"<coverage {rates(coverages)} {lines} {branches} {about}>\n")
     out.write(f"<sources><source>{os.curdir}</source></sources>\n<packages>\n")
     out.write(f'<package name="." {rates(coverages)} complexity="0"><classes>\n')

@@ -20,7 +20,8 @@ pre { margin: 0; font: 12px/1.5 ui-monospace, monospace; white-space: pre; tab-s
 .number { color: #767676; text-align: right; user-select: none }
 .count { color: #0b57a4; text-align: right; border-right: 1px solid #ccc }
 .never { background: #fdeaea } .never .count { color: #a40000 }
-.note pre { background: #fff3c4; color: #6b3d00 } .error pre { background: #fbd5d5; color: #7a0000 }
+.note pre { background: #fff3c4; color: #6b3d00; white-space: pre-wrap }
+.error pre { background: #fbd5d5; color: #7a0000; white-space: pre-wrap }
 .gap pre { background: #fdeaea; color: #8a1c1c } tr:target { outline: 2px solid #f5a623 }
 """
 
@@ -91,6 +92,9 @@ def write_foot(out: TextIO) -> None:
 def write_source(out: TextIO, path: str, rows: Sequence[Row]) -> None:
     """A table of a source's lines. The rows under a line are its notes."""
     out.write("<table>\n")
+    if len(rows) > 1 and not rows[-1].text and not rows[-1].notes:
+        # What follows the last line's end is no line to a reader.
+        rows = rows[:-1]
     for row in rows:
         never = ' class="never"' if row.count == 0 else ""
         count = "" if row.count is None else f"{row.count:,}"

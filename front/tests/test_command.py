@@ -39,8 +39,8 @@ class Words(FrontCase):
     def test_rules_and_budget_are_handed_on(self) -> None:
         given = "print(0 / 0, parseInt('7'));"
         self.assertEqual(self.jl("--rules", "no-radix", "-", given=given).out.count("\n"), 1)
-        ran = self.jl("--budget", "1000", "-", given="function f() {\n  for (;;) { }\n}\nf();")
-        self.assertRegex(ran.out, r"^<stdin>:2:\d+: the run takes more than 1,000 steps .* in the function at 1:1 \[spent\]")
+        ran = self.jl("--budget", "1000", "-", given="var x;\nfunction f() {\n  while (true) { x = 1; }\n}\nf();")
+        self.assertRegex(ran.out, r"^<stdin>:3:\d+: the run takes more than 1,000 steps .* in the function at 2:1 \[spent\]")
 
     def test_standard_input_has_the_name_that_is_given(self) -> None:
         ran = self.jl("--stdin-filename", "src/a.js", "-", given="print(0 / 0);")
@@ -205,7 +205,7 @@ class Output(FrontCase):
         for form in ("stylish", "unix", "sarif", "html"):
             ran = self.jl("-f", form, "many.js")
             self.assertEqual((ran.status, ran.err), (1, ""), form)
-            self.assertGreater(ran.out.count("\n"), 20_000)
+            self.assertGreaterEqual(ran.out.count("\n"), 20_000)
 
 
 @needs_program

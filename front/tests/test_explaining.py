@@ -56,7 +56,7 @@ class Refusals(FrontCase):
             ("var J$;", "1:5", "name of the hooks"),
             ("return 1;", "1:1", "--commonjs"),
             ("with (a) { }", "1:1", "`with` is left out"),
-            ("function f() {", "1:14", "ends too early"),
+            ("function f() {", "1:15", "ends too early"),
             ("if (a) { function f() { } }", "1:10", "inside a block"),
             ("'use strict'; delete a;", "1:15", "strict code deletes a name"),
         ):
@@ -76,7 +76,7 @@ class Ends(FrontCase):
 
     def test_a_fault_has_a_place(self) -> None:
         said = self.jl("-", given="var a = 7;\nvar f = function () { return a / 2; };\nf();").out
-        self.assertRegex(said, r"^<stdin>:2:30: NumberOutside: .* in the function at 2:9 \[fault\]")
+        self.assertRegex(said, r"^<stdin>:2:34: NumberOutside: .* in the function at 2:9 \[fault\]")
 
 
 @needs_program
@@ -93,7 +93,7 @@ class Preludes(FrontCase):
             for words in (["--prelude", "es5"], ["--prelude", "es5", "--commonjs"], ["--prelude", "browser", "--prelude", "es5"]):
                 said = self.jl(*words, "-", given=given)
                 places = [it.split(" ")[0] for it in said.out.splitlines()]
-                self.assertEqual(places, [f"<stdin>:1:{len(head) + 7}:", "<stdin>:2:73:"], said)
+                self.assertEqual(places, [f"<stdin>:1:{len(head) + 7}:", "<stdin>:2:71:"], said)
                 self.assertEqual(said.err, "")
 
     def test_strict_code_stays_strict(self) -> None:
@@ -163,7 +163,7 @@ if (ticks !== 1 || document.getElementsByTagName("button").length !== 1) { throw
         ran = self.jl("--prelude", "browser", "-", given=given)
         self.assertEqual((ran.out, ran.err), ("", ""))
         said = self.jl("--prelude", "browser", "-", given="setTimeout(function () {\n  absent();\n}, 1);").out
-        self.assertRegex(said, r"^<stdin>:1:1: uncaught ReferenceError|^<stdin>:2:3: uncaught ReferenceError")
+        self.assertRegex(said, r"^<stdin>:1:12: uncaught ReferenceError")
 
     def test_a_prelude_that_is_refused(self) -> None:
         self.write("mine.js", "var = 1;")
@@ -207,7 +207,7 @@ class SourceMaps(FrontCase):
         for url in ("absent.map", "data:application/json;base64,!", "https://example.com/a.map", "data:application/json,[}"):
             self.write("a.js", f"{OLD}//# sourceMappingURL={url}\n")
             ran = self.jl("a.js")
-            self.assertEqual((ran.status, ran.out[:10]), (1, "a.js:2:38:"), url)
+            self.assertEqual((ran.status, ran.out[:10]), (1, "a.js:2:39:"), url)
             self.assertIn("its source map", ran.err, url)
 
 

@@ -42,7 +42,7 @@ class Formats(FrontCase):
         self.assertEqual(len(lines), 7)
         for line in lines:
             self.assertRegex(line, r"^[^:]+:\d+:\d+: .+ \[[a-z-]+\]$")
-        self.assertIn("fault.js:2:10: NumberOutside", ran.out)
+        self.assertIn("fault.js:2:14: NumberOutside", ran.out)
         self.assertIn("in the function at 1:1", ran.out)
         self.assertEqual(ran.status, 2)
 
