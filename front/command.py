@@ -52,7 +52,9 @@ def main(words: list[str]) -> int:
     """Does what the words say, and answers the exit status."""
     for number in (signal.SIGHUP, signal.SIGTERM):
         signal.signal(number, on_signal)
-    if hasattr(sys.stderr, "reconfigure"):
+    if sys.stderr is None:
+        sys.stderr = open(os.devnull, "w", encoding="utf-8")
+    elif hasattr(sys.stderr, "reconfigure"):
         sys.stderr.reconfigure(errors="backslashreplace")
     is_command = bool(words) and words[0] in COMMANDS
     command = COMMANDS[words[0]] if is_command else lint_command.main

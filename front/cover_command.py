@@ -11,7 +11,7 @@ from typing import Sequence
 from .answers import ReportLine, read_refusal
 from .coverage import Coverage, coverage_of, share
 from .findings import FileResult
-from .gather import NotAccepted, Script, Unreadable, read_script, scripts
+from .gather import NotAccepted, Script, Unreadable, read_script, read_standard_input, scripts
 from .lint_command import say_notes
 from .linting import DEFAULT_BUDGET
 from .options import cover_parser
@@ -71,13 +71,14 @@ class Coverer:
 
 
 def main(words: list[str]) -> int:
-    options = cover_parser(tuple(FORMATS)).parse_args(words)
+    parser = cover_parser(tuple(FORMATS))
+    options = parser.parse_args(words)
     found = scripts(options.files, tuple(options.ext.split(",")), options.ignore, options.stdin_filename)
     if not options.files:
-        cover_parser(tuple(FORMATS)).error("no file is named")
+        parser.error("no file is named")
     if options.record is not None and len(found) != 1:
-        cover_parser(tuple(FORMATS)).error("--record is of one script")
-    standard_input = sys.stdin.buffer.read() if any(it.is_standard_input for it in found) else b""
+        parser.error("--record is of one script")
+    standard_input = read_standard_input(found)
     coverer = make_coverer(options)
     progress = Progress(len(found), True)
     results = list(map_in_order(lambda it: coverer.cover(it, standard_input), found, options.jobs, progress))
@@ -92,12 +93,12 @@ def main(words: list[str]) -> int:
 
 def make_coverer(options: argparse.Namespace) -> Coverer:
     program = find_program(options.timeout)
-    names = (["commonjs"] if options.commonjs else []) + options.prelude
     record = None
     if options.record is not None:
         with open(options.record, "rb") as file:
             record = file.read()
-    return Coverer(program, options.budget, read_prelude(program, names), options.commonjs, record)
+    prelude = read_prelude(program, options.prelude, options.commonjs)
+    return Coverer(program, options.budget, prelude, options.commonjs, record)
 
 
 def meets_thresholds(coverages: Sequence[Coverage], options: argparse.Namespace) -> bool:

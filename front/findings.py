@@ -4,6 +4,7 @@ from __future__ import annotations
 
 from dataclasses import dataclass, field
 from enum import Enum
+from typing import Sequence
 
 from .rules import BY_NAME
 from .source import Place
@@ -89,7 +90,7 @@ class Totals:
     troubles: int
 
     @staticmethod
-    def of(results: list[FileResult]) -> Totals:
+    def of(results: Sequence[FileResult]) -> Totals:
         return Totals(
             len(results),
             sum(it.counted(Severity.ERROR) for it in results),

@@ -4,6 +4,7 @@ from __future__ import annotations
 
 import fnmatch
 import os
+import sys
 from dataclasses import dataclass
 from typing import Iterator
 
@@ -73,6 +74,15 @@ def is_ignored(name: str, path: str, ignored: list[str]) -> bool:
     if name.startswith(".") or name == "node_modules":
         return True
     return any(fnmatch.fnmatch(path, it) or fnmatch.fnmatch(name, it) for it in ignored)
+
+
+def read_standard_input(found: list[Script]) -> bytes:
+    """Standard input, where it is one of the scripts."""
+    if not any(it.is_standard_input for it in found):
+        return b""
+    if sys.stdin is None:
+        raise Unreadable("standard input is closed")
+    return sys.stdin.buffer.read(LARGEST + 1)
 
 
 def read_script(script: Script, standard_input: bytes) -> str:

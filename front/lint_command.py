@@ -8,7 +8,7 @@ import sys
 from . import formats
 from .cache import Cache
 from .findings import FileResult, Totals
-from .gather import scripts
+from .gather import read_standard_input, scripts
 from .linting import Linter
 from .options import lint_parser
 from .output import write_answer
@@ -18,15 +18,16 @@ from .wrapping import read_prelude
 
 
 def main(words: list[str]) -> int:
-    options = lint_parser().parse_args(words)
+    parser = lint_parser()
+    options = parser.parse_args(words)
     if not options.files:
-        lint_parser().error("no file is named")
+        parser.error("no file is named")
     found = scripts(options.files, tuple(options.ext.split(",")), options.ignore, options.stdin_filename)
-    standard_input = sys.stdin.buffer.read() if any(it.is_standard_input for it in found) else b""
+    standard_input = read_standard_input(found)
     linter = make_linter(options)
     progress = Progress(len(found), not options.no_progress)
     results = list(map_in_order(lambda it: linter.lint(it, standard_input), found, options.jobs, progress))
-    is_terminal = options.output is None and sys.stdout.isatty()
+    is_terminal = options.output is None and sys.stdout is not None and sys.stdout.isatty()
     colour = is_terminal if options.colour is None else options.colour
     write = formats.writer_of(options.format or ("stylish" if is_terminal else "unix"))
     write_answer(options.output, lambda out: write(results, out, colour))
@@ -38,12 +39,11 @@ def main(words: list[str]) -> int:
 
 def make_linter(options: argparse.Namespace) -> Linter:
     program = find_program(options.timeout)
-    names = (["commonjs"] if options.commonjs else []) + options.prelude
     return Linter(
         program,
         options.rules,
         options.budget,
-        read_prelude(program, names),
+        read_prelude(program, options.prelude, options.commonjs),
         options.commonjs,
         Cache(options.cache_location, program.path) if options.cache else None,
     )

@@ -3,12 +3,12 @@
 from __future__ import annotations
 
 import argparse
-import sys
 from typing import TextIO
 
+from .answers import Refusal, read_answer
 from .findings import FileResult
 from .formats.lines import on_one_line
-from .gather import NotAccepted, Script, Unreadable, read_script, scripts
+from .gather import NotAccepted, Script, Unreadable, read_script, read_standard_input, scripts
 from .lint_command import say_notes
 from .linting import Linter, Look
 from .offs import Idle, look_at, masked, unused
@@ -17,18 +17,18 @@ from .output import write_answer
 from .pool import Progress, map_in_order
 from .program import ProgramError, find_program
 from .source import SourceText
-from .answers import Refusal, read_answer
 from .wrapping import Wrapped, read_prelude
 
 Listing = tuple[Script, list[Idle], str | None]
 
 
 def main(words: list[str]) -> int:
-    options = offs_parser().parse_args(words)
+    parser = offs_parser()
+    options = parser.parse_args(words)
     if not options.files:
-        offs_parser().error("no file is named")
+        parser.error("no file is named")
     found = scripts(options.files, tuple(options.ext.split(",")), options.ignore, options.stdin_filename)
-    standard_input = sys.stdin.buffer.read() if any(it.is_standard_input for it in found) else b""
+    standard_input = read_standard_input(found)
     linter = None if options.forms else make_linter(options)
     progress = Progress(len(found), True)
     listings = list(map_in_order(lambda it: list_one(linter, it, standard_input), found, options.jobs, progress))
@@ -41,8 +41,8 @@ def main(words: list[str]) -> int:
 
 def make_linter(options: argparse.Namespace) -> Linter:
     program = find_program(options.timeout)
-    names = (["commonjs"] if options.commonjs else []) + options.prelude
-    return Linter(program, None, options.budget, read_prelude(program, names), options.commonjs)
+    prelude = read_prelude(program, options.prelude, options.commonjs)
+    return Linter(program, None, options.budget, prelude, options.commonjs)
 
 
 def list_one(linter: Linter | None, script: Script, standard_input: bytes) -> Listing:

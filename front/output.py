@@ -3,6 +3,7 @@
 from __future__ import annotations
 
 import contextlib
+import errno
 import os
 import sys
 import tempfile
@@ -42,6 +43,8 @@ def mode_of(path: str) -> int:
 def write_standard(write: Writer) -> None:
     """Writes to standard output."""
     out = sys.stdout
+    if out is None:
+        raise OSError(errno.EBADF, "standard output is closed")
     if hasattr(out, "reconfigure"):
         out.reconfigure(encoding="utf-8", errors="backslashreplace", newline="\n")
     write(out)

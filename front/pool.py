@@ -7,6 +7,8 @@ import sys
 from concurrent.futures import ThreadPoolExecutor
 from typing import Callable, Iterator, Sequence, TypeVar
 
+from .program import RUNS
+
 Item = TypeVar("Item")
 Result = TypeVar("Result")
 
@@ -54,6 +56,7 @@ def map_in_order(
                     yield result
             except BaseException:
                 pool.shutdown(wait=False, cancel_futures=True)
+                RUNS.end_all()
                 raise
     finally:
         progress.clear()

@@ -3,9 +3,11 @@
 from __future__ import annotations
 
 import os
+import shutil
 import signal
 import subprocess
 import sys
+import threading
 from dataclasses import dataclass
 from enum import IntEnum
 from typing import Sequence
@@ -51,6 +53,38 @@ class Answer:
     output: bytes
 
 
+class Runs:
+    """The runs that have not ended, so that they can be ended when this process is."""
+
+    def __init__(self) -> None:
+        self.lock = threading.Lock()
+        self.running: set[subprocess.Popen[bytes]] = set()
+        self.are_ended = False
+
+    def start(self, command: Sequence[str]) -> subprocess.Popen[bytes]:
+        """Begins a run, unless all are ended."""
+        with self.lock:
+            if self.are_ended:
+                raise ProgramError("interrupted")
+            pipe = subprocess.PIPE
+            process = subprocess.Popen(command, stdin=pipe, stdout=pipe, stderr=pipe)
+            self.running.add(process)
+            return process
+
+    def forget(self, process: subprocess.Popen[bytes]) -> None:
+        with self.lock:
+            self.running.discard(process)
+
+    def end_all(self) -> None:
+        with self.lock:
+            self.are_ended = True
+            for process in self.running:
+                process.kill()
+
+
+RUNS = Runs()
+
+
 @dataclass(frozen=True)
 class Program:
     """The program at a path."""
@@ -62,30 +96,30 @@ class Program:
     def run(self, words: Sequence[str], script: bytes) -> Answer:
         """The answer of the program to these words and this script."""
         try:
-            done = subprocess.run(
-                [self.path, *words],
-                input=script,
-                stdout=subprocess.PIPE,
-                stderr=subprocess.PIPE,
-                timeout=self.seconds,
-                check=False,
-            )
+            process = RUNS.start([self.path, *words])
         except OSError as error:
             raise ProgramError(f"{self.path} can't be run: {error.strerror}") from error
+        try:
+            output, errors = process.communicate(script, self.seconds)
         except subprocess.TimeoutExpired as error:
             raise ProgramError(f"no answer within {self.seconds:g} seconds (--timeout)") from error
-        return Answer(self.status_of(done), done.stdout)
+        finally:
+            if process.returncode is None:
+                process.kill()
+                process.communicate()
+            RUNS.forget(process)
+        return Answer(self.status_of(process.returncode, errors), output)
 
-    def status_of(self, done: subprocess.CompletedProcess[bytes]) -> Status:
+    def status_of(self, number: int, errors: bytes) -> Status:
         """The status of a run that gave an answer."""
-        if done.returncode < 0:
-            raise ProgramError(f"the program was killed by {signal_name(-done.returncode)}")
+        if number < 0:
+            raise ProgramError(f"the program was killed by {signal_name(-number)}")
         try:
-            status = Status(done.returncode)
+            status = Status(number)
         except ValueError:
-            said = done.stderr.decode("utf-8", "replace").strip().splitlines()
+            said = errors.decode("utf-8", "replace").strip().splitlines()
             why = f": {said[-1]}" if said else ""
-            raise ProgramError(f"{self.path} ended with status {done.returncode}{why}") from None
+            raise ProgramError(f"{self.path} ended with status {number}{why}") from None
         if status in NO_ANSWER:
             raise ProgramError(NO_ANSWER[status])
         return status
@@ -109,7 +143,7 @@ def find_program(seconds: float | None = None) -> Program:
     """The program to run; `./jlint` proves and builds it where that was not done."""
     named = os.environ.get("JLINT")
     if named:
-        return Program(os.path.abspath(named) if os.sep in named else named, seconds)
+        return Program(os.path.abspath(named) if os.sep in named else shutil.which(named) or named, seconds)
     if os.environ.get("JLINT_UNPROVED"):
         return Program(os.path.join(TOP, "jlint"), seconds)
     builder = os.path.join(TOP, "tools", "program.py")

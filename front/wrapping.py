@@ -35,10 +35,12 @@ def prelude_path(name: str) -> str:
     return own if re.fullmatch(r"\w+", name) and os.path.isfile(own) else name
 
 
-def read_prelude(program: Program, names: list[str]) -> Prelude:
-    """The preludes of these names, one after the other. `jlint print` makes the one line of each."""
+def read_prelude(program: Program, names: list[str], is_module: bool) -> Prelude:
+    """The preludes of these names, one after the other, with that of modules first where scripts are modules.
+
+    `jlint print` makes the one line of each."""
     texts = []
-    for name in names:
+    for name in ["commonjs", *names] if is_module else names:
         path = prelude_path(name)
         try:
             with open(path, "rb") as file:

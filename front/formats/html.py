@@ -31,7 +31,7 @@ def rows_of(lines: list[str], notes: dict[int, list[Note]], known: dict[int, str
 
 def write(results: Sequence[FileResult], out: TextIO, colour: bool) -> None:
     del colour
-    write_head(out, "jlint: " + summary(Totals.of(list(results))))
+    write_head(out, "jlint: " + summary(Totals.of(results)))
     by_path: dict[str, dict[int, list[Note]]] = {}
     known: dict[str, dict[int, str]] = {}
     out.write("<ol>\n")

@@ -58,7 +58,7 @@ def write(results: Sequence[FileResult], out: TextIO, colour: bool) -> None:
     paint = Paint(colour)
     for result in results:
         write_result(result, out, paint)
-    totals = Totals.of(list(results))
+    totals = Totals.of(results)
     if totals.errors or totals.warnings or totals.troubles:
         worst = RED if totals.errors or totals.troubles else YELLOW
         out.write(paint(worst, f"✖ {summary(totals)}") + "\n")

@@ -180,20 +180,28 @@ class Output(FrontCase):
         self.assertEqual(ran.returncode, 2)
 
     def test_a_terminal_that_closes(self) -> None:
-        self.program = os.path.join(self.folder, self.write("program", "#!/bin/sh\nexec sleep 30\n"))
+        self.program = os.path.join(self.folder, self.write("program", "#!/bin/sh\n: > began\nexec sleep 300\n"))
         os.chmod(self.program, 0o755)
-        running = subprocess.Popen(
-            [sys.executable, JL, "a.js", "-o", "found.txt"],
-            cwd=self.folder,
-            env={**os.environ, "JLINT": self.program},
-            stderr=subprocess.PIPE,
-        )
-        time.sleep(1)
-        running.send_signal(signal.SIGHUP)
-        self.assertEqual(running.wait(20), 128 + signal.SIGHUP)
-        self.assertFalse(os.path.exists(os.path.join(self.folder, "found.txt")))
-        assert running.stderr is not None
-        running.stderr.close()
+        for names in (["a.js"], [self.write(f"f{number}.js", "") for number in range(8)]):
+            running = subprocess.Popen(
+                [sys.executable, JL, *names, "-o", "found.txt"],
+                cwd=self.folder,
+                env={**os.environ, "JLINT": self.program},
+                stderr=subprocess.DEVNULL,
+            )
+            began = os.path.join(self.folder, "began")
+            while not os.path.exists(began):
+                time.sleep(0.05)
+            running.send_signal(signal.SIGHUP)
+            self.assertEqual(running.wait(100), 128 + signal.SIGHUP)
+            os.remove(began)
+            self.assertFalse(os.path.exists(os.path.join(self.folder, "found.txt")))
+
+    def test_streams_that_are_closed(self) -> None:
+        for words, status in (("a.js >&-", 2), ("- <&-", 2), ("a.js 2>&-", 1)):
+            ran = self.tool("bash", "-c", f"{sys.executable} {JL} {words}", env={**os.environ, "JLINT": self.program})
+            self.assertEqual(ran.returncode, status, words)
+            self.assertNotIn("Traceback", ran.stderr)
 
     def test_a_report_of_many_lines_on_one_long_line(self) -> None:
         self.write("many.js", "0 / 0;" * 20_000)
