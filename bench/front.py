@@ -1,10 +1,10 @@
 #!/usr/bin/env python3
 """What `jl` takes beside the program's own runs, on 200 files, and what it gains by four at a time.
 
-Run it at the top of the repository; JLINT names the program, or else the one of this clone is taken. Both are held to one
-processor for the first figure, which is of processor seconds, so that other work on the machine does not count. Where
-`jl` takes more than 1.3 times what the runs take, the exit status is 1. The gain on four is of seconds that went by, and
-means little on a machine that is busy."""
+Run it at the top of the repository; JLINT names the program, or else the one of this clone is taken. Both are held to
+one processor for the first figure, which is of processor seconds, so that other work on the machine does not count.
+Where `jl` takes more than 1.3 times what the runs take, the exit status is 1. The gain on four is of seconds that went
+by, and means little on a machine that is busy."""
 
 import os
 import resource

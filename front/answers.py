@@ -1,5 +1,7 @@
-"""Reads what `jlint lint` answered. A script may print anything, also what looks like a report line, so the lines of the
-report are counted from the end, as the last line says."""
+"""Reads what `jlint lint` answered.
+
+A script may print anything, also what looks like a report line, so the lines of the report are counted from the end, as
+the last line says."""
 
 from __future__ import annotations
 

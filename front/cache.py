@@ -1,5 +1,7 @@
 """Keeps results between runs, by the sum of what they were made from: the text that was run, the words, the path, the
-source map, the program and this front end. An entry is never out of date; a folder of entries may be removed at any time."""
+source map, the program and this front end.
+
+An entry is never out of date, and a folder of entries may be removed at any time."""
 
 from __future__ import annotations
 

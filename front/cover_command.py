@@ -6,7 +6,7 @@ import argparse
 import importlib
 import sys
 from dataclasses import dataclass
-from typing import Sequence
+from typing import Callable, Sequence, TextIO
 
 from .answers import ReportLine, read_refusal
 from .coverage import Coverage, coverage_of, share
@@ -84,6 +84,7 @@ def main(words: list[str]) -> int:
     results = list(map_in_order(lambda it: coverer.cover(it, standard_input), found, options.jobs, progress))
     coverages = [it for it in results if isinstance(it, Coverage)]
     troubles = [it for it in results if isinstance(it, FileResult)]
+    write: Callable[[Sequence[Coverage], TextIO], None]
     write = importlib.import_module(f".formats.{FORMATS[options.format]}", __package__).write
     write_answer(options.output, lambda out: write(coverages, out))
     say_notes(troubles)
@@ -103,13 +104,13 @@ def make_coverer(options: argparse.Namespace) -> Coverer:
 
 def meets_thresholds(coverages: Sequence[Coverage], options: argparse.Namespace) -> bool:
     """Whether as much ran as was asked, and says where it did not."""
-    shares = [
-        ("functions", options.min_functions, "functions_entered", lambda it: len(it.functions)),
-        ("branches", options.min_branches, "branches_taken", lambda it: it.branches),
-    ]
+    entered = share(sum(it.functions_entered for it in coverages), sum(len(it.functions) for it in coverages))
+    taken = share(sum(it.branches_taken for it in coverages), sum(it.branches for it in coverages))
     is_enough = True
-    for name, least, part, whole in shares:
-        reached = share(sum(getattr(it, part) for it in coverages), sum(whole(it) for it in coverages))
+    for name, reached, least in (
+        ("functions", entered, options.min_functions),
+        ("branches", taken, options.min_branches),
+    ):
         if least is not None and reached < least:
             print(f"jl: {reached:.1f} % of the {name} ran, and --min-{name} asks {least:g} %", file=sys.stderr)
             is_enough = False

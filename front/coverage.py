@@ -104,7 +104,7 @@ def name_of(source: SourceText, place: Place) -> str:
 
 
 def named_apart(functions: Iterable[FunctionCount]) -> tuple[FunctionCount, ...]:
-    """The functions by place, with the place in the name of each that an earlier one has, since names tell them apart."""
+    """The functions by place. Where an earlier one has the same name, or where there is none, the place is put into it."""
     seen: set[str] = set()
     named = []
     for it in sorted(functions, key=lambda it: it.place):

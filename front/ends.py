@@ -51,9 +51,7 @@ class RunEnd:
 
 def read_places(listing: bytes) -> dict[int, Place]:
     """The places of the operations in an answer of `map`, by id."""
-    return {
-        int(found[1]): Place(int(found[2]), int(found[3])) for found in MAP_LINE.finditer(listing)
-    }
+    return {int(found[1]): Place(int(found[2]), int(found[3])) for found in MAP_LINE.finditer(listing)}
 
 
 def operations_backwards(trace: bytes) -> Iterator[tuple[int, Operation]]:

@@ -13,9 +13,9 @@ from .rules import BY_NAME
 
 LARGEST_BUDGET = 1_000_000_000
 
-DESCRIPTION = """Lints JavaScript (ECMA-262 edition 5.1) by running it: rewrites each script so that its operations can be
-watched, runs it, and reports what is legal but is probably a mistake. Folders are searched for .js files; `-` is
-standard input."""
+DESCRIPTION = """Lints JavaScript (ECMA-262 edition 5.1) by running it: rewrites each script so that its operations
+can be watched, runs it, and reports what is legal but is probably a mistake. Folders are searched for .js files;
+`-` is standard input."""
 
 EPILOGUE = """commands:
   jl rules                   list the rules
@@ -80,7 +80,11 @@ def add_files(parser: Parser) -> None:
         "--stdin-filename", default="<stdin>", metavar="PATH", help="what standard input is called in the report"
     )
     parser.add_argument(
-        "--jobs", type=whole(1, 1024), default=processors(), metavar="N", help="how many scripts to look at side by side"
+        "--jobs",
+        type=whole(1, 1024),
+        default=processors(),
+        metavar="N",
+        help="how many scripts to look at side by side",
     )
     parser.add_argument(
         "--timeout", type=whole(1, 10**6), metavar="SECONDS", help="how long one run of the program may take"

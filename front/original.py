@@ -91,7 +91,7 @@ def decode_data_url(url: str) -> bytes:
     try:
         return base64.b64decode(raw, validate=True)
     except binascii.Error as error:
-        raise MapError(f"its inline source map is not base64: {error}") from error
+        raise MapError(f"its source map is not base64: {error}") from error
 
 
 def read_map_bytes(url: str, script_path: str) -> tuple[bytes, str]:

@@ -9,7 +9,7 @@ import sys
 import tempfile
 from typing import Callable, TextIO
 
-Writer = Callable[[TextIO], None]
+Writer = Callable[[TextIO], object]
 MASK = os.umask(0o077)
 os.umask(MASK)
 

@@ -108,7 +108,7 @@ class Program:
                 process.kill()
                 process.communicate()
             RUNS.forget(process)
-        return Answer(self.status_of(process.returncode, errors), output)
+        return Answer(self.status_of(process.wait(), errors), output)
 
     def status_of(self, number: int, errors: bytes) -> Status:
         """The status of a run that gave an answer."""

@@ -50,9 +50,7 @@ class SourceText:
         self.text = text
         ends = list(LINE_TERMINATOR.finditer(text))
         self.starts = [0, *(end.end() for end in ends)]
-        self.lines = [
-            text[start : end.start()] for start, end in zip(self.starts, ends)
-        ] + [text[self.starts[-1] :]]
+        self.lines = [text[start : end.start()] for start, end in zip(self.starts, ends)] + [text[self.starts[-1] :]]
 
     def line(self, number: int) -> str | None:
         """A line without its terminator, or None where the text has no such line."""

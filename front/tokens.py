@@ -45,9 +45,7 @@ PIECES = re.compile(
 )
 REGEX = re.compile(r"/(?![*/])(?:\\.|\[(?:\\.|[^\]\\\n\r])*\]|[^/\\\[\n\r])+/\w*")
 # After these words an expression begins, so that a slash there begins a regular expression.
-BEFORE_EXPRESSION = frozenset(
-    "return typeof instanceof in of new delete void throw case do else yield await".split()
-)
+BEFORE_EXPRESSION = frozenset("return typeof instanceof in of new delete void throw case do else yield await".split())
 COMMENTS = (TokenKind.LINE_COMMENT, TokenKind.BLOCK_COMMENT)
 
 

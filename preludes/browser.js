@@ -1,5 +1,5 @@
-// A small part of what a browser gives a script: window, document, elements without layout, events, and timers as a queue
-// that runs after the script, in the order of their times. `jl` calls `afterScript` when the script has ended.
+// A small part of what a browser gives a script: window, document, elements without layout, events, and timers as a
+// queue that runs after the script, in the order of their times. `jl` calls `afterScript` when the script has ended.
 
 var window = this, self = this;
 var navigator = { userAgent: "jlint", language: "en", platform: "jlint", onLine: false };

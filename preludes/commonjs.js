@@ -1,6 +1,6 @@
-// What node gives a module: require, module, exports, __filename, __dirname, process and global. `jl --commonjs` puts the
-// script into a function and hands that to `commonjs`. A module that is not in the table below is not found: put it
-// there in a prelude of your own, as `requirable.name = function (module, exports) { .. };`.
+// What node gives a module: require, module, exports, __filename, __dirname, process and global. `jl --commonjs` puts
+// the script into a function and hands that to `commonjs`. A module that is not in the table below is not found: put
+// it there in a prelude of your own, as `requirable.name = function (module, exports) { .. };`.
 
 var global = this;
 

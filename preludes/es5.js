@@ -447,8 +447,10 @@ var JSON = (function () {
     });
   }
 
-  [["sin", 0, 0], ["cos", 0, 1], ["tan", 0, 0], ["asin", 0, 0], ["acos", 1, 0], ["atan", 0, 0], ["exp", 0, 1], ["log", 1, 0]]
-    .forEach(function (row) { defineAt(row[0], row[1], row[2]); });
+  [
+    ["sin", 0, 0], ["cos", 0, 1], ["tan", 0, 0], ["asin", 0, 0],
+    ["acos", 1, 0], ["atan", 0, 0], ["exp", 0, 1], ["log", 1, 0]
+  ].forEach(function (row) { defineAt(row[0], row[1], row[2]); });
 
   // 15.8.2.14 asks for a number from 0 to 1, without 1, and leaves open which: 0 is the only whole one.
   define(Math, "random", function random() { return 0; });

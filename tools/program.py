@@ -3,9 +3,9 @@
 
 usage: tools/program.py
 
-The program is `out/jlint` at the top of the clone, beside the sum of the sources that it was made from. Where the sum is
-another, the program is looked for among what the kit has kept on this machine (`rt ci` and `rt ci NAME` keep what they
-prove, by the sums of all that they read), and `rt ci jlint` proves what is missing there. So what this proves, the
+The program is `out/jlint` at the top of the clone, beside the sum of the sources that it was made from. Where the sum
+is another, the program is looked for among what the kit has kept on this machine (`rt ci` and `rt ci NAME` keep what
+they prove, by the sums of all that they read), and `rt ci jlint` proves what is missing there. So what this proves, the
 gate takes from there, and the other way round, in each clone. `rt ci jlint` works on a copy: nothing in `crates` is
 touched. One call in a clone works at a time, and the next ones wait.
 

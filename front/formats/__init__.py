@@ -23,7 +23,8 @@ NAMES = tuple(MODULES)
 class Format(Protocol):
     """What each module offers."""
 
-    def __call__(self, results: Sequence[FileResult], out: TextIO, colour: bool) -> None: ...
+    def __call__(self, results: Sequence[FileResult], out: TextIO, colour: bool) -> None:
+        ...
 
 
 def writer_of(name: str) -> Format:

@@ -55,7 +55,8 @@ def write_class(coverage: Coverage, out: TextIO) -> None:
 
 
 def write(coverages: Sequence[Coverage], out: TextIO) -> None:
-    lines = f'lines-covered="{sum(it.lines_hit for it in coverages)}" lines-valid="{sum(len(it.lines) for it in coverages)}"'
+    lines = f'lines-covered="{sum(it.lines_hit for it in coverages)}" '
+    lines += f'lines-valid="{sum(len(it.lines) for it in coverages)}"'
     branches = f'branches-covered="{sum(it.branches_taken for it in coverages)}" '
     branches += f'branches-valid="{sum(it.branches for it in coverages)}"'
     about = f'complexity="0" version="jl {VERSION}" timestamp="{int(time.time())}"'

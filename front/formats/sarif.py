@@ -57,9 +57,7 @@ def result_of(finding: Finding, numbers: dict[str, int]) -> dict[str, Any]:
         "level": LEVELS[finding.severity],
         "message": {"text": finding.text},
         "occurrenceCount": finding.count,
-        "locations": [
-            {"physicalLocation": {"artifactLocation": {"uri": uri_of(finding.path)}, "region": region}}
-        ],
+        "locations": [{"physicalLocation": {"artifactLocation": {"uri": uri_of(finding.path)}, "region": region}}],
         "partialFingerprints": {"ruleAndLine/v1": fingerprint(finding)},
     }
 

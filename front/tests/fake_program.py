@@ -84,7 +84,7 @@ def unmap(given: bytes) -> tuple[int, bytes]:
     out, totals = [], [0, 0, 0, 0]
     for line, group in enumerate(mappings.split(";"), 1):
         column = 0
-        for piece in filter(None, group.split(",")):
+        for piece in [it for it in group.split(",") if it]:
             step, *rest = numbers(piece)
             column += step
             totals = [total + (rest[i] if i < len(rest) else 0) for i, total in enumerate(totals)]

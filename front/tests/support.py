@@ -79,10 +79,7 @@ class FrontCase(unittest.TestCase):
     def use_fake(self) -> None:
         """Has `jl` run a program that has the commands `record`, `replay` and `unmap` in any case."""
         self.program = FAKE
-        os.environ["REAL_JLINT"] = PROGRAM or ""
-        os.environ["FAKE_FOLDER"] = self.folder
-        self.addCleanup(os.environ.pop, "REAL_JLINT", None)
-        self.addCleanup(os.environ.pop, "FAKE_FOLDER", None)
+        os.environ.update(REAL_JLINT=PROGRAM or "", FAKE_FOLDER=self.folder)
 
     def tool(self, *words: str, **named: Any) -> subprocess.CompletedProcess[str]:
         """Runs a tool in the folder."""

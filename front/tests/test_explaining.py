@@ -27,7 +27,7 @@ class Refusals(FrontCase):
             ("f(/\\d+/)", "1:3"),
             ("x = /'/; y = 1", "1:5"),
             ("x = a / b / c; y = /[/*]/;", "1:20"),
-            ("x = /\"/.test(\"a\");\n", "1:5"),
+            ('x = /"/.test("a");\n', "1:5"),
             ("return_ = !/`/", "1:12"),
         ):
             self.check(script, place, REGEX)
@@ -89,8 +89,14 @@ class Preludes(FrontCase):
 
     def test_places_stay(self) -> None:
         for head in ("", "'use strict'; "):
-            given = f"{head}print(0 / 0);\nprint(JSON.stringify([3, 1].sort(function (a, b) {{ return a - b; }})), 0 / 0);"
-            for words in (["--prelude", "es5"], ["--prelude", "es5", "--commonjs"], ["--prelude", "browser", "--prelude", "es5"]):
+            given = (
+                f"{head}print(0 / 0);\nprint(JSON.stringify([3, 1].sort(function (a, b) {{ return a - b; }})), 0 / 0);"
+            )
+            for words in (
+                ["--prelude", "es5"],
+                ["--prelude", "es5", "--commonjs"],
+                ["--prelude", "browser", "--prelude", "es5"],
+            ):
                 said = self.jl(*words, "-", given=given)
                 places = [it.split(" ")[0] for it in said.out.splitlines()]
                 self.assertEqual(places, [f"<stdin>:1:{len(head) + 7}:", "<stdin>:2:71:"], said)
@@ -98,7 +104,8 @@ class Preludes(FrontCase):
 
     def test_strict_code_stays_strict(self) -> None:
         given = "'use strict'; (function () { if (this !== undefined) { throw 'sloppy'; } })();"
-        for words in ([], ["--prelude", "es5"], ["--commonjs"], ["--prelude", "es5", "--commonjs"]):
+        choices: list[list[str]] = [[], ["--prelude", "es5"], ["--commonjs"], ["--prelude", "es5", "--commonjs"]]
+        for words in choices:
             self.assertEqual(self.jl(*words, "-", given=given).out, "", words)
         given = "(function () { if (this === undefined) { throw 'strict'; } })();"
         self.assertEqual(self.jl("--prelude", "es5", "-", given=given).out, "")
@@ -109,7 +116,7 @@ var list = [5, undefined, 3, , 4];
 same(list.sort(function (a, b) { return a - b; }).join(), "3,4,5,,");
 same(4 in list, false);
 same([21, 12, 22, 11].sort(function (a, b) { return a % 10 - b % 10; }).join(), "21,11,12,22");
-same(JSON.stringify({ a: [1, "b\\n", null, undefined], c: undefined, d: NaN }), '{"a":[1,"b\\\\n",null,null],"d":null}');
+same(JSON.stringify({ a: [1, "b\\n", undefined], c: undefined, d: NaN }), '{"a":[1,"b\\\\n",null],"d":null}');
 same(JSON.stringify([1, { a: 2 }], null, 1), '[\\n 1,\\n {\\n  "a": 2\\n }\\n]');
 same(JSON.stringify(JSON.parse(' {"a" : [1, -20, 3e2, "\\\\u0041"], "": true} ')), '{"a":[1,-20,300,"A"],"":true}');
 same(JSON.parse("[1,2]", function (k, v) { return typeof v === "number" ? v + 1 : v; }).join(), "2,3");
@@ -184,7 +191,13 @@ class SourceMaps(FrontCase):
     def setUp(self) -> None:
         super().setUp()
         self.use_fake()
-        self.map = {"version": 3, "sources": ["src/modern.js"], "names": [], "mappings": MAPPINGS, "sourcesContent": [MODERN]}
+        self.map = {
+            "version": 3,
+            "sources": ["src/modern.js"],
+            "names": [],
+            "mappings": MAPPINGS,
+            "sourcesContent": [MODERN],
+        }
 
     def test_an_inline_map(self) -> None:
         inline = base64.b64encode(json.dumps(self.map).encode()).decode()
@@ -204,7 +217,12 @@ class SourceMaps(FrontCase):
         self.assertIn("  m(x) { return x - undefined; }", ran.out)
 
     def test_maps_that_can_not_be_used(self) -> None:
-        for url in ("absent.map", "data:application/json;base64,!", "https://example.com/a.map", "data:application/json,[}"):
+        for url in (
+            "absent.map",
+            "data:application/json;base64,!",
+            "https://example.com/a.map",
+            "data:application/json,[}",
+        ):
             self.write("a.js", f"{OLD}//# sourceMappingURL={url}\n")
             ran = self.jl("a.js")
             self.assertEqual((ran.status, ran.out[:10]), (1, "a.js:2:39:"), url)

@@ -32,7 +32,7 @@ class Formats(FrontCase):
         super().setUp()
         self.write("shapes.js", SHAPES)
         self.write("clean.js", "print(1);\n")
-        self.write("refused.js", "var a = 1;\nvar r = /a\"b/;\n")
+        self.write("refused.js", 'var a = 1;\nvar r = /a"b/;\n')
         self.write("fault.js", "function half(x) {\n  return x / 2;\n}\nprint(half(7));\n")
         self.files = ["shapes.js", "clean.js", "refused.js", "fault.js"]
 
@@ -53,9 +53,13 @@ class Formats(FrontCase):
     def test_unix_is_read_by_vim(self) -> None:
         self.write("found.txt", self.jl("-f", "unix", *self.files).out)
         script = "set errorformat=%f:%l:%c:\\ %m | cgetfile found.txt | "
-        script += "call writefile(map(getqflist(), {_, it -> it.valid . ' ' . it.lnum . ' ' . it.col}), 'vim.txt') | qall!"
+        script += (
+            "call writefile(map(getqflist(), {_, it -> it.valid . ' ' . it.lnum . ' ' . it.col}), 'vim.txt') | qall!"
+        )
         self.tool("vim", "-u", "NONE", "-n", "-es", "-c", script, timeout=60)
-        due = [f"1 {line} {column}" for line, column in re.findall(r"^[^:]+:(\d+):(\d+):", self.read("found.txt"), re.M)]
+        due = [
+            f"1 {line} {column}" for line, column in re.findall(r"^[^:]+:(\d+):(\d+):", self.read("found.txt"), re.M)
+        ]
         self.assertEqual(self.read("vim.txt").splitlines(), due)
 
     def test_stylish_has_a_caret_under_the_place(self) -> None:
@@ -72,7 +76,9 @@ class Formats(FrontCase):
         self.assertEqual([len(it["messages"]) for it in found], [4, 0, 1, 1])
         self.assertEqual(found[0]["messages"][1]["ruleId"], "nan-made")
         self.assertEqual((found[0]["errorCount"], found[0]["warningCount"]), (1, 3))
-        self.assertEqual([it["end"] for it in found], ["thrown", "normal", "refused BadInput UnclosedText", "fault NumberOutside"])
+        self.assertEqual(
+            [it["end"] for it in found], ["thrown", "normal", "refused BadInput UnclosedText", "fault NumberOutside"]
+        )
 
     def test_github_commands(self) -> None:
         name = self.write("a,b:c%.js", "print(0 / 0);")
@@ -123,7 +129,14 @@ class Formats(FrontCase):
     def test_html_in_a_browser(self) -> None:
         self.write("page.html", self.jl("-f", "html", *self.files).out)
         profile = f"--user-data-dir={self.folder}/profile"
-        words = ["--headless", "--no-sandbox", "--disable-gpu", profile, "--dump-dom", f"file://{self.folder}/page.html"]
+        words = [
+            "--headless",
+            "--no-sandbox",
+            "--disable-gpu",
+            profile,
+            "--dump-dom",
+            f"file://{self.folder}/page.html",
+        ]
         ran = self.tool(CHROMIUM or "", *words, timeout=120)
         self.check_rows(ran.stdout)
 

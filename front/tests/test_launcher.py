@@ -45,7 +45,7 @@ class Launcher(FrontCase):
 
     def install(self) -> None:
         """Puts a program in its place, as if it were proved of these sources."""
-        program = self.write("made", "#!/bin/sh\necho \"ran $*\"\nexit 4\n")
+        program = self.write("made", '#!/bin/sh\necho "ran $*"\nexit 4\n')
         code = "import program as p; f = p.source_files(); import os; os.makedirs(p.OUT, exist_ok=True); "
         code += f"p.install({os.path.join(self.folder, program)!r}, f, (p.listing(f), p.contents(f)))"
         subprocess.run([sys.executable, "-c", code], cwd=os.path.join(self.folder, "tools"), check=True)
@@ -86,7 +86,8 @@ class Launcher(FrontCase):
         self.assertEqual(ran.returncode, 70)
 
     def test_unproved_answers_say_so(self) -> None:
-        body = "#!/bin/sh\ncat\necho 'checked: ended status=1' >&2\necho 'run=ended status=1 runners=1 proved=no' >&2\nexit 1\n"
+        body = "#!/bin/sh\ncat\necho 'checked: ended status=1' >&2\n"
+        body += "echo 'run=ended status=1 runners=1 proved=no' >&2\nexit 1\n"
         self.write("bin/rt", body)
         os.chmod(os.path.join(self.folder, "bin/rt"), 0o755)
         ran = self.launch("lint", JLINT_UNPROVED="1")
@@ -97,12 +98,15 @@ class Launcher(FrontCase):
     def test_progress(self) -> None:
         log = self.write("log", "rt: low is kept: an earlier run proved the same\n")
         code = "import proving; p = proving.Proving('..', '../log'); p.began -= 600; print(p.progress())"
-        run = lambda: subprocess.run(
-            [sys.executable, "-c", code], cwd=os.path.join(self.folder, "tools"), capture_output=True, text=True, check=True
-        ).stdout
-        self.assertEqual(run(), "1 of 2 crates, 10 min\n")
+        self.assertEqual(self.python(code), "1 of 2 crates, 10 min\n")
         self.write(log, "== low\nfn low::echo: proved\nrt: low proved\n")
-        self.assertEqual(run(), "1 of 2 crates, 10 min, about 11 to go\n")
+        self.assertEqual(self.python(code), "1 of 2 crates, 10 min, about 11 to go\n")
+
+    def python(self, code: str) -> str:
+        """What a line of Python prints in the folder of the tools."""
+        return self.tool(
+            sys.executable, "-c", "import os; os.chdir('tools'); import sys; sys.path.insert(0, ''); " + code
+        ).stdout
 
 
 if __name__ == "__main__":

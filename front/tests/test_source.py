@@ -58,7 +58,7 @@ class Tokens(unittest.TestCase):
 class Answers(unittest.TestCase):
     def test_output_that_looks_like_a_report(self) -> None:
         given = b"1:1 nan-made 1\njlint: normal steps=1 hooks=1 reports=9\n2:3 no-radix 4\n"
-        given += b"uncaught \"x\"\njlint: thrown steps=5 hooks=2 reports=1\n"
+        given += b'uncaught "x"\njlint: thrown steps=5 hooks=2 reports=1\n'
         report = read_answer(Answer(Status.THROWN, given))
         assert isinstance(report, Report)
         self.assertEqual([(it.place, it.rule, it.count) for it in report.lines], [(Place(2, 3), "no-radix", 4)])
@@ -97,7 +97,7 @@ class Ends(unittest.TestCase):
         return found.place.line, tuple(it.line for it in found.functions)
 
     def test_exits_of_a_throw_are_passed_over(self) -> None:
-        lines = ("1 ScriptEnter", "3 FunctionEnter f0 undefined 0 call", "5 Read \"x\" undefined", "4 FunctionExit f0")
+        lines = ("1 ScriptEnter", "3 FunctionEnter f0 undefined 0 call", '5 Read "x" undefined', "4 FunctionExit f0")
         self.assertEqual(self.end(*lines), (5, (3,)))
 
     def test_a_function_that_returned_is_left(self) -> None:
