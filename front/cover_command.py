@@ -3,6 +3,7 @@
 from __future__ import annotations
 
 import argparse
+import dataclasses
 import importlib
 import sys
 from dataclasses import dataclass
@@ -24,6 +25,12 @@ from .wrapping import Prelude, Wrapped, read_prelude
 
 FORMATS = {"lcov": "lcov", "cobertura": "cobertura", "html": "cover_html", "summary": "cover_summary"}
 
+ENDS = {
+    Status.THROWN: "the script threw what nothing caught, so what comes after did not run",
+    Status.FAULT: "the run left what jlint can run, so what comes after did not run",
+    Status.SPENT: "the run ended for want of steps (--budget), so what comes after did not run",
+}
+
 
 @dataclass(frozen=True)
 class Coverer:
@@ -41,18 +48,19 @@ class Coverer:
         try:
             text = read_script(script, standard_input)
             wrapped = Wrapped(text, self.prelude, self.is_module)
-            record = self.record if self.record is not None else self.recorded(wrapped)
+            record, note = (self.record, None) if self.record is not None else self.recorded(wrapped)
             reports = self.replayed(record)
-            return coverage_of(script.path, wrapped.source, read_record(record), wrapped.place_of, reports)
+            found = coverage_of(script.path, wrapped.source, read_record(record), wrapped.place_of, reports)
+            return dataclasses.replace(found, note=note)
         except (Unreadable, NotAccepted, ProgramError) as error:
             return FileResult(script.path, trouble=str(error))
 
-    def recorded(self, wrapped: Wrapped) -> bytes:
-        """The record of a run of a script."""
+    def recorded(self, wrapped: Wrapped) -> tuple[bytes, str | None]:
+        """The record of a run of a script, and how the run ended where that was not normally."""
         given = wrapped.text.encode("utf-8")
         answer = self.program.ask("record", ["--budget", str(self.budget)], given)
         if answer.status is not Status.REFUSED:
-            return answer.output
+            return answer.output, ENDS.get(answer.status)
         refusal = read_refusal(answer.output)
         if refusal.kind == "RecordTooLong":
             raise ProgramError("the record of its run is longer than 256 MiB: lower --budget, or run less of it")
@@ -87,7 +95,7 @@ def main(words: list[str]) -> int:
     write: Callable[[Sequence[Coverage], TextIO], None]
     write = importlib.import_module(f".formats.{FORMATS[options.format]}", __package__).write
     write_answer(options.output, lambda out: write(coverages, out))
-    say_notes(troubles)
+    say_notes(troubles + [FileResult(it.path, notes=(it.note,)) for it in coverages if it.note is not None])
     is_enough = meets_thresholds(coverages, options)
     return 2 if troubles else 0 if is_enough else 1
 

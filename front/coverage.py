@@ -63,6 +63,8 @@ class Coverage:
     functions: tuple[FunctionCount, ...]
     conditions: tuple[ConditionCount, ...]
     reports: tuple[ReportLine, ...] = ()
+    note: str | None = None
+    """How the run ended, where that was not normally."""
 
     @property
     def functions_entered(self) -> int:

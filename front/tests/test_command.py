@@ -2,7 +2,9 @@
 
 from __future__ import annotations
 
+import contextlib
 import os
+import pty
 import signal
 import subprocess
 import sys
@@ -219,6 +221,38 @@ class Output(FrontCase):
             ran = self.jl("-f", form, "many.js")
             self.assertEqual((ran.status, ran.err), (1, ""), form)
             self.assertGreaterEqual(ran.out.count("\n"), 20_000)
+
+
+@needs_program
+class Terminals(FrontCase):
+    def start(self, *words: str) -> tuple[subprocess.Popen[bytes], int]:
+        """Runs `jl` on a terminal, and answers the other end of that."""
+        other, terminal = pty.openpty()
+        environment = {**os.environ, "JLINT": self.program}
+        command = [sys.executable, JL, *words]
+        running = subprocess.Popen(command, cwd=self.folder, env=environment, stdout=terminal, stderr=terminal)
+        os.close(terminal)
+        return running, other
+
+    def test_a_terminal_gets_colour_and_carets_and_how_far_it_is(self) -> None:
+        names = [self.write(f"f{number}.js", "print(0 / 0);") for number in range(3)]
+        running, other = self.start(*names)
+        shown = b""
+        with contextlib.suppress(OSError):
+            while part := os.read(other, 65536):
+                shown += part
+        os.close(other)
+        self.assertEqual(running.wait(60), 1)
+        self.assertIn(b"\r2 of 3 files", shown)
+        self.assertIn(b"\r\x1b[K", shown)
+        self.assertIn(b"\x1b[33mwarning\x1b[0m", shown)
+        self.assertIn(b"            print(0 / 0);\r\n            \x1b[33m      ^", shown)
+
+    def test_a_terminal_that_goes_away(self) -> None:
+        names = [self.write(f"f{number}.js", "print(0 / 0);") for number in range(3)]
+        running, other = self.start(*names)
+        os.close(other)
+        self.assertEqual(running.wait(60), 2)
 
 
 @needs_program

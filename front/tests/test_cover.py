@@ -146,6 +146,13 @@ class Cover(FrontCase):
         self.assertEqual(self.jl("cover", "--record", "absent", "b.js").status, 2)
         self.assertEqual(self.jl("cover", "--record", "b.record", "b.js", "a.js").status, 2)
 
+    def test_a_run_that_ends_early_is_noted(self) -> None:
+        self.write("thrown.js", "var a = 1;\nthrow a;\na = 2;\n")
+        ran = self.jl("cover", "thrown.js")
+        self.assertEqual(ran.status, 0)
+        self.assertIn("DA:2,1\nDA:3,0\n", ran.out)
+        self.assertIn("thrown.js: the script threw what nothing caught", ran.err)
+
     def test_scripts_that_are_refused(self) -> None:
         self.write("new.js", "let a = 1;")
         ran = self.jl("cover", "new.js", "a.js")
