@@ -66,7 +66,7 @@ class Linter:
         return ["lint", "--budget", str(self.budget), *rules]
 
     def lint_wrapped(self, path: str, wrapped: Wrapped) -> FileResult:
-        """What is found in a script with what stands round it."""
+        """What is found in a script with what is put round it."""
         given = wrapped.text.encode("utf-8")
         answer = read_answer(self.program.run(self.words(), given))
         look = Look(path, wrapped, *self.map_of(path, wrapped))

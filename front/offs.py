@@ -55,7 +55,7 @@ def why_no_form(text: str) -> str:
     if not rest.strip():
         return "it names no rule"
     if not re.match(r" [^ ]", rest):
-        return "one space stands before the names"
+        return "there is one space before the names"
     return "only spaces may follow the names, which have commas and no spaces between them"
 
 

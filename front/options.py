@@ -13,9 +13,9 @@ from .rules import BY_NAME
 
 LARGEST_BUDGET = 1_000_000_000
 
-DESCRIPTION = """Lints JavaScript (ECMA-262 edition 5.1) by running it: rewrites each script so that its operations
-can be watched, runs it, and reports what is legal but is probably a mistake. Folders are searched for .js files;
-`-` is standard input."""
+DESCRIPTION = """Lints JavaScript (ECMA-262 edition 5.1) by running it: rewrites each script
+so that its operations can be watched, runs it, and reports what is legal but is
+probably a mistake. Folders are searched for .js files; `-` is standard input."""
 
 EPILOGUE = """commands:
   jl rules                   list the rules
@@ -125,7 +125,11 @@ def lint_parser() -> Parser:
     )
     add_files(parser)
     parser.add_argument(
-        "--format", "-f", choices=formats.NAMES, help="stylish on a terminal and unix elsewhere, where none is named"
+        "--format",
+        "-f",
+        choices=formats.NAMES,
+        metavar="NAME",
+        help=f"{', '.join(formats.NAMES)}; where none is named, stylish on a terminal and unix elsewhere",
     )
     parser.add_argument("--rules", type=rule_names, metavar="NAMES", help="report these rules alone, as a,b,c")
     add_run(parser)
@@ -170,7 +174,14 @@ def cover_parser(format_names: Sequence[str]) -> Parser:
         allow_abbrev=False,
     )
     add_files(parser)
-    parser.add_argument("--format", "-f", choices=format_names, default="lcov", help="lcov where none is named")
+    parser.add_argument(
+        "--format",
+        "-f",
+        choices=format_names,
+        default="lcov",
+        metavar="NAME",
+        help=f"{', '.join(format_names)}; lcov where none is named",
+    )
     add_run(parser)
     parser.add_argument(
         "--record", metavar="FILE", help="take this record of the one script that is named, and run nothing"

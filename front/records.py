@@ -51,7 +51,7 @@ def read_section(text: bytes, start: int, word: bytes) -> tuple[int, int]:
 
 
 def skip_lines(text: bytes, start: int, count: int) -> int:
-    """The offset after so many lines as `count` says."""
+    """The offset after `count` lines."""
     for _ in range(count):
         start = text.find(b"\n", start) + 1
         if not start:
@@ -60,7 +60,7 @@ def skip_lines(text: bytes, start: int, count: int) -> int:
 
 
 def read_record(text: bytes) -> Record:
-    """The record that a text is. Facts of operations but for conditions are not looked at."""
+    """Reads a record. Of the facts of operations, only those of conditions are looked at."""
     if not text.startswith(HEAD + b"\n"):
         raise BadRecord(f"no record: the first line is not `{HEAD.decode()}`")
     count, start = read_section(text, len(HEAD) + 1, b"rows")

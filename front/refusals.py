@@ -1,6 +1,6 @@
 """Says in a sentence why a script is refused, and what to do about it.
 
-The program answers with a word and a place. What stands at that place is looked at here, by a scanner of its own."""
+The program answers with a word and a place. The text at that place is looked at here, by a scanner of this front end."""
 
 from __future__ import annotations
 
@@ -42,10 +42,10 @@ BAD_INPUT = {
     "LongText": "a name or string of more than 1,048,576 UTF-16 units begins here",
 }
 EARLY = {
-    "return-outside": "`return` stands outside a function; a module of node's can be linted with --commonjs",
-    "break-outside": "`break` stands outside a loop and `switch`, or its label encloses nothing here",
-    "continue-outside": "`continue` stands outside a loop, or its label is not that of a loop round it",
-    "label-twice": "a label stands inside a statement with the same label",
+    "return-outside": "`return` is outside a function; a module of node's can be linted with --commonjs",
+    "break-outside": "`break` is outside a loop and `switch`, or its label encloses nothing here",
+    "continue-outside": "`continue` is outside a loop, or its label is not that of a loop round it",
+    "label-twice": "a label is inside a statement with the same label",
     "key-clash": "a key of an object literal is both a value and an accessor, or has two getters or setters",
     "strict-name": "strict code binds or assigns `eval` or `arguments`",
     "strict-word": "a reserved word of strict code is used as an identifier",
@@ -191,8 +191,8 @@ def unreadable(around: Surroundings) -> str:
     if word in ("(", "{") and before in ("get", "set", "static"):
         return f"this form of a method is of ES2015: {TRANSPILE}"
     if word in (",", "}") and around.before is not None and around.before.kind is TokenKind.NAME:
-        return f"`{word}` can't stand here; shorthand properties and destructuring are of ES2015: {TRANSPILE}"
+        return f"`{word}` is not allowed here; shorthand properties and destructuring are of ES2015: {TRANSPILE}"
     if word == "function":
         return "a function can't be declared inside a block: move it out, or write `var f = function ..`"
     shown = word if len(word) <= 30 else word[:30] + "…"
-    return f"`{shown}` can't stand here, or the script is nested more than 200 levels deep"
+    return f"`{shown}` is not allowed here, or the script is nested more than 200 levels deep"

@@ -1,6 +1,6 @@
 """Puts a prelude, and the function that a module is, round a script, so that places in the script stay what they were.
 
-All that is put before the script stands on its first line, where columns are shifted and shifted back."""
+All that is put before the script is on its first line, where columns are shifted and shifted back."""
 
 from __future__ import annotations
 
@@ -51,14 +51,14 @@ def read_prelude(program: Program, names: list[str], is_module: bool) -> Prelude
         if answer.status is not Status.CLEAN:
             said = answer.output.decode("utf-8", "replace").strip()
             raise ProgramError(f"the prelude {path} is not accepted: {said}")
-        # Line feeds stand only after `;`, `{` and `}` there, where nothing depends on them.
+        # Line feeds come only after `;`, `{` and `}` there, where nothing depends on them.
         texts.append(answer.output.decode("utf-8").replace("\n", ""))
     text = "".join(texts)
     return Prelude(text, f"function {AFTER_SCRIPT}(" in text)
 
 
 class Wrapped:
-    """A script with what stands before and after it."""
+    """A script with what is put before and after it."""
 
     def __init__(self, script: str, prelude: Prelude, is_module: bool) -> None:
         script = comment_hash_bang(script)
@@ -86,5 +86,5 @@ class Wrapped:
 
 
 def comment_hash_bang(script: str) -> str:
-    """A script of which a first line `#!..` is a comment of the same length."""
+    """A script whose first line, where that is `#!..`, is made a comment of the same length."""
     return "//" + script[2:] if script.startswith("#!") else script

@@ -124,7 +124,7 @@ var removeEventListener = function (type, listener) { windowEvents.removeEventLi
 var dispatchEvent = function (event) { return windowEvents.dispatchEvent(event); };
 
 var timers = (function () {
-  // An interval is run as often at most, so that a queue comes to an end.
+  // The most runs of an interval, so that the queue ends.
   var mostRuns = 100, waiting = [], made = 0, now = 0;
 
   function add(callback, delay, given, isRepeated) {
