@@ -2,25 +2,26 @@
 
 from __future__ import annotations
 
+import importlib
 import os
 import signal
 import sys
 from types import FrameType
-from typing import Callable
+from typing import Callable, cast
 
-from . import cover_command, lint_command, offs_command, rules_command
 from .gather import Unreadable
 from .program import ProgramError
 
 NOTHING_FOUND, FOUND, FAILED = 0, 1, 2
 
 Command = Callable[[list[str]], int]
-COMMANDS: dict[str, Command] = {
-    "rules": rules_command.list_rules,
-    "explain": rules_command.explain,
-    "offs": offs_command.main,
-    "cover": cover_command.main,
+COMMANDS = {
+    "rules": ("rules_command", "list_rules"),
+    "explain": ("rules_command", "explain"),
+    "offs": ("offs_command", "main"),
+    "cover": ("cover_command", "main"),
 }
+LINT = ("lint_command", "main")
 
 
 class Ended(BaseException):
@@ -48,6 +49,12 @@ def drop_standard_output() -> None:
     os.dup2(os.open(os.devnull, os.O_WRONLY), 1)
 
 
+def load(name: tuple[str, str]) -> Command:
+    """The function of a command. Only the module that is asked for is loaded, so that a run starts soon."""
+    module, function = name
+    return cast(Command, getattr(importlib.import_module(f".{module}", __package__), function))
+
+
 def main(words: list[str]) -> int:
     """Does what the words say, and answers the exit status."""
     for number in (signal.SIGHUP, signal.SIGTERM):
@@ -57,8 +64,8 @@ def main(words: list[str]) -> int:
     elif hasattr(sys.stderr, "reconfigure"):
         sys.stderr.reconfigure(errors="backslashreplace")
     is_command = bool(words) and words[0] in COMMANDS
-    command = COMMANDS[words[0]] if is_command else lint_command.main
     try:
+        command = load(COMMANDS[words[0]] if is_command else LINT)
         return command(words[1:] if is_command else words)
     except (ProgramError, Unreadable) as error:
         complain(error)

@@ -4,17 +4,20 @@ from __future__ import annotations
 
 import argparse
 import sys
+from typing import TYPE_CHECKING
 
 from . import formats
-from .cache import Cache
 from .findings import FileResult, Totals
 from .gather import read_standard_input, scripts
 from .linting import Linter
 from .options import lint_parser
 from .output import write_answer
 from .pool import Progress, map_in_order
-from .program import find_program
+from .program import Program, find_program
 from .wrapping import read_prelude
+
+if TYPE_CHECKING:
+    from .cache import Cache
 
 
 def main(words: list[str]) -> int:
@@ -37,6 +40,14 @@ def main(words: list[str]) -> int:
     return status_of(results, options.max_reports)
 
 
+def make_cache(options: argparse.Namespace, program: Program) -> Cache | None:
+    if not options.cache:
+        return None
+    from .cache import Cache
+
+    return Cache(options.cache_location, program.path)
+
+
 def make_linter(options: argparse.Namespace) -> Linter:
     program = find_program(options.timeout)
     return Linter(
@@ -45,7 +56,7 @@ def make_linter(options: argparse.Namespace) -> Linter:
         options.budget,
         read_prelude(program, options.prelude, options.commonjs),
         options.commonjs,
-        Cache(options.cache_location, program.path) if options.cache else None,
+        make_cache(options, program),
     )
 
 

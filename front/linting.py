@@ -3,17 +3,20 @@
 from __future__ import annotations
 
 from dataclasses import dataclass
+from typing import TYPE_CHECKING
 
 from .answers import Refusal, Report, ReportLine, read_answer
-from .cache import Cache
 from .ends import end_of_run
 from .findings import EndRule, FileResult, Finding, Severity, sentence_of
 from .gather import NotAccepted, Script, Unreadable, read_script
-from .original import MapError, SourceMap, find_map
 from .program import Program, ProgramError
 from .refusals import TRANSPILE, explain
 from .source import Place, part_of_line
 from .wrapping import Prelude, Wrapped
+
+if TYPE_CHECKING:
+    from .cache import Cache
+    from .original import SourceMap
 
 DEFAULT_BUDGET = 1_000_000
 EARLY_STEPS = 20_000
@@ -82,6 +85,10 @@ class Linter:
 
     def map_of(self, path: str, wrapped: Wrapped) -> tuple[SourceMap | None, list[str]]:
         """The source map of a script, and a note where one is named and can't be used."""
+        if "sourceMappingURL=" not in wrapped.source.text:
+            return None, []
+        from .original import MapError, find_map
+
         try:
             return find_map(self.program, wrapped.source.text, path), []
         except MapError as error:

@@ -6,12 +6,10 @@ import contextlib
 import errno
 import os
 import sys
-import tempfile
+import threading
 from typing import Callable, TextIO
 
 Writer = Callable[[TextIO], object]
-MASK = os.umask(0o077)
-os.umask(MASK)
 
 
 def write_whole(path: str, write: Writer) -> None:
@@ -20,24 +18,17 @@ def write_whole(path: str, write: Writer) -> None:
     if os.path.islink(path):
         path = os.path.realpath(path)
         folder = os.path.dirname(path)
-    number, made = tempfile.mkstemp(prefix=f".{os.path.basename(path)[:40]}.", dir=folder)
+    made = os.path.join(folder, f".{os.path.basename(path)[:40]}.{os.getpid()}.{threading.get_ident()}")
     try:
-        with open(number, "w", encoding="utf-8", errors="backslashreplace", newline="\n") as file:
+        with open(made, "x", encoding="utf-8", errors="backslashreplace", newline="\n") as file:
             write(file)
-        os.chmod(made, mode_of(path))
+        if os.path.exists(path):
+            os.chmod(made, os.stat(path).st_mode & 0o777)
         os.replace(made, path)
     except BaseException:
         with contextlib.suppress(OSError):
             os.remove(made)
         raise
-
-
-def mode_of(path: str) -> int:
-    """The permissions of a file that is there, or else those of a new one."""
-    try:
-        return os.stat(path).st_mode & 0o777
-    except OSError:
-        return 0o666 & ~MASK
 
 
 def write_standard(write: Writer) -> None:

@@ -4,7 +4,6 @@ from __future__ import annotations
 
 import os
 import sys
-from concurrent.futures import ThreadPoolExecutor
 from typing import Callable, Iterator, Sequence, TypeVar
 
 from .program import RUNS
@@ -49,6 +48,9 @@ def map_in_order(
                 yield call(item)
                 progress.step()
             return
+        # It takes a while to load, and one job does without it.
+        from concurrent.futures import ThreadPoolExecutor
+
         with ThreadPoolExecutor(min(jobs, len(items))) as pool:
             try:
                 for result in pool.map(call, items):

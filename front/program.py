@@ -2,8 +2,8 @@
 
 from __future__ import annotations
 
+import contextlib
 import os
-import shutil
 import signal
 import subprocess
 import sys
@@ -37,6 +37,10 @@ NO_ANSWER = {
 }
 
 
+PIPE_HOLDS = 4_096
+"""As much may be written into a pipe before anybody reads, on every system."""
+
+
 class ProgramError(Exception):
     """The program can't be run, or gave no answer."""
 
@@ -66,8 +70,7 @@ class Runs:
         with self.lock:
             if self.are_ended:
                 raise ProgramError("interrupted")
-            pipe = subprocess.PIPE
-            process = subprocess.Popen(command, stdin=pipe, stdout=pipe, stderr=pipe)
+            process = subprocess.Popen(command, stdin=subprocess.PIPE, stdout=subprocess.PIPE)
             self.running.add(process)
             return process
 
@@ -100,7 +103,7 @@ class Program:
         except OSError as error:
             raise ProgramError(f"{self.path} can't be run: {error.strerror}") from error
         try:
-            output, errors = process.communicate(script, self.seconds)
+            output = self.converse(process, script)
         except subprocess.TimeoutExpired as error:
             raise ProgramError(f"no answer within {self.seconds:g} seconds (--timeout)") from error
         finally:
@@ -108,18 +111,29 @@ class Program:
                 process.kill()
                 process.communicate()
             RUNS.forget(process)
-        return Answer(self.status_of(process.wait(), errors), output)
+        return Answer(self.status_of(process.wait()), output)
 
-    def status_of(self, number: int, errors: bytes) -> Status:
+    def converse(self, process: subprocess.Popen[bytes], script: bytes) -> bytes:
+        """What the program writes to a script."""
+        if len(script) > PIPE_HOLDS or self.seconds is not None:
+            return process.communicate(script, self.seconds)[0]
+        assert process.stdin is not None and process.stdout is not None
+        # The pipe holds it all, so nothing can wait for anything else.
+        with contextlib.suppress(BrokenPipeError), process.stdin:
+            process.stdin.write(script)
+        with process.stdout:
+            output = process.stdout.read()
+        process.wait()
+        return output
+
+    def status_of(self, number: int) -> Status:
         """The status of a run that gave an answer."""
         if number < 0:
             raise ProgramError(f"the program was killed by {signal_name(-number)}")
         try:
             status = Status(number)
         except ValueError:
-            said = errors.decode("utf-8", "replace").strip().splitlines()
-            why = f": {said[-1]}" if said else ""
-            raise ProgramError(f"{self.path} ended with status {number}{why}") from None
+            raise ProgramError(f"{self.path} ended with status {number}") from None
         if status in NO_ANSWER:
             raise ProgramError(NO_ANSWER[status])
         return status
@@ -139,11 +153,20 @@ def signal_name(number: int) -> str:
         return f"signal {number}"
 
 
+def path_of(name: str) -> str:
+    """The path of a program that is named by a path, or by a word that is looked up as a shell does."""
+    if os.sep in name:
+        return os.path.abspath(name)
+    import shutil
+
+    return shutil.which(name) or name
+
+
 def find_program(seconds: float | None = None) -> Program:
     """The program to run; `./jlint` proves and builds it where that was not done."""
     named = os.environ.get("JLINT")
     if named:
-        return Program(os.path.abspath(named) if os.sep in named else shutil.which(named) or named, seconds)
+        return Program(path_of(named), seconds)
     if os.environ.get("JLINT_UNPROVED"):
         return Program(os.path.join(TOP, "jlint"), seconds)
     builder = os.path.join(TOP, "tools", "program.py")
