@@ -1,7 +1,7 @@
 #!/usr/bin/env python3
 """Runs the tests of edition 5.1 in a checkout of test262 by `jlint run`, and counts them by clause.
 
-usage: tools/test262.py FOLDER [--program PROGRAM] [--only TEXT] [--loose] [--jobs N] [--show N] [--write FILE]
+usage: tools/test262.py FOLDER [--program PROGRAM] [--only TEXT] [--loose] [--jobs N] [--show N] [--write FILE] [--page]
 
 FOLDER is a checkout of any date: of the tests whose head has an `es5id:`, or of those of 2012 with an `@path`. None is
 copied. A test runs with the functions of tools/standard/harness.js that it asks for, in loose code, in strict code or
@@ -13,8 +13,9 @@ or to throw is passed where it is or does. Outcomes are
     due         it fails, and a row of tools/standard/failed.txt says why edition 5.1 asks for that
     FAILED      it fails, and no row says why
 
-Writes the counts by clause, as docs/standard.md has them, the counts of causes, and the tests that failed; with
---write each test and its outcome goes into a file. Ends with status 1 where a test failed without a row.
+Writes the counts by clause, the causes, and the tests that failed; with --page the counts go into docs/standard.md too,
+with the date of the checkout, and with --write each test and its outcome into a file. Ends with status 1 where a test
+failed without a row.
 """
 import argparse
 import collections
@@ -195,7 +196,7 @@ def with_reasons(results):
             found = next((row for row in rows if fnmatch.fnmatch(test.name, row[0])), None)
             if found:
                 used.add(found[0])
-                kind, why = 'due', found[1] + ': ' + found[2]
+                kind, why = 'due', ' | '.join((found[1], found[2], '`%s`' % found[0]))
         kept.append((test, kind, why))
     return kept, [row[0] for row in rows if row[0] not in used]
 
@@ -216,25 +217,51 @@ def clause_of(section):
     return '.'.join(parts[:2] if parts[0] == '15' else parts[:1])
 
 
-def told(results):
-    """The lines with the counts."""
+def counted(results):
+    """A table of outcomes by clause."""
     counts = collections.defaultdict(collections.Counter)
-    causes = collections.Counter()
-    for test, kind, why in results:
+    for test, kind, _ in results:
         counts[clause_of(test.section)][kind] += 1
-        causes.update([why] if kind == 'skipped' else [])
-    yield '| Clause | Passed | Fail rightly | Failed | Skipped |'
-    yield '|---|---|---|---|---|'
-    order = sorted(counts, key=lambda clause: [int(it) for it in clause.split('.') if it])
-    total = collections.Counter()
-    for clause in order:
-        total.update(counts[clause])
-        yield '| %s | %s |' % (clause, ' | '.join(str(counts[clause][k]) for k in KINDS))
-    yield '| all | %s |' % ' | '.join(str(total[k]) for k in KINDS)
-    yield ''
-    yield from ('| %s | %d |' % (name, n) for name, n in causes.most_common())
+        counts['all'][kind] += 1
+    yield from ('| Clause | Passed | Fail rightly | Failed | Skipped |', '|---|---|---|---|---|')
+    order = sorted(counts, key=lambda clause: [int(it) if it.isdigit() else 99 for it in clause.split('.')])
+    yield from ('| %s | %s |' % (clause, ' | '.join(str(counts[clause][k]) for k in KINDS)) for clause in order)
 
 
+def told(results, causes):
+    """The tables of outcomes, of causes, and of tests that fail rightly."""
+    sections = {cause.name: cause.section for cause in causes}
+    yield from counted(results)
+    skipped = collections.Counter(why for _, kind, why in results if kind == 'skipped')
+    yield from ('', '| Skipped for | Section | Tests |', '|---|---|---|')
+    yield from ('| %s | %s | %d |' % (why, sections[why], n) for why, n in skipped.most_common())
+    due = collections.Counter(why for _, kind, why in results if kind == 'due')
+    yield from ('', '| Section | Why a test fails rightly | Tests | How many |', '|---|---|---|---|')
+    yield from ('| %s | %d |' % (why, n) for why, n in sorted(due.items()))
+
+
+def date_of(folder):
+    """The date of a checkout: of its last commit, or as the file GIT-INFO of a copy says."""
+    info = os.path.join(folder, 'GIT-INFO')
+    if os.path.exists(info):
+        with open(info, encoding='utf-8') as file:
+            return re.search(r'Date: +(.*)', file.read()).group(1)
+    run = subprocess.run(['git', '-C', folder, 'log', '-1', '--format=%cD'], stdout=subprocess.PIPE, check=False)
+    return run.stdout.decode().strip() or 'no date'
+
+
+def write_page(folder, lines):
+    """Puts the tables between the two marks in docs/standard.md."""
+    page = os.path.join(TOP, 'docs', 'standard.md')
+    with open(page, encoding='utf-8') as file:
+        before, _, rest = file.read().partition(MARKS[0] + '\n')
+    after = rest.partition(MARKS[1] + '\n')[2]
+    head = 'The checkout is of %s.' % date_of(folder)
+    with open(page, 'w', encoding='utf-8') as file:
+        file.write('\n'.join([before + MARKS[0], head, '', *lines, MARKS[1], after]))
+
+
+MARKS = ('<!-- counts, as tools/test262.py --page writes them -->', '<!-- end of the counts -->')
 KINDS = ('passed', 'due', 'FAILED', 'skipped')
 
 
@@ -258,6 +285,7 @@ def arguments():
     words.add_argument('--jobs', type=int, default=os.cpu_count())
     words.add_argument('--show', type=int, default=40)
     words.add_argument('--write')
+    words.add_argument('--page', action='store_true')
     return words.parse_args()
 
 
@@ -269,7 +297,10 @@ def main():
     with concurrent.futures.ProcessPoolExecutor(words.jobs) as pool:
         results = [it for it in kept(pool.map(outcome, jobs, chunksize=4), words.write) if it]
     results, unused = with_reasons(results)
-    print('\n'.join(told(results)))
+    lines = list(told(results, causes))
+    print('\n'.join(lines))
+    if words.page:
+        write_page(words.folder, lines)
     failed = [(test.name, why) for test, kind, why in results if kind == 'FAILED']
     for name, why in failed[:words.show]:
         print('FAILED', name + ':', why)
