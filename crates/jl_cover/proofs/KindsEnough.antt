@@ -1,20 +1,18 @@
 -- Operations of other kinds change nothing that is missed.
-use Rattle.std.proofs.Common.{◌≡◌, ◌+◌, ◌&&◌, ◌||◌, ℕ, zero, suc, Bool, true, false, List, [], ◌∷◌, ◌++◌, Option, None}
+use Rattle.std.proofs.Common.{◌≡◌, ◌+◌, ◌&&◌, ◌||◌, ℕ, suc, Bool, true, false, List, [], ◌∷◌, ◌++◌}
 use Rattle.std.proofs.Common.{Some}
 use Rattle.std.proofs.Common.{slice_get, refl, sym, ap, ◌∙◌, arith, map}
 use Rattle.std.proofs.lemmas.List.Elements.{All-head, All-tail}
 use Rattle.std.specs.List.{enumerate_from, flat_map, list_any}
-use Rattle.std.specs.Prelude.{All, cond, count_by, filter, fold, if◌then◌else◌, is_none, option_map, slice_index_or}
-use Rattle.jl_text.specs.Places.{LineTable}
+use Rattle.std.specs.Prelude.{All, cond, filter, fold, if◌then◌else◌, is_none, option_map, slice_index_or}
 use Rattle.jl_op.specs.declared.kind.OpKind.{OpKind}
 use Rattle.jl_op.specs.declared.kind.OpKind.TheVariants as kinds
 use Rattle.jl_op.specs.KindSets.{of_kinds}
 use Rattle.jl_op.specs.Kinds.{kind_of}
 use Rattle.jl_op.specs.Map.{MapRow}
 use Rattle.jl_op.specs.Operations.{Operation}
-use Rattle.jl_cover.specs.Coverage.{Lacks, covered_count, gap_after, gap_of, gaps_of, has_id, in_order, is_covered}
-use Rattle.jl_cover.specs.Coverage.{is_false, is_kind, is_true, missed_at, missed_in, numbered, placed, row_count}
-use Rattle.jl_cover.specs.Coverage.{totals_in}
+use Rattle.jl_cover.specs.Coverage.{covered_count, gap_after, gaps_of, has_id, in_order, is_covered}
+use Rattle.jl_cover.specs.Coverage.{is_false, is_kind, is_true, missed_at, numbered, placed, row_count}
 use Rattle.jl_cover.specs.Coverage.{condition_gap, function_gap, was_false, was_reached, was_true}
 use Rattle.jl_cover.specs.Laws.{HasRowOfKind, KindsAreEnough}
 

@@ -1,23 +1,23 @@
 -- How births are counted, one after another.
 use Rattle.std.proofs.Common.{◌≡◌, ℕ, zero, suc, ◌+◌, ◌≤◌, ◌<◌, ◌&&◌, Bool, true, false, not, List, [], ◌∷◌, ◌++◌}
 use Rattle.std.proofs.Common.{length}
-use Rattle.std.proofs.Common.{Option, None, Some, All, add-one, ap, arith, get_or, length-take, map, refl, slice_get}
+use Rattle.std.proofs.Common.{Option, None, Some, All, add-one, ap, arith, get_or, map, refl, slice_get}
 use Rattle.std.proofs.Common.{sym}
 use Rattle.std.proofs.Common.{take, ◌∙◌}
 use Rattle.std.proofs.Math.Seq.{take-suc}
 use Rattle.std.proofs.lemmas.List.{map-append}
 use Rattle.std.proofs.lemmas.List.Elements.{All-head, All-tail}
-use Rattle.std.proofs.lemmas.List.Sums.{count_by-le-length, fold-append}
+use Rattle.std.proofs.lemmas.List.Sums.{fold-append}
 use Rattle.std.proofs.lemmas.Map.Entries.{btree_map_get_place, sum_by-insert_entry}
-use Rattle.std.specs.BTreeMap.{BTreeMap, IsOrdered, get, insert_entry, keys, values}
+use Rattle.std.specs.BTreeMap.{BTreeMap, IsOrdered, get, insert_entry, values}
 use Rattle.std.specs.BTreeSet.{insert_key}
 use Rattle.std.specs.Int.{from_bool}
-use Rattle.std.specs.Map.{keys_of, lookup, values_of}
+use Rattle.std.specs.Map.{keys_of, values_of}
 use Rattle.std.specs.Ordering.{is_eq, match_ordering}
 use Rattle.std.specs.Prelude.{cond, fold, option_map, slice_index_or, sum_by, unwrap_or}
 use Rattle.std.specs.declared.cmp.Ordering.{Ordering}
 use Rattle.std.specs.declared.cmp.Ordering.TheVariants.{Less, Equal, Greater}
-use Rattle.jl_profile.specs.Births.{Key, all_made, all_unused, by_place, has_key, row_of, rows_of, sorted_keys}
+use Rattle.jl_profile.specs.Births.{Key, all_made, all_unused, by_place, has_key, row_of, sorted_keys}
 use Rattle.jl_profile.specs.declared.births.Births.{Births}
 use Rattle.jl_profile.specs.declared.rows.Count.{Count}
 use Rattle.jl_profile.specs.inner.Rows.{count_at, listed, no_births}

@@ -7,11 +7,10 @@ use Rattle.std.specs.Prelude.{filter, nat_eq, option_map}
 use Rattle.jl_op.specs.declared.kind.OpKind.{OpKind}
 use Rattle.jl_op.specs.declared.op.Op.{Op}
 use Rattle.jl_op.specs.declared.op.Op.TheVariants as ops
-use Rattle.jl_op.specs.KindSets.{of_kinds}
 use Rattle.jl_op.specs.Kinds.{kind_of}
 use Rattle.jl_op.specs.Operations.{Operation}
-use Rattle.jl_profile.specs.Births.{Made, begins_new, births_after, births_among, born_at, born_of, is_born}
-use Rattle.jl_profile.specs.Births.{is_made_after, is_profiled, is_the, is_used, keyed_births, made_after, made_by}
+use Rattle.jl_profile.specs.Births.{Made, begins_new, births_after, born_at, born_of}
+use Rattle.jl_profile.specs.Births.{is_made_after, is_profiled, is_the, keyed_births, made_after, made_by}
 use Rattle.jl_profile.specs.Births.{makes, new_began, new_ends, rows_of, used_after, used_by, uses}
 use Rattle.jl_profile.specs.Laws.{KindsAreEnough}
 

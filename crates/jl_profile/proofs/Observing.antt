@@ -1,7 +1,7 @@
 -- What a profile knows after one more operation.
 use Rattle.std.proofs.Common.{◌≡◌, ◌&&◌, ◌||◌, ℕ, zero, suc, Bool, true, false, List, [], ◌∷◌, ◌++◌, Option, None, Some}
 use Rattle.std.proofs.Common.{refl, sym, ap, ◌∙◌, nat_eq, if◌then◌else◌, is_some}
-use Rattle.std.proofs.Math.Bool.{or_assoc, or-false}
+use Rattle.std.proofs.Math.Bool.{or-false}
 use Rattle.std.proofs.lemmas.Bool.{eqb-true}
 use Rattle.std.proofs.lemmas.List.Folds.{list_any-append}
 use Rattle.std.specs.Map.{lookup}
@@ -9,8 +9,8 @@ use Rattle.std.specs.Prelude.{cond, option_map}
 use Rattle.jl_op.specs.declared.op.Op.{Op}
 use Rattle.jl_op.specs.declared.op.OpId.{OpId}
 use Rattle.jl_op.specs.Operations.{Operation}
-use Rattle.jl_profile.specs.Births.{Born, Made, begins_new, births_among, born_at, born_of, is_born, is_the, is_used}
-use Rattle.jl_profile.specs.Births.{made_after, made_by, makes, new_began, new_ends, used_by}
+use Rattle.jl_profile.specs.Births.{Born, Made, begins_new, births_among, born_of, is_born, is_the}
+use Rattle.jl_profile.specs.Births.{made_after, made_by, new_began, new_ends, used_by}
 use Rattle.jl_profile.specs.declared.profile.Birth.{Birth}
 use Rattle.jl_profile.specs.inner.Observed.{IsProfileOf, borne, new_ends_by}
 use Rattle.jl_profile.proofs.Pushing.{births_among-push, is_born-push, is_used-push}

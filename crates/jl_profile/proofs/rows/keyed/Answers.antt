@@ -2,7 +2,7 @@ use Rattle.std.proofs.Common.{◌∙◌, ◌∷◌, [], ap, map, sym}
 use Rattle.std.proofs.lemmas.List.{map-append}
 use Rattle.std.specs.Map.Iter.{deref_pair}
 use Rattle.jl_profile.specs.Births.{keyed_births}
-use Rattle.jl_profile.proofs.Keyed.{with_place, without_place}
+use Rattle.jl_profile.proofs.Keyed.{with_place}
 use Rattle.jl_profile.proofs.rows.keyed.Goals as goal
 
 pub loop-object-preserved-in-Continue-1 : goal.loop-object-preserved-in-Continue-1

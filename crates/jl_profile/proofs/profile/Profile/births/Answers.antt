@@ -1,4 +1,4 @@
-use Rattle.std.proofs.Common.{◌≡◌, ◌∙◌, ap, map, sym, nat_eq}
+use Rattle.std.proofs.Common.{◌∙◌, ap, map, nat_eq}
 use Rattle.std.proofs.lemmas.Result.{IfOk-weaker}
 use Rattle.indexmap.specs.IndexSet.{contains}
 use Rattle.jl_profile.specs.Births.{keyed_births, row_of, rows_of}
