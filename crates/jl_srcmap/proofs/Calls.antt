@@ -1,5 +1,5 @@
 -- Calls of hooks, one token after the other, and that their lines don't fall.
-use Rattle.std.proofs.Common.{◌≡◌, ℕ, zero, suc, ◌+◌, ◌-◌, ◌<◌, ◌≤◌, List, [], ◌∷◌, ◌++◌, Bool, true, false, cond}
+use Rattle.std.proofs.Common.{◌≡◌, ℕ, suc, ◌+◌, ◌-◌, ◌<◌, ◌≤◌, List, [], ◌∷◌, ◌++◌, Bool, true, false, cond}
 use Rattle.std.proofs.Common.{length}
 use Rattle.std.proofs.Common.{drop, get_or, map, Option, Some, None, ap, sym, subst, refl, ◌∙◌, arith, append_assoc}
 use Rattle.std.specs.Prelude.{nat_le}
@@ -7,13 +7,11 @@ use Rattle.std.proofs.Math.Seq.{drop-cons}
 use Rattle.std.proofs.lemmas.Bool.Decides.{nat_tests}
 use Rattle.std.proofs.lemmas.List.{append-nil, drop_all}
 use Rattle.std.proofs.lemmas.List.Sums.{sum_by-cons}
-use Rattle.std.proofs.lemmas.List.Elements.{All-head, All-tail}
-use Rattle.jl_op.specs.Map.{HasRow, MapRow}
-use Rattle.jl_op.specs.declared.op.OpId.{OpId}
+use Rattle.jl_op.specs.Map.{MapRow}
 use Rattle.jl_text.specs.Places.{LineTable, line_at}
 use Rattle.jl_token.specs.Tokens.{InOrder}
 use Rattle.jl_token.specs.declared.token.Token.{Token}
-use Rattle.jl_srcmap.specs.Hooks.{HaveRows, HookCall, call_segment, hook_calls, hook_number, segments_of, with_call}
+use Rattle.jl_srcmap.specs.Hooks.{call_segment, hook_calls, hook_number, segments_of, with_call}
 use Rattle.jl_srcmap.specs.Segments.{AreInOrder}
 use Rattle.jl_srcmap.specs.declared.segment.Segment.{Segment}
 
@@ -47,37 +45,6 @@ rest_at ts at d l =
     let next : suc at ≡ at + 1 = omega arith in
     drop-cons ts at d l ∙ ap (λ n. get_or ts at d ∷ drop n ts) next
 
-later_rows : (rows : List MapRow) (t : Token) (ts : List Token) → HaveRows rows (hook_calls (t ∷ ts))
-    → HaveRows rows (hook_calls ts)
-later_rows rows t ts h = by (hook_number (t ∷ ts)) h where
-  by : (o : Option ℕ) → HaveRows rows (with_call t.span.from o (hook_calls ts)) → HaveRows rows (hook_calls ts)
-  by None h = h
-  by (Some n) h =
-      All-tail (λ call. HasRow rows call.id) (record { at = t.span.from; id = record { 0 = n } }) (hook_calls ts) h
-
-rows_from : (rows : List MapRow) (ts : List Token) (at : ℕ) → HaveRows rows (hook_calls ts)
-    → HaveRows rows (hook_calls (drop at ts))
-rows_from rows ts zero h = h
-rows_from rows [] (suc at) h = h
-rows_from rows (t ∷ ts) (suc at) h = rows_from rows ts at (later_rows rows t ts h)
-
-row_of_call : (rows : List MapRow) (ts : List Token) (at n : ℕ) (d : Token) → at < length ts
-    → HaveRows rows (hook_calls ts) → Some n ≡ hook_number (drop at ts) → (1 ≤ n) × (n ≤ length rows)
-row_of_call rows ts at n d l h f =
-    let rest = rest_at ts at d l in
-    let call : HookCall = record { at = (get_or ts at d).span.from; id = record { 0 = n } } in
-    let calls = subst (λ us. HaveRows rows (hook_calls us)) rest (rows_from rows ts at h) in
-    let one = f ∙ ap hook_number rest in
-    let all =
-    subst (λ o. HaveRows rows (with_call (get_or ts at d).span.from o (hook_calls (drop (at + 1) ts)))) (sym one)
-    calls in
-    All-head (λ call. HasRow rows call.id) call (hook_calls (drop (at + 1) ts)) all
-
-pub row_of_number : (rows : List MapRow) (ts : List Token) (at n : ℕ) → at < length ts → HaveRows rows (hook_calls ts)
-    → Some n ≡ hook_number (drop at ts) → (1 ≤ n) × (n ≤ length rows)
-row_of_number rows [] at n l h f = absurd (omega arith)
-row_of_number rows (t ∷ ts) at n l h f = row_of_call rows (t ∷ ts) at n t l h f
-
 no_call : (woven : LineTable) (rows : List MapRow) (lines : LineTable) (ts : List Token) (at : ℕ) (d : Token)
     → at < length ts → None ≡ hook_number (drop at ts)
     → segments_of woven rows lines (drop at ts) ≡ segments_of woven rows lines (drop (at + 1) ts)
@@ -91,7 +58,7 @@ no_call woven rows lines ts at d l f =
 one_call : (woven : LineTable) (rows : List MapRow) (lines : LineTable) (ts : List Token) (at n : ℕ) (d : Token)
     → at < length ts → Some n ≡ hook_number (drop at ts)
     → segments_of woven rows lines (drop at ts)
-    ≡ call_segment woven rows lines (record { at = (get_or ts at d).span.from; id = record { 0 = n } })
+    ≡ call_segment woven rows lines (record { at = (get_or ts at d).span.from; number = n })
     ∷ segments_of woven rows lines (drop (at + 1) ts)
 one_call woven rows lines ts at n d l f =
     let rest = rest_at ts at d l in
@@ -103,15 +70,14 @@ one_call woven rows lines ts at n d l f =
 -- ---- the loop
 
 pub call_added : (woven : LineTable) (rows : List MapRow) (lines : LineTable) (ts : List Token) (at n : ℕ) (d : Token)
-    (id : OpId) (made new : List Segment) (s : Segment) → at < length ts → Some n ≡ hook_number (drop at ts) → id.0 ≡ n
-    → s ≡ call_segment woven rows lines (record { at = (get_or ts at d).span.from; id = id }) → new ≡ made ++ s ∷ []
+    (made new : List Segment) (s : Segment) → at < length ts → Some n ≡ hook_number (drop at ts)
+    → s ≡ call_segment woven rows lines (record { at = (get_or ts at d).span.from; number = n }) → new ≡ made ++ s ∷ []
     → new ++ segments_of woven rows lines (drop (at + 1) ts) ≡ made ++ segments_of woven rows lines (drop at ts)
-call_added woven rows lines ts at n d id made new s l f same is added =
+call_added woven rows lines ts at n d made new s l f is added =
     let rest = segments_of woven rows lines (drop (at + 1) ts) in
     ap (λ ss. ss ++ rest) added
     ∙ append_assoc made (s ∷ []) rest
-    ∙ ap (λ x. made ++ x ∷ rest) (is ∙ ap (λ m. call_segment woven rows lines (record
-    { at = (get_or ts at d).span.from; id = record { 0 = m } })) same)
+    ∙ ap (λ x. made ++ x ∷ rest) is
     ∙ ap (λ ss. made ++ ss) (sym (one_call woven rows lines ts at n d l f))
 
 pub call_absent : (woven : LineTable) (rows : List MapRow) (lines : LineTable) (ts : List Token) (at : ℕ)

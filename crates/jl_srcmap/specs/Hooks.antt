@@ -1,9 +1,8 @@
 -- Where the hooks of a rewritten script stand, and where that stands in the script which they tell of.
-use Rattle.std.specs.Prelude.{ℕ, ◌-◌, ◌&&◌, pos, Bool, true, false, List, [], ◌∷◌, All, map, codes, slice_get, Option}
+use Rattle.std.specs.Prelude.{ℕ, ◌-◌, ◌&&◌, pos, Bool, true, false, List, [], ◌∷◌, map, codes, slice_get, Option}
 use Rattle.std.specs.Prelude.{Some, None, if◌then◌else◌}
 use Rattle.std.specs.Str.{bytes_eq}
-use Rattle.jl_op.specs.Map.{MapRow, HasRow}
-use Rattle.jl_op.specs.declared.op.OpId.{OpId}
+use Rattle.jl_op.specs.Map.{MapRow}
 use Rattle.jl_text.specs.Places.{LineTable, line_col}
 use Rattle.jl_token.specs.declared.punct.Punct.TheVariants as puncts
 use Rattle.jl_token.specs.declared.token.Token.{Token}
@@ -39,38 +38,34 @@ hook_number (a ∷ b ∷ c ∷ d ∷ e ∷ ts) =
     if is_hooks_name a.kind && (is_dot b.kind && (is_name c.kind && is_open d.kind)) then number_in e.kind else None
 hook_number _ = None
 
--- the call of a hook: the place at which it begins, and the id of the operation that it tells of
+-- the call of a hook: the place at which it begins, and its number
 pub record HookCall : Type 0 where
   pub at : ℕ
-  pub id : OpId
+  pub number : ℕ
 
 abbrev pub with_call : ℕ → Option ℕ → List HookCall → List HookCall
 with_call at None calls = calls
-with_call at (Some n) calls = record { at = at; id = record { 0 = n } } ∷ calls
+with_call at (Some n) calls = record { at = at; number = n } ∷ calls
 
 -- the calls of hooks among these tokens, in order
 abbrev pub hook_calls : List Token → List HookCall
 hook_calls [] = []
 hook_calls (t ∷ ts) = with_call t.span.from (hook_number (t ∷ ts)) (hook_calls ts)
 
--- each tells of an operation of the map
-abbrev pub HaveRows : List MapRow → List HookCall → Type 0
-HaveRows rows calls = All (λ call. HasRow rows call.id) calls
-
--- where the part of the script begins that does an operation
+-- where the part of the script begins that does the operation with this number, and 0 where there is none
 abbrev pub row_begin : Option MapRow → ℕ
 row_begin None = 0
 row_begin (Some row) = row.1.from
 
-abbrev pub begin_of : List MapRow → OpId → ℕ
-begin_of rows id = row_begin (slice_get rows (id.0 - 1))
+abbrev pub begin_of : List MapRow → ℕ → ℕ
+begin_of rows number = row_begin (slice_get rows (number - 1))
 
 -- the segment of a call: its line and its column in the rewritten script, and those in the script, which is the only
 -- source, of the part that does the operation
 abbrev pub call_segment : (woven : LineTable) → List MapRow → (lines : LineTable) → HookCall → Segment
 call_segment woven rows lines call =
     let generated = line_col woven call.at in
-    let original = line_col lines (begin_of rows call.id) in
+    let original = line_col lines (begin_of rows call.number) in
     record {
       line = generated.0 - 1;
       column = generated.1 - 1;

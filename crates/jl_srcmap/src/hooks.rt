@@ -1,8 +1,8 @@
 //! The segments of a rewritten script.
 ghost use Rattle.std.specs.Prelude.{◌≡◌, ◌<◌, ◌≤◌, ℕ, ◌+◌, ◌++◌, All, IfOk, OnOk, drop, length};
-ghost use Rattle.jl_op.specs.Map.{BeginsIn, HasRow};
+ghost use Rattle.jl_op.specs.Map.{BeginsIn};
 ghost use Rattle.jl_token.specs.Tokens.{InOrder};
-ghost use Rattle.jl_srcmap.specs.Hooks.{HaveRows, call_segment, hook_calls, hook_number, is_dot, is_hooks_name};
+ghost use Rattle.jl_srcmap.specs.Hooks.{begin_of, call_segment, hook_calls, hook_number, is_dot, is_hooks_name};
 ghost use Rattle.jl_srcmap.specs.Hooks.{is_name};
 ghost use Rattle.jl_srcmap.specs.Hooks.{is_open, number_in, segments_of};
 ghost use Rattle.jl_srcmap.specs.Segments.{AreInOrder};
@@ -16,7 +16,8 @@ use std::alloc::{AllocError, Global};
 /// A segment for each call of a hook among the tokens of a rewritten script, in order: from the place of its `J$` to
 /// the place at which the part of the script begins that does the operation with the hook's number. `woven` are the
 /// lines of the rewritten script, and `lines` those of the script. One pass over the tokens; a place is looked up in a
-/// number of steps in the order of the logarithm of the number of lines.
+/// number of steps in the order of the logarithm of the number of lines. A number that no row of the map has is told as
+/// the beginning of the script.
 pub fn origins(
     alloc: Global,
     tokens: &[Token],
@@ -26,7 +27,6 @@ pub fn origins(
 ) -> Result<Vec<Segment>, AllocError>
     requires tokens { All (λ t. t.span.from ≤ woven.now.end) tokens.now }
     requires rows { All (BeginsIn lines.now) map.now }
-    requires ids { HaveRows map.now (hook_calls tokens.now) }
     ensures are { IfOk result (λ ss. ss.items ≡ segments_of woven.now map.now lines.now tokens.now) }
     ensures in_order { (i j : ℕ) → InOrder i j tokens.now → IfOk result (λ ss. AreInOrder 0 ss.items) }
 {
@@ -49,7 +49,6 @@ fn add_call(
     requires at { at < length tokens.now }
     requires tokens { All (λ t. t.span.from ≤ woven.now.end) tokens.now }
     requires rows { All (BeginsIn lines.now) map.now }
-    requires ids { HaveRows map.now (hook_calls tokens.now) }
     ensures { OnOk result
         (segments.new.items ++ segments_of woven.now map.now lines.now (drop (at + 1) tokens.now)
         ≡ segments.old.items ++ segments_of woven.now map.now lines.now (drop at tokens.now)) }
@@ -57,29 +56,19 @@ fn add_call(
     let Some(number) = hook_number(tokens, at) else {
         return Ok(());
     };
-    let id = id_of(map, number);
     let place = tokens[at].span.from;
-    segments.push(call_segment(place, id, woven, map, lines))?;
+    segments.push(call_segment(place, number, woven, map, lines))?;
     Ok(())
 }
 
-/// The id with a number that a row of the map has.
-fn id_of(map: &OpMap, number: u64) -> OpId
-    requires { number ≤ length map.now }
-    ensures { result.0 ≡ number }
-{
-    OpId(number.min(u64::from(map.len())) as u32)
-}
-
-/// The segment of a call that begins at a place of the rewritten script, of the hook of an operation.
-fn call_segment(at: u32, id: OpId, woven: &Lines, map: &OpMap, lines: &Lines) -> Segment
-    requires place { at ≤ woven.now.end }
+/// The segment of a call that begins at a place of the rewritten script, of the hook with a number.
+fn call_segment(place: u32, number: u64, woven: &Lines, map: &OpMap, lines: &Lines) -> Segment
+    requires place { place ≤ woven.now.end }
     requires rows { All (BeginsIn lines.now) map.now }
-    requires row { HasRow map.now id }
-    ensures { result ≡ call_segment woven.now map.now lines.now (record { at = at; id = id }) }
+    ensures { result ≡ call_segment woven.now map.now lines.now (record { at = place; number = number }) }
 {
-    let (line, column) = woven.line_col(at);
-    let (original_line, original_column) = lines.line_col(map.place_of(id).from);
+    let (line, column) = woven.line_col(place);
+    let (original_line, original_column) = lines.line_col(begin_of(map, lines, number));
     Segment {
         line: line.saturating_sub(1),
         column: column.saturating_sub(1),
@@ -89,6 +78,20 @@ fn call_segment(at: u32, id: OpId, woven: &Lines, map: &OpMap, lines: &Lines) ->
             column: original_column.saturating_sub(1),
             name: None,
         }),
+    }
+}
+
+/// Where the part of the script begins that does the operation with a number, and 0 where there is none.
+fn begin_of(map: &OpMap, lines: &Lines, number: u64) -> u32
+    requires { All (BeginsIn lines.now) map.now }
+    ensures value { result ≡ begin_of map.now number }
+    ensures within { result ≤ lines.now.end }
+{
+    let index = number.saturating_sub(1);
+    if index < u64::from(map.len()) {
+        map.place_of(OpId(index as u32 + 1)).from
+    } else {
+        0
     }
 }
 
