@@ -1,5 +1,5 @@
 #!/usr/bin/env python3
-"""Answers each row of examples/rows.txt by the program, and compares.
+"""Answers each row of examples/rows.txt and examples/standard.txt by the program, and compares.
 
 usage: tools/rows.py [PROGRAM]      PROGRAM is ./jlint at the top where none is given
 
@@ -21,6 +21,7 @@ import subprocess
 import sys
 
 TOP = os.path.dirname(os.path.dirname(os.path.abspath(__file__)))
+FILES = ['rows.txt', 'standard.txt']
 COMMANDS = ['check', 'print', 'instrument', 'map', 'run', 'lint', 'trace']
 ESCAPE = re.compile(rb'\\(?:x([0-9A-Fa-f]{2})|\{(\d+)\*([^}]*)\}|(.))', re.S)
 SINGLE = {b'n': b'\n', b'r': b'\r', b's': b' ', b'e': b'', b'\\': b'\\'}
@@ -66,22 +67,28 @@ def given(program, call, rest):
     return answer(program, [call], script)
 
 
+def lines():
+    """The lines of the files of rows."""
+    for name in FILES:
+        with open(os.path.join(TOP, 'examples', name), encoding='utf-8') as file:
+            yield from file
+
+
 def main():
     program = sys.argv[1] if len(sys.argv) > 1 else os.path.join(TOP, 'jlint')
     rows, differ = 0, 0
-    with open(os.path.join(TOP, 'examples', 'rows.txt'), encoding='utf-8') as lines:
-        for line in lines:
-            row, arrow, due = line.rstrip('\n').partition(' => ')
-            if not arrow:
-                continue
-            call, _, rest = row.partition('] ' if row.startswith('[') else ' ')
-            call += ']' if row.startswith('[') else ''
-            status, _, text = due.partition(' ')
-            rows += 1
-            told = given(program, call, rest)
-            if told != (int(status), unescape(text)):
-                differ += 1
-                print(f'{row} => {told}, where {due} is due')
+    for line in lines():
+        row, arrow, due = line.rstrip('\n').partition(' => ')
+        if not arrow:
+            continue
+        call, _, rest = row.partition('] ' if row.startswith('[') else ' ')
+        call += ']' if row.startswith('[') else ''
+        status, _, text = due.partition(' ')
+        rows += 1
+        told = given(program, call, rest)
+        if told != (int(status), unescape(text)):
+            differ += 1
+            print(f'{row} => {told}, where {due} is due')
     print(f'{rows - differ} of {rows} rows are answered as due')
     return 1 if differ else 0
 

@@ -24,12 +24,12 @@ use crate::report::{report, text};
 use crate::status::Status;
 use jl_analysis::{Crowd, Findings, RuleSet, needs};
 use jl_ast::Program;
+use jl_hook_bound::laws::hooks_take_steps;
 use jl_machine::{Run, run};
 use jl_map::map_of;
 use jl_op::Observer;
 use jl_port::Shelf;
 use jl_report::Line;
-use jl_hook_bound::laws::hooks_take_steps;
 use jl_value::Outcome;
 use std::alloc::{AllocError, Global};
 

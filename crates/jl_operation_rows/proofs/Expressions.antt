@@ -20,12 +20,16 @@ use Rattle.jl_meaning.specs.forms.HookCalls.{count, form_of, form_of_member}
 use Rattle.jl_meaning.specs.forms.Hooks.{Arguments}
 use Rattle.jl_meaning.specs.forms.Literals.{accessor_change, new_array, new_plain_object, put_element}
 use Rattle.jl_operation_rows.proofs.Forms.{array_told, assign_told, boolean_told, call_member_told, call_value_told}
-use Rattle.jl_operation_rows.proofs.Forms.{compute_member_told, compute_told, decide_told, delete_told, deletion_told, entry_told}
-use Rattle.jl_operation_rows.proofs.Forms.{function_told, invoke_told, null_told, number_told, object_told, operate_on_told}
-use Rattle.jl_operation_rows.proofs.Forms.{operate_told, put_member_told, read_member_told, read_told, string_told, typeof_told}
+use Rattle.jl_operation_rows.proofs.Forms.{compute_member_told, compute_told, decide_told, delete_told, deletion_told}
+use Rattle.jl_operation_rows.proofs.Forms.{entry_told}
+use Rattle.jl_operation_rows.proofs.Forms.{function_told, invoke_told, null_told, number_told, object_told}
+use Rattle.jl_operation_rows.proofs.Forms.{operate_on_told}
+use Rattle.jl_operation_rows.proofs.Forms.{operate_told, put_member_told, read_member_told, read_told, string_told}
+use Rattle.jl_operation_rows.proofs.Forms.{typeof_told}
 use Rattle.jl_operation_rows.proofs.Forms.{update_expression_told, update_name_told}
 use Rattle.jl_operation_rows.proofs.Hooks.{by_form, of_call}
-use Rattle.jl_operation_rows.proofs.Relation.{algorithm, bind, by_id, lift_then, ok, pick, step_told, AllRows, Rows, Told}
+use Rattle.jl_operation_rows.proofs.Relation.{algorithm, bind, by_id, lift_then, ok, pick, step_told, AllRows, Rows}
+use Rattle.jl_operation_rows.proofs.Relation.{Told}
 use Rattle.jl_operation_rows.proofs.Splitting.{callee_rows, of, of_all, split}
 use Rattle.jl_effects.proofs.Tells.{Each}
 

@@ -19,7 +19,8 @@ use Rattle.jl_meaning.specs.builtins.Function.{names_of}
 use Rattle.jl_meaning.specs.builtins.Table.{builtin}
 use Rattle.jl_meaning.specs.forms.Functions.{begin_script, call_script, enter_function, new_instance}
 use Rattle.jl_meaning.specs.forms.Functions.{result_of, run_body, run_function, this_within}
-use Rattle.jl_operation_rows.proofs.Relation.{algorithm, bind, ended, fails, in_a_row, lift_then, look_told, ok, perform_told}
+use Rattle.jl_operation_rows.proofs.Relation.{algorithm, bind, ended, fails, in_a_row, lift_then, look_told, ok}
+use Rattle.jl_operation_rows.proofs.Relation.{perform_told}
 use Rattle.jl_operation_rows.proofs.Relation.{pick, IsGood, Rows, Told}
 use Rattle.jl_operation_rows.proofs.Splitting.{of_all, split}
 use Rattle.jl_operation_rows.proofs.Statements.{execute_all_told, turn_told}

@@ -15,7 +15,8 @@ use Rattle.jl_meaning.specs.forms.Jumps.{return_value, throw_value}
 use Rattle.jl_meaning.specs.forms.Loops.{after_body, begin_loop, visit_all, visit_first, visit_next, visits_left}
 use Rattle.jl_meaning.specs.forms.Loops.{visits_of}
 use Rattle.jl_meaning.specs.forms.Try.{begin_catch}
-use Rattle.jl_operation_rows.proofs.Relation.{algorithm, ended, look_told, perform_told, pick, turn_begins, value_then, AllRows}
+use Rattle.jl_operation_rows.proofs.Relation.{algorithm, ended, look_told, perform_told, pick, turn_begins, value_then}
+use Rattle.jl_operation_rows.proofs.Relation.{AllRows}
 use Rattle.jl_operation_rows.proofs.Relation.{LoopRows, Told}
 
 module _ {IsRow : MapEntry ℕ → Type 0} where

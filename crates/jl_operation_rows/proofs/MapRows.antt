@@ -1,5 +1,6 @@
 -- The ids of what a program performs name rows of its map, of the same kinds.
-use Rattle.std.proofs.Common.{◌≡◌, ℕ, zero, suc, ◌+◌, List, [], ◌∷◌, Bool, true, false, Option, Some, None, All, Contains, ◌<◌}
+use Rattle.std.proofs.Common.{◌≡◌, ℕ, zero, suc, ◌+◌, List, [], ◌∷◌, Bool, true, false, Option, Some, None, All}
+use Rattle.std.proofs.Common.{Contains, ◌<◌}
 use Rattle.std.proofs.Common.{length, option_map, slice_get, slice_index_or, filter, refl, sym, ap, ◌∙◌, subst, arith}
 use Rattle.std.specs.Prelude.{if◌then◌else◌}
 use Rattle.std.specs.List.{range_with_len}
@@ -22,7 +23,7 @@ use Rattle.jl_operation_rows.proofs.Relation.{IsOwn}
 use Rattle.jl_effects.proofs.Tells.{each_left, Each}
 
 -- LISTS
-each_from : {X : Type 0} (l : List X) (holds : X → Type 0)
+pub each_from : {X : Type 0} (l : List X) (holds : X → Type 0)
     → ((k : ℕ) (x : X) → slice_get l k ≡ Some x → holds x) → Each holds l
 each_from [] holds f = tt
 each_from (x ∷ l) holds f = (f 0 x refl, each_from l holds (λ k y is. f (suc k) y is))
@@ -79,24 +80,24 @@ module _ {S : Type 0} (p : Program S) where
   abbrev IsRow : MapEntry ℕ → Type 0
   IsRow e = (k : ℕ) × (slice_get numbered k ≡ Some e)
 
+  -- its number is that of the row
+  pub id_at : (k : ℕ) (e : MapEntry ℕ) → slice_get numbered k ≡ Some e → e.1 ≡ k + 1
+  id_at k e is =
+      let number : slice_get (ids_in numbered) k ≡ Some e.1 =
+      slice_get-map (λ (e : MapEntry ℕ). e.1) numbered k ∙ ap (option_map (λ (e : MapEntry ℕ). e.1)) is in
+      range_at 1 (length (id_map p)) k e.1 (ap (λ l. slice_get l k) (sym (program_ids p)) ∙ number)
+
   has_row : (o : Operation) → IsRow (kind_of o.1, o.0.0) → HasRow p o
   has_row o h =
       let k : ℕ = h.0 in
       let kind = kind_of o.1 in
-      let number : slice_get (ids_in numbered) k ≡ Some o.0.0 =
-      slice_get-map (λ (e : MapEntry ℕ). e.1) numbered k ∙ ap (option_map (λ (e : MapEntry ℕ). e.1)) h.1 in
       let named : slice_get (kinds_in numbered) k ≡ Some kind =
       slice_get-map (λ (e : MapEntry ℕ). e.0) numbered k ∙ ap (option_map (λ (e : MapEntry ℕ). e.0)) h.1 in
       let there : slice_get (kinds_in (id_map p)) k ≡ Some kind =
       ap (λ l. slice_get l k) (sym (program_kinds p)) ∙ named in
       let row = row_of kind (slice_get (id_map p) k)
       (sym (slice_get-map (λ (e : MapEntry S). e.0) (id_map p) k) ∙ there) in
-      record {
-        before = k;
-        place = row.0;
-        id = range_at 1 (length (id_map p)) k o.0.0 (ap (λ l. slice_get l k) (sym (program_ids p)) ∙ number);
-        row = row.1;
-      }
+      record { before = k; place = row.0; id = id_at k (kind, o.0.0) h.1; row = row.1 }
 
   pub operations_have_rows : (chosen : Kinds) (n : ℕ) → Each (HasRow p) (state_of (mean chosen p n)).operations
   operations_have_rows chosen n =

@@ -15,7 +15,8 @@ use Rattle.jl_meaning.specs.Jobs.{job}
 use Rattle.jl_meaning.specs.Mean.{end_of, global_context, language, run_of, script}
 use Rattle.jl_meaning.specs.Realm.{realm}
 use Rattle.jl_operation_rows.proofs.Functions.{code_told, job_told}
-use Rattle.jl_operation_rows.proofs.Relation.{algorithm, by_id, ended, fails, id_at, in_a_row, perform_told, sequence, value_then}
+use Rattle.jl_operation_rows.proofs.Relation.{algorithm, by_id, ended, fails, id_at, in_a_row, perform_told, sequence}
+use Rattle.jl_operation_rows.proofs.Relation.{value_then}
 use Rattle.jl_operation_rows.proofs.Relation.{IsGood, IsOwn, Told}
 use Rattle.jl_operation_rows.proofs.Tables.{functions, AllOwned}
 use Rattle.jl_effects.proofs.Tells.{run_tells, Each}
@@ -51,7 +52,8 @@ same_id s zero = omega arith
 same_id s (suc i) = refl
 
 same_saying : by_id ≡ id_of
-same_saying = ap (λ (f : ℕ → ℕ → ℕ). record { of_node = f; of_test = λ s e. s }) (fun_ext (λ s. fun_ext (λ i. same_id s i)))
+same_saying =
+    ap (λ (f : ℕ → ℕ → ℕ). record { of_node = f; of_test = λ s e. s }) (fun_ext (λ s. fun_ext (λ i. same_id s i)))
 
 pub same_entries : (p : Program ℕ) → program_entries by_id p ≡ operation_ids p
 same_entries p = ap (λ (say : Saying ℕ ℕ). program_entries say p) same_saying

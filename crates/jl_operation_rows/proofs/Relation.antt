@@ -52,105 +52,123 @@ module _ (IsRow : MapEntry ℕ → Type 0) where
   abbrev pub IsOwn : Operation → Type 0
   IsOwn o = IsRow (kind_of o.1, o.0.0)
 
-  abbrev pub IsGood : Job → Type 0
-  IsGood (CallOf c) = Unit {0}
-  IsGood (TurnOf t) = LoopRows t.loop t.id
+  abbrev pub IsOwnTurn : Turn → Type 0
+  IsOwnTurn t = LoopRows t.loop t.id
 
--- a part that performs operations of these rows alone; a record, so that a goal says of which part it is
-pub record Told (IsRow : MapEntry ℕ → Type 0) {A : Type 0} (p : Part A) : Type 0 where
-  pub at : Tells (IsOwn IsRow) (IsGood IsRow) p
+-- a call, or such a turn
+abbrev pub IsBegun : (IsTurn : Turn → Type 0) → Job → Type 0
+IsBegun IsTurn (CallOf c) = Unit {0}
+IsBegun IsTurn (TurnOf t) = IsTurn t
 
-module _ {IsRow : MapEntry ℕ → Type 0} where
-  pub fails : {A : Type 0} (f : Fault) → Told IsRow {A = A} (Fail f)
+abbrev pub IsGood : (IsRow : MapEntry ℕ → Type 0) → Job → Type 0
+IsGood IsRow j = IsBegun (IsOwnTurn IsRow) j
+
+-- a part that performs operations of these rows alone, and begins such turns alone; a record, so that a goal says of
+-- which part it is
+pub record Performs (IsRow : MapEntry ℕ → Type 0) (IsTurn : Turn → Type 0) {A : Type 0} (p : Part A) : Type 0 where
+  pub at : Tells (IsOwn IsRow) (IsBegun IsTurn) p
+
+-- and whose turns perform the same
+abbrev pub Told : (IsRow : MapEntry ℕ → Type 0) → {A : Type 0} → Part A → Type 0
+Told IsRow p = Performs IsRow (IsOwnTurn IsRow) p
+
+module _ {IsRow : MapEntry ℕ → Type 0} {IsTurn : Turn → Type 0} where
+  pub fails : {A : Type 0} (f : Fault) → Performs IsRow IsTurn {A = A} (Fail f)
   fails f = record { at = tt }
 
-  pub ended : {A : Type 0} (a : A) → Told IsRow (End a)
+  pub ended : {A : Type 0} (a : A) → Performs IsRow IsTurn (End a)
   ended a = record { at = tt }
 
-  pub ok : {A : Type 0} (a : A) → Told IsRow (give a)
+  pub ok : {A : Type 0} (a : A) → Performs IsRow IsTurn (give a)
   ok a = record { at = tt }
 
   -- parts in a row
-  pub in_a_row : {A B : Type 0} {p : Part A} {k : A → Part B} → Told IsRow p → ((a : A) → Told IsRow (k a))
-      → Told IsRow (and_then p k)
+  pub in_a_row : {A B : Type 0} {p : Part A} {k : A → Part B} → Performs IsRow IsTurn p
+      → ((a : A) → Performs IsRow IsTurn (k a))
+      → Performs IsRow IsTurn (and_then p k)
   in_a_row {p = p} {k = k} x f = record {
-    at = tells_then (IsOwn IsRow) (IsGood IsRow) p k x.at (λ a. (f a).at);
+    at = tells_then (IsOwn IsRow) (IsBegun IsTurn) p k x.at (λ a. (f a).at);
   }
 
   -- ANSWERS
-  pub bind : {A B : Type 0} {p : Part (Answer A)} {k : A → Part (Answer B)} → Told IsRow p
-      → ((a : A) → Told IsRow (k a)) → Told IsRow (p >>= k)
+  pub bind : {A B : Type 0} {p : Part (Answer A)} {k : A → Part (Answer B)} → Performs IsRow IsTurn p
+      → ((a : A) → Performs IsRow IsTurn (k a)) → Performs IsRow IsTurn (p >>= k)
   bind {k = k} x f = in_a_row x on
     where
-      on : (r : Answer _) → Told IsRow (continue_with k r)
+      on : (r : Answer _) → Performs IsRow IsTurn (continue_with k r)
       on (gives a) = f a
       on (throws v) = ended _
 
-  pub algorithm : {A : Type 0} (p : Algorithm A) → Told IsRow (lift p)
-  algorithm p = record { at = row_tells (IsOwn IsRow) (IsGood IsRow) CallOf fault_of (λ c. tt) p }
+  pub algorithm : {A : Type 0} (p : Algorithm A) → Performs IsRow IsTurn (lift p)
+  algorithm p = record { at = row_tells (IsOwn IsRow) (IsBegun IsTurn) CallOf fault_of (λ c. tt) p }
 
-  pub lift_then : {A B : Type 0} (p : Algorithm A) {k : A → Part (Answer B)} → ((a : A) → Told IsRow (k a))
-      → Told IsRow (lift p >>= k)
+  pub lift_then : {A B : Type 0} (p : Algorithm A) {k : A → Part (Answer B)} → ((a : A) → Performs IsRow IsTurn (k a))
+      → Performs IsRow IsTurn (lift p >>= k)
   lift_then p f = bind (algorithm p) f
 
-  pub step_told : {A : Type 0} {p : Part A} → Told IsRow p → Told IsRow (Step p)
+  pub step_told : {A : Type 0} {p : Part A} → Performs IsRow IsTurn p → Performs IsRow IsTurn (Step p)
   step_told x = record { at = x.at }
 
-  pub look_told : {A : Type 0} {p : Store → Part A} → ((s : Store) → Told IsRow (p s)) → Told IsRow (Look p)
+  pub look_told : {A : Type 0} {p : Store → Part A} → ((s : Store) → Performs IsRow IsTurn (p s))
+      → Performs IsRow IsTurn (Look p)
   look_told f = record { at = λ s. (f s).at }
 
   -- the script performs an operation
   pub perform_told : {A : Type 0} {g : Store → Operation} {p : Part A} → ((s : Store) → IsOwn IsRow (g s))
-      → Told IsRow p → Told IsRow (Look (λ s. Perform (g s) p))
+      → Performs IsRow IsTurn p → Performs IsRow IsTurn (Look (λ s. Perform (g s) p))
   perform_told h x = record { at = λ s. (h s, x.at) }
 
-  pub perform_now : {A : Type 0} {o : Operation} {p : Part A} → IsOwn IsRow o → Told IsRow p
-      → Told IsRow (Perform o p)
+  pub perform_now : {A : Type 0} {o : Operation} {p : Part A} → IsOwn IsRow o → Performs IsRow IsTurn p
+      → Performs IsRow IsTurn (Perform o p)
   perform_now h x = record { at = (h, x.at) }
 
   -- a hook emits one
-  pub emit_told : {A : Type 0} {g : Store → Operation} {p : Part A} → Told IsRow p
-      → Told IsRow (Look (λ s. Emit (g s) p))
+  pub emit_told : {A : Type 0} {g : Store → Operation} {p : Part A} → Performs IsRow IsTurn p
+      → Performs IsRow IsTurn (Look (λ s. Emit (g s) p))
   emit_told x = record { at = λ s. x.at }
 
-  pub emit_now : {A : Type 0} {o : Operation} {p : Part A} → Told IsRow p → Told IsRow (Emit o p)
+  pub emit_now : {A : Type 0} {o : Operation} {p : Part A} → Performs IsRow IsTurn p → Performs IsRow IsTurn (Emit o p)
   emit_now x = record { at = x.at }
 
-  pub call_told : {B : Type 0} (call : Call) {k : Value → Part (Answer B)} → ((v : Value) → Told IsRow (k v))
-      → Told IsRow (begin_call CallOf call >>= k)
+  pub call_told : {B : Type 0} (call : Call) {k : Value → Part (Answer B)} → ((v : Value) → Performs IsRow IsTurn (k v))
+      → Performs IsRow IsTurn (begin_call CallOf call >>= k)
   call_told call {k = k} f = record { at = (tt, λ end. (on (answer_of end)).at) }
     where
-      on : (r : Answer Value) → Told IsRow (continue_with k r)
+      on : (r : Answer Value) → Performs IsRow IsTurn (continue_with k r)
       on (gives v) = f v
       on (throws v) = ended _
 
-  pub pick : {A : Type 0} (b : Bool) {p q : Part A} → Told IsRow p → Told IsRow q → Told IsRow (if b then p else q)
+  pub pick : {A : Type 0} (b : Bool) {p q : Part A} → Performs IsRow IsTurn p → Performs IsRow IsTurn q
+      → Performs IsRow IsTurn (if b then p else q)
   pick true x y = x
   pick false x y = y
 
   -- STATEMENTS
   -- a value, and then a statement
-  pub value_then : {A : Type 0} {p : Part (Answer A)} {k : A → Part Completion} → Told IsRow p
-      → ((v : A) → Told IsRow (k v)) → Told IsRow (and_then p (on_given k))
+  pub value_then : {A : Type 0} {p : Part (Answer A)} {k : A → Part Completion} → Performs IsRow IsTurn p
+      → ((v : A) → Performs IsRow IsTurn (k v)) → Performs IsRow IsTurn (and_then p (on_given k))
   value_then {k = k} x f = in_a_row x on
     where
-      on : (r : Answer _) → Told IsRow (on_given k r)
+      on : (r : Answer _) → Performs IsRow IsTurn (on_given k r)
       on (gives v) = f v
       on (throws v) = ended _
 
-  pub sequence : {p q : Part Completion} → Told IsRow p → Told IsRow q → Told IsRow (then_do p q)
+  pub sequence : {p q : Part Completion} → Performs IsRow IsTurn p → Performs IsRow IsTurn q
+      → Performs IsRow IsTurn (then_do p q)
   sequence {q = q} x y = in_a_row x on
     where
-      on : (how : Completion) → Told IsRow (if_normal q how)
+      on : (how : Completion) → Performs IsRow IsTurn (if_normal q how)
       on completion.Normal = y
       on (completion.Return v) = ended _
       on (completion.Throw v) = ended _
       on (completion.Break l) = ended _
       on (completion.Continue l) = ended _
 
-  pub ending : (f : Completion → Completion) {p : Part Completion} → Told IsRow p → Told IsRow (ends_as f p)
+  pub ending : (f : Completion → Completion) {p : Part Completion} → Performs IsRow IsTurn p
+      → Performs IsRow IsTurn (ends_as f p)
   ending f x = in_a_row x (λ how. ended _)
 
-  -- a turn begins
-  pub turn_begins : (t : Turn) → LoopRows IsRow t.loop t.id → Told IsRow (Begin (TurnOf t) End)
-  turn_begins t h = record { at = (h, λ end. tt) }
+-- a turn begins
+pub turn_begins : {IsRow : MapEntry ℕ → Type 0} (t : Turn) → LoopRows IsRow t.loop t.id
+    → Told IsRow (Begin (TurnOf t) End)
+turn_begins t h = record { at = (h, λ end. tt) }

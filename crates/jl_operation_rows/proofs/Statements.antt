@@ -21,9 +21,12 @@ use Rattle.jl_meaning.specs.forms.Switch.{after_switch, default_of}
 use Rattle.jl_meaning.specs.forms.Try.{unless_abrupt}
 use Rattle.jl_operation_rows.proofs.Expressions.{evaluate_told}
 use Rattle.jl_operation_rows.proofs.Forms.{assign_told, decide_by_told, decide_told, unless_told}
-use Rattle.jl_operation_rows.proofs.Loops.{after_told, catch_told, loop_told, return_told, throw_told, visit_all_told, visit_told}
-use Rattle.jl_operation_rows.proofs.Relation.{algorithm, bind, by_id, ended, ending, in_a_row, ok, perform_told, pick, sequence}
-use Rattle.jl_operation_rows.proofs.Relation.{step_told, value_then, AllRows, LoopRows, Rows, RowsIfPresent, TestRows, Told}
+use Rattle.jl_operation_rows.proofs.Loops.{after_told, catch_told, loop_told, return_told, throw_told, visit_all_told}
+use Rattle.jl_operation_rows.proofs.Loops.{visit_told}
+use Rattle.jl_operation_rows.proofs.Relation.{algorithm, bind, by_id, ended, ending, in_a_row, ok, perform_told, pick}
+use Rattle.jl_operation_rows.proofs.Relation.{sequence}
+use Rattle.jl_operation_rows.proofs.Relation.{step_told, value_then, AllRows, LoopRows, Rows, RowsIfPresent, TestRows}
+use Rattle.jl_operation_rows.proofs.Relation.{Told}
 use Rattle.jl_operation_rows.proofs.Splitting.{of, of_all, of_any, split}
 
 module _ (IsRow : MapEntry ℕ → Type 0) (table : FunctionTable) where

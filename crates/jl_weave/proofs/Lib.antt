@@ -12,3 +12,4 @@ pub mod Callees
 pub mod OtherKinds
 pub mod OtherCallees
 pub mod WalkedFunction
+pub mod Promises

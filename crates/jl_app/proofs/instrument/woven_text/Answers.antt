@@ -9,5 +9,5 @@ pub returns : goal.returns
 returns c =
     IfOk-weaker c.print.result _ _
     (λ text is. is ∙ is_woven_text (is_member c.args.kinds) (view c.args.program.now) (view c.in_ok-woven.woven)
-    c.in_ok-woven.ensures)
+    c.in_ok-woven.ensures.woven)
     c.print.ensures

@@ -13,7 +13,7 @@ returns c =
     let p = view c.args.program.now in
     let q = view c.in_ok-woven.woven in
     let same = same_program_run p q (woven_budget c.args.budget)
-    (c.in_ok-woven.ensures ∙ of_all_woven c.all.result c.all.ensures p) in
+    (c.in_ok-woven.ensures.woven ∙ of_all_woven c.all.result c.all.ensures p) in
     IfOk-weaker c.trace_alone.result _ _
     (λ a answered. same_traced_run q (woven_program every_kind p) c.woven_budget.result c.args.budget
     c.woven_budget.ensures same answered)

@@ -1,0 +1,3 @@
+pub mod KindsEnough
+pub mod Observing
+pub mod Rows

@@ -1,0 +1,5 @@
+use Rattle.jl_profile.proofs.KindsEnough.{kinds_enough}
+use Rattle.jl_profile.proofs.laws.kinds_are_enough.Goals as goal
+
+pub returns : goal.returns
+returns c = kinds_enough

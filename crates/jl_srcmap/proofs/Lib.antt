@@ -1,0 +1,12 @@
+pub mod Digits
+pub mod Fields
+pub mod Differences
+pub mod Pieces
+pub mod Parts
+pub mod Turns
+pub mod Loops
+pub mod Back
+pub mod Small
+pub mod Ascii
+pub mod Calls
+pub mod MapText

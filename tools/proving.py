@@ -1,0 +1,133 @@
+"""Runs the kit on the crates below the program, and says on standard error how far it is."""
+
+from __future__ import annotations
+
+import hashlib
+import os
+import re
+import shutil
+import subprocess
+import sys
+import threading
+import time
+
+EVERY = 30.0
+"""Seconds between two lines that say how far it is."""
+PROVED = re.compile(rb"^(?:rt:|\s*[0-9.]+) (\w+) (?:proved\b|(is kept\b))", re.M)
+
+
+def uses(top: str) -> dict[str, list[str]]:
+    """The libraries that each crate of `crates.txt` uses."""
+    found = {}
+    with open(os.path.join(top, "crates.txt"), encoding="utf-8") as file:
+        for line in file:
+            name, colon, below = line.split("#")[0].partition(":")
+            if colon:
+                found[name.split()[0]] = below.split()
+    return found
+
+
+def with_below(top: str, name: str) -> set[str]:
+    """A crate and all below it."""
+    used, found, left = uses(top), set(), [name]
+    while left:
+        crate = left.pop()
+        if crate in used and crate not in found:
+            found.add(crate)
+            left += used[crate]
+    return found
+
+
+def weight(top: str, crate: str) -> int:
+    """How large a crate is, by which the time to its proof is reckoned."""
+    total = 0
+    for part in ("src", "specs", "proofs"):
+        for folder, _, files in os.walk(os.path.join(top, "crates", crate, part)):
+            total += sum(os.path.getsize(os.path.join(folder, name)) for name in files)
+    return total
+
+
+class Proving:
+    """A run of the kit, and how far it is by what it has written to its log."""
+
+    def __init__(self, top: str, log: str, program: str = "jlint") -> None:
+        self.top, self.log = top, log
+        self.weights = {it: weight(top, it) for it in with_below(top, program)}
+        self.began = time.monotonic()
+        self.is_terminal = sys.stderr.isatty()
+
+    def run(self, command: list[str], cwd: str | None = None) -> int:
+        """The status of a command that proves."""
+        ended = threading.Event()
+        speaker = threading.Thread(target=self.speak, args=(ended,), daemon=True)
+        with open(self.log, "wb") as log:
+            process = subprocess.Popen(
+                command, cwd=cwd or self.top, stdin=subprocess.DEVNULL, stdout=log, stderr=subprocess.STDOUT
+            )
+            speaker.start()
+            try:
+                return process.wait()
+            except BaseException:
+                process.terminate()
+                process.wait()
+                raise
+            finally:
+                ended.set()
+                speaker.join()
+                if self.is_terminal:
+                    print("\r\x1b[K", end="", file=sys.stderr, flush=True)
+
+    def speak(self, ended: threading.Event) -> None:
+        """Says how far it is, on one line where that is a terminal."""
+        while not ended.wait(EVERY):
+            start, end = ("\r\x1b[K", "") if self.is_terminal else ("", "\n")
+            print(f"{start}jlint: {self.progress()}", end=end, file=sys.stderr, flush=True)
+
+    def progress(self) -> str:
+        """How many crates are proved, how long that took, and about how long the others will take."""
+        with open(self.log, "rb") as file:
+            found = {name.decode(): bool(kept) for name, kept in PROVED.findall(file.read())}
+        done = {it: kept for it, kept in found.items() if it in self.weights}
+        minutes = (time.monotonic() - self.began) / 60
+        said = f"{len(done)} of {len(self.weights)} crates, {minutes:.0f} min"
+        proved = sum(self.weights[it] for it, kept in done.items() if not kept)
+        left = sum(size for it, size in self.weights.items() if it not in done)
+        if proved and left:
+            said += f", about {minutes * left / proved:.0f} to go"
+        return said
+
+
+def prove_aside(top: str, log: str) -> str | None:
+    """Proves and builds by a kit that keeps nothing, in a copy that stays, and answers the program's path.
+
+    The copy keeps the libraries that were proved, for the next call in this clone. Nothing in the clone is touched."""
+    cache = os.environ.get("XDG_CACHE_HOME") or os.path.expanduser("~/.cache")
+    copy = os.path.join(cache, "jlint", hashlib.sha256(top.encode()).hexdigest()[:16])
+    bring(top, copy)
+    crates = sorted(with_below(top, "jlint"))
+    proving = Proving(top, log)
+    if proving.run([sys.executable, os.path.join(copy, "tools", "prove.py"), *crates], copy):
+        return None
+    # The word `build` is no command, so the built program has ended with status 2.
+    build = [sys.executable, os.path.join(copy, "tools", "kit.py"), "run", "--", "build"]
+    made = os.path.join(copy, "crates", "jlint", "out", "jlint")
+    if proving.run(build, os.path.join(copy, "crates", "jlint")) != 2 or not os.path.exists(made):
+        return None
+    return made
+
+
+def bring(top: str, copy: str) -> None:
+    """Makes a copy's sources those of the clone. What was proved in the copy stays."""
+    os.makedirs(os.path.join(copy, "crates"), exist_ok=True)
+    os.makedirs(os.path.join(copy, ".git"), exist_ok=True)
+    for name in ("crates.txt", "HANDLES"):
+        if os.path.exists(os.path.join(top, name)):
+            shutil.copy2(os.path.join(top, name), copy)
+    shutil.rmtree(os.path.join(copy, "tools"), ignore_errors=True)
+    shutil.copytree(os.path.join(top, "tools"), os.path.join(copy, "tools"))
+    for crate in with_below(top, "jlint"):
+        for part in ("src", "specs", "proofs", "c"):
+            to = os.path.join(copy, "crates", crate, part)
+            shutil.rmtree(to, ignore_errors=True)
+            if os.path.isdir(os.path.join(top, "crates", crate, part)):
+                shutil.copytree(os.path.join(top, "crates", crate, part), to)
