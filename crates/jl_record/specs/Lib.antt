@@ -9,5 +9,6 @@ pub mod Ranks
 pub mod Stages
 pub mod Quoting
 pub mod Reading
+pub mod OperationReads
 pub mod Recording
 pub mod Bounded

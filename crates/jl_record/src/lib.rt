@@ -4,15 +4,20 @@
 mod bounded;
 mod cuts;
 mod decimals;
+mod fact;
 mod facts;
 pub mod laws;
 mod line_facts;
+mod named;
+mod operations;
 mod quoted;
 mod read;
 mod record;
 mod recorder;
 mod refusal;
 mod replays;
+mod signs;
+mod value_lists;
 mod values;
 
 pub use jl_op::NoMemory;
