@@ -1,6 +1,8 @@
 -- Lists of values at the front of units.
 use Rattle.std.proofs.Common.{◌≡◌, ℕ, suc, ◌+◌, ◌<◌, ◌≤◌, ◌^◌, List, [], ◌∷◌, ◌++◌, true, length, refl, sym, ap, ◌∙◌}
 use Rattle.std.proofs.Common.{arith, append_assoc, append-nil, drop}
+use Rattle.std.proofs.Common.{Bor, Option, Some, None}
+use Rattle.std.specs.Prelude.{MatchOption}
 use Rattle.std.specs.Fmt.{decimal}
 use Rattle.std.specs.List.{AllByRecursion}
 use Rattle.jl_value.specs.declared.value.Seen.{Seen}
@@ -126,3 +128,13 @@ pub no_number : (units : List ℕ)
 no_number units none seen left are end e =
     none (length seen) (seen_marks seen ++ left) are.0 (at_end_marks seen left end)
     (e ∙ append_assoc (decimal (length seen)) (seen_marks seen) left)
+
+-- what reading the values after their number tells
+pub of_counted : (units rest : List ℕ) (count : ℕ)
+    → (count < 2 ^ 64) × (is_at_end rest ≡ true) × (units ≡ decimal count ++ rest)
+    → (found : Option (List Seen × Bor (List ℕ)))
+    → MatchOption found (NoneIsFirst (AreValues count) seen_marks rest)
+    (λ x. IsFirst (AreValues count) seen_marks rest x.0 x.1.now)
+    → MatchOption found (Fails some_values units) (λ x. Takes some_values units x.0 x.1.now)
+of_counted units rest count number None h = no_values units rest count number h
+of_counted units rest count number (Some x) h = values_taken units rest count number x.0 x.1.now h

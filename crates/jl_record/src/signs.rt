@@ -91,15 +91,30 @@ pub(crate) fn callee_front(
 fn script_before(rest: &[u16]) -> Option<(Callee, &[u16])>
     ensures { MatchOption result (Fails a_callee (115 ∷ rest.now)) (λ x. Takes a_callee (115 ∷ rest.now) x.0 x.1.now) }
 {
-    let (function, rest) = small_front(after_space(rest)?)?;
-    let (params, rest) = small_front(after_space(rest)?)?;
-    let (mentions, rest) = truth_front(after_space(rest)?)?;
+    let Some(first) = after_space(rest) else {
+        return None;
+    };
+    let Some((function, second)) = small_front(first) else {
+        return None;
+    };
+    let Some(third) = after_space(second) else {
+        return None;
+    };
+    let Some((params, fourth)) = small_front(third) else {
+        return None;
+    };
+    let Some(fifth) = after_space(fourth) else {
+        return None;
+    };
+    let Some((mentions, left)) = truth_front(fifth) else {
+        return None;
+    };
     let callee = Callee::Script {
         function,
         params,
         mentions,
     };
-    Some((callee, rest))
+    Some((callee, left))
 }
 
 fn native_before(alloc: Global, rest: &[u16]) -> Result<Option<(Callee, &[u16])>, AllocError>

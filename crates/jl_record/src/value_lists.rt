@@ -38,7 +38,7 @@ fn counted_values(
 {
     let mut values = List::new(alloc);
     let mut rest = units;
-    for _ in 0..count {
+    for i in 0..count {
         let Some(front) = after_space(rest) else {
             return Ok(None);
         };
