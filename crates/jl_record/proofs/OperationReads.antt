@@ -1,6 +1,7 @@
 -- What the parts of the line of an operation tell of it.
 use Rattle.std.proofs.Common.{◌≡◌, ℕ, zero, suc, ◌+◌, ◌<◌, ◌≤◌, ◌^◌, List, [], ◌∷◌, ◌++◌, true, refl, sym, ap, ◌∙◌, arith}
-use Rattle.std.proofs.Common.{drop, length, subst, Some, None}
+use Rattle.std.proofs.Common.{◌-◌, drop, length, get_or, subst, Some, None}
+use Rattle.std.specs.Prelude.{slice_get, option_map}
 use Rattle.std.specs.Fmt.{decimal}
 use Rattle.jl_op.specs.declared.kind.OpKind.{OpKind}
 use Rattle.jl_op.specs.declared.op.Op.{Op}
@@ -19,6 +20,20 @@ use Rattle.jl_record.proofs.Words.{one_word}
 marks_at_end : (sorts : List Sort) (f : Facts sorts) → is_at_end (marks sorts f) ≡ true
 marks_at_end [] f = refl
 marks_at_end (sort ∷ sorts) f = refl
+
+-- the kind of the row with an id
+pub row_kind : (rows : List Row) (id : ℕ) (d : Row) → (id ≡ 0 → ⊥) → id ≤ length rows
+    → kind_at rows id ≡ Some (get_or rows (id - 1) d).0
+row_kind rows zero d some l = absurd (some refl)
+row_kind rows (suc n) d some l =
+    let same : suc n - 1 ≡ n = omega arith in
+    ap (option_map (λ (row : Row). row.0)) (slice_get_or rows n d (omega arith))
+    ∙ ap (λ i. Some (get_or rows i d).0) (sym same)
+  where
+    slice_get_or : (rows : List Row) (n : ℕ) (d : Row) → n < length rows → slice_get rows n ≡ Some (get_or rows n d)
+    slice_get_or [] n d h = absurd (omega arith)
+    slice_get_or (row ∷ rows) zero d h = refl
+    slice_get_or (row ∷ rows) (suc n) d h = slice_get_or rows n d (omega arith)
 
 -- the kind, and the facts
 abbrev after_id : Op → List ℕ
