@@ -13,5 +13,4 @@ Holds text units = HoldsAs text.passed text.limit text.bytes.items units
 
 -- whatever it held, it holds that and then these units
 pub record Appends (old new : Bounded) (more : List ℕ) : Type 0 where
-  pub limit : new.limit ≡ old.limit
   pub holds : (units : List ℕ) → Holds old units → Holds new (units ++ more)

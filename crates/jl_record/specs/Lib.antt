@@ -10,5 +10,6 @@ pub mod Stages
 pub mod Quoting
 pub mod Reading
 pub mod OperationReads
+pub mod Plain
 pub mod Recording
 pub mod Bounded

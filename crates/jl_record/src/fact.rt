@@ -1,16 +1,20 @@
 // Facts of operations, as the line of an operation has them.
-ghost use Rattle.std.specs.Prelude.{◌≡◌, ◌<◌, ◌^◌, ℕ, List, [], ◌∷◌, true, IfOk, MatchOption};
+ghost use Rattle.std.specs.Prelude.{◌≡◌, ◌<◌, ◌^◌, ℕ, List, [], ◌∷◌, true, IfOk, OnOk, MatchOption};
 ghost use Rattle.std.specs.Fmt.{decimal};
+ghost use Rattle.jl_record.specs.Bounded.{Appends};
 ghost use Rattle.jl_record.specs.Facts.{a_truth, a_number, a_count, an_object, a_text, a_value, a_found};
 ghost use Rattle.jl_record.specs.Facts.{a_callee, a_binary, a_unary, some_values, IsFact, mark};
 ghost use Rattle.jl_record.specs.Parts.{is_at_end};
 ghost use Rattle.jl_record.specs.Reading.{IsFirst, NoneIsFirst, IsKnown, AreOf, AreOfNone, after_space};
 
+use crate::bounded::Bounded;
 use crate::cuts::after_space;
 use crate::facts::{count_front, found_front, name_front, object_front, small_front, truth_front};
+use crate::named::Named;
 use crate::signs::{binary_front, callee_front, unary_front};
 use crate::value_lists::values_front;
 use crate::values::value_front;
+use crate::written::{write_callee, write_name, write_truth, write_value, write_values};
 use jl_ast::BinOp;
 use jl_op::{Callee, Found, UnKind};
 use jl_text::{List as Items, Text};
@@ -33,6 +37,11 @@ pub(crate) trait Fact: Sized + Drop {
     /// What begins with a fact, and ends a part behind it, begins with no other.
     fn known()
         ensures { IsKnown is written };
+
+    /// Appends the fact as it is written.
+    fn write(&self, alloc: Global, text: &mut Bounded) -> Result<(), AllocError>
+        ensures limit { text.new.limit ≡ text.old.limit }
+        ensures holds { OnOk result (Appends text.old text.new (written self.now)) };
 }
 
 impl Fact for bool {
@@ -45,6 +54,10 @@ impl Fact for bool {
     }
 
     fn known() {}
+
+    fn write(&self, _alloc: Global, text: &mut Bounded) -> Result<(), AllocError> {
+        write_truth(text, *self)
+    }
 }
 
 impl Fact for u32 {
@@ -57,6 +70,10 @@ impl Fact for u32 {
     }
 
     fn known() {}
+
+    fn write(&self, _alloc: Global, text: &mut Bounded) -> Result<(), AllocError> {
+        text.number(u64::from(*self))
+    }
 }
 
 impl Fact for Seen {
@@ -69,6 +86,10 @@ impl Fact for Seen {
     }
 
     fn known() {}
+
+    fn write(&self, alloc: Global, text: &mut Bounded) -> Result<(), AllocError> {
+        write_value(alloc, text, self)
+    }
 }
 
 impl Fact for Text {
@@ -81,6 +102,10 @@ impl Fact for Text {
     }
 
     fn known() {}
+
+    fn write(&self, alloc: Global, text: &mut Bounded) -> Result<(), AllocError> {
+        text.quoted(alloc, self.units())
+    }
 }
 
 impl Fact for u64 {
@@ -93,6 +118,10 @@ impl Fact for u64 {
     }
 
     fn known() {}
+
+    fn write(&self, _alloc: Global, text: &mut Bounded) -> Result<(), AllocError> {
+        text.number(*self)
+    }
 }
 
 impl Fact for ObjId {
@@ -105,6 +134,10 @@ impl Fact for ObjId {
     }
 
     fn known() {}
+
+    fn write(&self, _alloc: Global, text: &mut Bounded) -> Result<(), AllocError> {
+        text.number(self.0 as u64)
+    }
 }
 
 impl Fact for Found {
@@ -117,6 +150,10 @@ impl Fact for Found {
     }
 
     fn known() {}
+
+    fn write(&self, _alloc: Global, text: &mut Bounded) -> Result<(), AllocError> {
+        text.word(self.spelling())
+    }
 }
 
 impl Fact for Callee {
@@ -129,6 +166,10 @@ impl Fact for Callee {
     }
 
     fn known() {}
+
+    fn write(&self, alloc: Global, text: &mut Bounded) -> Result<(), AllocError> {
+        write_callee(alloc, text, *self)
+    }
 }
 
 impl Fact for BinOp {
@@ -141,6 +182,10 @@ impl Fact for BinOp {
     }
 
     fn known() {}
+
+    fn write(&self, alloc: Global, text: &mut Bounded) -> Result<(), AllocError> {
+        write_name(alloc, text, self.spelling())
+    }
 }
 
 impl Fact for UnKind {
@@ -153,6 +198,10 @@ impl Fact for UnKind {
     }
 
     fn known() {}
+
+    fn write(&self, alloc: Global, text: &mut Bounded) -> Result<(), AllocError> {
+        write_name(alloc, text, self.spelling())
+    }
 }
 
 impl Fact for Items<Seen> {
@@ -165,6 +214,10 @@ impl Fact for Items<Seen> {
     }
 
     fn known() {}
+
+    fn write(&self, alloc: Global, text: &mut Bounded) -> Result<(), AllocError> {
+        write_values(alloc, text, self.items())
+    }
 }
 
 /// Facts one after another, each after a space.

@@ -19,6 +19,7 @@ mod replays;
 mod signs;
 mod value_lists;
 mod values;
+mod written;
 
 pub use jl_op::NoMemory;
 pub use read::read_record;

@@ -1,5 +1,5 @@
 // What is known by its name, in a table of all.
-ghost use Rattle.std.specs.Prelude.{◌≡◌, ◌<◌, ℕ, List, length, MatchOption, Some, slice_get};
+ghost use Rattle.std.specs.Prelude.{◌≡◌, ◌<◌, true, ℕ, List, length, MatchOption, Some, slice_get};
 ghost use Rattle.jl_ast.specs.declared.ops.BinOp.{BinOp};
 ghost use Rattle.jl_op.specs.Kinds.{kind_name};
 ghost use Rattle.jl_op.specs.Trace.{binary_sign, unary_sign};
@@ -10,6 +10,7 @@ ghost use Rattle.jl_value.specs.Builtins.{builtin_names, name_of};
 ghost use Rattle.jl_value.specs.Texts.{class_name};
 ghost use Rattle.jl_value.specs.declared.object.Class.{Class};
 ghost use Rattle.jl_record.specs.Facts.{found_mark};
+ghost use Rattle.jl_record.specs.Plain.{is_plain};
 
 use jl_ast::BinOp;
 use jl_op::{Found, OpKind, UnKind, binary_sign};
@@ -23,7 +24,8 @@ pub(crate) trait Named: Copy {
 
     /// Its name.
     fn spelling(self) -> &'static str
-        ensures { result.now ≡ name self };
+        ensures value { result.now ≡ name self }
+        ensures plain { is_plain (name self) ≡ true };
 }
 
 /// The first of a table with this name.
@@ -42,6 +44,7 @@ pub(crate) fn among<T: Named>(table: &[T], name: &[u16]) -> Option<T>
 impl Named for OpKind {
     ghost name = { kind_name };
 
+    #[tactic(auto, using(crate::proofs::PlainNames::kind_is_plain))]
     fn spelling(self) -> &'static str {
         self.name()
     }
@@ -50,6 +53,7 @@ impl Named for OpKind {
 impl Named for Class {
     ghost name = { class_name };
 
+    #[tactic(auto, using(crate::proofs::PlainNames::class_is_plain))]
     fn spelling(self) -> &'static str {
         self.name()
     }
@@ -72,6 +76,7 @@ impl Named for Found {
 impl Named for BinOp {
     ghost name = { binary_sign };
 
+    #[tactic(auto, using(crate::proofs::PlainNames::binary_is_plain))]
     fn spelling(self) -> &'static str {
         binary_sign(self)
     }
@@ -80,6 +85,7 @@ impl Named for BinOp {
 impl Named for UnKind {
     ghost name = { unary_sign };
 
+    #[tactic(auto, using(crate::proofs::PlainNames::unary_is_plain))]
     fn spelling(self) -> &'static str {
         self.sign()
     }

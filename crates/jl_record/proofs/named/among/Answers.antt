@@ -21,7 +21,7 @@ loop-it-preserved g c = λ at it low here e. elim (cases_lt at c.loop-it.it-inde
       (ap (slice_get c.args.table.now) (sym same) ∙ here) in
       let word = c.as_bytes.ensures in
       not_spelled c.args.name.now c.as_bytes.result.now c.if-is_spelled.ensures
-      (e ∙ ap g.T.Named.name (sym item) ∙ sym c.spelling.ensures ∙ sym word.value))
+      (e ∙ ap g.T.Named.name (sym item) ∙ sym c.spelling.ensures.value ∙ sym word.value))
 ]
 
 pub returns : goal.returns
