@@ -20,6 +20,7 @@ mod signs;
 mod value_lists;
 mod values;
 mod written;
+mod written_lines;
 
 pub use jl_op::NoMemory;
 pub use read::read_record;

@@ -43,6 +43,7 @@ fn write_number(text: &mut Bounded, number: Num) -> Result<(), AllocError>
     };
     if whole < 0 {
         text.word("-")?;
+        return text.number(whole.unsigned_abs());
     }
     text.number(whole.unsigned_abs())
 }
