@@ -114,3 +114,22 @@ decimal_is_plain = decimal_by_steps (λ n ds. is_plain ds ≡ true) plain_digit
 
 pub nothing : bytes_of [] ≡ []
 nothing = ascii_bytes [] refl
+
+-- ---- after a line's end
+
+pub lf_more : (us vs : List ℕ) → bytes_of ((us ++ 10 ∷ []) ++ vs) ≡ bytes_of (us ++ 10 ∷ []) ++ bytes_of vs
+lf_more us vs =
+    ap bytes_of (append_assoc us (10 ∷ []) vs) ∙ bytes_append us 10 vs refl
+    ∙ ap (λ bs. bytes_of us ++ bs) after_lf
+    ∙ sym (append_assoc (bytes_of us) (10 ∷ []) (bytes_of vs))
+    ∙ ap (λ bs. bs ++ bytes_of vs) (sym (plain_more us (10 ∷ []) refl))
+  where
+    after_lf : bytes_of (10 ∷ vs) ≡ 10 ∷ bytes_of vs
+    after_lf =
+        ap (λ cs. encode_utf8_all (map (λ o. unwrap_or o 0xFFFD) cs))
+        (utf16_chars_lone 10 vs (λ pair. omega (arith, pair.0))
+        ∙ ap (λ o. o ∷ utf16_chars vs) (lone_unit_char_low 10 (omega arith)))
+        ∙ ap (λ bs. bs ++ bytes_of vs) (encoded 10 refl)
+
+pub ends_in_lf : (us : List ℕ) → 0 < length (bytes_of (us ++ 10 ∷ []))
+ends_in_lf us = omega (arith, ap length (plain_more us (10 ∷ []) refl), length-append (bytes_of us) (10 ∷ []))

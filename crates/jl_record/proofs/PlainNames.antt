@@ -1,5 +1,9 @@
 -- Names are words of ASCII characters.
-use Rattle.std.proofs.Common.{◌≡◌, ℕ, true, refl, List, [], ◌∷◌, ◌≤◌, length}
+use Rattle.std.proofs.Common.{◌≡◌, ℕ, zero, suc, ◌-◌, Bool, true, ◌&&◌, Some, refl, sym, ap, ◌∙◌, List, [], ◌∷◌}
+use Rattle.std.specs.Prelude.{slice_get}
+use Rattle.std.proofs.lemmas.Bool.{and_parts}
+use Rattle.jl_analysis.specs.Rules.{rules, name_at, IsRule}
+use Rattle.jl_analysis.proofs.RuleNames.{rule_names, named}
 use Rattle.jl_ast.specs.declared.ops.BinOp.{BinOp}
 use Rattle.jl_ast.specs.declared.ops.BinOp.TheVariants as binary
 use Rattle.jl_op.specs.declared.kind.OpKind.{OpKind}
@@ -82,3 +86,23 @@ unary_is_plain unary.Typeof = refl
 unary_is_plain unary.Void = refl
 unary_is_plain unary.Up = refl
 unary_is_plain unary.Down = refl
+
+unfoldable all_plain : List (List ℕ) → Bool
+all_plain [] = true
+all_plain (x ∷ xs) = is_plain x && all_plain xs
+
+rules_are_plain : all_plain rule_names ≡ true
+unfolding all_plain rules
+rules_are_plain = refl
+
+plain_at : (xs : List (List ℕ)) (i : ℕ) (x : List ℕ) → all_plain xs ≡ true → slice_get xs i ≡ Some x → is_plain x ≡ true
+unfolding all_plain
+plain_at [] i x h e = absurd (cc)
+plain_at (y ∷ xs) zero x h e = ap is_plain (some_same (sym e)) ∙ (and_parts (is_plain y) (all_plain xs) h).0 where
+  some_same : {a b : List ℕ} → Some a ≡ Some b → a ≡ b
+  some_same e = cc
+plain_at (y ∷ xs) (suc i) x h e = plain_at xs i x (and_parts (is_plain y) (all_plain xs) h).1 e
+
+pub rule_is_plain : (rule : ℕ) (name : List ℕ) → IsRule rule → Some name ≡ name_at rule → is_plain name ≡ true
+rule_is_plain rule name is e =
+    plain_at rule_names (rule - 1) name rules_are_plain (sym (named rule is.0) ∙ sym e)

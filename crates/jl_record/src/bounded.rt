@@ -1,11 +1,13 @@
 // A text in bytes that is kept up to a limit.
-ghost use Rattle.std.specs.Prelude.{◌≡◌, ◌++◌, List, ℕ, [], true, OnOk};
+ghost use Rattle.std.specs.Prelude.{◌≡◌, ◌<◌, ◌≤◌, ◌++◌, ◌∷◌, List, ℕ, [], true, length, OnOk, IfOk};
 ghost use Rattle.std.specs.Fmt.{decimal};
 ghost use Rattle.jl_text.specs.Encoding.{bytes_of};
 ghost use Rattle.jl_text.specs.Quoted.{quote};
 ghost use Rattle.jl_record.specs.Bounded.{Holds, Appends};
 ghost use Rattle.jl_record.specs.Plain.{is_plain};
+ghost use Rattle.jl_record.specs.Recording.{OnTooLong};
 
+use crate::refusal::RecordRefusal;
 use itoa::Buffer;
 use jl_text::{quote, to_utf8};
 use std::alloc::{AllocError, Global};
@@ -75,5 +77,27 @@ impl Bounded {
         let quoted = quote(alloc, units)?;
         let bytes = to_utf8(alloc, &quoted)?;
         self.append(&bytes)
+    }
+
+    /// The bytes of this text and then of another, where this one ends with LF and has the same limit.
+    pub(crate) fn followed_by(self, tail: Bounded) -> Result<Vec<u8>, RecordRefusal>
+        requires { tail.limit ≡ self.limit }
+        ensures found { IfOk result (λ bytes. (us vs : List ℕ) → Holds self (us ++ 10 ∷ []) → Holds tail vs
+            → bytes.items ≡ bytes_of ((us ++ 10 ∷ []) ++ vs)) }
+        ensures within { IfOk result (λ bytes. length bytes.items ≤ self.limit) }
+        ensures too_long { OnTooLong result ((us vs : List ℕ) → Holds self (us ++ 10 ∷ []) → Holds tail vs
+            → self.limit < length (bytes_of ((us ++ 10 ∷ []) ++ vs))) }
+    {
+        if self.passed || tail.passed {
+            return Err(RecordRefusal::TooLong);
+        }
+        let front = self.bytes.len();
+        if front as u64 + tail.bytes.len() as u64 > self.limit {
+            return Err(RecordRefusal::TooLong);
+        }
+        let Bounded { mut bytes, .. } = tail;
+        bytes.extend_from_slice(&self.bytes)?;
+        bytes.rotate_right(front);
+        Ok(bytes)
     }
 }

@@ -1,8 +1,9 @@
 // A run is recorded while it is observed.
-ghost use Rattle.std.specs.Prelude.{◌≡◌, ◌<◌, ◌≤◌, List, [], ◌∷◌, ◌++◌, All, IfOk, OnOk, OnErr, length, map, false, ℕ};
+ghost use Rattle.std.specs.Prelude.{◌≡◌, ◌<◌, ◌≤◌, List, [], ◌∷◌, ◌++◌, All, IfOk, OnOk, OnErr, length, map, ℕ, false};
 ghost use Rattle.jl_analysis.specs.Rules.{IsRule};
 ghost use Rattle.jl_op.specs.Map.{BeginsIn};
 ghost use Rattle.jl_op.specs.Operations.{Operation};
+ghost use Rattle.jl_report.specs.Reports.{saturate_u64};
 ghost use Rattle.jl_record.specs.Bounded.{Holds};
 ghost use Rattle.jl_record.specs.Lines.{with_ends};
 ghost use Rattle.jl_record.specs.Records.{operation_line};
@@ -10,6 +11,7 @@ ghost use Rattle.jl_record.specs.Recording.{run_of, bytes_of_run, OnTooLong};
 
 use crate::bounded::Bounded;
 use crate::refusal::RecordRefusal;
+use crate::written_lines::{write_head, write_operation};
 use jl_op::{Observer, Op, OpId, OpMap};
 use jl_report::Off;
 use jl_text::Lines;
@@ -19,6 +21,7 @@ use std::alloc::{AllocError, Global};
 /// Where it finds no memory left, `see` answers so, and so does every later call.
 #[derive(Drop)]
 pub struct Recorder {
+    alloc: Global,
     lines: Bounded,
     count: u64,
     refused: bool,
@@ -26,15 +29,21 @@ pub struct Recorder {
 
 impl Observer for Recorder {
     ghost stands_for = { λ r seen. Holds r.lines (with_ends (map operation_line seen))
-        × (r.lines.passed ≡ false → r.count ≡ length seen) };
+        × (r.count ≡ saturate_u64 (length seen)) };
 
     ghost has_refused = { λ r. r.refused };
 
     ghost fixed = { λ r. r.lines.limit ∷ [] };
 
     fn see(&mut self, id: OpId, op: &Op) -> Result<(), AllocError> {
+        if self.refused {
+            return Err(AllocError);
+        }
         self.refused = true;
-        Err(AllocError)
+        write_operation(self.alloc, &mut self.lines, id, op)?;
+        self.refused = false;
+        self.count = self.count.saturating_add(1);
+        Ok(())
     }
 }
 
@@ -46,6 +55,7 @@ impl Recorder {
         ensures ready { ⟦<Recorder as Observer>⟧.has_refused result ≡ false }
     {
         Recorder {
+            alloc,
             lines: Bounded::new(alloc, limit),
             count: 0,
             refused: false,
@@ -72,6 +82,20 @@ impl Recorder {
             → ⟦<Recorder as Observer>⟧.fixed self ≡ limit ∷ [] → ⟦<Recorder as Observer>⟧.stands_for self seen
             → limit < length (bytes_of_run (run_of lines.now map.now off.now seen))) }
     {
-        Err(RecordRefusal::NoMemory)
+        if self.refused {
+            return Err(RecordRefusal::NoMemory);
+        }
+        let Recorder {
+            lines: mut tail,
+            count,
+            ..
+        } = self;
+        tail.word("end\n")?;
+        if tail.passed {
+            return Err(RecordRefusal::TooLong);
+        }
+        let mut head = Bounded::new(alloc, tail.limit);
+        write_head(&mut head, map, lines, off, count)?;
+        head.followed_by(tail)
     }
 }

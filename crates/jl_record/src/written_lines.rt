@@ -1,16 +1,25 @@
 // The lines of a stored run as they are written.
-ghost use Rattle.std.specs.Prelude.{◌≡◌, ◌++◌, ◌∷◌, [], List, ℕ, OnOk};
+ghost use Rattle.std.specs.Prelude.{◌≡◌, ◌++◌, ◌∷◌, [], List, ℕ, OnOk, All, map, true};
+ghost use Rattle.jl_analysis.specs.Rules.{IsRule};
 ghost use Rattle.jl_op.specs.Kinds.{kind_of};
+ghost use Rattle.jl_op.specs.Map.{BeginsIn};
 ghost use Rattle.jl_record.specs.Bounded.{Appends};
 ghost use Rattle.jl_record.specs.Facts.{marks};
 ghost use Rattle.jl_record.specs.Operations.{sorts_of, facts_of};
 ghost use Rattle.jl_record.specs.Reading.{after_space};
-ghost use Rattle.jl_record.specs.Records.{operation_line};
+ghost use Rattle.jl_record.specs.Fronts.{operations_so_far};
+ghost use Rattle.jl_record.specs.Lines.{with_ends};
+ghost use Rattle.jl_record.specs.Plain.{is_plain};
+ghost use Rattle.jl_record.specs.Recording.{rows_of};
+ghost use Rattle.jl_record.specs.Records.{operation_line, row_line, off_line, count_line};
 
 use crate::bounded::Bounded;
 use crate::fact::Fact;
 use crate::named::Named;
-use jl_op::{Op, OpId};
+use jl_analysis::rule_name;
+use jl_op::{Op, OpId, OpKind, OpMap};
+use jl_report::Off;
+use jl_text::Lines;
 use std::alloc::{AllocError, Global};
 
 /// Facts that are lent, one after another.
@@ -121,4 +130,92 @@ pub(crate) fn write_operation(
     text.word(op.kind().spelling())?;
     write_facts(alloc, text, op)?;
     text.word("\n")
+}
+
+/// A line that counts, with its LF.
+fn write_count(text: &mut Bounded, word: &str, count: u64) -> Result<(), AllocError>
+    requires { is_plain word.now ≡ true }
+    ensures limit { text.new.limit ≡ text.old.limit }
+    ensures holds { OnOk result (Appends text.old text.new (count_line word.now count ++ 10 ∷ [])) }
+{
+    text.word(word)?;
+    text.word(" ")?;
+    text.number(count)?;
+    text.word("\n")
+}
+
+/// The line of a row, with its LF.
+fn write_row(text: &mut Bounded, kind: OpKind, line: u32, column: u32) -> Result<(), AllocError>
+    ensures limit { text.new.limit ≡ text.old.limit }
+    ensures holds { OnOk result (Appends text.old text.new (row_line (kind, line, column) ++ 10 ∷ [])) }
+{
+    text.word(kind.spelling())?;
+    text.word(" ")?;
+    text.number(u64::from(line))?;
+    text.word(":")?;
+    text.number(u64::from(column))?;
+    text.word("\n")
+}
+
+/// The lines of the rows.
+fn write_rows(text: &mut Bounded, rows: &OpMap, lines: &Lines) -> Result<(), AllocError>
+    requires { All (BeginsIn lines.now) rows.now }
+    ensures limit { text.new.limit ≡ text.old.limit }
+    ensures holds { OnOk result (Appends text.old text.new (with_ends (map row_line (rows_of lines.now rows.now)))) }
+{
+    for before in 0..rows.len() {
+        let id = OpId(before + 1);
+        let (line, column) = lines.line_col(rows.place_of(id).from);
+        write_row(text, rows.kind_of(id), line, column)?;
+    }
+    Ok(())
+}
+
+/// The line of a pair of a line and a rule, with its LF.
+#[tactic(auto, using(crate::proofs::PlainNames::rule_is_plain))]
+fn write_pair(text: &mut Bounded, pair: (u32, u32)) -> Result<(), AllocError>
+    requires { IsRule pair.1 }
+    ensures limit { text.new.limit ≡ text.old.limit }
+    ensures holds { OnOk result (Appends text.old text.new (off_line pair ++ 10 ∷ [])) }
+{
+    let (line, rule) = pair;
+    text.number(u64::from(line))?;
+    text.word(" ")?;
+    text.word(rule_name(rule))?;
+    text.word("\n")
+}
+
+/// The lines of what is switched off.
+fn write_pairs(text: &mut Bounded, pairs: &[(u32, u32)]) -> Result<(), AllocError>
+    requires { All (λ pair. IsRule pair.1) pairs.now }
+    ensures limit { text.new.limit ≡ text.old.limit }
+    ensures holds { OnOk result (Appends text.old text.new (with_ends (map off_line pairs.now))) }
+{
+    for pair in pairs {
+        write_pair(text, *pair)?;
+    }
+    Ok(())
+}
+
+/// The lines before those of the operations, of which there are `count`.
+pub(crate) fn write_head(
+    text: &mut Bounded,
+    rows: &OpMap,
+    lines: &Lines,
+    off: &Off,
+    count: u64,
+) -> Result<(), AllocError>
+    requires places { All (BeginsIn lines.now) rows.now }
+    requires rules { All (λ pair. IsRule pair.1) off.now }
+    ensures limit { text.new.limit ≡ text.old.limit }
+    ensures holds { OnOk result (Appends text.old text.new
+        (with_ends (operations_so_far (rows_of lines.now rows.now) off.now count []))) }
+{
+    let pairs = off.pairs();
+    text.word("jlint-record 1\n")?;
+    write_count(text, "rows", u64::from(rows.len()))?;
+    write_rows(text, rows, lines)?;
+    write_count(text, "off", pairs.len() as u64)?;
+    write_pairs(text, pairs)?;
+    write_count(text, "ops", count)
 }
