@@ -1,5 +1,5 @@
 -- A fact after a space, and then others: what reading the first and then the others tells.
-use Rattle.std.proofs.Common.{◌≡◌, ℕ, List, [], ◌∷◌, ◌++◌, true, refl, sym, ap, ◌∙◌, drop}
+use Rattle.std.proofs.Common.{◌≡◌, ℕ, List, ◌∷◌, ◌++◌, true, sym, ap, ◌∙◌, drop}
 use Rattle.jl_record.specs.Parts.{is_at_end}
 use Rattle.jl_record.specs.Reading.{IsFirst, NoneIsFirst, IsKnown, AreOfNone, after_space}
 

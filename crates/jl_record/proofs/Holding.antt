@@ -1,12 +1,12 @@
 -- What a bounded text holds after more was appended.
-use Rattle.std.proofs.Common.{◌≡◌, ℕ, ◌+◌, ◌<◌, ◌≤◌, ◌^◌, Bool, true, false, List, [], ◌∷◌, ◌++◌, length, refl, sym, ap}
+use Rattle.std.proofs.Common.{◌≡◌, ℕ, ◌+◌, ◌<◌, ◌≤◌, ◌^◌, true, List, ◌++◌, length, sym, ap}
 use Rattle.std.proofs.Common.{◌∙◌, arith, append_assoc, subst}
 use Rattle.std.proofs.lemmas.List.{length-append}
 use Rattle.std.specs.Fmt.{decimal}
 use Rattle.jl_text.specs.Encoding.{bytes_of}
 use Rattle.jl_text.specs.Quoted.{quote}
 use Rattle.jl_record.specs.declared.bounded.Bounded.{Bounded}
-use Rattle.jl_record.specs.Bounded.{HoldsAs, Holds, Appends}
+use Rattle.jl_record.specs.Bounded.{Holds, Appends}
 use Rattle.jl_record.specs.Plain.{is_plain}
 use Rattle.jl_record.proofs.Bytes.{plain_more, quote_more, decimal_is_plain}
 

@@ -1,12 +1,12 @@
 -- Lists of values at the front of units.
-use Rattle.std.proofs.Common.{◌≡◌, ℕ, suc, ◌+◌, ◌<◌, ◌≤◌, ◌^◌, List, [], ◌∷◌, ◌++◌, true, length, refl, sym, ap, ◌∙◌}
+use Rattle.std.proofs.Common.{◌≡◌, ℕ, ◌+◌, ◌<◌, ◌≤◌, ◌^◌, List, [], ◌∷◌, ◌++◌, true, length, sym, ap, ◌∙◌}
 use Rattle.std.proofs.Common.{arith, append_assoc, append-nil, drop}
 use Rattle.std.proofs.Common.{Bor, Option, Some, None}
 use Rattle.std.specs.Prelude.{MatchOption}
 use Rattle.std.specs.Fmt.{decimal}
 use Rattle.std.specs.List.{AllByRecursion}
 use Rattle.jl_value.specs.declared.value.Seen.{Seen}
-use Rattle.jl_record.specs.Facts.{a_value, some_values, seen_mark, seen_marks, IsSeen, AreSeen}
+use Rattle.jl_record.specs.Facts.{a_value, some_values, seen_mark, seen_marks, IsSeen}
 use Rattle.jl_record.specs.Parts.{is_at_end}
 use Rattle.jl_record.specs.Reading.{IsFirst, NoneIsFirst, Takes, Fails}
 use Rattle.jl_record.proofs.Marks.{one_fact, one_decimal, at_end_marks}

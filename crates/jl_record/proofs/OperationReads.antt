@@ -1,13 +1,13 @@
 -- What the parts of the line of an operation tell of it.
-use Rattle.std.proofs.Common.{◌≡◌, ℕ, zero, suc, ◌+◌, ◌<◌, ◌≤◌, ◌^◌, List, [], ◌∷◌, ◌++◌, true, refl, sym, ap, ◌∙◌, arith}
-use Rattle.std.proofs.Common.{◌-◌, drop, length, get_or, subst, Some, None}
+use Rattle.std.proofs.Common.{◌≡◌, ℕ, zero, suc, ◌<◌, ◌≤◌, ◌^◌, List, [], ◌∷◌, ◌++◌, true, refl, sym, ap, ◌∙◌, arith}
+use Rattle.std.proofs.Common.{◌-◌, drop, length, get_or, subst, Some}
 use Rattle.std.specs.Prelude.{slice_get, option_map}
 use Rattle.std.specs.Fmt.{decimal}
 use Rattle.jl_op.specs.declared.kind.OpKind.{OpKind}
 use Rattle.jl_op.specs.declared.op.Op.{Op}
 use Rattle.jl_op.specs.Kinds.{kind_of, kind_name, all_kinds}
 use Rattle.jl_op.specs.Operations.{Operation}
-use Rattle.jl_record.specs.Facts.{Sort, Facts, AreFacts, marks}
+use Rattle.jl_record.specs.Facts.{Sort, Facts, marks}
 use Rattle.jl_record.specs.OperationReads.{NoFacts, HasFacts}
 use Rattle.jl_record.specs.Operations.{sorts_of, facts_of}
 use Rattle.jl_record.specs.Parts.{is_at_end}

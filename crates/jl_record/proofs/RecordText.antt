@@ -1,8 +1,8 @@
 -- The text of a run that is recorded, part by part.
 use Rattle.std.proofs.Common.{◌≡◌, ℕ, zero, suc, ◌+◌, ◌-◌, ◌<◌, ◌≤◌, List, [], ◌∷◌, ◌++◌, length, map, take, get_or, refl, sym, ap}
-use Rattle.std.proofs.Common.{◌∙◌, arith, append_assoc, append-nil, Option, Some, None, subst, drop}
+use Rattle.std.proofs.Common.{◌∙◌, arith, append_assoc, Option, Some, None, subst}
 use Rattle.std.proofs.Math.Seq.{take-suc}
-use Rattle.std.proofs.lemmas.List.{length-append, length-map, map-append}
+use Rattle.std.proofs.lemmas.List.{length-append, map-append}
 use Rattle.std.proofs.lemmas.Option.{slice_get_within, get_or_from_slice_get}
 use Rattle.std.specs.Prelude.{slice_get, option_map, codes}
 use Rattle.jl_op.specs.declared.kind.OpKind.{OpKind}
@@ -16,8 +16,8 @@ use Rattle.jl_record.specs.declared.bounded.Bounded.{Bounded}
 use Rattle.jl_record.specs.Bounded.{Appends}
 use Rattle.jl_record.specs.Fronts.{operations_so_far}
 use Rattle.jl_record.specs.Lines.{with_ends}
-use Rattle.jl_record.specs.Recording.{rows_of, run_of}
-use Rattle.jl_record.specs.Records.{Row, row_line, off_line, operation_line, count_line, counted, first_line, last_line}
+use Rattle.jl_record.specs.Recording.{rows_of}
+use Rattle.jl_record.specs.Records.{Row, row_line, off_line, operation_line, count_line, first_line, last_line}
 use Rattle.jl_record.specs.Records.{lines_of, text_of}
 use Rattle.jl_record.proofs.Bytes.{lf_more, ends_in_lf}
 use Rattle.jl_record.proofs.Holding.{appends_both}

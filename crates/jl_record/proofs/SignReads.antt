@@ -1,5 +1,5 @@
 -- Operators and callees at the front of units.
-use Rattle.std.proofs.Common.{◌≡◌, ℕ, zero, suc, ◌<◌, ◌≤◌, ◌^◌, List, [], ◌∷◌, ◌++◌, Bool, true, length, Some, refl, sym}
+use Rattle.std.proofs.Common.{◌≡◌, ℕ, ◌<◌, ◌^◌, List, [], ◌∷◌, ◌++◌, Bool, true, length, Some, refl, sym}
 use Rattle.std.proofs.Common.{ap, ◌∙◌, arith, append_assoc, drop, nat_lt, All}
 use Rattle.std.specs.Prelude.{slice_get}
 use Rattle.std.specs.Fmt.{decimal}
@@ -15,12 +15,10 @@ use Rattle.jl_op.specs.declared.callee.Callee.{Callee}
 use Rattle.jl_op.specs.declared.callee.Callee.TheVariants as callees
 use Rattle.jl_op.specs.declared.sign.UnKind.{UnKind}
 use Rattle.jl_op.specs.declared.sign.UnKind.TheVariants as unary
-use Rattle.jl_text.specs.Limits.{most_units}
 use Rattle.jl_text.specs.Quoted.{quote}
 use Rattle.jl_value.specs.Builtins.{builtin_names, name_of}
 use Rattle.jl_record.specs.Facts.{a_text, a_number, a_truth, a_callee, truth_mark, callee_mark, IsText, IsCallee}
 use Rattle.jl_record.specs.Named.{all_binary, all_unary}
-use Rattle.jl_record.specs.Parts.{is_at_end}
 use Rattle.jl_record.specs.Reading.{IsFirst, NoneIsFirst, Takes, Fails}
 use Rattle.jl_record.proofs.Marks.{one_fact, name_stands}
 use Rattle.jl_record.proofs.Quotes.{one_quote}

@@ -1,5 +1,5 @@
 -- The run that is recorded, and its text as bytes.
-use Rattle.std.specs.Prelude.{ℕ, ◌<◌, List, map, length, Result, Ok, Err}
+use Rattle.std.specs.Prelude.{ℕ, List, map, Result, Ok, Err}
 use Rattle.jl_op.specs.Map.{MapRow}
 use Rattle.jl_op.specs.Operations.{Operation}
 use Rattle.jl_report.specs.Off.{Pair}

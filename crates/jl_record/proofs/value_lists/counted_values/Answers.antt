@@ -1,4 +1,4 @@
-use Rattle.std.proofs.Common.{◌≡◌, ◌+◌, ◌<◌, length, sym, ap, ◌∙◌, subst, arith, ◌++◌, ◌∷◌, []}
+use Rattle.std.proofs.Common.{◌+◌, length, sym, ap, ◌∙◌, subst, arith}
 use Rattle.std.proofs.lemmas.List.{length_push}
 use Rattle.jl_record.proofs.ListReads.{SoFar, no_space, no_value, one_more}
 use Rattle.jl_record.proofs.value_lists.counted_values.Goals as goal

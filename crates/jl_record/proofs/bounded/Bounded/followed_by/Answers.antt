@@ -1,4 +1,4 @@
-use Rattle.std.proofs.Common.{◌≡◌, ◌+◌, ◌-◌, ◌<◌, ◌++◌, length, ap, ◌∙◌, arith}
+use Rattle.std.proofs.Common.{◌≡◌, ◌-◌, ◌++◌, length, ap, ◌∙◌, arith}
 use Rattle.std.specs.Vec.{vec_len}
 use Rattle.jl_record.proofs.Joining.{head_passed, tail_passed, both_over, joined, rotated}
 use Rattle.jl_record.proofs.bounded.Bounded.followed_by.Goals as goal

@@ -1,4 +1,3 @@
-use Rattle.std.proofs.Common.{ap, ◌∙◌, ◌++◌}
 use Rattle.std.proofs.lemmas.Result.{on_ok_weaker}
 use Rattle.jl_record.proofs.Holding.{appends_number}
 use Rattle.jl_record.proofs.bounded.Bounded.number.Goals as goal

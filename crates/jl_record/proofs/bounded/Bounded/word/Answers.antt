@@ -1,6 +1,4 @@
-use Rattle.std.proofs.Common.{ap, ◌∙◌, ◌++◌}
 use Rattle.std.proofs.lemmas.Result.{on_ok_weaker}
-use Rattle.jl_text.specs.Encoding.{bytes_of}
 use Rattle.jl_record.proofs.Holding.{appends_plain}
 use Rattle.jl_record.proofs.bounded.Bounded.word.Goals as goal
 

@@ -1,4 +1,3 @@
-use Rattle.std.proofs.Common.{sym}
 use Rattle.jl_record.proofs.FactRows.{no_fact, no_others}
 use Rattle.jl_record.proofs.fact.Tuple2Facts.read.Goals as goal
 

@@ -1,4 +1,4 @@
-use Rattle.std.proofs.Common.{◌≡◌, ◌+◌, length, ap, ◌∙◌, subst, arith, map}
+use Rattle.std.proofs.Common.{subst, arith, map}
 use Rattle.std.proofs.lemmas.List.{length_push}
 use Rattle.jl_record.specs.Bounded.{Holds}
 use Rattle.jl_record.specs.Lines.{with_ends}
