@@ -7,7 +7,7 @@ use Rattle.std.specs.declared.cmp.Ordering.{Ordering}
 use Rattle.std.specs.declared.cmp.Ordering.TheVariants.{Less, Equal, Greater}
 use Rattle.jl_report.specs.Reports.{Key, by_place, saturate_u64}
 
-both_equal : (a b : Ordering) → is_eq (ordering_then a b) ≡ (is_eq a && is_eq b)
+pub both_equal : (a b : Ordering) → is_eq (ordering_then a b) ≡ (is_eq a && is_eq b)
 both_equal Less b = refl
 both_equal Equal b = refl
 both_equal Greater b = refl
@@ -21,7 +21,7 @@ equal_by false false h = refl
 less_is_other : (a b : ℕ) → nat_lt a b ≡ true → nat_eq a b ≡ false
 less_is_other a b h = grind arith
 
-equal : (a b : ℕ) → is_eq (nat_cmp a b) ≡ (a == b)
+pub equal : (a b : ℕ) → is_eq (nat_cmp a b) ≡ (a == b)
 equal a b = equal_by (nat_lt a b) (nat_eq a b) (less_is_other a b)
 
 -- two keys are equal in the order where their parts are

@@ -7,4 +7,5 @@ pub mod Listing
 pub mod OneReport
 pub mod OfRules
 pub mod Totals
+pub mod Pairs
 pub mod Switching

@@ -9,7 +9,7 @@ use Rattle.std.specs.declared.cmp.Ordering.{Ordering}
 use Rattle.std.specs.declared.cmp.Ordering.TheVariants.{Less, Equal, Greater}
 use Rattle.jl_report.specs.declared.line.Line.{Line}
 use Rattle.jl_report.specs.Laws.{OneReport}
-use Rattle.jl_report.specs.Reports.{Key, Place, key, by_place, count_of, AreLines}
+use Rattle.jl_report.specs.Reports.{Key, key, by_place, count_of}
 use Rattle.jl_report.proofs.Keys.{same_key, same_is, is_same}
 
 on_total : {K : Type 0} (part : K → ℕ) → IsTotalOrder (λ a b. nat_cmp (part a) (part b))

@@ -1,13 +1,14 @@
 //! Comments that switch rules off for a line.
 ghost use Rattle.std.specs.Prelude.{◌≡◌, ◌+◌, ◌^◌, ◌<◌, ◌≤◌, ◌==◌, [], ◌∷◌, IfOk, OnOk, IfSome, MatchOption};
-ghost use Rattle.std.specs.Prelude.{length, option_map, position};
+ghost use Rattle.std.specs.Prelude.{length, option_map, position, All};
 ghost use Rattle.std.specs.List.{slice_split};
 ghost use Rattle.std.specs.Option.{option_copied};
+ghost use Rattle.std.specs.BTreeSet.{insert_key};
 ghost use Rattle.std.specs.Str.{bytes_eq};
 ghost use Rattle.jl_text.specs.Places.{line_table, position_of};
 ghost use Rattle.jl_token.specs.Tokens.{Comments};
-ghost use Rattle.jl_analysis.specs.Rules.{rule_with};
-ghost use Rattle.jl_report.specs.Off.{without_last_spaces, rules_in, after, pairs_with, pairs_of_text};
+ghost use Rattle.jl_analysis.specs.Rules.{rule_with, IsRule};
+ghost use Rattle.jl_report.specs.Off.{by_line, without_last_spaces, rules_in, after, pairs_with, pairs_of_text};
 ghost use Rattle.jl_report.specs.Off.{with_pairs, pairs_named, pairs_of, off_by};
 
 use crate::off_list::Off;
@@ -15,6 +16,7 @@ use jl_analysis::{RULE_COUNT, rule_name};
 use jl_lex::Comment;
 use jl_text::{Lines, is_spelled};
 use std::alloc::{AllocError, Global};
+use std::collections::BTreeSet;
 
 const SPACE: u16 = 0x20;
 
@@ -34,19 +36,21 @@ pub fn off(
     requires short { length units.now < 4294967295 }
     requires comments { Comments units.now comments.now }
     requires lines { lines.now ≡ line_table units.now }
-    ensures { IfOk result (λ off. off ≡ off_by units.now comments.now) }
+    ensures value { IfOk result (λ off. off ≡ off_by units.now comments.now) }
+    ensures rules { IfOk result (λ off. All (λ pair. IsRule pair.1) off) }
+    ensures lines { IfOk result (λ off. All (λ pair. 1 ≤ pair.0) off) }
 {
-    let mut off = Off::none(alloc);
+    let mut pairs = BTreeSet::new(alloc);
     for comment in comments {
-        add_comment(alloc, &mut off, units, comment, lines)?;
+        add_comment(alloc, &mut pairs, units, comment, lines)?;
     }
-    Ok(off)
+    Off::of_set(alloc, &pairs)
 }
 
 /// Adds what a comment switches off.
 fn add_comment(
     alloc: Global,
-    off: &mut Off,
+    pairs: &mut BTreeSet<(u32, u32)>,
     units: &[u16],
     comment: &Comment,
     lines: &Lines,
@@ -55,39 +59,56 @@ fn add_comment(
     requires begins { comment.now.span.from + 2 ≤ comment.now.span.to }
     requires ends { comment.now.span.to ≤ length units.now }
     requires lines { lines.now ≡ line_table units.now }
-    ensures { OnOk result (off.new ≡ with_pairs off.old (pairs_of units.now comment.now)) }
+    ensures { OnOk result (pairs.new.keys ≡ with_pairs pairs.old.keys (pairs_of units.now comment.now)) }
 {
     if !comment.to_line_end {
         return Ok(());
     }
     let (line, _) = lines.line_col(comment.span.from);
     let text = &units[comment.span.from as usize + 2..comment.span.to as usize];
-    add_text(alloc, off, line, text)
+    add_text(alloc, pairs, line, text)
 }
 
 /// Adds what a comment with this text after its `//` switches off, which begins on a line.
-fn add_text(alloc: Global, off: &mut Off, line: u32, text: &[u16]) -> Result<(), AllocError>
+fn add_text(
+    alloc: Global,
+    pairs: &mut BTreeSet<(u32, u32)>,
+    line: u32,
+    text: &[u16],
+) -> Result<(), AllocError>
     requires { line + 1 < 2 ^ 32 }
-    ensures { OnOk result (off.new ≡ with_pairs off.old (pairs_of_text line text.now)) }
+    ensures { OnOk result (pairs.new.keys ≡ with_pairs pairs.old.keys (pairs_of_text line text.now)) }
 {
     if let Some(names) = text_after(text, " jlint-off ") {
-        add_rules(alloc, off, line, names)?;
+        add_rules(alloc, pairs, line, names)?;
     }
     if let Some(names) = text_after(text, " jlint-off-next ") {
-        add_rules(alloc, off, line + 1, names)?;
+        add_rules(alloc, pairs, line + 1, names)?;
     }
     Ok(())
 }
 
 /// Switches the rules off for a line that a text names, if it names rules and nothing else.
-fn add_rules(alloc: Global, off: &mut Off, line: u32, text: &[u16]) -> Result<(), AllocError>
-    ensures { OnOk result (off.new ≡ with_pairs off.old (pairs_with line (rules_in text.now))) }
+fn add_rules(
+    alloc: Global,
+    pairs: &mut BTreeSet<(u32, u32)>,
+    line: u32,
+    text: &[u16],
+) -> Result<(), AllocError>
+    ensures { OnOk result (pairs.new.keys ≡ with_pairs pairs.old.keys (pairs_with line (rules_in text.now))) }
 {
     if let Some(rules) = rules_in(alloc, text)? {
         for rule in &rules {
-            off.add(line, *rule)?;
+            add(pairs, line, *rule)?;
         }
     }
+    Ok(())
+}
+
+fn add(pairs: &mut BTreeSet<(u32, u32)>, line: u32, rule: u32) -> Result<(), AllocError>
+    ensures { OnOk result (pairs.new.keys ≡ insert_key by_line pairs.old.keys (line, rule)) }
+{
+    pairs.insert((line, rule))?;
     Ok(())
 }
 

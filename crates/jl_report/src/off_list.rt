@@ -1,5 +1,6 @@
-ghost use Rattle.std.specs.Prelude.{◌≡◌, [], OnOk};
-ghost use Rattle.std.specs.BTreeSet.{insert_key};
+ghost use Rattle.std.specs.Prelude.{◌≡◌, [], All, IfOk};
+ghost use Rattle.std.specs.List.Sorted.{IsStrictlySortedBy};
+ghost use Rattle.jl_analysis.specs.Rules.{IsRule};
 ghost use Rattle.jl_report.specs.Off.{by_line, is_off};
 
 use std::alloc::{AllocError, Global};
@@ -10,16 +11,19 @@ use std::marker::Model;
 /// and then rule, each pair once.
 #[derive(Drop)]
 pub struct Off {
-    pairs: BTreeSet<(u32, u32)>,
+    pairs: Vec<(u32, u32)>,
 }
 
 impl Model for Off {
     ghost use Rattle.std.specs.Prelude.{List};
-    ghost use Rattle.jl_report.specs.Off.{Pair};
+    ghost use Rattle.std.specs.List.Sorted.{IsStrictlySortedBy};
+    ghost use Rattle.jl_report.specs.Off.{Pair, by_line};
 
     ghost Value = { List Pair };
 
-    ghost view = { λ off. off.pairs.keys };
+    ghost view = { λ off. off.pairs.items };
+
+    ghost invariant = { λ off. IsStrictlySortedBy by_line off.pairs.items };
 }
 
 impl Off {
@@ -28,22 +32,43 @@ impl Off {
         ensures { result ≡ [] }
     {
         Off {
-            pairs: BTreeSet::new(alloc),
+            pairs: Vec::new(alloc),
         }
+    }
+
+    /// What these pairs of a line and the number of a rule switch off. They are ordered by line and then rule, and
+    /// each stands once.
+    pub fn of(pairs: Vec<(u32, u32)>) -> Off
+        requires rules { All (λ pair. IsRule pair.1) pairs.items }
+        requires in_order { IsStrictlySortedBy by_line pairs.items }
+        ensures { result ≡ pairs.items }
+    {
+        Off { pairs }
+    }
+
+    /// The pairs of a line and the number of a rule, by line and then rule.
+    pub fn pairs(&self) -> &[(u32, u32)]
+        ensures value { result.now ≡ self.now }
+        ensures in_order { IsStrictlySortedBy by_line self.now }
+    {
+        &self.pairs
     }
 
     /// Whether a rule, by its number, is switched off for a line. It takes the logarithm of the number of pairs.
     pub fn has(&self, line: u32, rule: u32) -> bool
         ensures { result ≡ is_off self.now line rule }
     {
-        self.pairs.contains(&(line, rule))
+        self.pairs.binary_search(&(line, rule)).is_ok()
     }
 
-    /// Switches a rule off for a line.
-    pub(crate) fn add(&mut self, line: u32, rule: u32) -> Result<(), AllocError>
-        ensures { OnOk result (self.new ≡ insert_key by_line self.old (line, rule)) }
+    /// What the pairs of a set switch off.
+    pub(crate) fn of_set(alloc: Global, set: &BTreeSet<(u32, u32)>) -> Result<Off, AllocError>
+        ensures { IfOk result (λ off. off ≡ set.now.keys) }
     {
-        self.pairs.insert((line, rule))?;
-        Ok(())
+        let mut pairs = Vec::new(alloc);
+        for pair in set.iter() {
+            pairs.push(*pair)?;
+        }
+        Ok(Off { pairs })
     }
 }

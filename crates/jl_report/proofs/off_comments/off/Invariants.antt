@@ -5,4 +5,4 @@ use Rattle.jl_report.proofs.off_comments.off.Given as goal
 
 abbrev pub invariant-loop-comment : goal.invariant-loop-comment
 invariant-loop-comment l =
-    with_pairs l.off (flat_map (pairs_of l.units) (drop l.comment-index l.comments)) ≡ off_by l.units l.comments
+    with_pairs l.pairs.keys (flat_map (pairs_of l.units) (drop l.comment-index l.comments)) ≡ off_by l.units l.comments

@@ -1,0 +1,6 @@
+use Rattle.jl_record.specs.Facts.{a_value}
+use Rattle.jl_record.proofs.Marks.{one_fact}
+use Rattle.jl_record.proofs.fact.SeenFact.known.Goals as goal
+
+pub returns : goal.returns
+returns c = one_fact a_value

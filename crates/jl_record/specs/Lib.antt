@@ -1,0 +1,15 @@
+pub mod Parts
+pub mod Lines
+pub mod Facts
+pub mod Named
+pub mod Operations
+pub mod Records
+pub mod Fronts
+pub mod Ranks
+pub mod Stages
+pub mod Quoting
+pub mod Reading
+pub mod OperationReads
+pub mod Plain
+pub mod Recording
+pub mod Bounded
