@@ -122,8 +122,8 @@ def coverage_of(
     """What a record says of a script. Operations outside of the script, as those of a prelude, are left out."""
     lines: dict[int, int] = {}
     functions, conditions = [], []
-    for id, row in enumerate(record.rows, 1):
-        place, count = in_script(row.place), record.counts[id]
+    for number, row in enumerate(record.rows, 1):
+        place, count = in_script(row.place), record.counts[number]
         if place is None:
             continue
         if row.kind not in FRAME:
@@ -131,7 +131,7 @@ def coverage_of(
         elif row.kind == "FunctionEnter":
             functions.append(FunctionCount(name_of(source, place), place, count))
         if row.kind == "Conditional":
-            conditions.append(ConditionCount(place, record.true[id], record.false[id]))
+            conditions.append(ConditionCount(place, record.true[number], record.false[number]))
     inside = [(in_script(it.place), it) for it in reports]
     shown = tuple(ReportLine(place, it.rule, it.count) for place, it in inside if place is not None)
     by_place = tuple(sorted(conditions, key=lambda it: it.place))

@@ -75,6 +75,14 @@ class Runs:
             return process
 
     def forget(self, process: subprocess.Popen[bytes]) -> None:
+        """Ends a run, where it has not ended, and lets go of its pipes."""
+        if process.returncode is None:
+            process.kill()
+            process.wait()
+        for stream in (process.stdin, process.stdout):
+            if stream is not None:
+                with contextlib.suppress(OSError):
+                    stream.close()
         with self.lock:
             self.running.discard(process)
 
@@ -107,9 +115,6 @@ class Program:
         except subprocess.TimeoutExpired as error:
             raise ProgramError(f"no answer within {self.seconds:g} seconds (--timeout)") from error
         finally:
-            if process.returncode is None:
-                process.kill()
-                process.communicate()
             RUNS.forget(process)
         return Answer(self.status_of(process.wait()), output)
 

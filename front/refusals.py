@@ -32,6 +32,7 @@ ES2015_WORDS = {
     "...": "`...` is of ES2015",
     "?.": "`?.` is of ES2020",
     "??": "`??` is of ES2020",
+    "#": "private names are of ES2022",
 }
 BAD_INPUT = {
     "UnclosedText": "a string begins here and does not end on this line",

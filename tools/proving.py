@@ -47,6 +47,13 @@ def weight(top: str, crate: str) -> int:
     return total
 
 
+def without_ci() -> dict[str, str]:
+    """The environment without `CI=true`, in which `rt ci NAME` refuses to run, lest it be taken for the gate.
+
+    It is none here: the program is what is wanted, and the gate is `.ci/run`."""
+    return {name: value for name, value in os.environ.items() if name != "CI"}
+
+
 class Proving:
     """A run of the kit, and how far it is by what it has written to its log."""
 
@@ -62,7 +69,12 @@ class Proving:
         speaker = threading.Thread(target=self.speak, args=(ended,), daemon=True)
         with open(self.log, "wb") as log:
             process = subprocess.Popen(
-                command, cwd=cwd or self.top, stdin=subprocess.DEVNULL, stdout=log, stderr=subprocess.STDOUT
+                command,
+                cwd=cwd or self.top,
+                env=without_ci(),
+                stdin=subprocess.DEVNULL,
+                stdout=log,
+                stderr=subprocess.STDOUT,
             )
             speaker.start()
             try:

@@ -4,7 +4,7 @@ from __future__ import annotations
 
 from typing import Iterator, Sequence
 
-from ..findings import EndRule, FileResult, Finding, Severity
+from ..findings import FileResult, Finding, Severity
 from ..source import Place
 
 TROUBLE = "trouble"
@@ -26,8 +26,3 @@ def findings_of(result: FileResult) -> Iterator[Finding]:
     yield from result.findings
     if result.trouble is not None:
         yield Finding(result.path, Place(1, 1), TROUBLE, result.trouble, Severity.ERROR)
-
-
-def is_rule(name: str) -> bool:
-    """Whether a name is that of one of the twenty rules."""
-    return name != TROUBLE and name not in [it.value for it in EndRule]

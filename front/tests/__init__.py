@@ -1,4 +1,4 @@
-"""Tests of the front end: `python3 -m unittest discover -s front/tests -t .` at the top.
+"""Tests of the front end: `python3 -m front.tests` at the top.
 
 Those that run the program take the one that the environment names by JLINT, or else one that is built in this clone,
 and are skipped where there is none."""

@@ -41,6 +41,7 @@ class Refusals(FrontCase):
             ("f(`x`)", "1:3", "template literals"),
             ("import a from 'b';", "1:1", "`import`"),
             ("f(...a)", "1:3", "`...`"),
+            ("x.#y", "1:3", "private names"),
         ):
             self.check(script, place, word)
             self.check(script, place, NEWER)
