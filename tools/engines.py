@@ -104,7 +104,7 @@ def compare(job):
 
 
 def known_rows():
-    """The rows of the table of known differences: section, script, what each prints, and how scripts are kept from it."""
+    """The rows of the table of known differences: section, script, and what each engine prints."""
     with open(os.path.join(TABLES, 'engines.txt'), encoding='utf-8') as lines:
         kept = [line.rstrip('\n').split(' | ') for line in lines if line.strip() and not line.startswith('--')]
     return [(row[0], row[1], dict(zip(('jlint', 'node', 'mujs', 'duktape'), row[2:6]))) for row in kept]
@@ -117,7 +117,7 @@ def wrong_rows(program, engines):
         told['jlint'] = by_jlint(program, script)
         for engine, ran in told.items():
             said = ' '.join(ran.lines) + ('' if ran.end == 'normal' else ' (%s)' % ran.end)
-            if said != due[engine]:
+            if due[engine] not in (said, '*'):
                 yield '%s: %s: %s prints %r, where the table has %r' % (section, script, engine, said, due[engine])
 
 
