@@ -74,9 +74,16 @@ def test_of(folder, path):
     es5 = field(head, 'es5id')
     if not es5:
         return None
-    negative = re.search(r'^negative:\s*\n\s+phase:\s*(\w+)\s*\n\s+type:\s*(\w+)', head, re.M)
     return Test(path, section_of(es5[0]), text, field(head, 'flags'), field(head, 'includes'),
-                negative.groups() if negative else None, field(head, 'features'))
+                negative_of(head), field(head, 'features'))
+
+
+def negative_of(head):
+    """The phase in which a test is to fail and the kind of error, or None where it is to pass."""
+    block = re.search(r'^negative:\s*\n((?:[ \t]+.*\n?)*)', head, re.M)
+    if block is None:
+        return None
+    return tuple(re.search(r'%s:\s*(\w+)' % name, block.group(1)).group(1) for name in ('phase', 'type'))
 
 
 def old_test(path, text):
