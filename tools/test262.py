@@ -257,13 +257,15 @@ def date_of(folder):
     return run.stdout.decode().strip() or 'no date'
 
 
-def write_page(folder, lines):
+def write_page(words, lines):
     """Puts the tables between the two marks in docs/standard.md."""
     page = os.path.join(TOP, 'docs', 'standard.md')
     with open(page, encoding='utf-8') as file:
         before, _, rest = file.read().partition(MARKS[0] + '\n')
     after = rest.partition(MARKS[1] + '\n')[2]
-    head = 'The checkout is of %s.' % date_of(folder)
+    head = 'The checkout is of %s.' % date_of(words.folder)
+    if words.loose:
+        head += ' Each test ran in loose code, or in strict code where it asks for that.'
     with open(page, 'w', encoding='utf-8') as file:
         file.write('\n'.join([before + MARKS[0], head, '', *lines, MARKS[1], after]))
 
@@ -307,7 +309,7 @@ def main():
     lines = list(told(results, causes))
     print('\n'.join(lines))
     if words.page:
-        write_page(words.folder, lines)
+        write_page(words, lines)
     failed = [(test.name, why) for test, kind, why in results if kind == 'FAILED']
     for name, why in failed[:words.show]:
         print('FAILED', name + ':', why)
