@@ -69,8 +69,8 @@ def by_node(prelude, script):
                 file.write(text)
         run = subprocess.run(['node', os.path.join(TABLES, 'node.js'), *names], stdout=subprocess.PIPE,
                              stdin=subprocess.DEVNULL, check=True)
-    told = json.loads(run.stdout)
-    return Ran('\n'.join(told['lines']).split('\n') if told['lines'] else [], told['end'], 0)
+    answer = json.loads(run.stdout)
+    return Ran('\n'.join(answer['lines']).split('\n') if answer['lines'] else [], answer['end'], 0)
 
 
 def by_engine(engine, prelude, script):
@@ -113,9 +113,9 @@ def known_rows():
 def wrong_rows(program, engines):
     """The known differences that are not as the table says."""
     for section, script, due in known_rows():
-        told = {engine: by_engine(engine, '', script) for engine in engines}
-        told['jlint'] = by_jlint(program, script)
-        for engine, ran in told.items():
+        answer = {engine: by_engine(engine, '', script) for engine in engines}
+        answer['jlint'] = by_jlint(program, script)
+        for engine, ran in answer.items():
             said = ' '.join(ran.lines) + ('' if ran.end == 'normal' else ' (%s)' % ran.end)
             if due[engine] not in (said, '*'):
                 yield '%s: %s: %s prints %r, where the table has %r' % (section, script, engine, said, due[engine])

@@ -5,7 +5,7 @@ usage: tools/random_scripts.py FOLDER --seed N --count M [--without NAMES]
 
 Script K of a run is made from the seed N + K alone, so that one script can be made again. It has all forms of
 statements and expressions and all builtins that jlint has, getters and setters, deletes, throws, `finally` and labels;
-each loop and each recursion ends. What it prints is told by `show`, the same function in each script.
+each loop and each recursion ends. It prints values by `show`, the same function in each script.
 
 NAMES are names of forms that are left out, with commas between them, where an engine is known to do otherwise: see
 tools/standard/engines.txt. For mujs they are delete-value,finally,holes,mapped,no-primitive,this.
@@ -232,13 +232,13 @@ class Writer:
         """A statement; `inside` says whether it stands in a function, where it may return."""
         if depth <= 0:
             return 'print(show(%s));' % self.expression(2)
-        forms = [self.told] * 3 + [self.put] * 3 + [self.condition, self.counting, self.testing, self.visiting]
+        forms = [self.printed] * 3 + [self.put] * 3 + [self.condition, self.counting, self.testing, self.visiting]
         forms += [self.attempt] * 3 + [self.choice, self.declared, self.labelled, self.plain, self.thrown]
         if inside and self.often(15):
             return 'if (%s) { return %s; }' % (self.expression(2), self.expression(2))
         return self.pick(forms)(depth, inside)
 
-    def told(self, _, inside):
+    def printed(self, _, inside):
         if inside and self.often(30):
             this = '' if 'this' in self.without else ', show(this)'
             return 'print(arguments.length, show(arguments[%s])%s);' % (self.pick('01'), this)

@@ -235,7 +235,7 @@ def counted(results):
     yield from ('| %s | %s |' % (clause, ' | '.join(str(counts[clause][k]) for k in KINDS)) for clause in order)
 
 
-def told(results, causes):
+def tables(results, causes):
     """The tables of outcomes, of causes, and of tests that fail rightly."""
     sections = {cause.name: cause.section for cause in causes}
     yield from counted(results)
@@ -306,7 +306,7 @@ def main():
     with concurrent.futures.ProcessPoolExecutor(words.jobs) as pool:
         results = [it for it in kept(pool.map(outcome, jobs, chunksize=4), words.write) if it]
     results, unused = with_reasons(results)
-    lines = list(told(results, causes))
+    lines = list(tables(results, causes))
     print('\n'.join(lines))
     if words.page:
         write_page(words, lines)

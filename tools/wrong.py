@@ -45,13 +45,13 @@ def put(clone):
 
 
 def is_as_due(program, line):
-    """Whether a row is answered as is due; what is answered otherwise is told."""
+    """Whether a row is answered as is due; prints the answer."""
     row, _, due = line.partition(' => ')
     call, _, rest = row.partition(' ')
     status, _, text = due.partition(' ')
-    told = rows.given(program, call, rest)
-    print(f'{row} => {told}, where {due} is due', flush=True)
-    return told == (int(status), rows.unescape(text))
+    answer = rows.given(program, call, rest)
+    print(f'{row} => {answer}, where {due} is due', flush=True)
+    return answer == (int(status), rows.unescape(text))
 
 
 def unseen(program):
