@@ -3,8 +3,8 @@
 
 usage: tools/test262.py FOLDER [--program PROGRAM] [--only TEXT] [--loose] [--jobs N] [--show N] [--write FILE] [--page]
 
-FOLDER is a checkout of any date: of the tests whose head has an `es5id:`, or of those of 2012 with an `@path`. None is
-copied. A test runs with the functions of tools/standard/harness.js that it asks for, in loose code, in strict code or
+FOLDER is a checkout of any date. Tests of edition 5.1 are those whose head has an `es5id:`, those whose file is named by
+a section, as 15.4.4.4-5-b-1.js and S7.8.3_A1.js, and those of 2012 with an `@path`. None is copied. A test runs with the functions of tools/standard/harness.js that it asks for, in loose code, in strict code or
 in both, as its flags say (with --loose in strict code only where it can't run in the other); one that is to be refused
 or to throw is passed where it is or does. Outcomes are
 
@@ -71,10 +71,10 @@ def test_of(folder, path):
     if head is None:
         return old_test(path, text)
     head = re.sub(r'\r\n?', '\n', head.group(1))
-    es5 = field(head, 'es5id')
-    if not es5:
+    section = section_of((field(head, 'es5id') or [''])[0]) or section_of(os.path.basename(path))
+    if not section and not path.startswith('annexB'):
         return None
-    return Test(path, section_of(es5[0]), text, field(head, 'flags'), field(head, 'includes'),
+    return Test(path, section, text, field(head, 'flags'), field(head, 'includes'),
                 negative_of(head), field(head, 'features'))
 
 
@@ -101,8 +101,8 @@ def old_test(path, text):
 
 def section_of(name):
     """The section that a test's name begins with, as 15.4.4.4."""
-    found = re.match(r'S?(\d+(?:\.\d+)*)', name)
-    return found.group(1).rstrip('.') if found else ''
+    found = re.match(r'S?((?:B|[7-9]|1[0-5])(?:\.\d+)+)', name)
+    return found.group(1) if found else ''
 
 
 def code_of(text):
