@@ -69,8 +69,8 @@ def by_node(prelude, script):
                 file.write(text)
         run = subprocess.run(['node', os.path.join(TABLES, 'node.js'), *names], stdout=subprocess.PIPE,
                              stdin=subprocess.DEVNULL, check=True)
-    told = json.loads(run.stdout)
-    return Ran('\n'.join(told['lines']).split('\n') if told['lines'] else [], told['end'], 0)
+    answer = json.loads(run.stdout)
+    return Ran('\n'.join(answer['lines']).split('\n') if answer['lines'] else [], answer['end'], 0)
 
 
 def by_engine(engine, prelude, script):
@@ -104,7 +104,7 @@ def compare(job):
 
 
 def known_rows():
-    """The rows of the table of known differences: section, script, what each prints, and how scripts are kept from it."""
+    """The rows of the table of known differences: section, script, and what each engine prints."""
     with open(os.path.join(TABLES, 'engines.txt'), encoding='utf-8') as lines:
         kept = [line.rstrip('\n').split(' | ') for line in lines if line.strip() and not line.startswith('--')]
     return [(row[0], row[1], dict(zip(('jlint', 'node', 'mujs', 'duktape'), row[2:6]))) for row in kept]
@@ -113,11 +113,11 @@ def known_rows():
 def wrong_rows(program, engines):
     """The known differences that are not as the table says."""
     for section, script, due in known_rows():
-        told = {engine: by_engine(engine, '', script) for engine in engines}
-        told['jlint'] = by_jlint(program, script)
-        for engine, ran in told.items():
+        answer = {engine: by_engine(engine, '', script) for engine in engines}
+        answer['jlint'] = by_jlint(program, script)
+        for engine, ran in answer.items():
             said = ' '.join(ran.lines) + ('' if ran.end == 'normal' else ' (%s)' % ran.end)
-            if said != due[engine]:
+            if due[engine] not in (said, '*'):
                 yield '%s: %s: %s prints %r, where the table has %r' % (section, script, engine, said, due[engine])
 
 

@@ -5,10 +5,10 @@ usage: tools/random_scripts.py FOLDER --seed N --count M [--without NAMES]
 
 Script K of a run is made from the seed N + K alone, so that one script can be made again. It has all forms of
 statements and expressions and all builtins that jlint has, getters and setters, deletes, throws, `finally` and labels;
-each loop and each recursion ends. What it prints is told by `show`, the same function in each script.
+each loop and each recursion ends. It prints values by `show`, the same function in each script.
 
-NAMES are names of forms that are left out, with commas between them: those of the table of engines, in
-tools/standard/engines.txt, where an engine is known to do otherwise.
+NAMES are names of forms that are left out, with commas between them, where an engine is known to do otherwise: see
+tools/standard/engines.txt. For mujs they are delete-value,finally,holes,mapped,no-primitive,this.
 """
 import argparse
 import os
@@ -159,7 +159,8 @@ class Writer:
             return self.pick(self.names)
         if form < 8:
             return self.pick(['o', 'l']) + '.' + self.pick(['p', 'q', 'r'])
-        return self.pick(['o', 'o' if 'holes' in self.without else 'l']) + '[' + self.pick(['"p"', '0', '1', '2', '"k" + ' + self.pick(self.names)]) + ']'
+        base = self.pick(['o', 'o' if 'holes' in self.without else 'l'])
+        return base + '[' + self.pick(['"p"', '0', '1', '2', '"k" + ' + self.pick(self.names)]) + ']'
 
     def expression(self, depth):
         if depth <= 0:
@@ -231,13 +232,13 @@ class Writer:
         """A statement; `inside` says whether it stands in a function, where it may return."""
         if depth <= 0:
             return 'print(show(%s));' % self.expression(2)
-        forms = [self.told] * 3 + [self.put] * 3 + [self.condition, self.counting, self.testing, self.visiting]
+        forms = [self.printed] * 3 + [self.put] * 3 + [self.condition, self.counting, self.testing, self.visiting]
         forms += [self.attempt] * 3 + [self.choice, self.declared, self.labelled, self.plain, self.thrown]
         if inside and self.often(15):
             return 'if (%s) { return %s; }' % (self.expression(2), self.expression(2))
         return self.pick(forms)(depth, inside)
 
-    def told(self, _, inside):
+    def printed(self, _, inside):
         if inside and self.often(30):
             this = '' if 'this' in self.without else ', show(this)'
             return 'print(arguments.length, show(arguments[%s])%s);' % (self.pick('01'), this)
@@ -281,7 +282,7 @@ class Writer:
         return form % ((i, i, most, body) if 'while (%s++ < %d) {' in form else (i, body, i, most))
 
     def visiting(self, depth, inside):
-        """A `for-in` over names that are in the order of the alphabet, as some engines visit them, and are no indices."""
+        """A `for-in` over names in the order of the alphabet, as some engines visit them, and no indices."""
         i = self.counter()
         names = sorted(self.random.sample(['p', 'q', 'r', 's', 't', 'u'], self.random.randint(0, 4)))
         entries = ', '.join(self.entry(name, 1) for name in names)
@@ -293,7 +294,7 @@ class Writer:
         body = self.statements(depth - 1, inside)
         if self.often(40):
             body += ' throw %s;' % self.expression(2)
-        form = self.random.randrange(3)
+        form = 1 if 'finally' in self.without else self.random.randrange(3)
         catch = ' catch (x) { print("caught", show(x)); %s }' % self.statement(depth - 1, inside) if form else ''
         last = ' finally { print("finally"); %s }' % self.statement(depth - 1, inside) if form != 1 else ''
         return 'try { %s }%s%s' % (body, catch, last)
@@ -309,7 +310,7 @@ class Writer:
         label, i = 'L%d' % self.labels, self.counter()
         jump = self.pick(['break', 'continue']) + ' ' + label
         body = self.statements(depth - 1, inside)
-        if self.often(50):
+        if self.often(50) and 'finally' not in self.without:
             body = 'try { ' + body + ' } finally { print("left"); if (' + i + ' == 1) { ' + jump + '; } }'
         else:
             body = '{ ' + body + ' if (' + i + ' == 0) { ' + jump + '; } }'
@@ -325,8 +326,9 @@ class Writer:
             name, strict, guard, this, self.statements(2, True), self.expression(2))
 
     def script(self):
-        lines = [HEAD + 'var a = 1, b = "x", c = [1, 2, 3], d = { p: 1, q: "y" }, e, o = { p: 2 }, l = [4, "5", %s];' % (
-            '7, null' if 'holes' in self.without else ', null')]
+        rest = '7, null' if 'holes' in self.without else ', null'
+        lines = [HEAD + 'var a = 1, b = "x", c = [1, 2, 3], d = { p: 1, q: "y" }, e, o = { p: 2 };']
+        lines += ['var l = [4, "5", %s];' % rest]
         lines += [self.declaration(name) for name in 'fgh']
         for _ in range(self.random.randint(12, 24)):
             lines.append('try { %s } catch (x) { print("thrown", show(x)); }' % self.statement(3, False))

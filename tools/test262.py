@@ -3,8 +3,8 @@
 
 usage: tools/test262.py FOLDER [--program PROGRAM] [--only TEXT] [--loose] [--jobs N] [--show N] [--write FILE] [--page]
 
-FOLDER is a checkout of any date: of the tests whose head has an `es5id:`, or of those of 2012 with an `@path`. None is
-copied. A test runs with the functions of tools/standard/harness.js that it asks for, in loose code, in strict code or
+FOLDER is a checkout of any date. Tests of edition 5.1 are those whose head has an `es5id:`, those whose file is named by
+a section, as 15.4.4.4-5-b-1.js and S7.8.3_A1.js, and those of 2012 with an `@path`. None is copied. A test runs with the functions of tools/standard/harness.js that it asks for, in loose code, in strict code or
 in both, as its flags say (with --loose in strict code only where it can't run in the other); one that is to be refused
 or to throw is passed where it is or does. Outcomes are
 
@@ -71,12 +71,19 @@ def test_of(folder, path):
     if head is None:
         return old_test(path, text)
     head = re.sub(r'\r\n?', '\n', head.group(1))
-    es5 = field(head, 'es5id')
-    if not es5:
+    section = section_of((field(head, 'es5id') or [''])[0]) or section_of(os.path.basename(path))
+    if not section and not path.startswith('annexB'):
         return None
-    negative = re.search(r'^negative:\s*\n\s+phase:\s*(\w+)\s*\n\s+type:\s*(\w+)', head, re.M)
-    return Test(path, section_of(es5[0]), text, field(head, 'flags'), field(head, 'includes'),
-                negative.groups() if negative else None, field(head, 'features'))
+    return Test(path, section, text, field(head, 'flags'), field(head, 'includes'),
+                negative_of(head), field(head, 'features'))
+
+
+def negative_of(head):
+    """The phase in which a test is to fail and the kind of error, or None where it is to pass."""
+    block = re.search(r'^negative:\s*\n((?:[ \t]+.*\n?)*)', head, re.M)
+    if block is None:
+        return None
+    return tuple(re.search(r'%s:\s*(\w+)' % name, block.group(1)).group(1) for name in ('phase', 'type'))
 
 
 def old_test(path, text):
@@ -94,8 +101,8 @@ def old_test(path, text):
 
 def section_of(name):
     """The section that a test's name begins with, as 15.4.4.4."""
-    found = re.match(r'S?(\d+(?:\.\d+)*)', name)
-    return found.group(1).rstrip('.') if found else ''
+    found = re.match(r'S?((?:B|[7-9]|1[0-5])(?:\.\d+)+)', name)
+    return found.group(1) if found else ''
 
 
 def code_of(text):
@@ -228,7 +235,7 @@ def counted(results):
     yield from ('| %s | %s |' % (clause, ' | '.join(str(counts[clause][k]) for k in KINDS)) for clause in order)
 
 
-def told(results, causes):
+def tables(results, causes):
     """The tables of outcomes, of causes, and of tests that fail rightly."""
     sections = {cause.name: cause.section for cause in causes}
     yield from counted(results)
@@ -250,13 +257,15 @@ def date_of(folder):
     return run.stdout.decode().strip() or 'no date'
 
 
-def write_page(folder, lines):
+def write_page(words, lines):
     """Puts the tables between the two marks in docs/standard.md."""
     page = os.path.join(TOP, 'docs', 'standard.md')
     with open(page, encoding='utf-8') as file:
         before, _, rest = file.read().partition(MARKS[0] + '\n')
     after = rest.partition(MARKS[1] + '\n')[2]
-    head = 'The checkout is of %s.' % date_of(folder)
+    head = 'The checkout is of %s.' % date_of(words.folder)
+    if words.loose:
+        head += ' Each test ran in loose code, or in strict code where it asks for that.'
     with open(page, 'w', encoding='utf-8') as file:
         file.write('\n'.join([before + MARKS[0], head, '', *lines, MARKS[1], after]))
 
@@ -297,10 +306,10 @@ def main():
     with concurrent.futures.ProcessPoolExecutor(words.jobs) as pool:
         results = [it for it in kept(pool.map(outcome, jobs, chunksize=4), words.write) if it]
     results, unused = with_reasons(results)
-    lines = list(told(results, causes))
+    lines = list(tables(results, causes))
     print('\n'.join(lines))
     if words.page:
-        write_page(words.folder, lines)
+        write_page(words, lines)
     failed = [(test.name, why) for test, kind, why in results if kind == 'FAILED']
     for name, why in failed[:words.show]:
         print('FAILED', name + ':', why)
