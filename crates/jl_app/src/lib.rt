@@ -3,24 +3,33 @@
 
 mod accept;
 mod answer;
+mod beside;
 mod check;
+mod cover;
 mod execute;
 mod form;
 mod instrument;
 pub mod laws;
 mod lint;
 mod listing;
+mod objects;
 mod position;
 mod print;
 mod read_back;
+mod recording;
 mod refusal;
+mod replay;
 mod report;
 mod source;
+mod srcmap;
 mod status;
 mod top;
 mod trace;
 mod tracer;
+mod unmap;
+mod woven_run;
 
 pub use answer::Answer;
+pub use beside::{RunAndLint, run_and_lint};
 pub use status::Status;
-pub use top::{answer_to, jlint};
+pub use top::{answer_to, jlint, most_read, too_long};
