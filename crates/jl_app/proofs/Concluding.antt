@@ -5,7 +5,6 @@ use Rattle.jl_ast.specs.Tree.{Program}
 use Rattle.jl_command.specs.Asked.{Asked, request}
 use Rattle.jl_effects.specs.Running.{IsOver, state_of as world_of, steps_taken}
 use Rattle.jl_meaning.specs.Mean as mean
-use Rattle.jl_op.specs.Chosen.{Kinds}
 use Rattle.jl_text.specs.Encoding.{units_of}
 use Rattle.jl_text.specs.declared.span.Span.{Span}
 use Rattle.jl_app.specs.Accepting.{IsAccepted, IsRead, OneReading}
@@ -15,7 +14,7 @@ use Rattle.jl_app.specs.Endings.{Call, EndsWith, HasAnswered, answered, no_memor
 use Rattle.jl_app.specs.Forms.{form_of, ReadsSource}
 use Rattle.jl_app.specs.Headline.{Concludes, IsAboutOperations, own_run, woven_run}
 use Rattle.jl_app.specs.Refusals.{IsRefused, NeverBoth}
-use Rattle.jl_app.specs.Telling.{IsToldOf, IsToldOfWoven, Tells, covers, kinds_told, profiles, records, told_run}
+use Rattle.jl_app.specs.Telling.{IsToldOf, IsToldOfWoven, Tells, covers, kinds_told, profiles, records}
 use Rattle.jl_app.specs.WovenRuns.{woven_budget}
 use Rattle.jl_app.specs.WovenText.{kinds_of}
 use Rattle.jl_app.specs.declared.form.Form.TheVariants as forms
@@ -23,6 +22,7 @@ use Rattle.jl_app.specs.declared.status.Status.{Status}
 use Rattle.jl_app.proofs.Headline.{headline}
 use Rattle.jl_app.proofs.OwnOperations.{Laws, no_fewer, not_many_more, told_of_own}
 use Rattle.jl_app.proofs.Scripts.{of_source}
+use Rattle.jl_app.proofs.ToldRuns.{told_run_is}
 
 some_same : {A : Type 0} {a b : A} → Some a ≡ Some b → a ≡ b
 some_same e = cc
@@ -32,11 +32,6 @@ told_form : (a : Asked) (budget : ℕ) → Tells a budget → ReadsSource a × (
 told_form _ _ (records budget) = (tt, refl)
 told_form _ _ (profiles budget) = (tt, refl)
 told_form _ _ (covers budget) = (tt, refl)
-
--- the run that it tells of
-told_run_is : (kinds : Kinds) (p : Program Span) (budget : ℕ) → told_run kinds p budget ≡ woven_run kinds p (woven_budget budget)
-unfolding woven_run
-told_run_is kinds p budget = refl
 
 responds_told : (a : Asked) (units : List ℕ) (p : Program Span) (shelf : OnShelf) (budget : ℕ) (due : Due)
     → Tells a budget → Responds a units p shelf due → IsToldOfWoven a units p budget due
@@ -59,36 +54,39 @@ module _ (one : OneReading) (never : NeverBoth) where
   answered_told a bytes p shelf budget due tells is (replayed chosen other x kept) =
       let none = sym (ap form_of other) ∙ (told_form a budget tells).1 in absurd (cc)
 
-module _ {call : Call} {answer : Status} (laws : Laws) (one : OneReading) (never : NeverBoth) (a : Asked)
+abbrev told_steps : Asked → Program Span → (budget : ℕ) → ℕ
+told_steps a p budget = steps_taken (woven_budget budget) (woven_run (kinds_told a) p (woven_budget budget))
+
+module _ (one : OneReading) (never : NeverBoth) (words : List (List ℕ)) (held : List ℕ) (shelf : OnShelf) (a : Asked)
+    (p : Program Span) (budget : ℕ) (is_asked : request words ≡ Some a) (tells : Tells a budget)
+    (is : IsAccepted held p) where
+  told_woven : (due : Due) → IsDue words held shelf due
+      → IsToldOf a (units_of held) p (woven_run (kinds_told a) p (woven_budget budget))
+      (world_of (woven_run (kinds_told a) p (woven_budget budget))).hooks (told_steps a p budget) due
+  told_woven due due_is =
+      subst (λ (r : mean.Run). IsToldOf a (units_of held) p r (world_of r).hooks
+      (steps_taken (woven_budget budget) r) due) (told_run_is (kinds_told a) p budget)
+      (answered_told one never a held p shelf budget due tells is
+      (of_source a due is_asked (told_form a budget tells).0 due_is))
+
+module _ {call : Call} (laws : Laws) (one : OneReading) (never : NeverBoth) (a : Asked)
     (p : Program Span) (budget : ℕ) (words : request call.words ≡ Some a) (tells : Tells a budget)
     (is : IsAccepted call.held p) (over : IsOver (own_run p budget)) where
-  abbrev steps : ℕ
-  steps = steps_taken (woven_budget budget) (woven_run (kinds_told a) p (woven_budget budget))
-
-  told_woven : (due : Due) → IsDue call.words call.held call.shelf due
-      → IsToldOf a (units_of call.held) p (woven_run (kinds_told a) p (woven_budget budget))
-      (world_of (woven_run (kinds_told a) p (woven_budget budget))).hooks steps due
-  told_woven due answered =
-      subst (λ (r : mean.Run). IsToldOf a (units_of call.held) p r (world_of r).hooks
-      (steps_taken (woven_budget budget) r) due) (told_run_is (kinds_told a) p budget)
-      (answered_told one never a call.held p call.shelf budget due tells is
-      (of_source a due words (told_form a budget tells).0 answered))
-
-  about_operations : EndsWith call answer → HasAnswered answer
+  about_operations : (answer : Status) → EndsWith call answer → HasAnswered answer
       → IsAboutOperations call a (units_of call.held) p budget (own_run p budget) answer
-  about_operations (answered due due_is grows knows) answers = record {
-    steps = steps;
+  about_operations _ (answered due due_is grows knows) answers = record {
+    steps = told_steps a p budget;
     due = due;
-    tells = told_of_own laws (units_of call.held) call.held p is a budget tells over steps due
-        (told_woven due due_is);
+    tells = told_of_own laws (units_of call.held) call.held p is a budget tells over (told_steps a p budget) due
+        (told_woven one never call.words call.held call.shelf a p budget words tells is due due_is);
     status = refl;
     written = grows;
     no_fewer = no_fewer (kinds_told a) p (laws.well (kinds_told a) p call.held is) budget over;
     not_many_more = not_many_more (kinds_told a) p (laws.well (kinds_told a) p call.held is) budget over;
   }
-  about_operations (write_failed due n is2 risen less grows knows) answers = absurd answers
-  about_operations (read_failed a2 words2 reads risen same2 kept knows) answers = absurd answers
-  about_operations (no_memory same2) answers = absurd answers
+  about_operations _ (write_failed due n is2 risen less grows knows) answers = absurd answers
+  about_operations _ (read_failed a2 words2 reads risen same2 kept knows) answers = absurd answers
+  about_operations _ (no_memory same2) answers = absurd answers
 
 pub concludes : {call : Call} {answer : Status} → NeededIsEnough → OneReading → NeverBoth → Laws
     → EndsWith call answer → Concludes call answer
@@ -98,5 +96,5 @@ concludes {call} {answer} enough one never laws ends = record {
       headline enough one never ends a script p budget chosen (laws.well (kinds_of chosen) p script is) words reports
       is_script is lent answers;
   operations = λ a p budget words tells is answers over.
-      about_operations laws one never a p budget words tells is over ends answers;
+      about_operations laws one never a p budget words tells is over answer ends answers;
 }

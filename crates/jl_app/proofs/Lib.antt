@@ -24,6 +24,9 @@ pub mod WithoutMisuse
 pub mod BytesOfUnits
 pub mod StandsAlone
 pub mod Headline
+pub mod LinesOf
+pub mod ToldRuns
+pub mod Replayed
 pub mod OwnOperations
 pub mod Concluding
 pub mod Statuses

@@ -29,13 +29,13 @@ some_same e = cc
 -- bytes that are no text are so for one cause
 one_cause : (most : ℕ) (bytes : List ℕ) (c d : Refusal) → IsNoText most bytes c → IsNoText most bytes d → c ≡ d
 one_cause most bytes _ _ (longer more) (longer too) = refl
-one_cause most bytes _ _ (longer more) (undecoded few no) = absurd (omega (arith, more, few))
-one_cause most bytes _ _ (undecoded few no) (longer more) = absurd (omega (arith, more, few))
-one_cause most bytes _ _ (undecoded few no) (undecoded less not) = refl
+one_cause most bytes _ _ (longer more) (undecoded few bad) = absurd (omega (arith, more, few))
+one_cause most bytes _ _ (undecoded few bad) (longer more) = absurd (omega (arith, more, few))
+one_cause most bytes _ _ (undecoded few bad) (undecoded less worse) = refl
 
 never_text : (most : ℕ) (bytes : List ℕ) (c : Refusal) → IsNoText most bytes c → IsTextWithin most bytes → ⊥
 never_text most bytes _ (longer more) is = omega (arith, more, is.short)
-never_text most bytes _ (undecoded few no) is = no is.decoded
+never_text most bytes _ (undecoded few bad) is = bad is.decoded
 
 same_words : {c d : Refusal} → c ≡ d → refused_only (refusal_words c) ≡ refused_only (refusal_words d)
 same_words is = ap (λ c. refused_only (refusal_words c)) is

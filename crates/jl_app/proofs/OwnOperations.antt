@@ -184,14 +184,14 @@ pub told_of_own : Laws → (units bytes : List ℕ) (p : Program Span) → IsAcc
     → IsToldOf a units p (woven_run (kinds_told a) p (woven_budget n))
     (world_of (woven_run (kinds_told a) p (woven_budget n))).hooks steps due
     → IsToldOf a units p (own_run p n) (world_of (own_run p n)).operations steps due
-told_of_own laws units bytes p is _ n (records n) over steps due told =
+told_of_own laws units bytes p is _ _ (records n) over steps due told =
     let well = laws.well every_kind p bytes is in
     let own = own_run p n in
     let woven = woven_run every_kind p (woven_budget n) in
     same_recorded units p own woven steps (same_ending every_kind p well n over) (same_store every_kind p well n over)
     (world_of woven).hooks (world_of own).operations
     (same_hooks every_kind p well n over ∙ all_kept (world_of own).operations) due told
-told_of_own laws units bytes p is _ n (profiles n) over steps due told =
+told_of_own laws units bytes p is _ _ (profiles n) over steps due told =
     let well = laws.well is_profiled p bytes is in
     let own = own_run p n in
     let woven = woven_run is_profiled p (woven_budget n) in
@@ -202,7 +202,7 @@ told_of_own laws units bytes p is _ n (profiles n) over steps due told =
     (births_in lines rows (world_of own).operations)
     (ap (births_in lines rows) (same_hooks is_profiled p well n over ∙ kept_are is_profiled (world_of own).operations)
     ∙ laws.profiled is_profiled (λ kind looked. looked) lines rows (world_of own).operations)
-told_of_own laws units bytes p is _ n (covers n) over steps due told =
+told_of_own laws units bytes p is _ _ (covers n) over steps due told =
     let well = laws.well is_covered p bytes is in
     let own = own_run p n in
     let woven = woven_run is_covered p (woven_budget n) in

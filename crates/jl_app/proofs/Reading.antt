@@ -98,17 +98,15 @@ most_of_form (cover budget) form is = ap (λ f. Some (most_bytes f)) (some_same 
 most_of_form (soak number budget chosen) form is = absurd (cc)
 
 module _ {bytes : List ℕ} {shelf : OnShelf} (same : shelf.same) where
-  abbrev answer : Asked → Type 0
-  answer a = IsAnswered a bytes shelf (refused_only (codes "TooLong"))
-
   -- a script, or a woven text, of more bytes
   long_program : (a : Asked) (form : Form) (most : ℕ) → form_of a ≡ Some form → Some (most_bytes form) ≡ Some most
-      → most < length bytes → answer a
+      → most < length bytes → IsAnswered a bytes shelf (refused_only (codes "TooLong"))
   long_program a form most is bound more =
       refused form TooLong is (too_long (subst (λ n. n < length bytes) (sym (some_same bound)) more)) same
 
   -- what is due to more bytes than the command reads
-  long_answer : (a : Asked) (most : ℕ) → most_read a ≡ Some most → most < length bytes → answer a
+  long_answer : (a : Asked) (most : ℕ) → most_read a ≡ Some most → most < length bytes
+      → IsAnswered a bytes shelf (refused_only (codes "TooLong"))
   long_answer (lint budget chosen) most is more = long_program _ forms.Script most refl is more
   long_answer (run budget) most is more = long_program _ forms.Script most refl is more
   long_answer check most is more = long_program _ forms.Script most refl is more

@@ -24,6 +24,21 @@ made_by : {held : List ℕ} (number budget : ℕ) (chosen : List ℕ) {bytes : L
 made_by number budget chosen (in_source a bytes reads is) = absurd reads
 made_by _ _ _ (made number budget chosen) = refl
 
+module _ {held : List ℕ} {shelf : OnShelf} where
+  answered_source : (a : Asked) (due : Due) → ReadsSource a → IsDueTo a held shelf due → IsAnswered a held shelf due
+  answered_source a due reads (answered_to too answered) = answered
+  answered_source a due reads (answered_to_made number budget chosen is answered) =
+      absurd (subst (λ (x : Asked). ReadsSource x) is reads)
+
+  of_made : (number budget : ℕ) (chosen : List ℕ) (due : Due) → IsDueTo (soak number budget chosen) held shelf due
+      → IsAnswered (lint budget chosen) (script_of number) shelf due
+  of_made number budget chosen due (answered_to reads answered) = absurd reads
+  of_made number budget chosen due (answered_to_made n b c is answered) =
+      let same = same_made is in
+      subst (λ x. IsAnswered (lint budget chosen) (script_of x) shelf due) (sym same.0)
+      (subst (λ x. IsAnswered (lint x chosen) (script_of n) shelf due) (sym same.1)
+      (subst (λ x. IsAnswered (lint b x) (script_of n) shelf due) (sym same.2) answered))
+
 module _ {words : List (List ℕ)} {held : List ℕ} {shelf : OnShelf} where
   -- what is due to the command that the words ask for
   due_to_asked : (a : Asked) (due : Due) → request words ≡ Some a → IsDue words held shelf due → IsDueTo a held shelf due
@@ -31,23 +46,9 @@ module _ {words : List (List ℕ)} {held : List ℕ} {shelf : OnShelf} where
   due_to_asked a due is (due_to b words answered) =
       subst (λ (x : Asked). IsDueTo x held shelf due) (same_asked (sym words ∙ is)) answered
 
-  answered_source : (a : Asked) (due : Due) → ReadsSource a → IsDueTo a held shelf due → IsAnswered a held shelf due
-  answered_source a due reads (answered_to too answered) = answered
-  answered_source a due reads (answered_to_made number budget chosen made answered) =
-      absurd (subst (λ (x : Asked). ReadsSource x) made reads)
-
   pub of_source : (a : Asked) (due : Due) → request words ≡ Some a → ReadsSource a → IsDue words held shelf due
       → IsAnswered a held shelf due
   of_source a due is reads answer = answered_source a due reads (due_to_asked a due is answer)
-
-  of_made : (number budget : ℕ) (chosen : List ℕ) (due : Due) → IsDueTo (soak number budget chosen) held shelf due
-      → IsAnswered (lint budget chosen) (script_of number) shelf due
-  of_made number budget chosen due (answered_to reads answered) = absurd reads
-  of_made number budget chosen due (answered_to_made n b c made answered) =
-      let same = same_made made in
-      subst (λ x. IsAnswered (lint budget chosen) (script_of x) shelf due) (sym same.0)
-      (subst (λ x. IsAnswered (lint x chosen) (script_of n) shelf due) (sym same.1)
-      (subst (λ x. IsAnswered (lint b x) (script_of n) shelf due) (sym same.2) answered))
 
   pub due_to_script : (a : Asked) (bytes : List ℕ) (budget : ℕ) (chosen : List ℕ) (due : Due) → request words ≡ Some a
       → Reports a budget chosen → IsScriptFor held a bytes → IsDue words held shelf due

@@ -107,7 +107,7 @@ replay_answers (line ∷ lines) = tt
 replayed_answers : (chosen bytes : List ℕ) (d : Due) → IsReplayed chosen bytes d → HasAnswered d.status
 replayed_answers chosen bytes _ (not_text cause is) = tt
 replayed_answers chosen bytes _ (no_record n is refusal) = tt
-replayed_answers chosen bytes _ (reported stored lines is of text report) = replay_answers lines
+replayed_answers chosen bytes _ (reported stored lines is of words report) = replay_answers lines
 
 answered_answers : (a : Asked) (bytes : List ℕ) (shelf : OnShelf) (d : Due) → IsAnswered a bytes shelf d
     → HasAnswered d.status

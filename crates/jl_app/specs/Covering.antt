@@ -21,13 +21,17 @@ abbrev pub missed_lines : List Missed → List ℕ
 missed_lines [] = []
 missed_lines (gap ∷ gaps) = (missed_bytes gap ++ 10 ∷ []) ++ missed_lines gaps
 
--- the last line, with how many of the functions were entered, and how many of the conditions were true and false
+-- how many of the functions were entered, and how many of the conditions were true and false
+abbrev pub totals_text : Totals → List ℕ
+totals_text totals =
+    codes "functions=" ++ (decimal totals.entered ++ (codes " of " ++ (decimal totals.functions
+    ++ (codes " conditions=" ++ (decimal totals.decided ++ (codes " of " ++ decimal totals.conditions))))))
+
+-- the last line
 abbrev pub cover_line : Ending → (steps : ℕ) → Totals → List ℕ
 cover_line end steps totals =
-    codes "jlint: " ++ (ending_text end ++ (codes " steps=" ++ (decimal steps
-    ++ (codes " functions=" ++ (decimal totals.entered ++ (codes " of " ++ (decimal totals.functions
-    ++ (codes " conditions=" ++ (decimal totals.decided ++ (codes " of " ++ (decimal totals.conditions
-    ++ 10 ∷ [])))))))))))
+    codes "jlint: " ++ (ending_text end ++ (codes " steps=" ++ (decimal steps ++ (codes " "
+    ++ (totals_text totals ++ 10 ∷ [])))))
 
 -- the gaps, what the run r threw, and the last line
 abbrev pub cover_bytes : mean.Run → (steps : ℕ) → List Missed → Totals → List ℕ

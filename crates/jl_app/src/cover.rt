@@ -4,7 +4,7 @@ ghost use Rattle.std.specs.String.{string_bytes};
 ghost use Rattle.jl_ast.specs.View.{view};
 ghost use Rattle.jl_command.specs.Asked.{cover};
 ghost use Rattle.jl_simulation.specs.Plain.{HasFewIds};
-ghost use Rattle.jl_app.specs.Covering.{cover_line, missed_lines};
+ghost use Rattle.jl_app.specs.Covering.{cover_line, missed_lines, totals_text};
 ghost use Rattle.jl_app.specs.Due.{Due};
 ghost use Rattle.jl_app.specs.OwnRuns.{uncaught_line};
 ghost use Rattle.jl_app.specs.Telling.{IsToldOfWoven};
@@ -32,21 +32,25 @@ fn missed_lines(alloc: Global, gaps: &[Missed]) -> Result<Vec<u8>, AllocError>
     Ok(text)
 }
 
-/// The last line, with how much of the functions and conditions was covered.
+/// How much of the functions and conditions was covered.
+fn totals_text(alloc: Global, totals: Totals) -> Result<String, AllocError>
+    ensures { IfOk result (λ text. string_bytes text ≡ totals_text totals) }
+{
+    let entered = totals.entered;
+    let functions = totals.functions;
+    let decided = totals.decided;
+    let conditions = totals.conditions;
+    format!(in alloc; "functions={entered} of {functions} conditions={decided} of {conditions}")
+}
+
+/// The last line.
 fn cover_line(alloc: Global, run: &Run, totals: Totals) -> Result<String, AllocError>
     ensures { IfOk result (λ text. string_bytes text ≡ cover_line run.now.outcome run.now.steps totals) }
 {
     let end = ending_text(alloc, &run.outcome)?;
     let steps = run.steps;
-    let Totals {
-        entered,
-        functions,
-        decided,
-        conditions,
-    } = totals;
-    format!(in alloc;
-        "jlint: {end} steps={steps} functions={entered} of {functions} conditions={decided} of {conditions}\n"
-    )
+    let covered = totals_text(alloc, totals)?;
+    format!(in alloc; "jlint: {end} steps={steps} {covered}\n")
 }
 
 /// The gaps, what the run threw, and the last line.

@@ -3,7 +3,6 @@
 
 mod accept;
 mod answer;
-mod beside;
 mod check;
 mod cover;
 mod execute;
@@ -30,6 +29,5 @@ mod unmap;
 mod woven_run;
 
 pub use answer::Answer;
-pub use beside::{RunAndLint, run_and_lint};
 pub use status::Status;
 pub use top::{answer_to, jlint, most_read, too_long};

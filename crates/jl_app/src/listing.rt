@@ -76,8 +76,9 @@ fn within(alloc: Global, map: &OpMap, end: u32) -> Result<OpMap, AllocError>
     let mut rows = OpMap::new(alloc);
     for before in 0..map.len() {
         let id = OpId(before + 1);
-        let Span { from, to } = map.place_of(id);
-        let from = from.min(end);
+        let place = map.place_of(id);
+        let from = place.from.min(end);
+        let to = place.to;
         rows.add(map.kind_of(id), Span { from, to })?;
     }
     Ok(rows)

@@ -19,16 +19,22 @@ use crate::refusal::Refusal;
 use crate::report::text;
 use crate::status::Status;
 use jl_analysis::{Crowd, Findings, RuleSet};
-use jl_op::{Observer, OpKind};
+use jl_op::{Observer, Op, OpId, OpKind};
 use jl_record::{ReadRecordRefusal, Record, read_record};
 use jl_report::{Line, report_at};
 use jl_text::{Utf8Fault, from_utf8};
 use std::alloc::{AllocError, Global};
 
 /// The last line.
-fn replayed_line(alloc: Global, hooks: usize, reports: usize) -> Result<String, AllocError>
-    ensures { IfOk result (λ text. string_bytes text ≡ replayed_line hooks reports) }
+fn replayed_line(
+    alloc: Global,
+    operations: &[(OpId, Op)],
+    lines: &[Line],
+) -> Result<String, AllocError>
+    ensures { IfOk result (λ text. string_bytes text ≡ replayed_line (length operations.now) (length lines.now)) }
 {
+    let hooks = operations.len();
+    let reports = lines.len();
     format!(in alloc; "jlint: replayed hooks={hooks} reports={reports}\n")
 }
 
@@ -48,8 +54,8 @@ fn places(alloc: Global, rows: &[(OpKind, u32, u32)]) -> Result<Vec<(u32, u32)>,
     ensures { IfOk result (λ places. places.items ≡ places_of rows.now) }
 {
     let mut places = Vec::new(alloc);
-    for (_, line, column) in rows {
-        places.push((*line, *column))?;
+    for row in rows {
+        places.push((row.1, row.2))?;
     }
     Ok(places)
 }
@@ -73,7 +79,7 @@ fn report_record(
     jl_record::replay(run, crowd)?;
     let places = places(alloc, &run.rows)?;
     let lines = report_at(alloc, crowd, &places, rules, &run.off)?;
-    let end = replayed_line(alloc, run.ops.len(), lines.len())?;
+    let end = replayed_line(alloc, &run.ops, &lines)?;
     let mut bytes = text(alloc, &lines)?;
     bytes.extend_from_slice(end.as_bytes())?;
     Ok(Answer {

@@ -126,7 +126,41 @@ fn respond_within<H: Shelf>(
     }
 }
 
-/// What a command answers, where the source holds these bytes. Of bytes that are more than it reads, it reads none.
+/// The same, where they may be more than this, which is as many as it reads.
+fn respond_up_to<H: Shelf>(
+    alloc: Global,
+    command: Command,
+    most: usize,
+    bytes: &[u8],
+    shelf: &mut H,
+    crowd: &mut Crowd,
+) -> Result<Answer, AllocError>
+    requires meant { (a : Asked) × Means command a }
+    requires most { (a : Asked) → Means command a → most_read a ≡ Some most }
+    requires rules { ⟦<Crowd as Findings>⟧.rules crowd.old ≡ all_rules }
+    requires fresh { ⟦<Crowd as Observer>⟧.stands_for crowd.old [] }
+    ensures due { (a : Asked) → Means command a → IfOk result (λ given. (due : Due)
+        × IsDueTo a bytes.now (record {
+          handed = H.handed shelf.new;
+          lent = H.lent shelf.new;
+          same = shelf.new ≡ shelf.old;
+        }) due
+        × IsGiven (record {
+          same = crowd.new ≡ crowd.old;
+          told = λ told. ⟦<Crowd as Observer>⟧.stands_for crowd.new told;
+        }) given due) }
+    ensures shelf { (a : Asked) → Means command a → ((budget : ℕ) (chosen : List ℕ) → Reports a budget chosen → ⊥)
+        → shelf.new ≡ shelf.old }
+    ensures crowd { (a : Asked) → Means command a → (IsReporting a → ⊥) → crowd.new ≡ crowd.old }
+    ensures same_rules { ⟦<Crowd as Findings>⟧.rules crowd.new ≡ ⟦<Crowd as Findings>⟧.rules crowd.old }
+{
+    if most < bytes.len() {
+        return too_long(alloc);
+    }
+    respond_within(alloc, command, bytes, shelf, crowd)
+}
+
+/// What a command answers, where the source holds these bytes.
 pub(crate) fn respond_to<H: Shelf>(
     alloc: Global,
     command: Command,
@@ -152,12 +186,10 @@ pub(crate) fn respond_to<H: Shelf>(
     ensures crowd { (a : Asked) → Means command a → (IsReporting a → ⊥) → crowd.new ≡ crowd.old }
     ensures same_rules { ⟦<Crowd as Findings>⟧.rules crowd.new ≡ ⟦<Crowd as Findings>⟧.rules crowd.old }
 {
-    if let Some(most) = most_read_by(command)
-        && most < bytes.len()
-    {
-        return too_long(alloc);
+    match most_read_by(command) {
+        Some(most) => respond_up_to(alloc, command, most, bytes, shelf, crowd),
+        None => respond_within(alloc, command, bytes, shelf, crowd),
     }
-    respond_within(alloc, command, bytes, shelf, crowd)
 }
 
 /// What is due to these words, where the source holds these bytes.
@@ -262,6 +294,45 @@ impl From<AllocError> for Unanswered {
     }
 }
 
+/// The answer to these words and to what the source holds, of which at most this many bytes are read.
+fn answer_read<S: Source, H: Shelf>(
+    alloc: Global,
+    words: &[&str],
+    most: usize,
+    source: &mut S,
+    shelf: &mut H,
+    crowd: &mut Crowd,
+) -> Result<Answer, Unanswered>
+    requires is { Some most ≡ most_read_for (texts words.now) }
+    requires rules { ⟦<Crowd as Findings>⟧.rules crowd.old ≡ all_rules }
+    requires fresh { ⟦<Crowd as Observer>⟧.stands_for crowd.old [] }
+    ensures due { IfOk result (λ given. (bytes : List ℕ) × (due : Due)
+        × IfSome (S.left source.old) (λ all. all ≡ bytes)
+        × IsDue (texts words.now) bytes (record {
+          handed = H.handed shelf.new;
+          lent = H.lent shelf.new;
+          same = shelf.new ≡ shelf.old;
+        }) due
+        × IsGiven (record {
+          same = crowd.new ≡ crowd.old;
+          told = λ told. ⟦<Crowd as Observer>⟧.stands_for crowd.new told;
+        }) given due) }
+    ensures fault { IsErrOf result Unanswered.ReadFault → HasRisen (S.faults source.old) (S.faults source.new)
+        × (shelf.new ≡ shelf.old)
+        × (crowd.new ≡ crowd.old) }
+    ensures shelf { ((a : Asked) (budget : ℕ) (chosen : List ℕ) → request (texts words.now) ≡ Some a
+        → Reports a budget chosen → ⊥) → shelf.new ≡ shelf.old }
+    ensures crowd { ((a : Asked) → request (texts words.now) ≡ Some a → IsReporting a → ⊥) → crowd.new ≡ crowd.old }
+    ensures same_rules { ⟦<Crowd as Findings>⟧.rules crowd.new ≡ ⟦<Crowd as Findings>⟧.rules crowd.old }
+{
+    match read_all(alloc, source, most) {
+        Ok(bytes) => Ok(answer_to(alloc, words, &bytes, shelf, crowd)?),
+        Err(ReadRefusal::TooLong) => Ok(too_long(alloc)?),
+        Err(ReadRefusal::ReadFault) => Err(Unanswered::ReadFault),
+        Err(ReadRefusal::NoMemory) => Err(Unanswered::NoMemory),
+    }
+}
+
 /// The answer to these words and to what the source holds, of which as much is read as the command reads.
 fn answer_source<S: Source, H: Shelf>(
     alloc: Global,
@@ -294,14 +365,10 @@ fn answer_source<S: Source, H: Shelf>(
     ensures unread { ((a : Asked) → request (texts words.now) ≡ Some a → ReadsSource a → ⊥) → source.new ≡ source.old }
     ensures same_rules { ⟦<Crowd as Findings>⟧.rules crowd.new ≡ ⟦<Crowd as Findings>⟧.rules crowd.old }
 {
-    let Some(most) = most_read(alloc, words)? else {
-        return Ok(answer_to(alloc, words, &[], shelf, crowd)?);
-    };
-    match read_all(alloc, source, most) {
-        Ok(bytes) => Ok(answer_to(alloc, words, &bytes, shelf, crowd)?),
-        Err(ReadRefusal::TooLong) => Ok(too_long(alloc)?),
-        Err(ReadRefusal::ReadFault) => Err(Unanswered::ReadFault),
-        Err(ReadRefusal::NoMemory) => Err(Unanswered::NoMemory),
+    let limit = most_read(alloc, words)?;
+    match limit {
+        Some(most) => answer_read(alloc, words, most, source, shelf, crowd),
+        None => Ok(answer_to(alloc, words, &[], shelf, crowd)?),
     }
 }
 

@@ -1,5 +1,8 @@
 //! The segments of a source map.
-ghost use Rattle.std.specs.Prelude.{◌≡◌, ◌≤◌, ◌++◌, codes, length, IfOk};
+ghost use Rattle.std.specs.Prelude.{◌≡◌, ◌≤◌, ◌++◌, codes, length, IfOk, MatchOption};
+ghost use Rattle.std.specs.Str.{IsUtf8};
+ghost use Rattle.std.specs.Str.Lossy.{utf8_valid_len};
+ghost use Rattle.jl_app.specs.Texts.{IsTextWithin};
 ghost use Rattle.std.specs.Fmt.{decimal};
 ghost use Rattle.jl_app.specs.Due.{Due, refused_only};
 ghost use Rattle.jl_app.specs.Forms.{most_map_bytes};
@@ -33,15 +36,21 @@ fn bad_segment(alloc: Global, at: usize) -> Result<Answer, AllocError>
     line_only(alloc, Status::Refused, &text)
 }
 
-/// What `unmap` answers to these bytes.
-pub(crate) fn unmap(alloc: Global, bytes: &[u8]) -> Result<Answer, AllocError>
-    requires { length bytes.now ≤ most_map_bytes }
+/// The length of the longest prefix that is UTF-8, where the bytes are not.
+fn not_utf8_at(bytes: &[u8]) -> Option<usize>
+    ensures { MatchOption result (IsUtf8 bytes.now) (λ at. ¬ (IsUtf8 bytes.now) × (at ≡ utf8_valid_len bytes.now)) }
+{
+    match str::from_utf8(bytes) {
+        Ok(_) => None,
+        Err(fault) => Some(fault.valid_up_to()),
+    }
+}
+
+/// What `unmap` answers to a text.
+fn list_segments(alloc: Global, bytes: &[u8]) -> Result<Answer, AllocError>
+    requires { IsTextWithin most_map_bytes bytes.now }
     ensures { IfOk result (λ given. (due : Due) × IsUnmapped bytes.now due × IsSaid given due) }
 {
-    if let Err(error) = str::from_utf8(bytes) {
-        let at = error.valid_up_to();
-        return refusal_answer(alloc, &Refusal::NotUtf8 { at });
-    }
     match read_json(alloc, bytes) {
         Ok(segments) => Ok(Answer {
             status: Status::Clean,
@@ -51,5 +60,16 @@ pub(crate) fn unmap(alloc: Global, bytes: &[u8]) -> Result<Answer, AllocError>
         Err(MapRefusal::MapShape) => line_only(alloc, Status::Refused, "refused MapShape"),
         Err(MapRefusal::BadSegment { at }) => bad_segment(alloc, at),
         Err(MapRefusal::NoMemory) => Err(AllocError),
+    }
+}
+
+/// What `unmap` answers to these bytes.
+pub(crate) fn unmap(alloc: Global, bytes: &[u8]) -> Result<Answer, AllocError>
+    requires { length bytes.now ≤ most_map_bytes }
+    ensures { IfOk result (λ given. (due : Due) × IsUnmapped bytes.now due × IsSaid given due) }
+{
+    match not_utf8_at(bytes) {
+        Some(at) => refusal_answer(alloc, &Refusal::NotUtf8 { at }),
+        None => list_segments(alloc, bytes),
     }
 }

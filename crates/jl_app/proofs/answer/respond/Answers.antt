@@ -63,13 +63,13 @@ unreachable-requires g c =
     let meant = c.requires.meant in
     never_soak meant.0 meant.1 meant.2 (subst (λ (x : Command). Means x meant.0) c.in-Soak.is meant.3)
 
-pub unreachable-2-requires : goal.unreachable-2-requires
-unreachable-2-requires g c =
+pub unreachable-requires-in-Unmap : goal.unreachable-requires-in-Unmap
+unreachable-requires-in-Unmap g c =
     let meant = c.requires.meant in
     never_unmap meant.0 meant.1 meant.2 (subst (λ (x : Command). Means x meant.0) c.in-Unmap.is meant.3)
 
-pub unreachable-3-requires : goal.unreachable-3-requires
-unreachable-3-requires g c =
+pub unreachable-requires-in-Replay : goal.unreachable-requires-in-Replay
+unreachable-requires-in-Replay g c =
     let meant = c.requires.meant in
     never_replay meant.0 meant.1 meant.2 (subst (λ (x : Command). Means x meant.0) c.in-Replay.is meant.3)
 

@@ -1,5 +1,6 @@
 use Rattle.std.proofs.Common.{refl}
 use Rattle.std.proofs.lemmas.Result.{IfOk-weaker}
+use Rattle.jl_op.specs.Chosen.{every_kind}
 use Rattle.jl_app.proofs.Concluding.{concludes}
 use Rattle.jl_app.proofs.Endings.{ends_answered}
 use Rattle.jl_app.proofs.Statuses.{due_answers}
@@ -13,7 +14,7 @@ returns-clause-concludes g c =
       concludes c.needed_is_enough.ensures c.one_reading.ensures c.never_both.ensures
           (record {
             well = λ kinds p bytes is. c.scripts_are_woven_well.ensures kinds bytes p is;
-            rows = c.operations_have_rows.ensures;
+            rows = λ p n. c.operations_have_rows.ensures every_kind p n;
             profiled = c.kinds_are_enough.ensures;
             covered = c.kinds_are_enough-2.ensures;
           })

@@ -95,8 +95,8 @@ respond-requires-clause-meant g c =
     (λ rules is. omega (arith, ap (tag_of the_type) is)) in
     (meant.0, form.0, form.1, meant.1)
 
-pub returns-clause-due : goal.returns-clause-due
-returns-clause-due g c = λ a means.
+pub returns-in_default-clause-due : goal.returns-in_default-clause-due
+returns-in_default-clause-due g c = λ a means.
     let form = reads_program c.args.command a means
     (λ number budget rules is. omega (arith, ap (tag_of the_type) is)) (λ is. omega (arith, ap (tag_of the_type) is))
     (λ rules is. omega (arith, ap (tag_of the_type) is)) in
@@ -104,12 +104,12 @@ returns-clause-due g c = λ a means.
     (λ given due. (due.0, answered_to (reads_form a form.0 form.1) due.1, due.2))
     (c.respond.ensures.due a means)
 
-pub returns-clause-shelf : goal.returns-clause-shelf
-returns-clause-shelf g c = λ a means other.
+pub returns-in_default-clause-shelf : goal.returns-in_default-clause-shelf
+returns-in_default-clause-shelf g c = λ a means other.
     c.respond.ensures.shelf (λ budget chosen lints_too. not_lint c.args.command a budget chosen means lints_too
     (λ most rules is. other most rules (subst (λ (x : Asked). Reports x most rules) (sym is) (lints most rules))))
 
-pub returns-clause-crowd : goal.returns-clause-crowd
-returns-clause-crowd g c = λ a means other.
+pub returns-in_default-clause-crowd : goal.returns-in_default-clause-crowd
+returns-in_default-clause-crowd g c = λ a means other.
     c.respond.ensures.crowd (λ budget chosen lints_too. not_lint c.args.command a budget chosen means lints_too
     (λ most rules is. other (subst (λ (x : Asked). IsReporting x) (sym is) tt)))
