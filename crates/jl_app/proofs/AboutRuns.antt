@@ -19,7 +19,7 @@ use Rattle.jl_value.specs.declared.ending.Completion.{Completion}
 use Rattle.jl_value.specs.declared.ending.Completion.TheVariants as completion
 use Rattle.jl_value.specs.declared.ending.Fault.{Fault}
 use Rattle.jl_value.specs.declared.ending.Outcome.TheVariants as ending
-use Rattle.jl_app.specs.Answers.{IsReported, end_line, lint_bytes, lint_status, places}
+use Rattle.jl_app.specs.Linting.{IsReported, end_line, lint_bytes, lint_status, places}
 use Rattle.jl_app.specs.Endings.{Call}
 use Rattle.jl_app.specs.Headline.{IsAbout, IsAboutBeginning, kept_of}
 use Rattle.jl_app.specs.OwnRuns.{uncaught_line}
@@ -27,7 +27,7 @@ use Rattle.jl_app.specs.Reporting.{Lines, lines_text}
 use Rattle.jl_app.specs.WovenText.{kinds_of}
 use Rattle.jl_app.proofs.Reported.{all_reported}
 
-abbrev World : Type 0
+abbrev pub World : Type 0
 World = RunState Store Operation
 
 same_ending : (e : Finish Fault Completion) (m n : ℕ) (v w : World) → ending_of (Over e m v) ≡ ending_of (Over e n w)
@@ -40,38 +40,38 @@ same_ending (Fails f) m n v w = refl
 abbrev pub quiet : mean.Run → mean.Run
 quiet r = with_state without_operations r
 
-quiet_ending : (r : mean.Run) → ending_of (quiet r) ≡ ending_of r
+pub quiet_ending : (r : mean.Run) → ending_of (quiet r) ≡ ending_of r
 quiet_ending (Over e n w) = same_ending e n n (without_operations w) w
 quiet_ending (Spent w) = refl
 
-quiet_steps : (n : ℕ) (r : mean.Run) → steps_taken n (quiet r) ≡ steps_taken n r
+pub quiet_steps : (n : ℕ) (r : mean.Run) → steps_taken n (quiet r) ≡ steps_taken n r
 quiet_steps n (Over e k w) = refl
 quiet_steps n (Spent w) = refl
 
-quiet_world : (r : mean.Run) → world_of (quiet r) ≡ without_operations (world_of r)
+pub quiet_world : (r : mean.Run) → world_of (quiet r) ≡ without_operations (world_of r)
 quiet_world (Over e k w) = refl
 quiet_world (Spent w) = refl
 
 -- runs that are alike
 
 module _ (kept : Operation → Bool) where
-  alike_ending : (own other : mean.Run) → Alike kept own other → ending_of other ≡ ending_of own
+  pub alike_ending : (own other : mean.Run) → Alike kept own other → ending_of other ≡ ending_of own
   alike_ending (Over e m v) (Over f n w) a = ap (λ x. ending_of (Over x n w)) a.0 ∙ same_ending e n m w v
   alike_ending (Over e m v) (Spent w) a = absurd a
   alike_ending (Spent v) r a = absurd a
 
-  alike_seen : (own other : mean.Run) → Alike kept own other → SameSeen kept (world_of own) (world_of other)
+  pub alike_seen : (own other : mean.Run) → Alike kept own other → SameSeen kept (world_of own) (world_of other)
   alike_seen (Over e m v) (Over f n w) a = a.1
   alike_seen (Over e m v) (Spent w) a = absurd a
   alike_seen (Spent v) r a = absurd a
 
-  alike_over : (own other : mean.Run) → Alike kept own other → IsOver own × IsOver other
+  pub alike_over : (own other : mean.Run) → Alike kept own other → IsOver own × IsOver other
   alike_over (Over e m v) (Over f n w) a = (tt, tt)
   alike_over (Over e m v) (Spent w) a = absurd a
   alike_over (Spent v) r a = absurd a
 
   -- the same without what the second performs itself
-  quiet_alike : (own other : mean.Run) → Alike kept own other → Alike kept own (quiet other)
+  pub quiet_alike : (own other : mean.Run) → Alike kept own other → Alike kept own (quiet other)
   quiet_alike (Over e m v) (Over f n w) a = (
     a.0,
     record { store = a.1.store; output = a.1.output; hooks = a.1.hooks },
@@ -92,7 +92,7 @@ same_bytes own r lines steps count out store end =
     ++ end_line e steps count (length lines)))) end
 
 -- more steps than a run needs are not taken
-same_steps : (n d : ℕ) (r longer : mean.Run) → IsOver r → IsLonger d r longer
+pub same_steps : (n d : ℕ) (r longer : mean.Run) → IsOver r → IsLonger d r longer
     → steps_taken (n + d) longer ≡ steps_taken n r
 same_steps n d (Over e left w) longer over is =
     ap (steps_taken (n + d)) is ∙ (let same : (n + d) - (left + d) ≡ n - left = omega arith in same)
@@ -116,7 +116,7 @@ module _ (enough : NeededIsEnough) (call : Call) (units : List ℕ) (p : Program
   about : (n steps : ℕ) (own other : mean.Run) (lines : Lines) (count : ℕ) → Alike kept own other
       → IsReported units p chosen (world_of (quiet other)).hooks (world_of (quiet other)).hooks lines count
       → Grows call.written.0 call.written.1 (lint_bytes (quiet other) lines steps count)
-      → call.knows (world_of (quiet other)).hooks → steps_taken n own ≤ steps → steps ≤ 32 * steps_taken n own + 64
+      → call.crowd.told (world_of (quiet other)).hooks → steps_taken n own ≤ steps → steps ≤ 32 * steps_taken n own + 64
       → IsAbout call units p chosen n own (quiet other) (lint_status (ending_of (quiet other)) lines)
   about n steps own other lines count alike report grows knows low high =
       let seen = alike_seen kept own other alike in
@@ -139,7 +139,7 @@ module _ (enough : NeededIsEnough) (call : Call) (units : List ℕ) (p : Program
             grows;
         no_fewer = low;
         not_many_more = high;
-        told = subst (λ ops. call.knows ops) hooks knows;
+        told = subst (λ ops. call.crowd.told ops) hooks knows;
       }
 
   module _ (first second : ℕ → mean.Run) (simulates : Simulates kept first second) (most : ℕ)
@@ -148,7 +148,7 @@ module _ (enough : NeededIsEnough) (call : Call) (units : List ℕ) (p : Program
       lines count)
       (grows : Grows call.written.0 call.written.1
       (lint_bytes (quiet (second most)) lines (steps_taken most (quiet (second most))) count))
-      (knows : call.knows (world_of (quiet (second most))).hooks) where
+      (knows : call.crowd.told (world_of (quiet (second most))).hooks) where
     same_taken : steps_taken most (quiet (second most)) ≡ steps_taken most (second most)
     same_taken = quiet_steps most (second most)
 

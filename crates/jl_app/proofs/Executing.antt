@@ -12,7 +12,8 @@ use Rattle.jl_effects.specs.Running.{state_of as world_of}
 use Rattle.jl_meaning.specs.Mean as mean
 use Rattle.jl_machine.specs.Runs.{hooked_mean, ending_of, IsRun}
 use Rattle.jl_machine.specs.declared.ending.Run.{Run}
-use Rattle.jl_app.specs.Answers.{execute_due, hooked_run}
+use Rattle.jl_app.specs.Answers.{execute_due}
+use Rattle.jl_app.specs.WovenRuns.{hooked_run}
 use Rattle.jl_app.specs.OwnRuns.{ending_status, program_run, steps_line, uncaught_line}
 use Rattle.jl_app.specs.declared.status.Status.{Status}
 

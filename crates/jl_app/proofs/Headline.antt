@@ -9,14 +9,16 @@ use Rattle.jl_meaning.specs.Mean as mean
 use Rattle.jl_port.specs.Bytes.{Grows}
 use Rattle.jl_text.specs.Encoding.{units_of}
 use Rattle.jl_text.specs.declared.span.Span.{Span}
-use Rattle.jl_app.specs.Accepting.{IsAccepted, OneReading}
-use Rattle.jl_app.specs.Answers.{Due, IsAnswered, IsLinted, IsReported, accepted}
-use Rattle.jl_app.specs.Answers.{hooked_run, lint_bytes, lint_status, ran, refused, unread, woven_budget}
+use Rattle.jl_app.specs.Accepting.{IsAccepted, IsRead, OneReading}
+use Rattle.jl_app.specs.Answers.{IsAnswered, accepted, refused, replayed, unmapped}
+use Rattle.jl_app.specs.Due.{Due, IsTold}
+use Rattle.jl_app.specs.Linting.{IsLinted, IsReported, lint_bytes, lint_status, ran, unread}
+use Rattle.jl_app.specs.WovenRuns.{hooked_run, woven_budget}
 use Rattle.jl_command.specs.Asked.{Asked, request, lint}
 use Rattle.jl_app.specs.Endings.{Call, EndsWith, HasAnswered, answered, no_memory, read_failed, write_failed}
 use Rattle.jl_app.specs.Headline.{IsAbout, IsAboutBeginning, IsAboutScript, own_run, woven_mean, woven_run}
 use Rattle.jl_app.specs.ReadBack.{IsReadBack}
-use Rattle.jl_app.specs.Refusals.{NeverBoth}
+use Rattle.jl_app.specs.Refusals.{IsRefused, NeverBoth}
 use Rattle.jl_app.specs.Reporting.{Lines}
 use Rattle.jl_app.specs.Scripts.{IsScriptFor, Reports}
 use Rattle.jl_app.specs.WovenText.{kinds_of, woven_text}
@@ -26,6 +28,9 @@ use Rattle.jl_app.specs.inner.Woven.{IsWovenWell}
 use Rattle.jl_app.proofs.AboutRuns.{about_own, about_script}
 use Rattle.jl_app.proofs.OwnRun.{same_run}
 use Rattle.jl_app.proofs.Scripts.{due_to_script}
+
+some_same : {A : Type 0} {a b : A} → Some a ≡ Some b → a ≡ b
+some_same e = cc
 
 -- What holds of the answer to what the woven script means, without what it performs itself, holds of what `lint`
 -- answers.
@@ -38,7 +43,7 @@ module _ (call : Call) (p : Program Span) (budget : ℕ) (chosen : List ℕ) (we
   Holds r lines count =
       IsReported units p chosen (world_of r).hooks (world_of r).hooks lines count
       → Grows call.written.0 call.written.1 (lint_bytes r lines (steps_taken steps r) count)
-      → call.knows (world_of r).hooks → Says (lint_status (ending_of r) lines)
+      → call.crowd.told (world_of r).hooks → Says (lint_status (ending_of r) lines)
 
   abbrev HoldsOfMeaning : Type 0
   HoldsOfMeaning =
@@ -47,7 +52,7 @@ module _ (call : Call) (p : Program Span) (budget : ℕ) (chosen : List ℕ) (we
 
   linted_says : (due : Due) → HoldsOfMeaning → call.shelf.lent ≡ woven_text (kinds_of chosen) p
       → IsLinted units p budget chosen call.shelf.lent due → Grows call.written.0 call.written.1 due.bytes
-      → call.knows due.told → Says due.status
+      → IsTold call.crowd due.told → Says due.status
   linted_says _ says lent (unread none) grows knows =
       absurd (none well.back.program (subst (λ t. IsReadBack t well.back.program) (sym lent) well.back.read))
   linted_says _ says lent (ran q lines count read report) grows knows =
@@ -60,11 +65,13 @@ module _ (call : Call) (p : Program Span) (budget : ℕ) (chosen : List ℕ) (we
   answer_says : (one : OneReading) (never : NeverBoth) (bytes : List ℕ) (due : Due) → IsAccepted bytes p
       → units_of bytes ≡ units → HoldsOfMeaning → call.shelf.lent ≡ call.shelf.handed
       → IsAnswered (lint budget chosen) bytes call.shelf due → Grows call.written.0 call.written.1 due.bytes
-      → call.knows due.told → Says due.status
-  answer_says one never bytes _ is same says lent (refused cause why kept) grows knows =
-      absurd (never forms.Script bytes p cause is why)
-  answer_says one never bytes due is same says lent (accepted q a responds) grows knows =
-      let program = one forms.Script bytes q p a is in
+      → IsTold call.crowd due.told → Says due.status
+  answer_says one never bytes _ is same says lent (refused form cause reads why kept) grows knows =
+      absurd (never forms.Script bytes p cause is (subst (λ f. IsRefused f bytes cause) (sym (some_same reads)) why))
+  answer_says one never bytes due is same says lent (unmapped other x kept) grows knows = absurd (cc)
+  answer_says one never bytes due is same says lent (replayed rules other x kept) grows knows = absurd (cc)
+  answer_says one never bytes due is same says lent (accepted form q reads a responds) grows knows =
+      let program = one forms.Script bytes q p (subst (λ f. IsRead f bytes q) (sym (some_same reads)) a) is in
       linted_says due says (lent ∙ responds.0 ∙ ap (woven_text (kinds_of chosen)) program)
       (subst (λ us. IsLinted us p budget chosen call.shelf.lent due) same
       (subst (λ x. IsLinted (units_of bytes) x budget chosen call.shelf.lent due) program responds.1)) grows knows
@@ -87,9 +94,13 @@ module _ (call : Call) (p : Program Span) (budget : ℕ) (chosen : List ℕ) whe
   answer_lends : (one : OneReading) (never : NeverBoth) (bytes : List ℕ) (due : Due) → IsAccepted bytes p
       → call.shelf.lent ≡ call.shelf.handed → IsAnswered (lint budget chosen) bytes call.shelf due
       → call.shelf.lent ≡ woven_text (kinds_of chosen) p
-  answer_lends one never bytes _ is lent (refused cause why kept) = absurd (never forms.Script bytes p cause is why)
-  answer_lends one never bytes due is lent (accepted q a responds) =
-      lent ∙ responds.0 ∙ ap (woven_text (kinds_of chosen)) (one forms.Script bytes q p a is)
+  answer_lends one never bytes _ is lent (refused form cause reads why kept) =
+      absurd (never forms.Script bytes p cause is (subst (λ f. IsRefused f bytes cause) (sym (some_same reads)) why))
+  answer_lends one never bytes due is lent (unmapped other x kept) = absurd (cc)
+  answer_lends one never bytes due is lent (replayed rules other x kept) = absurd (cc)
+  answer_lends one never bytes due is lent (accepted form q reads a responds) =
+      lent ∙ responds.0 ∙ ap (woven_text (kinds_of chosen))
+      (one forms.Script bytes q p (subst (λ f. IsRead f bytes q) (sym (some_same reads)) a) is)
 
   lends : {answer : Status} → (one : OneReading) (never : NeverBoth) → EndsWith call answer → (a : Asked)
       (bytes : List ℕ) → request call.words ≡ Some a → Reports a budget chosen → IsScriptFor call.held a bytes

@@ -9,6 +9,7 @@ pub mod OneCause
 pub mod ChosenRules
 pub mod Reported
 pub mod Answering
+pub mod Reading
 pub mod Executing
 pub mod Traced
 pub mod Linting
@@ -23,5 +24,11 @@ pub mod WithoutMisuse
 pub mod BytesOfUnits
 pub mod StandsAlone
 pub mod Headline
+pub mod LinesOf
+pub mod ToldRuns
+pub mod Replayed
+pub mod OwnOperations
+pub mod Concluding
 pub mod Statuses
+pub mod OneText
 pub mod OneAnswer

@@ -13,7 +13,8 @@ use Rattle.jl_op.specs.declared.kind.OpKind.{OpKind}
 use Rattle.jl_op.specs.declared.kind_set.KindSet.{KindSet}
 use Rattle.jl_quiet.specs.QuietMean.{quiet_mean}
 use Rattle.jl_text.specs.declared.span.Span.{Span}
-use Rattle.jl_app.specs.Answers.{IsReported, end_line, hooked_run, lint_status, lint_due, places}
+use Rattle.jl_app.specs.Linting.{IsReported, end_line, lint_status, lint_due, places}
+use Rattle.jl_app.specs.WovenRuns.{hooked_run}
 use Rattle.jl_app.specs.OwnRuns.{uncaught_line}
 use Rattle.jl_app.specs.Reporting.{IsReport, Lines, lines_text}
 use Rattle.jl_app.specs.WovenText.{kinds_of}

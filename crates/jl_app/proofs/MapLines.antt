@@ -1,13 +1,14 @@
 -- The lines and the places of a map grow by those of one more entry.
-use Rattle.std.proofs.Common.{◌≡◌, ℕ, suc, ◌+◌, ◌-◌, List, [], ◌∷◌, ◌++◌, take, get_or, length, Option, None, Some}
+use Rattle.std.proofs.Common.{◌≡◌, ◌≤◌, ◌<◌, All, ℕ, zero, suc, map, min, ◌+◌, ◌-◌, List, [], ◌∷◌, ◌++◌, take, get_or, length, Option, None, Some}
 use Rattle.std.proofs.Common.{slice_get, option_map, refl, sym, ap, ◌∙◌, subst, arith, inl, inr, append_assoc}
 use Rattle.std.proofs.Common.{append-nil, length-take}
 use Rattle.std.proofs.Math.Seq.{take-suc}
-use Rattle.std.proofs.lemmas.List.{map-append}
+use Rattle.std.proofs.lemmas.List.{length-map, map-append}
 use Rattle.std.proofs.lemmas.Option.{slice_get_within, slice_get_cases}
 use Rattle.jl_op.specs.Map.{MapRow}
 use Rattle.jl_op.specs.declared.kind.OpKind.{OpKind}
 use Rattle.jl_text.specs.declared.span.Span.{Span}
+use Rattle.jl_app.specs.Rows.{row_within}
 use Rattle.jl_app.specs.MapLines.{begins, entry_line, lines_after, map_lines}
 
 there : (rows : List MapRow) (i : ℕ) (row : MapRow) → slice_get rows i ≡ Some row → get_or rows i row ≡ row
@@ -75,3 +76,35 @@ one_more_place rows i span e =
     ap (λ (s : Span). begins (take i rows) ++ s.from ∷ []) (sym row.2)
     ∙ sym (map-append (λ r. r.1.from) (take i rows) (row.0 ∷ []))
     ∙ ap begins (sym (one_more rows i row.0 is))
+
+-- the same of rows that begin in the source
+pub one_more_row : (end : ℕ) (rows : List MapRow) (i : ℕ) (kind : OpKind) (span : Span) (from : ℕ)
+    → from ≡ min span.from end → option_map (λ row. row.0) (slice_get rows (i + 1 - 1)) ≡ Some kind
+    → option_map (λ row. row.1) (slice_get rows (i + 1 - 1)) ≡ Some span
+    → map (row_within end) (take i rows) ++ (kind, record { from = from; to = span.to }) ∷ []
+    ≡ map (row_within end) (take (i + 1) rows)
+one_more_row end rows i kind span from least e f =
+    let is : slice_get rows i ≡ Some (kind, span) =
+    ap (slice_get rows) (sym (index i)) ∙ pair_of (slice_get rows (i + 1 - 1)) kind span e f in
+    ap (λ n. map (row_within end) (take i rows) ++ (kind, record { from = n; to = span.to }) ∷ []) least
+    ∙ sym (map-append (row_within end) (take i rows) ((kind, span) ∷ []))
+    ∙ ap (map (row_within end)) (sym (one_more rows i (kind, span) is))
+
+-- they are as many
+pub few_rows : (end : ℕ) (rows : List MapRow) (i : ℕ) (made : List MapRow) → i < length rows
+    → made ≡ map (row_within end) (take i rows) → length made ≡ i
+few_rows end rows i made within is =
+    ap length is ∙ length-map (take i rows) (row_within end) ∙ (let few : length (take i rows) ≡ i =
+    omega (arith, within, length-take {A = MapRow}) in few)
+
+-- and each begins in the source
+pub all_taken : (end : ℕ) (rows : List MapRow) (i : ℕ) (made : List MapRow)
+    → made ≡ map (row_within end) (take i rows) → All (λ row. row.1.from ≤ end) made
+all_taken end rows i made is =
+    subst (λ l. All (λ row. row.1.from ≤ end) l) (sym is) (λ k d within. go (take i rows) k d within)
+  where
+    go : (xs : List MapRow) (k : ℕ) (d : MapRow) → k < length (map (row_within end) xs)
+        → (get_or (map (row_within end) xs) k d).1.from ≤ end
+    go [] k d within = absurd (omega (arith, within))
+    go (row ∷ xs) zero d within = omega arith
+    go (row ∷ xs) (suc k) d within = go xs k d (omega (arith, within))

@@ -1,35 +1,53 @@
 -- What is due to a call is one answer.
-use Rattle.std.proofs.Common.{◌≡◌, ℕ, List, Some, refl, sym, ◌∙◌, ap, subst}
+use Rattle.std.proofs.Common.{◌≡◌, ℕ, List, None, Some, arith, length, refl, sym, ◌∙◌, ap, subst}
 use Rattle.jl_ast.specs.Tree.{Program}
+use Rattle.jl_command.specs.Asked.{Asked, check, cover, exec, instrument, is_among, lint, map_of_ids, objects, print}
+use Rattle.jl_command.specs.Asked.{record_of_run, replay, run, soak, srcmap, trace, unmap}
 use Rattle.jl_effects.specs.Running.{state_of as world_of}
 use Rattle.jl_grammar.proofs.One.{one_reading}
 use Rattle.jl_grammar.specs.Program.{Reads}
+use Rattle.jl_machine.specs.Runs.{ending_of}
+use Rattle.jl_meaning.specs.Mean as mean
+use Rattle.jl_op.specs.Chosen.{every_kind}
 use Rattle.jl_op.specs.Operations.{Operation}
+use Rattle.jl_record.specs.Records.{OneBadLine, OneRecord}
 use Rattle.jl_report.proofs.OneReport.{one_report}
 use Rattle.jl_report.specs.Off.{off_by}
 use Rattle.jl_report.specs.Reports as reports
+use Rattle.jl_soak.specs.Script.{script_of}
+use Rattle.jl_srcmap.specs.Laws.{BadPlaceIsUnique, NeverBoth as NeverBothRead, ReadingsAreUnique}
+use Rattle.jl_srcmap.specs.SourceMap.{source_map_text}
+use Rattle.jl_srcmap.specs.Written.{mappings_text}
 use Rattle.jl_text.specs.Encoding.{units_of}
 use Rattle.jl_text.specs.declared.span.Span.{Span}
 use Rattle.jl_token.proofs.CommentLaws.{comments_are_unique}
 use Rattle.jl_token.proofs.Whole.{tokens_are_unique}
 use Rattle.jl_token.specs.declared.token.Comment.{Comment}
-use Rattle.jl_command.specs.Asked.{check, exec, instrument, is_among, lint, map_of_ids, print, run, soak, trace}
-use Rattle.jl_command.specs.Asked.{Asked}
-use Rattle.jl_soak.specs.Script.{script_of}
-use Rattle.jl_app.specs.Answers.{accepted, answered_to, answered_to_made, bad_words, counted, ended, ended_alone}
-use Rattle.jl_app.specs.Answers.{ended_woven, hooked_run, lint_due, listed, places, ran, refused, refused_only}
-use Rattle.jl_app.specs.Answers.{text, unread, woven_budget, written, Due, IsAnswered, IsChecked, IsDue, IsExecuted}
-use Rattle.jl_app.specs.Answers.{IsInstrumented, IsLinted, IsMapped, IsPrinted, IsReported, IsTraced, IsTracedAlone}
-use Rattle.jl_app.specs.Answers.{OnShelf, Responds}
+use Rattle.jl_app.specs.Accepting.{IsRead}
+use Rattle.jl_app.specs.Answers.{accepted, answered_to, answered_to_made, bad_words, counted, due_to, ended, ended_alone}
+use Rattle.jl_app.specs.Answers.{ended_woven, listed, refused, replayed, text, unmapped, written, IsAnswered, IsChecked}
+use Rattle.jl_app.specs.Answers.{IsDue, IsDueTo, IsExecuted, IsInstrumented, IsMapped, IsPrinted, IsTraced}
+use Rattle.jl_app.specs.Answers.{IsTracedAlone, Responds}
+use Rattle.jl_app.specs.Due.{refused_only, text_only, Due, OnShelf}
 use Rattle.jl_app.specs.Forms.{form_of, ReadsSource}
+use Rattle.jl_app.specs.Linting.{lint_due, places, ran, unread, IsLinted, IsReported}
 use Rattle.jl_app.specs.OneAnswer.{both_unreadable, same_answer, AreOne}
+use Rattle.jl_app.specs.OwnRuns.{ending_status}
 use Rattle.jl_app.specs.ReadBack.{IsReadBack, most_woven_levels}
-use Rattle.jl_app.specs.Refusals.{refusal_words}
+use Rattle.jl_app.specs.Recording.{record_bytes, recorded, too_long_record, IsRecorded}
+use Rattle.jl_app.specs.Refusals.{refusal_words, IsRefused}
+use Rattle.jl_app.specs.Replaying.{IsReplayed}
 use Rattle.jl_app.specs.Reporting.{positions, IsReport, Lines}
-use Rattle.jl_app.specs.WovenText.{kinds_of}
+use Rattle.jl_app.specs.SourceMapping.{mapped_back, woven_segments, IsMappedBack}
+use Rattle.jl_app.specs.WovenRuns.{hooked_run, woven_budget}
+use Rattle.jl_app.specs.WovenText.{kinds_of, woven_text}
+use Rattle.jl_app.specs.declared.form.Form.{Form}
 use Rattle.jl_app.specs.declared.refusal.Refusal.{Refusal}
+use Rattle.jl_app.specs.declared.status.Status.TheVariants as status
 use Rattle.jl_app.proofs.OneCause.{both_unread, one_cause, same_cause, AreOneCause}
+use Rattle.jl_app.proofs.OneText.{one_replayed, one_unmapped}
 use Rattle.jl_app.proofs.Refusing.{never_both, one_read}
+use Rattle.jl_app.proofs.Scripts.{same_made}
 
 -- equal answers are one
 pub are_one : {d e : Due} → d ≡ e → AreOne d e
@@ -97,6 +115,26 @@ module _ (units : List ℕ) (p : Program Span) where
   same_mapped : (d e : Due) → IsMapped units p d → IsMapped units p e → d ≡ e
   same_mapped _ _ listed listed = refl
 
+  same_mapped_back : (d e : Due) → IsMappedBack units p d → IsMappedBack units p e → d ≡ e
+  same_mapped_back _ _ (mapped_back tokens lexed) (mapped_back others too) =
+      ap (λ ts. text_only status.Clean (source_map_text (mappings_text (woven_segments units p ts))))
+      (tokens_are_unique (woven_text every_kind p) tokens others lexed too)
+
+  same_recorded : (r : mean.Run) (operations : List Operation) (d e : Due) → IsRecorded units p r operations d
+      → IsRecorded units p r operations e → d ≡ e
+  same_recorded r operations _ _ (recorded cs are few) (recorded ds too less) =
+      ap (λ (cs : List Comment). text_only (ending_status (ending_of r)) (record_bytes units p cs operations))
+      (comments_are_unique units cs ds are too)
+  same_recorded r operations _ _ (recorded cs are few) (too_long_record ds too more) =
+      let same = ap (λ (cs : List Comment). length (record_bytes units p cs operations))
+      (comments_are_unique units cs ds are too) in
+      absurd (omega (arith, same, few, more))
+  same_recorded r operations _ _ (too_long_record cs are more) (recorded ds too few) =
+      let same = ap (λ (cs : List Comment). length (record_bytes units p cs operations))
+      (comments_are_unique units cs ds are too) in
+      absurd (omega (arith, same, few, more))
+  same_recorded r operations _ _ (too_long_record cs are more) (too_long_record ds too less) = refl
+
   same_executed : (budget : ℕ) (d e : Due) → IsExecuted p budget d → IsExecuted p budget e → d ≡ e
   same_executed budget _ _ ended ended = refl
 
@@ -113,53 +151,95 @@ module _ (units : List ℕ) (p : Program Span) where
   same_response print shelf d e x y = same_printed d e x.1 y.1
   same_response instrument shelf d e x y = same_instrumented d e x.1 y.1
   same_response map_of_ids shelf d e x y = same_mapped d e x.1 y.1
+  same_response srcmap shelf d e x y = same_mapped_back d e x.1 y.1
+  same_response (record_of_run budget) shelf d e x y = same_recorded _ _ d e x.1 y.1
+  same_response (objects budget) shelf d e x y = x.1 ∙ sym y.1
+  same_response (cover budget) shelf d e x y = x.1 ∙ sym y.1
+  same_response unmap shelf d e x y = absurd x
+  same_response (replay chosen) shelf d e x y = absurd x
   same_response (run budget) shelf d e x y = same_executed budget d e x.1 y.1
   same_response (trace budget) shelf d e x y = same_traced budget d e x.1 y.1
   same_response (exec budget) shelf d e x y = same_alone budget d e x.1 y.1
   same_response (soak number budget chosen) shelf d e x y = absurd x
 
--- what a command answers to bytes
-one_answered : (a : Asked) (bytes : List ℕ) (shelf : OnShelf) (d e : Due) → IsAnswered a bytes shelf d
-    → IsAnswered a bytes shelf e → AreOne d e
-one_answered a bytes shelf _ _ (refused c why same) (refused c' why' same') =
-    one_refusal c c' (one_cause (form_of a) bytes c c' why why')
-one_answered a bytes shelf _ e (refused c why same) (accepted p read responds) =
-    absurd (never_both (form_of a) bytes p c read why)
-one_answered a bytes shelf d _ (accepted p read responds) (refused c why same) =
-    absurd (never_both (form_of a) bytes p c read why)
-one_answered a bytes shelf d e (accepted p read responds) (accepted q read' responds') =
-    are_one (same_response (units_of bytes) q a shelf d e
-    (subst (λ x. Responds a (units_of bytes) x shelf d) (one_read (form_of a) bytes p q read read') responds)
-    responds')
+some_same : {A : Type 0} {a b : A} → Some a ≡ Some b → a ≡ b
+some_same e = cc
 
--- what is due to words and bytes
-same_made : {n b n' b' : ℕ} {c c' : List ℕ} → Some (soak n b c) ≡ Some (soak n' b' c')
-    → (n ≡ n') × (b ≡ b') × (c ≡ c')
-same_made is = (cc, cc, cc)
+same_chosen : {c d : List ℕ} → replay c ≡ replay d → c ≡ d
+same_chosen e = cc
 
-same_asked : {a b : Asked} → Some a ≡ Some b → a ≡ b
-same_asked is = cc
+-- the bytes of a source map, and of a stored run, are read as no program
+no_program : {a : Asked} {form : Form} (b : Asked) → form_of a ≡ Some form → a ≡ b → form_of b ≡ None → ⊥
+no_program b reads is none = let both = sym (ap form_of is ∙ none) ∙ reads in absurd (cc)
 
-module _ (words : List (List ℕ)) (bytes : List ℕ) (shelf : OnShelf) where
-  one_to : (a b : Asked) (read read' : List ℕ) (d e : Due) → a ≡ b → read ≡ read' → IsAnswered a read shelf d
-      → IsAnswered b read' shelf e → AreOne d e
-  one_to a b read read' d e same is x y =
+module _ (readings : ReadingsAreUnique) (never : NeverBothRead) (bad : BadPlaceIsUnique) (record_law : OneRecord)
+    (line_law : OneBadLine) where
+  -- what a command answers to bytes
+  one_answered : (a : Asked) (bytes : List ℕ) (shelf : OnShelf) (d e : Due) → IsAnswered a bytes shelf d
+      → IsAnswered a bytes shelf e → AreOne d e
+  one_answered a bytes shelf _ _ (refused form c reads why same) (refused form' c' reads' why' same') =
+      one_refusal c c' (one_cause form bytes c c' why
+      (subst (λ f. IsRefused f bytes c') (some_same (sym reads' ∙ reads)) why'))
+  one_answered a bytes shelf _ e (refused form c reads why same) (accepted form' p reads' read responds) =
+      absurd (never_both form bytes p c (subst (λ f. IsRead f bytes p) (some_same (sym reads' ∙ reads)) read) why)
+  one_answered a bytes shelf _ e (refused form c reads why same) (unmapped is x kept) =
+      absurd (no_program unmap reads is refl)
+  one_answered a bytes shelf _ e (refused form c reads why same) (replayed chosen is x kept) =
+      absurd (no_program (replay chosen) reads is refl)
+  one_answered a bytes shelf d _ (accepted form p reads read responds) (refused form' c reads' why same) =
+      absurd (never_both form bytes p c read (subst (λ f. IsRefused f bytes c) (some_same (sym reads' ∙ reads)) why))
+  one_answered a bytes shelf d e (accepted form p reads read responds) (accepted form' q reads' read' responds') =
+      are_one (same_response (units_of bytes) q a shelf d e
+      (subst (λ x. Responds a (units_of bytes) x shelf d) (one_read form bytes p q read
+      (subst (λ f. IsRead f bytes q) (some_same (sym reads' ∙ reads)) read')) responds)
+      responds')
+  one_answered a bytes shelf d e (accepted form p reads read responds) (unmapped is x kept) =
+      absurd (no_program unmap reads is refl)
+  one_answered a bytes shelf d e (accepted form p reads read responds) (replayed chosen is x kept) =
+      absurd (no_program (replay chosen) reads is refl)
+  one_answered a bytes shelf d _ (unmapped is x kept) (refused form c reads why same) =
+      absurd (no_program unmap reads is refl)
+  one_answered a bytes shelf d e (unmapped is x kept) (accepted form p reads read responds) =
+      absurd (no_program unmap reads is refl)
+  one_answered a bytes shelf d e (unmapped is x kept) (unmapped too y same) =
+      are_one (one_unmapped readings never bad bytes d e x y)
+  one_answered a bytes shelf d e (unmapped is x kept) (replayed chosen too y same) =
+      let both : unmap ≡ replay chosen = sym is ∙ too in absurd (cc)
+  one_answered a bytes shelf d _ (replayed chosen is x kept) (refused form c reads why same) =
+      absurd (no_program (replay chosen) reads is refl)
+  one_answered a bytes shelf d e (replayed chosen is x kept) (accepted form p reads read responds) =
+      absurd (no_program (replay chosen) reads is refl)
+  one_answered a bytes shelf d e (replayed chosen is x kept) (unmapped too y same) =
+      let both : unmap ≡ replay chosen = sym too ∙ is in absurd (cc)
+  one_answered a bytes shelf d e (replayed chosen is x kept) (replayed rules too y same) =
+      are_one (one_replayed record_law line_law rules bytes d e
+      (subst (λ l. IsReplayed l bytes d) (same_chosen (sym is ∙ too)) x) y)
+
+  -- what is due to a command
+  one_to : (a b : Asked) (read read' : List ℕ) (shelf : OnShelf) (d e : Due) → a ≡ b → read ≡ read'
+      → IsAnswered a read shelf d → IsAnswered b read' shelf e → AreOne d e
+  one_to a b read read' shelf d e same is x y =
       one_answered b read' shelf d e
       (subst (λ c. IsAnswered c read' shelf d) same (subst (λ r. IsAnswered a r shelf d) is x)) y
 
-  pub one_due : (d e : Due) → IsDue words (Some bytes) shelf d → IsDue words (Some bytes) shelf e → AreOne d e
-  one_due _ _ (bad_words none same) (bad_words none' same') = same_answer _
-  one_due _ e (bad_words none same) (answered_to a read is reads held x) = let both = sym none ∙ is in absurd (cc)
-  one_due _ e (bad_words none same) (answered_to_made n b c is x) = let both = sym none ∙ is in absurd (cc)
-  one_due d _ (answered_to a read is reads held x) (bad_words none same) = let both = sym none ∙ is in absurd (cc)
-  one_due d e (answered_to a read is reads held x) (answered_to a' read' is' reads' held' x') =
-      one_to a a' read read' d e (same_asked (sym is ∙ is')) (sym held ∙ held') x x'
-  one_due d e (answered_to a read is reads held x) (answered_to_made n b c is' x') =
-      absurd (subst ReadsSource (same_asked (sym is ∙ is')) reads)
-  one_due d _ (answered_to_made n b c is x) (bad_words none same) = let both = sym none ∙ is in absurd (cc)
-  one_due d e (answered_to_made n b c is x) (answered_to a' read' is' reads' held' x') =
-      absurd (subst ReadsSource (same_asked (sym is' ∙ is)) reads')
-  one_due d e (answered_to_made n b c is x) (answered_to_made n' b' c' is' x') =
+  one_due_to : (a : Asked) (bytes : List ℕ) (shelf : OnShelf) (d e : Due) → IsDueTo a bytes shelf d
+      → IsDueTo a bytes shelf e → AreOne d e
+  one_due_to a bytes shelf d e (answered_to reads x) (answered_to reads' y) = one_answered a bytes shelf d e x y
+  one_due_to a bytes shelf d e (answered_to reads x) (answered_to_made n b c is y) =
+      absurd (subst ReadsSource is reads)
+  one_due_to a bytes shelf d e (answered_to_made n b c is x) (answered_to reads y) =
+      absurd (subst ReadsSource is reads)
+  one_due_to a bytes shelf d e (answered_to_made n b c is x) (answered_to_made n' b' c' is' y) =
       let same = same_made (sym is ∙ is') in
-      one_to (lint b c) (lint b' c') (script_of n) (script_of n') d e
-      (ap (λ k. lint k c) same.1 ∙ ap (λ l. lint b' l) same.2) (ap script_of same.0) x x'
+      one_to (lint b c) (lint b' c') (script_of n) (script_of n') shelf d e
+      (ap (λ k. lint k c) same.1 ∙ ap (λ l. lint b' l) same.2) (ap script_of same.0) x y
+
+  -- what is due to words and bytes
+  pub one_due : (words : List (List ℕ)) (bytes : List ℕ) (shelf : OnShelf) (d e : Due) → IsDue words bytes shelf d
+      → IsDue words bytes shelf e → AreOne d e
+  one_due words bytes shelf _ _ (bad_words none same) (bad_words none' same') = same_answer _
+  one_due words bytes shelf _ e (bad_words none same) (due_to a is x) = let both = sym none ∙ is in absurd (cc)
+  one_due words bytes shelf d _ (due_to a is x) (bad_words none same) = let both = sym none ∙ is in absurd (cc)
+  one_due words bytes shelf d e (due_to a is x) (due_to b is' y) =
+      one_due_to b bytes shelf d e
+      (subst (λ c. IsDueTo c bytes shelf d) (some_same (sym is ∙ is')) x) y

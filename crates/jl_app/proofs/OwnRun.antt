@@ -17,7 +17,7 @@ use Rattle.jl_simulation.specs.Simulation.{WovenSimulates}
 use Rattle.jl_simulation.specs.Weaving.{woven_program}
 use Rattle.jl_meaning.specs.Jobs.{job}
 use Rattle.jl_text.specs.declared.span.Span.{Span}
-use Rattle.jl_app.specs.Answers.{hooked_run}
+use Rattle.jl_app.specs.WovenRuns.{hooked_run}
 use Rattle.jl_app.specs.Headline.{own_run, woven_mean, woven_run}
 use Rattle.jl_app.specs.OwnRuns.{program_run}
 use Rattle.jl_app.proofs.KeptHooks.{of_all_hooks}

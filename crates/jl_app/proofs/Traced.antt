@@ -15,7 +15,9 @@ use Rattle.jl_op.specs.declared.kind.OpKind.{OpKind}
 use Rattle.jl_op.specs.declared.kind_set.KindSet.{KindSet}
 use Rattle.jl_simulation.specs.Weaving.{woven_program}
 use Rattle.jl_text.specs.declared.span.Span.{Span}
-use Rattle.jl_app.specs.Answers.{Due, trace_due, woven_budget}
+use Rattle.jl_app.specs.Answers.{trace_due}
+use Rattle.jl_app.specs.Due.{Due}
+use Rattle.jl_app.specs.WovenRuns.{woven_budget}
 use Rattle.jl_app.specs.OwnRuns.{ending_status, program_run, uncaught_line}
 use Rattle.jl_app.specs.Tracing.{hooks_line, trace_line, trace_lines}
 use Rattle.jl_app.specs.declared.status.Status.{Status}

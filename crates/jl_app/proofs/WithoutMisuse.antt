@@ -1,13 +1,16 @@
 -- No run of an accepted script, or of its woven one, is ended by the fault Misuse.
 use Rattle.std.proofs.Common.{◌≡◌, ◌<◌, [], ℕ, List, length, subst, sym}
 use Rattle.jl_ast.specs.Tree.{Program}
-use Rattle.jl_command.specs.Asked.{Asked, check, exec, instrument, lint, map_of_ids, print, run, soak, trace}
+use Rattle.jl_command.specs.Asked.{Asked, check, cover, exec, instrument, lint, map_of_ids, objects, print}
+use Rattle.jl_command.specs.Asked.{record_of_run, replay, run, soak, srcmap, trace, unmap}
+use Rattle.jl_cover.specs.Coverage.{is_covered}
 use Rattle.jl_effects.specs.Keeping.{FailsAllowed}
 use Rattle.jl_effects.specs.Running.{Ends, Fails, Over, Spent}
 use Rattle.jl_grammar.specs.Program.{Reads}
 use Rattle.jl_machine.specs.Runs.{hooked_mean}
 use Rattle.jl_meaning.specs.Mean.{IsNoMisuse, Run}
 use Rattle.jl_op.specs.Chosen.{every_kind, Kinds}
+use Rattle.jl_profile.specs.Births.{is_profiled}
 use Rattle.jl_quiet.specs.QuietMean.{quiet_mean}
 use Rattle.jl_safety.specs.Ends.{EndsOrThrows}
 use Rattle.jl_scope.specs.EarlyErrors.{early_errors_of}
@@ -17,11 +20,12 @@ use Rattle.jl_token.specs.declared.token.Token.{Token}
 use Rattle.jl_value.specs.declared.ending.Completion.TheVariants as completion
 use Rattle.jl_value.specs.declared.ending.Fault.TheVariants.{Misuse}
 use Rattle.jl_app.specs.Accepting.{IsAccepted}
-use Rattle.jl_app.specs.Answers.{hooked_run, woven_budget}
+use Rattle.jl_app.specs.WovenRuns.{hooked_run, woven_budget}
 use Rattle.jl_app.specs.Headline.{woven_run}
 use Rattle.jl_app.specs.Misuse.{AcceptedScriptsRunWithoutMisuse, EndsWithoutMisuse, ReportsWithoutMisuse}
 use Rattle.jl_app.specs.Misuse.{RunsWithoutMisuse}
 use Rattle.jl_app.specs.OwnRuns.{program_run}
+use Rattle.jl_app.specs.Telling.{told_run}
 use Rattle.jl_app.specs.WovenText.{kinds_of}
 use Rattle.jl_app.specs.inner.Woven.{IsWovenWell}
 use Rattle.jl_app.proofs.Legal.{nothing_wrong}
@@ -59,6 +63,15 @@ module _ (p : Program Span) where
   woven safe ends kinds n =
       let w = woven_program kinds p in without (quiet_mean kinds w n) (safe kinds n) (ends kinds w n)
 
+  told : ((chosen : Kinds) (n : ℕ) → FailsAllowed IsNoMisuse (quiet_mean chosen (woven_program chosen p) n))
+      → ((chosen : Kinds) (w : Program (Unit {0})) (n : ℕ) → EndsOrThrows (quiet_mean chosen w n))
+      → (kinds : Kinds) (budget : ℕ) → EndsWithoutMisuse (told_run kinds p budget)
+  unfolding hooked_run hooked_mean
+  told safe ends kinds budget =
+      let w = woven_program kinds p in
+      without (quiet_mean kinds w (woven_budget budget)) (safe kinds (woven_budget budget))
+      (ends kinds w (woven_budget budget))
+
 pub without_misuse : ((chosen : Kinds) (p : Program Span) → early_errors_of p ≡ [] → (n : ℕ)
     → FailsAllowed IsNoMisuse (quiet_mean chosen p n))
     → ((chosen : Kinds) (ts : List Token) (limit : ℕ) (p : Program Span) → Reads ts limit p
@@ -86,6 +99,12 @@ without_misuse safe woven_safe ends woven_ends well a bytes p is = by_command a
     by_command : (a : Asked) → RunsWithoutMisuse a p
     by_command (lint budget chosen) = reporting budget chosen
     by_command (run budget) = own p (λ chosen n. safe chosen p legal n) (λ chosen n. ends chosen p n) budget
+    by_command (record_of_run budget) = told p all_woven woven_ends every_kind budget
+    by_command (objects budget) = told p all_woven woven_ends is_profiled budget
+    by_command (cover budget) = told p all_woven woven_ends is_covered budget
+    by_command srcmap = tt
+    by_command unmap = tt
+    by_command (replay chosen) = tt
     by_command (trace budget) = traced p all_woven woven_ends (woven_budget budget)
     by_command check = tt
     by_command print = tt

@@ -1,21 +1,27 @@
 -- What a source has to be.
-use Rattle.std.specs.Prelude.{ℕ, Bool, true, false, Option, Some, None}
+use Rattle.std.specs.Prelude.{ℕ, Bool, true, false, List, Option, Some, None, option_and_then}
 use Rattle.jl_scope.specs.EarlyError.{EarlyError, early, left_out, reserved_name}
-use Rattle.jl_command.specs.Asked.{Asked, exec, soak}
+use Rattle.jl_command.specs.Asked.{Asked, exec, replay, request, soak, unmap}
 use Rattle.jl_command.specs.declared.command.Command.{Command}
 use Rattle.jl_command.specs.declared.command.Command.TheVariants as commands
 use Rattle.jl_app.specs.declared.form.Form.{Form}
 use Rattle.jl_app.specs.declared.form.Form.TheVariants as forms
 
--- what a command reads: `exec` a woven text, and each other a script
-abbrev pub form_of : Asked → Form
-form_of (exec budget) = forms.WovenText
-form_of _ = forms.Script
+-- the form of the program that a command reads, if it reads one: `exec` reads a woven text, and each other a script
+abbrev pub form_of : Asked → Option Form
+form_of (exec budget) = Some forms.WovenText
+form_of (soak number budget chosen) = None
+form_of unmap = None
+form_of (replay chosen) = None
+form_of _ = Some forms.Script
 
 -- and so by the command of the code
-abbrev pub form_of_command : Command → Form
-form_of_command (commands.Exec budget) = forms.WovenText
-form_of_command _ = forms.Script
+abbrev pub form_of_command : Command → Option Form
+form_of_command (commands.Exec budget) = Some forms.WovenText
+form_of_command (commands.Soak number budget rules) = None
+form_of_command commands.Unmap = None
+form_of_command (commands.Replay rules) = None
+form_of_command _ = Some forms.Script
 
 -- a command reads the source, but for `soak`, which makes its script
 abbrev pub ReadsSource : Asked → Type 0
@@ -26,6 +32,34 @@ ReadsSource _ = Unit {0}
 abbrev pub most_bytes : Form → ℕ
 most_bytes forms.Script = 1048576
 most_bytes forms.WovenText = 67108928
+
+-- the most bytes of a source map
+abbrev pub most_map_bytes : ℕ
+most_map_bytes = 67108864
+
+-- the most bytes of the text of a stored run
+abbrev pub most_record_bytes : ℕ
+most_record_bytes = 268435456
+
+-- the most bytes that a command reads, if it reads the source
+abbrev pub most_read : Asked → Option ℕ
+most_read (exec budget) = Some (most_bytes forms.WovenText)
+most_read (soak number budget chosen) = None
+most_read unmap = Some most_map_bytes
+most_read (replay chosen) = Some most_record_bytes
+most_read _ = Some (most_bytes forms.Script)
+
+-- and so by the command of the code
+abbrev pub most_read_by : Command → Option ℕ
+most_read_by (commands.Exec budget) = Some (most_bytes forms.WovenText)
+most_read_by (commands.Soak number budget rules) = None
+most_read_by commands.Unmap = Some most_map_bytes
+most_read_by (commands.Replay rules) = Some most_record_bytes
+most_read_by _ = Some (most_bytes forms.Script)
+
+-- the most bytes that are read for these words; bad words read nothing
+abbrev pub most_read_for : (words : List (List ℕ)) → Option ℕ
+most_read_for words = option_and_then most_read (request words)
 
 -- the most levels of its program
 abbrev pub most_levels : Form → ℕ

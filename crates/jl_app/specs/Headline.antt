@@ -1,6 +1,7 @@
 -- What the answer of `lint` says of the script's own run.
-use Rattle.std.specs.Prelude.{◌≡◌, ℕ, ◌≤◌, ◌*◌, ◌+◌, ◌++◌, ◌⊎◌, List, filter, length}
+use Rattle.std.specs.Prelude.{◌≡◌, ℕ, ◌≤◌, ◌*◌, ◌+◌, ◌++◌, ◌⊎◌, List, Some, filter, length}
 use Rattle.jl_ast.specs.Tree.{Program}
+use Rattle.jl_command.specs.Asked.{Asked, request}
 use Rattle.jl_effects.specs.Matching.{Alike, IsWithin}
 use Rattle.jl_effects.specs.Running.{IsOver, state_of as world_of, steps_taken}
 use Rattle.jl_machine.specs.Runs.{ending_of}
@@ -9,12 +10,18 @@ use Rattle.jl_op.specs.Chosen.{every_kind, is_kept, Kinds}
 use Rattle.jl_op.specs.Operations.{Operation}
 use Rattle.jl_port.specs.Bytes.{Grows}
 use Rattle.jl_simulation.specs.Weaving.{woven_program}
+use Rattle.jl_text.specs.Encoding.{units_of}
 use Rattle.jl_text.specs.declared.span.Span.{Span}
 use Rattle.jl_value.specs.declared.ending.Outcome.TheVariants as ending
-use Rattle.jl_app.specs.Answers.{IsReported, end_line, hooked_run, lint_bytes, lint_status, woven_budget}
-use Rattle.jl_app.specs.Endings.{Call}
+use Rattle.jl_app.specs.Linting.{IsReported, end_line, lint_bytes, lint_status}
+use Rattle.jl_app.specs.WovenRuns.{hooked_run, woven_budget}
+use Rattle.jl_app.specs.Accepting.{IsAccepted}
+use Rattle.jl_app.specs.Due.{Due}
+use Rattle.jl_app.specs.Endings.{Call, EndsWith, HasAnswered}
 use Rattle.jl_app.specs.ReadBack.{IsReadBack}
 use Rattle.jl_app.specs.Reporting.{Lines, lines_text}
+use Rattle.jl_app.specs.Scripts.{IsScriptFor, Reports}
+use Rattle.jl_app.specs.Telling.{IsToldOf, Tells}
 use Rattle.jl_app.specs.WovenText.{kinds_of}
 use Rattle.jl_app.specs.declared.status.Status.{Status}
 use Rattle.jl_app.specs.declared.status.Status.TheVariants as status
@@ -54,7 +61,7 @@ pub record IsAbout (call : Call) (units : List ℕ) (p : Program Span) (chosen :
   pub written : Grows call.written.0 call.written.1 (lint_bytes own lines steps count)
   pub no_fewer : steps_taken n own ≤ steps
   pub not_many_more : steps ≤ 32 * steps_taken n own + 64
-  pub told : call.knows (kept_of chosen (world_of own).operations)
+  pub told : call.crowd.told (kept_of chosen (world_of own).operations)
 
 -- The steps of the woven script, which are so many, were spent, and the answer is about the beginning of this run of
 -- the script p: what the woven script printed are the first bytes that the run printed, and what its hooks told of are
@@ -70,7 +77,7 @@ pub record IsAboutBeginning (call : Call) (units : List ℕ) (p : Program Span) 
   pub status : answer ≡ status.Spent
   pub written : Grows call.written.0 call.written.1
       ((world_of woven).output ++ (lines_text lines ++ end_line ending.Spent n count (length lines)))
-  pub told : call.knows (world_of woven).hooks
+  pub told : call.crowd.told (world_of woven).hooks
 
 -- What the answer says of the script's own run: all, where that is over within the budget; and in any case all, or the
 -- beginning, of its run with as many steps as the woven script has. It was made of the run of a program that is read
@@ -89,3 +96,30 @@ pub record IsAboutScript (call : Call) (units : List ℕ) (p : Program Span) (bu
       (woven_run (kinds_of chosen) p (woven_budget budget)) answer
       ⊎ IsAboutBeginning call units p chosen (woven_budget budget) (own_run p (woven_budget budget))
       (woven_run (kinds_of chosen) p (woven_budget budget)) answer
+
+-- What the answer of a command that tells of operations says of the script's own run with n steps, which is over: it is
+-- what is answered to that run with its own operations, but for the number of its steps, which are no fewer and not
+-- many more.
+pub record IsAboutOperations (call : Call) (a : Asked) (units : List ℕ) (p : Program Span) (n : ℕ) (own : mean.Run)
+    (answer : Status) : Type 0 where
+  pub steps : ℕ
+  pub due : Due
+  pub tells : IsToldOf a units p own (world_of own).operations steps due
+  pub status : answer ≡ due.status
+  pub written : Grows call.written.0 call.written.1 due.bytes
+  pub no_fewer : steps_taken n own ≤ steps
+  pub not_many_more : steps ≤ 32 * steps_taken n own + 64
+
+-- How a call ended, and what its answer says of the own run of an accepted script.
+pub record Concludes (call : Call) (answer : Status) : Type 0 where
+  pub ends : EndsWith call answer
+  -- Where the shelf lends what it was handed, the answer to a script that is to be reported of is about its own run, for
+  -- every budget and every choice of rules.
+  pub headline : (a : Asked) (script : List ℕ) (p : Program Span) (budget : ℕ) (chosen : List ℕ)
+      → request call.words ≡ Some a → Reports a budget chosen → IsScriptFor call.held a script → IsAccepted script p
+      → call.shelf.lent ≡ call.shelf.handed → HasAnswered answer
+      → IsAboutScript call (units_of script) p budget chosen answer
+  -- Where the own run is over within the budget, what is told of operations is told of its own.
+  pub operations : (a : Asked) (p : Program Span) (budget : ℕ) → request call.words ≡ Some a → Tells a budget
+      → IsAccepted call.held p → HasAnswered answer → IsOver (own_run p budget)
+      → IsAboutOperations call a (units_of call.held) p budget (own_run p budget) answer

@@ -1,7 +1,8 @@
--- What is due to a call is one answer, where the source tells what it holds. Two answers may differ in the place at
+-- What is due to words and bytes is one answer. Two answers may differ in the place at
 -- which a text is refused that is not read as a program: any place of its tokens or their end will do.
-use Rattle.std.specs.Prelude.{ℕ, List, Some}
-use Rattle.jl_app.specs.Answers.{Due, IsDue, refused_only}
+use Rattle.std.specs.Prelude.{ℕ, List}
+use Rattle.jl_app.specs.Answers.{IsDue}
+use Rattle.jl_app.specs.Due.{Due, refused_only}
 use Rattle.jl_app.specs.Refusals.{refusal_words}
 use Rattle.jl_app.specs.declared.position.Position.{Position}
 use Rattle.jl_app.specs.declared.refusal.Refusal.TheVariants.{Unreadable}
@@ -16,5 +17,5 @@ pub data AreOne : Due → Due → Type 0 where
 abbrev pub OneAnswer : (Same : Type 0) → Type 0
 OneAnswer Same =
     (words : List (List ℕ)) (bytes handed lent : List ℕ) (d e : Due)
-    → IsDue words (Some bytes) (record { handed = handed; lent = lent; same = Same }) d
-    → IsDue words (Some bytes) (record { handed = handed; lent = lent; same = Same }) e → AreOne d e
+    → IsDue words bytes (record { handed = handed; lent = lent; same = Same }) d
+    → IsDue words bytes (record { handed = handed; lent = lent; same = Same }) e → AreOne d e

@@ -4,7 +4,9 @@ use Rattle.jl_ast.specs.Tree.{Program}
 use Rattle.jl_command.specs.Asked.{exec, trace}
 use Rattle.jl_text.specs.declared.span.Span.{Span}
 use Rattle.jl_app.specs.Accepting.{IsAccepted}
-use Rattle.jl_app.specs.Answers.{Due, IsAnswered, OnShelf, instrument_due, woven_budget}
+use Rattle.jl_app.specs.Answers.{IsAnswered, instrument_due}
+use Rattle.jl_app.specs.Due.{Due, OnShelf}
+use Rattle.jl_app.specs.WovenRuns.{woven_budget}
 
 -- a shelf that is as it was, with these texts
 abbrev pub same_shelf : (handed lent : List ℕ) → OnShelf

@@ -1,21 +1,26 @@
-ghost use Rattle.std.specs.Prelude.{◌≡◌, ◌≤◌, ℕ, List, [], ◌∷◌, length, IfOk};
+ghost use Rattle.std.specs.Prelude.{◌≡◌, ◌≤◌, ℕ, List, [], Some, length, IfOk, IfSome};
 ghost use Rattle.jl_analysis.specs.Rules.{all_rules};
 ghost use Rattle.jl_command.specs.Asked.{Asked, lint};
 ghost use Rattle.jl_command.specs.Meant.{Means};
-ghost use Rattle.jl_op.specs.Operations.{Operation};
-ghost use Rattle.jl_app.specs.Answers.{Due, IsAnswered, line_only, refused_only};
-ghost use Rattle.jl_app.specs.Forms.{ReadsSource, form_of, most_bytes};
+ghost use Rattle.jl_app.specs.Answers.{IsAnswered};
+ghost use Rattle.jl_app.specs.Due.{Due, IsGiven, line_only, refused_only};
+ghost use Rattle.jl_app.specs.Forms.{form_of, most_read};
 ghost use Rattle.jl_app.specs.Refusals.{refusal_words};
+ghost use Rattle.jl_app.specs.declared.form.Form.{Form as Kind};
 
 use crate::accept::{Unaccepted, accept};
 use crate::check::check;
+use crate::cover::cover;
 use crate::execute::execute;
 use crate::form::Form;
 use crate::instrument::instrument;
 use crate::lint::lint;
 use crate::listing::list_map;
+use crate::objects::objects;
 use crate::print::print;
+use crate::recording::record_run;
 use crate::refusal::Refusal;
+use crate::srcmap::srcmap;
 use crate::status::Status;
 use crate::trace::{trace, trace_alone};
 use jl_analysis::{Crowd, Findings};
@@ -53,7 +58,7 @@ pub(crate) fn refusal_answer(alloc: Global, refusal: &Refusal) -> Result<Answer,
     line_only(alloc, Status::Refused, &text)
 }
 
-/// What a command answers to these bytes.
+/// What a command that reads a program answers to these bytes.
 pub(crate) fn respond<H: Shelf>(
     alloc: Global,
     command: Command,
@@ -61,8 +66,8 @@ pub(crate) fn respond<H: Shelf>(
     shelf: &mut H,
     crowd: &mut Crowd,
 ) -> Result<Answer, AllocError>
-    requires small { (a : Asked) → Means command a → length bytes.now ≤ most_bytes (form_of a) }
-    requires meant { (a : Asked) × ReadsSource a × Means command a }
+    requires meant { (a : Asked) × (form : Kind) × (form_of a ≡ Some form) × Means command a }
+    requires small { (a : Asked) → Means command a → IfSome (most_read a) (λ most. length bytes.now ≤ most) }
     requires rules { ⟦<Crowd as Findings>⟧.rules crowd.old ≡ all_rules }
     requires fresh { ⟦<Crowd as Observer>⟧.stands_for crowd.old [] }
     ensures due { (a : Asked) → Means command a → IfOk result (λ given. (due : Due)
@@ -71,11 +76,14 @@ pub(crate) fn respond<H: Shelf>(
           lent = H.lent shelf.new;
           same = shelf.new ≡ shelf.old;
         }) due
-        × (given.status ≡ due.status)
-        × (given.bytes.items ≡ due.bytes)
-        × ⟦<Crowd as Observer>⟧.stands_for crowd.new due.told) }
+        × IsGiven (record {
+          same = crowd.new ≡ crowd.old;
+          told = λ told. ⟦<Crowd as Observer>⟧.stands_for crowd.new told;
+        }) given due) }
     ensures shelf { ((budget : ℕ) (chosen : List ℕ) → Means command (lint budget chosen) → ⊥)
         → shelf.new ≡ shelf.old }
+    ensures crowd { ((budget : ℕ) (chosen : List ℕ) → Means command (lint budget chosen) → ⊥)
+        → crowd.new ≡ crowd.old }
     ensures same_rules { ⟦<Crowd as Findings>⟧.rules crowd.new ≡ ⟦<Crowd as Findings>⟧.rules crowd.old }
 {
     let form = Form::of(command);
@@ -85,14 +93,20 @@ pub(crate) fn respond<H: Shelf>(
         Err(Unaccepted::NoMemory) => return Err(AllocError),
     };
     match command {
-        Command::Soak { .. } => unreachable!(),
         Command::Lint { budget, rules } => lint(alloc, &accepted, budget, rules, shelf, crowd),
         Command::Run { budget } => execute(alloc, &accepted.program, budget),
         Command::Check => check(alloc, &accepted.program),
         Command::Print => print(alloc, &accepted.program),
         Command::Instrument => instrument(alloc, &accepted.program),
         Command::Map => list_map(alloc, &accepted.source, &accepted.program),
+        Command::Srcmap => srcmap(alloc, &accepted),
         Command::Trace { budget } => trace(alloc, &accepted.program, budget),
         Command::Exec { budget } => trace_alone(alloc, &accepted.program, budget),
+        Command::Record { budget } => record_run(alloc, &accepted, budget),
+        Command::Objects { budget } => objects(alloc, &accepted, budget),
+        Command::Cover { budget } => cover(alloc, &accepted, budget),
+        Command::Soak { .. } => unreachable!(),
+        Command::Unmap => unreachable!(),
+        Command::Replay { .. } => unreachable!(),
     }
 }

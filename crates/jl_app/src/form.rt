@@ -1,5 +1,5 @@
-ghost use Rattle.std.specs.Prelude.{◌≡◌};
-ghost use Rattle.jl_app.specs.Forms.{form_of_command, may_name_hooks, most_bytes, most_levels};
+ghost use Rattle.std.specs.Prelude.{◌≡◌, IfSome};
+ghost use Rattle.jl_app.specs.Forms.{form_of_command, may_name_hooks, most_bytes, most_levels, most_read_by};
 
 use jl_command::Command;
 
@@ -15,7 +15,26 @@ pub(crate) const MOST_WOVEN_BYTES: usize = 67_108_928;
 /// The most levels of a woven text.
 pub(crate) const MOST_WOVEN_LEVELS: u32 = 1000;
 
-/// What a source has to be.
+/// The most bytes of a source map.
+const MOST_MAP_BYTES: usize = 67_108_864;
+
+/// The most bytes of the text of a stored run.
+const MOST_RECORD_BYTES: usize = 268_435_456;
+
+/// The most bytes that a command reads, if it reads the source.
+pub(crate) fn most_read_by(command: Command) -> Option<usize>
+    ensures { result ≡ most_read_by command }
+{
+    match command {
+        Command::Soak { .. } => None,
+        Command::Exec { .. } => Some(MOST_WOVEN_BYTES),
+        Command::Unmap => Some(MOST_MAP_BYTES),
+        Command::Replay { .. } => Some(MOST_RECORD_BYTES),
+        _ => Some(MOST_BYTES),
+    }
+}
+
+/// What a source that is a program has to be.
 #[derive(Clone, Copy)]
 pub enum Form {
     /// A script.
@@ -25,20 +44,13 @@ pub enum Form {
 }
 
 impl Form {
-    /// What the command reads.
+    /// The form of the program that the command reads, where it reads one.
     pub fn of(command: Command) -> Form
-        ensures { result ≡ form_of_command command }
+        ensures { IfSome (form_of_command command) (λ form. result ≡ form) }
     {
         match command {
             Command::Exec { .. } => Form::WovenText,
-            Command::Lint { .. }
-            | Command::Run { .. }
-            | Command::Check
-            | Command::Print
-            | Command::Instrument
-            | Command::Map
-            | Command::Trace { .. }
-            | Command::Soak { .. } => Form::Script,
+            _ => Form::Script,
         }
     }
 

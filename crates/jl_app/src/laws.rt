@@ -1,8 +1,11 @@
 //! Laws over the definitions; each is the contract of a function that does nothing.
-ghost use Rattle.std.specs.Prelude.{ℕ, List};
+ghost use Rattle.std.specs.Prelude.{◌≡◌, ℕ, List};
 ghost use Rattle.jl_ast.specs.Tree.{Program};
 ghost use Rattle.jl_op.specs.Chosen.{Kinds};
 ghost use Rattle.jl_text.specs.declared.span.Span.{Span};
+ghost use Rattle.jl_effects.specs.Traces.{with_state, without_operations};
+ghost use Rattle.jl_app.specs.Headline.{own_run};
+ghost use Rattle.jl_app.specs.OwnRuns.{program_run};
 ghost use Rattle.jl_app.specs.inner.Woven.{IsWovenWell};
 ghost use Rattle.jl_app.specs.Accepting.{IsAccepted, OneReading};
 ghost use Rattle.jl_app.specs.Misuse.{AcceptedScriptsRunWithoutMisuse};
@@ -17,6 +20,7 @@ use jl_read_back::laws::{
     woven_bytes_are_bounded, woven_keeps_rules, woven_reads_back, woven_text_is_bounded,
     woven_units_are_small,
 };
+use jl_record::laws::{one_bad_line, one_record};
 use jl_safety::laws::{programs_end_or_throw, quietly_never_misuses, woven_never_misuses};
 use jl_simulation::laws::accepted_scripts_simulate;
 use jl_text::laws::units_come_back;
@@ -54,6 +58,14 @@ pub(crate) fn scripts_are_woven_well()
     woven_keeps_rules();
 }
 
+/// The run of a program that an answer is made of is what the program means, but for what it performs itself.
+pub(crate) fn own_runs_are_meant()
+    ensures { (p : Program Span) (n : ℕ) → program_run p n ≡ with_state without_operations (own_run p n) }
+{
+    runs_are_meant::<jl_text::Span>();
+    quiet_means::<jl_text::Span>();
+}
+
 /// The fault Misuse is not told as the end of any run of an accepted script that `run` answers of, nor of its woven
 /// script that `lint` or `trace` does, with any budget and any choice of rules.
 pub fn accepted_scripts_run_without_misuse()
@@ -77,8 +89,14 @@ pub fn text_stands_alone()
     scripts_are_woven_well();
 }
 
-/// What is due to a call is one answer, where the source tells what it holds; only the place of a refusal as unreadable
+/// What is due to words and bytes is one answer; only the place of a refusal as unreadable
 /// is not determined. T stands for what it is that the shelf is as it was.
 pub fn one_answer<T>()
     ensures { OneAnswer T }
-{}
+{
+    jl_srcmap::laws::readings_are_unique();
+    jl_srcmap::laws::never_both();
+    jl_srcmap::laws::bad_place_is_unique();
+    one_record();
+    one_bad_line();
+}

@@ -8,8 +8,9 @@ ghost use Rattle.jl_effects.specs.Running.{state_of as world_of};
 ghost use Rattle.jl_simulation.specs.Plain.{HasFewIds};
 ghost use Rattle.jl_token.specs.Tokens.{Tokens};
 ghost use Rattle.jl_token.specs.declared.token.Token.{Token as OneToken};
-ghost use Rattle.jl_app.specs.Answers.{Due, IsLinted, IsReported, end_line, hooked_run, lint_due, lint_status};
-ghost use Rattle.jl_app.specs.Answers.{woven_budget};
+ghost use Rattle.jl_app.specs.Due.{Due, IsGiven};
+ghost use Rattle.jl_app.specs.Linting.{IsLinted, IsReported, end_line, lint_due, lint_status};
+ghost use Rattle.jl_app.specs.WovenRuns.{hooked_run, woven_budget};
 ghost use Rattle.jl_app.specs.OwnRuns.{uncaught_line};
 ghost use Rattle.jl_app.specs.Reporting.{Lines, lines_text};
 ghost use Rattle.jl_app.specs.WovenText.{kinds_of, woven_text};
@@ -162,9 +163,10 @@ pub(crate) fn lint<H: Shelf>(
         → OnOk result (H.handed shelf.new ≡ woven_text (kinds_of chosen) (view accepted.now.program)) }
     ensures due { (chosen : Items ℕ) → IsChoice rules chosen → IfOk result (λ a. (due : Due)
         × IsLinted accepted.now.source (view accepted.now.program) budget chosen (H.lent shelf.new) due
-        × (a.status ≡ due.status)
-        × (a.bytes.items ≡ due.bytes)
-        × ⟦<Crowd as Observer>⟧.stands_for crowd.new due.told) }
+        × IsGiven (record {
+          same = crowd.new ≡ crowd.old;
+          told = λ told. ⟦<Crowd as Observer>⟧.stands_for crowd.new told;
+        }) a due) }
     ensures same_rules { ⟦<Crowd as Findings>⟧.rules crowd.new ≡ ⟦<Crowd as Findings>⟧.rules crowd.old }
 {
     shelf.put(woven_text(alloc, &accepted.program, needs(rules))?);

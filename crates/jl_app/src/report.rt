@@ -49,7 +49,7 @@ fn positions(alloc: Global, source: &Source, places: &[u32]) -> Result<Vec<(u32,
 }
 
 /// What the comments of a source switch off.
-fn switched_off(alloc: Global, source: &Source) -> Result<Off, AllocError>
+pub(crate) fn switched_off(alloc: Global, source: &Source) -> Result<Off, AllocError>
     requires lexed { (tokens : Items OneToken) × Tokens source.now tokens }
     ensures { IfOk result (λ off. (found : Items OneComment) × Comments source.now found
         × (off ≡ off_by source.now found)) }

@@ -5,7 +5,8 @@ ghost use Rattle.jl_ast.specs.View.{view};
 ghost use Rattle.jl_op.specs.Chosen.{every_kind};
 ghost use Rattle.jl_simulation.specs.Plain.{HasFewIds};
 ghost use Rattle.jl_simulation.specs.Weaving.{woven_program};
-ghost use Rattle.jl_app.specs.Answers.{trace_due, woven_budget};
+ghost use Rattle.jl_app.specs.Answers.{trace_due};
+ghost use Rattle.jl_app.specs.WovenRuns.{woven_budget};
 ghost use Rattle.jl_app.specs.OwnRuns.{program_run, uncaught_line};
 ghost use Rattle.jl_app.specs.Tracing.{hooks_line};
 

@@ -2,7 +2,7 @@
 use Rattle.std.proofs.Common.{◌≡◌, [], ◌∷◌, Some, None, codes, refl}
 use Rattle.clap.proofs.OnLiterals.{clap_on_literals}
 use Rattle.jl_analysis.specs.Rules.{all_rules, rules}
-use Rattle.jl_command.specs.Asked.{request, check, exec, lint, run, soak}
+use Rattle.jl_command.specs.Asked.{cover, request, check, exec, lint, record_of_run, replay, run, soak, unmap}
 use Rattle.jl_command.specs.CommandLine.{command_line, is_refused, value_of}
 
 plain_check : request (codes "check" ∷ []) ≡ Some check
@@ -37,6 +37,35 @@ no_words = refl
 two_commands : request (codes "lint" ∷ codes "run" ∷ []) ≡ None
 unfolding request is_refused value_of command_line clap_on_literals
 two_commands = refl
+
+map_is_read : request (codes "unmap" ∷ []) ≡ Some unmap
+unfolding request is_refused value_of command_line clap_on_literals
+map_is_read = refl
+
+record_with_a_budget : request (codes "record" ∷ codes "--budget=7" ∷ []) ≡ Some (record_of_run 7)
+unfolding request is_refused value_of command_line clap_on_literals
+record_with_a_budget = refl
+
+cover_without_a_budget : request (codes "cover" ∷ []) ≡ Some (cover 1000000)
+unfolding request is_refused value_of command_line clap_on_literals
+cover_without_a_budget = refl
+
+replay_with_rules : request (codes "replay" ∷ codes "--rules" ∷ codes "no-radix,nan-made" ∷ [])
+    ≡ Some (replay (19 ∷ 1 ∷ []))
+unfolding request is_refused value_of command_line clap_on_literals rules
+replay_with_rules = refl
+
+replay_has_no_budget : request (codes "replay" ∷ codes "--budget" ∷ codes "5" ∷ []) ≡ None
+unfolding request is_refused value_of command_line clap_on_literals
+replay_has_no_budget = refl
+
+source_map_has_no_budget : request (codes "srcmap" ∷ codes "--budget" ∷ codes "5" ∷ []) ≡ None
+unfolding request is_refused value_of command_line clap_on_literals
+source_map_has_no_budget = refl
+
+record_has_no_rules : request (codes "record" ∷ codes "--rules" ∷ codes "nan-made" ∷ []) ≡ None
+unfolding request is_refused value_of command_line clap_on_literals rules
+record_has_no_rules = refl
 
 no_flag_for_help : request (codes "--help" ∷ []) ≡ None
 unfolding request is_refused value_of command_line clap_on_literals

@@ -4,9 +4,9 @@ use Rattle.std.proofs.lemmas.Slice.Eq.{bytes_eq-Decides}
 use Rattle.std.specs.Prelude.{option_map}
 use Rattle.std.specs.Str.{bytes_eq}
 use Rattle.jl_analysis.specs.declared.rule_set.RuleSet.{RuleSet}
-use Rattle.jl_command.specs.Asked.{Asked, budget_in, lint_with, soak_number, soak_with}
+use Rattle.jl_command.specs.Asked.{Asked, budget_in, lint_with, replay, soak_number, soak_with}
 use Rattle.jl_command.specs.CommandLine.{Text}
-use Rattle.jl_command.specs.Meant.{IsChoice, Means, means_lint, means_soak}
+use Rattle.jl_command.specs.Meant.{IsChoice, Means, means_lint, means_replay, means_soak}
 use Rattle.jl_command.specs.inner.Optional.{BothOrNeither}
 use Rattle.jl_command.specs.declared.command.Command.{Command}
 use Rattle.jl_command.specs.declared.command.Command.TheVariants as commands
@@ -33,6 +33,14 @@ with_lint value chosen budget set is choice =
     subst (λ o. BothOrNeither Means (Some (commands.Lint budget set)) (lint_with o chosen)) is
     (subst (λ o. BothOrNeither Means (Some (commands.Lint budget set)) (lint_with (Some budget) o)) (sym one.1)
     (means_lint budget set one.0 (budget_bound value budget is) one.2))
+
+-- a command with rules and no budget
+pub with_replay : (chosen : Option (List ℕ)) (set : RuleSet) → BothOrNeither IsChoice (Some set) chosen
+    → BothOrNeither Means (Some (commands.Replay set)) (option_map (λ l. replay l) chosen)
+with_replay chosen set choice =
+    let one = both IsChoice set chosen choice in
+    subst (λ o. BothOrNeither Means (Some (commands.Replay set)) (option_map (λ l. replay l) o)) (sym one.1)
+    (means_replay set one.0 one.2)
 
 -- and with a number
 pub with_soak : (given value : Option Text) (chosen : Option (List ℕ)) (number budget : ℕ) (set : RuleSet)

@@ -22,8 +22,14 @@ pub data Asked : Type 0 where
   print : Asked
   instrument : Asked
   map_of_ids : Asked
+  srcmap : Asked
+  unmap : Asked
   trace : (budget : ℕ) → Asked
   exec : (budget : ℕ) → Asked
+  record_of_run : (budget : ℕ) → Asked
+  replay : (chosen : List ℕ) → Asked
+  objects : (budget : ℕ) → Asked
+  cover : (budget : ℕ) → Asked
   soak : (number budget : ℕ) → (chosen : List ℕ) → Asked
 
 -- one to ten decimal digits
@@ -95,7 +101,9 @@ without_options name =
     if bytes_eq name (codes "check") then Some check
     else (if bytes_eq name (codes "print") then Some print
     else (if bytes_eq name (codes "instrument") then Some instrument
-    else (if bytes_eq name (codes "map") then Some map_of_ids else None)))
+    else (if bytes_eq name (codes "map") then Some map_of_ids
+    else (if bytes_eq name (codes "srcmap") then Some srcmap
+    else (if bytes_eq name (codes "unmap") then Some unmap else None)))))
 
 -- the command with this name that reports by no rules, where its budget is given so
 abbrev pub without_rules : (name : Text) → (budget : Option Text) → Option Asked
@@ -103,13 +111,21 @@ without_rules name budget =
     if bytes_eq name (codes "run") then option_map (λ most. run most) (budget_in budget)
     else (if bytes_eq name (codes "trace") then option_map (λ most. trace most) (budget_in budget)
     else (if bytes_eq name (codes "exec") then option_map (λ most. exec most) (budget_in budget)
-    else unless_given budget (without_options name)))
+    else (if bytes_eq name (codes "record") then option_map (λ most. record_of_run most) (budget_in budget)
+    else (if bytes_eq name (codes "objects") then option_map (λ most. objects most) (budget_in budget)
+    else (if bytes_eq name (codes "cover") then option_map (λ most. cover most) (budget_in budget)
+    else unless_given budget (without_options name))))))
+
+-- the command that reports of what ran before, where its options are given so; it has no budget
+abbrev pub without_budget : (budget rules : Option Text) → Option Asked
+without_budget budget rules = unless_given budget (option_map (λ chosen. replay chosen) (rules_in rules))
 
 -- the command with this name that makes no script, where its options are given so
 abbrev pub without_number : (name : Text) → (budget rules : Option Text) → Option Asked
 without_number name budget rules =
     if bytes_eq name (codes "lint") then lint_with (budget_in budget) (rules_in rules)
-    else unless_given rules (without_rules name budget)
+    else (if bytes_eq name (codes "replay") then without_budget budget rules
+    else unless_given rules (without_rules name budget))
 
 -- the command with this name, where its options are given so
 abbrev pub asked_by_name : (name : Text) → (budget rules number : Option Text) → Option Asked

@@ -20,12 +20,32 @@ pub enum Command {
     Instrument,
     /// Lists the operations of a script by their ids.
     Map,
+    /// Writes the source map of the text of the woven script.
+    Srcmap,
+    /// Lists the segments of a source map.
+    Unmap,
     /// Runs a script woven, and tells each of its operations.
     Trace {
         budget: u64,
     },
     /// Runs a woven text as it stands, and tells each of its operations.
     Exec {
+        budget: u64,
+    },
+    /// Runs a script woven, and writes its operations as a record.
+    Record {
+        budget: u64,
+    },
+    /// Reports what was odd in a record by the chosen rules.
+    Replay {
+        rules: RuleSet,
+    },
+    /// Runs a script woven, and lists where it makes objects, and how many of these it never uses.
+    Objects {
+        budget: u64,
+    },
+    /// Runs a script woven, and lists the functions and the conditions that were not covered.
+    Cover {
         budget: u64,
     },
     /// Does what `Lint` does with a script that it makes of so many functions, from 0 to 8,000.

@@ -1,6 +1,7 @@
 //! Commands by their names, with the values of their options.
 ghost use Rattle.std.specs.Prelude.{◌≡◌, option_map};
-ghost use Rattle.jl_command.specs.Asked.{asked_by_name, without_number, without_options, without_rules};
+ghost use Rattle.jl_command.specs.Asked.{asked_by_name, without_budget, without_number, without_options};
+ghost use Rattle.jl_command.specs.Asked.{without_rules};
 ghost use Rattle.jl_command.specs.Meant.{Means};
 ghost use Rattle.jl_command.specs.inner.Optional.{BothOrNeither};
 
@@ -44,10 +45,25 @@ fn without_number(name: &str, budget: Option<&str>, rules: Option<&str>) -> Opti
         let rules = rules_in(rules)?;
         return Some(Command::Lint { budget, rules });
     }
+    if name == "replay" {
+        return without_budget(budget, rules);
+    }
     if rules.is_some() {
         return None;
     }
     without_rules(name, budget)
+}
+
+/// The command that reports of what ran before, where it has no budget and its rules have this value.
+fn without_budget(budget: Option<&str>, rules: Option<&str>) -> Option<Command>
+    ensures { BothOrNeither Means result (without_budget (option_map (λ s. s.now) budget.entry)
+        (option_map (λ s. s.now) rules.entry)) }
+{
+    if budget.is_some() {
+        return None;
+    }
+    let rules = rules_in(rules)?;
+    Some(Command::Replay { rules })
 }
 
 /// The command with this name that reports by no rules, where its budget has this value.
@@ -65,6 +81,18 @@ fn without_rules(name: &str, budget: Option<&str>) -> Option<Command>
     if name == "exec" {
         let budget = budget_in(budget)?;
         return Some(Command::Exec { budget });
+    }
+    if name == "record" {
+        let budget = budget_in(budget)?;
+        return Some(Command::Record { budget });
+    }
+    if name == "objects" {
+        let budget = budget_in(budget)?;
+        return Some(Command::Objects { budget });
+    }
+    if name == "cover" {
+        let budget = budget_in(budget)?;
+        return Some(Command::Cover { budget });
     }
     if budget.is_some() {
         return None;
@@ -87,6 +115,12 @@ fn without_options(name: &str) -> Option<Command>
     }
     if name == "map" {
         return Some(Command::Map);
+    }
+    if name == "srcmap" {
+        return Some(Command::Srcmap);
+    }
+    if name == "unmap" {
+        return Some(Command::Unmap);
     }
     None
 }

@@ -1,10 +1,12 @@
-use Rattle.std.proofs.Common.{◌≡◌, ◌∙◌, subst, sym}
+use Rattle.std.proofs.Common.{◌≡◌, ◌∙◌, refl, subst, sym}
 use Rattle.std.proofs.lemmas.Result.{IfOk-weaker}
 use Rattle.std.specs.Prelude.{codes}
 use Rattle.jl_ast.specs.View.{view}
 use Rattle.jl_op.specs.KindSets.{is_member}
 use Rattle.jl_op.specs.declared.kind.OpKind.{OpKind}
-use Rattle.jl_app.specs.Answers.{hooked_run, lint_due, ran, refused_only, unread, woven_budget}
+use Rattle.jl_app.specs.Due.{refused_only}
+use Rattle.jl_app.specs.Linting.{lint_due, ran, unread}
+use Rattle.jl_app.specs.WovenRuns.{hooked_run, woven_budget}
 use Rattle.jl_app.specs.ReadBack.{IsReadBack}
 use Rattle.jl_app.specs.WovenText.{kinds_of}
 use Rattle.jl_app.proofs.Answering.{always_ok, both_ok}
@@ -28,9 +30,7 @@ returns-in-Ok-clause-due g c = λ chosen choice.
     (λ a run told. (
       lint_due (hooked_run (kinds_of chosen) q steps) steps run.0 run.1,
       ran q run.0 run.1 read run.2,
-      run.3,
-      run.4,
-      told,
+      record { status = run.3; bytes = run.4; told = told },
     ))
     (c.run_answer.ensures.run chosen choice) (c.run_answer.ensures.told chosen choice)
 
@@ -48,8 +48,6 @@ returns-in-Err-NoProgram-clause-due g c = λ chosen choice.
     (λ a answered. (
       refused_only (codes "ReadBack"),
       unread (λ q read. let e = only q (subst (λ text. IsReadBack text q) (sym c.lend.ensures) read) in absurd (cc)),
-      answered.0,
-      answered.1,
-      c.requires.fresh,
+      record { status = answered.0; bytes = answered.1; told = refl },
     ))
     c.line_only.ensures

@@ -3,7 +3,8 @@ use Rattle.jl_ast.specs.View.{view}
 use Rattle.jl_machine.specs.declared.ending.Run.{Run}
 use Rattle.jl_op.specs.KindSets.{is_member}
 use Rattle.jl_op.specs.declared.kind.OpKind.{OpKind}
-use Rattle.jl_app.specs.Answers.{end_line, lint_status, woven_budget}
+use Rattle.jl_app.specs.Linting.{end_line, lint_status}
+use Rattle.jl_app.specs.WovenRuns.{woven_budget}
 use Rattle.jl_app.specs.MapLines.{begins}
 use Rattle.jl_app.specs.OwnRuns.{uncaught_line}
 use Rattle.jl_app.specs.Reporting.{lines_text}

@@ -3,7 +3,7 @@ use Rattle.std.proofs.lemmas.Result.{IfOk-weaker}
 use Rattle.jl_ast.specs.View.{view}
 use Rattle.jl_op.specs.Chosen.{every_kind}
 use Rattle.jl_simulation.specs.Weaving.{woven_program}
-use Rattle.jl_app.specs.Answers.{woven_budget}
+use Rattle.jl_app.specs.WovenRuns.{woven_budget}
 use Rattle.jl_app.proofs.OwnRun.{same_program_run}
 use Rattle.jl_app.proofs.Traced.{of_all_woven, same_traced_run}
 use Rattle.jl_app.proofs.trace.trace.Goals as goal

@@ -1,6 +1,6 @@
 use Rattle.std.proofs.Common.{◌∙◌, Some, codes, sym}
 use Rattle.jl_command.specs.Asked as asked
-use Rattle.jl_command.specs.Meant.{means_check, means_instrument, means_map, means_print}
+use Rattle.jl_command.specs.Meant.{means_check, means_instrument, means_map, means_print, means_srcmap, means_unmap}
 use Rattle.jl_command.specs.declared.command.Command.TheVariants as commands
 use Rattle.jl_command.proofs.NamedCommands.{by_name}
 use Rattle.jl_command.proofs.command_names.without_options.Goals as goal
@@ -24,3 +24,13 @@ pub returns-then-eq-4 : goal.returns-then-eq-4
 returns-then-eq-4 c =
     by_name (Some commands.Map) c.args.name.now (codes "map") (λ n. asked.without_options n)
     (sym c.if-eq-4.true ∙ c.eq-4.ensures) means_map
+
+pub returns-then-eq-5 : goal.returns-then-eq-5
+returns-then-eq-5 c =
+    by_name (Some commands.Srcmap) c.args.name.now (codes "srcmap") (λ n. asked.without_options n)
+    (sym c.if-eq-5.true ∙ c.eq-5.ensures) means_srcmap
+
+pub returns-then-eq-6 : goal.returns-then-eq-6
+returns-then-eq-6 c =
+    by_name (Some commands.Unmap) c.args.name.now (codes "unmap") (λ n. asked.without_options n)
+    (sym c.if-eq-6.true ∙ c.eq-6.ensures) means_unmap

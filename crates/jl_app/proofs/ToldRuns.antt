@@ -1,0 +1,83 @@
+-- The answer that the code makes of the operations of a woven script's run is the one that is due.
+use Rattle.std.proofs.Common.{◌≡◌, ◌∙◌, ◌++◌, ℕ, List, [], ap, refl, subst, sym}
+use mathlib.Core.Path.{fun_ext}
+use Rattle.jl_ast.specs.Spans.{without_spans}
+use Rattle.jl_ast.specs.Tree.{Program}
+use Rattle.jl_cover.specs.declared.missed.Missed.{Missed}
+use Rattle.jl_cover.specs.declared.totals.Totals.{Totals}
+use Rattle.jl_effects.specs.Running.{state_of as world_of, steps_taken}
+use Rattle.jl_machine.specs.Runs.{ending_of, hooked_mean, IsRun}
+use Rattle.jl_machine.specs.declared.ending.Run.{Run}
+use Rattle.jl_meaning.specs.Mean as mean
+use Rattle.jl_meaning.specs.Store.{Store}
+use Rattle.jl_op.specs.Chosen.{Kinds}
+use Rattle.jl_op.specs.KindSets.{is_member}
+use Rattle.jl_op.specs.Operations.{Operation}
+use Rattle.jl_op.specs.declared.kind.OpKind.{OpKind}
+use Rattle.jl_op.specs.declared.kind_set.KindSet.{KindSet}
+use Rattle.jl_profile.specs.declared.births.Births.{Births}
+use Rattle.jl_simulation.specs.Weaving.{woven_program}
+use Rattle.jl_text.specs.declared.span.Span.{Span}
+use Rattle.jl_app.specs.Covering.{cover_bytes, cover_line, missed_lines}
+use Rattle.jl_app.specs.Headline.{woven_run}
+use Rattle.jl_app.specs.OwnRuns.{uncaught_line}
+use Rattle.jl_app.specs.Profiling.{births_lines, objects_bytes, objects_line}
+use Rattle.jl_app.specs.Telling.{told_run}
+use Rattle.jl_app.specs.WovenRuns.{hooked_run, woven_budget}
+use Rattle.jl_app.proofs.OwnRun.{same_run}
+
+as_hooked : (kinds : Kinds) (q : Program Span) (n : ℕ) → hooked_mean kinds q n ≡ hooked_run kinds q n
+unfolding hooked_run
+as_hooked kinds q n = refl
+
+pub told_run_is : (kinds : Kinds) (p : Program Span) (budget : ℕ)
+    → told_run kinds p budget ≡ woven_run kinds p (woven_budget budget)
+unfolding woven_run
+told_run_is kinds p budget = refl
+
+-- the run of a program that is read from the woven script's text, or is it but for its places
+pub is_told_run : {O : Type 0} (stands_for : O → List Operation → Type 0) (o : O) (r : Run) (kinds : Kinds)
+    (p q : Program Span) (n budget : ℕ) → n ≡ woven_budget budget → without_spans q ≡ woven_program kinds p
+    → IsRun stands_for [] n (hooked_mean kinds q n) r o
+    → IsRun stands_for [] (woven_budget budget) (told_run kinds p budget) r o
+is_told_run stands_for o r kinds p q n budget taken same is =
+    subst (λ (ran : mean.Run). IsRun stands_for [] (woven_budget budget) ran r o)
+    (as_hooked kinds q (woven_budget budget) ∙ same_run kinds p q (woven_budget budget) same
+    ∙ sym (told_run_is kinds p budget))
+    (subst (λ k. IsRun stands_for [] k (hooked_mean kinds q k) r o) taken is)
+
+-- the same for a set that has these kinds
+pub of_told_kinds : {O : Type 0} (stands_for : O → List Operation → Type 0) (o : O) (r : Run) (set : KindSet)
+    (kinds : Kinds) (p : Program Span) (budget : ℕ) → ((kind : OpKind) → is_member set kind ≡ kinds kind)
+    → IsRun stands_for [] (woven_budget budget) (told_run (is_member set) p budget) r o
+    → IsRun stands_for [] (woven_budget budget) (told_run kinds p budget) r o
+of_told_kinds stands_for o r set kinds p budget same is =
+    subst (λ (k : Kinds). IsRun stands_for [] (woven_budget budget) (told_run k p budget) r o)
+    (fun_ext {f = is_member set} {g = kinds} same) is
+
+module _ {O : Type 0} {stands_for : O → List Operation → Type 0} {o : O} {r : Run} (n : ℕ) (ran : mean.Run)
+    (is : IsRun stands_for [] n ran r o) where
+  pub objects_bytes_are : (rows births : List Births) (bytes : List ℕ) → rows ≡ births
+      → bytes ≡ births_lines rows ++ (uncaught_line r.store.heap r.outcome ++ objects_line r.outcome r.steps rows)
+      → bytes ≡ objects_bytes ran (steps_taken n ran) births
+  objects_bytes_are rows births bytes same b =
+      b ∙ ap (λ l. births_lines l ++ (uncaught_line r.store.heap r.outcome ++ objects_line r.outcome r.steps l)) same
+      ∙ ap (λ (s : Store). births_lines births ++ (uncaught_line s.heap r.outcome
+      ++ objects_line r.outcome r.steps births)) is.store
+      ∙ ap (λ e. births_lines births ++ (uncaught_line (world_of ran).store.heap e ++ objects_line e r.steps births))
+      is.outcome
+      ∙ ap (λ k. births_lines births ++ (uncaught_line (world_of ran).store.heap (ending_of ran)
+      ++ objects_line (ending_of ran) k births)) is.steps
+
+  pub cover_bytes_are : (gaps missed : List Missed) (some all : Totals) (bytes : List ℕ) → gaps ≡ missed → some ≡ all
+      → bytes ≡ missed_lines gaps ++ (uncaught_line r.store.heap r.outcome ++ cover_line r.outcome r.steps some)
+      → bytes ≡ cover_bytes ran (steps_taken n ran) missed all
+  cover_bytes_are gaps missed some all bytes same too b =
+      b ∙ ap (λ l. missed_lines l ++ (uncaught_line r.store.heap r.outcome ++ cover_line r.outcome r.steps some)) same
+      ∙ ap (λ t. missed_lines missed ++ (uncaught_line r.store.heap r.outcome ++ cover_line r.outcome r.steps t)) too
+      ∙ ap (λ (s : Store). missed_lines missed ++ (uncaught_line s.heap r.outcome
+      ++ cover_line r.outcome r.steps all)) is.store
+      ∙ ap (λ e. missed_lines missed ++ (uncaught_line (world_of ran).store.heap e ++ cover_line e r.steps all))
+      is.outcome
+      ∙ ap (λ k. missed_lines missed ++ (uncaught_line (world_of ran).store.heap (ending_of ran)
+      ++ cover_line (ending_of ran) k all)) is.steps

@@ -1,0 +1,38 @@
+use Rattle.std.proofs.Common.{◌∙◌, ap, ap₂, refl}
+use Rattle.jl_ast.specs.View.{view}
+use Rattle.jl_cover.specs.Coverage.{is_covered, missed_in, totals_in}
+use Rattle.jl_effects.specs.Running.{state_of as world_of, steps_taken}
+use Rattle.jl_text.specs.Places.{line_table}
+use Rattle.jl_app.specs.Covering.{cover_due}
+use Rattle.jl_app.specs.OwnRuns.{ending_status}
+use Rattle.jl_app.specs.Rows.{rows_in}
+use Rattle.jl_app.specs.Telling.{told_run}
+use Rattle.jl_app.specs.WovenRuns.{woven_budget}
+use Rattle.jl_app.proofs.ToldRuns.{cover_bytes_are, of_told_kinds}
+use Rattle.jl_app.proofs.cover.cover.Goals as goal
+
+pub returns : goal.returns
+returns c =
+    let p = view c.args.accepted.now.program in
+    let units = c.args.accepted.now.source in
+    let budget = c.args.budget in
+    let ran = told_run is_covered p budget in
+    let is = of_told_kinds _ _ c.in_ok-run.run' c.covered_kinds.result is_covered p budget c.covered_kinds.ensures
+    (c.in_ok-run.ensures.is c.new-cover.ensures.stands) in (
+      cover_due units p ran (world_of ran).hooks (steps_taken (woven_budget budget) ran),
+      refl,
+      record {
+        answer = record {
+          status = c.ending_status.ensures ∙ ap ending_status is.outcome;
+          bytes = cover_bytes_are (woven_budget budget) ran is c.deref.result.now
+              (missed_in (line_table units) (rows_in units p) (world_of ran).hooks) c.totals-totals.result
+              (totals_in (rows_in units p) (world_of ran).hooks) c.in_ok-answer_bytes.field-0.items
+              (c.deref.ensures.value ∙ c.in_ok-gaps.ensures (world_of ran).hooks is.told
+              ∙ ap₂ (λ l m. missed_in l m (world_of ran).hooks) c.lines.ensures c.in_ok-map.ensures.rows)
+              (c.totals-totals.ensures (world_of ran).hooks is.told
+              ∙ ap (λ m. totals_in m (world_of ran).hooks) c.in_ok-map.ensures.rows)
+              c.in_ok-answer_bytes.ensures;
+        };
+        untold = refl;
+      },
+    )
