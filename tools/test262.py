@@ -37,7 +37,7 @@ LEXEME = re.compile(r'''
   | (?P<sign> => | \.\.\. | . )''', re.S | re.X)
 # Words after which a slash begins a regular expression.
 BEFORE_VALUE = set('return typeof instanceof in new delete void throw case do else'.split())
-BUDGET = '20000000'
+BUDGET = '5000000'
 
 Test = collections.namedtuple('Test', 'name section text flags includes negative features')
 Cause = collections.namedtuple('Cause', 'name section way pattern')
