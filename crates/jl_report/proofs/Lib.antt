@@ -6,6 +6,7 @@ pub mod Keys
 pub mod Listing
 pub mod OneReport
 pub mod OfRules
+pub mod OffPairs
 pub mod Totals
 pub mod Pairs
 pub mod Switching

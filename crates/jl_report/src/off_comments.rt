@@ -1,13 +1,13 @@
 //! Comments that switch rules off for a line.
 ghost use Rattle.std.specs.Prelude.{◌≡◌, ◌+◌, ◌^◌, ◌<◌, ◌≤◌, ◌==◌, [], ◌∷◌, IfOk, OnOk, IfSome, MatchOption};
-ghost use Rattle.std.specs.Prelude.{length, option_map, position, All};
+ghost use Rattle.std.specs.Prelude.{length, option_map, position};
 ghost use Rattle.std.specs.List.{slice_split};
 ghost use Rattle.std.specs.Option.{option_copied};
 ghost use Rattle.std.specs.BTreeSet.{insert_key};
 ghost use Rattle.std.specs.Str.{bytes_eq};
 ghost use Rattle.jl_text.specs.Places.{line_table, position_of};
 ghost use Rattle.jl_token.specs.Tokens.{Comments};
-ghost use Rattle.jl_analysis.specs.Rules.{rule_with, IsRule};
+ghost use Rattle.jl_analysis.specs.Rules.{rule_with};
 ghost use Rattle.jl_report.specs.Off.{by_line, without_last_spaces, rules_in, after, pairs_with, pairs_of_text};
 ghost use Rattle.jl_report.specs.Off.{with_pairs, pairs_named, pairs_of, off_by};
 
@@ -36,9 +36,7 @@ pub fn off(
     requires short { length units.now < 4294967295 }
     requires comments { Comments units.now comments.now }
     requires lines { lines.now ≡ line_table units.now }
-    ensures value { IfOk result (λ off. off ≡ off_by units.now comments.now) }
-    ensures rules { IfOk result (λ off. All (λ pair. IsRule pair.1) off) }
-    ensures lines { IfOk result (λ off. All (λ pair. 1 ≤ pair.0) off) }
+    ensures { IfOk result (λ off. off ≡ off_by units.now comments.now) }
 {
     let mut pairs = BTreeSet::new(alloc);
     for comment in comments {
