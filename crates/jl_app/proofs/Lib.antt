@@ -32,3 +32,4 @@ pub mod Concluding
 pub mod Statuses
 pub mod OneText
 pub mod OneAnswer
+pub mod MappedBack
