@@ -1,5 +1,6 @@
 -- The text of a run that is recorded, part by part.
-use Rattle.std.proofs.Common.{◌≡◌, ℕ, zero, suc, ◌+◌, ◌-◌, ◌<◌, ◌≤◌, List, [], ◌∷◌, ◌++◌, length, map, take, get_or, refl, sym, ap}
+use Rattle.std.proofs.Common.{◌≡◌, ℕ, zero, suc, ◌+◌, ◌-◌, ◌<◌, ◌≤◌, List, [], ◌∷◌, ◌++◌, length, map, take, get_or}
+use Rattle.std.proofs.Common.{refl, sym, ap}
 use Rattle.std.proofs.Common.{◌∙◌, arith, append_assoc, Option, Some, None, subst}
 use Rattle.std.proofs.Math.Seq.{take-suc}
 use Rattle.std.proofs.lemmas.List.{length-append, map-append}
@@ -52,7 +53,8 @@ appends_next line items i a old mid new here p q =
     appends_item line items i a old mid new (sym (get_or_from_slice_get items i a a here))
     (slice_get_within items i a here) p q
 
-pub there : {A : Type 0} (items : List A) (i : ℕ) (d : A) → i < length items → slice_get items i ≡ Some (get_or items i d)
+pub there : {A : Type 0} (items : List A) (i : ℕ) (d : A) → i < length items
+    → slice_get items i ≡ Some (get_or items i d)
 there [] i d h = absurd (omega arith)
 there (a ∷ items) zero d h = refl
 there (a ∷ items) (suc i) d h = there items i d (omega arith)
@@ -145,7 +147,8 @@ lines_split rows off operations =
     ap (λ ls. first_line ∷ count_line (codes "rows") (length rows) ∷ ls)
     (ap (λ ls. map row_line rows ++ count_line (codes "off") (length off) ∷ ls)
     (sym (append_assoc (map off_line off) (ops ∷ []) rest))
-    ∙ sym (append_assoc (map row_line rows) (count_line (codes "off") (length off) ∷ (map off_line off ++ ops ∷ [])) rest))
+    ∙ sym (append_assoc (map row_line rows) (count_line (codes "off") (length off) ∷
+    (map off_line off ++ ops ∷ [])) rest))
 
 pub text_split : (rows : List Row) (off : List Pair) (operations : List Operation)
     → text_of (record { rows = rows; off = off; operations = operations })
@@ -186,7 +189,8 @@ few_operations [] = omega arith
 few_operations (o ∷ operations) =
     let more = few_operations operations in
     let line = ends_in_lf (operation_line o) in
-    let split = ap bytes_of (sym (append_assoc (operation_line o) (10 ∷ []) (with_ends (map operation_line operations))))
+    let split = ap bytes_of (sym (append_assoc (operation_line o) (10 ∷ []) (with_ends
+    (map operation_line operations))))
     ∙ lf_more (operation_line o) (with_ends (map operation_line operations)) in
     omega (
       arith,

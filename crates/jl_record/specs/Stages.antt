@@ -21,7 +21,7 @@ OnBad (Ok x) P = Unit {0}
 OnBad (Err (refusals.BadRecord line)) P = P line
 OnBad (Err refusals.NoMemory) P = Unit {0}
 
--- these rows have been read, of so many
+-- these of `count` rows have been read
 pub record AtRows (units rest : List ℕ) (count : ℕ) (rows : List Row) : Type 0 where
   pub rows_are : AllByRecursion IsRow rows
   pub few : count < 2 ^ 32
@@ -33,7 +33,7 @@ pub record HasRows (rows : List Row) : Type 0 where
   pub rows_are : AllByRecursion IsRow rows
   pub few : length rows < 2 ^ 32
 
--- and these pairs, of so many
+-- and these of `count` pairs
 pub record AtOff (units rest : List ℕ) (rows : List Row) (count : ℕ) (off : List Pair) : Type 0 where
   pub has_rows : HasRows rows
   pub off_are : AllByRecursion IsOff off
@@ -48,8 +48,9 @@ pub record HasOff (off : List Pair) : Type 0 where
   pub rises : Rising 20 off
   pub few : length off < 2 ^ 64
 
--- and these operations, of so many
-pub record AtOperations (units rest : List ℕ) (rows : List Row) (off : List Pair) (count : ℕ) (operations : List Operation)
+-- and these of `count` operations
+pub record AtOperations (units rest : List ℕ) (rows : List Row) (off : List Pair) (count : ℕ)
+    (operations : List Operation)
     : Type 0 where
   pub has_rows : HasRows rows
   pub has_off : HasOff off

@@ -49,7 +49,8 @@ pub(crate) fn binary_front(
     alloc: Global,
     units: &[u16],
 ) -> Result<Option<(BinOp, &[u16])>, AllocError>
-    ensures { IfOk result (λ found. MatchOption found (Fails a_binary units.now) (λ x. Takes a_binary units.now x.0 x.1.now)) }
+    ensures { IfOk result (λ found. MatchOption found (Fails a_binary units.now)
+        (λ x. Takes a_binary units.now x.0 x.1.now)) }
 {
     let Some((sign, rest)) = name_front(alloc, units)? else {
         return Ok(None);
@@ -64,7 +65,8 @@ pub(crate) fn unary_front(
     alloc: Global,
     units: &[u16],
 ) -> Result<Option<(UnKind, &[u16])>, AllocError>
-    ensures { IfOk result (λ found. MatchOption found (Fails a_unary units.now) (λ x. Takes a_unary units.now x.0 x.1.now)) }
+    ensures { IfOk result (λ found. MatchOption found (Fails a_unary units.now)
+        (λ x. Takes a_unary units.now x.0 x.1.now)) }
 {
     let Some((sign, rest)) = name_front(alloc, units)? else {
         return Ok(None);
@@ -79,7 +81,8 @@ pub(crate) fn callee_front(
     alloc: Global,
     units: &[u16],
 ) -> Result<Option<(Callee, &[u16])>, AllocError>
-    ensures { IfOk result (λ found. MatchOption found (Fails a_callee units.now) (λ x. Takes a_callee units.now x.0 x.1.now)) }
+    ensures { IfOk result (λ found. MatchOption found (Fails a_callee units.now)
+        (λ x. Takes a_callee units.now x.0 x.1.now)) }
 {
     match units {
         [115, rest @ ..] => Ok(script_before(rest)),

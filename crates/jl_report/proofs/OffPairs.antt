@@ -12,7 +12,8 @@ use Rattle.jl_token.specs.declared.token.Comment.{Comment}
 use Rattle.jl_analysis.proofs.RuleNames.{rule_names}
 use Rattle.jl_analysis.specs.Rules.{rules, rule_with, IsRule, rule_count}
 use Rattle.jl_report.specs.Laws.{OffNamesRules}
-use Rattle.jl_report.specs.Off.{Pair, by_line, with_pairs, with_each_rule, rules_with, rules_in, pairs_with, pairs_named}
+use Rattle.jl_report.specs.Off.{Pair, by_line, with_pairs, with_each_rule, rules_with, rules_in, pairs_with}
+use Rattle.jl_report.specs.Off.{pairs_named}
 use Rattle.jl_report.specs.Off.{after, pairs_of_text, pairs_of, off_by, without_last_spaces}
 
 -- a pair of a line and a rule
@@ -20,7 +21,8 @@ record IsPair (pair : Pair) : Type 0 where
   rule : IsRule pair.1
   line : 1 ≤ pair.0
 
-found_within : (name : List ℕ) (names : List (List ℕ)) (first rule : ℕ) → position_from (bytes_eq name) first names ≡ Some rule
+found_within : (name : List ℕ) (names : List (List ℕ)) (first rule : ℕ)
+    → position_from (bytes_eq name) first names ≡ Some rule
     → (first ≤ rule) × (rule < first + length names)
 found_within name [] first rule e = absurd (let h : None ≡ Some rule = e in cc)
 found_within name (x ∷ names) first rule e = by (bytes_eq name x) e (found_within name names (first + 1) rule) where

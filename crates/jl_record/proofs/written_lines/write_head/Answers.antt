@@ -9,7 +9,8 @@ pub returns-clause-holds : goal.returns-clause-holds
 returns-clause-holds c =
     let rows = rows_of c.args.lines.now c.args.rows.now in
     on_ok_weaker _
-    (λ h. appends_head _ _ _ _ _ _ _ rows c.args.off.now c.pairs-pairs.result.now c.from.result (length c.pairs-pairs.result.now)
+    (λ h. appends_head _ _ _ _ _ _ _ rows c.args.off.now c.pairs-pairs.result.now c.from.result
+    (length c.pairs-pairs.result.now)
     c.args.count (c.from.ensures ∙ c.len.ensures ∙ sym (length-map c.args.rows.now (row_at c.args.lines.now))) refl
     c.pairs-pairs.ensures.value c.in_ok-word.ensures.holds c.in_ok-write_count.ensures.holds
     c.in_ok-write_rows.ensures.holds c.in_ok-write_count-2.ensures.holds c.in_ok-write_pairs.ensures.holds h)
