@@ -25,6 +25,7 @@ pub mod BytesOfUnits
 pub mod StandsAlone
 pub mod Headline
 pub mod LinesOf
+pub mod OffRules
 pub mod ToldRuns
 pub mod Replayed
 pub mod OwnOperations

@@ -19,7 +19,7 @@ pub(crate) const MOST_WOVEN_LEVELS: u32 = 1000;
 const MOST_MAP_BYTES: usize = 67_108_864;
 
 /// The most bytes of the text of a stored run.
-const MOST_RECORD_BYTES: usize = 268_435_456;
+pub(crate) const MOST_RECORD_BYTES: usize = 268_435_456;
 
 /// The most bytes that a command reads, if it reads the source.
 pub(crate) fn most_read_by(command: Command) -> Option<usize>

@@ -10,7 +10,15 @@ ghost use Rattle.jl_app.specs.Telling.{IsToldOfWoven};
 ghost use Rattle.jl_app.specs.inner.Said.{IsSaid};
 
 use crate::accept::Accepted;
-use crate::answer::Answer;
+use crate::answer::{Answer, line_only};
+use crate::execute::ending_status;
+use crate::form::MOST_RECORD_BYTES;
+use crate::listing::map_in;
+use crate::report::switched_off;
+use crate::status::Status;
+use crate::woven_run::run_woven;
+use jl_op::KindSet;
+use jl_record::{RecordRefusal, Recorder};
 use std::alloc::{AllocError, Global};
 
 /// What `record` answers to an accepted script with this budget.
@@ -26,5 +34,22 @@ pub(crate) fn record_run(
         × IsToldOfWoven (record_of_run budget) accepted.now.source (view accepted.now.program) budget due
         × IsSaid given due) }
 {
-    Err(AllocError)
+    let mut recorder = Recorder::new(alloc, MOST_RECORD_BYTES as u64);
+    let run = run_woven(
+        alloc,
+        &accepted.program,
+        budget,
+        KindSet::all(),
+        &mut recorder,
+    )?;
+    let map = map_in(alloc, accepted)?;
+    let off = switched_off(alloc, &accepted.source)?;
+    match recorder.finish(alloc, &map, accepted.source.lines(), &off) {
+        Ok(bytes) => Ok(Answer {
+            status: ending_status(&run.outcome),
+            bytes,
+        }),
+        Err(RecordRefusal::TooLong) => line_only(alloc, Status::Refused, "refused RecordTooLong"),
+        Err(RecordRefusal::NoMemory) => Err(AllocError),
+    }
 }
