@@ -34,3 +34,4 @@ pub mod Statuses
 pub mod OneText
 pub mod OneAnswer
 pub mod MappedBack
+pub mod SameAnswers

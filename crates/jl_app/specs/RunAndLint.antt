@@ -1,6 +1,6 @@
--- That `lint` shows of a script what `run` shows: a statement on two answers as bytes, which needs no definition of the
--- language.
-use Rattle.std.specs.Prelude.{◌≡◌, ℕ, ◌+◌, ◌*◌, ◌≤◌, List, [], ◌∷◌, ◌++◌, ◌⊎◌, codes, length}
+-- That `lint` shows of a script what `run` shows of it. This is a statement on two answers as bytes: it needs no
+-- definition of the language, only how a line is written.
+use Rattle.std.specs.Prelude.{◌≡◌, ℕ, ◌+◌, ◌*◌, ◌≤◌, List, [], ◌∷◌, ◌++◌, codes}
 use Rattle.std.specs.Fmt.{decimal}
 use Rattle.jl_app.specs.declared.answer.Answer.{Answer}
 use Rattle.jl_app.specs.declared.status.Status.{Status}
@@ -21,24 +21,25 @@ abbrev pub report_line : (line column : ℕ) → (rule : List ℕ) → (count : 
 report_line line column rule count =
     decimal line ++ (codes ":" ++ (decimal column ++ (codes " " ++ (rule ++ (codes " " ++ decimal count)))))
 
--- so many lines of a report, each ended by LF
+-- the text is a report of this many lines, each of which ends with LF
 pub data IsReport : (text : List ℕ) → (lines : ℕ) → Type 0 where
   none : IsReport [] 0
   more : (line column : ℕ) (rule : List ℕ) (count : ℕ) {text : List ℕ} {lines : ℕ} → IsReport text lines
       → IsReport ((report_line line column rule count ++ 10 ∷ []) ++ text) (lines + 1)
 
--- the line that tells what was thrown and not caught, or nothing
+-- the text is the line for an uncaught throw, or empty
 pub data IsThrown : List ℕ → Type 0 where
   nothing : IsThrown []
   uncaught : (what : List ℕ) → IsThrown (codes "uncaught " ++ (what ++ 10 ∷ []))
 
--- the statuses are the same, but for that of a run that ended normally and has a report
+-- the statuses are equal, except that a run that ended normally and has a report is Clean for `run`, and Reports for
+-- `lint`
 pub data SameStatus : (run lint : Status) → (reports : ℕ) → Type 0 where
   same : (s : Status) (reports : ℕ) → SameStatus s s reports
   reported : (reports : ℕ) → SameStatus status.Clean status.Reports (reports + 1)
 
--- The answer of `lint` is the answer of `run` with a report: the script printed the same, threw the same, and ended in
--- the same words, after no fewer steps and not many more.
+-- The answer of `lint` is the answer of `run` with a report: the script printed the same, threw the same and ended in
+-- the same words, after no fewer steps, and at most 32 times as many and 64 more.
 pub record ShowsSame (run lint : Answer) : Type 0 where
   pub output : List ℕ
   pub report : List ℕ
@@ -56,7 +57,7 @@ pub record ShowsSame (run lint : Answer) : Type 0 where
   pub not_many_more : lint_steps ≤ 32 * run_steps + 64
   pub status : SameStatus run.status lint.status reports
 
--- what `run` answers to a script that is refused, or whose budget is spent
+-- the status of `run` says that the bytes were accepted, and that the run ended within the budget
 abbrev pub HasEnded : Status → Type 0
 HasEnded status.Refused = ⊥
 HasEnded status.Spent = ⊥

@@ -4,6 +4,7 @@
 mod accept;
 mod answer;
 mod check;
+mod comparison;
 mod cover;
 mod execute;
 mod form;
@@ -29,5 +30,6 @@ mod unmap;
 mod woven_run;
 
 pub use answer::Answer;
+pub use comparison::{RunAndLint, run_and_lint};
 pub use status::Status;
 pub use top::{answer_to, jlint, most_read, too_long};
