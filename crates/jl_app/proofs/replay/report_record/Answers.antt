@@ -20,7 +20,7 @@ returns-clause-due g c = λ chosen choice.
     operations lines
     (subst (λ ps. IsReport (is_chosen set) off ps operations lines)
     (c.deref-2.ensures.value ∙ c.in_ok-places.ensures ∙ ap places_of c.deref.ensures.value)
-    (c.in_ok-lines.ensures.done operations (c.replay.ensures.same_rules ∙ c.requires.rules) told
+    (c.in_ok-lines.ensures.done operations (c.replay.ensures.same ∙ c.requires.rules) told
     c.requires.is.few_operations)) in (
       lines,
       report,
