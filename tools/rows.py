@@ -22,7 +22,7 @@ import sys
 
 TOP = os.path.dirname(os.path.dirname(os.path.abspath(__file__)))
 FILES = ['rows.txt', 'standard.txt']
-COMMANDS = ['check', 'print', 'instrument', 'map', 'run', 'lint', 'trace']
+COMMANDS = ['check', 'print', 'instrument', 'map', 'srcmap', 'run', 'lint', 'trace', 'record', 'objects', 'cover']
 ESCAPE = re.compile(rb'\\(?:x([0-9A-Fa-f]{2})|\{(\d+)\*([^}]*)\}|(.))', re.S)
 SINGLE = {b'n': b'\n', b'r': b'\r', b's': b' ', b'e': b'', b'\\': b'\\'}
 

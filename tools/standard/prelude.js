@@ -20,6 +20,17 @@
     while (words.length < 2) { words.push(0); }
     return toLast(splice.apply(this, words));
   });
+  // 15.4.4.6, 15.4.4.7, 15.4.4.9, 15.4.4.12 and 15.4.4.13 put `length` at their end even where it stays as it is.
+  ["pop", "push", "shift", "splice", "unshift"].forEach(function (name) {
+    var given = Array.prototype[name];
+    put(Array.prototype, name, function () {
+      "use strict";
+      var answer = given.apply(this, arguments);
+      if (Array.isArray(this) && Object.isFrozen(this)) { throw new TypeError("frozen"); }
+      if (Array.isArray(this)) { this.length = this.length; }
+      return answer;
+    });
+  });
   // 15.2.3.2 to 15.2.3.14: the first argument has to be an object.
   function forObjects(name) {
     var given = Object[name];
