@@ -30,7 +30,7 @@ SCRIPTS = [
 
 def seconds(command, text, empty, n):
     """The least of several runs, of more of them where each is short."""
-    runs = [least([PROGRAM, command, *BUDGET], text)[0] for _ in range(max(1, SIZES[-1] // n // 10))]
+    runs = [least([PROGRAM, command, *BUDGET], text)[0] for _ in range(max(5, SIZES[-1] // n // 5))]
     return max(min(runs) - empty, 1e-6)
 
 

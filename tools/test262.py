@@ -37,7 +37,7 @@ LEXEME = re.compile(r'''
   | (?P<sign> => | \.\.\. | . )''', re.S | re.X)
 # Words after which a slash begins a regular expression.
 BEFORE_VALUE = set('return typeof instanceof in new delete void throw case do else'.split())
-BUDGET = '5000000'
+BUDGET = '20000000'
 
 Test = collections.namedtuple('Test', 'name section text flags includes negative features')
 Cause = collections.namedtuple('Cause', 'name section way pattern')
@@ -228,10 +228,12 @@ def counted(results):
     """A table of outcomes by clause."""
     counts = collections.defaultdict(collections.Counter)
     for test, kind, _ in results:
-        counts[clause_of(test.section)][kind] += 1
+        counts[clause_of(test.section) or 'none named'][kind] += 1
         counts['all'][kind] += 1
     yield from ('| Clause | Passed | Fail rightly | Failed | Skipped |', '|---|---|---|---|---|')
-    order = sorted(counts, key=lambda clause: [int(it) if it.isdigit() else 99 for it in clause.split('.')])
+    last = ['B', 'none named', 'all']
+    order = sorted(counts, key=lambda clause: [99, last.index(clause)] if clause in last else
+                   [int(it) for it in clause.split('.')])
     yield from ('| %s | %s |' % (clause, ' | '.join(str(counts[clause][k]) for k in KINDS)) for clause in order)
 
 

@@ -47,7 +47,7 @@ function fnExists() {
   return true;
 }
 function fnSupportsStrict() { return true; }
-function reportCompare(due, found) { assert.sameValue(found, due); }
+function reportCompare(due, found) { if (found !== due) { $ERROR("something else is due"); } }
 function $DONE(failure) { if (failure) { $ERROR(failure); } }
 
 // file: compareArray.js
@@ -152,4 +152,14 @@ function accessorPropertyAttributesAreCorrect(object, name, get, set, setAs, enu
   var found = Object.getOwnPropertyDescriptor(object, name);
   return found.get === get && found.set === set && found.enumerable === enumerable &&
     found.configurable === configurable;
+}
+
+// file: decimalToHexString.js
+function decimalToHexString(number) {
+  var digits = "0123456789ABCDEF", text = "", left = number, i;
+  for (i = 0; i < 4; i++) {
+    text = digits.charAt(left % 16) + text;
+    left = (left - left % 16) / 16;
+  }
+  return text;
 }
