@@ -34,4 +34,5 @@ pub mod Statuses
 pub mod OneText
 pub mod OneAnswer
 pub mod MappedBack
+pub mod ListedMaps
 pub mod SameAnswers

@@ -16,6 +16,7 @@ pub mod Rows
 pub mod Texts
 pub mod Linting
 pub mod SourceMapping
+pub mod ListedMaps
 pub mod Recording
 pub mod Profiling
 pub mod Covering

@@ -8,6 +8,7 @@ ghost use Rattle.jl_app.specs.Headline.{own_run};
 ghost use Rattle.jl_app.specs.OwnRuns.{program_run};
 ghost use Rattle.jl_app.specs.inner.Woven.{IsWovenWell};
 ghost use Rattle.jl_app.specs.Accepting.{IsAccepted, OneReading};
+ghost use Rattle.jl_app.specs.ListedMaps.{SourceMapsAreListed};
 ghost use Rattle.jl_app.specs.Misuse.{AcceptedScriptsRunWithoutMisuse};
 ghost use Rattle.jl_app.specs.OneAnswer.{OneAnswer};
 ghost use Rattle.jl_app.specs.Refusals.{NeverBoth, AcceptedOrRefused};
@@ -24,6 +25,7 @@ use jl_record::laws::{one_bad_line, one_record};
 use jl_safety::laws::{programs_end_or_throw, quietly_never_misuses, woven_never_misuses};
 use jl_simulation::laws::accepted_scripts_simulate;
 use jl_text::laws::units_come_back;
+use jl_token::laws::spans_are_in_order;
 
 /// No bytes are both read as a sound program and refused.
 pub fn never_both()
@@ -99,4 +101,17 @@ pub fn one_answer<T>()
     jl_srcmap::laws::bad_place_is_unique();
     one_record();
     one_bad_line();
+}
+
+/// To `unmap` of the bytes that `srcmap` answers to an accepted script, if it reads so many, the lines of the segments
+/// that `srcmap` wrote are due, and nothing else.
+pub fn source_maps_are_listed()
+    ensures { SourceMapsAreListed }
+{
+    jl_srcmap::laws::written_reads_back();
+    jl_srcmap::laws::readings_are_unique();
+    jl_srcmap::laws::never_both();
+    jl_srcmap::laws::bad_place_is_unique();
+    spans_are_in_order();
+    scripts_are_woven_well();
 }
