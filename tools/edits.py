@@ -5,7 +5,7 @@ usage: tools/edits.py [NAME..]            NAME is a crate that has a folder ther
        tools/edits.py --apply [NAME..]    tries none, and says which can't be applied, since their text is not there
 
 The edits of a crate cost the gate two more proofs of it, and those of a large crate a proof each. So the gate tries
-those in `must-fail/` of the two crates of rules, and this script tries the others: in a clone of the last commit, by
+those in `must-fail/` alone, of the two crates of rules and of jl_app, and this script tries the others: in a clone of the last commit, by
 `rt must-fail`, over the libraries that a whole `rt ci` has left in this checkout, and else over libraries that it
 proves first. Run it for a crate before a change of it is handed in. The status is 0 where each edit was refused,
 and with `--apply` where each can be applied.

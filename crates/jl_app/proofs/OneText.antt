@@ -1,9 +1,9 @@
 -- What is due to a source map, or to the text of a stored run, is one answer.
-use Rattle.std.proofs.Common.{◌≡◌, ◌∙◌, ◌<◌, ◌≤◌, ℕ, List, Some, None, ap, arith, length, refl, subst, sym}
+use Rattle.std.proofs.Common.{◌≡◌, ◌∙◌, ℕ, List, Some, None, ap, arith, refl, subst, sym}
 use Rattle.std.specs.Fmt.{decimal}
 use Rattle.std.specs.Prelude.{◌++◌, codes}
 use Rattle.jl_command.specs.Asked.{is_among}
-use Rattle.jl_record.specs.Records.{IsStored, OneBadLine, OneRecord, Stored}
+use Rattle.jl_record.specs.Records.{OneBadLine, OneRecord, Stored}
 use Rattle.jl_report.proofs.OneReport.{one_report}
 use Rattle.jl_report.specs.Reports as reports
 use Rattle.jl_srcmap.specs.Laws.{BadPlaceIsUnique, NeverBoth, ReadingsAreUnique}

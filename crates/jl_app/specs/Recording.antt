@@ -1,5 +1,5 @@
 -- What `record` answers: the text of a stored run.
-use Rattle.std.specs.Prelude.{◌≡◌, ℕ, ◌<◌, ◌≤◌, List, codes, length}
+use Rattle.std.specs.Prelude.{ℕ, ◌<◌, ◌≤◌, List, codes, length}
 use Rattle.jl_ast.specs.Tree.{Program}
 use Rattle.jl_machine.specs.Runs.{ending_of}
 use Rattle.jl_meaning.specs.Mean as mean

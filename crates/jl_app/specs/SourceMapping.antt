@@ -1,10 +1,9 @@
 -- What `srcmap` and `unmap` answer: the source map of a woven script, and the segments of a source map.
-use Rattle.std.specs.Prelude.{◌≡◌, ℕ, List, [], ◌∷◌, ◌++◌, codes}
+use Rattle.std.specs.Prelude.{ℕ, List, [], ◌∷◌, ◌++◌, codes}
 use Rattle.std.specs.Fmt.{decimal}
 use Rattle.jl_ast.specs.Tree.{Program}
 use Rattle.jl_op.specs.Chosen.{every_kind}
 use Rattle.jl_srcmap.specs.Hooks.{segments_of}
-use Rattle.jl_srcmap.specs.Mappings.{IsBadAt}
 use Rattle.jl_srcmap.specs.Segments.{segment_line}
 use Rattle.jl_srcmap.specs.SourceMap.{HasSegments, IsRefusal, source_map_text}
 use Rattle.jl_srcmap.specs.Written.{mappings_text}
