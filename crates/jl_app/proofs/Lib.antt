@@ -21,7 +21,6 @@ pub mod KeptHooks
 pub mod OwnRun
 pub mod WovenWell
 pub mod WithoutMisuse
-pub mod BytesOfUnits
 pub mod StandsAlone
 pub mod Headline
 pub mod LinesOf

@@ -20,7 +20,7 @@ use Rattle.jl_app.specs.StandsAlone.{StandsAlone, same_shelf}
 use Rattle.jl_app.specs.WovenText.{woven_text}
 use Rattle.jl_app.specs.declared.form.Form.TheVariants as forms
 use Rattle.jl_app.specs.inner.Woven.{ReadsBackAsWoven}
-use Rattle.jl_app.proofs.BytesOfUnits.{bytes_are_utf8}
+use Rattle.jl_record.proofs.BytesOfUnits.{bytes_are_utf8}
 use Rattle.jl_app.proofs.OwnRun.{same_program_run}
 
 some_same : {A : Type 0} {a b : A} → Some a ≡ Some b → a ≡ b

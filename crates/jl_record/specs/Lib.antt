@@ -13,3 +13,4 @@ pub mod OperationReads
 pub mod Plain
 pub mod Recording
 pub mod Bounded
+pub mod Encoding
