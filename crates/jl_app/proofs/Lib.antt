@@ -22,6 +22,7 @@ pub mod OwnRun
 pub mod WovenWell
 pub mod WithoutMisuse
 pub mod StandsAlone
+pub mod StoredRuns
 pub mod Headline
 pub mod LinesOf
 pub mod OffRules

@@ -33,7 +33,7 @@ one_cause most bytes _ _ (longer more) (undecoded few bad) = absurd (omega (arit
 one_cause most bytes _ _ (undecoded few bad) (longer more) = absurd (omega (arith, more, few))
 one_cause most bytes _ _ (undecoded few bad) (undecoded less worse) = refl
 
-never_text : (most : ℕ) (bytes : List ℕ) (c : Refusal) → IsNoText most bytes c → IsTextWithin most bytes → ⊥
+pub never_text : (most : ℕ) (bytes : List ℕ) (c : Refusal) → IsNoText most bytes c → IsTextWithin most bytes → ⊥
 never_text most bytes _ (longer more) is = omega (arith, more, is.short)
 never_text most bytes _ (undecoded few bad) is = bad is.decoded
 

@@ -22,6 +22,7 @@ pub mod Profiling
 pub mod Covering
 pub mod Telling
 pub mod Replaying
+pub mod StoredRuns
 pub mod Answers
 pub mod Endings
 pub mod Headline

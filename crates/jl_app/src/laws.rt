@@ -13,6 +13,7 @@ ghost use Rattle.jl_app.specs.Misuse.{AcceptedScriptsRunWithoutMisuse};
 ghost use Rattle.jl_app.specs.OneAnswer.{OneAnswer};
 ghost use Rattle.jl_app.specs.Refusals.{NeverBoth, AcceptedOrRefused};
 ghost use Rattle.jl_app.specs.StandsAlone.{TextStandsAlone};
+ghost use Rattle.jl_app.specs.StoredRuns.{StoredRunsReplay};
 
 use jl_machine::laws::runs_are_meant;
 use jl_meaning::laws::{kept_hooks, more_budget};
@@ -21,7 +22,7 @@ use jl_read_back::laws::{
     woven_bytes_are_bounded, woven_keeps_rules, woven_reads_back, woven_text_is_bounded,
     woven_units_are_small,
 };
-use jl_record::laws::{one_bad_line, one_record};
+use jl_record::laws::{one_bad_line, one_record, records_come_back};
 use jl_safety::laws::{programs_end_or_throw, quietly_never_misuses, woven_never_misuses};
 use jl_simulation::laws::accepted_scripts_simulate;
 use jl_text::laws::units_come_back;
@@ -114,4 +115,13 @@ pub fn source_maps_are_listed()
     jl_srcmap::laws::bad_place_is_unique();
     spans_are_in_order();
     scripts_are_woven_well();
+}
+
+/// What is due to `replay` on the bytes of a stored run is the report of that run, whatever rules are chosen, where the
+/// bytes are no more than `replay` reads.
+pub fn stored_runs_replay()
+    ensures { StoredRunsReplay }
+{
+    records_come_back();
+    one_record();
 }
