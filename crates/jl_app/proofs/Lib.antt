@@ -23,6 +23,8 @@ pub mod WovenWell
 pub mod WithoutMisuse
 pub mod StandsAlone
 pub mod StoredRuns
+pub mod OffInOrder
+pub mod RecordedRuns
 pub mod Headline
 pub mod LinesOf
 pub mod OffRules

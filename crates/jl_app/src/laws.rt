@@ -11,20 +11,24 @@ ghost use Rattle.jl_app.specs.Accepting.{IsAccepted, OneReading};
 ghost use Rattle.jl_app.specs.ListedMaps.{SourceMapsAreListed};
 ghost use Rattle.jl_app.specs.Misuse.{AcceptedScriptsRunWithoutMisuse};
 ghost use Rattle.jl_app.specs.OneAnswer.{OneAnswer};
+ghost use Rattle.jl_app.specs.RecordedRuns.{RecordedRunsAreStored};
 ghost use Rattle.jl_app.specs.Refusals.{NeverBoth, AcceptedOrRefused};
 ghost use Rattle.jl_app.specs.StandsAlone.{TextStandsAlone};
 ghost use Rattle.jl_app.specs.StoredRuns.{StoredRunsReplay};
 
+use jl_hook_bound::laws::hooks_take_steps;
 use jl_machine::laws::runs_are_meant;
 use jl_meaning::laws::{kept_hooks, more_budget};
+use jl_operation_rows::laws::hooks_have_rows;
 use jl_quiet::laws::quiet_means;
 use jl_read_back::laws::{
     woven_bytes_are_bounded, woven_keeps_rules, woven_reads_back, woven_text_is_bounded,
     woven_units_are_small,
 };
 use jl_record::laws::{one_bad_line, one_record, records_come_back};
+use jl_report::laws::off_names_rules;
 use jl_safety::laws::{programs_end_or_throw, quietly_never_misuses, woven_never_misuses};
-use jl_simulation::laws::accepted_scripts_simulate;
+use jl_simulation::laws::{accepted_scripts_simulate, few_ids};
 use jl_text::laws::units_come_back;
 use jl_token::laws::spans_are_in_order;
 
@@ -124,4 +128,17 @@ pub fn stored_runs_replay()
 {
     records_come_back();
     one_record();
+}
+
+/// The run that `record` writes of an accepted script, with a budget of at most 1,000,000,000, is a stored run, where
+/// what was seen at its operations can be stored. Its rows have places, what is switched off is in order, and each
+/// operation has a row of its kind.
+pub fn recorded_runs_are_stored()
+    ensures { RecordedRunsAreStored }
+{
+    scripts_are_woven_well();
+    off_names_rules();
+    few_ids();
+    hooks_have_rows();
+    hooks_take_steps::<()>();
 }
