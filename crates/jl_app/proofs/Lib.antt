@@ -25,6 +25,7 @@ pub mod StandsAlone
 pub mod StoredRuns
 pub mod OffInOrder
 pub mod RecordedRuns
+pub mod ReplayedRuns
 pub mod Headline
 pub mod LinesOf
 pub mod OffRules

@@ -46,7 +46,7 @@ kept_are : (kinds : Kinds) (operations : List Operation)
 unfolding is_kept
 kept_are kinds operations = refl
 
-all_kept : (operations : List Operation) → filter (is_kept every_kind) operations ≡ operations
+pub all_kept : (operations : List Operation) → filter (is_kept every_kind) operations ≡ operations
 unfolding is_kept
 all_kept [] = refl
 all_kept (o ∷ operations) = ap (λ os. o ∷ os) (all_kept operations)

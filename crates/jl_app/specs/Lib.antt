@@ -27,6 +27,7 @@ pub mod RecordedRuns
 pub mod Answers
 pub mod Endings
 pub mod Headline
+pub mod ReplayedRuns
 pub mod StandsAlone
 pub mod OneAnswer
 pub mod Misuse

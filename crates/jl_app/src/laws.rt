@@ -13,6 +13,7 @@ ghost use Rattle.jl_app.specs.Misuse.{AcceptedScriptsRunWithoutMisuse};
 ghost use Rattle.jl_app.specs.OneAnswer.{OneAnswer};
 ghost use Rattle.jl_app.specs.RecordedRuns.{RecordedRunsAreStored};
 ghost use Rattle.jl_app.specs.Refusals.{NeverBoth, AcceptedOrRefused};
+ghost use Rattle.jl_app.specs.ReplayedRuns.{ReplayReportsAsLint};
 ghost use Rattle.jl_app.specs.StandsAlone.{TextStandsAlone};
 ghost use Rattle.jl_app.specs.StoredRuns.{StoredRunsReplay};
 
@@ -141,4 +142,15 @@ pub fn recorded_runs_are_stored()
     few_ids();
     hooks_have_rows();
     hooks_take_steps::<()>();
+}
+
+/// What is due to `replay` on what `record` writes of an accepted script has the lines that `lint` reports of it,
+/// whatever rules are chosen: where its own run is over within the budget, what was seen at its operations can be
+/// stored, and the text is no longer than `replay` reads.
+pub fn replay_reports_as_lint()
+    ensures { ReplayReportsAsLint }
+{
+    scripts_are_woven_well();
+    recorded_runs_are_stored();
+    stored_runs_replay();
 }
