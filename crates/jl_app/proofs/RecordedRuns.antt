@@ -1,7 +1,7 @@
 -- The run that `record` writes of an accepted script has rows with places, what is switched off in order, and
 -- operations that have rows of their kinds.
-use Rattle.std.proofs.Common.{◌≡◌, ◌∙◌, ◌*◌, ◌+◌, ◌-◌, ◌≤◌, ◌<◌, ◌^◌, ℕ, suc, All, List, [], ◌∷◌, Some, ap, arith}
-use Rattle.std.proofs.Common.{length, map, option_map, refl, slice_get, subst, sym}
+use Rattle.std.proofs.Common.{◌≡◌, ◌∙◌, ◌*◌, ◌+◌, ◌≤◌, ◌<◌, ◌^◌, ℕ, suc, All, List, [], ◌∷◌, Some, ap, arith}
+use Rattle.std.proofs.Common.{length, map, option_map, refl, subst, sym}
 use Rattle.std.proofs.lemmas.List.{length-map}
 use Rattle.std.proofs.lemmas.List.Sums.{count_by-le-length}
 use Rattle.std.proofs.lemmas.Option.{slice_get-map}
@@ -20,21 +20,19 @@ use Rattle.jl_operation_rows.specs.Rows.{HasRow}
 use Rattle.jl_record.specs.Recording.{rows_of}
 use Rattle.jl_record.specs.Records.{IsOperation, IsPlaceNumber, IsRow, IsStored, Row, kind_at}
 use Rattle.jl_report.specs.Laws.{OffNamesRules}
-use Rattle.jl_report.specs.Off.{off_by}
 use Rattle.jl_scope.specs.EarlyErrors.{early_errors_of}
 use Rattle.jl_simulation.specs.Weaving.{woven_program}
 use Rattle.jl_text.proofs.PlacesLemmas.{line_at-some, line_table-IsLineTable}
 use Rattle.jl_text.specs.Encoding.{units_of}
 use Rattle.jl_text.specs.Places.{LineTable, line_col, line_table, starts_after}
 use Rattle.jl_text.specs.declared.span.Span.{Span}
-use Rattle.jl_token.specs.Tokens.{Tokens}
 use Rattle.jl_token.specs.declared.token.Comment.{Comment}
 use Rattle.jl_token.specs.declared.token.Token.{Token}
 use Rattle.jl_app.specs.Accepting.{IsAccepted}
 use Rattle.jl_app.specs.Headline.{woven_mean, woven_run}
 use Rattle.jl_app.specs.RecordedRuns.{HasFacts, RecordedRunsAreStored, recorded_operations, recorded_run}
 use Rattle.jl_app.specs.Rows.{row_within, rows_in}
-use Rattle.jl_app.specs.WovenRuns.{hooked_run, woven_budget}
+use Rattle.jl_app.specs.WovenRuns.{woven_budget}
 use Rattle.jl_app.specs.inner.Woven.{IsWovenWell}
 use Rattle.jl_app.proofs.AboutRuns.{quiet_world, World}
 use Rattle.jl_app.proofs.Legal.{nothing_wrong}

@@ -1,5 +1,5 @@
 -- The report of a recorded run is that of the script's own run.
-use Rattle.std.proofs.Common.{◌≡◌, ◌∙◌, ◌≤◌, ℕ, List, [], ◌∷◌, ap, arith, length, map, subst, sym}
+use Rattle.std.proofs.Common.{◌≡◌, ◌∙◌, ℕ, List, [], ◌∷◌, ap, arith, length, map, subst, sym}
 use Rattle.std.proofs.Common.{refl}
 use Rattle.std.specs.List.{AllByRecursion}
 use Rattle.std.specs.Prelude.{min}
@@ -10,24 +10,22 @@ use Rattle.jl_op.specs.Chosen.{every_kind, Kinds}
 use Rattle.jl_op.specs.IdMap.{id_map}
 use Rattle.jl_op.specs.Map.{MapRow}
 use Rattle.jl_op.specs.Operations.{Operation}
-use Rattle.jl_record.specs.Recording.{bytes_of_run, rows_of}
+use Rattle.jl_record.specs.Recording.{rows_of}
 use Rattle.jl_report.specs.Off.{off_by}
 use Rattle.jl_report.specs.Reports as reports
 use Rattle.jl_text.proofs.PlacesLemmas.{line_col-line_table}
 use Rattle.jl_text.specs.Encoding.{units_of}
 use Rattle.jl_text.specs.Places.{line_table, position_of}
 use Rattle.jl_text.specs.declared.span.Span.{Span}
-use Rattle.jl_token.specs.declared.token.Comment.{Comment}
 use Rattle.jl_app.specs.Accepting.{IsAccepted}
-use Rattle.jl_app.specs.Due.{Due}
 use Rattle.jl_app.specs.Headline.{own_run, woven_run}
 use Rattle.jl_app.specs.Linting.{places}
 use Rattle.jl_app.specs.MapLines.{begins}
 use Rattle.jl_app.specs.RecordedRuns.{HasFacts, RecordedRunsAreStored, recorded_operations, recorded_run}
-use Rattle.jl_app.specs.ReplayedRuns.{CanBeReplayed, ReplayReportsAsLint}
-use Rattle.jl_app.specs.Replaying.{IsReplayed, places_of, replay_due}
-use Rattle.jl_app.specs.Reporting.{IsReport, Lines, positions}
-use Rattle.jl_app.specs.Rows.{row_within, rows_in}
+use Rattle.jl_app.specs.ReplayedRuns.{ReplayReportsAsLint}
+use Rattle.jl_app.specs.Replaying.{places_of}
+use Rattle.jl_app.specs.Reporting.{positions}
+use Rattle.jl_app.specs.Rows.{row_within}
 use Rattle.jl_app.specs.StoredRuns.{StoredRunsReplay}
 use Rattle.jl_app.specs.inner.Woven.{IsWovenWell}
 use Rattle.jl_app.proofs.OwnOperations.{all_kept, same_hooks}
