@@ -15,8 +15,8 @@ use Rattle.std.specs.declared.cmp.Ordering.TheVariants.{Less, Equal, Greater}
 use Rattle.jl_record.proofs.Ranks.{rising, rising_fits}
 use Rattle.jl_record.specs.Records.{IsOff}
 use Rattle.jl_report.specs.Laws.{OffNamesRules}
-use Rattle.jl_report.specs.Off.{Pair, after, by_line, off_by, pairs_named, pairs_of, pairs_of_text, pairs_with, rules_in}
-use Rattle.jl_report.specs.Off.{with_pairs}
+use Rattle.jl_report.specs.Off.{Pair, after, by_line, off_by, pairs_named, pairs_of, pairs_of_text, pairs_with}
+use Rattle.jl_report.specs.Off.{rules_in, with_pairs}
 use Rattle.jl_text.specs.Places.{ends_line, position_from, position_of}
 use Rattle.jl_token.specs.declared.token.Comment.{Comment}
 

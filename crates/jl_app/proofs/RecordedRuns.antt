@@ -86,8 +86,8 @@ kind_there units p o has =
     (slice_get-map (place_of_row (line_table units)) (rows_in units p) has.before
     ∙ ap (option_map (place_of_row (line_table units))) in_rows)
 
-operations_are : (units : List ℕ) (p : Program Span) (operations : List Operation) → AllByRecursion (HasRow p) operations
-    → AllByRecursion HasFacts operations
+operations_are : (units : List ℕ) (p : Program Span) (operations : List Operation)
+    → AllByRecursion (HasRow p) operations → AllByRecursion HasFacts operations
     → AllByRecursion (IsOperation (rows_of (line_table units) (rows_in units p))) operations
 operations_are units p [] rows facts = tt
 operations_are units p (o ∷ operations) rows facts =
