@@ -11,7 +11,7 @@
 //   JLINT_OUT     a file for the report (default: standard error); %p in it stands for the process
 //   JLINT_RUN     the records stay here, in a folder for each process
 //   JLINT_TEXT    the longest text that is recorded (default 1000; an operation with a longer one is left out)
-//   JLINT_STATUS  1: the process ends with status 1 where it would with 0 and there is a report line
+//   JLINT_STATUS  1: the process ends with status 1 where it would with 0 and there is a report line, or no report
 
 const path = require('path');
 const Module = require('module');
@@ -30,14 +30,14 @@ session.use(jlintHooks(nodeHost(session.write, { longest: session.longest })));
 // directives, declarations and line numbers are as in the rewritten text.
 const KEY = 'jlint hooks';
 const compile = Module.prototype._compile;
-Module.prototype._compile = function (source, file) {
-  const woven = session.take(source, file);
+Module.prototype._compile = function (source, file, format) {
+  const woven = session.take(source, file, format);
   if (woven === null) return apply(compile, this, arguments);
   defineProperty(this, KEY, { __proto__: null, configurable: true, value: woven.J$ });
   const text = `return (function (J$) { delete module["${KEY}"]; ` +
     `return function (exports, require, module, __filename, __dirname) {${woven.text}\n}; ` +
     `})(module["${KEY}"]).apply(this, arguments);`;
-  return apply(compile, this, [text, file]);
+  return apply(compile, this, [text, file, format]);
 };
 
 // The program's require.cache holds the program's modules alone.
@@ -46,8 +46,8 @@ for (const name of Object.keys(require.cache)) {
 }
 
 process.on('exit', () => {
-  const reports = session.finish();
-  if (process.env.JLINT_STATUS === '1' && reports && !process.exitCode) process.exitCode = 1;
+  const failed = session.finish();
+  if (process.env.JLINT_STATUS === '1' && failed && !process.exitCode) process.exitCode = 1;
 });
 
 // A signal that nobody else handles would end the process without 'exit'.

@@ -28,6 +28,18 @@ function reportText(folder, notWoven, env) {
   return { text: formatted(env.JLINT_FORMAT, lines, summary) + (isText ? summaryText(summary) : ''), lines };
 }
 
+// Writes to standard error, which the program may have made a pipe that takes a part at a time, or closed.
+function say(text) {
+  let rest = Buffer.from(text);
+  while (rest.length > 0) {
+    try {
+      rest = rest.subarray(fs.writeSync(2, rest));
+    } catch (e) {
+      if (e.code !== 'EAGAIN') return;
+    }
+  }
+}
+
 // `name` is that of the process and thread.
 module.exports = function session(env, name) {
   const here = process.cwd() + path.sep;
@@ -40,12 +52,25 @@ module.exports = function session(env, name) {
   let hooks = null;
   let finished = false;
 
-  function tryToWeave(source) {
+  function tryToWeave(source, format) {
+    if (format === 'module') return { refused: 'an ECMAScript module' };
     try {
       return weave(source, { number: woven.length, module: true });
     } catch (e) {
       return { refused: e.message };
     }
+  }
+
+  // The number of report lines.
+  function writeReport() {
+    hooks.flush();
+    woven.forEach((file, n) => run.left(n, file.counts().left));
+    fs.writeFileSync(path.join(folder, 'not-woven.json'), JSON.stringify(notWoven));
+    const { text, lines } = reportText(folder, notWoven, env);
+    if (env.JLINT_OUT) fs.writeFileSync(env.JLINT_OUT.replace('%p', name), text);
+    else say(text);
+    if (!env.JLINT_RUN) fs.rmSync(folder, { recursive: true, force: true });
+    return lines.length;
   }
 
   return {
@@ -55,10 +80,11 @@ module.exports = function session(env, name) {
       hooks = made;
     },
 
-    // The rewritten text and the hooks of a module; null where it runs as it stands.
-    take(source, file) {
+    // The rewritten text and the hooks of a module; null where it runs as it stands. `format` is node's word for the
+    // module's kind: newer ones have `require` load ECMAScript modules, too.
+    take(source, file, format) {
       if (finished || !isWanted(file)) return null;
-      const made = tryToWeave(source);
+      const made = tryToWeave(source, format);
       if (made.refused) {
         notWoven.push({ name: shown(file), why: made.refused });
         return null;
@@ -69,18 +95,16 @@ module.exports = function session(env, name) {
       return { text: made.text, J$: hooked.J$ };
     },
 
-    // Reports, and answers the number of report lines.
+    // Reports. Answers whether there is a report line, or no report could be made.
     finish() {
-      if (finished) return 0;
+      if (finished) return false;
       finished = true;
-      hooks.flush();
-      woven.forEach((file, n) => run.left(n, file.counts().left));
-      fs.writeFileSync(path.join(folder, 'not-woven.json'), JSON.stringify(notWoven));
-      const { text, lines } = reportText(folder, notWoven, env);
-      if (env.JLINT_OUT) fs.writeFileSync(env.JLINT_OUT.replace('%p', name), text);
-      else fs.writeSync(2, text);
-      if (!env.JLINT_RUN) fs.rmSync(folder, { recursive: true, force: true });
-      return lines.length;
+      try {
+        return writeReport() > 0;
+      } catch (e) {
+        say(`jlint: no report: ${e.message}; the records are in ${folder}\n`);
+        return true;
+      }
     }
   };
 };

@@ -75,3 +75,30 @@ test('a module that is of a later edition runs as it stands, and is named', { sk
   assert.deepStrictEqual(woven, plain);
   assert.match(report, /not woven app.js: not of edition/);
 });
+
+test('where no report can be made, the program ends as it does, and JLINT_STATUS=1 says so', { skip }, async () => {
+  const folder = fs.mkdtempSync(path.join(require('os').tmpdir(), 'jlint-test-'));
+  fs.writeFileSync(path.join(folder, 'app.js'), NAN + 'process.on("exit", function (c) { console.log("bye", c); });');
+  const words = ['-r', path.join(ENGINES, 'register.js')];
+  const env = { JLINT_OUT: path.join(folder, 'missing', 'out'), JLINT_RUN: path.join(folder, 'kept'), JLINT_FILES: '' };
+  const plain = await ran(folder, [], undefined, {});
+  const woven = await ran(folder, words, undefined, { ...env, JLINT_STATUS: '0' });
+  const checked = await ran(folder, words, undefined, { ...env, JLINT_STATUS: '1' });
+  fs.rmSync(folder, { recursive: true, force: true });
+  assert.deepStrictEqual(woven, plain);
+  assert.strictEqual(checked.status, 1);
+});
+
+// A pipe whose reader is late takes a part of the report at a time.
+test('a long report reaches a late reader', { skip }, () => {
+  const folder = fs.mkdtempSync(path.join(require('os').tmpdir(), 'jlint-test-'));
+  const lines = 1000;
+  const long = 'x'.repeat(200);
+  fs.writeFileSync(path.join(folder, 'app.js'), `console.error("begin"); require("./${long}.js");`);
+  fs.writeFileSync(path.join(folder, long + '.js'), 'undefined + 1;\n'.repeat(lines));
+  const command = `"${process.execPath}" -r "${path.join(ENGINES, 'register.js')}" app.js 2>&1 | (sleep 3; cat)`;
+  const env = { ...process.env, JLINT_OUT: '', JLINT_FILES: '' };
+  const { stdout } = spawnSync(command, { shell: true, cwd: folder, env });
+  fs.rmSync(folder, { recursive: true, force: true });
+  assert.strictEqual(stdout.toString().split('\n').filter(line => / nan-made 1$/.test(line)).length, lines);
+});

@@ -32,3 +32,16 @@ for (const name of fs.readdirSync(FOLDER)) {
     assert.strictEqual(text, fs.readFileSync(path.join(program, 'report'), 'utf8'));
   }));
 }
+
+// Newer nodes load it, as strict code without `module`; older ones throw.
+test('an ECMAScript module that is required', { skip }, () => inNewFolder(folder => {
+  fs.mkdirSync(path.join(folder, 'inner'));
+  fs.writeFileSync(path.join(folder, 'inner', 'package.json'), '{ "type": "module" }');
+  fs.writeFileSync(path.join(folder, 'inner', 'kind.js'), 'console.log(typeof module, typeof this);\n');
+  fs.writeFileSync(path.join(folder, 'app.js'),
+    'try { require("./inner/kind.js"); } catch (e) { console.log(e.code); }\n');
+  const plain = ran(folder, [], {});
+  const woven = ran(folder, ['-r', path.join(ENGINES, 'register.js')], {});
+  assert.strictEqual(woven.stdout.toString(), plain.stdout.toString(), woven.stderr.toString());
+  assert.strictEqual(woven.status, plain.status);
+}));
