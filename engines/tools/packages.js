@@ -1,11 +1,11 @@
 'use strict';
 // node engines/tools/packages.js LIST [REPORTS]
 //
-// Packages under their own tests: as they stand, and with the hooks of register.js. LIST has a line for each package: its
-// folder, a tab, and the command (of the shell) that runs its tests there. Printed for each: the status of the tests;
-// whether they print the same, less times and the lines of stacks; the summary of all processes; and the processor time
-// of node in both runs, in seconds, without that of the program jlint. REPORTS takes the report lines, each with its
-// source line; what is printed otherwise goes there, too.
+// Packages under their own tests: as they stand, and with the hooks of register.js. LIST has a line for each package:
+// its folder, a tab, and the command (of the shell) that runs its tests there. Printed for each: the status of the
+// tests; whether they print the same, less times and the lines of stacks; the summary of all processes; and the
+// processor time of node in both runs, in seconds, without that of the program jlint. REPORTS takes the report lines,
+// each with its source line; what is printed otherwise goes there, too.
 
 const fs = require('fs');
 const os = require('os');
