@@ -7,8 +7,10 @@ Script K of a run is made from the seed N + K alone, so that one script can be m
 statements and expressions and all builtins that jlint has, getters and setters, deletes, throws, `finally` and labels;
 each loop and each recursion ends. It prints values by `show`, the same function in each script.
 
-NAMES are names of forms that are left out, with commas between them, where an engine is known to do otherwise: see
-tools/standard/engines.txt. For mujs they are delete-value,finally,holes,mapped,no-primitive,this.
+NAMES are names of forms that are left out or put otherwise, with commas between them, where an engine is known to do
+otherwise: see tools/standard/engines.txt. For mujs they are, with `accessor` for half of the seeds and `delete` for the
+other half, constructor,deep,delete-value,finally,holes,in-getter,mapped,minus,no-base,no-primitive,nul,order,this and
+uncaught.
 """
 import argparse
 import os
@@ -79,8 +81,31 @@ GLOBALS = ['parseInt(@)', 'parseInt(@, 16)', 'parseInt(@, 2)', 'parseInt(@, 36)'
 # Calls that are left out with a form.
 LEFT_OUT = {'holes': ['Array(3)', 'Array(@, @)', 'new Array(2)', 'Object.freeze(%)', 'Object.seal(%)',
                       'Object.preventExtensions(%)', 'Array.prototype.push.call({ length: 2 }, @)'],
+            'accessor': [form for form in GLOBALS if '{ get:' in form or '{ set:' in form],
+            'delete': ['Object.defineProperty(%, "p", { value: @, writable: #, enumerable: #, configurable: # })',
+                       'Object.defineProperties(%, { q: { value: @ }, p: { enumerable: # } })', 'splice(@, @)',
+                       'splice(@, @, @, @)', 'pop()', 'shift()'],
             'no-primitive': ['Object.create(null)', 'Object.create(%)',
                              'Object.create(%, { p: { value: @, enumerable: true } })']}
+
+
+# Texts and other parts of forms that are put otherwise with a form left out.
+OTHERWISE = {'deep': {'get: function () { return @; }': 'get: function () { return "r"; }'},
+             'order': {'{ q: { value: @ }, p: { enumerable: # } }': '{ p: { enumerable: # }, q: { value: @ } }'},
+             'nul': {'@ & 127': '@ & 127 | 64'},
+             'minus': {'x != @': 'unsigned(x) != @', 'x > @': 'unsigned(x) > @', 'x == @': 'unsigned(x) == @'}}
+# What a script begins with, too, where no text with a sign is made a number: such texts are given a letter before it.
+UNSIGNED = '''\
+function unsigned(v) {
+  if (typeof v !== "string") { return v; }
+  var sign = v.trim().charAt(0);
+  return sign === "-" || sign === "+" ? "m" + v : v;
+}
+(function (list, text) {
+  Array.prototype.toString = function () { return unsigned(list.call(this)); };
+  String.prototype.valueOf = function () { return unsigned(text.call(this)); };
+})(Array.prototype.toString, String.prototype.valueOf);
+'''
 
 
 class Writer:
@@ -92,6 +117,8 @@ class Writer:
         self.names = ['a', 'b', 'c', 'd', 'e']
         self.labels = 0
         self.counters = 0
+        self.texts = [text for text in TEXTS if not ('constructor' in self.without and text == '"constructor"'
+                                                     or 'minus' in self.without and text == '"-3"')]
 
     def pick(self, choices):
         return self.random.choice(choices)
@@ -101,8 +128,24 @@ class Writer:
 
     def fill(self, form, depth):
         """A form with an expression for each `@`, an object for each `%` and a truth value for each `#`."""
-        parts = {'@': lambda: self.expression(depth), '%': lambda: self.object(depth), '#': self.truth}
+        for name in self.without:
+            for one, other in OTHERWISE.get(name, {}).items():
+                form = form.replace(one, other)
+        parts = {'@': lambda: self.number(depth), '%': lambda: self.object(depth), '#': self.truth}
         return ''.join(parts[it]() if it in parts else it for it in form)
+
+    def number(self, depth):
+        """An expression that is made a number."""
+        return self.unsigned(self.expression(depth))
+
+    def unsigned(self, value):
+        return 'unsigned(%s)' % value if 'minus' in self.without else value
+
+    def change_of(self, target, operator, value):
+        """An assignment, of which the old value is made a number too."""
+        converts = 'minus' in self.without and operator not in ('=', '+=')
+        first = '%s = unsigned(%s), ' % (target, target) if converts else ''
+        return '%s%s %s %s' % (first, target, operator, self.unsigned(value))
 
     def truth(self):
         return self.pick(['true', 'false'])
@@ -114,7 +157,7 @@ class Writer:
         if form < 4:
             return self.pick(NUMBERS)
         if form < 7:
-            return self.pick(TEXTS)
+            return self.pick(self.texts)
         if form < 8:
             return self.pick(['true', 'false', 'null', 'undefined'])
         return self.array(depth - 1) if form < 9 else self.object_literal(depth - 1)
@@ -131,9 +174,11 @@ class Writer:
     def entry(self, name, depth):
         if name in ('valueOf', 'toString'):
             this = [] if 'no-primitive' in self.without else ['this']
-            return name + ': function () { print("%s"); return %s; }' % (name, self.pick(NUMBERS + TEXTS + this))
+            return name + ': function () { print("%s"); return %s; }' % (name, self.pick(NUMBERS + self.texts + this))
         form = self.random.randrange(10)
         if form < 7:
+            return name + ': ' + self.expression(depth)
+        if 'accessor' in self.without:
             return name + ': ' + self.expression(depth)
         if form < 9:
             return 'get %s() { print("get"); return %s; }' % (name, self.expression(depth))
@@ -174,21 +219,23 @@ class Writer:
         return self.pick(self.names + ['o', 'l'])
 
     def binary(self, depth):
-        return '(%s %s %s)' % (self.expression(depth - 1), self.pick(OPERATORS), self.expression(depth - 1))
+        return '(%s %s %s)' % (self.number(depth - 1), self.pick(OPERATORS), self.number(depth - 1))
 
     def unary(self, depth):
         if self.often(20):
             return 'typeof ' + self.pick(self.names + ['absent'])
-        return self.pick(['-', '+', '!', '~', 'typeof ', 'void ']) + '(' + self.expression(depth - 1) + ')'
+        return self.pick(['-', '+', '!', '~', 'typeof ', 'void ']) + '(' + self.number(depth - 1) + ')'
 
     def conditional(self, depth):
         return '(%s ? %s : %s)' % tuple(self.expression(depth - 1) for _ in range(3))
 
     def update(self, depth):
-        return '(' + self.pick(['++%s', '--%s', '%s++', '%s--']) % self.target(depth) + ')'
+        form, target = self.pick(['++%s', '--%s', '%s++', '%s--']), self.target(depth)
+        first = '%s = unsigned(%s), ' % (target, target) if 'minus' in self.without else ''
+        return '(' + first + form % target + ')'
 
     def change(self, depth):
-        return '(%s %s %s)' % (self.target(depth), self.pick(CHANGES), self.expression(depth - 1))
+        return '(' + self.change_of(self.target(depth), self.pick(CHANGES), self.expression(depth - 1)) + ')'
 
     def call(self, depth):
         words = ', '.join(self.expression(depth - 1) for _ in range(self.random.randint(0, 3)))
@@ -200,28 +247,36 @@ class Writer:
     def removal(self, depth):
         if self.often(20) and 'delete-value' not in self.without:
             return '(delete (0, ' + self.expression(depth - 1) + '))'
-        base = self.pick(['o', 'd'] if 'holes' in self.without else ['o', 'l', 'o', 'l', 'd'])
+        if 'delete' in self.without:
+            return self.name(depth)
+        base = self.pick(['o'] if 'holes' in self.without else ['o', 'l', 'o', 'l', 'd'])
         return '(delete ' + base + self.pick(['.p', '.q', '.r', '[0]', '[1]']) + ')'
 
     def membership(self, depth):
         if self.often(50):
-            return '(' + self.pick(['"p"', '"length"', '0', '"q"', '1']) + ' in ' + self.object(depth) + ')'
+            key = self.pick(['"p"', '"length"', '0', '"q"', '1'])
+            base = self.pick(['o', 'l', self.array(depth - 1)]) if 'in-getter' in self.without else self.object(depth)
+            return '(' + key + ' in ' + base + ')'
         return '(%s instanceof %s)' % (self.expression(depth - 1), self.pick(['Object', 'Array', 'f', 'g', 'Error']))
 
     def member(self, depth):
         if self.often(50):
             return self.object(depth) + '.' + self.pick(['p', 'q', 'length', 'r'])
-        return self.expression(depth - 1) + '[' + self.expression(depth - 1) + ']'
+        base = self.object(depth) if 'no-base' in self.without else self.expression(depth - 1)
+        return base + '[' + self.expression(depth - 1) + ']'
 
     def method(self, depth):
         kind = self.pick(['text', 'array', 'array', 'object', 'function'])
         base = {'text': 'String(%s)' % self.expression(depth - 1), 'array': self.pick(['l', self.array(depth - 1)]),
                 'object': self.object(depth), 'function': self.pick(['f', 'g', 'h'])}[kind]
-        return base + '.' + self.fill(self.pick(METHODS[kind]), depth - 1)
+        return base + '.' + self.fill(self.pick(self.kept(METHODS[kind])), depth - 1)
+
+    def kept(self, forms):
+        left_out = {form for name in self.without for form in LEFT_OUT.get(name, ())}
+        return [form for form in forms if form not in left_out]
 
     def library(self, depth):
-        left_out = {form for name in self.without for form in LEFT_OUT.get(name, ())}
-        return self.fill(self.pick([form for form in GLOBALS if form not in left_out]), depth - 1)
+        return self.fill(self.pick(self.kept(GLOBALS)), depth - 1)
 
     # Statements
 
@@ -249,7 +304,7 @@ class Writer:
             return 'arguments[0] = %s; print(show(x));' % self.expression(1)
         if self.often(8) and 'holes' not in self.without:
             return 'l.length = %s;' % self.pick(['0', '1', '3', '"2"', '-1', '{ valueOf: function () { return 2; } }'])
-        return '%s %s %s;' % (self.target(2), self.pick(CHANGES), self.expression(3))
+        return self.change_of(self.target(2), self.pick(CHANGES), self.expression(3)) + ';'
 
     def plain(self, _, __):
         return '(' + self.expression(3) + ');'
@@ -286,7 +341,7 @@ class Writer:
         i = self.counter()
         names = sorted(self.random.sample(['p', 'q', 'r', 's', 't', 'u'], self.random.randint(0, 4)))
         entries = ', '.join(self.entry(name, 1) for name in names)
-        cut = 'delete %so.%s;' % (i, self.pick('pqrstu')) if self.often(40) else ''
+        cut = 'delete %so.%s;' % (i, self.pick('pqrstu')) if self.often(40) and 'delete' not in self.without else ''
         return 'var %so = { %s }; for (var %s in %so) { print(%s); %s %s }' % (
             i, entries, i, i, i, cut, self.statement(depth - 1, inside))
 
@@ -320,14 +375,16 @@ class Writer:
 
     def declaration(self, name):
         strict = self.pick(['"use strict"; ', '', ''])
-        guard = 'calls = calls + 1; if (calls > 9) { return %s; } ' % self.pick(['x', '0', '"end"'])
+        most = 1 if 'deep' in self.without else 9
+        guard = 'calls = calls + 1; if (calls > %d) { return %s; } ' % (most, self.pick(['x', '0', '"end"']))
         this = 'if (this) { this.%s = x; } ' % self.pick('pqr') if not strict and self.often(30) else ''
         return 'function %s(x, y) { %s%s%s%s return %s; }' % (
             name, strict, guard, this, self.statements(2, True), self.expression(2))
 
     def script(self):
         rest = '7, null' if 'holes' in self.without else ', null'
-        lines = [HEAD + 'var a = 1, b = "x", c = [1, 2, 3], d = { p: 1, q: "y" }, e, o = { p: 2 };']
+        head = HEAD + (UNSIGNED if 'minus' in self.without else '')
+        lines = [head + 'var a = 1, b = "x", c = [1, 2, 3], d = { p: 1, q: "y" }, e, o = { p: 2 };']
         lines += ['var l = [4, "5", %s];' % rest]
         lines += [self.declaration(name) for name in 'fgh']
         for _ in range(self.random.randint(12, 24)):
@@ -335,7 +392,7 @@ class Writer:
             lines.append('calls = 0;')
         lines += ['print(%s);' % ', '.join('show(%s)' % name for name in self.names + ['o', 'l'])]
         if self.often(20):
-            lines.append('throw %s;' % self.expression(1))
+            lines.append('throw %s;' % ('1' if 'uncaught' in self.without else self.expression(1)))
         return '\n'.join(lines) + '\n'
 
 
