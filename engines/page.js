@@ -5,9 +5,10 @@
 // their places. JLINT_DOCS is where the pages of the rules are, for links.
 
 const fs = require('fs');
+const command = require('./command.js');
 const { countsOf, lineCounts } = require('./counts.js');
 const { report } = require('./report.js');
-const { readRun } = require('./run-folder.js');
+const { readNamedRun } = require('./run-folder.js');
 
 const STYLE = `
 body { font: 14px sans-serif; margin: 2em } pre { margin: 0; font: 12px/1.4 monospace; white-space: pre }
@@ -73,10 +74,11 @@ function pageHtml(files, lines) {
     files.map(file => fileHtml(file, lines.filter(l => l.file === file.name))).join('\n') + '</body></html>\n';
 }
 
-function main([folder]) {
-  const files = readRun(folder);
-  process.stdout.write(pageHtml(files, report(files, process.env.JLINT_RULES)));
+function main([folder], env) {
+  if (!folder) throw new Error('usage: node page.js FOLDER > PAGE.html');
+  const files = readNamedRun(folder);
+  process.stdout.write(pageHtml(files, report(files, env.JLINT_RULES)));
 }
 
 module.exports = { pageHtml };
-if (require.main === module) main(process.argv.slice(2));
+if (require.main === module) command(main);
