@@ -5,7 +5,8 @@
 // they have to be asked for.
 const DEFAULT_RULES = ['nan-made', 'undefined-joined', 'object-joined', 'undefined-key', 'put-on-primitive',
   'wrapped-condition', 'loose-equal', 'odd-compare', 'typeof-text', 'bits-of-nothing', 'mixed-new',
-  'object-prototype-write', 'odd-prototype', 'late-prototype', 'for-in-array', 'wrapper-made', 'no-radix', 'global-this'];
+  'object-prototype-write', 'odd-prototype', 'late-prototype', 'for-in-array', 'wrapper-made', 'no-radix',
+  'global-this'];
 const RULES = [...DEFAULT_RULES, 'extra-arguments', 'shadow-write'];
 const FORMATS = ['text', 'unix', 'json'];
 const LONGEST_TEXT = 1000; // UTF-16 units
@@ -37,7 +38,9 @@ function oneOf(name, text, choices) {
 
 function whole(name, text, otherwise) {
   if (!text) return otherwise;
-  if (!/^[0-9]+$/.test(text) || text.length > MOST_DIGITS) throw new Error(`${name} is '${text}', which is no whole number`);
+  if (!/^[0-9]+$/.test(text) || text.length > MOST_DIGITS) {
+    throw new Error(`${name} is '${text}', which is no whole number`);
+  }
   return Number(text);
 }
 

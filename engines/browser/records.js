@@ -32,7 +32,7 @@ function takeRecords(text, folder) {
 function main([page, folder]) {
   if (!folder) throw new Error('usage: node records.js PAGE.html FOLDER');
   if (takeRecords(fs.readFileSync(page, 'utf8'), folder) === 0) {
-    throw new Error(`${page} has no records: open the page with #text in its address, and write its DOM once they are there`);
+    throw new Error(`${page} has no records: open the page with #text in its address, and save what it has become`);
   }
 }
 

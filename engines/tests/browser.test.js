@@ -32,9 +32,10 @@ async function filesOf(folder, scripts, address) {
   return readRun(path.join(folder, 'records'));
 }
 
-const shown = files => report(files, 'all').map(l => `${path.basename(l.file)}:${l.line}:${l.column} ${l.rule} ${l.count}`);
+const shownLine = l => `${path.basename(l.file)}:${l.line}:${l.column} ${l.rule} ${l.count}`;
+const shown = files => report(files, 'all').map(shownLine);
 
-test('scripts share a page, its document, and the names that they declare', { skip }, () => inNewFolder(async folder => {
+test('scripts share a page and the names that they declare', { skip }, () => inNewFolder(async folder => {
   const files = await filesOf(folder, [
     ['first.js', 'var made = 0 / 0, text = /<&"/.exec("a<&\\"") + undefined;\nfunction twice(n) { return n * 2; }\n'],
     ['second.js', 'document.title = twice("x") + ("area " + undefined);\n']

@@ -37,7 +37,7 @@ async function comparison(file, folder) {
   const { operations, left } = summaryOf(files, [], []);
   return [
     asLinted(report(files, 'all')) === lint.report ? 'same report' : 'OTHER REPORT',
-    operations + left === lint.hooks ? `as many operations${left ? ', some left out' : ''}` : 'another number of operations'
+    operations + left === lint.hooks ? 'as many operations' : 'another number of operations'
   ];
 }
 

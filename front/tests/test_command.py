@@ -80,6 +80,38 @@ class Files(FrontCase):
         self.assertEqual(len(ran.err.splitlines()), 3)
         self.assertIn("good.js:1:1", ran.out)
 
+    def test_links_in_a_circle(self) -> None:
+        self.write("src/a.js", "0 / 0;")
+        for name in ("self", "self.js"):
+            os.symlink(name, os.path.join(self.folder, "src", name))
+        os.symlink("there", os.path.join(self.folder, "src", "here"))
+        os.symlink("here", os.path.join(self.folder, "src", "there"))
+        ran = self.jl("src")
+        self.assertEqual((ran.status, ran.out.count("\n"), ran.err), (1, 1, ""))
+        self.assertEqual(self.jl(os.path.join("src", "self.js")).status, 2)
+
+    def make_deep(self, levels: int) -> None:
+        """Makes folders in one another, with a script in the lowest and one in the first."""
+        self.addCleanup(self.tool, "rm", "-rf", "deep")
+        self.write("deep/top.js", "0 / 0;")
+        code = "import os\nfor _ in range({}): os.mkdir('d'); os.chdir('d')\nopen('low.js', 'w').write('0 / 0;')"
+        self.tool(sys.executable, "-c", "import os; os.chdir('deep')\n" + code.format(levels))
+
+    def test_deep_folders(self) -> None:
+        self.make_deep(1_200)
+        ran = self.jl("deep")
+        self.assertEqual((ran.status, ran.err), (1, ""))
+        names = [os.path.basename(it.split(":")[0]) for it in ran.out.splitlines()]
+        self.assertEqual(names, ["low.js", "top.js"])
+
+    def test_a_folder_that_can_not_be_searched(self) -> None:
+        # Its path is longer than paths may be.
+        self.make_deep(2_100)
+        ran = self.jl("deep")
+        self.assertEqual(ran.status, 2)
+        self.assertIn("the folder can't be searched", ran.err)
+        self.assertIn("deep/top.js:1:1: ", ran.out)
+
     @unittest.skipIf(os.geteuid() == 0, "root may read every file")
     def test_what_may_not_be_read(self) -> None:
         self.write("secret.js", "0 / 0;")
@@ -164,7 +196,7 @@ class Output(FrontCase):
     def test_output_that_can_not_be_written_changes_nothing(self) -> None:
         ran = self.jl("a.js", "-o", "nowhere/found.txt")
         self.assertEqual(ran.status, 2)
-        self.assertEqual(len(ran.err.splitlines()), 1)
+        self.assertEqual(ran.err, "jl: nowhere/found.txt: No such file or directory\n")
         self.assertEqual(os.listdir(self.folder), ["a.js"])
 
     def test_output_to_a_full_device(self) -> None:
