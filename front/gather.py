@@ -53,7 +53,7 @@ def scripts(words: list[str], suffixes: tuple[str, ...], ignored: list[str], std
 
 def files_below(top: str, suffixes: tuple[str, ...], ignored: list[str]) -> Iterator[Script]:
     """The scripts below a folder. A folder that links lead to more than once is visited once."""
-    seen: set[str] = set()
+    seen: set[tuple[int, int]] = set()
     # What is left to visit, the next at the end: folders lie deeper in one another than Python calls itself.
     left = [(top, True)]
     while left:
@@ -61,11 +61,11 @@ def files_below(top: str, suffixes: tuple[str, ...], ignored: list[str]) -> Iter
         if not is_folder:
             yield Script(path)
             continue
-        real = os.path.realpath(path)
-        if real in seen:
-            continue
-        seen.add(real)
         try:
+            about = os.stat(path)
+            if (about.st_dev, about.st_ino) in seen:
+                continue
+            seen.add((about.st_dev, about.st_ino))
             entries = sorted(os.scandir(path), key=lambda it: it.name, reverse=True)
         except OSError as error:
             yield Script(path, trouble=f"the folder can't be searched: {error.strerror}")

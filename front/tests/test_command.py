@@ -30,6 +30,7 @@ class Words(FrontCase):
 
     def test_wrong_words(self) -> None:
         choices: list[list[str]] = [[], ["--no-such", "a.js"], ["--rules", "nan", "a.js"], ["--budget", "-1", "a.js"]]
+        choices += [["--budget", "1e6", "a.js"], ["--jobs", "0", "a.js"], [""], ["-o", "", "a.js"], ["-f", "xml", "a.js"]]
         for words in choices:
             ran = self.jl(*words)
             self.assertEqual((ran.status, ran.out), (2, ""), words)
@@ -118,6 +119,17 @@ class Files(FrontCase):
         os.chmod(os.path.join(self.folder, "secret.js"), 0)
         self.assertEqual(self.jl("secret.js").status, 2)
 
+    def test_odd_paths(self) -> None:
+        names = ["a b.js", "q'\".js", "back\\slash.js", "a:1:2: x.js", "new\nline.js", "%0A.js", "&<>.js"]
+        for name in names:
+            self.write(name, "0 / 0;")
+        ran = self.jl(".")
+        self.assertEqual((ran.status, ran.err, ran.out.count("\n")), (1, "", len(names)))
+        for form in ("stylish", "json", "github", "checkstyle", "junit", "sarif", "html"):
+            self.assertEqual(self.jl("-f", form, ".").status, 1, form)
+        ran = self.jl("absent\n.js")
+        self.assertEqual((ran.status, ran.out.count("\n"), ran.err.count("\n")), (2, 1, 1))
+
     def test_what_is_not_utf8(self) -> None:
         self.write("latin.js", b"var a;\nvar b = '\xff';")
         ran = self.jl("latin.js")
@@ -157,6 +169,15 @@ class Programs(FrontCase):
 
     def test_a_program_that_is_not_there(self) -> None:
         self.program = "/nonexistent/jlint"
+        self.assertIn("can't be run", self.look())
+
+    def test_what_is_no_program(self) -> None:
+        for self.program in (self.folder, os.path.join(self.folder, "a.js"), "no-such-program-on-the-path"):
+            self.assertEqual(len(self.look().splitlines()), 1)
+
+    def test_a_program_of_no_known_form(self) -> None:
+        self.program = os.path.join(self.folder, self.write("program", b"\0\1\2\3"))
+        os.chmod(self.program, 0o755)
         self.assertIn("can't be run", self.look())
 
     def test_a_program_that_is_killed(self) -> None:
