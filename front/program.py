@@ -178,6 +178,8 @@ def find_program(seconds: float | None = None) -> Program:
     if os.environ.get("JLINT_UNPROVED"):
         return Program(os.path.join(TOP, "jlint"), seconds)
     builder = os.path.join(TOP, "tools", "program.py")
+    if not os.path.isfile(builder):
+        raise ProgramError("no program is named: set JLINT to the path of jlint")
     done = subprocess.run([sys.executable, builder], stdout=subprocess.PIPE, check=False)
     path = os.fsdecode(done.stdout).strip()
     if done.returncode or not path:

@@ -5,6 +5,7 @@ from __future__ import annotations
 import contextlib
 import os
 import pty
+import shutil
 import signal
 import subprocess
 import sys
@@ -174,6 +175,15 @@ class Programs(FrontCase):
     def test_what_is_no_program(self) -> None:
         for self.program in (self.folder, os.path.join(self.folder, "a.js"), "no-such-program-on-the-path"):
             self.assertEqual(len(self.look().splitlines()), 1)
+
+    def test_a_copy_that_can_not_build_one(self) -> None:
+        top = os.path.dirname(JL)
+        shutil.copytree(os.path.join(top, "front"), os.path.join(self.folder, "front"))
+        copy = os.path.join(self.folder, self.write("jl", ""))
+        shutil.copy(JL, copy)
+        ran = self.tool(sys.executable, copy, "jl", env={**os.environ, "JLINT": ""})
+        self.assertEqual((ran.returncode, ran.stdout), (2, ""))
+        self.assertEqual(ran.stderr, "jl: no program is named: set JLINT to the path of jlint\n")
 
     def test_a_program_of_no_known_form(self) -> None:
         self.program = os.path.join(self.folder, self.write("program", b"\0\1\2\3"))
