@@ -8,8 +8,10 @@ function fail(error) {
   process.exit(FAILED);
 }
 
-// Calls `main` with the words and the environment. A reader that closes ends the command.
+// Calls `main` with the words and the environment. A reader that closes ends the command; where nobody reads messages,
+// there are none.
 module.exports = function command(main) {
+  process.stderr.on('error', () => {});
   process.stdout.on('error', error => (error.code === 'EPIPE' ? process.exit(FAILED) : fail(error)));
   try {
     main(process.argv.slice(2), process.env);

@@ -58,7 +58,10 @@ function fileHtml(file, found) {
   const lines = lineCounts(counts);
   const hits = found.map(l => ({ line: l.line, column: l.column, rule: l.rule, text: times(l.count) }));
   const notes = new Map();
-  for (const note of [...hits, ...gapsOf(counts)]) notes.set(note.line, [...(notes.get(note.line) || []), note]);
+  for (const note of hits.concat(gapsOf(counts))) {
+    if (!notes.has(note.line)) notes.set(note.line, []);
+    notes.get(note.line).push(note);
+  }
   const source = fs.readFileSync(file.name, 'utf8').split(/\r\n|[\n\r\u2028\u2029]/);
   const rows = source.map((text, i) => lineHtml(file, i + 1, text, lines.get(i + 1), notes.get(i + 1) || []));
   const left = file.left.reduce((n, l) => n + l.count, 0);

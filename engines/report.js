@@ -23,7 +23,7 @@ function report(files, named) {
     const answer = jlint(['replay', ...chosen], record).trimEnd().split('\n');
     const last = answer.pop();
     if (!last.startsWith('jlint: replayed')) throw new Error(`${name}: ${last}`);
-    lines.push(...answer.map(line => reportLine(name, line)));
+    for (const line of answer) lines.push(reportLine(name, line)); // may be more than a call takes arguments
   }
   return lines;
 }

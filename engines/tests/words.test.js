@@ -83,3 +83,32 @@ test('a program that is not jlint is not taken for it', { skip }, () => inFolder
   assert.match(err, /^jlint: not woven app\.js: the program that JLINT names is not jlint$/m);
   assert.deepStrictEqual({ status, out }, { status: 0, out: 'ran\n' });
 }));
+
+// A report of so many lines that they are no arguments of one call; a shell script answers as `replay` would.
+test('a report of 300,000 lines', { skip }, () => inFolderWithProgram(folder => {
+  const lines = 300000;
+  const put = (name, text, options) => fs.writeFileSync(path.join(folder, name), text, options);
+  const answer = `seq -f "%.0f:1 nan-made 1" 1 ${lines}\necho "jlint: replayed hooks=1 reports=${lines}"\n`;
+  put('jlint', `#!/bin/sh\ncat > /dev/null\n${answer}`);
+  put('0.name', 'app.js');
+  put('0.head', 'jlint-record 1\nrows 0\noff 0\n');
+  const { status, stdout } = spawnSync(process.execPath, [path.join(ENGINES, 'report.js'), '.', 'unix'], {
+    cwd: folder, env: { ...process.env, JLINT: path.join(folder, 'jlint') }, maxBuffer: 1 << 28
+  });
+  assert.strictEqual(status, 1);
+  const written = stdout.toString().trimEnd().split('\n');
+  assert.strictEqual(written.length, lines);
+  assert.strictEqual(written[lines - 1], `app.js:${lines}:1: nan-made (1) [Warning/nan-made]`);
+}));
+
+test('a reader that closes', { skip }, () => inFolderWithProgram(folder => {
+  fs.writeFileSync(path.join(folder, 'jlint'),
+    '#!/bin/sh\ncat > /dev/null\nseq -f "%.0f:1 nan-made 1" 1 90000\necho "jlint: replayed hooks=1 reports=90000"\n');
+  fs.writeFileSync(path.join(folder, '0.name'), 'app.js');
+  const command = `"${process.execPath}" "${path.join(ENGINES, 'report.js')}" . | head -n 1`;
+  const { stdout, stderr } = spawnSync(command, {
+    cwd: folder, shell: true, env: { ...process.env, JLINT: path.join(folder, 'jlint') }
+  });
+  assert.strictEqual(stdout.toString(), 'app.js:1:1 nan-made 1\n');
+  assert.doesNotMatch(stderr.toString(), /Error|EPIPE/);
+}));
