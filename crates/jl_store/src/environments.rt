@@ -6,6 +6,7 @@ use jl_props::Store;
 use jl_text::{List, NoMemory, Text};
 use jl_value::Value;
 use std::alloc::Global;
+use std::hash::RandomState;
 use std::marker::Model;
 
 /// What a name is bound to, and whether that can be changed (10.2.1.1).
@@ -45,7 +46,7 @@ impl Environments {
     ghost use Rattle.jl_meaning.specs.Changes.{rebound};
 
     /// The global environment, which has index 0 and no bindings (10.2.3).
-    pub(crate) fn new(alloc: Global) -> Result<Environments, NoMemory>
+    pub(crate) fn new(alloc: Global, keys: RandomState) -> Result<Environments, NoMemory>
         ensures { IfOk result (λ made. made ≡ no_environment ∷ []) }
     {
         let mut outers = List::new(alloc);
@@ -53,7 +54,7 @@ impl Environments {
         Ok(Environments {
             alloc,
             outers,
-            bindings: Store::new(alloc),
+            bindings: Store::new(alloc, keys),
         })
     }
 

@@ -1,4 +1,5 @@
 pub mod EncodingLemmas
+mod AsciiLemmas
 mod Examples
 pub mod PlacesLemmas
 pub mod SearchLemmas
