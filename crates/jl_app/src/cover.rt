@@ -19,6 +19,7 @@ use crate::woven_run::run_woven;
 use jl_cover::{Cover, Missed, Totals, covered_kinds, missed_text};
 use jl_machine::Run;
 use std::alloc::{AllocError, Global};
+use std::hash::RandomState;
 
 /// The lines of the gaps.
 fn missed_lines(alloc: Global, gaps: &[Missed]) -> Result<Vec<u8>, AllocError>
@@ -70,7 +71,12 @@ fn answer_bytes(
 }
 
 /// What `cover` answers to an accepted script with this budget.
-pub(crate) fn cover(alloc: Global, accepted: &Accepted, budget: u64) -> Result<Answer, AllocError>
+pub(crate) fn cover(
+    alloc: Global,
+    keys: RandomState,
+    accepted: &Accepted,
+    budget: u64,
+) -> Result<Answer, AllocError>
     requires few { HasFewIds (view accepted.now.program) }
     requires budget { budget ≤ 1000000000 }
     ensures { IfOk result (λ given. (due : Due)
@@ -80,6 +86,7 @@ pub(crate) fn cover(alloc: Global, accepted: &Accepted, budget: u64) -> Result<A
     let mut cover = Cover::new(alloc);
     let run = run_woven(
         alloc,
+        keys,
         &accepted.program,
         budget,
         covered_kinds(),

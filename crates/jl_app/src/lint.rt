@@ -33,6 +33,7 @@ use jl_port::Shelf;
 use jl_report::Line;
 use jl_value::Outcome;
 use std::alloc::{AllocError, Global};
+use std::hash::RandomState;
 
 /// The steps of a woven script's run, where the script's own run has so many.
 pub(crate) fn woven_budget(budget: u64) -> u64
@@ -110,6 +111,7 @@ fn answer_bytes(alloc: Global, run: &Run, lines: &[Line]) -> Result<Vec<u8>, All
 /// chosen rules at the places of the script, and how it ended.
 fn run_answer(
     alloc: Global,
+    keys: RandomState,
     accepted: &Accepted,
     woven: &Program,
     budget: u64,
@@ -135,7 +137,14 @@ fn run_answer(
 {
     hooks_take_steps::<jl_text::Span>();
     let places = places(alloc, &map_of(alloc, &accepted.program)?)?;
-    let run = run(alloc, woven, woven_budget(budget), needs(rules), crowd)?;
+    let run = run(
+        alloc,
+        keys,
+        woven,
+        woven_budget(budget),
+        needs(rules),
+        crowd,
+    )?;
     let lines = report(alloc, &accepted.source, &places, rules, crowd)?;
     Ok(Answer {
         status: lint_status(&run.outcome, &lines),
@@ -148,6 +157,7 @@ fn run_answer(
 /// lends.
 pub(crate) fn lint<H: Shelf>(
     alloc: Global,
+    keys: RandomState,
     accepted: &Accepted,
     budget: u64,
     rules: RuleSet,
@@ -171,7 +181,7 @@ pub(crate) fn lint<H: Shelf>(
 {
     shelf.put(woven_text(alloc, &accepted.program, needs(rules))?);
     match read_back(alloc, shelf.lend()) {
-        Ok(woven) => run_answer(alloc, accepted, &woven, budget, rules, crowd),
+        Ok(woven) => run_answer(alloc, keys, accepted, &woven, budget, rules, crowd),
         Err(Unread::NoProgram) => line_only(alloc, Status::Refused, "refused ReadBack"),
         Err(Unread::NoMemory) => Err(AllocError),
     }

@@ -20,6 +20,7 @@ use crate::woven_run::run_woven;
 use jl_machine::Run;
 use jl_profile::{Births, Profile, births_text, profiled_kinds};
 use std::alloc::{AllocError, Global};
+use std::hash::RandomState;
 
 /// The lines of a profile.
 fn births_lines(alloc: Global, rows: &[Births]) -> Result<Vec<u8>, AllocError>
@@ -60,7 +61,12 @@ fn answer_bytes(alloc: Global, run: &Run, rows: &[Births]) -> Result<Vec<u8>, Al
 }
 
 /// What `objects` answers to an accepted script with this budget.
-pub(crate) fn objects(alloc: Global, accepted: &Accepted, budget: u64) -> Result<Answer, AllocError>
+pub(crate) fn objects(
+    alloc: Global,
+    keys: RandomState,
+    accepted: &Accepted,
+    budget: u64,
+) -> Result<Answer, AllocError>
     requires few { HasFewIds (view accepted.now.program) }
     requires budget { budget ≤ 1000000000 }
     ensures { IfOk result (λ given. (due : Due)
@@ -70,6 +76,7 @@ pub(crate) fn objects(alloc: Global, accepted: &Accepted, budget: u64) -> Result
     let mut profile = Profile::new(alloc);
     let run = run_woven(
         alloc,
+        keys,
         &accepted.program,
         budget,
         profiled_kinds(),

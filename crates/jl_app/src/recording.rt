@@ -20,10 +20,12 @@ use crate::woven_run::run_woven;
 use jl_op::KindSet;
 use jl_record::{RecordRefusal, Recorder};
 use std::alloc::{AllocError, Global};
+use std::hash::RandomState;
 
 /// What `record` answers to an accepted script with this budget.
 pub(crate) fn record_run(
     alloc: Global,
+    keys: RandomState,
     accepted: &Accepted,
     budget: u64,
 ) -> Result<Answer, AllocError>
@@ -37,6 +39,7 @@ pub(crate) fn record_run(
     let mut recorder = Recorder::new(alloc, MOST_RECORD_BYTES as u64);
     let run = run_woven(
         alloc,
+        keys,
         &accepted.program,
         budget,
         KindSet::all(),

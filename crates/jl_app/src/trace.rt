@@ -20,6 +20,7 @@ use jl_op::KindSet;
 use jl_value::Outcome;
 use jl_weave::weave;
 use std::alloc::{AllocError, Global};
+use std::hash::RandomState;
 
 /// The last line.
 fn hooks_line(
@@ -48,6 +49,7 @@ fn answer_bytes(alloc: Global, lines: Vec<u8>, run: &Run) -> Result<Vec<u8>, All
 /// What `exec` answers to a woven text that is read as this program: it runs as it stands, with at most so many steps.
 pub(crate) fn trace_alone(
     alloc: Global,
+    keys: RandomState,
     program: &Program,
     budget: u64,
 ) -> Result<Answer, AllocError>
@@ -55,7 +57,7 @@ pub(crate) fn trace_alone(
         × (a.bytes.items ≡ (trace_due (program_run (view program.now) budget) budget).bytes)) }
 {
     let mut tracer = Tracer::new(alloc);
-    let run = run(alloc, program, budget, KindSet::all(), &mut tracer)?;
+    let run = run(alloc, keys, program, budget, KindSet::all(), &mut tracer)?;
     Ok(Answer {
         status: ending_status(&run.outcome),
         bytes: answer_bytes(alloc, tracer.into_lines(), &run)?,
@@ -64,7 +66,12 @@ pub(crate) fn trace_alone(
 
 /// What `trace` answers to a script that is accepted as this program: it runs woven, with as many steps as that has
 /// where the script has at most so many.
-pub(crate) fn trace(alloc: Global, program: &Program, budget: u64) -> Result<Answer, AllocError>
+pub(crate) fn trace(
+    alloc: Global,
+    keys: RandomState,
+    program: &Program,
+    budget: u64,
+) -> Result<Answer, AllocError>
     requires few { HasFewIds (view program.now) }
     requires budget { budget ≤ 1000000000 }
     ensures { IfOk result (λ a.
@@ -74,5 +81,5 @@ pub(crate) fn trace(alloc: Global, program: &Program, budget: u64) -> Result<Ans
         (woven_budget budget)).bytes)) }
 {
     let woven = weave(alloc, program, KindSet::all())?;
-    trace_alone(alloc, &woven, woven_budget(budget))
+    trace_alone(alloc, keys, &woven, woven_budget(budget))
 }

@@ -7,6 +7,7 @@ use jl_props::Store;
 use jl_text::{List, Text, Utf8Fault, from_utf8};
 use std::alloc::Global;
 use std::env;
+use std::hash::RandomState;
 
 const PREFIX: &str =
     "abcdefghijklmnopqrstuvwxyzabcdefghijklmnopqrstuvwxyzabcdefghijklmnopqrstuvwxyzabcdefghijklmnopqrstuv";
@@ -23,14 +24,15 @@ fn main(rt: HostRuntime) -> Result<()> {
     let count = count.as_str().parse::<u32>()?;
     let turns = turns.as_str().parse::<u32>()?;
     let names = names(alloc, kind.as_str(), count)?;
-    let mut store = Store::new(alloc);
+    let keys = RandomState::new(&rt)?;
+    let mut store = Store::new(alloc, keys);
     if call.as_str() != "put" {
         put_all(alloc, &mut store, names.as_slice())?;
     }
     let mut found = 0u64;
     for _turn in 0..turns {
         let more = match call.as_str() {
-            "put" => put_all(alloc, &mut Store::new(alloc), names.as_slice())?,
+            "put" => put_all(alloc, &mut Store::new(alloc, keys), names.as_slice())?,
             "again" => put_again(alloc, &mut store, names.as_slice())?,
             "get" => got(&store, names.as_slice()),
             "order" => store.in_order(alloc, 0)?.len() as u64,
