@@ -49,7 +49,7 @@ pub ascii_bytes : (units : List ℕ) → list_all is_ascii units ≡ true → by
 ascii_bytes units is =
     let ascii = IsAscii-from_all units (each_is_ascii units is) in
     let valid : scalars units ≡ true =
-        ap scalars (sym (chars-IsAscii units ascii)) ∙ scalars-chars units (IsUtf8-from_ascii units ascii) in
+    ap scalars (sym (chars-IsAscii units ascii)) ∙ scalars-chars units (IsUtf8-from_ascii units ascii) in
     ap encode_utf8_all
     (ap utf16_lossy_chars (sym (units_stay units is)) ∙ utf16_chars-encode_utf16_all units valid)
     ∙ bytes_stay units is
