@@ -131,8 +131,7 @@ impl Text {
         })
     }
 
-    /// The least place at or after `from` at which `part` stands. It looks at each place once, and there at no more
-    /// units than `part` has.
+    /// The least place at or after `from` at which `part` stands, in time linear in both lengths and in no memory.
     pub fn find(&self, part: &Text, from: usize) -> Option<usize>
         ensures value { result ≡ first_place self.now part.now from }
         ensures least { IsFirstPlace self.now part.now from result }
@@ -140,8 +139,7 @@ impl Text {
         first_place(self.units(), part.units(), from)
     }
 
-    /// The greatest place at or before `from` at which `part` stands. It looks at each place once, and there at no
-    /// more units than `part` has.
+    /// The greatest place at or before `from` at which `part` stands, in time linear in both lengths and in no memory.
     pub fn find_last(&self, part: &Text, from: usize) -> Option<usize>
         ensures value { result ≡ last_place self.now part.now from }
         ensures greatest { IsLastPlace self.now part.now from result }
