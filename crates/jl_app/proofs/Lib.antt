@@ -10,6 +10,7 @@ pub mod ChosenRules
 pub mod Reported
 pub mod Answering
 pub mod Reading
+pub mod Meant
 pub mod Executing
 pub mod Traced
 pub mod Linting

@@ -2,16 +2,15 @@
 use Rattle.std.proofs.Common.{◌≡◌, ◌∙◌, ◌++◌, ◌<◌, ◌≤◌, ◌^◌, ℕ, List, [], ap, arith, length, subst}
 use Rattle.jl_ast.specs.Tree.{Program}
 use Rattle.jl_effects.specs.Running.{state_of as world_of, steps_taken, Over, Spent}
-use Rattle.jl_machine.specs.Runs.{hooked_mean, ending_of, IsRun}
+use Rattle.jl_machine.specs.Runs.{ending_of, IsRun}
 use Rattle.jl_machine.specs.declared.ending.Run.{Run}
-use Rattle.jl_meaning.specs.Mean.{Run as Comes-to}
+use Rattle.jl_meaning.specs.Mean.{mean, Run as Comes-to}
 use Rattle.jl_meaning.specs.Store.{Store}
 use Rattle.jl_op.specs.Chosen.{Kinds}
 use Rattle.jl_op.specs.KindSets.{is_member}
 use Rattle.jl_op.specs.Operations.{Operation}
 use Rattle.jl_op.specs.declared.kind.OpKind.{OpKind}
 use Rattle.jl_op.specs.declared.kind_set.KindSet.{KindSet}
-use Rattle.jl_quiet.specs.QuietMean.{quiet_mean}
 use Rattle.jl_text.specs.declared.span.Span.{Span}
 use Rattle.jl_app.specs.Linting.{IsReported, end_line, lint_status, lint_due, places}
 use Rattle.jl_app.specs.WovenRuns.{hooked_run}
@@ -27,18 +26,18 @@ few_steps n (Over e left w) = omega arith
 few_steps n (Spent w) = omega arith
 
 pub few_kept : ((kinds : Kinds) (p : Program Span) (n : ℕ)
-    → length (world_of (quiet_mean kinds p n)).hooks ≤ steps_taken n (quiet_mean kinds p n))
+    → length (world_of (mean kinds p n)).hooks ≤ steps_taken n (mean kinds p n))
     → (kinds : Kinds) (p : Program Span) (n : ℕ) → length (world_of (hooked_run kinds p n)).hooks ≤ n
-unfolding hooked_run hooked_mean
-few_kept law kinds p n = let kept = law kinds p n in let taken = few_steps n (quiet_mean kinds p n) in omega arith
+unfolding hooked_run
+few_kept law kinds p n = let kept = law kinds p n in let taken = few_steps n (mean kinds p n) in omega arith
 
 module _ {O : Type 0} (stands_for : O → List Operation → Type 0) (o : O) (r : Run) (set : KindSet) (chosen : List ℕ)
     (same : (kind : OpKind) → is_member set kind ≡ kinds_of chosen kind) (q : Program Span)
-    (n steps : ℕ) (taken : n ≡ steps) (is : IsRun stands_for [] n (hooked_mean (is_member set) q n) r o) where
+    (n steps : ℕ) (taken : n ≡ steps) (is : IsRun stands_for [] n (hooked_run (is_member set) q n) r o) where
   is_hooked : IsRun stands_for [] steps (hooked_run (kinds_of chosen) q steps) r o
   is_hooked =
       subst (λ ran. IsRun stands_for [] steps ran r o) (of_these_kinds set (kinds_of chosen) same q steps)
-      (subst (λ k. IsRun stands_for [] k (hooked_mean (is_member set) q k) r o) taken is)
+      (subst (λ k. IsRun stands_for [] k (hooked_run (is_member set) q k) r o) taken is)
 
   -- the observer was told of what the hooks told of
   pub told : stands_for o (world_of (hooked_run (kinds_of chosen) q steps)).hooks

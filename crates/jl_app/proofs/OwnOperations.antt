@@ -29,16 +29,15 @@ use Rattle.jl_text.specs.declared.span.Span.{Span}
 use Rattle.jl_app.specs.Covering.{cover_bytes, cover_line, missed_lines}
 use Rattle.jl_app.specs.Accepting.{IsAccepted}
 use Rattle.jl_app.specs.Due.{Due, refused_only, text_only}
-use Rattle.jl_app.specs.Headline.{own_run, woven_mean, woven_run}
-use Rattle.jl_app.specs.OwnRuns.{ending_status, uncaught_line}
+use Rattle.jl_app.specs.WovenRuns.{woven_run}
+use Rattle.jl_app.specs.OwnRuns.{ending_status, own_run, uncaught_line}
 use Rattle.jl_app.specs.Profiling.{births_lines, objects_bytes, objects_line}
 use Rattle.jl_app.specs.Recording.{record_bytes, recorded, too_long_record, IsRecorded}
 use Rattle.jl_app.specs.Rows.{row_within, rows_in}
 use Rattle.jl_app.specs.Telling.{IsToldOf, Tells, covers, kinds_told, profiles, records}
 use Rattle.jl_app.specs.WovenRuns.{woven_budget}
 use Rattle.jl_app.specs.inner.Woven.{IsWovenWell}
-use Rattle.jl_app.proofs.AboutRuns.{alike_ending, alike_over, alike_seen, quiet, quiet_ending, quiet_steps, quiet_world}
-use Rattle.jl_app.proofs.AboutRuns.{same_steps, World}
+use Rattle.jl_app.proofs.AboutRuns.{alike_ending, alike_over, alike_seen, same_steps}
 
 -- the operations of these kinds
 kept_are : (kinds : Kinds) (operations : List Operation)
@@ -59,32 +58,17 @@ module _ (kinds : Kinds) (p : Program Span) (well : IsWovenWell kinds p) (n : �
   abbrev woven : mean.Run
   woven = woven_run kinds p (woven_budget n)
 
-  alike : Alike (is_kept kinds) own (woven_mean kinds p (woven_budget n))
+  alike : Alike (is_kept kinds) own woven
   alike = well.simulates.follows n over
 
   pub same_ending : ending_of woven ≡ ending_of own
-  same_ending =
-      ap ending_of (well.runs (woven_budget n)) ∙ quiet_ending (woven_mean kinds p (woven_budget n))
-      ∙ alike_ending (is_kept kinds) own (woven_mean kinds p (woven_budget n)) alike
-
-  same_world : world_of woven ≡ world_of (quiet (woven_mean kinds p (woven_budget n)))
-  same_world = ap (λ (r : mean.Run). world_of r) (well.runs (woven_budget n))
+  same_ending = alike_ending (is_kept kinds) own woven alike
 
   pub same_store : (world_of woven).store ≡ (world_of own).store
-  same_store =
-      ap (λ (w : World). w.store) (same_world ∙ quiet_world (woven_mean kinds p (woven_budget n)))
-      ∙ (alike_seen (is_kept kinds) own (woven_mean kinds p (woven_budget n)) alike).store
+  same_store = (alike_seen (is_kept kinds) own woven alike).store
 
   pub same_hooks : (world_of woven).hooks ≡ filter (is_kept kinds) (world_of own).operations
-  same_hooks =
-      ap (λ (w : World). w.hooks) (same_world ∙ quiet_world (woven_mean kinds p (woven_budget n)))
-      ∙ (alike_seen (is_kept kinds) own (woven_mean kinds p (woven_budget n)) alike).hooks
-
-  same_taken : steps_taken (woven_budget n) woven
-      ≡ steps_taken (woven_budget n) (woven_mean kinds p (woven_budget n))
-  same_taken =
-      ap (λ (r : mean.Run). steps_taken (woven_budget n) r) (well.runs (woven_budget n))
-      ∙ quiet_steps (woven_budget n) (woven_mean kinds p (woven_budget n))
+  same_hooks = (alike_seen (is_kept kinds) own woven alike).hooks
 
   own_taken : steps_taken (woven_budget n) (own_run p (woven_budget n)) ≡ steps_taken n own
   own_taken =
@@ -92,22 +76,20 @@ module _ (kinds : Kinds) (p : Program Span) (well : IsWovenWell kinds p) (n : �
       ap (λ m. steps_taken m (own_run p m)) more
       ∙ same_steps n (31 * n + 64) own (own_run p (n + (31 * n + 64))) over (well.longer n (31 * n + 64))
 
-  ended : IsOver (woven_mean kinds p (woven_budget n))
-  ended = (alike_over (is_kept kinds) own (woven_mean kinds p (woven_budget n)) alike).1
+  ended : IsOver woven
+  ended = (alike_over (is_kept kinds) own woven alike).1
 
   pub no_fewer : steps_taken n own ≤ steps_taken (woven_budget n) woven
   no_fewer =
       let few = well.simulates.no_fewer (woven_budget n) ended in
-      let told = same_taken in
       let taken = own_taken in
-      omega (arith, few, told, taken)
+      omega (arith, few, taken)
 
   pub not_many_more : steps_taken (woven_budget n) woven ≤ 32 * steps_taken n own + 64
   not_many_more =
       let many = well.simulates.not_many_more (woven_budget n) ended in
-      let told = same_taken in
       let taken = own_taken in
-      omega (arith, many, told, taken)
+      omega (arith, many, taken)
 
 -- the kinds of the rows of operations
 kind_there : (o : Option MapRow) (row : MapRow) (end : ℕ) → o ≡ Some row

@@ -29,12 +29,10 @@ use Rattle.jl_text.specs.declared.span.Span.{Span}
 use Rattle.jl_token.specs.declared.token.Comment.{Comment}
 use Rattle.jl_token.specs.declared.token.Token.{Token}
 use Rattle.jl_app.specs.Accepting.{IsAccepted}
-use Rattle.jl_app.specs.Headline.{woven_mean, woven_run}
 use Rattle.jl_app.specs.RecordedRuns.{HasFacts, RecordedRunsAreStored, recorded_operations, recorded_run}
 use Rattle.jl_app.specs.Rows.{row_within, rows_in}
-use Rattle.jl_app.specs.WovenRuns.{woven_budget}
+use Rattle.jl_app.specs.WovenRuns.{woven_budget, woven_run}
 use Rattle.jl_app.specs.inner.Woven.{IsWovenWell}
-use Rattle.jl_app.proofs.AboutRuns.{quiet_world, World}
 use Rattle.jl_app.proofs.Legal.{nothing_wrong}
 use Rattle.jl_app.proofs.OffInOrder.{each, few_off, off_are_stored, off_in_order}
 use Rattle.jl_app.proofs.Sizes.{few_accepted_tokens}
@@ -94,12 +92,10 @@ operations_are units p (o ∷ operations) rows facts =
     ((kind_there units p o rows.0, facts.0), operations_are units p operations rows.1 facts.1)
 
 -- the hooks of the run are those of what the woven script means
-same_hooks : (p : Program Span) (well : IsWovenWell every_kind p) (budget : ℕ) → recorded_operations p budget
+same_hooks : (p : Program Span) (budget : ℕ) → recorded_operations p budget
     ≡ (world_of (mean.mean every_kind (woven_program every_kind p) (woven_budget budget))).hooks
-unfolding woven_mean woven_run
-same_hooks p well budget =
-    ap (λ (r : mean.Run). (world_of r).hooks) (well.runs (woven_budget budget))
-    ∙ ap (λ (w : World). w.hooks) (quiet_world (woven_mean every_kind p (woven_budget budget)))
+unfolding woven_run
+same_hooks p budget = refl
 
 taken_at_most : (n : ℕ) (r : mean.Run) → steps_taken n r ≤ n
 taken_at_most n (Over e left w) = omega arith
@@ -129,7 +125,7 @@ module _ (laws : Laws) (bytes : List ℕ) (p : Program Span) (is : IsAccepted by
 
   same : recorded_operations p budget
       ≡ (world_of (mean.mean every_kind (woven_program every_kind p) (woven_budget budget))).hooks
-  same = same_hooks p (laws.well every_kind bytes p is) budget
+  same = same_hooks p budget
 
   have_rows : AllByRecursion (HasRow p) (recorded_operations p budget)
   have_rows =

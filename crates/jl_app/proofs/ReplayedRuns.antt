@@ -18,7 +18,7 @@ use Rattle.jl_text.specs.Encoding.{units_of}
 use Rattle.jl_text.specs.Places.{line_table, position_of}
 use Rattle.jl_text.specs.declared.span.Span.{Span}
 use Rattle.jl_app.specs.Accepting.{IsAccepted}
-use Rattle.jl_app.specs.Headline.{own_run, woven_run}
+use Rattle.jl_app.specs.OwnRuns.{own_run}
 use Rattle.jl_app.specs.Linting.{places}
 use Rattle.jl_app.specs.MapLines.{begins}
 use Rattle.jl_app.specs.RecordedRuns.{HasFacts, RecordedRunsAreStored, recorded_operations, recorded_run}
@@ -43,7 +43,6 @@ same_places units (row ∷ rows) =
 
 own_operations : (p : Program Span) → IsWovenWell every_kind p → (budget : ℕ) → IsOver (own_run p budget)
     → recorded_operations p budget ≡ (world_of (own_run p budget)).operations
-unfolding woven_run
 own_operations p well budget over =
     same_hooks every_kind p well budget over ∙ all_kept (world_of (own_run p budget)).operations
 

@@ -11,7 +11,6 @@ use Rattle.jl_meaning.specs.Mean as mean
 use Rattle.jl_op.specs.Chosen.{every_kind}
 use Rattle.jl_op.specs.IdMap.{id_map}
 use Rattle.jl_print.specs.Layout.{text_of}
-use Rattle.jl_simulation.specs.Weaving.{woven_program}
 use Rattle.jl_soak.specs.Script.{script_of}
 use Rattle.jl_text.specs.Encoding.{bytes_of, units_of}
 use Rattle.jl_text.specs.declared.span.Span.{Span}
@@ -20,11 +19,11 @@ use Rattle.jl_app.specs.Due.{Due, OnShelf, line_only, refused_only, text_only}
 use Rattle.jl_app.specs.Forms.{ReadsSource, form_of}
 use Rattle.jl_app.specs.Linting.{IsLinted}
 use Rattle.jl_app.specs.MapLines.{map_lines}
-use Rattle.jl_app.specs.OwnRuns.{ending_status, program_run, steps_line, uncaught_line}
+use Rattle.jl_app.specs.OwnRuns.{ending_status, own_run, steps_line, uncaught_line}
 use Rattle.jl_app.specs.Refusals.{IsRefused, refusal_words}
 use Rattle.jl_app.specs.Replaying.{IsReplayed}
 use Rattle.jl_app.specs.SourceMapping.{IsMappedBack, IsUnmapped}
-use Rattle.jl_app.specs.Telling.{IsToldOfWoven}
+use Rattle.jl_app.specs.Telling.{IsToldOfWoven, told_run}
 use Rattle.jl_app.specs.Tracing.{hooks_line, trace_lines}
 use Rattle.jl_app.specs.WovenRuns.{woven_budget}
 use Rattle.jl_app.specs.WovenText.{kinds_of, woven_text}
@@ -72,7 +71,7 @@ execute_due r steps = text_only (ending_status (ending_of r))
 
 -- what `run` answers to it with this budget
 pub data IsExecuted (p : Program Span) (budget : ℕ) : Due → Type 0 where
-  ended : IsExecuted p budget (execute_due (program_run p budget) budget)
+  ended : IsExecuted p budget (execute_due (own_run p budget) budget)
 
 -- the operations that the hooks of a run with this budget told of, what it threw, and the last line
 abbrev pub trace_due : mean.Run → (steps : ℕ) → Due
@@ -82,12 +81,11 @@ trace_due r steps = text_only (ending_status (ending_of r))
 
 -- what `trace` answers to it with this budget: the run of the woven script
 pub data IsTraced (p : Program Span) (budget : ℕ) : Due → Type 0 where
-  ended_woven : IsTraced p budget
-      (trace_due (program_run (woven_program every_kind p) (woven_budget budget)) (woven_budget budget))
+  ended_woven : IsTraced p budget (trace_due (told_run every_kind p budget) (woven_budget budget))
 
 -- what `exec` answers to a woven text that is read as the program q, with this budget: its run as it stands
 pub data IsTracedAlone (q : Program Span) (budget : ℕ) : Due → Type 0 where
-  ended_alone : IsTracedAlone q budget (trace_due (program_run q budget) budget)
+  ended_alone : IsTracedAlone q budget (trace_due (own_run q budget) budget)
 
 -- What a command answers to a source of these units that is read as this program. `lint` hands the shelf the text of
 -- the script that is woven for the kinds that its rules look at; no other command touches it.

@@ -11,7 +11,7 @@ use Rattle.jl_token.specs.declared.token.Comment.{Comment}
 use Rattle.jl_app.specs.Accepting.{IsAccepted}
 use Rattle.jl_app.specs.Due.{Due}
 use Rattle.jl_app.specs.Forms.{most_record_bytes}
-use Rattle.jl_app.specs.Headline.{own_run}
+use Rattle.jl_app.specs.OwnRuns.{own_run}
 use Rattle.jl_app.specs.Linting.{places}
 use Rattle.jl_app.specs.RecordedRuns.{HasFacts, recorded_run}
 use Rattle.jl_app.specs.Replaying.{IsReplayed, replay_due}

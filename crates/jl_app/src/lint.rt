@@ -22,11 +22,12 @@ use crate::instrument::woven_text;
 use crate::listing::places;
 use crate::read_back::{Unread, read_back};
 use crate::report::{report, text};
+use crate::run::run_program;
 use crate::status::Status;
 use jl_analysis::{Crowd, Findings, RuleSet, needs};
 use jl_ast::Program;
 use jl_hook_bound::laws::hooks_take_steps;
-use jl_machine::{Run, run};
+use jl_machine::Run;
 use jl_map::map_of;
 use jl_op::Observer;
 use jl_port::Shelf;
@@ -137,7 +138,7 @@ fn run_answer(
 {
     hooks_take_steps::<jl_text::Span>();
     let places = places(alloc, &map_of(alloc, &accepted.program)?)?;
-    let run = run(
+    let run = run_program(
         alloc,
         keys,
         woven,

@@ -24,7 +24,7 @@ returns-clause-run g c = λ chosen choice.
     c.deref.result.now c.in_ok-lines.lines.items c.lint_status.result c.in_ok-answer_bytes.field-0.items
     (c.deref.ensures.value ∙ c.in_ok-places.ensures ∙ ap begins c.in_ok-map_of.ensures)
     (c.in_ok-lines.ensures.report chosen choice)
-    (few_kept c.hooks_take_steps.ensures.quietly (kinds_of chosen) (view c.args.woven.now) (woven_budget c.args.budget))
+    (few_kept c.hooks_take_steps.ensures.meant (kinds_of chosen) (view c.args.woven.now) (woven_budget c.args.budget))
     (let most = c.requires.budget in omega arith)
     (c.lint_status.ensures ∙ ap (λ l. lint_status run.outcome l) c.deref-2.ensures.value)
     (c.in_ok-answer_bytes.ensures ∙ ap (λ l. run.output ++ (lines_text l ++ (uncaught_line run.store.heap run.outcome
