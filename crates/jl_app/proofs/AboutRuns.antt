@@ -10,11 +10,12 @@ use Rattle.jl_machine.specs.Runs.{ending_of}
 use Rattle.jl_meaning.specs.Mean as mean
 use Rattle.jl_meaning.specs.Store.{Store}
 use Rattle.jl_op.specs.Chosen.{is_kept}
+use Rattle.jl_op.specs.IdMap.{id_map}
 use Rattle.jl_op.specs.Operations.{Operation}
 use Rattle.jl_port.specs.Bytes.{Grows}
 use Rattle.jl_text.specs.declared.span.Span.{Span}
 use Rattle.jl_value.specs.declared.ending.Outcome.TheVariants as ending
-use Rattle.jl_app.specs.Linting.{IsReported, end_line, lint_bytes, lint_status, places}
+use Rattle.jl_app.specs.Linting.{IsReported, end_line, lint_bytes, lint_status}
 use Rattle.jl_app.specs.Endings.{Call}
 use Rattle.jl_app.specs.Headline.{IsAbout, IsAboutBeginning, kept_of}
 use Rattle.jl_app.specs.OwnRuns.{uncaught_line}
@@ -67,7 +68,7 @@ reported : NeededIsEnough → (units : List ℕ) (p : Program Span) (chosen : Li
     → IsReported units p chosen (kept_of chosen operations) operations lines count
 reported enough units p chosen operations lines count is = record {
   counted = is.counted;
-  report = all_reported enough units (places p) chosen operations lines is.report;
+  report = all_reported enough units (id_map p) chosen operations lines is.report;
 }
 
 module _ (enough : NeededIsEnough) (call : Call) (units : List ℕ) (p : Program Span) (chosen : List ℕ) where

@@ -2,7 +2,6 @@ pub mod Sizes
 pub mod Legal
 pub mod Placed
 pub mod PositionLemmas
-pub mod MapLines
 pub mod WovenTexts
 pub mod Refusing
 pub mod OneCause

@@ -7,12 +7,14 @@ use Rattle.jl_machine.specs.declared.ending.Run.{Run}
 use Rattle.jl_meaning.specs.Mean.{mean, Run as Comes-to}
 use Rattle.jl_meaning.specs.Store.{Store}
 use Rattle.jl_op.specs.Chosen.{Kinds}
+use Rattle.jl_op.specs.IdMap.{id_map}
 use Rattle.jl_op.specs.KindSets.{is_member}
+use Rattle.jl_op.specs.Map.{MapRow}
 use Rattle.jl_op.specs.Operations.{Operation}
 use Rattle.jl_op.specs.declared.kind.OpKind.{OpKind}
 use Rattle.jl_op.specs.declared.kind_set.KindSet.{KindSet}
 use Rattle.jl_text.specs.declared.span.Span.{Span}
-use Rattle.jl_app.specs.Linting.{IsReported, end_line, lint_status, lint_due, places}
+use Rattle.jl_app.specs.Linting.{IsReported, end_line, lint_status, lint_due}
 use Rattle.jl_app.specs.WovenRuns.{hooked_run}
 use Rattle.jl_app.specs.OwnRuns.{uncaught_line}
 use Rattle.jl_app.specs.Reporting.{IsReport, Lines, lines_text}
@@ -59,9 +61,9 @@ module _ {O : Type 0} (stands_for : O → List Operation → Type 0) (o : O) (r 
       ++ end_line (ending_of ran) n r.hooks (length lines)))) is_hooked.steps
 
   -- the report, the status and the bytes
-  pub is_linted : (units : List ℕ) (p : Program Span) (begun : List ℕ) (lines : Lines) (answer : Status)
-      (bytes : List ℕ) → begun ≡ places p
-      → ((told : List Operation) → stands_for o told → length told < 2 ^ 64 → IsReport units begun chosen told lines)
+  pub is_linted : (units : List ℕ) (p : Program Span) (rows : List MapRow) (lines : Lines) (answer : Status)
+      (bytes : List ℕ) → rows ≡ id_map p
+      → ((told : List Operation) → stands_for o told → length told < 2 ^ 64 → IsReport units rows chosen told lines)
       → length (world_of (hooked_run (kinds_of chosen) q steps)).hooks ≤ steps → steps < 2 ^ 64
       → answer ≡ lint_status r.outcome lines
       → bytes ≡ r.output ++ (lines_text lines ++ (uncaught_line r.store.heap r.outcome
@@ -71,13 +73,13 @@ module _ {O : Type 0} (stands_for : O → List Operation → Type 0) (o : O) (r 
       (world_of (hooked_run (kinds_of chosen) q steps)).hooks lines hooks
       × (answer ≡ (lint_due (hooked_run (kinds_of chosen) q steps) steps lines hooks).status)
       × (bytes ≡ (lint_due (hooked_run (kinds_of chosen) q steps) steps lines hooks).bytes)
-  is_linted units p begun lines answer bytes begins report least most st b = (
+  is_linted units p rows lines answer bytes mapped report least most st b = (
     lines,
     r.hooks,
     record {
       counted = is_hooked.hooks;
-      report = subst (λ places.
-          IsReport units places chosen (world_of (hooked_run (kinds_of chosen) q steps)).hooks lines) begins
+      report = subst (λ (shown : List MapRow).
+          IsReport units shown chosen (world_of (hooked_run (kinds_of chosen) q steps)).hooks lines) mapped
           (report (world_of (hooked_run (kinds_of chosen) q steps)).hooks told (omega arith));
     },
     st ∙ ap (λ e. lint_status e lines) is_hooked.outcome,

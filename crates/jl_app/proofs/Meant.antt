@@ -44,22 +44,22 @@ quiet_world (Over e k w) = refl
 quiet_world (Spent w) = refl
 
 module _ {O : Type 0} (stands_for : O → List Operation → Type 0) (before : List Operation) (n : ℕ) (a : Run) (o : O)
-    where
-  of_quiet : (r : mean.Run) → IsRun stands_for before n (quiet r) a o → IsRun stands_for before n r a o
-  of_quiet r is =
-      let world = quiet_world r in
-      record {
-        outcome = is.outcome ∙ quiet_ending r;
-        output = is.output ∙ ap (λ (w : World). w.output) world;
-        store = is.store ∙ ap (λ (w : World). w.store) world;
-        steps = is.steps ∙ quiet_steps n r;
-        hooks = is.hooks ∙ ap (λ (w : World). length w.hooks) world;
-        told = subst (λ (w : World). stands_for o (before ++ w.hooks)) world is.told;
-      }
+  where
+    of_quiet : (r : mean.Run) → IsRun stands_for before n (quiet r) a o → IsRun stands_for before n r a o
+    of_quiet r is =
+        let world = quiet_world r in
+        record {
+          outcome = is.outcome ∙ quiet_ending r;
+          output = is.output ∙ ap (λ (w : World). w.output) world;
+          store = is.store ∙ ap (λ (w : World). w.store) world;
+          steps = is.steps ∙ quiet_steps n r;
+          hooks = is.hooks ∙ ap (λ (w : World). length w.hooks) world;
+          told = subst (λ (w : World). stands_for o (before ++ w.hooks)) world is.told;
+        }
 
-  pub is_meant : (kinds : Kinds) (p : Program Span) → quiet_mean kinds p n ≡ hooked_mean kinds p n → QuietMeans kinds p
-      → IsRun stands_for before n (hooked_mean kinds p n) a o → IsRun stands_for before n (hooked_run kinds p n) a o
-  unfolding hooked_run
-  is_meant kinds p machine means is =
-      of_quiet (mean.mean kinds p n)
-      (subst (λ (r : mean.Run). IsRun stands_for before n r a o) (sym machine ∙ sym (means n)) is)
+    pub is_meant : (kinds : Kinds) (p : Program Span) → quiet_mean kinds p n ≡ hooked_mean kinds p n → QuietMeans kinds p
+        → IsRun stands_for before n (hooked_mean kinds p n) a o → IsRun stands_for before n (hooked_run kinds p n) a o
+    unfolding hooked_run
+    is_meant kinds p machine means is =
+        of_quiet (mean.mean kinds p n)
+        (subst (λ (r : mean.Run). IsRun stands_for before n r a o) (sym machine ∙ sym (means n)) is)

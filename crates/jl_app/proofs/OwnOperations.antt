@@ -1,7 +1,6 @@
 -- What is told of the operations that the hooks of a woven script tell of is told of those of the script's own run.
-use Rattle.std.proofs.Common.{◌≡◌, ◌∙◌, ◌*◌, ◌+◌, ◌++◌, ◌≤◌, ℕ, All, List, [], ◌∷◌, Option, None, Some, ap, arith, filter}
-use Rattle.std.proofs.Common.{length, option_map, refl, slice_get, subst, sym}
-use Rattle.std.proofs.lemmas.Option.{slice_get-map}
+use Rattle.std.proofs.Common.{◌≡◌, ◌∙◌, ◌*◌, ◌+◌, ◌++◌, ◌≤◌, ℕ, All, List, [], ◌∷◌, Some, ap, arith, filter}
+use Rattle.std.proofs.Common.{option_map, refl, slice_get, subst, sym}
 use Rattle.std.specs.Prelude.{codes}
 use Rattle.jl_ast.specs.Tree.{Program}
 use Rattle.jl_command.specs.Asked.{Asked}
@@ -33,7 +32,6 @@ use Rattle.jl_app.specs.WovenRuns.{woven_run}
 use Rattle.jl_app.specs.OwnRuns.{ending_status, own_run, uncaught_line}
 use Rattle.jl_app.specs.Profiling.{births_lines, objects_bytes, objects_line}
 use Rattle.jl_app.specs.Recording.{record_bytes, recorded, too_long_record, IsRecorded}
-use Rattle.jl_app.specs.Rows.{row_within, rows_in}
 use Rattle.jl_app.specs.Telling.{IsToldOf, Tells, covers, kinds_told, profiles, records}
 use Rattle.jl_app.specs.WovenRuns.{woven_budget}
 use Rattle.jl_app.specs.inner.Woven.{IsWovenWell}
@@ -92,17 +90,10 @@ module _ (kinds : Kinds) (p : Program Span) (well : IsWovenWell kinds p) (n : �
       omega (arith, many, taken)
 
 -- the kinds of the rows of operations
-kind_there : (o : Option MapRow) (row : MapRow) (end : ℕ) → o ≡ Some row
-    → option_map (λ (r : MapRow). r.0) (option_map (row_within end) o) ≡ Some row.0
-kind_there None row end is = absurd (cc)
-kind_there (Some r) row end is = let same : r ≡ row = cc in ap (λ (x : MapRow). Some x.0) same
-
-has_kind : (units : List ℕ) (p : Program Span) (o : Operation) → HasRow p o → HasRowOfKind (rows_in units p) o
-has_kind units p o has before is =
+has_kind : (p : Program Span) (o : Operation) → HasRow p o → HasRowOfKind (id_map p) o
+has_kind p o has before is =
     let same : has.before ≡ before = omega (arith, is, has.id) in
-    ap (option_map (λ (r : MapRow). r.0)) (slice_get-map (row_within (length units)) (id_map p) before)
-    ∙ kind_there (slice_get (id_map p) before) (kind_of o.1, has.place) (length units)
-    (ap (slice_get (id_map p)) (sym same) ∙ has.row)
+    ap (option_map (λ (r : MapRow). r.0)) (ap (slice_get (id_map p)) (sym same) ∙ has.row)
 
 -- What a command answers to a run depends on how it ended, on its heap and on what it tells of.
 module _ (units : List ℕ) (p : Program Span) (own woven : mean.Run) (steps : ℕ)
@@ -156,10 +147,9 @@ pub record Laws : Type 0 where
   pub profiled : ProfiledKindsAreEnough
   pub covered : CoveredKindsAreEnough
 
-own_rows : Laws → (units : List ℕ) (p : Program Span) (n : ℕ)
-    → All (HasRowOfKind (rows_in units p)) (world_of (own_run p n)).operations
+own_rows : Laws → (p : Program Span) (n : ℕ) → All (HasRowOfKind (id_map p)) (world_of (own_run p n)).operations
 unfolding own_run
-own_rows laws units p n = λ k d within. has_kind units p _ (laws.rows p n k d within)
+own_rows laws p n = λ k d within. has_kind p _ (laws.rows p n k d within)
 
 pub told_of_own : Laws → (units bytes : List ℕ) (p : Program Span) → IsAccepted bytes p → (a : Asked) (n : ℕ)
     → Tells a n → IsOver (own_run p n) → (steps : ℕ) (due : Due)
@@ -178,7 +168,7 @@ told_of_own laws units bytes p is _ _ (profiles n) over steps due told =
     let own = own_run p n in
     let woven = woven_run is_profiled p (woven_budget n) in
     let lines = line_table units in
-    let rows = rows_in units p in
+    let rows = id_map p in
     told ∙ same_objects units p own woven steps (same_ending is_profiled p well n over)
     (same_store is_profiled p well n over) (births_in lines rows (world_of woven).hooks)
     (births_in lines rows (world_of own).operations)
@@ -189,10 +179,10 @@ told_of_own laws units bytes p is _ _ (covers n) over steps due told =
     let own = own_run p n in
     let woven = woven_run is_covered p (woven_budget n) in
     let lines = line_table units in
-    let rows = rows_in units p in
+    let rows = id_map p in
     let kept = same_hooks is_covered p well n over ∙ kept_are is_covered (world_of own).operations in
     let enough = laws.covered is_covered (λ kind looked. looked) lines rows (world_of own).operations
-    (own_rows laws units p n) in
+    (own_rows laws p n) in
     told ∙ same_cover units p own woven steps (same_ending is_covered p well n over)
     (same_store is_covered p well n over) (missed_in lines rows (world_of woven).hooks)
     (missed_in lines rows (world_of own).operations) (totals_in rows (world_of woven).hooks)

@@ -11,6 +11,7 @@ use Rattle.jl_machine.specs.declared.ending.Run.{Run}
 use Rattle.jl_meaning.specs.Mean as mean
 use Rattle.jl_meaning.specs.Store.{Store}
 use Rattle.jl_op.specs.Chosen.{Kinds}
+use Rattle.jl_op.specs.IdMap.{id_map}
 use Rattle.jl_op.specs.KindSets.{is_member}
 use Rattle.jl_op.specs.Map.{MapRow}
 use Rattle.jl_op.specs.Operations.{Operation}
@@ -27,7 +28,6 @@ use Rattle.jl_app.specs.Covering.{cover_bytes, cover_line, missed_lines}
 use Rattle.jl_app.specs.OwnRuns.{uncaught_line}
 use Rattle.jl_app.specs.Profiling.{births_lines, objects_bytes, objects_line}
 use Rattle.jl_app.specs.Recording.{record_bytes}
-use Rattle.jl_app.specs.Rows.{rows_in}
 use Rattle.jl_app.specs.Telling.{told_run}
 use Rattle.jl_app.specs.WovenRuns.{hooked_run, woven_budget}
 use Rattle.jl_app.proofs.OwnRun.{same_run}
@@ -53,13 +53,13 @@ of_told_kinds stands_for o r set kinds p budget same is =
 
 -- the text of a stored run of these
 pub record_bytes_are : (units : List ℕ) (p : Program Span) (comments : List Comment) (operations : List Operation)
-    (lines : LineTable) (rows : List MapRow) (off : List Pair) → lines ≡ line_table units → rows ≡ rows_in units p
+    (lines : LineTable) (rows : List MapRow) (off : List Pair) → lines ≡ line_table units → rows ≡ id_map p
     → off ≡ off_by units comments
     → bytes_of_run (run_of lines rows off operations) ≡ record_bytes units p comments operations
 record_bytes_are units p comments operations lines rows off is these those =
     ap (λ (l : LineTable). bytes_of_run (run_of l rows off operations)) is
     ∙ ap (λ (m : List MapRow). bytes_of_run (run_of (line_table units) m off operations)) these
-    ∙ ap (λ (o : List Pair). bytes_of_run (run_of (line_table units) (rows_in units p) o operations)) those
+    ∙ ap (λ (o : List Pair). bytes_of_run (run_of (line_table units) (id_map p) o operations)) those
 
 module _ {O : Type 0} {stands_for : O → List Operation → Type 0} {o : O} {r : Run} (n : ℕ) (ran : mean.Run)
     (is : IsRun stands_for [] n ran r o) where

@@ -10,15 +10,16 @@ use Rattle.jl_machine.specs.Runs.{ending_of}
 use Rattle.jl_meaning.specs.Mean as mean
 use Rattle.jl_op.specs.Chosen.{every_kind}
 use Rattle.jl_op.specs.IdMap.{id_map}
+use Rattle.jl_op.specs.Map.{map_lines}
 use Rattle.jl_print.specs.Layout.{text_of}
 use Rattle.jl_soak.specs.Script.{script_of}
 use Rattle.jl_text.specs.Encoding.{bytes_of, units_of}
+use Rattle.jl_text.specs.Places.{line_table}
 use Rattle.jl_text.specs.declared.span.Span.{Span}
 use Rattle.jl_app.specs.Accepting.{IsRead}
 use Rattle.jl_app.specs.Due.{Due, OnShelf, line_only, refused_only, text_only}
 use Rattle.jl_app.specs.Forms.{ReadsSource, form_of}
 use Rattle.jl_app.specs.Linting.{IsLinted}
-use Rattle.jl_app.specs.MapLines.{map_lines}
 use Rattle.jl_app.specs.OwnRuns.{ending_status, own_run, steps_line, uncaught_line}
 use Rattle.jl_app.specs.Refusals.{IsRefused, refusal_words}
 use Rattle.jl_app.specs.Replaying.{IsReplayed}
@@ -57,7 +58,7 @@ pub data IsInstrumented (p : Program Span) : Due → Type 0 where
 
 -- the lines of the map of a program that a source of these units is read as
 abbrev pub listed_map : (units : List ℕ) → Program Span → Due
-listed_map units p = text_only status.Clean (map_lines units (id_map p))
+listed_map units p = text_only status.Clean (map_lines (line_table units) (id_map p))
 
 -- what `map` answers to it
 pub data IsMapped (units : List ℕ) (p : Program Span) : Due → Type 0 where

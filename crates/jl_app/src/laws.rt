@@ -16,7 +16,7 @@ ghost use Rattle.jl_app.specs.StoredRuns.{StoredRunsReplay};
 
 use jl_hook_bound::laws::hooks_take_steps;
 use jl_meaning::laws::{kept_hooks, more_budget};
-use jl_operation_rows::laws::hooks_have_rows;
+use jl_operation_rows::laws::{hooks_have_rows, rows_lie_in_the_text};
 use jl_read_back::laws::{
     woven_bytes_are_bounded, woven_keeps_rules, woven_reads_back, woven_text_is_bounded,
     woven_units_are_small,
@@ -104,6 +104,7 @@ pub fn source_maps_are_listed()
     jl_srcmap::laws::never_both();
     jl_srcmap::laws::bad_place_is_unique();
     spans_are_in_order();
+    rows_lie_in_the_text();
     scripts_are_woven_well();
 }
 
@@ -122,8 +123,8 @@ pub fn stored_runs_replay()
 pub fn recorded_runs_are_stored()
     ensures { RecordedRunsAreStored }
 {
-    scripts_are_woven_well();
     off_names_rules();
+    rows_lie_in_the_text();
     few_ids();
     hooks_have_rows();
     hooks_take_steps::<()>();
@@ -138,4 +139,5 @@ pub fn replay_reports_as_lint()
     scripts_are_woven_well();
     recorded_runs_are_stored();
     stored_runs_replay();
+    rows_lie_in_the_text();
 }

@@ -33,6 +33,9 @@ accept-requires g c =
 pub lint-requires-clause-few : goal.lint-requires-clause-few
 lint-requires-clause-few g c = c.in-Ok.ensures.few
 
+pub lint-requires-clause-places : goal.lint-requires-clause-places
+lint-requires-clause-places g c = c.in-Ok.ensures.places
+
 pub lint-requires-clause-lexed : goal.lint-requires-clause-lexed
 lint-requires-clause-lexed g c =
     let is = c.in-Ok.ensures.accepted in
@@ -46,8 +49,11 @@ lint-requires-clause-budget g c =
 pub instrument-requires : goal.instrument-requires
 instrument-requires g c = c.in-Ok.ensures.few
 
-pub list_map-requires : goal.list_map-requires
-list_map-requires g c = c.in-Ok.ensures.few
+pub list_map-requires-clause-few : goal.list_map-requires-clause-few
+list_map-requires-clause-few g c = c.in-Ok.ensures.few
+
+pub list_map-requires-clause-places : goal.list_map-requires-clause-places
+list_map-requires-clause-places g c = c.in-Ok.ensures.places
 
 pub trace-requires-clause-few : goal.trace-requires-clause-few
 trace-requires-clause-few g c = c.in-Ok.ensures.few
@@ -220,6 +226,9 @@ returns-in-Exec-clause-due g c = λ a means.
 pub record_run-requires-clause-few : goal.record_run-requires-clause-few
 record_run-requires-clause-few g c = c.in-Ok.ensures.few
 
+pub record_run-requires-clause-places : goal.record_run-requires-clause-places
+record_run-requires-clause-places g c = c.in-Ok.ensures.places
+
 pub record_run-requires-clause-budget : goal.record_run-requires-clause-budget
 record_run-requires-clause-budget g c =
     let meant = c.requires.meant in
@@ -249,6 +258,9 @@ returns-in-Record-clause-due g c = λ a means.
 pub objects-requires-clause-few : goal.objects-requires-clause-few
 objects-requires-clause-few g c = c.in-Ok.ensures.few
 
+pub objects-requires-clause-places : goal.objects-requires-clause-places
+objects-requires-clause-places g c = c.in-Ok.ensures.places
+
 pub objects-requires-clause-budget : goal.objects-requires-clause-budget
 objects-requires-clause-budget g c =
     let meant = c.requires.meant in
@@ -273,6 +285,9 @@ returns-in-Objects-clause-due g c = λ a means.
 pub cover-requires-clause-few : goal.cover-requires-clause-few
 cover-requires-clause-few g c = c.in-Ok.ensures.few
 
+pub cover-requires-clause-places : goal.cover-requires-clause-places
+cover-requires-clause-places g c = c.in-Ok.ensures.places
+
 pub cover-requires-clause-budget : goal.cover-requires-clause-budget
 cover-requires-clause-budget g c =
     let meant = c.requires.meant in
@@ -296,6 +311,9 @@ returns-in-Cover-clause-due g c = λ a means.
 
 pub srcmap-requires-clause-few : goal.srcmap-requires-clause-few
 srcmap-requires-clause-few g c = c.in-Ok.ensures.few
+
+pub srcmap-requires-clause-places : goal.srcmap-requires-clause-places
+srcmap-requires-clause-places g c = c.in-Ok.ensures.places
 
 pub returns-in-Srcmap-clause-due : goal.returns-in-Srcmap-clause-due
 returns-in-Srcmap-clause-due g c = λ a means.
