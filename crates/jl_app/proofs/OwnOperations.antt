@@ -1,5 +1,5 @@
 -- What is told of the operations that the hooks of a woven script tell of is told of those of the script's own run.
-use Rattle.std.proofs.Common.{◌≡◌, ◌∙◌, ◌*◌, ◌+◌, ◌++◌, ◌≤◌, ℕ, All, List, [], ◌∷◌, Some, ap, arith, filter}
+use Rattle.std.proofs.Common.{◌≡◌, ◌∙◌, ◌*◌, ◌+◌, ◌++◌, ◌≤◌, ℕ, All, List, [], ◌∷◌, ap, arith, filter}
 use Rattle.std.proofs.Common.{option_map, refl, slice_get, subst, sym}
 use Rattle.std.specs.Prelude.{codes}
 use Rattle.jl_ast.specs.Tree.{Program}
@@ -16,7 +16,6 @@ use Rattle.jl_meaning.specs.Store.{Store}
 use Rattle.jl_op.specs.Chosen.{every_kind, is_kept, Kinds}
 use Rattle.jl_op.specs.IdMap.{id_map}
 use Rattle.jl_op.specs.KindSets.{of_kinds}
-use Rattle.jl_op.specs.Kinds.{kind_of}
 use Rattle.jl_op.specs.Map.{MapRow}
 use Rattle.jl_op.specs.Operations.{Operation}
 use Rattle.jl_operation_rows.specs.Rows.{HasRow}

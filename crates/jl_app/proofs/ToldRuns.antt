@@ -1,5 +1,5 @@
 -- The answer that the code makes of the operations of a woven script's run is the one that is due.
-use Rattle.std.proofs.Common.{◌≡◌, ◌∙◌, ◌++◌, ℕ, List, [], ap, refl, subst, sym}
+use Rattle.std.proofs.Common.{◌≡◌, ◌∙◌, ◌++◌, ℕ, List, [], ap, subst}
 use mathlib.Core.Path.{fun_ext}
 use Rattle.jl_ast.specs.Spans.{without_spans}
 use Rattle.jl_ast.specs.Tree.{Program}

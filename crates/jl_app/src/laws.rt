@@ -1,5 +1,5 @@
 //! Laws over the definitions; each is the contract of a function that does nothing.
-ghost use Rattle.std.specs.Prelude.{◌≡◌, ℕ, List};
+ghost use Rattle.std.specs.Prelude.{ℕ, List};
 ghost use Rattle.jl_ast.specs.Tree.{Program};
 ghost use Rattle.jl_op.specs.Chosen.{Kinds};
 ghost use Rattle.jl_text.specs.declared.span.Span.{Span};
