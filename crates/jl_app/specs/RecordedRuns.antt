@@ -4,6 +4,7 @@ use Rattle.std.specs.List.{AllByRecursion}
 use Rattle.jl_ast.specs.Tree.{Program}
 use Rattle.jl_effects.specs.Running.{state_of as world_of}
 use Rattle.jl_op.specs.Chosen.{every_kind}
+use Rattle.jl_op.specs.IdMap.{id_map}
 use Rattle.jl_op.specs.Kinds.{kind_of}
 use Rattle.jl_op.specs.Operations.{Operation}
 use Rattle.jl_record.specs.Facts.{AreFacts}
@@ -16,7 +17,6 @@ use Rattle.jl_text.specs.Places.{line_table}
 use Rattle.jl_text.specs.declared.span.Span.{Span}
 use Rattle.jl_token.specs.declared.token.Comment.{Comment}
 use Rattle.jl_app.specs.Accepting.{IsAccepted}
-use Rattle.jl_app.specs.Rows.{rows_in}
 use Rattle.jl_app.specs.Telling.{told_run}
 
 -- what was seen at an operation can be stored
@@ -30,7 +30,7 @@ recorded_operations p budget = (world_of (told_run every_kind p budget)).hooks
 -- the run that it writes, where the program stands in a source of these units with these comments
 abbrev pub recorded_run : (units : List ℕ) → Program Span → List Comment → (budget : ℕ) → Stored
 recorded_run units p comments budget =
-    run_of (line_table units) (rows_in units p) (off_by units comments) (recorded_operations p budget)
+    run_of (line_table units) (id_map p) (off_by units comments) (recorded_operations p budget)
 
 abbrev pub RecordedRunsAreStored : Type 0
 RecordedRunsAreStored =

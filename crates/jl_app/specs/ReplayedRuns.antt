@@ -3,6 +3,7 @@ use Rattle.std.specs.Prelude.{◌≡◌, ℕ, ◌≤◌, List, length}
 use Rattle.std.specs.List.{AllByRecursion}
 use Rattle.jl_ast.specs.Tree.{Program}
 use Rattle.jl_effects.specs.Running.{IsOver, state_of as world_of}
+use Rattle.jl_op.specs.IdMap.{id_map}
 use Rattle.jl_record.specs.Recording.{bytes_of_run}
 use Rattle.jl_text.specs.Encoding.{units_of}
 use Rattle.jl_text.specs.declared.span.Span.{Span}
@@ -11,8 +12,7 @@ use Rattle.jl_token.specs.declared.token.Comment.{Comment}
 use Rattle.jl_app.specs.Accepting.{IsAccepted}
 use Rattle.jl_app.specs.Due.{Due}
 use Rattle.jl_app.specs.Forms.{most_record_bytes}
-use Rattle.jl_app.specs.Headline.{own_run}
-use Rattle.jl_app.specs.Linting.{places}
+use Rattle.jl_app.specs.OwnRuns.{own_run}
 use Rattle.jl_app.specs.RecordedRuns.{HasFacts, recorded_run}
 use Rattle.jl_app.specs.Replaying.{IsReplayed, replay_due}
 use Rattle.jl_app.specs.Reporting.{IsReport, Lines}
@@ -34,5 +34,5 @@ ReplayReportsAsLint =
     (bytes : List ℕ) (p : Program Span) (comments : List Comment) (budget : ℕ) → CanBeReplayed bytes p comments budget
     → (chosen : List ℕ) (due : Due)
     → IsReplayed chosen (bytes_of_run (recorded_run (units_of bytes) p comments budget)) due
-    → (lines : Lines) × IsReport (units_of bytes) (places p) chosen (world_of (own_run p budget)).operations lines
+    → (lines : Lines) × IsReport (units_of bytes) (id_map p) chosen (world_of (own_run p budget)).operations lines
     × (due ≡ replay_due (recorded_run (units_of bytes) p comments budget) lines)

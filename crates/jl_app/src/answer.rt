@@ -102,7 +102,7 @@ pub(crate) fn respond<H: Shelf>(
         Command::Check => check(alloc, &accepted.program),
         Command::Print => print(alloc, &accepted.program),
         Command::Instrument => instrument(alloc, &accepted.program),
-        Command::Map => list_map(alloc, &accepted.source, &accepted.program),
+        Command::Map => list_map(alloc, &accepted),
         Command::Srcmap => srcmap(alloc, &accepted),
         Command::Trace { budget } => trace(alloc, keys, &accepted.program, budget),
         Command::Exec { budget } => trace_alone(alloc, keys, &accepted.program, budget),

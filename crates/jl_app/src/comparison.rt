@@ -8,7 +8,7 @@ ghost use Rattle.jl_app.specs.Due.{Due, IsGiven};
 ghost use Rattle.jl_app.specs.RunAndLint.{HasEnded, ShowsSame};
 
 use crate::answer::Answer;
-use crate::laws::{never_both, one_reading, own_runs_are_meant, scripts_are_woven_well};
+use crate::laws::{never_both, one_reading, scripts_are_woven_well};
 use crate::top::respond_to;
 use jl_analysis::laws::needed_is_enough;
 use jl_analysis::{Crowd, Findings, RuleSet};
@@ -59,7 +59,6 @@ pub fn run_and_lint(
     never_both();
     scripts_are_woven_well();
     needed_is_enough();
-    own_runs_are_meant();
     let run = respond_to(
         alloc,
         keys,

@@ -3,14 +3,15 @@ ghost use Rattle.std.specs.Prelude.{◌≡◌, ◌++◌, IfOk};
 ghost use Rattle.std.specs.String.{string_bytes};
 ghost use Rattle.jl_ast.specs.View.{view};
 ghost use Rattle.jl_app.specs.Answers.{execute_due};
-ghost use Rattle.jl_app.specs.OwnRuns.{ending_status, ending_text, program_run, steps_line, uncaught_line};
+ghost use Rattle.jl_app.specs.OwnRuns.{ending_status, ending_text, own_run, steps_line, uncaught_line};
 
 use crate::answer::Answer;
 use crate::lint::append_texts;
+use crate::run::run_program;
 use crate::status::Status;
 use jl_ast::Program;
 use jl_heap::Heap;
-use jl_machine::{Run, run};
+use jl_machine::Run;
 use jl_op::{KindSet, Nobody};
 use jl_value::Outcome;
 use std::alloc::{AllocError, Global};
@@ -88,10 +89,10 @@ pub(crate) fn execute(
     program: &Program,
     budget: u64,
 ) -> Result<Answer, AllocError>
-    ensures { IfOk result (λ a. (a.status ≡ (execute_due (program_run (view program.now) budget) budget).status)
-        × (a.bytes.items ≡ (execute_due (program_run (view program.now) budget) budget).bytes)) }
+    ensures { IfOk result (λ a. (a.status ≡ (execute_due (own_run (view program.now) budget) budget).status)
+        × (a.bytes.items ≡ (execute_due (own_run (view program.now) budget) budget).bytes)) }
 {
-    let run = run(alloc, keys, program, budget, KindSet::all(), &mut Nobody)?;
+    let run = run_program(alloc, keys, program, budget, KindSet::all(), &mut Nobody)?;
     Ok(Answer {
         status: ending_status(&run.outcome),
         bytes: answer_bytes(alloc, &run)?,

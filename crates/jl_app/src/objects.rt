@@ -9,6 +9,7 @@ ghost use Rattle.jl_app.specs.Due.{Due};
 ghost use Rattle.jl_app.specs.OwnRuns.{uncaught_line};
 ghost use Rattle.jl_app.specs.Profiling.{births_lines, objects_line};
 ghost use Rattle.jl_app.specs.Telling.{IsToldOfWoven};
+ghost use Rattle.jl_app.specs.inner.MapRows.{RowsBeginIn};
 ghost use Rattle.jl_app.specs.inner.Said.{IsSaid};
 
 use crate::accept::Accepted;
@@ -68,6 +69,7 @@ pub(crate) fn objects(
     budget: u64,
 ) -> Result<Answer, AllocError>
     requires few { HasFewIds (view accepted.now.program) }
+    requires places { RowsBeginIn accepted.now.source (view accepted.now.program) }
     requires budget { budget ≤ 1000000000 }
     ensures { IfOk result (λ given. (due : Due)
         × IsToldOfWoven (objects budget) accepted.now.source (view accepted.now.program) budget due

@@ -7,6 +7,7 @@ ghost use Rattle.jl_token.specs.Tokens.{Tokens};
 ghost use Rattle.jl_token.specs.declared.token.Token.{Token as OneToken};
 ghost use Rattle.jl_app.specs.Due.{Due};
 ghost use Rattle.jl_app.specs.Telling.{IsToldOfWoven};
+ghost use Rattle.jl_app.specs.inner.MapRows.{RowsBeginIn};
 ghost use Rattle.jl_app.specs.inner.Said.{IsSaid};
 
 use crate::accept::Accepted;
@@ -30,6 +31,7 @@ pub(crate) fn record_run(
     budget: u64,
 ) -> Result<Answer, AllocError>
     requires few { HasFewIds (view accepted.now.program) }
+    requires places { RowsBeginIn accepted.now.source (view accepted.now.program) }
     requires lexed { (tokens : Items OneToken) × Tokens accepted.now.source tokens }
     requires budget { budget ≤ 1000000000 }
     ensures { IfOk result (λ given. (due : Due)

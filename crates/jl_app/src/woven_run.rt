@@ -8,8 +8,9 @@ ghost use Rattle.jl_app.specs.Telling.{told_run};
 ghost use Rattle.jl_app.specs.WovenRuns.{woven_budget};
 
 use crate::lint::woven_budget;
+use crate::run::run_program;
 use jl_ast::Program;
-use jl_machine::{Run, run};
+use jl_machine::Run;
 use jl_op::{KindSet, Observer};
 use jl_weave::weave;
 use std::alloc::{AllocError, Global};
@@ -32,5 +33,5 @@ pub(crate) fn run_woven<O: Observer>(
     ensures fixed { O.fixed observer.new ≡ O.fixed observer.old }
 {
     let woven = weave(alloc, program, kinds)?;
-    run(alloc, keys, &woven, woven_budget(budget), kinds, observer)
+    run_program(alloc, keys, &woven, woven_budget(budget), kinds, observer)
 }

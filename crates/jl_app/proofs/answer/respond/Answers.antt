@@ -3,7 +3,6 @@ use Rattle.std.specs.Prelude.{IfSome}
 use Rattle.std.proofs.lemmas.Result.{IfOk-weaker}
 use Rattle.jl_ast.specs.View.{view}
 use Rattle.jl_op.specs.Chosen.{every_kind}
-use Rattle.jl_simulation.specs.Weaving.{woven_program}
 use Rattle.jl_text.specs.Encoding.{units_of}
 use Rattle.jl_token.specs.Tokens.{Tokens}
 use Rattle.jl_app.specs.Answers.{canonical_text, counted, ended, ended_alone, ended_woven, execute_due, functions_line}
@@ -12,9 +11,9 @@ use Rattle.jl_app.specs.Due.{refused_only}
 use Rattle.jl_app.specs.WovenRuns.{woven_budget}
 use Rattle.jl_command.specs.Asked as asked
 use Rattle.jl_app.specs.SourceMapping.{IsMappedBack}
-use Rattle.jl_app.specs.Telling.{IsToldOfWoven}
+use Rattle.jl_app.specs.Telling.{IsToldOfWoven, told_run}
 use Rattle.jl_command.specs.Meant.{Means, means_lint}
-use Rattle.jl_app.specs.OwnRuns.{program_run}
+use Rattle.jl_app.specs.OwnRuns.{own_run}
 use Rattle.jl_app.specs.Refusals.{refusal_words}
 use Rattle.jl_command.specs.declared.command.Command.{Command}
 use Rattle.jl_app.proofs.Answering.{answers, asked_check, asked_cover, asked_exec, asked_instrument, asked_lint}
@@ -34,6 +33,9 @@ accept-requires g c =
 pub lint-requires-clause-few : goal.lint-requires-clause-few
 lint-requires-clause-few g c = c.in-Ok.ensures.few
 
+pub lint-requires-clause-places : goal.lint-requires-clause-places
+lint-requires-clause-places g c = c.in-Ok.ensures.places
+
 pub lint-requires-clause-lexed : goal.lint-requires-clause-lexed
 lint-requires-clause-lexed g c =
     let is = c.in-Ok.ensures.accepted in
@@ -47,8 +49,11 @@ lint-requires-clause-budget g c =
 pub instrument-requires : goal.instrument-requires
 instrument-requires g c = c.in-Ok.ensures.few
 
-pub list_map-requires : goal.list_map-requires
-list_map-requires g c = c.in-Ok.ensures.few
+pub list_map-requires-clause-few : goal.list_map-requires-clause-few
+list_map-requires-clause-few g c = c.in-Ok.ensures.few
+
+pub list_map-requires-clause-places : goal.list_map-requires-clause-places
+list_map-requires-clause-places g c = c.in-Ok.ensures.places
 
 pub trace-requires-clause-few : goal.trace-requires-clause-few
 trace-requires-clause-few g c = c.in-Ok.ensures.few
@@ -121,7 +126,7 @@ returns-in-Run-clause-due g c = λ a means.
     let is = asked_run a (subst (λ (x : Command). Means x a) c.in-Run.is means) in
     IfOk-weaker c.execute.result _ _
     (λ given answered. (
-      execute_due (program_run p c.in-Run.budget) c.in-Run.budget,
+      execute_due (own_run p c.in-Run.budget) c.in-Run.budget,
       answers a (asked.run c.in-Run.budget) c.of-form.result p is
           (form_for c.args.command c.requires.meant.0 a c.requires.meant.1 c.of-form.result c.requires.meant.3
           c.requires.meant.2 c.of-form.ensures means) c.in-Ok.ensures.accepted.0 (refl, ended),
@@ -196,8 +201,7 @@ returns-in-Trace-clause-due g c = λ a means.
     let is = asked_trace a (subst (λ (x : Command). Means x a) c.in-Trace.is means) in
     IfOk-weaker c.trace.result _ _
     (λ given answered. (
-      trace_due (program_run (woven_program every_kind p) (woven_budget c.in-Trace.budget))
-          (woven_budget c.in-Trace.budget),
+      trace_due (told_run every_kind p c.in-Trace.budget) (woven_budget c.in-Trace.budget),
       answers a (asked.trace c.in-Trace.budget) c.of-form.result p is.0
           (form_for c.args.command c.requires.meant.0 a c.requires.meant.1 c.of-form.result c.requires.meant.3
           c.requires.meant.2 c.of-form.ensures means) c.in-Ok.ensures.accepted.0 (refl, ended_woven),
@@ -211,7 +215,7 @@ returns-in-Exec-clause-due g c = λ a means.
     let is = asked_exec a (subst (λ (x : Command). Means x a) c.in-Exec.is means) in
     IfOk-weaker c.trace_alone.result _ _
     (λ given answered. (
-      trace_due (program_run p c.in-Exec.budget) c.in-Exec.budget,
+      trace_due (own_run p c.in-Exec.budget) c.in-Exec.budget,
       answers a (asked.exec c.in-Exec.budget) c.of-form.result p is
           (form_for c.args.command c.requires.meant.0 a c.requires.meant.1 c.of-form.result c.requires.meant.3
           c.requires.meant.2 c.of-form.ensures means) c.in-Ok.ensures.accepted.0 (refl, ended_alone),
@@ -221,6 +225,9 @@ returns-in-Exec-clause-due g c = λ a means.
 
 pub record_run-requires-clause-few : goal.record_run-requires-clause-few
 record_run-requires-clause-few g c = c.in-Ok.ensures.few
+
+pub record_run-requires-clause-places : goal.record_run-requires-clause-places
+record_run-requires-clause-places g c = c.in-Ok.ensures.places
 
 pub record_run-requires-clause-budget : goal.record_run-requires-clause-budget
 record_run-requires-clause-budget g c =
@@ -251,6 +258,9 @@ returns-in-Record-clause-due g c = λ a means.
 pub objects-requires-clause-few : goal.objects-requires-clause-few
 objects-requires-clause-few g c = c.in-Ok.ensures.few
 
+pub objects-requires-clause-places : goal.objects-requires-clause-places
+objects-requires-clause-places g c = c.in-Ok.ensures.places
+
 pub objects-requires-clause-budget : goal.objects-requires-clause-budget
 objects-requires-clause-budget g c =
     let meant = c.requires.meant in
@@ -275,6 +285,9 @@ returns-in-Objects-clause-due g c = λ a means.
 pub cover-requires-clause-few : goal.cover-requires-clause-few
 cover-requires-clause-few g c = c.in-Ok.ensures.few
 
+pub cover-requires-clause-places : goal.cover-requires-clause-places
+cover-requires-clause-places g c = c.in-Ok.ensures.places
+
 pub cover-requires-clause-budget : goal.cover-requires-clause-budget
 cover-requires-clause-budget g c =
     let meant = c.requires.meant in
@@ -298,6 +311,9 @@ returns-in-Cover-clause-due g c = λ a means.
 
 pub srcmap-requires-clause-few : goal.srcmap-requires-clause-few
 srcmap-requires-clause-few g c = c.in-Ok.ensures.few
+
+pub srcmap-requires-clause-places : goal.srcmap-requires-clause-places
+srcmap-requires-clause-places g c = c.in-Ok.ensures.places
 
 pub returns-in-Srcmap-clause-due : goal.returns-in-Srcmap-clause-due
 returns-in-Srcmap-clause-due g c = λ a means.

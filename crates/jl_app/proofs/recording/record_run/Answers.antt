@@ -14,7 +14,6 @@ use Rattle.jl_app.specs.Due.{refused_only, text_only}
 use Rattle.jl_app.specs.Forms.{most_record_bytes}
 use Rattle.jl_app.specs.OwnRuns.{ending_status}
 use Rattle.jl_app.specs.Recording.{record_bytes, recorded, too_long_record}
-use Rattle.jl_app.specs.Rows.{rows_in}
 use Rattle.jl_app.specs.Telling.{told_run}
 use Rattle.jl_app.proofs.OffRules.{off_are_rules}
 use Rattle.jl_app.proofs.ToldRuns.{of_told_kinds, record_bytes_are}
