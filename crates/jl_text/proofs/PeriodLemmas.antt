@@ -1,8 +1,8 @@
 -- Periods of a greatest suffix, and what they say of the places at which it stands.
-use Rattle.std.proofs.Common.{◌≡◌, ℕ, ◌+◌, ◌-◌, ◌%◌, ◌<◌, ◌≤◌, inl, inr, sym, ap, ◌∙◌, arith}
+use Rattle.std.proofs.Common.{◌≡◌, ℕ, ◌+◌, ◌-◌, ◌%◌, ◌<◌, ◌≤◌, inl, inr, Option, Some, None, sym, ap, ◌∙◌, arith}
 use Rattle.std.proofs.lemmas.Bool.{cases_lt}
 use Rattle.std.proofs.Math.Nat.{mod-eq-sub-mod, mod-le}
-use Rattle.jl_text.specs.inner.Seeking.{Agrees, Repeats, IsGreatest, IsPeriod}
+use Rattle.jl_text.specs.inner.Seeking.{Agrees, HasNone, Repeats, IsGreatest, IsPeriod, IsLeastPlace}
 
 module _ (part : ℕ → ℕ) (start : ℕ) where
   -- before any unit
@@ -187,12 +187,45 @@ module _ (units part : ℕ → ℕ) (at start end size : ℕ) where
   ]
 
   pub none_before : (from p : ℕ) → IsPeriod part start end p → Agrees units part at start end → end ≤ size
-      → (Agrees units part at 0 size → ⊥) → ((k : ℕ) → from ≤ k → k < at → Agrees units part k 0 size → ⊥)
-      → (k : ℕ) → from ≤ k → k < at + p → Agrees units part k 0 size → ⊥
-  none_before from p is here within not earlier k low high there = elim (cases_lt k at) [
-    | inl before ↦ earlier k low before there
-    | inr after ↦ elim (cases_lt at k) [
-      | inl behind ↦ none_between units part at start end p is here size k within behind high there
-      | inr same ↦ not (λ i some fits. ap units {x = at + i} {y = k + i} (omega (arith, after, same)) ∙ there i some fits)
-    ]
+      → (Agrees units part at 0 size → ⊥) → HasNone units part size from at → HasNone units part size from (at + p)
+  none_before from p is here within not earlier = (
+    omega (arith, earlier.0),
+    λ k low high there. elim (cases_lt k at) [
+      | inl before ↦ earlier.1 k low before there
+      | inr after ↦ elim (cases_lt at k) [
+        | inl behind ↦ none_between units part at start end p is here size k within behind high there
+        | inr same ↦ not (moved_to at k (omega (arith, after, same)) there)
+      ]
+    ],
+  ) where
+    moved_to : (to k : ℕ) → k ≡ to → Agrees units part k 0 size → Agrees units part to 0 size
+    moved_to to k same there i some fits =
+        ap units {x = to + i} {y = k + i} (omega (arith, same)) ∙ there i some fits
+
+-- one place after another
+module _ (units part : ℕ → ℕ) (size from at : ℕ) where
+  pub HasNone-next : HasNone units part size from at → (Agrees units part at 0 size → ⊥)
+      → HasNone units part size from (at + 1)
+  HasNone-next earlier not = (
+    omega (arith, earlier.0),
+    λ k low high there. elim (cases_lt k at) [
+      | inl before ↦ earlier.1 k low before there
+      | inr after ↦ not (λ i some fits. ap units {x = at + i} {y = k + i} (omega (arith, after, high)) ∙ there i some fits)
+    ],
+  )
+
+  pub IsLeastPlace-later : (count : ℕ) (place : Option ℕ) → HasNone units part size from at
+      → IsLeastPlace units part count size at place → IsLeastPlace units part count size from place
+  IsLeastPlace-later count None earlier none = λ k low fits there. elim (cases_lt k at) [
+    | inl before ↦ earlier.1 k low before there
+    | inr after ↦ none k after fits there
   ]
+  IsLeastPlace-later count (Some found) earlier is = (
+    omega (arith, earlier.0, is.0),
+    is.1,
+    is.2,
+    λ k low high there. elim (cases_lt k at) [
+      | inl before ↦ earlier.1 k low before there
+      | inr after ↦ is.3 k after high there
+    ],
+  )

@@ -1,13 +1,13 @@
 // Where one slice stands in another.
 //
-// A part is split in front of its greatest suffix, by the order of its units: "ba" is that of "aba". Where some units of
-// the suffix stand at a place and the next does not, the suffix stands at no place less than a period of these units
-// further on; and no table of periods is wanted, since the least period of a greatest suffix's front is as long as the
-// front itself, or that of the front without its last unit (M. Crochemore 1992, W. Rytter 2003).
-ghost use Rattle.std.specs.Prelude.{◌≡◌, ◌≤◌, ◌<◌, ◌+◌, ◌↔◌, true, length};
+// A part is split before its greatest suffix, by the order of its units: "ba" is that of "aba". Where some units of the
+// suffix stand at a place and the next does not, the suffix stands at no place less than a period of these units further
+// on. No table of periods is wanted: the least period of a front of a greatest suffix is that of the front without its
+// last unit, or the length of the front (M. Crochemore 1992, W. Rytter 2003).
+ghost use Rattle.std.specs.Prelude.{◌≡◌, ◌≤◌, ◌<◌, ◌+◌, ◌↔◌, true, length, Some, IfOk, IfErr};
 ghost use Rattle.jl_text.specs.Limits.{most_units};
 ghost use Rattle.jl_text.specs.Search.{first_place, last_place, IsFirstPlace, IsLastPlace};
-ghost use Rattle.jl_text.specs.inner.Seeking.{Agrees, IsLeastPlace};
+ghost use Rattle.jl_text.specs.inner.Seeking.{Agrees, HasNone, IsLeastPlace};
 
 use crate::ends::{FromBack, FromFront, Units};
 use crate::period::{greatest_suffix, next_period};
@@ -43,6 +43,56 @@ fn least_place<U: Units>(units: U, part: U, from: usize) -> Option<usize>
     if part.len() > units.len() || from > units.len() - part.len() {
         return None;
     }
+    match try_each(units, part, from) {
+        Ok(at) => Some(at),
+        Err(at) => place_by_suffix(units, part, at),
+    }
+}
+
+/// Tries one place after another as long as that is quicker than to look for a greatest suffix: until it has looked at a
+/// few times as many units as `part` has. Gives the place, or how far it came.
+fn try_each<U: Units>(units: U, part: U, from: usize) -> Result<usize, usize>
+    requires short { U.size units ≤ most_units }
+    requires fits { from + U.size part ≤ U.size units }
+    ensures found { IfOk result (λ at. IsLeastPlace (U.unit units) (U.unit part) (U.size units) (U.size part) from (Some at)) }
+    ensures not_before { IfErr result (λ at. HasNone (U.unit units) (U.unit part) (U.size part) from at) }
+{
+    let last = units.len() - part.len();
+    let mut budget = 4 * part.len() + 32;
+    let mut at = from;
+    while at <= last && budget > 0 {
+        let front = common_front(units, part, at);
+        if front == part.len() {
+            return Ok(at);
+        }
+        budget = budget.saturating_sub(front + 1);
+        at += 1;
+    }
+    Err(at)
+}
+
+/// How many units at the front of `part` stand at the place `at`.
+fn common_front<U: Units>(units: U, part: U, at: usize) -> usize
+    requires short { U.size units ≤ most_units }
+    requires fits { at + U.size part ≤ U.size units }
+    ensures within { result ≤ U.size part }
+    ensures same { Agrees (U.unit units) (U.unit part) at 0 result }
+    ensures differs { result < U.size part → ¬ (U.unit units (at + result) ≡ U.unit part result) }
+{
+    for k in 0..part.len() {
+        if units.at(at + k) != part.at(k) {
+            return k;
+        }
+    }
+    part.len()
+}
+
+/// The least place at or after `from` at which `part` stands, by the greatest suffix of `part`.
+fn place_by_suffix<U: Units>(units: U, part: U, from: usize) -> Option<usize>
+    requires short { U.size units ≤ most_units }
+    requires fits { U.size part ≤ U.size units }
+    ensures { IsLeastPlace (U.unit units) (U.unit part) (U.size units) (U.size part) from result }
+{
     let last = units.len() - part.len();
     let start = greatest_suffix(part);
     let mut at = from;

@@ -23,6 +23,10 @@ pub record IsPeriod (part : ℕ → ℕ) (start end p : ℕ) : Type 0 where
   pub repeats : Repeats part start end p
   pub least : (q : ℕ) → 0 < q → q < p → ¬ (Repeats part start (start + p) q)
 
+-- `part` stands at no place from `from` to the one before `to`
+abbrev pub HasNone : (units part : ℕ → ℕ) → (size from to : ℕ) → Type 0
+HasNone units part size from to = (from ≤ to) × ((k : ℕ) → from ≤ k → k < to → ¬ (Agrees units part k 0 size))
+
 -- the place, if there is one, is the least from `from` on at which `part` stands in `units`
 abbrev pub IsLeastPlace : (units part : ℕ → ℕ) → (count size from : ℕ) → Option ℕ → Type 0
 IsLeastPlace units part count size from place =
