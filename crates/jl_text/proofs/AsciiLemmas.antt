@@ -1,12 +1,10 @@
 -- ASCII characters are the same in UTF-8 and in UTF-16.
-use Rattle.std.proofs.Common.{◌≡◌, ℕ, ◌<◌, List, [], ◌∷◌, ◌++◌, true, false, Bool, ◌&&◌, refl, ap, sym, ◌∙◌, arith, nat_lt}
-use Rattle.std.proofs.Common.{All, length, get_or, zero, suc}
+use Rattle.std.proofs.Common.{◌≡◌, ℕ, ◌<◌, List, [], ◌∷◌, ◌++◌, true, false, Bool, ◌&&◌, refl, ap, sym, ◌∙◌, arith}
+use Rattle.std.proofs.Common.{All}
 use Rattle.std.specs.Char.{is_ascii}
-use Rattle.std.specs.Char.Escape.{encode_utf16}
 use Rattle.std.specs.Char.Utf16.{utf16_lossy_chars}
 use Rattle.std.specs.List.{list_all}
 use Rattle.std.specs.Prelude.{encode_utf8_all}
-use Rattle.std.specs.Str.{chars}
 use Rattle.std.proofs.lemmas.List.Elements.{All-cons}
 use Rattle.std.proofs.lemmas.Str.{chars-IsAscii, encode_ascii, scalars-chars, IsUtf8-from_ascii}
 use lib.Utf8.{scalars}

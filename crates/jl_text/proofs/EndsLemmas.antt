@@ -1,5 +1,5 @@
 -- Where one list stands in another, by the units at their places.
-use Rattle.std.proofs.Common.{◌≡◌, ℕ, ◌+◌, ◌-◌, ◌<◌, ◌≤◌, List, length, take, drop, get_or, sym, ap, ◌∙◌, arith}
+use Rattle.std.proofs.Common.{◌≡◌, ℕ, ◌+◌, ◌-◌, ◌<◌, ◌≤◌, List, length, drop, get_or, sym, ap, ◌∙◌, arith}
 use Rattle.std.proofs.Common.{length-take, length-drop, Option, Some, None, min}
 use Rattle.std.specs.Prelude.{slice_range}
 use Rattle.std.proofs.lemmas.List.{get_or-take, get_or-drop, ext_get_or}
@@ -65,7 +65,8 @@ module _ (units part : List ℕ) where
         none behind (omega (arith, begins, low, stands.0, fits)) (omega (arith, stands.0, fits))
         (back_to_front behind k (omega (arith, stands.0, fits)) stands)
 
-    pub last_by_units : (at : ℕ) → Backwards (Some at) → IsLastPlace units part from (Some (length units - length part - at))
+    pub last_by_units : (at : ℕ) → Backwards (Some at)
+        → IsLastPlace units part from (Some (length units - length part - at))
     last_by_units at is = (
       omega (arith, begins, is.0, is.1, fits),
       front_to_back at (length units - length part - at) (omega (arith, is.1, fits)) is.2,

@@ -45,7 +45,8 @@ module _ (part : ℕ → ℕ) (start end p : ℕ) where
   falls is greatest here =
       let short = is.short here in
       let fall = greatest.greatest (start + p) (end - (start + p)) (omega (arith, is.some)) (omega (arith, short))
-      (λ i low. Repeats-to is.repeats (start + p + i) (start + i) (omega arith) (omega arith) (omega (arith, low, short)))
+      (λ i low. Repeats-to is.repeats (start + p + i) (start + i) (omega arith) (omega arith)
+      (omega (arith, low, short)))
       in omega (
         arith,
         fall,
@@ -66,7 +67,8 @@ module _ (part : ℕ → ℕ) (start end p : ℕ) where
         (omega (arith, more)) (omega (arith, low, within)))
         ∙ ap part {x = start + q + i} {y = start + i + q} (omega arith)
         ∙ again (start + i) (omega arith) (omega (arith, low, within))) in
-        let there : part (end - q + q) ≡ part (end - q) = again (end - q) (omega (arith, within)) (omega (arith, within)) in
+        let there : part (end - q + q) ≡ part (end - q) =
+        again (end - q) (omega (arith, within)) (omega (arith, within)) in
         omega (
           arith,
           rise,
@@ -108,7 +110,8 @@ module _ (part : ℕ → ℕ) (start end p : ℕ) where
   IsGreatest-kept is known fall = record {
     greatest = λ later k low high agree. elim (cases_lt (later + k) end) [
       | inl before ↦ known.greatest later k low before agree
-      | inr last ↦ at_end is known (fall (omega (arith, low, high, is.within))) later k low (omega (arith, high, last)) agree
+      | inr last ↦ at_end is known (fall (omega (arith, low, high, is.within))) later k low
+          (omega (arith, high, last)) agree
     ];
   } where
     at_end : IsPeriod part start end p → IsGreatest part start end → part end ≤ part (end - p)
@@ -210,7 +213,8 @@ module _ (units part : ℕ → ℕ) (size from at : ℕ) where
     omega (arith, earlier.0),
     λ k low high there. elim (cases_lt k at) [
       | inl before ↦ earlier.1 k low before there
-      | inr after ↦ not (λ i some fits. ap units {x = at + i} {y = k + i} (omega (arith, after, high)) ∙ there i some fits)
+      | inr after ↦ not (λ i some fits. ap units {x = at + i} {y = k + i} (omega (arith, after, high))
+          ∙ there i some fits)
     ],
   )
 

@@ -1,6 +1,6 @@
 -- Where one list stands in another.
 use Rattle.std.proofs.Common.{◌≡◌, ℕ, zero, suc, ◌+◌, ◌-◌, ◌<◌, ◌≤◌, inl, inr, List, [], ◌∷◌, ◌++◌, Bool, true, false}
-use Rattle.std.proofs.Common.{◌&&◌, cond, refl, sym, ap, ◌∙◌, subst, length, take, drop, get_or, Option, Some, None}
+use Rattle.std.proofs.Common.{◌&&◌, cond, refl, sym, ap, ◌∙◌, length, take, drop, get_or, Option, Some, None}
 use Rattle.std.proofs.Common.{add-one, add-suc, arith, length-append, length-drop, drop-cons, nat_eq, nat_le}
 use Rattle.std.proofs.lemmas.List.{take-append-drop}
 use Rattle.std.proofs.Math.Seq.{take-append_seam, drop-length}

@@ -1,9 +1,9 @@
 // Where one slice stands in another.
 //
 // A part is split before its greatest suffix, by the order of its units: "ba" is that of "aba". Where some units of the
-// suffix stand at a place and the next does not, the suffix stands at no place less than a period of these units further
-// on. No table of periods is wanted: the least period of a front of a greatest suffix is that of the front without its
-// last unit, or the length of the front (M. Crochemore 1992, W. Rytter 2003).
+// suffix stand at a place and the next does not, the suffix stands at no place less than a period of these units
+// further on. No table of periods is wanted: the least period of a front of a greatest suffix is that of the front
+// without its last unit, or the length of the front (M. Crochemore 1992, W. Rytter 2003).
 ghost use Rattle.std.specs.Prelude.{◌≡◌, ◌≤◌, ◌<◌, ◌+◌, ◌↔◌, true, length, Some, IfOk, IfErr};
 ghost use Rattle.jl_text.specs.Limits.{most_units};
 ghost use Rattle.jl_text.specs.Search.{first_place, last_place, IsFirstPlace, IsLastPlace};
@@ -49,8 +49,8 @@ fn least_place<U: Units>(units: U, part: U, from: usize) -> Option<usize>
     }
 }
 
-/// Tries one place after another as long as that is quicker than to look for a greatest suffix: until it has looked at a
-/// few times as many units as `part` has. Gives the place, or how far it came.
+/// Tries one place after another as long as that is quicker than to look for a greatest suffix: until it has looked
+/// at a few times as many units as `part` has. Gives the place, or how far it came.
 fn try_each<U: Units>(units: U, part: U, from: usize) -> Result<usize, usize>
     requires short { U.size units ≤ most_units }
     requires fits { from + U.size part ≤ U.size units }

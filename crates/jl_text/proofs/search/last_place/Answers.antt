@@ -1,5 +1,4 @@
-use Rattle.std.proofs.Common.{None, sym, ap, ◌∙◌, arith}
-use Rattle.jl_text.specs.Search.{IsLastPlace}
+use Rattle.std.proofs.Common.{None, ◌∙◌, arith}
 use Rattle.jl_text.proofs.EndsLemmas.{last_by_none, last_by_units}
 use Rattle.jl_text.proofs.SearchLemmas.{last_place-is}
 use Rattle.jl_text.proofs.search.last_place.Goals as goal

@@ -1,4 +1,4 @@
-use Rattle.std.proofs.Common.{◌≤◌, ◌<◌, ◌+◌, ◌-◌, ◌*◌}
+use Rattle.std.proofs.Common.{◌≤◌, ◌+◌, ◌-◌, ◌*◌}
 use Rattle.jl_text.specs.inner.Seeking.{Agrees, HasNone, IsPeriod}
 use Rattle.jl_text.proofs.search.place_by_suffix.Given as goal
 

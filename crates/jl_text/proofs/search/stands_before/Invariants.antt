@@ -1,4 +1,3 @@
-use Rattle.std.proofs.Common.{◌≡◌, ◌≤◌, ◌<◌, ◌+◌, ℕ}
 use Rattle.jl_text.specs.inner.Seeking.{Agrees}
 use Rattle.jl_text.proofs.search.stands_before.Given as goal
 

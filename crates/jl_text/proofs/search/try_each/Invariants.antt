@@ -1,4 +1,4 @@
-use Rattle.std.proofs.Common.{◌≤◌, ◌+◌, ◌-◌}
+use Rattle.std.proofs.Common.{◌+◌, ◌-◌}
 use Rattle.jl_text.specs.inner.Seeking.{HasNone}
 use Rattle.jl_text.proofs.search.try_each.Given as goal
 
