@@ -1,0 +1,33 @@
+use Rattle.std.proofs.Common.{◌≡◌, sym, ap, ◌∙◌, ◌<◌, length, Some}
+use Rattle.std.specs.Option.{option_copied, option_map}
+use Rattle.std.proofs.Math.ListN.{get_or}
+use Rattle.std.proofs.lemmas.Bool.{false≢true}
+use Rattle.std.proofs.lemmas.Option.{get_or_from_slice_get}
+use Rattle.jl_named.specs.declared.named_list.Named.{Named}
+use Rattle.jl_named.proofs.PlaceLemmas.{missing, stands}
+use Rattle.jl_named.proofs.named_list.NamedList.get.Goals as goal
+
+pub returns-in_err-at-clause-value : goal.returns-in_err-at-clause-value
+returns-in_err-at-clause-value g c =
+    ap option_copied c.from_residual.ensures
+    ∙ sym (missing c.args.name.now c.args.self.now (sym c.in_err-at.ensures.value))
+
+pub returns-in_err-entry-clause-value : goal.returns-in_err-entry-clause-value
+returns-in_err-entry-clause-value g c =
+    let s = stands c.args.name.now c.args.self.now c.in_ok-at.at (sym c.in_ok-at.ensures.value) in
+    let items : c.deref.result.now ≡ c.args.self.now = c.deref.ensures.value ∙ c.self.view_is in
+    let within : c.in_ok-at.at < length c.deref.result.now = rw items s.within in
+    absurd (false≢true (c.in_err-entry.ensures.lookup.2 within))
+
+pub returns-clause-value : goal.returns-clause-value
+returns-clause-value g c =
+    let xs = c.args.self.now in
+    let at = c.in_ok-at.at in
+    let s = stands c.args.name.now xs at (sym c.in_ok-at.ensures.value) in
+    let items : c.deref.result.now ≡ xs = c.deref.ensures.value ∙ c.self.view_is in
+    let same : c.in_ok-entry.entry.now ≡ s.entry =
+    c.in_ok-entry.ensures.lookup.1
+    ∙ ap (λ l. get_or l at c.in_ok-entry.entry.now) items
+    ∙ get_or_from_slice_get xs at s.entry c.in_ok-entry.entry.now s.held in
+    ap (λ (x : Named g.row.T.Denot). Some x.item) same
+    ∙ sym (ap (option_map (λ (x : Named g.row.T.Denot). x.item)) s.found)
