@@ -5,6 +5,7 @@ use Rattle.std.specs.Prelude.{◌⊎◌, IsNone}
 use Rattle.std.specs.BTreeMap.{BTreeMap, get, is_at}
 use Rattle.std.specs.Cmp.Lexicographic.{slice_cmp}
 use Rattle.std.specs.List.{position_from}
+use Rattle.std.specs.Option.{option_map}
 use Rattle.std.specs.Ordering.{nat_cmp}
 use Rattle.std.proofs.Math.ListN.{get_or, set}
 use Rattle.std.proofs.lemmas.List.{drop_more, length-map}
@@ -14,6 +15,14 @@ use Rattle.jl_named.specs.declared.named_list.Named.{Named}
 use Rattle.jl_named.specs.Named.{has_name, item_named, with_item}
 use Rattle.jl_named.specs.inner.Placed.{place_of, ArePlacesOf, IsKept}
 use Rattle.jl_named.proofs.PlaceLemmas.{none_named, place_pushed, place_written, pushed_apart, stands, written_apart}
+
+-- the item at the place of a name is what is found under it
+pub found : {T : Type 0} (name : List ℕ) (xs : List (Named T)) (at : ℕ) (e : Named T) → place_of name xs ≡ Some at
+    → e ≡ get_or xs at e → Some e.item ≡ item_named name xs
+found {T} name xs at e is here =
+    let s = stands name xs at is in
+    ap (λ (x : Named T). Some x.item) (here ∙ get_or_from_slice_get xs at s.entry e s.held)
+    ∙ sym (ap (option_map (λ (x : Named T). x.item)) s.found)
 
 -- an item is written at the place of its name
 pub written : {T : Type 0} (name : List ℕ) (xs : List (Named T)) (places : BTreeMap (List ℕ) ℕ) (at : ℕ) (e : Named T)

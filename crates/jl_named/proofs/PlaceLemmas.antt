@@ -30,20 +30,20 @@ apart_from name a b differ is_a =
     false_unless (has_name name b) (λ is_b.
     differ ((bytes_eq-Decides a.name name).0 is_a ∙ sym ((bytes_eq-Decides b.name name).0 is_b)))
 
-no_other : {T : Type 0} (name : List ℕ) (x : Named T) (xs : List (Named T)) → AreApart (x ∷ xs)
+pub no_other : {T : Type 0} (name : List ℕ) (x : Named T) (xs : List (Named T)) → AreApart (x ∷ xs)
     → has_name name x ≡ true → Others name xs
 no_other name x xs apart fits = λ k d within.
     apart_from name x (get_or xs k d) (apart 0 (suc k) d (omega arith) (omega arith)) fits
 
-rest_apart : {T : Type 0} (x : Named T) (xs : List (Named T)) → AreApart (x ∷ xs) → AreApart xs
+pub rest_apart : {T : Type 0} (x : Named T) (xs : List (Named T)) → AreApart (x ∷ xs) → AreApart xs
 rest_apart x xs apart = λ i j d before within. apart (suc i) (suc j) d (omega arith) (omega arith)
 
-rest_others : {T : Type 0} (name : List ℕ) (x : Named T) (xs : List (Named T)) → Others name (x ∷ xs)
+pub rest_others : {T : Type 0} (name : List ℕ) (x : Named T) (xs : List (Named T)) → Others name (x ∷ xs)
     → Others name xs
 rest_others name x xs others = λ k d within. others (suc k) d (omega arith)
 
 -- nothing is written under a name that is not there
-none_written : {T : Type 0} (name : List ℕ) (w : T) (xs : List (Named T)) → Others name xs → xs ≡ with_item xs name w
+pub none_written : {T : Type 0} (name : List ℕ) (w : T) (xs : List (Named T)) → Others name xs → xs ≡ with_item xs name w
 none_written name w [] others = refl
 none_written name w (x ∷ xs) others =
     let here : has_name name x ≡ false = others 0 x (omega arith) in

@@ -18,9 +18,9 @@ returns-clause-ok g c =
     let xs = c.args.entries.now in
     let placed : 8 ≤ length xs → ArePlacesOf xs c.if-count-eq-FEW.places =
     λ many. elim c.if-count-eq-FEW.branch [
-      then-count-eq-FEW+in_ok-places w ↦ rw w.places-is w.in_ok-places.ensures
-    | else-count-eq-FEW w ↦
-        rw w.places-is (c.requires.kept.placed (omega (arith, many, w.if-count-eq-FEW.false)))
+      | then-count-eq-FEW+in_ok-places w ↦ rw w.places-is w.in_ok-places.ensures
+      | else-count-eq-FEW w ↦
+          rw w.places-is (c.requires.kept.placed (omega (arith, many, w.if-count-eq-FEW.false)))
     ] in
     λ item. pushed xs (record { name = c.args.name.now; item = item }) c.insert.new.self c.args.places.now
     c.requires.kept c.requires.new

@@ -24,5 +24,5 @@ loop-at-preserved g c =
     (c.in_ok-share.ensures ∙ ap (λ (x : Named g.row.T.Denot). x.name) (sym c.index-entries-at.is)) in (
       omega (arith, c.loop-at.invariant.0),
       placed_before xs at c.index-entries-at.result c.loop-at.places c.insert.new.self
-      (omega (arith, c.loop-at.invariant.0, c.loop-at-test.true)) c.index-entries-at.is placed updates,
+          (omega (arith, c.loop-at.invariant.0, c.loop-at-test.true)) c.index-entries-at.is placed updates,
     )

@@ -4,6 +4,7 @@ use Rattle.std.proofs.Math.ListN.{get_or}
 use Rattle.std.proofs.lemmas.Bool.{false≢true}
 use Rattle.std.proofs.lemmas.Option.{get_or_from_slice_get}
 use Rattle.jl_named.specs.declared.named_list.Named.{Named}
+use Rattle.jl_named.proofs.KeptLemmas.{found}
 use Rattle.jl_named.proofs.PlaceLemmas.{missing, stands}
 use Rattle.jl_named.proofs.named_list.NamedList.get.Goals as goal
 
@@ -21,13 +22,6 @@ returns-in_err-entry-clause-value g c =
 
 pub returns-clause-value : goal.returns-clause-value
 returns-clause-value g c =
-    let xs = c.args.self.now in
-    let at = c.in_ok-at.at in
-    let s = stands c.args.name.now xs at (sym c.in_ok-at.ensures.value) in
-    let items : c.deref.result.now ≡ xs = c.deref.ensures.value ∙ c.self.view_is in
-    let same : c.in_ok-entry.entry.now ≡ s.entry =
-    c.in_ok-entry.ensures.lookup.1
-    ∙ ap (λ l. get_or l at c.in_ok-entry.entry.now) items
-    ∙ get_or_from_slice_get xs at s.entry c.in_ok-entry.entry.now s.held in
-    ap (λ (x : Named g.row.T.Denot). Some x.item) same
-    ∙ sym (ap (option_map (λ (x : Named g.row.T.Denot). x.item)) s.found)
+    let items : c.deref.result.now ≡ c.args.self.now = c.deref.ensures.value ∙ c.self.view_is in
+    found c.args.name.now c.args.self.now c.in_ok-at.at c.in_ok-entry.entry.now (sym c.in_ok-at.ensures.value)
+    (c.in_ok-entry.ensures.lookup.1 ∙ ap (λ l. get_or l c.in_ok-at.at c.in_ok-entry.entry.now) items)

@@ -3,7 +3,7 @@ use Rattle.std.specs.Option.{option_copied_mut, option_map}
 use Rattle.std.proofs.lemmas.Bool.{false≢true}
 use Rattle.std.proofs.lemmas.Option.{get_or_from_slice_get}
 use Rattle.jl_named.specs.declared.named_list.Named.{Named}
-use Rattle.jl_named.proofs.KeptLemmas.{ends_alike, written}
+use Rattle.jl_named.proofs.KeptLemmas.{ends_alike, found, written}
 use Rattle.jl_named.proofs.PlaceLemmas.{missing, stands}
 use Rattle.jl_named.proofs.named_list.NamedList.get_mut.Goals as goal
 
@@ -31,21 +31,16 @@ invariant_of-self-lent g c =
 
 pub returns : goal.returns
 returns g c =
-    let inside = c.self.inside in
+    let xs = c.self.inside.entries.items in
     let at = c.in_ok-at.at in
-    let placed = sym c.in_ok-at.ensures.value in
-    let s = stands c.args.name.now inside.entries.items at placed in
-    let same : c.in_ok-entry.entry.now ≡ s.entry =
-    c.in_ok-entry.ensures.value
-    ∙ get_or_from_slice_get inside.entries.items at s.entry c.in_ok-entry.entry.now s.held in
-    let made = λ (w : g.row.T.Denot). (written c.args.name.now inside.entries.items inside.places at
-    c.in_ok-entry.entry.now w c.self.invariant placed c.in_ok-entry.ensures.value).0 in
+    let made = λ (w : g.row.T.Denot). (written c.args.name.now xs c.self.inside.places at c.in_ok-entry.entry.now w
+    c.self.invariant (sym c.in_ok-at.ensures.value) c.in_ok-entry.ensures.value).0 in
     rw (← c.self.view_is) (
       ends_alike made,
       record {
         comes_back = tt;
-        value = ap (λ (x : Named g.row.T.Denot). Some x.item) same
-            ∙ sym (ap (option_map (λ (x : Named g.row.T.Denot). x.item)) s.found);
+        value = found c.args.name.now xs at c.in_ok-entry.entry.now (sym c.in_ok-at.ensures.value)
+            c.in_ok-entry.ensures.value;
         kept = c.self.invariant.apart;
       },
     )
