@@ -1,5 +1,5 @@
 -- A list stays well kept, and what it is after a change.
-use Rattle.std.proofs.Common.{◌≡◌, refl, sym, ap, ◌∙◌, inl, ℕ, ◌+◌, ◌-◌, ◌<◌, ◌≤◌, cond, List, [], ◌∷◌, ◌++◌, Some, length}
+use Rattle.std.proofs.Common.{◌≡◌, sym, ap, ◌∙◌, inl, ℕ, ◌+◌, ◌<◌, ◌≤◌, cond, List, [], ◌∷◌, ◌++◌, Some, length}
 use Rattle.std.proofs.Common.{drop, arith, length-append}
 use Rattle.std.specs.Prelude.{◌⊎◌, IsNone}
 use Rattle.std.specs.BTreeMap.{BTreeMap, get, is_at}
@@ -13,7 +13,7 @@ use Rattle.std.proofs.lemmas.Map.Text.{is_eq-slice_cmp}
 use Rattle.std.proofs.lemmas.Option.{get_or_from_slice_get}
 use Rattle.jl_named.specs.declared.named_list.Named.{Named}
 use Rattle.jl_named.specs.Named.{has_name, item_named, with_item}
-use Rattle.jl_named.specs.inner.Placed.{place_of, ArePlacesOf, IsKept}
+use Rattle.jl_named.specs.inner.Placed.{place_of, IsKept}
 use Rattle.jl_named.proofs.PlaceLemmas.{none_named, place_pushed, place_written, pushed_apart, stands, written_apart}
 
 -- the item at the place of a name is what is found under it

@@ -1,24 +1,19 @@
 -- Where names stand in a list, and what stands there.
 use Rattle.std.proofs.Common.{◌≡◌, refl, sym, ap, ◌∙◌, ℕ, zero, suc, ◌+◌, ◌<◌, Bool, true, false, cond, List, [], ◌∷◌}
-use Rattle.std.proofs.Common.{◌++◌, Option, Some, None, length, map, drop, arith}
+use Rattle.std.proofs.Common.{◌++◌, Some, None, length, arith}
 use Rattle.std.specs.Prelude.{◌≢◌, IsNone, slice_get}
-use Rattle.std.specs.BTreeMap.{is_at}
-use Rattle.std.specs.Cmp.Lexicographic.{slice_cmp}
 use Rattle.std.specs.List.{All, find, position_from}
 use Rattle.std.specs.Option.{option_map}
-use Rattle.std.specs.Ordering.{nat_cmp}
-use Rattle.std.specs.Str.{bytes_eq}
 use Rattle.std.proofs.Math.ListN.{get_or, set}
 use Rattle.std.proofs.lemmas.Bool.{false≢true}
-use Rattle.std.proofs.lemmas.List.{get_or-map, length-map, drop_more}
+use Rattle.std.proofs.lemmas.List.{get_or-map, length-map}
 use Rattle.std.proofs.lemmas.List.Quantifiers.{all_pairs_push}
-use Rattle.std.proofs.lemmas.Map.Text.{is_eq-slice_cmp}
 use Rattle.std.proofs.lemmas.Option.{same_Some, none-some}
 use Rattle.std.proofs.lemmas.Slice.Eq.{bytes_eq-Decides}
 use Rattle.jl_text.proofs.SearchLemmas.{false_unless}
 use Rattle.jl_named.specs.declared.named_list.Named.{Named}
 use Rattle.jl_named.specs.Named.{has_name, item_named, with_item, AreApart}
-use Rattle.jl_named.specs.inner.Placed.{place_of, ArePlacesOf}
+use Rattle.jl_named.specs.inner.Placed.{place_of}
 
 -- items of one name
 abbrev pub Others : {T : Type 0} → List ℕ → List (Named T) → Type 0

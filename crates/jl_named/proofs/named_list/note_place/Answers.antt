@@ -1,8 +1,8 @@
-use Rattle.std.proofs.Common.{◌≡◌, ◌∙◌, ap, ◌≤◌, Some, cond, length, arith}
+use Rattle.std.proofs.Common.{◌∙◌, ap, ◌≤◌, Some, cond, length, arith}
 use Rattle.std.specs.BTreeMap.{get, is_at}
 use Rattle.std.specs.Cmp.Lexicographic.{slice_cmp}
 use Rattle.std.specs.Ordering.{nat_cmp}
-use Rattle.jl_named.specs.inner.Placed.{place_of, ArePlacesOf}
+use Rattle.jl_named.specs.inner.Placed.{ArePlacesOf}
 use Rattle.jl_named.proofs.KeptLemmas.{pushed}
 use Rattle.jl_named.proofs.named_list.note_place.Goals.{then-count-eq-FEW+in_ok-places, else-count-eq-FEW}
 use Rattle.jl_named.proofs.named_list.note_place.Goals as goal

@@ -1,9 +1,7 @@
-use Rattle.std.proofs.Common.{◌≡◌, sym, ap, ◌∙◌, ◌<◌, length, Some}
-use Rattle.std.specs.Option.{option_copied, option_map}
+use Rattle.std.proofs.Common.{◌≡◌, sym, ap, ◌∙◌, ◌<◌, length}
+use Rattle.std.specs.Option.{option_copied}
 use Rattle.std.proofs.Math.ListN.{get_or}
 use Rattle.std.proofs.lemmas.Bool.{false≢true}
-use Rattle.std.proofs.lemmas.Option.{get_or_from_slice_get}
-use Rattle.jl_named.specs.declared.named_list.Named.{Named}
 use Rattle.jl_named.proofs.KeptLemmas.{found}
 use Rattle.jl_named.proofs.PlaceLemmas.{missing, stands}
 use Rattle.jl_named.proofs.named_list.NamedList.get.Goals as goal

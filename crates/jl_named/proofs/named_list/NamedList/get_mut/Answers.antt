@@ -1,8 +1,5 @@
-use Rattle.std.proofs.Common.{◌≡◌, sym, ap, ◌∙◌, refl, Some, arith}
-use Rattle.std.specs.Option.{option_copied_mut, option_map}
+use Rattle.std.proofs.Common.{sym, refl, arith}
 use Rattle.std.proofs.lemmas.Bool.{false≢true}
-use Rattle.std.proofs.lemmas.Option.{get_or_from_slice_get}
-use Rattle.jl_named.specs.declared.named_list.Named.{Named}
 use Rattle.jl_named.proofs.KeptLemmas.{ends_alike, found, written}
 use Rattle.jl_named.proofs.PlaceLemmas.{missing, stands}
 use Rattle.jl_named.proofs.named_list.NamedList.get_mut.Goals as goal
