@@ -40,7 +40,7 @@ impl Store {
         Ok(Store {
             alloc,
             heap: Heap::new(alloc, keys),
-            environments: Environments::new(alloc, keys)?,
+            environments: Environments::new(alloc)?,
         })
     }
 
