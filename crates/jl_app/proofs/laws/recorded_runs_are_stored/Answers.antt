@@ -7,5 +7,6 @@ returns c = recorded_are_stored (record {
   rules = c.off_names_rules.ensures;
   few_rows = c.few_ids.ensures;
   rows = c.hooks_have_rows.ensures;
+  values = c.hooks_see_values.ensures;
   few_hooks = c.hooks_take_steps.ensures.meant;
 })
