@@ -24,6 +24,7 @@ pub mod WithoutMisuse
 pub mod StandsAlone
 pub mod StoredRuns
 pub mod OffInOrder
+pub mod SeenClasses
 pub mod RecordedRuns
 pub mod ReplayedRuns
 pub mod Headline

@@ -126,14 +126,14 @@ module _ (units : List ℕ) (p : Program Span) where
 
   same_recorded : (r : mean.Run) (operations : List Operation) (d e : Due) → IsRecorded units p r operations d
       → IsRecorded units p r operations e → d ≡ e
-  same_recorded r operations _ _ (recorded cs are few) (recorded ds too less) =
+  same_recorded r operations _ _ (recorded cs are stored few) (recorded ds too kept less) =
       ap (λ (cs : List Comment). text_only (ending_status (ending_of r)) (record_bytes units p cs operations))
       (comments_are_unique units cs ds are too)
-  same_recorded r operations _ _ (recorded cs are few) (too_long_record ds too more) =
+  same_recorded r operations _ _ (recorded cs are stored few) (too_long_record ds too more) =
       let same = ap (λ (cs : List Comment). length (record_bytes units p cs operations))
       (comments_are_unique units cs ds are too) in
       absurd (omega (arith, same, few, more))
-  same_recorded r operations _ _ (too_long_record cs are more) (recorded ds too few) =
+  same_recorded r operations _ _ (too_long_record cs are more) (recorded ds too stored few) =
       let same = ap (λ (cs : List Comment). length (record_bytes units p cs operations))
       (comments_are_unique units cs ds are too) in
       absurd (omega (arith, same, few, more))

@@ -130,11 +130,11 @@ module _ (units : List ℕ) (p : Program Span) (own woven : mean.Run) (steps : �
 
   same_recorded : (hooks operations : List Operation) → hooks ≡ operations → (due : Due)
       → IsRecorded units p woven hooks due → IsRecorded units p own operations due
-  same_recorded hooks operations is _ (recorded comments are few) =
+  same_recorded hooks operations is _ (recorded comments are stored few) =
       subst (λ ops. IsRecorded units p own ops
       (text_only (ending_status (ending_of woven)) (record_bytes units p comments hooks))) is
       (subst (λ e. IsRecorded units p own hooks
-      (text_only (ending_status e) (record_bytes units p comments hooks))) (sym end) (recorded comments are few))
+      (text_only (ending_status e) (record_bytes units p comments hooks))) (sym end) (recorded comments are stored few))
   same_recorded hooks operations is _ (too_long_record comments are many) =
       subst (λ ops. IsRecorded units p own ops (refused_only (codes "RecordTooLong"))) is
       (too_long_record comments are many)

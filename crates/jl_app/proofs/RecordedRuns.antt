@@ -1,5 +1,5 @@
--- The run that `record` writes of an accepted script has rows with places, what is switched off in order, and
--- operations that have rows of their kinds.
+-- The run that `record` tells of, of an accepted script, has rows with places, what is switched off in order, and
+-- operations that have rows of their kinds and see their values with their classes.
 use Rattle.std.proofs.Common.{◌≡◌, ◌∙◌, ◌*◌, ◌+◌, ◌≤◌, ◌<◌, ◌^◌, ℕ, suc, All, List, [], ◌∷◌, Some, ap, arith}
 use Rattle.std.proofs.Common.{length, option_map, refl, subst, sym}
 use Rattle.std.proofs.lemmas.List.{length-map}
@@ -17,8 +17,10 @@ use Rattle.jl_op.specs.Kinds.{kind_of}
 use Rattle.jl_op.specs.Map.{BeginsIn, MapRow}
 use Rattle.jl_op.specs.Operations.{Operation}
 use Rattle.jl_operation_rows.specs.Rows.{HasRow}
+use Rattle.jl_operation_rows.specs.Seeing.{SeesValues}
 use Rattle.jl_record.specs.Recording.{rows_of}
 use Rattle.jl_record.specs.Records.{IsOperation, IsPlaceNumber, IsRow, IsStored, Row, kind_at}
+use Rattle.jl_record.specs.Storing.{CanBeStored}
 use Rattle.jl_report.specs.Laws.{OffNamesRules}
 use Rattle.jl_scope.specs.EarlyErrors.{early_errors_of}
 use Rattle.jl_simulation.specs.Weaving.{woven_program}
@@ -30,10 +32,12 @@ use Rattle.jl_token.specs.Tokens.{Tokens}
 use Rattle.jl_token.specs.declared.token.Comment.{Comment}
 use Rattle.jl_token.specs.declared.token.Token.{Token}
 use Rattle.jl_app.specs.Accepting.{IsAccepted}
-use Rattle.jl_app.specs.RecordedRuns.{HasFacts, RecordedRunsAreStored, recorded_operations, recorded_run}
+use Rattle.jl_app.specs.Recording.{stored_run}
 use Rattle.jl_app.specs.WovenRuns.{woven_budget, woven_run}
+use Rattle.jl_app.specs.inner.RecordedRuns.{RecordedRunsAreStored, recorded_operations}
 use Rattle.jl_app.proofs.Legal.{nothing_wrong}
 use Rattle.jl_app.proofs.OffInOrder.{each, few_off, off_are_stored, off_in_order}
+use Rattle.jl_app.proofs.SeenClasses.{have_classes}
 use Rattle.jl_app.proofs.Sizes.{few_accepted_tokens}
 use Rattle.jl_read_back.proofs.Bytes.{units_within}
 
@@ -77,11 +81,14 @@ kind_there units p o has =
     ∙ ap (option_map (place_of_row (line_table units))) has.row)
 
 operations_are : (units : List ℕ) (p : Program Span) (operations : List Operation)
-    → AllByRecursion (HasRow p) operations → AllByRecursion HasFacts operations
+    → AllByRecursion (HasRow p) operations → AllByRecursion SeesValues operations
+    → AllByRecursion (λ o. CanBeStored o.1) operations
     → AllByRecursion (IsOperation (rows_of (line_table units) (id_map p))) operations
-operations_are units p [] rows facts = tt
-operations_are units p (o ∷ operations) rows facts =
-    ((kind_there units p o rows.0, facts.0), operations_are units p operations rows.1 facts.1)
+operations_are units p [] rows values can = tt
+operations_are units p (o ∷ operations) rows values can = (
+  (kind_there units p o rows.0, can.0 (have_classes o values.0)),
+  operations_are units p operations rows.1 values.1 can.1,
+)
 
 -- the hooks of the run are those of what the woven script means
 same_hooks : (p : Program Span) (budget : ℕ) → recorded_operations p budget
@@ -105,6 +112,9 @@ pub record Laws : Type 0 where
   pub rows : (chosen : Kinds) (ts : List Token) (limit : ℕ) (p : Program Span) → Reads ts limit p
       → early_errors_of p ≡ [] → length ts < 1073741823 → (n : ℕ)
       → All (HasRow p) (world_of (mean.mean chosen (woven_program chosen p) n)).hooks
+  pub values : (chosen : Kinds) (ts : List Token) (limit : ℕ) (p : Program Span) → Reads ts limit p
+      → early_errors_of p ≡ [] → length ts < 1073741823 → (n : ℕ)
+      → All SeesValues (world_of (mean.mean chosen (woven_program chosen p) n)).hooks
   pub few_hooks : (chosen : Kinds) (w : Program (Unit {0})) (n : ℕ)
       → length (world_of (mean.mean chosen w n)).hooks ≤ steps_taken n (mean.mean chosen w n)
 
@@ -127,6 +137,13 @@ module _ (laws : Laws) (bytes : List ℕ) (p : Program Span) (is : IsAccepted by
       (laws.rows every_kind is.tokens 200 p is.read (nothing_wrong bytes p is) (few_accepted_tokens bytes p is)
       (woven_budget budget)))
 
+  see_values : AllByRecursion SeesValues (recorded_operations p budget)
+  see_values =
+      each SeesValues (recorded_operations p budget)
+      (subst (λ (l : List Operation). All SeesValues l) (sym same)
+      (laws.values every_kind is.tokens 200 p is.read (nothing_wrong bytes p is) (few_accepted_tokens bytes p is)
+      (woven_budget budget)))
+
   few_operations : budget ≤ 1000000000 → length (recorded_operations p budget) < 2 ^ 64
   few_operations least =
       let run = mean.mean every_kind (woven_program every_kind p) (woven_budget budget) in
@@ -135,9 +152,9 @@ module _ (laws : Laws) (bytes : List ℕ) (p : Program Span) (is : IsAccepted by
       let count = ap (λ (l : List Operation). length l) same in
       omega (arith, taken, few, count, least)
 
-  is_stored : budget ≤ 1000000000 → AllByRecursion HasFacts (recorded_operations p budget)
-      → IsStored (recorded_run (units_of bytes) p comments budget)
-  is_stored least facts = record {
+  is_stored : budget ≤ 1000000000 → AllByRecursion (λ o. CanBeStored o.1) (recorded_operations p budget)
+      → IsStored (stored_run (units_of bytes) p comments (recorded_operations p budget))
+  is_stored least can = record {
     rows = rows_are (units_of bytes) short (id_map p)
         (each (BeginsIn (line_table (units_of bytes))) (id_map p)
         (laws.places (units_of bytes) is.tokens 200 p is.lexed is.read));
@@ -145,9 +162,9 @@ module _ (laws : Laws) (bytes : List ℕ) (p : Program Span) (is : IsAccepted by
     off = off_are_stored laws.rules (units_of bytes) comments short;
     off_in_order = off_in_order (units_of bytes) comments;
     few_off = few_off laws.rules (units_of bytes) comments short;
-    operations = operations_are (units_of bytes) p (recorded_operations p budget) have_rows facts;
+    operations = operations_are (units_of bytes) p (recorded_operations p budget) have_rows see_values can;
     few_operations = few_operations least;
   }
 
 pub recorded_are_stored : Laws → RecordedRunsAreStored
-recorded_are_stored laws bytes p is comments budget least facts = is_stored laws bytes p is comments budget least facts
+recorded_are_stored laws bytes p is comments budget least can = is_stored laws bytes p is comments budget least can

@@ -21,7 +21,6 @@ pub mod Covering
 pub mod Telling
 pub mod Replaying
 pub mod StoredRuns
-pub mod RecordedRuns
 pub mod Answers
 pub mod Endings
 pub mod Headline

@@ -6,6 +6,7 @@ use Rattle.jl_meaning.specs.Mean as mean
 use Rattle.jl_op.specs.IdMap.{id_map}
 use Rattle.jl_op.specs.Operations.{Operation}
 use Rattle.jl_record.specs.Recording.{bytes_of_run, run_of}
+use Rattle.jl_record.specs.Records.{IsStored, Stored}
 use Rattle.jl_report.specs.Off.{off_by}
 use Rattle.jl_text.specs.Places.{line_table}
 use Rattle.jl_text.specs.declared.span.Span.{Span}
@@ -15,15 +16,20 @@ use Rattle.jl_app.specs.Due.{Due, refused_only, text_only}
 use Rattle.jl_app.specs.Forms.{most_record_bytes}
 use Rattle.jl_app.specs.OwnRuns.{ending_status}
 
--- the text of a run with these operations of the program p, which stands in a source of these units with these comments
-abbrev pub record_bytes : (units : List ℕ) → Program Span → List Comment → List Operation → List ℕ
-record_bytes units p comments operations =
-    bytes_of_run (run_of (line_table units) (id_map p) (off_by units comments) operations)
+-- a run with these operations of the program p, which stands in a source of these units with these comments
+abbrev pub stored_run : (units : List ℕ) → Program Span → List Comment → List Operation → Stored
+stored_run units p comments operations =
+    run_of (line_table units) (id_map p) (off_by units comments) operations
 
--- what `record` answers to a run that ended as r, with these operations: its text, or that it is too long
+-- and its text
+abbrev pub record_bytes : (units : List ℕ) → Program Span → List Comment → List Operation → List ℕ
+record_bytes units p comments operations = bytes_of_run (stored_run units p comments operations)
+
+-- what `record` answers to a run that ended as r, with these operations: it is a stored run, and this is its text; or
+-- the text is too long
 pub data IsRecorded (units : List ℕ) (p : Program Span) (r : mean.Run) (operations : List Operation) : Due → Type 0
   where
-    recorded : (comments : List Comment) → Comments units comments
+    recorded : (comments : List Comment) → Comments units comments → IsStored (stored_run units p comments operations)
         → length (record_bytes units p comments operations) ≤ most_record_bytes
         → IsRecorded units p r operations
         (text_only (ending_status (ending_of r)) (record_bytes units p comments operations))

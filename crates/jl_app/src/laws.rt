@@ -3,12 +3,12 @@ ghost use Rattle.std.specs.Prelude.{ℕ, List};
 ghost use Rattle.jl_ast.specs.Tree.{Program};
 ghost use Rattle.jl_op.specs.Chosen.{Kinds};
 ghost use Rattle.jl_text.specs.declared.span.Span.{Span};
+ghost use Rattle.jl_app.specs.inner.RecordedRuns.{RecordedRunsAreStored};
 ghost use Rattle.jl_app.specs.inner.Woven.{IsWovenWell};
 ghost use Rattle.jl_app.specs.Accepting.{IsAccepted, OneReading};
 ghost use Rattle.jl_app.specs.ListedMaps.{SourceMapsAreListed};
 ghost use Rattle.jl_app.specs.Misuse.{AcceptedScriptsRunWithoutMisuse};
 ghost use Rattle.jl_app.specs.OneAnswer.{OneAnswer};
-ghost use Rattle.jl_app.specs.RecordedRuns.{RecordedRunsAreStored};
 ghost use Rattle.jl_app.specs.Refusals.{NeverBoth, AcceptedOrRefused};
 ghost use Rattle.jl_app.specs.ReplayedRuns.{ReplayReportsAsLint};
 ghost use Rattle.jl_app.specs.StandsAlone.{TextStandsAlone};
@@ -16,7 +16,7 @@ ghost use Rattle.jl_app.specs.StoredRuns.{StoredRunsReplay};
 
 use jl_hook_bound::laws::hooks_take_steps;
 use jl_meaning::laws::{kept_hooks, more_budget};
-use jl_operation_rows::laws::{hooks_have_rows, rows_lie_in_the_text};
+use jl_operation_rows::laws::{hooks_have_rows, hooks_see_values, rows_lie_in_the_text};
 use jl_read_back::laws::{
     woven_bytes_are_bounded, woven_keeps_rules, woven_reads_back, woven_text_is_bounded,
     woven_units_are_small,
@@ -117,27 +117,26 @@ pub fn stored_runs_replay()
     one_record();
 }
 
-/// The run that `record` writes of an accepted script, with a budget of at most 1,000,000,000, is a stored run, where
-/// what was seen at its operations can be stored. Its rows have places, what is switched off is in order, and each
-/// operation has a row of its kind.
-pub fn recorded_runs_are_stored()
+/// The run that `record` tells of, of an accepted script with a budget of at most 1,000,000,000, is a stored run, if its
+/// operations can be stored. Its rows have places, what is switched off is in order, and each operation has a row of
+/// its kind and sees its values with their classes.
+pub(crate) fn recorded_runs_are_stored()
     ensures { RecordedRunsAreStored }
 {
     off_names_rules();
     rows_lie_in_the_text();
     few_ids();
     hooks_have_rows();
+    hooks_see_values();
     hooks_take_steps::<()>();
 }
 
-/// What is due to `replay` on what `record` writes of an accepted script has the lines that `lint` reports of it,
-/// whatever rules are chosen: where its own run is over within the budget, what was seen at its operations can be
-/// stored, and the text is no longer than `replay` reads.
+/// What is due to `replay` on what is due to `record` on an accepted script, unless that is a refusal, is the report that
+/// `lint` gives of the script, whatever rules are chosen, where its own run is over within the budget.
 pub fn replay_reports_as_lint()
     ensures { ReplayReportsAsLint }
 {
     scripts_are_woven_well();
-    recorded_runs_are_stored();
     stored_runs_replay();
     rows_lie_in_the_text();
 }

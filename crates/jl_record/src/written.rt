@@ -1,10 +1,13 @@
 // Facts of operations as they are written.
 ghost use Rattle.std.specs.Prelude.{◌≡◌, ◌++◌, OnOk, length};
 ghost use Rattle.std.specs.Fmt.{decimal};
+ghost use Rattle.std.specs.List.{AllByRecursion};
 ghost use Rattle.jl_num.specs.Digits.{number_text};
+ghost use Rattle.jl_num.specs.Number.{IsNumber};
 ghost use Rattle.jl_text.specs.Quoted.{quote};
 ghost use Rattle.jl_record.specs.Bounded.{Appends};
-ghost use Rattle.jl_record.specs.Facts.{truth_mark, seen_mark, seen_marks, callee_mark};
+ghost use Rattle.jl_record.specs.Facts.{truth_mark, seen_mark, seen_marks, callee_mark, AreSeen, IsCallee, IsSeen};
+ghost use Rattle.jl_record.specs.Storing.{HasItsClass};
 
 use crate::bounded::Bounded;
 use crate::named::Named;
@@ -37,6 +40,7 @@ pub(crate) fn write_name(alloc: Global, text: &mut Bounded, name: &str) -> Resul
 fn write_number(text: &mut Bounded, number: Num) -> Result<(), AllocError>
     ensures limit { text.new.limit ≡ text.old.limit }
     ensures holds { OnOk result (Appends text.old text.new (number_text number 10)) }
+    ensures number { IsNumber number }
 {
     let Some(whole) = number.value() else {
         return text.word("NaN");
@@ -52,6 +56,7 @@ fn write_number(text: &mut Bounded, number: Num) -> Result<(), AllocError>
 pub(crate) fn write_value(alloc: Global, text: &mut Bounded, seen: &Seen) -> Result<(), AllocError>
     ensures limit { text.new.limit ≡ text.old.limit }
     ensures holds { OnOk result (Appends text.old text.new (seen_mark seen.now)) }
+    ensures fact { OnOk result (HasItsClass seen.now → IsSeen seen.now) }
 {
     match &seen.value {
         Value::Undefined => text.word("u"),
@@ -79,6 +84,7 @@ pub(crate) fn write_callee(
 ) -> Result<(), AllocError>
     ensures limit { text.new.limit ≡ text.old.limit }
     ensures holds { OnOk result (Appends text.old text.new (callee_mark callee)) }
+    ensures fact { OnOk result (IsCallee callee) }
 {
     match callee {
         Callee::Script {
@@ -107,6 +113,7 @@ pub(crate) fn write_values(
 ) -> Result<(), AllocError>
     ensures limit { text.new.limit ≡ text.old.limit }
     ensures holds { OnOk result (Appends text.old text.new (decimal (length values.now) ++ seen_marks values.now)) }
+    ensures fact { OnOk result (AllByRecursion HasItsClass values.now → AreSeen values.now) }
 {
     text.number(values.len() as u64)?;
     for value in values {

@@ -1,14 +1,17 @@
-use Rattle.std.proofs.Common.{◌∙◌, ◌≤◌, ap, length, sym, subst, refl}
+use Rattle.std.proofs.Common.{◌≡◌, ◌∙◌, ◌≤◌, ap, length, sym, subst, refl}
 use Rattle.std.specs.Prelude.{IfSome}
 use Rattle.std.proofs.lemmas.Result.{IfOk-weaker}
 use Rattle.jl_ast.specs.View.{view}
 use Rattle.jl_op.specs.Chosen.{every_kind}
 use Rattle.jl_text.specs.Encoding.{units_of}
 use Rattle.jl_token.specs.Tokens.{Tokens}
+use Rattle.jl_app.specs.Accepting.{IsRead}
 use Rattle.jl_app.specs.Answers.{canonical_text, counted, ended, ended_alone, ended_woven, execute_due, functions_line}
 use Rattle.jl_app.specs.Answers.{instrument_due, listed, listed_map, refused, text, trace_due, written}
 use Rattle.jl_app.specs.Due.{refused_only}
+use Rattle.jl_app.specs.Forms.{form_of_command}
 use Rattle.jl_app.specs.WovenRuns.{woven_budget}
+use Rattle.jl_app.specs.declared.form.Form.TheVariants as forms
 use Rattle.jl_command.specs.Asked as asked
 use Rattle.jl_app.specs.SourceMapping.{IsMappedBack}
 use Rattle.jl_app.specs.Telling.{IsToldOfWoven, told_run}
@@ -234,10 +237,13 @@ record_run-requires-clause-budget g c =
     let meant = c.requires.meant in
     (asked_record meant.0 (subst (λ (x : Command). Means x meant.0) c.in-Record.is meant.3)).1
 
-pub record_run-requires-clause-lexed : goal.record_run-requires-clause-lexed
-record_run-requires-clause-lexed g c =
-    let is = c.in-Ok.ensures.accepted in
-    (is.0.tokens, subst (λ us. Tokens us is.0.tokens) (sym is.1) is.0.lexed)
+pub record_run-requires-clause-script : goal.record_run-requires-clause-script
+record_run-requires-clause-script g c =
+    let read = c.in-Ok.ensures.accepted in
+    let bytes = c.args.bytes.now in
+    let form : c.of-form.result ≡ forms.Script =
+    subst (λ (x : Command). IfSome (form_of_command x) (λ f. c.of-form.result ≡ f)) c.in-Record.is c.of-form.ensures in
+    (bytes, subst (λ f. IsRead f bytes (view c.in-Ok.accepted.program)) form read.0, read.1)
 
 pub returns-in-Record-clause-due : goal.returns-in-Record-clause-due
 returns-in-Record-clause-due g c = λ a means.

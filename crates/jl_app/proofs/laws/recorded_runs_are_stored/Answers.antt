@@ -7,5 +7,6 @@ returns c = recorded_are_stored (record {
   places = c.rows_lie_in_the_text.ensures.begins;
   few_rows = c.few_ids.ensures;
   rows = c.hooks_have_rows.ensures;
+  values = c.hooks_see_values.ensures;
   few_hooks = c.hooks_take_steps.ensures.meant;
 })

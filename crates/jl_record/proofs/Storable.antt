@@ -1,0 +1,73 @@
+-- What is known of facts that were written: they can be stored, if their values have their classes.
+use Rattle.std.proofs.Common.{◌≡◌, ℕ, zero, suc, ◌<◌, ◌^◌, All, All-head, All-tail, List, [], ◌∷◌, ◌++◌, Some, length}
+use Rattle.std.proofs.Common.{arith, subst, sym}
+use Rattle.std.specs.List.{AllByRecursion}
+use Rattle.std.specs.Prelude.{slice_get, OnOk, Result, Ok, Err}
+use Rattle.jl_num.specs.Number.{IsNumber}
+use Rattle.jl_op.specs.declared.op.Op.{Op}
+use Rattle.jl_record.specs.Facts.{AreSeen, IsSeen, IsSeenAs, IsText}
+use Rattle.jl_record.specs.Storing.{CanBeStored, HasItsClass, IsClassOf}
+use Rattle.jl_value.specs.declared.object.Class.{Class}
+use Rattle.jl_value.specs.declared.value.Seen.{Seen}
+use Rattle.jl_value.specs.declared.value.Value.{Value}
+use Rattle.jl_value.specs.declared.value.Value.TheVariants as values
+use Rattle.jl_record.proofs.Peeling.{all_front, all_rest}
+
+-- what holds anyhow
+pub on_ok_now : {T E P : Type 0} (r : Result T E) → P → OnOk r P
+on_ok_now (Ok x) p = p
+on_ok_now (Err e) p = tt
+
+-- ---- values
+
+-- what the type of a value says of it
+abbrev pub IsInRange : Value → Type 0
+IsInRange (values.Num number) = IsNumber number
+IsInRange (values.Text units) = IsText units
+IsInRange (values.Obj place) = place.0 < 2 ^ 64
+IsInRange _ = Unit {0}
+
+seen_as : (v : Value) (class : Class) → IsInRange v → IsClassOf v class → IsSeenAs v class
+seen_as values.Undefined class range has = has
+seen_as values.Null class range has = has
+seen_as (values.Bool truth) class range has = has
+seen_as (values.Num number) class range has = (has, range)
+seen_as (values.Text units) class range has = (has, range)
+seen_as (values.Obj place) class range has = range
+
+pub is_seen : (seen : Seen) {v : Value} → seen.value ≡ v → IsInRange v → HasItsClass seen → IsSeen seen
+is_seen seen is range has =
+    seen_as seen.value seen.class (subst (λ v. IsInRange v) (sym is) range) has
+
+each_seen : (seen : List Seen) → All (λ s. HasItsClass s → IsSeen s) seen → AllByRecursion HasItsClass seen
+    → AllByRecursion IsSeen seen
+each_seen [] all have = tt
+each_seen (s ∷ seen) all have = (
+  All-head (λ s. HasItsClass s → IsSeen s) s seen all have.0,
+  each_seen seen (All-tail (λ s. HasItsClass s → IsSeen s) s seen all) have.1,
+)
+
+pub are_seen : (seen : List Seen) → length seen < 2 ^ 64 → All (λ s. HasItsClass s → IsSeen s) seen
+    → AllByRecursion HasItsClass seen → AreSeen seen
+are_seen seen few all have = (few, each_seen seen all have)
+
+-- ---- facts in a row
+
+-- a fact, and others
+pub both_can : {Is Are : Type 0} (some others : List Seen) → (AllByRecursion HasItsClass some → Is)
+    → (AllByRecursion HasItsClass others → Are) → AllByRecursion HasItsClass (some ++ others)
+    → Is × Are
+both_can some others is are have =
+    (is (all_front HasItsClass some others have), are (all_rest HasItsClass some others have))
+
+-- ---- operations
+
+-- an operation that is known
+pub can_be_stored : {op known : Op} → op ≡ known → CanBeStored known → CanBeStored op
+can_be_stored is can = subst (λ o. CanBeStored o) (sym is) can
+
+-- an index at which something stands
+pub within : {A : Type 0} (xs : List A) (i : ℕ) {x : A} → slice_get xs i ≡ Some x → i < length xs
+within [] i is = absurd (let none = is in cc)
+within (y ∷ xs) zero is = omega arith
+within (y ∷ xs) (suc i) is = let rest = within xs i is in omega (arith, rest)
