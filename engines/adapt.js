@@ -162,4 +162,4 @@ function asItStands(source) {
   return { text: source, restore: woven => woven, place: (line, column) => [line, column] };
 }
 
-module.exports = { adapt, asItStands, parseWithComments };
+module.exports = { adapt, asItStands, findAcorn: acorn, parseWithComments };

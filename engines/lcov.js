@@ -6,8 +6,9 @@
 
 const fs = require('fs');
 const path = require('path');
+const command = require('./command.js');
 const { countsOf, lineCounts } = require('./counts.js');
-const { readRun } = require('./run-folder.js');
+const { readNamedRun } = require('./run-folder.js');
 
 const LINE_TERMINATOR = /\r\n|[\n\r\u2028\u2029]/;
 
@@ -50,5 +51,10 @@ function tracefile(file) {
   ].join('\n') + '\n';
 }
 
+function main([folder]) {
+  if (!folder) throw new Error('usage: node lcov.js FOLDER > FILE.info');
+  readNamedRun(folder).forEach(file => process.stdout.write(tracefile(file)));
+}
+
 module.exports = { tracefile };
-if (require.main === module) readRun(process.argv[2]).forEach(file => process.stdout.write(tracefile(file)));
+if (require.main === module) command(main);

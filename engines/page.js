@@ -5,9 +5,10 @@
 // their places. JLINT_DOCS is where the pages of the rules are, for links.
 
 const fs = require('fs');
+const command = require('./command.js');
 const { countsOf, lineCounts } = require('./counts.js');
 const { report } = require('./report.js');
-const { readRun } = require('./run-folder.js');
+const { readNamedRun } = require('./run-folder.js');
 
 const STYLE = `
 body { font: 14px sans-serif; margin: 2em } pre { margin: 0; font: 12px/1.4 monospace; white-space: pre }
@@ -57,7 +58,10 @@ function fileHtml(file, found) {
   const lines = lineCounts(counts);
   const hits = found.map(l => ({ line: l.line, column: l.column, rule: l.rule, text: times(l.count) }));
   const notes = new Map();
-  for (const note of [...hits, ...gapsOf(counts)]) notes.set(note.line, [...(notes.get(note.line) || []), note]);
+  for (const note of hits.concat(gapsOf(counts))) {
+    if (!notes.has(note.line)) notes.set(note.line, []);
+    notes.get(note.line).push(note);
+  }
   const source = fs.readFileSync(file.name, 'utf8').split(/\r\n|[\n\r\u2028\u2029]/);
   const rows = source.map((text, i) => lineHtml(file, i + 1, text, lines.get(i + 1), notes.get(i + 1) || []));
   const left = file.left.reduce((n, l) => n + l.count, 0);
@@ -73,10 +77,11 @@ function pageHtml(files, lines) {
     files.map(file => fileHtml(file, lines.filter(l => l.file === file.name))).join('\n') + '</body></html>\n';
 }
 
-function main([folder]) {
-  const files = readRun(folder);
-  process.stdout.write(pageHtml(files, report(files, process.env.JLINT_RULES)));
+function main([folder], env) {
+  if (!folder) throw new Error('usage: node page.js FOLDER > PAGE.html');
+  const files = readNamedRun(folder);
+  process.stdout.write(pageHtml(files, report(files, env.JLINT_RULES)));
 }
 
 module.exports = { pageHtml };
-if (require.main === module) main(process.argv.slice(2));
+if (require.main === module) command(main);

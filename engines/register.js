@@ -23,7 +23,17 @@ const ownRealm = require('./own-realm.js');
 const { apply, defineProperty } = Reflect;
 const { kill } = process;
 const processName = process.pid + (threadId ? '.' + threadId : '');
-const session = ownRealm(path.join(__dirname, 'session.js'))(process.env, processName);
+
+// Where a word is wrong, or the program or acorn is missing, nothing is run.
+function begun() {
+  try {
+    return ownRealm(path.join(__dirname, 'session.js'))(process.env, processName);
+  } catch (e) {
+    process.stderr.write(`jlint: ${e.message}\n`);
+    return process.exit(2);
+  }
+}
+const session = begun();
 session.use(jlintHooks(nodeHost(session.write, { longest: session.longest })));
 
 // A module takes its hooks from its own `module`, and runs in a function inside of node's wrapper, so that its
@@ -47,7 +57,7 @@ for (const name of Object.keys(require.cache)) {
 
 process.on('exit', () => {
   const failed = session.finish();
-  if (process.env.JLINT_STATUS === '1' && failed && !process.exitCode) process.exitCode = 1;
+  if (session.hasStatus && failed && !process.exitCode) process.exitCode = 1;
 });
 
 // A signal that nobody else handles would end the process without 'exit'.

@@ -5,35 +5,25 @@
 
 const fs = require('fs');
 const path = require('path');
+const command = require('./command.js');
 const { jlint } = require('./jlint.js');
-const { readRun } = require('./run-folder.js');
-
-// `extra-arguments` and `shadow-write` say much that is meant of callbacks and of defaults on prototypes, so on engines
-// they have to be asked for.
-const DEFAULT_RULES = ['nan-made', 'undefined-joined', 'object-joined', 'undefined-key', 'put-on-primitive',
-  'wrapped-condition', 'loose-equal', 'odd-compare', 'typeof-text', 'bits-of-nothing', 'mixed-new',
-  'object-prototype-write', 'odd-prototype', 'late-prototype', 'for-in-array', 'wrapper-made', 'no-radix', 'global-this'
-].join(',');
-
-// JLINT_RULES names rules, or `all`.
-function chosenRules(named) {
-  if (named === 'all') return [];
-  return ['--rules', named || DEFAULT_RULES];
-}
+const { readNamedRun, NOT_WOVEN } = require('./run-folder.js');
+const settings = require('./settings.js');
 
 function reportLine(file, line) {
   const [, at, column, rule, count] = /^(\d+):(\d+) (\S+) (\d+)$/.exec(line);
   return { file, line: Number(at), column: Number(column), rule, count: Number(count) };
 }
 
-// Report lines { file, line, column, rule, count } of the files of a run.
+// Report lines { file, line, column, rule, count } of the files of a run. JLINT_RULES names rules, or `all`.
 function report(files, named) {
+  const chosen = settings.chosenRules(named);
   const lines = [];
   for (const { name, record } of files) {
-    const answer = jlint(['replay', ...chosenRules(named)], record).trimEnd().split('\n');
+    const answer = jlint(['replay', ...chosen], record).trimEnd().split('\n');
     const last = answer.pop();
     if (!last.startsWith('jlint: replayed')) throw new Error(`${name}: ${last}`);
-    lines.push(...answer.map(line => reportLine(name, line)));
+    for (const line of answer) lines.push(reportLine(name, line)); // may be more than a call takes arguments
   }
   return lines;
 }
@@ -46,9 +36,7 @@ const formats = {
 };
 
 function formatted(name, lines, summary) {
-  const format = formats[name || 'text'];
-  if (!format) throw new Error(`no format ${name}: ${Object.keys(formats).join(', ')}`);
-  return format(lines, summary);
+  return formats[name](lines, summary);
 }
 
 function summaryOf(files, notWoven, lines) {
@@ -71,16 +59,17 @@ function summaryText({ files, notWoven, operations, left, reasons, reports }) {
     `${why ? ` (${why})` : ''} reports=${reports}\n`;
 }
 
-function main([folder, format]) {
+function main([folder, format], env) {
   if (!folder) throw new Error('usage: node report.js FOLDER [text|unix|json]');
-  const files = readRun(folder);
-  const lines = report(files, process.env.JLINT_RULES);
-  const notWoven = path.join(folder, 'not-woven.json');
+  const { format: name } = settings({ ...env, JLINT_FORMAT: format || env.JLINT_FORMAT });
+  const files = readNamedRun(folder);
+  const lines = report(files, env.JLINT_RULES);
+  const notWoven = path.join(folder, NOT_WOVEN);
   const summary = summaryOf(files, fs.existsSync(notWoven) ? JSON.parse(fs.readFileSync(notWoven)) : [], lines);
-  process.stdout.write(formatted(format, lines, summary));
+  process.stdout.write(formatted(name, lines, summary));
   process.stderr.write(summaryText(summary));
   process.exitCode = lines.length ? 1 : 0;
 }
 
 module.exports = { report, formatted, summaryOf, summaryText };
-if (require.main === module) main(process.argv.slice(2));
+if (require.main === module) command(main);

@@ -11,6 +11,7 @@ const path = require('path');
 
 const LONGEST_RECORD = 268435456; // bytes that `replay` accepts
 const RECORD_FRAME = 64; // bytes for the lines `ops N` and `end`
+const NOT_WOVEN = 'not-woven.json'; // which files ran as they stood, and why: written at the end
 
 // A folder that takes the lines of operations. `write` is a host's for the hooks.
 function openRun(folder) {
@@ -84,4 +85,13 @@ function readRun(folder) {
   return files;
 }
 
-module.exports = { openRun, readRun };
+// The files of a run whose folder somebody named.
+function readNamedRun(folder) {
+  const has = name => fs.existsSync(path.join(folder, name));
+  if (!has('0.name') && !has(NOT_WOVEN)) {
+    throw new Error(`${folder} has no records: of JLINT_RUN, name the folder of one process`);
+  }
+  return readRun(folder);
+}
+
+module.exports = { openRun, readRun, readNamedRun, NOT_WOVEN };

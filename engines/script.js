@@ -10,11 +10,14 @@ const os = require('os');
 const path = require('path');
 const vm = require('vm');
 const { isNativeError } = require('util').types;
+const command = require('./command.js');
 const hooksText = require('./hooks/text.js');
+const { findProgram } = require('./jlint.js');
 const nodeHost = require('./node-host.js');
 const { weave } = require('./weave.js');
 const { openRun, readRun } = require('./run-folder.js');
 const { report, formatted, summaryOf, summaryText } = require('./report.js');
+const settings = require('./settings.js');
 
 // `print` and `console.log` of the realm, which no `for-in` over the global object visits.
 const PRINT = `
@@ -117,23 +120,25 @@ function runScripts(names, options) {
 }
 
 function main(names, env) {
-  const folder = env.JLINT_RUN || fs.mkdtempSync(path.join(os.tmpdir(), 'jlint-'));
-  const done = runScripts(names, {
-    folder,
-    print: text => process.stdout.write(text),
-    adapt: env.JLINT_ADAPT !== '0',
-    timeout: env.JLINT_TIMEOUT ? Number(env.JLINT_TIMEOUT) : undefined,
-    longest: env.JLINT_TEXT ? Number(env.JLINT_TEXT) : undefined
-  });
-  const files = readRun(folder);
-  const lines = report(files, env.JLINT_RULES);
-  const summary = summaryOf(files, done.notWoven, lines);
-  process.stdout.write(formatted(env.JLINT_FORMAT, lines, summary));
-  if (done.end !== 'normal') process.stderr.write(`uncaught ${done.end.slice('thrown '.length)}\n`);
-  process.stderr.write(summaryText(summary));
-  if (!env.JLINT_RUN) fs.rmSync(folder, { recursive: true, force: true });
-  process.exitCode = lines.length ? 1 : 0;
+  if (names.length === 0) throw new Error('usage: node script.js FILE..');
+  const given = settings(env);
+  findProgram();
+  const folder = given.run || fs.mkdtempSync(path.join(os.tmpdir(), 'jlint-'));
+  try {
+    const print = text => process.stdout.write(text);
+    const { longest, timeout } = given;
+    const done = runScripts(names, { folder, print, adapt: given.adapts, timeout, longest });
+    const files = readRun(folder);
+    const lines = report(files, env.JLINT_RULES);
+    const summary = summaryOf(files, done.notWoven, lines);
+    process.stdout.write(formatted(given.format, lines, summary));
+    if (done.end !== 'normal') process.stderr.write(`uncaught ${done.end.slice('thrown '.length)}\n`);
+    process.stderr.write(summaryText(summary));
+    process.exitCode = lines.length ? 1 : 0;
+  } finally {
+    if (!given.run) fs.rmSync(folder, { recursive: true, force: true });
+  }
 }
 
 module.exports = { runScripts };
-if (require.main === module) main(process.argv.slice(2), process.env);
+if (require.main === module) command(main);

@@ -5,27 +5,24 @@
 const fs = require('fs');
 const os = require('os');
 const path = require('path');
+const { findAcorn } = require('./adapt.js');
+const { findProgram } = require('./jlint.js');
 const { weave } = require('./weave.js');
-const { openRun, readRun } = require('./run-folder.js');
+const { openRun, readRun, NOT_WOVEN } = require('./run-folder.js');
 const { report, formatted, summaryOf, summaryText } = require('./report.js');
+const settings = require('./settings.js');
 
-const LONGEST_TEXT = 1000; // UTF-16 units
-
-function wanted(env, here) {
-  if (env.JLINT_FILES) {
-    const pattern = new RegExp(env.JLINT_FILES);
-    return file => pattern.test(file);
-  }
+function wanted(pattern, here) {
+  if (pattern !== null) return file => pattern.test(file);
   return file => file.startsWith(here) && !/[\\/]node_modules[\\/]/.test(file);
 }
 
 // The report of a run, with its summary where the format has none of its own.
-function reportText(folder, notWoven, env) {
+function reportText(folder, notWoven, env, format) {
   const files = readRun(folder);
   const lines = report(files, env.JLINT_RULES);
   const summary = summaryOf(files, notWoven, lines);
-  const isText = (env.JLINT_FORMAT || 'text') === 'text';
-  return { text: formatted(env.JLINT_FORMAT, lines, summary) + (isText ? summaryText(summary) : ''), lines };
+  return { text: formatted(format, lines, summary) + (format === 'text' ? summaryText(summary) : ''), lines };
 }
 
 // Writes to standard error, which the program may have made a pipe that takes a part at a time, or closed.
@@ -40,12 +37,16 @@ function say(text) {
   }
 }
 
-// `name` is that of the process and thread.
+// `name` is that of the process and thread. Throws where a word of the environment is wrong or something is missing.
 module.exports = function session(env, name) {
+  const given = settings(env);
+  findProgram();
+  findAcorn();
   const here = process.cwd() + path.sep;
-  const isWanted = wanted(env, here);
+  const isWanted = wanted(given.files, here);
   const shown = file => (file.startsWith(here) ? file.slice(here.length) : file);
-  const folder = env.JLINT_RUN ? path.join(env.JLINT_RUN, name) : fs.mkdtempSync(path.join(os.tmpdir(), 'jlint-'));
+  const folder = given.run ? path.resolve(given.run, name) : fs.mkdtempSync(path.join(os.tmpdir(), 'jlint-'));
+  const out = given.out === null ? null : path.resolve(given.out.replace('%p', name));
   const run = openRun(folder);
   const woven = [];
   const notWoven = [];
@@ -65,17 +66,18 @@ module.exports = function session(env, name) {
   function writeReport() {
     hooks.flush();
     woven.forEach((file, n) => run.left(n, file.counts().left));
-    fs.writeFileSync(path.join(folder, 'not-woven.json'), JSON.stringify(notWoven));
-    const { text, lines } = reportText(folder, notWoven, env);
-    if (env.JLINT_OUT) fs.writeFileSync(env.JLINT_OUT.replace('%p', name), text);
+    fs.writeFileSync(path.join(folder, NOT_WOVEN), JSON.stringify(notWoven));
+    const { text, lines } = reportText(folder, notWoven, env, given.format);
+    if (out !== null) fs.writeFileSync(out, text);
     else say(text);
-    if (!env.JLINT_RUN) fs.rmSync(folder, { recursive: true, force: true });
+    if (!given.run) fs.rmSync(folder, { recursive: true, force: true });
     return lines.length;
   }
 
   return {
     write: run.write,
-    longest: Number(env.JLINT_TEXT || LONGEST_TEXT),
+    longest: given.longest,
+    hasStatus: given.hasStatus,
     use(made) {
       hooks = made;
     },

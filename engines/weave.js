@@ -57,6 +57,7 @@ function weave(source, options) {
   if (adapted.refused) return adapted;
   const woven = jlint(['instrument'], adapted.text);
   if (woven.startsWith('jlint: refused')) return { refused: refusal(woven, adapted.place) };
+  if (!woven.includes('J$.S(1);')) throw new Error('the program that JLINT names is not jlint');
   if (woven.includes(CALL)) return { refused: 'uses the name ' + CALL };
   const { text, functions, strict, lastId } = scan(woven, options);
   const { rows, text: begin } = head(adapted.text, lastId, (line, column) => original(adapted.place(line, column)));

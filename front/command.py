@@ -9,6 +9,7 @@ import sys
 from types import FrameType
 from typing import Callable, cast
 
+from .formats.lines import on_one_line
 from .gather import Unreadable
 from .program import ProgramError
 
@@ -39,7 +40,7 @@ def on_signal(number: int, _frame: FrameType | None) -> None:
 def complain(message: object) -> None:
     """Says on standard error what went wrong, if that is still there."""
     try:
-        print(f"jl: {message}", file=sys.stderr)
+        print(f"jl: {on_one_line(str(message))}", file=sys.stderr)
     except OSError:
         pass
 

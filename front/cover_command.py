@@ -25,6 +25,9 @@ from .wrapping import Prelude, Wrapped, read_prelude
 
 FORMATS = {"lcov": "lcov", "cobertura": "cobertura", "html": "cover_html", "summary": "cover_summary"}
 
+LARGEST_RECORD = 268_435_456
+"""A record may have as many bytes."""
+
 ENDS = {
     Status.THROWN: "the script threw what nothing caught, so what comes after did not run",
     Status.FAULT: "the run left what jlint can run, so what comes after did not run",
@@ -105,7 +108,7 @@ def make_coverer(options: argparse.Namespace) -> Coverer:
     record = None
     if options.record is not None:
         with open(options.record, "rb") as file:
-            record = file.read()
+            record = file.read(LARGEST_RECORD + 1)
     prelude = read_prelude(program, options.prelude, options.commonjs)
     return Coverer(program, options.budget, prelude, options.commonjs, record)
 

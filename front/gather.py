@@ -33,6 +33,8 @@ class Script:
 
     path: str
     is_standard_input: bool = False
+    trouble: str | None = None
+    """Why there is nothing to read, where that is known already: a folder that can't be searched is listed so."""
 
 
 def scripts(words: list[str], suffixes: tuple[str, ...], ignored: list[str], stdin_name: str) -> list[Script]:
@@ -42,31 +44,46 @@ def scripts(words: list[str], suffixes: tuple[str, ...], ignored: list[str], std
         if word == STANDARD_INPUT:
             found.setdefault(word, Script(stdin_name, True))
         elif os.path.isdir(word):
-            for path in files_below(word, suffixes, ignored, set()):
-                found.setdefault(os.path.normpath(path), Script(path))
+            for script in files_below(word, suffixes, ignored):
+                found.setdefault(os.path.normpath(script.path), script)
         else:
             found.setdefault(os.path.normpath(word), Script(word))
     return list(found.values())
 
 
-def files_below(folder: str, suffixes: tuple[str, ...], ignored: list[str], seen: set[str]) -> Iterator[str]:
-    """The paths of the scripts below a folder. A folder that links lead to more than once is visited once."""
-    real = os.path.realpath(folder)
-    if real in seen:
-        return
-    seen.add(real)
-    try:
-        entries = sorted(os.scandir(folder), key=lambda it: it.name)
-    except OSError as error:
-        raise Unreadable(f"{folder}: {error.strerror}") from error
-    for entry in entries:
-        path = os.path.join(folder, entry.name)
-        if is_ignored(entry.name, path, ignored):
+def files_below(top: str, suffixes: tuple[str, ...], ignored: list[str]) -> Iterator[Script]:
+    """The scripts below a folder. A folder that links lead to more than once is visited once."""
+    seen: set[tuple[int, int]] = set()
+    # What is left to visit, the next at the end: folders lie deeper in one another than Python calls itself.
+    left = [(top, True)]
+    while left:
+        path, is_folder = left.pop()
+        if not is_folder:
+            yield Script(path)
             continue
-        if entry.is_dir():
-            yield from files_below(path, suffixes, ignored, seen)
-        elif entry.name.endswith(suffixes) and entry.is_file():
-            yield path
+        try:
+            about = os.stat(path)
+            if (about.st_dev, about.st_ino) in seen:
+                continue
+            seen.add((about.st_dev, about.st_ino))
+            entries = sorted(os.scandir(path), key=lambda it: it.name, reverse=True)
+        except OSError as error:
+            yield Script(path, trouble=f"the folder can't be searched: {error.strerror}")
+            continue
+        for entry in entries:
+            below = os.path.join(path, entry.name)
+            is_folder, is_file = kind_of(entry)
+            is_script = is_file and entry.name.endswith(suffixes)
+            if (is_folder or is_script) and not is_ignored(entry.name, below, ignored):
+                left.append((below, is_folder))
+
+
+def kind_of(entry: os.DirEntry[str]) -> tuple[bool, bool]:
+    """Whether an entry is a folder, and whether a file, also by a link. A link to itself is neither."""
+    try:
+        return entry.is_dir(), entry.is_file()
+    except OSError:
+        return False, False
 
 
 def is_ignored(name: str, path: str, ignored: list[str]) -> bool:
@@ -87,6 +104,8 @@ def read_standard_input(found: list[Script]) -> bytes:
 
 def read_script(script: Script, standard_input: bytes) -> str:
     """The text of a script."""
+    if script.trouble is not None:
+        raise Unreadable(script.trouble)
     if script.is_standard_input:
         given = standard_input
     else:

@@ -8,6 +8,7 @@ from typing import TYPE_CHECKING
 
 from . import formats
 from .findings import FileResult, Totals
+from .formats.lines import on_one_line
 from .gather import read_standard_input, scripts
 from .linting import Linter
 from .options import lint_parser
@@ -64,9 +65,9 @@ def say_notes(results: list[FileResult]) -> None:
     """Says on standard error what no finding says, and which files could not be looked at."""
     for result in results:
         for note in result.notes:
-            print(f"jl: {result.path}: {note}", file=sys.stderr)
+            print(f"jl: {on_one_line(result.path)}: {note}", file=sys.stderr)
         if result.trouble is not None:
-            print(f"jl: {result.path}: {result.trouble}", file=sys.stderr)
+            print(f"jl: {on_one_line(result.path)}: {result.trouble}", file=sys.stderr)
 
 
 def status_of(results: list[FileResult], most_reports: int) -> int:

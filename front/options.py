@@ -3,7 +3,6 @@
 from __future__ import annotations
 
 import argparse
-import os
 from typing import Callable, Sequence
 
 from . import VERSION, formats
@@ -59,6 +58,13 @@ def rule_names(text: str) -> str:
     return text
 
 
+def path(text: str) -> str:
+    """The path of a file, which is not empty."""
+    if not text:
+        raise argparse.ArgumentTypeError("a path is empty")
+    return text
+
+
 def percent(text: str) -> float:
     try:
         value = float(text)
@@ -71,7 +77,9 @@ def percent(text: str) -> float:
 
 def add_files(parser: Parser) -> None:
     """The words that say which scripts to look at, and how."""
-    parser.add_argument("files", nargs="*", metavar="FILE|FOLDER|-", help="scripts, folders of them, or standard input")
+    parser.add_argument(
+        "files", nargs="*", type=path, metavar="FILE|FOLDER|-", help="scripts, folders of them, or standard input"
+    )
     parser.add_argument("--ext", default=".js", metavar="LIST", help="what names of scripts in folders end in (.js)")
     parser.add_argument(
         "--ignore", action="append", default=[], metavar="PATTERN", help="pass over what matches it in a folder"
@@ -111,7 +119,7 @@ def add_run(parser: Parser) -> None:
 
 
 def add_output(parser: Parser) -> None:
-    parser.add_argument("--output", "-o", metavar="FILE", help="write there, whole or not at all")
+    parser.add_argument("--output", "-o", type=path, metavar="FILE", help="write there, whole or not at all")
 
 
 def lint_parser() -> Parser:
@@ -143,7 +151,7 @@ def lint_parser() -> Parser:
     add_output(parser)
     parser.add_argument("--cache", action="store_true", help="keep results, and take those of files that are the same")
     parser.add_argument(
-        "--cache-location", default=os.path.join(".jl-cache"), metavar="FOLDER", help="where (.jl-cache)"
+        "--cache-location", default=".jl-cache", type=path, metavar="FOLDER", help="where (.jl-cache)"
     )
     colour = parser.add_mutually_exclusive_group()
     colour.add_argument("--color", dest="colour", action="store_true", default=None, help="colour, also to a file")
@@ -184,7 +192,7 @@ def cover_parser(format_names: Sequence[str]) -> Parser:
     )
     add_run(parser)
     parser.add_argument(
-        "--record", metavar="FILE", help="take this record of the one script that is named, and run nothing"
+        "--record", type=path, metavar="FILE", help="take this record of the one script that is named, and run nothing"
     )
     parser.add_argument("--min-functions", type=percent, metavar="PERCENT", help="functions that were entered")
     parser.add_argument("--min-branches", type=percent, metavar="PERCENT", help="branches that were taken")

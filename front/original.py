@@ -7,11 +7,13 @@ from __future__ import annotations
 import base64
 import binascii
 import bisect
+import errno
 import json
 import os
 import re
 import urllib.parse
 from dataclasses import dataclass
+from typing import BinaryIO
 
 from .program import NoSuchCommand, Program, ProgramError, Status
 from .source import Place, SourceText
@@ -19,6 +21,8 @@ from .source import Place, SourceText
 URL = re.compile(r"""^[ \t]*(?://|/\*)[#@][ \t]*sourceMappingURL=([^\s'"]+)""", re.M)
 SEGMENT = re.compile(rb"^(\d+):(\d+)(?: (\d+) (\d+):(\d+)(?: \d+)?)?$", re.M)
 XSSI_PREFIX = b")]}'"
+LARGEST_FILE = 67_108_864
+"""A map may have as many bytes, and an original."""
 
 
 class MapError(Exception):
@@ -67,11 +71,27 @@ class SourceMap:
         """The text of a source: the one in the map, or else the file."""
         if number not in self.sources:
             text = self.texts[number] if number < len(self.texts) else None
-            if text is None and os.path.isfile(path):
-                with open(path, encoding="utf-8", errors="replace", newline="") as file:
-                    text = file.read()
+            if text is None:
+                text = read_source(path)
             self.sources[number] = None if text is None else SourceText(text)
         return self.sources[number]
+
+
+def read_source(path: str) -> str | None:
+    """The text of an original, or None where it can't be read or is larger than a transpiler's input may well be."""
+    try:
+        with open_file(path) as file:
+            given = file.read(LARGEST_FILE + 1)
+    except (OSError, ValueError):
+        return None
+    return None if len(given) > LARGEST_FILE else given.decode("utf-8", "replace")
+
+
+def open_file(path: str) -> BinaryIO:
+    """Opens what a script or a map names, where that is a file and no device or pipe."""
+    if not os.path.isfile(path):
+        raise FileNotFoundError(errno.ENOENT, "there is no such file", path)
+    return open(path, "rb")
 
 
 def map_url(script: str) -> str | None:
@@ -103,10 +123,13 @@ def read_map_bytes(url: str, script_path: str) -> tuple[bytes, str]:
         raise MapError(f"its source map {url} is not a file")
     path = os.path.join(folder, urllib.parse.unquote(url))
     try:
-        with open(path, "rb") as file:
-            return file.read(), os.path.dirname(path)
+        with open_file(path) as file:
+            given = file.read(LARGEST_FILE + 1)
     except OSError as error:
         raise MapError(f"its source map {path} can't be read: {error.strerror}") from error
+    if len(given) > LARGEST_FILE:
+        raise MapError(f"its source map {path} has more than {LARGEST_FILE:,} bytes")
+    return given, os.path.dirname(path)
 
 
 def source_paths(shape: dict[str, object], folder: str) -> list[str | None]:
@@ -158,7 +181,7 @@ def find_map(program: Program, script: str, script_path: str) -> SourceMap | Non
         raise MapError(f"its source map can't be read: {said}")
     try:
         shape = json.loads(given)
-    except ValueError as error:
+    except (ValueError, RecursionError) as error:
         raise MapError("its source map can't be read") from error
     contents = shape.get("sourcesContent")
     texts = [it if isinstance(it, str) else None for it in contents] if isinstance(contents, list) else []

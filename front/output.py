@@ -25,9 +25,11 @@ def write_whole(path: str, write: Writer) -> None:
         if os.path.exists(path):
             os.chmod(made, os.stat(path).st_mode & 0o777)
         os.replace(made, path)
-    except BaseException:
+    except BaseException as error:
         with contextlib.suppress(OSError):
             os.remove(made)
+        if isinstance(error, OSError) and error.errno is not None:
+            raise type(error)(error.errno, error.strerror, path) from error
         raise
 
 

@@ -171,10 +171,15 @@ def find_program(seconds: float | None = None) -> Program:
     """The program to run; `./jlint` proves and builds it where that was not done."""
     named = os.environ.get("JLINT")
     if named:
-        return Program(path_of(named), seconds)
+        path = path_of(named)
+        if not os.path.isfile(path) or not os.access(path, os.X_OK):
+            raise ProgramError(f"{path} can't be run: JLINT names it, and it is no program")
+        return Program(path, seconds)
     if os.environ.get("JLINT_UNPROVED"):
         return Program(os.path.join(TOP, "jlint"), seconds)
     builder = os.path.join(TOP, "tools", "program.py")
+    if not os.path.isfile(builder):
+        raise ProgramError("no program is named: set JLINT to the path of jlint")
     done = subprocess.run([sys.executable, builder], stdout=subprocess.PIPE, check=False)
     path = os.fsdecode(done.stdout).strip()
     if done.returncode or not path:

@@ -8,6 +8,7 @@ import os
 import re
 from dataclasses import dataclass
 
+from .gather import LARGEST
 from .program import Program, ProgramError, Status
 from .rules import TOP
 from .source import Place, SourceText, utf16_length
@@ -44,7 +45,7 @@ def read_prelude(program: Program, names: list[str], is_module: bool) -> Prelude
         path = prelude_path(name)
         try:
             with open(path, "rb") as file:
-                script = file.read()
+                script = file.read(LARGEST + 1)
         except OSError as error:
             raise ProgramError(f"the prelude {path} can't be read: {error.strerror}") from error
         answer = program.run(["print"], script)

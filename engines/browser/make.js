@@ -8,6 +8,7 @@
 
 const fs = require('fs');
 const path = require('path');
+const command = require('../command.js');
 const hooksText = require('../hooks/text.js');
 const { weave } = require('../weave.js');
 
@@ -42,15 +43,22 @@ ${tags}<ul id="jlint-records"></ul>
 `;
 }
 
-function main(words) {
-  const [out, ...names] = words.filter(word => word !== '--print');
+// Writes the page. `print` says whether there is a function of that name.
+function makePage(out, names, print) {
   fs.mkdirSync(out, { recursive: true });
   const put = (name, text) => fs.writeFileSync(path.join(out, name), text);
   const scripts = names.map(scriptOf);
   scripts.forEach(({ text }, n) => put(`${n}.js`, text));
   put('hooks.js', `var jlintHooks = ${hooksText()};\n`);
   put('host.js', fs.readFileSync(path.join(__dirname, 'host.js')));
-  put('index.html', pageOf((words.includes('--print') ? PRINT : '') + scripts.map(({ tags }) => tags).join('')));
+  put('index.html', pageOf((print ? PRINT : '') + scripts.map(({ tags }) => tags).join('')));
 }
 
-main(process.argv.slice(2));
+function main(words) {
+  const [out, ...names] = words.filter(word => word !== '--print');
+  if (names.length === 0) throw new Error('usage: node make.js OUT [--print] FILE..');
+  makePage(out, names, words.includes('--print'));
+}
+
+module.exports = { makePage };
+if (require.main === module) command(main);

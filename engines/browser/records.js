@@ -6,12 +6,13 @@
 
 const fs = require('fs');
 const path = require('path');
+const command = require('../command.js');
 
 const CHARACTERS = { lt: '<', gt: '>', amp: '&', nbsp: '\u00a0', quot: '"' };
 const unescaped = text => text.replace(/&(lt|gt|amp|nbsp|quot);/g, (all, name) => CHARACTERS[name]);
 
-function main([page, folder]) {
-  const text = fs.readFileSync(page, 'utf8');
+// Puts the records of a page into a folder.
+function takeRecords(text, folder) {
   const all = pattern => [...text.matchAll(pattern)].map(m => unescaped(m[1]));
   const names = all(/<li><a download=[^>]*>([^<]*)<\/a>/g);
   const records = all(/<pre class="record">([^]*?)<\/pre>/g);
@@ -25,6 +26,15 @@ function main([page, folder]) {
     put('ops', record.slice(ops.index + ops[0].length, record.lastIndexOf('end\n')));
     put('left', left[n]);
   });
+  return records.length;
 }
 
-main(process.argv.slice(2));
+function main([page, folder]) {
+  if (!folder) throw new Error('usage: node records.js PAGE.html FOLDER');
+  if (takeRecords(fs.readFileSync(page, 'utf8'), folder) === 0) {
+    throw new Error(`${page} has no records: open the page with #text in its address, and save what it has become`);
+  }
+}
+
+module.exports = { takeRecords };
+if (require.main === module) command(main);

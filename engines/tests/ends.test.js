@@ -7,7 +7,7 @@ const fs = require('fs');
 const path = require('path');
 const { spawn, spawnSync } = require('child_process');
 const { test } = require('node:test');
-const { ENGINES, missing, inNewFolder } = require('./support.js');
+const { ENGINES, missing } = require('./support.js');
 
 const skip = missing();
 const NAN = 'function n() { return 0 / 0; } n(); ';

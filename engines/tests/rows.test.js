@@ -7,18 +7,10 @@ const fs = require('fs');
 const path = require('path');
 const { test } = require('node:test');
 const { spawnSync } = require('child_process');
-const { ENGINES } = require('./support.js');
+const { ENGINES, NO_ACORN, hasAcorn } = require('./support.js');
 
-function missing() {
-  if (!process.env.JLINT) return 'JLINT names no program';
-  try {
-    require('acorn');
-  } catch (e) {
-    return 'the package acorn is not found';
-  }
-  return false;
-}
-const skip = missing();
+const noProgram = process.env.JLINT ? false : 'JLINT names no program';
+const skip = noProgram || (hasAcorn ? false : NO_ACORN);
 
 function scriptsIn(folder) {
   return fs.readdirSync(folder, { withFileTypes: true }).flatMap(entry => {

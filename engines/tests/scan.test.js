@@ -4,15 +4,9 @@
 const assert = require('assert');
 const { test } = require('node:test');
 const { scan } = require('../scan.js');
+const { NO_ACORN, hasAcorn } = require('./support.js');
 
-const hasAcorn = (() => {
-  try {
-    return Boolean(require('acorn'));
-  } catch (e) {
-    return false;
-  }
-})();
-const skip = hasAcorn ? false : 'the package acorn is not found';
+const skip = hasAcorn ? false : NO_ACORN;
 
 test('a function is entered with the call that it leaves', () => {
   const woven = 'function f(a, b) {\ntry {\nJ$.E(3);\nreturn J$.V(4, arguments);\n} finally {\nJ$.L(4);\n}\n}\n';

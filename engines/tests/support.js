@@ -7,25 +7,28 @@ const path = require('path');
 const { spawnSync } = require('child_process');
 
 const ENGINES = path.join(__dirname, '..');
+const NO_ACORN = 'the package acorn is not found';
+const hasAcorn = (() => {
+  try {
+    return Boolean(require('acorn'));
+  } catch (e) {
+    return false;
+  }
+})();
 
 // Why the tests can't be run, or false. They take the program that JLINT names, with its commands `record` and `replay`.
 function missing() {
   if (!process.env.JLINT) return 'JLINT names no program';
   const { stdout } = spawnSync(process.env.JLINT, ['record', '--budget', '0'], { input: '' });
   if (!stdout || !stdout.toString().startsWith('jlint-record 1\n')) return 'the program that JLINT names has no `record`';
-  try {
-    require('acorn');
-  } catch (e) {
-    return 'the package acorn is not found';
-  }
-  return false;
+  return hasAcorn ? false : NO_ACORN;
 }
 
 // Calls `body` with a new folder, which is removed afterwards.
-function inNewFolder(body) {
+async function inNewFolder(body) {
   const folder = fs.mkdtempSync(path.join(os.tmpdir(), 'jlint-test-'));
   try {
-    return body(folder);
+    return await body(folder);
   } finally {
     fs.rmSync(folder, { recursive: true, force: true });
   }
@@ -33,4 +36,4 @@ function inNewFolder(body) {
 
 const reportText = lines => lines.map(l => `${l.line}:${l.column} ${l.rule} ${l.count}\n`).join('');
 
-module.exports = { ENGINES, missing, inNewFolder, reportText };
+module.exports = { ENGINES, NO_ACORN, hasAcorn, missing, inNewFolder, reportText };

@@ -8,33 +8,12 @@
 const fs = require('fs');
 const os = require('os');
 const path = require('path');
-const { spawnSync } = require('child_process');
 const { runScripts } = require('../script.js');
 const { report, summaryOf } = require('../report.js');
 const { readRun } = require('../run-folder.js');
+const { scriptsIn, linted, asLinted } = require('./linted.js');
 
-const program = process.env.JLINT || 'jlint';
 const limit = Number(process.env.LIMIT || 600000);
-const END = /^jlint: (normal|thrown) steps=\d+ hooks=(\d+) reports=(\d+)$/;
-
-function scriptsIn(folder) {
-  return fs.readdirSync(folder, { withFileTypes: true }).sort((a, b) => (a.name < b.name ? -1 : 1)).flatMap(entry => {
-    const name = path.join(folder, entry.name);
-    if (entry.isDirectory()) return scriptsIn(name);
-    return entry.name.endsWith('.js') ? [name] : [];
-  });
-}
-
-// The report and the number of operations of `lint`, or how else it ended.
-function linted(file) {
-  const { stdout } = spawnSync(program, ['lint'], { input: fs.readFileSync(file), maxBuffer: 1 << 28, timeout: 30000 });
-  const lines = (stdout || '').toString().trimEnd().split('\n');
-  const end = END.exec(lines[lines.length - 1]);
-  if (!end) return { other: lines[lines.length - 1].replace(/ at .*| steps.*/, '') };
-  const [, how, hooks, reports] = end;
-  const body = lines.slice(0, lines.length - (how === 'thrown' ? 2 : 1));
-  return { hooks: Number(hooks), report: Number(reports) ? body.slice(-Number(reports)).join('\n') : '' };
-}
 
 function ran(file, folder, asIs) {
   let printed = '';
@@ -51,7 +30,7 @@ function comparison(file, folder) {
   const woven = ran(file, path.join(folder, 'woven'), false);
   const plain = ran(file, path.join(folder, 'plain'), true);
   const files = readRun(woven.done.folder);
-  const lines = report(files, 'all').map(l => `${l.line}:${l.column} ${l.rule} ${l.count}`).join('\n');
+  const lines = asLinted(report(files, 'all'));
   const { operations, left } = summaryOf(files, [], []);
   const sameEnd = woven.printed === plain.printed && woven.end === plain.end;
   return [

@@ -20,7 +20,11 @@ LEVELS = {Severity.WARNING: "warning", Severity.ERROR: "error"}
 def uri_of(path: str) -> str:
     """The URI of a path, relative where the path is."""
     path = path.replace(os.sep, "/")
-    quoted = urllib.parse.quote(os.fsencode(path))
+    try:
+        given = os.fsencode(path)
+    except UnicodeEncodeError:  # no path of this system, but one that a source map names
+        given = path.encode("utf-8", "backslashreplace")
+    quoted = urllib.parse.quote(given)
     return f"file://{quoted}" if path.startswith("/") else quoted
 
 

@@ -5,6 +5,7 @@ from __future__ import annotations
 import contextlib
 import os
 import pty
+import shutil
 import signal
 import subprocess
 import sys
@@ -30,6 +31,7 @@ class Words(FrontCase):
 
     def test_wrong_words(self) -> None:
         choices: list[list[str]] = [[], ["--no-such", "a.js"], ["--rules", "nan", "a.js"], ["--budget", "-1", "a.js"]]
+        choices += [["--budget", "1e6", "a.js"], ["--jobs", "0", "a.js"], [""], ["-o", "", "a.js"], ["-f", "xml", "a.js"]]
         for words in choices:
             ran = self.jl(*words)
             self.assertEqual((ran.status, ran.out), (2, ""), words)
@@ -80,11 +82,54 @@ class Files(FrontCase):
         self.assertEqual(len(ran.err.splitlines()), 3)
         self.assertIn("good.js:1:1", ran.out)
 
+    def test_links_in_a_circle(self) -> None:
+        self.write("src/a.js", "0 / 0;")
+        for name in ("self", "self.js"):
+            os.symlink(name, os.path.join(self.folder, "src", name))
+        os.symlink("there", os.path.join(self.folder, "src", "here"))
+        os.symlink("here", os.path.join(self.folder, "src", "there"))
+        ran = self.jl("src")
+        self.assertEqual((ran.status, ran.out.count("\n"), ran.err), (1, 1, ""))
+        self.assertEqual(self.jl(os.path.join("src", "self.js")).status, 2)
+
+    def make_deep(self, levels: int) -> None:
+        """Makes folders in one another, with a script in the lowest and one in the first."""
+        self.addCleanup(self.tool, "rm", "-rf", "deep")
+        self.write("deep/top.js", "0 / 0;")
+        code = "import os\nfor _ in range({}): os.mkdir('d'); os.chdir('d')\nopen('low.js', 'w').write('0 / 0;')"
+        self.tool(sys.executable, "-c", "import os; os.chdir('deep')\n" + code.format(levels))
+
+    def test_deep_folders(self) -> None:
+        self.make_deep(1_200)
+        ran = self.jl("deep")
+        self.assertEqual((ran.status, ran.err), (1, ""))
+        names = [os.path.basename(it.split(":")[0]) for it in ran.out.splitlines()]
+        self.assertEqual(names, ["low.js", "top.js"])
+
+    def test_a_folder_that_can_not_be_searched(self) -> None:
+        # Its path is longer than paths may be.
+        self.make_deep(2_100)
+        ran = self.jl("deep")
+        self.assertEqual(ran.status, 2)
+        self.assertIn("the folder can't be searched", ran.err)
+        self.assertIn("deep/top.js:1:1: ", ran.out)
+
     @unittest.skipIf(os.geteuid() == 0, "root may read every file")
     def test_what_may_not_be_read(self) -> None:
         self.write("secret.js", "0 / 0;")
         os.chmod(os.path.join(self.folder, "secret.js"), 0)
         self.assertEqual(self.jl("secret.js").status, 2)
+
+    def test_odd_paths(self) -> None:
+        names = ["a b.js", "q'\".js", "back\\slash.js", "a:1:2: x.js", "new\nline.js", "%0A.js", "&<>.js"]
+        for name in names:
+            self.write(name, "0 / 0;")
+        ran = self.jl(".")
+        self.assertEqual((ran.status, ran.err, ran.out.count("\n")), (1, "", len(names)))
+        for form in ("stylish", "json", "github", "checkstyle", "junit", "sarif", "html"):
+            self.assertEqual(self.jl("-f", form, ".").status, 1, form)
+        ran = self.jl("absent\n.js")
+        self.assertEqual((ran.status, ran.out.count("\n"), ran.err.count("\n")), (2, 1, 1))
 
     def test_what_is_not_utf8(self) -> None:
         self.write("latin.js", b"var a;\nvar b = '\xff';")
@@ -127,6 +172,24 @@ class Programs(FrontCase):
         self.program = "/nonexistent/jlint"
         self.assertIn("can't be run", self.look())
 
+    def test_what_is_no_program(self) -> None:
+        for self.program in (self.folder, os.path.join(self.folder, "a.js"), "no-such-program-on-the-path"):
+            self.assertEqual(len(self.look().splitlines()), 1)
+
+    def test_a_copy_that_can_not_build_one(self) -> None:
+        top = os.path.dirname(JL)
+        shutil.copytree(os.path.join(top, "front"), os.path.join(self.folder, "front"))
+        copy = os.path.join(self.folder, self.write("jl", ""))
+        shutil.copy(JL, copy)
+        ran = self.tool(sys.executable, copy, "jl", env={**os.environ, "JLINT": ""})
+        self.assertEqual((ran.returncode, ran.stdout), (2, ""))
+        self.assertEqual(ran.stderr, "jl: no program is named: set JLINT to the path of jlint\n")
+
+    def test_a_program_of_no_known_form(self) -> None:
+        self.program = os.path.join(self.folder, self.write("program", b"\0\1\2\3"))
+        os.chmod(self.program, 0o755)
+        self.assertIn("can't be run", self.look())
+
     def test_a_program_that_is_killed(self) -> None:
         self.fake("kill -9 $$")
         self.assertIn("killed by SIGKILL", self.look())
@@ -164,7 +227,7 @@ class Output(FrontCase):
     def test_output_that_can_not_be_written_changes_nothing(self) -> None:
         ran = self.jl("a.js", "-o", "nowhere/found.txt")
         self.assertEqual(ran.status, 2)
-        self.assertEqual(len(ran.err.splitlines()), 1)
+        self.assertEqual(ran.err, "jl: nowhere/found.txt: No such file or directory\n")
         self.assertEqual(os.listdir(self.folder), ["a.js"])
 
     def test_output_to_a_full_device(self) -> None:

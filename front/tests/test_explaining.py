@@ -223,11 +223,23 @@ class SourceMaps(FrontCase):
             "data:application/json;base64,!",
             "https://example.com/a.map",
             "data:application/json,[}",
+            "/dev/zero",
+            "a%00.map",
         ):
             self.write("a.js", f"{OLD}//# sourceMappingURL={url}\n")
             ran = self.jl("a.js")
             self.assertEqual((ran.status, ran.out[:10]), (1, "a.js:2:39:"), url)
             self.assertIn("its source map", ran.err, url)
+
+    def test_originals_that_can_not_be_read(self) -> None:
+        del self.map["sourcesContent"]
+        for source in ("absent.js", "/dev/zero", "a\0.js", "\ud800.js", "."):
+            self.map["sources"] = [source]
+            self.write("a.js.map", json.dumps(self.map))
+            self.write("a.js", f"{OLD}//# sourceMappingURL=a.js.map\n")
+            for form in ("unix", "stylish", "sarif", "html", "checkstyle"):
+                ran = self.jl("-f", form, "a.js")
+                self.assertEqual((ran.status, ran.err), (1, ""), (source, form))
 
 
 @needs_program
