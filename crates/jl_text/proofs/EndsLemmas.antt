@@ -31,9 +31,9 @@ module _ (units part : List ℕ) where
       → IsFirstPlace units part from place
   first_by_units from None none = λ k low stands. none k low stands.0 (λ i some inside. unit_of k stands i inside)
   first_by_units from (Some at) is = (
-    is.0,
-    stands_by_units at is.1 (λ k inside. is.2 k (omega arith) inside),
-    λ k low high stands. is.3 k low high (λ i some inside. unit_of k stands i inside),
+    is.2.0,
+    stands_by_units at is.0 (λ k inside. is.1 k (omega arith) inside),
+    λ k low high stands. is.2.1 k low high (λ i some inside. unit_of k stands i inside),
   )
 
   -- counted from the back
@@ -68,10 +68,10 @@ module _ (units part : List ℕ) where
     pub last_by_units : (at : ℕ) → Backwards (Some at)
         → IsLastPlace units part from (Some (length units - length part - at))
     last_by_units at is = (
-      omega (arith, begins, is.0, is.1, fits),
-      front_to_back at (length units - length part - at) (omega (arith, is.1, fits)) is.2,
+      omega (arith, begins, is.2.0, is.0, fits),
+      front_to_back at (length units - length part - at) (omega (arith, is.0, fits)) is.1,
       λ k low high stands.
           let behind = length units - length part - k in
-          is.3 behind (omega (arith, begins, low, stands.0, fits)) (omega (arith, high, stands.0, fits, is.1))
+          is.2.1 behind (omega (arith, begins, low, stands.0, fits)) (omega (arith, high, stands.0, fits, is.0))
           (back_to_front behind k (omega (arith, stands.0, fits)) stands),
     )
