@@ -94,6 +94,9 @@ fn place_by_suffix<U: Units>(units: U, part: U, from: usize) -> Option<usize>
     ensures { IsLeastPlace (U.unit units) (U.unit part) (U.size units) (U.size part) from result }
 {
     let last = units.len() - part.len();
+    if from > last {
+        return None;
+    }
     let start = greatest_suffix(part);
     let mut at = from;
     let mut period = 1;
