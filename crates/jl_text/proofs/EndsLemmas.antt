@@ -53,6 +53,29 @@ module _ (units part : List ℕ) where
       ∙ same (length part - 1 - i) (omega arith) (omega (arith, inside))
       ∙ ap (λ n. get_or part n 0) {x = length part - 1 - (length part - 1 - i)} {y = i} (omega (arith, inside)))
 
+  -- comparisons of slices
+  module _ (at : ℕ) (fits : at + length part ≤ length units) where
+    pub front_of_range : slice_range units at (at + length part) ≡ part
+        → Agrees (λ i. get_or units i 0) (λ i. get_or part i 0) at 0 (length part)
+    front_of_range same k low inside = unit_of at (fits, same) k inside
+
+    pub range_of_front : Agrees (λ i. get_or units i 0) (λ i. get_or part i 0) at 0 (length part)
+        → slice_range units at (at + length part) ≡ part
+    range_of_front same = (stands_by_units at fits (λ k inside. same k (omega arith) inside)).1
+
+    from_end : length units - at ≡ length units - at - length part + length part
+    from_end = omega (arith, fits)
+
+    pub back_of_range : slice_range units (length units - at - length part) (length units - at) ≡ part
+        → Agrees (λ i. get_or units (length units - 1 - i) 0) (λ i. get_or part (length part - 1 - i) 0) at 0 (length part)
+    back_of_range same = back_to_front at (length units - at - length part) (omega (arith, fits))
+        (omega (arith, fits), ap (slice_range units (length units - at - length part)) (sym from_end) ∙ same)
+
+    pub range_of_back : Agrees (λ i. get_or units (length units - 1 - i) 0) (λ i. get_or part (length part - 1 - i) 0)
+        at 0 (length part) → slice_range units (length units - at - length part) (length units - at) ≡ part
+    range_of_back same = ap (slice_range units (length units - at - length part)) from_end
+        ∙ (front_to_back at (length units - at - length part) (omega (arith, fits)) same).1
+
   module _ (from start : ℕ) (fits : length part ≤ length units)
       (begins : start + min from (length units - length part) ≡ length units - length part) where
     abbrev pub Backwards : Option ℕ → Type 0

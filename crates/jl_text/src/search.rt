@@ -43,6 +43,9 @@ fn least_place<U: Units>(units: U, part: U, from: usize) -> Option<usize>
     if part.len() > units.len() || from > units.len() - part.len() {
         return None;
     }
+    if units.stands(part, from) {
+        return Some(from);
+    }
     match try_each(units, part, from) {
         Ok(at) => Some(at),
         Err(at) => place_by_suffix(units, part, at),
