@@ -67,7 +67,8 @@ module _ (units part : List ℕ) where
     from_end = omega (arith, fits)
 
     pub back_of_range : slice_range units (length units - at - length part) (length units - at) ≡ part
-        → Agrees (λ i. get_or units (length units - 1 - i) 0) (λ i. get_or part (length part - 1 - i) 0) at 0 (length part)
+        → Agrees (λ i. get_or units (length units - 1 - i) 0) (λ i. get_or part (length part - 1 - i) 0)
+        at 0 (length part)
     back_of_range same = back_to_front at (length units - at - length part) (omega (arith, fits))
         (omega (arith, fits), ap (slice_range units (length units - at - length part)) (sym from_end) ∙ same)
 
