@@ -1,8 +1,9 @@
 -- What is known of facts that were written: they can be stored, if their values have their classes.
-use Rattle.std.proofs.Common.{◌≡◌, ℕ, zero, suc, ◌<◌, ◌^◌, All, All-head, All-tail, List, [], ◌∷◌, ◌++◌, Some, length}
-use Rattle.std.proofs.Common.{arith, subst, sym}
+use Rattle.std.proofs.Common.{◌≡◌, ℕ, zero, suc, ◌+◌, ◌<◌, ◌^◌, All, List, [], ◌∷◌, ◌++◌, Some, length}
+use Rattle.std.proofs.Common.{arith, get_or, subst, sym, take}
+use Rattle.std.proofs.lemmas.List.Elements.{All-head, All-more, All-tail}
 use Rattle.std.specs.List.{AllByRecursion}
-use Rattle.std.specs.Prelude.{slice_get, OnOk, Result, Ok, Err}
+use Rattle.std.specs.Prelude.{slice_get, IfOk, OnOk, Result, Ok, Err}
 use Rattle.jl_num.specs.Number.{IsNumber}
 use Rattle.jl_op.specs.declared.op.Op.{Op}
 use Rattle.jl_record.specs.Facts.{AreSeen, IsSeen, IsSeenAs, IsText}
@@ -17,6 +18,10 @@ use Rattle.jl_record.proofs.Peeling.{all_front, all_rest}
 pub on_ok_now : {T E P : Type 0} (r : Result T E) → P → OnOk r P
 on_ok_now (Ok x) p = p
 on_ok_now (Err e) p = tt
+
+pub if_ok_now : {T E : Type 0} {P : T → Type 0} (r : Result T E) → ((x : T) → P x) → IfOk r P
+if_ok_now (Ok x) p = p x
+if_ok_now (Err e) p = tt
 
 -- ---- values
 
@@ -46,6 +51,13 @@ each_seen (s ∷ seen) all have = (
   All-head (λ s. HasItsClass s → IsSeen s) s seen all have.0,
   each_seen seen (All-tail (λ s. HasItsClass s → IsSeen s) s seen all) have.1,
 )
+
+pub one_more_seen : (seen : List Seen) (i : ℕ) (value : Seen) → value ≡ get_or seen i value → i < length seen
+    → All (λ s. HasItsClass s → IsSeen s) (take i seen) → (HasItsClass value → IsSeen value)
+    → All (λ s. HasItsClass s → IsSeen s) (take (i + 1) seen)
+one_more_seen seen i value item below all is =
+    let P : Seen → Type 0 = λ s. HasItsClass s → IsSeen s in
+    All-more P seen i value below all (subst (λ s. P s) item is)
 
 pub are_seen : (seen : List Seen) → length seen < 2 ^ 64 → All (λ s. HasItsClass s → IsSeen s) seen
     → AllByRecursion HasItsClass seen → AreSeen seen

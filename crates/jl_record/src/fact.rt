@@ -33,7 +33,7 @@ pub(crate) trait Fact: Sized + Drop {
     ghost written: { Self → List ℕ };
 
     /// The values in it.
-    ghost values: { Self → List Seen } = { λ _. [] };
+    ghost values: { Self → List OneSeen } = { λ _. [] };
 
     /// The fact that comes first, and what follows it.
     fn front(alloc: Global, units: &[u16]) -> Result<Option<(Self, &[u16])>, AllocError>

@@ -79,8 +79,8 @@ impl Recorder {
         ensures found { IfOk result (λ text. (seen : List Operation)
             → ⟦<Recorder as Observer>⟧.stands_for self seen
             → text.items ≡ bytes_of_run (run_of lines.now map.now off.now seen)) }
-        ensures stored { (seen : List Operation) → ⟦<Recorder as Observer>⟧.stands_for self seen
-            → AllByRecursion (λ o. CanBeStored o.1) seen }
+        ensures stored { IfOk result (λ _. (seen : List Operation)
+            → ⟦<Recorder as Observer>⟧.stands_for self seen → AllByRecursion (λ o. CanBeStored o.1) seen) }
         ensures within { IfOk result (λ text. (limit : ℕ) → ⟦<Recorder as Observer>⟧.fixed self ≡ limit ∷ []
             → length text.items ≤ limit) }
         ensures too_long { OnTooLong result ((limit : ℕ) (seen : List Operation)

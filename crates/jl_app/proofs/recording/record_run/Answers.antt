@@ -21,8 +21,8 @@ use Rattle.jl_app.proofs.OffRules.{off_are_rules}
 use Rattle.jl_app.proofs.ToldRuns.{of_told_kinds, record_bytes_are}
 use Rattle.jl_app.proofs.recording.record_run.Goals as goal
 
-pub off-requires-clause-lexed : goal.off-requires-clause-lexed
-off-requires-clause-lexed c =
+pub switched_off-requires-clause-lexed : goal.switched_off-requires-clause-lexed
+switched_off-requires-clause-lexed c =
     let script = c.requires.script in
     (script.1.tokens, subst (λ us. Tokens us script.1.tokens) (sym script.2) script.1.lexed)
 
@@ -45,7 +45,7 @@ returns-in-Ok c =
     let stored : IsStored (stored_run units p off.0 (world_of ran).hooks) =
     subst (λ us. IsStored (stored_run us p off.0 (world_of ran).hooks)) (sym script.2)
     (c.recorded_runs_are_stored.ensures script.0 p script.1 off.0 budget c.requires.budget
-    (c.finish.ensures.stored (world_of ran).hooks is.told)) in
+    (c.in-Ok.ensures.stored (world_of ran).hooks is.told)) in
     let bytes = c.in-Ok.ensures.found (world_of ran).hooks is.told
     ∙ record_bytes_are units p off.0 (world_of ran).hooks c.lines.result.now c.in_ok-map.map c.in_ok-off.off
     c.lines.ensures c.in_ok-map.ensures.rows off.2 in (
