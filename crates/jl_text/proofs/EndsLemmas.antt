@@ -31,9 +31,9 @@ module _ (units part : List ℕ) where
       → IsFirstPlace units part from place
   first_by_units from None none = λ k low stands. none k low stands.0 (λ i some inside. unit_of k stands i inside)
   first_by_units from (Some at) is = (
-    is.0,
-    stands_by_units at is.1 (λ k inside. is.2 k (omega arith) inside),
-    λ k low high stands. is.3 k low high (λ i some inside. unit_of k stands i inside),
+    is.2.0,
+    stands_by_units at is.0 (λ k inside. is.1 k (omega arith) inside),
+    λ k low high stands. is.2.1 k low high (λ i some inside. unit_of k stands i inside),
   )
 
   -- counted from the back
@@ -53,6 +53,30 @@ module _ (units part : List ℕ) where
       ∙ same (length part - 1 - i) (omega arith) (omega (arith, inside))
       ∙ ap (λ n. get_or part n 0) {x = length part - 1 - (length part - 1 - i)} {y = i} (omega (arith, inside)))
 
+  -- comparisons of slices
+  module _ (at : ℕ) (fits : at + length part ≤ length units) where
+    pub front_of_range : slice_range units at (at + length part) ≡ part
+        → Agrees (λ i. get_or units i 0) (λ i. get_or part i 0) at 0 (length part)
+    front_of_range same k low inside = unit_of at (fits, same) k inside
+
+    pub range_of_front : Agrees (λ i. get_or units i 0) (λ i. get_or part i 0) at 0 (length part)
+        → slice_range units at (at + length part) ≡ part
+    range_of_front same = (stands_by_units at fits (λ k inside. same k (omega arith) inside)).1
+
+    from_end : length units - at ≡ length units - at - length part + length part
+    from_end = omega (arith, fits)
+
+    pub back_of_range : slice_range units (length units - at - length part) (length units - at) ≡ part
+        → Agrees (λ i. get_or units (length units - 1 - i) 0) (λ i. get_or part (length part - 1 - i) 0)
+        at 0 (length part)
+    back_of_range same = back_to_front at (length units - at - length part) (omega (arith, fits))
+        (omega (arith, fits), ap (slice_range units (length units - at - length part)) (sym from_end) ∙ same)
+
+    pub range_of_back : Agrees (λ i. get_or units (length units - 1 - i) 0) (λ i. get_or part (length part - 1 - i) 0)
+        at 0 (length part) → slice_range units (length units - at - length part) (length units - at) ≡ part
+    range_of_back same = ap (slice_range units (length units - at - length part)) from_end
+        ∙ (front_to_back at (length units - at - length part) (omega (arith, fits)) same).1
+
   module _ (from start : ℕ) (fits : length part ≤ length units)
       (begins : start + min from (length units - length part) ≡ length units - length part) where
     abbrev pub Backwards : Option ℕ → Type 0
@@ -68,10 +92,10 @@ module _ (units part : List ℕ) where
     pub last_by_units : (at : ℕ) → Backwards (Some at)
         → IsLastPlace units part from (Some (length units - length part - at))
     last_by_units at is = (
-      omega (arith, begins, is.0, is.1, fits),
-      front_to_back at (length units - length part - at) (omega (arith, is.1, fits)) is.2,
+      omega (arith, begins, is.2.0, is.0, fits),
+      front_to_back at (length units - length part - at) (omega (arith, is.0, fits)) is.1,
       λ k low high stands.
           let behind = length units - length part - k in
-          is.3 behind (omega (arith, begins, low, stands.0, fits)) (omega (arith, high, stands.0, fits, is.1))
+          is.2.1 behind (omega (arith, begins, low, stands.0, fits)) (omega (arith, high, stands.0, fits, is.0))
           (back_to_front behind k (omega (arith, stands.0, fits)) stands),
     )

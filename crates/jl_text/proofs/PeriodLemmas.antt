@@ -225,11 +225,13 @@ module _ (units part : ℕ → ℕ) (size from at : ℕ) where
     | inr after ↦ none k after fits there
   ]
   IsLeastPlace-later count (Some found) earlier is = (
-    omega (arith, earlier.0, is.0),
+    is.0,
     is.1,
-    is.2,
-    λ k low high there. elim (cases_lt k at) [
-      | inl before ↦ earlier.1 k low before there
-      | inr after ↦ is.3 k after high there
-    ],
+    (
+      omega (arith, earlier.0, is.2.0),
+      λ k low high there. elim (cases_lt k at) [
+        | inl before ↦ earlier.1 k low before there
+        | inr after ↦ is.2.1 k after high there
+      ],
+    ),
   )

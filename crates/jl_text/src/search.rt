@@ -4,10 +4,10 @@
 // suffix stand at a place and the next does not, the suffix stands at no place less than a period of these units
 // further on. No table of periods is wanted: the least period of a front of a greatest suffix is that of the front
 // without its last unit, or the length of the front (M. Crochemore 1992, W. Rytter 2003).
-ghost use Rattle.std.specs.Prelude.{◌≡◌, ◌≤◌, ◌<◌, ◌+◌, ◌↔◌, true, length, Some, IfOk, IfErr};
+ghost use Rattle.std.specs.Prelude.{◌≡◌, ◌≤◌, ◌<◌, ◌+◌, ◌↔◌, true, length, IfOk, IfErr};
 ghost use Rattle.jl_text.specs.Limits.{most_units};
 ghost use Rattle.jl_text.specs.Search.{first_place, last_place, IsFirstPlace, IsLastPlace};
-ghost use Rattle.jl_text.specs.inner.Seeking.{Agrees, HasNone, IsLeastPlace};
+ghost use Rattle.jl_text.specs.inner.Seeking.{Agrees, HasNone, IsLeast, IsLeastPlace};
 
 use crate::ends::{FromBack, FromFront, Units};
 use crate::period::{greatest_suffix, next_period};
@@ -43,6 +43,9 @@ fn least_place<U: Units>(units: U, part: U, from: usize) -> Option<usize>
     if part.len() > units.len() || from > units.len() - part.len() {
         return None;
     }
+    if units.stands(part, from) {
+        return Some(from);
+    }
     match try_each(units, part, from) {
         Ok(at) => Some(at),
         Err(at) => place_by_suffix(units, part, at),
@@ -54,7 +57,7 @@ fn least_place<U: Units>(units: U, part: U, from: usize) -> Option<usize>
 fn try_each<U: Units>(units: U, part: U, from: usize) -> Result<usize, usize>
     requires short { U.size units ≤ most_units }
     requires fits { from + U.size part ≤ U.size units }
-    ensures found { IfOk result (λ at. IsLeastPlace (U.unit units) (U.unit part) (U.size units) (U.size part) from (Some at)) }
+    ensures found { IfOk result (IsLeast (U.unit units) (U.unit part) (U.size units) (U.size part) from) }
     ensures not_before { IfErr result (λ at. HasNone (U.unit units) (U.unit part) (U.size part) from at) }
 {
     let last = units.len() - part.len();
@@ -94,6 +97,9 @@ fn place_by_suffix<U: Units>(units: U, part: U, from: usize) -> Option<usize>
     ensures { IsLeastPlace (U.unit units) (U.unit part) (U.size units) (U.size part) from result }
 {
     let last = units.len() - part.len();
+    if from > last {
+        return None;
+    }
     let start = greatest_suffix(part);
     let mut at = from;
     let mut period = 1;

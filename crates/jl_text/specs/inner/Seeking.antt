@@ -27,9 +27,13 @@ pub record IsPeriod (part : ℕ → ℕ) (start end p : ℕ) : Type 0 where
 abbrev pub HasNone : (units part : ℕ → ℕ) → (size from to : ℕ) → Type 0
 HasNone units part size from to = (from ≤ to) × ((k : ℕ) → from ≤ k → k < to → ¬ (Agrees units part k 0 size))
 
--- the place, if there is one, is the least from `from` on at which `part` stands in `units`
+-- the place is the least from `from` on at which `part`, of so many units, stands in `count` units
+abbrev pub IsLeast : (units part : ℕ → ℕ) → (count size from at : ℕ) → Type 0
+IsLeast units part count size from at =
+    (at + size ≤ count) × Agrees units part at 0 size × HasNone units part size from at
+
+-- the place, if there is one, is the least, and there is one if the part stands anywhere from `from` on
 abbrev pub IsLeastPlace : (units part : ℕ → ℕ) → (count size from : ℕ) → Option ℕ → Type 0
 IsLeastPlace units part count size from place =
     MatchOption place ((k : ℕ) → from ≤ k → k + size ≤ count → ¬ (Agrees units part k 0 size))
-    (λ at. (from ≤ at) × (at + size ≤ count) × Agrees units part at 0 size
-    × ((k : ℕ) → from ≤ k → k < at → ¬ (Agrees units part k 0 size)))
+    (IsLeast units part count size from)
