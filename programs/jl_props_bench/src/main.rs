@@ -51,8 +51,8 @@ fn names(alloc: Global, kind: &str, count: u32) -> Result<Vec<Text>> {
     for at in 0..count {
         let other = u64::from(at).wrapping_mul(7919) % u64::from(count);
         let name = match kind {
-            "rising" => text(alloc, format!(in alloc; "p{at:06}")?.as_bytes())?,
-            "mixed" => text(alloc, format!(in alloc; "p{other:06}")?.as_bytes())?,
+            "rising" => text(alloc, format!(in alloc; "p{at:07}")?.as_bytes())?,
+            "mixed" => text(alloc, format!(in alloc; "p{other:07}")?.as_bytes())?,
             "nested" => text(alloc, format!(in alloc; "{PREFIX}{at:06}")?.as_bytes())?,
             "crafted" => Text::from_units(alloc, &crafted(at))?,
             _ => bail!("the kinds of names are rising, mixed, nested and crafted"),
