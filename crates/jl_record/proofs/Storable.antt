@@ -23,6 +23,21 @@ pub if_ok_now : {T E : Type 0} {P : T → Type 0} (r : Result T E) → ((x : T) 
 if_ok_now (Ok x) p = p x
 if_ok_now (Err e) p = tt
 
+-- a fact that asks for no class, and that of one value
+pub on_ok_fact : {T E Is : Type 0} (r : Result T E) (seen : List Seen) → Is
+    → OnOk r (AllByRecursion HasItsClass seen → Is)
+on_ok_fact r seen is = on_ok_now r (λ (have : AllByRecursion HasItsClass seen). is)
+
+pub fact_on_ok : {T E : Type 0} (Is : Type 0) (r : Result T E) (seen : List Seen) → OnOk r Is
+    → OnOk r (AllByRecursion HasItsClass seen → Is)
+fact_on_ok Is (Ok x) seen is = λ have. is
+fact_on_ok Is (Err e) seen is = tt
+
+pub one_fact : {T E : Type 0} (r : Result T E) (seen : Seen) → OnOk r (HasItsClass seen → IsSeen seen)
+    → OnOk r (AllByRecursion HasItsClass (seen ∷ []) → IsSeen seen)
+one_fact (Ok x) seen is = λ have. is have.0
+one_fact (Err e) seen is = tt
+
 -- ---- values
 
 -- what the type of a value says of it
@@ -66,11 +81,17 @@ are_seen seen few all have = (few, each_seen seen all have)
 -- ---- facts in a row
 
 -- a fact, and others
-pub both_can : {Is Are : Type 0} (some others : List Seen) → (AllByRecursion HasItsClass some → Is)
+both_can : {Is Are : Type 0} (some others : List Seen) → (AllByRecursion HasItsClass some → Is)
     → (AllByRecursion HasItsClass others → Are) → AllByRecursion HasItsClass (some ++ others)
     → Is × Are
 both_can some others is are have =
     (is (all_front HasItsClass some others have), are (all_rest HasItsClass some others have))
+
+pub both_on_ok : {T E Is : Type 0} (Are : Type 0) (r : Result T E) (some others : List Seen)
+    → (AllByRecursion HasItsClass some → Is) → OnOk r (AllByRecursion HasItsClass others → Are)
+    → OnOk r (AllByRecursion HasItsClass (some ++ others) → Is × Are)
+both_on_ok Are (Ok x) some others is are = both_can some others is are
+both_on_ok Are (Err e) some others is are = tt
 
 -- ---- operations
 

@@ -1,5 +1,5 @@
 // Facts of operations as they are written.
-ghost use Rattle.std.specs.Prelude.{◌≡◌, ◌++◌, OnOk, length};
+ghost use Rattle.std.specs.Prelude.{◌≡◌, ◌<◌, ◌^◌, ◌++◌, OnOk, length};
 ghost use Rattle.std.specs.Fmt.{decimal};
 ghost use Rattle.std.specs.List.{AllByRecursion};
 ghost use Rattle.jl_num.specs.Digits.{number_text};
@@ -52,6 +52,23 @@ fn write_number(text: &mut Bounded, number: Num) -> Result<(), AllocError>
     text.number(whole.unsigned_abs())
 }
 
+// A number that is passed is known to fit its type, where one within an enum is not.
+fn write_place(text: &mut Bounded, place: usize) -> Result<(), AllocError>
+    ensures limit { text.new.limit ≡ text.old.limit }
+    ensures holds { OnOk result (Appends text.old text.new (decimal place)) }
+    ensures fits { place < 2 ^ 64 }
+{
+    text.number(place as u64)
+}
+
+fn write_small(text: &mut Bounded, number: u32) -> Result<(), AllocError>
+    ensures limit { text.new.limit ≡ text.old.limit }
+    ensures holds { OnOk result (Appends text.old text.new (decimal number)) }
+    ensures fits { number < 2 ^ 32 }
+{
+    text.number(u64::from(number))
+}
+
 #[tactic(auto, using(crate::proofs::Holding::appends_both))]
 pub(crate) fn write_value(alloc: Global, text: &mut Bounded, seen: &Seen) -> Result<(), AllocError>
     ensures limit { text.new.limit ≡ text.old.limit }
@@ -69,7 +86,7 @@ pub(crate) fn write_value(alloc: Global, text: &mut Bounded, seen: &Seen) -> Res
         Value::Text(units) => text.quoted(alloc, units.units()),
         Value::Obj(place) => {
             text.word("o")?;
-            text.number(place.0 as u64)?;
+            write_place(text, place.0)?;
             text.word(":")?;
             text.word(seen.class.spelling())
         }
@@ -93,9 +110,9 @@ pub(crate) fn write_callee(
             mentions,
         } => {
             text.word("s ")?;
-            text.number(u64::from(function))?;
+            write_small(text, function)?;
             text.word(" ")?;
-            text.number(u64::from(params))?;
+            write_small(text, params)?;
             text.word(" ")?;
             write_truth(text, mentions)
         }

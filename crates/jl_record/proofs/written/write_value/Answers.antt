@@ -11,13 +11,13 @@ returns-in-Null-clause-fact c = on_ok_now _ (is_seen c.args.seen.now c.in-Null.i
 pub returns-in-Bool-clause-fact : goal.returns-in-Bool-clause-fact
 returns-in-Bool-clause-fact c = on_ok_now _ (is_seen c.args.seen.now c.in-Bool.is tt)
 
-pub returns-in-Num-clause-fact : goal.returns-in-Num-clause-fact
-returns-in-Num-clause-fact c = on_ok_now _ (is_seen c.args.seen.now c.in-Num.is c.write_number.ensures.number)
+pub returns-in_ok-word-in-Num-clause-fact : goal.returns-in_ok-word-in-Num-clause-fact
+returns-in_ok-word-in-Num-clause-fact c = on_ok_now _ (is_seen c.args.seen.now c.in-Num.is c.write_number.ensures.number)
 
 pub returns-in-Text-clause-fact : goal.returns-in-Text-clause-fact
 returns-in-Text-clause-fact c =
     let small = subst (λ us. All (λ u. u < 2 ^ 16) us) c.units.ensures.same c.quoted.ensures.small in
     on_ok_now _ (is_seen c.args.seen.now c.in-Text.is (c.units.ensures.short, small))
 
-pub returns-in-Obj-clause-fact : goal.returns-in-Obj-clause-fact
-returns-in-Obj-clause-fact c = on_ok_now _ (is_seen c.args.seen.now c.in-Obj.is c.ranges.place.fits)
+pub returns-in_ok-word-in-Obj-2-clause-fact : goal.returns-in_ok-word-in-Obj-2-clause-fact
+returns-in_ok-word-in-Obj-2-clause-fact c = on_ok_now _ (is_seen c.args.seen.now c.in-Obj.is c.write_place.ensures.fits)

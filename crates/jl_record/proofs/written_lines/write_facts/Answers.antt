@@ -5,7 +5,7 @@ use Rattle.jl_record.proofs.written_lines.write_facts.Goals as goal
 
 pub returns-in-ScriptEnter-clause-facts : goal.returns-in-ScriptEnter-clause-facts
 returns-in-ScriptEnter-clause-facts c =
-    on_ok_weaker _ (can_be_stored c.in-ScriptEnter.is) c.write-in-ScriptEnter.ensures.facts
+    on_ok_weaker _ (can_be_stored c.in-ScriptEnter.is) c.write.ensures.facts
 
 pub returns-in-ScriptExit-clause-facts : goal.returns-in-ScriptExit-clause-facts
 returns-in-ScriptExit-clause-facts c =
