@@ -21,10 +21,10 @@ use Rattle.jl_app.proofs.OffRules.{off_are_rules}
 use Rattle.jl_app.proofs.ToldRuns.{of_told_kinds, record_bytes_are}
 use Rattle.jl_app.proofs.recording.record_run.Goals as goal
 
-pub switched_off-requires-clause-lexed : goal.switched_off-requires-clause-lexed
-switched_off-requires-clause-lexed c =
+pub switched_off-requires : goal.switched_off-requires
+switched_off-requires c =
     let script = c.requires.script in
-    (script.1.tokens, subst (λ us. Tokens us script.1.tokens) (sym script.2) script.1.lexed)
+    record { lexed = (script.1.tokens, subst (λ us. Tokens us script.1.tokens) (sym script.2) script.1.lexed) }
 
 pub finish-requires-clause-rules : goal.finish-requires-clause-rules
 finish-requires-clause-rules c =
