@@ -159,7 +159,8 @@ module _ (written : WrittenReadsBack) (readings : ReadingsAreUnique) (never : Ne
         only = λ other is. one_unmapped readings never bad (map_of ss) other _ is due;
       }
 
-  pub maps_listed : SpansAreInOrder → RowsLieInText → (bytes : List ℕ) (p : Program Span) (due : Due) (tokens : List Token)
+  pub maps_listed : SpansAreInOrder → RowsLieInText → (bytes : List ℕ) (p : Program Span) (due : Due)
+      (tokens : List Token)
       → IsAccepted bytes p → length (woven_text every_kind p) < 4294967295 → IsMappedBack (units_of bytes) p due
       → Tokens (woven_text every_kind p) tokens → length due.bytes ≤ most_map_bytes
       → IsListedAs due.bytes (woven_segments (units_of bytes) p tokens)

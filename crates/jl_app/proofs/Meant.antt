@@ -57,8 +57,9 @@ module _ {O : Type 0} (stands_for : O → List Operation → Type 0) (before : L
           told = subst (λ (w : World). stands_for o (before ++ w.hooks)) world is.told;
         }
 
-    pub is_meant : (kinds : Kinds) (p : Program Span) → quiet_mean kinds p n ≡ hooked_mean kinds p n → QuietMeans kinds p
-        → IsRun stands_for before n (hooked_mean kinds p n) a o → IsRun stands_for before n (hooked_run kinds p n) a o
+    pub is_meant : (kinds : Kinds) (p : Program Span) → quiet_mean kinds p n ≡ hooked_mean kinds p n
+        → QuietMeans kinds p → IsRun stands_for before n (hooked_mean kinds p n) a o
+        → IsRun stands_for before n (hooked_run kinds p n) a o
     unfolding hooked_run
     is_meant kinds p machine means is =
         of_quiet (mean.mean kinds p n)

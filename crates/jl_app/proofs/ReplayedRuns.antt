@@ -49,7 +49,8 @@ own_operations p well budget over =
 -- the stored run is reported as `lint` reports these operations
 module _ (replays : StoredRunsReplay) (units : List ℕ) (p : Program Span)
     (begin : All (BeginsIn (line_table units)) (id_map p)) (operations : List Operation)
-    (comments : List Comment) (are : Comments units comments) (stored : IsStored (stored_run units p comments operations))
+    (comments : List Comment) (are : Comments units comments)
+    (stored : IsStored (stored_run units p comments operations))
     (few : length (record_bytes units p comments operations) ≤ most_record_bytes) (chosen : List ℕ) where
   as_run : ReplaysAs chosen (stored_run units p comments operations)
   as_run = replays (stored_run units p comments operations) chosen stored few
@@ -83,11 +84,12 @@ module _ (replays : StoredRunsReplay) (units : List ℕ) (p : Program Span)
 
 -- so is what `record` answers, unless it is a refusal
 recorded_as_lint : StoredRunsReplay → (units : List ℕ) (p : Program Span) → All (BeginsIn (line_table units)) (id_map p)
-    → (r : mean.Run) (operations : List Operation) (due : Due) → IsRecorded units p r operations due → (due.status ≡ status.Refused → ⊥) → (chosen : List ℕ)
-    → ReplaysAsLint units p operations chosen due.bytes
+    → (r : mean.Run) (operations : List Operation) (due : Due) → IsRecorded units p r operations due
+    → (due.status ≡ status.Refused → ⊥) → (chosen : List ℕ) → ReplaysAsLint units p operations chosen due.bytes
 recorded_as_lint replays units p begin r operations _ (recorded comments are stored few) some chosen =
     as_lint replays units p begin operations comments are stored few chosen
-recorded_as_lint replays units p begin r operations _ (too_long_record comments are many) some chosen = absurd (some refl)
+recorded_as_lint replays units p begin r operations _ (too_long_record comments are many) some chosen =
+    absurd (some refl)
 
 pub reports_as_lint : ((kinds : Kinds) (bytes : List ℕ) (p : Program Span) → IsAccepted bytes p → IsWovenWell kinds p)
     → StoredRunsReplay → RowsLieInText → ReplayReportsAsLint

@@ -117,8 +117,8 @@ pub fn stored_runs_replay()
     one_record();
 }
 
-/// The run that `record` tells of, of an accepted script with a budget of at most 1,000,000,000, is a stored run, if its
-/// operations can be stored. Its rows have places, what is switched off is in order, and each operation has a row of
+/// The run that `record` tells of, of an accepted script with a budget of at most 1,000,000,000, is a stored run, if
+/// its operations can be stored. Its rows have places, what is switched off is in order, and each operation has a row of
 /// its kind and sees its values with their classes.
 pub(crate) fn recorded_runs_are_stored()
     ensures { RecordedRunsAreStored }
@@ -131,8 +131,8 @@ pub(crate) fn recorded_runs_are_stored()
     hooks_take_steps::<()>();
 }
 
-/// What is due to `replay` on what is due to `record` on an accepted script, unless that is a refusal, is the report that
-/// `lint` gives of the script, whatever rules are chosen, where its own run is over within the budget.
+/// What is due to `replay` on what is due to `record` on an accepted script, unless that is a refusal, is the report
+/// that `lint` gives of the script, whatever rules are chosen, where its own run is over within the budget.
 pub fn replay_reports_as_lint()
     ensures { ReplayReportsAsLint }
 {

@@ -17,8 +17,8 @@ use jl_op::{Observer, OpMap};
 use jl_report::{Line, Off, line_text, off, report};
 use std::alloc::{AllocError, Global};
 
-/// The report of what the checkers of the chosen rules found at the parts of a source that a map shows, but for what the
-/// comments of the source switch off.
+/// The report of what the checkers of the chosen rules found at the parts of a source that a map shows, but for what
+/// the comments of the source switch off.
 pub(crate) fn report_in(
     alloc: Global,
     source: &Source,
