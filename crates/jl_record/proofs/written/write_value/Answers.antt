@@ -12,7 +12,8 @@ pub returns-in-Bool-clause-fact : goal.returns-in-Bool-clause-fact
 returns-in-Bool-clause-fact c = on_ok_now _ (is_seen c.args.seen.now c.in-Bool.is tt)
 
 pub returns-in_ok-word-in-Num-clause-fact : goal.returns-in_ok-word-in-Num-clause-fact
-returns-in_ok-word-in-Num-clause-fact c = on_ok_now _ (is_seen c.args.seen.now c.in-Num.is c.write_number.ensures.number)
+returns-in_ok-word-in-Num-clause-fact c =
+    on_ok_now _ (is_seen c.args.seen.now c.in-Num.is c.write_number.ensures.number)
 
 pub returns-in-Text-clause-fact : goal.returns-in-Text-clause-fact
 returns-in-Text-clause-fact c =
