@@ -78,7 +78,7 @@ class SourceMap:
 
 
 def read_source(path: str) -> str | None:
-    """The text of an original, or None where it can't be read or is larger than a transpiler's input may well be."""
+    """The text of a script or an original, or None where it can't be read or is larger than that may well be."""
     try:
         with open_file(path) as file:
             given = file.read(LARGEST_FILE + 1)

@@ -40,8 +40,8 @@ test('scripts share a page and the names that they declare', { skip }, () => inN
     ['first.js', 'var made = 0 / 0, text = /<&"/.exec("a<&\\"") + undefined;\nfunction twice(n) { return n * 2; }\n'],
     ['second.js', 'document.title = twice("x") + ("area " + undefined);\n']
   ], '#text');
-  assert.deepStrictEqual(shown(files), ['first.js:1:12 nan-made 1', 'first.js:1:26 object-joined 1',
-    'first.js:1:26 undefined-joined 1', 'first.js:2:28 nan-made 1', 'second.js:1:32 undefined-joined 1']);
+  assert.deepStrictEqual(shown(files), ['first.js:1:12 nan-made 1', 'first.js:1:26 undefined-joined 1',
+    'first.js:1:26 object-joined 1', 'first.js:2:28 nan-made 1', 'second.js:1:32 undefined-joined 1']);
 }));
 
 test('timers and an uncaught throw are recorded', { skip }, () => inNewFolder(async folder => {

@@ -33,6 +33,35 @@ for (const name of fs.readdirSync(FOLDER)) {
   }));
 }
 
+const SUM = `'use strict';
+exports.sum = function (list) {
+  var total;
+  for (var i = 0; i < list.length; i++) total += list[i];
+  return total;
+};
+`;
+const SUM_TEST = `'use strict';
+require('node:test')('a sum is a number', function () {
+  require('assert').strictEqual(typeof require('../sum.js').sum([1, 2]), 'number');
+});
+`;
+
+// Each file of tests is a process of its own, with a report of its own.
+test("node's test runner", { skip }, () => inNewFolder(folder => {
+  fs.mkdirSync(path.join(folder, 'test'));
+  fs.writeFileSync(path.join(folder, 'sum.js'), SUM);
+  fs.writeFileSync(path.join(folder, 'test', 'sum.test.js'), SUM_TEST);
+  const words = `--require=${JSON.stringify(path.join(ENGINES, 'register.js'))}`;
+  const own = { NODE_OPTIONS: words, JLINT_OUT: 'jlint.%p.txt', JLINT_FORMAT: 'unix', JLINT_FILES: '', JLINT_RUN: '' };
+  const env = { ...process.env, ...own };
+  delete env.NODE_TEST_CONTEXT; // which the runner of this file has set
+  const run = spawnSync(process.execPath, ['--test'], { cwd: folder, env });
+  assert.strictEqual(run.status, 0, run.stdout.toString() + run.stderr.toString());
+  const reports = fs.readdirSync(folder).filter(name => /^jlint\.\d+\.txt$/.test(name));
+  const lines = reports.map(name => fs.readFileSync(path.join(folder, name), 'utf8')).join('');
+  assert.match(lines, /^sum\.js:4:\d+: nan-made \(1\) \[Warning\/nan-made\]$/m);
+}));
+
 // Newer nodes load it, as strict code without `module`; older ones throw.
 test('an ECMAScript module that is required', { skip }, () => inNewFolder(folder => {
   fs.mkdirSync(path.join(folder, 'inner'));

@@ -6,6 +6,7 @@ import os
 from typing import Sequence, TextIO
 
 from ..findings import FileResult, Severity, Totals
+from ..original import read_source
 from ..source import SourceText
 from .lines import findings_of
 from .page import Note, Row, escape, link_to, write_foot, write_head, write_source
@@ -14,11 +15,8 @@ from .stylish import summary
 
 def read_lines(path: str) -> list[str]:
     """The lines of a file, none where it can't be read."""
-    try:
-        with open(path, encoding="utf-8", errors="replace", newline="") as file:
-            return SourceText(file.read()).lines
-    except (OSError, ValueError):
-        return []
+    text = read_source(path)
+    return [] if text is None else SourceText(text).lines
 
 
 def rows_of(lines: list[str], notes: dict[int, list[Note]], known: dict[int, str]) -> list[Row]:

@@ -223,6 +223,8 @@ class SourceMaps(FrontCase):
             "data:application/json;base64,!",
             "https://example.com/a.map",
             "data:application/json,[}",
+            "data:application/json,%7B%22version%22:3,%22sources%22:[%22%5Cud800%22],"
+            "%22names%22:[],%22mappings%22:%22%22%7D",
             "/dev/zero",
             "a%00.map",
         ):
@@ -233,7 +235,7 @@ class SourceMaps(FrontCase):
 
     def test_originals_that_can_not_be_read(self) -> None:
         del self.map["sourcesContent"]
-        for source in ("absent.js", "/dev/zero", "a\0.js", "\ud800.js", "."):
+        for source in ("absent.js", "/dev/zero", "a\0.js", "."):
             self.map["sources"] = [source]
             self.write("a.js.map", json.dumps(self.map))
             self.write("a.js", f"{OLD}//# sourceMappingURL=a.js.map\n")
