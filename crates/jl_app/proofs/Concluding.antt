@@ -4,7 +4,6 @@ use Rattle.jl_analysis.specs.Laws.{NeededIsEnough}
 use Rattle.jl_ast.specs.Tree.{Program}
 use Rattle.jl_command.specs.Asked.{Asked, request}
 use Rattle.jl_effects.specs.Running.{IsOver, state_of as world_of, steps_taken}
-use Rattle.jl_meaning.specs.Mean as mean
 use Rattle.jl_text.specs.Encoding.{units_of}
 use Rattle.jl_text.specs.declared.span.Span.{Span}
 use Rattle.jl_app.specs.Accepting.{IsAccepted, IsRead, OneReading}

@@ -1,5 +1,5 @@
 -- Values that are seen among some objects have their classes.
-use Rattle.std.proofs.Common.{◌≡◌, ap, append-nil, List, [], ◌∷◌, ◌++◌, refl, subst, sym}
+use Rattle.std.proofs.Common.{◌≡◌, ap, append-nil, List, [], ◌∷◌, refl, subst, sym}
 use Rattle.std.specs.List.{AllByRecursion}
 use Rattle.jl_heap.specs.Describe.{class_of_value}
 use Rattle.jl_heap.specs.Objects.{Objects}

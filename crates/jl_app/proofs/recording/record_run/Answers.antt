@@ -1,4 +1,4 @@
-use Rattle.std.proofs.Common.{◌≡◌, ◌∙◌, ◌≤◌, ◌<◌, All, List, ap, length, refl, subst, sym}
+use Rattle.std.proofs.Common.{◌∙◌, ◌≤◌, ◌<◌, All, List, ap, length, refl, subst, sym}
 use Rattle.std.proofs.lemmas.Result.{IfOk-weaker}
 use Rattle.std.specs.Prelude.{codes}
 use Rattle.jl_analysis.specs.Rules.{IsRule}
@@ -6,11 +6,8 @@ use Rattle.jl_ast.specs.View.{view}
 use Rattle.jl_effects.specs.Running.{state_of as world_of}
 use Rattle.jl_machine.specs.Runs.{ending_of}
 use Rattle.jl_op.specs.Chosen.{every_kind}
-use Rattle.jl_op.specs.Map.{MapRow}
-use Rattle.jl_record.specs.Recording.{bytes_of_run, run_of}
 use Rattle.jl_record.specs.Records.{IsStored}
-use Rattle.jl_report.specs.Off.{Pair, off_by}
-use Rattle.jl_text.specs.Places.{LineTable, line_table}
+use Rattle.jl_report.specs.Off.{Pair}
 use Rattle.jl_token.specs.Tokens.{Tokens}
 use Rattle.jl_app.specs.Due.{refused_only, text_only}
 use Rattle.jl_app.specs.Forms.{most_record_bytes}
