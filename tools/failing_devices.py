@@ -12,7 +12,8 @@ puts before the C library, so that one call fails or each moves a single byte. D
 
 and where the call that is to fail is never made, or each moves one byte, what is answered without failure. Each read
 and each write fails in turn. Of the allocations from main on some 200 of each script do, by even steps, or each Kth, or
-all. Ends with status 1 where an answer is not as due, or no call of a table failed; with 0 where no library is made.
+all. Tables of names hash by random keys, so how many allocations a run makes differs by a few from run to run: the Kth
+is then another one or is not reached, and either answer is due of it. Ends with status 1 where an answer is not as due, or no call of a table failed; with 0 where no library is made.
 """
 import argparse
 import concurrent.futures

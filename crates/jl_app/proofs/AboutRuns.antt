@@ -5,58 +5,30 @@ use Rattle.jl_analysis.specs.Laws.{NeededIsEnough}
 use Rattle.jl_ast.specs.Tree.{Program}
 use Rattle.jl_effects.specs.Growing.{IsLonger}
 use Rattle.jl_effects.specs.Matching.{Alike, IsWithin, SameSeen, Simulates, step_bound}
-use Rattle.jl_effects.specs.Running.{Ends, Fails, Finish, IsOver, Over, RunState, Spent, state_of as world_of}
-use Rattle.jl_effects.specs.Running.{steps_taken}
-use Rattle.jl_effects.specs.Traces.{with_state, without_operations}
+use Rattle.jl_effects.specs.Running.{IsOver, Over, Spent, state_of as world_of, steps_taken}
 use Rattle.jl_machine.specs.Runs.{ending_of}
 use Rattle.jl_meaning.specs.Mean as mean
 use Rattle.jl_meaning.specs.Store.{Store}
 use Rattle.jl_op.specs.Chosen.{is_kept}
+use Rattle.jl_op.specs.IdMap.{id_map}
 use Rattle.jl_op.specs.Operations.{Operation}
 use Rattle.jl_port.specs.Bytes.{Grows}
 use Rattle.jl_text.specs.declared.span.Span.{Span}
-use Rattle.jl_value.specs.declared.ending.Completion.{Completion}
-use Rattle.jl_value.specs.declared.ending.Completion.TheVariants as completion
-use Rattle.jl_value.specs.declared.ending.Fault.{Fault}
 use Rattle.jl_value.specs.declared.ending.Outcome.TheVariants as ending
-use Rattle.jl_app.specs.Linting.{IsReported, end_line, lint_bytes, lint_status, places}
+use Rattle.jl_app.specs.Linting.{IsReported, end_line, lint_bytes, lint_status}
 use Rattle.jl_app.specs.Endings.{Call}
 use Rattle.jl_app.specs.Headline.{IsAbout, IsAboutBeginning, kept_of}
 use Rattle.jl_app.specs.OwnRuns.{uncaught_line}
 use Rattle.jl_app.specs.Reporting.{Lines, lines_text}
 use Rattle.jl_app.specs.WovenText.{kinds_of}
+use Rattle.jl_app.proofs.Meant.{same_finish, World}
 use Rattle.jl_app.proofs.Reported.{all_reported}
-
-abbrev pub World : Type 0
-World = RunState Store Operation
-
-same_ending : (e : Finish Fault Completion) (m n : ℕ) (v w : World) → ending_of (Over e m v) ≡ ending_of (Over e n w)
-same_ending (Ends completion.Normal) m n v w = refl
-same_ending (Ends (completion.Throw x)) m n v w = refl
-same_ending (Ends _) m n v w = refl
-same_ending (Fails f) m n v w = refl
-
--- a run, but for what the script itself performs
-abbrev pub quiet : mean.Run → mean.Run
-quiet r = with_state without_operations r
-
-pub quiet_ending : (r : mean.Run) → ending_of (quiet r) ≡ ending_of r
-quiet_ending (Over e n w) = same_ending e n n (without_operations w) w
-quiet_ending (Spent w) = refl
-
-pub quiet_steps : (n : ℕ) (r : mean.Run) → steps_taken n (quiet r) ≡ steps_taken n r
-quiet_steps n (Over e k w) = refl
-quiet_steps n (Spent w) = refl
-
-pub quiet_world : (r : mean.Run) → world_of (quiet r) ≡ without_operations (world_of r)
-quiet_world (Over e k w) = refl
-quiet_world (Spent w) = refl
 
 -- runs that are alike
 
 module _ (kept : Operation → Bool) where
   pub alike_ending : (own other : mean.Run) → Alike kept own other → ending_of other ≡ ending_of own
-  alike_ending (Over e m v) (Over f n w) a = ap (λ x. ending_of (Over x n w)) a.0 ∙ same_ending e n m w v
+  alike_ending (Over e m v) (Over f n w) a = ap (λ x. ending_of (Over x n w)) a.0 ∙ same_finish e n m w v
   alike_ending (Over e m v) (Spent w) a = absurd a
   alike_ending (Spent v) r a = absurd a
 
@@ -69,15 +41,6 @@ module _ (kept : Operation → Bool) where
   alike_over (Over e m v) (Over f n w) a = (tt, tt)
   alike_over (Over e m v) (Spent w) a = absurd a
   alike_over (Spent v) r a = absurd a
-
-  -- the same without what the second performs itself
-  pub quiet_alike : (own other : mean.Run) → Alike kept own other → Alike kept own (quiet other)
-  quiet_alike (Over e m v) (Over f n w) a = (
-    a.0,
-    record { store = a.1.store; output = a.1.output; hooks = a.1.hooks },
-  )
-  quiet_alike (Over e m v) (Spent w) a = a
-  quiet_alike (Spent v) r a = absurd a
 
 -- the bytes of the answer
 same_bytes : (own r : mean.Run) (lines : Lines) (steps count : ℕ) → (world_of r).output ≡ (world_of own).output
@@ -105,7 +68,7 @@ reported : NeededIsEnough → (units : List ℕ) (p : Program Span) (chosen : Li
     → IsReported units p chosen (kept_of chosen operations) operations lines count
 reported enough units p chosen operations lines count is = record {
   counted = is.counted;
-  report = all_reported enough units (places p) chosen operations lines is.report;
+  report = all_reported enough units (id_map p) chosen operations lines is.report;
 }
 
 module _ (enough : NeededIsEnough) (call : Call) (units : List ℕ) (p : Program Span) (chosen : List ℕ) where
@@ -114,19 +77,17 @@ module _ (enough : NeededIsEnough) (call : Call) (units : List ℕ) (p : Program
 
   -- what is answered of a run that is alike, and took so many steps
   about : (n steps : ℕ) (own other : mean.Run) (lines : Lines) (count : ℕ) → Alike kept own other
-      → IsReported units p chosen (world_of (quiet other)).hooks (world_of (quiet other)).hooks lines count
-      → Grows call.written.0 call.written.1 (lint_bytes (quiet other) lines steps count)
-      → call.crowd.told (world_of (quiet other)).hooks → steps_taken n own ≤ steps → steps ≤ 32 * steps_taken n own + 64
-      → IsAbout call units p chosen n own (quiet other) (lint_status (ending_of (quiet other)) lines)
+      → IsReported units p chosen (world_of other).hooks (world_of other).hooks lines count
+      → Grows call.written.0 call.written.1 (lint_bytes other lines steps count)
+      → call.crowd.told (world_of other).hooks → steps_taken n own ≤ steps → steps ≤ 32 * steps_taken n own + 64
+      → IsAbout call units p chosen n own other (lint_status (ending_of other) lines)
   about n steps own other lines count alike report grows knows low high =
       let seen = alike_seen kept own other alike in
-      let world = quiet_world other in
-      let end : ending_of (quiet other) ≡ ending_of own = quiet_ending other ∙ alike_ending kept own other alike in
-      let hooks : (world_of (quiet other)).hooks ≡ kept_of chosen (world_of own).operations =
-      ap (λ (w : World). w.hooks) world ∙ seen.hooks in
+      let end : ending_of other ≡ ending_of own = alike_ending kept own other alike in
+      let hooks : (world_of other).hooks ≡ kept_of chosen (world_of own).operations = seen.hooks in
       record {
         over = (alike_over kept own other alike).0;
-        alike = quiet_alike kept own other alike;
+        alike = alike;
         lines = lines;
         steps = steps;
         count = count;
@@ -134,9 +95,7 @@ module _ (enough : NeededIsEnough) (call : Call) (units : List ℕ) (p : Program
             (subst (λ ops. IsReported units p chosen ops ops lines count) hooks report);
         status = ap (λ e. lint_status e lines) end;
         written = subst (λ bytes. Grows call.written.0 call.written.1 bytes)
-            (same_bytes own (quiet other) lines steps count (ap (λ (w : World). w.output) world ∙ seen.output)
-            (ap (λ (w : World). w.store) world ∙ seen.store) end)
-            grows;
+            (same_bytes own other lines steps count seen.output seen.store end) grows;
         no_fewer = low;
         not_many_more = high;
         told = subst (λ ops. call.crowd.told ops) hooks knows;
@@ -144,72 +103,61 @@ module _ (enough : NeededIsEnough) (call : Call) (units : List ℕ) (p : Program
 
   module _ (first second : ℕ → mean.Run) (simulates : Simulates kept first second) (most : ℕ)
       (lines : Lines) (count : ℕ)
-      (report : IsReported units p chosen (world_of (quiet (second most))).hooks (world_of (quiet (second most))).hooks
-      lines count)
+      (report : IsReported units p chosen (world_of (second most)).hooks (world_of (second most)).hooks lines count)
       (grows : Grows call.written.0 call.written.1
-      (lint_bytes (quiet (second most)) lines (steps_taken most (quiet (second most))) count))
-      (knows : call.crowd.told (world_of (quiet (second most))).hooks) where
-    same_taken : steps_taken most (quiet (second most)) ≡ steps_taken most (second most)
-    same_taken = quiet_steps most (second most)
-
+      (lint_bytes (second most) lines (steps_taken most (second most)) count))
+      (knows : call.crowd.told (world_of (second most)).hooks) where
     -- the first run is over within fewer steps
     pub about_own : (n d : ℕ) → most ≡ step_bound n → most ≡ n + d → IsLonger d (first n) (first (n + d))
         → IsOver (first n)
-        → IsAbout call units p chosen n (first n) (quiet (second most))
-        (lint_status (ending_of (quiet (second most))) lines)
+        → IsAbout call units p chosen n (first n) (second most) (lint_status (ending_of (second most)) lines)
     about_own n d enough_steps more longer over =
         let alike : Alike kept (first n) (second most) =
         subst (λ m. Alike kept (first n) (second m)) (sym enough_steps) (simulates.follows n over) in
         let ended = (alike_over kept (first n) (second most) alike).1 in
         let taken : steps_taken most (first most) ≡ steps_taken n (first n) =
         ap (λ m. steps_taken m (first m)) more ∙ same_steps n d (first n) (first (n + d)) over longer in
-        let told = same_taken in
         let low = simulates.no_fewer most ended in
         let high = simulates.not_many_more most ended in
-        about n (steps_taken most (quiet (second most))) (first n) (second most) lines count alike report grows knows
+        about n (steps_taken most (second most)) (first n) (second most) lines count alike report grows knows
         (omega arith) (omega arith)
 
     -- the second one is over
     about_most : IsOver (second most)
-        → IsAbout call units p chosen most (first most) (quiet (second most))
-        (lint_status (ending_of (quiet (second most))) lines)
+        → IsAbout call units p chosen most (first most) (second most) (lint_status (ending_of (second most)) lines)
     about_most ended =
         let alike = simulates.leads most ended in
-        let told = same_taken in
         let low = simulates.no_fewer most ended in
         let high = simulates.not_many_more most ended in
-        about most (steps_taken most (quiet (second most))) (first most) (second most) lines count alike report grows
-        knows (omega arith) (omega arith)
+        about most (steps_taken most (second most)) (first most) (second most) lines count alike report grows knows
+        (omega arith) (omega arith)
 
     -- the second one is spent
     about_beginning : (w : World) → second most ≡ Spent w
-        → IsAboutBeginning call units p chosen most (first most) (quiet (second most))
-        (lint_status (ending_of (quiet (second most))) lines)
+        → IsAboutBeginning call units p chosen most (first most) (second most)
+        (lint_status (ending_of (second most)) lines)
     about_beginning w is =
-        let spent : quiet (second most) ≡ Spent (without_operations w) = ap quiet is in
-        let within = simulates.within most w is in
         record {
-          spent = λ over. subst (λ (r : mean.Run). IsOver r) spent over;
-          within = subst (λ (r : mean.Run). IsWithin kept (world_of (first most)) (world_of r)) (sym spent)
-              (record { output = within.output; hooks = within.hooks });
+          spent = λ over. subst (λ (r : mean.Run). IsOver r) is over;
+          within = subst (λ (r : mean.Run). IsWithin kept (world_of (first most)) (world_of r)) (sym is)
+              (simulates.within most w is);
           lines = lines;
           count = count;
           report = report;
-          status = ap (λ (r : mean.Run). lint_status (ending_of r) lines) spent;
+          status = ap (λ (r : mean.Run). lint_status (ending_of r) lines) is;
           written = subst (λ (r : mean.Run). Grows call.written.0 call.written.1
               ((world_of r).output ++ (lines_text lines ++ end_line ending.Spent most count (length lines))))
-              (sym spent) (subst (λ (r : mean.Run). Grows call.written.0 call.written.1
-              (lint_bytes r lines (steps_taken most r) count)) spent grows);
+              (sym is) (subst (λ (r : mean.Run). Grows call.written.0 call.written.1
+              (lint_bytes r lines (steps_taken most r) count)) is grows);
           told = knows;
         }
 
     -- one of the two
     abbrev AboutMost : Type 0
     AboutMost =
-        IsAbout call units p chosen most (first most) (quiet (second most))
-        (lint_status (ending_of (quiet (second most))) lines)
-        ⊎ IsAboutBeginning call units p chosen most (first most) (quiet (second most))
-        (lint_status (ending_of (quiet (second most))) lines)
+        IsAbout call units p chosen most (first most) (second most) (lint_status (ending_of (second most)) lines)
+        ⊎ IsAboutBeginning call units p chosen most (first most) (second most)
+        (lint_status (ending_of (second most)) lines)
 
     pub about_script : AboutMost
     about_script = go (second most) refl

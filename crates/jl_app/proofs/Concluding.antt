@@ -4,7 +4,6 @@ use Rattle.jl_analysis.specs.Laws.{NeededIsEnough}
 use Rattle.jl_ast.specs.Tree.{Program}
 use Rattle.jl_command.specs.Asked.{Asked, request}
 use Rattle.jl_effects.specs.Running.{IsOver, state_of as world_of, steps_taken}
-use Rattle.jl_meaning.specs.Mean as mean
 use Rattle.jl_text.specs.Encoding.{units_of}
 use Rattle.jl_text.specs.declared.span.Span.{Span}
 use Rattle.jl_app.specs.Accepting.{IsAccepted, IsRead, OneReading}
@@ -12,17 +11,17 @@ use Rattle.jl_app.specs.Answers.{IsAnswered, IsDue, Responds, accepted, refused,
 use Rattle.jl_app.specs.Due.{Due, OnShelf}
 use Rattle.jl_app.specs.Endings.{Call, EndsWith, HasAnswered, answered, no_memory, read_failed, write_failed}
 use Rattle.jl_app.specs.Forms.{form_of, ReadsSource}
-use Rattle.jl_app.specs.Headline.{Concludes, IsAboutOperations, own_run, woven_run}
+use Rattle.jl_app.specs.Headline.{Concludes, IsAboutOperations}
+use Rattle.jl_app.specs.OwnRuns.{own_run}
 use Rattle.jl_app.specs.Refusals.{IsRefused, NeverBoth}
 use Rattle.jl_app.specs.Telling.{IsToldOf, IsToldOfWoven, Tells, covers, kinds_told, profiles, records}
-use Rattle.jl_app.specs.WovenRuns.{woven_budget}
+use Rattle.jl_app.specs.WovenRuns.{woven_budget, woven_run}
 use Rattle.jl_app.specs.WovenText.{kinds_of}
 use Rattle.jl_app.specs.declared.form.Form.TheVariants as forms
 use Rattle.jl_app.specs.declared.status.Status.{Status}
 use Rattle.jl_app.proofs.Headline.{headline}
 use Rattle.jl_app.proofs.OwnOperations.{Laws, no_fewer, not_many_more, told_of_own}
 use Rattle.jl_app.proofs.Scripts.{of_source}
-use Rattle.jl_app.proofs.ToldRuns.{told_run_is}
 
 some_same : {A : Type 0} {a b : A} → Some a ≡ Some b → a ≡ b
 some_same e = cc
@@ -64,10 +63,8 @@ module _ (one : OneReading) (never : NeverBoth) (words : List (List ℕ)) (held 
       → IsToldOf a (units_of held) p (woven_run (kinds_told a) p (woven_budget budget))
       (world_of (woven_run (kinds_told a) p (woven_budget budget))).hooks (told_steps a p budget) due
   told_woven due due_is =
-      subst (λ (r : mean.Run). IsToldOf a (units_of held) p r (world_of r).hooks
-      (steps_taken (woven_budget budget) r) due) (told_run_is (kinds_told a) p budget)
-      (answered_told one never a held p shelf budget due tells is
-      (of_source a due is_asked (told_form a budget tells).0 due_is))
+      answered_told one never a held p shelf budget due tells is
+      (of_source a due is_asked (told_form a budget tells).0 due_is)
 
 module _ {call : Call} (laws : Laws) (one : OneReading) (never : NeverBoth) (a : Asked)
     (p : Program Span) (budget : ℕ) (words : request call.words ≡ Some a) (tells : Tells a budget)

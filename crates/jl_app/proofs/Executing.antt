@@ -10,24 +10,24 @@ use Rattle.jl_op.specs.declared.kind.OpKind.{OpKind}
 use Rattle.jl_op.specs.declared.kind_set.KindSet.{KindSet}
 use Rattle.jl_effects.specs.Running.{state_of as world_of}
 use Rattle.jl_meaning.specs.Mean as mean
-use Rattle.jl_machine.specs.Runs.{hooked_mean, ending_of, IsRun}
+use Rattle.jl_machine.specs.Runs.{ending_of, IsRun}
 use Rattle.jl_machine.specs.declared.ending.Run.{Run}
 use Rattle.jl_app.specs.Answers.{execute_due}
 use Rattle.jl_app.specs.WovenRuns.{hooked_run}
-use Rattle.jl_app.specs.OwnRuns.{ending_status, program_run, steps_line, uncaught_line}
+use Rattle.jl_app.specs.OwnRuns.{ending_status, own_run, steps_line, uncaught_line}
 use Rattle.jl_app.specs.declared.status.Status.{Status}
 
 -- the run that records all kinds is the run of the program
 pub of_all_kinds : (kinds : KindSet) → ((kind : OpKind) → is_member kinds kind ≡ true) → (p : Program Span) (n : ℕ)
-    → hooked_mean (is_member kinds) p n ≡ program_run p n
-unfolding program_run
-of_all_kinds kinds all p n = ap (λ chosen. hooked_mean chosen p n) (fun_ext {f = is_member kinds} {g = every_kind} all)
+    → hooked_run (is_member kinds) p n ≡ own_run p n
+unfolding hooked_run own_run
+of_all_kinds kinds all p n =
+    ap (λ chosen. mean.mean chosen p n) (fun_ext {f = is_member kinds} {g = every_kind} all)
 
 -- and that which records the kinds of a set that passes the same kinds
 pub of_these_kinds : (set : KindSet) (kinds : Kinds) → ((kind : OpKind) → is_member set kind ≡ kinds kind)
-    → (p : Program Span) (n : ℕ) → hooked_mean (is_member set) p n ≡ hooked_run kinds p n
-unfolding hooked_run
-of_these_kinds set kinds same p n = ap (λ chosen. hooked_mean chosen p n) (fun_ext same)
+    → (p : Program Span) (n : ℕ) → hooked_run (is_member set) p n ≡ hooked_run kinds p n
+of_these_kinds set kinds same p n = ap (λ chosen. hooked_run chosen p n) (fun_ext same)
 
 -- the status and the bytes, of what was answered
 is_executed : {O : Type 0} {stands_for : O → List Operation → Type 0} {before : List Operation} {o : O} {r : Run}
@@ -49,11 +49,11 @@ is_executed {r = r} budget ran answer bytes is st b = (
 pub all_executed : {O : Type 0} {stands_for : O → List Operation → Type 0} {before : List Operation} {o : O} {r : Run}
     (kinds : KindSet) → ((kind : OpKind) → is_member kinds kind ≡ true) → (p : Program Span) (budget : ℕ)
     (answer : Status) (bytes : List ℕ)
-    → IsRun stands_for before budget (hooked_mean (is_member kinds) p budget) r o
+    → IsRun stands_for before budget (hooked_run (is_member kinds) p budget) r o
     → answer ≡ ending_status r.outcome
     → bytes ≡ r.output ++ (uncaught_line r.store.heap r.outcome ++ steps_line r.outcome r.steps)
-    → (answer ≡ (execute_due (program_run p budget) budget).status)
-    × (bytes ≡ (execute_due (program_run p budget) budget).bytes)
+    → (answer ≡ (execute_due (own_run p budget) budget).status)
+    × (bytes ≡ (execute_due (own_run p budget) budget).bytes)
 all_executed {stands_for = stands_for} {before = before} {o = o} {r = r} kinds all p budget answer bytes is st b =
-    is_executed budget (program_run p budget) answer bytes
+    is_executed budget (own_run p budget) answer bytes
     (subst (λ ran. IsRun stands_for before budget ran r o) (of_all_kinds kinds all p budget) is) st b

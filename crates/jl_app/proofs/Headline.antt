@@ -3,7 +3,6 @@ use Rattle.std.proofs.Common.{◌≡◌, ◌∙◌, ◌*◌, ◌+◌, ◌⊎◌,
 use Rattle.jl_analysis.specs.Laws.{NeededIsEnough}
 use Rattle.jl_ast.specs.Tree.{Program}
 use Rattle.jl_effects.specs.Running.{IsOver, state_of as world_of, steps_taken}
-use Rattle.jl_effects.specs.Traces.{with_state, without_operations}
 use Rattle.jl_machine.specs.Runs.{ending_of}
 use Rattle.jl_meaning.specs.Mean as mean
 use Rattle.jl_port.specs.Bytes.{Grows}
@@ -13,10 +12,11 @@ use Rattle.jl_app.specs.Accepting.{IsAccepted, IsRead, OneReading}
 use Rattle.jl_app.specs.Answers.{IsAnswered, accepted, refused, replayed, unmapped}
 use Rattle.jl_app.specs.Due.{Due, IsTold}
 use Rattle.jl_app.specs.Linting.{IsLinted, IsReported, lint_bytes, lint_status, ran, unread}
-use Rattle.jl_app.specs.WovenRuns.{hooked_run, woven_budget}
+use Rattle.jl_app.specs.WovenRuns.{hooked_run, woven_budget, woven_run}
+use Rattle.jl_app.specs.OwnRuns.{own_run}
 use Rattle.jl_command.specs.Asked.{Asked, request, lint}
 use Rattle.jl_app.specs.Endings.{Call, EndsWith, HasAnswered, answered, no_memory, read_failed, write_failed}
-use Rattle.jl_app.specs.Headline.{IsAbout, IsAboutBeginning, IsAboutScript, own_run, woven_mean, woven_run}
+use Rattle.jl_app.specs.Headline.{IsAbout, IsAboutBeginning, IsAboutScript}
 use Rattle.jl_app.specs.ReadBack.{IsReadBack}
 use Rattle.jl_app.specs.Refusals.{IsRefused, NeverBoth}
 use Rattle.jl_app.specs.Reporting.{Lines}
@@ -32,8 +32,7 @@ use Rattle.jl_app.proofs.Scripts.{due_to_script}
 some_same : {A : Type 0} {a b : A} → Some a ≡ Some b → a ≡ b
 some_same e = cc
 
--- What holds of the answer to what the woven script means, without what it performs itself, holds of what `lint`
--- answers.
+-- What holds of the answer to the run of the woven script holds of what `lint` answers.
 module _ (call : Call) (p : Program Span) (budget : ℕ) (chosen : List ℕ) (well : IsWovenWell (kinds_of chosen) p)
     (units : List ℕ) (Says : Status → Type 0) where
   abbrev steps : ℕ
@@ -46,9 +45,7 @@ module _ (call : Call) (p : Program Span) (budget : ℕ) (chosen : List ℕ) (we
       → call.crowd.told (world_of r).hooks → Says (lint_status (ending_of r) lines)
 
   abbrev HoldsOfMeaning : Type 0
-  HoldsOfMeaning =
-      (lines : Lines) (count : ℕ)
-      → Holds (with_state without_operations (woven_mean (kinds_of chosen) p steps)) lines count
+  HoldsOfMeaning = (lines : Lines) (count : ℕ) → Holds (woven_run (kinds_of chosen) p steps) lines count
 
   linted_says : (due : Due) → HoldsOfMeaning → call.shelf.lent ≡ woven_text (kinds_of chosen) p
       → IsLinted units p budget chosen call.shelf.lent due → Grows call.written.0 call.written.1 due.bytes
@@ -57,9 +54,8 @@ module _ (call : Call) (p : Program Span) (budget : ℕ) (chosen : List ℕ) (we
       absurd (none well.back.program (subst (λ t. IsReadBack t well.back.program) (sym lent) well.back.read))
   linted_says _ says lent (ran q lines count read report) grows knows =
       let back = subst (λ t. IsReadBack t q) lent read in
-      let same = same_run (kinds_of chosen) p q steps (well.back.same q back) in
-      let is : hooked_run (kinds_of chosen) q steps
-      ≡ with_state without_operations (woven_mean (kinds_of chosen) p steps) = same ∙ well.runs steps in
+      let is : hooked_run (kinds_of chosen) q steps ≡ woven_run (kinds_of chosen) p steps =
+      same_run (kinds_of chosen) p q steps (well.back.same q back) in
       subst (λ (r : mean.Run). Holds r lines count) (sym is) (says lines count) report grows knows
 
   answer_says : (one : OneReading) (never : NeverBoth) (bytes : List ℕ) (due : Due) → IsAccepted bytes p
@@ -130,35 +126,22 @@ module _ {call : Call} {answer : Status} (enough : NeededIsEnough) (one : OneRea
       ⊎ IsAboutBeginning call (units_of bytes) p chosen (woven_budget budget) (own_run p (woven_budget budget))
       (woven_run (kinds_of chosen) p (woven_budget budget)) s
 
-  abbrev quiet_woven : mean.Run
-  quiet_woven = with_state without_operations (woven_mean (kinds_of chosen) p (woven_budget budget))
-
-  is_woven : quiet_woven ≡ woven_run (kinds_of chosen) p (woven_budget budget)
-  is_woven = sym (well.runs (woven_budget budget))
-
   in_time : IsOver (own_run p budget) → about p budget answer
   in_time over =
       says_so call p budget chosen well (units_of bytes) (about p budget) one never ends a bytes words reports script is
       lent answers refl
       (λ lines count report grows knows.
-      subst (λ (r : mean.Run). IsAbout call (units_of bytes) p chosen budget (own_run p budget) r
-      (lint_status (ending_of quiet_woven) lines)) is_woven
-      (about_own enough call (units_of bytes) p chosen (own_run p)
-      (woven_mean (kinds_of chosen) p) well.simulates (woven_budget budget) lines count report grows knows budget
-      (31 * budget + 64) refl (omega arith) (well.longer budget (31 * budget + 64)) over))
+      about_own enough call (units_of bytes) p chosen (own_run p)
+      (woven_run (kinds_of chosen) p) well.simulates (woven_budget budget) lines count report grows knows budget
+      (31 * budget + 64) refl (omega arith) (well.longer budget (31 * budget + 64)) over)
 
   in_any_case : about_some p answer
   in_any_case =
       says_so call p budget chosen well (units_of bytes) (about_some p) one never ends a bytes words reports script is
       lent answers refl
       (λ lines count report grows knows.
-      subst (λ (r : mean.Run).
-      IsAbout call (units_of bytes) p chosen (woven_budget budget) (own_run p (woven_budget budget)) r
-      (lint_status (ending_of quiet_woven) lines)
-      ⊎ IsAboutBeginning call (units_of bytes) p chosen (woven_budget budget) (own_run p (woven_budget budget)) r
-      (lint_status (ending_of quiet_woven) lines)) is_woven
-      (about_script enough call (units_of bytes) p chosen (own_run p)
-      (woven_mean (kinds_of chosen) p) well.simulates (woven_budget budget) lines count report grows knows))
+      about_script enough call (units_of bytes) p chosen (own_run p)
+      (woven_run (kinds_of chosen) p) well.simulates (woven_budget budget) lines count report grows knows)
 
   text : call.shelf.lent ≡ woven_text (kinds_of chosen) p
   text = lends call p budget chosen one never ends a bytes words reports script is lent answers

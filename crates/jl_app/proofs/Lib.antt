@@ -2,7 +2,6 @@ pub mod Sizes
 pub mod Legal
 pub mod Placed
 pub mod PositionLemmas
-pub mod MapLines
 pub mod WovenTexts
 pub mod Refusing
 pub mod OneCause
@@ -10,6 +9,7 @@ pub mod ChosenRules
 pub mod Reported
 pub mod Answering
 pub mod Reading
+pub mod Meant
 pub mod Executing
 pub mod Traced
 pub mod Linting
@@ -24,6 +24,7 @@ pub mod WithoutMisuse
 pub mod StandsAlone
 pub mod StoredRuns
 pub mod OffInOrder
+pub mod SeenClasses
 pub mod RecordedRuns
 pub mod ReplayedRuns
 pub mod Headline

@@ -1,7 +1,6 @@
 -- The source map of an accepted script is listed as the segments that were written.
 use Rattle.std.proofs.Common.{◌∙◌, ◌<◌, ◌≤◌, ◌+◌, ◌-◌, All, List, [], ◌∷◌, ◌++◌, Option, None, Some, ap, arith}
 use Rattle.std.proofs.Common.{length, map, refl, sym, subst, zero, suc, ℕ}
-use Rattle.std.proofs.Math.Nat.{min-le_right}
 use Rattle.std.proofs.lemmas.List.{append-nil, drop_all}
 use Rattle.std.proofs.lemmas.List.Elements.{All-cons, All-head, All-nil, All-tail}
 use Rattle.std.proofs.lemmas.List.Sums.{count_by-le-length}
@@ -12,7 +11,8 @@ use Rattle.std.specs.Str.{IsUtf8}
 use Rattle.jl_ast.specs.Tree.{Program}
 use Rattle.jl_op.specs.Chosen.{every_kind}
 use Rattle.jl_op.specs.IdMap.{id_map}
-use Rattle.jl_op.specs.Map.{MapRow}
+use Rattle.jl_op.specs.Map.{BeginsIn, MapRow}
+use Rattle.jl_grammar.specs.Program.{Reads}
 use Rattle.json.proofs.Printed.Utf8.{IsUtf8-are_ascii, IsUtf8-quoted}
 use Rattle.json.specs.Print.{quoted}
 use Rattle.jl_srcmap.proofs.Ascii.{mappings_ascii}
@@ -30,7 +30,7 @@ use Rattle.serde_json.proofs.OnLiterals.{serde_json_on_literals}
 use Rattle.serde_json.specs.Written.{compact_text}
 use Rattle.jl_text.proofs.PlacesLemmas.{line_table-IsLineTable}
 use Rattle.jl_text.specs.Encoding.{units_of}
-use Rattle.jl_text.specs.Places.{line_at, line_col, line_table}
+use Rattle.jl_text.specs.Places.{LineTable, line_at, line_col, line_table}
 use Rattle.jl_text.specs.declared.span.Span.{Span}
 use Rattle.jl_token.proofs.Whole.{tokens_are_unique}
 use Rattle.jl_token.specs.Tokens.{InOrder, SpansAreInOrder, Tokens}
@@ -39,7 +39,6 @@ use Rattle.jl_app.specs.Accepting.{IsAccepted}
 use Rattle.jl_app.specs.Due.{Due, text_only}
 use Rattle.jl_app.specs.Forms.{most_map_bytes}
 use Rattle.jl_app.specs.ListedMaps.{IsListedAs}
-use Rattle.jl_app.specs.Rows.{row_within, rows_in}
 use Rattle.jl_app.specs.SourceMapping.{listed_segments, mapped_back, segment_lines, woven_segments, IsMappedBack}
 use Rattle.jl_app.specs.SourceMapping.{IsUnmapped}
 use Rattle.jl_app.specs.WovenText.{woven_text}
@@ -66,20 +65,22 @@ place_small units at few within =
     column start = omega (arith, few, within)
 
 -- the part of the script that a hook tells of begins in the script
-begins_within : (end : ℕ) (rows : List MapRow) (i : ℕ) → row_begin (slice_get (map (row_within end) rows) i) ≤ end
-begins_within end [] i = omega arith
-begins_within end (row ∷ rows) zero = min-le_right row.1.from end
-begins_within end (row ∷ rows) (suc i) = begins_within end rows i
+begins_within : (lines : LineTable) (rows : List MapRow) (i : ℕ) → All (BeginsIn lines) rows
+    → row_begin (slice_get rows i) ≤ lines.end
+begins_within lines [] i begin = omega arith
+begins_within lines (row ∷ rows) zero begin = All-head (BeginsIn lines) row rows begin
+begins_within lines (row ∷ rows) (suc i) begin =
+    begins_within lines rows i (All-tail (BeginsIn lines) row rows begin)
 
 call_small : (woven units : List ℕ) (rows : List MapRow) (call : HookCall) → length woven < 4294967295
-    → length units < 4294967295 → call.at ≤ length woven
-    → IsSmall (call_segment (line_table woven) (map (row_within (length units)) rows) (line_table units) call)
-call_small woven units rows call short few within =
-    let begin = begin_of (map (row_within (length units)) rows) call.number in
+    → length units < 4294967295 → All (BeginsIn (line_table units)) rows → call.at ≤ length woven
+    → IsSmall (call_segment (line_table woven) rows (line_table units) call)
+call_small woven units rows call short few begins within =
+    let begin = begin_of rows call.number in
     let generated = line_col (line_table woven) call.at in
     let original = line_col (line_table units) begin in
     let here = place_small woven call.at short within in
-    let there = place_small units begin few (begins_within (length units) rows (call.number - 1)) in
+    let there = place_small units begin few (begins_within (line_table units) rows (call.number - 1) begins) in
     record {
       line = here.0;
       fields = All-cons below_limit (generated.1 - 1) (0 ∷ (original.0 - 1) ∷ (original.1 - 1) ∷ []) here.1
@@ -89,22 +90,23 @@ call_small woven units rows call short few within =
     }
 
 all_small : (woven units : List ℕ) (rows : List MapRow) (ts : List Token) → length woven < 4294967295
-    → length units < 4294967295 → All (λ (t : Token). t.span.from ≤ length woven) ts
-    → All IsSmall (segments_of (line_table woven) (map (row_within (length units)) rows) (line_table units) ts)
-all_small woven units rows [] short few within = All-nil IsSmall
-all_small woven units rows (t ∷ ts) short few within =
+    → length units < 4294967295 → All (BeginsIn (line_table units)) rows
+    → All (λ (t : Token). t.span.from ≤ length woven) ts
+    → All IsSmall (segments_of (line_table woven) rows (line_table units) ts)
+all_small woven units rows [] short few begins within = All-nil IsSmall
+all_small woven units rows (t ∷ ts) short few begins within =
     by (hook_number (t ∷ ts)) (All-head (λ (t : Token). t.span.from ≤ length woven) t ts within)
-    (all_small woven units rows ts short few (All-tail (λ (t : Token). t.span.from ≤ length woven) t ts within))
+    (all_small woven units rows ts short few begins (All-tail (λ (t : Token). t.span.from ≤ length woven) t ts within))
   where
     segment : HookCall → Segment
-    segment = call_segment (line_table woven) (map (row_within (length units)) rows) (line_table units)
+    segment = call_segment (line_table woven) rows (line_table units)
 
     by : (o : Option ℕ) → t.span.from ≤ length woven → All IsSmall (map segment (hook_calls ts))
         → All IsSmall (map segment (with_call t.span.from o (hook_calls ts)))
     by None here others = others
     by (Some n) here others =
         All-cons IsSmall (segment (record { at = t.span.from; number = n })) (map segment (hook_calls ts))
-        (call_small woven units rows (record { at = t.span.from; number = n }) short few here) others
+        (call_small woven units rows (record { at = t.span.from; number = n }) short few begins here) others
 
 -- ---- and their lines don't fall
 
@@ -134,6 +136,11 @@ json_text m utf8 =
 
 -- ---- together
 
+abbrev pub RowsLieInText : Type 0
+RowsLieInText =
+    (text : List ℕ) (ts : List Token) (limit : ℕ) (p : Program Span) → Tokens text ts → Reads ts limit p
+    → All (BeginsIn (line_table text)) (id_map p)
+
 abbrev map_of : List Segment → List ℕ
 map_of ss = source_map_text (mappings_text ss)
 
@@ -152,17 +159,18 @@ module _ (written : WrittenReadsBack) (readings : ReadingsAreUnique) (never : Ne
         only = λ other is. one_unmapped readings never bad (map_of ss) other _ is due;
       }
 
-  pub maps_listed : SpansAreInOrder → (bytes : List ℕ) (p : Program Span) (due : Due) (tokens : List Token)
+  pub maps_listed : SpansAreInOrder → RowsLieInText → (bytes : List ℕ) (p : Program Span) (due : Due)
+      (tokens : List Token)
       → IsAccepted bytes p → length (woven_text every_kind p) < 4294967295 → IsMappedBack (units_of bytes) p due
       → Tokens (woven_text every_kind p) tokens → length due.bytes ≤ most_map_bytes
       → IsListedAs due.bytes (woven_segments (units_of bytes) p tokens)
-  maps_listed spans bytes p _ tokens is few (mapped_back found has) lexed short =
+  maps_listed spans rows_lie bytes p _ tokens is few (mapped_back found has) lexed short =
       let woven = woven_text every_kind p in
       let units = units_of bytes in
       let ordered = spans woven found has in
       let segments = woven_segments units p found in
       let small = all_small woven units (id_map p) found few (few_units_of forms.Script bytes is.decoded is.short)
-      (begin_within 0 (length woven) found ordered) in
+      (rows_lie units is.tokens 200 p is.lexed is.read) (begin_within 0 (length woven) found ordered) in
       subst (λ ts. IsListedAs (map_of segments) (woven_segments units p ts))
       (tokens_are_unique woven found tokens has lexed)
-      (listed segments small (in_order woven units (rows_in units p) found ordered) short)
+      (listed segments small (in_order woven units (id_map p) found ordered) short)

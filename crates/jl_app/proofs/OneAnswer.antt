@@ -9,6 +9,8 @@ use Rattle.jl_grammar.specs.Program.{Reads}
 use Rattle.jl_machine.specs.Runs.{ending_of}
 use Rattle.jl_meaning.specs.Mean as mean
 use Rattle.jl_op.specs.Chosen.{every_kind}
+use Rattle.jl_op.specs.IdMap.{id_map}
+use Rattle.jl_op.specs.Map.{MapRow}
 use Rattle.jl_op.specs.Operations.{Operation}
 use Rattle.jl_record.specs.Records.{OneBadLine, OneRecord}
 use Rattle.jl_report.proofs.OneReport.{one_report}
@@ -30,7 +32,7 @@ use Rattle.jl_app.specs.Answers.{IsDue, IsDueTo, IsExecuted, IsInstrumented, IsM
 use Rattle.jl_app.specs.Answers.{IsTracedAlone, Responds}
 use Rattle.jl_app.specs.Due.{refused_only, text_only, Due, OnShelf}
 use Rattle.jl_app.specs.Forms.{form_of, ReadsSource}
-use Rattle.jl_app.specs.Linting.{lint_due, places, ran, unread, IsLinted, IsReported}
+use Rattle.jl_app.specs.Linting.{lint_due, ran, unread, IsLinted, IsReported}
 use Rattle.jl_app.specs.OneAnswer.{both_unreadable, same_answer, AreOne}
 use Rattle.jl_app.specs.OwnRuns.{ending_status}
 use Rattle.jl_app.specs.ReadBack.{IsReadBack, most_woven_levels}
@@ -64,13 +66,15 @@ same_read units p q a b =
     (subst (λ ts. Reads ts most_woven_levels p) (tokens_are_unique units a.tokens b.tokens a.lexed b.lexed) a.read)
     b.read
 
-same_lines : (units places chosen : List ℕ) (operations : List Operation) (some others : Lines)
-    → IsReport units places chosen operations some → IsReport units places chosen operations others → some ≡ others
-same_lines units places chosen operations some others a b =
-    one_report (reports.is_shown (is_among chosen) (off_by units b.comments))
-    (reports.hits_at (positions units places) operations) some others
-    (subst (λ (cs : List Comment). reports.IsReport (is_among chosen) (off_by units cs) (positions units places)
-    operations some) (comments_are_unique units a.comments b.comments a.are b.are) a.report)
+same_lines : (units : List ℕ) (rows : List MapRow) (chosen : List ℕ) (operations : List Operation)
+    (some others : Lines) → IsReport units rows chosen operations some → IsReport units rows chosen operations others
+    → some ≡ others
+same_lines units rows chosen operations some others a b =
+    let places = positions units rows in
+    one_report (reports.is_shown (is_among chosen) (off_by units b.comments)) (reports.hits_at places operations) some
+    others
+    (subst (λ (cs : List Comment). reports.IsReport (is_among chosen) (off_by units cs) places operations some)
+    (comments_are_unique units a.comments b.comments a.are b.are) a.report)
     b.report
 
 -- the operations that a run's hooks told of, and what is due of it
@@ -89,7 +93,7 @@ module _ (units : List ℕ) (p : Program Span) where
       → due_of budget chosen q lines hooks ≡ due_of budget chosen q lines' hooks'
   same_report budget chosen q lines lines' hooks hooks' a b =
       ap (λ l. due_of budget chosen q l hooks)
-      (same_lines units (places p) chosen (told_of budget chosen q) lines lines' a.report b.report)
+      (same_lines units (id_map p) chosen (told_of budget chosen q) lines lines' a.report b.report)
       ∙ ap (λ n. due_of budget chosen q lines' n) (a.counted ∙ sym b.counted)
 
   same_linted : (budget : ℕ) (chosen lent : List ℕ) (d e : Due) → IsLinted units p budget chosen lent d
@@ -122,14 +126,14 @@ module _ (units : List ℕ) (p : Program Span) where
 
   same_recorded : (r : mean.Run) (operations : List Operation) (d e : Due) → IsRecorded units p r operations d
       → IsRecorded units p r operations e → d ≡ e
-  same_recorded r operations _ _ (recorded cs are few) (recorded ds too less) =
+  same_recorded r operations _ _ (recorded cs are stored few) (recorded ds too kept less) =
       ap (λ (cs : List Comment). text_only (ending_status (ending_of r)) (record_bytes units p cs operations))
       (comments_are_unique units cs ds are too)
-  same_recorded r operations _ _ (recorded cs are few) (too_long_record ds too more) =
+  same_recorded r operations _ _ (recorded cs are stored few) (too_long_record ds too more) =
       let same = ap (λ (cs : List Comment). length (record_bytes units p cs operations))
       (comments_are_unique units cs ds are too) in
       absurd (omega (arith, same, few, more))
-  same_recorded r operations _ _ (too_long_record cs are more) (recorded ds too few) =
+  same_recorded r operations _ _ (too_long_record cs are more) (recorded ds too stored few) =
       let same = ap (λ (cs : List Comment). length (record_bytes units p cs operations))
       (comments_are_unique units cs ds are too) in
       absurd (omega (arith, same, few, more))

@@ -119,4 +119,5 @@ module _ (one : OneRecord) (one_line : OneBadLine) (chosen bytes : List ℕ) whe
   one_replayed _ _ (reported s ls is stored text a) (no_record n too b) = absurd (b.none s stored text)
   one_replayed _ _ (reported s ls is stored text a) (reported r ks too kept words b) =
       let same = one s r stored kept (text ∙ sym words) in
-      ap (λ (x : Stored). replay_due x ls) same ∙ ap (λ l. replay_due r l) (same_lines s r ls ks same a b)
+      ap (λ (x : Stored). replay_due x.operations ls) same
+      ∙ ap (λ l. replay_due r.operations l) (same_lines s r ls ks same a b)

@@ -1,7 +1,6 @@
 -- What is told of the operations that the hooks of a woven script tell of is told of those of the script's own run.
-use Rattle.std.proofs.Common.{◌≡◌, ◌∙◌, ◌*◌, ◌+◌, ◌++◌, ◌≤◌, ℕ, All, List, [], ◌∷◌, Option, None, Some, ap, arith, filter}
-use Rattle.std.proofs.Common.{length, option_map, refl, slice_get, subst, sym}
-use Rattle.std.proofs.lemmas.Option.{slice_get-map}
+use Rattle.std.proofs.Common.{◌≡◌, ◌∙◌, ◌*◌, ◌+◌, ◌++◌, ◌≤◌, ℕ, All, List, [], ◌∷◌, ap, arith, filter}
+use Rattle.std.proofs.Common.{option_map, refl, slice_get, subst, sym}
 use Rattle.std.specs.Prelude.{codes}
 use Rattle.jl_ast.specs.Tree.{Program}
 use Rattle.jl_command.specs.Asked.{Asked}
@@ -17,7 +16,6 @@ use Rattle.jl_meaning.specs.Store.{Store}
 use Rattle.jl_op.specs.Chosen.{every_kind, is_kept, Kinds}
 use Rattle.jl_op.specs.IdMap.{id_map}
 use Rattle.jl_op.specs.KindSets.{of_kinds}
-use Rattle.jl_op.specs.Kinds.{kind_of}
 use Rattle.jl_op.specs.Map.{MapRow}
 use Rattle.jl_op.specs.Operations.{Operation}
 use Rattle.jl_operation_rows.specs.Rows.{HasRow}
@@ -29,16 +27,14 @@ use Rattle.jl_text.specs.declared.span.Span.{Span}
 use Rattle.jl_app.specs.Covering.{cover_bytes, cover_line, missed_lines}
 use Rattle.jl_app.specs.Accepting.{IsAccepted}
 use Rattle.jl_app.specs.Due.{Due, refused_only, text_only}
-use Rattle.jl_app.specs.Headline.{own_run, woven_mean, woven_run}
-use Rattle.jl_app.specs.OwnRuns.{ending_status, uncaught_line}
+use Rattle.jl_app.specs.WovenRuns.{woven_run}
+use Rattle.jl_app.specs.OwnRuns.{ending_status, own_run, uncaught_line}
 use Rattle.jl_app.specs.Profiling.{births_lines, objects_bytes, objects_line}
 use Rattle.jl_app.specs.Recording.{record_bytes, recorded, too_long_record, IsRecorded}
-use Rattle.jl_app.specs.Rows.{row_within, rows_in}
 use Rattle.jl_app.specs.Telling.{IsToldOf, Tells, covers, kinds_told, profiles, records}
 use Rattle.jl_app.specs.WovenRuns.{woven_budget}
 use Rattle.jl_app.specs.inner.Woven.{IsWovenWell}
-use Rattle.jl_app.proofs.AboutRuns.{alike_ending, alike_over, alike_seen, quiet, quiet_ending, quiet_steps, quiet_world}
-use Rattle.jl_app.proofs.AboutRuns.{same_steps, World}
+use Rattle.jl_app.proofs.AboutRuns.{alike_ending, alike_over, alike_seen, same_steps}
 
 -- the operations of these kinds
 kept_are : (kinds : Kinds) (operations : List Operation)
@@ -59,32 +55,17 @@ module _ (kinds : Kinds) (p : Program Span) (well : IsWovenWell kinds p) (n : �
   abbrev woven : mean.Run
   woven = woven_run kinds p (woven_budget n)
 
-  alike : Alike (is_kept kinds) own (woven_mean kinds p (woven_budget n))
+  alike : Alike (is_kept kinds) own woven
   alike = well.simulates.follows n over
 
   pub same_ending : ending_of woven ≡ ending_of own
-  same_ending =
-      ap ending_of (well.runs (woven_budget n)) ∙ quiet_ending (woven_mean kinds p (woven_budget n))
-      ∙ alike_ending (is_kept kinds) own (woven_mean kinds p (woven_budget n)) alike
-
-  same_world : world_of woven ≡ world_of (quiet (woven_mean kinds p (woven_budget n)))
-  same_world = ap (λ (r : mean.Run). world_of r) (well.runs (woven_budget n))
+  same_ending = alike_ending (is_kept kinds) own woven alike
 
   pub same_store : (world_of woven).store ≡ (world_of own).store
-  same_store =
-      ap (λ (w : World). w.store) (same_world ∙ quiet_world (woven_mean kinds p (woven_budget n)))
-      ∙ (alike_seen (is_kept kinds) own (woven_mean kinds p (woven_budget n)) alike).store
+  same_store = (alike_seen (is_kept kinds) own woven alike).store
 
   pub same_hooks : (world_of woven).hooks ≡ filter (is_kept kinds) (world_of own).operations
-  same_hooks =
-      ap (λ (w : World). w.hooks) (same_world ∙ quiet_world (woven_mean kinds p (woven_budget n)))
-      ∙ (alike_seen (is_kept kinds) own (woven_mean kinds p (woven_budget n)) alike).hooks
-
-  same_taken : steps_taken (woven_budget n) woven
-      ≡ steps_taken (woven_budget n) (woven_mean kinds p (woven_budget n))
-  same_taken =
-      ap (λ (r : mean.Run). steps_taken (woven_budget n) r) (well.runs (woven_budget n))
-      ∙ quiet_steps (woven_budget n) (woven_mean kinds p (woven_budget n))
+  same_hooks = (alike_seen (is_kept kinds) own woven alike).hooks
 
   own_taken : steps_taken (woven_budget n) (own_run p (woven_budget n)) ≡ steps_taken n own
   own_taken =
@@ -92,35 +73,26 @@ module _ (kinds : Kinds) (p : Program Span) (well : IsWovenWell kinds p) (n : �
       ap (λ m. steps_taken m (own_run p m)) more
       ∙ same_steps n (31 * n + 64) own (own_run p (n + (31 * n + 64))) over (well.longer n (31 * n + 64))
 
-  ended : IsOver (woven_mean kinds p (woven_budget n))
-  ended = (alike_over (is_kept kinds) own (woven_mean kinds p (woven_budget n)) alike).1
+  ended : IsOver woven
+  ended = (alike_over (is_kept kinds) own woven alike).1
 
   pub no_fewer : steps_taken n own ≤ steps_taken (woven_budget n) woven
   no_fewer =
       let few = well.simulates.no_fewer (woven_budget n) ended in
-      let told = same_taken in
       let taken = own_taken in
-      omega (arith, few, told, taken)
+      omega (arith, few, taken)
 
   pub not_many_more : steps_taken (woven_budget n) woven ≤ 32 * steps_taken n own + 64
   not_many_more =
       let many = well.simulates.not_many_more (woven_budget n) ended in
-      let told = same_taken in
       let taken = own_taken in
-      omega (arith, many, told, taken)
+      omega (arith, many, taken)
 
 -- the kinds of the rows of operations
-kind_there : (o : Option MapRow) (row : MapRow) (end : ℕ) → o ≡ Some row
-    → option_map (λ (r : MapRow). r.0) (option_map (row_within end) o) ≡ Some row.0
-kind_there None row end is = absurd (cc)
-kind_there (Some r) row end is = let same : r ≡ row = cc in ap (λ (x : MapRow). Some x.0) same
-
-has_kind : (units : List ℕ) (p : Program Span) (o : Operation) → HasRow p o → HasRowOfKind (rows_in units p) o
-has_kind units p o has before is =
+has_kind : (p : Program Span) (o : Operation) → HasRow p o → HasRowOfKind (id_map p) o
+has_kind p o has before is =
     let same : has.before ≡ before = omega (arith, is, has.id) in
-    ap (option_map (λ (r : MapRow). r.0)) (slice_get-map (row_within (length units)) (id_map p) before)
-    ∙ kind_there (slice_get (id_map p) before) (kind_of o.1, has.place) (length units)
-    (ap (slice_get (id_map p)) (sym same) ∙ has.row)
+    ap (option_map (λ (r : MapRow). r.0)) (ap (slice_get (id_map p)) (sym same) ∙ has.row)
 
 -- What a command answers to a run depends on how it ended, on its heap and on what it tells of.
 module _ (units : List ℕ) (p : Program Span) (own woven : mean.Run) (steps : ℕ)
@@ -158,11 +130,11 @@ module _ (units : List ℕ) (p : Program Span) (own woven : mean.Run) (steps : �
 
   same_recorded : (hooks operations : List Operation) → hooks ≡ operations → (due : Due)
       → IsRecorded units p woven hooks due → IsRecorded units p own operations due
-  same_recorded hooks operations is _ (recorded comments are few) =
+  same_recorded hooks operations is _ (recorded comments are stored few) =
       subst (λ ops. IsRecorded units p own ops
       (text_only (ending_status (ending_of woven)) (record_bytes units p comments hooks))) is
       (subst (λ e. IsRecorded units p own hooks
-      (text_only (ending_status e) (record_bytes units p comments hooks))) (sym end) (recorded comments are few))
+      (text_only (ending_status e) (record_bytes units p comments hooks))) (sym end) (recorded comments are stored few))
   same_recorded hooks operations is _ (too_long_record comments are many) =
       subst (λ ops. IsRecorded units p own ops (refused_only (codes "RecordTooLong"))) is
       (too_long_record comments are many)
@@ -174,10 +146,9 @@ pub record Laws : Type 0 where
   pub profiled : ProfiledKindsAreEnough
   pub covered : CoveredKindsAreEnough
 
-own_rows : Laws → (units : List ℕ) (p : Program Span) (n : ℕ)
-    → All (HasRowOfKind (rows_in units p)) (world_of (own_run p n)).operations
+own_rows : Laws → (p : Program Span) (n : ℕ) → All (HasRowOfKind (id_map p)) (world_of (own_run p n)).operations
 unfolding own_run
-own_rows laws units p n = λ k d within. has_kind units p _ (laws.rows p n k d within)
+own_rows laws p n = λ k d within. has_kind p _ (laws.rows p n k d within)
 
 pub told_of_own : Laws → (units bytes : List ℕ) (p : Program Span) → IsAccepted bytes p → (a : Asked) (n : ℕ)
     → Tells a n → IsOver (own_run p n) → (steps : ℕ) (due : Due)
@@ -196,7 +167,7 @@ told_of_own laws units bytes p is _ _ (profiles n) over steps due told =
     let own = own_run p n in
     let woven = woven_run is_profiled p (woven_budget n) in
     let lines = line_table units in
-    let rows = rows_in units p in
+    let rows = id_map p in
     told ∙ same_objects units p own woven steps (same_ending is_profiled p well n over)
     (same_store is_profiled p well n over) (births_in lines rows (world_of woven).hooks)
     (births_in lines rows (world_of own).operations)
@@ -207,10 +178,10 @@ told_of_own laws units bytes p is _ _ (covers n) over steps due told =
     let own = own_run p n in
     let woven = woven_run is_covered p (woven_budget n) in
     let lines = line_table units in
-    let rows = rows_in units p in
+    let rows = id_map p in
     let kept = same_hooks is_covered p well n over ∙ kept_are is_covered (world_of own).operations in
     let enough = laws.covered is_covered (λ kind looked. looked) lines rows (world_of own).operations
-    (own_rows laws units p n) in
+    (own_rows laws p n) in
     told ∙ same_cover units p own woven steps (same_ending is_covered p well n over)
     (same_store is_covered p well n over) (missed_in lines rows (world_of woven).hooks)
     (missed_in lines rows (world_of own).operations) (totals_in rows (world_of woven).hooks)

@@ -6,8 +6,7 @@ use Rattle.jl_command.specs.Asked.{replay, request, run, soak, srcmap, trace, un
 use Rattle.jl_app.specs.Answers.{IsAnswered, IsDue, IsDueTo, answered_to, answered_to_made, bad_words, due_to, refused}
 use Rattle.jl_app.specs.Answers.{replayed, unmapped}
 use Rattle.jl_app.specs.Due.{Due, OnShelf, refused_only}
-use Rattle.jl_app.specs.Forms.{ReadsSource, form_of, most_bytes, most_map_bytes, most_read, most_read_for}
-use Rattle.jl_app.specs.Forms.{most_record_bytes}
+use Rattle.jl_app.specs.Forms.{ReadsSource, form_of, most_bytes, most_read, most_read_for}
 use Rattle.jl_app.specs.Refusals.{too_long}
 use Rattle.jl_app.specs.Replaying.{not_text}
 use Rattle.jl_app.specs.SourceMapping.{no_text}

@@ -1,12 +1,12 @@
--- The run that `record` writes of an accepted script has rows with places, what is switched off in order, and
--- operations that have rows of their kinds.
+-- The run that `record` tells of, of an accepted script, has rows with places, what is switched off in order, and
+-- operations that have rows of their kinds and see their values with their classes.
 use Rattle.std.proofs.Common.{◌≡◌, ◌∙◌, ◌*◌, ◌+◌, ◌≤◌, ◌<◌, ◌^◌, ℕ, suc, All, List, [], ◌∷◌, Some, ap, arith}
-use Rattle.std.proofs.Common.{length, map, option_map, refl, subst, sym}
+use Rattle.std.proofs.Common.{length, option_map, refl, subst, sym}
 use Rattle.std.proofs.lemmas.List.{length-map}
 use Rattle.std.proofs.lemmas.List.Sums.{count_by-le-length}
 use Rattle.std.proofs.lemmas.Option.{slice_get-map}
 use Rattle.std.specs.List.{AllByRecursion}
-use Rattle.std.specs.Prelude.{min, nat_le}
+use Rattle.std.specs.Prelude.{nat_le}
 use Rattle.jl_ast.specs.Tree.{Program}
 use Rattle.jl_effects.specs.Running.{Over, Spent, state_of as world_of, steps_taken}
 use Rattle.jl_grammar.specs.Program.{Reads}
@@ -14,11 +14,13 @@ use Rattle.jl_meaning.specs.Mean as mean
 use Rattle.jl_op.specs.Chosen.{every_kind, Kinds}
 use Rattle.jl_op.specs.IdMap.{id_map}
 use Rattle.jl_op.specs.Kinds.{kind_of}
-use Rattle.jl_op.specs.Map.{MapRow}
+use Rattle.jl_op.specs.Map.{BeginsIn, MapRow}
 use Rattle.jl_op.specs.Operations.{Operation}
 use Rattle.jl_operation_rows.specs.Rows.{HasRow}
+use Rattle.jl_operation_rows.specs.Seeing.{SeesValues}
 use Rattle.jl_record.specs.Recording.{rows_of}
 use Rattle.jl_record.specs.Records.{IsOperation, IsPlaceNumber, IsRow, IsStored, Row, kind_at}
+use Rattle.jl_record.specs.Storing.{CanBeStored}
 use Rattle.jl_report.specs.Laws.{OffNamesRules}
 use Rattle.jl_scope.specs.EarlyErrors.{early_errors_of}
 use Rattle.jl_simulation.specs.Weaving.{woven_program}
@@ -26,17 +28,16 @@ use Rattle.jl_text.proofs.PlacesLemmas.{line_at-some, line_table-IsLineTable}
 use Rattle.jl_text.specs.Encoding.{units_of}
 use Rattle.jl_text.specs.Places.{LineTable, line_col, line_table, starts_after}
 use Rattle.jl_text.specs.declared.span.Span.{Span}
+use Rattle.jl_token.specs.Tokens.{Tokens}
 use Rattle.jl_token.specs.declared.token.Comment.{Comment}
 use Rattle.jl_token.specs.declared.token.Token.{Token}
 use Rattle.jl_app.specs.Accepting.{IsAccepted}
-use Rattle.jl_app.specs.Headline.{woven_mean, woven_run}
-use Rattle.jl_app.specs.RecordedRuns.{HasFacts, RecordedRunsAreStored, recorded_operations, recorded_run}
-use Rattle.jl_app.specs.Rows.{row_within, rows_in}
-use Rattle.jl_app.specs.WovenRuns.{woven_budget}
-use Rattle.jl_app.specs.inner.Woven.{IsWovenWell}
-use Rattle.jl_app.proofs.AboutRuns.{quiet_world, World}
+use Rattle.jl_app.specs.Recording.{stored_run}
+use Rattle.jl_app.specs.WovenRuns.{woven_budget, woven_run}
+use Rattle.jl_app.specs.inner.RecordedRuns.{RecordedRunsAreStored, recorded_operations}
 use Rattle.jl_app.proofs.Legal.{nothing_wrong}
 use Rattle.jl_app.proofs.OffInOrder.{each, few_off, off_are_stored, off_in_order}
+use Rattle.jl_app.proofs.SeenClasses.{have_classes}
 use Rattle.jl_app.proofs.Sizes.{few_accepted_tokens}
 use Rattle.jl_read_back.proofs.Bytes.{units_within}
 
@@ -52,15 +53,12 @@ place_numbers units at short within =
     let few = table.few in
     ((some, omega (arith, counted, few)), (omega arith, omega (arith, within)))
 
-least : (a b : ℕ) → min a b ≤ b
-least a b = omega arith
-
 rows_are : (units : List ℕ) → length units < 4294967290 → (rows : List MapRow)
-    → AllByRecursion IsRow (rows_of (line_table units) (map (row_within (length units)) rows))
-rows_are units short [] = tt
-rows_are units short (row ∷ rows) = (
-  place_numbers units (min row.1.from (length units)) short (least row.1.from (length units)),
-  rows_are units short rows,
+    → AllByRecursion (BeginsIn (line_table units)) rows → AllByRecursion IsRow (rows_of (line_table units) rows)
+rows_are units short [] begin = tt
+rows_are units short (row ∷ rows) begin = (
+  place_numbers units row.1.from short begin.0,
+  rows_are units short rows begin.1,
 )
 
 -- a row with the place at which its part begins
@@ -68,38 +66,35 @@ abbrev place_of_row : LineTable → MapRow → Row
 place_of_row lines row = let place = line_col lines row.1.from in (row.0, place.0, place.1)
 
 row_count : (units : List ℕ) (p : Program Span)
-    → length (rows_of (line_table units) (rows_in units p)) ≡ length (id_map p)
-row_count units p =
-    length-map (rows_in units p) (place_of_row (line_table units))
-    ∙ length-map (id_map p) (row_within (length units))
+    → length (rows_of (line_table units) (id_map p)) ≡ length (id_map p)
+row_count units p = length-map (id_map p) (place_of_row (line_table units))
 
 -- ---- operations
 
 kind_there : (units : List ℕ) (p : Program Span) (o : Operation) → HasRow p o
-    → kind_at (rows_of (line_table units) (rows_in units p)) o.0.0 ≡ Some (kind_of o.1)
+    → kind_at (rows_of (line_table units) (id_map p)) o.0.0 ≡ Some (kind_of o.1)
 kind_there units p o has =
     let index : has.before + 1 ≡ suc has.before = omega arith in
-    let in_map = ap (option_map (row_within (length units))) has.row in
-    let in_rows = slice_get-map (row_within (length units)) (id_map p) has.before ∙ in_map in
-    ap (kind_at (rows_of (line_table units) (rows_in units p))) (has.id ∙ index)
+    ap (kind_at (rows_of (line_table units) (id_map p))) (has.id ∙ index)
     ∙ ap (option_map (λ (row : Row). row.0))
-    (slice_get-map (place_of_row (line_table units)) (rows_in units p) has.before
-    ∙ ap (option_map (place_of_row (line_table units))) in_rows)
+    (slice_get-map (place_of_row (line_table units)) (id_map p) has.before
+    ∙ ap (option_map (place_of_row (line_table units))) has.row)
 
 operations_are : (units : List ℕ) (p : Program Span) (operations : List Operation)
-    → AllByRecursion (HasRow p) operations → AllByRecursion HasFacts operations
-    → AllByRecursion (IsOperation (rows_of (line_table units) (rows_in units p))) operations
-operations_are units p [] rows facts = tt
-operations_are units p (o ∷ operations) rows facts =
-    ((kind_there units p o rows.0, facts.0), operations_are units p operations rows.1 facts.1)
+    → AllByRecursion (HasRow p) operations → AllByRecursion SeesValues operations
+    → AllByRecursion (λ o. CanBeStored o.1) operations
+    → AllByRecursion (IsOperation (rows_of (line_table units) (id_map p))) operations
+operations_are units p [] rows values can = tt
+operations_are units p (o ∷ operations) rows values can = (
+  (kind_there units p o rows.0, can.0 (have_classes o values.0)),
+  operations_are units p operations rows.1 values.1 can.1,
+)
 
 -- the hooks of the run are those of what the woven script means
-same_hooks : (p : Program Span) (well : IsWovenWell every_kind p) (budget : ℕ) → recorded_operations p budget
+same_hooks : (p : Program Span) (budget : ℕ) → recorded_operations p budget
     ≡ (world_of (mean.mean every_kind (woven_program every_kind p) (woven_budget budget))).hooks
-unfolding woven_mean woven_run
-same_hooks p well budget =
-    ap (λ (r : mean.Run). (world_of r).hooks) (well.runs (woven_budget budget))
-    ∙ ap (λ (w : World). w.hooks) (quiet_world (woven_mean every_kind p (woven_budget budget)))
+unfolding woven_run
+same_hooks p budget = refl
 
 taken_at_most : (n : ℕ) (r : mean.Run) → steps_taken n r ≤ n
 taken_at_most n (Over e left w) = omega arith
@@ -109,13 +104,17 @@ taken_at_most n (Spent w) = omega arith
 
 -- what is known of rows and of operations
 pub record Laws : Type 0 where
-  pub well : (kinds : Kinds) (bytes : List ℕ) (p : Program Span) → IsAccepted bytes p → IsWovenWell kinds p
   pub rules : OffNamesRules
+  pub places : (text : List ℕ) (ts : List Token) (limit : ℕ) (p : Program Span) → Tokens text ts → Reads ts limit p
+      → All (BeginsIn (line_table text)) (id_map p)
   pub few_rows : (ts : List Token) (limit : ℕ) (p : Program Span) → Reads ts limit p
       → length (id_map p) ≤ 4 * length ts + 2
   pub rows : (chosen : Kinds) (ts : List Token) (limit : ℕ) (p : Program Span) → Reads ts limit p
       → early_errors_of p ≡ [] → length ts < 1073741823 → (n : ℕ)
       → All (HasRow p) (world_of (mean.mean chosen (woven_program chosen p) n)).hooks
+  pub values : (chosen : Kinds) (ts : List Token) (limit : ℕ) (p : Program Span) → Reads ts limit p
+      → early_errors_of p ≡ [] → length ts < 1073741823 → (n : ℕ)
+      → All SeesValues (world_of (mean.mean chosen (woven_program chosen p) n)).hooks
   pub few_hooks : (chosen : Kinds) (w : Program (Unit {0})) (n : ℕ)
       → length (world_of (mean.mean chosen w n)).hooks ≤ steps_taken n (mean.mean chosen w n)
 
@@ -129,13 +128,20 @@ module _ (laws : Laws) (bytes : List ℕ) (p : Program Span) (is : IsAccepted by
 
   same : recorded_operations p budget
       ≡ (world_of (mean.mean every_kind (woven_program every_kind p) (woven_budget budget))).hooks
-  same = same_hooks p (laws.well every_kind bytes p is) budget
+  same = same_hooks p budget
 
   have_rows : AllByRecursion (HasRow p) (recorded_operations p budget)
   have_rows =
       each (HasRow p) (recorded_operations p budget)
       (subst (λ (l : List Operation). All (HasRow p) l) (sym same)
       (laws.rows every_kind is.tokens 200 p is.read (nothing_wrong bytes p is) (few_accepted_tokens bytes p is)
+      (woven_budget budget)))
+
+  see_values : AllByRecursion SeesValues (recorded_operations p budget)
+  see_values =
+      each SeesValues (recorded_operations p budget)
+      (subst (λ (l : List Operation). All SeesValues l) (sym same)
+      (laws.values every_kind is.tokens 200 p is.read (nothing_wrong bytes p is) (few_accepted_tokens bytes p is)
       (woven_budget budget)))
 
   few_operations : budget ≤ 1000000000 → length (recorded_operations p budget) < 2 ^ 64
@@ -146,17 +152,19 @@ module _ (laws : Laws) (bytes : List ℕ) (p : Program Span) (is : IsAccepted by
       let count = ap (λ (l : List Operation). length l) same in
       omega (arith, taken, few, count, least)
 
-  is_stored : budget ≤ 1000000000 → AllByRecursion HasFacts (recorded_operations p budget)
-      → IsStored (recorded_run (units_of bytes) p comments budget)
-  is_stored least facts = record {
-    rows = rows_are (units_of bytes) short (id_map p);
+  is_stored : budget ≤ 1000000000 → AllByRecursion (λ o. CanBeStored o.1) (recorded_operations p budget)
+      → IsStored (stored_run (units_of bytes) p comments (recorded_operations p budget))
+  is_stored least can = record {
+    rows = rows_are (units_of bytes) short (id_map p)
+        (each (BeginsIn (line_table (units_of bytes))) (id_map p)
+        (laws.places (units_of bytes) is.tokens 200 p is.lexed is.read));
     few_rows = (let count = row_count (units_of bytes) p in let few = few_rows in omega (arith, count, few));
     off = off_are_stored laws.rules (units_of bytes) comments short;
     off_in_order = off_in_order (units_of bytes) comments;
     few_off = few_off laws.rules (units_of bytes) comments short;
-    operations = operations_are (units_of bytes) p (recorded_operations p budget) have_rows facts;
+    operations = operations_are (units_of bytes) p (recorded_operations p budget) have_rows see_values can;
     few_operations = few_operations least;
   }
 
 pub recorded_are_stored : Laws → RecordedRunsAreStored
-recorded_are_stored laws bytes p is comments budget least facts = is_stored laws bytes p is comments budget least facts
+recorded_are_stored laws bytes p is comments budget least can = is_stored laws bytes p is comments budget least can

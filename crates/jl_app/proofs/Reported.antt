@@ -1,13 +1,18 @@
 -- The text of a report grows by that of a line; and the report of the operations that chosen rules look at is that of
 -- all.
 use Rattle.std.proofs.Common.{◌≡◌, ℕ, ◌<◌, ◌++◌, List, [], ◌∷◌, length, take, get_or, ◌+◌, sym, ap, ◌∙◌}
-use Rattle.std.proofs.Common.{append_assoc, append-nil, add-one}
+use Rattle.std.proofs.Common.{All, ap₂, append_assoc, append-nil, add-one, refl}
+use Rattle.std.proofs.lemmas.List.Elements.{All-head, All-tail}
 use Rattle.std.proofs.Math.Seq.{take-suc}
+use Rattle.jl_op.specs.Map.{BeginsIn, MapRow}
 use Rattle.jl_op.specs.Operations.{Operation}
 use Rattle.jl_analysis.specs.Laws.{NeededIsEnough}
 use Rattle.jl_report.specs.Off.{off_by}
+use Rattle.jl_report.specs.Reports.{places_of}
 use Rattle.jl_report.specs.Texts.{line_bytes}
 use Rattle.jl_report.specs.declared.line.Line.{Line}
+use Rattle.jl_text.proofs.PlacesLemmas.{line_col-line_table}
+use Rattle.jl_text.specs.Places.{line_table}
 use Rattle.jl_app.specs.Headline.{kept_of}
 use Rattle.jl_app.specs.Reporting.{IsReport, Lines, lines_text, positions}
 use Rattle.jl_app.proofs.ChosenRules.{of_kept}
@@ -31,11 +36,21 @@ one_more_line lines at d text written next within so_far line grown =
     ∙ ap lines_text (sym (take-suc lines at d within))
     ∙ ap (λ n. lines_text (take n lines)) (sym (add-one at))
 
+-- the places of a map, by the lines of the source
+pub same_places : (units : List ℕ) (rows : List MapRow) → All (BeginsIn (line_table units)) rows
+    → places_of (line_table units) rows ≡ positions units rows
+same_places units [] begin = refl
+same_places units (row ∷ rows) begin =
+    ap₂ (λ place places. place ∷ places)
+    (line_col-line_table units row.1.from (All-head (BeginsIn (line_table units)) row rows begin))
+    (same_places units rows (All-tail (BeginsIn (line_table units)) row rows begin))
+
 -- the report of the operations that chosen rules look at, but for what comments switch off, is that of all
-pub all_reported : NeededIsEnough → (units places chosen : List ℕ) (operations : List Operation) (lines : Lines)
-    → IsReport units places chosen (kept_of chosen operations) lines → IsReport units places chosen operations lines
-all_reported enough units places chosen operations lines is = record {
+pub all_reported : NeededIsEnough → (units : List ℕ) (rows : List MapRow) (chosen : List ℕ)
+    (operations : List Operation) (lines : Lines) → IsReport units rows chosen (kept_of chosen operations) lines
+    → IsReport units rows chosen operations lines
+all_reported enough units rows chosen operations lines is = record {
   comments = is.comments;
   are = is.are;
-  report = of_kept enough chosen (off_by units is.comments) (positions units places) operations lines is.report;
+  report = of_kept enough chosen (off_by units is.comments) (positions units rows) operations lines is.report;
 }

@@ -1,5 +1,5 @@
 -- What `run` and `lint` answer to the same bytes.
-use Rattle.std.proofs.Common.{◌≡◌, ◌∙◌, ℕ, zero, suc, ◌+◌, ◌*◌, ◌<◌, ◌≤◌, ◌++◌, Bool, true, false, ◌||◌, ◌&&◌, ◌==◌}
+use Rattle.std.proofs.Common.{◌≡◌, ◌∙◌, ℕ, zero, suc, ◌+◌, ◌*◌, ◌<◌, ◌≤◌, Bool, true, false, ◌||◌, ◌&&◌, ◌==◌}
 use Rattle.std.proofs.Common.{List, [], ◌∷◌, Some, add-one, ap, arith, length, refl, subst, sym}
 use Rattle.std.specs.List.{filter}
 use Rattle.std.specs.Prelude.{unwrap_or}
@@ -13,7 +13,6 @@ use Rattle.jl_ast.specs.Tree.{Program}
 use Rattle.jl_command.specs.Asked.{is_among, lint, run}
 use Rattle.jl_command.specs.Meant.{IsChoice}
 use Rattle.jl_effects.specs.Running.{IsOver, Over, Spent, state_of as world_of, steps_taken}
-use Rattle.jl_effects.specs.Traces.{with_state, without_operations}
 use Rattle.jl_heap.specs.Describe.{description_of}
 use Rattle.jl_heap.specs.Objects.{Objects}
 use Rattle.jl_machine.specs.Runs.{ending_of}
@@ -26,23 +25,23 @@ use Rattle.jl_value.specs.declared.ending.Outcome.TheVariants as ending
 use Rattle.jl_app.specs.Accepting.{IsAccepted, IsRead, OneReading}
 use Rattle.jl_app.specs.Answers.{IsAnswered, IsDueTo, IsExecuted, accepted, answered_to, answered_to_made, ended}
 use Rattle.jl_app.specs.Answers.{execute_due, refused, replayed, unmapped}
-use Rattle.jl_app.specs.Due.{Due, OnShelf, text_only}
+use Rattle.jl_app.specs.Due.{Due, OnShelf}
 use Rattle.jl_app.specs.Endings.{Call}
-use Rattle.jl_app.specs.Headline.{IsAbout, own_run, woven_mean}
+use Rattle.jl_app.specs.Headline.{IsAbout}
 use Rattle.jl_app.specs.Linting.{IsLinted, IsReported, lint_due, lint_status, ran, unread}
-use Rattle.jl_app.specs.OwnRuns.{ending_status, ending_text, program_run, steps_line, uncaught_line}
+use Rattle.jl_app.specs.OwnRuns.{ending_status, ending_text, own_run, uncaught_line}
 use Rattle.jl_app.specs.ReadBack.{IsReadBack}
 use Rattle.jl_app.specs.Refusals.{IsRefused, NeverBoth}
 use Rattle.jl_app.specs.Reporting.{Lines, lines_text}
 use Rattle.jl_app.specs.RunAndLint.{HasEnded, IsReport, IsThrown, SameStatus, ShowsSame, more, none, nothing, reported}
 use Rattle.jl_app.specs.RunAndLint.{same, uncaught}
-use Rattle.jl_app.specs.WovenRuns.{hooked_run, woven_budget}
+use Rattle.jl_app.specs.WovenRuns.{hooked_run, woven_budget, woven_run}
 use Rattle.jl_app.specs.WovenText.{kinds_of, woven_text}
 use Rattle.jl_app.specs.declared.answer.Answer.{Answer}
 use Rattle.jl_app.specs.declared.form.Form.TheVariants as forms
 use Rattle.jl_app.specs.declared.status.Status.TheVariants as status
 use Rattle.jl_app.specs.inner.Woven.{IsWovenWell}
-use Rattle.jl_app.proofs.AboutRuns.{about_own, quiet, quiet_ending}
+use Rattle.jl_app.proofs.AboutRuns.{about_own}
 use Rattle.jl_app.proofs.OwnRun.{same_run}
 
 some_same : {A : Type 0} {a b : A} → Some a ≡ Some b → a ≡ b
@@ -81,18 +80,12 @@ is_choice set rule is =
 
 -- What `run` answers.
 
-executed_same : (r : mean.Run) (n : ℕ) → execute_due (quiet r) n ≡ execute_due r n
-executed_same (Over e k w) n =
-    ap (λ (x : Ending). text_only (ending_status x) (w.output ++ (uncaught_line w.store.heap x
-    ++ steps_line x (steps_taken n (Over e k w))))) (quiet_ending (Over e k w))
-executed_same (Spent w) n = refl
-
 ended_over : (r : mean.Run) → HasEnded (ending_status (ending_of r)) → IsOver r
 ended_over (Over e k w) is = tt
 ended_over (Spent w) is = absurd is
 
 executed_is : (p : Program Span) (budget : ℕ) (due : Due) → IsExecuted p budget due
-    → due ≡ execute_due (program_run p budget) budget
+    → due ≡ execute_due (own_run p budget) budget
 executed_is p budget _ ended = refl
 
 -- the bytes are accepted as a program whose own run is over, and the answer is that of this run
@@ -102,32 +95,29 @@ pub record IsRunOf (bytes : List ℕ) (budget : ℕ) (due : Due) : Type 0 where
   pub over : IsOver (own_run program budget)
   pub is : due ≡ execute_due (own_run program budget) budget
 
-module _ (own : (p : Program Span) (n : ℕ) → program_run p n ≡ with_state without_operations (own_run p n)) where
-  run_of : (bytes : List ℕ) (budget : ℕ) (due : Due) (p : Program Span) → HasEnded due.status → IsAccepted bytes p
-      → IsExecuted p budget due → IsRunOf bytes budget due
-  run_of bytes budget due p has is executed =
-      let same : due ≡ execute_due (own_run p budget) budget =
-      executed_is p budget due executed ∙ ap (λ (r : mean.Run). execute_due r budget) (own p budget)
-      ∙ executed_same (own_run p budget) budget in
-      record {
-        program = p;
-        accepts = is;
-        over = ended_over (own_run p budget) (subst (λ (d : Due). HasEnded d.status) same has);
-        is = same;
-      }
+run_of : (bytes : List ℕ) (budget : ℕ) (due : Due) (p : Program Span) → HasEnded due.status → IsAccepted bytes p
+    → IsExecuted p budget due → IsRunOf bytes budget due
+run_of bytes budget due p has is executed =
+    let same : due ≡ execute_due (own_run p budget) budget = executed_is p budget due executed in
+    record {
+      program = p;
+      accepts = is;
+      over = ended_over (own_run p budget) (subst (λ (d : Due). HasEnded d.status) same has);
+      is = same;
+    }
 
-  answered_run : (bytes : List ℕ) (budget : ℕ) (shelf : OnShelf) (due : Due) → HasEnded due.status
-      → IsAnswered (run budget) bytes shelf due → IsRunOf bytes budget due
-  answered_run bytes budget shelf _ has (refused form cause reads why kept) = absurd has
-  answered_run bytes budget shelf due has (unmapped other x kept) = absurd (cc)
-  answered_run bytes budget shelf due has (replayed rules other x kept) = absurd (cc)
-  answered_run bytes budget shelf due has (accepted form p reads read responds) =
-      run_of bytes budget due p has (subst (λ f. IsRead f bytes p) (sym (some_same reads)) read) responds.1
+answered_run : (bytes : List ℕ) (budget : ℕ) (shelf : OnShelf) (due : Due) → HasEnded due.status
+    → IsAnswered (run budget) bytes shelf due → IsRunOf bytes budget due
+answered_run bytes budget shelf _ has (refused form cause reads why kept) = absurd has
+answered_run bytes budget shelf due has (unmapped other x kept) = absurd (cc)
+answered_run bytes budget shelf due has (replayed rules other x kept) = absurd (cc)
+answered_run bytes budget shelf due has (accepted form p reads read responds) =
+    run_of bytes budget due p has (subst (λ f. IsRead f bytes p) (sym (some_same reads)) read) responds.1
 
-  pub due_run : (bytes : List ℕ) (budget : ℕ) (shelf : OnShelf) (due : Due) → HasEnded due.status
-      → IsDueTo (run budget) bytes shelf due → IsRunOf bytes budget due
-  due_run bytes budget shelf due has (answered_to reads answered) = answered_run bytes budget shelf due has answered
-  due_run bytes budget shelf due has (answered_to_made n b c made answered) = absurd (cc)
+pub due_run : (bytes : List ℕ) (budget : ℕ) (shelf : OnShelf) (due : Due) → HasEnded due.status
+    → IsDueTo (run budget) bytes shelf due → IsRunOf bytes budget due
+due_run bytes budget shelf due has (answered_to reads answered) = answered_run bytes budget shelf due has answered
+due_run bytes budget shelf due has (answered_to_made n b c made answered) = absurd (cc)
 
 -- What `lint` answers to the same bytes.
 
@@ -146,7 +136,7 @@ module _ (enough : NeededIsEnough) (never : NeverBoth) (one : OneReading) (bytes
     (budget : ℕ) (chosen : List ℕ) (well : IsWovenWell (kinds_of chosen) p) (is_p : IsAccepted bytes p)
     (over : IsOver (own_run p budget)) where
   abbrev woven : mean.Run
-  woven = quiet (woven_mean (kinds_of chosen) p (woven_budget budget))
+  woven = woven_run (kinds_of chosen) p (woven_budget budget)
 
   abbrev About : Due → Type 0
   About due = IsAbout (call_of due.bytes) (units_of bytes) p chosen budget (own_run p budget) woven due.status
@@ -160,7 +150,7 @@ module _ (enough : NeededIsEnough) (never : NeverBoth) (one : OneReading) (bytes
   unfolding call_of
   told lines count report =
       about_own enough (call_of (lint_due woven (woven_budget budget) lines count).bytes) (units_of bytes) p chosen
-      (own_run p) (woven_mean (kinds_of chosen) p) well.simulates (woven_budget budget) lines count report refl tt
+      (own_run p) (woven_run (kinds_of chosen) p) well.simulates (woven_budget budget) lines count report refl tt
       budget (31 * budget + 64) refl (omega arith) (well.longer budget (31 * budget + 64)) over
 
   linted : (due : Due) (lent : List ℕ) → lent ≡ woven_text (kinds_of chosen) p
@@ -169,9 +159,8 @@ module _ (enough : NeededIsEnough) (never : NeverBoth) (one : OneReading) (bytes
       absurd (no_program well.back.program (subst (λ t. IsReadBack t well.back.program) (sym is) well.back.read))
   linted _ lent is (ran q lines count read report) =
       let back = subst (λ t. IsReadBack t q) is read in
-      let same_as = same_run (kinds_of chosen) p q (woven_budget budget) (well.back.same q back) in
       let is_woven : hooked_run (kinds_of chosen) q (woven_budget budget) ≡ woven =
-      same_as ∙ well.runs (woven_budget budget) in
+      same_run (kinds_of chosen) p q (woven_budget budget) (well.back.same q back) in
       subst (λ (r : mean.Run). Told r lines count) (sym is_woven) (told lines count) report
 
   answered_lint : (shelf : OnShelf) (due : Due) → shelf.lent ≡ shelf.handed
@@ -240,16 +229,15 @@ shown first second units p chosen budget own other due first_status first_bytes 
     }
 
 pub shows_same : (first second : Answer) (enough : NeededIsEnough) (never : NeverBoth) (one : OneReading)
-    (own : (p : Program Span) (n : ℕ) → program_run p n ≡ with_state without_operations (own_run p n))
     (well : (kinds : Kinds) (bytes : List ℕ) (p : Program Span) → IsAccepted bytes p → IsWovenWell kinds p)
     (bytes : List ℕ) (budget : ℕ) (chosen : List ℕ) (run_shelf lint_shelf : OnShelf) (run_due lint_due : Due)
     → IsDueTo (run budget) bytes run_shelf run_due → first.status ≡ run_due.status
     → first.bytes.items ≡ run_due.bytes → lint_shelf.lent ≡ lint_shelf.handed
     → IsDueTo (lint budget chosen) bytes lint_shelf lint_due → second.status ≡ lint_due.status
     → second.bytes.items ≡ lint_due.bytes → HasEnded first.status → ShowsSame first second
-shows_same first second enough never one own well bytes budget chosen run_shelf lint_shelf run_due lint_due ran_due
+shows_same first second enough never one well bytes budget chosen run_shelf lint_shelf run_due lint_due ran_due
     run_status run_bytes lent linted_due lint_status_is lint_bytes_are has =
-    let of_run = due_run own bytes budget run_shelf run_due (subst HasEnded run_status has) ran_due in
+    let of_run = due_run bytes budget run_shelf run_due (subst HasEnded run_status has) ran_due in
     shown first second (units_of bytes) of_run.program chosen budget (own_run of_run.program budget) _ lint_due
     (run_status ∙ ap (λ (d : Due). d.status) of_run.is) (run_bytes ∙ ap (λ (d : Due). d.bytes) of_run.is)
     lint_status_is lint_bytes_are

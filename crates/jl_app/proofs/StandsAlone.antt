@@ -4,7 +4,6 @@ use Rattle.jl_ast.specs.Spans.{without_spans}
 use Rattle.jl_ast.specs.Tree.{Program}
 use Rattle.jl_command.specs.Asked.{exec, trace}
 use Rattle.jl_op.specs.Chosen.{every_kind}
-use Rattle.jl_simulation.specs.Weaving.{woven_program}
 use Rattle.jl_text.specs.Encoding.{UnitsComeBack}
 use Rattle.jl_text.specs.declared.span.Span.{Span}
 use Rattle.jl_token.specs.Tokens.{Tokens}
@@ -13,15 +12,16 @@ use Rattle.jl_app.specs.Answers.{IsAnswered, IsTraced, IsTracedAlone, accepted, 
 use Rattle.jl_app.specs.Answers.{instrument_due, refused, replayed, trace_due, unmapped}
 use Rattle.jl_app.specs.Due.{Due}
 use Rattle.jl_app.specs.WovenRuns.{woven_budget}
-use Rattle.jl_app.specs.OwnRuns.{program_run}
+use Rattle.jl_app.specs.OwnRuns.{own_run}
 use Rattle.jl_app.specs.ReadBack.{IsReadBack}
 use Rattle.jl_app.specs.Refusals.{IsRefused, NeverBoth}
 use Rattle.jl_app.specs.StandsAlone.{StandsAlone, same_shelf}
+use Rattle.jl_app.specs.Telling.{told_run}
 use Rattle.jl_app.specs.WovenText.{woven_text}
 use Rattle.jl_app.specs.declared.form.Form.TheVariants as forms
 use Rattle.jl_app.specs.inner.Woven.{ReadsBackAsWoven}
 use Rattle.jl_record.proofs.BytesOfUnits.{bytes_are_utf8}
-use Rattle.jl_app.proofs.OwnRun.{same_program_run}
+use Rattle.jl_app.proofs.OwnRun.{same_own_run}
 
 some_same : {A : Type 0} {a b : A} → Some a ≡ Some b → a ≡ b
 some_same e = cc
@@ -46,14 +46,14 @@ module _ (one : OneReading) (never : NeverBoth) (comes_back : UnitsComeBack) (by
 
   -- the answer to the run of the woven script
   abbrev due : ℕ → Due
-  due budget = trace_due (program_run (woven_program every_kind p) (woven_budget budget)) (woven_budget budget)
+  due budget = trace_due (told_run every_kind p budget) (woven_budget budget)
 
   same_due : (q : Program Span) (budget : ℕ) → IsRead forms.WovenText woven q
-      → trace_due (program_run q (woven_budget budget)) (woven_budget budget) ≡ due budget
+      → trace_due (own_run q (woven_budget budget)) (woven_budget budget) ≡ due budget
   same_due q budget read =
       let program = one forms.WovenText woven q back.program read (of_units back.program back.read) in
       ap (λ r. trace_due r (woven_budget budget))
-      (same_program_run p q (woven_budget budget)
+      (same_own_run p q (woven_budget budget)
       (ap (λ (r : Program Span). without_spans r) program ∙ back.same back.program back.read))
 
   as_exec : (budget : ℕ) (handed lent : List ℕ) (d : Due) → IsAnswered (trace budget) bytes (same_shelf handed lent) d

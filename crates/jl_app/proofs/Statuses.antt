@@ -68,7 +68,7 @@ module _ (units : List ℕ) (p : Program Span) where
 
   recorded_answers : (r : mean.Run) (operations : List Operation) (d : Due) → IsRecorded units p r operations d
       → HasAnswered d.status
-  recorded_answers r operations _ (recorded comments are few) = run_answers _
+  recorded_answers r operations _ (recorded comments are stored few) = run_answers _
   recorded_answers r operations _ (too_long_record comments are many) = tt
 
   told_answers : (r : mean.Run) (d told : Due) → d ≡ told → told.status ≡ ending_status (ending_of r)

@@ -18,13 +18,14 @@ module _ (come_back : RecordsComeBack) (one : OneRecord) (chosen : List ℕ) (r 
 
   -- a report of the run, and the answer that it is
   abbrev Reports : Stored → Due → Type 0
-  Reports s due = (lines : Lines) × IsReportOf s chosen lines × (due ≡ replay_due s lines)
+  Reports s due = (lines : Lines) × IsReportOf s chosen lines × (due ≡ replay_due s.operations lines)
 
   its_report : (due : Due) → IsReplayed chosen (bytes_of_run r) due → Reports r due
   its_report _ (not_text cause why) = absurd (never_text most_record_bytes (bytes_of_run r) cause why text)
   its_report _ (no_record n t refused) = absurd (refused.none r is (sym (come_back r is).same))
   its_report _ (reported s lines t stored same report) =
-      subst (λ (x : Stored). Reports x (replay_due s lines)) (one s r stored is (same ∙ (come_back r is).same))
+      subst (λ (x : Stored). Reports x (replay_due s.operations lines))
+      (one s r stored is (same ∙ (come_back r is).same))
       (lines, report, refl)
 
   replays : ReplaysAs chosen r

@@ -1,16 +1,17 @@
 -- The answer that the code makes of the operations of a woven script's run is the one that is due.
-use Rattle.std.proofs.Common.{◌≡◌, ◌∙◌, ◌++◌, ℕ, List, [], ap, refl, subst, sym}
+use Rattle.std.proofs.Common.{◌≡◌, ◌∙◌, ◌++◌, ℕ, List, [], ap, subst}
 use mathlib.Core.Path.{fun_ext}
 use Rattle.jl_ast.specs.Spans.{without_spans}
 use Rattle.jl_ast.specs.Tree.{Program}
 use Rattle.jl_cover.specs.declared.missed.Missed.{Missed}
 use Rattle.jl_cover.specs.declared.totals.Totals.{Totals}
 use Rattle.jl_effects.specs.Running.{state_of as world_of, steps_taken}
-use Rattle.jl_machine.specs.Runs.{ending_of, hooked_mean, IsRun}
+use Rattle.jl_machine.specs.Runs.{ending_of, IsRun}
 use Rattle.jl_machine.specs.declared.ending.Run.{Run}
 use Rattle.jl_meaning.specs.Mean as mean
 use Rattle.jl_meaning.specs.Store.{Store}
 use Rattle.jl_op.specs.Chosen.{Kinds}
+use Rattle.jl_op.specs.IdMap.{id_map}
 use Rattle.jl_op.specs.KindSets.{is_member}
 use Rattle.jl_op.specs.Map.{MapRow}
 use Rattle.jl_op.specs.Operations.{Operation}
@@ -24,34 +25,22 @@ use Rattle.jl_text.specs.Places.{LineTable, line_table}
 use Rattle.jl_text.specs.declared.span.Span.{Span}
 use Rattle.jl_token.specs.declared.token.Comment.{Comment}
 use Rattle.jl_app.specs.Covering.{cover_bytes, cover_line, missed_lines}
-use Rattle.jl_app.specs.Headline.{woven_run}
 use Rattle.jl_app.specs.OwnRuns.{uncaught_line}
 use Rattle.jl_app.specs.Profiling.{births_lines, objects_bytes, objects_line}
 use Rattle.jl_app.specs.Recording.{record_bytes}
-use Rattle.jl_app.specs.Rows.{rows_in}
 use Rattle.jl_app.specs.Telling.{told_run}
 use Rattle.jl_app.specs.WovenRuns.{hooked_run, woven_budget}
 use Rattle.jl_app.proofs.OwnRun.{same_run}
 
-as_hooked : (kinds : Kinds) (q : Program Span) (n : ℕ) → hooked_mean kinds q n ≡ hooked_run kinds q n
-unfolding hooked_run
-as_hooked kinds q n = refl
-
-pub told_run_is : (kinds : Kinds) (p : Program Span) (budget : ℕ)
-    → told_run kinds p budget ≡ woven_run kinds p (woven_budget budget)
-unfolding woven_run
-told_run_is kinds p budget = refl
-
 -- the run of a program that is read from the woven script's text, or is it but for its places
 pub is_told_run : {O : Type 0} (stands_for : O → List Operation → Type 0) (o : O) (r : Run) (kinds : Kinds)
     (p q : Program Span) (n budget : ℕ) → n ≡ woven_budget budget → without_spans q ≡ woven_program kinds p
-    → IsRun stands_for [] n (hooked_mean kinds q n) r o
+    → IsRun stands_for [] n (hooked_run kinds q n) r o
     → IsRun stands_for [] (woven_budget budget) (told_run kinds p budget) r o
 is_told_run stands_for o r kinds p q n budget taken same is =
     subst (λ (ran : mean.Run). IsRun stands_for [] (woven_budget budget) ran r o)
-    (as_hooked kinds q (woven_budget budget) ∙ same_run kinds p q (woven_budget budget) same
-    ∙ sym (told_run_is kinds p budget))
-    (subst (λ k. IsRun stands_for [] k (hooked_mean kinds q k) r o) taken is)
+    (same_run kinds p q (woven_budget budget) same)
+    (subst (λ k. IsRun stands_for [] k (hooked_run kinds q k) r o) taken is)
 
 -- the same for a set that has these kinds
 pub of_told_kinds : {O : Type 0} (stands_for : O → List Operation → Type 0) (o : O) (r : Run) (set : KindSet)
@@ -64,13 +53,13 @@ of_told_kinds stands_for o r set kinds p budget same is =
 
 -- the text of a stored run of these
 pub record_bytes_are : (units : List ℕ) (p : Program Span) (comments : List Comment) (operations : List Operation)
-    (lines : LineTable) (rows : List MapRow) (off : List Pair) → lines ≡ line_table units → rows ≡ rows_in units p
+    (lines : LineTable) (rows : List MapRow) (off : List Pair) → lines ≡ line_table units → rows ≡ id_map p
     → off ≡ off_by units comments
     → bytes_of_run (run_of lines rows off operations) ≡ record_bytes units p comments operations
 record_bytes_are units p comments operations lines rows off is these those =
     ap (λ (l : LineTable). bytes_of_run (run_of l rows off operations)) is
     ∙ ap (λ (m : List MapRow). bytes_of_run (run_of (line_table units) m off operations)) these
-    ∙ ap (λ (o : List Pair). bytes_of_run (run_of (line_table units) (rows_in units p) o operations)) those
+    ∙ ap (λ (o : List Pair). bytes_of_run (run_of (line_table units) (id_map p) o operations)) those
 
 module _ {O : Type 0} {stands_for : O → List Operation → Type 0} {o : O} {r : Run} (n : ℕ) (ran : mean.Run)
     (is : IsRun stands_for [] n ran r o) where

@@ -4,7 +4,7 @@ use Rattle.std.proofs.Common.{append_assoc, append-nil}
 use mathlib.Core.Path.{fun_ext}
 use Rattle.jl_ast.specs.Tree.{Program}
 use Rattle.jl_effects.specs.Running.{state_of as world_of, steps_taken}
-use Rattle.jl_machine.specs.Runs.{ending_of, hooked_mean, IsRun}
+use Rattle.jl_machine.specs.Runs.{ending_of, IsRun}
 use Rattle.jl_machine.specs.declared.ending.Run.{Run}
 use Rattle.jl_meaning.specs.Mean as mean
 use Rattle.jl_meaning.specs.Store.{Store}
@@ -17,8 +17,9 @@ use Rattle.jl_simulation.specs.Weaving.{woven_program}
 use Rattle.jl_text.specs.declared.span.Span.{Span}
 use Rattle.jl_app.specs.Answers.{trace_due}
 use Rattle.jl_app.specs.Due.{Due}
-use Rattle.jl_app.specs.WovenRuns.{woven_budget}
-use Rattle.jl_app.specs.OwnRuns.{ending_status, program_run, uncaught_line}
+use Rattle.jl_app.specs.Telling.{told_run}
+use Rattle.jl_app.specs.WovenRuns.{hooked_run, woven_budget}
+use Rattle.jl_app.specs.OwnRuns.{ending_status, own_run, uncaught_line}
 use Rattle.jl_app.specs.Tracing.{hooks_line, trace_line, trace_lines}
 use Rattle.jl_app.specs.declared.status.Status.{Status}
 use Rattle.jl_app.proofs.Executing.{of_all_kinds}
@@ -55,8 +56,8 @@ module _ {O : Type 0} {stands_for : O → List Operation → Type 0} {o : O} {r 
 -- a run of a program that was told of all kinds
 pub all_kinds : {O : Type 0} {stands_for : O → List Operation → Type 0} {o : O} {r : Run} (kinds : KindSet)
     → ((kind : OpKind) → is_member kinds kind ≡ true) → (p : Program Span) (budget : ℕ)
-    → IsRun stands_for [] budget (hooked_mean (is_member kinds) p budget) r o
-    → IsRun stands_for [] budget (program_run p budget) r o
+    → IsRun stands_for [] budget (hooked_run (is_member kinds) p budget) r o
+    → IsRun stands_for [] budget (own_run p budget) r o
 all_kinds {stands_for = stands_for} {o = o} {r = r} kinds all p budget is =
     subst (λ ran. IsRun stands_for [] budget ran r o) (of_all_kinds kinds all p budget) is
 
@@ -65,16 +66,13 @@ pub of_all_woven : (set : KindSet) → ((kind : OpKind) → is_member set kind �
     → woven_program (is_member set) p ≡ woven_program every_kind p
 of_all_woven set all p = ap (λ chosen. woven_program chosen p) (fun_ext {f = is_member set} {g = every_kind} all)
 
--- an answer to the run of a program is that to the run of one that runs alike
-pub same_traced_run : (q : Program Span) (w : Program (Unit {0})) (steps budget : ℕ) {answer : Status} {bytes : List ℕ}
-    → steps ≡ woven_budget budget
-    → program_run q (woven_budget budget) ≡ program_run w (woven_budget budget)
-    → (answer ≡ (trace_due (program_run q steps) steps).status)
-    × (bytes ≡ (trace_due (program_run q steps) steps).bytes)
-    → (answer ≡ (trace_due (program_run w (woven_budget budget)) (woven_budget budget)).status)
-    × (bytes ≡ (trace_due (program_run w (woven_budget budget)) (woven_budget budget)).bytes)
-same_traced_run q w steps budget is same answered =
-    let run : trace_due (program_run q steps) steps
-    ≡ trace_due (program_run w (woven_budget budget)) (woven_budget budget) =
-    ap (λ n. trace_due (program_run q n) n) is ∙ ap (λ r. trace_due r (woven_budget budget)) same in
+-- an answer to the run of a program is that to the run of the woven script, where they run alike
+pub same_traced_run : (q p : Program Span) (steps budget : ℕ) {answer : Status} {bytes : List ℕ}
+    → steps ≡ woven_budget budget → own_run q (woven_budget budget) ≡ told_run every_kind p budget
+    → (answer ≡ (trace_due (own_run q steps) steps).status) × (bytes ≡ (trace_due (own_run q steps) steps).bytes)
+    → (answer ≡ (trace_due (told_run every_kind p budget) (woven_budget budget)).status)
+    × (bytes ≡ (trace_due (told_run every_kind p budget) (woven_budget budget)).bytes)
+same_traced_run q p steps budget is same answered =
+    let run : trace_due (own_run q steps) steps ≡ trace_due (told_run every_kind p budget) (woven_budget budget) =
+    ap (λ n. trace_due (own_run q n) n) is ∙ ap (λ r. trace_due r (woven_budget budget)) same in
     (answered.0 ∙ ap (λ (d : Due). d.status) run, answered.1 ∙ ap (λ (d : Due). d.bytes) run)

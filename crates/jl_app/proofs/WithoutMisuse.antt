@@ -7,11 +7,9 @@ use Rattle.jl_cover.specs.Coverage.{is_covered}
 use Rattle.jl_effects.specs.Keeping.{FailsAllowed}
 use Rattle.jl_effects.specs.Running.{Ends, Fails, Over, Spent}
 use Rattle.jl_grammar.specs.Program.{Reads}
-use Rattle.jl_machine.specs.Runs.{hooked_mean}
-use Rattle.jl_meaning.specs.Mean.{IsNoMisuse, Run}
+use Rattle.jl_meaning.specs.Mean.{IsNoMisuse, mean, Run}
 use Rattle.jl_op.specs.Chosen.{every_kind, Kinds}
 use Rattle.jl_profile.specs.Births.{is_profiled}
-use Rattle.jl_quiet.specs.QuietMean.{quiet_mean}
 use Rattle.jl_safety.specs.Ends.{EndsOrThrows}
 use Rattle.jl_scope.specs.EarlyErrors.{early_errors_of}
 use Rattle.jl_simulation.specs.Weaving.{woven_program}
@@ -20,12 +18,10 @@ use Rattle.jl_token.specs.declared.token.Token.{Token}
 use Rattle.jl_value.specs.declared.ending.Completion.TheVariants as completion
 use Rattle.jl_value.specs.declared.ending.Fault.TheVariants.{Misuse}
 use Rattle.jl_app.specs.Accepting.{IsAccepted}
-use Rattle.jl_app.specs.WovenRuns.{hooked_run, woven_budget}
-use Rattle.jl_app.specs.Headline.{woven_run}
+use Rattle.jl_app.specs.WovenRuns.{woven_budget, woven_run}
 use Rattle.jl_app.specs.Misuse.{AcceptedScriptsRunWithoutMisuse, EndsWithoutMisuse, ReportsWithoutMisuse}
 use Rattle.jl_app.specs.Misuse.{RunsWithoutMisuse}
-use Rattle.jl_app.specs.OwnRuns.{program_run}
-use Rattle.jl_app.specs.Telling.{told_run}
+use Rattle.jl_app.specs.OwnRuns.{own_run}
 use Rattle.jl_app.specs.WovenText.{kinds_of}
 use Rattle.jl_app.specs.inner.Woven.{IsWovenWell}
 use Rattle.jl_app.proofs.Legal.{nothing_wrong}
@@ -40,45 +36,27 @@ without (Over (Ends _) left w) h e is = absurd e
 without (Over (Fails f) left w) h e is = let same : f ≡ Misuse = cc in h same
 without (Spent w) h e is = cc
 
--- what the laws say of quiet runs, said of the runs that answers are made of
+-- what the laws say of what programs mean, said of the runs that answers are made of
 module _ (p : Program Span) where
-  own : ((chosen : Kinds) (n : ℕ) → FailsAllowed IsNoMisuse (quiet_mean chosen p n))
-      → ((chosen : Kinds) (n : ℕ) → EndsOrThrows (quiet_mean chosen p n)) → (n : ℕ)
-      → EndsWithoutMisuse (program_run p n)
-  unfolding program_run hooked_mean
-  own safe ends n = without (quiet_mean every_kind p n) (safe every_kind n) (ends every_kind n)
+  own : ((chosen : Kinds) (n : ℕ) → FailsAllowed IsNoMisuse (mean chosen p n))
+      → ((chosen : Kinds) (n : ℕ) → EndsOrThrows (mean chosen p n)) → (n : ℕ) → EndsWithoutMisuse (own_run p n)
+  unfolding own_run
+  own safe ends n = without (mean every_kind p n) (safe every_kind n) (ends every_kind n)
 
-  traced : ((chosen : Kinds) (n : ℕ) → FailsAllowed IsNoMisuse (quiet_mean chosen (woven_program chosen p) n))
-      → ((chosen : Kinds) (w : Program (Unit {0})) (n : ℕ) → EndsOrThrows (quiet_mean chosen w n))
-      → (n : ℕ) → EndsWithoutMisuse (program_run (woven_program every_kind p) n)
-  unfolding program_run hooked_mean
-  traced safe ends n =
-      let w = woven_program every_kind p in
-      without (quiet_mean every_kind w n) (safe every_kind n) (ends every_kind w n)
-
-  woven : ((chosen : Kinds) (n : ℕ) → FailsAllowed IsNoMisuse (quiet_mean chosen (woven_program chosen p) n))
-      → ((chosen : Kinds) (w : Program (Unit {0})) (n : ℕ) → EndsOrThrows (quiet_mean chosen w n))
+  woven : ((chosen : Kinds) (n : ℕ) → FailsAllowed IsNoMisuse (mean chosen (woven_program chosen p) n))
+      → ((chosen : Kinds) (w : Program (Unit {0})) (n : ℕ) → EndsOrThrows (mean chosen w n))
       → (kinds : Kinds) (n : ℕ) → EndsWithoutMisuse (woven_run kinds p n)
-  unfolding woven_run hooked_run hooked_mean
+  unfolding woven_run
   woven safe ends kinds n =
-      let w = woven_program kinds p in without (quiet_mean kinds w n) (safe kinds n) (ends kinds w n)
-
-  told : ((chosen : Kinds) (n : ℕ) → FailsAllowed IsNoMisuse (quiet_mean chosen (woven_program chosen p) n))
-      → ((chosen : Kinds) (w : Program (Unit {0})) (n : ℕ) → EndsOrThrows (quiet_mean chosen w n))
-      → (kinds : Kinds) (budget : ℕ) → EndsWithoutMisuse (told_run kinds p budget)
-  unfolding hooked_run hooked_mean
-  told safe ends kinds budget =
-      let w = woven_program kinds p in
-      without (quiet_mean kinds w (woven_budget budget)) (safe kinds (woven_budget budget))
-      (ends kinds w (woven_budget budget))
+      let w = woven_program kinds p in without (mean kinds w n) (safe kinds n) (ends kinds w n)
 
 pub without_misuse : ((chosen : Kinds) (p : Program Span) → early_errors_of p ≡ [] → (n : ℕ)
-    → FailsAllowed IsNoMisuse (quiet_mean chosen p n))
+    → FailsAllowed IsNoMisuse (mean chosen p n))
     → ((chosen : Kinds) (ts : List Token) (limit : ℕ) (p : Program Span) → Reads ts limit p
     → early_errors_of p ≡ [] → length ts < 1073741823 → (n : ℕ)
-    → FailsAllowed IsNoMisuse (quiet_mean chosen (woven_program chosen p) n))
-    → ((chosen : Kinds) (p : Program Span) (n : ℕ) → EndsOrThrows (quiet_mean chosen p n))
-    → ((chosen : Kinds) (w : Program (Unit {0})) (n : ℕ) → EndsOrThrows (quiet_mean chosen w n))
+    → FailsAllowed IsNoMisuse (mean chosen (woven_program chosen p) n))
+    → ((chosen : Kinds) (p : Program Span) (n : ℕ) → EndsOrThrows (mean chosen p n))
+    → ((chosen : Kinds) (w : Program (Unit {0})) (n : ℕ) → EndsOrThrows (mean chosen w n))
     → ((kinds : Kinds) (bytes : List ℕ) (p : Program Span) → IsAccepted bytes p → IsWovenWell kinds p)
     → AcceptedScriptsRunWithoutMisuse
 without_misuse safe woven_safe ends woven_ends well a bytes p is = by_command a
@@ -86,7 +64,7 @@ without_misuse safe woven_safe ends woven_ends well a bytes p is = by_command a
     legal : early_errors_of p ≡ []
     legal = nothing_wrong bytes p is
 
-    all_woven : (chosen : Kinds) (n : ℕ) → FailsAllowed IsNoMisuse (quiet_mean chosen (woven_program chosen p) n)
+    all_woven : (chosen : Kinds) (n : ℕ) → FailsAllowed IsNoMisuse (mean chosen (woven_program chosen p) n)
     all_woven chosen n = woven_safe chosen is.tokens 200 p is.read legal (few_accepted_tokens bytes p is) n
 
     reporting : (budget : ℕ) (chosen : List ℕ) → ReportsWithoutMisuse budget chosen p
@@ -99,13 +77,13 @@ without_misuse safe woven_safe ends woven_ends well a bytes p is = by_command a
     by_command : (a : Asked) → RunsWithoutMisuse a p
     by_command (lint budget chosen) = reporting budget chosen
     by_command (run budget) = own p (λ chosen n. safe chosen p legal n) (λ chosen n. ends chosen p n) budget
-    by_command (record_of_run budget) = told p all_woven woven_ends every_kind budget
-    by_command (objects budget) = told p all_woven woven_ends is_profiled budget
-    by_command (cover budget) = told p all_woven woven_ends is_covered budget
+    by_command (record_of_run budget) = woven p all_woven woven_ends every_kind (woven_budget budget)
+    by_command (objects budget) = woven p all_woven woven_ends is_profiled (woven_budget budget)
+    by_command (cover budget) = woven p all_woven woven_ends is_covered (woven_budget budget)
     by_command srcmap = tt
     by_command unmap = tt
     by_command (replay chosen) = tt
-    by_command (trace budget) = traced p all_woven woven_ends (woven_budget budget)
+    by_command (trace budget) = woven p all_woven woven_ends every_kind (woven_budget budget)
     by_command check = tt
     by_command print = tt
     by_command instrument = tt

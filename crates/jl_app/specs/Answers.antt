@@ -10,21 +10,21 @@ use Rattle.jl_machine.specs.Runs.{ending_of}
 use Rattle.jl_meaning.specs.Mean as mean
 use Rattle.jl_op.specs.Chosen.{every_kind}
 use Rattle.jl_op.specs.IdMap.{id_map}
+use Rattle.jl_op.specs.Map.{map_lines}
 use Rattle.jl_print.specs.Layout.{text_of}
-use Rattle.jl_simulation.specs.Weaving.{woven_program}
 use Rattle.jl_soak.specs.Script.{script_of}
 use Rattle.jl_text.specs.Encoding.{bytes_of, units_of}
+use Rattle.jl_text.specs.Places.{line_table}
 use Rattle.jl_text.specs.declared.span.Span.{Span}
 use Rattle.jl_app.specs.Accepting.{IsRead}
 use Rattle.jl_app.specs.Due.{Due, OnShelf, line_only, refused_only, text_only}
 use Rattle.jl_app.specs.Forms.{ReadsSource, form_of}
 use Rattle.jl_app.specs.Linting.{IsLinted}
-use Rattle.jl_app.specs.MapLines.{map_lines}
-use Rattle.jl_app.specs.OwnRuns.{ending_status, program_run, steps_line, uncaught_line}
+use Rattle.jl_app.specs.OwnRuns.{ending_status, own_run, steps_line, uncaught_line}
 use Rattle.jl_app.specs.Refusals.{IsRefused, refusal_words}
 use Rattle.jl_app.specs.Replaying.{IsReplayed}
 use Rattle.jl_app.specs.SourceMapping.{IsMappedBack, IsUnmapped}
-use Rattle.jl_app.specs.Telling.{IsToldOfWoven}
+use Rattle.jl_app.specs.Telling.{IsToldOfWoven, told_run}
 use Rattle.jl_app.specs.Tracing.{hooks_line, trace_lines}
 use Rattle.jl_app.specs.WovenRuns.{woven_budget}
 use Rattle.jl_app.specs.WovenText.{kinds_of, woven_text}
@@ -58,7 +58,7 @@ pub data IsInstrumented (p : Program Span) : Due → Type 0 where
 
 -- the lines of the map of a program that a source of these units is read as
 abbrev pub listed_map : (units : List ℕ) → Program Span → Due
-listed_map units p = text_only status.Clean (map_lines units (id_map p))
+listed_map units p = text_only status.Clean (map_lines (line_table units) (id_map p))
 
 -- what `map` answers to it
 pub data IsMapped (units : List ℕ) (p : Program Span) : Due → Type 0 where
@@ -72,7 +72,7 @@ execute_due r steps = text_only (ending_status (ending_of r))
 
 -- what `run` answers to it with this budget
 pub data IsExecuted (p : Program Span) (budget : ℕ) : Due → Type 0 where
-  ended : IsExecuted p budget (execute_due (program_run p budget) budget)
+  ended : IsExecuted p budget (execute_due (own_run p budget) budget)
 
 -- the operations that the hooks of a run with this budget told of, what it threw, and the last line
 abbrev pub trace_due : mean.Run → (steps : ℕ) → Due
@@ -82,12 +82,11 @@ trace_due r steps = text_only (ending_status (ending_of r))
 
 -- what `trace` answers to it with this budget: the run of the woven script
 pub data IsTraced (p : Program Span) (budget : ℕ) : Due → Type 0 where
-  ended_woven : IsTraced p budget
-      (trace_due (program_run (woven_program every_kind p) (woven_budget budget)) (woven_budget budget))
+  ended_woven : IsTraced p budget (trace_due (told_run every_kind p budget) (woven_budget budget))
 
 -- what `exec` answers to a woven text that is read as the program q, with this budget: its run as it stands
 pub data IsTracedAlone (q : Program Span) (budget : ℕ) : Due → Type 0 where
-  ended_alone : IsTracedAlone q budget (trace_due (program_run q budget) budget)
+  ended_alone : IsTracedAlone q budget (trace_due (own_run q budget) budget)
 
 -- What a command answers to a source of these units that is read as this program. `lint` hands the shelf the text of
 -- the script that is woven for the kinds that its rules look at; no other command touches it.

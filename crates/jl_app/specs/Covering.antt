@@ -8,13 +8,13 @@ use Rattle.jl_cover.specs.declared.totals.Totals.{Totals}
 use Rattle.jl_effects.specs.Running.{state_of as world_of}
 use Rattle.jl_machine.specs.Runs.{ending_of}
 use Rattle.jl_meaning.specs.Mean as mean
+use Rattle.jl_op.specs.IdMap.{id_map}
 use Rattle.jl_op.specs.Operations.{Operation}
 use Rattle.jl_text.specs.Places.{line_table}
 use Rattle.jl_text.specs.declared.span.Span.{Span}
 use Rattle.jl_value.specs.declared.ending.Outcome.{Outcome as Ending}
 use Rattle.jl_app.specs.Due.{Due, text_only}
 use Rattle.jl_app.specs.OwnRuns.{ending_status, ending_text, uncaught_line}
-use Rattle.jl_app.specs.Rows.{rows_in}
 
 -- a line for each gap
 abbrev pub missed_lines : List Missed → List ℕ
@@ -43,5 +43,5 @@ cover_bytes r steps gaps totals =
 abbrev pub cover_due : (units : List ℕ) → Program Span → mean.Run → List Operation → (steps : ℕ) → Due
 cover_due units p r operations steps =
     text_only (ending_status (ending_of r))
-    (cover_bytes r steps (missed_in (line_table units) (rows_in units p) operations)
-    (totals_in (rows_in units p) operations))
+    (cover_bytes r steps (missed_in (line_table units) (id_map p) operations)
+    (totals_in (id_map p) operations))

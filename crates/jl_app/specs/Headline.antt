@@ -6,15 +6,15 @@ use Rattle.jl_effects.specs.Matching.{Alike, IsWithin}
 use Rattle.jl_effects.specs.Running.{IsOver, state_of as world_of, steps_taken}
 use Rattle.jl_machine.specs.Runs.{ending_of}
 use Rattle.jl_meaning.specs.Mean as mean
-use Rattle.jl_op.specs.Chosen.{every_kind, is_kept, Kinds}
+use Rattle.jl_op.specs.Chosen.{is_kept}
 use Rattle.jl_op.specs.Operations.{Operation}
 use Rattle.jl_port.specs.Bytes.{Grows}
-use Rattle.jl_simulation.specs.Weaving.{woven_program}
 use Rattle.jl_text.specs.Encoding.{units_of}
 use Rattle.jl_text.specs.declared.span.Span.{Span}
 use Rattle.jl_value.specs.declared.ending.Outcome.TheVariants as ending
 use Rattle.jl_app.specs.Linting.{IsReported, end_line, lint_bytes, lint_status}
-use Rattle.jl_app.specs.WovenRuns.{hooked_run, woven_budget}
+use Rattle.jl_app.specs.WovenRuns.{hooked_run, woven_budget, woven_run}
+use Rattle.jl_app.specs.OwnRuns.{own_run}
 use Rattle.jl_app.specs.Accepting.{IsAccepted}
 use Rattle.jl_app.specs.Due.{Due}
 use Rattle.jl_app.specs.Endings.{Call, EndsWith, HasAnswered}
@@ -25,18 +25,6 @@ use Rattle.jl_app.specs.Telling.{IsToldOf, Tells}
 use Rattle.jl_app.specs.WovenText.{kinds_of}
 use Rattle.jl_app.specs.declared.status.Status.{Status}
 use Rattle.jl_app.specs.declared.status.Status.TheVariants as status
-
--- what a script does by itself, with so many steps
-unfoldable pub own_run : Program Span → (steps : ℕ) → mean.Run
-own_run p n = mean.mean every_kind p n
-
--- what its script that is woven for these kinds means, with so many steps
-unfoldable pub woven_mean : Kinds → Program Span → (steps : ℕ) → mean.Run
-woven_mean kinds p n = mean.mean kinds (woven_program kinds p) n
-
--- the run of that
-unfoldable pub woven_run : Kinds → Program Span → (steps : ℕ) → mean.Run
-woven_run kinds p n = hooked_run kinds (woven_program kinds p) n
 
 -- those of the operations whose kind one of the rules with these numbers looks at, in their order
 abbrev pub kept_of : (chosen : List ℕ) → List Operation → List Operation

@@ -6,13 +6,11 @@ pub mod Reporting
 pub mod Codes
 pub mod Accepting
 pub mod Refusals
-pub mod MapLines
 pub mod WovenText
 pub mod ReadBack
 pub mod Tracing
 pub mod Due
 pub mod WovenRuns
-pub mod Rows
 pub mod Texts
 pub mod Linting
 pub mod SourceMapping
@@ -23,7 +21,6 @@ pub mod Covering
 pub mod Telling
 pub mod Replaying
 pub mod StoredRuns
-pub mod RecordedRuns
 pub mod Answers
 pub mod Endings
 pub mod Headline

@@ -11,7 +11,6 @@ use Rattle.jl_text.specs.declared.span.Span.{Span}
 use Rattle.jl_value.specs.declared.ending.Outcome.{Outcome as Ending}
 use Rattle.jl_value.specs.declared.ending.Outcome.TheVariants as ending
 use Rattle.jl_app.specs.Due.{Due, refused_only}
-use Rattle.jl_app.specs.MapLines.{begins}
 use Rattle.jl_app.specs.OwnRuns.{ending_text, uncaught_line}
 use Rattle.jl_app.specs.ReadBack.{IsReadBack}
 use Rattle.jl_app.specs.Reporting.{Lines, IsReport, lines_text}
@@ -48,16 +47,12 @@ lint_due r steps lines hooks = record {
   told = Some (world_of r).hooks;
 }
 
--- where the parts of a program begin that do its operations, by their ids
-abbrev pub places : Program Span → List ℕ
-places p = begins (id_map p)
-
 -- These are the lines of the report, by the rules with these numbers, of operations that the program p performs, which
 -- stands in a source of these units; and so many of them were kept.
 pub record IsReported (units : List ℕ) (p : Program Span) (chosen : List ℕ) (kept operations : List Operation)
     (lines : Lines) (count : ℕ) : Type 0 where
   pub counted : count ≡ length kept
-  pub report : IsReport units (places p) chosen operations lines
+  pub report : IsReport units (id_map p) chosen operations lines
 
 -- What `lint` answers to a source of these units that is accepted as the program p, with this budget and the rules with
 -- these numbers, where the shelf lends this text: that no program is read from it, or what comes of the run of that

@@ -7,13 +7,12 @@ use Rattle.jl_machine.specs.Runs.{ending_of}
 use Rattle.jl_meaning.specs.Mean.{Run}
 use Rattle.jl_op.specs.Chosen.{every_kind}
 use Rattle.jl_profile.specs.Births.{is_profiled}
-use Rattle.jl_simulation.specs.Weaving.{woven_program}
 use Rattle.jl_text.specs.declared.span.Span.{Span}
 use Rattle.jl_value.specs.declared.ending.Fault.TheVariants.{Misuse}
 use Rattle.jl_value.specs.declared.ending.Outcome.TheVariants as ending
 use Rattle.jl_app.specs.Accepting.{IsAccepted}
 use Rattle.jl_app.specs.WovenRuns.{hooked_run, woven_budget}
-use Rattle.jl_app.specs.OwnRuns.{program_run}
+use Rattle.jl_app.specs.OwnRuns.{own_run}
 use Rattle.jl_app.specs.ReadBack.{IsReadBack}
 use Rattle.jl_app.specs.Telling.{told_run}
 use Rattle.jl_app.specs.WovenText.{kinds_of, woven_text}
@@ -33,9 +32,8 @@ ReportsWithoutMisuse budget chosen p =
 abbrev pub RunsWithoutMisuse : Asked → Program Span → Type 0
 RunsWithoutMisuse (lint budget chosen) p = ReportsWithoutMisuse budget chosen p
 RunsWithoutMisuse (soak number budget chosen) p = ReportsWithoutMisuse budget chosen p
-RunsWithoutMisuse (run budget) p = EndsWithoutMisuse (program_run p budget)
-RunsWithoutMisuse (trace budget) p =
-    EndsWithoutMisuse (program_run (woven_program every_kind p) (woven_budget budget))
+RunsWithoutMisuse (run budget) p = EndsWithoutMisuse (own_run p budget)
+RunsWithoutMisuse (trace budget) p = EndsWithoutMisuse (told_run every_kind p budget)
 RunsWithoutMisuse (record_of_run budget) p = EndsWithoutMisuse (told_run every_kind p budget)
 RunsWithoutMisuse (objects budget) p = EndsWithoutMisuse (told_run is_profiled p budget)
 RunsWithoutMisuse (cover budget) p = EndsWithoutMisuse (told_run is_covered p budget)

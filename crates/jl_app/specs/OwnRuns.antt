@@ -2,21 +2,22 @@
 use Rattle.std.specs.Prelude.{[], codes, ◌++◌, ◌∷◌, List, ℕ}
 use Rattle.std.specs.Fmt.{decimal}
 use Rattle.jl_text.specs.Encoding.{bytes_of}
+use Rattle.jl_text.specs.declared.span.Span.{Span}
 use Rattle.jl_ast.specs.Tree.{Program}
 use Rattle.jl_value.specs.Faults.{fault_text}
 use Rattle.jl_value.specs.declared.ending.Outcome.{Outcome as Ending}
 use Rattle.jl_value.specs.declared.ending.Outcome.TheVariants as ending
 use Rattle.jl_heap.specs.Describe.{description_of}
 use Rattle.jl_heap.specs.Objects.{Objects}
-use Rattle.jl_meaning.specs.Mean.{Run}
-use Rattle.jl_machine.specs.Runs.{hooked_mean}
+use Rattle.jl_meaning.specs.Mean.{mean, Run}
 use Rattle.jl_op.specs.Chosen.{every_kind}
 use Rattle.jl_app.specs.declared.status.Status.{Status}
 use Rattle.jl_app.specs.declared.status.Status.TheVariants as status
 
--- the run of a program with so many steps, whose hooks, if it calls any, tell of operations of all kinds
-unfoldable pub program_run : {S : Type 0} → Program S → (steps : ℕ) → Run
-program_run p n = hooked_mean every_kind p n
+-- What a program means with so many steps. Its hooks, if it calls any, tell of operations of all kinds. It is a word of
+-- its own, since the steps of a contract may be a numeral, of which no run is to be unfolded.
+unfoldable pub own_run : Program Span → (steps : ℕ) → Run
+own_run p n = mean every_kind p n
 
 -- how it ended, in words
 abbrev pub ending_text : Ending → List ℕ

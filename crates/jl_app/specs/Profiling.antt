@@ -5,6 +5,7 @@ use Rattle.jl_ast.specs.Tree.{Program}
 use Rattle.jl_effects.specs.Running.{state_of as world_of}
 use Rattle.jl_machine.specs.Runs.{ending_of}
 use Rattle.jl_meaning.specs.Mean as mean
+use Rattle.jl_op.specs.IdMap.{id_map}
 use Rattle.jl_op.specs.Operations.{Operation}
 use Rattle.jl_profile.specs.Births.{all_made, all_unused, births_bytes, births_in}
 use Rattle.jl_profile.specs.declared.births.Births.{Births}
@@ -13,7 +14,6 @@ use Rattle.jl_text.specs.declared.span.Span.{Span}
 use Rattle.jl_value.specs.declared.ending.Outcome.{Outcome as Ending}
 use Rattle.jl_app.specs.Due.{Due, text_only}
 use Rattle.jl_app.specs.OwnRuns.{ending_status, ending_text, uncaught_line}
-use Rattle.jl_app.specs.Rows.{rows_in}
 
 -- a line for each row of the profile
 abbrev pub births_lines : List Births → List ℕ
@@ -36,4 +36,4 @@ objects_bytes r steps rows =
 abbrev pub objects_due : (units : List ℕ) → Program Span → mean.Run → List Operation → (steps : ℕ) → Due
 objects_due units p r operations steps =
     text_only (ending_status (ending_of r))
-    (objects_bytes r steps (births_in (line_table units) (rows_in units p) operations))
+    (objects_bytes r steps (births_in (line_table units) (id_map p) operations))

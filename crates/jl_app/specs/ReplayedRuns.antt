@@ -1,38 +1,34 @@
--- `replay` of what `record` writes of a script reports as `lint` does of the script.
-use Rattle.std.specs.Prelude.{◌≡◌, ℕ, ◌≤◌, List, length}
-use Rattle.std.specs.List.{AllByRecursion}
+-- `replay` of what `record` answers to a script reports as `lint` does of the script.
+use Rattle.std.specs.Prelude.{◌≡◌, ℕ, List}
 use Rattle.jl_ast.specs.Tree.{Program}
+use Rattle.jl_command.specs.Asked.{record_of_run}
 use Rattle.jl_effects.specs.Running.{IsOver, state_of as world_of}
-use Rattle.jl_record.specs.Recording.{bytes_of_run}
+use Rattle.jl_op.specs.IdMap.{id_map}
+use Rattle.jl_op.specs.Operations.{Operation}
 use Rattle.jl_text.specs.Encoding.{units_of}
 use Rattle.jl_text.specs.declared.span.Span.{Span}
-use Rattle.jl_token.specs.Tokens.{Comments}
-use Rattle.jl_token.specs.declared.token.Comment.{Comment}
 use Rattle.jl_app.specs.Accepting.{IsAccepted}
 use Rattle.jl_app.specs.Due.{Due}
-use Rattle.jl_app.specs.Forms.{most_record_bytes}
-use Rattle.jl_app.specs.Headline.{own_run}
-use Rattle.jl_app.specs.Linting.{places}
-use Rattle.jl_app.specs.RecordedRuns.{HasFacts, recorded_run}
+use Rattle.jl_app.specs.OwnRuns.{own_run}
 use Rattle.jl_app.specs.Replaying.{IsReplayed, replay_due}
 use Rattle.jl_app.specs.Reporting.{IsReport, Lines}
+use Rattle.jl_app.specs.Telling.{IsToldOfWoven}
+use Rattle.jl_app.specs.declared.status.Status.TheVariants as status
 
--- These bytes are a script whose own run is over within the budget; what was seen at its operations can be stored; and
--- the text that `record` writes is no longer than `replay` reads.
-pub record CanBeReplayed (bytes : List ℕ) (p : Program Span) (comments : List Comment) (budget : ℕ) : Type 0 where
-  pub accepted : IsAccepted bytes p
-  pub comments_are : Comments (units_of bytes) comments
-  pub bounded : budget ≤ 1000000000
-  pub over : IsOver (own_run p budget)
-  pub facts : AllByRecursion HasFacts (world_of (own_run p budget)).operations
-  pub short : length (bytes_of_run (recorded_run (units_of bytes) p comments budget)) ≤ most_record_bytes
+-- What is due to `replay` on these bytes, by the rules with these numbers, is the report of these operations of the
+-- program p, which stands in a source of these units; and that report is due.
+pub record ReplaysAsLint (units : List ℕ) (p : Program Span) (operations : List Operation) (chosen bytes : List ℕ)
+    : Type 0 where
+  pub reported : (due : Due) → IsReplayed chosen bytes due
+      → (lines : Lines) × IsReport units (id_map p) chosen operations lines × (due ≡ replay_due operations lines)
+  pub is_due : (lines : Lines) → IsReport units (id_map p) chosen operations lines
+      → IsReplayed chosen bytes (replay_due operations lines)
 
--- Then what is due to `replay` on that text, by the rules with these numbers, is the report of the operations of the
--- script's own run at their places in the source, but for what its comments switch off. These are the lines of `lint`.
+-- So it is, whatever the rules, of what is due to `record` on an accepted script, unless that is a refusal, and of the
+-- operations of the script's own run, if that is over within the budget. Their report has the lines of `lint`.
 abbrev pub ReplayReportsAsLint : Type 0
 ReplayReportsAsLint =
-    (bytes : List ℕ) (p : Program Span) (comments : List Comment) (budget : ℕ) → CanBeReplayed bytes p comments budget
-    → (chosen : List ℕ) (due : Due)
-    → IsReplayed chosen (bytes_of_run (recorded_run (units_of bytes) p comments budget)) due
-    → (lines : Lines) × IsReport (units_of bytes) (places p) chosen (world_of (own_run p budget)).operations lines
-    × (due ≡ replay_due (recorded_run (units_of bytes) p comments budget) lines)
+    (bytes : List ℕ) (p : Program Span) (budget : ℕ) → IsAccepted bytes p → IsOver (own_run p budget)
+    → (due : Due) → IsToldOfWoven (record_of_run budget) (units_of bytes) p budget due
+    → (due.status ≡ status.Refused → ⊥) → (chosen : List ℕ)
+    → ReplaysAsLint (units_of bytes) p (world_of (own_run p budget)).operations chosen due.bytes

@@ -2,6 +2,7 @@
 use Rattle.std.specs.Prelude.{◌≡◌, ℕ, List, [], ◌∷◌, ◌++◌, Some, codes, length, map}
 use Rattle.std.specs.Fmt.{decimal}
 use Rattle.jl_command.specs.Asked.{is_among}
+use Rattle.jl_op.specs.Operations.{Operation}
 use Rattle.jl_record.specs.Records.{IsRefusedAt, IsStored, Row, Stored, text_of}
 use Rattle.jl_report.specs.Reports as reports
 use Rattle.jl_text.specs.Encoding.{units_of}
@@ -27,12 +28,12 @@ abbrev pub replayed_line : (hooks reports : ℕ) → List ℕ
 replayed_line hooks reports =
     codes "jlint: replayed hooks=" ++ (decimal hooks ++ (codes " reports=" ++ (decimal reports ++ 10 ∷ [])))
 
--- the report of a stored run, and the last line; the crowd observes the operations of the run
-abbrev pub replay_due : Stored → Lines → Due
-replay_due stored lines = record {
+-- the report of a stored run with these operations, and the last line; the crowd observes the operations
+abbrev pub replay_due : List Operation → Lines → Due
+replay_due operations lines = record {
   status = replay_status lines;
-  bytes = lines_text lines ++ replayed_line (length stored.operations) (length lines);
-  told = Some stored.operations;
+  bytes = lines_text lines ++ replayed_line (length operations) (length lines);
+  told = Some operations;
 }
 
 -- these are the lines of the report of a stored run by the rules with these numbers, but for what is switched off in it
@@ -49,4 +50,4 @@ pub data IsReplayed (chosen : List ℕ) (bytes : List ℕ) : Due → Type 0 wher
       → IsReplayed chosen bytes (refused_only (codes "Record at line " ++ decimal n))
   reported : (stored : Stored) (lines : Lines) → IsTextWithin most_record_bytes bytes → IsStored stored
       → text_of stored ≡ units_of bytes → IsReportOf stored chosen lines
-      → IsReplayed chosen bytes (replay_due stored lines)
+      → IsReplayed chosen bytes (replay_due stored.operations lines)

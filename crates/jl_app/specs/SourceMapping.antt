@@ -3,6 +3,7 @@ use Rattle.std.specs.Prelude.{ℕ, List, [], ◌∷◌, ◌++◌, codes}
 use Rattle.std.specs.Fmt.{decimal}
 use Rattle.jl_ast.specs.Tree.{Program}
 use Rattle.jl_op.specs.Chosen.{every_kind}
+use Rattle.jl_op.specs.IdMap.{id_map}
 use Rattle.jl_srcmap.specs.Hooks.{segments_of}
 use Rattle.jl_srcmap.specs.Segments.{segment_line}
 use Rattle.jl_srcmap.specs.SourceMap.{HasSegments, IsRefusal, source_map_text}
@@ -16,7 +17,6 @@ use Rattle.jl_token.specs.declared.token.Token.{Token}
 use Rattle.jl_app.specs.Due.{Due, refused_only, text_only}
 use Rattle.jl_app.specs.Forms.{most_map_bytes}
 use Rattle.jl_app.specs.Refusals.{refusal_words}
-use Rattle.jl_app.specs.Rows.{rows_in}
 use Rattle.jl_app.specs.Texts.{IsNoText, IsTextWithin}
 use Rattle.jl_app.specs.WovenText.{woven_text}
 use Rattle.jl_app.specs.declared.refusal.Refusal.{Refusal}
@@ -25,7 +25,7 @@ use Rattle.jl_app.specs.declared.status.Status.TheVariants as status
 -- the segments of the text that `instrument` writes, which has these tokens
 abbrev pub woven_segments : (units : List ℕ) → Program Span → List Token → List Segment
 woven_segments units p tokens =
-    segments_of (line_table (woven_text every_kind p)) (rows_in units p) (line_table units) tokens
+    segments_of (line_table (woven_text every_kind p)) (id_map p) (line_table units) tokens
 
 -- what `srcmap` answers to a source of these units that is read as the program p: the source map of what `instrument`
 -- answers to it

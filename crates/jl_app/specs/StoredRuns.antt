@@ -11,8 +11,9 @@ use Rattle.jl_app.specs.Reporting.{Lines}
 -- report of the run is due.
 pub record ReplaysAs (chosen : List ℕ) (r : Stored) : Type 0 where
   pub reported : (due : Due) → IsReplayed chosen (bytes_of_run r) due
-      → (lines : Lines) × IsReportOf r chosen lines × (due ≡ replay_due r lines)
-  pub is_due : (lines : Lines) → IsReportOf r chosen lines → IsReplayed chosen (bytes_of_run r) (replay_due r lines)
+      → (lines : Lines) × IsReportOf r chosen lines × (due ≡ replay_due r.operations lines)
+  pub is_due : (lines : Lines) → IsReportOf r chosen lines
+      → IsReplayed chosen (bytes_of_run r) (replay_due r.operations lines)
 
 -- so it is of every stored run whose bytes are no more than are read, whatever the rules
 abbrev pub StoredRunsReplay : Type 0

@@ -8,13 +8,12 @@ use Rattle.jl_meaning.specs.Mean as mean
 use Rattle.jl_op.specs.Chosen.{every_kind, Kinds}
 use Rattle.jl_op.specs.Operations.{Operation}
 use Rattle.jl_profile.specs.Births.{is_profiled}
-use Rattle.jl_simulation.specs.Weaving.{woven_program}
 use Rattle.jl_text.specs.declared.span.Span.{Span}
 use Rattle.jl_app.specs.Covering.{cover_due}
 use Rattle.jl_app.specs.Due.{Due}
 use Rattle.jl_app.specs.Profiling.{objects_due}
 use Rattle.jl_app.specs.Recording.{IsRecorded}
-use Rattle.jl_app.specs.WovenRuns.{hooked_run, woven_budget}
+use Rattle.jl_app.specs.WovenRuns.{woven_budget, woven_run}
 
 -- the command tells of a run with this budget
 pub data Tells : Asked → (budget : ℕ) → Type 0 where
@@ -38,7 +37,7 @@ IsToldOf _ units p r operations steps due = ⊥
 
 -- the run of the script that is woven for these kinds, with this budget of the script
 abbrev pub told_run : Kinds → Program Span → (budget : ℕ) → mean.Run
-told_run kinds p budget = hooked_run kinds (woven_program kinds p) (woven_budget budget)
+told_run kinds p budget = woven_run kinds p (woven_budget budget)
 
 -- what it answers to the run of the woven script, of whose operations the hooks tell
 abbrev pub IsToldOfWoven : Asked → (units : List ℕ) → Program Span → (budget : ℕ) → Due → Type 0

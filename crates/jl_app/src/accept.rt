@@ -7,6 +7,7 @@ ghost use Rattle.jl_text.specs.Encoding.{units_of};
 ghost use Rattle.jl_token.specs.Tokens.{Tokens};
 ghost use Rattle.jl_app.specs.Accepting.{IsRead, IsText, HasTokens, IsProgram};
 ghost use Rattle.jl_app.specs.Forms.{is_sound, most_bytes, most_levels};
+ghost use Rattle.jl_app.specs.inner.MapRows.{RowsBeginIn};
 ghost use Rattle.jl_app.specs.inner.Refused.{Refuses};
 ghost use Rattle.jl_app.specs.declared.accept.Unaccepted.TheVariants.{NoMemory};
 ghost use Rattle.jl_app.specs.declared.form.Form.{Form as Kind};
@@ -16,6 +17,7 @@ use crate::refusal::Refusal;
 use crate::source::Source;
 use jl_ast::Program;
 use jl_lex::{LexRefusal, lex};
+use jl_operation_rows::laws::rows_lie_in_the_text;
 use jl_parse::{ParseRefusal, parse};
 use jl_scope::{ScopeRefusal, check};
 use jl_simulation::laws::few_ids;
@@ -134,6 +136,7 @@ pub(crate) fn accept(alloc: Global, form: Form, bytes: &[u8]) -> Result<Accepted
     requires { length bytes.now ≤ most_bytes form }
     ensures accepted { IfOk result (λ a. IsRead form bytes.now (view a.program) × (a.source ≡ units_of bytes.now)) }
     ensures few { IfOk result (λ a. HasFewIds (view a.program)) }
+    ensures places { IfOk result (λ a. RowsBeginIn a.source (view a.program)) }
     ensures refused { IfErr result (Refuses form bytes.now) }
 {
     let source = decode_source(alloc, form, bytes)?;
@@ -141,5 +144,6 @@ pub(crate) fn accept(alloc: Global, form: Form, bytes: &[u8]) -> Result<Accepted
     let program = parse_tokens(alloc, form, &source, tokens.items())?;
     check_early_errors(alloc, form, &source, &program)?;
     few_ids();
+    rows_lie_in_the_text();
     Ok(Accepted { source, program })
 }

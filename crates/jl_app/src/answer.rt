@@ -28,6 +28,7 @@ use jl_command::Command;
 use jl_op::Observer;
 use jl_port::Shelf;
 use std::alloc::{AllocError, Global};
+use std::hash::RandomState;
 
 /// A status, and the bytes that are written with it.
 #[derive(Drop)]
@@ -61,6 +62,7 @@ pub(crate) fn refusal_answer(alloc: Global, refusal: &Refusal) -> Result<Answer,
 /// What a command that reads a program answers to these bytes.
 pub(crate) fn respond<H: Shelf>(
     alloc: Global,
+    keys: RandomState,
     command: Command,
     bytes: &[u8],
     shelf: &mut H,
@@ -93,18 +95,20 @@ pub(crate) fn respond<H: Shelf>(
         Err(Unaccepted::NoMemory) => return Err(AllocError),
     };
     match command {
-        Command::Lint { budget, rules } => lint(alloc, &accepted, budget, rules, shelf, crowd),
-        Command::Run { budget } => execute(alloc, &accepted.program, budget),
+        Command::Lint { budget, rules } => lint(
+            alloc, keys, &accepted, budget, rules, shelf, crowd,
+        ),
+        Command::Run { budget } => execute(alloc, keys, &accepted.program, budget),
         Command::Check => check(alloc, &accepted.program),
         Command::Print => print(alloc, &accepted.program),
         Command::Instrument => instrument(alloc, &accepted.program),
-        Command::Map => list_map(alloc, &accepted.source, &accepted.program),
+        Command::Map => list_map(alloc, &accepted),
         Command::Srcmap => srcmap(alloc, &accepted),
-        Command::Trace { budget } => trace(alloc, &accepted.program, budget),
-        Command::Exec { budget } => trace_alone(alloc, &accepted.program, budget),
-        Command::Record { budget } => record_run(alloc, &accepted, budget),
-        Command::Objects { budget } => objects(alloc, &accepted, budget),
-        Command::Cover { budget } => cover(alloc, &accepted, budget),
+        Command::Trace { budget } => trace(alloc, keys, &accepted.program, budget),
+        Command::Exec { budget } => trace_alone(alloc, keys, &accepted.program, budget),
+        Command::Record { budget } => record_run(alloc, keys, &accepted, budget),
+        Command::Objects { budget } => objects(alloc, keys, &accepted, budget),
+        Command::Cover { budget } => cover(alloc, keys, &accepted, budget),
         Command::Soak { .. } => unreachable!(),
         Command::Unmap => unreachable!(),
         Command::Replay { .. } => unreachable!(),

@@ -8,7 +8,7 @@ ghost use Rattle.jl_app.specs.Due.{Due, IsGiven};
 ghost use Rattle.jl_app.specs.RunAndLint.{HasEnded, ShowsSame};
 
 use crate::answer::Answer;
-use crate::laws::{never_both, one_reading, own_runs_are_meant, scripts_are_woven_well};
+use crate::laws::{never_both, one_reading, scripts_are_woven_well};
 use crate::top::respond_to;
 use jl_analysis::laws::needed_is_enough;
 use jl_analysis::{Crowd, Findings, RuleSet};
@@ -16,6 +16,7 @@ use jl_command::Command;
 use jl_op::Observer;
 use jl_port::Same;
 use std::alloc::{AllocError, Global};
+use std::hash::RandomState;
 
 /// The answers of `run` and of `lint` to the same bytes.
 #[derive(Drop)]
@@ -30,6 +31,7 @@ pub struct RunAndLint {
 /// and at most 32 times as many and 64 more. Beside that its answer has the report.
 pub fn run_and_lint(
     alloc: Global,
+    keys: RandomState,
     bytes: &[u8],
     budget: u64,
     rules: RuleSet,
@@ -57,9 +59,9 @@ pub fn run_and_lint(
     never_both();
     scripts_are_woven_well();
     needed_is_enough();
-    own_runs_are_meant();
     let run = respond_to(
         alloc,
+        keys,
         Command::Run { budget },
         bytes,
         &mut Same::new(),
@@ -67,6 +69,7 @@ pub fn run_and_lint(
     )?;
     let lint = respond_to(
         alloc,
+        keys,
         Command::Lint { budget, rules },
         bytes,
         &mut Same::new(),

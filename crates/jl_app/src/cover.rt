@@ -8,6 +8,7 @@ ghost use Rattle.jl_app.specs.Covering.{cover_line, missed_lines, totals_text};
 ghost use Rattle.jl_app.specs.Due.{Due};
 ghost use Rattle.jl_app.specs.OwnRuns.{uncaught_line};
 ghost use Rattle.jl_app.specs.Telling.{IsToldOfWoven};
+ghost use Rattle.jl_app.specs.inner.MapRows.{RowsBeginIn};
 ghost use Rattle.jl_app.specs.inner.Said.{IsSaid};
 
 use crate::accept::Accepted;
@@ -19,6 +20,7 @@ use crate::woven_run::run_woven;
 use jl_cover::{Cover, Missed, Totals, covered_kinds, missed_text};
 use jl_machine::Run;
 use std::alloc::{AllocError, Global};
+use std::hash::RandomState;
 
 /// The lines of the gaps.
 fn missed_lines(alloc: Global, gaps: &[Missed]) -> Result<Vec<u8>, AllocError>
@@ -70,8 +72,14 @@ fn answer_bytes(
 }
 
 /// What `cover` answers to an accepted script with this budget.
-pub(crate) fn cover(alloc: Global, accepted: &Accepted, budget: u64) -> Result<Answer, AllocError>
+pub(crate) fn cover(
+    alloc: Global,
+    keys: RandomState,
+    accepted: &Accepted,
+    budget: u64,
+) -> Result<Answer, AllocError>
     requires few { HasFewIds (view accepted.now.program) }
+    requires places { RowsBeginIn accepted.now.source (view accepted.now.program) }
     requires budget { budget ≤ 1000000000 }
     ensures { IfOk result (λ given. (due : Due)
         × IsToldOfWoven (cover budget) accepted.now.source (view accepted.now.program) budget due
@@ -80,6 +88,7 @@ pub(crate) fn cover(alloc: Global, accepted: &Accepted, budget: u64) -> Result<A
     let mut cover = Cover::new(alloc);
     let run = run_woven(
         alloc,
+        keys,
         &accepted.program,
         budget,
         covered_kinds(),

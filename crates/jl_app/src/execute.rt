@@ -3,17 +3,19 @@ ghost use Rattle.std.specs.Prelude.{◌≡◌, ◌++◌, IfOk};
 ghost use Rattle.std.specs.String.{string_bytes};
 ghost use Rattle.jl_ast.specs.View.{view};
 ghost use Rattle.jl_app.specs.Answers.{execute_due};
-ghost use Rattle.jl_app.specs.OwnRuns.{ending_status, ending_text, program_run, steps_line, uncaught_line};
+ghost use Rattle.jl_app.specs.OwnRuns.{ending_status, ending_text, own_run, steps_line, uncaught_line};
 
 use crate::answer::Answer;
 use crate::lint::append_texts;
+use crate::run::run_program;
 use crate::status::Status;
 use jl_ast::Program;
 use jl_heap::Heap;
-use jl_machine::{Run, run};
+use jl_machine::Run;
 use jl_op::{KindSet, Nobody};
 use jl_value::Outcome;
 use std::alloc::{AllocError, Global};
+use std::hash::RandomState;
 
 /// How a run ended, in words.
 pub(crate) fn ending_text(alloc: Global, outcome: &Outcome) -> Result<String, AllocError>
@@ -81,11 +83,16 @@ fn answer_bytes(alloc: Global, run: &Run) -> Result<Vec<u8>, AllocError>
 }
 
 /// What `run` answers to a script that is accepted as this program, with at most so many steps.
-pub(crate) fn execute(alloc: Global, program: &Program, budget: u64) -> Result<Answer, AllocError>
-    ensures { IfOk result (λ a. (a.status ≡ (execute_due (program_run (view program.now) budget) budget).status)
-        × (a.bytes.items ≡ (execute_due (program_run (view program.now) budget) budget).bytes)) }
+pub(crate) fn execute(
+    alloc: Global,
+    keys: RandomState,
+    program: &Program,
+    budget: u64,
+) -> Result<Answer, AllocError>
+    ensures { IfOk result (λ a. (a.status ≡ (execute_due (own_run (view program.now) budget) budget).status)
+        × (a.bytes.items ≡ (execute_due (own_run (view program.now) budget) budget).bytes)) }
 {
-    let run = run(alloc, program, budget, KindSet::all(), &mut Nobody)?;
+    let run = run_program(alloc, keys, program, budget, KindSet::all(), &mut Nobody)?;
     Ok(Answer {
         status: ending_status(&run.outcome),
         bytes: answer_bytes(alloc, &run)?,

@@ -1,34 +1,29 @@
 //! Laws over the definitions; each is the contract of a function that does nothing.
-ghost use Rattle.std.specs.Prelude.{◌≡◌, ℕ, List};
+ghost use Rattle.std.specs.Prelude.{ℕ, List};
 ghost use Rattle.jl_ast.specs.Tree.{Program};
 ghost use Rattle.jl_op.specs.Chosen.{Kinds};
 ghost use Rattle.jl_text.specs.declared.span.Span.{Span};
-ghost use Rattle.jl_effects.specs.Traces.{with_state, without_operations};
-ghost use Rattle.jl_app.specs.Headline.{own_run};
-ghost use Rattle.jl_app.specs.OwnRuns.{program_run};
+ghost use Rattle.jl_app.specs.inner.RecordedRuns.{RecordedRunsAreStored};
 ghost use Rattle.jl_app.specs.inner.Woven.{IsWovenWell};
 ghost use Rattle.jl_app.specs.Accepting.{IsAccepted, OneReading};
 ghost use Rattle.jl_app.specs.ListedMaps.{SourceMapsAreListed};
 ghost use Rattle.jl_app.specs.Misuse.{AcceptedScriptsRunWithoutMisuse};
 ghost use Rattle.jl_app.specs.OneAnswer.{OneAnswer};
-ghost use Rattle.jl_app.specs.RecordedRuns.{RecordedRunsAreStored};
 ghost use Rattle.jl_app.specs.Refusals.{NeverBoth, AcceptedOrRefused};
 ghost use Rattle.jl_app.specs.ReplayedRuns.{ReplayReportsAsLint};
 ghost use Rattle.jl_app.specs.StandsAlone.{TextStandsAlone};
 ghost use Rattle.jl_app.specs.StoredRuns.{StoredRunsReplay};
 
 use jl_hook_bound::laws::hooks_take_steps;
-use jl_machine::laws::runs_are_meant;
 use jl_meaning::laws::{kept_hooks, more_budget};
-use jl_operation_rows::laws::hooks_have_rows;
-use jl_quiet::laws::quiet_means;
+use jl_operation_rows::laws::{hooks_have_rows, hooks_see_values, rows_lie_in_the_text};
 use jl_read_back::laws::{
     woven_bytes_are_bounded, woven_keeps_rules, woven_reads_back, woven_text_is_bounded,
     woven_units_are_small,
 };
 use jl_record::laws::{one_bad_line, one_record, records_come_back};
 use jl_report::laws::off_names_rules;
-use jl_safety::laws::{programs_end_or_throw, quietly_never_misuses, woven_never_misuses};
+use jl_safety::laws::{accepted_never_misuses, programs_end_or_throw, woven_never_misuses};
 use jl_simulation::laws::{accepted_scripts_simulate, few_ids};
 use jl_text::laws::units_come_back;
 use jl_token::laws::spans_are_in_order;
@@ -48,16 +43,14 @@ pub fn one_reading()
     ensures { OneReading }
 {}
 
-/// What an answer of `lint` rests on, for every set of kinds: the woven script of an accepted one simulates it, its
-/// text is short enough for a shelf and reads back as it, and its run is what it means.
+/// What an answer of `lint` rests on, for every set of kinds: the woven script of an accepted one simulates it, and its
+/// text is short enough for a shelf and reads back as it.
 pub(crate) fn scripts_are_woven_well()
     ensures { (kinds : Kinds) (bytes : List ℕ) (p : Program Span) → IsAccepted bytes p → IsWovenWell kinds p }
 {
     accepted_scripts_simulate();
-    runs_are_meant::<()>();
     more_budget::<jl_text::Span>();
     kept_hooks::<jl_text::Span>();
-    quiet_means::<()>();
     jl_grammar::laws::one_reading();
     woven_reads_back();
     woven_text_is_bounded();
@@ -66,20 +59,12 @@ pub(crate) fn scripts_are_woven_well()
     woven_keeps_rules();
 }
 
-/// The run of a program that an answer is made of is what the program means, but for what it performs itself.
-pub(crate) fn own_runs_are_meant()
-    ensures { (p : Program Span) (n : ℕ) → program_run p n ≡ with_state without_operations (own_run p n) }
-{
-    runs_are_meant::<jl_text::Span>();
-    quiet_means::<jl_text::Span>();
-}
-
 /// The fault Misuse is not told as the end of any run of an accepted script that `run` answers of, nor of its woven
 /// script that `lint` or `trace` does, with any budget and any choice of rules.
 pub fn accepted_scripts_run_without_misuse()
     ensures { AcceptedScriptsRunWithoutMisuse }
 {
-    quietly_never_misuses();
+    accepted_never_misuses();
     woven_never_misuses();
     programs_end_or_throw::<jl_text::Span>();
     programs_end_or_throw::<()>();
@@ -119,6 +104,7 @@ pub fn source_maps_are_listed()
     jl_srcmap::laws::never_both();
     jl_srcmap::laws::bad_place_is_unique();
     spans_are_in_order();
+    rows_lie_in_the_text();
     scripts_are_woven_well();
 }
 
@@ -131,26 +117,26 @@ pub fn stored_runs_replay()
     one_record();
 }
 
-/// The run that `record` writes of an accepted script, with a budget of at most 1,000,000,000, is a stored run, where
-/// what was seen at its operations can be stored. Its rows have places, what is switched off is in order, and each
-/// operation has a row of its kind.
-pub fn recorded_runs_are_stored()
+/// The run that `record` tells of, of an accepted script with a budget of at most 1,000,000,000, is a stored run, if
+/// its operations can be stored. Its rows have places, what is switched off is in order, and each operation has a row of
+/// its kind and sees its values with their classes.
+pub(crate) fn recorded_runs_are_stored()
     ensures { RecordedRunsAreStored }
 {
-    scripts_are_woven_well();
     off_names_rules();
+    rows_lie_in_the_text();
     few_ids();
     hooks_have_rows();
+    hooks_see_values();
     hooks_take_steps::<()>();
 }
 
-/// What is due to `replay` on what `record` writes of an accepted script has the lines that `lint` reports of it,
-/// whatever rules are chosen: where its own run is over within the budget, what was seen at its operations can be
-/// stored, and the text is no longer than `replay` reads.
+/// What is due to `replay` on what is due to `record` on an accepted script, unless that is a refusal, is the report
+/// that `lint` gives of the script, whatever rules are chosen, where its own run is over within the budget.
 pub fn replay_reports_as_lint()
     ensures { ReplayReportsAsLint }
 {
     scripts_are_woven_well();
-    recorded_runs_are_stored();
     stored_runs_replay();
+    rows_lie_in_the_text();
 }

@@ -20,6 +20,7 @@ mod recording;
 mod refusal;
 mod replay;
 mod report;
+mod run;
 mod source;
 mod srcmap;
 mod status;

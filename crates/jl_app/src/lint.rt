@@ -14,25 +14,27 @@ ghost use Rattle.jl_app.specs.WovenRuns.{hooked_run, woven_budget};
 ghost use Rattle.jl_app.specs.OwnRuns.{uncaught_line};
 ghost use Rattle.jl_app.specs.Reporting.{Lines, lines_text};
 ghost use Rattle.jl_app.specs.WovenText.{kinds_of, woven_text};
+ghost use Rattle.jl_app.specs.inner.MapRows.{RowsBeginIn};
 
 use crate::accept::Accepted;
 use crate::answer::{Answer, line_only};
 use crate::execute::{ending_text, uncaught_line};
 use crate::instrument::woven_text;
-use crate::listing::places;
+use crate::listing::map_in;
 use crate::read_back::{Unread, read_back};
-use crate::report::{report, text};
+use crate::report::{report_in, text};
+use crate::run::run_program;
 use crate::status::Status;
 use jl_analysis::{Crowd, Findings, RuleSet, needs};
 use jl_ast::Program;
 use jl_hook_bound::laws::hooks_take_steps;
-use jl_machine::{Run, run};
-use jl_map::map_of;
+use jl_machine::Run;
 use jl_op::Observer;
 use jl_port::Shelf;
 use jl_report::Line;
 use jl_value::Outcome;
 use std::alloc::{AllocError, Global};
+use std::hash::RandomState;
 
 /// The steps of a woven script's run, where the script's own run has so many.
 pub(crate) fn woven_budget(budget: u64) -> u64
@@ -110,6 +112,7 @@ fn answer_bytes(alloc: Global, run: &Run, lines: &[Line]) -> Result<Vec<u8>, All
 /// chosen rules at the places of the script, and how it ended.
 fn run_answer(
     alloc: Global,
+    keys: RandomState,
     accepted: &Accepted,
     woven: &Program,
     budget: u64,
@@ -117,6 +120,7 @@ fn run_answer(
     crowd: &mut Crowd,
 ) -> Result<Answer, AllocError>
     requires few { HasFewIds (view accepted.now.program) }
+    requires places { RowsBeginIn accepted.now.source (view accepted.now.program) }
     requires lexed { (tokens : Items OneToken) × Tokens accepted.now.source tokens }
     requires budget { budget ≤ 1000000000 }
     requires rules { ⟦<Crowd as Findings>⟧.rules crowd.old ≡ all_rules }
@@ -134,9 +138,16 @@ fn run_answer(
     ensures same_rules { ⟦<Crowd as Findings>⟧.rules crowd.new ≡ ⟦<Crowd as Findings>⟧.rules crowd.old }
 {
     hooks_take_steps::<jl_text::Span>();
-    let places = places(alloc, &map_of(alloc, &accepted.program)?)?;
-    let run = run(alloc, woven, woven_budget(budget), needs(rules), crowd)?;
-    let lines = report(alloc, &accepted.source, &places, rules, crowd)?;
+    let map = map_in(alloc, accepted)?;
+    let run = run_program(
+        alloc,
+        keys,
+        woven,
+        woven_budget(budget),
+        needs(rules),
+        crowd,
+    )?;
+    let lines = report_in(alloc, &accepted.source, &map, rules, crowd)?;
     Ok(Answer {
         status: lint_status(&run.outcome, &lines),
         bytes: answer_bytes(alloc, &run, &lines)?,
@@ -148,6 +159,7 @@ fn run_answer(
 /// lends.
 pub(crate) fn lint<H: Shelf>(
     alloc: Global,
+    keys: RandomState,
     accepted: &Accepted,
     budget: u64,
     rules: RuleSet,
@@ -155,6 +167,7 @@ pub(crate) fn lint<H: Shelf>(
     crowd: &mut Crowd,
 ) -> Result<Answer, AllocError>
     requires few { HasFewIds (view accepted.now.program) }
+    requires places { RowsBeginIn accepted.now.source (view accepted.now.program) }
     requires lexed { (tokens : Items OneToken) × Tokens accepted.now.source tokens }
     requires budget { budget ≤ 1000000000 }
     requires rules { ⟦<Crowd as Findings>⟧.rules crowd.old ≡ all_rules }
@@ -171,7 +184,7 @@ pub(crate) fn lint<H: Shelf>(
 {
     shelf.put(woven_text(alloc, &accepted.program, needs(rules))?);
     match read_back(alloc, shelf.lend()) {
-        Ok(woven) => run_answer(alloc, accepted, &woven, budget, rules, crowd),
+        Ok(woven) => run_answer(alloc, keys, accepted, &woven, budget, rules, crowd),
         Err(Unread::NoProgram) => line_only(alloc, Status::Refused, "refused ReadBack"),
         Err(Unread::NoMemory) => Err(AllocError),
     }

@@ -9,6 +9,7 @@ ghost use Rattle.jl_app.specs.Due.{Due};
 ghost use Rattle.jl_app.specs.OwnRuns.{uncaught_line};
 ghost use Rattle.jl_app.specs.Profiling.{births_lines, objects_line};
 ghost use Rattle.jl_app.specs.Telling.{IsToldOfWoven};
+ghost use Rattle.jl_app.specs.inner.MapRows.{RowsBeginIn};
 ghost use Rattle.jl_app.specs.inner.Said.{IsSaid};
 
 use crate::accept::Accepted;
@@ -20,6 +21,7 @@ use crate::woven_run::run_woven;
 use jl_machine::Run;
 use jl_profile::{Births, Profile, births_text, profiled_kinds};
 use std::alloc::{AllocError, Global};
+use std::hash::RandomState;
 
 /// The lines of a profile.
 fn births_lines(alloc: Global, rows: &[Births]) -> Result<Vec<u8>, AllocError>
@@ -60,8 +62,14 @@ fn answer_bytes(alloc: Global, run: &Run, rows: &[Births]) -> Result<Vec<u8>, Al
 }
 
 /// What `objects` answers to an accepted script with this budget.
-pub(crate) fn objects(alloc: Global, accepted: &Accepted, budget: u64) -> Result<Answer, AllocError>
+pub(crate) fn objects(
+    alloc: Global,
+    keys: RandomState,
+    accepted: &Accepted,
+    budget: u64,
+) -> Result<Answer, AllocError>
     requires few { HasFewIds (view accepted.now.program) }
+    requires places { RowsBeginIn accepted.now.source (view accepted.now.program) }
     requires budget { budget ≤ 1000000000 }
     ensures { IfOk result (λ given. (due : Due)
         × IsToldOfWoven (objects budget) accepted.now.source (view accepted.now.program) budget due
@@ -70,6 +78,7 @@ pub(crate) fn objects(alloc: Global, accepted: &Accepted, budget: u64) -> Result
     let mut profile = Profile::new(alloc);
     let run = run_woven(
         alloc,
+        keys,
         &accepted.program,
         budget,
         profiled_kinds(),

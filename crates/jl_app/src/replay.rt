@@ -72,7 +72,7 @@ fn report_record(
     requires fresh { ⟦<Crowd as Observer>⟧.stands_for crowd.old [] }
     ensures due { (chosen : Items ℕ) → IsChoice rules chosen → IfOk result (λ given. (lines : Lines)
         × IsReportOf (stored run.now) chosen lines
-        × IsAnswerOf given (replay_due (stored run.now) lines)
+        × IsAnswerOf given (replay_due run.now.ops.items lines)
         × ⟦<Crowd as Observer>⟧.stands_for crowd.new run.now.ops.items) }
     ensures same_rules { ⟦<Crowd as Findings>⟧.rules crowd.new ≡ ⟦<Crowd as Findings>⟧.rules crowd.old }
 {

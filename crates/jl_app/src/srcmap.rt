@@ -1,6 +1,7 @@
 //! The source map of a woven script.
 ghost use Rattle.std.specs.Prelude.{◌≡◌, ◌<◌, IfOk, List as Items, length, ℕ};
 ghost use Rattle.jl_ast.specs.View.{view};
+ghost use Rattle.jl_op.specs.IdMap.{id_map};
 ghost use Rattle.jl_simulation.specs.Plain.{HasFewIds};
 ghost use Rattle.jl_srcmap.specs.Hooks.{segments_of};
 ghost use Rattle.jl_srcmap.specs.Segments.{AreInOrder};
@@ -9,8 +10,8 @@ ghost use Rattle.jl_token.specs.Tokens.{Tokens};
 ghost use Rattle.jl_token.specs.declared.token.Token.{Token as OneToken};
 ghost use Rattle.jl_app.specs.Accepting.{IsAccepted};
 ghost use Rattle.jl_app.specs.Due.{Due};
-ghost use Rattle.jl_app.specs.Rows.{rows_in};
 ghost use Rattle.jl_app.specs.SourceMapping.{IsMappedBack};
+ghost use Rattle.jl_app.specs.inner.MapRows.{RowsBeginIn};
 ghost use Rattle.jl_app.specs.inner.Said.{IsSaid};
 
 use crate::accept::Accepted;
@@ -47,10 +48,11 @@ fn woven_segments(
     text: &[u16],
 ) -> Result<Vec<Segment>, AllocError>
     requires few { HasFewIds (view accepted.now.program) }
+    requires places { RowsBeginIn accepted.now.source (view accepted.now.program) }
     requires lexed { (tokens : Items OneToken) × Tokens text.now tokens }
     requires short { length text.now < 4294967295 }
     ensures are { (tokens : Items OneToken) → Tokens text.now tokens → IfOk result (λ segments. segments.items
-        ≡ segments_of (line_table text.now) (rows_in accepted.now.source (view accepted.now.program))
+        ≡ segments_of (line_table text.now) (id_map (view accepted.now.program))
         (line_table accepted.now.source) tokens) }
     ensures in_order { IfOk result (λ segments. AreInOrder 0 segments.items) }
 {
@@ -64,6 +66,7 @@ fn woven_segments(
 /// What `srcmap` answers to an accepted script.
 pub(crate) fn srcmap(alloc: Global, accepted: &Accepted) -> Result<Answer, AllocError>
     requires few { HasFewIds (view accepted.now.program) }
+    requires places { RowsBeginIn accepted.now.source (view accepted.now.program) }
     requires accepted { (bytes : Items ℕ) × IsAccepted bytes (view accepted.now.program) }
     ensures { IfOk result (λ given. (due : Due)
         × IsMappedBack accepted.now.source (view accepted.now.program) due

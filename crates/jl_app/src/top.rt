@@ -36,6 +36,7 @@ use jl_operation_rows::laws::operations_have_rows;
 use jl_port::{ReadRefusal, Shelf, Sink, Source, read_all, write_all};
 use jl_soak::script_from;
 use std::alloc::{AllocError, Global};
+use std::hash::RandomState;
 
 /// The most bytes that the command of these words reads from the source: 1,048,576 of a script, 67,108,928 of a woven
 /// text, 67,108,864 of a source map, and 268,435,456 of a stored run. `soak` reads none, and neither do bad words.
@@ -59,6 +60,7 @@ pub fn too_long(alloc: Global) -> Result<Answer, AllocError>
 /// What `lint` answers to the script that is made of this many functions.
 fn lint_made<H: Shelf>(
     alloc: Global,
+    keys: RandomState,
     number: u32,
     budget: u64,
     rules: RuleSet,
@@ -84,12 +86,13 @@ fn lint_made<H: Shelf>(
 {
     let script = script_from(alloc, number)?;
     let command = Command::Lint { budget, rules };
-    respond(alloc, command, &script, shelf, crowd)
+    respond(alloc, keys, command, &script, shelf, crowd)
 }
 
 /// What a command answers, where the source holds these bytes, which are no more than it reads.
 fn respond_within<H: Shelf>(
     alloc: Global,
+    keys: RandomState,
     command: Command,
     bytes: &[u8],
     shelf: &mut H,
@@ -119,16 +122,17 @@ fn respond_within<H: Shelf>(
             number,
             budget,
             rules,
-        } => lint_made(alloc, number, budget, rules, shelf, crowd),
+        } => lint_made(alloc, keys, number, budget, rules, shelf, crowd),
         Command::Unmap => unmap(alloc, bytes),
         Command::Replay { rules } => replay(alloc, bytes, rules, crowd),
-        _ => respond(alloc, command, bytes, shelf, crowd),
+        _ => respond(alloc, keys, command, bytes, shelf, crowd),
     }
 }
 
 /// The same, where they may be more than this, which is as many as it reads.
 fn respond_up_to<H: Shelf>(
     alloc: Global,
+    keys: RandomState,
     command: Command,
     most: usize,
     bytes: &[u8],
@@ -157,12 +161,13 @@ fn respond_up_to<H: Shelf>(
     if most < bytes.len() {
         return too_long(alloc);
     }
-    respond_within(alloc, command, bytes, shelf, crowd)
+    respond_within(alloc, keys, command, bytes, shelf, crowd)
 }
 
 /// What a command answers, where the source holds these bytes.
 pub(crate) fn respond_to<H: Shelf>(
     alloc: Global,
+    keys: RandomState,
     command: Command,
     bytes: &[u8],
     shelf: &mut H,
@@ -187,14 +192,15 @@ pub(crate) fn respond_to<H: Shelf>(
     ensures same_rules { ⟦<Crowd as Findings>⟧.rules crowd.new ≡ ⟦<Crowd as Findings>⟧.rules crowd.old }
 {
     match most_read_by(command) {
-        Some(most) => respond_up_to(alloc, command, most, bytes, shelf, crowd),
-        None => respond_within(alloc, command, bytes, shelf, crowd),
+        Some(most) => respond_up_to(alloc, keys, command, most, bytes, shelf, crowd),
+        None => respond_within(alloc, keys, command, bytes, shelf, crowd),
     }
 }
 
 /// What is due to these words, where the source holds these bytes.
 fn due<H: Shelf>(
     alloc: Global,
+    keys: RandomState,
     words: &[&str],
     bytes: &[u8],
     shelf: &mut H,
@@ -218,7 +224,7 @@ fn due<H: Shelf>(
     ensures same_rules { ⟦<Crowd as Findings>⟧.rules crowd.new ≡ ⟦<Crowd as Findings>⟧.rules crowd.old }
 {
     match parse_words(alloc, words) {
-        Ok(command) => respond_to(alloc, command, bytes, shelf, crowd),
+        Ok(command) => respond_to(alloc, keys, command, bytes, shelf, crowd),
         Err(WordsRefusal::BadWords) => line_only(alloc, Status::BadWords, "bad words"),
         Err(WordsRefusal::NoMemory) => Err(AllocError),
     }
@@ -230,6 +236,7 @@ fn due<H: Shelf>(
 /// first that are more will do: the answer is then `too_long`.
 pub fn answer_to<H: Shelf>(
     alloc: Global,
+    keys: RandomState,
     words: &[&str],
     bytes: &[u8],
     shelf: &mut H,
@@ -276,7 +283,7 @@ pub fn answer_to<H: Shelf>(
     operations_have_rows::<jl_text::Span>();
     jl_profile::laws::kinds_are_enough();
     jl_cover::laws::kinds_are_enough();
-    due(alloc, words, bytes, shelf, crowd)
+    due(alloc, keys, words, bytes, shelf, crowd)
 }
 
 /// Why nothing is answered.
@@ -297,6 +304,7 @@ impl From<AllocError> for Unanswered {
 /// The answer to these words and to what the source holds, of which at most this many bytes are read.
 fn answer_read<S: Source, H: Shelf>(
     alloc: Global,
+    keys: RandomState,
     words: &[&str],
     most: usize,
     source: &mut S,
@@ -326,7 +334,7 @@ fn answer_read<S: Source, H: Shelf>(
     ensures same_rules { ⟦<Crowd as Findings>⟧.rules crowd.new ≡ ⟦<Crowd as Findings>⟧.rules crowd.old }
 {
     match read_all(alloc, source, most) {
-        Ok(bytes) => Ok(answer_to(alloc, words, &bytes, shelf, crowd)?),
+        Ok(bytes) => Ok(answer_to(alloc, keys, words, &bytes, shelf, crowd)?),
         Err(ReadRefusal::TooLong) => Ok(too_long(alloc)?),
         Err(ReadRefusal::ReadFault) => Err(Unanswered::ReadFault),
         Err(ReadRefusal::NoMemory) => Err(Unanswered::NoMemory),
@@ -336,6 +344,7 @@ fn answer_read<S: Source, H: Shelf>(
 /// The answer to these words and to what the source holds, of which as much is read as the command reads.
 fn answer_source<S: Source, H: Shelf>(
     alloc: Global,
+    keys: RandomState,
     words: &[&str],
     source: &mut S,
     shelf: &mut H,
@@ -367,8 +376,8 @@ fn answer_source<S: Source, H: Shelf>(
 {
     let limit = most_read(alloc, words)?;
     match limit {
-        Some(most) => answer_read(alloc, words, most, source, shelf, crowd),
-        None => Ok(answer_to(alloc, words, &[], shelf, crowd)?),
+        Some(most) => answer_read(alloc, keys, words, most, source, shelf, crowd),
+        None => Ok(answer_to(alloc, keys, words, &[], shelf, crowd)?),
     }
 }
 
@@ -387,6 +396,7 @@ fn answer_source<S: Source, H: Shelf>(
 /// `record`, of which it reports.
 pub fn jlint<S: Source, K: Sink, H: Shelf>(
     alloc: Global,
+    keys: RandomState,
     words: &[&str],
     source: &mut S,
     sink: &mut K,
@@ -435,7 +445,7 @@ pub fn jlint<S: Source, K: Sink, H: Shelf>(
     operations_have_rows::<jl_text::Span>();
     jl_profile::laws::kinds_are_enough();
     jl_cover::laws::kinds_are_enough();
-    let answer = match answer_source(alloc, words, source, shelf, crowd) {
+    let answer = match answer_source(alloc, keys, words, source, shelf, crowd) {
         Ok(answer) => answer,
         Err(Unanswered::ReadFault) => return Status::ReadFault,
         Err(Unanswered::NoMemory) => return Status::NoMemory,

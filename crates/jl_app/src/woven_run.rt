@@ -8,16 +8,19 @@ ghost use Rattle.jl_app.specs.Telling.{told_run};
 ghost use Rattle.jl_app.specs.WovenRuns.{woven_budget};
 
 use crate::lint::woven_budget;
+use crate::run::run_program;
 use jl_ast::Program;
-use jl_machine::{Run, run};
+use jl_machine::Run;
 use jl_op::{KindSet, Observer};
 use jl_weave::weave;
 use std::alloc::{AllocError, Global};
+use std::hash::RandomState;
 
 /// Weaves a program for operations of these kinds, and runs it with as many steps as the woven script has where the
 /// script has this many. The observer is told of the operations that the hooks tell of.
 pub(crate) fn run_woven<O: Observer>(
     alloc: Global,
+    keys: RandomState,
     program: &Program,
     budget: u64,
     kinds: KindSet,
@@ -30,5 +33,5 @@ pub(crate) fn run_woven<O: Observer>(
     ensures fixed { O.fixed observer.new ≡ O.fixed observer.old }
 {
     let woven = weave(alloc, program, kinds)?;
-    run(alloc, &woven, woven_budget(budget), kinds, observer)
+    run_program(alloc, keys, &woven, woven_budget(budget), kinds, observer)
 }

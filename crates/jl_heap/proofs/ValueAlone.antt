@@ -9,7 +9,7 @@ use Rattle.std.proofs.lemmas.Option.{same_Some}
 use Rattle.std.proofs.lemmas.Slice.Eq.{bytes_eq-Decides}
 use Rattle.jl_props.specs.declared.entries.Entry.{Entry}
 use Rattle.jl_props.specs.Entries.{IsInOrder, has_name, with_item}
-use Rattle.jl_props.proofs.IndexedLemmas.{no_other, rest_in_order}
+use Rattle.jl_props.proofs.EntriesLemmas.{no_other, rest_in_order}
 use Rattle.jl_props.proofs.OneLemmas.{map-none}
 use Rattle.jl_value.specs.declared.value.Value.{Value}
 use Rattle.jl_value.specs.Indices.{index_of}

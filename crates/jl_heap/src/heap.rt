@@ -9,6 +9,7 @@ use jl_props::Store;
 use jl_text::{List, NoMemory, Text};
 use jl_value::{Class, ObjId, array_index};
 use std::alloc::Global;
+use std::hash::RandomState;
 use std::marker::Model;
 
 /// The objects of a run (8.6), each at its place, from 0. They are never given up. Contracts see each with its class,
@@ -43,13 +44,13 @@ impl Heap {
     ghost use Rattle.jl_heap.specs.View.{HasHeader};
 
     /// No objects. It takes no memory.
-    pub fn new(alloc: Global) -> Heap
+    pub fn new(alloc: Global, keys: RandomState) -> Heap
         ensures { result ≡ record { objects = []; next = 0 } }
     {
         Heap {
             alloc,
             headers: List::new(alloc),
-            properties: Store::new(alloc),
+            properties: Store::new(alloc, keys),
             length_name: None,
             absent: Absent::new(),
         }

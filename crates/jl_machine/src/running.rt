@@ -16,6 +16,7 @@ use jl_state::{Here, State};
 use jl_text::NoMemory;
 use jl_value::Outcome;
 use std::alloc::Global;
+use std::hash::RandomState;
 
 /// How many of the steps were taken where so many are left. Of a run that is spent, all were taken.
 fn steps_taken(outcome: &Outcome, budget: u64, left: u64) -> u64
@@ -36,6 +37,7 @@ fn steps_taken(outcome: &Outcome, budget: u64, left: u64) -> u64
 /// observer was told of. Its one error is that memory is wanting, to the run or to the observer.
 pub fn run<O: Observer>(
     alloc: Global,
+    keys: RandomState,
     program: &Program,
     budget: u64,
     kinds: KindSet,
@@ -47,7 +49,7 @@ pub fn run<O: Observer>(
     ensures fixed { O.fixed observer.new ≡ O.fixed observer.old }
 {
     hooks_take_steps::<jl_text::Span>();
-    let mut state = start(alloc, program, budget)?;
+    let mut state = start(alloc, keys, program, budget)?;
     let here = Here {
         env: 0,
         strict: is_strict(false, &program.body),

@@ -15,10 +15,12 @@ use jl_store::Answer;
 use jl_text::{List, NoMemory};
 use jl_value::Completion;
 use std::alloc::Global;
+use std::hash::RandomState;
 
 /// The state in which the run of a program begins.
 pub(crate) fn start<'p>(
     alloc: Global,
+    keys: RandomState,
     program: &'p Program,
     budget: u64,
 ) -> Result<State<'p>, NoMemory>
@@ -26,7 +28,7 @@ pub(crate) fn start<'p>(
     ensures global { IfOk result (λ state. HasGlobalObject state.store) }
 {
     Ok(State {
-        store: initial_store(alloc)?,
+        store: initial_store(alloc, keys)?,
         functions: functions(alloc, program)?,
         calls: Calls::new(alloc),
         stack: Stack::new(alloc),

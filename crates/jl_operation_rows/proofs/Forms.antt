@@ -1,5 +1,5 @@
 -- Forms of expressions perform the operations of their own rows.
-use Rattle.std.proofs.Common.{ℕ, ◌+◌, List, Bool, false, Option, Some, None}
+use Rattle.std.proofs.Common.{ℕ, ◌+◌, ◌∷◌, List, Bool, false, Option, Some, None}
 use Rattle.jl_num.specs.Number.{Number}
 use Rattle.jl_ast.specs.declared.ops.BinOp.{BinOp}
 use Rattle.jl_ast.specs.Tree.{Text}
@@ -36,41 +36,42 @@ use Rattle.jl_meaning.specs.forms.Names.{read_reference, typeof_name, unless_hoo
 use Rattle.jl_meaning.specs.forms.Operators.{decide, decide_by, operate, operate_on, update}
 use Rattle.jl_operation_rows.proofs.Relation.{algorithm, bind, call_told, fails, lift_then, look_told, ok, perform_now}
 use Rattle.jl_operation_rows.proofs.Relation.{perform_told, pick, Told}
+use Rattle.jl_operation_rows.proofs.Seeing.{all_seen, one_seen, three_seen, two_seen}
 
 module _ {IsRow : MapEntry ℕ → Type 0} where
   -- LITERALS
   pub number_told : (id : ℕ) (m : Number) → IsRow (kind.Literal, id) → Told IsRow (literal performs id (value.Num m))
   unfolding literal
-  number_told id m h = look_told (λ s. perform_now h (ok (value.Num m)))
+  number_told id m h = look_told (λ s. perform_now (h, one_seen s.heap (value.Num m)) (ok (value.Num m)))
 
   pub string_told : (id : ℕ) (t : Text) → IsRow (kind.Literal, id) → Told IsRow (literal performs id (value.Text t))
   unfolding literal
-  string_told id t h = look_told (λ s. perform_now h (ok (value.Text t)))
+  string_told id t h = look_told (λ s. perform_now (h, one_seen s.heap (value.Text t)) (ok (value.Text t)))
 
   pub boolean_told : (id : ℕ) (b : Bool) → IsRow (kind.Literal, id) → Told IsRow (literal performs id (value.Bool b))
   unfolding literal
-  boolean_told id b h = look_told (λ s. perform_now h (ok (value.Bool b)))
+  boolean_told id b h = look_told (λ s. perform_now (h, one_seen s.heap (value.Bool b)) (ok (value.Bool b)))
 
   pub null_told : (id : ℕ) → IsRow (kind.Literal, id) → Told IsRow (literal performs id value.Null)
   unfolding literal
-  null_told id h = look_told (λ s. perform_now h (ok value.Null))
+  null_told id h = look_told (λ s. perform_now (h, one_seen s.heap value.Null) (ok value.Null))
 
   -- what has made an array, an object or a function
   array_noted : (id : ℕ) (v : Value) (o : Option Op) → IsRow (kind.ArrayLiteral, id)
       → Told IsRow (note_or_misuse performs id v (of_array o))
-  array_noted id v (Some (op.ArrayLiteral object)) h = perform_now h (ok v)
+  array_noted id v (Some (op.ArrayLiteral object)) h = perform_now (h, tt) (ok v)
   array_noted id v (Some _) h = fails Misuse
   array_noted id v None h = fails Misuse
 
   object_noted : (id : ℕ) (v : Value) (o : Option Op) → IsRow (kind.ObjectLiteral, id)
       → Told IsRow (note_or_misuse performs id v (of_object o))
-  object_noted id v (Some (op.ObjectLiteral object)) h = perform_now h (ok v)
+  object_noted id v (Some (op.ObjectLiteral object)) h = perform_now (h, tt) (ok v)
   object_noted id v (Some _) h = fails Misuse
   object_noted id v None h = fails Misuse
 
   function_noted : (id : ℕ) (v : Value) (o : Option Op) → IsRow (kind.FunctionLiteral, id)
       → Told IsRow (note_or_misuse performs id v (of_function o))
-  function_noted id v (Some (op.FunctionLiteral object number)) h = perform_now h (ok v)
+  function_noted id v (Some (op.FunctionLiteral object number)) h = perform_now (h, tt) (ok v)
   function_noted id v (Some _) h = fails Misuse
   function_noted id v None h = fails Misuse
 
@@ -100,21 +101,24 @@ module _ {IsRow : MapEntry ℕ → Type 0} where
   pub operate_told : (id : ℕ) (o : BinOp) (a b : Value) → IsRow (kind.Binary, id)
       → Told IsRow (operate performs id o a b)
   unfolding operate
-  operate_told id o a b h = lift_then (binary_result o a b) (λ v. perform_told (λ s. h) (ok v))
+  operate_told id o a b h =
+      lift_then (binary_result o a b) (λ v. perform_told (λ s. (h, three_seen s.heap a b v)) (ok v))
 
   pub operate_on_told : (id : ℕ) (o : UnKind) (a : Value) → IsRow (kind.Unary, id)
       → Told IsRow (operate_on performs id o a)
   unfolding operate_on
-  operate_on_told id o a h = lift_then (unary_result o a) (λ v. perform_told (λ s. h) (ok v))
+  operate_on_told id o a h =
+      lift_then (unary_result o a) (λ v. perform_told (λ s. (h, two_seen s.heap a v)) (ok v))
 
   update_told : (id : ℕ) (o : UnKind) (a : Value) → IsRow (kind.Unary, id) → Told IsRow (update performs id o a)
   unfolding update
   update_told id o a h =
-      lift_then (to_number a) (λ n. lift_then (give_next o n) (λ v. perform_told (λ s. h) (ok (n, v))))
+      lift_then (to_number a) (λ n. lift_then (give_next o n) (λ v.
+      perform_told (λ s. (h, two_seen s.heap a v)) (ok (n, v))))
 
   pub decide_told : (id : ℕ) (v : Value) → IsRow (kind.Conditional, id) → Told IsRow (decide id v)
   unfolding decide
-  decide_told id v h = perform_told (λ s. h) (ok _)
+  decide_told id v h = perform_told (λ s. (h, one_seen s.heap v)) (ok _)
 
   pub decide_by_told : (id : ℕ) {e : Part (Answer Value)} → IsRow (kind.Conditional, id) → Told IsRow e
       → Told IsRow (decide_by id e)
@@ -126,12 +130,13 @@ module _ {IsRow : MapEntry ℕ → Type 0} where
 
   pub read_told : (id : ℕ) (c : Context) (x : Name) → IsRow (kind.Read, id) → Told IsRow (read_name id c x)
   unfolding read_name
-  read_told id c x h = unless_told x (lift_then (get_name c.env x) (λ v. perform_told (λ s. h) (ok v)))
+  read_told id c x h =
+      unless_told x (lift_then (get_name c.env x) (λ v. perform_told (λ s. (h, one_seen s.heap v)) (ok v)))
 
   pub typeof_told : (id : ℕ) (c : Context) (x : Name) → IsRow (kind.TypeofName, id) → Told IsRow (typeof_name id c x)
   unfolding typeof_name
   typeof_told id c x h =
-      unless_told x (lift_then (type_of_name c.env x) (λ type. perform_told (λ s. h) (ok (value.Text type))))
+      unless_told x (lift_then (type_of_name c.env x) (λ type. perform_told (λ s. (h, tt)) (ok (value.Text type))))
 
   pub deletion_told : (c : Context) (x : Name) → Told IsRow (delete_identifier c x)
   unfolding delete_identifier
@@ -139,11 +144,13 @@ module _ {IsRow : MapEntry ℕ → Type 0} where
 
   reference_told : (id : ℕ) (x : Name) (reference : Reference) → IsRow (kind.Read, id)
       → Told IsRow (read_reference id x reference)
-  reference_told id x reference h = lift_then (get_value x reference) (λ v. perform_told (λ s. h) (ok v))
+  reference_told id x reference h =
+      lift_then (get_value x reference) (λ v. perform_told (λ s. (h, one_seen s.heap v)) (ok v))
 
   write_told : (id : ℕ) (c : Context) (x : Name) (reference : Reference) (v : Value) → IsRow (kind.Write, id)
       → Told IsRow (write_name id c x reference v)
-  write_told id c x reference v h = perform_told (λ s. h) (algorithm (put_value c.strict x v reference))
+  write_told id c x reference v h =
+      perform_told (λ s. (h, one_seen s.heap v)) (algorithm (put_value c.strict x v reference))
 
   pub assign_told : (id : ℕ) (c : Context) (x : Name) {e : Part (Answer Value)} → IsRow (kind.Write, id)
       → Told IsRow e → Told IsRow (assign_name id c x e)
@@ -171,12 +178,14 @@ module _ {IsRow : MapEntry ℕ → Type 0} where
   get_told : (id : ℕ) (base : Value) (x : Name) → IsRow (kind.GetField, id)
       → Told IsRow (get_member performs id base x)
   unfolding get_member
-  get_told id base x h = look_told (λ s. lift_then (get base x) (λ v. perform_told (λ t. h) (ok v)))
+  get_told id base x h =
+      look_told (λ s. lift_then (get base x) (λ v. perform_told (λ t. (h, two_seen t.heap base v)) (ok v)))
 
   put_told : (id : ℕ) (strict : Bool) (base : Value) (x : Name) (v : Value) → IsRow (kind.PutField, id)
       → Told IsRow (put_member performs id strict base x v)
   unfolding put_member
-  put_told id strict base x v h = look_told (λ s. perform_told (λ t. h) (algorithm (put strict base x v)))
+  put_told id strict base x v h =
+      look_told (λ s. perform_told (λ t. (h, two_seen t.heap base v)) (algorithm (put strict base x v)))
 
   pub read_member_told : (id : ℕ) (base key : Value) → IsRow (kind.GetField, id)
       → Told IsRow (read_member id base key)
@@ -188,7 +197,7 @@ module _ {IsRow : MapEntry ℕ → Type 0} where
   unfolding delete_member
   delete_told id strict base key h =
       lift_then (member_name base key) (λ x. lift_then (delete strict base x) (λ free.
-      perform_told (λ s. h) (ok (value.Bool free))))
+      perform_told (λ s. (h, one_seen s.heap base)) (ok (value.Bool free))))
 
   pub update_expression_told : (id : ℕ) (c : Context) (base key : Value) (up prefix : Bool)
       → IsRow (kind.GetField, id) → IsRow (kind.Unary, id + 1) → IsRow (kind.PutField, id + 2)
@@ -218,8 +227,9 @@ module _ {IsRow : MapEntry ℕ → Type 0} where
   unfolding invoke
   invoke_told table id callee this args by_new h i =
       look_told (λ s. lift_then (function_of by_new s.heap callee) (λ f.
-      perform_told (λ t. h) (call_told (record { callee = f; this = this; args = args; by_new = by_new }) (λ v.
-      perform_told (λ t. i) (ok v)))))
+      perform_told (λ t. (h, all_seen t.heap (this ∷ args)))
+      (call_told (record { callee = f; this = this; args = args; by_new = by_new }) (λ v.
+      perform_told (λ t. (i, one_seen t.heap v)) (ok v)))))
 
   pub call_value_told : (table : FunctionTable) (id : ℕ) {callee : Part (Answer Value)} → IsRow (kind.InvokePre, id)
       → IsRow (kind.InvokePost, id + 1) → Told IsRow callee → {args : Part (Answer (List Value))} → Told IsRow args

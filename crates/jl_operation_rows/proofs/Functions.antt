@@ -22,6 +22,7 @@ use Rattle.jl_meaning.specs.forms.Functions.{result_of, run_body, run_function, 
 use Rattle.jl_operation_rows.proofs.Relation.{algorithm, bind, ended, fails, in_a_row, lift_then, look_told, ok}
 use Rattle.jl_operation_rows.proofs.Relation.{perform_told}
 use Rattle.jl_operation_rows.proofs.Relation.{pick, IsGood, Rows, Told}
+use Rattle.jl_operation_rows.proofs.Seeing.{one_seen}
 use Rattle.jl_operation_rows.proofs.Splitting.{of_all, split}
 use Rattle.jl_operation_rows.proofs.Statements.{execute_all_told, turn_told}
 use Rattle.jl_operation_rows.proofs.Tables.{AllOwned}
@@ -44,8 +45,8 @@ module _ (IsRow : MapEntry ℕ → Type 0) (table : FunctionTable) where
   run_told : (f : Func) (strict : Bool) → Rows IsRow f → (this : Value) (call : Call) (c : Context)
       → Told IsRow (run_function table (function_of f strict) this call c)
   run_told (tree.function m x params b id) strict h this call c =
-      perform_told (λ s. h.0) (in_a_row (code_told b h.1.1 c) (λ how.
-      perform_told (λ s. h.1.0) (result_told how)))
+      perform_told (λ s. (h.0, one_seen s.heap this)) (in_a_row (code_told b h.1.1 c) (λ how.
+      perform_told (λ s. (h.1.0, tt)) (result_told how)))
 
   call_told : (f : ScriptFunction) → Rows IsRow f.func → (env : ℕ) (call : Call)
       → Told IsRow (call_script table f env call)

@@ -1,4 +1,5 @@
 mod Relation
+mod Seeing
 mod Forms
 mod Hooks
 mod Splitting

@@ -18,6 +18,7 @@ use Rattle.jl_meaning.specs.forms.Try.{begin_catch}
 use Rattle.jl_operation_rows.proofs.Relation.{algorithm, ended, look_told, perform_told, pick, turn_begins, value_then}
 use Rattle.jl_operation_rows.proofs.Relation.{AllRows}
 use Rattle.jl_operation_rows.proofs.Relation.{LoopRows, Told}
+use Rattle.jl_operation_rows.proofs.Seeing.{one_seen}
 
 module _ {IsRow : MapEntry ℕ → Type 0} where
   -- a loop goes on after its body, or ends
@@ -33,15 +34,15 @@ module _ {IsRow : MapEntry ℕ → Type 0} where
 
   pub return_told : (id : ℕ) (v : Value) → IsRow (kind.Return, id) → Told IsRow (return_value id v)
   unfolding return_value
-  return_told id v h = perform_told (λ s. h) (ended (completion.Return v))
+  return_told id v h = perform_told (λ s. (h, one_seen s.heap v)) (ended (completion.Return v))
 
   pub throw_told : (id : ℕ) (v : Value) → IsRow (kind.Throw, id) → Told IsRow (throw_value id v)
   unfolding throw_value
-  throw_told id v h = perform_told (λ s. h) (ended (completion.Throw v))
+  throw_told id v h = perform_told (λ s. (h, one_seen s.heap v)) (ended (completion.Throw v))
 
   pub catch_told : (id env : ℕ) (x : Name) (v : Value) → IsRow (kind.Catch, id) → Told IsRow (begin_catch id env x v)
   unfolding begin_catch
-  catch_told id env x v h = record { at = λ s t. (h, tt) }
+  catch_told id env x v h = record { at = λ s t. ((h, one_seen t.heap v), tt) }
 
   pub loop_told : (l : Loop) (c : Context) (own : List Text) (id : ℕ) → LoopRows IsRow l id
       → Told IsRow (begin_loop l c own id)

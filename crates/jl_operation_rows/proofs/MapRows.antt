@@ -18,6 +18,7 @@ use Rattle.jl_effects.specs.Matching.{Alike, Simulates}
 use Rattle.jl_effects.specs.Running.{state_of, IsOver, Over, Spent}
 use Rattle.jl_meaning.specs.Mean.{mean, run_of, Run}
 use Rattle.jl_operation_rows.specs.Rows.{HasRow}
+use Rattle.jl_operation_rows.specs.Seeing.{SeesValues}
 use Rattle.jl_operation_rows.proofs.Programs.{run_told, same_entries}
 use Rattle.jl_operation_rows.proofs.Relation.{IsOwn}
 use Rattle.jl_effects.proofs.Tells.{each_left, Each}
@@ -99,46 +100,59 @@ module _ {S : Type 0} (p : Program S) where
       (sym (slice_get-map (λ (e : MapEntry S). e.0) (id_map p) k) ∙ there) in
       record { before = k; place = row.0; id = id_at k (kind, o.0.0) h.1; row = row.1 }
 
+  -- the operations are of its rows
+  operations_are_own : (chosen : Kinds) (n : ℕ) → Each (IsOwn IsRow) (state_of (mean chosen p n)).operations
+  operations_are_own chosen n =
+      let q = program_with_ids p in
+      run_told IsRow q (subst (Each IsRow) (sym (same_entries q)) (each_from numbered IsRow (λ k e is. (k, is))))
+      chosen n
+
   pub operations_have_rows : (chosen : Kinds) (n : ℕ) → Each (HasRow p) (state_of (mean chosen p n)).operations
   operations_have_rows chosen n =
-      let q = program_with_ids p in
-      each_weaker (IsOwn IsRow) (HasRow p) has_row (state_of (mean chosen p n)).operations
-      (run_told IsRow q (subst (Each IsRow) (sym (same_entries q)) (each_from numbered IsRow (λ k e is. (k, is))))
-      chosen n)
+      each_weaker (IsOwn IsRow) (HasRow p) (λ o own. has_row o own.0) (state_of (mean chosen p n)).operations
+      (operations_are_own chosen n)
 
+  pub operations_see_values : (chosen : Kinds) (n : ℕ) → Each SeesValues (state_of (mean chosen p n)).operations
+  operations_see_values chosen n =
+      each_weaker (IsOwn IsRow) SeesValues (λ o own. own.1) (state_of (mean chosen p n)).operations
+      (operations_are_own chosen n)
+
+module _ (holds : Operation → Type 0) where
   -- of what the first part of a list has
-  each_prefix : (l m : List Operation) → IsPrefix l m → Each (HasRow p) m → Each (HasRow p) l
-  each_prefix l m h x = each_left (HasRow p) l h.0 (subst (Each (HasRow p)) (sym h.1) x)
+  each_prefix : (l m : List Operation) → IsPrefix l m → Each holds m → Each holds l
+  each_prefix l m h x = each_left holds l h.0 (subst (Each holds) (sym h.1) x)
 
-  alike_rows : (kept : Operation → Bool) (own other : Run) → Alike kept own other
-      → Each (HasRow p) (state_of own).operations → Each (HasRow p) (state_of other).hooks
-  alike_rows kept (Over e m v) (Over f n w) a x =
-      subst (Each (HasRow p)) (sym a.1.hooks) (each_filter (HasRow p) kept v.operations x)
-  alike_rows kept (Over e m v) (Spent w) a x = absurd a
-  alike_rows kept (Spent v) r a x = absurd a
+  alike_hooks : (kept : Operation → Bool) (own other : Run) → Alike kept own other
+      → Each holds (state_of own).operations → Each holds (state_of other).hooks
+  alike_hooks kept (Over e m v) (Over f n w) a x =
+      subst (Each holds) (sym a.1.hooks) (each_filter holds kept v.operations x)
+  alike_hooks kept (Over e m v) (Spent w) a x = absurd a
+  alike_hooks kept (Spent v) r a x = absurd a
 
-  -- what a run that simulates those of the program tells of has rows of the program
-  pub simulated_have_rows : (chosen : Kinds) (second : ℕ → Run)
-      → Simulates (is_kept chosen) (λ n. mean chosen p n) second → (n : ℕ)
-      → Each (HasRow p) (state_of (second n)).hooks
-  simulated_have_rows chosen second simulates n = at (second n) refl
+  -- what a run that simulates others tells of has what their operations have
+  pub simulated_have : (chosen : Kinds) (own second : ℕ → Run) → Simulates (is_kept chosen) own second
+      → ((n : ℕ) → Each holds (state_of (own n)).operations) → (n : ℕ)
+      → Each holds (state_of (second n)).hooks
+  simulated_have chosen own second simulates have n = at (second n) refl
     where
-      at : (r : Run) → second n ≡ r → Each (HasRow p) (state_of (second n)).hooks
+      at : (r : Run) → second n ≡ r → Each holds (state_of (second n)).hooks
       at (Over e left w) is =
-          alike_rows (is_kept chosen) (mean chosen p n) (second n)
-          (simulates.leads n (subst (λ (x : Run). IsOver x) (sym is) tt)) (operations_have_rows chosen n)
+          alike_hooks (is_kept chosen) (own n) (second n)
+          (simulates.leads n (subst (λ (x : Run). IsOver x) (sym is) tt)) (have n)
       at (Spent w) is =
-          subst (λ (x : Run). Each (HasRow p) (state_of x).hooks) (sym is)
-          (each_prefix w.hooks (filter (is_kept chosen) (state_of (mean chosen p n)).operations)
+          subst (λ (x : Run). Each holds (state_of x).hooks) (sym is)
+          (each_prefix w.hooks (filter (is_kept chosen) (state_of (own n)).operations)
           (simulates.within n w is).hooks
-          (each_filter (HasRow p) (is_kept chosen) (state_of (mean chosen p n)).operations
-          (operations_have_rows chosen n)))
+          (each_filter holds (is_kept chosen) (state_of (own n)).operations (have n)))
 
 -- whatever the places of its nodes are
 pub numbered_by_nodes : (chosen : Kinds) (p : Program ℕ) (n : ℕ)
     → Each (λ o. Contains (operation_ids p) (kind_of o.1, o.0.0)) (state_of (run_of chosen p n)).operations
 numbered_by_nodes chosen p n =
-    run_told (λ e. Contains (operation_ids p) e) p
-    (subst (Each (λ e. Contains (operation_ids p) e)) (sym (same_entries p))
-    (each_from (operation_ids p) (λ e. Contains (operation_ids p) e) (λ k e is. contains_at (operation_ids p) k e is)))
-    chosen n
+    let IsNumbered : MapEntry ℕ → Type 0 = λ e. Contains (operation_ids p) e in
+    each_weaker (IsOwn IsNumbered) (λ o. IsNumbered (kind_of o.1, o.0.0)) (λ o own. own.0)
+    (state_of (run_of chosen p n)).operations
+    (run_told IsNumbered p
+    (subst (Each IsNumbered) (sym (same_entries p))
+    (each_from (operation_ids p) IsNumbered (λ k e is. contains_at (operation_ids p) k e is)))
+    chosen n)

@@ -56,18 +56,20 @@ module _ {S C F J R O : Type 0} (IsPair : O → O → Type 0) (ArePairedJobs : J
   row_paired call fault h (Perform o p) = absurd o
   row_paired call fault h (Emit o p) = absurd o
 
-  -- a part that performs nothing, with itself
-  pub silent_paired : {A : Type 0} (IsGood : J → Type 0) → ((j : J) → IsGood j → ArePairedJobs j j)
-      → (p : Part S C F J R O A) → Tells (λ o. ⊥) IsGood p → Paired IsPair ArePairedJobs p p
-  silent_paired IsGood h (End a) x = ends
-  silent_paired IsGood h (Fail f) x = fails
-  silent_paired IsGood h (Step p) x = steps (silent_paired IsGood h p x)
-  silent_paired IsGood h (Look p) x = looks (λ s. silent_paired IsGood h (p s) (x s))
-  silent_paired IsGood h (Change c p) x = changes (silent_paired IsGood h p x)
-  silent_paired IsGood h (Begin j p) x = begins (h j x.0) (λ end. silent_paired IsGood h (p end) (x.1 end))
-  silent_paired IsGood h (Print line p) x = prints (silent_paired IsGood h p x)
-  silent_paired IsGood h (Perform o p) x = absurd x.0
-  silent_paired IsGood h (Emit o p) x = emits (silent_paired IsGood h p x)
+  -- a part that performs nothing, since no operation is its own, with itself
+  pub silent_paired : {A : Type 0} (IsOwn : O → Type 0) (IsGood : J → Type 0) → ((o : O) → IsOwn o → ⊥)
+      → ((j : J) → IsGood j → ArePairedJobs j j) → (p : Part S C F J R O A) → Tells IsOwn IsGood p
+      → Paired IsPair ArePairedJobs p p
+  silent_paired IsOwn IsGood none h (End a) x = ends
+  silent_paired IsOwn IsGood none h (Fail f) x = fails
+  silent_paired IsOwn IsGood none h (Step p) x = steps (silent_paired IsOwn IsGood none h p x)
+  silent_paired IsOwn IsGood none h (Look p) x = looks (λ s. silent_paired IsOwn IsGood none h (p s) (x s))
+  silent_paired IsOwn IsGood none h (Change c p) x = changes (silent_paired IsOwn IsGood none h p x)
+  silent_paired IsOwn IsGood none h (Begin j p) x =
+      begins (h j x.0) (λ end. silent_paired IsOwn IsGood none h (p end) (x.1 end))
+  silent_paired IsOwn IsGood none h (Print line p) x = prints (silent_paired IsOwn IsGood none h p x)
+  silent_paired IsOwn IsGood none h (Perform o p) x = absurd (none o x.0)
+  silent_paired IsOwn IsGood none h (Emit o p) x = emits (silent_paired IsOwn IsGood none h p x)
 
 -- the lists are as long, and what stands at the same index is paired
 abbrev pub AllPaired : {X Y : Type 0} → (X → Y → Type 0) → List X → List Y → Type 0

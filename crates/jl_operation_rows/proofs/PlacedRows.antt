@@ -148,7 +148,7 @@ module _ (t : Program ℕ) where
         → AllPaired (SameRow (map_spans f t) (map_spans g t)) m n
     same_rows [] [] [] rows x y = tt
     same_rows (o ∷ l) (a ∷ m) (b ∷ n) rows x y =
-        (same_row o a b rows.0 x.0 y.0, same_rows l m n rows.1 x.1 y.1)
+        (same_row o a b rows.0.0 x.0 y.0, same_rows l m n rows.1 x.1 y.1)
     same_rows [] (a ∷ m) n rows x y = absurd x
     same_rows (o ∷ l) [] n rows x y = absurd x
     same_rows [] [] (b ∷ n) rows x y = absurd y

@@ -33,9 +33,9 @@ module _ (IsRow : MapEntry ℕ → Type 0) where
     script_told : Told IsRow (script p)
     script_told =
         value_then (algorithm (declare_program p.body (global_context p))) (λ done.
-        perform_told (λ s. rows.0) (in_a_row (sequence
+        perform_told (λ s. (rows.0, tt)) (in_a_row (sequence
         (code_told IsRow (function_table p) p.body rows.1.1 (global_context p))
-        (perform_told (λ s. rows.1.0) (ended completion.Normal))) end_told))
+        (perform_told (λ s. (rows.1.0, tt)) (ended completion.Normal))) end_told))
 
     table_owned : AllOwned IsRow (function_table p)
     unfolding function_table

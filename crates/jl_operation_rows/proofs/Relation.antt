@@ -19,6 +19,7 @@ use Rattle.jl_meaning.specs.Parts.{Part, Turn, TurnOf}
 use Rattle.jl_meaning.specs.Store.{Store}
 use Rattle.jl_effects.specs.Telling.{Tells}
 use Rattle.jl_effects.proofs.Tells.{row_tells, tells_then, Each}
+use Rattle.jl_operation_rows.specs.Seeing.{SeesValues}
 
 -- the id of an operation, counted as the language counts it
 abbrev pub id_at : ℕ → ℕ → ℕ
@@ -49,8 +50,9 @@ module _ (IsRow : MapEntry ℕ → Type 0) where
   LoopRows (for_loop e u l) id = TestRows id e × AllRows l × RowsIfPresent e × RowsIfPresent u
   LoopRows (for_in_loop x y rest l) id = AllRows l
 
+  -- an operation of one of the rows, which sees its values as they are
   abbrev pub IsOwn : Operation → Type 0
-  IsOwn o = IsRow (kind_of o.1, o.0.0)
+  IsOwn o = IsRow (kind_of o.1, o.0.0) × SeesValues o
 
   abbrev pub IsOwnTurn : Turn → Type 0
   IsOwnTurn t = LoopRows t.loop t.id

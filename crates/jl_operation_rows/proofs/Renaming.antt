@@ -16,7 +16,7 @@ use Rattle.jl_meaning.specs.Parts.{Part, Turn, TurnOf}
 use Rattle.jl_meaning.specs.Store.{Store}
 use Rattle.jl_operation_rows.proofs.Pairs.{begins, ends, looks, paired_then, performs, row_paired, silent_paired}
 use Rattle.jl_operation_rows.proofs.Pairs.{Paired}
-use Rattle.jl_operation_rows.proofs.Relation.{IsBegun, Performs}
+use Rattle.jl_operation_rows.proofs.Relation.{IsBegun, IsOwn, Performs}
 
 -- What two trees have for the places of a third, and what an id of the first tree is in the second. A node takes three
 -- ids at most.
@@ -99,7 +99,8 @@ module _ {r : Renaming} where
 
   -- what performs nothing and begins no turn, as a hook
   pub silent : {A : Type 0} {p : Part A} → Performs (λ e. ⊥) (λ t. ⊥) p → Same r p p
-  silent {p = p} x = silent_paired (SameOperation r) (SameJob r) (IsBegun (λ t. ⊥)) itself p x.at
+  silent {p = p} x =
+      silent_paired (SameOperation r) (SameJob r) (IsOwn (λ e. ⊥)) (IsBegun (λ t. ⊥)) (λ o own. own.0) itself p x.at
     where
       itself : (j : Job) → IsBegun (λ t. ⊥) j → SameJob r j j
       itself (CallOf c) h = same_call c

@@ -27,6 +27,7 @@ use Rattle.jl_operation_rows.proofs.Relation.{algorithm, bind, by_id, ended, end
 use Rattle.jl_operation_rows.proofs.Relation.{sequence}
 use Rattle.jl_operation_rows.proofs.Relation.{step_told, value_then, AllRows, LoopRows, Rows, RowsIfPresent, TestRows}
 use Rattle.jl_operation_rows.proofs.Relation.{Told}
+use Rattle.jl_operation_rows.proofs.Seeing.{one_seen}
 use Rattle.jl_operation_rows.proofs.Splitting.{of, of_all, of_any, split}
 
 module _ (IsRow : MapEntry ℕ → Type 0) (table : FunctionTable) where
@@ -90,7 +91,7 @@ module _ (IsRow : MapEntry ℕ → Type 0) (table : FunctionTable) where
     execute_told (tree.for_in is_var x o l id) own h c =
         let r = split IsRow (of o) (of_all l) h.1 in
         step_told (value_then (evaluate_told IsRow table o r.0 c) (λ v.
-        perform_told (λ s. h.0) (visit_all_told x.text l c own id v r.1)))
+        perform_told (λ s. (h.0, one_seen s.heap v)) (visit_all_told x.text l c own id v r.1)))
     execute_told (tree.continue x id) own h c = step_told (ended _)
     execute_told (tree.break x id) own h c = step_told (ended _)
     execute_told (tree.return tree.absent id) own h c = step_told (ended _)

@@ -16,6 +16,7 @@ ghost use Rattle.jl_op.specs.Map.{BeginsIn};
 ghost use Rattle.jl_operation_rows.specs.InText.{LiesIn};
 ghost use Rattle.jl_operation_rows.specs.Places.{OneByOne, PerformedAt, SameRow};
 ghost use Rattle.jl_operation_rows.specs.Rows.{HasRow};
+ghost use Rattle.jl_operation_rows.specs.Seeing.{SeesValues};
 ghost use Rattle.jl_scope.specs.EarlyErrors.{early_errors_of};
 ghost use Rattle.jl_simulation.specs.Weaving.{woven_program};
 
@@ -34,6 +35,21 @@ pub fn hooks_have_rows()
     ensures { (chosen : Kinds) (ts : List Token) (limit : ℕ) (p : Program Span) → Reads ts limit p
         → early_errors_of p ≡ [] → length ts < 1073741823 → (n : ℕ)
         → All (HasRow p) (state_of (mean chosen (woven_program chosen p) n)).hooks }
+{
+    accepted_scripts_simulate();
+}
+
+/// Each value that an operation of a run sees has the class that it has among some objects. So a value that is no
+/// object is seen with the class Primitive.
+pub fn operations_see_values<S>()
+    ensures { (chosen : Kinds) (p : Program S) (n : ℕ) → All SeesValues (state_of (mean chosen p n)).operations }
+{}
+
+/// So does each operation that the hooks of its woven script tell of, where the script is as above.
+pub fn hooks_see_values()
+    ensures { (chosen : Kinds) (ts : List Token) (limit : ℕ) (p : Program Span) → Reads ts limit p
+        → early_errors_of p ≡ [] → length ts < 1073741823 → (n : ℕ)
+        → All SeesValues (state_of (mean chosen (woven_program chosen p) n)).hooks }
 {
     accepted_scripts_simulate();
 }

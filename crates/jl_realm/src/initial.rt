@@ -19,13 +19,14 @@ use jl_store::Store;
 use jl_text::{NoMemory, Text, word};
 use jl_value::{Class, ObjId, Value};
 use std::alloc::Global;
+use std::hash::RandomState;
 
 /// The store that a run begins with (clause 15).
-pub fn initial_store(alloc: Global) -> Result<Store, NoMemory>
+pub fn initial_store(alloc: Global, keys: RandomState) -> Result<Store, NoMemory>
     ensures realm { IfOk result (λ store. store ≡ realm) }
     ensures global { IfOk result (λ store. HasGlobalObject store) }
 {
-    let mut store = Store::new(alloc)?;
+    let mut store = Store::new(alloc, keys)?;
     take_all(alloc, &mut store, &STEPS)?;
     Ok(store)
 }

@@ -8,7 +8,7 @@ use Rattle.jl_op.specs.declared.op.Op.{Op}
 use Rattle.jl_op.specs.Kinds.{kind_of, kind_name, all_kinds}
 use Rattle.jl_op.specs.Operations.{Operation}
 use Rattle.jl_record.specs.Facts.{Sort, Facts, marks}
-use Rattle.jl_record.specs.OperationReads.{NoFacts, HasFacts}
+use Rattle.jl_record.specs.OperationReads.{NoFacts, IsWritten}
 use Rattle.jl_record.specs.Operations.{sorts_of, facts_of}
 use Rattle.jl_record.specs.Parts.{is_at_end}
 use Rattle.jl_record.specs.Records.{Row, IsOperation, operation_line, kind_at}
@@ -95,7 +95,7 @@ module _ (rows : List Row) (few : length rows < 2 ^ 32) (line : List ℕ) where
         pub has_row_within : kind_at rows id ≡ Some kind → id < 2 ^ 32
         has_row_within row = let high = row_stands rows id kind row in omega arith
 
-        pub has_facts : (o : Operation) → o.0.0 ≡ id → kind_at rows id ≡ Some kind → HasFacts kind facts o.1
+        pub has_facts : (o : Operation) → o.0.0 ≡ id → kind_at rows id ≡ Some kind → IsWritten kind facts o.1
             → IsOperation rows o × (line ≡ operation_line o)
         has_facts o same row op = (
           (ap (kind_at rows) same ∙ row ∙ ap (λ l. Some l) (sym op.same), op.facts),

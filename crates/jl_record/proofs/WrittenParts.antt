@@ -3,14 +3,16 @@ use Rattle.std.proofs.Common.{◌≡◌, ℕ, suc, ◌+◌, ◌<◌, ◌^◌, Li
 use Rattle.std.proofs.Common.{arith, append_assoc, append-nil, ℤ, pos, true, false, Some, subst}
 use Rattle.std.proofs.Math.Seq.{take-suc}
 use Rattle.std.specs.Fmt.{decimal}
-use Rattle.std.specs.Prelude.{unsigned_abs, int_lt, if◌then◌else◌}
+use Rattle.std.specs.Prelude.{Bool, codes, unsigned_abs, int_lt, if◌then◌else◌}
 use Rattle.jl_num.specs.Digits.{digits_of, number_text}
+use Rattle.jl_op.specs.declared.callee.Callee.{Callee}
+use Rattle.jl_op.specs.declared.callee.Callee.TheVariants as callees
 use Rattle.jl_op.specs.declared.op.Op.{Op}
 use Rattle.jl_op.specs.Kinds.{kind_of}
 use Rattle.jl_value.specs.declared.value.Seen.{Seen}
 use Rattle.jl_record.specs.declared.bounded.Bounded.{Bounded}
 use Rattle.jl_record.specs.Bounded.{Holds, Appends}
-use Rattle.jl_record.specs.Facts.{seen_mark, seen_marks, marks}
+use Rattle.jl_record.specs.Facts.{callee_mark, seen_mark, seen_marks, marks, truth_mark}
 use Rattle.jl_record.specs.Operations.{sorts_of, facts_of}
 use Rattle.jl_record.specs.Reading.{after_space}
 use Rattle.jl_record.proofs.Holding.{appends_both}
@@ -51,6 +53,22 @@ one_more_value a b c d seen i value item below p q r =
     subst (Appends a d) (next_marks seen i value item below)
     (appends_both a b d (seen_marks (take i seen)) (32 ∷ seen_mark value) p
     (appends_both b c d (32 ∷ []) (seen_mark value) q r))
+
+-- a function of the script that is called
+pub appends_script : {callee : Callee} (a b c d e f g : Bounded) (function params : ℕ) (mentions : Bool)
+    → callee ≡ callees.Script function params mentions → Appends a b (codes "s ") → Appends b c (decimal function)
+    → Appends c d (codes " ") → Appends d e (decimal params) → Appends e f (codes " ")
+    → Appends f g (truth_mark mentions) → Appends a g (callee_mark callee)
+appends_script a b c d e f g function params mentions is p q r s t u =
+    let truth = truth_mark mentions in
+    let last = codes " " ++ truth in
+    let rest = codes " " ++ (decimal params ++ last) in
+    subst (λ callee. Appends a g (callee_mark callee)) (sym is)
+    (appends_both a b g (codes "s ") (decimal function ++ rest) p
+    (appends_both b c g (decimal function) rest q
+    (appends_both c d g (codes " ") (decimal params ++ last) r
+    (appends_both d e g (decimal params) last s
+    (appends_both e f g (codes " ") truth t u)))))
 
 -- a fact after a space, and then others
 pub appends_fact : (a b c d : Bounded) (fact others : List ℕ) → Appends a b (32 ∷ []) → Appends b c fact

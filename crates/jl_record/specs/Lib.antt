@@ -12,5 +12,6 @@ pub mod Reading
 pub mod OperationReads
 pub mod Plain
 pub mod Recording
+pub mod Storing
 pub mod Bounded
 pub mod Encoding

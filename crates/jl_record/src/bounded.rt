@@ -1,5 +1,5 @@
 // A text in bytes that is kept up to a limit.
-ghost use Rattle.std.specs.Prelude.{◌≡◌, ◌<◌, ◌≤◌, ◌++◌, ◌∷◌, List, ℕ, [], true, length, OnOk, IfOk};
+ghost use Rattle.std.specs.Prelude.{◌≡◌, ◌<◌, ◌≤◌, ◌^◌, ◌++◌, ◌∷◌, All, List, ℕ, [], true, length, OnOk, IfOk};
 ghost use Rattle.std.specs.Fmt.{decimal};
 ghost use Rattle.jl_text.specs.Encoding.{bytes_of};
 ghost use Rattle.jl_text.specs.Quoted.{quote};
@@ -18,6 +18,15 @@ pub(crate) struct Bounded {
     pub(crate) limit: u64,
     pub(crate) passed: bool,
     pub(crate) bytes: Vec<u8>,
+}
+
+// It does nothing: of what a list holds, a proof knows the range only where it is read.
+fn units_are_small(units: &[u16])
+    ensures { All (λ u. u < 2 ^ 16) units.now }
+{
+    for unit in units {
+        let _unit = *unit;
+    }
 }
 
 impl Bounded {
@@ -73,7 +82,9 @@ impl Bounded {
     pub(crate) fn quoted(&mut self, alloc: Global, units: &[u16]) -> Result<(), AllocError>
         ensures limit { self.new.limit ≡ self.old.limit }
         ensures holds { OnOk result (Appends self.old self.new (quote units.now)) }
+        ensures small { All (λ u. u < 2 ^ 16) units.now }
     {
+        units_are_small(units);
         let quoted = quote(alloc, units)?;
         let bytes = to_utf8(alloc, &quoted)?;
         self.append(&bytes)

@@ -1,11 +1,14 @@
 // Facts of operations, as the line of an operation has them.
 ghost use Rattle.std.specs.Prelude.{◌≡◌, ◌<◌, ◌^◌, ℕ, List, [], ◌∷◌, true, IfOk, OnOk, MatchOption};
 ghost use Rattle.std.specs.Fmt.{decimal};
+ghost use Rattle.std.specs.List.{AllByRecursion};
 ghost use Rattle.jl_record.specs.Bounded.{Appends};
 ghost use Rattle.jl_record.specs.Facts.{a_truth, a_number, a_count, an_object, a_text, a_value, a_found};
 ghost use Rattle.jl_record.specs.Facts.{a_callee, a_binary, a_unary, some_values, IsFact, mark};
 ghost use Rattle.jl_record.specs.Parts.{is_at_end};
 ghost use Rattle.jl_record.specs.Reading.{IsFirst, NoneIsFirst, IsKnown, AreOf, AreOfNone, after_space};
+ghost use Rattle.jl_record.specs.Storing.{HasItsClass, values_in};
+ghost use Rattle.jl_value.specs.declared.value.Seen.{Seen as OneSeen};
 
 use crate::bounded::Bounded;
 use crate::cuts::after_space;
@@ -29,6 +32,9 @@ pub(crate) trait Fact: Sized + Drop {
     /// How it is written.
     ghost written: { Self → List ℕ };
 
+    /// The values in it.
+    ghost values: { Self → List OneSeen } = { λ _. [] };
+
     /// The fact that comes first, and what follows it.
     fn front(alloc: Global, units: &[u16]) -> Result<Option<(Self, &[u16])>, AllocError>
         ensures { IfOk result (λ found. MatchOption found (NoneIsFirst is written units.now)
@@ -38,10 +44,11 @@ pub(crate) trait Fact: Sized + Drop {
     fn known()
         ensures { IsKnown is written };
 
-    /// Appends the fact as it is written.
+    /// Appends the fact as it is written. A stored run may have it, if each value in it has its class.
     fn write(&self, alloc: Global, text: &mut Bounded) -> Result<(), AllocError>
         ensures limit { text.new.limit ≡ text.old.limit }
-        ensures holds { OnOk result (Appends text.old text.new (written self.now)) };
+        ensures holds { OnOk result (Appends text.old text.new (written self.now)) }
+        ensures fact { OnOk result (AllByRecursion HasItsClass (values self.now) → is self.now) };
 }
 
 impl Fact for bool {
@@ -80,6 +87,8 @@ impl Fact for Seen {
     ghost is = { IsFact a_value };
 
     ghost written = { mark a_value };
+
+    ghost values = { values_in a_value };
 
     fn front(alloc: Global, units: &[u16]) -> Result<Option<(Seen, &[u16])>, AllocError> {
         value_front(alloc, units)
@@ -208,6 +217,8 @@ impl Fact for Items<Seen> {
     ghost is = { IsFact some_values };
 
     ghost written = { mark some_values };
+
+    ghost values = { values_in some_values };
 
     fn front(alloc: Global, units: &[u16]) -> Result<Option<(Items<Seen>, &[u16])>, AllocError> {
         values_front(alloc, units)

@@ -1,5 +1,6 @@
 // A run is recorded while it is observed.
 ghost use Rattle.std.specs.Prelude.{◌≡◌, ◌<◌, ◌≤◌, List, [], ◌∷◌, ◌++◌, All, IfOk, OnOk, OnErr, length, map, ℕ, false};
+ghost use Rattle.std.specs.List.{AllByRecursion};
 ghost use Rattle.jl_analysis.specs.Rules.{IsRule};
 ghost use Rattle.jl_op.specs.Map.{BeginsIn};
 ghost use Rattle.jl_op.specs.Operations.{Operation};
@@ -8,6 +9,7 @@ ghost use Rattle.jl_record.specs.Bounded.{Holds};
 ghost use Rattle.jl_record.specs.Lines.{with_ends};
 ghost use Rattle.jl_record.specs.Records.{operation_line};
 ghost use Rattle.jl_record.specs.Recording.{run_of, bytes_of_run, OnTooLong};
+ghost use Rattle.jl_record.specs.Storing.{CanBeStored};
 
 use crate::bounded::Bounded;
 use crate::refusal::RecordRefusal;
@@ -29,7 +31,8 @@ pub struct Recorder {
 
 impl Observer for Recorder {
     ghost stands_for = { λ r seen. Holds r.lines (with_ends (map operation_line seen))
-        × (r.count ≡ saturate_u64 (length seen)) };
+        × (r.count ≡ saturate_u64 (length seen))
+        × AllByRecursion (λ o. CanBeStored o.1) seen };
 
     ghost has_refused = { λ r. r.refused };
 
@@ -76,6 +79,8 @@ impl Recorder {
         ensures found { IfOk result (λ text. (seen : List Operation)
             → ⟦<Recorder as Observer>⟧.stands_for self seen
             → text.items ≡ bytes_of_run (run_of lines.now map.now off.now seen)) }
+        ensures stored { IfOk result (λ _. (seen : List Operation)
+            → ⟦<Recorder as Observer>⟧.stands_for self seen → AllByRecursion (λ o. CanBeStored o.1) seen) }
         ensures within { IfOk result (λ text. (limit : ℕ) → ⟦<Recorder as Observer>⟧.fixed self ≡ limit ∷ []
             → length text.items ≤ limit) }
         ensures too_long { OnTooLong result ((limit : ℕ) (seen : List Operation)

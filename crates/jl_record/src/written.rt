@@ -1,10 +1,13 @@
 // Facts of operations as they are written.
-ghost use Rattle.std.specs.Prelude.{◌≡◌, ◌++◌, OnOk, length};
+ghost use Rattle.std.specs.Prelude.{◌≡◌, ◌<◌, ◌^◌, ◌++◌, OnOk, length};
 ghost use Rattle.std.specs.Fmt.{decimal};
+ghost use Rattle.std.specs.List.{AllByRecursion};
 ghost use Rattle.jl_num.specs.Digits.{number_text};
+ghost use Rattle.jl_num.specs.Number.{IsNumber};
 ghost use Rattle.jl_text.specs.Quoted.{quote};
 ghost use Rattle.jl_record.specs.Bounded.{Appends};
-ghost use Rattle.jl_record.specs.Facts.{truth_mark, seen_mark, seen_marks, callee_mark};
+ghost use Rattle.jl_record.specs.Facts.{truth_mark, seen_mark, seen_marks, callee_mark, AreSeen, IsCallee, IsSeen};
+ghost use Rattle.jl_record.specs.Storing.{HasItsClass};
 
 use crate::bounded::Bounded;
 use crate::named::Named;
@@ -37,6 +40,7 @@ pub(crate) fn write_name(alloc: Global, text: &mut Bounded, name: &str) -> Resul
 fn write_number(text: &mut Bounded, number: Num) -> Result<(), AllocError>
     ensures limit { text.new.limit ≡ text.old.limit }
     ensures holds { OnOk result (Appends text.old text.new (number_text number 10)) }
+    ensures number { IsNumber number }
 {
     let Some(whole) = number.value() else {
         return text.word("NaN");
@@ -48,10 +52,28 @@ fn write_number(text: &mut Bounded, number: Num) -> Result<(), AllocError>
     text.number(whole.unsigned_abs())
 }
 
+// A number that is passed is known to fit its type, where one within an enum is not.
+fn write_place(text: &mut Bounded, place: usize) -> Result<(), AllocError>
+    ensures limit { text.new.limit ≡ text.old.limit }
+    ensures holds { OnOk result (Appends text.old text.new (decimal place)) }
+    ensures fits { place < 2 ^ 64 }
+{
+    text.number(place as u64)
+}
+
+fn write_small(text: &mut Bounded, number: u32) -> Result<(), AllocError>
+    ensures limit { text.new.limit ≡ text.old.limit }
+    ensures holds { OnOk result (Appends text.old text.new (decimal number)) }
+    ensures fits { number < 2 ^ 32 }
+{
+    text.number(u64::from(number))
+}
+
 #[tactic(auto, using(crate::proofs::Holding::appends_both))]
 pub(crate) fn write_value(alloc: Global, text: &mut Bounded, seen: &Seen) -> Result<(), AllocError>
     ensures limit { text.new.limit ≡ text.old.limit }
     ensures holds { OnOk result (Appends text.old text.new (seen_mark seen.now)) }
+    ensures fact { OnOk result (HasItsClass seen.now → IsSeen seen.now) }
 {
     match &seen.value {
         Value::Undefined => text.word("u"),
@@ -64,7 +86,7 @@ pub(crate) fn write_value(alloc: Global, text: &mut Bounded, seen: &Seen) -> Res
         Value::Text(units) => text.quoted(alloc, units.units()),
         Value::Obj(place) => {
             text.word("o")?;
-            text.number(place.0 as u64)?;
+            write_place(text, place.0)?;
             text.word(":")?;
             text.word(seen.class.spelling())
         }
@@ -79,6 +101,7 @@ pub(crate) fn write_callee(
 ) -> Result<(), AllocError>
     ensures limit { text.new.limit ≡ text.old.limit }
     ensures holds { OnOk result (Appends text.old text.new (callee_mark callee)) }
+    ensures fact { OnOk result (IsCallee callee) }
 {
     match callee {
         Callee::Script {
@@ -87,9 +110,9 @@ pub(crate) fn write_callee(
             mentions,
         } => {
             text.word("s ")?;
-            text.number(u64::from(function))?;
+            write_small(text, function)?;
             text.word(" ")?;
-            text.number(u64::from(params))?;
+            write_small(text, params)?;
             text.word(" ")?;
             write_truth(text, mentions)
         }
@@ -107,6 +130,7 @@ pub(crate) fn write_values(
 ) -> Result<(), AllocError>
     ensures limit { text.new.limit ≡ text.old.limit }
     ensures holds { OnOk result (Appends text.old text.new (decimal (length values.now) ++ seen_marks values.now)) }
+    ensures fact { OnOk result (AllByRecursion HasItsClass values.now → AreSeen values.now) }
 {
     text.number(values.len() as u64)?;
     for value in values {

@@ -1,5 +1,6 @@
 // The lines of a stored run as they are written.
 ghost use Rattle.std.specs.Prelude.{◌≡◌, ◌++◌, ◌∷◌, [], List, ℕ, OnOk, All, map, true};
+ghost use Rattle.std.specs.List.{AllByRecursion};
 ghost use Rattle.jl_analysis.specs.Rules.{IsRule};
 ghost use Rattle.jl_op.specs.Kinds.{kind_of};
 ghost use Rattle.jl_op.specs.Map.{BeginsIn};
@@ -12,6 +13,8 @@ ghost use Rattle.jl_record.specs.Lines.{with_ends};
 ghost use Rattle.jl_record.specs.Plain.{is_plain};
 ghost use Rattle.jl_record.specs.Recording.{rows_of};
 ghost use Rattle.jl_record.specs.Records.{operation_line, row_line, off_line, count_line};
+ghost use Rattle.jl_record.specs.Storing.{CanBeStored, HasItsClass};
+ghost use Rattle.jl_value.specs.declared.value.Seen.{Seen};
 
 use crate::bounded::Bounded;
 use crate::fact::Fact;
@@ -27,14 +30,25 @@ trait Lent: Copy {
     /// How they are written.
     ghost written: { Self → List ℕ };
 
-    /// Appends each after a space.
+    /// They are facts that a stored run may have.
+    ghost are: { Self → Type 0 };
+
+    /// The values among them.
+    ghost values: { Self → List Seen };
+
+    /// Appends each after a space. A stored run may have them, if each value among them has its class.
     fn write(self, alloc: Global, text: &mut Bounded) -> Result<(), AllocError>
         ensures limit { text.new.limit ≡ text.old.limit }
-        ensures holds { OnOk result (Appends text.old text.new (written self)) };
+        ensures holds { OnOk result (Appends text.old text.new (written self)) }
+        ensures facts { OnOk result (AllByRecursion HasItsClass (values self) → are self) };
 }
 
 impl Lent for () {
     ghost written = { λ _. [] };
+
+    ghost are = { λ _. Unit {0} };
+
+    ghost values = { λ _. [] };
 
     #[tactic(auto, using(crate::proofs::WrittenParts::appends_nothing))]
     fn write(self, _alloc: Global, _text: &mut Bounded) -> Result<(), AllocError> {
@@ -44,6 +58,10 @@ impl Lent for () {
 
 impl<'a, A: Fact, B: Lent> Lent for (&'a A, B) {
     ghost written = { λ facts. after_space (A.written facts.0.now) (B.written facts.1) };
+
+    ghost are = { λ facts. A.is facts.0.now × B.are facts.1 };
+
+    ghost values = { λ facts. A.values facts.0.now ++ B.values facts.1 };
 
     #[tactic(auto, using(crate::proofs::WrittenParts::appends_fact))]
     fn write(self, alloc: Global, text: &mut Bounded) -> Result<(), AllocError> {
@@ -57,6 +75,7 @@ impl<'a, A: Fact, B: Lent> Lent for (&'a A, B) {
 fn write_facts(alloc: Global, text: &mut Bounded, op: &Op) -> Result<(), AllocError>
     ensures limit { text.new.limit ≡ text.old.limit }
     ensures holds { OnOk result (Appends text.old text.new (marks (sorts_of (kind_of op.now)) (facts_of op.now))) }
+    ensures facts { OnOk result (CanBeStored op.now) }
 {
     match op {
         Op::ScriptEnter => ().write(alloc, text),
@@ -124,6 +143,7 @@ pub(crate) fn write_operation(
 ) -> Result<(), AllocError>
     ensures limit { text.new.limit ≡ text.old.limit }
     ensures holds { OnOk result (Appends text.old text.new (operation_line (id, op.now) ++ 10 ∷ [])) }
+    ensures facts { OnOk result (CanBeStored op.now) }
 {
     text.number(u64::from(id.0))?;
     text.word(" ")?;

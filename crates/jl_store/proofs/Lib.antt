@@ -1,4 +1,3 @@
-pub mod Seen
 pub mod BindingEntries
 pub mod EnvironmentSteps
 pub mod Fresh

@@ -1,9 +1,9 @@
 //! The environments in which names are bound (10.2).
-ghost use Rattle.std.specs.Prelude.{◌≡◌, [], ◌∷◌, ◌++◌, None, length, slice_get, IfOk, IsNone, OnErr, OnOk};
+ghost use Rattle.std.specs.Prelude.{◌≡◌, [], ◌∷◌, ◌++◌, length, IfOk, IsNone, OnErr, OnOk};
 ghost use Rattle.std.specs.Option.{option_copied, option_map};
 
-use jl_props::Store;
-use jl_text::{List, NoMemory, Text};
+use jl_named::NamedList;
+use jl_text::{NoMemory, Text};
 use jl_value::Value;
 use std::alloc::Global;
 use std::marker::Model;
@@ -15,27 +15,32 @@ pub struct Bound {
     pub mutable: bool,
 }
 
+/// An environment: the index of the one around it, and its bindings in the order in which they were made.
+#[derive(Drop)]
+struct Scope {
+    outer: Option<usize>,
+    bindings: NamedList<Bound>,
+}
+
 /// The environments of a run, each at its index, from 0. They are never given up. Contracts see of each the index
 /// of the one around it, which is smaller, and its bindings in the order in which they were made.
 #[derive(Drop)]
 pub(crate) struct Environments {
     alloc: Global,
-    outers: List<Option<usize>>,
-    /// The bindings, by the index of the environment and by the name.
-    bindings: Store<Bound>,
+    scopes: Vec<Scope>,
 }
 
 impl Model for Environments {
     ghost use Rattle.std.specs.Prelude.{List as Items};
     ghost use Rattle.jl_meaning.specs.Store.{Environment};
+    ghost use Rattle.jl_store.specs.Environments.{OutersAreBefore};
+    ghost use Rattle.jl_store.specs.inner.Inside.{environments_of};
 
     ghost Value = { Items Environment };
 
-    ghost use Rattle.jl_store.specs.inner.Inside.{environments_inside, IsKept};
+    ghost view = { λ a. environments_of a.scopes.items };
 
-    ghost view = { environments_inside };
-
-    ghost invariant = { IsKept };
+    ghost invariant = { λ a. OutersAreBefore (environments_of a.scopes.items) };
 }
 
 impl Environments {
@@ -48,20 +53,19 @@ impl Environments {
     pub(crate) fn new(alloc: Global) -> Result<Environments, NoMemory>
         ensures { IfOk result (λ made. made ≡ no_environment ∷ []) }
     {
-        let mut outers = List::new(alloc);
-        outers.push(None)?;
-        Ok(Environments {
-            alloc,
-            outers,
-            bindings: Store::new(alloc),
-        })
+        let mut scopes = Vec::new(alloc);
+        scopes.push(Scope {
+            outer: None,
+            bindings: NamedList::new(alloc),
+        })?;
+        Ok(Environments { alloc, scopes })
     }
 
     /// How many environments there are.
     pub(crate) fn len(&self) -> usize
         ensures { result ≡ length self.now }
     {
-        self.outers.len()
+        self.scopes.len()
     }
 
     /// The index of the environment around one, if there is one (10.2). It is smaller.
@@ -69,10 +73,8 @@ impl Environments {
         ensures value { result ≡ (environment_in self.now env).outer }
         ensures before { OutersAreBefore self.now }
     {
-        match outer_at(&self.outers, env) {
-            Some(outer) => *outer,
-            None => None,
-        }
+        let scope = self.scopes.get(env)?;
+        scope.outer
     }
 
     /// What a name is bound to in an environment.
@@ -80,7 +82,8 @@ impl Environments {
         ensures { option_map (bound_to name.now) (option_copied result)
             ≡ binding_named name.now (environment_in self.now env).bindings }
     {
-        self.bindings.get(env, name)
+        let scope = self.scopes.get(env)?;
+        scope.bindings.get(name)
     }
 
     /// Makes an environment inside another and answers its index (10.2.2.2). Where that other isn't there, none is
@@ -90,9 +93,13 @@ impl Environments {
         ensures made { OnOk result (self.new ≡ with_environment_in self.old outer) }
         ensures err { OnErr result (self.new ≡ self.old) }
     {
-        let env = self.outers.len();
+        let env = self.scopes.len();
         let outer = self.outer_there(outer);
-        self.outers.push(outer)?;
+        self.scopes.reserve(1)?;
+        self.scopes.push_reserved(Scope {
+            outer,
+            bindings: NamedList::new(self.alloc),
+        });
         Ok(env)
     }
 
@@ -115,10 +122,11 @@ impl Environments {
             ≡ with_bindings_in self.old env ((environment_in self.old env).bindings ++ bound_to name bound ∷ [])) }
         ensures err { OnErr result (self.new ≡ self.old) }
     {
-        if env >= self.outers.len() {
+        if env >= self.scopes.len() {
             return Ok(());
         }
-        self.bindings.put_new(env, name, bound)
+        let scope = &mut self.scopes[env];
+        scope.bindings.push(self.alloc, name, bound)
     }
 
     /// Binds a name to another value, where it is bound in an environment (10.2.1.1.3). It takes no memory.
@@ -126,16 +134,12 @@ impl Environments {
         ensures { self.new
             ≡ with_bindings_in self.old env (rebound name.now value (environment_in self.old env).bindings) }
     {
-        if let Some(bound) = self.bindings.get(env, name) {
-            let mutable = bound.mutable;
-            self.bindings.set(env, name, Bound { value, mutable });
+        if env >= self.scopes.len() {
+            return;
+        }
+        let scope = &mut self.scopes[env];
+        if let Some(bound) = scope.bindings.get_mut(name) {
+            bound.value = value;
         }
     }
-}
-
-/// What is around the environment at an index, if one is there.
-fn outer_at(outers: &List<Option<usize>>, env: usize) -> Option<&Option<usize>>
-    ensures { option_copied result ≡ slice_get outers.now env }
-{
-    outers.items().get(env)
 }

@@ -11,6 +11,7 @@ use jl_heap::{Heap, Inner, Prop};
 use jl_text::{NoMemory, Text};
 use jl_value::{Class, ObjId, Seen, Value};
 use std::alloc::Global;
+use std::hash::RandomState;
 use std::marker::Model;
 
 /// The store of a run: its objects (8.6), and the environments in which names are bound (10.2). Neither are ever
@@ -32,13 +33,13 @@ impl Model for Store {
 
 impl Store {
     /// No objects, and the global environment alone.
-    pub fn new(alloc: Global) -> Result<Store, NoMemory>
+    pub fn new(alloc: Global, keys: RandomState) -> Result<Store, NoMemory>
         ensures { IfOk result (λ store. (store.heap ≡ record { objects = []; next = 0 })
             × (store.environments ≡ no_environment ∷ [])) }
     {
         Ok(Store {
             alloc,
-            heap: Heap::new(alloc),
+            heap: Heap::new(alloc, keys),
             environments: Environments::new(alloc)?,
         })
     }

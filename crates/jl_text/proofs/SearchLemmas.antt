@@ -1,15 +1,15 @@
 -- Where one list stands in another.
 use Rattle.std.proofs.Common.{◌≡◌, ℕ, zero, suc, ◌+◌, ◌-◌, ◌<◌, ◌≤◌, inl, inr, List, [], ◌∷◌, ◌++◌, Bool, true, false}
-use Rattle.std.proofs.Common.{◌&&◌, cond, refl, sym, ap, ◌∙◌, subst, length, take, drop, get_or, Option, Some, None}
+use Rattle.std.proofs.Common.{◌&&◌, cond, refl, sym, ap, ◌∙◌, length, take, drop, get_or, Option, Some, None}
 use Rattle.std.proofs.Common.{add-one, add-suc, arith, length-append, length-drop, drop-cons, nat_eq, nat_le}
 use Rattle.std.proofs.lemmas.List.{take-append-drop}
 use Rattle.std.proofs.Math.Seq.{take-append_seam, drop-length}
 use Rattle.std.proofs.lemmas.Slice.Eq.{starts_is}
 use Rattle.std.proofs.lemmas.Bool.Decides.{Decides-eqb, eqb_tells}
-use Rattle.std.proofs.lemmas.Bool.{le-leb, lt-leb, leb-true}
+use Rattle.std.proofs.lemmas.Bool.{cases_lt, le-leb, lt-leb, leb-true}
 use Rattle.std.proofs.str.Laws.{both}
 use Rattle.std.specs.List.{starts_with}
-use Rattle.jl_text.specs.Search.{StandsAt, place_in, first_place, place_below, last_place}
+use Rattle.jl_text.specs.Search.{StandsAt, place_in, first_place, place_below, last_place, IsFirstPlace, IsLastPlace}
 
 -- a test that can't be true is false
 pub false_unless : (b : Bool) → (b ≡ true → ⊥) → b ≡ false
@@ -76,35 +76,53 @@ module _ (units part : List ℕ) (at : ℕ) where
       ]
 
 module _ (units part : List ℕ) where
-  place_below-more : (n j : ℕ) → (0 < j → length units < n + length part)
-      → place_below units part (n + j) ≡ place_below units part n
-  place_below-more n zero past = ap (place_below units part) {x = n + 0} {y = n} (omega arith)
-  place_below-more n (suc j) past =
-      let far : length units < n + length part = past (omega arith) in
-      let test : (nat_le (n + j) (length units) && starts_with nat_eq (drop (n + j) units) part) ≡ false =
-      false_unless _ (λ is.
-      let parts = both _ _ is in
-      let stands = StandsAt-from_test units part (n + j) (leb-true _ _ parts.0) parts.1 in
-      omega (arith, stands.0)) in
-      rw (add-suc n j, test) (place_below-more n j (λ h. far))
+  -- from a place on where it stands at none of the next d
+  first_place-skips : (from d : ℕ) → ((k : ℕ) → from ≤ k → k < from + d → StandsAt units part k → ⊥)
+      → first_place units part from ≡ first_place units part (from + d)
+  first_place-skips from zero none = ap (first_place units part) {x = from} {y = from + 0} (omega arith)
+  first_place-skips from (suc d) none =
+      let on : first_place units part from ≡ first_place units part (from + 1) = elim (cases_lt (length units) from) [
+        | inl past ↦ first_place-past units part from (omega (arith, past))
+            ∙ sym (first_place-past units part (from + 1) (omega (arith, past)))
+        | inr within ↦ first_place-step units part from within
+            ∙ ap (λ t. cond t (Some from) (first_place units part (from + 1))) (false_unless _ (λ test.
+            none from (omega arith) (omega arith) (StandsAt-from_test units part from within test)))
+      ] in
+      on ∙ first_place-skips (from + 1) d (λ k low high. none k (omega (arith, low)) (omega (arith, high)))
+      ∙ ap (first_place units part) {x = from + 1 + d} {y = from + suc d} (omega arith)
 
-  pub last_place-past : (from n : ℕ) → n ≤ from + 1 → (n ≤ from → length units < n + length part)
-      → last_place units part from ≡ place_below units part n
-  last_place-past from n low past =
-      ap (place_below units part) {x = from + 1} {y = n + (from + 1 - n)} (omega arith)
-      ∙ place_below-more n (from + 1 - n) (λ h. past (omega arith))
+  pub first_place-is : (from : ℕ) (place : Option ℕ) → IsFirstPlace units part from place
+      → place ≡ first_place units part from
+  first_place-is from None none =
+      sym (first_place-skips from (length units + 1) (λ k low high. none k low)
+      ∙ first_place-past units part (from + (length units + 1)) (omega arith))
+  first_place-is from (Some at) is =
+      let within : at ≤ length units = omega (arith, is.1.0) in
+      sym (first_place-skips from (at - from) (λ k low high. is.2 k low (omega (arith, high, is.0)))
+      ∙ ap (first_place units part) {x = from + (at - from)} {y = at} (omega (arith, is.0))
+      ∙ first_place-step units part at within
+      ∙ ap (λ t. cond t (Some at) (first_place units part (at + 1))) (test-StandsAt units part at is.1))
 
-  pub place_below-step : (n : ℕ) → 0 < n → n ≤ length units + 1 →
-      place_below units part n ≡ cond (starts_with nat_eq (drop (n - 1) units) part) (Some (n - 1))
-      (place_below units part (n - 1))
-  place_below-step n some within =
-      ap (place_below units part) {x = n} {y = suc (n - 1)} (omega arith)
-      ∙ (rw (le-leb (n - 1) (length units) (omega arith)) refl)
+  -- down to a place where it stands at none of the next d
+  place_below-skips : (n d : ℕ) → ((k : ℕ) → n ≤ k → k < n + d → StandsAt units part k → ⊥)
+      → place_below units part (n + d) ≡ place_below units part n
+  place_below-skips n zero none = ap (place_below units part) {x = n + 0} {y = n} (omega arith)
+  place_below-skips n (suc d) none =
+      let test : (nat_le (n + d) (length units) && starts_with nat_eq (drop (n + d) units) part) ≡ false =
+      false_unless _ (λ is. let parts = both _ _ is in none (n + d) (omega arith) (omega arith)
+      (StandsAt-from_test units part (n + d) (leb-true _ _ parts.0) parts.1)) in
+      rw (add-suc n d, test) (place_below-skips n d (λ k low high. none k low (omega (arith, high))))
 
--- what holds from n on, and at the place before n, holds from that place on
-pub holds_before : (P : ℕ → Type 0) (n k : ℕ) → n - 1 ≤ k → (n ≤ k → P k) → P (n - 1) → P k
-holds_before P n k above later here =
-    elim (eqb_tells k (n - 1)) [
-      | inl same ↦ subst P (sym same.1) here
-      | inr other ↦ later (omega (arith, other.1))
-    ]
+  place_below-here : (at : ℕ) → StandsAt units part at → place_below units part (at + 1) ≡ Some at
+  place_below-here at stands =
+      rw (add-one at, le-leb at (length units) (omega (arith, stands.0)), test-StandsAt units part at stands) refl
+
+  pub last_place-is : (from : ℕ) (place : Option ℕ) → IsLastPlace units part from place
+      → place ≡ last_place units part from
+  last_place-is from None none =
+      sym (ap (place_below units part) {x = from + 1} {y = 0 + (from + 1)} (omega arith)
+      ∙ place_below-skips 0 (from + 1) (λ k low high. none k (omega (arith, high))))
+  last_place-is from (Some at) is =
+      sym (ap (place_below units part) {x = from + 1} {y = at + 1 + (from - at)} (omega (arith, is.0))
+      ∙ place_below-skips (at + 1) (from - at) (λ k low high. is.2 k (omega (arith, high, is.0)) (omega (arith, low)))
+      ∙ place_below-here at is.1)

@@ -2,9 +2,11 @@
 #![tactic(auto)]
 
 mod encoding;
+mod ends;
 pub mod laws;
 mod lines;
 mod list;
+mod period;
 mod quoting;
 mod search;
 mod span;

@@ -5,11 +5,14 @@ ghost use Rattle.std.specs.Cmp;
 ghost use Rattle.std.specs.Cmp.Lexicographic.{pointwise, nat_list_eq_equiv, nat_list_cmp_total, texts_ties, texts_po};
 ghost use Rattle.jl_text.specs.Limits.{most_units};
 ghost use Rattle.jl_text.specs.declared.text.TextFault.TheVariants.{NoMemory};
+ghost use Rattle.std.specs.Hash as fed;
+ghost use Rattle.jl_text.specs.Fed.{fed_units, four_units};
 ghost use Rattle.jl_text.specs.Search.{first_place, last_place, IsFirstPlace, IsLastPlace};
 
 use crate::search::{first_place, last_place};
 use std::alloc::{AllocError, AllocFailed, Global};
 use std::cmp::Ordering;
+use std::hash::{Hash, Hasher};
 use std::marker::Model;
 use std::rc::Rc;
 use thiserror::Error;
@@ -128,8 +131,7 @@ impl Text {
         })
     }
 
-    /// The least place at or after `from` at which `part` stands. It looks at each place once, and there at no more
-    /// units than `part` has.
+    /// The least place at or after `from` at which `part` stands, in time linear in both lengths and in no memory.
     pub fn find(&self, part: &Text, from: usize) -> Option<usize>
         ensures value { result ≡ first_place self.now part.now from }
         ensures least { IsFirstPlace self.now part.now from result }
@@ -137,8 +139,7 @@ impl Text {
         first_place(self.units(), part.units(), from)
     }
 
-    /// The greatest place at or before `from` at which `part` stands. It looks at each place once, and there at no
-    /// more units than `part` has.
+    /// The greatest place at or before `from` at which `part` stands, in time linear in both lengths and in no memory.
     pub fn find_last(&self, part: &Text, from: usize) -> Option<usize>
         ensures value { result ≡ last_place self.now part.now from }
         ensures greatest { IsLastPlace self.now part.now from result }
@@ -198,5 +199,47 @@ impl Ord for Text {
 
     fn cmp(&self, other: &Text) -> Ordering {
         Text::compare(self, other)
+    }
+}
+
+/// Texts are hashed four units at a time, so that they can be the keys of a map of hashes.
+impl Hash for Text {
+    ghost use Rattle.std.proofs.Common.{ap};
+    ghost use Rattle.std.specs.Cmp.Lexicographic.{bytes_decides};
+    ghost use Rattle.jl_text.specs.Fed.{fed_units};
+
+    ghost hash_input = { fed_units };
+
+    ghost respects_eq = { λ x y same. ap fed_units ((bytes_decides x y).0 same) };
+
+    fn hash<H: Hasher>(&self, state: &mut H) {
+        let mut rest = self.units();
+        while let [a, b, c, d, tail @ ..] = rest {
+            state.write_u64(four_units(*a, *b, *c, *d));
+            rest = tail;
+        }
+        state.write_u64(last_units(rest));
+    }
+}
+
+/// Four units as one number.
+fn four_units(a: u16, b: u16, c: u16, d: u16) -> u64
+    ensures { result ≡ four_units a b c d }
+{
+    let low = u64::from(a) + u64::from(b) * 65536;
+    let high = u64::from(c) + u64::from(d) * 65536;
+    low + high * 4294967296
+}
+
+/// Fewer than four units as one number, which also says how many they are.
+fn last_units(units: &[u16]) -> u64
+    requires { length units.now < 4 }
+    ensures { fed_units units.now ≡ fed.u64 result }
+{
+    match units {
+        [a, b, c] => four_units(*a, *b, *c, 3),
+        [a, b] => four_units(*a, *b, 0, 2),
+        [a] => four_units(*a, 0, 0, 1),
+        _ => 0,
     }
 }

@@ -1,5 +1,5 @@
 -- How values are told of, in the lines of a trace and of an uncaught throw.
-use Rattle.std.specs.Prelude.{ℕ, true, false, List, [], ◌∷◌, ◌++◌, codes}
+use Rattle.std.specs.Prelude.{ℕ, true, false, List, ◌++◌, codes}
 use Rattle.jl_num.specs.Digits.{number_text}
 use Rattle.jl_text.specs.Quoted.{quote}
 use Rattle.jl_value.specs.declared.object.Class.{Class}

@@ -8,6 +8,7 @@ use jl_analysis::{Analysis, Crowd};
 use jl_app::{Status, jlint};
 use jl_port::{InSource, OutSink, Same};
 use std::env;
+use std::hash::RandomState;
 use std::io::{self, ErrorKind};
 use std::process::ExitCode;
 
@@ -18,8 +19,8 @@ fn main(rt: HostRuntime) -> ExitCode {
     }
 }
 
-/// Runs the command that the program's words name, with a checker of each rule. An error is that no memory was left,
-/// before anything was read or written.
+/// Runs the command that the program's words name, with a checker of each rule. An error is that no memory was left, or
+/// that the system had no random seed for the tables of names, before anything was read or written.
 fn run(rt: &HostRuntime) -> io::Result<Status> {
     let words = words(rt)?;
     let mut named = Vec::new(rt.alloc());
@@ -52,11 +53,13 @@ fn run(rt: &HostRuntime) -> io::Result<Status> {
         uses.global_this,
     ];
     let mut crowd = Crowd::of(Vec::from_array(alloc, boxes)?);
+    let keys = RandomState::new(rt)?;
     let mut source = InSource::new(rt.stdin());
     let mut sink = OutSink::new(rt.stdout());
     let mut shelf = Same::new();
     Ok(jlint(
         rt.alloc(),
+        keys,
         &named,
         &mut source,
         &mut sink,

@@ -8,11 +8,18 @@ use jl_heap::{Change, Heap, Prop};
 use jl_text::Text;
 use jl_value::{Class, ObjId, Value};
 use std::alloc::Global;
+use std::hash::RandomState;
 
-pub fn answer(alloc: Global, heap: &mut Heap, call: &str, words: &[&str]) -> Result<String, Fault> {
+pub fn answer(
+    alloc: Global,
+    keys: RandomState,
+    heap: &mut Heap,
+    call: &str,
+    words: &[&str],
+) -> Result<String, Fault> {
     match words {
         [] if call == "new" => {
-            *heap = Heap::new(alloc);
+            *heap = Heap::new(alloc, keys);
             Ok(String::from_str(alloc, "empty")?)
         }
         [word] => of_word(alloc, heap, call, word),

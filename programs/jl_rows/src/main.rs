@@ -19,20 +19,24 @@ use jl_heap::Heap;
 use jl_props::Store;
 use jl_text::Text;
 use std::alloc::Global;
+use std::hash::RandomState;
 use std::io;
 
 /// What rows before a row have made.
 #[derive(Drop)]
 struct Made {
+    keys: RandomState,
     store: Store<Text>,
     heap: Heap,
 }
 
 fn main(rt: HostRuntime) -> io::Result<()> {
     let alloc = rt.alloc();
+    let keys = RandomState::new(&rt)?;
     let mut made = Made {
-        store: Store::new(alloc),
-        heap: Heap::new(alloc),
+        keys,
+        store: Store::new(alloc, keys),
+        heap: Heap::new(alloc, keys),
     };
     let mut rows = 0u32;
     let mut differ = 0u32;
@@ -73,8 +77,8 @@ fn answer(alloc: Global, made: &mut Made, row: &str) -> Result<String, Fault> {
         ["num", call, words @ ..] => numbers::answer(alloc, call, words),
         ["text", call, words @ ..] => texts::answer(alloc, call, words),
         ["value", call, words @ ..] => values::answer(alloc, call, words),
-        ["store", call, words @ ..] => store::answer(alloc, &mut made.store, call, words),
-        ["heap", call, words @ ..] => heap::answer(alloc, &mut made.heap, call, words),
+        ["store", call, words @ ..] => store::answer(alloc, made.keys, &mut made.store, call, words),
+        ["heap", call, words @ ..] => heap::answer(alloc, made.keys, &mut made.heap, call, words),
         _ => Err(Fault::Unreadable),
     }
 }

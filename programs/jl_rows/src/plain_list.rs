@@ -3,6 +3,7 @@ use crate::fault::Fault;
 use jl_props::Store;
 use jl_text::{Text, from_utf8};
 use std::alloc::Global;
+use std::hash::RandomState;
 
 /// How many names there are, and how many objects.
 const NAMES: u64 = 40;
@@ -27,7 +28,12 @@ struct Pair {
 }
 
 /// Whether both answer alike at each of so many steps that begin with a seed, or the first step at which they don't.
-pub fn compared(alloc: Global, seed: u64, steps: u32) -> Result<String, Fault> {
+pub fn compared(
+    alloc: Global,
+    keys: RandomState,
+    seed: u64,
+    steps: u32,
+) -> Result<String, Fault> {
     let mut names = Vec::new(alloc);
     for number in 0..NAMES {
         let written = format!(in alloc; "name{number}")?;
@@ -36,7 +42,7 @@ pub fn compared(alloc: Global, seed: u64, steps: u32) -> Result<String, Fault> {
     }
     let mut pair = Pair {
         names,
-        store: Store::new(alloc),
+        store: Store::new(alloc, keys),
         list: Vec::new(alloc),
         made: 0,
     };

@@ -5,22 +5,25 @@ use crate::words::{shown_units, shown_words, size_of, text_of};
 use jl_props::Store;
 use jl_text::{List, Text};
 use std::alloc::Global;
+use std::hash::RandomState;
 
 pub fn answer(
     alloc: Global,
+    keys: RandomState,
     store: &mut Store<Text>,
     call: &str,
     words: &[&str],
 ) -> Result<String, Fault> {
     match words {
         [] if call == "new" => {
-            *store = Store::new(alloc);
+            *store = Store::new(alloc, keys);
             Ok(String::from_str(alloc, "empty")?)
         }
         [seed, steps] if call == "random" => {
             let steps = steps.parse::<u32>().ok().ok_or(Fault::Unreadable)?;
             compared(
                 alloc,
+                keys,
                 seed.parse::<u64>().ok().ok_or(Fault::Unreadable)?,
                 steps,
             )
@@ -51,6 +54,7 @@ pub fn shown_names(alloc: Global, names: List<(Text, u64)>) -> Result<String, Fa
 
 fn of_name(
     alloc: Global,
+    keys: RandomState,
     store: &mut Store<Text>,
     call: &str,
     obj: usize,
@@ -76,6 +80,7 @@ fn shown_item(alloc: Global, item: Option<&Text>) -> Result<String, Fault> {
 
 fn changed(
     alloc: Global,
+    keys: RandomState,
     store: &mut Store<Text>,
     call: &str,
     obj: usize,

@@ -6,16 +6,17 @@ use jl_machine::{Run, run};
 use jl_op::{KindSet, Nobody};
 use jl_value::Outcome;
 use std::alloc::Global;
+use std::hash::RandomState;
 
 /// `BUDGET SCRIPT`: of `budget` what the script prints, how it ends and how many steps it takes, of `output` how it
 /// ends and how many bytes it prints, and of `hooks` how many operations its hooks tell of, with each budget from 0 on.
-pub fn answer(alloc: Global, call: &str, words: &str) -> Result<String, Fault> {
+pub fn answer(alloc: Global, keys: RandomState, call: &str, words: &str) -> Result<String, Fault> {
     let (budget, script) = words.split_once(' ').ok_or(Fault::Unreadable)?;
     let budget = budget.parse::<u64>().ok().ok_or(Fault::Unreadable)?;
     if call == "hooks" {
-        return hooks(alloc, script, budget);
+        return hooks(alloc, keys, script, budget);
     }
-    let run = run_of(alloc, script, budget)?;
+    let run = run_of(alloc, keys, script, budget)?;
     let end = ending(alloc, &run.outcome)?;
     match call {
         "budget" => {
@@ -28,19 +29,19 @@ pub fn answer(alloc: Global, call: &str, words: &str) -> Result<String, Fault> {
 }
 
 /// How many operations the hooks of a script tell of, with each number of steps up to this one.
-fn hooks(alloc: Global, script: &str, most: u64) -> Result<String, Fault> {
+fn hooks(alloc: Global, keys: RandomState, script: &str, most: u64) -> Result<String, Fault> {
     let mut told = String::new(alloc);
     for budget in 0..most {
-        write!(told, "{} ", run_of(alloc, script, budget)?.hooks)?;
+        write!(told, "{} ", run_of(alloc, keys, script, budget)?.hooks)?;
     }
-    write!(told, "{}", run_of(alloc, script, most)?.hooks)?;
+    write!(told, "{}", run_of(alloc, keys, script, most)?.hooks)?;
     Ok(told)
 }
 
 /// The run of a script with so many steps.
-fn run_of(alloc: Global, script: &str, budget: u64) -> Result<Run, Fault> {
+fn run_of(alloc: Global, keys: RandomState, script: &str, budget: u64) -> Result<Run, Fault> {
     let program = program(alloc, script)?;
-    Ok(run(alloc, &program, budget, KindSet::all(), &mut Nobody)?)
+    Ok(run(alloc, keys, &program, budget, KindSet::all(), &mut Nobody)?)
 }
 
 fn ending(alloc: Global, outcome: &Outcome) -> Result<String, Fault> {

@@ -4,12 +4,13 @@ use jl_store::Store;
 use jl_text::word;
 use jl_value::Value;
 use std::alloc::Global;
+use std::hash::RandomState;
 
 /// `bind NAMES NAME`: the index of a new environment in which each of some names is bound to its own text, and what the
 /// last name is bound to there.
-pub fn answer(alloc: Global, words: &str) -> Result<String, Fault> {
+pub fn answer(alloc: Global, keys: RandomState, words: &str) -> Result<String, Fault> {
     let (names, asked) = words.split_once(' ').ok_or(Fault::Unreadable)?;
-    let mut store = Store::new(alloc)?;
+    let mut store = Store::new(alloc, keys)?;
     let env = store.new_environment(0)?;
     for name in names.split(',') {
         bind(alloc, &mut store, env, name)?;

@@ -5,14 +5,14 @@ use Rattle.jl_ast.specs.Spans.{without_spans}
 use Rattle.jl_ast.specs.Tree.{Program}
 use Rattle.jl_effects.specs.Growing.{IsLonger}
 use Rattle.jl_effects.specs.Matching.{Simulates}
-use Rattle.jl_effects.specs.Traces.{with_state, without_operations}
 use Rattle.jl_op.specs.Chosen.{is_kept, Kinds}
 use Rattle.jl_simulation.specs.Weaving.{woven_program}
 use Rattle.jl_text.specs.Encoding.{bytes_of}
 use Rattle.jl_text.specs.declared.span.Span.{Span}
 use Rattle.jl_app.specs.Forms.{most_bytes}
-use Rattle.jl_app.specs.Headline.{own_run, woven_mean, woven_run}
+use Rattle.jl_app.specs.OwnRuns.{own_run}
 use Rattle.jl_app.specs.ReadBack.{IsReadBack}
+use Rattle.jl_app.specs.WovenRuns.{woven_run}
 use Rattle.jl_app.specs.WovenText.{woven_text}
 use Rattle.jl_app.specs.declared.form.Form.TheVariants as forms
 
@@ -26,10 +26,9 @@ pub record ReadsBackAsWoven (kinds : Kinds) (p : Program Span) : Type 0 where
   pub small : All (λ u. u < 2 ^ 16) (woven_text kinds p)
   pub paired : has_unpaired_surrogate (woven_text kinds p) ≡ false
 
--- the woven script simulates the script; its text reads back; its run is what it means; and the script's own run goes
--- on as long as there are steps
+-- the woven script simulates the script; its text reads back; and the script's own run goes on as long as there are
+-- steps
 pub record IsWovenWell (kinds : Kinds) (p : Program Span) : Type 0 where
-  pub simulates : Simulates (is_kept kinds) (own_run p) (woven_mean kinds p)
+  pub simulates : Simulates (is_kept kinds) (own_run p) (woven_run kinds p)
   pub back : ReadsBackAsWoven kinds p
-  pub runs : (n : ℕ) → woven_run kinds p n ≡ with_state without_operations (woven_mean kinds p n)
   pub longer : (n d : ℕ) → IsLonger d (own_run p n) (own_run p (n + d))

@@ -1,32 +1,16 @@
--- How the parts of the environments are seen, and what they keep to.
-use Rattle.std.specs.Prelude.{[], length, map, nat_lt, slice_get, suc, true, ◌∷◌, ◌≡◌, ◌≤◌, Bool, IsTrue, List}
-use Rattle.std.specs.Prelude.{Option, Some, ℕ}
-use Rattle.jl_props.specs.Store.{entries_of}
-use Rattle.jl_props.specs.declared.entries.Entry.{Entry}
+-- How the parts of the environments are seen.
+use Rattle.std.specs.Prelude.{map, List}
+use Rattle.jl_named.specs.declared.named_list.Named.{Named}
 use Rattle.jl_meaning.specs.Store.{Binding, Environment}
+use Rattle.jl_store.specs.Environments.{bound_to}
 use Rattle.jl_store.specs.declared.environments.Bound.{Bound}
-use Rattle.jl_store.specs.declared.environments.Environments.TheInside.{Inside}
+use Rattle.jl_store.specs.declared.environments.Scope.{Scope}
 
-abbrev pub binding_of_entry : Entry Bound → Binding
-binding_of_entry e = record { name = e.name; value = e.item.value; mutable = e.item.mutable }
+abbrev pub bindings_of : List (Named Bound) → List Binding
+bindings_of entries = map (λ e. bound_to e.name e.item) entries
 
-abbrev pub environment_with : Option ℕ → List (Entry Bound) → Environment
-environment_with outer entries = record { outer = outer; bindings = map binding_of_entry entries }
+abbrev pub environment_of : Scope → Environment
+environment_of scope = record { outer = scope.outer; bindings = bindings_of scope.bindings }
 
--- the environments with these around them, where that of index k has the bindings that are given for k
-abbrev pub environments_with : List (Option ℕ) → (ℕ → List (Entry Bound)) → List Environment
-environments_with [] bindings = []
-environments_with (outer ∷ outers) bindings =
-    environment_with outer (bindings 0) ∷ environments_with outers (λ k. bindings (suc k))
-
-abbrev pub environments_inside : Inside → List Environment
-environments_inside a = environments_with a.outers (entries_of a.bindings)
-
--- the environment around one, if there is one, has a smaller index
-abbrev pub is_before : ℕ → Option (Option ℕ) → Bool
-is_before env (Some (Some outer)) = nat_lt outer env
-is_before env _ = true
-
-pub record IsKept (a : Inside) : Type 0 where
-  pub before : (k : ℕ) → IsTrue (is_before k (slice_get a.outers k))
-  pub none_past : (k : ℕ) → length a.outers ≤ k → length (entries_of a.bindings k) ≡ 0
+abbrev pub environments_of : List Scope → List Environment
+environments_of scopes = map environment_of scopes

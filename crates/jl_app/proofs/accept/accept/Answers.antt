@@ -1,6 +1,8 @@
-use Rattle.std.proofs.Common.{ap, length, arith}
+use Rattle.std.proofs.Common.{ap, length, arith, subst}
 use Rattle.jl_ast.specs.View.{view}
+use Rattle.jl_grammar.specs.Program.{Reads}
 use Rattle.jl_token.proofs.Whole.{few_tokens}
+use Rattle.jl_app.specs.Forms.{most_levels}
 use Rattle.jl_app.proofs.Refusing.{is_read, passed_on}
 use Rattle.jl_app.proofs.Sizes.{few_ids, few_units_of}
 use Rattle.jl_app.proofs.accept.accept.Goals as goal
@@ -39,3 +41,10 @@ returns-clause-few c =
     (is_read c.args.form c.args.bytes.now c.in_ok-source.source c.in_ok-tokens.tokens c.items.result.now
     (view c.in_ok-program.program) text.0 text.1 c.in_ok-tokens.ensures.tokens c.items.ensures
     c.in_ok-program.ensures.read c.in_ok-check_early_errors.ensures.sound)
+
+pub returns-clause-places : goal.returns-clause-places
+returns-clause-places c =
+    let p = view c.in_ok-program.program in
+    let levels = most_levels c.args.form in
+    c.rows_lie_in_the_text.ensures.begins c.in_ok-source.source c.in_ok-tokens.tokens levels p
+    c.in_ok-tokens.ensures.tokens (subst (λ ts. Reads ts levels p) c.items.ensures c.in_ok-program.ensures.read)

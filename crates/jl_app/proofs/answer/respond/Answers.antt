@@ -1,20 +1,22 @@
-use Rattle.std.proofs.Common.{◌∙◌, ◌≤◌, ap, length, sym, subst, refl}
+use Rattle.std.proofs.Common.{◌≡◌, ◌∙◌, ◌≤◌, ap, length, sym, subst, refl}
 use Rattle.std.specs.Prelude.{IfSome}
 use Rattle.std.proofs.lemmas.Result.{IfOk-weaker}
 use Rattle.jl_ast.specs.View.{view}
 use Rattle.jl_op.specs.Chosen.{every_kind}
-use Rattle.jl_simulation.specs.Weaving.{woven_program}
 use Rattle.jl_text.specs.Encoding.{units_of}
 use Rattle.jl_token.specs.Tokens.{Tokens}
+use Rattle.jl_app.specs.Accepting.{IsRead}
 use Rattle.jl_app.specs.Answers.{canonical_text, counted, ended, ended_alone, ended_woven, execute_due, functions_line}
 use Rattle.jl_app.specs.Answers.{instrument_due, listed, listed_map, refused, text, trace_due, written}
 use Rattle.jl_app.specs.Due.{refused_only}
+use Rattle.jl_app.specs.Forms.{form_of_command}
 use Rattle.jl_app.specs.WovenRuns.{woven_budget}
+use Rattle.jl_app.specs.declared.form.Form.TheVariants as forms
 use Rattle.jl_command.specs.Asked as asked
 use Rattle.jl_app.specs.SourceMapping.{IsMappedBack}
-use Rattle.jl_app.specs.Telling.{IsToldOfWoven}
+use Rattle.jl_app.specs.Telling.{IsToldOfWoven, told_run}
 use Rattle.jl_command.specs.Meant.{Means, means_lint}
-use Rattle.jl_app.specs.OwnRuns.{program_run}
+use Rattle.jl_app.specs.OwnRuns.{own_run}
 use Rattle.jl_app.specs.Refusals.{refusal_words}
 use Rattle.jl_command.specs.declared.command.Command.{Command}
 use Rattle.jl_app.proofs.Answering.{answers, asked_check, asked_cover, asked_exec, asked_instrument, asked_lint}
@@ -34,6 +36,9 @@ accept-requires g c =
 pub lint-requires-clause-few : goal.lint-requires-clause-few
 lint-requires-clause-few g c = c.in-Ok.ensures.few
 
+pub lint-requires-clause-places : goal.lint-requires-clause-places
+lint-requires-clause-places g c = c.in-Ok.ensures.places
+
 pub lint-requires-clause-lexed : goal.lint-requires-clause-lexed
 lint-requires-clause-lexed g c =
     let is = c.in-Ok.ensures.accepted in
@@ -47,8 +52,11 @@ lint-requires-clause-budget g c =
 pub instrument-requires : goal.instrument-requires
 instrument-requires g c = c.in-Ok.ensures.few
 
-pub list_map-requires : goal.list_map-requires
-list_map-requires g c = c.in-Ok.ensures.few
+pub list_map-requires-clause-few : goal.list_map-requires-clause-few
+list_map-requires-clause-few g c = c.in-Ok.ensures.few
+
+pub list_map-requires-clause-places : goal.list_map-requires-clause-places
+list_map-requires-clause-places g c = c.in-Ok.ensures.places
 
 pub trace-requires-clause-few : goal.trace-requires-clause-few
 trace-requires-clause-few g c = c.in-Ok.ensures.few
@@ -121,7 +129,7 @@ returns-in-Run-clause-due g c = λ a means.
     let is = asked_run a (subst (λ (x : Command). Means x a) c.in-Run.is means) in
     IfOk-weaker c.execute.result _ _
     (λ given answered. (
-      execute_due (program_run p c.in-Run.budget) c.in-Run.budget,
+      execute_due (own_run p c.in-Run.budget) c.in-Run.budget,
       answers a (asked.run c.in-Run.budget) c.of-form.result p is
           (form_for c.args.command c.requires.meant.0 a c.requires.meant.1 c.of-form.result c.requires.meant.3
           c.requires.meant.2 c.of-form.ensures means) c.in-Ok.ensures.accepted.0 (refl, ended),
@@ -196,8 +204,7 @@ returns-in-Trace-clause-due g c = λ a means.
     let is = asked_trace a (subst (λ (x : Command). Means x a) c.in-Trace.is means) in
     IfOk-weaker c.trace.result _ _
     (λ given answered. (
-      trace_due (program_run (woven_program every_kind p) (woven_budget c.in-Trace.budget))
-          (woven_budget c.in-Trace.budget),
+      trace_due (told_run every_kind p c.in-Trace.budget) (woven_budget c.in-Trace.budget),
       answers a (asked.trace c.in-Trace.budget) c.of-form.result p is.0
           (form_for c.args.command c.requires.meant.0 a c.requires.meant.1 c.of-form.result c.requires.meant.3
           c.requires.meant.2 c.of-form.ensures means) c.in-Ok.ensures.accepted.0 (refl, ended_woven),
@@ -211,7 +218,7 @@ returns-in-Exec-clause-due g c = λ a means.
     let is = asked_exec a (subst (λ (x : Command). Means x a) c.in-Exec.is means) in
     IfOk-weaker c.trace_alone.result _ _
     (λ given answered. (
-      trace_due (program_run p c.in-Exec.budget) c.in-Exec.budget,
+      trace_due (own_run p c.in-Exec.budget) c.in-Exec.budget,
       answers a (asked.exec c.in-Exec.budget) c.of-form.result p is
           (form_for c.args.command c.requires.meant.0 a c.requires.meant.1 c.of-form.result c.requires.meant.3
           c.requires.meant.2 c.of-form.ensures means) c.in-Ok.ensures.accepted.0 (refl, ended_alone),
@@ -222,15 +229,21 @@ returns-in-Exec-clause-due g c = λ a means.
 pub record_run-requires-clause-few : goal.record_run-requires-clause-few
 record_run-requires-clause-few g c = c.in-Ok.ensures.few
 
+pub record_run-requires-clause-places : goal.record_run-requires-clause-places
+record_run-requires-clause-places g c = c.in-Ok.ensures.places
+
 pub record_run-requires-clause-budget : goal.record_run-requires-clause-budget
 record_run-requires-clause-budget g c =
     let meant = c.requires.meant in
     (asked_record meant.0 (subst (λ (x : Command). Means x meant.0) c.in-Record.is meant.3)).1
 
-pub record_run-requires-clause-lexed : goal.record_run-requires-clause-lexed
-record_run-requires-clause-lexed g c =
-    let is = c.in-Ok.ensures.accepted in
-    (is.0.tokens, subst (λ us. Tokens us is.0.tokens) (sym is.1) is.0.lexed)
+pub record_run-requires-clause-script : goal.record_run-requires-clause-script
+record_run-requires-clause-script g c =
+    let read = c.in-Ok.ensures.accepted in
+    let bytes = c.args.bytes.now in
+    let form : c.of-form.result ≡ forms.Script =
+    subst (λ (x : Command). IfSome (form_of_command x) (λ f. c.of-form.result ≡ f)) c.in-Record.is c.of-form.ensures in
+    (bytes, subst (λ f. IsRead f bytes (view c.in-Ok.accepted.program)) form read.0, read.1)
 
 pub returns-in-Record-clause-due : goal.returns-in-Record-clause-due
 returns-in-Record-clause-due g c = λ a means.
@@ -250,6 +263,9 @@ returns-in-Record-clause-due g c = λ a means.
 
 pub objects-requires-clause-few : goal.objects-requires-clause-few
 objects-requires-clause-few g c = c.in-Ok.ensures.few
+
+pub objects-requires-clause-places : goal.objects-requires-clause-places
+objects-requires-clause-places g c = c.in-Ok.ensures.places
 
 pub objects-requires-clause-budget : goal.objects-requires-clause-budget
 objects-requires-clause-budget g c =
@@ -275,6 +291,9 @@ returns-in-Objects-clause-due g c = λ a means.
 pub cover-requires-clause-few : goal.cover-requires-clause-few
 cover-requires-clause-few g c = c.in-Ok.ensures.few
 
+pub cover-requires-clause-places : goal.cover-requires-clause-places
+cover-requires-clause-places g c = c.in-Ok.ensures.places
+
 pub cover-requires-clause-budget : goal.cover-requires-clause-budget
 cover-requires-clause-budget g c =
     let meant = c.requires.meant in
@@ -298,6 +317,9 @@ returns-in-Cover-clause-due g c = λ a means.
 
 pub srcmap-requires-clause-few : goal.srcmap-requires-clause-few
 srcmap-requires-clause-few g c = c.in-Ok.ensures.few
+
+pub srcmap-requires-clause-places : goal.srcmap-requires-clause-places
+srcmap-requires-clause-places g c = c.in-Ok.ensures.places
 
 pub returns-in-Srcmap-clause-due : goal.returns-in-Srcmap-clause-due
 returns-in-Srcmap-clause-due g c = λ a means.

@@ -26,8 +26,7 @@ returns-clause-same g c =
     let linted = c.in_ok-lint.ensures.due (lint c.args.budget chosen)
     (means_lint c.args.budget c.args.rules chosen c.requires.budget (is_choice c.args.rules)) in
     shows_same c.in_ok-run.run' c.in_ok-lint.lint c.needed_is_enough.ensures c.never_both.ensures
-    c.one_reading.ensures c.own_runs_are_meant.ensures c.scripts_are_woven_well.ensures c.args.bytes.now
-    c.args.budget chosen (record {
+    c.one_reading.ensures c.scripts_are_woven_well.ensures c.args.bytes.now c.args.budget chosen (record {
       handed = c.respond_to.new.shelf;
       lent = c.respond_to.new.shelf;
       same = c.respond_to.new.shelf ≡ c.new.result;

@@ -3,4 +3,4 @@ use Rattle.jl_app.proofs.laws.replay_reports_as_lint.Goals as goal
 
 pub returns : goal.returns
 returns c =
-    reports_as_lint c.scripts_are_woven_well.ensures c.recorded_runs_are_stored.ensures c.stored_runs_replay.ensures
+    reports_as_lint c.scripts_are_woven_well.ensures c.stored_runs_replay.ensures c.rows_lie_in_the_text.ensures.begins

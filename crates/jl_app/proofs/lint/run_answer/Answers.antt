@@ -5,7 +5,6 @@ use Rattle.jl_op.specs.KindSets.{is_member}
 use Rattle.jl_op.specs.declared.kind.OpKind.{OpKind}
 use Rattle.jl_app.specs.Linting.{end_line, lint_status}
 use Rattle.jl_app.specs.WovenRuns.{woven_budget}
-use Rattle.jl_app.specs.MapLines.{begins}
 use Rattle.jl_app.specs.OwnRuns.{uncaught_line}
 use Rattle.jl_app.specs.Reporting.{lines_text}
 use Rattle.jl_app.specs.WovenText.{kinds_of}
@@ -21,14 +20,14 @@ returns-clause-run g c = λ chosen choice.
     is_linted _ _ run c.needs.result chosen same (view c.args.woven.now) c.woven_budget.result
     (woven_budget c.args.budget) c.woven_budget.ensures (c.in_ok-run.ensures.is [] c.requires.fresh)
     c.args.accepted.now.source (view c.args.accepted.now.program)
-    c.deref.result.now c.in_ok-lines.lines.items c.lint_status.result c.in_ok-answer_bytes.field-0.items
-    (c.deref.ensures.value ∙ c.in_ok-places.ensures ∙ ap begins c.in_ok-map_of.ensures)
+    c.in_ok-map.map c.in_ok-lines.lines.items c.lint_status.result c.in_ok-answer_bytes.field-0.items
+    c.in_ok-map.ensures.rows
     (c.in_ok-lines.ensures.report chosen choice)
-    (few_kept c.hooks_take_steps.ensures.quietly (kinds_of chosen) (view c.args.woven.now) (woven_budget c.args.budget))
+    (few_kept c.hooks_take_steps.ensures.meant (kinds_of chosen) (view c.args.woven.now) (woven_budget c.args.budget))
     (let most = c.requires.budget in omega arith)
-    (c.lint_status.ensures ∙ ap (λ l. lint_status run.outcome l) c.deref-2.ensures.value)
+    (c.lint_status.ensures ∙ ap (λ l. lint_status run.outcome l) c.deref.ensures.value)
     (c.in_ok-answer_bytes.ensures ∙ ap (λ l. run.output ++ (lines_text l ++ (uncaught_line run.store.heap run.outcome
-    ++ end_line run.outcome run.steps run.hooks (length l)))) c.deref-3.ensures.value)
+    ++ end_line run.outcome run.steps run.hooks (length l)))) c.deref-2.ensures.value)
 
 pub returns-clause-told : goal.returns-clause-told
 returns-clause-told g c = λ chosen choice.

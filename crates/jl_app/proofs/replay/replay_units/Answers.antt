@@ -12,7 +12,7 @@ pub returns-in-Ok-clause-due : goal.returns-in-Ok-clause-due
 returns-in-Ok-clause-due g c = λ chosen bytes choice text units.
     IfOk-weaker c.report_record.result _ _
     (λ given told. (
-      replay_due (stored c.in-Ok.run') told.0,
+      replay_due c.in-Ok.run'.ops.items told.0,
       reported (stored c.in-Ok.run') told.0 text c.in-Ok.ensures.found.0 (c.in-Ok.ensures.found.1 ∙ units) told.1,
       record { status = told.2.status; bytes = told.2.bytes; told = told.3 },
     ))

@@ -1,12 +1,12 @@
 use Rattle.std.proofs.Common.{◌∙◌, ap, arith, length, refl, subst, sym}
 use Rattle.jl_ast.specs.View.{view}
 use Rattle.jl_op.specs.Chosen.{every_kind}
+use Rattle.jl_op.specs.IdMap.{id_map}
 use Rattle.jl_srcmap.specs.Hooks.{segments_of}
 use Rattle.jl_srcmap.specs.SourceMap.{source_map_text}
 use Rattle.jl_srcmap.specs.Written.{mappings_text}
 use Rattle.jl_text.specs.Places.{line_table}
 use Rattle.jl_token.specs.Tokens.{Tokens}
-use Rattle.jl_app.specs.Rows.{rows_in}
 use Rattle.jl_app.specs.SourceMapping.{mapped_back}
 use Rattle.jl_app.proofs.WovenTexts.{of_kinds_text}
 use Rattle.jl_app.proofs.srcmap.srcmap.Goals as goal
@@ -35,7 +35,7 @@ returns c =
     let read = well.back.read in
     let tokens = read.tokens in
     let segments = c.in_ok-segments.ensures.are tokens (subst (λ us. Tokens us tokens) (sym text) read.lexed)
-    ∙ ap (λ us. segments_of (line_table us) (rows_in units p) (line_table units) tokens) text in
+    ∙ ap (λ us. segments_of (line_table us) (id_map p) (line_table units) tokens) text in
     let mappings = c.deref-3.ensures.value ∙ c.in_ok-mappings.ensures.text
     ∙ ap mappings_text (c.deref-2.ensures.value ∙ segments) in (
       _,

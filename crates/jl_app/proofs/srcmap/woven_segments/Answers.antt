@@ -1,11 +1,11 @@
 use Rattle.std.proofs.Common.{◌≡◌, ◌∙◌, ◌≤◌, All, length, subst, sym}
 use Rattle.std.proofs.lemmas.Result.{IfOk-weaker}
 use Rattle.jl_ast.specs.View.{view}
+use Rattle.jl_op.specs.IdMap.{id_map}
 use Rattle.jl_srcmap.specs.Hooks.{segments_of}
 use Rattle.jl_text.specs.Places.{LineTable, line_table}
 use Rattle.jl_token.proofs.Whole.{tokens_are_unique}
 use Rattle.jl_token.specs.declared.token.Token.{Token}
-use Rattle.jl_app.specs.Rows.{rows_in}
 use Rattle.jl_app.proofs.MappedBack.{begin_within, same_segments}
 use Rattle.jl_app.proofs.srcmap.woven_segments.Goals as goal
 
@@ -22,7 +22,7 @@ pub returns-clause-are : goal.returns-clause-are
 returns-clause-are c = λ tokens lexed.
     let text = c.args.text.now in
     let units = c.args.accepted.now.source in
-    let rows = rows_in units (view c.args.accepted.now.program) in
+    let rows = id_map (view c.args.accepted.now.program) in
     let found = c.items.ensures
     ∙ tokens_are_unique text c.in_ok-tokens.tokens tokens c.in_ok-tokens.ensures lexed in
     let same : segments_of c.in_ok-woven.woven c.in_ok-map.map c.lines.result.now c.items.result.now

@@ -1,4 +1,4 @@
-use Rattle.std.proofs.Common.{◌∙◌, ap, refl, Err}
+use Rattle.std.proofs.Common.{ap, refl, Err}
 use Rattle.std.proofs.lemmas.Result.{IfOk-weaker}
 use Rattle.std.specs.Prelude.{codes}
 use Rattle.jl_app.specs.Answers.{bad_words, due_to}

@@ -1,6 +1,5 @@
 use Rattle.std.proofs.Common.{◌∙◌, ap, arith, length, refl}
 use Rattle.std.proofs.lemmas.Result.{IfOk-weaker}
-use Rattle.std.specs.Prelude.{IfSome}
 use Rattle.jl_command.specs.Asked.{lint}
 use Rattle.jl_command.specs.Meant.{means_lint}
 use Rattle.jl_app.specs.declared.form.Form.TheVariants as forms

@@ -1,8 +1,7 @@
-use Rattle.std.proofs.Common.{◌≡◌, ◌∙◌, ◌≤◌, ap, arith, length, refl, subst, sym}
+use Rattle.std.proofs.Common.{◌≤◌, ap, arith, length, refl, subst, sym}
 use Rattle.std.proofs.lemmas.Result.{IfOk-weaker}
 use Rattle.std.specs.Prelude.{IfSome}
 use denote.Enum.Declared.{tag_of}
-use Rattle.jl_command.specs.Asked as asked
 use Rattle.jl_command.specs.Asked.{Asked}
 use Rattle.jl_command.specs.contracts.command.Command.{the_type}
 use Rattle.jl_app.specs.Answers.{answered_to, answered_to_made, replayed, unmapped}

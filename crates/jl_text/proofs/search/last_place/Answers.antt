@@ -1,40 +1,31 @@
-use Rattle.std.proofs.Common.{◌≤◌, ◌+◌, ◌-◌, Some, cond, sym, ap, ◌∙◌, arith}
-use Rattle.jl_text.specs.Search.{StandsAt, place_below}
-use Rattle.jl_text.proofs.SearchLemmas.{place_below-step, last_place-past, StandsAt-from_test, not-StandsAt}
-use Rattle.jl_text.proofs.SearchLemmas.{holds_before}
+use Rattle.std.proofs.Common.{None, ◌∙◌, arith}
+use Rattle.jl_text.proofs.EndsLemmas.{last_by_none, last_by_units}
+use Rattle.jl_text.proofs.SearchLemmas.{last_place-is}
 use Rattle.jl_text.proofs.search.last_place.Goals as goal
 
 pub returns-then-part-units-clause-value : goal.returns-then-part-units-clause-value
 returns-then-part-units-clause-value c =
-    sym (last_place-past c.args.units.now c.args.part.now c.args.from 0 (omega arith) (λ h. omega arith))
+    last_place-is c.args.units.now c.args.part.now c.args.from None
+    (λ k low stands. omega (arith, stands.0, c.if-part-units.true))
 
-pub loop-at-init : goal.loop-at-init
-loop-at-init c = (
-  last_place-past c.args.units.now c.args.part.now c.args.from (c.min-last.result + 1) (omega arith) (λ h. omega arith),
-  λ k low high stands. omega (arith, stands.0),
-)
+pub returns-in_err-place-clause-value : goal.returns-in_err-place-clause-value
+returns-in_err-place-clause-value c =
+    c.from_residual.ensures ∙ last_place-is c.args.units.now c.args.part.now c.args.from None
+    (last_by_none c.args.units.now c.args.part.now c.args.from _ (omega (arith, c.if-part-units.false))
+    (omega (arith, c.min.ensures)) c.in_err-place.ensures)
 
-pub returns-then-stands_at-clause-value : goal.returns-then-stands_at-clause-value
-returns-then-stands_at-clause-value c =
-    let step = place_below-step c.args.units.now c.args.part.now c.loop-at.at (omega arith) (omega arith) in
-    let found = ap (λ t. cond t (Some (c.loop-at.at - 1))
-    (place_below c.args.units.now c.args.part.now (c.loop-at.at - 1))) (sym c.if-stands_at.ensures) in
-    sym (c.loop-at.invariant.0 ∙ step ∙ found)
+pub returns-in_err-place-clause-greatest : goal.returns-in_err-place-clause-greatest
+returns-in_err-place-clause-greatest c =
+    rw c.from_residual.ensures (last_by_none c.args.units.now c.args.part.now c.args.from _
+    (omega (arith, c.if-part-units.false)) (omega (arith, c.min.ensures)) c.in_err-place.ensures)
 
-pub returns-then-stands_at-clause-greatest : goal.returns-then-stands_at-clause-greatest
-returns-then-stands_at-clause-greatest c = (
-  omega arith,
-  StandsAt-from_test _ _ _ (omega arith) (sym c.if-stands_at.ensures),
-  λ k low high. c.loop-at.invariant.1 k low (omega arith),
-)
+pub returns-clause-value : goal.returns-clause-value
+returns-clause-value c =
+    last_place-is c.args.units.now c.args.part.now c.args.from _
+    (last_by_units c.args.units.now c.args.part.now c.args.from _ (omega (arith, c.if-part-units.false))
+    (omega (arith, c.min.ensures)) c.in_ok-place.place c.in_ok-place.ensures)
 
-pub loop-at-preserved : goal.loop-at-preserved
-loop-at-preserved c =
-    let step = place_below-step c.args.units.now c.args.part.now c.loop-at.at (omega arith) (omega arith) in
-    let on = ap (λ t. cond t (Some (c.loop-at.at - 1))
-    (place_below c.args.units.now c.args.part.now (c.loop-at.at - 1))) (sym c.if-stands_at.ensures) in (
-      c.loop-at.invariant.0 ∙ step ∙ on,
-      λ k low above stands. holds_before
-          (λ j. j ≤ c.args.from → StandsAt c.args.units.now c.args.part.now j → ⊥) c.loop-at.at k above
-          (λ h g. c.loop-at.invariant.1 k g h) (λ g. not-StandsAt _ _ _ (sym c.if-stands_at.ensures)) low stands,
-    )
+pub returns-clause-greatest : goal.returns-clause-greatest
+returns-clause-greatest c =
+    last_by_units c.args.units.now c.args.part.now c.args.from _ (omega (arith, c.if-part-units.false))
+    (omega (arith, c.min.ensures)) c.in_ok-place.place c.in_ok-place.ensures

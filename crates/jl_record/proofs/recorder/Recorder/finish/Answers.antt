@@ -1,6 +1,7 @@
 use Rattle.std.proofs.Common.{Vec, Global, ℕ}
 use Rattle.std.proofs.Common.{◌≡◌, ◌<◌, ◌++◌, ◌∷◌, [], List, length, map, get_or, ap, ◌∙◌, subst, arith}
 use Rattle.std.proofs.lemmas.Result.{IfOk-weaker}
+use Rattle.std.specs.List.{AllByRecursion}
 use Rattle.jl_op.specs.Operations.{Operation}
 use Rattle.jl_report.specs.Reports.{saturate_u64}
 use Rattle.jl_text.specs.Encoding.{bytes_of}
@@ -8,8 +9,10 @@ use Rattle.jl_record.specs.Bounded.{Holds}
 use Rattle.jl_record.specs.Lines.{with_ends}
 use Rattle.jl_record.specs.Records.{Row, operation_line}
 use Rattle.jl_record.specs.Recording.{rows_of, run_of, bytes_of_run}
+use Rattle.jl_record.specs.Storing.{CanBeStored}
 use Rattle.jl_record.proofs.Joining.{holds_passed, tail_units, tail_within, head_units, head_is, whole, count_is}
 use Rattle.jl_record.proofs.Joining.{on_too_long_weaker}
+use Rattle.jl_record.proofs.Storable.{if_ok_now}
 use Rattle.jl_record.proofs.recorder.Recorder.finish.Goals as goal
 
 pub returns-then-tail-clause-too_long : goal.returns-then-tail-clause-too_long
@@ -31,6 +34,7 @@ returns-clause-found c =
     → Holds c.word.new.self vs → bytes.items ≡ bytes_of ((us ++ 10 ∷ []) ++ vs) in
     let Q : Vec ℕ Global → Type 0 = λ bytes. (seen : List Operation)
     → Holds c.args.self.lines (with_ends (map operation_line seen)) × (c.args.self.count ≡ saturate_u64 (length seen))
+    × AllByRecursion (λ o. CanBeStored o.1) seen
     → bytes.items ≡ bytes_of_run (run_of c.args.lines.now c.args.map.now c.args.off.now seen) in
     IfOk-weaker c.followed_by.result P Q
     (λ bytes found seen before.
@@ -41,6 +45,9 @@ returns-clause-found c =
     (head.holds [] c.new-head.ensures.holds)) held
     ∙ ap bytes_of (whole rows c.args.off.now seen c.args.self.count count))
     c.followed_by.ensures.found
+
+pub returns-clause-stored : goal.returns-clause-stored
+returns-clause-stored c = if_ok_now c.followed_by.result (λ bytes seen before. before.2)
 
 pub returns-clause-too_long : goal.returns-clause-too_long
 returns-clause-too_long c =
@@ -53,6 +60,7 @@ returns-clause-too_long c =
     → c.write_head.new.text.limit < length (bytes_of ((us ++ 10 ∷ []) ++ vs))}
     {Q = (limit : ℕ) (seen : List Operation) → ◌≡◌ {A = List ℕ} (c.args.self.lines.limit ∷ []) (limit ∷ [])
     → Holds c.args.self.lines (with_ends (map operation_line seen)) × (c.args.self.count ≡ saturate_u64 (length seen))
+    × AllByRecursion (λ o. CanBeStored o.1) seen
     → limit < length (bytes_of_run (run_of c.args.lines.now c.args.map.now c.args.off.now seen))}
     c.followed_by.result
     (λ found limit seen is before.

@@ -1,4 +1,4 @@
-use Rattle.std.proofs.Common.{◌≡◌, ◌<◌, ℕ, ◌+◌, Some, slice_get, arith, ap, sym, ◌∙◌, length}
+use Rattle.std.proofs.Common.{arith}
 use Rattle.std.proofs.lemmas.Option.{slice_get_within}
 use Rattle.jl_value.specs.Builtins.{builtin_names}
 use Rattle.jl_value.proofs.Rows.{name_count}

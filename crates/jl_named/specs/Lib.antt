@@ -1,0 +1,3 @@
+pub mod Lending
+pub mod Named
+pub mod inner
