@@ -36,8 +36,11 @@ fn main(rt: HostRuntime) -> Result<()> {
     }
     let mut found = 0u64;
     for turn in 0..turns {
-        let fresh = Store::new(alloc, keys);
-        let more = made(alloc, call, &mut store, fresh, turn, names.as_slice())?;
+        let more = if matches!(call, "put" | "remove") {
+            put_first(alloc, call, Store::new(alloc, keys), names.as_slice())?
+        } else {
+            made(alloc, call, &mut store, turn, names.as_slice())?
+        };
         found = found.wrapping_add(more);
     }
     println!(rt; "{found}")?;
@@ -89,21 +92,25 @@ fn crafted(at: u32) -> [u16; 8] {
     ]
 }
 
+/// Each name is put into an object of an empty store, and taken out again where the call is `remove`.
+fn put_first(alloc: Global, call: &str, mut empty: Store<Item>, names: &[Text]) -> Result<u64> {
+    let made = put_all(alloc, &mut empty, 0, names)?;
+    if call == "put" {
+        Ok(made)
+    } else {
+        remove_all(&mut empty, names)
+    }
+}
+
 /// One turn of a call over all names.
 fn made(
     alloc: Global,
     call: &str,
     store: &mut Store<Item>,
-    mut fresh: Store<Item>,
     turn: u32,
     names: &[Text],
 ) -> Result<u64> {
     match call {
-        "put" => put_all(alloc, &mut fresh, 0, names),
-        "remove" => {
-            put_all(alloc, &mut fresh, 0, names)?;
-            remove_all(&mut fresh, names)
-        }
         "again" => put_again(alloc, store, names),
         "get" => Ok(got(store, 0, names)),
         "order" => Ok(store.in_order(alloc, 0)?.len() as u64),
