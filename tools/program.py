@@ -11,8 +11,8 @@ among what the kit has kept: kit 13f keeps what `rt ci` and `rt ci NAME` prove, 
 is missing `rt ci jlint` proves there, and tools/prove.py with a kit that keeps nothing. Both work on a copy: nothing in
 `crates` is touched. One call in a clone works at a time, and the next ones wait.
 
-`.ci/run` hands over what it has built. That is taken where no source was written since the gate began, not even with
-what it had before, so that it was made from the sources that are there.
+`.ci/run` hands over what it has built. That is taken where no source file was written since the gate began, not even
+with what it had before, so that it was made from the sources that are there.
 
 How far the proofs are is said on standard error every half minute. The status is 0, or 70 where there is no program."""
 
@@ -151,7 +151,7 @@ def take_from_gate(note: str) -> None:
     elif install(OF_GATE, Seen(*sums)):
         say("./jlint runs the program that this run has proved and built")
     else:
-        say("./jlint does not take what this run has built, since sources changed meanwhile")
+        say("./jlint does not take what this run has built: source files were written or linked meanwhile")
 
 
 def end_on_signals() -> None:

@@ -43,14 +43,14 @@ class Sharing(CloneCase):
     def test_sources_that_change_while_the_gate_runs(self) -> None:
         gate = self.gate(FAKE_CI=f"{BUILDS}open({SOURCE!r}, 'w').write('// new')")
         self.assertEqual(gate.returncode, 0)
-        self.assertIn("sources changed meanwhile", gate.stderr)
+        self.assertIn("source files were written or linked meanwhile", gate.stderr)
         self.launch()
         self.assertEqual(self.proofs(), ["ci", "prove"])
 
     def test_sources_that_change_and_change_back_while_the_gate_runs(self) -> None:
         wrote = "".join(f"open({SOURCE!r}, 'w').write({it!r}); " for it in ("// new\n", "// low\n"))
         gate = self.gate(FAKE_CI=BUILDS + wrote)
-        self.assertIn("sources changed meanwhile", gate.stderr)
+        self.assertIn("source files were written or linked meanwhile", gate.stderr)
         self.assertFalse(os.path.exists(os.path.join(self.folder, "out", "jlint")))
 
     def test_a_gate_that_fails_hands_nothing_over(self) -> None:
