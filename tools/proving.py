@@ -113,16 +113,9 @@ def prove_aside(top: str, log: str, copy: str) -> str | None:
 
     The copy keeps the libraries that were proved, for the next call. Nothing in the clone is touched."""
     bring(top, copy)
-    crates = sorted(with_below(top, "jlint"))
-    proving = Proving(top, log)
-    if proving.run([sys.executable, os.path.join(copy, "tools", "prove.py"), *crates], copy):
-        return None
-    # The word `build` is no command, so the built program has ended with status 2.
-    build = [sys.executable, os.path.join(copy, "tools", "kit.py"), "run", "--", "build"]
+    prove = [sys.executable, os.path.join(copy, "tools", "prove.py"), "--programs", "jlint"]
     made = os.path.join(copy, "crates", "jlint", "out", "jlint")
-    if proving.run(build, os.path.join(copy, "crates", "jlint")) != 2 or not os.path.exists(made):
-        return None
-    return made
+    return made if Proving(top, log).run(prove, copy) == 0 and os.path.exists(made) else None
 
 
 def bring(top: str, copy: str) -> None:
