@@ -110,7 +110,7 @@ def build() -> bool:
         say_proving()
         made = kept.find() if Proving(TOP, LOG).run(["rt", "ci", "jlint"]) == 0 else None
     if made is not None or kept.has_store:
-        return is_installed(made, seen)
+        return install_or_say(made, seen)
     # All clones prove in one copy: what one of them has proved of the same text no other proves again.
     waits = "waiting for a ./jlint in another clone, which proves and builds"
     with locked(os.path.join(cache_folder(), "copy.lock"), lambda: say(waits)):
@@ -118,11 +118,11 @@ def build() -> bool:
         if made is None:
             say_proving()
             made = prove_aside(TOP, LOG, os.path.join(cache_folder(), "copy"))
-        return is_installed(made, seen)
+        return install_or_say(made, seen)
 
 
-def is_installed(made: str | None, seen: Seen) -> bool:
-    """Installs what was made, or says why there is nothing to install."""
+def install_or_say(made: str | None, seen: Seen) -> bool:
+    """Installs what was made, or says why it does not; answers whether it did."""
     if made is None:
         say(f"not built; the end of {LOG}:")
         with contextlib.suppress(OSError), open(LOG, encoding="utf-8", errors="replace") as file:
@@ -147,7 +147,7 @@ def take_from_gate(note: str) -> None:
     """Installs the program that a gate has built, if it was made from the sources that are there."""
     *sums, left = note.split() or [""]
     if len(sums) != 2 or stamp_of(OF_GATE) in ("none", left):
-        say("this run has built no program that ./jlint could take")
+        say("this run has left no new program for ./jlint")
     elif install(OF_GATE, Seen(*sums)):
         say("./jlint runs the program that this run has proved and built")
     else:

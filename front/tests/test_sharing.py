@@ -62,7 +62,7 @@ class Sharing(CloneCase):
         self.executable("crates/jlint/out/jlint", PROGRAM)
         gate = self.gate(FAKE_CI="pass")
         self.assertEqual(gate.returncode, 0)
-        self.assertIn("has built no program", gate.stderr)
+        self.assertIn("has left no new program", gate.stderr)
         self.assertFalse(os.path.exists(os.path.join(self.folder, "out", "jlint")))
 
     def test_a_gate_without_python(self) -> None:
