@@ -113,11 +113,12 @@ def build() -> bool:
         return install_or_say(made, seen)
     # All clones prove in one copy: what one of them has proved of the same text no other proves again.
     waits = "waiting for a ./jlint in another clone, which proves and builds"
-    with locked(os.path.join(cache_folder(), "copy.lock"), lambda: say(waits)):
+    with locked(os.path.join(cache_folder(), "copy.lock"), lambda: say(waits)) as lock:
+        seen = look(TOP)
         made = SharedPrograms(seen.contents).find()
         if made is None:
             say_proving()
-            made = prove_aside(TOP, LOG, os.path.join(cache_folder(), "copy"))
+            made = prove_aside(TOP, LOG, os.path.join(cache_folder(), "copy"), lock)
         return install_or_say(made, seen)
 
 

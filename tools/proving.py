@@ -9,6 +9,7 @@ import subprocess
 import sys
 import threading
 import time
+from typing import Sequence
 
 EVERY = 30.0
 """Seconds between two lines that say how far it is."""
@@ -62,8 +63,8 @@ class Proving:
         self.began = time.monotonic()
         self.is_terminal = sys.stderr.isatty()
 
-    def run(self, command: list[str], cwd: str | None = None) -> int:
-        """The status of a command that proves."""
+    def run(self, command: list[str], cwd: str | None = None, held: Sequence[int] = ()) -> int:
+        """The status of a command that proves, which holds locks as long as it runs, also where this was killed."""
         ended = threading.Event()
         speaker = threading.Thread(target=self.speak, args=(ended,), daemon=True)
         with open(self.log, "wb") as log:
@@ -74,6 +75,7 @@ class Proving:
                 stdin=subprocess.DEVNULL,
                 stdout=log,
                 stderr=subprocess.STDOUT,
+                pass_fds=held,
             )
             speaker.start()
             try:
@@ -108,14 +110,15 @@ class Proving:
         return said
 
 
-def prove_aside(top: str, log: str, copy: str) -> str | None:
-    """Proves and builds by a kit that keeps nothing, in a copy that stays, and answers the program's path.
+def prove_aside(top: str, log: str, copy: str, lock: int) -> str | None:
+    """Proves and builds by a kit that keeps nothing, in a copy that stays and has this lock, and answers the program's
+    path.
 
     The copy keeps the libraries that were proved, for the next call. Nothing in the clone is touched."""
     bring(top, copy)
     prove = [sys.executable, os.path.join(copy, "tools", "prove.py"), "--programs", "jlint"]
     made = os.path.join(copy, "crates", "jlint", "out", "jlint")
-    return made if Proving(top, log).run(prove, copy) == 0 and os.path.exists(made) else None
+    return made if Proving(top, log).run(prove, copy, (lock,)) == 0 and os.path.exists(made) else None
 
 
 def bring(top: str, copy: str) -> None:

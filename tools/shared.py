@@ -33,8 +33,8 @@ def kit_version() -> str:
 
 
 @contextlib.contextmanager
-def locked(path: str, before_waiting: Callable[[], None] = lambda: None) -> Iterator[None]:
-    """Holds the lock of this path, for which other processes wait."""
+def locked(path: str, before_waiting: Callable[[], None] = lambda: None) -> Iterator[int]:
+    """Holds the lock of this path, for which other processes wait. What gets its descriptor holds it too."""
     os.makedirs(os.path.dirname(path), exist_ok=True)
     with open(path, "w", encoding="utf-8") as lock:
         try:
@@ -42,7 +42,7 @@ def locked(path: str, before_waiting: Callable[[], None] = lambda: None) -> Iter
         except BlockingIOError:
             before_waiting()
             fcntl.flock(lock, fcntl.LOCK_EX)
-        yield
+        yield lock.fileno()
 
 
 class SharedPrograms:
@@ -92,7 +92,7 @@ class SharedPrograms:
             for path in sorted(paths, key=os.path.getmtime)[:-KEPT]:
                 os.remove(path)
 
-    def alone(self) -> ContextManager[None]:
+    def alone(self) -> ContextManager[int]:
         """Waits until no other process looks at the programs, which takes no longer than a copy."""
         return locked(f"{self.folder}.lock")
 

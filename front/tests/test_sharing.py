@@ -5,6 +5,7 @@ from __future__ import annotations
 import os
 import subprocess
 import sys
+import time
 import unittest
 from typing import Any
 
@@ -135,6 +136,20 @@ class Sharing(CloneCase):
         self.assertEqual([out for out, _ in said], ["ran \n", "ran \n"])
         self.assertEqual(sum("waiting for a ./jlint in another clone" in err for _, err in said), 1)
         self.assertEqual(self.proofs(), ["prove"])
+
+    def test_a_run_that_was_killed_is_waited_for(self) -> None:
+        self.write("tools/prove.py", self.read("tools/prove.py") + "time.sleep(2)\n")
+        other = self.second_clone()
+        words = [sys.executable, "tools/program.py"]
+        call = subprocess.Popen(words, cwd=self.folder, env=self.environment({}), stderr=subprocess.DEVNULL)
+        log = os.path.join(self.folder, "rt.log")
+        while not os.path.exists(log) or "prove" not in self.read("rt.log"):
+            time.sleep(0.05)
+        call.kill()
+        call.wait()
+        ran = self.launch(clone=other)
+        self.assertEqual(ran.returncode, 4)
+        self.assertIn("waiting for a ./jlint in another clone", ran.stderr)
 
     def test_clones_prove_in_one_copy_of_their_own_sources(self) -> None:
         self.launch()
