@@ -49,6 +49,7 @@ def work(crate, given, jobs, builds):
         say(f"{crate.name} waits for {lacking[0]}")
         return False
     if crate.makes_rlib() and crate.is_built():
+        say(f"{crate.name} is kept")
         return True
     say(f"{crate.name} begins, jobs={jobs}")
     began, crate = time.monotonic(), copy.copy(crate)
