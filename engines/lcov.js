@@ -4,13 +4,10 @@
 // What ran, as a tracefile of LCOV, from the records of a run. A line's count is that of its operation that came most
 // often. Operations that were left out of the record are counted with those in it.
 
-const fs = require('fs');
 const path = require('path');
 const command = require('./command.js');
 const { countsOf, lineCounts } = require('./counts.js');
-const { readNamedRun } = require('./run-folder.js');
-
-const LINE_TERMINATOR = /\r\n|[\n\r\u2028\u2029]/;
+const { readNamedRun, sourceLines } = require('./run-folder.js');
 
 function functionName(source, { line, column }) {
   const text = (source[line - 1] || '').slice(column - 1);
@@ -36,7 +33,7 @@ function branchLines(conditions, { hits, yes, no }) {
 
 function tracefile(file) {
   const counts = countsOf(file);
-  const source = fs.existsSync(file.name) ? fs.readFileSync(file.name, 'utf8').split(LINE_TERMINATOR) : [];
+  const source = sourceLines(file);
   const ofKind = kind => counts.rows.filter(row => row.kind === kind);
   const lines = [...lineCounts(counts)].sort((a, b) => a[0] - b[0]);
   return [

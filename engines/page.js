@@ -4,11 +4,10 @@
 // The sources of a run on one page: how often each line ran in the margin, what never ran shaded, and report lines under
 // their places. JLINT_DOCS is where the pages of the rules are, for links.
 
-const fs = require('fs');
 const command = require('./command.js');
 const { countsOf, lineCounts } = require('./counts.js');
 const { report } = require('./report.js');
-const { readNamedRun } = require('./run-folder.js');
+const { readNamedRun, sourceLines } = require('./run-folder.js');
 
 const STYLE = `
 body { font: 14px sans-serif; margin: 2em } pre { margin: 0; font: 12px/1.4 monospace; white-space: pre }
@@ -62,7 +61,7 @@ function fileHtml(file, found) {
     if (!notes.has(note.line)) notes.set(note.line, []);
     notes.get(note.line).push(note);
   }
-  const source = fs.readFileSync(file.name, 'utf8').split(/\r\n|[\n\r\u2028\u2029]/);
+  const source = sourceLines(file);
   const rows = source.map((text, i) => lineHtml(file, i + 1, text, lines.get(i + 1), notes.get(i + 1) || []));
   const left = file.left.reduce((n, l) => n + l.count, 0);
   const summary = `${file.operations} operations recorded, ${left} left out, ${found.length} report lines`;

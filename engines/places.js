@@ -1,12 +1,13 @@
 'use strict';
 // Places of a file: lines and columns, from 1; columns count UTF-16 units.
 
+const LINE_TERMINATOR = /\r\n|[\n\r\u2028\u2029]/g;
+
 function lineStarts(source) {
-  const starts = [0];
-  const terminator = /\r\n|[\n\r\u2028\u2029]/g;
-  for (let m; (m = terminator.exec(source)) !== null; ) starts.push(m.index + m[0].length);
-  return starts;
+  return [0, ...Array.from(source.matchAll(LINE_TERMINATOR), m => m.index + m[0].length)];
 }
+
+const linesOf = source => source.split(LINE_TERMINATOR);
 
 // From an offset to its line and column.
 function placesIn(source) {
@@ -50,4 +51,4 @@ function placesAfter(source, edits) {
   };
 }
 
-module.exports = { placesIn, placesAfter };
+module.exports = { linesOf, placesIn, placesAfter };

@@ -3,10 +3,8 @@
 // So a file costs one start of the program. tests/rows.test.js holds them against the program's own.
 
 const { placesIn } = require('./places.js');
+const { RULES } = require('./rules.js');
 
-const RULES = ['nan-made', 'undefined-joined', 'object-joined', 'undefined-key', 'put-on-primitive', 'wrapped-condition',
-  'loose-equal', 'odd-compare', 'typeof-text', 'bits-of-nothing', 'shadow-write', 'mixed-new', 'object-prototype-write',
-  'odd-prototype', 'late-prototype', 'for-in-array', 'extra-arguments', 'wrapper-made', 'no-radix', 'global-this'];
 const OFF = /^ jlint-off(-next)? ([a-z-]+(?:,[a-z-]+)*) *$/;
 
 const isMember = node => node.type === 'MemberExpression';
@@ -222,4 +220,4 @@ function headOf(text, { tree, comments }, place) {
   return { rows: rows.length, text: lines.join('\n') + '\n' };
 }
 
-module.exports = { RULES, headOf };
+module.exports = { headOf };

@@ -8,6 +8,7 @@
 
 const fs = require('fs');
 const path = require('path');
+const { linesOf } = require('./places.js');
 
 const LONGEST_RECORD = 268435456; // bytes that `replay` accepts
 const RECORD_FRAME = 64; // bytes for the lines `ops N` and `end`
@@ -94,4 +95,9 @@ function readNamedRun(folder) {
   return readRun(folder);
 }
 
-module.exports = { openRun, readRun, readNamedRun, NOT_WOVEN };
+// The lines of a file's source, none where it is there no more.
+function sourceLines({ name }) {
+  return fs.existsSync(name) ? linesOf(fs.readFileSync(name, 'utf8')) : [];
+}
+
+module.exports = { openRun, readRun, readNamedRun, sourceLines, NOT_WOVEN };

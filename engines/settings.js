@@ -1,13 +1,11 @@
 'use strict';
 // The words of the environment, which register.js tells, read and checked: an Error says which of them is wrong.
 
-// `extra-arguments` and `shadow-write` say much that is meant of callbacks and of defaults on prototypes, so on engines
-// they have to be asked for.
-const DEFAULT_RULES = ['nan-made', 'undefined-joined', 'object-joined', 'undefined-key', 'put-on-primitive',
-  'wrapped-condition', 'loose-equal', 'odd-compare', 'typeof-text', 'bits-of-nothing', 'mixed-new',
-  'object-prototype-write', 'odd-prototype', 'late-prototype', 'for-in-array', 'wrapper-made', 'no-radix',
-  'global-this'];
-const RULES = [...DEFAULT_RULES, 'extra-arguments', 'shadow-write'];
+const { RULES } = require('./rules.js');
+
+// They say much that is meant of callbacks and of defaults on prototypes, so on engines they have to be asked for.
+const ASKED_FOR = ['extra-arguments', 'shadow-write'];
+const DEFAULT_RULES = RULES.filter(name => !ASKED_FOR.includes(name));
 const FORMATS = ['text', 'unix', 'json'];
 const LONGEST_TEXT = 1000; // UTF-16 units
 const MOST_DIGITS = 9;

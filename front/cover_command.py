@@ -12,7 +12,7 @@ from typing import Callable, Sequence, TextIO
 from .answers import ReportLine, read_refusal
 from .coverage import Coverage, coverage_of, share
 from .findings import FileResult
-from .gather import NotAccepted, Script, Unreadable, read_script, read_standard_input, scripts
+from .gather import NotAccepted, Script, Unreadable, named_scripts, read_script, read_standard_input
 from .lint_command import say_notes
 from .linting import DEFAULT_BUDGET
 from .options import cover_parser
@@ -82,11 +82,10 @@ class Coverer:
 
 
 def main(words: list[str]) -> int:
+    """Writes what of the scripts ran, and answers the exit status."""
     parser = cover_parser(tuple(FORMATS))
-    options = parser.parse_args(words)
-    found = scripts(options.files, tuple(options.ext.split(",")), options.ignore, options.stdin_filename)
-    if not options.files:
-        parser.error("no file is named")
+    options = parser.parse_with_files(words)
+    found = named_scripts(options)
     if options.record is not None and len(found) != 1:
         parser.error("--record is of one script")
     standard_input = read_standard_input(found)

@@ -2,6 +2,7 @@
 
 from __future__ import annotations
 
+import argparse
 import fnmatch
 import os
 import sys
@@ -35,6 +36,14 @@ class Script:
     is_standard_input: bool = False
     trouble: str | None = None
     """Why there is nothing to read, where that is known already: a folder that can't be searched is listed so."""
+
+
+def named_scripts(options: argparse.Namespace) -> list[Script]:
+    """The scripts that the words of a command name. Where there are none, that is said on standard error."""
+    found = scripts(options.files, tuple(options.ext.split(",")), options.ignore, options.stdin_filename)
+    if not found:
+        print("jl: the folders have no scripts", file=sys.stderr)
+    return found
 
 
 def scripts(words: list[str], suffixes: tuple[str, ...], ignored: list[str], stdin_name: str) -> list[Script]:

@@ -9,7 +9,7 @@ from typing import TYPE_CHECKING
 from . import formats
 from .findings import FileResult, Totals
 from .formats.lines import on_one_line
-from .gather import read_standard_input, scripts
+from .gather import named_scripts, read_standard_input
 from .linting import Linter
 from .options import lint_parser
 from .output import write_answer
@@ -22,11 +22,9 @@ if TYPE_CHECKING:
 
 
 def main(words: list[str]) -> int:
-    parser = lint_parser()
-    options = parser.parse_args(words)
-    if not options.files:
-        parser.error("no file is named")
-    found = scripts(options.files, tuple(options.ext.split(",")), options.ignore, options.stdin_filename)
+    """Lints the scripts that the words name, and answers the exit status."""
+    options = lint_parser().parse_with_files(words)
+    found = named_scripts(options)
     standard_input = read_standard_input(found)
     linter = make_linter(options)
     progress = Progress(len(found), not options.no_progress)
@@ -35,8 +33,6 @@ def main(words: list[str]) -> int:
     colour = is_terminal if options.colour is None else options.colour
     write = formats.writer_of(options.format or ("stylish" if is_terminal else "unix"))
     write_answer(options.output, lambda out: write(results, out, colour))
-    if not found:
-        print("jl: the folders have no scripts", file=sys.stderr)
     say_notes(results)
     return status_of(results, options.max_reports)
 
@@ -50,6 +46,7 @@ def make_cache(options: argparse.Namespace, program: Program) -> Cache | None:
 
 
 def make_linter(options: argparse.Namespace) -> Linter:
+    """How these options have scripts linted."""
     program = find_program(options.timeout)
     return Linter(
         program,

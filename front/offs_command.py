@@ -8,7 +8,7 @@ from typing import TextIO
 from .answers import Refusal, read_answer
 from .findings import FileResult
 from .formats.lines import on_one_line
-from .gather import NotAccepted, Script, Unreadable, read_script, read_standard_input, scripts
+from .gather import NotAccepted, Script, Unreadable, named_scripts, read_script, read_standard_input
 from .lint_command import say_notes
 from .linting import Linter, Look
 from .offs import Idle, look_at, masked, unused
@@ -23,11 +23,9 @@ Listing = tuple[Script, list[Idle], str | None]
 
 
 def main(words: list[str]) -> int:
-    parser = offs_parser()
-    options = parser.parse_args(words)
-    if not options.files:
-        parser.error("no file is named")
-    found = scripts(options.files, tuple(options.ext.split(",")), options.ignore, options.stdin_filename)
+    """Lists the comments that switch nothing off, and answers the exit status."""
+    options = offs_parser().parse_with_files(words)
+    found = named_scripts(options)
     standard_input = read_standard_input(found)
     linter = None if options.forms else make_linter(options)
     progress = Progress(len(found), True)

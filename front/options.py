@@ -35,13 +35,26 @@ class Parser(argparse.ArgumentParser):
     def error(self, message: str) -> None:  # type: ignore[override]
         self.exit(2, f"{self.prog}: {message}; see {self.prog} --help\n")
 
+    def parse_with_files(self, words: list[str]) -> argparse.Namespace:
+        """The options that the words say, among which a file or folder has to be."""
+        options = self.parse_args(words)
+        if not options.files:
+            self.error("no file is named")
+        return options
+
+
+LONGEST_NUMBER = 20
+"""Python converts no text of thousands of digits."""
+
 
 def whole(least: int, most: int) -> Callable[[str], int]:
     """Reads a whole number within bounds."""
 
     def read(text: str) -> int:
-        if not text.isascii() or not text.isdigit() or not least <= int(text) <= most:
-            raise argparse.ArgumentTypeError(f"{text!r} is no whole number from {least} to {most}")
+        is_number = text.isascii() and text.isdigit() and len(text) <= LONGEST_NUMBER
+        if not is_number or not least <= int(text) <= most:
+            shown = text if len(text) <= LONGEST_NUMBER else text[:LONGEST_NUMBER] + "…"
+            raise argparse.ArgumentTypeError(f"{shown!r} is no whole number from {least} to {most}")
         return int(text)
 
     return read
@@ -66,6 +79,7 @@ def path(text: str) -> str:
 
 
 def percent(text: str) -> float:
+    """A number from 0 to 100."""
     try:
         value = float(text)
     except ValueError:
@@ -123,6 +137,7 @@ def add_output(parser: Parser) -> None:
 
 
 def lint_parser() -> Parser:
+    """The words of `jl` without a command."""
     parser = Parser(
         "jl",
         usage="jl [OPTIONS] FILE|FOLDER|-..",
@@ -162,6 +177,7 @@ def lint_parser() -> Parser:
 
 
 def offs_parser() -> Parser:
+    """The words of `jl offs`."""
     parser = Parser(
         "jl offs",
         description="Lists comments that look like `jlint-off` and switch nothing off: ill-formed ones, names that no "
@@ -175,6 +191,7 @@ def offs_parser() -> Parser:
 
 
 def cover_parser(format_names: Sequence[str]) -> Parser:
+    """The words of `jl cover`, which has these formats."""
     parser = Parser(
         "jl cover",
         description="Runs scripts and writes what ran, from the operations that `jlint record` lists. Status 1 where "

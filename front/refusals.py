@@ -61,6 +61,11 @@ LEFT_OUT = {
     "RegExp": "write `indexOf`, `slice` or `split` with a string",
     "Infinity": "numbers are whole; write a largest number of your own",
 }
+OTHERWISE = {
+    "TooLong": "the script has more than 1,048,576 bytes, with what is put round it: lint its parts",
+    "ReservedName": "`J$` is the name of the hooks and can't be one of the script's: rename it",
+    "ReadBack": "the rewritten script was not read back",
+}
 
 
 @dataclass(frozen=True)
@@ -109,14 +114,7 @@ def explain(refusal: Refusal, source: SourceText) -> Reason:
     }
     if refusal.kind in by_kind:
         return by_kind[refusal.kind](refusal, source, place)
-    return Reason(PLAIN.get(refusal.kind, refusal.words), place)
-
-
-PLAIN = {
-    "TooLong": "the script has more than 1,048,576 bytes, with what is put round it: lint its parts",
-    "ReservedName": "`J$` is the name of the hooks and can't be one of the script's: rename it",
-    "ReadBack": "the rewritten script was not read back",
-}
+    return Reason(OTHERWISE.get(refusal.kind, refusal.words), place)
 
 
 def explain_left_out(refusal: Refusal, _source: SourceText, place: Place) -> Reason:

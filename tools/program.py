@@ -2,73 +2,46 @@
 """Prints the path of the program jlint, which it proves and builds first where that was not done for these sources.
 
 usage: tools/program.py
+       tools/program.py --gate-begins         prints a note of the sources, for the next
+       tools/program.py --gate-passed NOTE    takes the program that `rt ci` has built in this clone since that note
 
 The program is `out/jlint` at the top of the clone, beside the sum of the sources that it was made from. Where the sum
-is another, the program is looked for among what the kit has kept on this machine (`rt ci` and `rt ci NAME` keep what
-they prove, by the sums of all that they read), and `rt ci jlint` proves what is missing there. So what this proves, the
-gate takes from there, and the other way round, in each clone. `rt ci jlint` works on a copy: nothing in `crates` is
-touched. One call in a clone works at a time, and the next ones wait.
+is another, the program is looked for among the last ones of this machine, which all clones share (tools/shared.py), and
+among what the kit has kept: kit 13f keeps what `rt ci` and `rt ci NAME` prove, by the sums of all that they read. What
+is missing `rt ci jlint` proves there, and tools/prove.py with a kit that keeps nothing. Both work on a copy: nothing in
+`crates` is touched. One call in a clone works at a time, and the next ones wait.
+
+`.ci/run` hands over what it has built. That is taken where no source file was written since the gate began, not even
+with what it had before, so that it was made from the sources that are there.
 
 How far the proofs are is said on standard error every half minute. The status is 0, or 70 where there is no program."""
 
 from __future__ import annotations
 
 import contextlib
-import fcntl
-import hashlib
 import json
 import os
 import shutil
 import signal
 import subprocess
 import sys
-from typing import Iterator
 
 from kept_program import KeptProgram
 from proving import Proving, prove_aside
+from shared import SharedPrograms, cache_folder, locked
+from sources import Seen, contents, listing, look, stamp_of, sum_of
 
 TOP = os.path.dirname(os.path.dirname(os.path.abspath(__file__)))
 OUT = os.path.join(TOP, "out")
-PROGRAM, STATE, LOG = (os.path.join(OUT, name) for name in ("jlint", "jlint.json", "jlint.log"))
-PARTS = ("src", "specs", "c")
+PROGRAM, STATE, LOG, WORKING, INSTALLING = (
+    os.path.join(OUT, name) for name in ("jlint", "jlint.json", "jlint.log", "jlint.lock", "install.lock")
+)
+OF_GATE = os.path.join(TOP, "crates", "jlint", "out", "jlint")
+NO_PROGRAM, BAD_WORDS = 70, 2
 
 
 def say(text: str) -> None:
     print(f"jlint: {text}", file=sys.stderr, flush=True)
-
-
-def source_files() -> list[str]:
-    """The files that the program is made from, relative to the top."""
-    found = [name for name in ("crates.txt", "HANDLES") if os.path.isfile(os.path.join(TOP, name))]
-    crates = os.path.join(TOP, "crates")
-    for crate in sorted(os.listdir(crates)):
-        for part in PARTS:
-            for folder, folders, files in os.walk(os.path.join(crates, crate, part)):
-                folders.sort()
-                found += [os.path.relpath(os.path.join(folder, name), TOP) for name in sorted(files)]
-    return found
-
-
-def listing(files: list[str]) -> str:
-    """A sum of the names, sizes and times of files, which is quick, and changes where they are touched."""
-    total = hashlib.sha256()
-    for name in files:
-        about = os.stat(os.path.join(TOP, name))
-        total.update(f"{name} {about.st_ino} {about.st_size} {about.st_mtime_ns} {about.st_ctime_ns}\n".encode())
-    return total.hexdigest()
-
-
-def contents(files: list[str]) -> str:
-    """A sum of the names and contents of files."""
-    total = hashlib.sha256()
-    for name in files:
-        total.update(f"{name} {sum_of(os.path.join(TOP, name))}\n".encode())
-    return total.hexdigest()
-
-
-def sum_of(path: str) -> str:
-    with open(path, "rb") as file:
-        return hashlib.sha256(file.read()).hexdigest()
 
 
 def read_state() -> dict[str, str]:
@@ -80,82 +53,106 @@ def read_state() -> dict[str, str]:
         return {}
 
 
-def write_state(state: dict[str, str]) -> None:
+def write_state(seen: Seen, program_sum: str) -> None:
     made = f"{STATE}.{os.getpid()}"
     with open(made, "w", encoding="utf-8") as file:
-        json.dump(state, file)
+        json.dump({**seen._asdict(), "program": program_sum}, file)
     os.replace(made, STATE)
 
 
-def is_current(files: list[str]) -> bool:
-    """Whether the program was made from these sources. Where files were only touched, that is noted."""
-    state = read_state()
-    if not state or not os.access(PROGRAM, os.X_OK):
+def is_current() -> bool:
+    """Whether the program was made from the sources that are there."""
+    return os.access(PROGRAM, os.X_OK) and read_state().get("listing") == listing(TOP)
+
+
+def is_only_touched() -> bool:
+    """Whether the program was made from such sources, though files were touched, which is noted where that can be."""
+    state, seen = read_state(), look(TOP)
+    if state.get("contents") != seen.contents or not os.access(PROGRAM, os.X_OK):
         return False
-    seen = listing(files)
-    if state.get("listing") == seen:
-        return True
-    if state.get("contents") != contents(files) or state.get("program") != sum_of(PROGRAM):
+    if state.get("program") != sum_of(PROGRAM):
         return False
-    with contextlib.suppress(OSError):
-        write_state({**state, "listing": seen})
+    with contextlib.suppress(OSError), locked(INSTALLING):
+        if read_state() == state:
+            write_state(seen, state["program"])
     return True
 
 
-def install(made: str, files: list[str], seen: tuple[str, str]) -> bool:
-    """Puts a program in its place, unless the sources changed since they were seen."""
-    if (listing(files), contents(files)) != seen:
-        say("sources changed while they were proved: run it again")
-        return False
+def install(made: str, seen: Seen) -> bool:
+    """Puts a program in its place and among those that all clones share, unless the sources changed since they were
+    seen, and answers whether it did."""
     new = f"{PROGRAM}.{os.getpid()}"
-    shutil.copyfile(made, new)
-    os.chmod(new, 0o755)
-    program_sum = sum_of(new)
-    os.replace(new, PROGRAM)
-    write_state({"listing": seen[0], "contents": seen[1], "program": program_sum})
+    with locked(INSTALLING):
+        if look(TOP) != seen:
+            return False
+        shutil.copyfile(made, new)
+        os.chmod(new, 0o755)
+        program_sum = sum_of(new)
+        os.replace(new, PROGRAM)
+        write_state(seen, program_sum)
+    try:
+        SharedPrograms(seen.contents).keep(PROGRAM)
+    except OSError as error:
+        say(f"other clones won't find the program: {error}")
     return True
-
-
-@contextlib.contextmanager
-def alone() -> Iterator[None]:
-    """Waits until no other call in this clone works."""
-    os.makedirs(OUT, exist_ok=True)
-    with open(os.path.join(OUT, "jlint.lock"), "w", encoding="utf-8") as lock:
-        try:
-            fcntl.flock(lock, fcntl.LOCK_EX | fcntl.LOCK_NB)
-        except BlockingIOError:
-            say("waiting for another ./jlint in this clone, which proves and builds")
-            fcntl.flock(lock, fcntl.LOCK_EX)
-        yield
 
 
 def build() -> bool:
     """Makes the program, and answers whether there is one."""
-    files = source_files()
-    if is_current(files):
+    if is_current() or is_only_touched():
         return True
     if shutil.which("rt") is None:
         say("not built yet, and the Rattle toolchain is missing: no rt on the path")
         return False
-    seen = listing(files), contents(files)
-    kept = KeptProgram(TOP)
-    made = kept.find()
+    seen, kept = look(TOP), KeptProgram(TOP)
+    made = SharedPrograms(seen.contents).find() or kept.find()
+    if made is None and kept.has_store:
+        say_proving()
+        made = kept.find() if Proving(TOP, LOG).run(["rt", "ci", "jlint"]) == 0 else None
+    if made is not None or kept.has_store:
+        return install_or_say(made, seen)
+    # All clones prove in one copy: what one of them has proved of the same text no other proves again.
+    waits = "waiting for a ./jlint in another clone, which proves and builds"
+    with locked(os.path.join(cache_folder(), "copy.lock"), lambda: say(waits)) as lock:
+        seen = look(TOP)
+        made = SharedPrograms(seen.contents).find()
+        if made is None:
+            say_proving()
+            made = prove_aside(TOP, LOG, os.path.join(cache_folder(), "copy"), lock)
+        return install_or_say(made, seen)
+
+
+def install_or_say(made: str | None, seen: Seen) -> bool:
+    """Installs what was made, or says why it does not; answers whether it did."""
     if made is None:
-        say(f"proving and building, which may take an hour or more; the log is {LOG}")
-        if not kept.has_store:
-            made = prove_aside(TOP, LOG)
-        elif Proving(TOP, LOG).run(["rt", "ci", "jlint"]) == 0:
-            made = kept.find()
-    if made is None:
-        say_end_of_log()
+        say(f"not built; the end of {LOG}:")
+        with contextlib.suppress(OSError), open(LOG, encoding="utf-8", errors="replace") as file:
+            sys.stderr.writelines(file.readlines()[-5:])
         return False
-    return install(made, files, seen)
+    if not install(made, seen):
+        say("sources changed while they were proved: run it again")
+        return False
+    return True
 
 
-def say_end_of_log() -> None:
-    say(f"not built; the end of {LOG}:")
-    with contextlib.suppress(OSError), open(LOG, encoding="utf-8", errors="replace") as file:
-        sys.stderr.writelines(file.readlines()[-5:])
+def say_proving() -> None:
+    say(f"proving and building, which may take an hour or more; the log is {LOG}")
+
+
+def note_of_gate() -> str:
+    """What a gate that begins has to know at its end: the sources, and the program that an earlier one left."""
+    return " ".join([*look(TOP), stamp_of(OF_GATE)])
+
+
+def take_from_gate(note: str) -> None:
+    """Installs the program that a gate has built, if it was made from the sources that are there."""
+    *sums, left = note.split() or [""]
+    if len(sums) != 2 or stamp_of(OF_GATE) in ("none", left):
+        say("this run has left no new program for ./jlint")
+    elif install(OF_GATE, Seen(*sums)):
+        say("./jlint runs the program that this run has proved and built")
+    else:
+        say("./jlint does not take what this run has built: source files were written or linked meanwhile")
 
 
 def end_on_signals() -> None:
@@ -164,22 +161,36 @@ def end_on_signals() -> None:
         signal.signal(number, lambda number, _: sys.exit(128 + number))
 
 
-def main() -> int:
-    end_on_signals()
-    if not is_current(source_files()):
-        try:
-            with alone():
-                if not build():
-                    return 70
-        except (OSError, subprocess.SubprocessError) as error:
-            say(f"not built: {error}")
-            return 70
-        except KeyboardInterrupt:
-            say("interrupted; what was proved so far is kept")
-            return 70
+def print_program() -> int:
+    """Prints the path of the program, which is built first where it has to be, and answers the status."""
+    if not (is_current() or is_only_touched()):
+        with locked(WORKING, lambda: say("waiting for another ./jlint in this clone, which proves and builds")):
+            if not build():
+                return NO_PROGRAM
     print(PROGRAM)
     return 0
 
 
+def main(words: list[str]) -> int:
+    end_on_signals()
+    try:
+        if not words:
+            return print_program()
+        if words == ["--gate-begins"]:
+            print(note_of_gate())
+        elif len(words) == 2 and words[0] == "--gate-passed":
+            take_from_gate(words[1])
+        else:
+            print(__doc__, file=sys.stderr)
+            return BAD_WORDS
+    except (OSError, subprocess.SubprocessError) as error:
+        say(f"no program: {error}")
+        return NO_PROGRAM
+    except KeyboardInterrupt:
+        say("interrupted; what was proved so far is kept")
+        return NO_PROGRAM
+    return 0
+
+
 if __name__ == "__main__":
-    sys.exit(main())
+    sys.exit(main(sys.argv[1:]))

@@ -2,7 +2,6 @@
 
 from __future__ import annotations
 
-import hashlib
 import os
 import re
 import shutil
@@ -10,6 +9,7 @@ import subprocess
 import sys
 import threading
 import time
+from typing import Sequence
 
 EVERY = 30.0
 """Seconds between two lines that say how far it is."""
@@ -63,8 +63,8 @@ class Proving:
         self.began = time.monotonic()
         self.is_terminal = sys.stderr.isatty()
 
-    def run(self, command: list[str], cwd: str | None = None) -> int:
-        """The status of a command that proves."""
+    def run(self, command: list[str], cwd: str | None = None, held: Sequence[int] = ()) -> int:
+        """The status of a command that proves, which holds locks as long as it runs, also where this was killed."""
         ended = threading.Event()
         speaker = threading.Thread(target=self.speak, args=(ended,), daemon=True)
         with open(self.log, "wb") as log:
@@ -75,6 +75,7 @@ class Proving:
                 stdin=subprocess.DEVNULL,
                 stdout=log,
                 stderr=subprocess.STDOUT,
+                pass_fds=held,
             )
             speaker.start()
             try:
@@ -109,37 +110,30 @@ class Proving:
         return said
 
 
-def prove_aside(top: str, log: str) -> str | None:
-    """Proves and builds by a kit that keeps nothing, in a copy that stays, and answers the program's path.
+def prove_aside(top: str, log: str, copy: str, lock: int) -> str | None:
+    """Proves and builds by a kit that keeps nothing, in a copy that stays and has this lock, and answers the program's
+    path.
 
-    The copy keeps the libraries that were proved, for the next call in this clone. Nothing in the clone is touched."""
-    cache = os.environ.get("XDG_CACHE_HOME") or os.path.expanduser("~/.cache")
-    copy = os.path.join(cache, "jlint", hashlib.sha256(top.encode()).hexdigest()[:16])
+    The copy keeps the libraries that were proved, for the next call. Nothing in the clone is touched."""
     bring(top, copy)
-    crates = sorted(with_below(top, "jlint"))
-    proving = Proving(top, log)
-    if proving.run([sys.executable, os.path.join(copy, "tools", "prove.py"), *crates], copy):
-        return None
-    # The word `build` is no command, so the built program has ended with status 2.
-    build = [sys.executable, os.path.join(copy, "tools", "kit.py"), "run", "--", "build"]
+    prove = [sys.executable, os.path.join(copy, "tools", "prove.py"), "--programs", "jlint"]
     made = os.path.join(copy, "crates", "jlint", "out", "jlint")
-    if proving.run(build, os.path.join(copy, "crates", "jlint")) != 2 or not os.path.exists(made):
-        return None
-    return made
+    return made if Proving(top, log).run(prove, copy, (lock,)) == 0 and os.path.exists(made) else None
 
 
 def bring(top: str, copy: str) -> None:
-    """Makes a copy's sources those of the clone. What was proved in the copy stays."""
+    """Makes a copy's sources those of the clone. What was proved in the copy of crates that the clone has stays."""
     os.makedirs(os.path.join(copy, "crates"), exist_ok=True)
     os.makedirs(os.path.join(copy, ".git"), exist_ok=True)
     for name in ("crates.txt", "HANDLES"):
         if os.path.exists(os.path.join(top, name)):
             shutil.copy2(os.path.join(top, name), copy)
-    shutil.rmtree(os.path.join(copy, "tools"), ignore_errors=True)
-    shutil.copytree(os.path.join(top, "tools"), os.path.join(copy, "tools"))
-    for crate in with_below(top, "jlint"):
-        for part in ("src", "specs", "proofs", "c"):
-            to = os.path.join(copy, "crates", crate, part)
-            shutil.rmtree(to, ignore_errors=True)
-            if os.path.isdir(os.path.join(top, "crates", crate, part)):
-                shutil.copytree(os.path.join(top, "crates", crate, part), to)
+        elif os.path.exists(os.path.join(copy, name)):
+            os.remove(os.path.join(copy, name))
+    crates = with_below(top, "jlint")
+    for name in set(os.listdir(os.path.join(copy, "crates"))) - crates:
+        shutil.rmtree(os.path.join(copy, "crates", name))
+    for part in ["tools", *(f"crates/{crate}/{part}" for crate in crates for part in ("src", "specs", "proofs", "c"))]:
+        shutil.rmtree(os.path.join(copy, part), ignore_errors=True)
+        if os.path.isdir(os.path.join(top, part)):
+            shutil.copytree(os.path.join(top, part), os.path.join(copy, part))

@@ -101,6 +101,16 @@ test('a report of 300,000 lines', { skip }, () => inFolderWithProgram(folder => 
   assert.strictEqual(written[lines - 1], `app.js:${lines}:1: nan-made (1) [Warning/nan-made]`);
 }));
 
+test('a page of a source that is there no more', { skip }, () => inFolderWithProgram(folder => {
+  const answer = '4:1 nan-made 1\\njlint: replayed hooks=1 reports=1\\n';
+  fs.writeFileSync(path.join(folder, 'jlint'), `#!/bin/sh\ncat > /dev/null\nprintf '${answer}'\n`);
+  fs.writeFileSync(path.join(folder, '0.name'), 'gone.js');
+  fs.writeFileSync(path.join(folder, '0.head'), 'jlint-record 1\nrows 0\noff 0\n');
+  const { status, out, err } = ran(folder, [path.join(ENGINES, 'page.js'), '.'], {});
+  assert.deepStrictEqual({ status, err }, { status: 0, err: '' });
+  assert.match(out, /gone\.js:4:1/);
+}));
+
 test('a reader that closes', { skip }, () => inFolderWithProgram(folder => {
   fs.writeFileSync(path.join(folder, 'jlint'),
     '#!/bin/sh\ncat > /dev/null\nseq -f "%.0f:1 nan-made 1" 1 90000\necho "jlint: replayed hooks=1 reports=90000"\n');

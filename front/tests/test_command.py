@@ -32,10 +32,12 @@ class Words(FrontCase):
     def test_wrong_words(self) -> None:
         choices: list[list[str]] = [[], ["--no-such", "a.js"], ["--rules", "nan", "a.js"], ["--budget", "-1", "a.js"]]
         choices += [["--budget", "1e6", "a.js"], ["--jobs", "0", "a.js"], [""], ["-o", "", "a.js"], ["-f", "xml", "a.js"]]
+        choices += [["--budget", "9" * 5000, "a.js"], ["offs"], ["cover"], ["cover", "--min-functions", "101", "a.js"]]
         for words in choices:
             ran = self.jl(*words)
             self.assertEqual((ran.status, ran.out), (2, ""), words)
             self.assertEqual(len(ran.err.splitlines()), 1, ran.err)
+            self.assertLess(len(ran.err), 200)
 
     def test_help_and_version(self) -> None:
         self.assertIn("jl cover", self.jl("--help").out)
@@ -71,6 +73,12 @@ class Files(FrontCase):
         self.assertIn("src/e.mjs", self.jl("src", "--ext", ".js,.mjs").out)
         self.assertNotIn("src/b.js", self.jl("src", "--ignore", "b.*").out)
         self.assertEqual(self.jl("src", "src/a.js", "./src/a.js").out, ran.out)
+
+    def test_folders_without_scripts(self) -> None:
+        self.write("folder/a.txt", "0 / 0;")
+        for words in (["folder"], ["offs", "folder"], ["cover", "folder", "--format", "summary"]):
+            ran = self.jl(*words)
+            self.assertEqual((ran.status, ran.err), (0, "jl: the folders have no scripts\n"), words)
 
     def test_what_can_not_be_read(self) -> None:
         self.write("good.js", "0 / 0;")

@@ -3,12 +3,11 @@
 from __future__ import annotations
 
 import os
-import shutil
 import subprocess
 import sys
 import unittest
 
-from .support import TOP, FrontCase
+from .clone import CloneCase
 
 FAKE_RT = """#!/usr/bin/env python3
 import sys
@@ -18,36 +17,10 @@ sys.exit(1)
 """
 
 
-class Launcher(FrontCase):
-    def setUp(self) -> None:
-        super().setUp()
-        shutil.copytree(os.path.join(TOP, "tools"), os.path.join(self.folder, "tools"))
-        shutil.copy(os.path.join(TOP, "jlint"), self.folder)
-        self.write("crates.txt", "low:\njlint: low\n")
-        self.write("HANDLES", "Handles allowed: none.\n")
-        self.write("crates/low/src/lib.rt", "// low\n")
-        self.write("crates/jlint/src/main.rt", "// main\n")
-        self.path = os.path.join(self.folder, "bin")
-        os.makedirs(self.path)
-        for name in ("python3", "bash", "readlink", "dirname", "env", "sh", "cat"):
-            found = sys.executable if name == "python3" else shutil.which(name)
-            os.symlink(found or "", os.path.join(self.path, name))
-
-    def launch(self, *words: str, **environment: str) -> subprocess.CompletedProcess[str]:
-        return subprocess.run(
-            [os.path.join(self.folder, "jlint"), *words],
-            env={"PATH": self.path, "HOME": self.folder, **environment},
-            capture_output=True,
-            text=True,
-            check=False,
-            timeout=60,
-        )
-
+class Launcher(CloneCase):
     def install(self) -> None:
         """Puts a program in its place, as if it were proved of these sources."""
-        program = self.write("made", '#!/bin/sh\necho "ran $*"\nexit 4\n')
-        code = "import program as p; f = p.source_files(); import os; os.makedirs(p.OUT, exist_ok=True); "
-        code += f"p.install({os.path.join(self.folder, program)!r}, f, (p.listing(f), p.contents(f)))"
+        code = "import program as p; p.install('../made', p.look(p.TOP))"
         subprocess.run([sys.executable, "-c", code], cwd=os.path.join(self.folder, "tools"), check=True)
 
     def test_without_a_toolchain(self) -> None:
