@@ -16,7 +16,7 @@ impl Heap {
         ensures { option_copied result ≡ own self.now id.0 length_name }
     {
         match &self.length_name {
-            Some(name) => self.properties.get_first(id.0, name),
+            Some(name) => self.properties.get(id.0, name),
             None => None,
         }
     }
@@ -28,7 +28,7 @@ impl Heap {
         ensures { self.new ≡ with_property self.old id.0 length_name length }
     {
         match &self.length_name {
-            Some(name) => self.properties.set_first(id.0, name, length),
+            Some(name) => self.properties.set(id.0, name, length),
             None => {}
         }
     }

@@ -6,7 +6,7 @@ use Rattle.jl_heap.proofs.heap.Heap.length.Goals as goal
 
 pub returns-in-Some : goal.returns-in-Some
 returns-in-Some c =
-    c.get_first.ensures.value
+    c.get.ensures.value
     ∙ own_is c.self.inside _ c.args.id.0 _ c.self.invariant c.self.view_is
     ∙ ap (own c.args.self.now c.args.id.0) (right_name c.self.inside _ c.self.invariant c.in-Some.is)
 
