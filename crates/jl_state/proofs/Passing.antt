@@ -149,6 +149,7 @@ module _ (table : FunctionTable) (how : Completion) (abrupt : is_abrupt how ≡ 
   leaves calls (frame.Algorithm f) frames passes = ap (follows calls frames) (abrupt_passes how abrupt)
   leaves calls (frame.Statement f) frames passes = ap (follows calls frames) (abrupt_passes how abrupt)
   leaves calls (frame.Told f) frames passes = ap (follows calls frames) (abrupt_passes how abrupt)
+  leaves calls (frame.Give v) frames passes = ap (follows calls frames) (abrupt_passes how abrupt)
   leaves calls (frame.Completion f) frames passes =
       ap (λ p. follows calls frames (and_then p (λ end. End (Completion-given end))))
       (passes_completion table calls f how abrupt passes)

@@ -68,6 +68,7 @@ handles (frame.Algorithm f) how = false
 handles (frame.Statement f) how = false
 handles (frame.Completion f) how = completion_handles f how
 handles (frame.Told f) how = false
+handles (frame.Give v) how = false
 handles frame.Body how = is_abrupt how
 
 -- a frame that can take a completion
@@ -87,6 +88,7 @@ is_handler (frame.Algorithm f) = false
 is_handler (frame.Statement f) = false
 is_handler (frame.Completion f) = completion_is_handler f
 is_handler (frame.Told f) = false
+is_handler (frame.Give v) = false
 is_handler frame.Body = true
 
 -- The depth of the innermost handler of these frames, of which the innermost stands first. Depths count from 0 at the

@@ -1,6 +1,8 @@
 pub mod AlgorithmFrames
+pub mod Clauses
 pub mod HandlerDepths
 pub mod Handlers
+pub mod Lending
 pub mod Rank
 pub mod Rest
 pub mod StatementFrames

@@ -51,7 +51,6 @@ rank_algorithm (algorithm.Then v) = 3
 rank_algorithm (algorithm.Builtin p) = rank_progress p
 
 abbrev pub rank_told : ToldFrame → ℕ
-rank_told (told.Give v) = 3
 rank_told (told.Put base x v strict given) = 44
 rank_told (told.PutMember id base x v strict given) = 50
 rank_told (told.Invoke id call) = 12
@@ -78,7 +77,7 @@ rank_value (waiting.Callee this by_new args here) = 136
 rank_value (waiting.CalleeDotBase key args here) = 200
 rank_value (waiting.CalleeIndexBase k args here) = 204
 rank_value (waiting.CalleeIndexKey base args here) = 200
-rank_value (waiting.Argument purpose so_far rest here) = 132
+rank_value (waiting.Argument arguments) = 132
 rank_value (waiting.Operand o) = 50
 rank_value waiting.DeleteValue = 3
 rank_value (waiting.DeleteDotBase key strict) = 30
@@ -156,6 +155,7 @@ rank (frame.Algorithm f) = rank_algorithm f
 rank (frame.Statement f) = rank_statement f
 rank (frame.Completion f) = rank_completion f
 rank (frame.Told f) = rank_told f
+rank (frame.Give v) = 3
 rank frame.Body = 3
 
 abbrev pub ranks : List Frame → ℕ

@@ -17,7 +17,7 @@ use Rattle.jl_meaning.specs.Expressions.{evaluate}
 use Rattle.jl_meaning.specs.FunctionObjects.{FunctionTable}
 use Rattle.jl_meaning.specs.Mean.{end_of, language}
 use Rattle.jl_meaning.specs.Noting.{note, performs}
-use Rattle.jl_meaning.specs.Parts.{answer_of, gives, lift, throws, Algorithm, Answer, CallOf, Part}
+use Rattle.jl_meaning.specs.Parts.{answer_of, give, gives, lift, throws, Algorithm, Answer, CallOf, Part}
 use Rattle.jl_meaning.specs.Statements.{execute}
 use Rattle.jl_meaning.specs.Store.{Store}
 use Rattle.jl_meaning.specs.forms.Functions.{result_of}
@@ -80,6 +80,7 @@ after table calls (frame.Algorithm f) = on_value (λ v. as_value (lift (algorith
 after table calls (frame.Statement f) = on_value (λ v. as_completion (statement_after table calls f v))
 after table calls (frame.Completion f) = on_completion (λ how. as_completion (completion_after table calls f how))
 after table calls (frame.Told f) = on_nothing (as_value (told_after f))
+after table calls (frame.Give v) = on_nothing (as_value (give v))
 after table calls frame.Body = on_completion (λ how. as_value (result_of how))
 
 -- the calls that are running when a frame is done

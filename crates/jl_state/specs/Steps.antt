@@ -51,6 +51,12 @@ pub record CompletionWaits (s : State) (f : CompletionFrame) (t : State) : Type 
   pub completes : (p : Part Completion) (u : State) (a : Act) → Completes t p u a
       → Completes s (and_then p (completion_after (table_of s.functions) s.calls f)) u a
 
+-- the part has the value v at once, with which t goes on, and no frame waits for it
+pub record Supplies (s : State) (p : Part (Answer Value)) (v : Value) (t : State) : Type 0 where
+  pub gives : (k : Value → Part (Answer Value)) (u : State) (a : Act) → Gives t (k v) u a → Gives s (p >>= k) u a
+  pub completes : (k : Value → Part Completion) (u : State) (a : Act) → Completes t (k v) u a
+      → Completes s (and_then p (on_given k)) u a
+
 -- what the frames of s do with a completion, those of t do
 pub record LeavesTo (s : State) (how : Completion) (t : State) : Type 0 where
   pub is : rest_of s (Completion-given how) ≡ rest_of t (Completion-given how)

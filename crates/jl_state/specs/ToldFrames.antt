@@ -12,7 +12,6 @@ use Rattle.jl_state.specs.declared.frame.ToldFrame.{ToldFrame}
 use Rattle.jl_state.specs.declared.frame.ToldFrame.TheVariants as told
 
 abbrev pub told_after : ToldFrame → Part (Answer Value)
-told_after (told.Give v) = give v
 told_after (told.Put base x v strict given) = do
   _ ← lift (put strict base x v)
   give given

@@ -147,9 +147,9 @@ module _ (table : FunctionTable) (calls : List Call) where
     key ← value_in k here
     call_member table 0 0 base key (values_of [] args.now here)
   value_after (waiting.CalleeIndexKey base args here) key = call_member table 0 0 base key (values_of [] args.now here)
-  value_after (waiting.Argument purpose so_far rest here) v = do
-    vs ← values_of (so_far ++ v ∷ []) (items_left rest) here
-    arguments_after purpose here vs
+  value_after (waiting.Argument a) v = do
+    vs ← values_of (a.so_far ++ v ∷ []) (items_left a.rest) a.here
+    arguments_after a.purpose a.here vs
   value_after (waiting.Operand o) v = operate_on performs 0 o v
   value_after waiting.DeleteValue _ = give (value.Bool true)
   value_after (waiting.DeleteDotBase key strict) base = delete_member performs 0 strict base (value.Text key.now)

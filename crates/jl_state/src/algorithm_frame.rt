@@ -1,4 +1,5 @@
 //! Algorithms of the standard that wait for a value.
+use crate::boxed::Boxed;
 use jl_ast::BinOp;
 use jl_num::Num;
 use jl_op::UnKind;
@@ -111,5 +112,5 @@ pub enum AlgorithmFrame {
     /// A setter was called, or anything whose value doesn't count: this is given.
     Then(Value),
     /// A builtin.
-    Builtin(Progress),
+    Builtin(Boxed<Progress>),
 }

@@ -1,6 +1,7 @@
 //! What is left to do of the parts of a program that were begun.
 use crate::act::Invocation;
 use crate::algorithm_frame::AlgorithmFrame;
+use crate::boxed::Boxed;
 use crate::hook::CallId;
 use crate::statement_frame::{CompletionFrame, StatementFrame};
 use crate::value_frame::ValueFrame;
@@ -15,11 +16,9 @@ pub struct Here {
     pub strict: bool,
 }
 
-/// What follows once the observer has been told of an operation.
+/// What follows once the observer has been told of an operation, where that is more than to give a value.
 #[derive(Drop)]
 pub enum ToldFrame {
-    /// A value is given.
-    Give(Value),
     /// A value is put to a member, and another one given.
     Put {
         base: Value,
@@ -51,7 +50,9 @@ pub enum Frame<'p> {
     Algorithm(AlgorithmFrame),
     Statement(StatementFrame<'p>),
     Completion(CompletionFrame<'p>),
-    Told(ToldFrame),
+    Told(Boxed<ToldFrame>),
+    /// A value is given, once the observer has been told of an operation.
+    Give(Value),
     /// The body of a function, in the innermost of the calls that are running (13.2.1).
     Body,
 }

@@ -21,6 +21,7 @@ pub(crate) fn handles<'p>(frame: &Frame<'p>, how: &Completion) -> bool
         Frame::Statement(_) => false,
         Frame::Completion(frame) => completion_handles(frame, how),
         Frame::Told(_) => false,
+        Frame::Give(_) => false,
         Frame::Body => is_abrupt(how),
     }
 }
@@ -110,6 +111,7 @@ pub(crate) fn is_handler<'p>(frame: &Frame<'p>) -> bool
         Frame::Statement(_) => false,
         Frame::Completion(frame) => completion_is_handler(frame),
         Frame::Told(_) => false,
+        Frame::Give(_) => false,
         Frame::Body => true,
     }
 }

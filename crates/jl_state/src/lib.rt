@@ -3,11 +3,13 @@
 
 mod act;
 mod algorithm_frame;
+mod boxed;
 mod calls;
 mod frame;
 mod functions;
 mod handlers;
 mod hook;
+mod labels;
 pub mod laws;
 mod remaining;
 mod script_function;
@@ -18,13 +20,15 @@ mod value_frame;
 
 pub use act::{Act, Invocation};
 pub use algorithm_frame::{AlgorithmFrame, Attributes, Hint, WrittenBy};
+pub use boxed::Boxed;
 pub use calls::{Call, Calls};
 pub use frame::{Frame, Here, ToldFrame};
 pub use handlers::{is_abrupt, is_among};
 pub use hook::{CallId, Hook, HookId, Opener, Pending};
+pub use labels::Labels;
 pub use remaining::{Remaining, split_first};
 pub use script_function::ScriptFunction;
 pub use stack::Stack;
 pub use state::State;
 pub use statement_frame::{CompletionFrame, Loop, LoopTurn, StatementFrame, Visit, Visits};
-pub use value_frame::{ArgumentsFor, KeyFor, Noted, ValueFrame};
+pub use value_frame::{Arguments, ArgumentsFor, KeyFor, Noted, ValueFrame};

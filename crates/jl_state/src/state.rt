@@ -3,6 +3,7 @@ ghost use Rattle.std.specs.Prelude.{◌≡◌, ◌-◌, ◌<◌, ◌≤◌, ◌�
 
 use crate::act::Act;
 use crate::algorithm_frame::AlgorithmFrame;
+use crate::boxed::Boxed;
 use crate::calls::Calls;
 use crate::frame::{Frame, Here};
 use crate::script_function::ScriptFunction;
@@ -10,9 +11,11 @@ use crate::stack::Stack;
 use crate::statement_frame::{CompletionFrame, StatementFrame};
 use crate::value_frame::ValueFrame;
 use jl_ast::{Expr, Stmt};
+use jl_progress::Progress;
 use jl_store::Store;
 use jl_text::{List, NoMemory};
 use jl_value::Completion;
+use std::alloc::Global;
 
 /// The state of a run: its store, the functions of the script by number, the calls that are running, the frames, the
 /// bytes of the output, and how many steps are left.
@@ -36,11 +39,16 @@ impl<'p> State<'p> {
     ghost use Rattle.jl_state.specs.ValueFrames.{value_after};
     ghost use Rattle.jl_state.specs.Handlers.{is_abrupt, IsUnwound, NoneHandles};
     ghost use Rattle.jl_state.specs.Rank.{ranks};
-    ghost use Rattle.jl_state.specs.Rest.{Gives, Completes};
+    ghost use Rattle.jl_state.specs.Clauses.{Evaluates, Executes};
     ghost use Rattle.jl_state.specs.Steps.{Took, RanOut, ValueWaits, AlgorithmWaits, StatementWaits, CompletionWaits};
     ghost use Rattle.jl_state.specs.Steps.{IsUncaught, LeavesTo};
     ghost use Rattle.jl_state.specs.Trees.{plain};
     ghost use Rattle.jl_state.specs.Words.{table_of, context_of};
+
+    /// Where a run takes memory from.
+    pub fn alloc(&self) -> Global {
+        self.store.alloc()
+    }
 
     /// Takes one of the steps that are left, and answers whether there was one.
     pub fn spend(&mut self) -> bool
@@ -55,6 +63,16 @@ impl<'p> State<'p> {
         }
         self.left -= 1;
         true
+    }
+
+    /// Takes one of the steps that are left, where one is known to be.
+    pub fn take_step(&mut self)
+        requires { 0 < self.old.left }
+        ensures took { Took self.old self.new }
+        ensures left { self.new ≡ record self.old { left = self.old.left - 1 } }
+        ensures less { self.new.left < self.old.left }
+    {
+        self.left -= 1;
     }
 
     /// An expression waits for a value.
@@ -73,6 +91,17 @@ impl<'p> State<'p> {
     {
         self.stack.push(Frame::Algorithm(frame))?;
         Ok(())
+    }
+
+    /// A builtin waits for a value.
+    pub fn push_builtin(&mut self, progress: Progress) -> Result<(), NoMemory>
+        ensures waits { OnOk result (AlgorithmWaits self.old (AlgorithmFrame.Builtin progress) self.new) }
+        ensures pushed { OnOk result (self.new ≡ record self.old {
+          stack = Frame.Algorithm (AlgorithmFrame.Builtin progress) ∷ self.old.stack;
+        }) }
+    {
+        let progress = Boxed::of(self.alloc(), progress)?;
+        self.push_algorithm(AlgorithmFrame::Builtin(progress))
     }
 
     /// A statement waits for a value.
@@ -120,9 +149,9 @@ impl<'p> State<'p> {
         e: &'p Expr,
         here: Here,
     ) -> Result<Act<'p>, NoMemory>
-        ensures leads { IfOk result (λ act. Gives self.old
+        ensures leads { Evaluates self.old
             (evaluate (table_of self.old.functions) (plain (view_expression e.now)) (context_of self.old.calls here)
-            then value_after (table_of self.old.functions) self.old.calls frame.entry) self.new act) }
+            then value_after (table_of self.old.functions) self.old.calls frame.entry) result self.new }
         ensures pushed { IfOk result (λ act. (act ≡ Act.Evaluate e.entry here)
             × (self.new ≡ record self.old { stack = Frame.Value frame.entry ∷ self.old.stack })) }
     {
@@ -137,10 +166,10 @@ impl<'p> State<'p> {
         e: &'p Expr,
         here: Here,
     ) -> Result<Act<'p>, NoMemory>
-        ensures leads { IfOk result (λ act. Completes self.old
+        ensures leads { Executes self.old
             (and_then (evaluate (table_of self.old.functions) (plain (view_expression e.now))
             (context_of self.old.calls here))
-            (on_given (statement_after (table_of self.old.functions) self.old.calls frame.entry))) self.new act) }
+            (on_given (statement_after (table_of self.old.functions) self.old.calls frame.entry))) result self.new }
         ensures pushed { IfOk result (λ act. (act ≡ Act.Evaluate e.entry here)
             × (self.new ≡ record self.old { stack = Frame.Statement frame.entry ∷ self.old.stack })) }
     {

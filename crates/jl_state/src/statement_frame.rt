@@ -1,5 +1,7 @@
 //! Statements that wait for a value, or for the completion of another.
+use crate::boxed::Boxed;
 use crate::frame::Here;
+use crate::labels::Labels;
 use crate::remaining::Remaining;
 use jl_ast::{Case, Expr, Ident, Stmt};
 use jl_text::{List, Text};
@@ -39,7 +41,7 @@ pub enum Loop<'p> {
     },
     ForIn {
         variable: &'p Text,
-        visits: Visits,
+        visits: Boxed<Visits>,
         body: &'p List<Stmt>,
     },
 }
@@ -49,7 +51,7 @@ pub enum Loop<'p> {
 pub struct LoopTurn<'p> {
     pub kind: Loop<'p>,
     pub here: Here,
-    pub labels: List<&'p Text>,
+    pub labels: Labels<'p>,
 }
 
 /// A statement that waits for a value.
@@ -82,7 +84,7 @@ pub enum StatementFrame<'p> {
         variable: &'p Text,
         body: &'p List<Stmt>,
         here: Here,
-        labels: List<&'p Text>,
+        labels: Labels<'p>,
     },
     /// A turn of a `for-in`, whose variable has been put.
     ForInBody {

@@ -1,5 +1,6 @@
 //! Expressions that wait for a value.
 use crate::act::Invocation;
+use crate::boxed::Boxed;
 use crate::frame::Here;
 use crate::hook::{Hook, HookId, Opener, Pending};
 use crate::remaining::Remaining;
@@ -100,6 +101,16 @@ pub enum ArgumentsFor<'p> {
     Close(Pending),
 }
 
+/// Arguments of which some have been evaluated (11.2.4): their values, what is left to evaluate, and what is done with
+/// all values.
+#[derive(Drop)]
+pub struct Arguments<'p> {
+    pub purpose: ArgumentsFor<'p>,
+    pub so_far: List<Value>,
+    pub rest: Remaining<'p, Expr>,
+    pub here: Here,
+}
+
 /// An expression that waits for a value and gives one.
 #[derive(Drop)]
 pub enum ValueFrame<'p> {
@@ -164,12 +175,7 @@ pub enum ValueFrame<'p> {
         here: Here,
     },
     /// An argument (11.2.4).
-    Argument {
-        purpose: ArgumentsFor<'p>,
-        so_far: List<Value>,
-        rest: Remaining<'p, Expr>,
-        here: Here,
-    },
+    Argument(Boxed<Arguments<'p>>),
     /// An operator with one operand (11.4).
     Operand {
         op: UnKind,

@@ -44,6 +44,11 @@ impl Store {
         })
     }
 
+    /// Where the store takes memory from.
+    pub fn alloc(&self) -> Global {
+        self.alloc
+    }
+
     /// The objects, as they are.
     pub fn heap(&self) -> &Heap
         ensures { result.now ≡ self.now.heap }

@@ -1,7 +1,7 @@
 //! Frames by their words, for each kind of frame one that needs no script.
 use crate::fault::Fault;
 use jl_num::Num;
-use jl_state::{AlgorithmFrame, CompletionFrame, Frame, StatementFrame, ToldFrame, ValueFrame};
+use jl_state::{AlgorithmFrame, CompletionFrame, Frame, StatementFrame, ValueFrame};
 use jl_value::{Completion, Value};
 
 /// Which frame it is.
@@ -51,7 +51,7 @@ fn frame_of_number<'p>(word: &str) -> Result<Frame<'p>, Fault> {
 
 /// The frame that gives this number.
 pub fn frame_giving<'p>(number: Num) -> Frame<'p> {
-    Frame::Told(ToldFrame::Give(Value::Num(number)))
+    Frame::Give(Value::Num(number))
 }
 
 /// The name of this frame.
@@ -62,7 +62,7 @@ pub fn name_of(frame: &Frame<'_>) -> Name {
         Frame::Statement(StatementFrame::Return) => Name::Return,
         Frame::Statement(StatementFrame::Throw) => Name::Throw,
         Frame::Completion(CompletionFrame::Switch) => Name::Switch,
-        Frame::Told(ToldFrame::Give(Value::Num(number))) => Name::Number(value_of(*number)),
+        Frame::Give(Value::Num(number)) => Name::Number(value_of(*number)),
         Frame::Body => Name::Body,
         _ => Name::Another,
     }
