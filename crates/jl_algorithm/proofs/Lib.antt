@@ -1,6 +1,8 @@
+pub mod Called
 pub mod Defined
 pub mod Deletes
 pub mod Found
+pub mod Leaves
 pub mod Methods
 pub mod Puts
 pub mod Resolved

@@ -1,5 +1,5 @@
 -- The methods by which objects are converted to primitive values.
-use Rattle.std.proofs.Common.{◌≡◌, refl, subst, sym, codes, false, true, [], Bool, List, None}
+use Rattle.std.proofs.Common.{◌≡◌, ◌+◌, ◌<◌, refl, subst, sym, codes, false, true, [], arith, Bool, List, None}
 use Rattle.jl_value.specs.declared.error_kind.ErrorKind.TheVariants.{TypeError}
 use Rattle.jl_value.specs.declared.object.ObjId.{ObjId}
 use Rattle.jl_value.specs.declared.value.Value.{Value}
@@ -9,6 +9,7 @@ use Rattle.jl_meaning.specs.Errors.{throw_error}
 use Rattle.jl_meaning.specs.Getting.{get, is_callable}
 use Rattle.jl_meaning.specs.Parts.{call, ◌>>=◌, Algorithm}
 use Rattle.jl_state.specs.AlgorithmFrames.{after_method, algorithm_after, method_name}
+use Rattle.jl_state.specs.Rank.{rank_method, rank_method_result}
 use Rattle.jl_state.specs.Rest.{Works}
 use Rattle.jl_state.specs.Steps.{AlgorithmWaits}
 use Rattle.jl_state.specs.Words.{hint_of}
@@ -82,6 +83,11 @@ calls_method s u object h is_second v callee args is can_call none waits =
   where
     called : List Value → Act
     called l = act.Call (record { callee = callee; this = value.Obj object; args = l; by_new = false })
+
+-- what waits for its result does less than what waited for it
+pub method_falls : (is_second : Bool) → 1 + rank_method_result is_second < rank_method is_second
+method_falls true = omega arith
+method_falls false = omega arith
 
 -- no method is left
 pub ends_methods : (s : State) (object : ObjId) (h : Hint) (is_second : Bool) (t : State) (a : Act)

@@ -1,12 +1,11 @@
 //! Properties defined (8.12.9, 15.4.5.1).
-ghost use Rattle.std.specs.Prelude.{◌≡◌, true, IfOk};
+ghost use Rattle.std.specs.Prelude.{◌≡◌, true};
 ghost use Rattle.jl_heap.specs.Define.{FitsLength, IsOneKind};
 ghost use Rattle.jl_meaning.specs.Defining.{define_own_property, define_with_number};
 ghost use Rattle.jl_meaning.specs.Parts.{◌>>=◌ as ◌then◌};
 ghost use Rattle.jl_state.specs.AlgorithmFrames.{after_define};
-ghost use Rattle.jl_state.specs.Rank.{Falls};
-ghost use Rattle.jl_state.specs.Rest.{Works};
 ghost use Rattle.jl_algorithm.specs.inner.Lengths.{is_array_length};
+ghost use Rattle.jl_state.specs.Clauses.{Computes, RankAtMost};
 
 use crate::errors::throw_native;
 use crate::primitive::to_primitive;
@@ -15,7 +14,6 @@ use jl_state::{Act, AlgorithmFrame, Attributes, Hint, State, WrittenBy};
 use jl_store::Store;
 use jl_text::{NoMemory, Text};
 use jl_value::{Class, ErrorKind, ObjId, Value, share};
-use std::alloc::Global;
 
 /// The units of the name `length`.
 const LENGTH: [u16; 6] = [0x6C, 0x65, 0x6E, 0x67, 0x74, 0x68];
@@ -23,7 +21,6 @@ const LENGTH: [u16; 6] = [0x6C, 0x65, 0x6E, 0x67, 0x74, 0x68];
 /// [[DefineOwnProperty]] (8.12.9, 10.6, 15.4.5.1), and then what the property is defined for. The value of a length of
 /// an array is converted to a number first, and throws a RangeError where that is no length.
 pub fn define_own_property<'p>(
-    alloc: Global,
     state: &mut State<'p>,
     id: ObjId,
     name: &Text,
@@ -31,20 +28,19 @@ pub fn define_own_property<'p>(
     purpose: WrittenBy,
 ) -> Result<Act<'p>, NoMemory>
     requires { IsOneKind change }
-    ensures leads { IfOk result (λ act. Works state.old
-        (define_own_property id name.now change then after_define purpose) state.new act) }
-    ensures falls { IfOk result (λ act. Falls state.old 40 state.new act) }
+    ensures leads { Computes state.old (define_own_property id name.now change then after_define purpose) result
+        state.new }
+    ensures falls { RankAtMost state.old 40 result state.new }
 {
     if is_array_length(&state.store, id, name) {
-        return define_length(alloc, state, id, name, change, purpose);
+        return define_length(state, id, name, change, purpose);
     }
-    define_now(alloc, state, id, name, change, purpose)
+    define_now(state, id, name, change, purpose)
 }
 
 /// The same of the length of an array, whose value is converted twice (15.4.5.1, steps 3.c and 3.d).
 #[tactic(auto, using(crate::proofs::Defined::converts_length))]
 fn define_length<'p>(
-    alloc: Global,
     state: &mut State<'p>,
     id: ObjId,
     name: &Text,
@@ -53,12 +49,13 @@ fn define_length<'p>(
 ) -> Result<Act<'p>, NoMemory>
     requires one_kind { IsOneKind change }
     requires length { is_array_length state.old.store id name.now ≡ true }
-    ensures leads { IfOk result (λ act. Works state.old
-        (define_own_property id name.now change then after_define purpose) state.new act) }
-    ensures falls { IfOk result (λ act. Falls state.old 40 state.new act) }
+    ensures leads { Computes state.old (define_own_property id name.now change then after_define purpose) result
+        state.new }
+    ensures falls { RankAtMost state.old 40 result state.new }
 {
+    let alloc = state.alloc();
     let Some(length) = &change.value else {
-        return define_now(alloc, state, id, name, change, purpose);
+        return define_now(state, id, name, change, purpose);
     };
     let v = share(alloc, length)?;
     let length = share(alloc, length)?;
@@ -72,13 +69,12 @@ fn define_length<'p>(
         },
         purpose,
     })?;
-    to_primitive(alloc, state, v, Hint::Number)
+    to_primitive(state, v, Hint::Number)
 }
 
 /// [[DefineOwnProperty]] of a change in which a length of an array is a number already, and then what the property is
 /// defined for.
 pub(crate) fn define_now<'p>(
-    alloc: Global,
     state: &mut State<'p>,
     id: ObjId,
     name: &Text,
@@ -87,36 +83,35 @@ pub(crate) fn define_now<'p>(
 ) -> Result<Act<'p>, NoMemory>
     requires one_kind { IsOneKind change }
     requires length { FitsLength state.old.store.heap id.0 name.now change }
-    ensures leads { IfOk result (λ act. Works state.old
-        (define_with_number id name.now change then after_define purpose) state.new act) }
-    ensures falls { IfOk result (λ act. Falls state.old 3 state.new act) }
+    ensures leads { Computes state.old (define_with_number id name.now change then after_define purpose) result
+        state.new }
+    ensures falls { RankAtMost state.old 3 result state.new }
 {
     let done = state.store.define_with_number(id, name, change)?;
-    after_define(alloc, state, purpose, done)
+    after_define(state, purpose, done)
 }
 
 /// What follows when a property has been defined, or that was rejected: a put throws a TypeError if it is asked to,
 /// and a builtin always.
 pub(crate) fn after_define<'p>(
-    alloc: Global,
     state: &mut State<'p>,
     purpose: WrittenBy,
     done: bool,
 ) -> Result<Act<'p>, NoMemory>
-    ensures leads { IfOk result (λ act. Works state.old (after_define purpose done) state.new act) }
-    ensures falls { IfOk result (λ act. Falls state.old 3 state.new act) }
+    ensures leads { Computes state.old (after_define purpose done) result state.new }
+    ensures falls { RankAtMost state.old 3 result state.new }
 {
     match purpose {
         WrittenBy::Literal => Ok(Act::Give(Value::Undefined)),
         WrittenBy::Put { throwing, gives } => {
             if throwing && !done {
-                return throw_native(alloc, state, ErrorKind::TypeError, "cannot write");
+                return throw_native(state, ErrorKind::TypeError, "cannot write");
             }
             Ok(Act::Give(gives))
         }
         WrittenBy::Builtin { gives } => {
             if !done {
-                return throw_native(alloc, state, ErrorKind::TypeError, "cannot define");
+                return throw_native(state, ErrorKind::TypeError, "cannot define");
             }
             Ok(Act::Give(gives))
         }

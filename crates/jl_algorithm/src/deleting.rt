@@ -13,13 +13,11 @@ use jl_state::State;
 use jl_store::{Answer, Property, Store};
 use jl_text::{NoMemory, Text, word};
 use jl_value::{ErrorKind, ObjId, Value};
-use std::alloc::Global;
 
 /// [[Delete]] (8.12.7, 10.6), and that of a base that is no object (11.4.1): whether the name is free now. Where the
 /// property stays, it throws a TypeError if it is asked to.
 #[tactic(auto, unfolding(jl_meaning::specs::Putting::delete))]
 pub fn delete<'p>(
-    alloc: Global,
     state: &mut State<'p>,
     throwing: bool,
     base: &Value,
@@ -29,6 +27,7 @@ pub fn delete<'p>(
     ensures comes { IfOk result (λ answer. Comes (delete throwing base.now name.now) state.old.store state.new.store
         (ends_with answer)) }
 {
+    let alloc = state.alloc();
     let free = delete_on(&mut state.store, base, name);
     if free || !throwing {
         return Ok(Answer::Gives(free));

@@ -1,8 +1,9 @@
 //! Values of properties got (8.7.1, 8.12.3).
 ghost use Rattle.std.specs.Prelude.{◌≡◌, ◌≤◌, Some, IfOk};
 ghost use Rattle.jl_meaning.specs.Getting.{get, value_of_property};
+ghost use Rattle.jl_state.specs.Clauses.{Computes, RankAtMost};
 ghost use Rattle.jl_store.specs.LookUps.{property_seen};
-ghost use Rattle.jl_state.specs.Rank.{rank_act, Falls};
+ghost use Rattle.jl_state.specs.Rank.{rank_act};
 ghost use Rattle.jl_state.specs.Rest.{Works};
 ghost use Rattle.jl_state.specs.declared.state.State.{State as Machine};
 
@@ -14,15 +15,11 @@ use std::alloc::Global;
 
 /// [[Get]] of an object (8.12.3), and that of a value that is no object (8.7.1). A getter is called.
 #[tactic(auto, unfolding(jl_meaning::specs::Getting::get), using(jl_state::proofs::Steps::looks))]
-pub fn get<'p>(
-    alloc: Global,
-    state: &mut State<'p>,
-    base: &Value,
-    name: &Text,
-) -> Result<Act<'p>, NoMemory>
-    ensures leads { IfOk result (λ act. Works state.old (get base.now name.now) state.new act) }
-    ensures falls { IfOk result (λ act. Falls state.old 4 state.new act) }
+pub fn get<'p>(state: &mut State<'p>, base: &Value, name: &Text) -> Result<Act<'p>, NoMemory>
+    ensures leads { Computes state.old (get base.now name.now) result state.new }
+    ensures falls { RankAtMost state.old 4 result state.new }
 {
+    let alloc = state.alloc();
     match state.store.property_of_value(base, name) {
         None => Ok(Act::Give(Value::Undefined)),
         Some(property) => value_of_property(alloc, base, &property),
@@ -45,11 +42,14 @@ fn value_of_property<'p>(
     }
     match property.found.getter() {
         None => Ok(Act::Give(Value::Undefined)),
-        Some(getter) => Ok(Act::Call(Invocation {
-            callee: getter,
-            this: share(alloc, this)?,
-            args: List::new(alloc),
-            by_new: false,
-        })),
+        Some(getter) => Act::call(
+            alloc,
+            Invocation {
+                callee: getter,
+                this: share(alloc, this)?,
+                args: List::new(alloc),
+                by_new: false,
+            },
+        ),
     }
 }

@@ -1,10 +1,9 @@
 //! Lengths of arrays defined, when their values have been converted (15.4.5.1).
-ghost use Rattle.std.specs.Prelude.{◌≡◌, pos, Some, IfOk};
+ghost use Rattle.std.specs.Prelude.{◌≡◌, pos, Some};
 ghost use Rattle.jl_conv.specs.Conversions.{number_of_value};
 ghost use Rattle.jl_value.specs.Same.{same_number};
-ghost use Rattle.jl_state.specs.AlgorithmFrames.{algorithm_after, define_length};
-ghost use Rattle.jl_state.specs.Rank.{Falls};
-ghost use Rattle.jl_state.specs.Rest.{Works};
+ghost use Rattle.jl_state.specs.AlgorithmFrames.{define_length};
+ghost use Rattle.jl_state.specs.Clauses.{Computes, RankAtMost, ResumesAlgorithm};
 
 use crate::defining::define_now;
 use crate::errors::throw_native;
@@ -15,13 +14,11 @@ use jl_num::{Num, to_uint32};
 use jl_state::{Act, AlgorithmFrame, Attributes, Hint, State, WrittenBy};
 use jl_text::{NoMemory, word};
 use jl_value::{ErrorKind, Fault, ObjId, Value};
-use std::alloc::Global;
 
 /// Goes on when the length of an array has been converted to a primitive value: it is converted once more (15.4.5.1,
 /// step 3.d).
 #[tactic(auto, using(crate::proofs::Defined::outside))]
 pub fn step_length_count<'p>(
-    alloc: Global,
     state: &mut State<'p>,
     array: ObjId,
     length: Value,
@@ -29,9 +26,9 @@ pub fn step_length_count<'p>(
     purpose: WrittenBy,
     v: Value,
 ) -> Result<Act<'p>, NoMemory>
-    ensures leads { IfOk result (λ act. Works state.old
-        (algorithm_after (AlgorithmFrame.LengthCount array length attributes purpose) v) state.new act) }
-    ensures falls { IfOk result (λ act. Falls state.old 22 state.new act) }
+    ensures leads { ResumesAlgorithm state.old (AlgorithmFrame.LengthCount array length attributes purpose) v result
+        state.new }
+    ensures falls { RankAtMost state.old 22 result state.new }
 {
     let Some(first) = number_of(&v) else {
         return Ok(Act::Fault(Fault::NumberOutside));
@@ -42,13 +39,12 @@ pub fn step_length_count<'p>(
         attributes,
         purpose,
     })?;
-    to_primitive(alloc, state, length, Hint::Number)
+    to_primitive(state, length, Hint::Number)
 }
 
 /// Goes on when it has been converted a second time: where it is a length, it is defined.
 #[tactic(auto, using(crate::proofs::Defined::outside, crate::proofs::Defined::numbers_length))]
 pub fn step_length_number<'p>(
-    alloc: Global,
     state: &mut State<'p>,
     array: ObjId,
     count: u32,
@@ -56,20 +52,19 @@ pub fn step_length_number<'p>(
     purpose: WrittenBy,
     v: Value,
 ) -> Result<Act<'p>, NoMemory>
-    ensures leads { IfOk result (λ act. Works state.old
-        (algorithm_after (AlgorithmFrame.LengthNumber array count attributes purpose) v) state.new act) }
-    ensures falls { IfOk result (λ act. Falls state.old 5 state.new act) }
+    ensures leads { ResumesAlgorithm state.old (AlgorithmFrame.LengthNumber array count attributes purpose) v result
+        state.new }
+    ensures falls { RankAtMost state.old 5 result state.new }
 {
     let Some(n) = number_of(&v) else {
         return Ok(Act::Fault(Fault::NumberOutside));
     };
-    define_length(alloc, state, array, count, attributes, purpose, n)
+    define_length(state, array, count, attributes, purpose, n)
 }
 
 /// The length of an array is defined, where the number is this count (15.4.5.1, step 3.d).
 #[tactic(auto, using(crate::proofs::Defined::fits_count))]
 fn define_length<'p>(
-    alloc: Global,
     state: &mut State<'p>,
     array: ObjId,
     count: u32,
@@ -77,12 +72,12 @@ fn define_length<'p>(
     purpose: WrittenBy,
     n: Num,
 ) -> Result<Act<'p>, NoMemory>
-    ensures leads { IfOk result (λ act. Works state.old
-        (define_length array count attributes purpose n) state.new act) }
-    ensures falls { IfOk result (λ act. Falls state.old 3 state.new act) }
+    ensures leads { Computes state.old (define_length array count attributes purpose n) result state.new }
+    ensures falls { RankAtMost state.old 3 result state.new }
 {
+    let alloc = state.alloc();
     if !is_count(n, count) {
-        return throw_native(alloc, state, ErrorKind::RangeError, "bad array length");
+        return throw_native(state, ErrorKind::RangeError, "bad array length");
     }
     let name = word(alloc, "length")?;
     let change = Change {
@@ -93,7 +88,7 @@ fn define_length<'p>(
         enumerable: attributes.enumerable,
         configurable: attributes.configurable,
     };
-    define_now(alloc, state, array, &name, change, purpose)
+    define_now(state, array, &name, change, purpose)
 }
 
 /// Whether a number is this count.

@@ -5,6 +5,8 @@ mod defining;
 mod deleting;
 mod errors;
 mod getting;
+mod hooks;
+mod leaf;
 mod lengths;
 mod names;
 mod primitive;
@@ -14,6 +16,8 @@ pub use defining::define_own_property;
 pub use deleting::delete;
 pub use errors::throw_native;
 pub use getting::get;
+pub use hooks::is_hooks;
+pub use leaf::leaf_value;
 pub use lengths::{is_count, step_length_count, step_length_number};
 pub use names::{
     delete_name, get_name, get_value, put_name, put_value, step_type_of, type_of_name,

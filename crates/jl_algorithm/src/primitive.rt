@@ -3,9 +3,9 @@ ghost use Rattle.std.specs.Prelude.{◌≡◌, ◌+◌, None, IfOk};
 ghost use Rattle.jl_value.specs.declared.value.Value.TheVariants as value;
 ghost use Rattle.jl_meaning.specs.Conversions.{to_primitive, try_method};
 ghost use Rattle.jl_meaning.specs.Parts.{◌>>=◌ as ◌then◌};
-ghost use Rattle.jl_state.specs.AlgorithmFrames.{after_method, algorithm_after, method_name};
-ghost use Rattle.jl_state.specs.Rank.{rank_method, rank_method_result, Falls};
-ghost use Rattle.jl_state.specs.Rest.{Works};
+ghost use Rattle.jl_state.specs.AlgorithmFrames.{after_method, method_name};
+ghost use Rattle.jl_state.specs.Clauses.{Computes, RankAtMost, ResumesAlgorithm};
+ghost use Rattle.jl_state.specs.Rank.{rank_method, rank_method_result};
 ghost use Rattle.jl_state.specs.Words.{hint_of};
 
 use crate::errors::throw_native;
@@ -17,17 +17,12 @@ use std::alloc::Global;
 
 /// ToPrimitive (9.1). An object is asked for its two methods, one after the other.
 #[tactic(auto, unfolding(jl_meaning::specs::Conversions::to_primitive), using(crate::proofs::Methods::works_default))]
-pub fn to_primitive<'p>(
-    alloc: Global,
-    state: &mut State<'p>,
-    v: Value,
-    hint: Hint,
-) -> Result<Act<'p>, NoMemory>
-    ensures leads { IfOk result (λ act. Works state.old (to_primitive (hint_of hint) v) state.new act) }
-    ensures falls { IfOk result (λ act. Falls state.old 16 state.new act) }
+pub fn to_primitive<'p>(state: &mut State<'p>, v: Value, hint: Hint) -> Result<Act<'p>, NoMemory>
+    ensures leads { Computes state.old (to_primitive (hint_of hint) v) result state.new }
+    ensures falls { RankAtMost state.old 16 result state.new }
 {
     match v {
-        Value::Obj(object, ..) => try_method(alloc, state, object, hint, false),
+        Value::Obj(object, ..) => try_method(state, object, hint, false),
         _ => Ok(Act::Give(v)),
     }
 }
@@ -35,51 +30,52 @@ pub fn to_primitive<'p>(
 /// Goes on with a method of [[DefaultValue]] that has been got: it is called, if it can be (8.12.8).
 #[tactic(auto, using(crate::proofs::Methods::leaves_method))]
 pub fn step_method<'p>(
-    alloc: Global,
     state: &mut State<'p>,
     object: ObjId,
     hint: Hint,
     is_second: bool,
     v: Value,
 ) -> Result<Act<'p>, NoMemory>
-    ensures leads { IfOk result (λ act. Works state.old
-        (algorithm_after (AlgorithmFrame.Method object hint is_second) v) state.new act) }
-    ensures falls { IfOk result (λ act. Falls state.old (rank_method is_second) state.new act) }
+    ensures leads { ResumesAlgorithm state.old (AlgorithmFrame.Method object hint is_second) v result state.new }
+    ensures falls { RankAtMost state.old (rank_method is_second) result state.new }
 {
+    let alloc = state.alloc();
     if !state.store.is_callable(&v) {
-        return after_none(alloc, state, object, hint, is_second);
+        return after_none(state, object, hint, is_second);
     }
     let Value::Obj(callee, ..) = v else {
-        return after_none(alloc, state, object, hint, is_second);
+        return after_none(state, object, hint, is_second);
     };
     state.push_algorithm(AlgorithmFrame::MethodResult {
         object,
         hint,
         is_second,
     })?;
-    Ok(Act::Call(Invocation {
-        callee,
-        this: Value::Obj(object),
-        args: List::new(alloc),
-        by_new: false,
-    }))
+    Act::call(
+        alloc,
+        Invocation {
+            callee,
+            this: Value::Obj(object),
+            args: List::new(alloc),
+            by_new: false,
+        },
+    )
 }
 
 /// Goes on with what that method has given (8.12.8).
 pub fn step_method_result<'p>(
-    alloc: Global,
     state: &mut State<'p>,
     object: ObjId,
     hint: Hint,
     is_second: bool,
     v: Value,
 ) -> Result<Act<'p>, NoMemory>
-    ensures leads { IfOk result (λ act. Works state.old
-        (algorithm_after (AlgorithmFrame.MethodResult object hint is_second) v) state.new act) }
-    ensures falls { IfOk result (λ act. Falls state.old (rank_method_result is_second) state.new act) }
+    ensures leads { ResumesAlgorithm state.old (AlgorithmFrame.MethodResult object hint is_second) v result
+        state.new }
+    ensures falls { RankAtMost state.old (rank_method_result is_second) result state.new }
 {
     match v {
-        Value::Obj(..) => after_none(alloc, state, object, hint, is_second),
+        Value::Obj(..) => after_none(state, object, hint, is_second),
         _ => Ok(Act::Give(v)),
     }
 }
@@ -87,42 +83,40 @@ pub fn step_method_result<'p>(
 /// Gets a method of [[DefaultValue]], which is tried then (8.12.8).
 #[tactic(auto, using(crate::proofs::Methods::works_method))]
 fn try_method<'p>(
-    alloc: Global,
     state: &mut State<'p>,
     object: ObjId,
     hint: Hint,
     is_second: bool,
 ) -> Result<Act<'p>, NoMemory>
-    ensures leads { IfOk result (λ act. Works state.old
-        (try_method (value.Obj object) (method_name hint is_second) then after_method object hint is_second)
-        state.new act) }
-    ensures falls { IfOk result (λ act. Falls state.old (rank_method is_second + 4) state.new act) }
+    ensures leads { Computes state.old (try_method (value.Obj object) (method_name hint is_second) then after_method
+        object hint is_second) result state.new }
+    ensures falls { RankAtMost state.old (rank_method is_second + 4) result state.new }
 {
+    let alloc = state.alloc();
     let name = method_name(alloc, hint, is_second)?;
     state.push_algorithm(AlgorithmFrame::Method {
         object,
         hint,
         is_second,
     })?;
-    get(alloc, state, &Value::Obj(object), &name)
+    get(state, &Value::Obj(object), &name)
 }
 
 /// What follows a method that gave no primitive value: the second is tried, or an error thrown (8.12.8).
 #[tactic(auto, using(crate::proofs::Methods::ends_methods))]
 fn after_none<'p>(
-    alloc: Global,
     state: &mut State<'p>,
     object: ObjId,
     hint: Hint,
     is_second: bool,
 ) -> Result<Act<'p>, NoMemory>
-    ensures leads { IfOk result (λ act. Works state.old (after_method object hint is_second None) state.new act) }
-    ensures falls { IfOk result (λ act. Falls state.old (rank_method_result is_second) state.new act) }
+    ensures leads { Computes state.old (after_method object hint is_second None) result state.new }
+    ensures falls { RankAtMost state.old (rank_method_result is_second) result state.new }
 {
     if is_second {
-        throw_native(alloc, state, ErrorKind::TypeError, "no primitive value")
+        throw_native(state, ErrorKind::TypeError, "no primitive value")
     } else {
-        try_method(alloc, state, object, hint, true)
+        try_method(state, object, hint, true)
     }
 }
 

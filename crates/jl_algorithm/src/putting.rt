@@ -1,5 +1,5 @@
 //! Values put to properties (8.7.2, 8.12.5).
-ghost use Rattle.std.specs.Prelude.{◌≡◌, ◌∷◌, [], true, false, IfOk};
+ghost use Rattle.std.specs.Prelude.{◌≡◌, ◌∷◌, [], true, false};
 ghost use Rattle.std.specs.Option.{option_map};
 ghost use Rattle.jl_value.specs.declared.value.Value.TheVariants as value;
 ghost use Rattle.jl_heap.specs.Objects.{object_at};
@@ -8,10 +8,9 @@ ghost use Rattle.jl_meaning.specs.Parts.{call, give, ◌>>=◌ as ◌then◌};
 ghost use Rattle.jl_meaning.specs.Properties.{can_put, get_property, property_of_value};
 ghost use Rattle.jl_meaning.specs.Putting.{put, put_if, put_on_primitive};
 ghost use Rattle.jl_state.specs.AlgorithmFrames.{after_define};
-ghost use Rattle.jl_state.specs.Rank.{Falls};
-ghost use Rattle.jl_state.specs.Rest.{Works};
 ghost use Rattle.jl_store.specs.LookUps.{property_seen};
 ghost use Rattle.jl_algorithm.specs.inner.Ways.{found_setter, put_so, way_of};
+ghost use Rattle.jl_state.specs.Clauses.{Computes, RankAtMost};
 
 use crate::defining::{after_define, define_own_property};
 use jl_heap::Change;
@@ -19,7 +18,6 @@ use jl_state::{Act, AlgorithmFrame, Invocation, State, WrittenBy};
 use jl_store::{Property, can_put};
 use jl_text::{List, NoMemory, Text};
 use jl_value::{ObjId, Value};
-use std::alloc::Global;
 
 /// How a put is done on an object (8.12.5).
 #[derive(Clone, Copy)]
@@ -37,7 +35,6 @@ enum Way {
 /// [[Put]] (8.12.5), and that of a base that is no object (8.7.2), and then a value is given. Where it isn't done, it
 /// throws a TypeError if it is asked to.
 pub fn put<'p>(
-    alloc: Global,
     state: &mut State<'p>,
     throwing: bool,
     base: Value,
@@ -45,19 +42,17 @@ pub fn put<'p>(
     v: Value,
     gives: Value,
 ) -> Result<Act<'p>, NoMemory>
-    ensures leads { IfOk result (λ act. Works state.old
-        (put throwing base name.now v then λ _. give gives) state.new act) }
-    ensures falls { IfOk result (λ act. Falls state.old 42 state.new act) }
+    ensures leads { Computes state.old (put throwing base name.now v then λ _. give gives) result state.new }
+    ensures falls { RankAtMost state.old 42 result state.new }
 {
     match base {
-        Value::Obj(id, ..) => put_on_object(alloc, state, id, name, v, throwing, gives),
-        _ => { put_on_primitive(alloc, state, base, name, v, throwing, gives) }
+        Value::Obj(id, ..) => put_on_object(state, id, name, v, throwing, gives),
+        _ => { put_on_primitive(state, base, name, v, throwing, gives) }
     }
 }
 
 /// A put on an object: at once where it comes to another value of an own data property alone.
 fn put_on_object<'p>(
-    alloc: Global,
     state: &mut State<'p>,
     id: ObjId,
     name: &Text,
@@ -65,21 +60,19 @@ fn put_on_object<'p>(
     throwing: bool,
     gives: Value,
 ) -> Result<Act<'p>, NoMemory>
-    ensures leads { IfOk result (λ act. Works state.old
-        (put_if (can_put (object_at state.old.store.heap id.0).extensible (get_property state.old.store id.0 name.now))
-        id name.now v (get_property state.old.store id.0 name.now) then after_define (WrittenBy.Put throwing gives))
-        state.new act) }
-    ensures falls { IfOk result (λ act. Falls state.old 42 state.new act) }
+    ensures leads { Computes state.old (put_if (can_put (object_at state.old.store.heap id.0).extensible
+        (get_property state.old.store id.0 name.now)) id name.now v (get_property state.old.store id.0 name.now)
+        then after_define (WrittenBy.Put throwing gives)) result state.new }
+    ensures falls { RankAtMost state.old 42 result state.new }
 {
     match state.store.set_value(id, name, v) {
-        Ok(()) => after_define(alloc, state, WrittenBy::Put { throwing, gives }, true),
-        Err(v) => put_by_look_up(alloc, state, id, name, v, throwing, gives),
+        Ok(()) => after_define(state, WrittenBy::Put { throwing, gives }, true),
+        Err(v) => put_by_look_up(state, id, name, v, throwing, gives),
     }
 }
 
 /// The same by the property that is found.
 fn put_by_look_up<'p>(
-    alloc: Global,
     state: &mut State<'p>,
     id: ObjId,
     name: &Text,
@@ -87,21 +80,19 @@ fn put_by_look_up<'p>(
     throwing: bool,
     gives: Value,
 ) -> Result<Act<'p>, NoMemory>
-    ensures leads { IfOk result (λ act. Works state.old
-        (put_if (can_put (object_at state.old.store.heap id.0).extensible (get_property state.old.store id.0 name.now))
-        id name.now v (get_property state.old.store id.0 name.now) then after_define (WrittenBy.Put throwing gives))
-        state.new act) }
-    ensures falls { IfOk result (λ act. Falls state.old 42 state.new act) }
+    ensures leads { Computes state.old (put_if (can_put (object_at state.old.store.heap id.0).extensible
+        (get_property state.old.store id.0 name.now)) id name.now v (get_property state.old.store id.0 name.now)
+        then after_define (WrittenBy.Put throwing gives)) result state.new }
+    ensures falls { RankAtMost state.old 42 result state.new }
 {
     let property = state.store.get_property(id, name);
     let way = way_of(can_put(state.store.is_extensible(id), &property), &property);
-    put_so(alloc, state, way, id, name, v, throwing, gives)
+    put_so(state, way, id, name, v, throwing, gives)
 }
 
 /// A put that is done so.
 #[tactic(auto, using(crate::proofs::Puts::calls_setter))]
 fn put_so<'p>(
-    alloc: Global,
     state: &mut State<'p>,
     way: Way,
     id: ObjId,
@@ -110,20 +101,20 @@ fn put_so<'p>(
     throwing: bool,
     gives: Value,
 ) -> Result<Act<'p>, NoMemory>
-    ensures leads { IfOk result (λ act. Works state.old
-        (put_so id name.now v way then after_define (WrittenBy.Put throwing gives)) state.new act) }
-    ensures falls { IfOk result (λ act. Falls state.old 42 state.new act) }
+    ensures leads { Computes state.old (put_so id name.now v way then after_define (WrittenBy.Put throwing gives))
+        result state.new }
+    ensures falls { RankAtMost state.old 42 result state.new }
 {
     match way {
-        Way::Refused => { after_define(alloc, state, WrittenBy::Put { throwing, gives }, false) }
+        Way::Refused => { after_define(state, WrittenBy::Put { throwing, gives }, false) }
         Way::Changed => {
             let purpose = WrittenBy::Put { throwing, gives };
-            define_own_property(alloc, state, id, name, value_change(v), purpose)
+            define_own_property(state, id, name, value_change(v), purpose)
         }
-        Way::Called(setter) => call_setter(alloc, state, setter, Value::Obj(id), v, gives),
+        Way::Called(setter) => call_setter(state, setter, Value::Obj(id), v, gives),
         Way::Added => {
             let purpose = WrittenBy::Put { throwing, gives };
-            define_own_property(alloc, state, id, name, plain_change(v), purpose)
+            define_own_property(state, id, name, plain_change(v), purpose)
         }
     }
 }
@@ -131,7 +122,6 @@ fn put_so<'p>(
 /// A put on a base that is no object: only a setter takes it (8.7.2).
 #[tactic(auto, using(crate::proofs::Puts::refuses))]
 fn put_on_primitive<'p>(
-    alloc: Global,
     state: &mut State<'p>,
     base: Value,
     name: &Text,
@@ -139,39 +129,40 @@ fn put_on_primitive<'p>(
     throwing: bool,
     gives: Value,
 ) -> Result<Act<'p>, NoMemory>
-    ensures leads { IfOk result (λ act. Works state.old
-        (put_on_primitive base v (property_of_value state.old.store base name.now)
-        then after_define (WrittenBy.Put throwing gives)) state.new act) }
-    ensures falls { IfOk result (λ act. Falls state.old 42 state.new act) }
+    ensures leads { Computes state.old (put_on_primitive base v (property_of_value state.old.store base name.now)
+        then after_define (WrittenBy.Put throwing gives)) result state.new }
+    ensures falls { RankAtMost state.old 42 result state.new }
 {
     match found_setter(&state.store.property_of_value(&base, name)) {
-        Some(setter) => call_setter(alloc, state, setter, base, v, gives),
-        None => after_define(alloc, state, WrittenBy::Put { throwing, gives }, false),
+        Some(setter) => call_setter(state, setter, base, v, gives),
+        None => after_define(state, WrittenBy::Put { throwing, gives }, false),
     }
 }
 
 /// A setter is called, and then a value is given.
 fn call_setter<'p>(
-    alloc: Global,
     state: &mut State<'p>,
     setter: ObjId,
     this: Value,
     v: Value,
     gives: Value,
 ) -> Result<Act<'p>, NoMemory>
-    ensures leads { IfOk result (λ act. Works state.old
-        (call setter this (v ∷ []) then λ _. give gives) state.new act) }
-    ensures falls { IfOk result (λ act. Falls state.old 5 state.new act) }
+    ensures leads { Computes state.old (call setter this (v ∷ []) then λ _. give gives) result state.new }
+    ensures falls { RankAtMost state.old 5 result state.new }
 {
+    let alloc = state.alloc();
     let mut args = List::new(alloc);
     args.push(v)?;
     state.push_algorithm(AlgorithmFrame::Then(gives))?;
-    Ok(Act::Call(Invocation {
-        callee: setter,
-        this,
-        args,
-        by_new: false,
-    }))
+    Act::call(
+        alloc,
+        Invocation {
+            callee: setter,
+            this,
+            args,
+            by_new: false,
+        },
+    )
 }
 
 /// How a put is done where this property was found, or none, by whether it can be done at all.
