@@ -4,8 +4,7 @@ ghost use Rattle.std.specs.Result.{result_ok};
 ghost use Rattle.jl_num.specs.Arithmetic.{number_of};
 ghost use Rattle.jl_meaning.specs.Parts.{give, ◌>>=◌ as ◌then◌};
 ghost use Rattle.jl_meaning.specs.builtins.Elements.{delete_index, get_index, has_index, put_index, put_length};
-ghost use Rattle.jl_state.specs.Rank.{Falls};
-ghost use Rattle.jl_state.specs.Rest.{Works};
+ghost use Rattle.jl_state.specs.Clauses.{Computes, RankAtMost};
 ghost use Rattle.jl_store.specs.Answers.{ends_with};
 ghost use Rattle.jl_store.specs.Comes.{Comes};
 
@@ -19,59 +18,51 @@ use std::alloc::Global;
 
 /// The element at an index is got, which may call a getter (8.12.3).
 pub fn get_index<'p>(
-    alloc: Global,
     state: &mut State<'p>,
     object: ObjId,
     index: usize,
 ) -> Result<Act<'p>, NoMemory>
-    ensures leads { IfOk result (λ act. Works state.old (get_index object index) state.new act) }
-    ensures falls { IfOk result (λ act. Falls state.old 4 state.new act) }
+    ensures leads { Computes state.old (get_index object index) result state.new }
+    ensures falls { RankAtMost state.old 4 result state.new }
 {
+    let alloc = state.alloc();
     let name = index_name(alloc, index)?;
-    get(alloc, state, &Value::Obj(object), &name)
+    get(state, &Value::Obj(object), &name)
 }
 
 /// A value is put at an index (8.12.5), and then another is given. It throws a TypeError where that isn't done.
 pub fn put_index<'p>(
-    alloc: Global,
     state: &mut State<'p>,
     object: ObjId,
     index: usize,
     v: Value,
     gives: Value,
 ) -> Result<Act<'p>, NoMemory>
-    ensures leads { IfOk result (λ act. Works state.old (put_index object index v then λ _. give gives) state.new act) }
-    ensures falls { IfOk result (λ act. Falls state.old 42 state.new act) }
+    ensures leads { Computes state.old (put_index object index v then λ _. give gives) result state.new }
+    ensures falls { RankAtMost state.old 42 result state.new }
 {
+    let alloc = state.alloc();
     let name = index_name(alloc, index)?;
-    put(alloc, state, true, Value::Obj(object), &name, v, gives)
+    put(state, true, Value::Obj(object), &name, v, gives)
 }
 
 /// A length is put (8.12.5), and then a value is given. It throws a TypeError where that isn't done, and ends the run
 /// where the length is no number of a script.
 pub fn put_length<'p>(
-    alloc: Global,
     state: &mut State<'p>,
     object: ObjId,
     length: usize,
     gives: Value,
 ) -> Result<Act<'p>, NoMemory>
-    ensures leads { IfOk result (λ act. Works state.old (put_length object length then λ _. give gives) state.new act) }
-    ensures falls { IfOk result (λ act. Falls state.old 42 state.new act) }
+    ensures leads { Computes state.old (put_length object length then λ _. give gives) result state.new }
+    ensures falls { RankAtMost state.old 42 result state.new }
 {
+    let alloc = state.alloc();
     let Ok(n) = number(length) else {
         return Ok(Act::Fault(Fault::NumberOutside));
     };
     let name = word(alloc, "length")?;
-    put(
-        alloc,
-        state,
-        true,
-        Value::Obj(object),
-        &name,
-        Value::Num(n),
-        gives,
-    )
+    put(state, true, Value::Obj(object), &name, Value::Num(n), gives)
 }
 
 /// A length as a number of a script.
@@ -86,7 +77,6 @@ fn number(length: usize) -> Result<Num, NumberOutside>
 
 /// The element at an index is deleted (8.12.7). It throws a TypeError where that isn't done.
 pub fn delete_index<'p>(
-    alloc: Global,
     state: &mut State<'p>,
     object: ObjId,
     index: usize,
@@ -95,8 +85,9 @@ pub fn delete_index<'p>(
     ensures comes { IfOk result (λ answer. Comes (delete_index object index) state.old.store state.new.store
         (ends_with answer)) }
 {
+    let alloc = state.alloc();
     let name = index_name(alloc, index)?;
-    let answer = delete(alloc, state, true, &Value::Obj(object), &name)?;
+    let answer = delete(state, true, &Value::Obj(object), &name)?;
     match answer {
         Answer::Gives(_) => Ok(Answer::Gives(())),
         Answer::Throws(thrown) => Ok(Answer::Throws(thrown)),

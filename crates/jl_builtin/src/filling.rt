@@ -3,8 +3,7 @@ ghost use Rattle.std.specs.Prelude.{◌≡◌, drop, IfOk};
 ghost use Rattle.jl_meaning.specs.Parts.{fault_of, ◌>>=◌ as ◌then◌};
 ghost use Rattle.jl_meaning.specs.builtins.Arguments.{give_object};
 ghost use Rattle.jl_meaning.specs.builtins.Elements.{add_in_turns, add_index};
-ghost use Rattle.jl_state.specs.Rank.{Falls};
-ghost use Rattle.jl_state.specs.Rest.{Works};
+ghost use Rattle.jl_state.specs.Clauses.{Computes, RankAtMost};
 ghost use Rattle.jl_store.specs.Answers.{fault_seen, finish_of};
 ghost use Rattle.jl_store.specs.Comes.{Comes};
 
@@ -43,16 +42,16 @@ pub fn add_index(
 /// The values from an index on become the elements of an array at these indices, one a turn, and then the array is
 /// given.
 pub fn fill_array<'p>(
-    alloc: Global,
     state: &mut State<'p>,
     array: ObjId,
     values: List<Value>,
     from: usize,
 ) -> Result<Act<'p>, NoMemory>
-    ensures leads { IfOk result (λ act. Works state.old
-        (add_in_turns array from (drop from values) then λ _. give_object array) state.new act) }
-    ensures falls { IfOk result (λ act. Falls state.old 6 state.new act) }
+    ensures leads { Computes state.old (add_in_turns array from (drop from values) then λ _. give_object array)
+        result state.new }
+    ensures falls { RankAtMost state.old 6 result state.new }
 {
+    let alloc = state.alloc();
     let found = value_from(alloc, values.items(), from)?;
     match found {
         None => Ok(Act::Give(Value::Obj(array))),
@@ -60,14 +59,13 @@ pub fn fill_array<'p>(
             if !state.spend() {
                 return Ok(Act::Spent);
             }
-            add_and_go_on(alloc, state, array, from, v, values, next)
+            add_and_go_on(state, array, from, v, values, next)
         }
     }
 }
 
 /// A value becomes the element at an index, and then those that are left are added from the next index on.
 fn add_and_go_on<'p>(
-    alloc: Global,
     state: &mut State<'p>,
     array: ObjId,
     index: usize,
@@ -75,11 +73,11 @@ fn add_and_go_on<'p>(
     values: List<Value>,
     next: usize,
 ) -> Result<Act<'p>, NoMemory>
-    ensures leads { IfOk result (λ act. Works state.old
-        (add_index array index v then λ _. (add_in_turns array next (drop next values) then λ _. give_object array))
-        state.new act) }
-    ensures falls { IfOk result (λ act. Falls state.old 10 state.new act) }
+    ensures leads { Computes state.old (add_index array index v then λ _. (add_in_turns array next (drop next
+        values) then λ _. give_object array)) result state.new }
+    ensures falls { RankAtMost state.old 10 result state.new }
 {
+    let alloc = state.alloc();
     let answer = add_index(alloc, &mut state.store, array, index, v)?;
     match answer {
         Finished::Gives(()) => {

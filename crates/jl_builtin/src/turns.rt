@@ -5,23 +5,24 @@ ghost use Rattle.jl_meaning.specs.Errors.{string_within};
 ghost use Rattle.jl_meaning.specs.Parts.{◌>>=◌ as ◌then◌, Unsupported};
 ghost use Rattle.jl_meaning.specs.builtins.Arguments.{give_string};
 ghost use Rattle.jl_progress.specs.Progress.{progress_after, rank_progress};
-ghost use Rattle.jl_state.specs.Rank.{rank_act, Falls};
+ghost use Rattle.jl_state.specs.Clauses.{Computes, RankAtMost};
+ghost use Rattle.jl_state.specs.Rank.{rank_act};
 ghost use Rattle.jl_state.specs.Rest.{Works};
 ghost use Rattle.jl_state.specs.declared.state.State.{State as Machine};
 ghost use Rattle.jl_value.specs.declared.value.Value.TheVariants as value;
 
 use jl_progress::Progress;
-use jl_state::{Act, AlgorithmFrame, State};
+use jl_state::{Act, State};
 use jl_text::{NoMemory, Text, TextFault};
 use jl_value::{Builtin, Fault, Value};
 use std::alloc::Global;
 
 /// A builtin goes on without a value, in the next act of the machine.
 pub fn go_on<'p>(state: &mut State<'p>, progress: Progress) -> Result<Act<'p>, NoMemory>
-    ensures leads { IfOk result (λ act. Works state.old (progress_after progress value.Undefined) state.new act) }
-    ensures falls { IfOk result (λ act. Falls state.old (rank_progress progress + 3) state.new act) }
+    ensures leads { Computes state.old (progress_after progress value.Undefined) result state.new }
+    ensures falls { RankAtMost state.old (rank_progress progress + 3) result state.new }
 {
-    state.push_algorithm(AlgorithmFrame::Builtin(progress))?;
+    state.push_builtin(progress)?;
     Ok(Act::Give(Value::Undefined))
 }
 

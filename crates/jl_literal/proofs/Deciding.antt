@@ -10,8 +10,10 @@ use Rattle.jl_value.specs.declared.value.Value.{Value}
 use Rattle.jl_conv.specs.Conversions.{truth_of}
 use Rattle.jl_meaning.specs.Expressions.{evaluate}
 use Rattle.jl_meaning.specs.Parts.{give, ◌>>=◌, Answer, Part}
-use Rattle.jl_meaning.specs.forms.Operators.{decide}
+use Rattle.jl_meaning.specs.Noting.{performs}
+use Rattle.jl_meaning.specs.forms.Operators.{decide, operate}
 use Rattle.jl_state.specs.Rest.{Gives}
+use Rattle.jl_state.specs.Steps.{Supplies}
 use Rattle.jl_state.specs.Trees.{plain}
 use Rattle.jl_state.specs.ValueFrames.{value_after}
 use Rattle.jl_state.specs.Words.{context_of, table_of}
@@ -62,3 +64,11 @@ module _ (s : State) (right : Bor (Box Expr Global)) (e : Expr) (here : Here) (v
       subst (λ b. Gives s (value_of b >>= value_after (table_of s.functions) s.calls (waiting.RightOperand o v)) t a)
       same
       leads
+
+  -- where the right operand has a value at once
+  pub takes_leaf : (o : BinOp) (b : Value) (u : State) → e ≡ right.now.value → Supplies s (value_of e) b u
+      → Gives u (operate performs 0 o v b) t a
+      → Gives s (value_after (table_of s.functions) s.calls (waiting.LeftOperand o right here) v) t a
+  takes_leaf o b u same supplied leads =
+      takes_right o same
+      (supplied.gives (value_after (table_of s.functions) s.calls (waiting.RightOperand o v)) t a leads)

@@ -1,5 +1,5 @@
 -- Object literals, property by property.
-use Rattle.std.proofs.Common.{◌≡◌, ◌∙◌, ◌∷◌, [], List, None, Some, sym, ap, subst}
+use Rattle.std.proofs.Common.{◌≡◌, ◌∙◌, ◌∷◌, [], List, None, Some, sym, ap, subst, ℕ}
 use Rattle.jl_ast.specs.View.{view_entries, view_entry, view_expression}
 use Rattle.jl_ast.specs.declared.tree.Entry.{Entry}
 use Rattle.jl_ast.specs.declared.tree.Entry as entry
@@ -24,7 +24,7 @@ use Rattle.jl_store.specs.Comes.{Comes}
 use Rattle.jl_store.specs.Plain.{plain_function}
 use Rattle.jl_state.specs.AlgorithmFrames.{after_define}
 use Rattle.jl_state.specs.Rest.{Gives, Works}
-use Rattle.jl_state.specs.Steps.{ValueWaits}
+use Rattle.jl_state.specs.Steps.{Supplies, ValueWaits}
 use Rattle.jl_state.specs.Trees.{items_left, plain, plain_forest}
 use Rattle.jl_state.specs.Words.{context_of, table_of}
 use Rattle.jl_state.specs.declared.act.Act.{Act}
@@ -136,6 +136,24 @@ module _ (s u : State) (a : Act) (object : ObjId) (x : Ident) (e : Expr) (rest :
       (subst (λ p. Gives s p u a)
       (value_first (table_of s.functions) (plain (view_expression e)) object x.text (context_of s.calls here) others)
       leads)
+
+-- where it has a value at once, no frame waits
+pub leaf_entry : (s t u : State) (a : Act) (object : ObjId) (x : Name) (e : Expr) (rest : Remaining Entry) (here : Here)
+    (v : Value) (change : Change) (n : ℕ) → t ≡ record s { left = n } → change ≡ plain_change v
+    → Supplies s (evaluate (table_of s.functions) (plain (view_expression e)) (context_of s.calls here)) v t
+    → Gives t (define_entry object x change >>= λ _. object_from (table_of t.functions)
+    (plain_forest (view_entries (items_left rest))) object (context_of t.calls here)) u a
+    → Gives s (evaluate (table_of s.functions) (plain (view_expression e)) (context_of s.calls here)
+    >>= λ w. define_entry object x (plain_change w) >>= λ _. object_from (table_of s.functions)
+    (plain_forest (view_entries (items_left rest))) object (context_of s.calls here)) u a
+leaf_entry s t u a object x e rest here v change n same is supplied leads =
+    supplied.gives (λ w. define_entry object x (plain_change w) >>= λ _. others s) u a
+    (subst (λ c. Gives t (define_entry object x c >>= λ _. others s) u a) is
+    (subst (λ p. Gives t (define_entry object x change >>= λ _. p) u a) (ap others same) leads))
+  where
+    others : State → parts.Part (parts.Answer Value)
+    others w = object_from (table_of w.functions) (plain_forest (view_entries (items_left rest))) object
+        (context_of w.calls here)
 
 pub entry_defined : (s t u : State) (a : Act) (object : ObjId) (x : Name) (change : Change) (rest : Remaining Entry)
     (here : Here) → ValueWaits s (waiting.Entries object rest here) t

@@ -8,13 +8,12 @@ ghost use Rattle.jl_meaning.specs.Parts as parts;
 ghost use Rattle.jl_meaning.specs.forms.Literals.{end_array, index_name, new_array, put_element};
 ghost use Rattle.jl_store.specs.Answers.{fault_seen, finish_of};
 ghost use Rattle.jl_store.specs.Comes.{Comes};
-ghost use Rattle.jl_state.specs.Rank.{Falls};
 ghost use Rattle.jl_state.specs.Rest.{Gives};
 ghost use Rattle.jl_state.specs.Trees.{items_left, plain_forest};
-ghost use Rattle.jl_state.specs.ValueFrames.{value_after};
 ghost use Rattle.jl_state.specs.Words.{context_of, table_of};
 ghost use Rattle.jl_literal.specs.Filling.{array_from};
 ghost use Rattle.jl_literal.specs.inner.Elements.{after_holes, next_seen};
+ghost use Rattle.jl_state.specs.Clauses.{Evaluates, RankAtMost, Resumes};
 
 use crate::literals::give_array;
 use jl_algorithm::{plain_change, value_change};
@@ -34,27 +33,24 @@ enum Next<'p> {
 
 /// An array literal (11.1.4).
 pub fn begin_array<'p>(
-    alloc: Global,
     state: &mut State<'p>,
     items: &'p List<Option<Expr>>,
     here: Here,
 ) -> Result<Act<'p>, NoMemory>
-    ensures leads { IfOk result (λ act. Gives state.old (lift new_array then λ array.
-        array_from (table_of state.old.functions) (plain_forest (view_items items.now)) array 0
-        (context_of state.old.calls here)) state.new act) }
-    ensures falls { IfOk result (λ act. Falls state.old 12 state.new act) }
+    ensures leads { Evaluates state.old (lift new_array then λ array. array_from (table_of state.old.functions)
+        (plain_forest (view_items items.now)) array 0 (context_of state.old.calls here)) result state.new }
+    ensures falls { RankAtMost state.old 12 result state.new }
 {
     let array = state.store.new_array()?;
     let rest = Remaining {
         list: items,
         from: 0,
     };
-    fill(alloc, state, array, 0, rest, here)
+    fill(state, array, 0, rest, here)
 }
 
 /// An array literal goes on with the value of an element.
 pub fn step_element<'p>(
-    alloc: Global,
     state: &mut State<'p>,
     array: ObjId,
     index: usize,
@@ -62,14 +58,14 @@ pub fn step_element<'p>(
     here: Here,
     v: Value,
 ) -> Result<Act<'p>, NoMemory>
-    ensures leads { IfOk result (λ act. Gives state.old (value_after (table_of state.old.functions) state.old.calls
-        (ValueFrame.Element array index rest.entry here) v) state.new act) }
-    ensures falls { IfOk result (λ act. Falls state.old 12 state.new act) }
+    ensures leads { Resumes state.old (ValueFrame.Element array index rest.entry here) v result state.new }
+    ensures falls { RankAtMost state.old 12 result state.new }
 {
+    let alloc = state.alloc();
     let next = next_index(index)?;
     let answer = put_element(alloc, &mut state.store, array, index, v)?;
     match answer {
-        Finished::Gives(_) => fill(alloc, state, array, next, rest, here),
+        Finished::Gives(_) => fill(state, array, next, rest, here),
         Finished::Throws(thrown) => Ok(Act::Complete(Completion::Throw(thrown))),
         Finished::Fails(fault) => Ok(Act::Fault(fault_of(fault))),
     }
@@ -77,20 +73,18 @@ pub fn step_element<'p>(
 
 /// The elements that are left, from an index on, and then the length.
 fn fill<'p>(
-    alloc: Global,
     state: &mut State<'p>,
     array: ObjId,
     index: usize,
     rest: Remaining<'p, Option<Expr>>,
     here: Here,
 ) -> Result<Act<'p>, NoMemory>
-    ensures leads { IfOk result (λ act. Gives state.old (array_from (table_of state.old.functions)
-        (plain_forest (view_items (items_left rest.entry))) array index (context_of state.old.calls here))
-        state.new act) }
-    ensures falls { IfOk result (λ act. Falls state.old 12 state.new act) }
+    ensures leads { Evaluates state.old (array_from (table_of state.old.functions) (plain_forest (view_items
+        (items_left rest.entry))) array index (context_of state.old.calls here)) result state.new }
+    ensures falls { RankAtMost state.old 12 result state.new }
 {
     match next_element(index, rest)? {
-        Next::Length(length) => end_array(alloc, state, array, length),
+        Next::Length(length) => end_array(state, array, length),
         Next::Element(index, e, rest) => {
             let frame = ValueFrame::Element {
                 array,
@@ -151,15 +145,11 @@ fn put_element(
 
 /// An array that has been filled is given its length, and then it is given.
 #[tactic(auto, using(crate::proofs::Lengths::primitive_length, jl_store::proofs::PropertyChanges::one_kind_value))]
-fn end_array<'p>(
-    alloc: Global,
-    state: &mut State<'p>,
-    array: ObjId,
-    length: usize,
-) -> Result<Act<'p>, NoMemory>
-    ensures leads { IfOk result (λ act. Gives state.old (end_array 0 array length) state.new act) }
-    ensures falls { IfOk result (λ act. Falls state.old 3 state.new act) }
+fn end_array<'p>(state: &mut State<'p>, array: ObjId, length: usize) -> Result<Act<'p>, NoMemory>
+    ensures leads { Evaluates state.old (end_array 0 array length) result state.new }
+    ensures falls { RankAtMost state.old 3 result state.new }
 {
+    let alloc = state.alloc();
     let name = word(alloc, "length")?;
     let number = count(length)?;
     let change = value_change(number);

@@ -6,6 +6,7 @@ ghost use Rattle.jl_meaning.specs.FunctionObjects.{make_function_expression};
 ghost use Rattle.jl_meaning.specs.Noting.{performs};
 ghost use Rattle.jl_meaning.specs.Parts.{lift, ◌>>=◌ as ◌then◌};
 ghost use Rattle.jl_meaning.specs.forms.Literals.{literal, literal_of, of_array, of_function, of_object};
+ghost use Rattle.jl_state.specs.Clauses.{Evaluates};
 ghost use Rattle.jl_state.specs.Rank.{rank_act};
 ghost use Rattle.jl_state.specs.Rest.{Gives};
 ghost use Rattle.jl_state.specs.Trees.{plain};
@@ -57,9 +58,8 @@ pub fn begin_function<'p>(
     function: &'p Function,
     here: Here,
 ) -> Result<Act<'p>, NoMemory>
-    ensures leads { IfOk result (λ act. Gives state.old
-        (lift (make_function_expression here.strict here.env (plain (view_function function.now)))
-        then λ object. literal_of of_function 0 (value.Obj object)) state.new act) }
+    ensures leads { Evaluates state.old (lift (make_function_expression here.strict here.env (plain (view_function
+        function.now))) then λ object. literal_of of_function 0 (value.Obj object)) result state.new }
     ensures left { IfOk result (λ _. state.new.left ≤ state.old.left) }
 {
     let object = state

@@ -1,14 +1,15 @@
 //! Operators that wait for an operand (11.4 to 11.12, 11.14).
-ghost use Rattle.std.specs.Prelude.{◌≡◌, ◌≤◌, IfOk};
+ghost use Rattle.std.specs.Prelude.{◌≡◌, ◌≤◌};
 ghost use Rattle.jl_ast.specs.View.{view_expression};
 ghost use Rattle.jl_meaning.specs.Expressions.{evaluate};
-ghost use Rattle.jl_state.specs.Rank.{Falls, rank_act};
+ghost use Rattle.jl_state.specs.Clauses.{RankAtMost, Resumes};
+ghost use Rattle.jl_state.specs.Rank.{rank_act};
 ghost use Rattle.jl_state.specs.Rest.{Gives};
 ghost use Rattle.jl_state.specs.Trees.{plain};
-ghost use Rattle.jl_state.specs.ValueFrames.{value_after};
 ghost use Rattle.jl_state.specs.Words.{context_of, table_of};
 ghost use Rattle.jl_state.specs.declared.state.State.{State as Machine};
 
+use jl_algorithm::leaf_value;
 use jl_ast::{BinOp, Expr};
 use jl_conv::to_boolean;
 use jl_op::{OpId, UnKind};
@@ -16,7 +17,6 @@ use jl_operator::{operate, operate_on};
 use jl_state::{Act, Here, State, ValueFrame};
 use jl_text::NoMemory;
 use jl_value::Value;
-use std::alloc::Global;
 
 /// `a && b` goes on with the value of a (11.11).
 #[tactic(auto, unfolding(jl_meaning::specs::forms::Operators::decide))]
@@ -26,9 +26,8 @@ pub fn step_and<'p>(
     here: Here,
     v: Value,
 ) -> Result<Act<'p>, NoMemory>
-    ensures leads { IfOk result (λ act. Gives state.old (value_after (table_of state.old.functions) state.old.calls
-        (ValueFrame.And right.entry here) v) state.new act) }
-    ensures falls { IfOk result (λ act. Falls state.old 5 state.new act) }
+    ensures leads { Resumes state.old (ValueFrame.And right.entry here) v result state.new }
+    ensures falls { RankAtMost state.old 5 result state.new }
 {
     if to_boolean(&v) {
         Ok(value_of(right, here))
@@ -45,9 +44,8 @@ pub fn step_or<'p>(
     here: Here,
     v: Value,
 ) -> Result<Act<'p>, NoMemory>
-    ensures leads { IfOk result (λ act. Gives state.old (value_after (table_of state.old.functions) state.old.calls
-        (ValueFrame.Or right.entry here) v) state.new act) }
-    ensures falls { IfOk result (λ act. Falls state.old 5 state.new act) }
+    ensures leads { Resumes state.old (ValueFrame.Or right.entry here) v result state.new }
+    ensures falls { RankAtMost state.old 5 result state.new }
 {
     if to_boolean(&v) {
         Ok(Act::Give(v))
@@ -65,9 +63,8 @@ pub fn step_conditional<'p>(
     here: Here,
     v: Value,
 ) -> Result<Act<'p>, NoMemory>
-    ensures leads { IfOk result (λ act. Gives state.old (value_after (table_of state.old.functions) state.old.calls
-        (ValueFrame.Conditional first.entry second.entry here) v) state.new act) }
-    ensures falls { IfOk result (λ act. Falls state.old 5 state.new act) }
+    ensures leads { Resumes state.old (ValueFrame.Conditional first.entry second.entry here) v result state.new }
+    ensures falls { RankAtMost state.old 5 result state.new }
 {
     if to_boolean(&v) {
         Ok(value_of(first, here))
@@ -83,25 +80,18 @@ pub fn step_comma<'p>(
     here: Here,
     v: Value,
 ) -> Result<Act<'p>, NoMemory>
-    ensures leads { IfOk result (λ act. Gives state.old (value_after (table_of state.old.functions) state.old.calls
-        (ValueFrame.Comma right.entry here) v) state.new act) }
-    ensures falls { IfOk result (λ act. Falls state.old 5 state.new act) }
+    ensures leads { Resumes state.old (ValueFrame.Comma right.entry here) v result state.new }
+    ensures falls { RankAtMost state.old 5 result state.new }
 {
     Ok(value_of(right, here))
 }
 
 /// An operator with one operand goes on with its value (11.4).
-pub fn step_operand<'p>(
-    alloc: Global,
-    state: &mut State<'p>,
-    op: UnKind,
-    v: Value,
-) -> Result<Act<'p>, NoMemory>
-    ensures leads { IfOk result (λ act. Gives state.old (value_after (table_of state.old.functions) state.old.calls
-        (ValueFrame.Operand op) v) state.new act) }
-    ensures falls { IfOk result (λ act. Falls state.old 52 state.new act) }
+pub fn step_operand<'p>(state: &mut State<'p>, op: UnKind, v: Value) -> Result<Act<'p>, NoMemory>
+    ensures leads { Resumes state.old (ValueFrame.Operand op) v result state.new }
+    ensures falls { RankAtMost state.old 52 result state.new }
 {
-    operate_on(alloc, state, false, OpId(0), op, v)
+    operate_on(state, false, OpId(0), op, v)
 }
 
 /// An operator goes on with the value of its left operand (11.5 to 11.10).
@@ -112,26 +102,30 @@ pub fn step_left_operand<'p>(
     here: Here,
     v: Value,
 ) -> Result<Act<'p>, NoMemory>
-    ensures leads { IfOk result (λ act. Gives state.old (value_after (table_of state.old.functions) state.old.calls
-        (ValueFrame.LeftOperand op right.entry here) v) state.new act) }
-    ensures falls { IfOk result (λ act. Falls state.old 56 state.new act) }
+    ensures leads { Resumes state.old (ValueFrame.LeftOperand op right.entry here) v result state.new }
+    ensures falls { RankAtMost state.old 56 result state.new }
 {
-    state.evaluate(ValueFrame::RightOperand { op, left: v }, right, here)
+    let found = leaf_value(&*state, right, here)?;
+    match found {
+        Some(b) => {
+            state.take_step();
+            step_right_operand(state, op, v, b)
+        }
+        None => state.evaluate(ValueFrame::RightOperand { op, left: v }, right, here),
+    }
 }
 
 /// An operator goes on with the value of its right operand (11.5 to 11.10).
 pub fn step_right_operand<'p>(
-    alloc: Global,
     state: &mut State<'p>,
     op: BinOp,
     left: Value,
     v: Value,
 ) -> Result<Act<'p>, NoMemory>
-    ensures leads { IfOk result (λ act. Gives state.old (value_after (table_of state.old.functions) state.old.calls
-        (ValueFrame.RightOperand op left) v) state.new act) }
-    ensures falls { IfOk result (λ act. Falls state.old 52 state.new act) }
+    ensures leads { Resumes state.old (ValueFrame.RightOperand op left) v result state.new }
+    ensures falls { RankAtMost state.old 52 result state.new }
 {
-    operate(alloc, state, false, OpId(0), op, left, v)
+    operate(state, false, OpId(0), op, left, v)
 }
 
 /// An expression is evaluated, and its value is given on.

@@ -1,9 +1,11 @@
 -- Steps that wait for an operand as a number or a text, and operations that hooks emit.
-use Rattle.std.proofs.Common.{◌≡◌, ◌∷◌, ◌∙◌, Bool, List, Option, Some, false, true, refl, sym, ap, subst, ℕ}
+use Rattle.std.proofs.Common.{◌≡◌, ◌∷◌, ◌∙◌, ◌+◌, Bool, List, Option, Some, arith, false, true, refl, sym, ap, subst, ℕ}
 use mathlib.Core.Path.{fun_ext}
 use Rattle.jl_num.specs.Number.{Number}
 use Rattle.jl_ast.specs.declared.ops.BinOp.{BinOp}
+use Rattle.jl_value.specs.Tests.{is_object}
 use Rattle.jl_value.specs.declared.value.Value.{Value}
+use Rattle.jl_value.specs.declared.value.Value.TheVariants as value
 use Rattle.jl_conv.specs.Conversions.{text_of_value}
 use Rattle.jl_heap.specs.Describe.{seen_of}
 use Rattle.jl_op.specs.declared.op.Op.{Op}
@@ -12,12 +14,13 @@ use Rattle.jl_op.specs.declared.op.OpId.{OpId}
 use Rattle.jl_op.specs.declared.sign.UnKind.{UnKind}
 use Rattle.jl_effects.specs.Effects.{and_then, Emit}
 use Rattle.jl_effects.proofs.Chains.{and_then-assoc}
-use Rattle.jl_meaning.specs.Conversions.{number_hint, string_hint, to_number, to_primitive, to_string}
+use Rattle.jl_meaning.specs.Conversions.{number_hint, string_hint, to_number, to_primitive, to_string, Hint}
 use Rattle.jl_meaning.specs.Operators.{binary_result, unary_result}
 use Rattle.jl_meaning.specs.Parts.{give, continue_with, gives, lift, or_fault, throws, ◌>>=◌, Algorithm, Answer}
 use Rattle.jl_meaning.specs.Parts.{NumberOutside, Part}
 use Rattle.jl_meaning.specs.forms.Operators.{operate, operate_on}
 use Rattle.jl_state.specs.AlgorithmFrames.{algorithm_after, number_of_primitive}
+use Rattle.jl_state.specs.Rank.{rank_told, ranks, Falls}
 use Rattle.jl_state.specs.Rest.{rest_after, Gives, Works}
 use Rattle.jl_state.specs.Steps.{AlgorithmWaits, ValueWaits}
 use Rattle.jl_state.specs.ToldFrames.{told_after}
@@ -69,13 +72,50 @@ text_waits s t u f k v a after waits leads =
     (subst (λ (g : Value → Algorithm Value). Works s (to_primitive string_hint v >>= g) u a) (fun_ext after)
     (waits.works (to_primitive string_hint v) u a leads))
 
+-- a value that is no object is its own primitive value, for which no frame waits
+primitive_is : (h : Hint) (v : Value) → false ≡ is_object v → to_primitive h v ≡ give v
+unfolding to_primitive
+primitive_is h (value.Obj id) is = absurd (let e = is in cc)
+primitive_is h v is = refl
+
+pub at_once : (s t : State) (h : Hint) (v : Value) (k : Value → Algorithm Value) (a : Act) → false ≡ is_object v
+    → Works s (k v) t a → Works s (to_primitive h v >>= k) t a
+at_once s t h v k a is leads = subst (λ p. Works s (p >>= k) t a) (sym (primitive_is h v is)) leads
+
+pub number_at_once : (s t : State) (v : Value) (k : Number → Algorithm Value) (a : Act) → false ≡ is_object v
+    → Works s (number_of_primitive v >>= k) t a → Works s (to_number v >>= k) t a
+unfolding to_number
+number_at_once s t v k a is leads =
+    subst (λ q. Works s q t a) (chained (to_primitive number_hint v) number_of_primitive k)
+    (at_once s t number_hint v (λ p. number_of_primitive p >>= k) a is leads)
+
 -- the observer is told of an operation, and then a frame goes on
-pub emits_for : (s : State) (frames : List Frame) (id : OpId) (o : Op) (f : ToldFrame)
-    → frames ≡ frame.Told f ∷ s.stack
-    → Gives s (Emit (id, o) (told_after f)) (record s { stack = frames }) (act.Emit id o)
-emits_for s frames id o f is = record {
-  is = λ kept before. ap (λ (l : List Frame). rest_after kept before (record s { stack = l }) (act.Emit id o)) is;
-}
+pub emits_for : (s : State) (frames : List Frame) (id : OpId) (o p : Op) (f g : ToldFrame) → p ≡ o → g ≡ f
+    → frames ≡ frame.Told g ∷ s.stack
+    → Gives s (Emit (id, o) (told_after f)) (record s { stack = frames }) (act.Emit id p)
+emits_for s frames id o p f g held goes is =
+    subst (λ (x : Op). Gives s (Emit (id, x) (told_after f)) (record s { stack = frames }) (act.Emit id p)) held
+    (subst (λ (x : ToldFrame). Gives s (Emit (id, p) (told_after x)) (record s { stack = frames }) (act.Emit id p)) goes
+    (record {
+      is = λ kept told. ap (λ (l : List Frame). rest_after kept told (record s { stack = l }) (act.Emit id p)) is;
+    }))
+
+-- the observer is told of an operation, and then a value is given
+pub emits_giving : (s : State) (frames : List Frame) (id : OpId) (o p : Op) (v : Value) → p ≡ o
+    → frames ≡ frame.Give v ∷ s.stack
+    → Gives s (Emit (id, o) (give v)) (record s { stack = frames }) (act.Emit id p)
+emits_giving s frames id o p v held is =
+    subst (λ (x : Op). Gives s (Emit (id, x) (give v)) (record s { stack = frames }) (act.Emit id p)) held (record {
+      is = λ kept told. ap (λ (l : List Frame). rest_after kept told (record s { stack = l }) (act.Emit id p)) is;
+    })
+
+-- until the next step, what the observer is told and the frame may do no more than the frame and the act
+pub told_falls : (s : State) (frames : List Frame) (id : OpId) (p : Op) (f g : ToldFrame) → g ≡ f
+    → frames ≡ frame.Told g ∷ s.stack → Falls s (rank_told f + 2) (record s { stack = frames }) (act.Emit id p)
+told_falls s frames id p f g goes is =
+    let same : ranks frames ≡ rank_told f + ranks s.stack =
+    ap ranks is ∙ ap (λ (x : ToldFrame). rank_told x + ranks s.stack) goes in
+    record { left = omega arith; lower = λ _. omega (arith, same) }
 
 -- an operator between two values, of which no hook tells
 pub operates : (s t : State) (a : Act) (emitting : Bool) (id : ℕ) (o : BinOp) (x y : Value) → emitting ≡ false

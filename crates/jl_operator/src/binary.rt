@@ -1,8 +1,7 @@
 //! Operators between two operands (11.5 to 11.10).
-ghost use Rattle.std.specs.Prelude.{◌≡◌, ◌≤◌, IfOk};
+ghost use Rattle.std.specs.Prelude.{◌≡◌, ◌≤◌};
 ghost use Rattle.jl_meaning.specs.Operators.{binary_result};
-ghost use Rattle.jl_state.specs.Rank.{Falls};
-ghost use Rattle.jl_state.specs.Rest.{Works};
+ghost use Rattle.jl_state.specs.Clauses.{Computes, RankAtMost};
 
 use crate::equality::{equal, strictly_equal};
 use crate::instances::{in_object, instance_of};
@@ -13,29 +12,27 @@ use jl_ast::BinOp;
 use jl_state::{Act, State};
 use jl_text::NoMemory;
 use jl_value::Value;
-use std::alloc::Global;
 
 /// An operator between two operands (11.5 to 11.10).
 #[tactic(auto, unfolding(jl_meaning::specs::Operators::binary_result))]
 pub fn binary_result<'p>(
-    alloc: Global,
     state: &mut State<'p>,
     op: BinOp,
     a: Value,
     b: Value,
 ) -> Result<Act<'p>, NoMemory>
-    ensures leads { IfOk result (λ act. Works state.old (binary_result op a b) state.new act) }
-    ensures falls { IfOk result (λ act. Falls state.old 40 state.new act) }
+    ensures leads { Computes state.old (binary_result op a b) result state.new }
+    ensures falls { RankAtMost state.old 40 result state.new }
 {
     match op {
-        BinOp::Add => sum(alloc, state, a, b),
+        BinOp::Add => sum(state, a, b),
         BinOp::Less | BinOp::Greater | BinOp::LessEq | BinOp::GreaterEq => {
-            compare(alloc, state, op, a, b)
+            compare(state, op, a, b)
         }
-        BinOp::InstanceOf => instance_of(alloc, state, a, &b),
-        BinOp::In => in_object(alloc, state, a, &b),
-        BinOp::Equal => equal(alloc, state, false, a, b),
-        BinOp::NotEqual => equal(alloc, state, true, a, b),
+        BinOp::InstanceOf => instance_of(state, a, &b),
+        BinOp::In => in_object(state, a, &b),
+        BinOp::Equal => equal(state, false, a, b),
+        BinOp::NotEqual => equal(state, true, a, b),
         BinOp::StrictEqual => Ok(strictly_equal(false, &a, &b)),
         BinOp::StrictNotEqual => Ok(strictly_equal(true, &a, &b)),
         BinOp::Mul
@@ -47,6 +44,6 @@ pub fn binary_result<'p>(
         | BinOp::Shr
         | BinOp::BitAnd
         | BinOp::BitXor
-        | BinOp::BitOr => on_numbers(alloc, state, op, a, b),
+        | BinOp::BitOr => on_numbers(state, op, a, b),
     }
 }

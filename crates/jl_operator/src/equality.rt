@@ -1,12 +1,12 @@
 //! Equalities (11.9).
-ghost use Rattle.std.specs.Prelude.{◌≡◌, ◌≤◌, false, true, not, if◌then◌else◌, IfOk};
+ghost use Rattle.std.specs.Prelude.{◌≡◌, ◌≤◌, false, true, not, if◌then◌else◌};
 ghost use Rattle.std.specs.Result.{result_ok};
 ghost use Rattle.jl_value.specs.Tests.{is_object};
 ghost use Rattle.jl_conv.specs.Comparisons.{loosely_equal, strictly_equal};
 ghost use Rattle.jl_meaning.specs.Relations.{abstract_equality, equality_of_object, give_truth, negate_if};
 ghost use Rattle.jl_meaning.specs.Relations.{primitive_equality};
-ghost use Rattle.jl_state.specs.AlgorithmFrames.{algorithm_after};
-ghost use Rattle.jl_state.specs.Rank.{rank_act, Falls};
+ghost use Rattle.jl_state.specs.Clauses.{Computes, RankAtMost, ResumesAlgorithm};
+ghost use Rattle.jl_state.specs.Rank.{rank_act};
 ghost use Rattle.jl_state.specs.Rest.{Works};
 ghost use Rattle.jl_state.specs.declared.state.State.{State as Machine};
 
@@ -16,7 +16,6 @@ use jl_num::NumberOutside;
 use jl_state::{Act, AlgorithmFrame, Hint, State};
 use jl_text::NoMemory;
 use jl_value::{Fault, ObjId, Value, is_nothing, is_object};
-use std::alloc::Global;
 
 /// `a == b` of values that need no conversion of an object (11.9.3). An object equals no other value.
 fn loosely_equal(a: &Value, b: &Value) -> Result<bool, NumberOutside>
@@ -47,67 +46,60 @@ pub fn step_equal_to<'p>(
     is_negative: bool,
     v: Value,
 ) -> Result<Act<'p>, NoMemory>
-    ensures leads { IfOk result (λ act. Works state.old
-        (algorithm_after (AlgorithmFrame.EqualTo other is_negative) v) state.new act) }
-    ensures falls { IfOk result (λ act. Falls state.old 5 state.new act) }
+    ensures leads { ResumesAlgorithm state.old (AlgorithmFrame.EqualTo other is_negative) v result state.new }
+    ensures falls { RankAtMost state.old 5 result state.new }
 {
     Ok(equal_primitives(is_negative, &v, &other))
 }
 
 /// An equality of an object with a value that is none (11.9.3, steps 8 and 9).
 fn equal_object<'p>(
-    alloc: Global,
     state: &mut State<'p>,
     is_negative: bool,
     object: Value,
     other: Value,
 ) -> Result<Act<'p>, NoMemory>
-    ensures leads { IfOk result (λ act. Works state.old
-        (negate_if is_negative (equality_of_object object other)) state.new act) }
-    ensures falls { IfOk result (λ act. Falls state.old 30 state.new act) }
+    ensures leads { Computes state.old (negate_if is_negative (equality_of_object object other)) result state.new }
+    ensures falls { RankAtMost state.old 30 result state.new }
 {
     if is_nothing(&other) {
         return Ok(Act::Give(Value::Bool(is_negative)));
     }
     state.push_algorithm(AlgorithmFrame::EqualTo { other, is_negative })?;
-    to_primitive(alloc, state, object, Hint::None)
+    to_primitive(state, object, Hint::None)
 }
 
 /// `a == b` of an object with another value, or its negation.
 fn object_equals<'p>(
-    alloc: Global,
     state: &mut State<'p>,
     is_negative: bool,
     a: Value,
     b: Value,
 ) -> Result<Act<'p>, NoMemory>
     requires { is_object a ≡ true }
-    ensures leads { IfOk result (λ act. Works state.old
-        (negate_if is_negative (abstract_equality a b)) state.new act) }
-    ensures falls { IfOk result (λ act. Falls state.old 40 state.new act) }
+    ensures leads { Computes state.old (negate_if is_negative (abstract_equality a b)) result state.new }
+    ensures falls { RankAtMost state.old 40 result state.new }
 {
     if is_object(&b) {
         Ok(equal_primitives(is_negative, &a, &b))
     } else {
-        equal_object(alloc, state, is_negative, a, b)
+        equal_object(state, is_negative, a, b)
     }
 }
 
 /// `a == b` of a value that is no object with another one, or its negation.
 fn primitive_equals<'p>(
-    alloc: Global,
     state: &mut State<'p>,
     is_negative: bool,
     a: Value,
     b: Value,
 ) -> Result<Act<'p>, NoMemory>
     requires { is_object a ≡ false }
-    ensures leads { IfOk result (λ act. Works state.old
-        (negate_if is_negative (abstract_equality a b)) state.new act) }
-    ensures falls { IfOk result (λ act. Falls state.old 40 state.new act) }
+    ensures leads { Computes state.old (negate_if is_negative (abstract_equality a b)) result state.new }
+    ensures falls { RankAtMost state.old 40 result state.new }
 {
     if is_object(&b) {
-        equal_object(alloc, state, is_negative, b, a)
+        equal_object(state, is_negative, b, a)
     } else {
         Ok(equal_primitives(is_negative, &a, &b))
     }
@@ -115,20 +107,18 @@ fn primitive_equals<'p>(
 
 /// `a == b`, or its negation (11.9.1 to 11.9.3).
 pub(crate) fn equal<'p>(
-    alloc: Global,
     state: &mut State<'p>,
     is_negative: bool,
     a: Value,
     b: Value,
 ) -> Result<Act<'p>, NoMemory>
-    ensures leads { IfOk result (λ act. Works state.old
-        (negate_if is_negative (abstract_equality a b)) state.new act) }
-    ensures falls { IfOk result (λ act. Falls state.old 40 state.new act) }
+    ensures leads { Computes state.old (negate_if is_negative (abstract_equality a b)) result state.new }
+    ensures falls { RankAtMost state.old 40 result state.new }
 {
     if is_object(&a) {
-        object_equals(alloc, state, is_negative, a, b)
+        object_equals(state, is_negative, a, b)
     } else {
-        primitive_equals(alloc, state, is_negative, a, b)
+        primitive_equals(state, is_negative, a, b)
     }
 }
 

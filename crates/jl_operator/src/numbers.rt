@@ -1,12 +1,13 @@
 //! Operators on two numbers (11.5, 11.6.2, 11.7, 11.10).
-ghost use Rattle.std.specs.Prelude.{◌≡◌, ◌≤◌, IfOk};
+ghost use Rattle.std.specs.Prelude.{◌≡◌, ◌≤◌};
 ghost use Rattle.std.specs.Result.{result_ok};
 ghost use Rattle.jl_conv.specs.Conversions.{number_of_value};
 ghost use Rattle.jl_meaning.specs.Conversions.{to_number};
 ghost use Rattle.jl_meaning.specs.Operators.{give_number, on_numbers};
 ghost use Rattle.jl_meaning.specs.Parts.{◌>>=◌ as ◌then◌};
-ghost use Rattle.jl_state.specs.AlgorithmFrames.{algorithm_after, number_result};
-ghost use Rattle.jl_state.specs.Rank.{rank_act, Falls};
+ghost use Rattle.jl_state.specs.AlgorithmFrames.{number_result};
+ghost use Rattle.jl_state.specs.Clauses.{Computes, RankAtMost, ResumesAlgorithm};
+ghost use Rattle.jl_state.specs.Rank.{rank_act};
 ghost use Rattle.jl_state.specs.Rest.{Works};
 ghost use Rattle.jl_state.specs.declared.state.State.{State as Machine};
 
@@ -16,8 +17,7 @@ use jl_conv::primitive_to_num;
 use jl_num::{Num, NumberOutside, and, div, mul, or, rem, sar, shl, shr, sub, xor};
 use jl_state::{Act, AlgorithmFrame, Hint, State};
 use jl_text::NoMemory;
-use jl_value::{Fault, Value};
-use std::alloc::Global;
+use jl_value::{Fault, Value, is_object};
 
 /// ToNumber of a primitive value (9.3). Refused for an object, too, which no conversion gives.
 pub fn number_of(p: &Value) -> Result<Num, NumberOutside>
@@ -61,34 +61,35 @@ fn number_result(op: BinOp, x: Num, y: Num) -> Result<Num, NumberOutside>
 
 /// An operator on two numbers, of which the left one is known.
 fn with_left<'p>(
-    alloc: Global,
     state: &mut State<'p>,
     op: BinOp,
     left: Num,
     right: Value,
 ) -> Result<Act<'p>, NoMemory>
-    ensures leads { IfOk result (λ act. Works state.old
-        (to_number right then (λ y. give_number (number_result op left y))) state.new act) }
-    ensures falls { IfOk result (λ act. Falls state.old 22 state.new act) }
+    ensures leads { Computes state.old (to_number right then (λ y. give_number (number_result op left y))) result
+        state.new }
+    ensures falls { RankAtMost state.old 22 result state.new }
 {
-    state.push_algorithm(AlgorithmFrame::RightNumber { op, left })?;
-    to_primitive(alloc, state, right, Hint::Number)
+    if is_object(&right) {
+        state.push_algorithm(AlgorithmFrame::RightNumber { op, left })?;
+        to_primitive(state, right, Hint::Number)
+    } else {
+        step_right_number(state, op, left, right)
+    }
 }
 
 /// Goes on with the left operand of an operator on two numbers, which is converted first.
 pub fn step_left_number<'p>(
-    alloc: Global,
     state: &mut State<'p>,
     op: BinOp,
     right: Value,
     v: Value,
 ) -> Result<Act<'p>, NoMemory>
-    ensures leads { IfOk result (λ act. Works state.old
-        (algorithm_after (AlgorithmFrame.LeftNumber op right) v) state.new act) }
-    ensures falls { IfOk result (λ act. Falls state.old 22 state.new act) }
+    ensures leads { ResumesAlgorithm state.old (AlgorithmFrame.LeftNumber op right) v result state.new }
+    ensures falls { RankAtMost state.old 22 result state.new }
 {
     match number_of(&v) {
-        Ok(x) => with_left(alloc, state, op, x, right),
+        Ok(x) => with_left(state, op, x, right),
         Err(NumberOutside) => Ok(Act::Fault(Fault::NumberOutside)),
     }
 }
@@ -100,9 +101,8 @@ pub fn step_right_number<'p>(
     left: Num,
     v: Value,
 ) -> Result<Act<'p>, NoMemory>
-    ensures leads { IfOk result (λ act. Works state.old
-        (algorithm_after (AlgorithmFrame.RightNumber op left) v) state.new act) }
-    ensures falls { IfOk result (λ act. Falls state.old 5 state.new act) }
+    ensures leads { ResumesAlgorithm state.old (AlgorithmFrame.RightNumber op left) v result state.new }
+    ensures falls { RankAtMost state.old 5 result state.new }
 {
     match number_of(&v) {
         Ok(y) => Ok(give_number(number_result(op, left, y))),
@@ -110,17 +110,21 @@ pub fn step_right_number<'p>(
     }
 }
 
-/// An operator on two numbers (11.5, 11.6.2, 11.7, 11.10).
+/// An operator on two numbers (11.5, 11.6.2, 11.7, 11.10). Here as in the other operators no frame waits for an operand
+/// that is no object, since its conversion calls nothing.
 pub(crate) fn on_numbers<'p>(
-    alloc: Global,
     state: &mut State<'p>,
     op: BinOp,
     a: Value,
     b: Value,
 ) -> Result<Act<'p>, NoMemory>
-    ensures leads { IfOk result (λ act. Works state.old (on_numbers (number_result op) a b) state.new act) }
-    ensures falls { IfOk result (λ act. Falls state.old 40 state.new act) }
+    ensures leads { Computes state.old (on_numbers (number_result op) a b) result state.new }
+    ensures falls { RankAtMost state.old 40 result state.new }
 {
-    state.push_algorithm(AlgorithmFrame::LeftNumber { op, right: b })?;
-    to_primitive(alloc, state, a, Hint::Number)
+    if is_object(&a) {
+        state.push_algorithm(AlgorithmFrame::LeftNumber { op, right: b })?;
+        to_primitive(state, a, Hint::Number)
+    } else {
+        step_left_number(state, op, b, a)
+    }
 }

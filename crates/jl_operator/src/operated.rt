@@ -1,52 +1,49 @@
 //! Operators as expressions, and what hooks emit of them and of what was got and called (11.3 to 11.10).
-ghost use Rattle.std.specs.Prelude.{◌≡◌, ◌∷◌, ◌+◌, IfOk};
+ghost use Rattle.std.specs.Prelude.{◌≡◌, ◌∷◌, ◌+◌};
 ghost use Rattle.jl_effects.specs.Effects.{Emit, Look};
 ghost use Rattle.jl_heap.specs.Describe.{seen_of};
 ghost use Rattle.jl_heap.specs.Objects.{Objects};
 ghost use Rattle.jl_meaning.specs.Parts.{give};
 ghost use Rattle.jl_meaning.specs.forms.Operators.{operate, operate_on};
+ghost use Rattle.jl_state.specs.Clauses.{Evaluates, RankAtMost, Resumes};
 ghost use Rattle.jl_state.specs.ToldFrames.{told_after};
-ghost use Rattle.jl_state.specs.ValueFrames.{value_after};
-ghost use Rattle.jl_state.specs.Rank.{Falls, rank_told};
-ghost use Rattle.jl_state.specs.Rest.{Gives};
-ghost use Rattle.jl_state.specs.Words.{noting, table_of};
+ghost use Rattle.jl_state.specs.Rank.{rank_told};
+ghost use Rattle.jl_state.specs.Words.{noting};
 
 use crate::binary::binary_result;
 use crate::unary::unary_result;
 use jl_ast::BinOp;
 use jl_op::{Found, Op, OpId, UnKind};
-use jl_state::{Act, Frame, State, ToldFrame, ValueFrame};
+use jl_state::{Act, Boxed, Frame, State, ToldFrame, ValueFrame};
 use jl_text::{NoMemory, Text};
 use jl_value::{ObjId, Value, share};
-use std::alloc::Global;
 
 /// The observer is told of an operation, and then a frame goes on.
-#[tactic(auto, using(crate::proofs::Operands::emits_for))]
+#[tactic(auto, using(crate::proofs::Operands::emits_for, crate::proofs::Operands::told_falls))]
 pub fn emit_for<'p>(
     state: &mut State<'p>,
     id: OpId,
     op: Op,
     frame: ToldFrame,
 ) -> Result<Act<'p>, NoMemory>
-    ensures leads { IfOk result (λ act. Gives state.old (Emit (id, op) (told_after frame)) state.new act) }
-    ensures falls { IfOk result (λ act. Falls state.old (rank_told frame + 2) state.new act) }
+    ensures leads { Evaluates state.old (Emit (id, op) (told_after frame)) result state.new }
+    ensures falls { RankAtMost state.old (rank_told frame + 2) result state.new }
 {
-    match state.stack.push(Frame::Told(frame)) {
-        Ok(()) => Ok(Act::Emit(id, op)),
-        Err(refusal) => {
-            // One call: by `?` the proof would have a path for each kind of operation.
-            drop(op);
-            Err(refusal)
-        }
-    }
+    let alloc = state.alloc();
+    let op = Boxed::of(alloc, op)?;
+    state.stack.push(Frame::Told(Boxed::of(alloc, frame)?))?;
+    Ok(Act::Emit(id, op))
 }
 
 /// The observer is told of an operation, and then a value is given.
+#[tactic(auto, using(crate::proofs::Operands::emits_giving))]
 pub fn emit<'p>(state: &mut State<'p>, id: OpId, op: Op, then: Value) -> Result<Act<'p>, NoMemory>
-    ensures leads { IfOk result (λ act. Gives state.old (Emit (id, op) (give then)) state.new act) }
-    ensures falls { IfOk result (λ act. Falls state.old 5 state.new act) }
+    ensures leads { Evaluates state.old (Emit (id, op) (give then)) result state.new }
+    ensures falls { RankAtMost state.old 5 result state.new }
 {
-    emit_for(state, id, op, ToldFrame::Give(then))
+    let op = Boxed::of(state.alloc(), op)?;
+    state.stack.push(Frame::Give(then))?;
+    Ok(Act::Emit(id, op))
 }
 
 /// A hook emits what an operator gave.
@@ -58,9 +55,8 @@ pub fn step_emit_binary<'p>(
     right: Value,
     v: Value,
 ) -> Result<Act<'p>, NoMemory>
-    ensures leads { IfOk result (λ act. Gives state.old (value_after (table_of state.old.functions) state.old.calls
-        (ValueFrame.EmitBinary id op left right) v) state.new act) }
-    ensures falls { IfOk result (λ act. Falls state.old 6 state.new act) }
+    ensures leads { Resumes state.old (ValueFrame.EmitBinary id op left right) v result state.new }
+    ensures falls { RankAtMost state.old 6 result state.new }
 {
     let told = Op::Binary {
         op,
@@ -79,9 +75,8 @@ pub fn step_emit_unary<'p>(
     operand: Value,
     v: Value,
 ) -> Result<Act<'p>, NoMemory>
-    ensures leads { IfOk result (λ act. Gives state.old (value_after (table_of state.old.functions) state.old.calls
-        (ValueFrame.EmitUnary id op operand) v) state.new act) }
-    ensures falls { IfOk result (λ act. Falls state.old 6 state.new act) }
+    ensures leads { Resumes state.old (ValueFrame.EmitUnary id op operand) v result state.new }
+    ensures falls { RankAtMost state.old 6 result state.new }
 {
     let told = Op::Unary {
         op,
@@ -100,9 +95,8 @@ pub fn step_emit_get<'p>(
     found: Found,
     v: Value,
 ) -> Result<Act<'p>, NoMemory>
-    ensures leads { IfOk result (λ act. Gives state.old (value_after (table_of state.old.functions) state.old.calls
-        (ValueFrame.EmitGet id base name found) v) state.new act) }
-    ensures falls { IfOk result (λ act. Falls state.old 6 state.new act) }
+    ensures leads { Resumes state.old (ValueFrame.EmitGet id base name found) v result state.new }
+    ensures falls { RankAtMost state.old 6 result state.new }
 {
     let told = Op::GetField {
         base: state.store.seen(&base)?,
@@ -120,9 +114,8 @@ pub fn step_emit_invoke<'p>(
     callee: ObjId,
     v: Value,
 ) -> Result<Act<'p>, NoMemory>
-    ensures leads { IfOk result (λ act. Gives state.old (value_after (table_of state.old.functions) state.old.calls
-        (ValueFrame.EmitInvoke id callee) v) state.new act) }
-    ensures falls { IfOk result (λ act. Falls state.old 6 state.new act) }
+    ensures leads { Resumes state.old (ValueFrame.EmitInvoke id callee) v result state.new }
+    ensures falls { RankAtMost state.old 6 result state.new }
 {
     let told = Op::InvokePost {
         callee,
@@ -134,7 +127,6 @@ pub fn step_emit_invoke<'p>(
 /// An operator between two values, which a hook emits or the script performs with this id.
 #[tactic(auto, unfolding(jl_meaning::specs::forms::Operators::operate))]
 pub fn operate<'p>(
-    alloc: Global,
     state: &mut State<'p>,
     emits: bool,
     id: OpId,
@@ -142,9 +134,10 @@ pub fn operate<'p>(
     a: Value,
     b: Value,
 ) -> Result<Act<'p>, NoMemory>
-    ensures leads { IfOk result (λ act. Gives state.old (operate (noting emits) id.0 op a b) state.new act) }
-    ensures falls { IfOk result (λ act. Falls state.old 46 state.new act) }
+    ensures leads { Evaluates state.old (operate (noting emits) id.0 op a b) result state.new }
+    ensures falls { RankAtMost state.old 46 result state.new }
 {
+    let alloc = state.alloc();
     if emits {
         let left = share(alloc, &a)?;
         let right = share(alloc, &b)?;
@@ -154,30 +147,30 @@ pub fn operate<'p>(
             left,
             right,
         })?;
-        binary_result(alloc, state, op, a, b)
+        binary_result(state, op, a, b)
     } else {
-        binary_result(alloc, state, op, a, b)
+        binary_result(state, op, a, b)
     }
 }
 
 /// An operator on one value, which a hook emits or the script performs with this id.
 #[tactic(auto, unfolding(jl_meaning::specs::forms::Operators::operate_on))]
 pub fn operate_on<'p>(
-    alloc: Global,
     state: &mut State<'p>,
     emits: bool,
     id: OpId,
     op: UnKind,
     v: Value,
 ) -> Result<Act<'p>, NoMemory>
-    ensures leads { IfOk result (λ act. Gives state.old (operate_on (noting emits) id.0 op v) state.new act) }
-    ensures falls { IfOk result (λ act. Falls state.old 46 state.new act) }
+    ensures leads { Evaluates state.old (operate_on (noting emits) id.0 op v) result state.new }
+    ensures falls { RankAtMost state.old 46 result state.new }
 {
+    let alloc = state.alloc();
     if emits {
         let operand = share(alloc, &v)?;
         state.push_value(ValueFrame::EmitUnary { id, op, operand })?;
-        unary_result(alloc, state, op, v)
+        unary_result(state, op, v)
     } else {
-        unary_result(alloc, state, op, v)
+        unary_result(state, op, v)
     }
 }

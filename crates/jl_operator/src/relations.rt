@@ -1,12 +1,13 @@
 //! Relations of size (11.8.1 to 11.8.5).
-ghost use Rattle.std.specs.Prelude.{◌≡◌, ◌≤◌, IfOk};
+ghost use Rattle.std.specs.Prelude.{◌≡◌, ◌≤◌};
 ghost use Rattle.std.specs.Result.{result_ok};
 ghost use Rattle.jl_conv.specs.Comparisons.{less_than};
 ghost use Rattle.jl_meaning.specs.Conversions.{number_hint, to_primitive};
 ghost use Rattle.jl_meaning.specs.Parts.{◌>>=◌ as ◌then◌};
 ghost use Rattle.jl_meaning.specs.Relations.{opposite, or_false};
 ghost use Rattle.jl_state.specs.AlgorithmFrames.{algorithm_after, compare};
-ghost use Rattle.jl_state.specs.Rank.{rank_act, Falls};
+ghost use Rattle.jl_state.specs.Clauses.{Computes, RankAtMost, ResumesAlgorithm};
+ghost use Rattle.jl_state.specs.Rank.{rank_act};
 ghost use Rattle.jl_state.specs.Rest.{Works};
 ghost use Rattle.jl_state.specs.declared.state.State.{State as Machine};
 
@@ -16,8 +17,7 @@ use jl_conv::primitive_less;
 use jl_num::NumberOutside;
 use jl_state::{Act, AlgorithmFrame, Hint, State};
 use jl_text::NoMemory;
-use jl_value::{Fault, Value};
-use std::alloc::Global;
+use jl_value::{Fault, Value, is_object};
 
 /// Whether a primitive value is less than another (11.8.5), or None where a number is NaN. Refused for objects, too,
 /// which no conversion gives.
@@ -71,41 +71,45 @@ pub fn step_right_compared<'p>(
     left: Value,
     v: Value,
 ) -> Result<Act<'p>, NoMemory>
-    ensures leads { IfOk result (λ act. Works state.old
-        (algorithm_after (AlgorithmFrame.RightCompared op left) v) state.new act) }
-    ensures falls { IfOk result (λ act. Falls state.old 5 state.new act) }
+    ensures leads { ResumesAlgorithm state.old (AlgorithmFrame.RightCompared op left) v result state.new }
+    ensures falls { RankAtMost state.old 5 result state.new }
 {
     Ok(give_relation(op, &left, &v))
 }
 
 /// Goes on with the left operand of a relation, which is converted first.
 pub fn step_left_compared<'p>(
-    alloc: Global,
     state: &mut State<'p>,
     op: BinOp,
     right: Value,
     v: Value,
 ) -> Result<Act<'p>, NoMemory>
-    ensures leads { IfOk result (λ act. Works state.old
-        (algorithm_after (AlgorithmFrame.LeftCompared op right) v) state.new act) }
-    ensures falls { IfOk result (λ act. Falls state.old 22 state.new act) }
+    ensures leads { ResumesAlgorithm state.old (AlgorithmFrame.LeftCompared op right) v result state.new }
+    ensures falls { RankAtMost state.old 22 result state.new }
 {
-    state.push_algorithm(AlgorithmFrame::RightCompared { op, left: v })?;
-    to_primitive(alloc, state, right, Hint::Number)
+    if is_object(&right) {
+        state.push_algorithm(AlgorithmFrame::RightCompared { op, left: v })?;
+        to_primitive(state, right, Hint::Number)
+    } else {
+        step_right_compared(state, op, v, right)
+    }
 }
 
 /// The primitive values of both operands, the left one first, are compared (11.8.5).
 pub(crate) fn compare<'p>(
-    alloc: Global,
     state: &mut State<'p>,
     op: BinOp,
     a: Value,
     b: Value,
 ) -> Result<Act<'p>, NoMemory>
-    ensures leads { IfOk result (λ act. Works state.old
-        (to_primitive number_hint a then algorithm_after (AlgorithmFrame.LeftCompared op b)) state.new act) }
-    ensures falls { IfOk result (λ act. Falls state.old 40 state.new act) }
+    ensures leads { Computes state.old (to_primitive number_hint a then algorithm_after (AlgorithmFrame.LeftCompared
+        op b)) result state.new }
+    ensures falls { RankAtMost state.old 40 result state.new }
 {
-    state.push_algorithm(AlgorithmFrame::LeftCompared { op, right: b })?;
-    to_primitive(alloc, state, a, Hint::Number)
+    if is_object(&a) {
+        state.push_algorithm(AlgorithmFrame::LeftCompared { op, right: b })?;
+        to_primitive(state, a, Hint::Number)
+    } else {
+        step_left_compared(state, op, b, a)
+    }
 }

@@ -6,8 +6,8 @@ ghost use Rattle.jl_meaning.specs.Operators.{is_string, sum, sum_of_primitives};
 ghost use Rattle.jl_meaning.specs.Parts.{give, ◌>>=◌ as ◌then◌};
 ghost use Rattle.jl_num.specs.Arithmetic.{sum_of};
 ghost use Rattle.jl_operator.specs.inner.Sums.{sum_of_numbers, text_of_texts};
-ghost use Rattle.jl_state.specs.AlgorithmFrames.{algorithm_after};
-ghost use Rattle.jl_state.specs.Rank.{rank_act, Falls};
+ghost use Rattle.jl_state.specs.Clauses.{Computes, RankAtMost, ResumesAlgorithm};
+ghost use Rattle.jl_state.specs.Rank.{rank_act};
 ghost use Rattle.jl_state.specs.Rest.{Works};
 ghost use Rattle.jl_state.specs.declared.state.State.{State as Machine};
 
@@ -17,7 +17,7 @@ use jl_conv::primitive_to_text;
 use jl_num::add;
 use jl_state::{Act, AlgorithmFrame, Hint, State};
 use jl_text::{NoMemory, Text, TextFault};
-use jl_value::{Fault, Value};
+use jl_value::{Fault, Value, is_object};
 use std::alloc::Global;
 
 fn is_string(v: &Value) -> bool
@@ -92,43 +92,43 @@ fn sum_of_primitives<'p>(alloc: Global, x: &Value, y: &Value) -> Result<Act<'p>,
 
 /// Goes on with the left summand, which is converted first.
 pub fn step_left_summand<'p>(
-    alloc: Global,
     state: &mut State<'p>,
     right: Value,
     v: Value,
 ) -> Result<Act<'p>, NoMemory>
-    ensures leads { IfOk result (λ act. Works state.old
-        (algorithm_after (AlgorithmFrame.LeftSummand right) v) state.new act) }
-    ensures falls { IfOk result (λ act. Falls state.old 22 state.new act) }
+    ensures leads { ResumesAlgorithm state.old (AlgorithmFrame.LeftSummand right) v result state.new }
+    ensures falls { RankAtMost state.old 22 result state.new }
 {
-    state.push_algorithm(AlgorithmFrame::RightSummand { left: v })?;
-    to_primitive(alloc, state, right, Hint::None)
+    if is_object(&right) {
+        state.push_algorithm(AlgorithmFrame::RightSummand { left: v })?;
+        to_primitive(state, right, Hint::None)
+    } else {
+        step_right_summand(state, v, right)
+    }
 }
 
 /// Goes on with the right summand.
 pub fn step_right_summand<'p>(
-    alloc: Global,
     state: &mut State<'p>,
     left: Value,
     v: Value,
 ) -> Result<Act<'p>, NoMemory>
-    ensures leads { IfOk result (λ act. Works state.old
-        (algorithm_after (AlgorithmFrame.RightSummand left) v) state.new act) }
-    ensures falls { IfOk result (λ act. Falls state.old 5 state.new act) }
+    ensures leads { ResumesAlgorithm state.old (AlgorithmFrame.RightSummand left) v result state.new }
+    ensures falls { RankAtMost state.old 5 result state.new }
 {
+    let alloc = state.alloc();
     sum_of_primitives(alloc, &left, &v)
 }
 
 /// `a + b` (11.6.1).
-pub(crate) fn sum<'p>(
-    alloc: Global,
-    state: &mut State<'p>,
-    a: Value,
-    b: Value,
-) -> Result<Act<'p>, NoMemory>
-    ensures leads { IfOk result (λ act. Works state.old (sum a b) state.new act) }
-    ensures falls { IfOk result (λ act. Falls state.old 40 state.new act) }
+pub(crate) fn sum<'p>(state: &mut State<'p>, a: Value, b: Value) -> Result<Act<'p>, NoMemory>
+    ensures leads { Computes state.old (sum a b) result state.new }
+    ensures falls { RankAtMost state.old 40 result state.new }
 {
-    state.push_algorithm(AlgorithmFrame::LeftSummand { right: b })?;
-    to_primitive(alloc, state, a, Hint::None)
+    if is_object(&a) {
+        state.push_algorithm(AlgorithmFrame::LeftSummand { right: b })?;
+        to_primitive(state, a, Hint::None)
+    } else {
+        step_left_summand(state, b, a)
+    }
 }

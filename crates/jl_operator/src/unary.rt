@@ -1,11 +1,12 @@
 //! Operators on one operand (11.3, 11.4).
-ghost use Rattle.std.specs.Prelude.{◌≡◌, ◌≤◌, None, if◌then◌else◌, IfOk};
+ghost use Rattle.std.specs.Prelude.{◌≡◌, ◌≤◌, None, if◌then◌else◌};
 ghost use Rattle.std.specs.Result.{result_ok};
 ghost use Rattle.jl_meaning.specs.Conversions.{to_number};
 ghost use Rattle.jl_meaning.specs.Operators.{give_next, next_after, unary_result};
 ghost use Rattle.jl_meaning.specs.Parts.{◌>>=◌ as ◌then◌};
-ghost use Rattle.jl_state.specs.AlgorithmFrames.{algorithm_after, number_operand};
-ghost use Rattle.jl_state.specs.Rank.{rank_act, Falls};
+ghost use Rattle.jl_state.specs.AlgorithmFrames.{number_operand};
+ghost use Rattle.jl_state.specs.Clauses.{Computes, RankAtMost, ResumesAlgorithm};
+ghost use Rattle.jl_state.specs.Rank.{rank_act};
 ghost use Rattle.jl_state.specs.Rest.{Works};
 ghost use Rattle.jl_state.specs.declared.state.State.{State as Machine};
 
@@ -16,8 +17,7 @@ use jl_num::{Num, NumberOutside, add, neg, not, sub};
 use jl_op::UnKind;
 use jl_state::{Act, AlgorithmFrame, Hint, State};
 use jl_text::{NoMemory, word};
-use jl_value::{Fault, Value};
-use std::alloc::Global;
+use jl_value::{Fault, Value, is_object};
 
 /// The number after another one, or before it with `UnKind::Down` (11.3, 11.4.4, 11.4.5). Refused exactly where it is
 /// no number of a script.
@@ -59,9 +59,8 @@ pub fn step_number_operand<'p>(
     op: UnKind,
     v: Value,
 ) -> Result<Act<'p>, NoMemory>
-    ensures leads { IfOk result (λ act. Works state.old
-        (algorithm_after (AlgorithmFrame.NumberOperand op) v) state.new act) }
-    ensures falls { IfOk result (λ act. Falls state.old 5 state.new act) }
+    ensures leads { ResumesAlgorithm state.old (AlgorithmFrame.NumberOperand op) v result state.new }
+    ensures falls { RankAtMost state.old 5 result state.new }
 {
     match number_of(&v) {
         Ok(n) => Ok(number_operand(op, n)),
@@ -70,33 +69,28 @@ pub fn step_number_operand<'p>(
 }
 
 /// An operator on a number.
-fn on_number<'p>(
-    alloc: Global,
-    state: &mut State<'p>,
-    op: UnKind,
-    v: Value,
-) -> Result<Act<'p>, NoMemory>
-    ensures leads { IfOk result (λ act. Works state.old (to_number v then number_operand op) state.new act) }
-    ensures falls { IfOk result (λ act. Falls state.old 40 state.new act) }
+fn on_number<'p>(state: &mut State<'p>, op: UnKind, v: Value) -> Result<Act<'p>, NoMemory>
+    ensures leads { Computes state.old (to_number v then number_operand op) result state.new }
+    ensures falls { RankAtMost state.old 40 result state.new }
 {
-    state.push_algorithm(AlgorithmFrame::NumberOperand { op })?;
-    to_primitive(alloc, state, v, Hint::Number)
+    if is_object(&v) {
+        state.push_algorithm(AlgorithmFrame::NumberOperand { op })?;
+        to_primitive(state, v, Hint::Number)
+    } else {
+        step_number_operand(state, op, v)
+    }
 }
 
 /// An operator on one operand (11.3, 11.4).
 #[tactic(auto, unfolding(jl_meaning::specs::Operators::unary_result))]
-pub fn unary_result<'p>(
-    alloc: Global,
-    state: &mut State<'p>,
-    op: UnKind,
-    v: Value,
-) -> Result<Act<'p>, NoMemory>
-    ensures leads { IfOk result (λ act. Works state.old (unary_result op v) state.new act) }
-    ensures falls { IfOk result (λ act. Falls state.old 40 state.new act) }
+pub fn unary_result<'p>(state: &mut State<'p>, op: UnKind, v: Value) -> Result<Act<'p>, NoMemory>
+    ensures leads { Computes state.old (unary_result op v) result state.new }
+    ensures falls { RankAtMost state.old 40 result state.new }
 {
+    let alloc = state.alloc();
     match op {
         UnKind::Minus | UnKind::Plus | UnKind::Tilde | UnKind::Up | UnKind::Down => {
-            on_number(alloc, state, op, v)
+            on_number(state, op, v)
         }
         UnKind::Not => Ok(Act::Give(Value::Bool(!to_boolean(&v)))),
         UnKind::Typeof => {

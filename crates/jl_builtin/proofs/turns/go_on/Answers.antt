@@ -5,4 +5,4 @@ use Rattle.jl_builtin.proofs.turns.go_on.Goals as goal
 
 pub returns-clause-leads : goal.returns-clause-leads
 returns-clause-leads c =
-    c.in_ok-push_algorithm.ensures.waits.works (give value.Undefined) _ _ (record { is = λ kept told. refl })
+    c.in_ok-push_builtin.ensures.waits.works (give value.Undefined) _ _ (record { is = λ kept told. refl })

@@ -6,7 +6,7 @@ use Rattle.jl_literal.proofs.object_literals.equip_one.Goals as goal
 pub returns-in-Value-clause-leads : goal.returns-in-Value-clause-leads
 returns-in-Value-clause-leads c =
     IfOk-weaker _ _ _ (λ a leads. value_entry c.args.state.now _ _ c.args.object _ _ c.args.rest c.args.here
-    c.args.entry.now c.in-Value.is leads) c.evaluate.ensures.leads
+    c.args.entry.now c.in-Value.is leads) c.equip_value.ensures.leads
 
 pub returns-in_ok-getter-in-Get-clause-leads : goal.returns-in_ok-getter-in-Get-clause-leads
 returns-in_ok-getter-in-Get-clause-leads c =

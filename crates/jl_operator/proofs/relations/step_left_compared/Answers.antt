@@ -1,0 +1,10 @@
+use Rattle.std.proofs.lemmas.Result.{IfOk-weaker}
+use Rattle.jl_meaning.specs.Conversions.{number_hint}
+use Rattle.jl_state.specs.AlgorithmFrames.{compare}
+use Rattle.jl_operator.proofs.Operands.{at_once}
+use Rattle.jl_operator.proofs.relations.step_left_compared.Goals as goal
+
+pub returns-else-is_object-clause-leads : goal.returns-else-is_object-clause-leads
+returns-else-is_object-clause-leads c =
+    IfOk-weaker _ _ _ (λ a leads. at_once c.args.state.now _ number_hint c.args.right (compare c.args.op c.args.v) a
+    c.if-is_object.ensures leads) c.step_right_compared.ensures.leads

@@ -1,0 +1,12 @@
+use Rattle.std.proofs.lemmas.Result.{IfOk-weaker}
+use Rattle.jl_meaning.specs.Conversions.{no_hint, to_primitive}
+use Rattle.jl_meaning.specs.Operators.{sum_of_primitives}
+use Rattle.jl_meaning.specs.Parts.{◌>>=◌}
+use Rattle.jl_operator.proofs.Operands.{at_once}
+use Rattle.jl_operator.proofs.sums.sum.Goals as goal
+
+pub returns-else-is_object-clause-leads : goal.returns-else-is_object-clause-leads
+returns-else-is_object-clause-leads c =
+    IfOk-weaker _ _ _ (λ a leads. at_once c.args.state.now _ no_hint c.args.a
+    (λ x. to_primitive no_hint c.args.b >>= λ y. sum_of_primitives x y) a c.if-is_object.ensures leads)
+    c.step_left_summand.ensures.leads
