@@ -1,5 +1,5 @@
 -- Members that are got.
-use Rattle.std.proofs.Common.{◌≡◌, false, subst, sym, Bool, ℕ}
+use Rattle.std.proofs.Common.{◌≡◌, false, refl, subst, sym, Bool, ℕ}
 use Rattle.jl_value.specs.declared.value.Value.{Value}
 use Rattle.jl_heap.specs.Describe.{seen_of}
 use Rattle.jl_heap.specs.Objects.{Name}
@@ -8,7 +8,7 @@ use Rattle.jl_op.specs.declared.op.Op.TheVariants as op
 use Rattle.jl_op.specs.declared.op.OpId.{OpId}
 use Rattle.jl_meaning.specs.Getting.{get}
 use Rattle.jl_meaning.specs.Noting.{emits, performs}
-use Rattle.jl_meaning.specs.Parts.{lift, ◌>>=◌, Answer, Part}
+use Rattle.jl_meaning.specs.Parts.{give, lift, ◌>>=◌, Answer, Part}
 use Rattle.jl_meaning.specs.Properties.{found_of, property_of_value}
 use Rattle.jl_meaning.specs.forms.Members.{get_member, member_name, read_member}
 use Rattle.jl_state.specs.Rest.{Gives, Works}
@@ -18,6 +18,7 @@ use Rattle.jl_state.specs.declared.act.Act.{Act}
 use Rattle.jl_state.specs.declared.state.State.{State}
 use Rattle.jl_state.specs.declared.value_frame.ValueFrame.TheVariants as waiting
 use Rattle.jl_state.proofs.Steps.{gives_noted, gives_works}
+use Rattle.jl_member.proofs.Keys.{named_at_once}
 
 -- by the script
 pub gets_quietly : (s : State) (emitting : Bool) (id : ℕ) (base : Value) (x : Name) (t : State) (a : Act)
@@ -71,3 +72,11 @@ reads_member s emitting id base held key t a is first same leads =
     (subst (λ (n : ℕ). Gives s (lift (member_name base key) >>= λ x. get_member (noting emitting) n base x) t a) first
     (subst (λ (b : Value). Gives s (lift (member_name base key) >>= λ x. get_member (noting emitting) id b x) t a) same
     leads))
+
+-- the name is there at once
+pub reads_at_once : (s : State) (emitting : Bool) (id : ℕ) (base key : Value) (x : Name) (t : State) (a : Act)
+    → emitting ≡ false → id ≡ 0 → member_name base key ≡ give x
+    → Gives s (get_member (noting emitting) id base x) t a → Gives s (read_member 0 base key) t a
+reads_at_once s emitting id base key x t a is first named leads =
+    reads_member s emitting id base base key t a is first refl
+    (named_at_once s base key x (λ y. get_member (noting emitting) id base y) t a named leads)

@@ -1,6 +1,6 @@
 -- Names of members, and what is done with them.
-use Rattle.std.proofs.Common.{◌≡◌, ◌∙◌, ◌⊎◌, ◌+◌, inl, inr, codes, subst, sym, ap, Bool, None, Option, Some, ℕ}
-use Rattle.std.proofs.Common.{if◌then◌else◌}
+use Rattle.std.proofs.Common.{◌≡◌, ◌∙◌, ◌⊎◌, ◌+◌, inl, inr, codes, refl, subst, sym, ap, Bool, None, Option, Some, ℕ}
+use Rattle.std.proofs.Common.{false, if◌then◌else◌}
 use Rattle.std.specs.Borrow.{Bor}
 use Rattle.std.specs.Global.{Global}
 use Rattle.std.specs.declared.boxed.Box.{Box}
@@ -8,6 +8,7 @@ use Rattle.jl_num.specs.Number.{Number}
 use Rattle.jl_ast.specs.View.{view_expression}
 use Rattle.jl_ast.specs.declared.ops.BinOp.{BinOp}
 use Rattle.jl_ast.specs.declared.tree.Expr.{Expr}
+use Rattle.jl_value.specs.Tests.{is_nothing, is_object}
 use Rattle.jl_value.specs.declared.error_kind.ErrorKind.TheVariants.{TypeError}
 use Rattle.jl_value.specs.declared.object.ObjId.{ObjId}
 use Rattle.jl_value.specs.declared.value.Value.{Value}
@@ -91,6 +92,42 @@ pub names : (s : State) (base key : Value) (k : Name → Part (Answer Value)) (t
 names s base key k t a has leads =
     subst (λ (p : Algorithm (Unit {0})). Gives s (lift (p >>= λ _. to_string key) >>= k) t a) (sym (coerces base has))
     leads
+
+-- a name that is there at once
+
+abbrev given : Name → Algorithm Name
+given x = give x
+
+pub key_at_once : (key : Value) (x : Name) → is_object key ≡ false → x ≡ text_of_value key → to_string key ≡ give x
+unfolding to_string to_primitive
+key_at_once value.Undefined x is same = ap given (sym same)
+key_at_once value.Null x is same = ap given (sym same)
+key_at_once (value.Bool b) x is same = ap given (sym same)
+key_at_once (value.Num n) x is same = ap given (sym same)
+key_at_once (value.Text t) x is same = ap given (sym same)
+key_at_once (value.Obj id) x is same = absurd (let differ = is in cc)
+
+pub lets_through : (v : Value) → is_nothing v ≡ false → check_object_coercible v ≡ give tt
+unfolding check_object_coercible
+lets_through value.Undefined some = absurd (let differ = some in cc)
+lets_through value.Null some = absurd (let differ = some in cc)
+lets_through (value.Bool b) some = refl
+lets_through (value.Num n) some = refl
+lets_through (value.Text t) some = refl
+lets_through (value.Obj id) some = refl
+
+pub name_at_once : (base key : Value) (x : Name) → check_object_coercible base ≡ give tt → to_string key ≡ give x
+    → member_name base key ≡ give x
+name_at_once base key x has is = ap (λ (p : Algorithm (Unit {0})). p >>= λ _. to_string key) has ∙ is
+
+pub text_at_once : (base : Value) (x y : Name) → check_object_coercible base ≡ give tt → y ≡ x
+    → member_name base (value.Text x) ≡ give y
+text_at_once base x y has same = name_at_once base (value.Text x) y has (key_at_once (value.Text x) y refl same)
+
+pub named_at_once : (s : State) (base key : Value) (x : Name) (k : Name → Part (Answer Value)) (t : State) (a : Act)
+    → member_name base key ≡ give x → Gives s (k x) t a → Gives s (lift (member_name base key) >>= k) t a
+named_at_once s base key x k t a is leads =
+    subst (λ (p : Algorithm Name). Gives s (lift p >>= k) t a) (sym is) leads
 
 -- what is done with the name
 

@@ -1,5 +1,5 @@
 -- `++` and `--` of members.
-use Rattle.std.proofs.Common.{◌≡◌, ◌+◌, false, Bool, Option, Some, if◌then◌else◌, ap, subst, sym, ℕ}
+use Rattle.std.proofs.Common.{◌≡◌, ◌∙◌, ◌+◌, false, Bool, Option, Some, if◌then◌else◌, ap, subst, sym, ℕ}
 use Rattle.jl_num.specs.Number.{Number}
 use Rattle.jl_value.specs.declared.value.Value.{Value}
 use Rattle.jl_value.specs.declared.value.Value.TheVariants as value
@@ -24,7 +24,7 @@ use Rattle.jl_state.specs.declared.value_frame.Noted.{Noted}
 use Rattle.jl_state.specs.declared.value_frame.ValueFrame.TheVariants as waiting
 use Rattle.jl_member.specs.inner.Nexts.{next_of}
 use Rattle.jl_member.proofs.Keys.{update_member_then}
-use Rattle.jl_member.proofs.Updates.{finds_next, update_waits}
+use Rattle.jl_member.proofs.Updates.{finds_next, update_number, update_waits}
 
 abbrev chosen : Bool → Number × Value → Part (Answer Value)
 chosen prefix v = give (if prefix then v.1 else value.Num v.0)
@@ -88,6 +88,16 @@ module _ (s : State) (noted : Noted) (base : Value) (x : Name) (up prefix strict
       (waiting.UpdateMemberPrimitive noted base x up prefix strict held) a
       (λ p. ap (λ (h : Value). value_after (table_of s.functions) s.calls
       (waiting.UpdateMemberPrimitive noted base x up prefix strict h) p) same) waits leads
+
+  -- a number is a primitive value
+  pub converts_number : (u : State) (held v : Value) (n : Number) (a : Act) → v ≡ value.Num n → held ≡ value.Num n
+      → Gives s (value_after (table_of s.functions) s.calls
+      (waiting.UpdateMemberPrimitive noted base x up prefix strict held) v) u a
+      → Gives s (value_after (table_of s.functions) s.calls (waiting.UpdateMember noted base x up prefix strict) v) u a
+  converts_number u held v n a is same leads =
+      update_number s (noting noted.emits) (noted.id.id + 1) (update_kind up) v n after_update u a is
+      (subst (λ (h : Value). Gives s (value_after (table_of s.functions) s.calls
+      (waiting.UpdateMemberPrimitive noted base x up prefix strict h) v) u a) (same ∙ sym is) leads)
 
   pub puts_next : (held p : Value) (found : Option (Number × Number)) (n m : Number) (given : Value) (t : State)
       (a : Act) → found ≡ next_of (update_kind up) p → found ≡ Some (n, m)

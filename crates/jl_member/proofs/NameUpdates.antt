@@ -1,5 +1,5 @@
 -- `++` and `--` of names, when their frames are handed a value.
-use Rattle.std.proofs.Common.{◌≡◌, Bool, Option, Some, if◌then◌else◌, ap}
+use Rattle.std.proofs.Common.{◌≡◌, ◌∙◌, Bool, Option, Some, if◌then◌else◌, ap, subst, sym}
 use Rattle.std.specs.Borrow.{Bor}
 use Rattle.jl_num.specs.Number.{Number}
 use Rattle.jl_value.specs.declared.value.Value.{Value}
@@ -25,7 +25,7 @@ use Rattle.jl_state.specs.declared.value_frame.ValueFrame.TheVariants as waiting
 use Rattle.jl_member.specs.inner.Nexts.{next_of}
 use Rattle.jl_member.proofs.Names.{writes}
 use Rattle.jl_member.proofs.Quiet.{performed}
-use Rattle.jl_member.proofs.Updates.{finds_next, update_waits}
+use Rattle.jl_member.proofs.Updates.{finds_next, update_number, update_waits}
 
 module _ (s : State) (x : Bor Name) (r : Resolved) (up prefix strict : Bool) where
   abbrev after_update : Number × Value → Part (Answer Value)
@@ -50,6 +50,17 @@ module _ (s : State) (x : Bor Name) (r : Resolved) (up prefix strict : Bool) whe
       (waiting.UpdateNamePrimitive x r up prefix strict held) a
       (λ p. ap (λ (h : Value). value_after (table_of s.functions) s.calls
       (waiting.UpdateNamePrimitive x r up prefix strict h) p) same) waits leads)
+
+  -- a number is a primitive value
+  pub converts_number : (u : State) (held v : Value) (n : Number) (a : Act) → v ≡ value.Num n → held ≡ value.Num n
+      → Gives s (value_after (table_of s.functions) s.calls (waiting.UpdateNamePrimitive x r up prefix strict held) v)
+      u a → Gives s (value_after (table_of s.functions) s.calls (waiting.UpdateName x r up prefix strict) v) u a
+  converts_number u held v n a is same leads =
+      performed s (λ store. (record { 0 = 0 }, op.Read x.now (seen_of store.heap v)))
+      (update performs 1 (update_kind up) v >>= after_update) u a
+      (update_number s performs 1 (update_kind up) v n after_update u a is
+      (subst (λ (h : Value). Gives s (value_after (table_of s.functions) s.calls
+      (waiting.UpdateNamePrimitive x r up prefix strict h) v) u a) (same ∙ sym is) leads))
 
   pub writes_next : (held p : Value) (found : Option (Number × Number)) (n m : Number) (given : Value) (t : State)
       (a : Act) → found ≡ next_of (update_kind up) p → found ≡ Some (n, m)

@@ -66,6 +66,14 @@ module _ (s : State) (k : Bor (Box Expr Global)) (e : Expr) (here : Here) (v : V
       subst (λ (p : Option BinOp). Gives s (key_after (table_of s.functions) s.calls (key_for.Assign v p k here) x) t a)
       (sym is) (unboxed (waiting.PutMember false (record { 0 = 0 }) v x here.strict) same leads)
 
+  -- where there is no operator
+  pub assigns_plainly : (x : Name) (o : Option BinOp) → o ≡ None
+      → Gives s (key_after (table_of s.functions) s.calls (key_for.Assign v None k here) x) t a
+      → Gives s (key_after (table_of s.functions) s.calls (key_for.Assign v o k here) x) t a
+  assigns_plainly x o is leads =
+      subst (λ (p : Option BinOp). Gives s (key_after (table_of s.functions) s.calls (key_for.Assign v p k here) x) t a)
+      (sym is) leads
+
 -- the value of the member is got first
 pub computes_got : (s : State) (emitting : Bool) (id : ℕ) (base held : Value) (x named : Name) (o : BinOp)
     (k : Bor (Box Expr Global)) (here : Here) (t : State) (a : Act) → emitting ≡ false → id ≡ 0

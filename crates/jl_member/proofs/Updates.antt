@@ -80,6 +80,22 @@ update_waits s t u how id o v k f a after waits leads =
     (subst (λ (g : Value → Part (Answer Value)). Gives s (lift (to_primitive number_hint v) >>= g) u a) (fun_ext after)
     (waits.works (to_primitive number_hint v) u a leads))
 
+-- a number needs no frame: it is a primitive value
+pub update_number : (s : State) (how : Noting) (id : ℕ) (o : UnKind) (v : Value) (n : Number)
+    (k : Number × Value → Part (Answer Value)) (u : State) (a : Act) → v ≡ value.Num n
+    → Gives s (lift (number_of_primitive v) >>= after_number how id o v k) u a → Gives s (update how id o v >>= k) u a
+unfolding to_primitive
+update_number s how id o v n k u a is leads =
+    subst (λ q. Gives s q u a) (sym (update_then how id o v k)) (by v is leads)
+  where
+    by : (p : Value) → p ≡ value.Num n → Gives s (lift (number_of_primitive p) >>= after_number how id o v k) u a
+        → Gives s (lift (to_primitive number_hint p) >>= λ q. lift (number_of_primitive q) >>= after_number how id o v k)
+        u a
+    by p e given =
+        subst (λ (q : Value). Gives s (lift (to_primitive number_hint q) >>= λ r. lift (number_of_primitive r)
+        >>= after_number how id o v k) u a) (sym e)
+        (subst (λ (q : Value). Gives s (lift (number_of_primitive q) >>= after_number how id o v k) u a) e given)
+
 -- the number of a primitive value, and the one after it
 
 abbrev first_or : Number → Option (Number × Number) → Number

@@ -1,27 +1,25 @@
 //! Members assigned (11.13).
-ghost use Rattle.std.specs.Prelude.{IfOk, Some};
+ghost use Rattle.std.specs.Prelude.{None, Some};
 ghost use Rattle.jl_ast.specs.View.{view_expression};
 ghost use Rattle.jl_meaning.specs.Expressions.{evaluate};
 ghost use Rattle.jl_meaning.specs.forms.Members.{assign_member};
-ghost use Rattle.jl_state.specs.Rank.{Falls};
-ghost use Rattle.jl_state.specs.Rest.{Gives};
+ghost use Rattle.jl_state.specs.Clauses.{Evaluates, RankAtMost, Resumes, Uses};
 ghost use Rattle.jl_state.specs.Trees.{plain};
-ghost use Rattle.jl_state.specs.ValueFrames.{key_after, value_after};
 ghost use Rattle.jl_state.specs.Words.{context_of, table_of};
 
-use crate::members::{by_script, member_name};
+use crate::members::{by_script, member_name, quick_key};
+use crate::put_members::step_put_member;
 use crate::read_members::get_member;
+use jl_algorithm::leaf_value;
 use jl_ast::{BinOp, Expr};
 use jl_op::OpId;
 use jl_operator::operate;
 use jl_state::{Act, Here, KeyFor, State, ValueFrame};
 use jl_text::{NoMemory, Text};
 use jl_value::{Value, share};
-use std::alloc::Global;
 
 /// o[k] = e and o[k] op= e (11.13).
 pub fn assign_member<'p>(
-    alloc: Global,
     state: &mut State<'p>,
     base: Value,
     key: Value,
@@ -29,23 +27,29 @@ pub fn assign_member<'p>(
     value: &'p Box<Expr>,
     here: Here,
 ) -> Result<Act<'p>, NoMemory>
-    ensures leads { IfOk result (λ act. Gives state.old (assign_member 0 (context_of state.old.calls here) base key op
-        (evaluate (table_of state.old.functions) (plain (view_expression value.now.value))
-        (context_of state.old.calls here))) state.new act) }
-    ensures falls { IfOk result (λ act. Falls state.old 186 state.new act) }
+    ensures leads { Evaluates state.old (assign_member 0 (context_of state.old.calls here) base key op (evaluate
+        (table_of state.old.functions) (plain (view_expression value.now.value)) (context_of state.old.calls here)))
+        result state.new }
+    ensures falls { RankAtMost state.old 186 result state.new }
 {
-    let purpose = KeyFor::Assign {
-        base: share(alloc, &base)?,
-        op,
-        value,
-        here,
-    };
-    member_name(alloc, state, &base, key, purpose)
+    let alloc = state.alloc();
+    let found = quick_key(alloc, &base, &key)?;
+    match found {
+        Some(name) => assign_by_key(state, base, op, value, here, name),
+        None => {
+            let purpose = KeyFor::Assign {
+                base: share(alloc, &base)?,
+                op,
+                value,
+                here,
+            };
+            member_name(state, &base, key, purpose)
+        }
+    }
 }
 
 /// A member whose name has been found is assigned.
 pub fn assign_by_key<'p>(
-    alloc: Global,
     state: &mut State<'p>,
     base: Value,
     op: Option<BinOp>,
@@ -53,12 +57,32 @@ pub fn assign_by_key<'p>(
     here: Here,
     name: Text,
 ) -> Result<Act<'p>, NoMemory>
-    ensures leads { IfOk result (λ act. Gives state.old (key_after (table_of state.old.functions) state.old.calls
-        (KeyFor.Assign base op value.entry here) name) state.new act) }
-    ensures falls { IfOk result (λ act. Falls state.old 160 state.new act) }
+    ensures leads { Uses state.old (KeyFor.Assign base op value.entry here) name result state.new }
+    ensures falls { RankAtMost state.old 160 result state.new }
 {
     match op {
-        Some(op) => compute_by_key(alloc, state, base, op, value, here, name),
+        Some(op) => compute_by_key(state, base, op, value, here, name),
+        None => put_by_key(state, base, value, here, name),
+    }
+}
+
+/// A member whose name has been found gets the value of an expression.
+fn put_by_key<'p>(
+    state: &mut State<'p>,
+    base: Value,
+    value: &'p Box<Expr>,
+    here: Here,
+    name: Text,
+) -> Result<Act<'p>, NoMemory>
+    ensures leads { Uses state.old (KeyFor.Assign base None value.entry here) name result state.new }
+    ensures falls { RankAtMost state.old 160 result state.new }
+{
+    let found = leaf_value(&*state, value, here)?;
+    match found {
+        Some(v) => {
+            state.take_step();
+            step_put_member(state, false, OpId(0), base, name, here.strict, v)
+        }
         None => {
             let frame = ValueFrame::PutMember {
                 emits: false,
@@ -74,7 +98,6 @@ pub fn assign_by_key<'p>(
 
 /// A member whose name has been found gets what an operator makes of its value and another.
 fn compute_by_key<'p>(
-    alloc: Global,
     state: &mut State<'p>,
     base: Value,
     op: BinOp,
@@ -82,10 +105,10 @@ fn compute_by_key<'p>(
     here: Here,
     name: Text,
 ) -> Result<Act<'p>, NoMemory>
-    ensures leads { IfOk result (λ act. Gives state.old (key_after (table_of state.old.functions) state.old.calls
-        (KeyFor.Assign base (Some op) value.entry here) name) state.new act) }
-    ensures falls { IfOk result (λ act. Falls state.old 160 state.new act) }
+    ensures leads { Uses state.old (KeyFor.Assign base (Some op) value.entry here) name result state.new }
+    ensures falls { RankAtMost state.old 160 result state.new }
 {
+    let alloc = state.alloc();
     state.push_value(ValueFrame::ComputeMember {
         base: share(alloc, &base)?,
         name: name.share(alloc)?,
@@ -93,12 +116,11 @@ fn compute_by_key<'p>(
         value,
         here,
     })?;
-    get_member(alloc, state, by_script(), base, name)
+    get_member(state, by_script(), base, name)
 }
 
 /// An assignment to `o.k` goes on with o.
 pub fn step_assign_dot_base<'p>(
-    alloc: Global,
     state: &mut State<'p>,
     key: &'p Text,
     op: Option<BinOp>,
@@ -106,12 +128,12 @@ pub fn step_assign_dot_base<'p>(
     here: Here,
     v: Value,
 ) -> Result<Act<'p>, NoMemory>
-    ensures leads { IfOk result (λ act. Gives state.old (value_after (table_of state.old.functions) state.old.calls
-        (ValueFrame.AssignDotBase key.entry op value.entry here) v) state.new act) }
-    ensures falls { IfOk result (λ act. Falls state.old 190 state.new act) }
+    ensures leads { Resumes state.old (ValueFrame.AssignDotBase key.entry op value.entry here) v result state.new }
+    ensures falls { RankAtMost state.old 190 result state.new }
 {
+    let alloc = state.alloc();
     let key = Value::Text(key.share(alloc)?);
-    assign_member(alloc, state, v, key, op, value, here)
+    assign_member(state, v, key, op, value, here)
 }
 
 /// An assignment to `o[k]` goes on with o.
@@ -123,22 +145,29 @@ pub fn step_assign_index_base<'p>(
     here: Here,
     v: Value,
 ) -> Result<Act<'p>, NoMemory>
-    ensures leads { IfOk result (λ act. Gives state.old (value_after (table_of state.old.functions) state.old.calls
-        (ValueFrame.AssignIndexBase key.entry op value.entry here) v) state.new act) }
-    ensures falls { IfOk result (λ act. Falls state.old 194 state.new act) }
+    ensures leads { Resumes state.old (ValueFrame.AssignIndexBase key.entry op value.entry here) v result state.new }
+    ensures falls { RankAtMost state.old 194 result state.new }
 {
-    let frame = ValueFrame::AssignIndexKey {
-        base: v,
-        op,
-        value,
-        here,
-    };
-    state.evaluate(frame, key, here)
+    let found = leaf_value(&*state, key, here)?;
+    match found {
+        Some(k) => {
+            state.take_step();
+            assign_member(state, v, k, op, value, here)
+        }
+        None => {
+            let frame = ValueFrame::AssignIndexKey {
+                base: v,
+                op,
+                value,
+                here,
+            };
+            state.evaluate(frame, key, here)
+        }
+    }
 }
 
 /// An assignment to `o[k]` goes on with k.
 pub fn step_assign_index_key<'p>(
-    alloc: Global,
     state: &mut State<'p>,
     base: Value,
     op: Option<BinOp>,
@@ -146,11 +175,10 @@ pub fn step_assign_index_key<'p>(
     here: Here,
     v: Value,
 ) -> Result<Act<'p>, NoMemory>
-    ensures leads { IfOk result (λ act. Gives state.old (value_after (table_of state.old.functions) state.old.calls
-        (ValueFrame.AssignIndexKey base op value.entry here) v) state.new act) }
-    ensures falls { IfOk result (λ act. Falls state.old 190 state.new act) }
+    ensures leads { Resumes state.old (ValueFrame.AssignIndexKey base op value.entry here) v result state.new }
+    ensures falls { RankAtMost state.old 190 result state.new }
 {
-    assign_member(alloc, state, base, v, op, value, here)
+    assign_member(state, base, v, op, value, here)
 }
 
 /// `o[k] op= e` goes on with the value of the member.
@@ -163,23 +191,31 @@ pub fn step_compute_member<'p>(
     here: Here,
     v: Value,
 ) -> Result<Act<'p>, NoMemory>
-    ensures leads { IfOk result (λ act. Gives state.old (value_after (table_of state.old.functions) state.old.calls
-        (ValueFrame.ComputeMember base name op value.entry here) v) state.new act) }
-    ensures falls { IfOk result (λ act. Falls state.old 124 state.new act) }
+    ensures leads { Resumes state.old (ValueFrame.ComputeMember base name op value.entry here) v result state.new }
+    ensures falls { RankAtMost state.old 124 result state.new }
 {
-    let frame = ValueFrame::ComputeMemberOperand {
-        base,
-        name,
-        op,
-        held: v,
-        strict: here.strict,
-    };
-    state.evaluate(frame, value, here)
+    let strict = here.strict;
+    let found = leaf_value(&*state, value, here)?;
+    match found {
+        Some(operand) => {
+            state.take_step();
+            step_compute_member_operand(state, base, name, op, v, strict, operand)
+        }
+        None => {
+            let frame = ValueFrame::ComputeMemberOperand {
+                base,
+                name,
+                op,
+                held: v,
+                strict,
+            };
+            state.evaluate(frame, value, here)
+        }
+    }
 }
 
 /// `o[k] op= e` goes on with the value of e.
 pub fn step_compute_member_operand<'p>(
-    alloc: Global,
     state: &mut State<'p>,
     base: Value,
     name: Text,
@@ -188,9 +224,8 @@ pub fn step_compute_member_operand<'p>(
     strict: bool,
     v: Value,
 ) -> Result<Act<'p>, NoMemory>
-    ensures leads { IfOk result (λ act. Gives state.old (value_after (table_of state.old.functions) state.old.calls
-        (ValueFrame.ComputeMemberOperand base name op held strict) v) state.new act) }
-    ensures falls { IfOk result (λ act. Falls state.old 120 state.new act) }
+    ensures leads { Resumes state.old (ValueFrame.ComputeMemberOperand base name op held strict) v result state.new }
+    ensures falls { RankAtMost state.old 120 result state.new }
 {
     state.push_value(ValueFrame::PutMember {
         emits: false,
@@ -199,5 +234,5 @@ pub fn step_compute_member_operand<'p>(
         name,
         strict,
     })?;
-    operate(alloc, state, false, OpId(1), op, held, v)
+    operate(state, false, OpId(1), op, held, v)
 }

@@ -4,7 +4,6 @@
 mod assigned_members;
 mod assigned_names;
 mod deleted_members;
-mod hooks;
 mod members;
 mod nexts;
 mod put_members;
@@ -24,8 +23,7 @@ pub use deleted_members::{
     delete_by_key, delete_member, step_delete_dot_base, step_delete_index_base,
     step_delete_index_key, step_delete_value,
 };
-pub use hooks::is_hooks;
-pub use members::member_name;
+pub use members::{member_name, quick_key};
 pub use put_members::{put_member, step_put_member};
 pub use read_members::{
     get_by_key, get_member, read_member, step_dot_base, step_index_base, step_index_key,

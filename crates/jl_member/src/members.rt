@@ -1,17 +1,18 @@
 //! Names of members (11.2.1), and the ids of the script's own operations.
-ghost use Rattle.std.specs.Prelude.{◌≡◌, ◌+◌, false, IfOk};
+ghost use Rattle.std.specs.Prelude.{◌≡◌, ◌+◌, false, IfOk, IfSome};
 ghost use Rattle.jl_meaning.specs.Conversions.{to_string};
-ghost use Rattle.jl_meaning.specs.Parts.{lift, ◌>>=◌ as ◌then◌};
+ghost use Rattle.jl_meaning.specs.Parts.{give, lift, ◌>>=◌ as ◌then◌};
 ghost use Rattle.jl_meaning.specs.forms.Members.{member_name};
-ghost use Rattle.jl_state.specs.Rank.{rank_key, Falls};
-ghost use Rattle.jl_state.specs.Rest.{Gives};
+ghost use Rattle.jl_state.specs.Clauses.{Evaluates, RankAtMost};
+ghost use Rattle.jl_state.specs.Rank.{rank_key};
 ghost use Rattle.jl_state.specs.ValueFrames.{key_after};
 ghost use Rattle.jl_state.specs.Words.{table_of};
 
 use jl_algorithm::{throw_native, to_primitive};
+use jl_conv::primitive_to_text;
 use jl_state::{Act, Hint, HookId, KeyFor, Noted, State, ValueFrame};
-use jl_text::NoMemory;
-use jl_value::{ErrorKind, Value};
+use jl_text::{NoMemory, Text};
+use jl_value::{ErrorKind, Value, is_nothing, is_object};
 use std::alloc::Global;
 
 /// How the script's own operations come into the trace.
@@ -28,41 +29,55 @@ pub(crate) fn by_script() -> Noted
 /// The name of a member is found, after the test of what it is a member of, and then something is done with it
 /// (11.2.1, steps 5 and 6).
 pub fn member_name<'p>(
-    alloc: Global,
     state: &mut State<'p>,
     base: &Value,
     key: Value,
     purpose: KeyFor<'p>,
 ) -> Result<Act<'p>, NoMemory>
-    ensures leads { IfOk result (λ act. Gives state.old (lift (member_name base.now key)
-        then key_after (table_of state.old.functions) state.old.calls purpose.entry) state.new act) }
-    ensures falls { IfOk result (λ act. Falls state.old (rank_key purpose.entry + 20) state.new act) }
+    ensures leads { Evaluates state.old (lift (member_name base.now key) then key_after (table_of
+        state.old.functions) state.old.calls purpose.entry) result state.new }
+    ensures falls { RankAtMost state.old (rank_key purpose.entry + 20) result state.new }
 {
     match base {
-        Value::Undefined => throw_native(
-            alloc,
-            state,
-            ErrorKind::TypeError,
-            "no property of undefined",
-        ),
-        Value::Null => throw_native(alloc, state, ErrorKind::TypeError, "no property of null"),
+        Value::Undefined => throw_native(state, ErrorKind::TypeError, "no property of undefined"),
+        Value::Null => throw_native(state, ErrorKind::TypeError, "no property of null"),
         Value::Bool(_) | Value::Num(_) | Value::Text(_) | Value::Obj(_) => {
-            convert_key(alloc, state, key, purpose)
+            convert_key(state, key, purpose)
         }
     }
 }
 
 /// A key is converted to the name that it stands for (9.8), and then something is done with that.
 fn convert_key<'p>(
-    alloc: Global,
     state: &mut State<'p>,
     key: Value,
     purpose: KeyFor<'p>,
 ) -> Result<Act<'p>, NoMemory>
-    ensures leads { IfOk result (λ act. Gives state.old (lift (to_string key)
-        then key_after (table_of state.old.functions) state.old.calls purpose.entry) state.new act) }
-    ensures falls { IfOk result (λ act. Falls state.old (rank_key purpose.entry + 16) state.new act) }
+    ensures leads { Evaluates state.old (lift (to_string key) then key_after (table_of state.old.functions)
+        state.old.calls purpose.entry) result state.new }
+    ensures falls { RankAtMost state.old (rank_key purpose.entry + 16) result state.new }
 {
     state.push_value(ValueFrame::Key(purpose))?;
-    to_primitive(alloc, state, key, Hint::Text)
+    to_primitive(state, key, Hint::Text)
+}
+
+/// The name of a member, where nothing has to be called for it and nothing is thrown: its base has members, and its key
+/// is no object (11.2.1, steps 5 and 6).
+pub fn quick_key(alloc: Global, base: &Value, key: &Value) -> Result<Option<Text>, NoMemory>
+    ensures { IfOk result (λ found. IfSome found (λ name. member_name base.now key.now ≡ give name)) }
+{
+    if is_nothing(base) {
+        return Ok(None);
+    }
+    name_of_primitive(alloc, key)
+}
+
+/// The name that a key stands for which is no object (9.8).
+fn name_of_primitive(alloc: Global, key: &Value) -> Result<Option<Text>, NoMemory>
+    ensures { IfOk result (λ found. IfSome found (λ name. to_string key.now ≡ give name)) }
+{
+    if is_object(key) {
+        return Ok(None);
+    }
+    Ok(Some(primitive_to_text(alloc, key)?))
 }

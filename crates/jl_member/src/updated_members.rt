@@ -1,5 +1,5 @@
 //! `++` and `--` of members (11.3, 11.4.4, 11.4.5).
-ghost use Rattle.std.specs.Prelude.{◌+◌, if◌then◌else◌, IfOk};
+ghost use Rattle.std.specs.Prelude.{◌+◌, if◌then◌else◌};
 ghost use Rattle.jl_heap.specs.Describe.{seen_of};
 ghost use Rattle.jl_value.specs.declared.value.Value.TheVariants as value;
 ghost use Rattle.jl_op.specs.UnaryKinds.{update_kind};
@@ -7,12 +7,10 @@ ghost use Rattle.jl_meaning.specs.Noting.{note};
 ghost use Rattle.jl_meaning.specs.Parts.{give, ◌>>=◌ as ◌then◌};
 ghost use Rattle.jl_meaning.specs.forms.Members.{put_member, update_expression, update_member};
 ghost use Rattle.jl_op.specs.declared.op.Op.TheVariants as op;
-ghost use Rattle.jl_state.specs.Rank.{Falls};
-ghost use Rattle.jl_state.specs.Rest.{Gives};
-ghost use Rattle.jl_state.specs.ValueFrames.{key_after, value_after};
-ghost use Rattle.jl_state.specs.Words.{context_of, noting, table_of};
+ghost use Rattle.jl_state.specs.Clauses.{Evaluates, RankAtMost, Resumes, Uses};
+ghost use Rattle.jl_state.specs.Words.{context_of, noting};
 
-use crate::members::{by_script, member_name};
+use crate::members::{by_script, member_name, quick_key};
 use crate::nexts::{next_of, value_of_update};
 use crate::put_members::put_member;
 use crate::read_members::get_member;
@@ -24,11 +22,9 @@ use jl_operator::emit_for;
 use jl_state::{Act, Here, Hint, KeyFor, Noted, State, ToldFrame, ValueFrame};
 use jl_text::{NoMemory, Text};
 use jl_value::{Fault, Value, share};
-use std::alloc::Global;
 
 /// `++` or `--` of a member (11.3, 11.4.4, 11.4.5): the new value, or the number that it was.
 pub fn update_member<'p>(
-    alloc: Global,
     state: &mut State<'p>,
     noted: Noted,
     strict: bool,
@@ -37,24 +33,29 @@ pub fn update_member<'p>(
     base: Value,
     key: Value,
 ) -> Result<Act<'p>, NoMemory>
-    ensures leads { IfOk result (λ act. Gives state.old
-        (update_member (noting noted.emits) noted.id.id strict (update_kind up) base key
-        then λ v. give (if prefix then v.1 else value.Num v.0)) state.new act) }
-    ensures falls { IfOk result (λ act. Falls state.old 146 state.new act) }
+    ensures leads { Evaluates state.old (update_member (noting noted.emits) noted.id.id strict (update_kind up) base
+        key then λ v. give (if prefix then v.1 else value.Num v.0)) result state.new }
+    ensures falls { RankAtMost state.old 146 result state.new }
 {
-    let purpose = KeyFor::Update {
-        noted,
-        base: share(alloc, &base)?,
-        up,
-        prefix,
-        strict,
-    };
-    member_name(alloc, state, &base, key, purpose)
+    let alloc = state.alloc();
+    let found = quick_key(alloc, &base, &key)?;
+    match found {
+        Some(name) => update_by_key(state, noted, base, up, prefix, strict, name),
+        None => {
+            let purpose = KeyFor::Update {
+                noted,
+                base: share(alloc, &base)?,
+                up,
+                prefix,
+                strict,
+            };
+            member_name(state, &base, key, purpose)
+        }
+    }
 }
 
 /// `++` or `--` of a member whose name has been found.
 pub fn update_by_key<'p>(
-    alloc: Global,
     state: &mut State<'p>,
     noted: Noted,
     base: Value,
@@ -63,10 +64,10 @@ pub fn update_by_key<'p>(
     strict: bool,
     name: Text,
 ) -> Result<Act<'p>, NoMemory>
-    ensures leads { IfOk result (λ act. Gives state.old (key_after (table_of state.old.functions) state.old.calls
-        (KeyFor.Update noted base up prefix strict) name) state.new act) }
-    ensures falls { IfOk result (λ act. Falls state.old 120 state.new act) }
+    ensures leads { Uses state.old (KeyFor.Update noted base up prefix strict) name result state.new }
+    ensures falls { RankAtMost state.old 120 result state.new }
 {
+    let alloc = state.alloc();
     state.push_value(ValueFrame::UpdateMember {
         noted,
         base: share(alloc, &base)?,
@@ -75,12 +76,11 @@ pub fn update_by_key<'p>(
         prefix,
         strict,
     })?;
-    get_member(alloc, state, noted, base, name)
+    get_member(state, noted, base, name)
 }
 
 /// `++` or `--` of a member as an expression of the script.
 fn update_expression<'p>(
-    alloc: Global,
     state: &mut State<'p>,
     strict: bool,
     up: bool,
@@ -88,17 +88,19 @@ fn update_expression<'p>(
     base: Value,
     key: Value,
 ) -> Result<Act<'p>, NoMemory>
-    ensures leads { IfOk result (λ act. Gives state.old (update_expression 0
-        (context_of state.old.calls (record { env = 0; strict = strict })) base key up prefix) state.new act) }
-    ensures falls { IfOk result (λ act. Falls state.old 146 state.new act) }
+    ensures leads { Evaluates state.old (update_expression 0 (context_of state.old.calls (record {
+      env = 0;
+      strict =
+          strict;
+    })) base key up prefix) result state.new }
+    ensures falls { RankAtMost state.old 146 result state.new }
 {
     let noted = by_script();
-    update_member(alloc, state, noted, strict, up, prefix, base, key)
+    update_member(state, noted, strict, up, prefix, base, key)
 }
 
 /// `++` or `--` of `o.k` goes on with o.
 pub fn step_update_dot_base<'p>(
-    alloc: Global,
     state: &mut State<'p>,
     key: &'p Text,
     up: bool,
@@ -106,12 +108,12 @@ pub fn step_update_dot_base<'p>(
     strict: bool,
     v: Value,
 ) -> Result<Act<'p>, NoMemory>
-    ensures leads { IfOk result (λ act. Gives state.old (value_after (table_of state.old.functions) state.old.calls
-        (ValueFrame.UpdateDotBase key.entry up prefix strict) v) state.new act) }
-    ensures falls { IfOk result (λ act. Falls state.old 150 state.new act) }
+    ensures leads { Resumes state.old (ValueFrame.UpdateDotBase key.entry up prefix strict) v result state.new }
+    ensures falls { RankAtMost state.old 150 result state.new }
 {
+    let alloc = state.alloc();
     let key = Value::Text(key.share(alloc)?);
-    update_expression(alloc, state, strict, up, prefix, v, key)
+    update_expression(state, strict, up, prefix, v, key)
 }
 
 /// `++` or `--` of `o[k]` goes on with o.
@@ -124,9 +126,8 @@ pub fn step_update_index_base<'p>(
     here: Here,
     v: Value,
 ) -> Result<Act<'p>, NoMemory>
-    ensures leads { IfOk result (λ act. Gives state.old (value_after (table_of state.old.functions) state.old.calls
-        (ValueFrame.UpdateIndexBase key.entry up prefix here) v) state.new act) }
-    ensures falls { IfOk result (λ act. Falls state.old 154 state.new act) }
+    ensures leads { Resumes state.old (ValueFrame.UpdateIndexBase key.entry up prefix here) v result state.new }
+    ensures falls { RankAtMost state.old 154 result state.new }
 {
     let frame = ValueFrame::UpdateIndexKey {
         base: v,
@@ -139,7 +140,6 @@ pub fn step_update_index_base<'p>(
 
 /// `++` or `--` of `o[k]` goes on with k.
 pub fn step_update_index_key<'p>(
-    alloc: Global,
     state: &mut State<'p>,
     base: Value,
     up: bool,
@@ -147,16 +147,14 @@ pub fn step_update_index_key<'p>(
     strict: bool,
     v: Value,
 ) -> Result<Act<'p>, NoMemory>
-    ensures leads { IfOk result (λ act. Gives state.old (value_after (table_of state.old.functions) state.old.calls
-        (ValueFrame.UpdateIndexKey base up prefix strict) v) state.new act) }
-    ensures falls { IfOk result (λ act. Falls state.old 150 state.new act) }
+    ensures leads { Resumes state.old (ValueFrame.UpdateIndexKey base up prefix strict) v result state.new }
+    ensures falls { RankAtMost state.old 150 result state.new }
 {
-    update_expression(alloc, state, strict, up, prefix, base, v)
+    update_expression(state, strict, up, prefix, base, v)
 }
 
 /// Goes on with the value of the member, which is converted to a primitive one.
 pub fn step_update_member<'p>(
-    alloc: Global,
     state: &mut State<'p>,
     noted: Noted,
     base: Value,
@@ -166,10 +164,14 @@ pub fn step_update_member<'p>(
     strict: bool,
     v: Value,
 ) -> Result<Act<'p>, NoMemory>
-    ensures leads { IfOk result (λ act. Gives state.old (value_after (table_of state.old.functions) state.old.calls
-        (ValueFrame.UpdateMember noted base name up prefix strict) v) state.new act) }
-    ensures falls { IfOk result (λ act. Falls state.old 90 state.new act) }
+    ensures leads { Resumes state.old (ValueFrame.UpdateMember noted base name up prefix strict) v result state.new }
+    ensures falls { RankAtMost state.old 90 result state.new }
 {
+    if let Value::Num(n) = &v {
+        let held = Value::Num(*n);
+        return step_update_member_primitive(state, noted, base, name, up, prefix, strict, held, v);
+    }
+    let alloc = state.alloc();
     let held = share(alloc, &v)?;
     state.push_value(ValueFrame::UpdateMemberPrimitive {
         noted,
@@ -180,12 +182,11 @@ pub fn step_update_member<'p>(
         strict,
         held,
     })?;
-    to_primitive(alloc, state, v, Hint::Number)
+    to_primitive(state, v, Hint::Number)
 }
 
 /// Goes on with the primitive value: the number after or before it is put to the member.
 pub fn step_update_member_primitive<'p>(
-    alloc: Global,
     state: &mut State<'p>,
     noted: Noted,
     base: Value,
@@ -196,16 +197,14 @@ pub fn step_update_member_primitive<'p>(
     held: Value,
     v: Value,
 ) -> Result<Act<'p>, NoMemory>
-    ensures leads { IfOk result (λ act. Gives state.old (value_after (table_of state.old.functions) state.old.calls
-        (ValueFrame.UpdateMemberPrimitive noted base name up prefix strict held) v) state.new act) }
-    ensures falls { IfOk result (λ act. Falls state.old 64 state.new act) }
+    ensures leads { Resumes state.old (ValueFrame.UpdateMemberPrimitive noted base name up prefix strict held) v
+        result state.new }
+    ensures falls { RankAtMost state.old 64 result state.new }
 {
     match next_of(up, &v) {
         Ok((n, next)) => {
             let given = value_of_update(prefix, n, next);
-            put_next(
-                alloc, state, noted, base, name, up, strict, &held, next, given,
-            )
+            put_next(state, noted, base, name, up, strict, &held, next, given)
         }
         Err(NumberOutside) => Ok(Act::Fault(Fault::NumberOutside)),
     }
@@ -213,7 +212,6 @@ pub fn step_update_member_primitive<'p>(
 
 /// The number after or before what a member held is put to it, and a value given. A hook emits both first.
 fn put_next<'p>(
-    alloc: Global,
     state: &mut State<'p>,
     noted: Noted,
     base: Value,
@@ -224,16 +222,15 @@ fn put_next<'p>(
     next: Num,
     gives: Value,
 ) -> Result<Act<'p>, NoMemory>
-    ensures leads { IfOk result (λ act. Gives state.old (note (noting noted.emits) (noted.id.id + 1)
-        (λ heap. op.Unary (update_kind up) (seen_of heap held.now) (seen_of heap (value.Num next)))
-        then (λ _. put_member (noting noted.emits) (noted.id.id + 2) strict base name (value.Num next)
-        then λ _. give gives)) state.new act) }
-    ensures falls { IfOk result (λ act. Falls state.old 62 state.new act) }
+    ensures leads { Evaluates state.old (note (noting noted.emits) (noted.id.id + 1) (λ heap. op.Unary (update_kind
+        up) (seen_of heap held.now) (seen_of heap (value.Num next))) then (λ _. put_member (noting noted.emits)
+        (noted.id.id + 2) strict base name (value.Num next) then λ _. give gives)) result state.new }
+    ensures falls { RankAtMost state.old 62 result state.new }
 {
     let id = noted.id.third();
     let value = Value::Num(next);
     if !noted.emits {
-        return put_member(alloc, state, false, id, strict, base, name, value, gives);
+        return put_member(state, false, id, strict, base, name, value, gives);
     }
     let told = Op::Unary {
         op: update_kind(up),

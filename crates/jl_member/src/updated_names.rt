@@ -1,33 +1,27 @@
 //! `++` and `--` of names (11.3, 11.4.4, 11.4.5).
-ghost use Rattle.std.specs.Prelude.{IfOk};
 ghost use Rattle.jl_meaning.specs.forms.Names.{update_name};
-ghost use Rattle.jl_state.specs.Rank.{Falls};
-ghost use Rattle.jl_state.specs.Rest.{Gives};
-ghost use Rattle.jl_state.specs.ValueFrames.{value_after};
-ghost use Rattle.jl_state.specs.Words.{context_of, table_of};
+ghost use Rattle.jl_state.specs.Clauses.{Evaluates, RankAtMost, Resumes};
+ghost use Rattle.jl_state.specs.Words.{context_of};
 
-use crate::hooks::is_hooks;
 use crate::nexts::{next_of, value_of_update};
-use jl_algorithm::{get_value, put_value, to_primitive};
+use jl_algorithm::{get_value, is_hooks, put_value, to_primitive};
 use jl_num::NumberOutside;
 use jl_state::{Act, Here, Hint, State, ValueFrame};
 use jl_store::Reference;
 use jl_text::{NoMemory, Text};
 use jl_value::{Fault, Value, share};
-use std::alloc::Global;
 
 /// `++` or `--` of a name (11.3, 11.4.4, 11.4.5).
 pub fn update_name<'p>(
-    alloc: Global,
     state: &mut State<'p>,
     name: &'p Text,
     up: bool,
     prefix: bool,
     here: Here,
 ) -> Result<Act<'p>, NoMemory>
-    ensures leads { IfOk result (λ act. Gives state.old
-        (update_name 0 (context_of state.old.calls here) name.now up prefix) state.new act) }
-    ensures falls { IfOk result (λ act. Falls state.old 120 state.new act) }
+    ensures leads { Evaluates state.old (update_name 0 (context_of state.old.calls here) name.now up prefix) result
+        state.new }
+    ensures falls { RankAtMost state.old 120 result state.new }
 {
     if is_hooks(name) {
         return Ok(Act::Fault(Fault::Misuse));
@@ -40,12 +34,11 @@ pub fn update_name<'p>(
         prefix,
         strict: here.strict,
     })?;
-    get_value(alloc, state, name, reference)
+    get_value(state, name, reference)
 }
 
 /// Goes on with the value of the name, which is converted to a primitive one.
 pub fn step_update_name<'p>(
-    alloc: Global,
     state: &mut State<'p>,
     name: &'p Text,
     reference: Reference,
@@ -54,10 +47,15 @@ pub fn step_update_name<'p>(
     strict: bool,
     v: Value,
 ) -> Result<Act<'p>, NoMemory>
-    ensures leads { IfOk result (λ act. Gives state.old (value_after (table_of state.old.functions) state.old.calls
-        (ValueFrame.UpdateName name.entry reference up prefix strict) v) state.new act) }
-    ensures falls { IfOk result (λ act. Falls state.old 70 state.new act) }
+    ensures leads { Resumes state.old (ValueFrame.UpdateName name.entry reference up prefix strict) v result
+        state.new }
+    ensures falls { RankAtMost state.old 70 result state.new }
 {
+    if let Value::Num(n) = &v {
+        let held = Value::Num(*n);
+        return step_update_name_primitive(state, name, reference, up, prefix, strict, held, v);
+    }
+    let alloc = state.alloc();
     let held = share(alloc, &v)?;
     state.push_value(ValueFrame::UpdateNamePrimitive {
         name,
@@ -67,12 +65,11 @@ pub fn step_update_name<'p>(
         strict,
         held,
     })?;
-    to_primitive(alloc, state, v, Hint::Number)
+    to_primitive(state, v, Hint::Number)
 }
 
 /// Goes on with the primitive value: the number after or before it is written to the name.
 pub fn step_update_name_primitive<'p>(
-    alloc: Global,
     state: &mut State<'p>,
     name: &'p Text,
     reference: Reference,
@@ -82,15 +79,15 @@ pub fn step_update_name_primitive<'p>(
     held: Value,
     v: Value,
 ) -> Result<Act<'p>, NoMemory>
-    ensures leads { IfOk result (λ act. Gives state.old (value_after (table_of state.old.functions) state.old.calls
-        (ValueFrame.UpdateNamePrimitive name.entry reference up prefix strict held) v) state.new act) }
-    ensures falls { IfOk result (λ act. Falls state.old 50 state.new act) }
+    ensures leads { Resumes state.old (ValueFrame.UpdateNamePrimitive name.entry reference up prefix strict held) v
+        result state.new }
+    ensures falls { RankAtMost state.old 50 result state.new }
 {
     match next_of(up, &v) {
         Ok((n, next)) => {
             let given = value_of_update(prefix, n, next);
             let next = Value::Num(next);
-            put_value(alloc, state, strict, name, next, reference, given)
+            put_value(state, strict, name, next, reference, given)
         }
         Err(NumberOutside) => Ok(Act::Fault(Fault::NumberOutside)),
     }

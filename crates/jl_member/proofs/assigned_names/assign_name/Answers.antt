@@ -17,4 +17,4 @@ returns-clause-leads c =
     c.identifier_reference-reference.result (evaluate (table_of c.args.state.now.functions)
     (plain (view_expression c.args.value.now)) (context_of c.args.state.now.calls c.args.here)) _ _
     (sym c.is_hooks.ensures ∙ c.if-is_hooks.false) c.identifier_reference-reference.ensures leads)
-    c.evaluate.ensures.leads
+    c.write_value.ensures.leads

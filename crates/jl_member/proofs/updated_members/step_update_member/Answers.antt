@@ -1,6 +1,13 @@
+use Rattle.std.proofs.Common.{refl}
 use Rattle.std.proofs.lemmas.Result.{IfOk-weaker}
-use Rattle.jl_member.proofs.MemberUpdates.{converts_member}
+use Rattle.jl_member.proofs.MemberUpdates.{converts_member, converts_number}
 use Rattle.jl_member.proofs.updated_members.step_update_member.Goals as goal
+
+pub returns-in-Num-clause-leads : goal.returns-in-Num-clause-leads
+returns-in-Num-clause-leads c =
+    IfOk-weaker _ _ _ (λ a leads. converts_number c.args.state.now c.args.noted c.args.base c.args.name c.args.up
+    c.args.prefix c.args.strict _ _ c.args.v _ a c.in-Num.is refl leads)
+    c.step_update_member_primitive.ensures.leads
 
 pub returns-clause-leads : goal.returns-clause-leads
 returns-clause-leads c =

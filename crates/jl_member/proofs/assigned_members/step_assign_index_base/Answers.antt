@@ -1,0 +1,14 @@
+use Rattle.std.proofs.lemmas.Result.{IfOk-weaker}
+use Rattle.jl_state.specs.declared.value_frame.ValueFrame.TheVariants as waiting
+use Rattle.jl_state.proofs.Leaves.{falls_supplied, supplied_value}
+use Rattle.jl_member.proofs.assigned_members.step_assign_index_base.Goals as goal
+
+pub returns-in-Some-clause-leads : goal.returns-in-Some-clause-leads
+returns-in-Some-clause-leads c =
+    IfOk-weaker _ _ _ (λ a leads. supplied_value c.args.state.now _ c.take_step.ensures.left _ _ ((rw c.in-Some.is at
+    c.in_ok-found.ensures.supplies) _ c.take_step.ensures.took c.take_step.ensures.left) (waiting.AssignIndexKey
+    c.args.v c.args.op c.args.value c.args.here) _ _ leads) c.assign_member.ensures.leads
+
+pub returns-in-Some-clause-falls : goal.returns-in-Some-clause-falls
+returns-in-Some-clause-falls c =
+    falls_supplied 194 186 c.args.state.now _ _ _ c.take_step.ensures.less c.assign_member.ensures.falls
