@@ -1,3 +1,4 @@
 pub mod Bodies
 pub mod Constructions
 pub mod Entries
+pub mod Targets

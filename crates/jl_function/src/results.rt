@@ -1,10 +1,10 @@
 //! What functions give whose bodies have completed (13.2.1, 13.2.2).
 ghost use Rattle.std.specs.Prelude.{◌≡◌, ◌≤◌, IfOk};
 ghost use Rattle.jl_meaning.specs.forms.Functions.{result_of};
-ghost use Rattle.jl_state.specs.Rank.{rank_act, Falls};
+ghost use Rattle.jl_state.specs.Clauses.{RankAtMost, Resumes};
+ghost use Rattle.jl_state.specs.Rank.{rank_act};
 ghost use Rattle.jl_state.specs.Rest.{Gives};
-ghost use Rattle.jl_state.specs.ValueFrames.{value_after};
-ghost use Rattle.jl_state.specs.Words.{table_of, without_innermost};
+ghost use Rattle.jl_state.specs.Words.{without_innermost};
 ghost use Rattle.jl_state.specs.declared.state.State.{State as Machine};
 
 use jl_state::{Act, State, ValueFrame};
@@ -15,7 +15,7 @@ use jl_value::{Completion, Fault, Value, is_object};
 pub fn step_body<'p>(state: &mut State<'p>, how: Completion) -> Result<Act<'p>, NoMemory>
     ensures leads { IfOk result (λ act. Gives
         (record state.old { calls = without_innermost state.old.calls }) (result_of how) state.new act) }
-    ensures falls { IfOk result (λ act. Falls state.old 5 state.new act) }
+    ensures falls { RankAtMost state.old 5 result state.new }
 {
     end_call(state);
     Ok(result_of(how))
@@ -48,9 +48,8 @@ pub fn step_constructed<'p>(
     object: Value,
     v: Value,
 ) -> Result<Act<'p>, NoMemory>
-    ensures leads { IfOk result (λ act. Gives state.old (value_after (table_of state.old.functions) state.old.calls
-        (ValueFrame.Constructed object) v) state.new act) }
-    ensures falls { IfOk result (λ act. Falls state.old 5 state.new act) }
+    ensures leads { Resumes state.old (ValueFrame.Constructed object) v result state.new }
+    ensures falls { RankAtMost state.old 5 result state.new }
 {
     if is_object(&v) {
         Ok(Act::Give(v))

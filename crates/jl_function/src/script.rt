@@ -6,10 +6,9 @@ ghost use Rattle.jl_function.specs.inner.Entered.{body_result, call_if_known, co
 ghost use Rattle.jl_meaning.specs.Jobs.{begin_known};
 ghost use Rattle.jl_meaning.specs.Parts.{gives};
 ghost use Rattle.jl_meaning.specs.forms.Functions.{enter_function, function_context, prototype_for, this_within};
-ghost use Rattle.jl_state.specs.Rank.{Falls};
+ghost use Rattle.jl_state.specs.Clauses.{Evaluates, RankAtMost, Resumes};
 ghost use Rattle.jl_state.specs.Rest.{Gives};
 ghost use Rattle.jl_state.specs.Trees.{plain};
-ghost use Rattle.jl_state.specs.ValueFrames.{value_after};
 ghost use Rattle.jl_state.specs.Words.{call_of, context_of, function_of, table_of};
 ghost use Rattle.jl_store.specs.Answers.{ends_with};
 ghost use Rattle.jl_store.specs.Comes.{Comes};
@@ -80,35 +79,32 @@ fn enter_function(
 
 /// The body of a function runs, in a call that is the innermost one (13.2.1).
 fn run_body<'p>(
-    alloc: Global,
     state: &mut State<'p>,
     function: &'p Function,
     here: Here,
     call: Call,
 ) -> Result<Act<'p>, NoMemory>
-    ensures leads { IfOk result (λ act. Gives state.old
-        (body_result (table_of state.old.functions) (plain (view_function function.now))
-        (context_of (call ∷ state.old.calls) here)) state.new act) }
-    ensures falls { IfOk result (λ act. Falls state.old 17 state.new act) }
+    ensures leads { Evaluates state.old (body_result (table_of state.old.functions) (plain (view_function
+        function.now)) (context_of (call ∷ state.old.calls) here)) result state.new }
+    ensures falls { RankAtMost state.old 17 result state.new }
 {
     state.calls.push(call)?;
     state.stack.push(Frame::Body)?;
-    begin_statements(alloc, state, &function.body.statements, here)
+    begin_statements(state, &function.body.statements, here)
 }
 
 /// [[Call]] of the function with this number (13.2.1), if there is one.
 fn call_if_known<'p>(
-    alloc: Global,
     state: &mut State<'p>,
     number: u32,
     env: usize,
     call: &Invocation,
 ) -> Result<Act<'p>, NoMemory>
-    ensures leads { IfOk result (λ act. Gives state.old
-        (call_if_known (table_of state.old.functions) (slice_get (table_of state.old.functions) number) env
-        (call_of call.now)) state.new act) }
-    ensures falls { IfOk result (λ act. Falls state.old 17 state.new act) }
+    ensures leads { Evaluates state.old (call_if_known (table_of state.old.functions) (slice_get (table_of
+        state.old.functions) number) env (call_of call.now)) result state.new }
+    ensures falls { RankAtMost state.old 17 result state.new }
 {
+    let alloc = state.alloc();
     let Some(f) = state.functions.items().get(number as usize) else {
         return Ok(Act::Give(Value::Undefined));
     };
@@ -128,7 +124,7 @@ fn call_if_known<'p>(
         args: call.args.len(),
         by_new: call.by_new,
     };
-    run_body(alloc, state, function, here, running)
+    run_body(state, function, here, running)
 }
 
 /// Whether a function of the script has this number.
@@ -140,17 +136,16 @@ fn is_known(functions: &List<ScriptFunction<'_>>, number: u32) -> bool
 
 /// [[Construct]] by the function with this number (13.2.2), if there is one.
 fn construct_if_known<'p>(
-    alloc: Global,
     state: &mut State<'p>,
     number: u32,
     env: usize,
     call: Invocation,
 ) -> Result<Act<'p>, NoMemory>
-    ensures leads { IfOk result (λ act. Gives state.old
-        (construct_if_known (table_of state.old.functions) (slice_get (table_of state.old.functions) number) env
-        (call_of call)) state.new act) }
-    ensures falls { IfOk result (λ act. Falls state.old 64 state.new act) }
+    ensures leads { Evaluates state.old (construct_if_known (table_of state.old.functions) (slice_get (table_of
+        state.old.functions) number) env (call_of call)) result state.new }
+    ensures falls { RankAtMost state.old 64 result state.new }
 {
+    let alloc = state.alloc();
     if !is_known(&state.functions, number) {
         return Ok(Act::Give(Value::Undefined));
     }
@@ -161,26 +156,24 @@ fn construct_if_known<'p>(
         env,
         call,
     })?;
-    get(alloc, state, &callee, &name)
+    get(state, &callee, &name)
 }
 
 /// The function with this number is called, or with `new` constructed by.
 pub fn begin_script<'p>(
-    alloc: Global,
     state: &mut State<'p>,
     number: u32,
     env: usize,
     call: Invocation,
 ) -> Result<Act<'p>, NoMemory>
-    ensures leads { IfOk result (λ act. Gives state.old
-        (begin_known (table_of state.old.functions) (slice_get (table_of state.old.functions) number) env
-        (call_of call)) state.new act) }
-    ensures falls { IfOk result (λ act. Falls state.old 64 state.new act) }
+    ensures leads { Evaluates state.old (begin_known (table_of state.old.functions) (slice_get (table_of
+        state.old.functions) number) env (call_of call)) result state.new }
+    ensures falls { RankAtMost state.old 64 result state.new }
 {
     if call.by_new {
-        construct_if_known(alloc, state, number, env, call)
+        construct_if_known(state, number, env, call)
     } else {
-        call_if_known(alloc, state, number, env, &call)
+        call_if_known(state, number, env, &call)
     }
 }
 
@@ -196,16 +189,14 @@ fn prototype_for(v: &Value) -> ObjId
 
 /// A construction goes on with the prototype of the new object (13.2.2).
 pub fn step_instance_prototype<'p>(
-    alloc: Global,
     state: &mut State<'p>,
     function: u32,
     env: usize,
     call: Invocation,
     proto: Value,
 ) -> Result<Act<'p>, NoMemory>
-    ensures leads { IfOk result (λ act. Gives state.old (value_after (table_of state.old.functions) state.old.calls
-        (ValueFrame.InstancePrototype function env call) proto) state.new act) }
-    ensures falls { IfOk result (λ act. Falls state.old 62 state.new act) }
+    ensures leads { Resumes state.old (ValueFrame.InstancePrototype function env call) proto result state.new }
+    ensures falls { RankAtMost state.old 62 result state.new }
 {
     if !is_known(&state.functions, function) {
         return Ok(Act::Give(Value::Undefined));
@@ -222,5 +213,5 @@ pub fn step_instance_prototype<'p>(
         args: call.args,
         by_new: call.by_new,
     };
-    call_if_known(alloc, state, function, env, &with_object)
+    call_if_known(state, function, env, &with_object)
 }

@@ -12,7 +12,7 @@ use Rattle.jl_meaning.specs.Expressions.{evaluate}
 use Rattle.jl_meaning.specs.FunctionObjects.{FunctionTable}
 use Rattle.jl_meaning.specs.Parts.{Answer, Part, TurnOf}
 use Rattle.jl_meaning.specs.Statements.{execute_all, test_loop, update_loop}
-use Rattle.jl_meaning.specs.forms.Loops.{after_body, begin_turn}
+use Rattle.jl_meaning.specs.forms.Loops.{after_body, begin_turn, visit_next}
 use Rattle.jl_meaning.specs.forms.Operators.{decide}
 use Rattle.jl_ast.specs.View.{view_expression, view_optional, view_statements}
 use Rattle.jl_ast.specs.declared.tree.Expr.{Expr}
@@ -22,7 +22,7 @@ use Rattle.jl_state.specs.Rest.{Completes}
 use Rattle.jl_state.specs.StatementFrames.{after_loop_body, loop_body, next_turn, statement_after}
 use Rattle.jl_state.specs.Steps.{RanOut, Took}
 use Rattle.jl_state.specs.Trees.{plain, plain_forest, plain_optional}
-use Rattle.jl_state.specs.Turns.{body_seen, labels_seen, turn_seen}
+use Rattle.jl_state.specs.Turns.{body_seen, labels_seen, turn_seen, visits_seen}
 use Rattle.jl_state.specs.Words.{context_of, table_of}
 use Rattle.jl_state.specs.declared.act.Act.{Act}
 use Rattle.jl_state.specs.declared.act.Act.TheVariants as act
@@ -34,6 +34,7 @@ use Rattle.jl_state.specs.declared.statement_frame.Loop.{Loop}
 use Rattle.jl_state.specs.declared.statement_frame.Loop.TheVariants as loop
 use Rattle.jl_state.specs.declared.statement_frame.LoopTurn.{LoopTurn}
 use Rattle.jl_state.specs.declared.statement_frame.StatementFrame.TheVariants as statement
+use Rattle.jl_state.specs.declared.statement_frame.Visits.{Visits}
 use Rattle.jl_state.specs.declared.state.State.{State}
 use Rattle.jl_state.proofs.Steps.{begins_turn}
 use Rattle.jl_statement.specs.inner.Ends.{ends_or}
@@ -191,6 +192,17 @@ pub end_of_kind : (s : State) (turn : LoopTurn) (k : Loop) (t : State) (a : Act)
 end_of_kind s turn k t a is leads =
     subst (λ j. Completes s (after_loop_body (table_of s.functions) s.calls (record turn { kind = j })
     completion.Normal) t a) (sym is) leads
+
+-- a `for-in` goes on with its visits, taken out of their box
+pub visits_on : (s : State) (turn : LoopTurn) (x : Bor (List ℕ)) (visits : Visits) (l : Bor (List Stmt)) (v : Visits)
+    (t : State) (a : Act) → turn.kind ≡ loop.ForIn x visits l → v ≡ visits
+    → Completes s (visit_next x.now (plain_forest (view_statements l.now)) (context_of s.calls turn.here)
+    (labels_seen turn.labels) 0 (visits_seen v)) t a
+    → Completes s (after_loop_body (table_of s.functions) s.calls turn completion.Normal) t a
+visits_on s turn x visits l v t a is same leads =
+    end_of_kind s turn (loop.ForIn x visits l) t a is
+    (subst (λ w. Completes s (visit_next x.now (plain_forest (view_statements l.now)) (context_of s.calls turn.here)
+    (labels_seen turn.labels) 0 (visits_seen w)) t a) same leads)
 
 -- a `for` by its test and its update
 

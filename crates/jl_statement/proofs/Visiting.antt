@@ -111,28 +111,29 @@ visited_some s x l c labels visits next name rest t a is found leads =
     let first = subst (λ n. IsNext (visits_left s.store.heap visits) n) found is in
     visits_some s x l c labels visits first.0 (visits_seen rest) name t a first.1 first.2 leads
 
--- a turn takes a step
-pub visit_turns : (s t : State) (x : Name) (name : Name) (visits : List Visit) (l : List Stmt) (here : Here)
-    (labels : List Name) (u : State) (a : Act) → Took s t → t ≡ record s { left = s.left - 1 }
+-- a turn takes a step, and its visits are put in a box
+pub visit_turns : (s t : State) (x : Name) (name : Name) (visits boxed : Visits) (l : List Stmt) (here : Here)
+    (labels : List Name) (u : State) (a : Act) → Took s t → t ≡ record s { left = s.left - 1 } → boxed ≡ visits
     → Completes t (turn (table_of t.functions) (record {
-      loop = for_in_loop x name visits (plain_forest
-          (view_statements l));
+      loop = for_in_loop x name (visits_seen boxed) (plain_forest (view_statements l));
       context = context_of t.calls here;
       labels = labels;
       id = 0;
     })) u a
-    → Completes s (begin_loop (for_in_loop x name visits (plain_forest (view_statements l))) (context_of s.calls here)
-    labels 0) u a
-visit_turns s t x name visits l here labels u a took is leads =
+    → Completes s (begin_loop (for_in_loop x name (visits_seen visits) (plain_forest (view_statements l)))
+    (context_of s.calls here) labels 0) u a
+visit_turns s t x name visits boxed l here labels u a took is same leads =
     let of : List Call → Turn = λ calls. record {
-      loop = for_in_loop x name visits (plain_forest (view_statements l));
+      loop = for_in_loop x name (visits_seen boxed) (plain_forest (view_statements l));
       context = context_of calls here;
       labels = labels;
       id = 0;
     } in
-    begins_turn s (of s.calls) u a (took.completes (job (table_of s.functions) (TurnOf (of s.calls))) u a
+    subst (λ v. Completes s (begin_loop (for_in_loop x name (visits_seen v) (plain_forest (view_statements l)))
+    (context_of s.calls here) labels 0) u a) same
+    (begins_turn s (of s.calls) u a (took.completes (job (table_of s.functions) (TurnOf (of s.calls))) u a
     (subst (λ c. Completes t (turn (table_of s.functions) (of c)) u a) (ap (λ (v : State). v.calls) is)
-    (subst (λ f. Completes t (turn (table_of f) (of t.calls)) u a) (ap (λ (v : State). v.functions) is) leads)))
+    (subst (λ f. Completes t (turn (table_of f) (of t.calls)) u a) (ap (λ (v : State). v.functions) is) leads))))
 
 pub visit_spent : (s t : State) (turn : Turn) → RanOut s → t ≡ s → Completes s (Begin (TurnOf turn) End) t act.Spent
 visit_spent s t turn none is =

@@ -3,7 +3,7 @@ ghost use Rattle.std.specs.Prelude.{◌≤◌, IfOk};
 ghost use Rattle.jl_ast.specs.View.{view_init};
 ghost use Rattle.jl_meaning.specs.Completions.{◌>>=◌ as ◌then◌};
 ghost use Rattle.jl_meaning.specs.forms.Simple.{begin_for};
-ghost use Rattle.jl_state.specs.Rest.{Completes};
+ghost use Rattle.jl_state.specs.Clauses.{Executes};
 ghost use Rattle.jl_state.specs.StatementFrames.{next_turn};
 ghost use Rattle.jl_state.specs.Trees.{plain};
 ghost use Rattle.jl_state.specs.Words.{context_of, table_of};
@@ -13,28 +13,25 @@ use crate::variables::declare_head;
 use jl_ast::ForInit;
 use jl_state::{Act, LoopTurn, Remaining, State, StatementFrame};
 use jl_text::NoMemory;
-use std::alloc::Global;
 
 /// A `for` begins with what stands first in its head, and then turns (12.6.3).
 #[tactic(auto, using(jl_ast::proofs::Views::nodes))]
 pub(crate) fn begin_for<'p>(
-    alloc: Global,
     state: &mut State<'p>,
     init: &'p ForInit,
     turn: LoopTurn<'p>,
 ) -> Result<Act<'p>, NoMemory>
-    ensures leads { IfOk result (λ act. Completes state.old
-        (begin_for (table_of state.old.functions) (plain (view_init init.now))
-        (context_of state.old.calls turn.entry.here)
-        then λ _. next_turn (table_of state.old.functions) state.old.calls turn.entry) state.new act) }
+    ensures leads { Executes state.old (begin_for (table_of state.old.functions) (plain (view_init init.now))
+        (context_of state.old.calls turn.entry.here) then λ _. next_turn (table_of state.old.functions)
+        state.old.calls turn.entry) result state.new }
     ensures left { IfOk result (λ _. state.new.left ≤ state.old.left) }
 {
     match init {
-        ForInit::Nothing => begin_turn(alloc, state, turn),
+        ForInit::Nothing => begin_turn(state, turn),
         ForInit::Expr(e) => {
             let here = turn.here;
             state.evaluate_for(StatementFrame::ForExpression { turn }, e, here)
         }
-        ForInit::Var(list) => declare_head(alloc, state, Remaining { list, from: 0 }, turn),
+        ForInit::Var(list) => declare_head(state, Remaining { list, from: 0 }, turn),
     }
 }

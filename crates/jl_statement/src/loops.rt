@@ -1,21 +1,22 @@
 //! Loops, turn by turn (12.6.1 to 12.6.3).
-ghost use Rattle.std.specs.Prelude.{◌≡◌, ◌≤◌, ◌+◌, IfOk};
-ghost use Rattle.jl_state.specs.Rank.{Falls, rank_test};
-ghost use Rattle.jl_state.specs.Rest.{Completes};
-ghost use Rattle.jl_state.specs.StatementFrames.{after_loop_body, loop_body, next_turn, statement_after};
+ghost use Rattle.jl_state.specs.Clauses.{Executes, RankAtMost, ResumesStatement};
+ghost use Rattle.std.specs.Prelude.{◌≡◌, ◌≤◌, ◌+◌, false, IfOk};
+ghost use Rattle.jl_state.specs.Rank.{rank_test};
+ghost use Rattle.jl_state.specs.StatementFrames.{after_loop_body, loop_body, next_turn};
 ghost use Rattle.jl_state.specs.Turns.{body_seen};
 ghost use Rattle.jl_state.specs.Words.{table_of};
 ghost use Rattle.jl_statement.specs.inner.Turns.{is_do, turn_inside};
+ghost use Rattle.jl_statement.specs.inner.Values.{value_then};
 
 use crate::completions::after_body;
 use crate::executing::begin_statements;
 use crate::for_in::{put_visited, visit_next};
+use jl_algorithm::leaf_value;
 use jl_ast::{Expr, Stmt};
 use jl_conv::to_boolean;
-use jl_state::{Act, CompletionFrame, Here, Loop, LoopTurn, State, StatementFrame};
-use jl_text::{List, NoMemory, Text, word};
+use jl_state::{Act, CompletionFrame, Here, Labels, Loop, LoopTurn, State, StatementFrame};
+use jl_text::{List, NoMemory, word};
 use jl_value::{Completion, Value};
-use std::alloc::Global;
 
 /// The body of a loop.
 fn body_of<'p>(kind: &Loop<'p>) -> &'p List<Stmt>
@@ -30,69 +31,55 @@ fn body_of<'p>(kind: &Loop<'p>) -> &'p List<Stmt>
 }
 
 /// The body of a loop begins.
-pub(crate) fn begin_body<'p>(
-    alloc: Global,
-    state: &mut State<'p>,
-    turn: LoopTurn<'p>,
-) -> Result<Act<'p>, NoMemory>
-    ensures leads { IfOk result (λ act. Completes state.old
-        (loop_body (table_of state.old.functions) state.old.calls turn.entry) state.new act) }
-    ensures falls { IfOk result (λ act. Falls state.old 34 state.new act) }
+pub(crate) fn begin_body<'p>(state: &mut State<'p>, turn: LoopTurn<'p>) -> Result<Act<'p>, NoMemory>
+    ensures leads { Executes state.old (loop_body (table_of state.old.functions) state.old.calls turn.entry) result
+        state.new }
+    ensures falls { RankAtMost state.old 34 result state.new }
 {
     let body = body_of(&turn.kind);
     let here = turn.here;
     state.push_completion(CompletionFrame::LoopBody { turn })?;
-    begin_statements(alloc, state, body, here)
+    begin_statements(state, body, here)
 }
 
 /// A turn of a loop takes a step, and begins.
-pub(crate) fn begin_turn<'p>(
-    alloc: Global,
-    state: &mut State<'p>,
-    turn: LoopTurn<'p>,
-) -> Result<Act<'p>, NoMemory>
-    ensures leads { IfOk result (λ act. Completes state.old
-        (next_turn (table_of state.old.functions) state.old.calls turn.entry) state.new act) }
-    ensures falls { IfOk result (λ act. Falls state.old 1 state.new act) }
+pub(crate) fn begin_turn<'p>(state: &mut State<'p>, turn: LoopTurn<'p>) -> Result<Act<'p>, NoMemory>
+    ensures leads { Executes state.old (next_turn (table_of state.old.functions) state.old.calls turn.entry) result
+        state.new }
+    ensures falls { RankAtMost state.old 1 result state.new }
 {
     if !state.spend() {
         return Ok(Act::Spent);
     }
-    take_turn(alloc, state, turn)
+    take_turn(state, turn)
 }
 
 /// What a turn does after that step.
 #[tactic(auto, using(crate::proofs::Followed::tests))]
-fn take_turn<'p>(
-    alloc: Global,
-    state: &mut State<'p>,
-    turn: LoopTurn<'p>,
-) -> Result<Act<'p>, NoMemory>
-    ensures leads { IfOk result (λ act. Completes state.old
-        (turn_inside (table_of state.old.functions) state.old.calls turn.entry) state.new act) }
+fn take_turn<'p>(state: &mut State<'p>, turn: LoopTurn<'p>) -> Result<Act<'p>, NoMemory>
+    ensures leads { Executes state.old (turn_inside (table_of state.old.functions) state.old.calls turn.entry)
+        result state.new }
     ensures left { IfOk result (λ _. state.new.left ≤ state.old.left) }
 {
     let LoopTurn { kind, here, labels } = turn;
     match kind {
         Loop::Do { body, test } => {
             let kind = Loop::Do { body, test };
-            begin_body(alloc, state, LoopTurn { kind, here, labels })
+            begin_body(state, LoopTurn { kind, here, labels })
         }
         Loop::While { test, body } => {
             let kind = Loop::While { test, body };
             let turn = LoopTurn { kind, here, labels };
-            state.evaluate_for(StatementFrame::Test { turn }, test, here)
+            begin_test(state, turn, test)
         }
-        Loop::For { test, update, body } => {
-            turn_for(alloc, state, test, update, body, here, labels)
-        }
+        Loop::For { test, update, body } => { turn_for(state, test, update, body, here, labels) }
         Loop::ForIn {
             variable,
             visits,
             body,
         } => {
-            let name = word(alloc, "")?;
-            put_visited(alloc, state, variable, name, visits, body, here, labels)
+            let name = word(state.alloc(), "")?;
+            put_visited(state, variable, name, visits, body, here, labels)
         }
     }
 }
@@ -100,26 +87,64 @@ fn take_turn<'p>(
 /// What a turn of a `for` does after that step (12.6.3).
 #[tactic(auto, using(crate::proofs::Followed::tests))]
 fn turn_for<'p>(
-    alloc: Global,
     state: &mut State<'p>,
     test: &'p Option<Expr>,
     update: &'p Option<Expr>,
     body: &'p List<Stmt>,
     here: Here,
-    labels: List<&'p Text>,
+    labels: Labels<'p>,
 ) -> Result<Act<'p>, NoMemory>
-    ensures leads { IfOk result (λ act. Completes state.old
-        (turn_inside (table_of state.old.functions) state.old.calls
-        (record { kind = Loop.For test.entry update.entry body.entry; here = here; labels = labels.entry }))
-        state.new act) }
+    ensures leads { Executes state.old (turn_inside (table_of state.old.functions) state.old.calls (record {
+      kind = Loop.For test.entry update.entry body.entry;
+      here = here;
+      labels = labels.entry;
+    })) result state.new }
     ensures left { IfOk result (λ _. state.new.left ≤ state.old.left) }
 {
     let kind = Loop::For { test, update, body };
     let turn = LoopTurn { kind, here, labels };
     match test {
-        Some(test) => state.evaluate_for(StatementFrame::Test { turn }, test, here),
-        None => begin_body(alloc, state, turn),
+        Some(test) => begin_test(state, turn, test),
+        None => begin_body(state, turn),
     }
+}
+
+/// A turn begins with the test of a loop that has it before its body.
+fn begin_test<'p>(
+    state: &mut State<'p>,
+    turn: LoopTurn<'p>,
+    test: &'p Expr,
+) -> Result<Act<'p>, NoMemory>
+    requires first { is_do turn.kind ≡ false }
+    ensures leads { Executes state.old (value_then (table_of state.old.functions) state.old.calls test.now
+        turn.entry.here (StatementFrame.Test turn.entry)) result state.new }
+    ensures left { IfOk result (λ _. state.new.left ≤ state.old.left) }
+{
+    let here = turn.here;
+    let found = leaf_value(&*state, test, here)?;
+    match found {
+        Some(v) => {
+            state.take_step();
+            begin_body_if(state, turn, v)
+        }
+        None => state.evaluate_for(StatementFrame::Test { turn }, test, here),
+    }
+}
+
+/// The body of such a loop begins, if its test holds.
+fn begin_body_if<'p>(
+    state: &mut State<'p>,
+    turn: LoopTurn<'p>,
+    v: Value,
+) -> Result<Act<'p>, NoMemory>
+    requires first { is_do turn.kind ≡ false }
+    ensures leads { ResumesStatement state.old (StatementFrame.Test turn.entry) v result state.new }
+    ensures falls { RankAtMost state.old 34 result state.new }
+{
+    if !to_boolean(&v) {
+        return Ok(Act::Complete(Completion::Normal));
+    }
+    begin_body(state, turn)
 }
 
 /// Whether the test of a loop comes after its body.
@@ -136,49 +161,45 @@ fn is_do(kind: &Loop<'_>) -> bool
 
 /// A loop goes on with the value of its test.
 pub(crate) fn step_test<'p>(
-    alloc: Global,
     state: &mut State<'p>,
     turn: LoopTurn<'p>,
     v: Value,
 ) -> Result<Act<'p>, NoMemory>
-    ensures leads { IfOk result (λ act. Completes state.old
-        (statement_after (table_of state.old.functions) state.old.calls (StatementFrame.Test turn.entry) v)
-        state.new act) }
-    ensures falls { IfOk result (λ act. Falls state.old (rank_test turn.entry.kind + 2) state.new act) }
+    ensures leads { ResumesStatement state.old (StatementFrame.Test turn.entry) v result state.new }
+    ensures falls { RankAtMost state.old (rank_test turn.entry.kind + 2) result state.new }
 {
+    if !is_do(&turn.kind) {
+        return begin_body_if(state, turn, v);
+    }
     if !to_boolean(&v) {
         return Ok(Act::Complete(Completion::Normal));
     }
-    if is_do(&turn.kind) {
-        return begin_turn(alloc, state, turn);
-    }
-    begin_body(alloc, state, turn)
+    begin_turn(state, turn)
 }
 
 /// A loop goes on after its body, or ends (12.6.1 to 12.6.4).
 #[tactic(auto, using(crate::proofs::Turning::ends_loop, crate::proofs::Turning::goes_on))]
 pub(crate) fn step_body<'p>(
-    alloc: Global,
     state: &mut State<'p>,
     turn: LoopTurn<'p>,
     how: Completion,
 ) -> Result<Act<'p>, NoMemory>
-    ensures leads { IfOk result (λ act. Completes state.old
-        (after_loop_body (table_of state.old.functions) state.old.calls turn.entry how) state.new act) }
-    ensures falls { IfOk result (λ act. Falls state.old 22 state.new act) }
+    ensures leads { Executes state.old (after_loop_body (table_of state.old.functions) state.old.calls turn.entry
+        how) result state.new }
+    ensures falls { RankAtMost state.old 22 result state.new }
 {
     match after_body(turn.labels.items(), how) {
         Some(how) => Ok(Act::Complete(how)),
-        None => go_on(alloc, state, turn),
+        None => go_on(state, turn),
     }
 }
 
 /// A loop goes on after its body.
 #[tactic(auto, using(crate::proofs::Followed::tests))]
-fn go_on<'p>(alloc: Global, state: &mut State<'p>, turn: LoopTurn<'p>) -> Result<Act<'p>, NoMemory>
-    ensures leads { IfOk result (λ act. Completes state.old
-        (after_loop_body (table_of state.old.functions) state.old.calls turn.entry Completion.Normal) state.new act) }
-    ensures falls { IfOk result (λ act. Falls state.old 22 state.new act) }
+fn go_on<'p>(state: &mut State<'p>, turn: LoopTurn<'p>) -> Result<Act<'p>, NoMemory>
+    ensures leads { Executes state.old (after_loop_body (table_of state.old.functions) state.old.calls turn.entry
+        Completion.Normal) result state.new }
+    ensures falls { RankAtMost state.old 22 result state.new }
 {
     let LoopTurn { kind, here, labels } = turn;
     match kind {
@@ -189,40 +210,38 @@ fn go_on<'p>(alloc: Global, state: &mut State<'p>, turn: LoopTurn<'p>) -> Result
         }
         Loop::While { test, body } => {
             let kind = Loop::While { test, body };
-            begin_turn(alloc, state, LoopTurn { kind, here, labels })
+            begin_turn(state, LoopTurn { kind, here, labels })
         }
-        Loop::For { test, update, body } => {
-            go_on_for(alloc, state, test, update, body, here, labels)
-        }
+        Loop::For { test, update, body } => { go_on_for(state, test, update, body, here, labels) }
         Loop::ForIn {
             variable,
             visits,
             body,
-        } => visit_next(alloc, state, variable, visits, body, here, labels),
+        } => visit_next(state, variable, visits.into_inner(), body, here, labels),
     }
 }
 
 /// A `for` goes on after its body (12.6.3).
 #[tactic(auto, using(crate::proofs::Followed::updates))]
 fn go_on_for<'p>(
-    alloc: Global,
     state: &mut State<'p>,
     test: &'p Option<Expr>,
     update: &'p Option<Expr>,
     body: &'p List<Stmt>,
     here: Here,
-    labels: List<&'p Text>,
+    labels: Labels<'p>,
 ) -> Result<Act<'p>, NoMemory>
-    ensures leads { IfOk result (λ act. Completes state.old
-        (after_loop_body (table_of state.old.functions) state.old.calls
-        (record { kind = Loop.For test.entry update.entry body.entry; here = here; labels = labels.entry })
-        Completion.Normal) state.new act) }
-    ensures falls { IfOk result (λ act. Falls state.old 22 state.new act) }
+    ensures leads { Executes state.old (after_loop_body (table_of state.old.functions) state.old.calls (record {
+      kind = Loop.For test.entry update.entry body.entry;
+      here = here;
+      labels = labels.entry;
+    }) Completion.Normal) result state.new }
+    ensures falls { RankAtMost state.old 22 result state.new }
 {
     let kind = Loop::For { test, update, body };
     let turn = LoopTurn { kind, here, labels };
     match update {
         Some(update) => state.evaluate_for(StatementFrame::Update { turn }, update, here),
-        None => begin_turn(alloc, state, turn),
+        None => begin_turn(state, turn),
     }
 }

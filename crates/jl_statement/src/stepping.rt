@@ -1,9 +1,7 @@
 //! Statements gone on with (clause 12).
-ghost use Rattle.std.specs.Prelude.{◌+◌, IfOk};
-ghost use Rattle.jl_state.specs.Rank.{Falls, rank_completion, rank_statement};
-ghost use Rattle.jl_state.specs.Rest.{Completes};
-ghost use Rattle.jl_state.specs.StatementFrames.{completion_after, statement_after};
-ghost use Rattle.jl_state.specs.Words.{table_of};
+ghost use Rattle.jl_state.specs.Clauses.{RankAtMost, ResumesCompletion, ResumesStatement};
+ghost use Rattle.std.specs.Prelude.{◌+◌};
+ghost use Rattle.jl_state.specs.Rank.{rank_completion, rank_statement};
 
 use crate::choices::step_if;
 use crate::completions::{after_labelled, after_switch, unless_abrupt};
@@ -17,76 +15,69 @@ use crate::variables::{declare_head, declare_variables};
 use jl_state::{Act, CompletionFrame, State, StatementFrame};
 use jl_text::NoMemory;
 use jl_value::{Completion, Value};
-use std::alloc::Global;
 
 /// A statement goes on with the value that it waited for.
 pub fn step_statement<'p>(
-    alloc: Global,
     state: &mut State<'p>,
     frame: StatementFrame<'p>,
     v: Value,
 ) -> Result<Act<'p>, NoMemory>
-    ensures leads { IfOk result (λ act. Completes state.old
-        (statement_after (table_of state.old.functions) state.old.calls frame.entry v) state.new act) }
-    ensures falls { IfOk result (λ act. Falls state.old (rank_statement frame.entry + 2) state.new act) }
+    ensures leads { ResumesStatement state.old frame.entry v result state.new }
+    ensures falls { RankAtMost state.old (rank_statement frame.entry + 2) result state.new }
 {
     match frame {
         StatementFrame::Expression => Ok(Act::Complete(Completion::Normal)),
-        StatementFrame::Variables { rest, here } => declare_variables(alloc, state, rest, here),
-        StatementFrame::ForHead { rest, turn } => declare_head(alloc, state, rest, turn),
-        StatementFrame::ForExpression { turn } => begin_turn(alloc, state, turn),
+        StatementFrame::Variables { rest, here } => declare_variables(state, rest, here),
+        StatementFrame::ForHead { rest, turn } => declare_head(state, rest, turn),
+        StatementFrame::ForExpression { turn } => begin_turn(state, turn),
         StatementFrame::If {
             then,
             otherwise,
             here,
-        } => step_if(alloc, state, then, otherwise, here, v),
+        } => step_if(state, then, otherwise, here, v),
         StatementFrame::ForInObject {
             variable,
             body,
             here,
             labels,
-        } => step_for_in_object(alloc, state, variable, body, here, labels, v),
-        StatementFrame::ForInBody { turn } => begin_body(alloc, state, turn),
-        StatementFrame::Test { turn } => step_test(alloc, state, turn, v),
-        StatementFrame::Update { turn } => begin_turn(alloc, state, turn),
+        } => step_for_in_object(state, variable, body, here, labels, v),
+        StatementFrame::ForInBody { turn } => begin_body(state, turn),
+        StatementFrame::Test { turn } => step_test(state, turn, v),
+        StatementFrame::Update { turn } => begin_turn(state, turn),
         StatementFrame::Return => step_return(state, v),
         StatementFrame::Throw => step_throw(state, v),
-        StatementFrame::Switch { cases, here } => step_switch(alloc, state, cases, here, v),
+        StatementFrame::Switch { cases, here } => step_switch(state, cases, here, v),
         StatementFrame::CaseTest {
             value,
             index,
             cases,
             here,
-        } => step_case_test(alloc, state, value, index, cases, here, v),
+        } => step_case_test(state, value, index, cases, here, v),
     }
 }
 
 /// A statement goes on after another one has completed.
 pub fn step_completion<'p>(
-    alloc: Global,
     state: &mut State<'p>,
     frame: CompletionFrame<'p>,
     how: Completion,
 ) -> Result<Act<'p>, NoMemory>
-    ensures leads { IfOk result (λ act. Completes state.old
-        (completion_after (table_of state.old.functions) state.old.calls frame.entry how) state.new act) }
-    ensures falls { IfOk result (λ act. Falls state.old (rank_completion frame.entry + 2) state.new act) }
+    ensures leads { ResumesCompletion state.old frame.entry how result state.new }
+    ensures falls { RankAtMost state.old (rank_completion frame.entry + 2) result state.new }
 {
     match frame {
-        CompletionFrame::Statements { rest, here } => step_statements(
-            alloc, state, rest, here, how,
-        ),
-        CompletionFrame::Clauses { rest, here } => step_clauses(alloc, state, rest, here, how),
+        CompletionFrame::Statements { rest, here } => step_statements(state, rest, here, how),
+        CompletionFrame::Clauses { rest, here } => step_clauses(state, rest, here, how),
         CompletionFrame::Switch => Ok(Act::Complete(after_switch(how))),
         CompletionFrame::Labelled { label } => Ok(Act::Complete(after_labelled(label, how))),
-        CompletionFrame::LoopBody { turn } => step_body(alloc, state, turn, how),
+        CompletionFrame::LoopBody { turn } => step_body(state, turn, how),
         CompletionFrame::TryBlock {
             catch,
             finally,
             here,
-        } => step_try(alloc, state, catch, finally, here, how),
+        } => step_try(state, catch, finally, here, how),
         CompletionFrame::CatchBlock { finally, here } => {
-            begin_finally(alloc, state, finally, how, here)
+            begin_finally(state, finally, how, here)
         }
         CompletionFrame::FinallyBlock { before } => Ok(Act::Complete(unless_abrupt(before, how))),
     }

@@ -1,22 +1,21 @@
 //! The `switch` statement (12.11).
-ghost use Rattle.std.specs.Prelude.{◌≡◌, ◌*◌, ◌+◌, length, option_map, Some, IfOk};
+ghost use Rattle.std.specs.Prelude.{◌≡◌, ◌≤◌, ◌*◌, ◌+◌, length, option_map, IfOk, Some};
 ghost use Rattle.jl_ast.specs.View.{view_cases};
 ghost use Rattle.jl_meaning.specs.Statements.{execute_from};
 ghost use Rattle.jl_meaning.specs.forms.Switch.{default_of};
-ghost use Rattle.jl_state.specs.Rank.{Falls};
-ghost use Rattle.jl_state.specs.Rest.{Completes};
-ghost use Rattle.jl_state.specs.StatementFrames.{completion_after, statement_after};
+ghost use Rattle.jl_state.specs.Clauses.{Executes, RankAtMost, ResumesCompletion, ResumesStatement};
 ghost use Rattle.jl_state.specs.Trees.{items_left, plain_forest};
 ghost use Rattle.jl_state.specs.Words.{context_of, table_of};
 ghost use Rattle.jl_statement.specs.inner.Selections.{run_from, select_and_run, IsNextTest};
+ghost use Rattle.jl_statement.specs.inner.Values.{value_then};
 
 use crate::executing::begin_statements;
+use jl_algorithm::leaf_value;
 use jl_ast::{Case, Expr};
 use jl_conv::strict_equal;
 use jl_state::{Act, CompletionFrame, Here, Remaining, State, StatementFrame, split_first};
 use jl_text::{List, NoMemory};
 use jl_value::{Completion, Value};
-use std::alloc::Global;
 
 /// The first case from an index on that has a test.
 fn next_test<'p>(cases: &'p List<Case>, from: usize) -> Option<(usize, &'p Expr)>
@@ -48,40 +47,35 @@ fn default_of(cases: &[Case]) -> Option<usize>
 
 /// The clauses that are left of a `switch` begin, one after another.
 fn begin_clauses<'p>(
-    alloc: Global,
     state: &mut State<'p>,
     rest: Remaining<'p, Case>,
     here: Here,
 ) -> Result<Act<'p>, NoMemory>
-    ensures leads { IfOk result (λ act. Completes state.old
-        (execute_from (table_of state.old.functions) (Some 0) (plain_forest (view_cases (items_left rest.entry)))
-        (context_of state.old.calls here)) state.new act) }
-    ensures falls { IfOk result (λ act. Falls state.old (14 * length (items_left rest.entry) + 12) state.new act) }
+    ensures leads { Executes state.old (execute_from (table_of state.old.functions) (Some 0) (plain_forest
+        (view_cases (items_left rest.entry))) (context_of state.old.calls here)) result state.new }
+    ensures falls { RankAtMost state.old (14 * length (items_left rest.entry) + 12) result state.new }
 {
     match split_first(rest) {
         None => Ok(Act::Complete(Completion::Normal)),
         Some((case, rest)) => {
             state.push_completion(CompletionFrame::Clauses { rest, here })?;
-            begin_statements(alloc, state, &case.body, here)
+            begin_statements(state, &case.body, here)
         }
     }
 }
 
 /// The clauses that are left of a `switch` begin, where the one before them has completed normally.
 pub(crate) fn step_clauses<'p>(
-    alloc: Global,
     state: &mut State<'p>,
     rest: Remaining<'p, Case>,
     here: Here,
     how: Completion,
 ) -> Result<Act<'p>, NoMemory>
-    ensures leads { IfOk result (λ act. Completes state.old
-        (completion_after (table_of state.old.functions) state.old.calls (CompletionFrame.Clauses rest.entry here) how)
-        state.new act) }
-    ensures falls { IfOk result (λ act. Falls state.old (14 * length (items_left rest.entry) + 12) state.new act) }
+    ensures leads { ResumesCompletion state.old (CompletionFrame.Clauses rest.entry here) how result state.new }
+    ensures falls { RankAtMost state.old (14 * length (items_left rest.entry) + 12) result state.new }
 {
     match how {
-        Completion::Normal => begin_clauses(alloc, state, rest, here),
+        Completion::Normal => begin_clauses(state, rest, here),
         Completion::Return(v) => Ok(Act::Complete(Completion::Return(v))),
         Completion::Throw(v) => Ok(Act::Complete(Completion::Throw(v))),
         Completion::Break(label) => Ok(Act::Complete(Completion::Break(label))),
@@ -91,39 +85,36 @@ pub(crate) fn step_clauses<'p>(
 
 /// The statements of a `switch` begin at this case, or none.
 fn begin_from<'p>(
-    alloc: Global,
     state: &mut State<'p>,
     selected: Option<usize>,
     cases: &'p List<Case>,
     here: Here,
 ) -> Result<Act<'p>, NoMemory>
-    ensures leads { IfOk result (λ act. Completes state.old
-        (run_from (table_of state.old.functions) (context_of state.old.calls here) selected cases.now) state.new act) }
-    ensures falls { IfOk result (λ act. Falls state.old (14 * length cases.now + 15) state.new act) }
+    ensures leads { Executes state.old (run_from (table_of state.old.functions) (context_of state.old.calls here)
+        selected cases.now) result state.new }
+    ensures falls { RankAtMost state.old (14 * length cases.now + 15) result state.new }
 {
     state.push_completion(CompletionFrame::Switch)?;
     match selected {
         None => Ok(Act::Complete(Completion::Normal)),
-        Some(from) => begin_clauses(alloc, state, Remaining { list: cases, from }, here),
+        Some(from) => begin_clauses(state, Remaining { list: cases, from }, here),
     }
 }
 
 /// The cases of a `switch` are tested, from an index on, and then its statements begin.
 fn select_from<'p>(
-    alloc: Global,
     state: &mut State<'p>,
     value: Value,
     from: usize,
     cases: &'p List<Case>,
     here: Here,
 ) -> Result<Act<'p>, NoMemory>
-    ensures leads { IfOk result (λ act. Completes state.old
-        (select_and_run (table_of state.old.functions) (context_of state.old.calls here) value from cases.now)
-        state.new act) }
-    ensures falls { IfOk result (λ act. Falls state.old (20 * length cases.now + 52) state.new act) }
+    ensures leads { Executes state.old (select_and_run (table_of state.old.functions) (context_of state.old.calls
+        here) value from cases.now) result state.new }
+    ensures falls { RankAtMost state.old (20 * length cases.now + 52) result state.new }
 {
     match next_test(cases, from) {
-        None => begin_from(alloc, state, default_of(cases.items()), cases, here),
+        None => begin_from(state, default_of(cases.items()), cases, here),
         Some((index, test)) => {
             let frame = StatementFrame::CaseTest {
                 value,
@@ -136,25 +127,42 @@ fn select_from<'p>(
     }
 }
 
+/// A `switch` begins with its value (12.11).
+pub(crate) fn begin_switch<'p>(
+    state: &mut State<'p>,
+    e: &'p Expr,
+    cases: &'p List<Case>,
+    here: Here,
+) -> Result<Act<'p>, NoMemory>
+    ensures leads { Executes state.old (value_then (table_of state.old.functions) state.old.calls e.now here
+        (StatementFrame.Switch cases.entry here)) result state.new }
+    ensures left { IfOk result (λ _. state.new.left ≤ state.old.left) }
+{
+    let found = leaf_value(&*state, e, here)?;
+    match found {
+        Some(v) => {
+            state.take_step();
+            step_switch(state, cases, here, v)
+        }
+        None => state.evaluate_for(StatementFrame::Switch { cases, here }, e, here),
+    }
+}
+
 /// A `switch` goes on with its value (12.11).
 pub(crate) fn step_switch<'p>(
-    alloc: Global,
     state: &mut State<'p>,
     cases: &'p List<Case>,
     here: Here,
     v: Value,
 ) -> Result<Act<'p>, NoMemory>
-    ensures leads { IfOk result (λ act. Completes state.old
-        (statement_after (table_of state.old.functions) state.old.calls (StatementFrame.Switch cases.entry here) v)
-        state.new act) }
-    ensures falls { IfOk result (λ act. Falls state.old (20 * length cases.now + 62) state.new act) }
+    ensures leads { ResumesStatement state.old (StatementFrame.Switch cases.entry here) v result state.new }
+    ensures falls { RankAtMost state.old (20 * length cases.now + 62) result state.new }
 {
-    select_from(alloc, state, v, 0, cases, here)
+    select_from(state, v, 0, cases, here)
 }
 
 /// A `switch` goes on with the value of a case (12.11).
 pub(crate) fn step_case_test<'p>(
-    alloc: Global,
     state: &mut State<'p>,
     value: Value,
     index: usize,
@@ -162,16 +170,15 @@ pub(crate) fn step_case_test<'p>(
     here: Here,
     w: Value,
 ) -> Result<Act<'p>, NoMemory>
-    ensures leads { IfOk result (λ act. Completes state.old
-        (statement_after (table_of state.old.functions) state.old.calls
-        (StatementFrame.CaseTest value index cases.entry here) w) state.new act) }
-    ensures falls { IfOk result (λ act. Falls state.old (20 * length cases.now + 52) state.new act) }
+    ensures leads { ResumesStatement state.old (StatementFrame.CaseTest value index cases.entry here) w result
+        state.new }
+    ensures falls { RankAtMost state.old (20 * length cases.now + 52) result state.new }
 {
     if strict_equal(&value, &w) {
-        return begin_from(alloc, state, Some(index), cases, here);
+        return begin_from(state, Some(index), cases, here);
     }
     if index >= cases.len() {
-        return begin_from(alloc, state, default_of(cases.items()), cases, here);
+        return begin_from(state, default_of(cases.items()), cases, here);
     }
-    select_from(alloc, state, value, index + 1, cases, here)
+    select_from(state, value, index + 1, cases, here)
 }

@@ -1,13 +1,11 @@
 //! The `try` statement (12.14).
-ghost use Rattle.std.specs.Prelude.{Some, IfOk};
+ghost use Rattle.std.specs.Prelude.{Some};
 ghost use Rattle.jl_ast.specs.View.{view_branch, view_catch};
 ghost use Rattle.jl_effects.specs.Effects.{and_then};
 ghost use Rattle.jl_meaning.specs.Completions.{ends_as};
 ghost use Rattle.jl_meaning.specs.Statements.{execute_branch, handle};
 ghost use Rattle.jl_meaning.specs.forms.Try.{unless_abrupt};
-ghost use Rattle.jl_state.specs.Rank.{Falls};
-ghost use Rattle.jl_state.specs.Rest.{Completes};
-ghost use Rattle.jl_state.specs.StatementFrames.{completion_after};
+ghost use Rattle.jl_state.specs.Clauses.{Executes, RankAtMost, ResumesCompletion};
 ghost use Rattle.jl_state.specs.Trees.{plain_optional};
 ghost use Rattle.jl_state.specs.Words.{context_of, table_of};
 
@@ -16,118 +14,102 @@ use jl_ast::{Ident, Stmt};
 use jl_state::{Act, CompletionFrame, Here, State};
 use jl_text::{List, NoMemory};
 use jl_value::{Completion, Value};
-use std::alloc::Global;
 
 /// The statements after `finally` begin, if there are any, where this was completed before them.
 pub(crate) fn begin_finally<'p>(
-    alloc: Global,
     state: &mut State<'p>,
     finally: &'p Option<List<Stmt>>,
     before: Completion,
     here: Here,
 ) -> Result<Act<'p>, NoMemory>
-    ensures leads { IfOk result (λ act. Completes state.old
-        (ends_as (unless_abrupt before) (execute_branch (table_of state.old.functions)
-        (plain_optional (view_branch finally.now)) (context_of state.old.calls here))) state.new act) }
-    ensures falls { IfOk result (λ act. Falls state.old 18 state.new act) }
+    ensures leads { Executes state.old (ends_as (unless_abrupt before) (execute_branch (table_of
+        state.old.functions) (plain_optional (view_branch finally.now)) (context_of state.old.calls here))) result
+        state.new }
+    ensures falls { RankAtMost state.old 18 result state.new }
 {
     match finally {
         None => Ok(Act::Complete(before)),
         Some(list) => {
             state.push_completion(CompletionFrame::FinallyBlock { before })?;
-            begin_statements(alloc, state, list, here)
+            begin_statements(state, list, here)
         }
     }
 }
 
 /// A `catch` begins with what was thrown (12.14).
 fn begin_catch<'p>(
-    alloc: Global,
     state: &mut State<'p>,
     handler: &'p (Ident, List<Stmt>),
     finally: &'p Option<List<Stmt>>,
     here: Here,
     thrown: Value,
 ) -> Result<Act<'p>, NoMemory>
-    ensures leads { IfOk result (λ act. Completes state.old
-        (and_then (handle (table_of state.old.functions) (plain_optional (view_catch (Some handler.now)))
-        (Completion.Throw thrown) (context_of state.old.calls here))
-        (λ handled. ends_as (unless_abrupt handled) (execute_branch (table_of state.old.functions)
-        (plain_optional (view_branch finally.now)) (context_of state.old.calls here)))) state.new act) }
-    ensures falls { IfOk result (λ act. Falls state.old 52 state.new act) }
+    ensures leads { Executes state.old (and_then (handle (table_of state.old.functions) (plain_optional (view_catch
+        (Some handler.now))) (Completion.Throw thrown) (context_of state.old.calls here)) (λ handled. ends_as
+        (unless_abrupt handled) (execute_branch (table_of state.old.functions) (plain_optional (view_branch
+        finally.now)) (context_of state.old.calls here)))) result state.new }
+    ensures falls { RankAtMost state.old 52 result state.new }
 {
     state.push_completion(CompletionFrame::CatchBlock { finally, here })?;
-    enter_catch(alloc, state, handler, here, thrown)
+    enter_catch(state, handler, here, thrown)
 }
 
 /// The statements of a `catch` begin, where the caught value is bound.
 fn enter_catch<'p>(
-    alloc: Global,
     state: &mut State<'p>,
     handler: &'p (Ident, List<Stmt>),
     here: Here,
     thrown: Value,
 ) -> Result<Act<'p>, NoMemory>
-    ensures leads { IfOk result (λ act. Completes state.old
-        (handle (table_of state.old.functions) (plain_optional (view_catch (Some handler.now)))
-        (Completion.Throw thrown) (context_of state.old.calls here)) state.new act) }
-    ensures falls { IfOk result (λ act. Falls state.old 14 state.new act) }
+    ensures leads { Executes state.old (handle (table_of state.old.functions) (plain_optional (view_catch (Some
+        handler.now))) (Completion.Throw thrown) (context_of state.old.calls here)) result state.new }
+    ensures falls { RankAtMost state.old 14 result state.new }
 {
     let env = state.store.enter_catch(here.env, &handler.0.text, thrown)?;
     let inside = Here {
         env,
         strict: here.strict,
     };
-    begin_statements(alloc, state, &handler.1, inside)
+    begin_statements(state, &handler.1, inside)
 }
 
 /// A `try` goes on after its block (12.14).
 pub(crate) fn step_try<'p>(
-    alloc: Global,
     state: &mut State<'p>,
     catch: &'p Option<(Ident, List<Stmt>)>,
     finally: &'p Option<List<Stmt>>,
     here: Here,
     how: Completion,
 ) -> Result<Act<'p>, NoMemory>
-    ensures leads { IfOk result (λ act. Completes state.old
-        (completion_after (table_of state.old.functions) state.old.calls
-        (CompletionFrame.TryBlock catch.entry finally.entry here) how) state.new act) }
-    ensures falls { IfOk result (λ act. Falls state.old 52 state.new act) }
+    ensures leads { ResumesCompletion state.old (CompletionFrame.TryBlock catch.entry finally.entry here) how result
+        state.new }
+    ensures falls { RankAtMost state.old 52 result state.new }
 {
     match catch {
-        None => begin_finally(alloc, state, finally, how, here),
-        Some(handler) => after_block(alloc, state, handler, finally, here, how),
+        None => begin_finally(state, finally, how, here),
+        Some(handler) => after_block(state, handler, finally, here, how),
     }
 }
 
 /// A `try` that has a `catch` goes on after its block.
 fn after_block<'p>(
-    alloc: Global,
     state: &mut State<'p>,
     handler: &'p (Ident, List<Stmt>),
     finally: &'p Option<List<Stmt>>,
     here: Here,
     how: Completion,
 ) -> Result<Act<'p>, NoMemory>
-    ensures leads { IfOk result (λ act. Completes state.old
-        (and_then (handle (table_of state.old.functions) (plain_optional (view_catch (Some handler.now))) how
-        (context_of state.old.calls here))
-        (λ handled. ends_as (unless_abrupt handled) (execute_branch (table_of state.old.functions)
-        (plain_optional (view_branch finally.now)) (context_of state.old.calls here)))) state.new act) }
-    ensures falls { IfOk result (λ act. Falls state.old 52 state.new act) }
+    ensures leads { Executes state.old (and_then (handle (table_of state.old.functions) (plain_optional (view_catch
+        (Some handler.now))) how (context_of state.old.calls here)) (λ handled. ends_as (unless_abrupt handled)
+        (execute_branch (table_of state.old.functions) (plain_optional (view_branch finally.now)) (context_of
+        state.old.calls here)))) result state.new }
+    ensures falls { RankAtMost state.old 52 result state.new }
 {
     match how {
-        Completion::Throw(thrown) => begin_catch(alloc, state, handler, finally, here, thrown),
-        Completion::Normal => begin_finally(alloc, state, finally, Completion::Normal, here),
-        Completion::Return(v) => begin_finally(alloc, state, finally, Completion::Return(v), here),
-        Completion::Break(x) => begin_finally(alloc, state, finally, Completion::Break(x), here),
-        Completion::Continue(x) => begin_finally(
-            alloc,
-            state,
-            finally,
-            Completion::Continue(x),
-            here,
-        ),
+        Completion::Throw(thrown) => begin_catch(state, handler, finally, here, thrown),
+        Completion::Normal => begin_finally(state, finally, Completion::Normal, here),
+        Completion::Return(v) => begin_finally(state, finally, Completion::Return(v), here),
+        Completion::Break(x) => begin_finally(state, finally, Completion::Break(x), here),
+        Completion::Continue(x) => begin_finally(state, finally, Completion::Continue(x), here),
     }
 }

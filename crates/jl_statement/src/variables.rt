@@ -1,8 +1,7 @@
 //! Variables with initialisers (12.2).
-ghost use Rattle.std.specs.Prelude.{◌+◌, ◌*◌, ◌<◌, length, IfOk, IfSome};
+ghost use Rattle.std.specs.Prelude.{◌+◌, ◌*◌, ◌<◌, length, IfSome};
 ghost use Rattle.jl_meaning.specs.Completions.{normal, ◌>>=◌ as ◌then◌};
-ghost use Rattle.jl_state.specs.Rank.{Falls};
-ghost use Rattle.jl_state.specs.Rest.{Completes};
+ghost use Rattle.jl_state.specs.Clauses.{Executes, RankAtMost};
 ghost use Rattle.jl_state.specs.StatementFrames.{next_turn};
 ghost use Rattle.jl_state.specs.Trees.{items_left};
 ghost use Rattle.jl_state.specs.Words.{context_of, table_of};
@@ -14,7 +13,6 @@ use jl_member::assign_name;
 use jl_state::{Act, Here, LoopTurn, Remaining, State, StatementFrame};
 use jl_text::{NoMemory, Text};
 use jl_value::Completion;
-use std::alloc::Global;
 
 /// The first of the declarators that are left which has an initialiser, with what is left after it.
 fn first_initialised<'p>(
@@ -40,43 +38,40 @@ fn first_initialised<'p>(
 
 /// The variables that are left of a list get their values (12.2).
 pub(crate) fn declare_variables<'p>(
-    alloc: Global,
     state: &mut State<'p>,
     rest: Remaining<'p, (Ident, Option<Expr>)>,
     here: Here,
 ) -> Result<Act<'p>, NoMemory>
-    ensures leads { IfOk result (λ act. Completes state.old
-        (declare (table_of state.old.functions) (context_of state.old.calls here) (items_left rest.entry)
-        then λ _. normal) state.new act) }
-    ensures falls { IfOk result (λ act. Falls state.old (60 * length (items_left rest.entry) + 12) state.new act) }
+    ensures leads { Executes state.old (declare (table_of state.old.functions) (context_of state.old.calls here)
+        (items_left rest.entry) then λ _. normal) result state.new }
+    ensures falls { RankAtMost state.old (60 * length (items_left rest.entry) + 12) result state.new }
 {
     match first_initialised(rest) {
         None => Ok(Act::Complete(Completion::Normal)),
         Some((name, value, rest)) => {
             state.push_statement(StatementFrame::Variables { rest, here })?;
-            assign_name(alloc, state, name, value, here)
+            assign_name(state, name, value, here)
         }
     }
 }
 
 /// The variables that are left of the head of a `for` get their values, and then it turns (12.6.3).
 pub(crate) fn declare_head<'p>(
-    alloc: Global,
     state: &mut State<'p>,
     rest: Remaining<'p, (Ident, Option<Expr>)>,
     turn: LoopTurn<'p>,
 ) -> Result<Act<'p>, NoMemory>
-    ensures leads { IfOk result (λ act. Completes state.old
-        (declare (table_of state.old.functions) (context_of state.old.calls turn.entry.here) (items_left rest.entry)
-        then λ _. next_turn (table_of state.old.functions) state.old.calls turn.entry) state.new act) }
-    ensures falls { IfOk result (λ act. Falls state.old (60 * length (items_left rest.entry) + 12) state.new act) }
+    ensures leads { Executes state.old (declare (table_of state.old.functions) (context_of state.old.calls
+        turn.entry.here) (items_left rest.entry) then λ _. next_turn (table_of state.old.functions) state.old.calls
+        turn.entry) result state.new }
+    ensures falls { RankAtMost state.old (60 * length (items_left rest.entry) + 12) result state.new }
 {
     let here = turn.here;
     match first_initialised(rest) {
-        None => begin_turn(alloc, state, turn),
+        None => begin_turn(state, turn),
         Some((name, value, rest)) => {
             state.push_statement(StatementFrame::ForHead { rest, turn })?;
-            assign_name(alloc, state, name, value, here)
+            assign_name(state, name, value, here)
         }
     }
 }

@@ -7,7 +7,7 @@ use Rattle.jl_statement.proofs.beginning.begin_kind.Goals as goal
 
 pub returns-in-If-clause-leads : goal.returns-in-If-clause-leads
 returns-in-If-clause-leads c =
-    if_ok _ _ _ c.evaluate_for-in-If.ensures.leads
+    if_ok _ _ _ c.begin_if.ensures.leads
     (λ a leads. of_kind c.args.state.now c.args.t.now _ _ (labels_seen c.args.labels) c.args.here _ _ c.in-If.is
     (statement_If c.in-If.test c.in-If.then c.in-If.otherwise c.args.t.now.span) leads)
 
@@ -25,7 +25,7 @@ returns-in-ForIn-clause-leads c =
 
 pub returns-in-Switch-clause-leads : goal.returns-in-Switch-clause-leads
 returns-in-Switch-clause-leads c =
-    if_ok _ _ _ c.evaluate_for-in-Switch.ensures.leads
+    if_ok _ _ _ c.begin_switch.ensures.leads
     (λ a leads. of_kind c.args.state.now c.args.t.now _ _ (labels_seen c.args.labels) c.args.here _ _ c.in-Switch.is
     (statement_Switch c.in-Switch.e c.in-Switch.cases c.args.t.now.span) leads)
 

@@ -5,4 +5,4 @@ use Rattle.jl_statement.proofs.executing.begin_remaining.Goals as goal
 pub returns-in-Some-clause-leads : goal.returns-in-Some-clause-leads
 returns-in-Some-clause-leads c =
     if_ok _ _ _ c.execute_for.ensures.leads (λ a leads. executes_first c.args.state.now _ _ _ c.args.here _ _ _
-    c.in-Some.ensures c.new.ensures leads)
+    c.in-Some.ensures c.none.ensures leads)

@@ -1,5 +1,5 @@
 use Rattle.std.proofs.Common.{refl}
-use Rattle.jl_state.specs.Turns.{labels_seen, visits_seen}
+use Rattle.jl_state.specs.Turns.{labels_seen}
 use Rattle.jl_statement.proofs.Results.{if_ok}
 use Rattle.jl_statement.proofs.Visiting.{visit_spent, visit_turns}
 use Rattle.jl_statement.proofs.for_in.begin_visit.Goals as goal
@@ -11,5 +11,5 @@ returns-then-not-spend-clause-leads c =
 pub returns-clause-leads : goal.returns-clause-leads
 returns-clause-leads c =
     if_ok _ _ _ c.put_visited.ensures.leads (λ a leads. visit_turns _ _ c.args.variable.now c.args.name
-    (visits_seen c.args.visits) c.args.body.now c.args.here (labels_seen c.args.labels) _ _
-    (c.if-not-spend.ensures.took refl) (c.if-not-spend.ensures.left refl) leads)
+    c.args.visits c.in_ok-visits.visits c.args.body.now c.args.here (labels_seen c.args.labels) _ _
+    (c.if-not-spend.ensures.took refl) (c.if-not-spend.ensures.left refl) c.in_ok-visits.ensures leads)

@@ -9,7 +9,7 @@ returns-in-Do-clause-leads c =
 
 pub returns-in-While-clause-leads : goal.returns-in-While-clause-leads
 returns-in-While-clause-leads c =
-    if_ok _ _ _ c.evaluate_for.ensures.leads (λ a leads. turn_of_kind c.args.state.now c.args.turn _ _ _ c.in-While.is
+    if_ok _ _ _ c.begin_test.ensures.leads (λ a leads. turn_of_kind c.args.state.now c.args.turn _ _ _ c.in-While.is
     (tests c.args.state.now _ _ _ _ leads))
 
 pub returns-in-For-clause-leads : goal.returns-in-For-clause-leads
