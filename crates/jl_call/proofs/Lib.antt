@@ -6,5 +6,6 @@ pub mod Methods
 pub mod Pairs
 pub mod Rests
 pub mod Seconds
+pub mod Takings
 pub mod Told
 pub mod Updates

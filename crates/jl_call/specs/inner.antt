@@ -1,2 +1,3 @@
 pub mod Invoked
 pub mod Notes
+pub mod Taken

@@ -1,12 +1,10 @@
 //! Hooks that give a value.
-ghost use Rattle.std.specs.Prelude.{IfOk};
 ghost use Rattle.jl_meaning.specs.Noting.{emits};
 ghost use Rattle.jl_meaning.specs.Parts.{lift, ◌>>=◌ as ◌then◌};
 ghost use Rattle.jl_meaning.specs.forms.Hooks.{enter_hook, first_of, second_of};
 ghost use Rattle.jl_meaning.specs.forms.Members.{delete_member, get_member, member_name};
 ghost use Rattle.jl_meaning.specs.forms.Operators.{operate};
-ghost use Rattle.jl_state.specs.Rank.{Falls};
-ghost use Rattle.jl_state.specs.Rest.{Gives};
+ghost use Rattle.jl_state.specs.Clauses.{Evaluates, RankAtMost};
 ghost use Rattle.jl_state.specs.Words.{context_of, hook_of};
 
 use crate::keys::name_member;
@@ -20,92 +18,90 @@ use jl_operator::{emit, operate};
 use jl_state::{Act, Here, Hook, HookId, KeyFor, Noted, State};
 use jl_text::{List, NoMemory};
 use jl_value::Value;
-use std::alloc::Global;
 
 /// A hook is entered with these values: it does what its form does, and emits the operation that the form performs.
 #[tactic(auto, unfolding(jl_meaning::specs::forms::Hooks::enter_hook))]
 pub(crate) fn enter_hook<'p>(
-    alloc: Global,
     state: &mut State<'p>,
     id: HookId,
     hook: Hook,
     values: &List<Value>,
     here: Here,
 ) -> Result<Act<'p>, NoMemory>
-    ensures leads { IfOk result (λ act. Gives state.old
-        (enter_hook (context_of state.old.calls here) id.id (hook_of hook) values.now) state.new act) }
-    ensures falls { IfOk result (λ act. Falls state.old 150 state.new act) }
+    ensures leads { Evaluates state.old (enter_hook (context_of state.old.calls here) id.id (hook_of hook)
+        values.now) result state.new }
+    ensures falls { RankAtMost state.old 150 result state.new }
 {
+    let alloc = state.alloc();
     match hook {
         Hook::EntersScript => emit(state, id.first(), Op::ScriptEnter, Value::Undefined),
         Hook::ExitsScript => emit(state, id.first(), Op::ScriptExit, Value::Undefined),
         Hook::EntersFunction => emit_entry(state, id),
         Hook::ExitsFunction => emit_exit(state, id),
         Hook::Makes => emit_literal(state, id, first_of(alloc, values)?),
-        Hook::Reads(name) => emit_value(alloc, state, id, ValueNote::Read(name), values),
-        Hook::Writes(name) => emit_value(alloc, state, id, ValueNote::Write(name), values),
-        Hook::Types(name) => emit_type(alloc, state, id, name, first_of(alloc, values)?),
-        Hook::Catches(name) => emit_value(alloc, state, id, ValueNote::Catch(name), values),
-        Hook::Tests => emit_value(alloc, state, id, ValueNote::Test, values),
-        Hook::Visits => emit_value(alloc, state, id, ValueNote::Visit, values),
-        Hook::Returns => emit_value(alloc, state, id, ValueNote::Return, values),
-        Hook::Throws => emit_value(alloc, state, id, ValueNote::Throw, values),
-        Hook::Binary(op) => enter_binary(alloc, state, id, op, values),
-        Hook::Unary(op) => enter_unary(alloc, state, id, op, first_of(alloc, values)?),
-        Hook::Gets => enter_get(alloc, state, id, values),
-        Hook::Deletes => enter_delete(alloc, state, id, here.strict, values),
-        Hook::Updates { up } => enter_update(alloc, state, id, here.strict, up, values),
+        Hook::Reads(name) => emit_value(state, id, ValueNote::Read(name), values),
+        Hook::Writes(name) => emit_value(state, id, ValueNote::Write(name), values),
+        Hook::Types(name) => emit_type(state, id, name, first_of(alloc, values)?),
+        Hook::Catches(name) => emit_value(state, id, ValueNote::Catch(name), values),
+        Hook::Tests => emit_value(state, id, ValueNote::Test, values),
+        Hook::Visits => emit_value(state, id, ValueNote::Visit, values),
+        Hook::Returns => emit_value(state, id, ValueNote::Return, values),
+        Hook::Throws => emit_value(state, id, ValueNote::Throw, values),
+        Hook::Binary(op) => enter_binary(state, id, op, values),
+        Hook::Unary(op) => enter_unary(state, id, op, first_of(alloc, values)?),
+        Hook::Gets => enter_get(state, id, values),
+        Hook::Deletes => enter_delete(state, id, here.strict, values),
+        Hook::Updates { up } => enter_update(state, id, here.strict, up, values),
     }
 }
 
 /// A hook of an operator between two operands (11.5 to 11.10).
 fn enter_binary<'p>(
-    alloc: Global,
     state: &mut State<'p>,
     id: HookId,
     op: BinOp,
     values: &List<Value>,
 ) -> Result<Act<'p>, NoMemory>
-    ensures leads { IfOk result (λ act. Gives state.old
-        (operate emits id.id op (first_of values.now) (second_of values.now)) state.new act) }
-    ensures falls { IfOk result (λ act. Falls state.old 46 state.new act) }
+    ensures leads { Evaluates state.old (operate emits id.id op (first_of values.now) (second_of values.now)) result
+        state.new }
+    ensures falls { RankAtMost state.old 46 result state.new }
 {
+    let alloc = state.alloc();
     let left = first_of(alloc, values)?;
     let right = second_of(alloc, values)?;
-    operate(alloc, state, true, id.first(), op, left, right)
+    operate(state, true, id.first(), op, left, right)
 }
 
 /// A hook of a member that is got (11.2.1).
 fn enter_get<'p>(
-    alloc: Global,
     state: &mut State<'p>,
     id: HookId,
     values: &List<Value>,
 ) -> Result<Act<'p>, NoMemory>
-    ensures leads { IfOk result (λ act. Gives state.old
-        (lift (member_name (first_of values.now) (second_of values.now)) then λ x.
-        get_member emits id.id (first_of values.now) x) state.new act) }
-    ensures falls { IfOk result (λ act. Falls state.old 36 state.new act) }
+    ensures leads { Evaluates state.old (lift (member_name (first_of values.now) (second_of values.now)) then λ x.
+        get_member emits id.id (first_of values.now) x) result state.new }
+    ensures falls { RankAtMost state.old 36 result state.new }
 {
+    let alloc = state.alloc();
     let base = first_of(alloc, values)?;
     let noted = Noted { emits: true, id };
-    name_member(alloc, state, values, KeyFor::Get { noted, base })
+    name_member(state, values, KeyFor::Get { noted, base })
 }
 
 /// A hook of a member that is deleted (11.4.1).
 fn enter_delete<'p>(
-    alloc: Global,
     state: &mut State<'p>,
     id: HookId,
     strict: bool,
     values: &List<Value>,
 ) -> Result<Act<'p>, NoMemory>
-    ensures leads { IfOk result (λ act. Gives state.old
-        (delete_member emits id.id strict (first_of values.now) (second_of values.now)) state.new act) }
-    ensures falls { IfOk result (λ act. Falls state.old 30 state.new act) }
+    ensures leads { Evaluates state.old (delete_member emits id.id strict (first_of values.now) (second_of
+        values.now)) result state.new }
+    ensures falls { RankAtMost state.old 30 result state.new }
 {
+    let alloc = state.alloc();
     let base = first_of(alloc, values)?;
     let key = second_of(alloc, values)?;
     let noted = Noted { emits: true, id };
-    delete_member(alloc, state, noted, strict, base, key)
+    delete_member(state, noted, strict, base, key)
 }

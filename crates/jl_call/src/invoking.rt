@@ -1,11 +1,9 @@
 //! Calls and constructions, when the arguments have been evaluated (11.2.2, 11.2.3).
-ghost use Rattle.std.specs.Prelude.{IfOk};
 ghost use Rattle.jl_meaning.specs.Noting.{emits};
 ghost use Rattle.jl_meaning.specs.forms.Calls.{invoke};
-ghost use Rattle.jl_state.specs.Rank.{Falls};
-ghost use Rattle.jl_state.specs.Rest.{Gives};
 ghost use Rattle.jl_state.specs.Words.{call_of, noting, table_of};
 ghost use Rattle.jl_call.specs.inner.Invoked.{invoke_function};
+ghost use Rattle.jl_state.specs.Clauses.{Evaluates, RankAtMost};
 
 use crate::targets::{function_of, no_function, seen_values, target_of};
 use jl_algorithm::throw_native;
@@ -14,12 +12,10 @@ use jl_operator::emit_for;
 use jl_state::{Act, CallId, Invocation, State, ToldFrame};
 use jl_text::{List, NoMemory};
 use jl_value::{ErrorKind, Value};
-use std::alloc::Global;
 
 /// A call, or with `new` a construction, when the arguments have been evaluated (11.2.2, 11.2.3).
 #[tactic(auto, using(crate::proofs::Invocations::invocations))]
 pub fn invoke<'p>(
-    alloc: Global,
     state: &mut State<'p>,
     emits: bool,
     id: CallId,
@@ -28,9 +24,9 @@ pub fn invoke<'p>(
     args: List<Value>,
     by_new: bool,
 ) -> Result<Act<'p>, NoMemory>
-    ensures leads { IfOk result (λ act. Gives state.old
-        (invoke (table_of state.old.functions) (noting emits) id.pre callee this args by_new) state.new act) }
-    ensures falls { IfOk result (λ act. Falls state.old 20 state.new act) }
+    ensures leads { Evaluates state.old (invoke (table_of state.old.functions) (noting emits) id.pre callee this
+        args by_new) result state.new }
+    ensures falls { RankAtMost state.old 20 result state.new }
 {
     match function_of(&state.store, &callee, by_new) {
         Some(callee) => {
@@ -40,42 +36,38 @@ pub fn invoke<'p>(
                 args,
                 by_new,
             };
-            invoke_function(alloc, state, emits, id, call)
+            invoke_function(state, emits, id, call)
         }
-        None => throw_native(alloc, state, ErrorKind::TypeError, no_function(by_new)),
+        None => throw_native(state, ErrorKind::TypeError, no_function(by_new)),
     }
 }
 
 /// A call of a function, which a hook emits before it is made and when it has returned.
 fn invoke_function<'p>(
-    alloc: Global,
     state: &mut State<'p>,
     emits: bool,
     id: CallId,
     call: Invocation,
 ) -> Result<Act<'p>, NoMemory>
-    ensures leads { IfOk result (λ act. Gives state.old
-        (invoke_function (table_of state.old.functions) (noting emits) id.pre (call_of call)) state.new act) }
-    ensures falls { IfOk result (λ act. Falls state.old 20 state.new act) }
+    ensures leads { Evaluates state.old (invoke_function (table_of state.old.functions) (noting emits) id.pre
+        (call_of call)) result state.new }
+    ensures falls { RankAtMost state.old 20 result state.new }
 {
+    let alloc = state.alloc();
     if emits {
-        tell_call(alloc, state, id, call)
+        tell_call(state, id, call)
     } else {
-        Ok(Act::Call(call))
+        Act::call(alloc, call)
     }
 }
 
 /// The observer is told of a call that a hook makes, and then it is made.
-fn tell_call<'p>(
-    alloc: Global,
-    state: &mut State<'p>,
-    id: CallId,
-    call: Invocation,
-) -> Result<Act<'p>, NoMemory>
-    ensures leads { IfOk result (λ act. Gives state.old
-        (invoke_function (table_of state.old.functions) emits id.pre (call_of call)) state.new act) }
-    ensures falls { IfOk result (λ act. Falls state.old 14 state.new act) }
+fn tell_call<'p>(state: &mut State<'p>, id: CallId, call: Invocation) -> Result<Act<'p>, NoMemory>
+    ensures leads { Evaluates state.old (invoke_function (table_of state.old.functions) emits id.pre (call_of call))
+        result state.new }
+    ensures falls { RankAtMost state.old 14 result state.new }
 {
+    let alloc = state.alloc();
     let told = Op::InvokePre {
         callee: call.callee,
         target: target_of(&state.functions, state.store.inner_of(call.callee))?,

@@ -1,11 +1,11 @@
 //! Keys of members, and what their names are for (9.8, 11.2.1).
-ghost use Rattle.std.specs.Prelude.{◌+◌, IfOk};
+ghost use Rattle.std.specs.Prelude.{◌+◌};
 ghost use Rattle.jl_meaning.specs.Parts.{lift, ◌>>=◌ as ◌then◌};
 ghost use Rattle.jl_meaning.specs.forms.Hooks.{first_of, second_of};
 ghost use Rattle.jl_meaning.specs.forms.Members.{member_name};
-ghost use Rattle.jl_state.specs.Rank.{Falls, rank_key};
-ghost use Rattle.jl_state.specs.Rest.{Gives};
-ghost use Rattle.jl_state.specs.ValueFrames.{key_after, value_after};
+ghost use Rattle.jl_state.specs.Clauses.{Evaluates, RankAtMost, Resumes, Uses};
+ghost use Rattle.jl_state.specs.Rank.{rank_key};
+ghost use Rattle.jl_state.specs.ValueFrames.{key_after};
 ghost use Rattle.jl_state.specs.Words.{table_of};
 
 use crate::closing::start_closing;
@@ -16,91 +16,81 @@ use jl_operator::text_of;
 use jl_state::{Act, Here, HookId, KeyFor, Noted, Pending, State, ValueFrame};
 use jl_text::{List, NoMemory, Text};
 use jl_value::{Value, share};
-use std::alloc::Global;
 
 /// The key of a member is a primitive value (9.8).
 pub fn step_key<'p>(
-    alloc: Global,
     state: &mut State<'p>,
     purpose: KeyFor<'p>,
     v: Value,
 ) -> Result<Act<'p>, NoMemory>
-    ensures leads { IfOk result (λ act. Gives state.old
-        (value_after (table_of state.old.functions) state.old.calls (ValueFrame.Key purpose.entry) v) state.new act) }
-    ensures falls { IfOk result (λ act. Falls state.old (rank_key purpose.entry + 2) state.new act) }
+    ensures leads { Resumes state.old (ValueFrame.Key purpose.entry) v result state.new }
+    ensures falls { RankAtMost state.old (rank_key purpose.entry + 2) result state.new }
 {
+    let alloc = state.alloc();
     let name = text_of(alloc, &v)?;
-    use_name(alloc, state, purpose, name)
+    use_name(state, purpose, name)
 }
 
 /// Something is done with the name of a member.
-fn use_name<'p>(
-    alloc: Global,
-    state: &mut State<'p>,
-    purpose: KeyFor<'p>,
-    name: Text,
-) -> Result<Act<'p>, NoMemory>
-    ensures leads { IfOk result (λ act. Gives state.old
-        (key_after (table_of state.old.functions) state.old.calls purpose.entry name) state.new act) }
-    ensures falls { IfOk result (λ act. Falls state.old (rank_key purpose.entry + 2) state.new act) }
+fn use_name<'p>(state: &mut State<'p>, purpose: KeyFor<'p>, name: Text) -> Result<Act<'p>, NoMemory>
+    ensures leads { Uses state.old purpose.entry name result state.new }
+    ensures falls { RankAtMost state.old (rank_key purpose.entry + 2) result state.new }
 {
     match purpose {
-        KeyFor::Get { noted, base } => get_by_key(alloc, state, noted, base, name),
-        KeyFor::Call { base, args, here } => { call_by_key(alloc, state, base, args, here, name) }
+        KeyFor::Get { noted, base } => get_by_key(state, noted, base, name),
+        KeyFor::Call { base, args, here } => { call_by_key(state, base, args, here, name) }
         KeyFor::Assign {
             base,
             op,
             value,
             here,
-        } => assign_by_key(alloc, state, base, op, value, here, name),
+        } => assign_by_key(state, base, op, value, here, name),
         KeyFor::Delete {
             noted,
             base,
             strict,
-        } => delete_by_key(alloc, state, noted, base, strict, name),
+        } => delete_by_key(state, noted, base, strict, name),
         KeyFor::Update {
             noted,
             base,
             up,
             prefix,
             strict,
-        } => update_by_key(alloc, state, noted, base, up, prefix, strict, name),
+        } => update_by_key(state, noted, base, up, prefix, strict, name),
         KeyFor::Put {
             id,
             base,
             args,
             here,
-        } => start_closing(alloc, state, Pending::Put { id, base, name }, args, here),
+        } => start_closing(state, Pending::Put { id, base, name }, args, here),
         KeyFor::Compute {
             id,
             op,
             base,
             args,
             here,
-        } => compute_by_key(alloc, state, id, op, base, args, here, name),
+        } => compute_by_key(state, id, op, base, args, here, name),
         KeyFor::Method {
             id,
             base,
             args,
             here,
-        } => method_by_key(alloc, state, id, base, args, here, name),
+        } => method_by_key(state, id, base, args, here, name),
     }
 }
 
 /// The value of a member is got, and called (11.2.3).
-fn call_by_key<'p>(
-    alloc: Global,
+pub(crate) fn call_by_key<'p>(
     state: &mut State<'p>,
     base: Value,
     args: &'p List<Expr>,
     here: Here,
     name: Text,
 ) -> Result<Act<'p>, NoMemory>
-    ensures leads { IfOk result (λ act. Gives state.old
-        (key_after (table_of state.old.functions) state.old.calls (KeyFor.Call base args.entry here) name)
-        state.new act) }
-    ensures falls { IfOk result (λ act. Falls state.old 160 state.new act) }
+    ensures leads { Uses state.old (KeyFor.Call base args.entry here) name result state.new }
+    ensures falls { RankAtMost state.old 160 result state.new }
 {
+    let alloc = state.alloc();
     let object = share(alloc, &base)?;
     state.push_value(ValueFrame::Callee {
         this: base,
@@ -112,12 +102,11 @@ fn call_by_key<'p>(
         emits: false,
         id: HookId::own(),
     };
-    get_member(alloc, state, noted, object, name)
+    get_member(state, noted, object, name)
 }
 
 /// A hook gets the value of a member, with which an assignment computes (11.13.2).
 fn compute_by_key<'p>(
-    alloc: Global,
     state: &mut State<'p>,
     id: HookId,
     op: BinOp,
@@ -126,11 +115,10 @@ fn compute_by_key<'p>(
     here: Here,
     name: Text,
 ) -> Result<Act<'p>, NoMemory>
-    ensures leads { IfOk result (λ act. Gives state.old
-        (key_after (table_of state.old.functions) state.old.calls (KeyFor.Compute id op base args.entry here) name)
-        state.new act) }
-    ensures falls { IfOk result (λ act. Falls state.old 160 state.new act) }
+    ensures leads { Uses state.old (KeyFor.Compute id op base args.entry here) name result state.new }
+    ensures falls { RankAtMost state.old 160 result state.new }
 {
+    let alloc = state.alloc();
     let object = share(alloc, &base)?;
     let key = name.share(alloc)?;
     state.push_value(ValueFrame::ComputePending {
@@ -141,12 +129,11 @@ fn compute_by_key<'p>(
         args,
         here,
     })?;
-    get_member(alloc, state, Noted { emits: true, id }, object, key)
+    get_member(state, Noted { emits: true, id }, object, key)
 }
 
 /// A hook gets the value of a member, which its second call calls (11.2.3).
 fn method_by_key<'p>(
-    alloc: Global,
     state: &mut State<'p>,
     id: HookId,
     base: Value,
@@ -154,11 +141,10 @@ fn method_by_key<'p>(
     here: Here,
     name: Text,
 ) -> Result<Act<'p>, NoMemory>
-    ensures leads { IfOk result (λ act. Gives state.old
-        (key_after (table_of state.old.functions) state.old.calls (KeyFor.Method id base args.entry here) name)
-        state.new act) }
-    ensures falls { IfOk result (λ act. Falls state.old 160 state.new act) }
+    ensures leads { Uses state.old (KeyFor.Method id base args.entry here) name result state.new }
+    ensures falls { RankAtMost state.old 160 result state.new }
 {
+    let alloc = state.alloc();
     let object = share(alloc, &base)?;
     state.push_value(ValueFrame::MethodPending {
         id,
@@ -166,22 +152,21 @@ fn method_by_key<'p>(
         args,
         here,
     })?;
-    get_member(alloc, state, Noted { emits: true, id }, object, name)
+    get_member(state, Noted { emits: true, id }, object, name)
 }
 
 /// The name of the member is found that a hook is asked for, of which it gets the base and the key.
 pub(crate) fn name_member<'p>(
-    alloc: Global,
     state: &mut State<'p>,
     values: &List<Value>,
     purpose: KeyFor<'p>,
 ) -> Result<Act<'p>, NoMemory>
-    ensures leads { IfOk result (λ act. Gives state.old
-        (lift (member_name (first_of values.now) (second_of values.now))
-        then key_after (table_of state.old.functions) state.old.calls purpose.entry) state.new act) }
-    ensures falls { IfOk result (λ act. Falls state.old (rank_key purpose.entry + 20) state.new act) }
+    ensures leads { Evaluates state.old (lift (member_name (first_of values.now) (second_of values.now)) then
+        key_after (table_of state.old.functions) state.old.calls purpose.entry) result state.new }
+    ensures falls { RankAtMost state.old (rank_key purpose.entry + 20) result state.new }
 {
+    let alloc = state.alloc();
     let base = first_of(alloc, values)?;
     let key = second_of(alloc, values)?;
-    member_name(alloc, state, &base, key, purpose)
+    member_name(state, &base, key, purpose)
 }

@@ -7,12 +7,14 @@ mod closing;
 mod hooks;
 mod invoking;
 mod keys;
+mod leaves;
 mod notes;
 mod openers;
 mod targets;
 mod telling;
 mod updating;
 mod values;
+mod waiting;
 
 pub use arguments::{start_arguments, step_argument};
 pub use callees::{

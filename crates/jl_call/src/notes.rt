@@ -5,10 +5,9 @@ ghost use Rattle.jl_meaning.specs.Noting.{emits, note_or_misuse};
 ghost use Rattle.jl_meaning.specs.Parts.{look, ◌>>=◌ as ◌then◌, Running};
 ghost use Rattle.jl_meaning.specs.forms.Hooks.{emit_of, entered_op, first_of, type_op};
 ghost use Rattle.jl_meaning.specs.forms.Literals.{literal, literal_op, object_literal};
-ghost use Rattle.jl_state.specs.Rank.{Falls};
-ghost use Rattle.jl_state.specs.Rest.{Gives};
 ghost use Rattle.jl_state.specs.Words.{running};
 ghost use Rattle.jl_call.specs.inner.Notes.{op_of};
+ghost use Rattle.jl_state.specs.Clauses.{Evaluates, RankAtMost};
 
 use crate::values::first_of;
 use jl_heap::Inner;
@@ -18,7 +17,6 @@ use jl_state::{Act, HookId, State};
 use jl_store::{Store, script_number};
 use jl_text::{List, NoMemory, Text};
 use jl_value::{Class, Fault, ObjId, Seen, Value};
-use std::alloc::Global;
 
 /// What a hook emits of one value.
 #[derive(Drop)]
@@ -56,16 +54,15 @@ fn op_of(note: ValueNote, value: Seen) -> Op
 
 /// A hook emits an operation of the first of its values, and gives that.
 pub(crate) fn emit_value<'p>(
-    alloc: Global,
     state: &mut State<'p>,
     id: HookId,
     note: ValueNote,
     values: &List<Value>,
 ) -> Result<Act<'p>, NoMemory>
-    ensures leads { IfOk result (λ act. Gives state.old
-        (emit_of id.id (op_of note) (first_of values.now)) state.new act) }
-    ensures falls { IfOk result (λ act. Falls state.old 6 state.new act) }
+    ensures leads { Evaluates state.old (emit_of id.id (op_of note) (first_of values.now)) result state.new }
+    ensures falls { RankAtMost state.old 6 result state.new }
 {
+    let alloc = state.alloc();
     let value = first_of(alloc, values)?;
     let told = op_of(note, state.store.seen(&value)?);
     emit(state, id.first(), told, value)
@@ -74,10 +71,9 @@ pub(crate) fn emit_value<'p>(
 /// A hook emits that the call that is running was entered. Where none is, it is misused.
 #[tactic(auto, using(crate::proofs::Entries::entries))]
 pub(crate) fn emit_entry<'p>(state: &mut State<'p>, id: HookId) -> Result<Act<'p>, NoMemory>
-    ensures leads { IfOk result (λ act. Gives state.old
-        (look then λ store. note_or_misuse emits id.id Value.Undefined
-        (option_map (entered_op store.heap) (running state.old.calls))) state.new act) }
-    ensures falls { IfOk result (λ act. Falls state.old 6 state.new act) }
+    ensures leads { Evaluates state.old (look then λ store. note_or_misuse emits id.id Value.Undefined (option_map
+        (entered_op store.heap) (running state.old.calls))) result state.new }
+    ensures falls { RankAtMost state.old 6 result state.new }
 {
     match state.calls.innermost() {
         None => Ok(Act::Fault(Fault::Misuse)),
@@ -96,10 +92,9 @@ pub(crate) fn emit_entry<'p>(state: &mut State<'p>, id: HookId) -> Result<Act<'p
 /// A hook emits that the call that is running ends. Where none is, it is misused.
 #[tactic(auto, using(crate::proofs::Entries::entries))]
 pub(crate) fn emit_exit<'p>(state: &mut State<'p>, id: HookId) -> Result<Act<'p>, NoMemory>
-    ensures leads { IfOk result (λ act. Gives state.old
-        (note_or_misuse emits id.id Value.Undefined
-        (option_map (λ (r : Running). Op.FunctionExit r.function) (running state.old.calls))) state.new act) }
-    ensures falls { IfOk result (λ act. Falls state.old 6 state.new act) }
+    ensures leads { Evaluates state.old (note_or_misuse emits id.id Value.Undefined (option_map (λ (r : Running).
+        Op.FunctionExit r.function) (running state.old.calls))) result state.new }
+    ensures falls { RankAtMost state.old 6 result state.new }
 {
     match state.calls.innermost() {
         None => Ok(Act::Fault(Fault::Misuse)),
@@ -114,16 +109,15 @@ pub(crate) fn emit_exit<'p>(state: &mut State<'p>, id: HookId) -> Result<Act<'p>
 
 /// A hook emits the type of a name, which is a text, and gives it (11.4.3).
 pub(crate) fn emit_type<'p>(
-    alloc: Global,
     state: &mut State<'p>,
     id: HookId,
     name: Text,
     v: Value,
 ) -> Result<Act<'p>, NoMemory>
-    ensures leads { IfOk result (λ act. Gives state.old
-        (note_or_misuse emits id.id v (type_op name v)) state.new act) }
-    ensures falls { IfOk result (λ act. Falls state.old 6 state.new act) }
+    ensures leads { Evaluates state.old (note_or_misuse emits id.id v (type_op name v)) result state.new }
+    ensures falls { RankAtMost state.old 6 result state.new }
 {
+    let alloc = state.alloc();
     match &v {
         Value::Text(text) => {
             let result = text.share(alloc)?;
@@ -142,8 +136,8 @@ pub(crate) fn emit_literal<'p>(
     id: HookId,
     v: Value,
 ) -> Result<Act<'p>, NoMemory>
-    ensures leads { IfOk result (λ act. Gives state.old (literal emits id.id v) state.new act) }
-    ensures falls { IfOk result (λ act. Falls state.old 6 state.new act) }
+    ensures leads { Evaluates state.old (literal emits id.id v) result state.new }
+    ensures falls { RankAtMost state.old 6 result state.new }
 {
     match literal_op(&state.store, &v)? {
         Some(told) => emit(state, id.first(), told, v),

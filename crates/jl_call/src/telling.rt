@@ -1,11 +1,11 @@
 //! What follows once the observer has been told of an operation.
-ghost use Rattle.std.specs.Prelude.{◌≡◌, ◌+◌, IfOk};
+ghost use Rattle.std.specs.Prelude.{◌≡◌, ◌+◌};
 ghost use Rattle.jl_meaning.specs.Noting.{emits};
 ghost use Rattle.jl_meaning.specs.Parts.{give, ◌>>=◌ as ◌then◌};
 ghost use Rattle.jl_meaning.specs.Properties.{found_of, property_of_value};
 ghost use Rattle.jl_meaning.specs.forms.Members.{put_member};
-ghost use Rattle.jl_state.specs.Rank.{Falls, rank_told};
-ghost use Rattle.jl_state.specs.Rest.{Gives};
+ghost use Rattle.jl_state.specs.Clauses.{Evaluates, RankAtMost};
+ghost use Rattle.jl_state.specs.Rank.{rank_told};
 ghost use Rattle.jl_state.specs.ToldFrames.{told_after};
 
 use jl_algorithm::put;
@@ -15,26 +15,20 @@ use jl_state::{Act, CallId, Invocation, State, ToldFrame, ValueFrame};
 use jl_store::Store;
 use jl_text::{NoMemory, Text};
 use jl_value::Value;
-use std::alloc::Global;
 
 /// The observer has been told of an operation.
-pub fn step_told<'p>(
-    alloc: Global,
-    state: &mut State<'p>,
-    frame: ToldFrame,
-) -> Result<Act<'p>, NoMemory>
-    ensures leads { IfOk result (λ act. Gives state.old (told_after frame) state.new act) }
-    ensures falls { IfOk result (λ act. Falls state.old (rank_told frame + 1) state.new act) }
+pub fn step_told<'p>(state: &mut State<'p>, frame: ToldFrame) -> Result<Act<'p>, NoMemory>
+    ensures leads { Evaluates state.old (told_after frame) result state.new }
+    ensures falls { RankAtMost state.old (rank_told frame + 1) result state.new }
 {
     match frame {
-        ToldFrame::Give(v) => Ok(Act::Give(v)),
         ToldFrame::Put {
             base,
             name,
             value,
             strict,
             gives,
-        } => put(alloc, state, strict, base, &name, value, gives),
+        } => put(state, strict, base, &name, value, gives),
         ToldFrame::PutMember {
             id,
             base,
@@ -42,27 +36,26 @@ pub fn step_told<'p>(
             value,
             strict,
             gives,
-        } => emit_put(alloc, state, id, strict, base, name, value, gives),
+        } => emit_put(state, id, strict, base, name, value, gives),
         ToldFrame::Invoke { id, call } => make_call(state, id, call),
     }
 }
 
 /// A call is made that a hook has emitted, and what it gives is to be emitted.
 fn make_call<'p>(state: &mut State<'p>, id: CallId, call: Invocation) -> Result<Act<'p>, NoMemory>
-    ensures leads { IfOk result (λ act. Gives state.old (told_after (ToldFrame.Invoke id call)) state.new act) }
-    ensures falls { IfOk result (λ act. Falls state.old 8 state.new act) }
+    ensures leads { Evaluates state.old (told_after (ToldFrame.Invoke id call)) result state.new }
+    ensures falls { RankAtMost state.old 8 result state.new }
 {
     state.push_value(ValueFrame::EmitInvoke {
         id: id.post(),
         callee: call.callee,
     })?;
-    Ok(Act::Call(call))
+    Act::call(state.alloc(), call)
 }
 
 /// A hook emits that a value is put to a member, which follows; then another one is given (8.7.2).
 #[tactic(auto, unfolding(jl_meaning::specs::forms::Members::put_member))]
 fn emit_put<'p>(
-    alloc: Global,
     state: &mut State<'p>,
     id: OpId,
     strict: bool,
@@ -71,10 +64,11 @@ fn emit_put<'p>(
     value: Value,
     gives: Value,
 ) -> Result<Act<'p>, NoMemory>
-    ensures leads { IfOk result (λ act. Gives state.old
-        (put_member emits id.0 strict base name value then λ _. give gives) state.new act) }
-    ensures falls { IfOk result (λ act. Falls state.old 46 state.new act) }
+    ensures leads { Evaluates state.old (put_member emits id.0 strict base name value then λ _. give gives) result
+        state.new }
+    ensures falls { RankAtMost state.old 46 result state.new }
 {
+    let alloc = state.alloc();
     let told = Op::PutField {
         base: state.store.seen(&base)?,
         name: name.share(alloc)?,

@@ -1,5 +1,5 @@
 //! Hooks of operators on one operand, of `++` and `--` among them (11.3, 11.4).
-ghost use Rattle.std.specs.Prelude.{◌≡◌, ◌+◌, IfOk};
+ghost use Rattle.std.specs.Prelude.{◌≡◌, ◌+◌};
 ghost use Rattle.jl_heap.specs.Describe.{seen_of};
 ghost use Rattle.jl_op.specs.UnaryKinds.{update_kind};
 ghost use Rattle.jl_meaning.specs.Noting.{emits, note};
@@ -7,10 +7,7 @@ ghost use Rattle.jl_meaning.specs.Operators.{give_next};
 ghost use Rattle.jl_meaning.specs.Parts.{give, lift, ◌>>=◌ as ◌then◌};
 ghost use Rattle.jl_meaning.specs.forms.Hooks.{first_of, hooked_unary, hooked_update, second_of};
 ghost use Rattle.jl_meaning.specs.forms.Members.{update_member};
-ghost use Rattle.jl_state.specs.Rank.{Falls};
-ghost use Rattle.jl_state.specs.Rest.{Gives};
-ghost use Rattle.jl_state.specs.ValueFrames.{value_after};
-ghost use Rattle.jl_state.specs.Words.{table_of};
+ghost use Rattle.jl_state.specs.Clauses.{Evaluates, RankAtMost, Resumes};
 
 use crate::values::{first_of, second_of};
 use jl_algorithm::to_primitive;
@@ -21,62 +18,57 @@ use jl_operator::{next_number, number_of, operate_on, step_emit_unary};
 use jl_state::{Act, Hint, HookId, Noted, State, ValueFrame};
 use jl_text::{List, NoMemory};
 use jl_value::{Fault, Value, share};
-use std::alloc::Global;
 
 /// A hook of an operator on one operand.
 #[tactic(auto, using(crate::proofs::Updates::operates_hooked))]
 pub(crate) fn enter_unary<'p>(
-    alloc: Global,
     state: &mut State<'p>,
     id: HookId,
     op: UnKind,
     v: Value,
 ) -> Result<Act<'p>, NoMemory>
-    ensures leads { IfOk result (λ act. Gives state.old (hooked_unary id.id op v) state.new act) }
-    ensures falls { IfOk result (λ act. Falls state.old 46 state.new act) }
+    ensures leads { Evaluates state.old (hooked_unary id.id op v) result state.new }
+    ensures falls { RankAtMost state.old 46 result state.new }
 {
     match op {
-        UnKind::Up => update_value(alloc, state, id, true, v),
-        UnKind::Down => update_value(alloc, state, id, false, v),
+        UnKind::Up => update_value(state, id, true, v),
+        UnKind::Down => update_value(state, id, false, v),
         UnKind::Minus
         | UnKind::Plus
         | UnKind::Not
         | UnKind::Tilde
         | UnKind::Typeof
-        | UnKind::Void => operate_on(alloc, state, true, id.first(), op, v),
+        | UnKind::Void => operate_on(state, true, id.first(), op, v),
     }
 }
 
 /// A hook of `++` or `--` on a value, which gives the new value.
 #[tactic(auto, using(crate::proofs::Updates::updates_hooked))]
 fn update_value<'p>(
-    alloc: Global,
     state: &mut State<'p>,
     id: HookId,
     up: bool,
     v: Value,
 ) -> Result<Act<'p>, NoMemory>
-    ensures leads { IfOk result (λ act. Gives state.old (hooked_update id.id (update_kind up) v) state.new act) }
-    ensures falls { IfOk result (λ act. Falls state.old 30 state.new act) }
+    ensures leads { Evaluates state.old (hooked_update id.id (update_kind up) v) result state.new }
+    ensures falls { RankAtMost state.old 30 result state.new }
 {
+    let alloc = state.alloc();
     let held = share(alloc, &v)?;
     state.push_value(ValueFrame::UpdateOperandPrimitive { id, up, held })?;
-    to_primitive(alloc, state, v, Hint::Number)
+    to_primitive(state, v, Hint::Number)
 }
 
 /// The operand of a hook of `++` or `--` is a primitive value (11.3).
 pub fn step_update_operand_primitive<'p>(
-    alloc: Global,
     state: &mut State<'p>,
     id: HookId,
     up: bool,
     held: Value,
     v: Value,
 ) -> Result<Act<'p>, NoMemory>
-    ensures leads { IfOk result (λ act. Gives state.old
-        (value_after (table_of state.old.functions) state.old.calls (ValueFrame.UpdateOperandPrimitive id up held) v)
-        state.new act) }
-    ensures falls { IfOk result (λ act. Falls state.old 12 state.new act) }
+    ensures leads { Resumes state.old (ValueFrame.UpdateOperandPrimitive id up held) v result state.new }
+    ensures falls { RankAtMost state.old 12 result state.new }
 {
     match number_of(&v) {
         Ok(n) => emit_next(state, id, update_kind(up), held, n),
@@ -92,10 +84,9 @@ fn emit_next<'p>(
     held: Value,
     n: Num,
 ) -> Result<Act<'p>, NoMemory>
-    ensures leads { IfOk result (λ act. Gives state.old
-        (lift (give_next op n) then λ w.
-        note emits id.id (λ heap. Op.Unary op (seen_of heap held) (seen_of heap w)) then λ _. give w) state.new act) }
-    ensures falls { IfOk result (λ act. Falls state.old 12 state.new act) }
+    ensures leads { Evaluates state.old (lift (give_next op n) then λ w. note emits id.id (λ heap. Op.Unary op
+        (seen_of heap held) (seen_of heap w)) then λ _. give w) result state.new }
+    ensures falls { RankAtMost state.old 12 result state.new }
 {
     match next_number(op, n) {
         Ok(next) => emit_unary(state, id, op, held, Value::Num(next)),
@@ -111,30 +102,28 @@ fn emit_unary<'p>(
     operand: Value,
     v: Value,
 ) -> Result<Act<'p>, NoMemory>
-    ensures leads { IfOk result (λ act. Gives state.old
-        (note emits id.id (λ heap. Op.Unary op (seen_of heap operand) (seen_of heap v)) then λ _. give v)
-        state.new act) }
-    ensures falls { IfOk result (λ act. Falls state.old 6 state.new act) }
+    ensures leads { Evaluates state.old (note emits id.id (λ heap. Op.Unary op (seen_of heap operand) (seen_of heap
+        v)) then λ _. give v) result state.new }
+    ensures falls { RankAtMost state.old 6 result state.new }
 {
     step_emit_unary(state, id.first(), op, operand, v)
 }
 
 /// A hook of `++` or `--` on a member (11.3, 11.4.4, 11.4.5), which gives the new value.
 pub(crate) fn enter_update<'p>(
-    alloc: Global,
     state: &mut State<'p>,
     id: HookId,
     strict: bool,
     up: bool,
     values: &List<Value>,
 ) -> Result<Act<'p>, NoMemory>
-    ensures leads { IfOk result (λ act. Gives state.old
-        (update_member emits id.id strict (update_kind up) (first_of values.now) (second_of values.now)
-        then λ r. give r.1) state.new act) }
-    ensures falls { IfOk result (λ act. Falls state.old 146 state.new act) }
+    ensures leads { Evaluates state.old (update_member emits id.id strict (update_kind up) (first_of values.now)
+        (second_of values.now) then λ r. give r.1) result state.new }
+    ensures falls { RankAtMost state.old 146 result state.new }
 {
+    let alloc = state.alloc();
     let noted = Noted { emits: true, id };
     let base = first_of(alloc, values)?;
     let key = second_of(alloc, values)?;
-    update_member(alloc, state, noted, strict, up, true, base, key)
+    update_member(state, noted, strict, up, true, base, key)
 }

@@ -1,6 +1,7 @@
 pub mod Begun
 pub mod ByKind
 pub mod Callees
+pub mod Leaves
 pub mod Pairs
 pub mod Refused
 pub mod Started

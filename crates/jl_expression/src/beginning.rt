@@ -5,14 +5,16 @@ ghost use Rattle.jl_ast.specs.View.{view_expression, view_target};
 ghost use Rattle.jl_op.specs.UnaryKinds.{unary_kind};
 ghost use Rattle.jl_meaning.specs.Expressions.{evaluate, evaluate_assignment, evaluate_delete, evaluate_typeof};
 ghost use Rattle.jl_meaning.specs.Expressions.{evaluate_update};
-ghost use Rattle.jl_state.specs.Rank.{Falls};
-ghost use Rattle.jl_state.specs.Rest.{Gives};
 ghost use Rattle.jl_state.specs.Trees.{plain};
 ghost use Rattle.jl_state.specs.Words.{context_of, table_of};
 ghost use Rattle.jl_expression.specs.inner.Begun.{assigned_name, begin, this_in};
+ghost use Rattle.jl_state.specs.Clauses.{Evaluates, RankAtMost};
 
 use crate::boxes::evaluate_boxed;
 use crate::calls::{begin_call, begin_new};
+use crate::operands::{
+    assign_dot, assign_index, begin_binary, begin_dot, begin_index, begin_operand,
+};
 use jl_ast::{BinOp, Expr, ExprKind, Target, UnOp};
 use jl_literal::{
     begin_array, begin_function, begin_object, give_boolean, give_null, give_number, give_text,
@@ -26,66 +28,45 @@ use std::alloc::Global;
 
 /// An expression takes a step, and begins.
 pub fn begin_expression<'p>(
-    alloc: Global,
     state: &mut State<'p>,
     e: &'p Expr,
     here: Here,
 ) -> Result<Act<'p>, NoMemory>
-    ensures leads { IfOk result (λ act. Gives state.old
-        (evaluate (table_of state.old.functions) (plain (view_expression e.now)) (context_of state.old.calls here))
-        state.new act) }
-    ensures falls { IfOk result (λ act. Falls state.old 1 state.new act) }
+    ensures leads { Evaluates state.old (evaluate (table_of state.old.functions) (plain (view_expression e.now))
+        (context_of state.old.calls here)) result state.new }
+    ensures falls { RankAtMost state.old 1 result state.new }
 {
     if !state.spend() {
         return Ok(Act::Spent);
     }
-    begin(alloc, state, e, here)
+    begin(state, e, here)
 }
 
 /// What an expression does after the step that begins it.
 #[tactic(auto, using(jl_ast::proofs::Views::nodes))]
-fn begin<'p>(
-    alloc: Global,
-    state: &mut State<'p>,
-    e: &'p Expr,
-    here: Here,
-) -> Result<Act<'p>, NoMemory>
-    ensures leads { IfOk result (λ act. Gives state.old
-        (begin (table_of state.old.functions) (plain (view_expression e.now)) (context_of state.old.calls here))
-        state.new act) }
+fn begin<'p>(state: &mut State<'p>, e: &'p Expr, here: Here) -> Result<Act<'p>, NoMemory>
+    ensures leads { Evaluates state.old (begin (table_of state.old.functions) (plain (view_expression e.now))
+        (context_of state.old.calls here)) result state.new }
     ensures left { IfOk result (λ _. state.new.left ≤ state.old.left) }
 {
+    let alloc = state.alloc();
     match &e.kind {
         ExprKind::This => Ok(Act::Give(this_value(alloc, &state.calls)?)),
-        ExprKind::Name(name) => read_name(alloc, state, name, here),
+        ExprKind::Name(name) => read_name(state, name, here),
         ExprKind::Num(number) => Ok(give_number(*number)),
         ExprKind::Str(text) => give_text(alloc, text),
         ExprKind::Bool(truth) => Ok(give_boolean(*truth)),
         ExprKind::Null => Ok(give_null()),
-        ExprKind::Array(items) => begin_array(alloc, state, items, here),
-        ExprKind::Object(entries) => begin_object(alloc, state, entries, here),
+        ExprKind::Array(items) => begin_array(state, items, here),
+        ExprKind::Object(entries) => begin_object(state, entries, here),
         ExprKind::Function(function) => begin_function(state, function, here),
-        ExprKind::Dot(object, key) => {
-            evaluate_boxed(state, ValueFrame::DotBase { key }, object, here)
-        }
-        ExprKind::Index(object, key) => {
-            evaluate_boxed(state, ValueFrame::IndexBase { key, here }, object, here)
-        }
-        ExprKind::Call(callee, args) => begin_call(alloc, state, callee, args, here),
+        ExprKind::Dot(object, key) => begin_dot(state, object, key, here),
+        ExprKind::Index(object, key) => begin_index(state, object, key, here),
+        ExprKind::Call(callee, args) => begin_call(state, callee, args, here),
         ExprKind::New(constructor, args) => begin_new(state, constructor, args, here),
-        ExprKind::Unary(op, operand) => begin_unary(alloc, state, *op, operand, here),
-        ExprKind::Update { up, prefix, target } => begin_update(
-            alloc, state, *up, *prefix, target, here,
-        ),
-        ExprKind::Binary(op, left, right) => {
-            let op = *op;
-            evaluate_boxed(
-                state,
-                ValueFrame::LeftOperand { op, right, here },
-                left,
-                here,
-            )
-        }
+        ExprKind::Unary(op, operand) => begin_unary(state, *op, operand, here),
+        ExprKind::Update { up, prefix, target } => begin_update(state, *up, *prefix, target, here),
+        ExprKind::Binary(op, left, right) => begin_binary(state, *op, left, right, here),
         ExprKind::And(left, right) => {
             evaluate_boxed(state, ValueFrame::And { right, here }, left, here)
         }
@@ -100,9 +81,7 @@ fn begin<'p>(
             };
             evaluate_boxed(state, frame, test, here)
         }
-        ExprKind::Assign(op, target, value) => {
-            begin_assignment(alloc, state, *op, target, value, here)
-        }
+        ExprKind::Assign(op, target, value) => { begin_assignment(state, *op, target, value, here) }
         ExprKind::Comma(left, right) => {
             evaluate_boxed(state, ValueFrame::Comma { right, here }, left, here)
         }
@@ -122,22 +101,21 @@ fn this_value(alloc: Global, calls: &Calls) -> Result<Value, NoMemory>
 /// An operator with one operand (11.4).
 #[tactic(auto, using(crate::proofs::Begun::operands))]
 fn begin_unary<'p>(
-    alloc: Global,
     state: &mut State<'p>,
     op: UnOp,
     operand: &'p Expr,
     here: Here,
 ) -> Result<Act<'p>, NoMemory>
-    ensures leads { IfOk result (λ act. Gives state.old (begin (table_of state.old.functions)
-        (tree.unary op (plain (view_expression operand.now)) 0) (context_of state.old.calls here)) state.new act) }
+    ensures leads { Evaluates state.old (begin (table_of state.old.functions) (tree.unary op (plain (view_expression
+        operand.now)) 0) (context_of state.old.calls here)) result state.new }
     ensures left { IfOk result (λ _. state.new.left ≤ state.old.left) }
 {
     match op {
-        UnOp::Typeof => begin_typeof(alloc, state, operand, here),
-        UnOp::Delete => begin_delete(alloc, state, operand, here),
+        UnOp::Typeof => begin_typeof(state, operand, here),
+        UnOp::Delete => begin_delete(state, operand, here),
         _ => {
             let op = unary_kind(op);
-            state.evaluate(ValueFrame::Operand { op }, operand, here)
+            begin_operand(state, op, operand, here)
         }
     }
 }
@@ -145,19 +123,17 @@ fn begin_unary<'p>(
 /// `typeof` (11.4.3).
 #[tactic(auto, using(jl_ast::proofs::Views::nodes))]
 fn begin_typeof<'p>(
-    alloc: Global,
     state: &mut State<'p>,
     operand: &'p Expr,
     here: Here,
 ) -> Result<Act<'p>, NoMemory>
-    ensures leads { IfOk result (λ act. Gives state.old (evaluate_typeof (table_of state.old.functions)
-        (plain (view_expression operand.now))
-        (evaluate (table_of state.old.functions) (plain (view_expression operand.now))
-        (context_of state.old.calls here)) 0 (context_of state.old.calls here)) state.new act) }
+    ensures leads { Evaluates state.old (evaluate_typeof (table_of state.old.functions) (plain (view_expression
+        operand.now)) (evaluate (table_of state.old.functions) (plain (view_expression operand.now)) (context_of
+        state.old.calls here)) 0 (context_of state.old.calls here)) result state.new }
     ensures left { IfOk result (λ _. state.new.left ≤ state.old.left) }
 {
     match &operand.kind {
-        ExprKind::Name(name) => typeof_name(alloc, state, name, here),
+        ExprKind::Name(name) => typeof_name(state, name, here),
         _ => {
             let op = UnKind::Typeof;
             state.evaluate(ValueFrame::Operand { op }, operand, here)
@@ -168,20 +144,18 @@ fn begin_typeof<'p>(
 /// `delete` (11.4.1).
 #[tactic(auto, using(jl_ast::proofs::Views::nodes))]
 fn begin_delete<'p>(
-    alloc: Global,
     state: &mut State<'p>,
     operand: &'p Expr,
     here: Here,
 ) -> Result<Act<'p>, NoMemory>
-    ensures leads { IfOk result (λ act. Gives state.old (evaluate_delete (table_of state.old.functions)
-        (plain (view_expression operand.now))
-        (evaluate (table_of state.old.functions) (plain (view_expression operand.now))
-        (context_of state.old.calls here)) 0 (context_of state.old.calls here)) state.new act) }
+    ensures leads { Evaluates state.old (evaluate_delete (table_of state.old.functions) (plain (view_expression
+        operand.now)) (evaluate (table_of state.old.functions) (plain (view_expression operand.now)) (context_of
+        state.old.calls here)) 0 (context_of state.old.calls here)) result state.new }
     ensures left { IfOk result (λ _. state.new.left ≤ state.old.left) }
 {
     let strict = here.strict;
     match &operand.kind {
-        ExprKind::Name(name) => delete_name(alloc, state, name, here),
+        ExprKind::Name(name) => delete_name(state, name, here),
         ExprKind::Dot(object, key) => {
             evaluate_boxed(
                 state,
@@ -205,19 +179,18 @@ fn begin_delete<'p>(
 /// `++` and `--` (11.3, 11.4.4, 11.4.5).
 #[tactic(auto, using(jl_ast::proofs::Views::nodes))]
 fn begin_update<'p>(
-    alloc: Global,
     state: &mut State<'p>,
     up: bool,
     prefix: bool,
     target: &'p Target,
     here: Here,
 ) -> Result<Act<'p>, NoMemory>
-    ensures leads { IfOk result (λ act. Gives state.old (evaluate_update (table_of state.old.functions)
-        (plain (view_target target.now)) up prefix 0 (context_of state.old.calls here)) state.new act) }
+    ensures leads { Evaluates state.old (evaluate_update (table_of state.old.functions) (plain (view_target
+        target.now)) up prefix 0 (context_of state.old.calls here)) result state.new }
     ensures left { IfOk result (λ _. state.new.left ≤ state.old.left) }
 {
     match target {
-        Target::Name(name) => update_name(alloc, state, &name.text, up, prefix, here),
+        Target::Name(name) => update_name(state, &name.text, up, prefix, here),
         Target::Dot(object, key, _) => {
             let frame = ValueFrame::UpdateDotBase {
                 key,
@@ -242,58 +215,39 @@ fn begin_update<'p>(
 /// An assignment (11.13).
 #[tactic(auto, using(jl_ast::proofs::Views::nodes))]
 fn begin_assignment<'p>(
-    alloc: Global,
     state: &mut State<'p>,
     op: Option<BinOp>,
     target: &'p Target,
     value: &'p Box<Expr>,
     here: Here,
 ) -> Result<Act<'p>, NoMemory>
-    ensures leads { IfOk result (λ act. Gives state.old (evaluate_assignment (table_of state.old.functions)
-        (plain (view_target target.now)) op
-        (evaluate (table_of state.old.functions) (plain (view_expression value.now.value))
-        (context_of state.old.calls here)) 0 (context_of state.old.calls here)) state.new act) }
+    ensures leads { Evaluates state.old (evaluate_assignment (table_of state.old.functions) (plain (view_target
+        target.now)) op (evaluate (table_of state.old.functions) (plain (view_expression value.now.value))
+        (context_of state.old.calls here)) 0 (context_of state.old.calls here)) result state.new }
     ensures left { IfOk result (λ _. state.new.left ≤ state.old.left) }
 {
     match target {
-        Target::Name(name) => assign_to_name(alloc, state, op, &name.text, value, here),
-        Target::Dot(object, key, _) => {
-            let frame = ValueFrame::AssignDotBase {
-                key,
-                op,
-                value,
-                here,
-            };
-            state.evaluate(frame, object, here)
-        }
-        Target::Index(object, key, _) => {
-            let frame = ValueFrame::AssignIndexBase {
-                key,
-                op,
-                value,
-                here,
-            };
-            state.evaluate(frame, object, here)
-        }
+        Target::Name(name) => assign_to_name(state, op, &name.text, value, here),
+        Target::Dot(object, key, _) => assign_dot(state, object, key, op, value, here),
+        Target::Index(object, key, _) => assign_index(state, object, key, op, value, here),
     }
 }
 
 /// An assignment to a name (11.13.1, 11.13.2).
 fn assign_to_name<'p>(
-    alloc: Global,
     state: &mut State<'p>,
     op: Option<BinOp>,
     name: &'p Text,
     value: &'p Box<Expr>,
     here: Here,
 ) -> Result<Act<'p>, NoMemory>
-    ensures leads { IfOk result (λ act. Gives state.old (assigned_name op (context_of state.old.calls here) name.now
-        (evaluate (table_of state.old.functions) (plain (view_expression value.now.value))
-        (context_of state.old.calls here))) state.new act) }
+    ensures leads { Evaluates state.old (assigned_name op (context_of state.old.calls here) name.now (evaluate
+        (table_of state.old.functions) (plain (view_expression value.now.value)) (context_of state.old.calls here)))
+        result state.new }
     ensures left { IfOk result (λ _. state.new.left ≤ state.old.left) }
 {
     match op {
-        None => assign_name(alloc, state, name, value, here),
-        Some(op) => compute_name(alloc, state, name, op, value, here),
+        None => assign_name(state, name, value, here),
+        Some(op) => compute_name(state, name, op, value, here),
     }
 }

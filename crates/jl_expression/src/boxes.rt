@@ -3,7 +3,7 @@ ghost use Rattle.std.specs.Prelude.{◌≤◌, IfOk};
 ghost use Rattle.jl_ast.specs.View.{view_expression};
 ghost use Rattle.jl_meaning.specs.Expressions.{evaluate};
 ghost use Rattle.jl_meaning.specs.Parts.{◌>>=◌ as ◌then◌};
-ghost use Rattle.jl_state.specs.Rest.{Gives};
+ghost use Rattle.jl_state.specs.Clauses.{Evaluates};
 ghost use Rattle.jl_state.specs.Trees.{plain};
 ghost use Rattle.jl_state.specs.ValueFrames.{value_after};
 ghost use Rattle.jl_state.specs.Words.{context_of, table_of};
@@ -19,9 +19,9 @@ pub(crate) fn evaluate_boxed<'p>(
     e: &'p Box<Expr>,
     here: Here,
 ) -> Result<Act<'p>, NoMemory>
-    ensures leads { IfOk result (λ act. Gives state.old
-        (evaluate (table_of state.old.functions) (plain (view_expression e.now.value)) (context_of state.old.calls here)
-        then value_after (table_of state.old.functions) state.old.calls frame.entry) state.new act) }
+    ensures leads { Evaluates state.old (evaluate (table_of state.old.functions) (plain (view_expression
+        e.now.value)) (context_of state.old.calls here) then value_after (table_of state.old.functions)
+        state.old.calls frame.entry) result state.new }
     ensures left { IfOk result (λ _. state.new.left ≤ state.old.left) }
 {
     state.evaluate(frame, e, here)

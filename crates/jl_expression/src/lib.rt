@@ -4,6 +4,7 @@
 mod beginning;
 mod boxes;
 mod calls;
+mod operands;
 mod stepping;
 
 pub use beginning::begin_expression;

@@ -1,9 +1,7 @@
 //! Expressions that go on with the value that they waited for (clause 11).
-ghost use Rattle.std.specs.Prelude.{◌+◌, IfOk};
-ghost use Rattle.jl_state.specs.Rank.{Falls, rank_value};
-ghost use Rattle.jl_state.specs.Rest.{Gives};
-ghost use Rattle.jl_state.specs.ValueFrames.{value_after};
-ghost use Rattle.jl_state.specs.Words.{table_of};
+ghost use Rattle.jl_state.specs.Clauses.{RankAtMost, Resumes};
+ghost use Rattle.std.specs.Prelude.{◌+◌};
+ghost use Rattle.jl_state.specs.Rank.{rank_value};
 
 use jl_call::{
     step_argument, step_callee, step_callee_dot_base, step_callee_index_base,
@@ -27,18 +25,15 @@ use jl_operator::{step_emit_binary, step_emit_get, step_emit_invoke, step_emit_u
 use jl_state::{Act, State, ValueFrame};
 use jl_text::NoMemory;
 use jl_value::Value;
-use std::alloc::Global;
 
 /// An expression goes on with the value that it waited for.
 pub fn step_value<'p>(
-    alloc: Global,
     state: &mut State<'p>,
     frame: ValueFrame<'p>,
     v: Value,
 ) -> Result<Act<'p>, NoMemory>
-    ensures leads { IfOk result (λ act. Gives state.old
-        (value_after (table_of state.old.functions) state.old.calls frame.entry v) state.new act) }
-    ensures falls { IfOk result (λ act. Falls state.old (rank_value frame.entry + 2) state.new act) }
+    ensures leads { Resumes state.old frame.entry v result state.new }
+    ensures falls { RankAtMost state.old (rank_value frame.entry + 2) result state.new }
 {
     match frame {
         ValueFrame::Element {
@@ -46,52 +41,43 @@ pub fn step_value<'p>(
             index,
             rest,
             here,
-        } => step_element(alloc, state, array, index, rest, here, v),
+        } => step_element(state, array, index, rest, here, v),
         ValueFrame::EntryValue {
             object,
             key,
             rest,
             here,
-        } => step_entry_value(alloc, state, object, key, rest, here, v),
-        ValueFrame::Entries { object, rest, here } => step_entries(
-            alloc, state, object, rest, here, v,
-        ),
-        ValueFrame::DotBase { key } => step_dot_base(alloc, state, key, v),
+        } => step_entry_value(state, object, key, rest, here, v),
+        ValueFrame::Entries { object, rest, here } => step_entries(state, object, rest, here, v),
+        ValueFrame::DotBase { key } => step_dot_base(state, key, v),
         ValueFrame::IndexBase { key, here } => step_index_base(state, key, here, v),
-        ValueFrame::IndexKey { base } => step_index_key(alloc, state, base, v),
-        ValueFrame::Key(purpose) => step_key(alloc, state, purpose, v),
+        ValueFrame::IndexKey { base } => step_index_key(state, base, v),
+        ValueFrame::Key(purpose) => step_key(state, purpose, v),
         ValueFrame::Callee {
             this,
             by_new,
             args,
             here,
-        } => step_callee(alloc, state, this, by_new, args, here, v),
+        } => step_callee(state, this, by_new, args, here, v),
         ValueFrame::CalleeDotBase { key, args, here } => step_callee_dot_base(
-            alloc, state, key, args, here, v,
+            state, key, args, here, v,
         ),
         ValueFrame::CalleeIndexBase { key, args, here } => step_callee_index_base(
-            alloc, state, key, args, here, v,
+            state, key, args, here, v,
         ),
         ValueFrame::CalleeIndexKey { base, args, here } => step_callee_index_key(
-            alloc, state, base, args, here, v,
+            state, base, args, here, v,
         ),
-        ValueFrame::Argument {
-            purpose,
-            so_far,
-            rest,
-            here,
-        } => step_argument(alloc, state, purpose, so_far, rest, here, v),
-        ValueFrame::Operand { op } => step_operand(alloc, state, op, v),
+        ValueFrame::Argument(arguments) => step_argument(state, arguments, v),
+        ValueFrame::Operand { op } => step_operand(state, op, v),
         ValueFrame::DeleteValue => step_delete_value(state, v),
-        ValueFrame::DeleteDotBase { key, strict } => step_delete_dot_base(
-            alloc, state, key, strict, v,
-        ),
+        ValueFrame::DeleteDotBase { key, strict } => step_delete_dot_base(state, key, strict, v),
         ValueFrame::DeleteIndexBase { key, here } => step_delete_index_base(state, key, here, v),
         ValueFrame::DeleteIndexKey { base, strict } => step_delete_index_key(
-            alloc, state, base, strict, v,
+            state, base, strict, v,
         ),
         ValueFrame::LeftOperand { op, right, here } => step_left_operand(state, op, right, here, v),
-        ValueFrame::RightOperand { op, left } => step_right_operand(alloc, state, op, left, v),
+        ValueFrame::RightOperand { op, left } => step_right_operand(state, op, left, v),
         ValueFrame::And { right, here } => step_and(state, right, here, v),
         ValueFrame::Or { right, here } => step_or(state, right, here, v),
         ValueFrame::Conditional {
@@ -105,7 +91,7 @@ pub fn step_value<'p>(
             name,
             reference,
             strict,
-        } => step_write_name(alloc, state, id, name, reference, strict, v),
+        } => step_write_name(state, id, name, reference, strict, v),
         ValueFrame::ComputeName {
             name,
             reference,
@@ -119,14 +105,14 @@ pub fn step_value<'p>(
             op,
             held,
             strict,
-        } => step_compute_name_operand(alloc, state, name, reference, op, held, strict, v),
+        } => step_compute_name_operand(state, name, reference, op, held, strict, v),
         ValueFrame::UpdateName {
             name,
             reference,
             up,
             prefix,
             strict,
-        } => step_update_name(alloc, state, name, reference, up, prefix, strict, v),
+        } => step_update_name(state, name, reference, up, prefix, strict, v),
         ValueFrame::UpdateNamePrimitive {
             name,
             reference,
@@ -134,13 +120,13 @@ pub fn step_value<'p>(
             prefix,
             strict,
             held,
-        } => step_update_name_primitive(alloc, state, name, reference, up, prefix, strict, held, v),
+        } => step_update_name_primitive(state, name, reference, up, prefix, strict, held, v),
         ValueFrame::AssignDotBase {
             key,
             op,
             value,
             here,
-        } => step_assign_dot_base(alloc, state, key, op, value, here, v),
+        } => step_assign_dot_base(state, key, op, value, here, v),
         ValueFrame::AssignIndexBase {
             key,
             op,
@@ -152,14 +138,14 @@ pub fn step_value<'p>(
             op,
             value,
             here,
-        } => step_assign_index_key(alloc, state, base, op, value, here, v),
+        } => step_assign_index_key(state, base, op, value, here, v),
         ValueFrame::PutMember {
             emits,
             id,
             base,
             name,
             strict,
-        } => step_put_member(alloc, state, emits, id, base, name, strict, v),
+        } => step_put_member(state, emits, id, base, name, strict, v),
         ValueFrame::ComputeMember {
             base,
             name,
@@ -174,26 +160,26 @@ pub fn step_value<'p>(
             name,
             args,
             here,
-        } => step_compute_pending(alloc, state, id, op, base, name, args, here, v),
+        } => step_compute_pending(state, id, op, base, name, args, here, v),
         ValueFrame::MethodPending {
             id,
             base,
             args,
             here,
-        } => step_method_pending(alloc, state, id, base, args, here, v),
+        } => step_method_pending(state, id, base, args, here, v),
         ValueFrame::ComputeMemberOperand {
             base,
             name,
             op,
             held,
             strict,
-        } => step_compute_member_operand(alloc, state, base, name, op, held, strict, v),
+        } => step_compute_member_operand(state, base, name, op, held, strict, v),
         ValueFrame::UpdateDotBase {
             key,
             up,
             prefix,
             strict,
-        } => step_update_dot_base(alloc, state, key, up, prefix, strict, v),
+        } => step_update_dot_base(state, key, up, prefix, strict, v),
         ValueFrame::UpdateIndexBase {
             key,
             up,
@@ -205,7 +191,7 @@ pub fn step_value<'p>(
             up,
             prefix,
             strict,
-        } => step_update_index_key(alloc, state, base, up, prefix, strict, v),
+        } => step_update_index_key(state, base, up, prefix, strict, v),
         ValueFrame::UpdateMember {
             noted,
             base,
@@ -213,7 +199,7 @@ pub fn step_value<'p>(
             up,
             prefix,
             strict,
-        } => step_update_member(alloc, state, noted, base, name, up, prefix, strict, v),
+        } => step_update_member(state, noted, base, name, up, prefix, strict, v),
         ValueFrame::UpdateMemberPrimitive {
             noted,
             base,
@@ -222,11 +208,9 @@ pub fn step_value<'p>(
             prefix,
             strict,
             held,
-        } => step_update_member_primitive(
-            alloc, state, noted, base, name, up, prefix, strict, held, v,
-        ),
+        } => step_update_member_primitive(state, noted, base, name, up, prefix, strict, held, v),
         ValueFrame::UpdateOperandPrimitive { id, up, held } => step_update_operand_primitive(
-            alloc, state, id, up, held, v,
+            state, id, up, held, v,
         ),
         ValueFrame::EmitGet {
             id,
@@ -246,7 +230,7 @@ pub fn step_value<'p>(
             function,
             env,
             call,
-        } => step_instance_prototype(alloc, state, function, env, call, v),
+        } => step_instance_prototype(state, function, env, call, v),
         ValueFrame::Constructed { object } => step_constructed(state, object, v),
     }
 }

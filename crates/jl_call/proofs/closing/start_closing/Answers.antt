@@ -1,22 +1,42 @@
-use Rattle.std.proofs.Common.{List, subst}
+use Rattle.std.proofs.Common.{◌∷◌, [], arith, subst, List}
+use Rattle.std.proofs.lemmas.Option.{MatchOption-at_none, MatchOption-at_some}
 use Rattle.std.proofs.lemmas.Result.{IfOk-weaker}
-use Rattle.jl_ast.specs.View.{view_expressions}
 use Rattle.jl_value.specs.declared.value.Value.{Value}
-use Rattle.jl_meaning.specs.Expressions.{evaluate_all}
-use Rattle.jl_meaning.specs.Parts.{◌>>=◌}
-use Rattle.jl_meaning.specs.forms.Hooks.{close}
-use Rattle.jl_state.specs.Rest.{Gives}
-use Rattle.jl_state.specs.Trees.{items_left, plain_forest}
-use Rattle.jl_state.specs.Words.{context_of, pending_of, table_of}
-use Rattle.jl_call.proofs.Rests.{goes_on}
+use Rattle.jl_state.specs.Trees.{items_left}
+use Rattle.jl_state.specs.declared.value_frame.ArgumentsFor.TheVariants as arguments_for
+use Rattle.jl_call.specs.inner.Taken.{Takes}
+use Rattle.jl_call.proofs.Takings.{falls_taken, uses_taken, waits_taken}
 use Rattle.jl_call.proofs.closing.start_closing.Goals as goal
+
+pub returns-in-None-clause-leads : goal.returns-in-None-clause-leads
+returns-in-None-clause-leads c =
+    let s = c.args.state.now in
+    let t = c.take_leaves.new.state in
+    let values = c.take_leaves.new.values in
+    IfOk-weaker _ _ _ (λ a leads. uses_taken s c.args.here [] c.args.args.now t _ a values
+    (arguments_for.Close c.args.pending) (subst (λ (l : List Value). Takes s c.args.here l c.args.args.now t values [])
+    c.new-values.ensures (MatchOption-at_none _ _ c.in-None.is c.in_ok-next.ensures)) leads) c.close.ensures.leads
+
+pub returns-in-None-clause-falls : goal.returns-in-None-clause-falls
+returns-in-None-clause-falls c =
+    IfOk-weaker _ _ _ (λ a falls. falls_taken c.args.state.now c.args.here c.new-values.result c.args.args.now
+    c.take_leaves.new.state _ a c.take_leaves.new.values _ 110 134 (omega arith)
+    (MatchOption-at_none _ _ c.in-None.is c.in_ok-next.ensures) falls) c.close.ensures.falls
 
 pub returns-in-Some-clause-leads : goal.returns-in-Some-clause-leads
 returns-in-Some-clause-leads c =
     let s = c.args.state.now in
-    let here = context_of s.calls c.args.here in
-    let closes = close (table_of s.functions) here (pending_of c.args.pending) in
-    IfOk-weaker _ _ _ (λ a leads. subst (λ (so_far : List Value). Gives s (evaluate_all (table_of s.functions) 0
-    so_far (plain_forest (view_expressions c.args.args.now)) here >>= closes) c.evaluate.new.self a)
-    c.new-values.ensures (goes_on s _ _ c.new-values.result c.args.args.now here closes c.in-Some.e.now
-    (items_left c.in-Some.rest) c.in-Some.ensures leads)) c.evaluate.ensures.leads
+    let t = c.take_leaves.new.state in
+    let values = c.take_leaves.new.values in
+    let e = c.in-Some.e.now in
+    let others = items_left c.in-Some.rest in
+    IfOk-weaker _ _ _ (λ a leads. waits_taken s c.args.here [] c.args.args.now t _ a values
+    (arguments_for.Close c.args.pending) e others (subst (λ (l : List Value). Takes s c.args.here l c.args.args.now t
+    values (e ∷ others)) c.new-values.ensures (MatchOption-at_some _ _ _ c.in-Some.is c.in_ok-next.ensures)) leads)
+    c.evaluate_argument.ensures.leads
+
+pub returns-in-Some-clause-falls : goal.returns-in-Some-clause-falls
+returns-in-Some-clause-falls c =
+    IfOk-weaker _ _ _ (λ a falls. falls_taken c.args.state.now c.args.here c.new-values.result c.args.args.now
+    c.take_leaves.new.state _ a c.take_leaves.new.values _ 134 134 (omega arith)
+    (MatchOption-at_some _ _ _ c.in-Some.is c.in_ok-next.ensures) falls) c.evaluate_argument.ensures.falls

@@ -1,4 +1,5 @@
 use Rattle.std.proofs.lemmas.Result.{IfOk-weaker}
+use Rattle.jl_state.proofs.Acts.{gives_act}
 use Rattle.jl_call.proofs.Invocations.{invokes_silently, invokes_telling}
 use Rattle.jl_call.proofs.invoking.invoke_function.Goals as goal
 
@@ -9,4 +10,4 @@ returns-then-emits-clause-leads c =
 
 pub returns-else-emits-clause-leads : goal.returns-else-emits-clause-leads
 returns-else-emits-clause-leads c =
-    invokes_silently _ c.args.emits c.args.id.pre c.args.call c.if-emits.false
+    gives_act _ _ _ _ c.call.ensures _ (invokes_silently _ c.args.emits c.args.id.pre c.args.call c.if-emits.false)

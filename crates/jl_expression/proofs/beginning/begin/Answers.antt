@@ -24,12 +24,12 @@ returns-in-Object-clause-leads c =
 pub returns-in-Dot-clause-leads : goal.returns-in-Dot-clause-leads
 returns-in-Dot-clause-leads c =
     IfOk-weaker _ _ _ (λ a leads. of_form c.args.state.now c.args.here c.args.e.now _ _ _ _ c.in-Dot.is
-    (expression_Dot c.in-Dot.object c.in-Dot.key c.args.e.now.span) leads) c.evaluate_boxed.ensures.leads
+    (expression_Dot c.in-Dot.object c.in-Dot.key c.args.e.now.span) leads) c.begin_dot.ensures.leads
 
 pub returns-in-Index-clause-leads : goal.returns-in-Index-clause-leads
 returns-in-Index-clause-leads c =
     IfOk-weaker _ _ _ (λ a leads. of_form c.args.state.now c.args.here c.args.e.now _ _ _ _ c.in-Index.is
-    (expression_Index c.in-Index.object c.in-Index.key c.args.e.now.span) leads) c.evaluate_boxed-in-Index.ensures.leads
+    (expression_Index c.in-Index.object c.in-Index.key c.args.e.now.span) leads) c.begin_index.ensures.leads
 
 pub returns-in-New-clause-leads : goal.returns-in-New-clause-leads
 returns-in-New-clause-leads c =
@@ -40,12 +40,12 @@ pub returns-in-Binary-clause-leads : goal.returns-in-Binary-clause-leads
 returns-in-Binary-clause-leads c =
     IfOk-weaker _ _ _ (λ a leads. of_form c.args.state.now c.args.here c.args.e.now _ _ _ _ c.in-Binary.is
     (expression_Binary c.in-Binary.op c.in-Binary.left c.in-Binary.right c.args.e.now.span) leads)
-    c.evaluate_boxed-in-Binary.ensures.leads
+    c.begin_binary.ensures.leads
 
 pub returns-in-And-clause-leads : goal.returns-in-And-clause-leads
 returns-in-And-clause-leads c =
     IfOk-weaker _ _ _ (λ a leads. of_form c.args.state.now c.args.here c.args.e.now _ _ _ _ c.in-And.is
-    (expression_And c.in-And.left c.in-And.right c.args.e.now.span) leads) c.evaluate_boxed-in-And.ensures.leads
+    (expression_And c.in-And.left c.in-And.right c.args.e.now.span) leads) c.evaluate_boxed.ensures.leads
 
 pub returns-in-Or-clause-leads : goal.returns-in-Or-clause-leads
 returns-in-Or-clause-leads c =

@@ -6,10 +6,10 @@ use Rattle.jl_expression.proofs.beginning.begin_assignment.Goals as goal
 pub returns-in-Dot-clause-leads : goal.returns-in-Dot-clause-leads
 returns-in-Dot-clause-leads c =
     IfOk-weaker _ _ _ (λ a leads. assignment_of c.args.state.now c.args.here c.args.target.now _ _ c.args.op
-    c.args.value.now.value _ _ c.in-Dot.is (target_Dot c.in-Dot.object c.in-Dot.key _) leads) c.evaluate.ensures.leads
+    c.args.value.now.value _ _ c.in-Dot.is (target_Dot c.in-Dot.object c.in-Dot.key _) leads) c.assign_dot.ensures.leads
 
 pub returns-in-Index-clause-leads : goal.returns-in-Index-clause-leads
 returns-in-Index-clause-leads c =
     IfOk-weaker _ _ _ (λ a leads. assignment_of c.args.state.now c.args.here c.args.target.now _ _ c.args.op
     c.args.value.now.value _ _ c.in-Index.is (target_Index c.in-Index.object c.in-Index.key _) leads)
-    c.evaluate-in-Index.ensures.leads
+    c.assign_index.ensures.leads
