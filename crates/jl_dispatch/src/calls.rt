@@ -1,10 +1,9 @@
 //! Calls begun (13.2, 15.3.4.5).
-ghost use Rattle.std.specs.Prelude.{◌≡◌, IfOk};
+ghost use Rattle.std.specs.Prelude.{◌≡◌};
 ghost use Rattle.jl_heap.specs.Objects.{object_at};
 ghost use Rattle.jl_meaning.specs.Jobs.{call_inside};
 ghost use Rattle.jl_meaning.specs.Parts.{begin_call, CallOf};
-ghost use Rattle.jl_state.specs.Rank.{Falls};
-ghost use Rattle.jl_state.specs.Rest.{Gives};
+ghost use Rattle.jl_state.specs.Clauses.{Evaluates, RankAtMost};
 ghost use Rattle.jl_state.specs.Words.{call_of, table_of};
 
 use crate::builtins::begin_builtin;
@@ -14,50 +13,41 @@ use jl_heap::Inner;
 use jl_state::{Act, Invocation, State};
 use jl_text::NoMemory;
 use jl_value::{Value, share};
-use std::alloc::Global;
 
 /// A call takes a step, and its function is entered.
-pub fn begin_call<'p>(
-    alloc: Global,
-    state: &mut State<'p>,
-    call: Invocation,
-) -> Result<Act<'p>, NoMemory>
-    ensures leads { IfOk result (λ act. Gives state.old (begin_call CallOf (call_of call)) state.new act) }
-    ensures falls { IfOk result (λ act. Falls state.old 1 state.new act) }
+pub fn begin_call<'p>(state: &mut State<'p>, call: Invocation) -> Result<Act<'p>, NoMemory>
+    ensures leads { Evaluates state.old (begin_call CallOf (call_of call)) result state.new }
+    ensures falls { RankAtMost state.old 1 result state.new }
 {
     if !state.spend() {
         return Ok(Act::Spent);
     }
-    Ok(begin_inside(alloc, state, call)?)
+    Ok(begin_inside(state, call)?)
 }
 
 /// The function of a call is entered, by what the callee is inside. An object that is no function gives undefined.
-fn begin_inside<'p>(
-    alloc: Global,
-    state: &mut State<'p>,
-    call: Invocation,
-) -> Result<Act<'p>, NoMemory>
-    ensures leads { IfOk result (λ act. Gives state.old
-        (call_inside (table_of state.old.functions) state.old.store.heap (call_of call)
-        (object_at state.old.store.heap call.callee.0).inner) state.new act) }
-    ensures falls { IfOk result (λ act. Falls state.old 400 state.new act) }
+fn begin_inside<'p>(state: &mut State<'p>, call: Invocation) -> Result<Act<'p>, NoMemory>
+    ensures leads { Evaluates state.old (call_inside (table_of state.old.functions) state.old.store.heap (call_of
+        call) (object_at state.old.store.heap call.callee.0).inner) result state.new }
+    ensures falls { RankAtMost state.old 400 result state.new }
 {
+    let alloc = state.alloc();
     match state.store.inner_of(call.callee) {
         Inner::Script { function, env } => {
             let function = *function;
             let env = *env;
-            begin_script(alloc, state, function, env, call)
+            begin_script(state, function, env, call)
         }
         Inner::Native(builtin) => {
             let builtin = *builtin;
-            begin_builtin(alloc, state, builtin, call)
+            begin_builtin(state, builtin, call)
         }
         Inner::Bound { target, this, args } => {
             let target = *target;
             let this = share(alloc, this)?;
             let bound = copy_of(alloc, args.items())?;
             let args = with_values(alloc, bound, call.args.items())?;
-            call_bound(alloc, state, target, this, args, call.by_new)
+            call_bound(state, target, this, args, call.by_new)
         }
         _ => Ok(Act::Give(Value::Undefined)),
     }

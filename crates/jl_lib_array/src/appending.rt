@@ -1,5 +1,5 @@
 //! `concat` (15.4.4.4): the object, and then the arguments, are appended to a new array, one a turn.
-ghost use Rattle.std.specs.Prelude.{◌≡◌, ◌+◌, ◌∷◌, false, true, drop, IfOk, MatchOption};
+ghost use Rattle.std.specs.Prelude.{◌≡◌, ◌+◌, ◌∷◌, false, true, drop, MatchOption};
 ghost use Rattle.jl_heap.specs.Define.{count_of, length_name};
 ghost use Rattle.jl_effects.specs.Effects.{Step};
 ghost use Rattle.jl_lib_array.specs.inner.Rows.{concat_on};
@@ -8,8 +8,7 @@ ghost use Rattle.jl_meaning.specs.Parts.{◌>>=◌ as ◌then◌};
 ghost use Rattle.jl_meaning.specs.builtins.Arguments.{give_object};
 ghost use Rattle.jl_meaning.specs.builtins.Array.{append, append_all, is_array_value};
 ghost use Rattle.jl_progress.specs.Arrays.{array_after, rank_array};
-ghost use Rattle.jl_state.specs.Rank.{Falls};
-ghost use Rattle.jl_state.specs.Rest.{Works};
+ghost use Rattle.jl_state.specs.Clauses.{Computes, RankAtMost};
 ghost use Rattle.jl_value.specs.declared.value.Value.TheVariants as value;
 
 use crate::frames::{add_then, begin_turn, sum, wait};
@@ -20,52 +19,50 @@ use jl_state::{Act, State};
 use jl_store::Store;
 use jl_text::{List, NoMemory, word};
 use jl_value::{Class, ObjId, Value};
-use std::alloc::Global;
 
 /// `concat` of an object and arguments.
 pub(crate) fn concat<'p>(
-    alloc: Global,
     state: &mut State<'p>,
     object: ObjId,
     args: &[Value],
 ) -> Result<Act<'p>, NoMemory>
-    ensures leads { IfOk result (λ act. Works state.old (concat_on object args.now) state.new act) }
-    ensures falls { IfOk result (λ act. Falls state.old 8 state.new act) }
+    ensures leads { Computes state.old (concat_on object args.now) result state.new }
+    ensures falls { RankAtMost state.old 8 result state.new }
 {
+    let alloc = state.alloc();
     let array = state.store.new_array()?;
     let mut items = List::new(alloc);
     items.push(Value::Obj(object))?;
     let items = with_values(alloc, items, args)?;
-    append_items(alloc, state, array, 0, items, 0)
+    append_items(state, array, 0, items, 0)
 }
 
 /// The values from an index on are appended, one a turn, and then the array is given.
 pub(crate) fn append_items<'p>(
-    alloc: Global,
     state: &mut State<'p>,
     array: ObjId,
     next: usize,
     values: List<Value>,
     from: usize,
 ) -> Result<Act<'p>, NoMemory>
-    ensures leads { IfOk result (λ act. Works state.old
-        (append_all array next (drop from values) then λ _. give_object array) state.new act) }
-    ensures falls { IfOk result (λ act. Falls state.old 8 state.new act) }
+    ensures leads { Computes state.old (append_all array next (drop from values) then λ _. give_object array) result
+        state.new }
+    ensures falls { RankAtMost state.old 8 result state.new }
 {
+    let alloc = state.alloc();
     match value_from(alloc, values.items(), from)? {
         None => Ok(Act::Give(Value::Obj(array))),
         Some((v, after)) => {
             if !state.spend() {
                 return Ok(Act::Spent);
             }
-            append_item(alloc, state, array, next, v, values, after)
+            append_item(state, array, next, v, values, after)
         }
     }
 }
 
 /// An item is appended, and then those from an index on.
 fn append_item<'p>(
-    alloc: Global,
     state: &mut State<'p>,
     array: ObjId,
     next: usize,
@@ -73,10 +70,9 @@ fn append_item<'p>(
     items: List<Value>,
     from: usize,
 ) -> Result<Act<'p>, NoMemory>
-    ensures leads { IfOk result (λ act. Works state.old
-        (append array next v then λ m. append_all array m (drop from items) then λ _. give_object array)
-        state.new act) }
-    ensures falls { IfOk result (λ act. Falls state.old 100 state.new act) }
+    ensures leads { Computes state.old (append array next v then λ m. append_all array m (drop from items) then λ _.
+        give_object array) result state.new }
+    ensures falls { RankAtMost state.old 100 result state.new }
 {
     if let Some(item) = array_item(&state.store, &v) {
         let progress = ArrayProgress::ConcatLength {
@@ -86,7 +82,7 @@ fn append_item<'p>(
             items,
             from,
         };
-        return get_length(alloc, state, item, progress);
+        return get_length(state, item, progress);
     }
     let after = sum(next, 1)?;
     let progress = ArrayProgress::ConcatItem {
@@ -95,7 +91,7 @@ fn append_item<'p>(
         items,
         from,
     };
-    add_then(alloc, state, array, next, v, progress)
+    add_then(state, array, next, v, progress)
 }
 
 /// The array that an item is, if it is one (15.4.4.4, step 5.b).
@@ -111,18 +107,17 @@ fn array_item(store: &Store, v: &Value) -> Option<ObjId>
 
 /// The length of an item is got, for which `concat` waits.
 fn get_length<'p>(
-    alloc: Global,
     state: &mut State<'p>,
     item: ObjId,
     progress: ArrayProgress,
 ) -> Result<Act<'p>, NoMemory>
-    ensures leads { IfOk result (λ act. Works state.old
-        (get (value.Obj item) length_name then array_after progress) state.new act) }
-    ensures falls { IfOk result (λ act. Falls state.old (rank_array progress + 4) state.new act) }
+    ensures leads { Computes state.old (get (value.Obj item) length_name then array_after progress) result state.new }
+    ensures falls { RankAtMost state.old (rank_array progress + 4) result state.new }
 {
+    let alloc = state.alloc();
     wait(state, progress)?;
     let name = word(alloc, "length")?;
-    get(alloc, state, &Value::Obj(item), &name)
+    get(state, &Value::Obj(item), &name)
 }
 
 /// Goes on with the length of an item that is an array.
@@ -135,9 +130,9 @@ pub(crate) fn step_concat_length<'p>(
     from: usize,
     v: &Value,
 ) -> Result<Act<'p>, NoMemory>
-    ensures leads { IfOk result (λ act. Works state.old
-        (array_after (ArrayProgress.ConcatLength array next item items from) v.now) state.new act) }
-    ensures falls { IfOk result (λ act. Falls state.old 92 state.new act) }
+    ensures leads { Computes state.old (array_after (ArrayProgress.ConcatLength array next item items from) v.now)
+        result state.new }
+    ensures falls { RankAtMost state.old 92 result state.new }
 {
     let left = count_of(v);
     let after = sum(next, left)?;

@@ -1,8 +1,7 @@
 //! Elements that are deleted, one a turn (15.4.4.11, 15.4.4.12).
-ghost use Rattle.std.specs.Prelude.{◌≡◌, IfOk};
+ghost use Rattle.std.specs.Prelude.{◌≡◌};
 ghost use Rattle.jl_progress.specs.Arrays.{array_after, delete_end};
-ghost use Rattle.jl_state.specs.Rank.{Falls};
-ghost use Rattle.jl_state.specs.Rest.{Works};
+ghost use Rattle.jl_state.specs.Clauses.{Computes, RankAtMost};
 ghost use Rattle.jl_value.specs.declared.value.Value.TheVariants as value;
 
 use crate::frames::{delete_then, sum};
@@ -11,19 +10,17 @@ use jl_progress::{ArrayProgress, Splicing};
 use jl_state::{Act, State};
 use jl_text::NoMemory;
 use jl_value::{ObjId, Value};
-use std::alloc::Global;
 
 /// A turn of `sort` begins in which the element at an index is deleted, if any is left.
 pub(crate) fn delete_up_turn<'p>(
-    alloc: Global,
     state: &mut State<'p>,
     object: ObjId,
     index: usize,
     left: usize,
 ) -> Result<Act<'p>, NoMemory>
-    ensures leads { IfOk result (λ act. Works state.old
-        (array_after (ArrayProgress.DeleteUp object index left) value.Undefined) state.new act) }
-    ensures falls { IfOk result (λ act. Falls state.old 8 state.new act) }
+    ensures leads { Computes state.old (array_after (ArrayProgress.DeleteUp object index left) value.Undefined)
+        result state.new }
+    ensures falls { RankAtMost state.old 8 result state.new }
 {
     if left == 0 {
         return Ok(Act::Give(Value::Obj(object)));
@@ -37,18 +34,17 @@ pub(crate) fn delete_up_turn<'p>(
         index: after,
         left: left - 1,
     };
-    delete_then(alloc, state, object, index, progress)
+    delete_then(state, object, index, progress)
 }
 
 /// A turn of `splice` begins in which the last of the elements after the new end is deleted, if any is left.
 pub(crate) fn delete_down_turn<'p>(
-    alloc: Global,
     state: &mut State<'p>,
     splicing: Splicing,
     left: usize,
 ) -> Result<Act<'p>, NoMemory>
-    ensures leads { IfOk result (λ act. Works state.old (delete_end splicing left) state.new act) }
-    ensures falls { IfOk result (λ act. Falls state.old 62 state.new act) }
+    ensures leads { Computes state.old (delete_end splicing left) result state.new }
+    ensures falls { RankAtMost state.old 62 result state.new }
 {
     if left == 0 {
         return put_items(state, splicing);
@@ -61,5 +57,5 @@ pub(crate) fn delete_down_turn<'p>(
     let end = length_spliced(&splicing)?;
     let index = sum(end, left)?;
     let progress = ArrayProgress::DeleteDown { splicing, left };
-    delete_then(alloc, state, object, index, progress)
+    delete_then(state, object, index, progress)
 }

@@ -3,8 +3,7 @@ ghost use Rattle.std.specs.Prelude.{◌≡◌, ◌+◌, ◌∷◌, IfOk, OnOk};
 ghost use Rattle.jl_meaning.specs.Parts.{give, ◌>>=◌ as ◌then◌};
 ghost use Rattle.jl_meaning.specs.builtins.Elements.{add_index, delete_index, get_index, put_index};
 ghost use Rattle.jl_progress.specs.Arrays.{array_after, rank_array};
-ghost use Rattle.jl_state.specs.Rank.{Falls};
-ghost use Rattle.jl_state.specs.Rest.{Works};
+ghost use Rattle.jl_state.specs.Clauses.{Computes, RankAtMost};
 ghost use Rattle.jl_state.specs.Steps.{AlgorithmWaits};
 ghost use Rattle.jl_value.specs.declared.value.Value.TheVariants as value;
 
@@ -14,7 +13,6 @@ use jl_state::{Act, AlgorithmFrame, Frame, State};
 use jl_store::{Answer, Finished};
 use jl_text::NoMemory;
 use jl_value::{Completion, ObjId, Value};
-use std::alloc::Global;
 
 /// The sum of two indices. No memory holds more elements than there are indices.
 pub(crate) fn sum(a: usize, b: usize) -> Result<usize, NoMemory>
@@ -33,7 +31,7 @@ pub(crate) fn wait<'p>(state: &mut State<'p>, progress: ArrayProgress) -> Result
     ensures pushed { OnOk result (state.new ≡ record state.old
         { stack = Frame.Algorithm (AlgorithmFrame.Builtin (Progress.Array progress)) ∷ state.old.stack }) }
 {
-    state.push_algorithm(AlgorithmFrame::Builtin(Progress::Array(progress)))?;
+    state.push_builtin(Progress::Array(progress))?;
     Ok(())
 }
 
@@ -42,73 +40,67 @@ pub(crate) fn begin_turn<'p>(
     state: &mut State<'p>,
     progress: ArrayProgress,
 ) -> Result<Act<'p>, NoMemory>
-    ensures leads { IfOk result (λ act. Works state.old (array_after progress value.Undefined) state.new act) }
-    ensures falls { IfOk result (λ act. Falls state.old (rank_array progress + 3) state.new act) }
+    ensures leads { Computes state.old (array_after progress value.Undefined) result state.new }
+    ensures falls { RankAtMost state.old (rank_array progress + 3) result state.new }
 {
     go_on(state, Progress::Array(progress))
 }
 
 /// An element is got, for which a function waits.
 pub(crate) fn get_for<'p>(
-    alloc: Global,
     state: &mut State<'p>,
     object: ObjId,
     index: usize,
     progress: ArrayProgress,
 ) -> Result<Act<'p>, NoMemory>
-    ensures leads { IfOk result (λ act. Works state.old
-        (get_index object index then array_after progress) state.new act) }
-    ensures falls { IfOk result (λ act. Falls state.old (rank_array progress + 4) state.new act) }
+    ensures leads { Computes state.old (get_index object index then array_after progress) result state.new }
+    ensures falls { RankAtMost state.old (rank_array progress + 4) result state.new }
 {
     wait(state, progress)?;
-    get_index(alloc, state, object, index)
+    get_index(state, object, index)
 }
 
 /// An element is put, and then the next turn begins.
 pub(crate) fn put_then<'p>(
-    alloc: Global,
     state: &mut State<'p>,
     object: ObjId,
     index: usize,
     v: Value,
     progress: ArrayProgress,
 ) -> Result<Act<'p>, NoMemory>
-    ensures leads { IfOk result (λ act. Works state.old
-        (put_index object index v then λ _. array_after progress value.Undefined) state.new act) }
-    ensures falls { IfOk result (λ act. Falls state.old (rank_array progress + 42) state.new act) }
+    ensures leads { Computes state.old (put_index object index v then λ _. array_after progress value.Undefined)
+        result state.new }
+    ensures falls { RankAtMost state.old (rank_array progress + 42) result state.new }
 {
     wait(state, progress)?;
-    put_index(alloc, state, object, index, v, Value::Undefined)
+    put_index(state, object, index, v, Value::Undefined)
 }
 
 /// An element is deleted, and then the next turn begins.
 pub(crate) fn delete_then<'p>(
-    alloc: Global,
     state: &mut State<'p>,
     object: ObjId,
     index: usize,
     progress: ArrayProgress,
 ) -> Result<Act<'p>, NoMemory>
-    ensures leads { IfOk result (λ act. Works state.old
-        (delete_index object index then λ _. array_after progress value.Undefined) state.new act) }
-    ensures falls { IfOk result (λ act. Falls state.old (rank_array progress + 3) state.new act) }
+    ensures leads { Computes state.old (delete_index object index then λ _. array_after progress value.Undefined)
+        result state.new }
+    ensures falls { RankAtMost state.old (rank_array progress + 3) result state.new }
 {
     wait(state, progress)?;
-    delete_element(alloc, state, object, index)
+    delete_element(state, object, index)
 }
 
 /// An element is deleted, and undefined is given.
 fn delete_element<'p>(
-    alloc: Global,
     state: &mut State<'p>,
     object: ObjId,
     index: usize,
 ) -> Result<Act<'p>, NoMemory>
-    ensures leads { IfOk result (λ act. Works state.old
-        (delete_index object index then λ _. give value.Undefined) state.new act) }
-    ensures falls { IfOk result (λ act. Falls state.old 3 state.new act) }
+    ensures leads { Computes state.old (delete_index object index then λ _. give value.Undefined) result state.new }
+    ensures falls { RankAtMost state.old 3 result state.new }
 {
-    let answer = delete_index(alloc, state, object, index)?;
+    let answer = delete_index(state, object, index)?;
     match answer {
         Answer::Gives(()) => Ok(Act::Give(Value::Undefined)),
         Answer::Throws(thrown) => Ok(Act::Complete(Completion::Throw(thrown))),
@@ -117,33 +109,31 @@ fn delete_element<'p>(
 
 /// An element of a new array is added, and then the next turn begins.
 pub(crate) fn add_then<'p>(
-    alloc: Global,
     state: &mut State<'p>,
     array: ObjId,
     index: usize,
     v: Value,
     progress: ArrayProgress,
 ) -> Result<Act<'p>, NoMemory>
-    ensures leads { IfOk result (λ act. Works state.old
-        (add_index array index v then λ _. array_after progress value.Undefined) state.new act) }
-    ensures falls { IfOk result (λ act. Falls state.old (rank_array progress + 3) state.new act) }
+    ensures leads { Computes state.old (add_index array index v then λ _. array_after progress value.Undefined)
+        result state.new }
+    ensures falls { RankAtMost state.old (rank_array progress + 3) result state.new }
 {
     wait(state, progress)?;
-    add_element(alloc, state, array, index, v)
+    add_element(state, array, index, v)
 }
 
 /// An element of a new array is added, and undefined is given.
 fn add_element<'p>(
-    alloc: Global,
     state: &mut State<'p>,
     array: ObjId,
     index: usize,
     v: Value,
 ) -> Result<Act<'p>, NoMemory>
-    ensures leads { IfOk result (λ act. Works state.old
-        (add_index array index v then λ _. give value.Undefined) state.new act) }
-    ensures falls { IfOk result (λ act. Falls state.old 3 state.new act) }
+    ensures leads { Computes state.old (add_index array index v then λ _. give value.Undefined) result state.new }
+    ensures falls { RankAtMost state.old 3 result state.new }
 {
+    let alloc = state.alloc();
     let answer = add_index(alloc, &mut state.store, array, index, v)?;
     match answer {
         Finished::Gives(()) => Ok(Act::Give(Value::Undefined)),

@@ -3,7 +3,7 @@ ghost use Rattle.std.specs.Prelude.{◌≡◌, IfOk, List};
 ghost use Rattle.jl_meaning.specs.Parts.{◌>>=◌ as ◌then◌};
 ghost use Rattle.jl_meaning.specs.builtins.Elements.{get_length};
 ghost use Rattle.jl_progress.specs.Arrays.{array_after, with_length};
-ghost use Rattle.jl_state.specs.Rank.{Falls};
+ghost use Rattle.jl_state.specs.Clauses.{Computes, RankAtMost};
 ghost use Rattle.jl_state.specs.Rest.{Works};
 ghost use Rattle.jl_value.specs.declared.value.Value.{Value as AnyValue};
 
@@ -19,20 +19,18 @@ use jl_progress::{
 use jl_state::{Act, State};
 use jl_text::{List, NoMemory, word};
 use jl_value::{Fault, ObjId, Value};
-use std::alloc::Global;
 
 /// The length of an object is got, for which a function waits.
 pub(crate) fn begin_with_length<'p>(
-    alloc: Global,
     state: &mut State<'p>,
     function: LengthFunction,
     object: ObjId,
     args: List<Value>,
 ) -> Result<Act<'p>, NoMemory>
-    ensures leads { IfOk result (λ act. Works state.old
-        (get_length object then with_length function object args) state.new act) }
-    ensures falls { IfOk result (λ act. Falls state.old 164 state.new act) }
+    ensures leads { Computes state.old (get_length object then with_length function object args) result state.new }
+    ensures falls { RankAtMost state.old 164 result state.new }
 {
+    let alloc = state.alloc();
     let name = word(alloc, "length")?;
     wait(
         state,
@@ -42,69 +40,65 @@ pub(crate) fn begin_with_length<'p>(
             args,
         },
     )?;
-    get(alloc, state, &Value::Obj(object), &name)
+    get(state, &Value::Obj(object), &name)
 }
 
 /// Goes on with the length.
 pub(crate) fn step_length<'p>(
-    alloc: Global,
     state: &mut State<'p>,
     function: LengthFunction,
     object: ObjId,
     args: List<Value>,
     v: Value,
 ) -> Result<Act<'p>, NoMemory>
-    ensures leads { IfOk result (λ act. Works state.old
-        (array_after (ArrayProgress.Length function object args) v) state.new act) }
-    ensures falls { IfOk result (λ act. Falls state.old 162 state.new act) }
+    ensures leads { Computes state.old (array_after (ArrayProgress.Length function object args) v) result state.new }
+    ensures falls { RankAtMost state.old 162 result state.new }
 {
     let progress = Progress::Array(ArrayProgress::LengthPrimitive {
         function,
         object,
         args,
     });
-    wait_for_number(alloc, state, progress, v)
+    wait_for_number(state, progress, v)
 }
 
 /// Goes on with the length as a primitive value.
 pub(crate) fn step_length_primitive<'p>(
-    alloc: Global,
     state: &mut State<'p>,
     function: LengthFunction,
     object: ObjId,
     args: List<Value>,
     p: &Value,
 ) -> Result<Act<'p>, NoMemory>
-    ensures leads { IfOk result (λ act. Works state.old
-        (array_after (ArrayProgress.LengthPrimitive function object args) p.now) state.new act) }
-    ensures falls { IfOk result (λ act. Falls state.old 144 state.new act) }
+    ensures leads { Computes state.old (array_after (ArrayProgress.LengthPrimitive function object args) p.now)
+        result state.new }
+    ensures falls { RankAtMost state.old 144 result state.new }
 {
     let Some(n) = number_of_primitive(p) else {
         return Ok(Act::Fault(Fault::NumberOutside));
     };
-    with_length(alloc, state, function, object, args, length_of(n))
+    with_length(state, function, object, args, length_of(n))
 }
 
 /// What a function does with the length.
 fn with_length<'p>(
-    alloc: Global,
     state: &mut State<'p>,
     function: LengthFunction,
     object: ObjId,
     args: List<Value>,
     length: usize,
 ) -> Result<Act<'p>, NoMemory>
-    ensures leads { IfOk result (λ act. Works state.old (with_length function object args length) state.new act) }
-    ensures falls { IfOk result (λ act. Falls state.old 144 state.new act) }
+    ensures leads { Computes state.old (with_length function object args length) result state.new }
+    ensures falls { RankAtMost state.old 144 result state.new }
 {
     match function {
-        LengthFunction::Join => join(alloc, state, object, args.items(), length),
-        LengthFunction::Pop => pop_last(alloc, state, object, length),
+        LengthFunction::Join => join(state, object, args.items(), length),
+        LengthFunction::Pop => pop_last(state, object, length),
         LengthFunction::Push => push(state, object, args, length),
         LengthFunction::Reverse => reverse(state, object, length),
-        LengthFunction::Shift => shift_first(alloc, state, object, length),
-        LengthFunction::Sort => sort(alloc, state, object, length),
-        LengthFunction::Splice { array } => { splice(alloc, state, object, array, args, length) }
+        LengthFunction::Shift => shift_first(state, object, length),
+        LengthFunction::Sort => sort(state, object, length),
+        LengthFunction::Splice { array } => { splice(state, object, array, args, length) }
         LengthFunction::Unshift => unshift(state, object, args, length),
     }
 }
@@ -116,9 +110,8 @@ fn push<'p>(
     args: List<Value>,
     length: usize,
 ) -> Result<Act<'p>, NoMemory>
-    ensures leads { IfOk result (λ act. Works state.old
-        (with_length LengthFunction.Push object args length) state.new act) }
-    ensures falls { IfOk result (λ act. Falls state.old 144 state.new act) }
+    ensures leads { Computes state.old (with_length LengthFunction.Push object args length) result state.new }
+    ensures falls { RankAtMost state.old 144 result state.new }
 {
     let progress = ArrayProgress::PutTurn {
         object,
@@ -134,7 +127,7 @@ fn push<'p>(
 fn reverse<'p>(state: &mut State<'p>, object: ObjId, length: usize) -> Result<Act<'p>, NoMemory>
     ensures leads { IfOk result (λ act. (args : List AnyValue) → Works state.old
         (with_length LengthFunction.Reverse object args length) state.new act) }
-    ensures falls { IfOk result (λ act. Falls state.old 144 state.new act) }
+    ensures falls { RankAtMost state.old 144 result state.new }
 {
     let reversing = Reversing {
         object,
@@ -146,16 +139,12 @@ fn reverse<'p>(state: &mut State<'p>, object: ObjId, length: usize) -> Result<Ac
 }
 
 /// `sort` of an object with this length (15.4.4.11).
-fn sort<'p>(
-    alloc: Global,
-    state: &mut State<'p>,
-    object: ObjId,
-    length: usize,
-) -> Result<Act<'p>, NoMemory>
+fn sort<'p>(state: &mut State<'p>, object: ObjId, length: usize) -> Result<Act<'p>, NoMemory>
     ensures leads { IfOk result (λ act. (args : List AnyValue) → Works state.old
         (with_length LengthFunction.Sort object args length) state.new act) }
-    ensures falls { IfOk result (λ act. Falls state.old 144 state.new act) }
+    ensures falls { RankAtMost state.old 144 result state.new }
 {
+    let alloc = state.alloc();
     let reading = Reading {
         object,
         length,
@@ -173,9 +162,8 @@ fn unshift<'p>(
     args: List<Value>,
     length: usize,
 ) -> Result<Act<'p>, NoMemory>
-    ensures leads { IfOk result (λ act. Works state.old
-        (with_length LengthFunction.Unshift object args length) state.new act) }
-    ensures falls { IfOk result (λ act. Falls state.old 144 state.new act) }
+    ensures leads { Computes state.old (with_length LengthFunction.Unshift object args length) result state.new }
+    ensures falls { RankAtMost state.old 144 result state.new }
 {
     let added = args.len();
     let after = sum(length, added)?;

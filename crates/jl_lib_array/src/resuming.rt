@@ -1,8 +1,7 @@
 //! The functions go on with the values that they waited for.
-ghost use Rattle.std.specs.Prelude.{◌≡◌, ◌+◌, IfOk};
+ghost use Rattle.std.specs.Prelude.{◌≡◌, ◌+◌};
 ghost use Rattle.jl_progress.specs.Arrays.{array_after, rank_array};
-ghost use Rattle.jl_state.specs.Rank.{Falls};
-ghost use Rattle.jl_state.specs.Rest.{Works};
+ghost use Rattle.jl_state.specs.Clauses.{Computes, RankAtMost};
 
 use crate::appending::{append_items, step_concat_length};
 use crate::copying::{copy_turn, step_copy_element};
@@ -25,36 +24,34 @@ use jl_progress::ArrayProgress;
 use jl_state::{Act, State};
 use jl_text::NoMemory;
 use jl_value::Value;
-use std::alloc::Global;
 
 /// Goes on with the value that a function of this crate waited for.
 pub fn resume<'p>(
-    alloc: Global,
     state: &mut State<'p>,
     progress: ArrayProgress,
     v: Value,
 ) -> Result<Act<'p>, NoMemory>
-    ensures leads { IfOk result (λ act. Works state.old (array_after progress v) state.new act) }
-    ensures falls { IfOk result (λ act. Falls state.old (rank_array progress + 2) state.new act) }
+    ensures leads { Computes state.old (array_after progress v) result state.new }
+    ensures falls { RankAtMost state.old (rank_array progress + 2) result state.new }
 {
     match progress {
-        ArrayProgress::Join { object } => step_join_property(alloc, state, object, &v),
+        ArrayProgress::Join { object } => step_join_property(state, object, &v),
         ArrayProgress::Length {
             function,
             object,
             args,
-        } => { step_length(alloc, state, function, object, args, v) }
+        } => { step_length(state, function, object, args, v) }
         ArrayProgress::LengthPrimitive {
             function,
             object,
             args,
-        } => { step_length_primitive(alloc, state, function, object, args, &v) }
+        } => { step_length_primitive(state, function, object, args, &v) }
         ArrayProgress::ConcatItem {
             array,
             next,
             items,
             from,
-        } => { append_items(alloc, state, array, next, items, from) }
+        } => { append_items(state, array, next, items, from) }
         ArrayProgress::ConcatLength {
             array,
             next,
@@ -62,84 +59,76 @@ pub fn resume<'p>(
             items,
             from,
         } => { step_concat_length(state, array, next, item, items, from, &v) }
-        ArrayProgress::CopyTurn { copying, then } => copy_turn(alloc, state, copying, then),
+        ArrayProgress::CopyTurn { copying, then } => copy_turn(state, copying, then),
         ArrayProgress::CopyElement { copying, then } => {
-            step_copy_element(alloc, state, copying, then, v)
+            step_copy_element(state, copying, then, v)
         }
         ArrayProgress::JoinSeparator { object, length } => {
-            step_join_separator(alloc, state, object, length, &v)
+            step_join_separator(state, object, length, &v)
         }
-        ArrayProgress::JoinFirst { joining } => step_join_first(alloc, state, joining, v),
+        ArrayProgress::JoinFirst { joining } => step_join_first(state, joining, v),
         ArrayProgress::JoinFirstPrimitive { joining } => {
-            step_join_first_primitive(alloc, state, joining, &v)
+            step_join_first_primitive(state, joining, &v)
         }
-        ArrayProgress::JoinTurn { joining, line } => {
-            join_turn_begins(alloc, state, joining, line)
-        }
+        ArrayProgress::JoinTurn { joining, line } => { join_turn_begins(state, joining, line) }
         ArrayProgress::JoinElement { joining, line } => {
-            step_join_element(alloc, state, joining, line, v)
+            step_join_element(state, joining, line, v)
         }
         ArrayProgress::JoinElementPrimitive { joining, line } => {
-            step_join_element_primitive(alloc, state, joining, line, &v)
+            step_join_element_primitive(state, joining, line, &v)
         }
-        ArrayProgress::PopElement { object, last } => {
-            without_last(alloc, state, object, last, v)
-        }
+        ArrayProgress::PopElement { object, last } => { without_last(state, object, last, v) }
         ArrayProgress::PutTurn {
             object,
             index,
             values,
             from,
             then,
-        } => { put_turn(alloc, state, object, index, values, from, then) }
-        ArrayProgress::ReverseTurn { reversing } => reverse_turn(alloc, state, reversing),
-        ArrayProgress::ReverseLower { reversing } => {
-            step_reverse_lower(alloc, state, reversing, v)
-        }
+        } => { put_turn(state, object, index, values, from, then) }
+        ArrayProgress::ReverseTurn { reversing } => reverse_turn(state, reversing),
+        ArrayProgress::ReverseLower { reversing } => { step_reverse_lower(state, reversing, v) }
         ArrayProgress::ReverseUpper { reversing, low } => {
-            step_reverse_upper(alloc, state, reversing, low, v)
+            step_reverse_upper(state, reversing, low, v)
         }
         ArrayProgress::ReverseExchange { reversing, low } => {
-            step_reverse_exchange(alloc, state, reversing, low)
+            step_reverse_exchange(state, reversing, low)
         }
         ArrayProgress::ShiftFirst { object, last } => { step_shift_first(state, object, last, v) }
-        ArrayProgress::MoveUp { moving, k, then } => { move_up_turn(alloc, state, moving, k, then) }
+        ArrayProgress::MoveUp { moving, k, then } => { move_up_turn(state, moving, k, then) }
         ArrayProgress::MoveUpElement { moving, k, then } => {
-            step_move_up_element(alloc, state, moving, k, then, v)
+            step_move_up_element(state, moving, k, then, v)
         }
-        ArrayProgress::MoveDown { moving, then } => { move_down_turn(alloc, state, moving, then) }
+        ArrayProgress::MoveDown { moving, then } => { move_down_turn(state, moving, then) }
         ArrayProgress::MoveDownElement { moving, then } => {
-            step_move_down_element(alloc, state, moving, then, v)
+            step_move_down_element(state, moving, then, v)
         }
-        ArrayProgress::SortTurn { reading, read } => sort_turn(alloc, state, reading, read),
+        ArrayProgress::SortTurn { reading, read } => sort_turn(state, reading, read),
         ArrayProgress::SortElement { reading, read } => {
-            step_sort_element(alloc, state, reading, read, v)
+            step_sort_element(state, reading, read, v)
         }
         ArrayProgress::SortPrimitive {
             reading,
             read,
             element,
-        } => { step_sort_primitive(alloc, state, reading, read, element, &v) }
+        } => { step_sort_primitive(state, reading, read, element, &v) }
         ArrayProgress::DeleteUp {
             object,
             index,
             left,
-        } => { delete_up_turn(alloc, state, object, index, left) }
+        } => { delete_up_turn(state, object, index, left) }
         ArrayProgress::SpliceStart {
             object,
             array,
             length,
             args,
-        } => { step_splice_start(alloc, state, object, array, length, args, &v) }
+        } => { step_splice_start(state, object, array, length, args, &v) }
         ArrayProgress::SpliceCount {
             object,
             array,
             length,
             start,
             args,
-        } => { step_splice_count(alloc, state, object, array, length, start, args.items(), &v) }
-        ArrayProgress::DeleteDown { splicing, left } => {
-            delete_down_turn(alloc, state, splicing, left)
-        }
+        } => { step_splice_count(state, object, array, length, start, args.items(), &v) }
+        ArrayProgress::DeleteDown { splicing, left } => { delete_down_turn(state, splicing, left) }
     }
 }

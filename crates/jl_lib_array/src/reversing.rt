@@ -3,8 +3,7 @@ ghost use Rattle.std.specs.Prelude.{◌≡◌, ◌+◌, if◌then◌else◌, IfO
 ghost use Rattle.jl_meaning.specs.Parts.{◌>>=◌ as ◌then◌};
 ghost use Rattle.jl_meaning.specs.builtins.Elements.{delete_index, put_index};
 ghost use Rattle.jl_progress.specs.Arrays.{array_after, rank_array, reverse_others, upper_of};
-ghost use Rattle.jl_state.specs.Rank.{Falls};
-ghost use Rattle.jl_state.specs.Rest.{Works};
+ghost use Rattle.jl_state.specs.Clauses.{Computes, RankAtMost};
 ghost use Rattle.jl_value.specs.declared.value.Value.TheVariants as value;
 
 use crate::frames::{begin_turn, delete_then, get_for, put_then, sum};
@@ -14,7 +13,6 @@ use jl_state::{Act, State};
 use jl_store::Answer;
 use jl_text::NoMemory;
 use jl_value::{Completion, Value};
-use std::alloc::Global;
 
 /// The upper of the two indices of a turn.
 fn upper_of(reversing: &Reversing) -> usize
@@ -40,13 +38,11 @@ fn turn_after(reversing: Reversing) -> Result<ArrayProgress, NoMemory>
 
 /// A turn begins, if any is left.
 pub(crate) fn reverse_turn<'p>(
-    alloc: Global,
     state: &mut State<'p>,
     reversing: Reversing,
 ) -> Result<Act<'p>, NoMemory>
-    ensures leads { IfOk result (λ act. Works state.old
-        (reverse_others reversing reversing.left reversing.lower) state.new act) }
-    ensures falls { IfOk result (λ act. Falls state.old 8 state.new act) }
+    ensures leads { Computes state.old (reverse_others reversing reversing.left reversing.lower) result state.new }
+    ensures falls { RankAtMost state.old 8 result state.new }
 {
     let object = reversing.object;
     if reversing.left == 0 {
@@ -59,24 +55,22 @@ pub(crate) fn reverse_turn<'p>(
     let lower = reversing.lower;
     let reversing = Reversing { left, ..reversing };
     let progress = ArrayProgress::ReverseLower { reversing };
-    get_for(alloc, state, object, lower, progress)
+    get_for(state, object, lower, progress)
 }
 
 /// Goes on with the lower element of a turn.
 pub(crate) fn step_reverse_lower<'p>(
-    alloc: Global,
     state: &mut State<'p>,
     reversing: Reversing,
     low: Value,
 ) -> Result<Act<'p>, NoMemory>
-    ensures leads { IfOk result (λ act. Works state.old
-        (array_after (ArrayProgress.ReverseLower reversing) low) state.new act) }
-    ensures falls { IfOk result (λ act. Falls state.old 112 state.new act) }
+    ensures leads { Computes state.old (array_after (ArrayProgress.ReverseLower reversing) low) result state.new }
+    ensures falls { RankAtMost state.old 112 result state.new }
 {
     let object = reversing.object;
     let upper = upper_of(&reversing);
     let progress = ArrayProgress::ReverseUpper { reversing, low };
-    get_for(alloc, state, object, upper, progress)
+    get_for(state, object, upper, progress)
 }
 
 /// A value, if it is there.
@@ -88,16 +82,16 @@ fn value_if(there: bool, v: Value) -> Option<Value>
 
 /// Goes on with the upper element of a turn: the two change places (steps 6.h to 6.k).
 pub(crate) fn step_reverse_upper<'p>(
-    alloc: Global,
     state: &mut State<'p>,
     reversing: Reversing,
     low: Value,
     high: Value,
 ) -> Result<Act<'p>, NoMemory>
-    ensures leads { IfOk result (λ act. Works state.old
-        (array_after (ArrayProgress.ReverseUpper reversing low) high) state.new act) }
-    ensures falls { IfOk result (λ act. Falls state.old 102 state.new act) }
+    ensures leads { Computes state.old (array_after (ArrayProgress.ReverseUpper reversing low) high) result
+        state.new }
+    ensures falls { RankAtMost state.old 102 result state.new }
 {
+    let alloc = state.alloc();
     let object = reversing.object;
     let lower = reversing.lower;
     let has_low = has_index(alloc, &state.store, object, lower)?;
@@ -105,69 +99,65 @@ pub(crate) fn step_reverse_upper<'p>(
     if has_high {
         let low = value_if(has_low, low);
         let progress = ArrayProgress::ReverseExchange { reversing, low };
-        return put_then(alloc, state, object, lower, high, progress);
+        return put_then(state, object, lower, high, progress);
     }
     if has_low {
-        return move_to_upper(alloc, state, reversing, low);
+        return move_to_upper(state, reversing, low);
     }
     begin_turn(state, turn_after(reversing)?)
 }
 
 /// The lower element, which has no upper one to change places with, is deleted, and put above.
 fn move_to_upper<'p>(
-    alloc: Global,
     state: &mut State<'p>,
     reversing: Reversing,
     low: Value,
 ) -> Result<Act<'p>, NoMemory>
-    ensures leads { IfOk result (λ act. Works state.old
-        (delete_index reversing.object reversing.lower then λ _. put_index reversing.object (upper_of reversing) low
-        then λ _. reverse_others reversing reversing.left (reversing.lower + 1)) state.new act) }
-    ensures falls { IfOk result (λ act. Falls state.old 52 state.new act) }
+    ensures leads { Computes state.old (delete_index reversing.object reversing.lower then λ _. put_index
+        reversing.object (upper_of reversing) low then λ _. reverse_others reversing reversing.left (reversing.lower
+        + 1)) result state.new }
+    ensures falls { RankAtMost state.old 52 result state.new }
 {
-    let answer = delete_index(alloc, state, reversing.object, reversing.lower)?;
+    let answer = delete_index(state, reversing.object, reversing.lower)?;
     match answer {
-        Answer::Gives(()) => put_above(alloc, state, reversing, low),
+        Answer::Gives(()) => put_above(state, reversing, low),
         Answer::Throws(thrown) => Ok(Act::Complete(Completion::Throw(thrown))),
     }
 }
 
 /// The lower element is put above.
 fn put_above<'p>(
-    alloc: Global,
     state: &mut State<'p>,
     reversing: Reversing,
     low: Value,
 ) -> Result<Act<'p>, NoMemory>
-    ensures leads { IfOk result (λ act. Works state.old
-        (put_index reversing.object (upper_of reversing) low
-        then λ _. reverse_others reversing reversing.left (reversing.lower + 1)) state.new act) }
-    ensures falls { IfOk result (λ act. Falls state.old 52 state.new act) }
+    ensures leads { Computes state.old (put_index reversing.object (upper_of reversing) low then λ _. reverse_others
+        reversing reversing.left (reversing.lower + 1)) result state.new }
+    ensures falls { RankAtMost state.old 52 result state.new }
 {
     let object = reversing.object;
     let upper = upper_of(&reversing);
     let progress = turn_after(reversing)?;
-    put_then(alloc, state, object, upper, low, progress)
+    put_then(state, object, upper, low, progress)
 }
 
 /// Goes on when the lower index has got the upper element.
 pub(crate) fn step_reverse_exchange<'p>(
-    alloc: Global,
     state: &mut State<'p>,
     reversing: Reversing,
     low: Option<Value>,
 ) -> Result<Act<'p>, NoMemory>
-    ensures leads { IfOk result (λ act. Works state.old
-        (array_after (ArrayProgress.ReverseExchange reversing low) value.Undefined) state.new act) }
-    ensures falls { IfOk result (λ act. Falls state.old 52 state.new act) }
+    ensures leads { Computes state.old (array_after (ArrayProgress.ReverseExchange reversing low) value.Undefined)
+        result state.new }
+    ensures falls { RankAtMost state.old 52 result state.new }
 {
     let object = reversing.object;
     let upper = upper_of(&reversing);
     match low {
-        Some(low) => put_above(alloc, state, reversing, low),
+        Some(low) => put_above(state, reversing, low),
         None => {
             let progress = turn_after(reversing)?;
-            delete_then(alloc, state, object, upper, progress)
+            delete_then(state, object, upper, progress)
         }
     }
 }

@@ -4,8 +4,7 @@ ghost use Rattle.jl_lib_array.specs.Rows.{IsArrayRow};
 ghost use Rattle.jl_lib_array.specs.inner.Rows.{function_on, is_built, length_function, splice_on};
 ghost use Rattle.jl_meaning.specs.builtins.Function.{names_of};
 ghost use Rattle.jl_meaning.specs.builtins.Table.{builtin};
-ghost use Rattle.jl_state.specs.Rank.{Falls};
-ghost use Rattle.jl_state.specs.Rest.{Works};
+ghost use Rattle.jl_state.specs.Clauses.{Computes, RankAtMost};
 ghost use Rattle.jl_state.specs.Words.{call_of, table_of};
 
 use crate::appending::concat;
@@ -26,24 +25,20 @@ const TO_LOCALE_STRING: u16 = 31;
 const SORT: u16 = 39;
 
 /// Begins a function of this crate: one of the rows 30 to 41 but that of `slice`.
-pub fn start<'p>(
-    alloc: Global,
-    state: &mut State<'p>,
-    row: u16,
-    call: Invocation,
-) -> Result<Act<'p>, NoMemory>
+pub fn start<'p>(state: &mut State<'p>, row: u16, call: Invocation) -> Result<Act<'p>, NoMemory>
     requires belongs { IsArrayRow row }
-    ensures leads { IfOk result (λ act. Works state.old
-        (builtin (names_of (table_of state.old.functions)) row (call_of call)) state.new act) }
-    ensures falls { IfOk result (λ act. Falls state.old 400 state.new act) }
+    ensures leads { Computes state.old (builtin (names_of (table_of state.old.functions)) row (call_of call)) result
+        state.new }
+    ensures falls { RankAtMost state.old 400 result state.new }
 {
+    let alloc = state.alloc();
     let built = is_built(alloc, row, call.args.items())?;
     if !built {
         return Ok(fail_row(row));
     }
     let answer = state.store.to_object(&call.this)?;
     match answer {
-        Answer::Gives(object) => start_on(alloc, state, row, object, call.args),
+        Answer::Gives(object) => start_on(state, row, object, call.args),
         Answer::Throws(thrown) => Ok(Act::Complete(Completion::Throw(thrown))),
     }
 }
@@ -64,39 +59,37 @@ fn is_built(alloc: Global, row: u16, args: &[Value]) -> Result<bool, NoMemory>
 
 /// Begins a function on an object.
 fn start_on<'p>(
-    alloc: Global,
     state: &mut State<'p>,
     row: u16,
     object: ObjId,
     args: List<Value>,
 ) -> Result<Act<'p>, NoMemory>
-    ensures leads { IfOk result (λ act. Works state.old (function_on row object args) state.new act) }
-    ensures falls { IfOk result (λ act. Falls state.old 164 state.new act) }
+    ensures leads { Computes state.old (function_on row object args) result state.new }
+    ensures falls { RankAtMost state.old 164 result state.new }
 {
     if row == 30 {
-        return array_to_string(alloc, state, object);
+        return array_to_string(state, object);
     }
     if row == 32 {
-        return concat(alloc, state, object, args.items());
+        return concat(state, object, args.items());
     }
     if row == 40 {
-        return splice_into_new(alloc, state, object, args);
+        return splice_into_new(state, object, args);
     }
-    begin_with_length(alloc, state, length_function(row), object, args)
+    begin_with_length(state, length_function(row), object, args)
 }
 
 /// `splice` of an object, with a new array for the elements that go (15.4.4.12).
 fn splice_into_new<'p>(
-    alloc: Global,
     state: &mut State<'p>,
     object: ObjId,
     args: List<Value>,
 ) -> Result<Act<'p>, NoMemory>
-    ensures leads { IfOk result (λ act. Works state.old (splice_on object args) state.new act) }
-    ensures falls { IfOk result (λ act. Falls state.old 164 state.new act) }
+    ensures leads { Computes state.old (splice_on object args) result state.new }
+    ensures falls { RankAtMost state.old 164 result state.new }
 {
     let array = state.store.new_array()?;
-    begin_with_length(alloc, state, LengthFunction::Splice { array }, object, args)
+    begin_with_length(state, LengthFunction::Splice { array }, object, args)
 }
 
 /// The function of a row that begins with a length.

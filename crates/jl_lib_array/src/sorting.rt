@@ -1,11 +1,10 @@
 //! `sort` without a function to compare by (15.4.4.11): the elements are read one a turn, sorted, and put back one a
 //! turn, and then as many are deleted as there were holes.
-ghost use Rattle.std.specs.Prelude.{◌≡◌, ◌+◌, map, IfOk};
+ghost use Rattle.std.specs.Prelude.{◌≡◌, ◌+◌, map};
 ghost use Rattle.jl_meaning.specs.Parts.{◌>>=◌ as ◌then◌};
 ghost use Rattle.jl_meaning.specs.builtins.ArrayChanges.{read_turn, sort_by_keys, KeyedValue};
 ghost use Rattle.jl_progress.specs.Arrays.{array_after, put_others, sort_others};
-ghost use Rattle.jl_state.specs.Rank.{Falls};
-ghost use Rattle.jl_state.specs.Rest.{Works};
+ghost use Rattle.jl_state.specs.Clauses.{Computes, RankAtMost};
 ghost use Rattle.jl_value.specs.declared.value.Value.TheVariants as value;
 
 use crate::frames::{begin_turn, get_for, sum};
@@ -16,20 +15,18 @@ use jl_progress::{AfterPutting, ArrayProgress, Progress, Reading};
 use jl_state::{Act, State};
 use jl_text::{List, NoMemory, Text};
 use jl_value::{ObjId, Value, is_undefined, share};
-use std::alloc::Global;
 
 /// A turn begins in which an element is read, if any is left.
 pub(crate) fn sort_turn<'p>(
-    alloc: Global,
     state: &mut State<'p>,
     reading: Reading,
     read: List<(Option<Text>, Value)>,
 ) -> Result<Act<'p>, NoMemory>
-    ensures leads { IfOk result (λ act. Works state.old (sort_others reading read) state.new act) }
-    ensures falls { IfOk result (λ act. Falls state.old 62 state.new act) }
+    ensures leads { Computes state.old (sort_others reading read) result state.new }
+    ensures falls { RankAtMost state.old 62 result state.new }
 {
     if reading.left == 0 {
-        return put_sorted(alloc, state, reading.object, reading.length, read);
+        return put_sorted(state, reading.object, reading.length, read);
     }
     if !state.spend() {
         return Ok(Act::Spent);
@@ -37,41 +34,40 @@ pub(crate) fn sort_turn<'p>(
     let index = reading.k;
     let left = reading.left - 1;
     let k = sum(index, 1)?;
-    read_element(alloc, state, index, Reading { left, k, ..reading }, read)
+    read_element(state, index, Reading { left, k, ..reading }, read)
 }
 
 /// The element at an index is read, if there is one, and then those that are left.
 fn read_element<'p>(
-    alloc: Global,
     state: &mut State<'p>,
     index: usize,
     reading: Reading,
     read: List<(Option<Text>, Value)>,
 ) -> Result<Act<'p>, NoMemory>
-    ensures leads { IfOk result (λ act. Works state.old
-        (read_turn reading.object index read then sort_others reading) state.new act) }
-    ensures falls { IfOk result (λ act. Falls state.old 104 state.new act) }
+    ensures leads { Computes state.old (read_turn reading.object index read then sort_others reading) result
+        state.new }
+    ensures falls { RankAtMost state.old 104 result state.new }
 {
+    let alloc = state.alloc();
     let object = reading.object;
     if has_index(alloc, &state.store, object, index)? {
         let progress = ArrayProgress::SortElement { reading, read };
-        return get_for(alloc, state, object, index, progress);
+        return get_for(state, object, index, progress);
     }
     begin_turn(state, ArrayProgress::SortTurn { reading, read })
 }
 
 /// Goes on with an element.
 pub(crate) fn step_sort_element<'p>(
-    alloc: Global,
     state: &mut State<'p>,
     reading: Reading,
     read: List<(Option<Text>, Value)>,
     v: Value,
 ) -> Result<Act<'p>, NoMemory>
-    ensures leads { IfOk result (λ act. Works state.old
-        (array_after (ArrayProgress.SortElement reading read) v) state.new act) }
-    ensures falls { IfOk result (λ act. Falls state.old 102 state.new act) }
+    ensures leads { Computes state.old (array_after (ArrayProgress.SortElement reading read) v) result state.new }
+    ensures falls { RankAtMost state.old 102 result state.new }
 {
+    let alloc = state.alloc();
     if is_undefined(&v) {
         let mut read = read;
         read.push((None, v))?;
@@ -83,22 +79,22 @@ pub(crate) fn step_sort_element<'p>(
         read,
         element,
     });
-    wait_for_string(alloc, state, progress, v)
+    wait_for_string(state, progress, v)
 }
 
 /// Goes on with an element as a primitive value.
 pub(crate) fn step_sort_primitive<'p>(
-    alloc: Global,
     state: &mut State<'p>,
     reading: Reading,
     read: List<(Option<Text>, Value)>,
     element: Value,
     p: &Value,
 ) -> Result<Act<'p>, NoMemory>
-    ensures leads { IfOk result (λ act. Works state.old
-        (array_after (ArrayProgress.SortPrimitive reading read element) p.now) state.new act) }
-    ensures falls { IfOk result (λ act. Falls state.old 82 state.new act) }
+    ensures leads { Computes state.old (array_after (ArrayProgress.SortPrimitive reading read element) p.now) result
+        state.new }
+    ensures falls { RankAtMost state.old 82 result state.new }
 {
+    let alloc = state.alloc();
     let text = text_of(alloc, p)?;
     let mut read = read;
     read.push((Some(text), element))?;
@@ -107,17 +103,16 @@ pub(crate) fn step_sort_primitive<'p>(
 
 /// The elements that have been read are sorted, and put back one a turn.
 fn put_sorted<'p>(
-    alloc: Global,
     state: &mut State<'p>,
     object: ObjId,
     length: usize,
     read: List<(Option<Text>, Value)>,
 ) -> Result<Act<'p>, NoMemory>
-    ensures leads { IfOk result (λ act. Works state.old
-        (put_others object 0 (map (λ (x : KeyedValue). x.1) (sort_by_keys read)) (AfterPutting.Sort length))
-        state.new act) }
-    ensures falls { IfOk result (λ act. Falls state.old 62 state.new act) }
+    ensures leads { Computes state.old (put_others object 0 (map (λ (x : KeyedValue). x.1) (sort_by_keys read))
+        (AfterPutting.Sort length)) result state.new }
+    ensures falls { RankAtMost state.old 62 result state.new }
 {
+    let alloc = state.alloc();
     let sorted = in_order(alloc, read)?;
     let values = values_of(alloc, sorted.items())?;
     let progress = ArrayProgress::PutTurn {

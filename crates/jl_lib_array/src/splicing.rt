@@ -4,8 +4,7 @@ ghost use Rattle.jl_lib_array.specs.inner.Rows.{close_gap, open_gap};
 ghost use Rattle.jl_meaning.specs.Parts.{◌>>=◌ as ◌then◌};
 ghost use Rattle.jl_meaning.specs.builtins.ArrayChanges.{splice_at};
 ghost use Rattle.jl_progress.specs.Arrays.{array_after, length_spliced, put_items, splice_others, with_length};
-ghost use Rattle.jl_state.specs.Rank.{Falls};
-ghost use Rattle.jl_state.specs.Rest.{Works};
+ghost use Rattle.jl_state.specs.Clauses.{Computes, RankAtMost};
 
 use crate::frames::{begin_turn, sum};
 use jl_builtin::{argument, clamp, number_of_primitive, relative_index, rest_of, wait_for_number};
@@ -16,7 +15,6 @@ use jl_progress::{
 use jl_state::{Act, State};
 use jl_text::{List, NoMemory};
 use jl_value::{Fault, ObjId, Value};
-use std::alloc::Global;
 
 /// The length that an object gets.
 pub(crate) fn length_spliced(splicing: &Splicing) -> Result<usize, NoMemory>
@@ -28,17 +26,17 @@ pub(crate) fn length_spliced(splicing: &Splicing) -> Result<usize, NoMemory>
 
 /// `splice` of an object with this length.
 pub(crate) fn splice<'p>(
-    alloc: Global,
     state: &mut State<'p>,
     object: ObjId,
     array: ObjId,
     args: List<Value>,
     length: usize,
 ) -> Result<Act<'p>, NoMemory>
-    ensures leads { IfOk result (λ act. Works state.old
-        (with_length (LengthFunction.Splice array) object args length) state.new act) }
-    ensures falls { IfOk result (λ act. Falls state.old 136 state.new act) }
+    ensures leads { Computes state.old (with_length (LengthFunction.Splice array) object args length) result
+        state.new }
+    ensures falls { RankAtMost state.old 136 result state.new }
 {
+    let alloc = state.alloc();
     let start = argument(alloc, args.items(), 0)?;
     let progress = Progress::Array(ArrayProgress::SpliceStart {
         object,
@@ -46,12 +44,11 @@ pub(crate) fn splice<'p>(
         length,
         args,
     });
-    wait_for_number(alloc, state, progress, start)
+    wait_for_number(state, progress, start)
 }
 
 /// Goes on with the first argument as a primitive value.
 pub(crate) fn step_splice_start<'p>(
-    alloc: Global,
     state: &mut State<'p>,
     object: ObjId,
     array: ObjId,
@@ -59,10 +56,11 @@ pub(crate) fn step_splice_start<'p>(
     args: List<Value>,
     p: &Value,
 ) -> Result<Act<'p>, NoMemory>
-    ensures leads { IfOk result (λ act. Works state.old
-        (array_after (ArrayProgress.SpliceStart object array length args) p.now) state.new act) }
-    ensures falls { IfOk result (λ act. Falls state.old 122 state.new act) }
+    ensures leads { Computes state.old (array_after (ArrayProgress.SpliceStart object array length args) p.now)
+        result state.new }
+    ensures falls { RankAtMost state.old 122 result state.new }
 {
+    let alloc = state.alloc();
     let Some(n) = number_of_primitive(p) else {
         return Ok(Act::Fault(Fault::NumberOutside));
     };
@@ -75,12 +73,11 @@ pub(crate) fn step_splice_start<'p>(
         start,
         args,
     });
-    wait_for_number(alloc, state, progress, count)
+    wait_for_number(state, progress, count)
 }
 
 /// Goes on with the second argument as a primitive value.
 pub(crate) fn step_splice_count<'p>(
-    alloc: Global,
     state: &mut State<'p>,
     object: ObjId,
     array: ObjId,
@@ -89,10 +86,11 @@ pub(crate) fn step_splice_count<'p>(
     args: &[Value],
     p: &Value,
 ) -> Result<Act<'p>, NoMemory>
-    ensures leads { IfOk result (λ act. Works state.old
-        (array_after (ArrayProgress.SpliceCount object array length start args.now) p.now) state.new act) }
-    ensures falls { IfOk result (λ act. Falls state.old 92 state.new act) }
+    ensures leads { Computes state.old (array_after (ArrayProgress.SpliceCount object array length start args.now)
+        p.now) result state.new }
+    ensures falls { RankAtMost state.old 92 result state.new }
 {
+    let alloc = state.alloc();
     let Some(n) = number_of_primitive(p) else {
         return Ok(Act::Fault(Fault::NumberOutside));
     };
@@ -111,10 +109,9 @@ pub(crate) fn step_splice_count<'p>(
 
 /// The elements that go are copied to the new array, one a turn.
 fn copy_removed<'p>(state: &mut State<'p>, splicing: Splicing) -> Result<Act<'p>, NoMemory>
-    ensures leads { IfOk result (λ act. Works state.old
-        (splice_at splicing.object splicing.array splicing.length splicing.start splicing.removed splicing.items)
-        state.new act) }
-    ensures falls { IfOk result (λ act. Falls state.old 92 state.new act) }
+    ensures leads { Computes state.old (splice_at splicing.object splicing.array splicing.length splicing.start
+        splicing.removed splicing.items) result state.new }
+    ensures falls { RankAtMost state.old 92 result state.new }
 {
     let copying = Copying {
         object: splicing.object,
@@ -133,8 +130,8 @@ pub(crate) fn splice_others<'p>(
     state: &mut State<'p>,
     splicing: Splicing,
 ) -> Result<Act<'p>, NoMemory>
-    ensures leads { IfOk result (λ act. Works state.old (splice_others splicing) state.new act) }
-    ensures falls { IfOk result (λ act. Falls state.old 74 state.new act) }
+    ensures leads { Computes state.old (splice_others splicing) result state.new }
+    ensures falls { RankAtMost state.old 74 result state.new }
 {
     let added = splicing.items.len();
     if added < splicing.removed {
@@ -158,9 +155,8 @@ fn after_removed(splicing: &Splicing) -> usize
 
 /// Fewer elements come than go: those after them are moved down, from the first one up.
 fn move_closer<'p>(state: &mut State<'p>, splicing: Splicing) -> Result<Act<'p>, NoMemory>
-    ensures leads { IfOk result (λ act. Works state.old
-        (close_gap splicing then λ _. put_items splicing) state.new act) }
-    ensures falls { IfOk result (λ act. Falls state.old 74 state.new act) }
+    ensures leads { Computes state.old (close_gap splicing then λ _. put_items splicing) result state.new }
+    ensures falls { RankAtMost state.old 74 result state.new }
 {
     let moving = Moving {
         object: splicing.object,
@@ -175,9 +171,8 @@ fn move_closer<'p>(state: &mut State<'p>, splicing: Splicing) -> Result<Act<'p>,
 
 /// More elements come than go: those after them are moved up, from the last one down.
 fn move_apart<'p>(state: &mut State<'p>, splicing: Splicing) -> Result<Act<'p>, NoMemory>
-    ensures leads { IfOk result (λ act. Works state.old
-        (open_gap splicing then λ _. put_items splicing) state.new act) }
-    ensures falls { IfOk result (λ act. Falls state.old 74 state.new act) }
+    ensures leads { Computes state.old (open_gap splicing then λ _. put_items splicing) result state.new }
+    ensures falls { RankAtMost state.old 74 result state.new }
 {
     let moving = Moving {
         object: splicing.object,
@@ -191,8 +186,8 @@ fn move_apart<'p>(state: &mut State<'p>, splicing: Splicing) -> Result<Act<'p>, 
 
 /// The elements that come are put, one a turn, and then the length.
 pub(crate) fn put_items<'p>(state: &mut State<'p>, splicing: Splicing) -> Result<Act<'p>, NoMemory>
-    ensures leads { IfOk result (λ act. Works state.old (put_items splicing) state.new act) }
-    ensures falls { IfOk result (λ act. Falls state.old 54 state.new act) }
+    ensures leads { Computes state.old (put_items splicing) result state.new }
+    ensures falls { RankAtMost state.old 54 result state.new }
 {
     let length = length_spliced(&splicing)?;
     let then = AfterPutting::Splice {

@@ -1,10 +1,9 @@
 //! `toString` (15.4.4.2).
-ghost use Rattle.std.specs.Prelude.{◌≡◌, codes, IfOk};
+ghost use Rattle.std.specs.Prelude.{◌≡◌, codes};
 ghost use Rattle.jl_lib_array.specs.inner.Rows.{callee_of, string_on};
 ghost use Rattle.jl_progress.specs.Arrays.{array_after};
 ghost use Rattle.jl_meaning.specs.builtins.Array.{standard_to_string};
-ghost use Rattle.jl_state.specs.Rank.{Falls};
-ghost use Rattle.jl_state.specs.Rest.{Works};
+ghost use Rattle.jl_state.specs.Clauses.{Computes, RankAtMost};
 
 use crate::frames::wait;
 use jl_algorithm::get;
@@ -12,40 +11,38 @@ use jl_progress::ArrayProgress;
 use jl_state::{Act, Invocation, State};
 use jl_text::{List, NoMemory, word};
 use jl_value::{Builtin, ObjId, Value};
-use std::alloc::Global;
 
 /// `toString` of an object.
-pub(crate) fn array_to_string<'p>(
-    alloc: Global,
-    state: &mut State<'p>,
-    object: ObjId,
-) -> Result<Act<'p>, NoMemory>
-    ensures leads { IfOk result (λ act. Works state.old (string_on object) state.new act) }
-    ensures falls { IfOk result (λ act. Falls state.old 10 state.new act) }
+pub(crate) fn array_to_string<'p>(state: &mut State<'p>, object: ObjId) -> Result<Act<'p>, NoMemory>
+    ensures leads { Computes state.old (string_on object) result state.new }
+    ensures falls { RankAtMost state.old 10 result state.new }
 {
+    let alloc = state.alloc();
     let name = word(alloc, "join")?;
     wait(state, ArrayProgress::Join { object })?;
-    get(alloc, state, &Value::Obj(object), &name)
+    get(state, &Value::Obj(object), &name)
 }
 
 /// Goes on with the property `join`, which is called, or the standard `Object.prototype.toString` in its place.
 pub(crate) fn step_join_property<'p>(
-    alloc: Global,
     state: &mut State<'p>,
     object: ObjId,
     join: &Value,
 ) -> Result<Act<'p>, NoMemory>
-    ensures leads { IfOk result (λ act. Works state.old
-        (array_after (ArrayProgress.Join object) join.now) state.new act) }
-    ensures falls { IfOk result (λ act. Falls state.old 8 state.new act) }
+    ensures leads { Computes state.old (array_after (ArrayProgress.Join object) join.now) result state.new }
+    ensures falls { RankAtMost state.old 8 result state.new }
 {
+    let alloc = state.alloc();
     let callable = state.store.is_callable(join);
-    Ok(Act::Call(Invocation {
-        callee: callee_of(callable, join),
-        this: Value::Obj(object),
-        args: List::new(alloc),
-        by_new: false,
-    }))
+    Act::call(
+        alloc,
+        Invocation {
+            callee: callee_of(callable, join),
+            this: Value::Obj(object),
+            args: List::new(alloc),
+            by_new: false,
+        },
+    )
 }
 
 /// The function that `toString` calls.

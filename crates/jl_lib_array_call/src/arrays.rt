@@ -5,8 +5,7 @@ ghost use Rattle.jl_meaning.specs.builtins.Array.{add_all, array_by, array_is_ar
 ghost use Rattle.jl_meaning.specs.builtins.Array.{is_array_value};
 ghost use Rattle.jl_meaning.specs.builtins.Elements.{array_of_length};
 ghost use Rattle.jl_num.specs.Bits.{uint32_of};
-ghost use Rattle.jl_state.specs.Rank.{Falls};
-ghost use Rattle.jl_state.specs.Rest.{Works};
+ghost use Rattle.jl_state.specs.Clauses.{Computes, RankAtMost};
 ghost use Rattle.jl_state.specs.Words.{call_of};
 ghost use Rattle.jl_store.specs.Answers.{finish_of};
 ghost use Rattle.jl_store.specs.Comes.{Comes};
@@ -24,17 +23,16 @@ use std::alloc::Global;
 
 /// `Array(..)` and `new Array(..)` (15.4.1, 15.4.2).
 pub(crate) fn array_constructor<'p>(
-    alloc: Global,
     state: &mut State<'p>,
     args: &[Value],
 ) -> Result<Act<'p>, NoMemory>
-    ensures leads { IfOk result (λ act. Works state.old (array_by args.now) state.new act) }
-    ensures falls { IfOk result (λ act. Falls state.old 3 state.new act) }
+    ensures leads { Computes state.old (array_by args.now) result state.new }
+    ensures falls { RankAtMost state.old 3 result state.new }
 {
     let number = only_number(args);
     match number {
-        Some(n) => array_of_number(alloc, state, n),
-        None => array_of_values(alloc, state, args),
+        Some(n) => array_of_number(state, n),
+        None => array_of_values(state, args),
     }
 }
 
@@ -59,12 +57,13 @@ fn number_in(v: &Value) -> Option<Num>
 }
 
 /// An array with this length, which throws a RangeError where the number is none (15.4.2.2).
-fn array_of_number<'p>(alloc: Global, state: &mut State<'p>, n: Num) -> Result<Act<'p>, NoMemory>
-    ensures leads { IfOk result (λ act. Works state.old (array_of_one (value.Num n)) state.new act) }
-    ensures falls { IfOk result (λ act. Falls state.old 3 state.new act) }
+fn array_of_number<'p>(state: &mut State<'p>, n: Num) -> Result<Act<'p>, NoMemory>
+    ensures leads { Computes state.old (array_of_one (value.Num n)) result state.new }
+    ensures falls { RankAtMost state.old 3 result state.new }
 {
+    let alloc = state.alloc();
     if !is_length(n) {
-        return throw_native(alloc, state, ErrorKind::RangeError, "bad array length");
+        return throw_native(state, ErrorKind::RangeError, "bad array length");
     }
     let answer = array_of_length(alloc, &mut state.store, n)?;
     match answer {
@@ -82,14 +81,11 @@ fn is_length(n: Num) -> bool
 }
 
 /// An array with these elements (15.4.2.1).
-fn array_of_values<'p>(
-    alloc: Global,
-    state: &mut State<'p>,
-    values: &[Value],
-) -> Result<Act<'p>, NoMemory>
-    ensures leads { IfOk result (λ act. Works state.old (array_of_values values.now) state.new act) }
-    ensures falls { IfOk result (λ act. Falls state.old 3 state.new act) }
+fn array_of_values<'p>(state: &mut State<'p>, values: &[Value]) -> Result<Act<'p>, NoMemory>
+    ensures leads { Computes state.old (array_of_values values.now) result state.new }
+    ensures falls { RankAtMost state.old 3 result state.new }
 {
+    let alloc = state.alloc();
     let array = state.store.new_array()?;
     let answer = add_all(alloc, &mut state.store, array, values)?;
     match answer {
@@ -141,13 +137,13 @@ pub(crate) fn array_of_length(
 
 /// `Array.isArray` (15.4.3.2).
 pub(crate) fn array_is_array<'p>(
-    alloc: Global,
     state: &mut State<'p>,
     call: &Invocation,
 ) -> Result<Act<'p>, NoMemory>
-    ensures leads { IfOk result (λ act. Works state.old (array_is_array (call_of call.now)) state.new act) }
-    ensures falls { IfOk result (λ act. Falls state.old 3 state.new act) }
+    ensures leads { Computes state.old (array_is_array (call_of call.now)) result state.new }
+    ensures falls { RankAtMost state.old 3 result state.new }
 {
+    let alloc = state.alloc();
     let v = argument(alloc, call.args.items(), 0)?;
     Ok(Act::Give(Value::Bool(is_array_value(&state.store, &v))))
 }

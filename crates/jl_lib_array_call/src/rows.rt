@@ -1,11 +1,10 @@
 //! The functions of this crate by their rows, and what goes on with a value.
-ghost use Rattle.std.specs.Prelude.{◌≡◌, ◌+◌, true, IfOk};
+ghost use Rattle.std.specs.Prelude.{◌≡◌, ◌+◌, true};
 ghost use Rattle.jl_lib_array_call.specs.Rows.{is_array_call, purpose_of};
 ghost use Rattle.jl_meaning.specs.builtins.Function.{names_of};
 ghost use Rattle.jl_meaning.specs.builtins.Table.{builtin};
 ghost use Rattle.jl_progress.specs.ArrayCalls.{array_call_after, rank_array_call};
-ghost use Rattle.jl_state.specs.Rank.{Falls};
-ghost use Rattle.jl_state.specs.Rest.{Works};
+ghost use Rattle.jl_state.specs.Clauses.{Computes, RankAtMost};
 ghost use Rattle.jl_state.specs.Words.{call_of, table_of};
 
 use crate::arrays::{array_constructor, array_is_array};
@@ -18,7 +17,6 @@ use jl_progress::{ArrayCallProgress, Direction, LengthFor, WalkFor};
 use jl_state::{Act, Invocation, State};
 use jl_text::NoMemory;
 use jl_value::Value;
-use std::alloc::Global;
 
 /// What the length of `this` is asked for, by the row of the function that was called.
 fn purpose_of(row: u16) -> LengthFor
@@ -47,56 +45,50 @@ fn purpose_of(row: u16) -> LengthFor
 }
 
 /// Begins a builtin of this crate.
-pub fn start<'p>(
-    alloc: Global,
-    state: &mut State<'p>,
-    row: u16,
-    call: Invocation,
-) -> Result<Act<'p>, NoMemory>
+pub fn start<'p>(state: &mut State<'p>, row: u16, call: Invocation) -> Result<Act<'p>, NoMemory>
     requires belongs { is_array_call row ≡ true }
-    ensures leads { IfOk result (λ act. Works state.old
-        (builtin (names_of (table_of state.old.functions)) row (call_of call)) state.new act) }
-    ensures falls { IfOk result (λ act. Falls state.old 400 state.new act) }
+    ensures leads { Computes state.old (builtin (names_of (table_of state.old.functions)) row (call_of call)) result
+        state.new }
+    ensures falls { RankAtMost state.old 400 result state.new }
 {
     if row == 28 {
-        return array_constructor(alloc, state, call.args.items());
+        return array_constructor(state, call.args.items());
     }
     if row == 29 {
-        return array_is_array(alloc, state, &call);
+        return array_is_array(state, &call);
     }
     if row == 38 {
-        return array_slice(alloc, state, call);
+        return array_slice(state, call);
     }
-    begin_length(alloc, state, call, purpose_of(row))
+    begin_length(state, call, purpose_of(row))
 }
 
 /// Goes on with the value that a builtin of this crate waited for.
 pub fn resume<'p>(
-    alloc: Global,
     state: &mut State<'p>,
     progress: ArrayCallProgress,
     v: Value,
 ) -> Result<Act<'p>, NoMemory>
-    ensures leads { IfOk result (λ act. Works state.old (array_call_after progress v) state.new act) }
-    ensures falls { IfOk result (λ act. Falls state.old (rank_array_call progress + 2) state.new act) }
+    ensures leads { Computes state.old (array_call_after progress v) result state.new }
+    ensures falls { RankAtMost state.old (rank_array_call progress + 2) result state.new }
 {
     match progress {
         ArrayCallProgress::Length {
             object,
             args,
             purpose,
-        } => step_length(alloc, state, object, args, purpose, v),
+        } => step_length(state, object, args, purpose, v),
         ArrayCallProgress::LengthPrimitive {
             object,
             args,
             purpose,
-        } => step_length_primitive(alloc, state, object, args, purpose, &v),
+        } => step_length_primitive(state, object, args, purpose, &v),
         ArrayCallProgress::SliceStart {
             object,
             array,
             length,
             end,
-        } => step_slice_start(alloc, state, object, array, length, end, &v),
+        } => step_slice_start(state, object, array, length, end, &v),
         ArrayCallProgress::SliceEnd {
             object,
             array,
@@ -109,14 +101,14 @@ pub fn resume<'p>(
             array,
             count,
             at,
-        } => copy_turn(alloc, state, object, start, array, count, at),
+        } => copy_turn(state, object, start, array, count, at),
         ArrayCallProgress::CopyElement {
             object,
             start,
             array,
             count,
             index,
-        } => step_copy_element(alloc, state, object, start, array, count, index, v),
+        } => step_copy_element(state, object, start, array, count, index, v),
         ArrayCallProgress::SearchFrom {
             object,
             length,
@@ -129,7 +121,7 @@ pub fn resume<'p>(
             sought,
             direction,
             at,
-        } => search_turn(alloc, state, object, length, sought, direction, at),
+        } => search_turn(state, object, length, sought, direction, at),
         ArrayCallProgress::SearchElement {
             object,
             length,
@@ -137,15 +129,15 @@ pub fn resume<'p>(
             direction,
             index,
         } => step_search_element(state, object, length, sought, direction, index, &v),
-        ArrayCallProgress::Turn { walk, task, at } => turn(alloc, state, walk, task, at),
+        ArrayCallProgress::Turn { walk, task, at } => turn(state, walk, task, at),
         ArrayCallProgress::Element { walk, task, index } => {
-            step_element(alloc, state, walk, task, index, v)
+            step_element(state, walk, task, index, v)
         }
         ArrayCallProgress::Answer {
             walk,
             task,
             index,
             element,
-        } => step_answer(alloc, state, walk, task, index, element, v),
+        } => step_answer(state, walk, task, index, element, v),
     }
 }

@@ -1,10 +1,9 @@
 //! indexOf and lastIndexOf (15.4.4.14, 15.4.4.15).
-ghost use Rattle.std.specs.Prelude.{◌≡◌, IfOk};
+ghost use Rattle.std.specs.Prelude.{◌≡◌};
 ghost use Rattle.jl_meaning.specs.Parts.{◌>>=◌ as ◌then◌};
 ghost use Rattle.jl_meaning.specs.builtins.Elements.{element};
 ghost use Rattle.jl_progress.specs.ArrayCalls.{array_call_after, next_place, search, search_from, search_with};
-ghost use Rattle.jl_state.specs.Rank.{Falls};
-ghost use Rattle.jl_state.specs.Rest.{Works};
+ghost use Rattle.jl_state.specs.Clauses.{Computes, RankAtMost};
 
 use crate::arguments::second;
 use crate::places::{first_place, index_at, next_place, place_from};
@@ -12,23 +11,22 @@ use jl_algorithm::to_primitive;
 use jl_builtin::{argument, get_index, go_on, has_index, index_or_none, number_of_primitive};
 use jl_conv::strict_equal;
 use jl_progress::{ArrayCallProgress, Direction, Progress};
-use jl_state::{Act, AlgorithmFrame, Hint, State};
+use jl_state::{Act, Hint, State};
 use jl_text::{List, NoMemory};
 use jl_value::{Fault, ObjId, Value};
-use std::alloc::Global;
 
 /// A search begins, when the length is known.
 pub(crate) fn search<'p>(
-    alloc: Global,
     state: &mut State<'p>,
     direction: Direction,
     object: ObjId,
     length: usize,
     args: &List<Value>,
 ) -> Result<Act<'p>, NoMemory>
-    ensures leads { IfOk result (λ act. Works state.old (search direction object length args.now) state.new act) }
-    ensures falls { IfOk result (λ act. Falls state.old 28 state.new act) }
+    ensures leads { Computes state.old (search direction object length args.now) result state.new }
+    ensures falls { RankAtMost state.old 28 result state.new }
 {
+    let alloc = state.alloc();
     if length == 0 {
         return Ok(Act::Give(index_or_none(None)?));
     }
@@ -43,8 +41,8 @@ pub(crate) fn search<'p>(
         sought,
         direction,
     };
-    state.push_algorithm(AlgorithmFrame::Builtin(Progress::ArrayCall(progress)))?;
-    to_primitive(alloc, state, from, Hint::Number)
+    state.push_builtin(Progress::ArrayCall(progress))?;
+    to_primitive(state, from, Hint::Number)
 }
 
 /// Goes on with where a search begins, as a primitive value.
@@ -57,9 +55,9 @@ pub(crate) fn step_search_from<'p>(
     direction: Direction,
     p: &Value,
 ) -> Result<Act<'p>, NoMemory>
-    ensures leads { IfOk result (λ act. Works state.old
-        (array_call_after (ArrayCallProgress.SearchFrom object length sought direction) p.now) state.new act) }
-    ensures falls { IfOk result (λ act. Falls state.old 9 state.new act) }
+    ensures leads { Computes state.old (array_call_after (ArrayCallProgress.SearchFrom object length sought
+        direction) p.now) result state.new }
+    ensures falls { RankAtMost state.old 9 result state.new }
 {
     let Some(n) = number_of_primitive(p) else {
         return Ok(Act::Fault(Fault::NumberOutside));
@@ -77,8 +75,8 @@ fn go_on_searching<'p>(
     direction: Direction,
     at: usize,
 ) -> Result<Act<'p>, NoMemory>
-    ensures leads { IfOk result (λ act. Works state.old (search_from direction object length sought at) state.new act) }
-    ensures falls { IfOk result (λ act. Falls state.old 9 state.new act) }
+    ensures leads { Computes state.old (search_from direction object length sought at) result state.new }
+    ensures falls { RankAtMost state.old 9 result state.new }
 {
     let progress = ArrayCallProgress::SearchTurn {
         object,
@@ -92,7 +90,6 @@ fn go_on_searching<'p>(
 
 /// A turn begins, if one is left.
 pub(crate) fn search_turn<'p>(
-    alloc: Global,
     state: &mut State<'p>,
     object: ObjId,
     length: usize,
@@ -100,8 +97,8 @@ pub(crate) fn search_turn<'p>(
     direction: Direction,
     at: usize,
 ) -> Result<Act<'p>, NoMemory>
-    ensures leads { IfOk result (λ act. Works state.old (search_from direction object length sought at) state.new act) }
-    ensures falls { IfOk result (λ act. Falls state.old 3 state.new act) }
+    ensures leads { Computes state.old (search_from direction object length sought at) result state.new }
+    ensures falls { RankAtMost state.old 3 result state.new }
 {
     let Some(index) = index_at(direction, at, length) else {
         return Ok(Act::Give(index_or_none(None)?));
@@ -109,12 +106,11 @@ pub(crate) fn search_turn<'p>(
     if !state.spend() {
         return Ok(Act::Spent);
     }
-    search_element(alloc, state, object, length, sought, direction, index)
+    search_element(state, object, length, sought, direction, index)
 }
 
 /// The element of a turn is got, if there is one.
 fn search_element<'p>(
-    alloc: Global,
     state: &mut State<'p>,
     object: ObjId,
     length: usize,
@@ -122,10 +118,11 @@ fn search_element<'p>(
     direction: Direction,
     index: usize,
 ) -> Result<Act<'p>, NoMemory>
-    ensures leads { IfOk result (λ act. Works state.old
-        (element object index then search_with direction object length sought index) state.new act) }
-    ensures falls { IfOk result (λ act. Falls state.old 16 state.new act) }
+    ensures leads { Computes state.old (element object index then search_with direction object length sought index)
+        result state.new }
+    ensures falls { RankAtMost state.old 16 result state.new }
 {
+    let alloc = state.alloc();
     let there = has_index(alloc, &state.store, object, index)?;
     if !there {
         let at = next_place(direction, index)?;
@@ -138,8 +135,8 @@ fn search_element<'p>(
         direction,
         index,
     };
-    state.push_algorithm(AlgorithmFrame::Builtin(Progress::ArrayCall(progress)))?;
-    get_index(alloc, state, object, index)
+    state.push_builtin(Progress::ArrayCall(progress))?;
+    get_index(state, object, index)
 }
 
 /// Goes on with the element at an index.
@@ -152,9 +149,9 @@ pub(crate) fn step_search_element<'p>(
     index: usize,
     v: &Value,
 ) -> Result<Act<'p>, NoMemory>
-    ensures leads { IfOk result (λ act. Works state.old
-        (array_call_after (ArrayCallProgress.SearchElement object length sought direction index) v.now) state.new act) }
-    ensures falls { IfOk result (λ act. Falls state.old 9 state.new act) }
+    ensures leads { Computes state.old (array_call_after (ArrayCallProgress.SearchElement object length sought
+        direction index) v.now) result state.new }
+    ensures falls { RankAtMost state.old 9 result state.new }
 {
     if strict_equal(&sought, v) {
         return Ok(Act::Give(index_or_none(Some(index))?));

@@ -7,8 +7,7 @@ ghost use Rattle.jl_meaning.specs.builtins.ArrayCallbacks.{called_with};
 ghost use Rattle.jl_meaning.specs.builtins.Elements.{add_index};
 ghost use Rattle.jl_progress.specs.ArrayCalls.{any_with, array_call_after, next_place, task_after, task_with};
 ghost use Rattle.jl_progress.specs.ArrayCalls.{turns, walk_of};
-ghost use Rattle.jl_state.specs.Rank.{Falls};
-ghost use Rattle.jl_state.specs.Rest.{Works};
+ghost use Rattle.jl_state.specs.Clauses.{Computes, RankAtMost};
 ghost use Rattle.jl_value.specs.declared.value.Value.TheVariants as value;
 
 use crate::places::{next_index, next_place};
@@ -16,11 +15,10 @@ use jl_algorithm::throw_native;
 use jl_builtin::{add_index, fault_of, go_on};
 use jl_conv::to_boolean;
 use jl_progress::{ArrayCallProgress, Direction, Progress, Task, Walk};
-use jl_state::{Act, AlgorithmFrame, Invocation, State};
+use jl_state::{Act, Invocation, State};
 use jl_store::{Finished, count};
 use jl_text::{List, NoMemory};
 use jl_value::{Completion, ErrorKind, ObjId, Value, share};
-use std::alloc::Global;
 
 /// The turns follow that begin at a place.
 pub(crate) fn go_on_walking<'p>(
@@ -29,21 +27,17 @@ pub(crate) fn go_on_walking<'p>(
     task: Task,
     at: usize,
 ) -> Result<Act<'p>, NoMemory>
-    ensures leads { IfOk result (λ act. Works state.old (turns task (walk_of walk) at) state.new act) }
-    ensures falls { IfOk result (λ act. Falls state.old 9 state.new act) }
+    ensures leads { Computes state.old (turns task (walk_of walk) at) result state.new }
+    ensures falls { RankAtMost state.old 9 result state.new }
 {
     let progress = ArrayCallProgress::Turn { walk, task, at };
     go_on(state, Progress::ArrayCall(progress))
 }
 
 /// What a task comes to, when no turn is left.
-pub(crate) fn end_task<'p>(
-    alloc: Global,
-    state: &mut State<'p>,
-    task: Task,
-) -> Result<Act<'p>, NoMemory>
-    ensures leads { IfOk result (λ act. Works state.old (task_end task) state.new act) }
-    ensures falls { IfOk result (λ act. Falls state.old 3 state.new act) }
+pub(crate) fn end_task<'p>(state: &mut State<'p>, task: Task) -> Result<Act<'p>, NoMemory>
+    ensures leads { Computes state.old (task_end task) result state.new }
+    ensures falls { RankAtMost state.old 3 result state.new }
 {
     match task {
         Task::Any { wanted } => Ok(Act::Give(Value::Bool(!wanted))),
@@ -52,50 +46,45 @@ pub(crate) fn end_task<'p>(
         Task::Filter { array, .. } => Ok(Act::Give(Value::Obj(array))),
         Task::Reduce { so_far, .. } => match so_far {
             Some(v) => Ok(Act::Give(v)),
-            None => throw_native(alloc, state, ErrorKind::TypeError, "empty array"),
+            None => throw_native(state, ErrorKind::TypeError, "empty array"),
         },
     }
 }
 
 /// Goes on with the element at an index.
 pub(crate) fn step_element<'p>(
-    alloc: Global,
     state: &mut State<'p>,
     walk: Walk,
     task: Task,
     index: usize,
     v: Value,
 ) -> Result<Act<'p>, NoMemory>
-    ensures leads { IfOk result (λ act. Works state.old
-        (array_call_after (ArrayCallProgress.Element walk task index) v) state.new act) }
-    ensures falls { IfOk result (λ act. Falls state.old 14 state.new act) }
+    ensures leads { Computes state.old (array_call_after (ArrayCallProgress.Element walk task index) v) result
+        state.new }
+    ensures falls { RankAtMost state.old 14 result state.new }
 {
     match task {
-        Task::Any { wanted } => ask(alloc, state, walk, Task::Any { wanted }, index, v),
-        Task::ForEach => ask(alloc, state, walk, Task::ForEach, index, v),
-        Task::Map { array } => ask(alloc, state, walk, Task::Map { array }, index, v),
-        Task::Filter { array, to } => {
-            ask(alloc, state, walk, Task::Filter { array, to }, index, v)
-        }
-        Task::Reduce { so_far, direction } => {
-            combine(alloc, state, walk, so_far, direction, index, v)
-        }
+        Task::Any { wanted } => ask(state, walk, Task::Any { wanted }, index, v),
+        Task::ForEach => ask(state, walk, Task::ForEach, index, v),
+        Task::Map { array } => ask(state, walk, Task::Map { array }, index, v),
+        Task::Filter { array, to } => { ask(state, walk, Task::Filter { array, to }, index, v) }
+        Task::Reduce { so_far, direction } => { combine(state, walk, so_far, direction, index, v) }
     }
 }
 
 /// The function is called for an element.
 fn ask<'p>(
-    alloc: Global,
     state: &mut State<'p>,
     walk: Walk,
     task: Task,
     index: usize,
     v: Value,
 ) -> Result<Act<'p>, NoMemory>
-    ensures leads { IfOk result (λ act. Works state.old (called_with (walk_of walk) index v
-        then task_after task (walk_of walk) index v) state.new act) }
-    ensures falls { IfOk result (λ act. Falls state.old 14 state.new act) }
+    ensures leads { Computes state.old (called_with (walk_of walk) index v then task_after task (walk_of walk) index
+        v) result state.new }
+    ensures falls { RankAtMost state.old 14 result state.new }
 {
+    let alloc = state.alloc();
     let element = share(alloc, &v)?;
     let this = share(alloc, &walk.this)?;
     let args = with_element(List::new(alloc), v, index, walk.object)?;
@@ -111,8 +100,8 @@ fn ask<'p>(
         index,
         element,
     };
-    state.push_algorithm(AlgorithmFrame::Builtin(Progress::ArrayCall(progress)))?;
-    Ok(Act::Call(invocation))
+    state.push_builtin(Progress::ArrayCall(progress))?;
+    Act::call(alloc, invocation)
 }
 
 /// Arguments of a call for an element: those that there are, and then the element, its index and the object.
@@ -133,7 +122,6 @@ fn with_element(
 /// `reduce` and `reduceRight` go on with an element. The first one is there without a call where no value was given to
 /// begin with (15.4.4.21, step 8).
 fn combine<'p>(
-    alloc: Global,
     state: &mut State<'p>,
     walk: Walk,
     so_far: Option<Value>,
@@ -141,13 +129,13 @@ fn combine<'p>(
     index: usize,
     v: Value,
 ) -> Result<Act<'p>, NoMemory>
-    ensures leads { IfOk result (λ act. Works state.old
-        (task_with (Task.Reduce so_far direction) (walk_of walk) index (Some v)) state.new act) }
-    ensures falls { IfOk result (λ act. Falls state.old 14 state.new act) }
+    ensures leads { Computes state.old (task_with (Task.Reduce so_far direction) (walk_of walk) index (Some v))
+        result state.new }
+    ensures falls { RankAtMost state.old 14 result state.new }
 {
     match so_far {
         None => go_on_reducing(state, walk, v, direction, index),
-        Some(so_far) => call_to_combine(alloc, state, walk, so_far, direction, index, v),
+        Some(so_far) => call_to_combine(state, walk, so_far, direction, index, v),
     }
 }
 
@@ -159,9 +147,9 @@ fn go_on_reducing<'p>(
     direction: Direction,
     index: usize,
 ) -> Result<Act<'p>, NoMemory>
-    ensures leads { IfOk result (λ act. Works state.old
-        (turns (Task.Reduce (Some so_far) direction) (walk_of walk) (next_place direction index)) state.new act) }
-    ensures falls { IfOk result (λ act. Falls state.old 9 state.new act) }
+    ensures leads { Computes state.old (turns (Task.Reduce (Some so_far) direction) (walk_of walk) (next_place
+        direction index)) result state.new }
+    ensures falls { RankAtMost state.old 9 result state.new }
 {
     let at = next_place(direction, index)?;
     let so_far = Some(so_far);
@@ -170,7 +158,6 @@ fn go_on_reducing<'p>(
 
 /// The function is called with what there is so far and an element (15.4.4.21, step 9.c.ii).
 fn call_to_combine<'p>(
-    alloc: Global,
     state: &mut State<'p>,
     walk: Walk,
     so_far: Value,
@@ -178,10 +165,11 @@ fn call_to_combine<'p>(
     index: usize,
     v: Value,
 ) -> Result<Act<'p>, NoMemory>
-    ensures leads { IfOk result (λ act. Works state.old
-        (task_with (Task.Reduce (Some so_far) direction) (walk_of walk) index (Some v)) state.new act) }
-    ensures falls { IfOk result (λ act. Falls state.old 14 state.new act) }
+    ensures leads { Computes state.old (task_with (Task.Reduce (Some so_far) direction) (walk_of walk) index (Some
+        v)) result state.new }
+    ensures falls { RankAtMost state.old 14 result state.new }
 {
+    let alloc = state.alloc();
     let mut before = List::new(alloc);
     before.push(so_far)?;
     let args = with_element(before, v, index, walk.object)?;
@@ -200,13 +188,12 @@ fn call_to_combine<'p>(
         index,
         element: Value::Undefined,
     };
-    state.push_algorithm(AlgorithmFrame::Builtin(Progress::ArrayCall(progress)))?;
-    Ok(Act::Call(invocation))
+    state.push_builtin(Progress::ArrayCall(progress))?;
+    Act::call(alloc, invocation)
 }
 
 /// Goes on with what the function gives for an element.
 pub(crate) fn step_answer<'p>(
-    alloc: Global,
     state: &mut State<'p>,
     walk: Walk,
     task: Task,
@@ -214,17 +201,15 @@ pub(crate) fn step_answer<'p>(
     element: Value,
     v: Value,
 ) -> Result<Act<'p>, NoMemory>
-    ensures leads { IfOk result (λ act. Works state.old
-        (array_call_after (ArrayCallProgress.Answer walk task index element) v) state.new act) }
-    ensures falls { IfOk result (λ act. Falls state.old 9 state.new act) }
+    ensures leads { Computes state.old (array_call_after (ArrayCallProgress.Answer walk task index element) v)
+        result state.new }
+    ensures falls { RankAtMost state.old 9 result state.new }
 {
     match task {
         Task::Any { wanted } => answer_any(state, walk, wanted, index, &v),
         Task::ForEach => go_on_walking(state, walk, Task::ForEach, next_index(index)?),
-        Task::Map { array } => add_answer(alloc, state, walk, array, index, v),
-        Task::Filter { array, to } => {
-            answer_filter(alloc, state, walk, array, to, index, element, &v)
-        }
+        Task::Map { array } => add_answer(state, walk, array, index, v),
+        Task::Filter { array, to } => { answer_filter(state, walk, array, to, index, element, &v) }
         Task::Reduce { direction, .. } => go_on_reducing(state, walk, v, direction, index),
     }
 }
@@ -237,9 +222,8 @@ fn answer_any<'p>(
     index: usize,
     v: &Value,
 ) -> Result<Act<'p>, NoMemory>
-    ensures leads { IfOk result (λ act. Works state.old (any_with wanted (walk_of walk) index (Some v.now))
-        state.new act) }
-    ensures falls { IfOk result (λ act. Falls state.old 9 state.new act) }
+    ensures leads { Computes state.old (any_with wanted (walk_of walk) index (Some v.now)) result state.new }
+    ensures falls { RankAtMost state.old 9 result state.new }
 {
     let truth = to_boolean(v);
     if truth == wanted {
@@ -251,7 +235,6 @@ fn answer_any<'p>(
 
 /// `filter` keeps the element for a true answer.
 fn answer_filter<'p>(
-    alloc: Global,
     state: &mut State<'p>,
     walk: Walk,
     array: ObjId,
@@ -260,12 +243,12 @@ fn answer_filter<'p>(
     element: Value,
     v: &Value,
 ) -> Result<Act<'p>, NoMemory>
-    ensures leads { IfOk result (λ act. Works state.old
-        (task_after (Task.Filter array to) (walk_of walk) index element v.now) state.new act) }
-    ensures falls { IfOk result (λ act. Falls state.old 9 state.new act) }
+    ensures leads { Computes state.old (task_after (Task.Filter array to) (walk_of walk) index element v.now) result
+        state.new }
+    ensures falls { RankAtMost state.old 9 result state.new }
 {
     if to_boolean(v) {
-        return add_element(alloc, state, walk, array, to, index, element);
+        return add_element(state, walk, array, to, index, element);
     }
     let at = next_index(index)?;
     go_on_walking(state, walk, Task::Filter { array, to }, at)
@@ -273,17 +256,17 @@ fn answer_filter<'p>(
 
 /// `map` makes an answer the element at the same index of its array.
 fn add_answer<'p>(
-    alloc: Global,
     state: &mut State<'p>,
     walk: Walk,
     array: ObjId,
     index: usize,
     v: Value,
 ) -> Result<Act<'p>, NoMemory>
-    ensures leads { IfOk result (λ act. Works state.old
-        (add_index array index v then λ _. turns (Task.Map array) (walk_of walk) (index + 1)) state.new act) }
-    ensures falls { IfOk result (λ act. Falls state.old 9 state.new act) }
+    ensures leads { Computes state.old (add_index array index v then λ _. turns (Task.Map array) (walk_of walk)
+        (index + 1)) result state.new }
+    ensures falls { RankAtMost state.old 9 result state.new }
 {
+    let alloc = state.alloc();
     let at = next_index(index)?;
     let answer = add_index(alloc, &mut state.store, array, index, v)?;
     match answer {
@@ -295,7 +278,6 @@ fn add_answer<'p>(
 
 /// `filter` adds an element to its array.
 fn add_element<'p>(
-    alloc: Global,
     state: &mut State<'p>,
     walk: Walk,
     array: ObjId,
@@ -303,11 +285,11 @@ fn add_element<'p>(
     index: usize,
     element: Value,
 ) -> Result<Act<'p>, NoMemory>
-    ensures leads { IfOk result (λ act. Works state.old
-        (add_index array to element then λ _. turns (Task.Filter array (to + 1)) (walk_of walk) (index + 1))
-        state.new act) }
-    ensures falls { IfOk result (λ act. Falls state.old 9 state.new act) }
+    ensures leads { Computes state.old (add_index array to element then λ _. turns (Task.Filter array (to + 1))
+        (walk_of walk) (index + 1)) result state.new }
+    ensures falls { RankAtMost state.old 9 result state.new }
 {
+    let alloc = state.alloc();
     let at = next_index(index)?;
     let next = next_index(to)?;
     let answer = add_index(alloc, &mut state.store, array, to, element)?;

@@ -5,8 +5,7 @@ ghost use Rattle.jl_meaning.specs.Parts.{◌>>=◌ as ◌then◌};
 ghost use Rattle.jl_meaning.specs.builtins.Elements.{element};
 ghost use Rattle.jl_meaning.specs.builtins.Arguments.{need_function};
 ghost use Rattle.jl_progress.specs.ArrayCalls.{argument_of, begin_walk, task_with, turns, walk_of, with_length};
-ghost use Rattle.jl_state.specs.Rank.{Falls};
-ghost use Rattle.jl_state.specs.Rest.{Works};
+ghost use Rattle.jl_state.specs.Clauses.{Computes, RankAtMost};
 ghost use Rattle.jl_store.specs.Answers.{ends_with};
 ghost use Rattle.jl_store.specs.Comes.{Comes};
 
@@ -17,7 +16,7 @@ use crate::tasks::{end_task, go_on_walking};
 use jl_builtin::{argument, fault_of, get_index, has_index, need_function};
 use jl_num::Num;
 use jl_progress::{ArrayCallProgress, LengthFor, Progress, Task, Walk, WalkFor};
-use jl_state::{Act, AlgorithmFrame, State};
+use jl_state::{Act, State};
 use jl_store::{Answer, Finished, Store};
 use jl_text::{List, NoMemory};
 use jl_value::{Completion, ObjId, Value};
@@ -25,17 +24,17 @@ use std::alloc::Global;
 
 /// A walk begins, when the length is known (15.4.4.16, steps 4 and 5).
 pub(crate) fn begin_walk<'p>(
-    alloc: Global,
     state: &mut State<'p>,
     purpose: WalkFor,
     object: ObjId,
     length: usize,
     args: &List<Value>,
 ) -> Result<Act<'p>, NoMemory>
-    ensures leads { IfOk result (λ act. Works state.old
-        (with_length (LengthFor.Walk purpose) object args.now length) state.new act) }
-    ensures falls { IfOk result (λ act. Falls state.old 9 state.new act) }
+    ensures leads { Computes state.old (with_length (LengthFor.Walk purpose) object args.now length) result
+        state.new }
+    ensures falls { RankAtMost state.old 9 result state.new }
 {
+    let alloc = state.alloc();
     let answer = function_in(alloc, &mut state.store, args)?;
     match answer {
         Answer::Throws(thrown) => Ok(Act::Complete(Completion::Throw(thrown))),
@@ -47,7 +46,7 @@ pub(crate) fn begin_walk<'p>(
                 function,
                 this,
             };
-            begin_task(alloc, state, purpose, walk, args)
+            begin_task(state, purpose, walk, args)
         }
     }
 }
@@ -68,19 +67,19 @@ fn function_in(
 
 /// What a walk is for begins, and the turns follow.
 fn begin_task<'p>(
-    alloc: Global,
     state: &mut State<'p>,
     purpose: WalkFor,
     walk: Walk,
     args: &List<Value>,
 ) -> Result<Act<'p>, NoMemory>
-    ensures leads { IfOk result (λ act. Works state.old (begin_walk purpose (walk_of walk) args.now) state.new act) }
-    ensures falls { IfOk result (λ act. Falls state.old 9 state.new act) }
+    ensures leads { Computes state.old (begin_walk purpose (walk_of walk) args.now) result state.new }
+    ensures falls { RankAtMost state.old 9 result state.new }
 {
+    let alloc = state.alloc();
     match purpose {
         WalkFor::Any { wanted } => go_on_walking(state, walk, Task::Any { wanted }, 0),
         WalkFor::ForEach => go_on_walking(state, walk, Task::ForEach, 0),
-        WalkFor::Map => begin_map(alloc, state, walk),
+        WalkFor::Map => begin_map(state, walk),
         WalkFor::Filter => begin_filter(state, walk),
         WalkFor::Reduce { direction } => {
             let so_far = second(alloc, args)?;
@@ -91,10 +90,11 @@ fn begin_task<'p>(
 }
 
 /// `map` makes its array (15.4.4.19, step 6).
-fn begin_map<'p>(alloc: Global, state: &mut State<'p>, walk: Walk) -> Result<Act<'p>, NoMemory>
-    ensures leads { IfOk result (λ act. Works state.old (begin_walk WalkFor.Map (walk_of walk) []) state.new act) }
-    ensures falls { IfOk result (λ act. Falls state.old 9 state.new act) }
+fn begin_map<'p>(state: &mut State<'p>, walk: Walk) -> Result<Act<'p>, NoMemory>
+    ensures leads { Computes state.old (begin_walk WalkFor.Map (walk_of walk) []) result state.new }
+    ensures falls { RankAtMost state.old 9 result state.new }
 {
+    let alloc = state.alloc();
     let length = number(walk.length)?;
     let answer = array_of_length(alloc, &mut state.store, length)?;
     match answer {
@@ -119,8 +119,8 @@ fn number(length: usize) -> Result<Num, NoMemory>
 
 /// `filter` makes its array (15.4.4.20, step 6).
 fn begin_filter<'p>(state: &mut State<'p>, walk: Walk) -> Result<Act<'p>, NoMemory>
-    ensures leads { IfOk result (λ act. Works state.old (begin_walk WalkFor.Filter (walk_of walk) []) state.new act) }
-    ensures falls { IfOk result (λ act. Falls state.old 9 state.new act) }
+    ensures leads { Computes state.old (begin_walk WalkFor.Filter (walk_of walk) []) result state.new }
+    ensures falls { RankAtMost state.old 9 result state.new }
 {
     let array = state.store.new_array()?;
     go_on_walking(state, walk, Task::Filter { array, to: 0 }, 0)
@@ -128,36 +128,35 @@ fn begin_filter<'p>(state: &mut State<'p>, walk: Walk) -> Result<Act<'p>, NoMemo
 
 /// A turn begins, if one is left (15.4.4.16, step 7).
 pub(crate) fn turn<'p>(
-    alloc: Global,
     state: &mut State<'p>,
     walk: Walk,
     task: Task,
     at: usize,
 ) -> Result<Act<'p>, NoMemory>
-    ensures leads { IfOk result (λ act. Works state.old (turns task (walk_of walk) at) state.new act) }
-    ensures falls { IfOk result (λ act. Falls state.old 3 state.new act) }
+    ensures leads { Computes state.old (turns task (walk_of walk) at) result state.new }
+    ensures falls { RankAtMost state.old 3 result state.new }
 {
     let Some(index) = index_at(direction_of(&task), at, walk.length) else {
-        return end_task(alloc, state, task);
+        return end_task(state, task);
     };
     if !state.spend() {
         return Ok(Act::Spent);
     }
-    visit(alloc, state, walk, task, index)
+    visit(state, walk, task, index)
 }
 
 /// The element of a turn is got, if there is one.
 fn visit<'p>(
-    alloc: Global,
     state: &mut State<'p>,
     walk: Walk,
     task: Task,
     index: usize,
 ) -> Result<Act<'p>, NoMemory>
-    ensures leads { IfOk result (λ act. Works state.old
-        (element walk.object index then task_with task (walk_of walk) index) state.new act) }
-    ensures falls { IfOk result (λ act. Falls state.old 24 state.new act) }
+    ensures leads { Computes state.old (element walk.object index then task_with task (walk_of walk) index) result
+        state.new }
+    ensures falls { RankAtMost state.old 24 result state.new }
 {
+    let alloc = state.alloc();
     let object = walk.object;
     let there = has_index(alloc, &state.store, object, index)?;
     if !there {
@@ -165,6 +164,6 @@ fn visit<'p>(
         return go_on_walking(state, walk, task, at);
     }
     let progress = ArrayCallProgress::Element { walk, task, index };
-    state.push_algorithm(AlgorithmFrame::Builtin(Progress::ArrayCall(progress)))?;
-    get_index(alloc, state, object, index)
+    state.push_builtin(Progress::ArrayCall(progress))?;
+    get_index(state, object, index)
 }

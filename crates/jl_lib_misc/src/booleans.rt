@@ -1,9 +1,8 @@
 //! `Boolean`, and the functions of its prototype (15.6).
-ghost use Rattle.std.specs.Prelude.{◌≡◌, IfOk};
+ghost use Rattle.std.specs.Prelude.{◌≡◌};
 ghost use Rattle.jl_meaning.specs.builtins.Boolean.{boolean_constructor, boolean_inside, boolean_of_receiver};
 ghost use Rattle.jl_meaning.specs.builtins.Boolean.{boolean_to_string, boolean_value_of};
-ghost use Rattle.jl_state.specs.Rank.{Falls};
-ghost use Rattle.jl_state.specs.Rest.{Works};
+ghost use Rattle.jl_state.specs.Clauses.{Computes, RankAtMost};
 ghost use Rattle.jl_state.specs.Words.{call_of};
 
 use crate::numbers::value_or_object;
@@ -16,19 +15,18 @@ use jl_state::{Act, Invocation, State};
 use jl_store::Store;
 use jl_text::NoMemory;
 use jl_value::{Class, ErrorKind, ObjId, Value};
-use std::alloc::Global;
 
 const BOOLEAN_PROTOTYPE: ObjId = ObjId(6);
 
 /// `Boolean(value)` and `new Boolean(value)` (15.6.1.1, 15.6.2.1).
 pub(crate) fn boolean_constructor<'p>(
-    alloc: Global,
     state: &mut State<'p>,
     call: &Invocation,
 ) -> Result<Act<'p>, NoMemory>
-    ensures leads { IfOk result (λ act. Works state.old (boolean_constructor (call_of call.now)) state.new act) }
-    ensures falls { IfOk result (λ act. Falls state.old 3 state.new act) }
+    ensures leads { Computes state.old (boolean_constructor (call_of call.now)) result state.new }
+    ensures falls { RankAtMost state.old 3 result state.new }
 {
+    let alloc = state.alloc();
     let first = argument(alloc, call.args.items(), 0)?;
     let truth = Value::Bool(to_boolean(&first));
     value_or_object(state, call.by_new, Class::Boolean, BOOLEAN_PROTOTYPE, truth)
@@ -57,30 +55,29 @@ fn boolean_of_receiver(store: &Store, this: &Value) -> Option<bool>
 
 /// `Boolean.prototype.toString()` (15.6.4.2).
 pub(crate) fn boolean_to_string<'p>(
-    alloc: Global,
     state: &mut State<'p>,
     call: &Invocation,
 ) -> Result<Act<'p>, NoMemory>
-    ensures leads { IfOk result (λ act. Works state.old (boolean_to_string (call_of call.now)) state.new act) }
-    ensures falls { IfOk result (λ act. Falls state.old 3 state.new act) }
+    ensures leads { Computes state.old (boolean_to_string (call_of call.now)) result state.new }
+    ensures falls { RankAtMost state.old 3 result state.new }
 {
+    let alloc = state.alloc();
     match boolean_of_receiver(&state.store, &call.this) {
         Some(truth) => Ok(Act::Give(Value::Text(text_of(alloc, &Value::Bool(truth))?))),
-        None => throw_native(alloc, state, ErrorKind::TypeError, "wrong receiver"),
+        None => throw_native(state, ErrorKind::TypeError, "wrong receiver"),
     }
 }
 
 /// `Boolean.prototype.valueOf()` (15.6.4.3).
 pub(crate) fn boolean_value_of<'p>(
-    alloc: Global,
     state: &mut State<'p>,
     call: &Invocation,
 ) -> Result<Act<'p>, NoMemory>
-    ensures leads { IfOk result (λ act. Works state.old (boolean_value_of (call_of call.now)) state.new act) }
-    ensures falls { IfOk result (λ act. Falls state.old 3 state.new act) }
+    ensures leads { Computes state.old (boolean_value_of (call_of call.now)) result state.new }
+    ensures falls { RankAtMost state.old 3 result state.new }
 {
     match boolean_of_receiver(&state.store, &call.this) {
         Some(truth) => Ok(Act::Give(Value::Bool(truth))),
-        None => throw_native(alloc, state, ErrorKind::TypeError, "wrong receiver"),
+        None => throw_native(state, ErrorKind::TypeError, "wrong receiver"),
     }
 }

@@ -7,7 +7,8 @@ ghost use Rattle.jl_meaning.specs.builtins.Arguments.{give_object};
 ghost use Rattle.jl_meaning.specs.builtins.Error.{error_constructor, error_to_string, name_and_message, new_error};
 ghost use Rattle.jl_progress.specs.Errors.{error_after, rank_error};
 ghost use Rattle.jl_progress.specs.declared.error.ErrorProgress.TheVariants as progress;
-ghost use Rattle.jl_state.specs.Rank.{rank_act, Falls};
+ghost use Rattle.jl_state.specs.Clauses.{Computes, RankAtMost};
+ghost use Rattle.jl_state.specs.Rank.{rank_act};
 ghost use Rattle.jl_state.specs.Rest.{Works};
 ghost use Rattle.jl_state.specs.Words.{call_of};
 ghost use Rattle.jl_state.specs.declared.state.State.{State as Machine};
@@ -19,7 +20,7 @@ use jl_builtin::{argument, wait_for_string, with_units};
 use jl_heap::{Inner, Prop};
 use jl_operator::text_of;
 use jl_progress::{ErrorProgress, Progress};
-use jl_state::{Act, AlgorithmFrame, Invocation, State};
+use jl_state::{Act, Invocation, State};
 use jl_store::Store;
 use jl_text::{List, NoMemory, Text, TextFault, word};
 use jl_value::{Class, ErrorKind, Fault, ObjId, Value, is_undefined};
@@ -50,14 +51,14 @@ fn new_error(
 
 /// A new error is given.
 fn give_error<'p>(
-    alloc: Global,
     state: &mut State<'p>,
     proto: ObjId,
     message: Option<Text>,
 ) -> Result<Act<'p>, NoMemory>
-    ensures leads { IfOk result (λ act. Works state.old (new_error proto message then give_object) state.new act) }
-    ensures falls { IfOk result (λ act. Falls state.old 3 state.new act) }
+    ensures leads { Computes state.old (new_error proto message then give_object) result state.new }
+    ensures falls { RankAtMost state.old 3 result state.new }
 {
+    let alloc = state.alloc();
     let id = new_error(alloc, &mut state.store, proto, message)?;
     Ok(Act::Give(Value::Obj(id)))
 }
@@ -65,135 +66,120 @@ fn give_error<'p>(
 /// `Error`, or the native error with this prototype, is called or constructed by (15.11.1.1, 15.11.2.1, 15.11.7.2,
 /// 15.11.7.4).
 pub(crate) fn error_constructor<'p>(
-    alloc: Global,
     state: &mut State<'p>,
     proto: ObjId,
     call: &Invocation,
 ) -> Result<Act<'p>, NoMemory>
-    ensures leads { IfOk result (λ act. Works state.old (error_constructor proto (call_of call.now)) state.new act) }
-    ensures falls { IfOk result (λ act. Falls state.old 22 state.new act) }
+    ensures leads { Computes state.old (error_constructor proto (call_of call.now)) result state.new }
+    ensures falls { RankAtMost state.old 22 result state.new }
 {
+    let alloc = state.alloc();
     let message = argument(alloc, call.args.items(), 0)?;
     if is_undefined(&message) {
-        return give_error(alloc, state, proto, None);
+        return give_error(state, proto, None);
     }
     let progress = Progress::Error(ErrorProgress::NewMessage { proto });
-    wait_for_string(alloc, state, progress, message)
+    wait_for_string(state, progress, message)
 }
 
 /// Goes on with the message of an error, which has been converted.
 fn resume_new_message<'p>(
-    alloc: Global,
     state: &mut State<'p>,
     proto: ObjId,
     p: &Value,
 ) -> Result<Act<'p>, NoMemory>
-    ensures leads { IfOk result (λ act. Works state.old
-        (error_after (progress.NewMessage proto) p.now) state.new act) }
-    ensures falls { IfOk result (λ act. Falls state.old 3 state.new act) }
+    ensures leads { Computes state.old (error_after (progress.NewMessage proto) p.now) result state.new }
+    ensures falls { RankAtMost state.old 3 result state.new }
 {
+    let alloc = state.alloc();
     let text = text_of(alloc, p)?;
-    give_error(alloc, state, proto, Some(text))
+    give_error(state, proto, Some(text))
 }
 
 /// `Error.prototype.toString()` (15.11.4.4).
 pub(crate) fn error_to_string<'p>(
-    alloc: Global,
     state: &mut State<'p>,
     call: &Invocation,
 ) -> Result<Act<'p>, NoMemory>
-    ensures leads { IfOk result (λ act. Works state.old (error_to_string (call_of call.now)) state.new act) }
-    ensures falls { IfOk result (λ act. Falls state.old 84 state.new act) }
+    ensures leads { Computes state.old (error_to_string (call_of call.now)) result state.new }
+    ensures falls { RankAtMost state.old 84 result state.new }
 {
+    let alloc = state.alloc();
     let Value::Obj(object) = &call.this else {
-        return throw_native(alloc, state, ErrorKind::TypeError, "not an object");
+        return throw_native(state, ErrorKind::TypeError, "not an object");
     };
     let object = *object;
     let name = word(alloc, "name")?;
     let progress = Progress::Error(ErrorProgress::Name { object });
-    state.push_algorithm(AlgorithmFrame::Builtin(progress))?;
-    get(alloc, state, &Value::Obj(object), &name)
+    state.push_builtin(progress)?;
+    get(state, &Value::Obj(object), &name)
 }
 
 /// Goes on with the name of an error (steps 3 and 4).
-fn resume_name<'p>(
-    alloc: Global,
-    state: &mut State<'p>,
-    object: ObjId,
-    v: Value,
-) -> Result<Act<'p>, NoMemory>
-    ensures leads { IfOk result (λ act. Works state.old (error_after (progress.Name object) v) state.new act) }
-    ensures falls { IfOk result (λ act. Falls state.old 76 state.new act) }
+fn resume_name<'p>(state: &mut State<'p>, object: ObjId, v: Value) -> Result<Act<'p>, NoMemory>
+    ensures leads { Computes state.old (error_after (progress.Name object) v) result state.new }
+    ensures falls { RankAtMost state.old 76 result state.new }
 {
+    let alloc = state.alloc();
     if is_undefined(&v) {
         let name = word(alloc, "Error")?;
-        return get_message(alloc, state, object, name);
+        return get_message(state, object, name);
     }
     let progress = Progress::Error(ErrorProgress::NamePrimitive { object });
-    wait_for_string(alloc, state, progress, v)
+    wait_for_string(state, progress, v)
 }
 
 /// Goes on with that name, which has been converted.
 fn resume_name_primitive<'p>(
-    alloc: Global,
     state: &mut State<'p>,
     object: ObjId,
     p: &Value,
 ) -> Result<Act<'p>, NoMemory>
-    ensures leads { IfOk result (λ act. Works state.old
-        (error_after (progress.NamePrimitive object) p.now) state.new act) }
-    ensures falls { IfOk result (λ act. Falls state.old 44 state.new act) }
+    ensures leads { Computes state.old (error_after (progress.NamePrimitive object) p.now) result state.new }
+    ensures falls { RankAtMost state.old 44 result state.new }
 {
+    let alloc = state.alloc();
     let name = text_of(alloc, p)?;
-    get_message(alloc, state, object, name)
+    get_message(state, object, name)
 }
 
 /// The message of an error with this name is got (step 5).
-fn get_message<'p>(
-    alloc: Global,
-    state: &mut State<'p>,
-    object: ObjId,
-    name: Text,
-) -> Result<Act<'p>, NoMemory>
-    ensures leads { IfOk result (λ act. Works state.old
-        (get (value.Obj object) (codes "message") then error_after (progress.Message name)) state.new act) }
-    ensures falls { IfOk result (λ act. Falls state.old 44 state.new act) }
+fn get_message<'p>(state: &mut State<'p>, object: ObjId, name: Text) -> Result<Act<'p>, NoMemory>
+    ensures leads { Computes state.old (get (value.Obj object) (codes "message") then error_after (progress.Message
+        name)) result state.new }
+    ensures falls { RankAtMost state.old 44 result state.new }
 {
+    let alloc = state.alloc();
     let message = word(alloc, "message")?;
     let progress = Progress::Error(ErrorProgress::Message { name });
-    state.push_algorithm(AlgorithmFrame::Builtin(progress))?;
-    get(alloc, state, &Value::Obj(object), &message)
+    state.push_builtin(progress)?;
+    get(state, &Value::Obj(object), &message)
 }
 
 /// Goes on with the message of an error (steps 6 and 7).
-fn resume_message<'p>(
-    alloc: Global,
-    state: &mut State<'p>,
-    name: Text,
-    v: Value,
-) -> Result<Act<'p>, NoMemory>
-    ensures leads { IfOk result (λ act. Works state.old (error_after (progress.Message name) v) state.new act) }
-    ensures falls { IfOk result (λ act. Falls state.old 22 state.new act) }
+fn resume_message<'p>(state: &mut State<'p>, name: Text, v: Value) -> Result<Act<'p>, NoMemory>
+    ensures leads { Computes state.old (error_after (progress.Message name) v) result state.new }
+    ensures falls { RankAtMost state.old 22 result state.new }
 {
+    let alloc = state.alloc();
     if is_undefined(&v) {
         let message = word(alloc, "")?;
         return name_and_message(alloc, name, message);
     }
     let progress = Progress::Error(ErrorProgress::MessagePrimitive { name });
-    wait_for_string(alloc, state, progress, v)
+    wait_for_string(state, progress, v)
 }
 
 /// Goes on with that message, which has been converted.
 fn resume_message_primitive<'p>(
-    alloc: Global,
     state: &mut State<'p>,
     name: Text,
     p: &Value,
 ) -> Result<Act<'p>, NoMemory>
-    ensures leads { IfOk result (λ act. Works state.old
-        (error_after (progress.MessagePrimitive name) p.now) state.new act) }
-    ensures falls { IfOk result (λ act. Falls state.old 3 state.new act) }
+    ensures leads { Computes state.old (error_after (progress.MessagePrimitive name) p.now) result state.new }
+    ensures falls { RankAtMost state.old 3 result state.new }
 {
+    let alloc = state.alloc();
     let message = text_of(alloc, p)?;
     name_and_message(alloc, name, message)
 }
@@ -228,23 +214,18 @@ fn with_colon(alloc: Global, name: &[u16], message: &[u16]) -> Result<List<u16>,
 
 /// Goes on with the value that a builtin of errors waited for.
 pub fn resume_error<'p>(
-    alloc: Global,
     state: &mut State<'p>,
     progress: ErrorProgress,
     v: Value,
 ) -> Result<Act<'p>, NoMemory>
-    ensures leads { IfOk result (λ act. Works state.old (error_after progress v) state.new act) }
-    ensures falls { IfOk result (λ act. Falls state.old (rank_error progress + 2) state.new act) }
+    ensures leads { Computes state.old (error_after progress v) result state.new }
+    ensures falls { RankAtMost state.old (rank_error progress + 2) result state.new }
 {
     match progress {
-        ErrorProgress::NewMessage { proto } => resume_new_message(alloc, state, proto, &v),
-        ErrorProgress::Name { object } => resume_name(alloc, state, object, v),
-        ErrorProgress::NamePrimitive { object } => {
-            resume_name_primitive(alloc, state, object, &v)
-        }
-        ErrorProgress::Message { name } => resume_message(alloc, state, name, v),
-        ErrorProgress::MessagePrimitive { name } => {
-            resume_message_primitive(alloc, state, name, &v)
-        }
+        ErrorProgress::NewMessage { proto } => resume_new_message(state, proto, &v),
+        ErrorProgress::Name { object } => resume_name(state, object, v),
+        ErrorProgress::NamePrimitive { object } => { resume_name_primitive(state, object, &v) }
+        ErrorProgress::Message { name } => resume_message(state, name, v),
+        ErrorProgress::MessagePrimitive { name } => { resume_message_primitive(state, name, &v) }
     }
 }

@@ -9,8 +9,7 @@ ghost use Rattle.jl_lib_misc.specs.inner.Numbers.{number_or_object, radix_of};
 ghost use Rattle.jl_num.specs.Digits.{number_text};
 ghost use Rattle.jl_progress.specs.Numbers.{number_after};
 ghost use Rattle.jl_progress.specs.declared.number.NumberProgress.TheVariants as progress;
-ghost use Rattle.jl_state.specs.Rank.{Falls};
-ghost use Rattle.jl_state.specs.Rest.{Works};
+ghost use Rattle.jl_state.specs.Clauses.{Computes, RankAtMost};
 ghost use Rattle.jl_state.specs.Words.{call_of};
 
 use jl_algorithm::throw_native;
@@ -35,8 +34,8 @@ pub(crate) fn value_or_object<'p>(
     proto: ObjId,
     v: Value,
 ) -> Result<Act<'p>, NoMemory>
-    ensures leads { IfOk result (λ act. Works state.old (value_or_object by_new class proto v) state.new act) }
-    ensures falls { IfOk result (λ act. Falls state.old 3 state.new act) }
+    ensures leads { Computes state.old (value_or_object by_new class proto v) result state.new }
+    ensures falls { RankAtMost state.old 3 result state.new }
 {
     if !by_new {
         return Ok(Act::Give(v));
@@ -47,8 +46,8 @@ pub(crate) fn value_or_object<'p>(
 
 /// A number, or with `new` an object that stands for it.
 fn number_or_object<'p>(state: &mut State<'p>, by_new: bool, n: Num) -> Result<Act<'p>, NoMemory>
-    ensures leads { IfOk result (λ act. Works state.old (number_or_object by_new n) state.new act) }
-    ensures falls { IfOk result (λ act. Falls state.old 3 state.new act) }
+    ensures leads { Computes state.old (number_or_object by_new n) result state.new }
+    ensures falls { RankAtMost state.old 3 result state.new }
 {
     value_or_object(
         state,
@@ -61,19 +60,19 @@ fn number_or_object<'p>(state: &mut State<'p>, by_new: bool, n: Num) -> Result<A
 
 /// `Number(value)` and `new Number(value)` (15.7.1.1, 15.7.2.1).
 pub(crate) fn number_constructor<'p>(
-    alloc: Global,
     state: &mut State<'p>,
     call: &Invocation,
 ) -> Result<Act<'p>, NoMemory>
-    ensures leads { IfOk result (λ act. Works state.old (number_constructor (call_of call.now)) state.new act) }
-    ensures falls { IfOk result (λ act. Falls state.old 22 state.new act) }
+    ensures leads { Computes state.old (number_constructor (call_of call.now)) result state.new }
+    ensures falls { RankAtMost state.old 22 result state.new }
 {
+    let alloc = state.alloc();
     let by_new = call.by_new;
     match value_from(alloc, call.args.items(), 0)? {
         None => number_or_object(state, by_new, zero()),
         Some((v, _)) => {
             let progress = Progress::Number(NumberProgress::Given { by_new });
-            wait_for_number(alloc, state, progress, v)
+            wait_for_number(state, progress, v)
         }
     }
 }
@@ -94,8 +93,8 @@ pub(crate) fn resume_given<'p>(
     by_new: bool,
     p: &Value,
 ) -> Result<Act<'p>, NoMemory>
-    ensures leads { IfOk result (λ act. Works state.old (number_after (progress.Given by_new) p.now) state.new act) }
-    ensures falls { IfOk result (λ act. Falls state.old 3 state.new act) }
+    ensures leads { Computes state.old (number_after (progress.Given by_new) p.now) result state.new }
+    ensures falls { RankAtMost state.old 3 result state.new }
 {
     match number_of(p) {
         Ok(n) => number_or_object(state, by_new, n),
@@ -160,84 +159,73 @@ fn radix_of(radix: i64) -> Option<u32>
 }
 
 /// The string of a number is given in a radix, or a RangeError is thrown where it isn't 2 to 36.
-fn give_in_radix<'p>(
-    alloc: Global,
-    state: &mut State<'p>,
-    n: Num,
-    radix: i64,
-) -> Result<Act<'p>, NoMemory>
-    ensures leads { IfOk result (λ act. Works state.old (string_in_radix n radix) state.new act) }
-    ensures falls { IfOk result (λ act. Falls state.old 3 state.new act) }
+fn give_in_radix<'p>(state: &mut State<'p>, n: Num, radix: i64) -> Result<Act<'p>, NoMemory>
+    ensures leads { Computes state.old (string_in_radix n radix) result state.new }
+    ensures falls { RankAtMost state.old 3 result state.new }
 {
+    let alloc = state.alloc();
     match radix_of(radix) {
         Some(radix) => Ok(Act::Give(Value::Text(text_in_radix(alloc, n, radix)?))),
-        None => throw_native(alloc, state, ErrorKind::RangeError, "bad radix"),
+        None => throw_native(state, ErrorKind::RangeError, "bad radix"),
     }
 }
 
 /// The radix is converted, or is 10 where it is undefined.
-fn convert_radix<'p>(
-    alloc: Global,
-    state: &mut State<'p>,
-    number: Num,
-    radix: Value,
-) -> Result<Act<'p>, NoMemory>
-    ensures leads { IfOk result (λ act. Works state.old
-        (unless_undefined (pos 10) to_integer radix then string_in_radix number) state.new act) }
-    ensures falls { IfOk result (λ act. Falls state.old 22 state.new act) }
+fn convert_radix<'p>(state: &mut State<'p>, number: Num, radix: Value) -> Result<Act<'p>, NoMemory>
+    ensures leads { Computes state.old (unless_undefined (pos 10) to_integer radix then string_in_radix number)
+        result state.new }
+    ensures falls { RankAtMost state.old 22 result state.new }
 {
     if is_undefined(&radix) {
-        return give_in_radix(alloc, state, number, 10);
+        return give_in_radix(state, number, 10);
     }
     let progress = Progress::Number(NumberProgress::Radix { number });
-    wait_for_number(alloc, state, progress, radix)
+    wait_for_number(state, progress, radix)
 }
 
 /// `Number.prototype.toString(radix)` (15.7.4.2).
 pub(crate) fn number_to_string<'p>(
-    alloc: Global,
     state: &mut State<'p>,
     call: &Invocation,
 ) -> Result<Act<'p>, NoMemory>
-    ensures leads { IfOk result (λ act. Works state.old (number_to_string (call_of call.now)) state.new act) }
-    ensures falls { IfOk result (λ act. Falls state.old 22 state.new act) }
+    ensures leads { Computes state.old (number_to_string (call_of call.now)) result state.new }
+    ensures falls { RankAtMost state.old 22 result state.new }
 {
+    let alloc = state.alloc();
     match number_of_receiver(&state.store, &call.this) {
         Some(n) => {
             let radix = argument(alloc, call.args.items(), 0)?;
-            convert_radix(alloc, state, n, radix)
+            convert_radix(state, n, radix)
         }
-        None => throw_native(alloc, state, ErrorKind::TypeError, "wrong receiver"),
+        None => throw_native(state, ErrorKind::TypeError, "wrong receiver"),
     }
 }
 
 /// Goes on with the radix.
 pub(crate) fn resume_radix<'p>(
-    alloc: Global,
     state: &mut State<'p>,
     number: Num,
     p: &Value,
 ) -> Result<Act<'p>, NoMemory>
-    ensures leads { IfOk result (λ act. Works state.old (number_after (progress.Radix number) p.now) state.new act) }
-    ensures falls { IfOk result (λ act. Falls state.old 3 state.new act) }
+    ensures leads { Computes state.old (number_after (progress.Radix number) p.now) result state.new }
+    ensures falls { RankAtMost state.old 3 result state.new }
 {
     match number_of(p) {
-        Ok(radix) => give_in_radix(alloc, state, number, integer_of(radix)),
+        Ok(radix) => give_in_radix(state, number, integer_of(radix)),
         Err(NumberOutside) => Ok(Act::Fault(Fault::NumberOutside)),
     }
 }
 
 /// `Number.prototype.valueOf()` (15.7.4.4).
 pub(crate) fn number_value_of<'p>(
-    alloc: Global,
     state: &mut State<'p>,
     call: &Invocation,
 ) -> Result<Act<'p>, NoMemory>
-    ensures leads { IfOk result (λ act. Works state.old (number_value_of (call_of call.now)) state.new act) }
-    ensures falls { IfOk result (λ act. Falls state.old 3 state.new act) }
+    ensures leads { Computes state.old (number_value_of (call_of call.now)) result state.new }
+    ensures falls { RankAtMost state.old 3 result state.new }
 {
     match number_of_receiver(&state.store, &call.this) {
         Some(n) => Ok(Act::Give(Value::Num(n))),
-        None => throw_native(alloc, state, ErrorKind::TypeError, "wrong receiver"),
+        None => throw_native(state, ErrorKind::TypeError, "wrong receiver"),
     }
 }

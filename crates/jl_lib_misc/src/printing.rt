@@ -6,8 +6,7 @@ ghost use Rattle.jl_meaning.specs.Conversions.{to_string};
 ghost use Rattle.jl_meaning.specs.Parts.{◌>>=◌ as ◌then◌};
 ghost use Rattle.jl_meaning.specs.builtins.Global.{print_all, print_line, print_others};
 ghost use Rattle.jl_progress.specs.Globals.{line_with};
-ghost use Rattle.jl_state.specs.Rank.{Falls};
-ghost use Rattle.jl_state.specs.Rest.{Works};
+ghost use Rattle.jl_state.specs.Clauses.{Computes, RankAtMost};
 
 use jl_builtin::{copy_of, value_from, wait_for_string, with_units};
 use jl_operator::text_of;
@@ -39,10 +38,11 @@ fn append_line(output: &mut List<u8>, line: &[u8]) -> Result<(), NoMemory>
 }
 
 /// A line is printed in UTF-8, where there is room for it.
-fn print_line<'p>(alloc: Global, state: &mut State<'p>, units: &[u16]) -> Result<Act<'p>, NoMemory>
-    ensures leads { IfOk result (λ act. Works state.old (print_line units.now) state.new act) }
-    ensures falls { IfOk result (λ act. Falls state.old 3 state.new act) }
+fn print_line<'p>(state: &mut State<'p>, units: &[u16]) -> Result<Act<'p>, NoMemory>
+    ensures leads { Computes state.old (print_line units.now) result state.new }
+    ensures falls { RankAtMost state.old 3 result state.new }
 {
+    let alloc = state.alloc();
     let bytes = to_utf8(alloc, units)?;
     let line = bytes.as_slice();
     if !has_room(state.output.len(), line.len()) {
@@ -70,7 +70,6 @@ fn line_with(
 
 /// An argument takes a step, and is converted; those from an index on wait.
 fn print_argument<'p>(
-    alloc: Global,
     state: &mut State<'p>,
     line: List<u16>,
     is_first: bool,
@@ -78,10 +77,9 @@ fn print_argument<'p>(
     args: List<Value>,
     from: usize,
 ) -> Result<Act<'p>, NoMemory>
-    ensures leads { IfOk result (λ act. Works state.old
-        (Step (to_string v then λ units. print_others (line_with line is_first units) (drop from args)))
-        state.new act) }
-    ensures falls { IfOk result (λ act. Falls state.old 1 state.new act) }
+    ensures leads { Computes state.old (Step (to_string v then λ units. print_others (line_with line is_first units)
+        (drop from args))) result state.new }
+    ensures falls { RankAtMost state.old 1 result state.new }
 {
     if !state.spend() {
         return Ok(Act::Spent);
@@ -92,46 +90,42 @@ fn print_argument<'p>(
         args,
         from,
     });
-    wait_for_string(alloc, state, progress, v)
+    wait_for_string(state, progress, v)
 }
 
 /// The arguments from an index on, after those that the line has, or the end of the line.
 fn print_others<'p>(
-    alloc: Global,
     state: &mut State<'p>,
     line: List<u16>,
     args: List<Value>,
     from: usize,
 ) -> Result<Act<'p>, NoMemory>
-    ensures leads { IfOk result (λ act. Works state.old (print_others line (drop from args)) state.new act) }
-    ensures falls { IfOk result (λ act. Falls state.old 3 state.new act) }
+    ensures leads { Computes state.old (print_others line (drop from args)) result state.new }
+    ensures falls { RankAtMost state.old 3 result state.new }
 {
+    let alloc = state.alloc();
     match value_from(alloc, args.items(), from)? {
-        None => print_line(alloc, state, line.items()),
-        Some((v, next)) => print_argument(alloc, state, line, false, v, args, next),
+        None => print_line(state, line.items()),
+        Some((v, next)) => print_argument(state, line, false, v, args, next),
     }
 }
 
 /// `print(..)` and `console.log(..)`: the arguments as strings, with a space between each two.
-pub(crate) fn print<'p>(
-    alloc: Global,
-    state: &mut State<'p>,
-    args: &[Value],
-) -> Result<Act<'p>, NoMemory>
-    ensures leads { IfOk result (λ act. Works state.old (print_all args.now) state.new act) }
-    ensures falls { IfOk result (λ act. Falls state.old 3 state.new act) }
+pub(crate) fn print<'p>(state: &mut State<'p>, args: &[Value]) -> Result<Act<'p>, NoMemory>
+    ensures leads { Computes state.old (print_all args.now) result state.new }
+    ensures falls { RankAtMost state.old 3 result state.new }
 {
+    let alloc = state.alloc();
     let line = List::new(alloc);
     let args = copy_of(alloc, args)?;
     match value_from(alloc, args.items(), 0)? {
-        None => print_line(alloc, state, line.items()),
-        Some((v, next)) => print_argument(alloc, state, line, true, v, args, next),
+        None => print_line(state, line.items()),
+        Some((v, next)) => print_argument(state, line, true, v, args, next),
     }
 }
 
 /// Goes on with an argument that has been converted.
 pub(crate) fn resume_print<'p>(
-    alloc: Global,
     state: &mut State<'p>,
     line: List<u16>,
     is_first: bool,
@@ -139,11 +133,12 @@ pub(crate) fn resume_print<'p>(
     from: usize,
     p: &Value,
 ) -> Result<Act<'p>, NoMemory>
-    ensures leads { IfOk result (λ act. Works state.old
-        (print_others (line_with line is_first (text_of_value p.now)) (drop from args)) state.new act) }
-    ensures falls { IfOk result (λ act. Falls state.old 3 state.new act) }
+    ensures leads { Computes state.old (print_others (line_with line is_first (text_of_value p.now)) (drop from
+        args)) result state.new }
+    ensures falls { RankAtMost state.old 3 result state.new }
 {
+    let alloc = state.alloc();
     let text = text_of(alloc, p)?;
     let line = line_with(alloc, line, is_first, text.units())?;
-    print_others(alloc, state, line, args, from)
+    print_others(state, line, args, from)
 }

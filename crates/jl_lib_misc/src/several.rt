@@ -1,11 +1,12 @@
 //! `Math.max` and `Math.min` (15.8.2.11, 15.8.2.12).
-ghost use Rattle.std.specs.Prelude.{◌≡◌, ◌≤◌, ◌∷◌, drop, IfOk, Option};
+ghost use Rattle.std.specs.Prelude.{◌≡◌, ◌≤◌, ◌∷◌, drop, Option};
 ghost use Rattle.jl_lib_misc.specs.inner.Extremes.{next_extreme};
 ghost use Rattle.jl_meaning.specs.Operators.{give_number};
 ghost use Rattle.jl_meaning.specs.builtins.Math.{one_of, one_of_all};
 ghost use Rattle.jl_progress.specs.Numbers.{number_after, pick_of};
 ghost use Rattle.jl_progress.specs.declared.number.NumberProgress.TheVariants as progress;
-ghost use Rattle.jl_state.specs.Rank.{rank_act, Falls};
+ghost use Rattle.jl_state.specs.Clauses.{Computes, RankAtMost};
+ghost use Rattle.jl_state.specs.Rank.{rank_act};
 ghost use Rattle.jl_state.specs.Rest.{Works};
 ghost use Rattle.jl_state.specs.declared.state.State.{State as Machine};
 
@@ -16,7 +17,6 @@ use jl_progress::{Extreme, NumberProgress, Progress};
 use jl_state::{Act, State};
 use jl_text::{List, NoMemory};
 use jl_value::{Fault, Value};
-use std::alloc::Global;
 
 /// One of two numbers; NaN where one is NaN.
 fn one_of(extreme: Extreme, m: Num, n: Num) -> Num
@@ -57,7 +57,6 @@ fn give_extreme<'p>(so_far: Option<Num>) -> Act<'p>
 
 /// An argument takes a step, and is converted; those from an index on wait.
 fn convert_next<'p>(
-    alloc: Global,
     state: &mut State<'p>,
     extreme: Extreme,
     so_far: Option<Num>,
@@ -65,9 +64,8 @@ fn convert_next<'p>(
     args: List<Value>,
     from: usize,
 ) -> Result<Act<'p>, NoMemory>
-    ensures leads { IfOk result (λ act. Works state.old
-        (one_of_all (pick_of extreme) so_far (v ∷ drop from args)) state.new act) }
-    ensures falls { IfOk result (λ act. Falls state.old 1 state.new act) }
+    ensures leads { Computes state.old (one_of_all (pick_of extreme) so_far (v ∷ drop from args)) result state.new }
+    ensures falls { RankAtMost state.old 1 result state.new }
 {
     if !state.spend() {
         return Ok(Act::Spent);
@@ -78,46 +76,43 @@ fn convert_next<'p>(
         args,
         from,
     });
-    wait_for_number(alloc, state, progress, v)
+    wait_for_number(state, progress, v)
 }
 
 /// The greatest or least of the number so far and the arguments from an index on, one a turn.
 fn one_of_all<'p>(
-    alloc: Global,
     state: &mut State<'p>,
     extreme: Extreme,
     so_far: Option<Num>,
     args: List<Value>,
     from: usize,
 ) -> Result<Act<'p>, NoMemory>
-    ensures leads { IfOk result (λ act. Works state.old
-        (one_of_all (pick_of extreme) so_far (drop from args)) state.new act) }
-    ensures falls { IfOk result (λ act. Falls state.old 3 state.new act) }
+    ensures leads { Computes state.old (one_of_all (pick_of extreme) so_far (drop from args)) result state.new }
+    ensures falls { RankAtMost state.old 3 result state.new }
 {
+    let alloc = state.alloc();
     match value_from(alloc, args.items(), from)? {
         None => Ok(give_extreme(so_far)),
-        Some((v, next)) => convert_next(alloc, state, extreme, so_far, v, args, next),
+        Some((v, next)) => convert_next(state, extreme, so_far, v, args, next),
     }
 }
 
 /// `Math.max(value1, ..)` and `Math.min(value1, ..)` (15.8.2.11, 15.8.2.12).
 pub(crate) fn one_of_arguments<'p>(
-    alloc: Global,
     state: &mut State<'p>,
     extreme: Extreme,
     args: &[Value],
 ) -> Result<Act<'p>, NoMemory>
-    ensures leads { IfOk result (λ act. Works state.old
-        (one_of_all (pick_of extreme) Option.None args.now) state.new act) }
-    ensures falls { IfOk result (λ act. Falls state.old 3 state.new act) }
+    ensures leads { Computes state.old (one_of_all (pick_of extreme) Option.None args.now) result state.new }
+    ensures falls { RankAtMost state.old 3 result state.new }
 {
+    let alloc = state.alloc();
     let args = copy_of(alloc, args)?;
-    one_of_all(alloc, state, extreme, None, args, 0)
+    one_of_all(state, extreme, None, args, 0)
 }
 
 /// Goes on with an argument that has been converted.
 pub(crate) fn resume_extreme<'p>(
-    alloc: Global,
     state: &mut State<'p>,
     extreme: Extreme,
     so_far: Option<Num>,
@@ -125,14 +120,14 @@ pub(crate) fn resume_extreme<'p>(
     from: usize,
     p: &Value,
 ) -> Result<Act<'p>, NoMemory>
-    ensures leads { IfOk result (λ act. Works state.old
-        (number_after (progress.Extreme extreme so_far args from) p.now) state.new act) }
-    ensures falls { IfOk result (λ act. Falls state.old 3 state.new act) }
+    ensures leads { Computes state.old (number_after (progress.Extreme extreme so_far args from) p.now) result
+        state.new }
+    ensures falls { RankAtMost state.old 3 result state.new }
 {
     match number_of(p) {
         Ok(n) => {
             let next = next_extreme(extreme, so_far, n);
-            one_of_all(alloc, state, extreme, Some(next), args, from)
+            one_of_all(state, extreme, Some(next), args, from)
         }
         Err(NumberOutside) => Ok(Act::Fault(Fault::NumberOutside)),
     }

@@ -7,8 +7,7 @@ ghost use Rattle.jl_heap.specs.declared.property.Prop.TheVariants.{Plain};
 ghost use Rattle.jl_meaning.specs.Parts.{gives, ◌>>=◌ as ◌then◌};
 ghost use Rattle.jl_meaning.specs.builtins.Arguments.{give_object};
 ghost use Rattle.jl_meaning.specs.builtins.Function.{bound_length, create_bound, function_bind};
-ghost use Rattle.jl_state.specs.Rank.{Falls};
-ghost use Rattle.jl_state.specs.Rest.{Works};
+ghost use Rattle.jl_state.specs.Clauses.{Computes, RankAtMost};
 ghost use Rattle.jl_state.specs.Words.{call_of};
 ghost use Rattle.jl_store.specs.Comes.{Comes};
 
@@ -95,33 +94,32 @@ fn create_bound(
 
 /// Such a function is given.
 fn give_bound<'p>(
-    alloc: Global,
     state: &mut State<'p>,
     target: ObjId,
     this: Value,
     args: List<Value>,
 ) -> Result<Act<'p>, NoMemory>
-    ensures leads { IfOk result (λ act. Works state.old
-        (create_bound target this args then give_object) state.new act) }
-    ensures falls { IfOk result (λ act. Falls state.old 3 state.new act) }
+    ensures leads { Computes state.old (create_bound target this args then give_object) result state.new }
+    ensures falls { RankAtMost state.old 3 result state.new }
 {
+    let alloc = state.alloc();
     let id = create_bound(alloc, &mut state.store, target, this, args)?;
     Ok(Act::Give(Value::Obj(id)))
 }
 
 /// `Function.prototype.bind(thisArg, arg1, ..)` (15.3.4.5).
 pub(crate) fn function_bind<'p>(
-    alloc: Global,
     state: &mut State<'p>,
     call: &Invocation,
 ) -> Result<Act<'p>, NoMemory>
-    ensures leads { IfOk result (λ act. Works state.old (function_bind (call_of call.now)) state.new act) }
-    ensures falls { IfOk result (λ act. Falls state.old 3 state.new act) }
+    ensures leads { Computes state.old (function_bind (call_of call.now)) result state.new }
+    ensures falls { RankAtMost state.old 3 result state.new }
 {
+    let alloc = state.alloc();
     let this = argument_of(alloc, call, 0)?;
     let args = rest_of(alloc, call.args.items(), 1)?;
     match need_function(&mut state.store, &call.this)? {
         Answer::Throws(thrown) => Ok(Act::Complete(Completion::Throw(thrown))),
-        Answer::Gives(target) => give_bound(alloc, state, target, this, args),
+        Answer::Gives(target) => give_bound(state, target, this, args),
     }
 }

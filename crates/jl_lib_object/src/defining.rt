@@ -13,8 +13,7 @@ ghost use Rattle.jl_meaning.specs.builtins.Descriptors.{enumerable_names};
 ghost use Rattle.jl_meaning.specs.builtins.Object.{changes_of, define_all, need_prototype};
 ghost use Rattle.jl_meaning.specs.builtins.Object.{object_create, object_define_properties, object_define_property};
 ghost use Rattle.jl_progress.specs.Objects.{after_descriptor, rank_definitions, rank_use};
-ghost use Rattle.jl_state.specs.Rank.{Falls};
-ghost use Rattle.jl_state.specs.Rest.{Works};
+ghost use Rattle.jl_state.specs.Clauses.{Computes, RankAtMost};
 ghost use Rattle.jl_state.specs.Words.{call_of};
 ghost use Rattle.jl_store.specs.Answers.{ends_with};
 ghost use Rattle.jl_store.specs.Comes.{Comes};
@@ -34,21 +33,20 @@ use std::alloc::Global;
 
 /// What a descriptor was read for, with the change that it describes.
 pub(crate) fn use_change<'p>(
-    alloc: Global,
     state: &mut State<'p>,
     change: Change,
     purpose: DescriptorUse,
 ) -> Result<Act<'p>, NoMemory>
     requires { IsOneKind change }
-    ensures leads { IfOk result (λ act. Works state.old (after_descriptor purpose change) state.new act) }
-    ensures falls { IfOk result (λ act. Falls state.old (rank_use purpose) state.new act) }
+    ensures leads { Computes state.old (after_descriptor purpose change) result state.new }
+    ensures falls { RankAtMost state.old (rank_use purpose) result state.new }
 {
     match purpose {
         DescriptorUse::One { object, name } => {
             let purpose = WrittenBy::Builtin {
                 gives: Value::Obj(object),
             };
-            define_own_property(alloc, state, object, &name, change, purpose)
+            define_own_property(state, object, &name, change, purpose)
         }
         DescriptorUse::Next {
             object,
@@ -60,14 +58,13 @@ pub(crate) fn use_change<'p>(
         } => {
             let mut changes = changes;
             changes.push(NamedChange::new(name, change))?;
-            read_changes(alloc, state, object, descriptors, changes, names, from)
+            read_changes(state, object, descriptors, changes, names, from)
         }
     }
 }
 
 /// The changes of the names from an index on are read, and then all are done (15.2.3.7, steps 5 and 6).
 fn read_changes<'p>(
-    alloc: Global,
     state: &mut State<'p>,
     object: ObjId,
     descriptors: ObjId,
@@ -75,14 +72,14 @@ fn read_changes<'p>(
     names: List<Text>,
     from: usize,
 ) -> Result<Act<'p>, NoMemory>
-    ensures leads { IfOk result (λ act. Works state.old
-        (changes_of descriptors changes (drop from names) then define_and_give object) state.new act) }
-    ensures falls { IfOk result (λ act. Falls state.old (rank_definitions (length changes) + 2) state.new act) }
+    ensures leads { Computes state.old (changes_of descriptors changes (drop from names) then define_and_give
+        object) result state.new }
+    ensures falls { RankAtMost state.old (rank_definitions (length changes) + 2) result state.new }
 {
+    let alloc = state.alloc();
     match name_from(alloc, names.items(), from)? {
-        None => define_from(alloc, state, object, changes, 0),
+        None => define_from(state, object, changes, 0),
         Some((name, next)) => get_descriptor(
-            alloc,
             state,
             object,
             descriptors,
@@ -96,7 +93,6 @@ fn read_changes<'p>(
 
 /// A turn takes a step, and the descriptor of a name is got.
 fn get_descriptor<'p>(
-    alloc: Global,
     state: &mut State<'p>,
     object: ObjId,
     descriptors: ObjId,
@@ -105,10 +101,11 @@ fn get_descriptor<'p>(
     names: List<Text>,
     from: usize,
 ) -> Result<Act<'p>, NoMemory>
-    ensures leads { IfOk result (λ act. Works state.old
-        (Step (read_descriptor object descriptors changes name names from)) state.new act) }
-    ensures falls { IfOk result (λ act. Falls state.old 1 state.new act) }
+    ensures leads { Computes state.old (Step (read_descriptor object descriptors changes name names from)) result
+        state.new }
+    ensures falls { RankAtMost state.old 1 result state.new }
 {
+    let alloc = state.alloc();
     if !state.spend() {
         return Ok(Act::Spent);
     }
@@ -124,55 +121,51 @@ fn get_descriptor<'p>(
             from,
         },
     )?;
-    get(alloc, state, &Value::Obj(descriptors), &key)
+    get(state, &Value::Obj(descriptors), &key)
 }
 
 /// Goes on with the descriptor of a name.
 pub(crate) fn step_descriptor<'p>(
-    alloc: Global,
     state: &mut State<'p>,
     purpose: DescriptorUse,
     v: &Value,
 ) -> Result<Act<'p>, NoMemory>
-    ensures leads { IfOk result (λ act. Works state.old (define_by purpose v.now) state.new act) }
-    ensures falls { IfOk result (λ act. Falls state.old (rank_use purpose + 28) state.new act) }
+    ensures leads { Computes state.old (define_by purpose v.now) result state.new }
+    ensures falls { RankAtMost state.old (rank_use purpose + 28) result state.new }
 {
-    to_property_descriptor(alloc, state, v, purpose)
+    to_property_descriptor(state, v, purpose)
 }
 
 /// The change at an index is done, and then those after it (15.2.3.7, step 6), and the object is given.
 pub(crate) fn define_from<'p>(
-    alloc: Global,
     state: &mut State<'p>,
     object: ObjId,
     changes: List<NamedChange>,
     from: usize,
 ) -> Result<Act<'p>, NoMemory>
-    ensures leads { IfOk result (λ act. Works state.old
-        (define_and_give object (drop from changes)) state.new act) }
-    ensures falls { IfOk result (λ act. Falls state.old
-        (rank_definitions (length (drop from changes)) + 2) state.new act) }
+    ensures leads { Computes state.old (define_and_give object (drop from changes)) result state.new }
+    ensures falls { RankAtMost state.old (rank_definitions (length (drop from changes)) + 2) result state.new }
 {
+    let alloc = state.alloc();
     match change_from(alloc, changes.items(), from)? {
         None => Ok(Act::Give(Value::Obj(object))),
-        Some((named, next)) => define_one(alloc, state, object, &named, changes, next),
+        Some((named, next)) => define_one(state, object, &named, changes, next),
     }
 }
 
 /// A change is done, and those from an index on wait.
 fn define_one<'p>(
-    alloc: Global,
     state: &mut State<'p>,
     object: ObjId,
     named: &NamedChange,
     changes: List<NamedChange>,
     from: usize,
 ) -> Result<Act<'p>, NoMemory>
-    ensures leads { IfOk result (λ act. Works state.old (define_or_throw object named.now.0 named.now.1
-        then λ _. define_and_give object (drop from changes)) state.new act) }
-    ensures falls { IfOk result (λ act. Falls state.old
-        (rank_definitions (length (drop from changes)) + 40) state.new act) }
+    ensures leads { Computes state.old (define_or_throw object named.now.0 named.now.1 then λ _. define_and_give
+        object (drop from changes)) result state.new }
+    ensures falls { RankAtMost state.old (rank_definitions (length (drop from changes)) + 40) result state.new }
 {
+    let alloc = state.alloc();
     let change = copy_of(alloc, named.change())?;
     let purpose = WrittenBy::Builtin {
         gives: Value::Undefined,
@@ -185,7 +178,7 @@ fn define_one<'p>(
             from,
         },
     )?;
-    define_own_property(alloc, state, object, named.name(), change, purpose)
+    define_own_property(state, object, named.name(), change, purpose)
 }
 
 /// The change at an index and the next index, if there is one.
@@ -227,37 +220,30 @@ fn copy_of(alloc: Global, change: &Change) -> Result<Change, NoMemory>
 }
 
 /// What an object of descriptors describes is defined (15.2.3.7, steps 2 to 6), and the object that has it now given.
-fn define_all<'p>(
-    alloc: Global,
-    state: &mut State<'p>,
-    object: ObjId,
-    v: &Value,
-) -> Result<Act<'p>, NoMemory>
-    ensures leads { IfOk result (λ act. Works state.old
-        (define_all object v.now then λ _. give_object object) state.new act) }
-    ensures falls { IfOk result (λ act. Falls state.old 9 state.new act) }
+fn define_all<'p>(state: &mut State<'p>, object: ObjId, v: &Value) -> Result<Act<'p>, NoMemory>
+    ensures leads { Computes state.old (define_all object v.now then λ _. give_object object) result state.new }
+    ensures falls { RankAtMost state.old 9 result state.new }
 {
     match state.store.to_object(v)? {
         Answer::Throws(thrown) => Ok(Act::Complete(Completion::Throw(thrown))),
-        Answer::Gives(descriptors) => read_all(alloc, state, object, descriptors),
+        Answer::Gives(descriptors) => read_all(state, object, descriptors),
     }
 }
 
 /// The changes of all enumerable properties of an object of descriptors are read, and then done.
 fn read_all<'p>(
-    alloc: Global,
     state: &mut State<'p>,
     object: ObjId,
     descriptors: ObjId,
 ) -> Result<Act<'p>, NoMemory>
-    ensures leads { IfOk result (λ act. Works state.old
-        (changes_of descriptors [] (enumerable_names state.old.store descriptors.0) then define_and_give object)
-        state.new act) }
-    ensures falls { IfOk result (λ act. Falls state.old 9 state.new act) }
+    ensures leads { Computes state.old (changes_of descriptors [] (enumerable_names state.old.store descriptors.0)
+        then define_and_give object) result state.new }
+    ensures falls { RankAtMost state.old 9 result state.new }
 {
+    let alloc = state.alloc();
     let names = enumerable_names(alloc, &state.store, descriptors)?;
     let changes = List::new(alloc);
-    read_changes(alloc, state, object, descriptors, changes, names, 0)
+    read_changes(state, object, descriptors, changes, names, 0)
 }
 
 /// A prototype: an object, or null (15.2.3.5, step 1).
@@ -272,20 +258,15 @@ fn need_prototype(store: &mut Store, v: &Value) -> Result<Answer<Option<ObjId>>,
 }
 
 /// Properties are defined, where they are given, on an object that is then given itself.
-fn define_given<'p>(
-    alloc: Global,
-    state: &mut State<'p>,
-    object: ObjId,
-    v: &Value,
-) -> Result<Act<'p>, NoMemory>
-    ensures leads { IfOk result (λ act. Works state.old
-        (unless_undefined tt (define_all object) v.now then λ _. give_object object) state.new act) }
-    ensures falls { IfOk result (λ act. Falls state.old 9 state.new act) }
+fn define_given<'p>(state: &mut State<'p>, object: ObjId, v: &Value) -> Result<Act<'p>, NoMemory>
+    ensures leads { Computes state.old (unless_undefined tt (define_all object) v.now then λ _. give_object object)
+        result state.new }
+    ensures falls { RankAtMost state.old 9 result state.new }
 {
     if is_undefined(v) {
         return Ok(Act::Give(Value::Obj(object)));
     }
-    define_all(alloc, state, object, v)
+    define_all(state, object, v)
 }
 
 /// A new object of class Object with a prototype, or with none.
@@ -299,103 +280,94 @@ fn new_object(store: &mut Store, proto: Option<ObjId>) -> Result<ObjId, NoMemory
 
 /// A new object with a prototype gets the properties that are given.
 fn create_with<'p>(
-    alloc: Global,
     state: &mut State<'p>,
     proto: Option<ObjId>,
     properties: &Value,
 ) -> Result<Act<'p>, NoMemory>
-    ensures leads { IfOk result (λ act. Works state.old (create_with proto properties.now) state.new act) }
-    ensures falls { IfOk result (λ act. Falls state.old 9 state.new act) }
+    ensures leads { Computes state.old (create_with proto properties.now) result state.new }
+    ensures falls { RankAtMost state.old 9 result state.new }
 {
     let object = new_object(&mut state.store, proto)?;
-    define_given(alloc, state, object, properties)
+    define_given(state, object, properties)
 }
 
 /// `Object.create(O, Properties)` (15.2.3.5).
 pub(crate) fn object_create<'p>(
-    alloc: Global,
     state: &mut State<'p>,
     call: &Invocation,
 ) -> Result<Act<'p>, NoMemory>
-    ensures leads { IfOk result (λ act. Works state.old (object_create (call_of call.now)) state.new act) }
-    ensures falls { IfOk result (λ act. Falls state.old 9 state.new act) }
+    ensures leads { Computes state.old (object_create (call_of call.now)) result state.new }
+    ensures falls { RankAtMost state.old 9 result state.new }
 {
+    let alloc = state.alloc();
     let proto = argument_of(alloc, call, 0)?;
     let properties = argument_of(alloc, call, 1)?;
     match need_prototype(&mut state.store, &proto)? {
         Answer::Throws(thrown) => Ok(Act::Complete(Completion::Throw(thrown))),
-        Answer::Gives(proto) => create_with(alloc, state, proto, &properties),
+        Answer::Gives(proto) => create_with(state, proto, &properties),
     }
 }
 
 /// `Object.defineProperties(O, Properties)` (15.2.3.7).
 pub(crate) fn object_define_properties<'p>(
-    alloc: Global,
     state: &mut State<'p>,
     call: &Invocation,
 ) -> Result<Act<'p>, NoMemory>
-    ensures leads { IfOk result (λ act. Works state.old
-        (object_define_properties (call_of call.now)) state.new act) }
-    ensures falls { IfOk result (λ act. Falls state.old 9 state.new act) }
+    ensures leads { Computes state.old (object_define_properties (call_of call.now)) result state.new }
+    ensures falls { RankAtMost state.old 9 result state.new }
 {
+    let alloc = state.alloc();
     let properties = argument_of(alloc, call, 1)?;
     match first_object(alloc, &mut state.store, call)? {
         Answer::Throws(thrown) => Ok(Act::Complete(Completion::Throw(thrown))),
-        Answer::Gives(object) => define_all(alloc, state, object, &properties),
+        Answer::Gives(object) => define_all(state, object, &properties),
     }
 }
 
 /// The name of a property that is to be defined is converted.
 fn convert_name<'p>(
-    alloc: Global,
     state: &mut State<'p>,
     object: ObjId,
     name: Value,
     descriptor: Value,
 ) -> Result<Act<'p>, NoMemory>
-    ensures leads { IfOk result (λ act. Works state.old
-        (to_string name then λ x. define_by (DescriptorUse.One object x) descriptor) state.new act) }
-    ensures falls { IfOk result (λ act. Falls state.old 96 state.new act) }
+    ensures leads { Computes state.old (to_string name then λ x. define_by (DescriptorUse.One object x) descriptor)
+        result state.new }
+    ensures falls { RankAtMost state.old 96 result state.new }
 {
     wait_object(state, ObjectProgress::DefinedName { object, descriptor })?;
-    to_primitive(alloc, state, name, Hint::Text)
+    to_primitive(state, name, Hint::Text)
 }
 
 /// `Object.defineProperty(O, P, Attributes)` (15.2.3.6).
 pub(crate) fn object_define_property<'p>(
-    alloc: Global,
     state: &mut State<'p>,
     call: &Invocation,
 ) -> Result<Act<'p>, NoMemory>
-    ensures leads { IfOk result (λ act. Works state.old
-        (object_define_property (call_of call.now)) state.new act) }
-    ensures falls { IfOk result (λ act. Falls state.old 96 state.new act) }
+    ensures leads { Computes state.old (object_define_property (call_of call.now)) result state.new }
+    ensures falls { RankAtMost state.old 96 result state.new }
 {
+    let alloc = state.alloc();
     let name = argument_of(alloc, call, 1)?;
     let descriptor = argument_of(alloc, call, 2)?;
     match first_object(alloc, &mut state.store, call)? {
         Answer::Throws(thrown) => Ok(Act::Complete(Completion::Throw(thrown))),
-        Answer::Gives(object) => convert_name(alloc, state, object, name, descriptor),
+        Answer::Gives(object) => convert_name(state, object, name, descriptor),
     }
 }
 
 /// Goes on with the name of a property that is to be defined.
 pub(crate) fn step_defined_name<'p>(
-    alloc: Global,
     state: &mut State<'p>,
     object: ObjId,
     descriptor: &Value,
     p: &Value,
 ) -> Result<Act<'p>, NoMemory>
-    ensures leads { IfOk result (λ act. Works state.old
-        (define_by (DescriptorUse.One object (text_of_value p.now)) descriptor.now) state.new act) }
-    ensures falls { IfOk result (λ act. Falls state.old 82 state.new act) }
+    ensures leads { Computes state.old (define_by (DescriptorUse.One object (text_of_value p.now)) descriptor.now)
+        result state.new }
+    ensures falls { RankAtMost state.old 82 result state.new }
 {
+    let alloc = state.alloc();
     let name = text_of(alloc, p)?;
-    step_descriptor(
-        alloc,
-        state,
-        DescriptorUse::One { object, name },
-        descriptor,
-    )
+    step_descriptor(state, DescriptorUse::One { object, name }, descriptor)
 }

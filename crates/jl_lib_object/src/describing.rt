@@ -9,8 +9,7 @@ ghost use Rattle.jl_meaning.specs.Parts.{gives, ◌>>=◌ as ◌then◌};
 ghost use Rattle.jl_meaning.specs.Properties.{get_own_property};
 ghost use Rattle.jl_meaning.specs.builtins.Descriptors.{accessor_value, from_property_descriptor};
 ghost use Rattle.jl_meaning.specs.builtins.Object.{object_get_own_property_descriptor};
-ghost use Rattle.jl_state.specs.Rank.{Falls};
-ghost use Rattle.jl_state.specs.Rest.{Works};
+ghost use Rattle.jl_state.specs.Clauses.{Computes, RankAtMost};
 ghost use Rattle.jl_state.specs.Words.{call_of};
 ghost use Rattle.jl_store.specs.Comes.{Comes};
 ghost use Rattle.jl_store.specs.LookUps.{property_found};
@@ -155,15 +154,11 @@ fn describe(alloc: Global, store: &mut Store, property: Prop) -> Result<Value, N
 }
 
 /// An own property of an object is described, if it has it.
-fn describe_own<'p>(
-    alloc: Global,
-    state: &mut State<'p>,
-    object: ObjId,
-    name: &Text,
-) -> Result<Act<'p>, NoMemory>
-    ensures leads { IfOk result (λ act. Works state.old (describe_own object name.now) state.new act) }
-    ensures falls { IfOk result (λ act. Falls state.old 3 state.new act) }
+fn describe_own<'p>(state: &mut State<'p>, object: ObjId, name: &Text) -> Result<Act<'p>, NoMemory>
+    ensures leads { Computes state.old (describe_own object name.now) result state.new }
+    ensures falls { RankAtMost state.old 3 result state.new }
 {
+    let alloc = state.alloc();
     match own_property(alloc, &state.store, object, name)? {
         None => Ok(Act::Give(Value::Undefined)),
         Some(property) => {
@@ -175,47 +170,39 @@ fn describe_own<'p>(
 
 /// Goes on with the name of a property that is to be described.
 pub(crate) fn step_described_name<'p>(
-    alloc: Global,
     state: &mut State<'p>,
     object: ObjId,
     p: &Value,
 ) -> Result<Act<'p>, NoMemory>
-    ensures leads { IfOk result (λ act. Works state.old
-        (describe_own object (text_of_value p.now)) state.new act) }
-    ensures falls { IfOk result (λ act. Falls state.old 3 state.new act) }
+    ensures leads { Computes state.old (describe_own object (text_of_value p.now)) result state.new }
+    ensures falls { RankAtMost state.old 3 result state.new }
 {
+    let alloc = state.alloc();
     let name = text_of(alloc, p)?;
-    describe_own(alloc, state, object, &name)
+    describe_own(state, object, &name)
 }
 
 /// The name of a property that is to be described is converted.
-fn convert_name<'p>(
-    alloc: Global,
-    state: &mut State<'p>,
-    object: ObjId,
-    name: Value,
-) -> Result<Act<'p>, NoMemory>
-    ensures leads { IfOk result (λ act. Works state.old
-        (to_string name then describe_own object) state.new act) }
-    ensures falls { IfOk result (λ act. Falls state.old 22 state.new act) }
+fn convert_name<'p>(state: &mut State<'p>, object: ObjId, name: Value) -> Result<Act<'p>, NoMemory>
+    ensures leads { Computes state.old (to_string name then describe_own object) result state.new }
+    ensures falls { RankAtMost state.old 22 result state.new }
 {
     wait_object(state, ObjectProgress::DescribedName { object })?;
-    to_primitive(alloc, state, name, Hint::Text)
+    to_primitive(state, name, Hint::Text)
 }
 
 /// `Object.getOwnPropertyDescriptor(O, P)` (15.2.3.3).
 pub(crate) fn object_get_own_property_descriptor<'p>(
-    alloc: Global,
     state: &mut State<'p>,
     call: &Invocation,
 ) -> Result<Act<'p>, NoMemory>
-    ensures leads { IfOk result (λ act. Works state.old
-        (object_get_own_property_descriptor (call_of call.now)) state.new act) }
-    ensures falls { IfOk result (λ act. Falls state.old 22 state.new act) }
+    ensures leads { Computes state.old (object_get_own_property_descriptor (call_of call.now)) result state.new }
+    ensures falls { RankAtMost state.old 22 result state.new }
 {
+    let alloc = state.alloc();
     let name = argument_of(alloc, call, 1)?;
     match first_object(alloc, &mut state.store, call)? {
         Answer::Throws(thrown) => Ok(Act::Complete(Completion::Throw(thrown))),
-        Answer::Gives(object) => convert_name(alloc, state, object, name),
+        Answer::Gives(object) => convert_name(state, object, name),
     }
 }

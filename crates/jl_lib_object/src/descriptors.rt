@@ -8,8 +8,7 @@ ghost use Rattle.jl_meaning.specs.Parts.{◌>>=◌ as ◌then◌};
 ghost use Rattle.jl_meaning.specs.Properties.{has_property};
 ghost use Rattle.jl_meaning.specs.builtins.Descriptors.{of_one_kind, to_property_descriptor};
 ghost use Rattle.jl_progress.specs.Objects.{after_descriptor, object_after, rank_object, rank_use};
-ghost use Rattle.jl_state.specs.Rank.{Falls};
-ghost use Rattle.jl_state.specs.Rest.{Works};
+ghost use Rattle.jl_state.specs.Clauses.{Computes, RankAtMost};
 ghost use Rattle.jl_store.specs.Answers.{ends_with};
 ghost use Rattle.jl_store.specs.Comes.{Comes};
 
@@ -192,18 +191,18 @@ fn has_field(
 
 /// A field is got.
 fn get_field<'p>(
-    alloc: Global,
     state: &mut State<'p>,
     field: DescriptorField,
     descriptor: ObjId,
     change: Change,
     purpose: DescriptorUse,
 ) -> Result<Act<'p>, NoMemory>
-    ensures leads { IfOk result (λ act. Works state.old (get (Value.Obj descriptor) (field_name field)
-        then object_after (ObjectProgress.Field field descriptor change purpose)) state.new act) }
-    ensures falls { IfOk result (λ act. Falls state.old
-        (rank_object (ObjectProgress.Field field descriptor change purpose) + 4) state.new act) }
+    ensures leads { Computes state.old (get (Value.Obj descriptor) (field_name field) then object_after
+        (ObjectProgress.Field field descriptor change purpose)) result state.new }
+    ensures falls { RankAtMost state.old (rank_object (ObjectProgress.Field field descriptor change purpose) + 4)
+        result state.new }
 {
+    let alloc = state.alloc();
     let name = word(alloc, field_name(field))?;
     wait_object(
         state,
@@ -214,30 +213,30 @@ fn get_field<'p>(
             purpose,
         },
     )?;
-    get(alloc, state, &Value::Obj(descriptor), &name)
+    get(state, &Value::Obj(descriptor), &name)
 }
 
 /// The fields of a descriptor from one on, and then what it is read for.
 fn read_fields<'p>(
-    alloc: Global,
     state: &mut State<'p>,
     next: Option<DescriptorField>,
     descriptor: ObjId,
     change: Change,
     purpose: DescriptorUse,
 ) -> Result<Act<'p>, NoMemory>
-    ensures leads { IfOk result (λ act. Works state.old
-        (change_from next descriptor change then after_descriptor purpose) state.new act) }
-    ensures falls { IfOk result (λ act. Falls state.old (rank_use purpose + (4 * fields_from next + 4)) state.new act) }
+    ensures leads { Computes state.old (change_from next descriptor change then after_descriptor purpose) result
+        state.new }
+    ensures falls { RankAtMost state.old (rank_use purpose + (4 * fields_from next + 4)) result state.new }
 {
+    let alloc = state.alloc();
     let Some(field) = next else {
-        return take_change(alloc, state, change, purpose);
+        return take_change(state, change, purpose);
     };
     if has_field(alloc, &state.store, descriptor, field)? {
-        return get_field(alloc, state, field, descriptor, change, purpose);
+        return get_field(state, field, descriptor, change, purpose);
     }
     let change = without_field(field, change);
-    read_fields(alloc, state, next_field(field), descriptor, change, purpose)
+    read_fields(state, next_field(field), descriptor, change, purpose)
 }
 
 /// Whether a change is data and accessor at once.
@@ -249,44 +248,39 @@ fn is_both_kinds(change: &Change) -> bool
 
 /// A change that has been described, which may not be data and accessor at once (step 9).
 fn take_change<'p>(
-    alloc: Global,
     state: &mut State<'p>,
     change: Change,
     purpose: DescriptorUse,
 ) -> Result<Act<'p>, NoMemory>
-    ensures leads { IfOk result (λ act. Works state.old
-        (of_one_kind change then after_descriptor purpose) state.new act) }
-    ensures falls { IfOk result (λ act. Falls state.old (rank_use purpose) state.new act) }
+    ensures leads { Computes state.old (of_one_kind change then after_descriptor purpose) result state.new }
+    ensures falls { RankAtMost state.old (rank_use purpose) result state.new }
 {
     if is_both_kinds(&change) {
-        return throw_native(alloc, state, ErrorKind::TypeError, "bad descriptor");
+        return throw_native(state, ErrorKind::TypeError, "bad descriptor");
     }
-    use_change(alloc, state, change, purpose)
+    use_change(state, change, purpose)
 }
 
 /// ToPropertyDescriptor (8.10.5), and then what it is done for.
 pub(crate) fn to_property_descriptor<'p>(
-    alloc: Global,
     state: &mut State<'p>,
     v: &Value,
     purpose: DescriptorUse,
 ) -> Result<Act<'p>, NoMemory>
-    ensures leads { IfOk result (λ act. Works state.old
-        (to_property_descriptor v.now then after_descriptor purpose) state.new act) }
-    ensures falls { IfOk result (λ act. Falls state.old (rank_use purpose + 28) state.new act) }
+    ensures leads { Computes state.old (to_property_descriptor v.now then after_descriptor purpose) result state.new }
+    ensures falls { RankAtMost state.old (rank_use purpose + 28) result state.new }
 {
     match need_object(&mut state.store, v)? {
         Answer::Throws(thrown) => Ok(Act::Complete(Completion::Throw(thrown))),
         Answer::Gives(descriptor) => {
             let first = Some(DescriptorField::Enumerable);
-            read_fields(alloc, state, first, descriptor, no_change(), purpose)
+            read_fields(state, first, descriptor, no_change(), purpose)
         }
     }
 }
 
 /// Goes on with the value of a field.
 pub(crate) fn step_field<'p>(
-    alloc: Global,
     state: &mut State<'p>,
     field: DescriptorField,
     descriptor: ObjId,
@@ -294,16 +288,16 @@ pub(crate) fn step_field<'p>(
     purpose: DescriptorUse,
     v: Value,
 ) -> Result<Act<'p>, NoMemory>
-    ensures leads { IfOk result (λ act. Works state.old
-        (object_after (ObjectProgress.Field field descriptor change purpose) v) state.new act) }
-    ensures falls { IfOk result (λ act. Falls state.old
-        (rank_object (ObjectProgress.Field field descriptor change purpose) + 2) state.new act) }
+    ensures leads { Computes state.old (object_after (ObjectProgress.Field field descriptor change purpose) v)
+        result state.new }
+    ensures falls { RankAtMost state.old (rank_object (ObjectProgress.Field field descriptor change purpose) + 2)
+        result state.new }
 {
     match with_field(&mut state.store, field, v, change)? {
         Answer::Throws(thrown) => Ok(Act::Complete(Completion::Throw(thrown))),
         Answer::Gives(change) => {
             let next = next_field(field);
-            read_fields(alloc, state, next, descriptor, change, purpose)
+            read_fields(state, next, descriptor, change, purpose)
         }
     }
 }

@@ -4,8 +4,7 @@ ghost use Rattle.std.specs.Prelude.{◌≡◌, ◌++◌, IfOk};
 ghost use Rattle.jl_lib_object.specs.inner.Calls.{after_dot, function_text, script_name};
 ghost use Rattle.jl_meaning.specs.Realm.{last_part};
 ghost use Rattle.jl_meaning.specs.builtins.Function.{function_to_string, inner_of_function, name_inside, names_of};
-ghost use Rattle.jl_state.specs.Rank.{Falls};
-ghost use Rattle.jl_state.specs.Rest.{Works};
+ghost use Rattle.jl_state.specs.Clauses.{Computes, RankAtMost};
 ghost use Rattle.jl_state.specs.Words.{call_of, table_of};
 
 use jl_algorithm::throw_native;
@@ -67,14 +66,11 @@ fn name_inside<'p>(
 }
 
 /// The name of a value that is a function.
-fn name_of_function<'p>(
-    alloc: Global,
-    state: &State<'p>,
-    v: &Value,
-) -> Result<Option<Text>, NoMemory>
+fn name_of_function<'p>(state: &State<'p>, v: &Value) -> Result<Option<Text>, NoMemory>
     ensures { IfOk result (λ name. name ≡ option_map (name_inside (names_of (table_of state.now.functions)))
         (inner_of_function state.now.store.heap v.now)) }
 {
+    let alloc = state.alloc();
     let Value::Obj(id) = v else {
         return Ok(None);
     };
@@ -104,16 +100,16 @@ fn function_text(alloc: Global, name: &Text) -> Result<List<u16>, NoMemory>
 
 /// `Function.prototype.toString()` (15.3.4.2).
 pub(crate) fn function_to_string<'p>(
-    alloc: Global,
     state: &mut State<'p>,
     call: &Invocation,
 ) -> Result<Act<'p>, NoMemory>
-    ensures leads { IfOk result (λ act. Works state.old
-        (function_to_string (names_of (table_of state.old.functions)) (call_of call.now)) state.new act) }
-    ensures falls { IfOk result (λ act. Falls state.old 3 state.new act) }
+    ensures leads { Computes state.old (function_to_string (names_of (table_of state.old.functions)) (call_of
+        call.now)) result state.new }
+    ensures falls { RankAtMost state.old 3 result state.new }
 {
-    let Some(name) = name_of_function(alloc, state, &call.this)? else {
-        return throw_native(alloc, state, ErrorKind::TypeError, "wrong receiver");
+    let alloc = state.alloc();
+    let Some(name) = name_of_function(state, &call.this)? else {
+        return throw_native(state, ErrorKind::TypeError, "wrong receiver");
     };
     let text = function_text(alloc, &name)?;
     give_text(alloc, text.items())

@@ -1,6 +1,6 @@
 //! Objects sealed, frozen, and closed to more properties (15.2.3.8 to 15.2.3.13).
 ghost use Rattle.std.specs.Option.{option_map_or};
-ghost use Rattle.std.specs.Prelude.{◌≡◌, ◌&&◌, drop, not, true, IfOk};
+ghost use Rattle.std.specs.Prelude.{◌≡◌, ◌&&◌, drop, not, true};
 ghost use Rattle.jl_effects.specs.Effects.{Step};
 ghost use Rattle.jl_heap.specs.Define.{IsOneKind};
 ghost use Rattle.jl_lib_object.specs.inner.Parts.{restrict_and_give, stays_writable, test_and_give, test_one};
@@ -10,8 +10,7 @@ ghost use Rattle.jl_meaning.specs.builtins.Descriptors.{change_of, own_names};
 ghost use Rattle.jl_meaning.specs.builtins.Object.{are_all, object_is_extensible, object_prevent_extensions};
 ghost use Rattle.jl_meaning.specs.builtins.Object.{redefine, redefine_all};
 ghost use Rattle.jl_progress.specs.Objects.{is_restricted_property, restricted_property};
-ghost use Rattle.jl_state.specs.Rank.{Falls};
-ghost use Rattle.jl_state.specs.Rest.{Works};
+ghost use Rattle.jl_state.specs.Clauses.{Computes, RankAtMost};
 ghost use Rattle.jl_state.specs.Words.{call_of};
 ghost use Rattle.jl_store.specs.LookUps.{property_found};
 
@@ -26,7 +25,6 @@ use jl_state::{Act, Invocation, State, WrittenBy};
 use jl_store::{Answer, Found, Store};
 use jl_text::{List, NoMemory, Text};
 use jl_value::{Completion, ObjId, Value};
-use std::alloc::Global;
 
 /// Whether a property that can be written still can when it is sealed or frozen.
 fn stays_writable(integrity: Integrity, writable: bool) -> bool
@@ -105,16 +103,16 @@ fn change_of(property: Prop) -> Change
 
 /// A property of a name is sealed or frozen; one that is gone stays so.
 fn redefine<'p>(
-    alloc: Global,
     state: &mut State<'p>,
     integrity: Integrity,
     object: ObjId,
     name: &Text,
 ) -> Result<Act<'p>, NoMemory>
-    ensures leads { IfOk result (λ act. Works state.old
-        (redefine (restricted_property integrity) object name.now then λ _. give Value.Undefined) state.new act) }
-    ensures falls { IfOk result (λ act. Falls state.old 40 state.new act) }
+    ensures leads { Computes state.old (redefine (restricted_property integrity) object name.now then λ _. give
+        Value.Undefined) result state.new }
+    ensures falls { RankAtMost state.old 40 result state.new }
 {
+    let alloc = state.alloc();
     let Some(property) = own_property(alloc, &state.store, object, name)? else {
         return Ok(Act::Give(Value::Undefined));
     };
@@ -122,12 +120,11 @@ fn redefine<'p>(
     let purpose = WrittenBy::Builtin {
         gives: Value::Undefined,
     };
-    define_own_property(alloc, state, object, name, change, purpose)
+    define_own_property(state, object, name, change, purpose)
 }
 
 /// A turn takes a step, and a property is sealed or frozen; those of the names from an index on wait.
 fn restrict_one<'p>(
-    alloc: Global,
     state: &mut State<'p>,
     integrity: Integrity,
     object: ObjId,
@@ -135,10 +132,9 @@ fn restrict_one<'p>(
     names: List<Text>,
     from: usize,
 ) -> Result<Act<'p>, NoMemory>
-    ensures leads { IfOk result (λ act. Works state.old
-        (Step (redefine (restricted_property integrity) object name.now
-        then λ _. restrict_and_give integrity object (drop from names))) state.new act) }
-    ensures falls { IfOk result (λ act. Falls state.old 1 state.new act) }
+    ensures leads { Computes state.old (Step (redefine (restricted_property integrity) object name.now then λ _.
+        restrict_and_give integrity object (drop from names))) result state.new }
+    ensures falls { RankAtMost state.old 1 result state.new }
 {
     if !state.spend() {
         return Ok(Act::Spent);
@@ -152,60 +148,59 @@ fn restrict_one<'p>(
             from,
         },
     )?;
-    redefine(alloc, state, integrity, object, name)
+    redefine(state, integrity, object, name)
 }
 
 /// The properties of the names from an index on are sealed or frozen, and no more may be added.
 pub(crate) fn restrict_from<'p>(
-    alloc: Global,
     state: &mut State<'p>,
     integrity: Integrity,
     object: ObjId,
     names: List<Text>,
     from: usize,
 ) -> Result<Act<'p>, NoMemory>
-    ensures leads { IfOk result (λ act. Works state.old
-        (restrict_and_give integrity object (drop from names)) state.new act) }
-    ensures falls { IfOk result (λ act. Falls state.old 3 state.new act) }
+    ensures leads { Computes state.old (restrict_and_give integrity object (drop from names)) result state.new }
+    ensures falls { RankAtMost state.old 3 result state.new }
 {
+    let alloc = state.alloc();
     match name_from(alloc, names.items(), from)? {
         None => {
             state.store.prevent_extensions(object);
             Ok(Act::Give(Value::Obj(object)))
         }
-        Some((name, next)) => restrict_one(alloc, state, integrity, object, &name, names, next),
+        Some((name, next)) => restrict_one(state, integrity, object, &name, names, next),
     }
 }
 
 /// All properties of an object are sealed or frozen.
 fn restrict_all<'p>(
-    alloc: Global,
     state: &mut State<'p>,
     integrity: Integrity,
     object: ObjId,
 ) -> Result<Act<'p>, NoMemory>
-    ensures leads { IfOk result (λ act. Works state.old
-        (restrict_and_give integrity object (own_names state.old.store object.0)) state.new act) }
-    ensures falls { IfOk result (λ act. Falls state.old 3 state.new act) }
+    ensures leads { Computes state.old (restrict_and_give integrity object (own_names state.old.store object.0))
+        result state.new }
+    ensures falls { RankAtMost state.old 3 result state.new }
 {
+    let alloc = state.alloc();
     let names = own_names(alloc, &state.store, object)?;
-    restrict_from(alloc, state, integrity, object, names, 0)
+    restrict_from(state, integrity, object, names, 0)
 }
 
 /// `Object.seal(O)` and `Object.freeze(O)` (15.2.3.8, 15.2.3.9).
 pub(crate) fn redefine_all<'p>(
-    alloc: Global,
     state: &mut State<'p>,
     integrity: Integrity,
     call: &Invocation,
 ) -> Result<Act<'p>, NoMemory>
-    ensures leads { IfOk result (λ act. Works state.old
-        (redefine_all (restricted_property integrity) (call_of call.now)) state.new act) }
-    ensures falls { IfOk result (λ act. Falls state.old 3 state.new act) }
+    ensures leads { Computes state.old (redefine_all (restricted_property integrity) (call_of call.now)) result
+        state.new }
+    ensures falls { RankAtMost state.old 3 result state.new }
 {
+    let alloc = state.alloc();
     match first_object(alloc, &mut state.store, call)? {
         Answer::Throws(thrown) => Ok(Act::Complete(Completion::Throw(thrown))),
-        Answer::Gives(object) => restrict_all(alloc, state, integrity, object),
+        Answer::Gives(object) => restrict_all(state, integrity, object),
     }
 }
 
@@ -254,9 +249,9 @@ fn test_one<'p>(
     names: List<Text>,
     from: usize,
 ) -> Result<Act<'p>, NoMemory>
-    ensures leads { IfOk result (λ act. Works state.old
-        (Step (test_one integrity object holds name.now (drop from names))) state.new act) }
-    ensures falls { IfOk result (λ act. Falls state.old 1 state.new act) }
+    ensures leads { Computes state.old (Step (test_one integrity object holds name.now (drop from names))) result
+        state.new }
+    ensures falls { RankAtMost state.old 1 result state.new }
 {
     if !state.spend() {
         return Ok(Act::Spent);
@@ -274,7 +269,6 @@ fn test_one<'p>(
 
 /// The properties of the names from an index on are tested, and whether more may be added.
 pub(crate) fn test_from<'p>(
-    alloc: Global,
     state: &mut State<'p>,
     integrity: Integrity,
     object: ObjId,
@@ -282,10 +276,10 @@ pub(crate) fn test_from<'p>(
     names: List<Text>,
     from: usize,
 ) -> Result<Act<'p>, NoMemory>
-    ensures leads { IfOk result (λ act. Works state.old
-        (test_and_give integrity object holds (drop from names)) state.new act) }
-    ensures falls { IfOk result (λ act. Falls state.old 3 state.new act) }
+    ensures leads { Computes state.old (test_and_give integrity object holds (drop from names)) result state.new }
+    ensures falls { RankAtMost state.old 3 result state.new }
 {
+    let alloc = state.alloc();
     match name_from(alloc, names.items(), from)? {
         None => {
             let closed = both(holds, !state.store.is_extensible(object));
@@ -297,46 +291,45 @@ pub(crate) fn test_from<'p>(
 
 /// All properties of an object are tested.
 fn test_all<'p>(
-    alloc: Global,
     state: &mut State<'p>,
     integrity: Integrity,
     object: ObjId,
 ) -> Result<Act<'p>, NoMemory>
-    ensures leads { IfOk result (λ act. Works state.old
-        (test_and_give integrity object true (own_names state.old.store object.0)) state.new act) }
-    ensures falls { IfOk result (λ act. Falls state.old 3 state.new act) }
+    ensures leads { Computes state.old (test_and_give integrity object true (own_names state.old.store object.0))
+        result state.new }
+    ensures falls { RankAtMost state.old 3 result state.new }
 {
+    let alloc = state.alloc();
     let names = own_names(alloc, &state.store, object)?;
-    test_from(alloc, state, integrity, object, true, names, 0)
+    test_from(state, integrity, object, true, names, 0)
 }
 
 /// `Object.isSealed(O)` and `Object.isFrozen(O)` (15.2.3.11, 15.2.3.12).
 pub(crate) fn are_all<'p>(
-    alloc: Global,
     state: &mut State<'p>,
     integrity: Integrity,
     call: &Invocation,
 ) -> Result<Act<'p>, NoMemory>
-    ensures leads { IfOk result (λ act. Works state.old
-        (are_all (is_restricted_property integrity) (call_of call.now)) state.new act) }
-    ensures falls { IfOk result (λ act. Falls state.old 3 state.new act) }
+    ensures leads { Computes state.old (are_all (is_restricted_property integrity) (call_of call.now)) result
+        state.new }
+    ensures falls { RankAtMost state.old 3 result state.new }
 {
+    let alloc = state.alloc();
     match first_object(alloc, &mut state.store, call)? {
         Answer::Throws(thrown) => Ok(Act::Complete(Completion::Throw(thrown))),
-        Answer::Gives(object) => test_all(alloc, state, integrity, object),
+        Answer::Gives(object) => test_all(state, integrity, object),
     }
 }
 
 /// `Object.preventExtensions(O)` (15.2.3.10).
 pub(crate) fn object_prevent_extensions<'p>(
-    alloc: Global,
     state: &mut State<'p>,
     call: &Invocation,
 ) -> Result<Act<'p>, NoMemory>
-    ensures leads { IfOk result (λ act. Works state.old
-        (object_prevent_extensions (call_of call.now)) state.new act) }
-    ensures falls { IfOk result (λ act. Falls state.old 3 state.new act) }
+    ensures leads { Computes state.old (object_prevent_extensions (call_of call.now)) result state.new }
+    ensures falls { RankAtMost state.old 3 result state.new }
 {
+    let alloc = state.alloc();
     match first_object(alloc, &mut state.store, call)? {
         Answer::Throws(thrown) => Ok(Act::Complete(Completion::Throw(thrown))),
         Answer::Gives(object) => {
@@ -348,14 +341,13 @@ pub(crate) fn object_prevent_extensions<'p>(
 
 /// `Object.isExtensible(O)` (15.2.3.13).
 pub(crate) fn object_is_extensible<'p>(
-    alloc: Global,
     state: &mut State<'p>,
     call: &Invocation,
 ) -> Result<Act<'p>, NoMemory>
-    ensures leads { IfOk result (λ act. Works state.old
-        (object_is_extensible (call_of call.now)) state.new act) }
-    ensures falls { IfOk result (λ act. Falls state.old 3 state.new act) }
+    ensures leads { Computes state.old (object_is_extensible (call_of call.now)) result state.new }
+    ensures falls { RankAtMost state.old 3 result state.new }
 {
+    let alloc = state.alloc();
     match first_object(alloc, &mut state.store, call)? {
         Answer::Throws(thrown) => Ok(Act::Complete(Completion::Throw(thrown))),
         Answer::Gives(object) => {

@@ -4,8 +4,7 @@ ghost use Rattle.jl_heap.specs.Objects.{object_at};
 ghost use Rattle.jl_meaning.specs.builtins.Object.{class_text, is_prototype_of_value, object_call, object_for};
 ghost use Rattle.jl_meaning.specs.builtins.Object.{object_get_prototype_of, object_is_prototype_of, object_to_string};
 ghost use Rattle.jl_meaning.specs.builtins.Object.{object_value_of, prototype_value};
-ghost use Rattle.jl_state.specs.Rank.{Falls};
-ghost use Rattle.jl_state.specs.Rest.{Works};
+ghost use Rattle.jl_state.specs.Clauses.{Computes, RankAtMost};
 ghost use Rattle.jl_state.specs.Words.{call_of};
 ghost use Rattle.jl_store.specs.Answers.{ends_with};
 ghost use Rattle.jl_store.specs.Comes.{Comes};
@@ -17,7 +16,6 @@ use jl_state::{Act, Invocation, State};
 use jl_store::{Answer, Store};
 use jl_text::{NoMemory, word};
 use jl_value::{Class, Completion, ObjId, Value, is_nothing};
-use std::alloc::Global;
 
 /// A new object, or the object that a value converts to.
 fn object_for(store: &mut Store, v: &Value) -> Result<Answer<ObjId>, NoMemory>
@@ -32,14 +30,11 @@ fn object_for(store: &mut Store, v: &Value) -> Result<Answer<ObjId>, NoMemory>
 }
 
 /// `Object(value)` and `new Object(value)` (15.2.1.1, 15.2.2.1).
-pub(crate) fn object_call<'p>(
-    alloc: Global,
-    state: &mut State<'p>,
-    call: &Invocation,
-) -> Result<Act<'p>, NoMemory>
-    ensures leads { IfOk result (λ act. Works state.old (object_call (call_of call.now)) state.new act) }
-    ensures falls { IfOk result (λ act. Falls state.old 3 state.new act) }
+pub(crate) fn object_call<'p>(state: &mut State<'p>, call: &Invocation) -> Result<Act<'p>, NoMemory>
+    ensures leads { Computes state.old (object_call (call_of call.now)) result state.new }
+    ensures falls { RankAtMost state.old 3 result state.new }
 {
+    let alloc = state.alloc();
     let v = argument_of(alloc, call, 0)?;
     match object_for(&mut state.store, &v)? {
         Answer::Throws(thrown) => Ok(Act::Complete(Completion::Throw(thrown))),
@@ -59,14 +54,13 @@ fn prototype_value(store: &Store, id: ObjId) -> Value
 
 /// `Object.getPrototypeOf(O)` (15.2.3.2).
 pub(crate) fn object_get_prototype_of<'p>(
-    alloc: Global,
     state: &mut State<'p>,
     call: &Invocation,
 ) -> Result<Act<'p>, NoMemory>
-    ensures leads { IfOk result (λ act. Works state.old
-        (object_get_prototype_of (call_of call.now)) state.new act) }
-    ensures falls { IfOk result (λ act. Falls state.old 3 state.new act) }
+    ensures leads { Computes state.old (object_get_prototype_of (call_of call.now)) result state.new }
+    ensures falls { RankAtMost state.old 3 result state.new }
 {
+    let alloc = state.alloc();
     match first_object(alloc, &mut state.store, call)? {
         Answer::Throws(thrown) => Ok(Act::Complete(Completion::Throw(thrown))),
         Answer::Gives(id) => Ok(Act::Give(prototype_value(&state.store, id))),
@@ -92,11 +86,12 @@ fn class_text(class: Class) -> &'static str
 }
 
 /// The text of what is an object, or converts to one.
-fn object_text<'p>(alloc: Global, state: &mut State<'p>, v: &Value) -> Result<Act<'p>, NoMemory>
+fn object_text<'p>(state: &mut State<'p>, v: &Value) -> Result<Act<'p>, NoMemory>
     requires { is_nothing v.now ≡ false }
-    ensures leads { IfOk result (λ act. Works state.old (class_text v.now) state.new act) }
-    ensures falls { IfOk result (λ act. Falls state.old 3 state.new act) }
+    ensures leads { Computes state.old (class_text v.now) result state.new }
+    ensures falls { RankAtMost state.old 3 result state.new }
 {
+    let alloc = state.alloc();
     match state.store.to_object(v)? {
         Answer::Throws(thrown) => Ok(Act::Complete(Completion::Throw(thrown))),
         Answer::Gives(id) => {
@@ -108,17 +103,17 @@ fn object_text<'p>(alloc: Global, state: &mut State<'p>, v: &Value) -> Result<Ac
 
 /// `Object.prototype.toString()` (15.2.4.2).
 pub(crate) fn object_to_string<'p>(
-    alloc: Global,
     state: &mut State<'p>,
     call: &Invocation,
 ) -> Result<Act<'p>, NoMemory>
-    ensures leads { IfOk result (λ act. Works state.old (object_to_string (call_of call.now)) state.new act) }
-    ensures falls { IfOk result (λ act. Falls state.old 3 state.new act) }
+    ensures leads { Computes state.old (object_to_string (call_of call.now)) result state.new }
+    ensures falls { RankAtMost state.old 3 result state.new }
 {
+    let alloc = state.alloc();
     match &call.this {
         Value::Undefined => Ok(Act::Give(Value::Text(word(alloc, "[object Undefined]")?))),
         Value::Null => Ok(Act::Give(Value::Text(word(alloc, "[object Null]")?))),
-        _ => object_text(alloc, state, &call.this),
+        _ => object_text(state, &call.this),
     }
 }
 
@@ -127,8 +122,8 @@ pub(crate) fn object_value_of<'p>(
     state: &mut State<'p>,
     call: &Invocation,
 ) -> Result<Act<'p>, NoMemory>
-    ensures leads { IfOk result (λ act. Works state.old (object_value_of (call_of call.now)) state.new act) }
-    ensures falls { IfOk result (λ act. Falls state.old 3 state.new act) }
+    ensures leads { Computes state.old (object_value_of (call_of call.now)) result state.new }
+    ensures falls { RankAtMost state.old 3 result state.new }
 {
     match state.store.to_object(&call.this)? {
         Answer::Throws(thrown) => Ok(Act::Complete(Completion::Throw(thrown))),
@@ -142,9 +137,8 @@ fn is_prototype_of_object<'p>(
     call: &Invocation,
     id: ObjId,
 ) -> Result<Act<'p>, NoMemory>
-    ensures leads { IfOk result (λ act. Works state.old
-        (is_prototype_of_value (call_of call.now) (Value.Obj id)) state.new act) }
-    ensures falls { IfOk result (λ act. Falls state.old 3 state.new act) }
+    ensures leads { Computes state.old (is_prototype_of_value (call_of call.now) (Value.Obj id)) result state.new }
+    ensures falls { RankAtMost state.old 3 result state.new }
 {
     match state.store.to_object(&call.this)? {
         Answer::Throws(thrown) => Ok(Act::Complete(Completion::Throw(thrown))),
@@ -157,14 +151,13 @@ fn is_prototype_of_object<'p>(
 
 /// `Object.prototype.isPrototypeOf(V)` (15.2.4.6).
 pub(crate) fn object_is_prototype_of<'p>(
-    alloc: Global,
     state: &mut State<'p>,
     call: &Invocation,
 ) -> Result<Act<'p>, NoMemory>
-    ensures leads { IfOk result (λ act. Works state.old
-        (object_is_prototype_of (call_of call.now)) state.new act) }
-    ensures falls { IfOk result (λ act. Falls state.old 3 state.new act) }
+    ensures leads { Computes state.old (object_is_prototype_of (call_of call.now)) result state.new }
+    ensures falls { RankAtMost state.old 3 result state.new }
 {
+    let alloc = state.alloc();
     let v = argument_of(alloc, call, 0)?;
     match &v {
         Value::Obj(id) => is_prototype_of_object(state, call, *id),

@@ -5,8 +5,7 @@ ghost use Rattle.jl_lib_object.specs.inner.Names.{name_of_entry, text_value};
 ghost use Rattle.jl_meaning.specs.builtins.Descriptors.{enumerable_names, has_enumerable, own_names};
 ghost use Rattle.jl_meaning.specs.builtins.Object.{array_of_names, object_get_own_property_names, object_keys};
 ghost use Rattle.jl_meaning.specs.forms.Literals.{index_name};
-ghost use Rattle.jl_state.specs.Rank.{Falls};
-ghost use Rattle.jl_state.specs.Rest.{Works};
+ghost use Rattle.jl_state.specs.Clauses.{Computes, RankAtMost};
 ghost use Rattle.jl_state.specs.Words.{call_of};
 
 use crate::waiting::first_object;
@@ -125,66 +124,59 @@ fn text_values(alloc: Global, names: &[Text]) -> Result<List<Value>, NoMemory>
 }
 
 /// An array of names, which is filled one a turn.
-fn array_of_names<'p>(
-    alloc: Global,
-    state: &mut State<'p>,
-    names: &[Text],
-) -> Result<Act<'p>, NoMemory>
-    ensures leads { IfOk result (λ act. Works state.old (array_of_names names.now) state.new act) }
-    ensures falls { IfOk result (λ act. Falls state.old 6 state.new act) }
+fn array_of_names<'p>(state: &mut State<'p>, names: &[Text]) -> Result<Act<'p>, NoMemory>
+    ensures leads { Computes state.old (array_of_names names.now) result state.new }
+    ensures falls { RankAtMost state.old 6 result state.new }
 {
+    let alloc = state.alloc();
     let values = text_values(alloc, names)?;
     let array = state.store.new_array()?;
-    fill_array(alloc, state, array, values, 0)
+    fill_array(state, array, values, 0)
 }
 
 /// An array of the names of all own properties of an object.
-fn list_names<'p>(alloc: Global, state: &mut State<'p>, id: ObjId) -> Result<Act<'p>, NoMemory>
-    ensures leads { IfOk result (λ act. Works state.old
-        (array_of_names (own_names state.old.store id.0)) state.new act) }
-    ensures falls { IfOk result (λ act. Falls state.old 6 state.new act) }
+fn list_names<'p>(state: &mut State<'p>, id: ObjId) -> Result<Act<'p>, NoMemory>
+    ensures leads { Computes state.old (array_of_names (own_names state.old.store id.0)) result state.new }
+    ensures falls { RankAtMost state.old 6 result state.new }
 {
+    let alloc = state.alloc();
     let names = own_names(alloc, &state.store, id)?;
-    array_of_names(alloc, state, names.items())
+    array_of_names(state, names.items())
 }
 
 /// An array of the names of those that are enumerable.
-fn list_keys<'p>(alloc: Global, state: &mut State<'p>, id: ObjId) -> Result<Act<'p>, NoMemory>
-    ensures leads { IfOk result (λ act. Works state.old
-        (array_of_names (enumerable_names state.old.store id.0)) state.new act) }
-    ensures falls { IfOk result (λ act. Falls state.old 6 state.new act) }
+fn list_keys<'p>(state: &mut State<'p>, id: ObjId) -> Result<Act<'p>, NoMemory>
+    ensures leads { Computes state.old (array_of_names (enumerable_names state.old.store id.0)) result state.new }
+    ensures falls { RankAtMost state.old 6 result state.new }
 {
+    let alloc = state.alloc();
     let names = enumerable_names(alloc, &state.store, id)?;
-    array_of_names(alloc, state, names.items())
+    array_of_names(state, names.items())
 }
 
 /// `Object.getOwnPropertyNames(O)` (15.2.3.4).
 pub(crate) fn object_get_own_property_names<'p>(
-    alloc: Global,
     state: &mut State<'p>,
     call: &Invocation,
 ) -> Result<Act<'p>, NoMemory>
-    ensures leads { IfOk result (λ act. Works state.old
-        (object_get_own_property_names (call_of call.now)) state.new act) }
-    ensures falls { IfOk result (λ act. Falls state.old 6 state.new act) }
+    ensures leads { Computes state.old (object_get_own_property_names (call_of call.now)) result state.new }
+    ensures falls { RankAtMost state.old 6 result state.new }
 {
+    let alloc = state.alloc();
     match first_object(alloc, &mut state.store, call)? {
         Answer::Throws(thrown) => Ok(Act::Complete(Completion::Throw(thrown))),
-        Answer::Gives(id) => list_names(alloc, state, id),
+        Answer::Gives(id) => list_names(state, id),
     }
 }
 
 /// `Object.keys(O)` (15.2.3.14).
-pub(crate) fn object_keys<'p>(
-    alloc: Global,
-    state: &mut State<'p>,
-    call: &Invocation,
-) -> Result<Act<'p>, NoMemory>
-    ensures leads { IfOk result (λ act. Works state.old (object_keys (call_of call.now)) state.new act) }
-    ensures falls { IfOk result (λ act. Falls state.old 6 state.new act) }
+pub(crate) fn object_keys<'p>(state: &mut State<'p>, call: &Invocation) -> Result<Act<'p>, NoMemory>
+    ensures leads { Computes state.old (object_keys (call_of call.now)) result state.new }
+    ensures falls { RankAtMost state.old 6 result state.new }
 {
+    let alloc = state.alloc();
     match first_object(alloc, &mut state.store, call)? {
         Answer::Throws(thrown) => Ok(Act::Complete(Completion::Throw(thrown))),
-        Answer::Gives(id) => list_keys(alloc, state, id),
+        Answer::Gives(id) => list_keys(state, id),
     }
 }

@@ -1,10 +1,9 @@
 //! `Object.prototype.hasOwnProperty` and `propertyIsEnumerable` (15.2.4.5, 15.2.4.7).
-ghost use Rattle.std.specs.Prelude.{◌≡◌, IfOk};
+ghost use Rattle.std.specs.Prelude.{◌≡◌};
 ghost use Rattle.jl_conv.specs.Conversions.{text_of_value};
 ghost use Rattle.jl_meaning.specs.builtins.Object.{this_has};
 ghost use Rattle.jl_progress.specs.Objects.{object_after, own_test_of};
-ghost use Rattle.jl_state.specs.Rank.{Falls};
-ghost use Rattle.jl_state.specs.Rest.{Works};
+ghost use Rattle.jl_state.specs.Clauses.{Computes, RankAtMost};
 ghost use Rattle.jl_state.specs.Words.{call_of};
 
 use crate::own_names::has_enumerable;
@@ -16,7 +15,6 @@ use jl_state::{Act, Hint, Invocation, State};
 use jl_store::{Answer, Store};
 use jl_text::{NoMemory, Text};
 use jl_value::{Completion, ObjId, Value, share};
-use std::alloc::Global;
 
 /// Whether an object has an own property that is so.
 fn has_own(store: &Store, test: OwnTest, id: ObjId, name: &Text) -> bool
@@ -30,33 +28,31 @@ fn has_own(store: &Store, test: OwnTest, id: ObjId, name: &Text) -> bool
 
 /// Whether `this` has an own property of the name that is given which is so: the name is converted.
 pub(crate) fn this_has<'p>(
-    alloc: Global,
     state: &mut State<'p>,
     test: OwnTest,
     call: &Invocation,
 ) -> Result<Act<'p>, NoMemory>
-    ensures leads { IfOk result (λ act. Works state.old
-        (this_has (own_test_of test) (call_of call.now)) state.new act) }
-    ensures falls { IfOk result (λ act. Falls state.old 22 state.new act) }
+    ensures leads { Computes state.old (this_has (own_test_of test) (call_of call.now)) result state.new }
+    ensures falls { RankAtMost state.old 22 result state.new }
 {
+    let alloc = state.alloc();
     let name = argument_of(alloc, call, 0)?;
     let this = share(alloc, &call.this)?;
     wait_object(state, ObjectProgress::OwnName { test, this })?;
-    to_primitive(alloc, state, name, Hint::Text)
+    to_primitive(state, name, Hint::Text)
 }
 
 /// Goes on with the name.
 pub(crate) fn step_own_name<'p>(
-    alloc: Global,
     state: &mut State<'p>,
     test: OwnTest,
     this: &Value,
     p: &Value,
 ) -> Result<Act<'p>, NoMemory>
-    ensures leads { IfOk result (λ act. Works state.old
-        (object_after (ObjectProgress.OwnName test this.now) p.now) state.new act) }
-    ensures falls { IfOk result (λ act. Falls state.old 3 state.new act) }
+    ensures leads { Computes state.old (object_after (ObjectProgress.OwnName test this.now) p.now) result state.new }
+    ensures falls { RankAtMost state.old 3 result state.new }
 {
+    let alloc = state.alloc();
     let name = text_of(alloc, p)?;
     match state.store.to_object(this)? {
         Answer::Throws(thrown) => Ok(Act::Complete(Completion::Throw(thrown))),

@@ -25,7 +25,7 @@ pub(crate) fn wait_object<'p>(
       stack = Frame.Algorithm (AlgorithmFrame.Builtin (Progress.Object progress)) ∷ state.old.stack;
     }) }
 {
-    state.push_algorithm(AlgorithmFrame::Builtin(Progress::Object(progress)))?;
+    state.push_builtin(Progress::Object(progress))?;
     Ok(())
 }
 
@@ -40,7 +40,7 @@ pub(crate) fn wait_function<'p>(
       stack = Frame.Algorithm (AlgorithmFrame.Builtin (Progress.Function progress)) ∷ state.old.stack;
     }) }
 {
-    state.push_algorithm(AlgorithmFrame::Builtin(Progress::Function(progress)))?;
+    state.push_builtin(Progress::Function(progress))?;
     Ok(())
 }
 

@@ -3,8 +3,7 @@ ghost use Rattle.std.specs.Prelude.{◌≡◌, IfOk};
 ghost use Rattle.jl_conv.specs.Conversions.{text_of_value};
 ghost use Rattle.jl_meaning.specs.builtins.String.{string_constructor, string_inside, string_of_receiver};
 ghost use Rattle.jl_meaning.specs.builtins.String.{string_or_object, string_value};
-ghost use Rattle.jl_state.specs.Rank.{Falls};
-ghost use Rattle.jl_state.specs.Rest.{Works};
+ghost use Rattle.jl_state.specs.Clauses.{Computes, RankAtMost};
 ghost use Rattle.jl_state.specs.Words.{call_of};
 
 use jl_algorithm::throw_native;
@@ -24,8 +23,8 @@ fn string_or_object<'p>(
     by_new: bool,
     units: Text,
 ) -> Result<Act<'p>, NoMemory>
-    ensures leads { IfOk result (λ act. Works state.old (string_or_object by_new units) state.new act) }
-    ensures falls { IfOk result (λ act. Falls state.old 3 state.new act) }
+    ensures leads { Computes state.old (string_or_object by_new units) result state.new }
+    ensures falls { RankAtMost state.old 3 result state.new }
 {
     if !by_new {
         return Ok(Act::Give(Value::Text(units)));
@@ -36,13 +35,13 @@ fn string_or_object<'p>(
 
 /// `String(value)` and `new String(value)` (15.5.1.1, 15.5.2.1).
 pub(crate) fn string_constructor<'p>(
-    alloc: Global,
     state: &mut State<'p>,
     call: &Invocation,
 ) -> Result<Act<'p>, NoMemory>
-    ensures leads { IfOk result (λ act. Works state.old (string_constructor (call_of call.now)) state.new act) }
-    ensures falls { IfOk result (λ act. Falls state.old 22 state.new act) }
+    ensures leads { Computes state.old (string_constructor (call_of call.now)) result state.new }
+    ensures falls { RankAtMost state.old 22 result state.new }
 {
+    let alloc = state.alloc();
     let by_new = call.by_new;
     match value_from(alloc, call.args.items(), 0)? {
         None => {
@@ -51,21 +50,21 @@ pub(crate) fn string_constructor<'p>(
         }
         Some((v, _)) => {
             let progress = Progress::String(StringProgress::Given { by_new });
-            wait_for_string(alloc, state, progress, v)
+            wait_for_string(state, progress, v)
         }
     }
 }
 
 /// Goes on with the argument of `String`.
 pub(crate) fn resume_given<'p>(
-    alloc: Global,
     state: &mut State<'p>,
     by_new: bool,
     p: &Value,
 ) -> Result<Act<'p>, NoMemory>
-    ensures leads { IfOk result (λ act. Works state.old (string_or_object by_new (text_of_value p.now)) state.new act) }
-    ensures falls { IfOk result (λ act. Falls state.old 3 state.new act) }
+    ensures leads { Computes state.old (string_or_object by_new (text_of_value p.now)) result state.new }
+    ensures falls { RankAtMost state.old 3 result state.new }
 {
+    let alloc = state.alloc();
     let units = text_of(alloc, p)?;
     string_or_object(state, by_new, units)
 }
@@ -93,15 +92,15 @@ fn string_of_receiver(alloc: Global, store: &Store, this: &Value) -> Result<Opti
 
 /// `String.prototype.toString()` and `valueOf()` (15.5.4.2, 15.5.4.3).
 pub(crate) fn string_value<'p>(
-    alloc: Global,
     state: &mut State<'p>,
     call: &Invocation,
 ) -> Result<Act<'p>, NoMemory>
-    ensures leads { IfOk result (λ act. Works state.old (string_value (call_of call.now)) state.new act) }
-    ensures falls { IfOk result (λ act. Falls state.old 3 state.new act) }
+    ensures leads { Computes state.old (string_value (call_of call.now)) result state.new }
+    ensures falls { RankAtMost state.old 3 result state.new }
 {
+    let alloc = state.alloc();
     match string_of_receiver(alloc, &state.store, &call.this)? {
         Some(units) => Ok(Act::Give(Value::Text(units))),
-        None => throw_native(alloc, state, ErrorKind::TypeError, "wrong receiver"),
+        None => throw_native(state, ErrorKind::TypeError, "wrong receiver"),
     }
 }

@@ -7,7 +7,8 @@ ghost use Rattle.jl_meaning.specs.builtins.Elements.{to_end};
 ghost use Rattle.jl_progress.specs.Strings.{method_of_string, string_after, units_cut};
 ghost use Rattle.jl_progress.specs.declared.string.StringMethod.TheVariants as method;
 ghost use Rattle.jl_progress.specs.declared.string.StringProgress.TheVariants as progress;
-ghost use Rattle.jl_state.specs.Rank.{rank_act, Falls};
+ghost use Rattle.jl_state.specs.Clauses.{Computes, RankAtMost};
+ghost use Rattle.jl_state.specs.Rank.{rank_act};
 ghost use Rattle.jl_state.specs.Rest.{Works};
 ghost use Rattle.jl_state.specs.declared.state.State.{State as Machine};
 
@@ -23,20 +24,19 @@ use std::alloc::Global;
 
 /// The start of a part is converted, whose end waits.
 pub(crate) fn convert_start<'p>(
-    alloc: Global,
     state: &mut State<'p>,
     cut: Cut,
     units: Text,
     args: &[Value],
 ) -> Result<Act<'p>, NoMemory>
-    ensures leads { IfOk result (λ act. Works state.old
-        (method_of_string (method.Cut cut) units args.now) state.new act) }
-    ensures falls { IfOk result (λ act. Falls state.old 46 state.new act) }
+    ensures leads { Computes state.old (method_of_string (method.Cut cut) units args.now) result state.new }
+    ensures falls { RankAtMost state.old 46 result state.new }
 {
+    let alloc = state.alloc();
     let start = argument(alloc, args, 0)?;
     let end = argument(alloc, args, 1)?;
     let progress = Progress::String(StringProgress::Start { cut, units, end });
-    wait_for_number(alloc, state, progress, start)
+    wait_for_number(state, progress, start)
 }
 
 /// The length of a string as a number.
@@ -84,57 +84,54 @@ fn give_cut<'p>(
 
 /// The end of a part is converted, or is the end of the string where it is undefined.
 fn convert_end<'p>(
-    alloc: Global,
     state: &mut State<'p>,
     cut: Cut,
     units: Text,
     start: Num,
     end: Value,
 ) -> Result<Act<'p>, NoMemory>
-    ensures leads { IfOk result (λ act. Works state.old
-        (to_end end (length units) then λ b. give_string (units_cut cut units (integer_of start) b)) state.new act) }
-    ensures falls { IfOk result (λ act. Falls state.old 22 state.new act) }
+    ensures leads { Computes state.old (to_end end (length units) then λ b. give_string (units_cut cut units
+        (integer_of start) b)) result state.new }
+    ensures falls { RankAtMost state.old 22 result state.new }
 {
+    let alloc = state.alloc();
     if is_undefined(&end) {
         let length = length_of(&units);
         return give_cut(alloc, cut, &units, start, length);
     }
     let progress = Progress::String(StringProgress::End { cut, units, start });
-    wait_for_number(alloc, state, progress, end)
+    wait_for_number(state, progress, end)
 }
 
 /// Goes on with the start of a part.
 pub(crate) fn resume_start<'p>(
-    alloc: Global,
     state: &mut State<'p>,
     cut: Cut,
     units: Text,
     end: Value,
     p: &Value,
 ) -> Result<Act<'p>, NoMemory>
-    ensures leads { IfOk result (λ act. Works state.old
-        (string_after (progress.Start cut units end) p.now) state.new act) }
-    ensures falls { IfOk result (λ act. Falls state.old 22 state.new act) }
+    ensures leads { Computes state.old (string_after (progress.Start cut units end) p.now) result state.new }
+    ensures falls { RankAtMost state.old 22 result state.new }
 {
     match number_of(p) {
-        Ok(start) => convert_end(alloc, state, cut, units, start, end),
+        Ok(start) => convert_end(state, cut, units, start, end),
         Err(NumberOutside) => Ok(Act::Fault(Fault::NumberOutside)),
     }
 }
 
 /// Goes on with the end of a part.
 pub(crate) fn resume_end<'p>(
-    alloc: Global,
     state: &mut State<'p>,
     cut: Cut,
     units: &Text,
     start: Num,
     p: &Value,
 ) -> Result<Act<'p>, NoMemory>
-    ensures leads { IfOk result (λ act. Works state.old
-        (string_after (progress.End cut units.now start) p.now) state.new act) }
-    ensures falls { IfOk result (λ act. Falls state.old 3 state.new act) }
+    ensures leads { Computes state.old (string_after (progress.End cut units.now start) p.now) result state.new }
+    ensures falls { RankAtMost state.old 3 result state.new }
 {
+    let alloc = state.alloc();
     match number_of(p) {
         Ok(end) => give_cut(alloc, cut, units, start, end),
         Err(NumberOutside) => Ok(Act::Fault(Fault::NumberOutside)),

@@ -6,8 +6,7 @@ ghost use Rattle.jl_meaning.specs.builtins.String.{last_start};
 ghost use Rattle.jl_progress.specs.Strings.{method_of_string, place_of_part, string_after};
 ghost use Rattle.jl_progress.specs.declared.string.StringMethod.TheVariants as method;
 ghost use Rattle.jl_progress.specs.declared.string.StringProgress.TheVariants as progress;
-ghost use Rattle.jl_state.specs.Rank.{Falls};
-ghost use Rattle.jl_state.specs.Rest.{Works};
+ghost use Rattle.jl_state.specs.Clauses.{Computes, RankAtMost};
 
 use jl_builtin::{argument, clamp, index_or_none, wait_for_number, wait_for_string};
 use jl_num::{Num, NumberOutside};
@@ -16,20 +15,18 @@ use jl_progress::{Progress, Search, StringProgress};
 use jl_state::{Act, State};
 use jl_text::{NoMemory, Text};
 use jl_value::{Fault, Value};
-use std::alloc::Global;
 
 /// A part is converted that is searched for from a position on, which waits.
 pub(crate) fn convert_part<'p>(
-    alloc: Global,
     state: &mut State<'p>,
     search: Search,
     units: Text,
     args: &[Value],
 ) -> Result<Act<'p>, NoMemory>
-    ensures leads { IfOk result (λ act. Works state.old
-        (method_of_string (method.Search search) units args.now) state.new act) }
-    ensures falls { IfOk result (λ act. Falls state.old 46 state.new act) }
+    ensures leads { Computes state.old (method_of_string (method.Search search) units args.now) result state.new }
+    ensures falls { RankAtMost state.old 46 result state.new }
 {
+    let alloc = state.alloc();
     let part = argument(alloc, args, 0)?;
     let position = argument(alloc, args, 1)?;
     let progress = Progress::String(StringProgress::Part {
@@ -37,45 +34,43 @@ pub(crate) fn convert_part<'p>(
         units,
         position,
     });
-    wait_for_string(alloc, state, progress, part)
+    wait_for_string(state, progress, part)
 }
 
 /// The position is converted from which on a part is searched for.
 fn convert_place<'p>(
-    alloc: Global,
     state: &mut State<'p>,
     search: Search,
     units: Text,
     part: Text,
     position: Value,
 ) -> Result<Act<'p>, NoMemory>
-    ensures leads { IfOk result (λ act. Works state.old
-        (to_number position then λ n. give (place_of_part search units part n)) state.new act) }
-    ensures falls { IfOk result (λ act. Falls state.old 22 state.new act) }
+    ensures leads { Computes state.old (to_number position then λ n. give (place_of_part search units part n))
+        result state.new }
+    ensures falls { RankAtMost state.old 22 result state.new }
 {
     let progress = Progress::String(StringProgress::Place {
         search,
         units,
         part,
     });
-    wait_for_number(alloc, state, progress, position)
+    wait_for_number(state, progress, position)
 }
 
 /// Goes on with the part that is searched for.
 pub(crate) fn resume_part<'p>(
-    alloc: Global,
     state: &mut State<'p>,
     search: Search,
     units: Text,
     position: Value,
     p: &Value,
 ) -> Result<Act<'p>, NoMemory>
-    ensures leads { IfOk result (λ act. Works state.old
-        (string_after (progress.Part search units position) p.now) state.new act) }
-    ensures falls { IfOk result (λ act. Falls state.old 22 state.new act) }
+    ensures leads { Computes state.old (string_after (progress.Part search units position) p.now) result state.new }
+    ensures falls { RankAtMost state.old 22 result state.new }
 {
+    let alloc = state.alloc();
     let part = text_of(alloc, p)?;
-    convert_place(alloc, state, search, units, part, position)
+    convert_place(state, search, units, part, position)
 }
 
 /// Where a search for the last place begins; NaN stands for an infinity.
@@ -112,9 +107,9 @@ pub(crate) fn resume_place<'p>(
     part: &Text,
     p: &Value,
 ) -> Result<Act<'p>, NoMemory>
-    ensures leads { IfOk result (λ act. Works state.old
-        (string_after (progress.Place search units.now part.now) p.now) state.new act) }
-    ensures falls { IfOk result (λ act. Falls state.old 3 state.new act) }
+    ensures leads { Computes state.old (string_after (progress.Place search units.now part.now) p.now) result
+        state.new }
+    ensures falls { RankAtMost state.old 3 result state.new }
 {
     match number_of(p) {
         Ok(position) => Ok(Act::Give(place_of_part(search, units, part, position)?)),

@@ -6,7 +6,8 @@ ghost use Rattle.jl_meaning.specs.builtins.String.{unit_at_position};
 ghost use Rattle.jl_progress.specs.Strings.{method_of_string, string_after, unit_given};
 ghost use Rattle.jl_progress.specs.declared.string.StringMethod.TheVariants as method;
 ghost use Rattle.jl_progress.specs.declared.string.StringProgress.TheVariants as progress;
-ghost use Rattle.jl_state.specs.Rank.{rank_act, Falls};
+ghost use Rattle.jl_state.specs.Clauses.{Computes, RankAtMost};
+ghost use Rattle.jl_state.specs.Rank.{rank_act};
 ghost use Rattle.jl_state.specs.Rest.{Works};
 ghost use Rattle.jl_state.specs.declared.state.State.{State as Machine};
 
@@ -23,19 +24,18 @@ use std::alloc::Global;
 
 /// The position is converted at which a unit is given.
 pub(crate) fn convert_position<'p>(
-    alloc: Global,
     state: &mut State<'p>,
     form: UnitForm,
     units: Text,
     args: &[Value],
 ) -> Result<Act<'p>, NoMemory>
-    ensures leads { IfOk result (λ act. Works state.old
-        (method_of_string (method.Unit form) units args.now) state.new act) }
-    ensures falls { IfOk result (λ act. Falls state.old 22 state.new act) }
+    ensures leads { Computes state.old (method_of_string (method.Unit form) units args.now) result state.new }
+    ensures falls { RankAtMost state.old 22 result state.new }
 {
+    let alloc = state.alloc();
     let position = argument(alloc, args, 0)?;
     let progress = Progress::String(StringProgress::Position { form, units });
-    wait_for_number(alloc, state, progress, position)
+    wait_for_number(state, progress, position)
 }
 
 /// The unit at a position, if there is one.
@@ -77,16 +77,15 @@ fn give_unit<'p>(
 
 /// Goes on with the position at which a unit is given.
 pub(crate) fn resume_position<'p>(
-    alloc: Global,
     state: &mut State<'p>,
     form: UnitForm,
     units: Text,
     p: &Value,
 ) -> Result<Act<'p>, NoMemory>
-    ensures leads { IfOk result (λ act. Works state.old
-        (string_after (progress.Position form units) p.now) state.new act) }
-    ensures falls { IfOk result (λ act. Falls state.old 3 state.new act) }
+    ensures leads { Computes state.old (string_after (progress.Position form units) p.now) result state.new }
+    ensures falls { RankAtMost state.old 3 result state.new }
 {
+    let alloc = state.alloc();
     match number_of(p) {
         Ok(position) => give_unit(alloc, form, &units, position),
         Err(NumberOutside) => Ok(Act::Fault(Fault::NumberOutside)),

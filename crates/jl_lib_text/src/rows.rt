@@ -1,11 +1,10 @@
 //! The builtins of strings by their rows, and how each goes on.
-ghost use Rattle.std.specs.Prelude.{◌≡◌, ◌+◌, ◌-◌, ◌≤◌, ◌<◌, slice_get, IfOk};
+ghost use Rattle.std.specs.Prelude.{◌≡◌, ◌+◌, ◌-◌, ◌≤◌, ◌<◌, slice_get};
 ghost use Rattle.jl_lib_text.specs.inner.Rows.{methods};
 ghost use Rattle.jl_meaning.specs.builtins.Function.{names_of};
 ghost use Rattle.jl_meaning.specs.builtins.Table.{builtin};
 ghost use Rattle.jl_progress.specs.Strings.{rank_string, string_after};
-ghost use Rattle.jl_state.specs.Rank.{Falls};
-ghost use Rattle.jl_state.specs.Rest.{Works};
+ghost use Rattle.jl_state.specs.Clauses.{Computes, RankAtMost};
 ghost use Rattle.jl_state.specs.Words.{call_of, table_of};
 
 use crate::codes::{resume_char_code, string_from_char_code};
@@ -21,7 +20,6 @@ use jl_progress::{Cut, LetterCase, Search, StringMethod, StringProgress, UnitFor
 use jl_state::{Act, Invocation, State};
 use jl_text::NoMemory;
 use jl_value::Value;
-use std::alloc::Global;
 
 /// The methods that begin with `this` as a string, from row 55 on.
 const METHODS: [StringMethod; 11] = [
@@ -47,79 +45,67 @@ fn method_of_row(row: u16) -> Option<StringMethod>
 }
 
 /// Begins a builtin of this crate: `String`, and the functions of its prototype (15.5).
-pub fn start<'p>(
-    alloc: Global,
-    state: &mut State<'p>,
-    row: u16,
-    call: Invocation,
-) -> Result<Act<'p>, NoMemory>
+pub fn start<'p>(state: &mut State<'p>, row: u16, call: Invocation) -> Result<Act<'p>, NoMemory>
     requires belongs { (51 ≤ row) × (row < 72) }
-    ensures leads { IfOk result (λ act. Works state.old
-        (builtin (names_of (table_of state.old.functions)) row (call_of call)) state.new act) }
-    ensures falls { IfOk result (λ act. Falls state.old 400 state.new act) }
+    ensures leads { Computes state.old (builtin (names_of (table_of state.old.functions)) row (call_of call)) result
+        state.new }
+    ensures falls { RankAtMost state.old 400 result state.new }
 {
     if row == 51 {
-        return string_constructor(alloc, state, &call);
+        return string_constructor(state, &call);
     }
     if row == 52 {
-        return string_from_char_code(alloc, state, &call);
+        return string_from_char_code(state, &call);
     }
     if row < 55 {
-        return string_value(alloc, state, &call);
+        return string_value(state, &call);
     }
     match method_of_row(row) {
-        Some(method) => call_method(alloc, state, method, &call),
+        Some(method) => call_method(state, method, &call),
         None => Ok(fail_row(row)),
     }
 }
 
 /// Goes on with the value that a builtin of this crate waited for.
 pub fn resume<'p>(
-    alloc: Global,
     state: &mut State<'p>,
     progress: StringProgress,
     v: Value,
 ) -> Result<Act<'p>, NoMemory>
-    ensures leads { IfOk result (λ act. Works state.old (string_after progress v) state.new act) }
-    ensures falls { IfOk result (λ act. Falls state.old (rank_string progress + 2) state.new act) }
+    ensures leads { Computes state.old (string_after progress v) result state.new }
+    ensures falls { RankAtMost state.old (rank_string progress + 2) result state.new }
 {
     match progress {
-        StringProgress::Given { by_new } => resume_given(alloc, state, by_new, &v),
+        StringProgress::Given { by_new } => resume_given(state, by_new, &v),
         StringProgress::CharCode { units, args, from } => {
-            resume_char_code(alloc, state, units, args, from, &v)
+            resume_char_code(state, units, args, from, &v)
         }
-        StringProgress::This { method, args } => resume_this(alloc, state, method, &args, &v),
-        StringProgress::Position { form, units } => {
-            resume_position(alloc, state, form, units, &v)
-        }
+        StringProgress::This { method, args } => resume_this(state, method, &args, &v),
+        StringProgress::Position { form, units } => { resume_position(state, form, units, &v) }
         StringProgress::Joined { units, args, from } => {
-            resume_joined(alloc, state, units, args, from, &v)
+            resume_joined(state, units, args, from, &v)
         }
         StringProgress::Part {
             search,
             units,
             position,
-        } => resume_part(alloc, state, search, units, position, &v),
+        } => resume_part(state, search, units, position, &v),
         StringProgress::Place {
             search,
             units,
             part,
         } => resume_place(state, search, &units, &part, &v),
-        StringProgress::Start { cut, units, end } => {
-            resume_start(alloc, state, cut, units, end, &v)
-        }
-        StringProgress::End { cut, units, start } => {
-            resume_end(alloc, state, cut, &units, start, &v)
-        }
+        StringProgress::Start { cut, units, end } => { resume_start(state, cut, units, end, &v) }
+        StringProgress::End { cut, units, start } => { resume_end(state, cut, &units, start, &v) }
         StringProgress::Limit {
             units,
             array,
             separator,
-        } => resume_limit(alloc, state, units, array, separator, &v),
+        } => resume_limit(state, units, array, separator, &v),
         StringProgress::Separator {
             units,
             array,
             limit,
-        } => resume_separator(alloc, state, &units, array, limit, &v),
+        } => resume_separator(state, &units, array, limit, &v),
     }
 }

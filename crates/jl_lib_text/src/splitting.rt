@@ -8,8 +8,7 @@ ghost use Rattle.jl_meaning.specs.builtins.String.{pieces};
 ghost use Rattle.jl_progress.specs.Strings.{method_of_string, split_up_to, string_after};
 ghost use Rattle.jl_progress.specs.declared.string.StringMethod.TheVariants as method;
 ghost use Rattle.jl_progress.specs.declared.string.StringProgress.TheVariants as progress;
-ghost use Rattle.jl_state.specs.Rank.{Falls};
-ghost use Rattle.jl_state.specs.Rest.{Works};
+ghost use Rattle.jl_state.specs.Clauses.{Computes, RankAtMost};
 ghost use Rattle.jl_value.specs.declared.value.Value.TheVariants as value;
 
 use crate::texts::text_of_units;
@@ -78,101 +77,98 @@ fn first_values(alloc: Global, values: &[Value], limit: usize) -> Result<List<Va
 
 /// An array is filled with as many pieces as the limit allows, and given.
 fn fill_with_pieces<'p>(
-    alloc: Global,
     state: &mut State<'p>,
     array: ObjId,
     limit: u32,
     pieces: &[Value],
 ) -> Result<Act<'p>, NoMemory>
-    ensures leads { IfOk result (λ act. Works state.old
-        (add_in_turns array 0 (take limit pieces.now) then λ _. give_object array) state.new act) }
-    ensures falls { IfOk result (λ act. Falls state.old 6 state.new act) }
+    ensures leads { Computes state.old (add_in_turns array 0 (take limit pieces.now) then λ _. give_object array)
+        result state.new }
+    ensures falls { RankAtMost state.old 6 result state.new }
 {
+    let alloc = state.alloc();
     let values = first_values(alloc, pieces, limit as usize)?;
-    fill_array(alloc, state, array, values, 0)
+    fill_array(state, array, values, 0)
 }
 
 /// The separator is converted, or there is one piece where it is undefined.
 fn convert_separator<'p>(
-    alloc: Global,
     state: &mut State<'p>,
     units: Text,
     array: ObjId,
     separator: Value,
     limit: u32,
 ) -> Result<Act<'p>, NoMemory>
-    ensures leads { IfOk result (λ act. Works state.old (split_up_to units array separator limit) state.new act) }
-    ensures falls { IfOk result (λ act. Falls state.old 22 state.new act) }
+    ensures leads { Computes state.old (split_up_to units array separator limit) result state.new }
+    ensures falls { RankAtMost state.old 22 result state.new }
 {
+    let alloc = state.alloc();
     if is_undefined(&separator) {
         let piece = one_piece(alloc, units)?;
-        return fill_with_pieces(alloc, state, array, limit, piece.items());
+        return fill_with_pieces(state, array, limit, piece.items());
     }
     let progress = Progress::String(StringProgress::Separator {
         units,
         array,
         limit,
     });
-    wait_for_string(alloc, state, progress, separator)
+    wait_for_string(state, progress, separator)
 }
 
 /// The limit is converted, or allows any number of pieces where it is undefined.
 fn convert_limit<'p>(
-    alloc: Global,
     state: &mut State<'p>,
     units: Text,
     array: ObjId,
     separator: Value,
     limit: Value,
 ) -> Result<Act<'p>, NoMemory>
-    ensures leads { IfOk result (λ act. Works state.old
-        (unless_undefined 4294967295 to_uint32 limit then split_up_to units array separator) state.new act) }
-    ensures falls { IfOk result (λ act. Falls state.old 46 state.new act) }
+    ensures leads { Computes state.old (unless_undefined 4294967295 to_uint32 limit then split_up_to units array
+        separator) result state.new }
+    ensures falls { RankAtMost state.old 46 result state.new }
 {
     if is_undefined(&limit) {
-        return convert_separator(alloc, state, units, array, separator, u32::MAX);
+        return convert_separator(state, units, array, separator, u32::MAX);
     }
     let progress = Progress::String(StringProgress::Limit {
         units,
         array,
         separator,
     });
-    wait_for_number(alloc, state, progress, limit)
+    wait_for_number(state, progress, limit)
 }
 
 /// An array is made for the pieces of a string, and then the limit is converted.
 pub(crate) fn split<'p>(
-    alloc: Global,
     state: &mut State<'p>,
     units: Text,
     args: &[Value],
 ) -> Result<Act<'p>, NoMemory>
-    ensures leads { IfOk result (λ act. Works state.old (method_of_string method.Split units args.now) state.new act) }
-    ensures falls { IfOk result (λ act. Falls state.old 46 state.new act) }
+    ensures leads { Computes state.old (method_of_string method.Split units args.now) result state.new }
+    ensures falls { RankAtMost state.old 46 result state.new }
 {
+    let alloc = state.alloc();
     let separator = argument(alloc, args, 0)?;
     let limit = argument(alloc, args, 1)?;
     let array = state.store.new_array()?;
-    convert_limit(alloc, state, units, array, separator, limit)
+    convert_limit(state, units, array, separator, limit)
 }
 
 /// Goes on with the limit.
 pub(crate) fn resume_limit<'p>(
-    alloc: Global,
     state: &mut State<'p>,
     units: Text,
     array: ObjId,
     separator: Value,
     p: &Value,
 ) -> Result<Act<'p>, NoMemory>
-    ensures leads { IfOk result (λ act. Works state.old
-        (string_after (progress.Limit units array separator) p.now) state.new act) }
-    ensures falls { IfOk result (λ act. Falls state.old 22 state.new act) }
+    ensures leads { Computes state.old (string_after (progress.Limit units array separator) p.now) result state.new }
+    ensures falls { RankAtMost state.old 22 result state.new }
 {
     match number_of(p) {
         Ok(limit) => {
             let limit = to_uint32(limit);
-            convert_separator(alloc, state, units, array, separator, limit)
+            convert_separator(state, units, array, separator, limit)
         }
         Err(NumberOutside) => Ok(Act::Fault(Fault::NumberOutside)),
     }
@@ -180,18 +176,18 @@ pub(crate) fn resume_limit<'p>(
 
 /// Goes on with the separator.
 pub(crate) fn resume_separator<'p>(
-    alloc: Global,
     state: &mut State<'p>,
     units: &Text,
     array: ObjId,
     limit: u32,
     p: &Value,
 ) -> Result<Act<'p>, NoMemory>
-    ensures leads { IfOk result (λ act. Works state.old
-        (string_after (progress.Separator units.now array limit) p.now) state.new act) }
-    ensures falls { IfOk result (λ act. Falls state.old 6 state.new act) }
+    ensures leads { Computes state.old (string_after (progress.Separator units.now array limit) p.now) result
+        state.new }
+    ensures falls { RankAtMost state.old 6 result state.new }
 {
+    let alloc = state.alloc();
     let separator = text_of(alloc, p)?;
     let pieces = pieces(alloc, &separator, units)?;
-    fill_with_pieces(alloc, state, array, limit, pieces.items())
+    fill_with_pieces(state, array, limit, pieces.items())
 }

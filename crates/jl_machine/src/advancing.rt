@@ -13,12 +13,10 @@ use jl_state::{Act, State};
 use jl_statement::begin_statement;
 use jl_text::NoMemory;
 use jl_value::Outcome;
-use std::alloc::Global;
 
 /// What comes after an act.
 #[tactic(auto, using(crate::proofs::Acts::begun, crate::proofs::Acts::given, crate::proofs::Acts::over))]
 fn advance<'p, O: Observer>(
-    alloc: Global,
     state: &mut State<'p>,
     kinds: KindSet,
     observer: &mut O,
@@ -32,18 +30,16 @@ fn advance<'p, O: Observer>(
     ensures fixed { O.fixed observer.new ≡ O.fixed observer.old }
 {
     match act {
-        Act::Evaluate(e, here) => Ok(Next::Act(begin_expression(alloc, state, e, here)?)),
-        Act::Execute(t, here, labels) => {
-            Ok(Next::Act(begin_statement(alloc, state, t, here, labels)?))
-        }
-        Act::Give(v) => Ok(Next::Act(give_value(alloc, state, v)?)),
-        Act::Complete(how) => give_completion(alloc, state, how),
-        Act::Call(call) => Ok(Next::Act(begin_call(alloc, state, call)?)),
+        Act::Evaluate(e, here) => Ok(Next::Act(begin_expression(state, e, here)?)),
+        Act::Execute(t, here, labels) => { Ok(Next::Act(begin_statement(state, t, here, labels)?)) }
+        Act::Give(v) => Ok(Next::Act(give_value(state, v)?)),
+        Act::Complete(how) => give_completion(state, how),
+        Act::Call(call) => Ok(Next::Act(begin_call(state, call.into_inner())?)),
         Act::Emit(id, op) => {
-            let told = tell(kinds, observer, hooks, id, &op);
+            let told = tell(kinds, observer, hooks, id, op.get());
             drop(op);
             told?;
-            Ok(Next::Act(resume(alloc, state)?))
+            Ok(Next::Act(resume(state)?))
         }
         Act::Fault(fault) => Ok(Next::Over(Outcome::Fault(fault))),
         Act::Spent => Ok(Next::Over(Outcome::Spent)),
@@ -53,7 +49,6 @@ fn advance<'p, O: Observer>(
 /// What comes after an act, up to the next step that is taken.
 #[tactic(auto, using(crate::proofs::Acts::goes_nowhere, crate::proofs::Acts::goes_on))]
 fn advance_a_step<'p, O: Observer>(
-    alloc: Global,
     state: &mut State<'p>,
     kinds: KindSet,
     observer: &mut O,
@@ -69,7 +64,7 @@ fn advance_a_step<'p, O: Observer>(
     let left = state.left;
     let mut act = first;
     'acts: loop {
-        match advance(alloc, state, kinds, observer, hooks, act)? {
+        match advance(state, kinds, observer, hooks, act)? {
             Next::Over(outcome) => return Ok(Next::Over(outcome)),
             Next::Act(next) => {
                 if state.left < left {
@@ -84,7 +79,6 @@ fn advance_a_step<'p, O: Observer>(
 /// How the run ends that goes on from an act.
 #[tactic(auto, using(crate::proofs::Acts::goes_nowhere, crate::proofs::Acts::goes_on))]
 pub(crate) fn run_to_end<'p, O: Observer>(
-    alloc: Global,
     state: &mut State<'p>,
     kinds: KindSet,
     observer: &mut O,
@@ -98,7 +92,7 @@ pub(crate) fn run_to_end<'p, O: Observer>(
 {
     let mut act = first;
     'steps: loop {
-        match advance_a_step(alloc, state, kinds, observer, hooks, act)? {
+        match advance_a_step(state, kinds, observer, hooks, act)? {
             Next::Over(outcome) => return Ok(outcome),
             Next::Act(next) => act = next,
         }

@@ -55,8 +55,8 @@ pub fn run<O: Observer>(
         strict: is_strict(false, &program.body),
     };
     let mut hooks = 0;
-    let act = begin_program(alloc, &mut state, &program.body, here)?;
-    let outcome = run_to_end(alloc, &mut state, kinds, observer, &mut hooks, act)?;
+    let act = begin_program(&mut state, &program.body, here)?;
+    let outcome = run_to_end(&mut state, kinds, observer, &mut hooks, act)?;
     let State {
         store,
         output,

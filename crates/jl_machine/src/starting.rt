@@ -1,11 +1,11 @@
 //! How a run begins.
 ghost use Rattle.std.specs.Prelude.{◌≡◌, IfOk};
 ghost use Rattle.jl_ast.specs.View.{view};
-ghost use Rattle.jl_state.specs.Rest.{Completes};
 ghost use Rattle.jl_state.specs.Words.{context_of, table_of};
 ghost use Rattle.jl_store.specs.Plain.{code_in, plain_code};
 ghost use Rattle.jl_realm.specs.Global.{HasGlobalObject};
 ghost use Rattle.jl_machine.specs.inner.Starts.{program_body, IsStart};
+ghost use Rattle.jl_state.specs.Clauses.{Executes};
 
 use jl_ast::{Body, Program};
 use jl_realm::{declare_program, functions, initial_store};
@@ -39,17 +39,17 @@ pub(crate) fn start<'p>(
 
 /// What a program declares is bound (10.5), and then its statements begin (clause 14).
 pub(crate) fn begin_program<'p>(
-    alloc: Global,
     state: &mut State<'p>,
     body: &'p Body,
     here: Here,
 ) -> Result<Act<'p>, NoMemory>
     requires { HasGlobalObject state.old.store }
-    ensures { IfOk result (λ act. Completes state.old (program_body (table_of state.old.functions) (plain_code body.now)
-        (code_in 0 here.strict) (context_of state.old.calls here)) state.new act) }
+    ensures { Executes state.old (program_body (table_of state.old.functions) (plain_code body.now) (code_in 0
+        here.strict) (context_of state.old.calls here)) result state.new }
 {
+    let alloc = state.alloc();
     match declare_program(alloc, &mut state.store, body, here.strict)? {
-        Answer::Gives(()) => Ok(begin_statements(alloc, state, &body.statements, here)?),
+        Answer::Gives(()) => Ok(begin_statements(state, &body.statements, here)?),
         Answer::Throws(thrown) => Ok(Act::Complete(Completion::Throw(thrown))),
     }
 }

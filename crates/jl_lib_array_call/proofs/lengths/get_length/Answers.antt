@@ -11,4 +11,4 @@ returns-clause-leads c =
     IfOk-weaker _ _ _ (λ a leads. length_waits _ _ (progress.ArrayCall
     (array_call.Length c.args.object c.args.args c.args.purpose)) c.args.object _
     (with_length c.args.purpose c.args.object c.args.args) _ _ c.in_ok-name.ensures (λ v. refl)
-    c.in_ok-push_algorithm.ensures.waits leads) c.get.ensures.leads
+    c.in_ok-push_builtin.ensures.waits leads) c.get.ensures.leads

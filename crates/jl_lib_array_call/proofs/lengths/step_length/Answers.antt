@@ -11,5 +11,5 @@ pub returns-clause-leads : goal.returns-clause-leads
 returns-clause-leads c =
     IfOk-weaker _ _ _ (λ a leads. builtin_waits _ _ (progress.ArrayCall
     (array_call.LengthPrimitive c.args.object c.args.args c.args.purpose)) (λ n. with_length c.args.purpose
-    c.args.object c.args.args (uint32_of n)) c.args.v _ _ (λ w. refl) c.in_ok-push_algorithm.ensures.waits leads)
+    c.args.object c.args.args (uint32_of n)) c.args.v _ _ (λ w. refl) c.in_ok-push_builtin.ensures.waits leads)
     c.to_primitive.ensures.leads

@@ -26,4 +26,4 @@ returns-clause-leads c =
     (c.in_ok-sought.ensures ∙ ap (λ l. argument_of l 0) c.items.ensures) (integer_waits _ _ (progress.ArrayCall
     (array_call.SearchFrom c.args.object c.args.length c.in_ok-sought.sought c.args.direction)) (λ z. search_from
     c.args.direction c.args.object c.args.length c.in_ok-sought.sought (place_from c.args.direction z c.args.length))
-    c.in-Some.from _ _ (λ w. refl) c.in_ok-push_algorithm.ensures.waits leads)) c.to_primitive.ensures.leads
+    c.in-Some.from _ _ (λ w. refl) c.in_ok-push_builtin.ensures.waits leads)) c.to_primitive.ensures.leads

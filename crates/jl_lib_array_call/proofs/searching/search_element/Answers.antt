@@ -19,4 +19,4 @@ returns-clause-leads c =
     IfOk-weaker _ _ _ (λ a leads. element_waits _ _ (progress.ArrayCall (array_call.SearchElement c.args.object
     c.args.length c.args.sought c.args.direction c.args.index)) c.args.object c.args.index _ (search_with
     c.args.direction c.args.object c.args.length c.args.sought c.args.index) _ _ c.in_ok-there.ensures
-    c.if-not-there.false (λ v. refl) c.in_ok-push_algorithm.ensures.waits leads) c.get_index.ensures.leads
+    c.if-not-there.false (λ v. refl) c.in_ok-push_builtin.ensures.waits leads) c.get_index.ensures.leads

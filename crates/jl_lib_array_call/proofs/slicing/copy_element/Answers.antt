@@ -10,5 +10,5 @@ returns-then-not-there-clause-leads c =
 pub returns-clause-leads : goal.returns-clause-leads
 returns-clause-leads c =
     IfOk-weaker _ _ _ (λ a leads. copy_waits _ _ c.args.object c.args.start _ c.args.array c.args.count c.args.index _ _
-    _ c.in_ok-from.ensures c.in_ok-there.ensures c.if-not-there.false c.in_ok-push_algorithm.ensures.waits leads)
+    _ c.in_ok-from.ensures c.in_ok-there.ensures c.if-not-there.false c.in_ok-push_builtin.ensures.waits leads)
     c.get_index.ensures.leads

@@ -18,5 +18,5 @@ returns-clause-leads c =
     IfOk-weaker _ _ _ (λ a leads. converts_end _ c.args.object c.args.array c.args.length c.args.start c.args.end _ _
     (sym c.is_undefined.ensures ∙ c.if-is_undefined.false) (integer_waits _ _ (progress.ArrayCall (array_call.SliceEnd
     c.args.object c.args.array c.args.length c.args.start)) (λ z. copy_from c.args.object c.args.start c.args.array
-    (relative_index z c.args.length - c.args.start) 0) c.args.end _ _ (λ w. refl) c.in_ok-push_algorithm.ensures.waits
+    (relative_index z c.args.length - c.args.start) 0) c.args.end _ _ (λ w. refl) c.in_ok-push_builtin.ensures.waits
     leads)) c.to_primitive.ensures.leads

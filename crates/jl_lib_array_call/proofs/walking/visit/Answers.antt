@@ -19,4 +19,4 @@ returns-clause-leads c =
     IfOk-weaker _ _ _ (λ a leads. element_waits _ _ (progress.ArrayCall
     (array_call.Element c.args.walk c.args.task c.args.index)) c.args.walk.object c.args.index _
     (task_with c.args.task (walk_of c.args.walk) c.args.index) _ _ c.in_ok-there.ensures c.if-not-there.false
-    (λ v. refl) c.in_ok-push_algorithm.ensures.waits leads) c.get_index.ensures.leads
+    (λ v. refl) c.in_ok-push_builtin.ensures.waits leads) c.get_index.ensures.leads

@@ -1,5 +1,6 @@
 use Rattle.std.proofs.Common.{refl}
 use Rattle.std.proofs.lemmas.Result.{IfOk-weaker}
+use Rattle.jl_state.proofs.Acts.{works_act}
 use Rattle.jl_builtin.proofs.Calls.{calls_now}
 use Rattle.jl_lib_object.proofs.Applications.{applies, applies_element}
 use Rattle.jl_lib_object.proofs.calling.apply_from.Goals as goal
@@ -11,4 +12,5 @@ returns-then-from-length-clause-leads c =
 
 pub returns-clause-leads : goal.returns-clause-leads
 returns-clause-leads c =
-    applies _ _ _ _ _ _ _ _ _ c.if-from-length.false (calls_now _ _ _ _ _ _ refl refl)
+    works_act _ _ _ _ c.call.ensures _
+    (applies _ _ _ _ _ _ _ _ _ c.if-from-length.false (calls_now _ _ _ _ _ _ refl refl))

@@ -1,5 +1,6 @@
 use Rattle.std.proofs.Common.{refl, sym, ◌∙◌}
 use Rattle.std.proofs.lemmas.Result.{IfOk-weaker}
+use Rattle.jl_state.proofs.Acts.{works_act}
 use Rattle.jl_builtin.proofs.Calls.{calls_now}
 use Rattle.jl_lib_object.proofs.Applications.{has_arguments, no_arguments}
 use Rattle.jl_lib_object.proofs.Ends.{goes_on, throws_on}
@@ -12,8 +13,8 @@ returns-in-Throws-clause-leads c =
 
 pub returns-then-is_nothing-clause-leads : goal.returns-then-is_nothing-clause-leads
 returns-then-is_nothing-clause-leads c =
-    no_arguments _ _ _ _ _ _ (sym c.is_nothing.ensures ∙ c.if-is_nothing.true)
-    (calls_now _ _ _ _ _ _ refl c.new.ensures)
+    works_act _ _ _ _ c.call.ensures _ (no_arguments _ _ _ _ _ _ (sym c.is_nothing.ensures ∙ c.if-is_nothing.true)
+    (calls_now _ _ _ _ _ _ refl c.new.ensures))
 
 pub returns-in-Gives-clause-leads : goal.returns-in-Gives-clause-leads
 returns-in-Gives-clause-leads c =

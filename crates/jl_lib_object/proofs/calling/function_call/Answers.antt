@@ -1,4 +1,5 @@
 use Rattle.std.proofs.Common.{◌∙◌, ap, drop}
+use Rattle.jl_state.proofs.Acts.{works_act}
 use Rattle.jl_builtin.proofs.Calls.{calls_now}
 use Rattle.jl_lib_object.proofs.Ends.{goes_on, throws_on}
 use Rattle.jl_lib_object.proofs.calling.function_call.Goals as goal
@@ -8,5 +9,5 @@ returns-in-Throws-clause-leads c = throws_on _ _ _ _ _ c.in_ok-thrown.ensures _ 
 
 pub returns-in-Gives-clause-leads : goal.returns-in-Gives-clause-leads
 returns-in-Gives-clause-leads c =
-    goes_on _ _ _ _ _ c.in_ok-thrown.ensures _ _ _ c.in-Gives.is
-    (calls_now _ _ _ _ _ _ c.in_ok-this.ensures (c.in_ok-args.ensures ∙ ap (drop 1) c.items.ensures))
+    works_act _ _ _ _ c.call.ensures _ (goes_on _ _ _ _ _ c.in_ok-thrown.ensures _ _ _ c.in-Gives.is
+    (calls_now _ _ _ _ _ _ c.in_ok-this.ensures (c.in_ok-args.ensures ∙ ap (drop 1) c.items.ensures)))
