@@ -1,52 +1,227 @@
--- The functions that a script finds when it begins (clause 15), by the paths under which they are told of.
-use Rattle.std.specs.Prelude.{ℕ, List, [], ◌∷◌, codes, slice_get, unwrap_or}
+-- The table of builtins: the functions that a script finds when it begins (clause 15), each with its path, its length
+-- and the object of which it is a property. What a call of each does is in the definitions of scripts.
+use Rattle.std.specs.Prelude.{ℕ, List, Option, None, Some, codes}
+use Rattle.jl_value.specs.Intrinsics.{array_prototype, boolean_prototype, console, error_prototype, eval_error_prototype}
+use Rattle.jl_value.specs.Intrinsics.{function_prototype, global_object, math, number_prototype, object_prototype}
+use Rattle.jl_value.specs.Intrinsics.{range_error_prototype, reference_error_prototype, string_prototype}
+use Rattle.jl_value.specs.Intrinsics.{syntax_error_prototype, type_error_prototype, uri_error_prototype}
+use Rattle.jl_value.specs.declared.builtin.Builtin.{Builtin}
+use Rattle.jl_value.specs.declared.builtin.Builtin.TheVariants as builtin
+use Rattle.jl_value.specs.declared.builtin.Holder.{Holder}
+use Rattle.jl_value.specs.declared.builtin.Holder.TheVariants as holders
+use Rattle.jl_value.specs.declared.builtin_table.TheConstants.{BUILTINS}
+use Rattle.jl_value.specs.declared.object.ObjId.{ObjId}
+use Rattle.jl_value.specs.declared.builtin_groups.ArrayBuiltin.{ArrayBuiltin}
+use Rattle.jl_value.specs.declared.builtin_groups.ArrayBuiltin.TheVariants as array_builtin
+use Rattle.jl_value.specs.declared.builtin_groups.BooleanBuiltin.{BooleanBuiltin}
+use Rattle.jl_value.specs.declared.builtin_groups.BooleanBuiltin.TheVariants as boolean_builtin
+use Rattle.jl_value.specs.declared.builtin_groups.ErrorBuiltin.{ErrorBuiltin}
+use Rattle.jl_value.specs.declared.builtin_groups.ErrorBuiltin.TheVariants as error_builtin
+use Rattle.jl_value.specs.declared.builtin_groups.FunctionBuiltin.{FunctionBuiltin}
+use Rattle.jl_value.specs.declared.builtin_groups.FunctionBuiltin.TheVariants as function_builtin
+use Rattle.jl_value.specs.declared.builtin_groups.GlobalBuiltin.{GlobalBuiltin}
+use Rattle.jl_value.specs.declared.builtin_groups.GlobalBuiltin.TheVariants as global_builtin
+use Rattle.jl_value.specs.declared.builtin_groups.MathBuiltin.{MathBuiltin}
+use Rattle.jl_value.specs.declared.builtin_groups.MathBuiltin.TheVariants as math_builtin
+use Rattle.jl_value.specs.declared.builtin_groups.NumberBuiltin.{NumberBuiltin}
+use Rattle.jl_value.specs.declared.builtin_groups.NumberBuiltin.TheVariants as number_builtin
+use Rattle.jl_value.specs.declared.builtin_groups.ObjectBuiltin.{ObjectBuiltin}
+use Rattle.jl_value.specs.declared.builtin_groups.ObjectBuiltin.TheVariants as object_builtin
+use Rattle.jl_value.specs.declared.builtin_groups.StringBuiltin.{StringBuiltin}
+use Rattle.jl_value.specs.declared.builtin_groups.StringBuiltin.TheVariants as string_builtin
 
--- a function's row is its place here, from 0
-unfoldable pub builtin_names : List (List ℕ)
-builtin_names =
-    -- of objects and functions (15.2, 15.3). `bound` is any function that `bind` made (15.3.4.5), and `thrower` the one
-    -- that throws a TypeError (13.2.3)
-    codes "Object" ∷
-    codes "Object.getPrototypeOf" ∷ codes "Object.getOwnPropertyDescriptor" ∷ codes "Object.getOwnPropertyNames" ∷
-    codes "Object.create" ∷ codes "Object.defineProperty" ∷ codes "Object.defineProperties" ∷ codes "Object.seal" ∷
-    codes "Object.freeze" ∷ codes "Object.preventExtensions" ∷ codes "Object.isSealed" ∷ codes "Object.isFrozen" ∷
-    codes "Object.isExtensible" ∷ codes "Object.keys" ∷
-    codes "Object.prototype.toString" ∷ codes "Object.prototype.toLocaleString" ∷ codes "Object.prototype.valueOf" ∷
-    codes "Object.prototype.hasOwnProperty" ∷ codes "Object.prototype.isPrototypeOf" ∷
-    codes "Object.prototype.propertyIsEnumerable" ∷
-    codes "Function" ∷ codes "Function.prototype" ∷ codes "Function.prototype.toString" ∷
-    codes "Function.prototype.apply" ∷ codes "Function.prototype.call" ∷ codes "Function.prototype.bind" ∷
-    codes "bound" ∷ codes "thrower" ∷
-    -- of arrays (15.4)
-    codes "Array" ∷ codes "Array.isArray" ∷
-    codes "Array.prototype.toString" ∷ codes "Array.prototype.toLocaleString" ∷ codes "Array.prototype.concat" ∷
-    codes "Array.prototype.join" ∷ codes "Array.prototype.pop" ∷ codes "Array.prototype.push" ∷
-    codes "Array.prototype.reverse" ∷ codes "Array.prototype.shift" ∷ codes "Array.prototype.slice" ∷
-    codes "Array.prototype.sort" ∷ codes "Array.prototype.splice" ∷ codes "Array.prototype.unshift" ∷
-    codes "Array.prototype.indexOf" ∷ codes "Array.prototype.lastIndexOf" ∷ codes "Array.prototype.every" ∷
-    codes "Array.prototype.some" ∷ codes "Array.prototype.forEach" ∷ codes "Array.prototype.map" ∷
-    codes "Array.prototype.filter" ∷ codes "Array.prototype.reduce" ∷ codes "Array.prototype.reduceRight" ∷
-    -- of strings (15.5)
-    codes "String" ∷ codes "String.fromCharCode" ∷
-    codes "String.prototype.toString" ∷ codes "String.prototype.valueOf" ∷ codes "String.prototype.charAt" ∷
-    codes "String.prototype.charCodeAt" ∷ codes "String.prototype.concat" ∷ codes "String.prototype.indexOf" ∷
-    codes "String.prototype.lastIndexOf" ∷ codes "String.prototype.slice" ∷ codes "String.prototype.split" ∷
-    codes "String.prototype.substring" ∷ codes "String.prototype.toLowerCase" ∷ codes "String.prototype.toUpperCase" ∷
-    codes "String.prototype.trim" ∷
-    codes "String.prototype.toLocaleLowerCase" ∷ codes "String.prototype.toLocaleUpperCase" ∷
-    codes "String.prototype.localeCompare" ∷ codes "String.prototype.replace" ∷ codes "String.prototype.match" ∷
-    codes "String.prototype.search" ∷
-    -- of printing, numbers, Booleans, errors and `Math` (15.1, 15.6, 15.7, 15.8, 15.11)
-    codes "print" ∷ codes "console.log" ∷ codes "parseInt" ∷ codes "isNaN" ∷ codes "isFinite" ∷
-    codes "Number" ∷ codes "Number.prototype.toString" ∷ codes "Number.prototype.valueOf" ∷
-    codes "Number.prototype.toFixed" ∷ codes "Number.prototype.toExponential" ∷ codes "Number.prototype.toPrecision" ∷
-    codes "Number.prototype.toLocaleString" ∷
-    codes "Boolean" ∷ codes "Boolean.prototype.toString" ∷ codes "Boolean.prototype.valueOf" ∷
-    codes "Error" ∷ codes "EvalError" ∷ codes "RangeError" ∷ codes "ReferenceError" ∷ codes "SyntaxError" ∷
-    codes "TypeError" ∷ codes "URIError" ∷ codes "Error.prototype.toString" ∷
-    codes "Math.abs" ∷ codes "Math.ceil" ∷ codes "Math.floor" ∷ codes "Math.max" ∷ codes "Math.min" ∷ codes "Math.pow" ∷
-    codes "Math.round" ∷ []
+-- what a script finds of a builtin before it calls it: the path by which traces, records and faults name it, how many
+-- arguments its section names, the object that has it as a property by the last part of its path, and the prototype of
+-- what it constructs
+pub record Entry : Type 0 where
+  pub path : List ℕ
+  pub length : ℕ
+  pub holder : Holder
+  pub prototype : Option ObjId
 
--- the path of the function with this row
-abbrev pub name_of : ℕ → List ℕ
-name_of row = unwrap_or (slice_get builtin_names row) []
+abbrev pub method : (path : List ℕ) → (length : ℕ) → Holder → Entry
+method path length holder = record { path = path; length = length; holder = holder; prototype = None }
+
+-- a constructor is a property of the global object
+abbrev pub constructor : (path : List ℕ) → (length : ℕ) → (prototype : ObjId) → Entry
+constructor path length prototype =
+    record { path = path; length = length; holder = holders.Object global_object; prototype = Some prototype }
+
+-- the constructors that have functions as properties
+abbrev on_object : Holder
+on_object = holders.Builtin (builtin.Object object_builtin.Constructor)
+
+abbrev on_array : Holder
+on_array = holders.Builtin (builtin.Array array_builtin.Constructor)
+
+abbrev on_string : Holder
+on_string = holders.Builtin (builtin.String string_builtin.Constructor)
+
+-- a function that is no property by the last part of its path
+abbrev pub unheld : (path : List ℕ) → (length : ℕ) → Entry
+unheld path length = record { path = path; length = length; holder = holders.Nothing; prototype = None }
+
+-- Object and its prototype (15.2)
+unfoldable pub object_entry : ObjectBuiltin → Entry
+object_entry object_builtin.Constructor = constructor (codes "Object") 1 object_prototype
+object_entry object_builtin.GetPrototypeOf = method (codes "Object.getPrototypeOf") 1 on_object
+object_entry object_builtin.GetOwnPropertyDescriptor = method (codes "Object.getOwnPropertyDescriptor") 2 on_object
+object_entry object_builtin.GetOwnPropertyNames = method (codes "Object.getOwnPropertyNames") 1 on_object
+object_entry object_builtin.Create = method (codes "Object.create") 2 on_object
+object_entry object_builtin.DefineProperty = method (codes "Object.defineProperty") 3 on_object
+object_entry object_builtin.DefineProperties = method (codes "Object.defineProperties") 2 on_object
+object_entry object_builtin.Seal = method (codes "Object.seal") 1 on_object
+object_entry object_builtin.Freeze = method (codes "Object.freeze") 1 on_object
+object_entry object_builtin.PreventExtensions = method (codes "Object.preventExtensions") 1 on_object
+object_entry object_builtin.IsSealed = method (codes "Object.isSealed") 1 on_object
+object_entry object_builtin.IsFrozen = method (codes "Object.isFrozen") 1 on_object
+object_entry object_builtin.IsExtensible = method (codes "Object.isExtensible") 1 on_object
+object_entry object_builtin.Keys = method (codes "Object.keys") 1 on_object
+object_entry object_builtin.ToString = method (codes "Object.prototype.toString") 0 (holders.Object object_prototype)
+object_entry object_builtin.ToLocaleString =
+    method (codes "Object.prototype.toLocaleString") 0 (holders.Object object_prototype)
+object_entry object_builtin.ValueOf = method (codes "Object.prototype.valueOf") 0 (holders.Object object_prototype)
+object_entry object_builtin.HasOwnProperty =
+    method (codes "Object.prototype.hasOwnProperty") 1 (holders.Object object_prototype)
+object_entry object_builtin.IsPrototypeOf =
+    method (codes "Object.prototype.isPrototypeOf") 1 (holders.Object object_prototype)
+object_entry object_builtin.PropertyIsEnumerable =
+    method (codes "Object.prototype.propertyIsEnumerable") 1 (holders.Object object_prototype)
+
+-- Function and its prototype (15.3), any function that `bind` made (15.3.4.5), and the function that throws a
+-- TypeError (13.2.3)
+unfoldable pub function_entry : FunctionBuiltin → Entry
+function_entry function_builtin.Constructor = constructor (codes "Function") 1 function_prototype
+function_entry function_builtin.Prototype = unheld (codes "Function.prototype") 0
+function_entry function_builtin.ToString =
+    method (codes "Function.prototype.toString") 0 (holders.Object function_prototype)
+function_entry function_builtin.Apply = method (codes "Function.prototype.apply") 2 (holders.Object function_prototype)
+function_entry function_builtin.Call = method (codes "Function.prototype.call") 1 (holders.Object function_prototype)
+function_entry function_builtin.Bind = method (codes "Function.prototype.bind") 1 (holders.Object function_prototype)
+function_entry function_builtin.Bound = unheld (codes "bound") 0
+function_entry function_builtin.Thrower = unheld (codes "thrower") 0
+
+-- Array and its prototype (15.4)
+unfoldable pub array_entry : ArrayBuiltin → Entry
+array_entry array_builtin.Constructor = constructor (codes "Array") 1 array_prototype
+array_entry array_builtin.IsArray = method (codes "Array.isArray") 1 on_array
+array_entry array_builtin.ToString = method (codes "Array.prototype.toString") 0 (holders.Object array_prototype)
+array_entry array_builtin.ToLocaleString =
+    method (codes "Array.prototype.toLocaleString") 0 (holders.Object array_prototype)
+array_entry array_builtin.Concat = method (codes "Array.prototype.concat") 1 (holders.Object array_prototype)
+array_entry array_builtin.Join = method (codes "Array.prototype.join") 1 (holders.Object array_prototype)
+array_entry array_builtin.Pop = method (codes "Array.prototype.pop") 0 (holders.Object array_prototype)
+array_entry array_builtin.Push = method (codes "Array.prototype.push") 1 (holders.Object array_prototype)
+array_entry array_builtin.Reverse = method (codes "Array.prototype.reverse") 0 (holders.Object array_prototype)
+array_entry array_builtin.Shift = method (codes "Array.prototype.shift") 0 (holders.Object array_prototype)
+array_entry array_builtin.Slice = method (codes "Array.prototype.slice") 2 (holders.Object array_prototype)
+array_entry array_builtin.Sort = method (codes "Array.prototype.sort") 1 (holders.Object array_prototype)
+array_entry array_builtin.Splice = method (codes "Array.prototype.splice") 2 (holders.Object array_prototype)
+array_entry array_builtin.Unshift = method (codes "Array.prototype.unshift") 1 (holders.Object array_prototype)
+array_entry array_builtin.IndexOf = method (codes "Array.prototype.indexOf") 1 (holders.Object array_prototype)
+array_entry array_builtin.LastIndexOf = method (codes "Array.prototype.lastIndexOf") 1 (holders.Object array_prototype)
+array_entry array_builtin.Every = method (codes "Array.prototype.every") 1 (holders.Object array_prototype)
+array_entry array_builtin.Some = method (codes "Array.prototype.some") 1 (holders.Object array_prototype)
+array_entry array_builtin.ForEach = method (codes "Array.prototype.forEach") 1 (holders.Object array_prototype)
+array_entry array_builtin.Map = method (codes "Array.prototype.map") 1 (holders.Object array_prototype)
+array_entry array_builtin.Filter = method (codes "Array.prototype.filter") 1 (holders.Object array_prototype)
+array_entry array_builtin.Reduce = method (codes "Array.prototype.reduce") 1 (holders.Object array_prototype)
+array_entry array_builtin.ReduceRight = method (codes "Array.prototype.reduceRight") 1 (holders.Object array_prototype)
+
+-- String and its prototype (15.5)
+unfoldable pub string_entry : StringBuiltin → Entry
+string_entry string_builtin.Constructor = constructor (codes "String") 1 string_prototype
+string_entry string_builtin.FromCharCode = method (codes "String.fromCharCode") 1 on_string
+string_entry string_builtin.ToString = method (codes "String.prototype.toString") 0 (holders.Object string_prototype)
+string_entry string_builtin.ValueOf = method (codes "String.prototype.valueOf") 0 (holders.Object string_prototype)
+string_entry string_builtin.CharAt = method (codes "String.prototype.charAt") 1 (holders.Object string_prototype)
+string_entry string_builtin.CharCodeAt =
+    method (codes "String.prototype.charCodeAt") 1 (holders.Object string_prototype)
+string_entry string_builtin.Concat = method (codes "String.prototype.concat") 1 (holders.Object string_prototype)
+string_entry string_builtin.IndexOf = method (codes "String.prototype.indexOf") 1 (holders.Object string_prototype)
+string_entry string_builtin.LastIndexOf =
+    method (codes "String.prototype.lastIndexOf") 1 (holders.Object string_prototype)
+string_entry string_builtin.Slice = method (codes "String.prototype.slice") 2 (holders.Object string_prototype)
+string_entry string_builtin.Split = method (codes "String.prototype.split") 2 (holders.Object string_prototype)
+string_entry string_builtin.Substring = method (codes "String.prototype.substring") 2 (holders.Object string_prototype)
+string_entry string_builtin.ToLowerCase =
+    method (codes "String.prototype.toLowerCase") 0 (holders.Object string_prototype)
+string_entry string_builtin.ToUpperCase =
+    method (codes "String.prototype.toUpperCase") 0 (holders.Object string_prototype)
+string_entry string_builtin.Trim = method (codes "String.prototype.trim") 0 (holders.Object string_prototype)
+string_entry string_builtin.ToLocaleLowerCase =
+    method (codes "String.prototype.toLocaleLowerCase") 0 (holders.Object string_prototype)
+string_entry string_builtin.ToLocaleUpperCase =
+    method (codes "String.prototype.toLocaleUpperCase") 0 (holders.Object string_prototype)
+string_entry string_builtin.LocaleCompare =
+    method (codes "String.prototype.localeCompare") 1 (holders.Object string_prototype)
+string_entry string_builtin.Replace = method (codes "String.prototype.replace") 2 (holders.Object string_prototype)
+string_entry string_builtin.Match = method (codes "String.prototype.match") 1 (holders.Object string_prototype)
+string_entry string_builtin.Search = method (codes "String.prototype.search") 1 (holders.Object string_prototype)
+
+-- printing, and the functions of the global object (15.1.2)
+unfoldable pub global_entry : GlobalBuiltin → Entry
+global_entry global_builtin.Print = method (codes "print") 0 (holders.Object global_object)
+global_entry global_builtin.ConsoleLog = method (codes "console.log") 0 (holders.Object console)
+global_entry global_builtin.ParseInt = method (codes "parseInt") 2 (holders.Object global_object)
+global_entry global_builtin.IsNaN = method (codes "isNaN") 1 (holders.Object global_object)
+global_entry global_builtin.IsFinite = method (codes "isFinite") 1 (holders.Object global_object)
+
+-- Number and its prototype (15.7)
+unfoldable pub number_entry : NumberBuiltin → Entry
+number_entry number_builtin.Constructor = constructor (codes "Number") 1 number_prototype
+number_entry number_builtin.ToString = method (codes "Number.prototype.toString") 1 (holders.Object number_prototype)
+number_entry number_builtin.ValueOf = method (codes "Number.prototype.valueOf") 0 (holders.Object number_prototype)
+number_entry number_builtin.ToFixed = method (codes "Number.prototype.toFixed") 1 (holders.Object number_prototype)
+number_entry number_builtin.ToExponential =
+    method (codes "Number.prototype.toExponential") 1 (holders.Object number_prototype)
+number_entry number_builtin.ToPrecision =
+    method (codes "Number.prototype.toPrecision") 1 (holders.Object number_prototype)
+number_entry number_builtin.ToLocaleString =
+    method (codes "Number.prototype.toLocaleString") 0 (holders.Object number_prototype)
+
+-- Boolean and its prototype (15.6)
+unfoldable pub boolean_entry : BooleanBuiltin → Entry
+boolean_entry boolean_builtin.Constructor = constructor (codes "Boolean") 1 boolean_prototype
+boolean_entry boolean_builtin.ToString =
+    method (codes "Boolean.prototype.toString") 0 (holders.Object boolean_prototype)
+boolean_entry boolean_builtin.ValueOf = method (codes "Boolean.prototype.valueOf") 0 (holders.Object boolean_prototype)
+
+-- Error, the native errors and the prototype of errors (15.11)
+unfoldable pub error_entry : ErrorBuiltin → Entry
+error_entry error_builtin.Error = constructor (codes "Error") 1 error_prototype
+error_entry error_builtin.EvalError = constructor (codes "EvalError") 1 eval_error_prototype
+error_entry error_builtin.RangeError = constructor (codes "RangeError") 1 range_error_prototype
+error_entry error_builtin.ReferenceError = constructor (codes "ReferenceError") 1 reference_error_prototype
+error_entry error_builtin.SyntaxError = constructor (codes "SyntaxError") 1 syntax_error_prototype
+error_entry error_builtin.TypeError = constructor (codes "TypeError") 1 type_error_prototype
+error_entry error_builtin.UriError = constructor (codes "URIError") 1 uri_error_prototype
+error_entry error_builtin.ToString = method (codes "Error.prototype.toString") 0 (holders.Object error_prototype)
+
+-- Math (15.8.2)
+unfoldable pub math_entry : MathBuiltin → Entry
+math_entry math_builtin.Abs = method (codes "Math.abs") 1 (holders.Object math)
+math_entry math_builtin.Ceil = method (codes "Math.ceil") 1 (holders.Object math)
+math_entry math_builtin.Floor = method (codes "Math.floor") 1 (holders.Object math)
+math_entry math_builtin.Max = method (codes "Math.max") 2 (holders.Object math)
+math_entry math_builtin.Min = method (codes "Math.min") 2 (holders.Object math)
+math_entry math_builtin.Pow = method (codes "Math.pow") 2 (holders.Object math)
+math_entry math_builtin.Round = method (codes "Math.round") 1 (holders.Object math)
+
+unfoldable pub entry_of : Builtin → Entry
+entry_of (builtin.Object b) = object_entry b
+entry_of (builtin.Function b) = function_entry b
+entry_of (builtin.Array b) = array_entry b
+entry_of (builtin.String b) = string_entry b
+entry_of (builtin.Global b) = global_entry b
+entry_of (builtin.Number b) = number_entry b
+entry_of (builtin.Boolean b) = boolean_entry b
+entry_of (builtin.Error b) = error_entry b
+entry_of (builtin.Math b) = math_entry b
+
+abbrev pub name_of : Builtin → List ℕ
+name_of b = (entry_of b).path
+
+-- all builtins, in the order of the table
+unfoldable pub builtins : List Builtin
+builtins = BUILTINS

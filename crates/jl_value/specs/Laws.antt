@@ -1,7 +1,8 @@
 -- What the definitions of this crate come to.
-use Rattle.std.specs.Prelude.{◌≡◌, ◌↔◌, ℕ, List, Some, IsTrue, slice_get}
+use Rattle.std.specs.Prelude.{◌≡◌, ◌↔◌, ℕ, List, Some, IsTrue}
 use Rattle.jl_value.specs.declared.value.Value.{Value}
-use Rattle.jl_value.specs.Builtins.{builtin_names}
+use Rattle.jl_value.specs.Builtins.{name_of}
+use Rattle.jl_value.specs.declared.builtin.Builtin.{Builtin}
 use Rattle.jl_value.specs.Same.{same_value}
 use Rattle.jl_value.specs.Indices.{index_of, IsIndex}
 
@@ -17,7 +18,6 @@ IndicesAreDigits = (units : List ℕ) (n : ℕ) → (index_of units ≡ Some n) 
 abbrev pub OneIndex : Type 0
 OneIndex = (units : List ℕ) (m n : ℕ) → IsIndex units m → IsIndex units n → m ≡ n
 
--- no name has two rows
-abbrev pub OneRow : Type 0
-OneRow = (i j : ℕ) (name : List ℕ) → slice_get builtin_names i ≡ Some name → slice_get builtin_names j ≡ Some name
-    → i ≡ j
+-- no two builtins have the same path
+abbrev pub OneBuiltin : Type 0
+OneBuiltin = (a b : Builtin) → name_of a ≡ name_of b → a ≡ b

@@ -1,3 +1,4 @@
+pub mod Intrinsics
 pub mod Builtins
 pub mod BuiltinPlaces
 pub mod Faults
@@ -6,3 +7,4 @@ pub mod Same
 pub mod Indices
 pub mod Laws
 pub mod Texts
+pub mod inner

@@ -1,162 +1,79 @@
-ghost use Rattle.std.specs.Prelude.{◌≡◌, ◌<◌, ◌≢◌, ◌↔◌, ℕ, Some, IsSome, IfNone, IfSome, codes, length, map, slice_get};
-ghost use Rattle.jl_value.specs.Builtins.{builtin_names};
-ghost use Rattle.jl_value.specs.BuiltinPlaces.{bound_row, place_of_builtin, print_row};
+ghost use Rattle.std.specs.Prelude.{◌≡◌, ◌<◌, ◌≢◌, IfNone, IfSome, Some, is_some, length, slice_get};
+ghost use Rattle.jl_value.specs.Builtins.{builtins, entry_of, name_of};
+ghost use Rattle.jl_value.specs.BuiltinPlaces.{bound, place_of_builtin, place_of_row, row_of};
 
+use crate::builtin_groups::{
+    ArrayBuiltin, BooleanBuiltin, ErrorBuiltin, FunctionBuiltin, GlobalBuiltin, MathBuiltin,
+    NumberBuiltin, ObjectBuiltin, StringBuiltin,
+};
+use crate::builtin_table::BUILTINS;
 use crate::object::ObjId;
-use std::marker::Model;
 
-// How many functions there are.
-const NAME_COUNT: u16 = 102;
-
-// The paths of the functions, by row.
-const NAMES: [&str; 102] = [
-    "Object",
-    "Object.getPrototypeOf",
-    "Object.getOwnPropertyDescriptor",
-    "Object.getOwnPropertyNames",
-    "Object.create",
-    "Object.defineProperty",
-    "Object.defineProperties",
-    "Object.seal",
-    "Object.freeze",
-    "Object.preventExtensions",
-    "Object.isSealed",
-    "Object.isFrozen",
-    "Object.isExtensible",
-    "Object.keys",
-    "Object.prototype.toString",
-    "Object.prototype.toLocaleString",
-    "Object.prototype.valueOf",
-    "Object.prototype.hasOwnProperty",
-    "Object.prototype.isPrototypeOf",
-    "Object.prototype.propertyIsEnumerable",
-    "Function",
-    "Function.prototype",
-    "Function.prototype.toString",
-    "Function.prototype.apply",
-    "Function.prototype.call",
-    "Function.prototype.bind",
-    "bound",
-    "thrower",
-    "Array",
-    "Array.isArray",
-    "Array.prototype.toString",
-    "Array.prototype.toLocaleString",
-    "Array.prototype.concat",
-    "Array.prototype.join",
-    "Array.prototype.pop",
-    "Array.prototype.push",
-    "Array.prototype.reverse",
-    "Array.prototype.shift",
-    "Array.prototype.slice",
-    "Array.prototype.sort",
-    "Array.prototype.splice",
-    "Array.prototype.unshift",
-    "Array.prototype.indexOf",
-    "Array.prototype.lastIndexOf",
-    "Array.prototype.every",
-    "Array.prototype.some",
-    "Array.prototype.forEach",
-    "Array.prototype.map",
-    "Array.prototype.filter",
-    "Array.prototype.reduce",
-    "Array.prototype.reduceRight",
-    "String",
-    "String.fromCharCode",
-    "String.prototype.toString",
-    "String.prototype.valueOf",
-    "String.prototype.charAt",
-    "String.prototype.charCodeAt",
-    "String.prototype.concat",
-    "String.prototype.indexOf",
-    "String.prototype.lastIndexOf",
-    "String.prototype.slice",
-    "String.prototype.split",
-    "String.prototype.substring",
-    "String.prototype.toLowerCase",
-    "String.prototype.toUpperCase",
-    "String.prototype.trim",
-    "String.prototype.toLocaleLowerCase",
-    "String.prototype.toLocaleUpperCase",
-    "String.prototype.localeCompare",
-    "String.prototype.replace",
-    "String.prototype.match",
-    "String.prototype.search",
-    "print",
-    "console.log",
-    "parseInt",
-    "isNaN",
-    "isFinite",
-    "Number",
-    "Number.prototype.toString",
-    "Number.prototype.valueOf",
-    "Number.prototype.toFixed",
-    "Number.prototype.toExponential",
-    "Number.prototype.toPrecision",
-    "Number.prototype.toLocaleString",
-    "Boolean",
-    "Boolean.prototype.toString",
-    "Boolean.prototype.valueOf",
-    "Error",
-    "EvalError",
-    "RangeError",
-    "ReferenceError",
-    "SyntaxError",
-    "TypeError",
-    "URIError",
-    "Error.prototype.toString",
-    "Math.abs",
-    "Math.ceil",
-    "Math.floor",
-    "Math.max",
-    "Math.min",
-    "Math.pow",
-    "Math.round",
-];
-
-/// A function that a script finds when it begins (clause 15), as a row of the table in `specs/Builtins`: functions of
-/// objects and functions come first, then those of arrays, those of strings, and all others. Contracts see it as the
-/// number of its row, from 0.
+/// A function that a script finds when it begins (clause 15).
 #[derive(Clone, Copy, PartialEq, Eq, Debug)]
-pub struct Builtin {
-    row: u16,
+pub enum Builtin {
+    Object(ObjectBuiltin),
+    Function(FunctionBuiltin),
+    Array(ArrayBuiltin),
+    String(StringBuiltin),
+    Global(GlobalBuiltin),
+    Number(NumberBuiltin),
+    Boolean(BooleanBuiltin),
+    Error(ErrorBuiltin),
+    Math(MathBuiltin),
 }
 
-impl Model for Builtin {
-    ghost use Rattle.std.specs.Prelude.{ℕ, ◌<◌, length};
-    ghost use Rattle.jl_value.specs.Builtins.{builtin_names};
-
-    ghost Value = { ℕ };
-
-    ghost view = { λ b. b.row };
-
-    ghost invariant = { λ b. b.row < length builtin_names };
-
-    ghost inverse = { λ n. record { row = n } };
+/// The object of which a builtin is a property when a run begins.
+#[derive(Clone, Copy, PartialEq, Eq, Debug)]
+pub enum Holder {
+    /// None has it by the last part of its path.
+    Nothing,
+    /// One of the first objects.
+    Object(ObjId),
+    /// A constructor.
+    Builtin(Builtin),
 }
+
+const FUNCTION: u16 = ObjectBuiltin::PropertyIsEnumerable as u16 + 1;
+
+const ARRAY: u16 = FUNCTION + FunctionBuiltin::Thrower as u16 + 1;
+
+const STRING: u16 = ARRAY + ArrayBuiltin::ReduceRight as u16 + 1;
+
+const GLOBAL: u16 = STRING + StringBuiltin::Search as u16 + 1;
+
+const NUMBER: u16 = GLOBAL + GlobalBuiltin::IsFinite as u16 + 1;
+
+const BOOLEAN: u16 = NUMBER + NumberBuiltin::ToLocaleString as u16 + 1;
+
+const ERROR: u16 = BOOLEAN + BooleanBuiltin::ValueOf as u16 + 1;
+
+const MATH: u16 = ERROR + ErrorBuiltin::ToString as u16 + 1;
+
+const COUNT: u16 = MATH + MathBuiltin::Round as u16 + 1;
 
 impl Builtin {
+    /// `Function.prototype`, which is a function (15.3.4).
+    pub const FUNCTION_PROTOTYPE: Builtin = Builtin::Function(FunctionBuiltin::Prototype);
+
+    /// Any function that `bind` made (15.3.4.5).
+    pub const BOUND: Builtin = Builtin::Function(FunctionBuiltin::Bound);
+
     /// The builtin with this row, where the table has one.
-    #[tactic(auto, unfolding(crate::specs::Builtins::builtin_names))]
+    #[tactic(auto, unfolding(crate::specs::Builtins::builtins))]
     pub fn at(row: u16) -> Option<Builtin>
-        ensures there { IsSome result ↔ (row < length builtin_names) }
-        ensures same { IfSome result (λ b. b ≡ row) }
+        ensures { result ≡ slice_get builtins row }
     {
-        if usize::from(row) < NAMES.len() {
-            Some(Builtin { row })
-        } else {
-            None
-        }
+        BUILTINS.get(usize::from(row)).copied()
     }
 
     /// The builtin with this path, where the table has one. Compares the path with each of the table in turn.
-    #[tactic(auto, using(crate::proofs::Rows::name_count))]
     pub fn named(name: &str) -> Option<Builtin>
-        ensures found { IfSome result (λ b. slice_get builtin_names b ≡ Some name.now) }
-        ensures none { IfNone result ((row : ℕ) → slice_get builtin_names row ≢ Some name.now) }
+        ensures found { IfSome result (λ b. name_of b ≡ name.now) }
+        ensures none { IfNone result ((b : Builtin) → name_of b ≢ name.now) }
     {
-        for row in 0..NAME_COUNT {
-            let builtin = Builtin { row };
+        for row in 0..COUNT {
+            let builtin = Builtin::at(row)?;
             if builtin.name() == name {
                 return Some(builtin);
             }
@@ -164,49 +81,78 @@ impl Builtin {
         None
     }
 
-    /// The builtin `print`.
-    #[tactic(auto, unfolding(crate::specs::Builtins::builtin_names))]
-    pub fn print() -> Builtin
-        ensures row { result ≡ print_row }
-        ensures name { slice_get builtin_names result ≡ Some (codes "print") }
+    /// Its row in the table, from 0.
+    #[tactic(auto, unfolding(crate::specs::BuiltinPlaces::row_of, crate::specs::Builtins::builtins, crate::specs::Builtins::entry_of, crate::specs::Builtins::object_entry, crate::specs::Builtins::function_entry, crate::specs::Builtins::array_entry, crate::specs::Builtins::string_entry, crate::specs::Builtins::global_entry, crate::specs::Builtins::number_entry, crate::specs::Builtins::boolean_entry, crate::specs::Builtins::error_entry, crate::specs::Builtins::math_entry))]
+    pub fn row(self) -> u16
+        ensures same { result ≡ row_of self }
+        ensures there { slice_get builtins result ≡ Some self }
     {
-        Builtin { row: 72 }
+        match self {
+            Builtin::Object(builtin) => builtin as u16,
+            Builtin::Function(builtin) => FUNCTION + builtin as u16,
+            Builtin::Array(builtin) => ARRAY + builtin as u16,
+            Builtin::String(builtin) => STRING + builtin as u16,
+            Builtin::Global(builtin) => GLOBAL + builtin as u16,
+            Builtin::Number(builtin) => NUMBER + builtin as u16,
+            Builtin::Boolean(builtin) => BOOLEAN + builtin as u16,
+            Builtin::Error(builtin) => ERROR + builtin as u16,
+            Builtin::Math(builtin) => MATH + builtin as u16,
+        }
+    }
+
+    /// Its path, as `Array.prototype.push`.
+    pub fn name(self) -> &'static str
+        ensures { result.now ≡ name_of self }
+    {
+        self.entry().path
+    }
+
+    /// How many arguments its `length` says that it takes (clause 15).
+    pub fn length(self) -> u8
+        ensures { result ≡ (entry_of self).length }
+    {
+        self.entry().length
+    }
+
+    /// The object of which it is a property when a run begins.
+    pub fn holder(self) -> Holder
+        ensures { result ≡ (entry_of self).holder }
+    {
+        self.entry().holder
+    }
+
+    /// The prototype of what it constructs, if it is a constructor.
+    pub fn prototype(self) -> Option<ObjId>
+        ensures { result ≡ (entry_of self).prototype }
+    {
+        self.entry().prototype
     }
 
     /// The object that it is when a run begins.
     pub fn place(self) -> ObjId
-        requires { self ≢ bound_row }
+        requires { self ≢ bound }
         ensures { result ≡ place_of_builtin self }
     {
-        let row = usize::from(self.row);
-        match row {
-            0..21 => ObjId(row + 16),
-            21 => ObjId(2),
-            22..26 => ObjId(row + 15),
-            _ => ObjId(row + 14),
+        match self {
+            Builtin::Function(FunctionBuiltin::Prototype) => ObjId::FUNCTION_PROTOTYPE,
+            _ => place_of_row(self.row()),
         }
-    }
-
-    /// Its row, from 0.
-    pub fn row(self) -> u16
-        ensures same { result ≡ self }
-        ensures there { result < length builtin_names }
-    {
-        self.row
-    }
-
-    /// Its path, as `Array.prototype.push`.
-    #[tactic(auto, unfolding(crate::specs::Builtins::builtin_names))]
-    pub fn name(self) -> &'static str
-        ensures { slice_get builtin_names self ≡ Some result.now }
-    {
-        entry(&NAMES, usize::from(self.row))
     }
 }
 
-fn entry(table: &'static [&'static str], at: usize) -> &'static str
-    requires { at < length table.now }
-    ensures { slice_get (map (λ name. name.now) table.entry.now) at ≡ Some result.now }
+/// The object in this row, where that is a function of its own: the first objects come before it, and two rows have no
+/// such function.
+#[tactic(auto, unfolding(crate::specs::BuiltinPlaces::place_of_row))]
+fn place_of_row(row: u16) -> ObjId
+    requires { row < length builtins }
+    ensures { result ≡ place_of_row row }
 {
-    table[at]
+    let before = usize::from(row) + ObjId::INTRINSICS;
+    if Builtin::BOUND.row() < row {
+        ObjId(before - 2)
+    } else if Builtin::FUNCTION_PROTOTYPE.row() < row {
+        ObjId(before - 1)
+    } else {
+        ObjId(before)
+    }
 }

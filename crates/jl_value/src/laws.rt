@@ -1,4 +1,4 @@
-ghost use Rattle.jl_value.specs.Laws.{SameValuesAreEqual, IndicesAreDigits, OneIndex, OneRow};
+ghost use Rattle.jl_value.specs.Laws.{SameValuesAreEqual, IndicesAreDigits, OneIndex, OneBuiltin};
 
 /// Two values are the same exactly where they are equal (9.12).
 pub fn same_values_are_equal()
@@ -15,7 +15,7 @@ pub fn one_index()
     ensures { OneIndex }
 {}
 
-/// A name has one row at most in the table of builtins.
-pub fn one_row()
-    ensures { OneRow }
+/// No two builtins have the same path.
+pub fn one_builtin()
+    ensures { OneBuiltin }
 {}

@@ -2,6 +2,8 @@
 #![tactic(auto)]
 
 mod builtin;
+mod builtin_groups;
+mod builtin_table;
 mod ending;
 mod error_kind;
 mod index;
@@ -11,7 +13,11 @@ mod same;
 mod text;
 mod value;
 
-pub use builtin::Builtin;
+pub use builtin::{Builtin, Holder};
+pub use builtin_groups::{
+    ArrayBuiltin, BooleanBuiltin, ErrorBuiltin, FunctionBuiltin, GlobalBuiltin, MathBuiltin,
+    NumberBuiltin, ObjectBuiltin, StringBuiltin,
+};
 pub use ending::{Completion, Fault, Outcome};
 pub use error_kind::ErrorKind;
 pub use index::array_index;
