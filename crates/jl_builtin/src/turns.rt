@@ -1,5 +1,5 @@
 //! What a turn of a builtin ends with.
-ghost use Rattle.std.specs.Prelude.{◌+◌, ◌≤◌, ◌<◌, IfOk};
+ghost use Rattle.std.specs.Prelude.{◌+◌, ◌≤◌, IfOk};
 ghost use Rattle.jl_effects.specs.Effects.{Fail};
 ghost use Rattle.jl_meaning.specs.Errors.{string_within};
 ghost use Rattle.jl_meaning.specs.Parts.{◌>>=◌ as ◌then◌, Unsupported};
@@ -38,15 +38,10 @@ pub fn give_text<'p>(alloc: Global, units: &[u16]) -> Result<Act<'p>, NoMemory>
     }
 }
 
-/// The fault of the builtin in a row, which is in the table and is left out; it ends the run.
-#[tactic(auto, unfolding(jl_value::specs::Builtins::builtin_names))]
-pub fn fail_row<'p>(row: u16) -> Act<'p>
-    requires { row < 102 }
-    ensures leads { (s : Machine) → Works s (Fail (Unsupported row)) s result }
+/// The fault of a builtin that is there, and is left out; it ends the run.
+pub fn unsupported<'p>(builtin: Builtin) -> Act<'p>
+    ensures leads { (s : Machine) → Works s (Fail (Unsupported builtin)) s result }
     ensures low { rank_act result ≤ 2 }
 {
-    match Builtin::at(row) {
-        Some(builtin) => Act::Fault(Fault::Unsupported(builtin)),
-        None => unreachable!(),
-    }
+    Act::Fault(Fault::Unsupported(builtin))
 }

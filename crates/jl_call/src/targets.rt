@@ -1,6 +1,5 @@
 //! What is called, and what operations tell of it (8.6.2, 11.2.2, 11.2.3).
 ghost use Rattle.std.specs.Prelude.{◌≡◌, map, slice_get, IfOk, Some};
-ghost use Rattle.jl_value.specs.BuiltinPlaces.{bound_row};
 ghost use Rattle.jl_heap.specs.Describe.{seen_of};
 ghost use Rattle.jl_meaning.specs.FunctionObjects.{callee_of, script_callee};
 ghost use Rattle.jl_meaning.specs.forms.Calls.{can_be_called, no_function};
@@ -64,18 +63,7 @@ pub(crate) fn target_of(
     match inner {
         Inner::Script { function, .. } => script_target(functions, *function),
         Inner::Native(builtin) => Ok(Callee::Native(*builtin)),
-        _ => Ok(bound_target()),
-    }
-}
-
-/// What they tell of a function that `bind` has made (15.3.4.5).
-#[tactic(auto, unfolding(jl_value::specs::Builtins::builtin_names))]
-fn bound_target() -> Callee
-    ensures { result ≡ Callee.Native bound_row }
-{
-    match Builtin::at(26) {
-        Some(bound) => Callee::Native(bound),
-        None => unreachable!(),
+        _ => Ok(Callee::Native(Builtin::BOUND)),
     }
 }
 

@@ -15,7 +15,7 @@ use Rattle.jl_meaning.specs.FunctionObjects.{function_body, has_construct, Funct
 use Rattle.jl_meaning.specs.Jobs.{begin_known, call_bound, call_inside, job}
 use Rattle.jl_meaning.specs.Parts.{completion_of, Call, CallOf, Code, Context, Job, TurnOf}
 use Rattle.jl_meaning.specs.builtins.Function.{names_of}
-use Rattle.jl_meaning.specs.builtins.Table.{builtin}
+use Rattle.jl_meaning.specs.builtins.Table.{builtin_algorithm}
 use Rattle.jl_meaning.specs.forms.Functions.{begin_script, call_script, enter_function, new_instance}
 use Rattle.jl_meaning.specs.forms.Functions.{result_of, run_body, run_function, this_within}
 use Rattle.jl_hook_bound.proofs.Forms.{lift_free}
@@ -55,7 +55,7 @@ module _ (table : FunctionTable) where
 
   inside_free : (heap : Objects) (call : Call) (i : Inner) → Paid 0 0 (call_inside table heap call i)
   inside_free heap call (inner.Script number env) = known_free (slice_get table number) env call
-  inside_free heap call (inner.Native row) = algorithm (builtin (names_of table) row call)
+  inside_free heap call (inner.Native b) = algorithm (builtin_algorithm (names_of table) b call)
   inside_free heap call (inner.Bound target this args) =
       algorithm (call_bound (has_construct (object_at heap target.0).inner) target this (args ++ call.args)
       call.by_new)

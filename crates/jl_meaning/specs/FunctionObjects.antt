@@ -1,13 +1,15 @@
 -- The functions of a script, and function objects (clause 13, 13.2).
-use Rattle.std.specs.Prelude.{codes, false, if◌then◌else◌, length, map, nat_le, option_map, pos, slice_get, true}
-use Rattle.std.specs.Prelude.{◌&&◌, ◌==◌, ◌||◌, Bool, List, None, Option, Some, ℕ}
+use Rattle.std.specs.Prelude.{codes, false, if◌then◌else◌, is_some, length, map, option_map, pos, slice_get, true}
+use Rattle.std.specs.Prelude.{Bool, List, None, Option, Some, ℕ}
 use Rattle.jl_ast.specs.Table.{table}
 use Rattle.jl_ast.specs.Table as functions
 use Rattle.jl_ast.specs.Tree as tree
 use Rattle.jl_scope.specs.Hoisting.{strict_in}
 use Rattle.jl_scope.specs.Mentions.{mentions}
 use Rattle.jl_scope.specs.Names.{arguments_name}
-use Rattle.jl_value.specs.BuiltinPlaces.{bound_row}
+use Rattle.jl_value.specs.BuiltinPlaces.{bound}
+use Rattle.jl_value.specs.Builtins.{entry_of}
+use Rattle.jl_value.specs.declared.builtin.Builtin.{Builtin}
 use Rattle.jl_value.specs.declared.object.Class.TheVariants as class
 use Rattle.jl_value.specs.declared.object.ObjId.{ObjId}
 use Rattle.jl_value.specs.declared.value.Value.{Value}
@@ -108,18 +110,16 @@ script_callee number None = callee.Script number 0 false
 -- what operations tell of a function
 unfoldable pub callee_of : FunctionTable → Inner → Callee
 callee_of table (inner.Script number env) = script_callee number (slice_get table number)
-callee_of table (inner.Native builtin) = callee.Native builtin
-callee_of table _ = callee.Native bound_row
+callee_of table (inner.Native b) = callee.Native b
+callee_of table _ = callee.Native bound
 
--- the builtins that construct (clause 15): `Object`, `Function`, `Array`, `String`, `Number`, `Boolean`, and the
--- errors
-unfoldable pub is_constructor : (row : ℕ) → Bool
-is_constructor row =
-    row == 0 || row == 20 || row == 28 || row == 51 || row == 77 || row == 84 || (nat_le 87 row && nat_le row 93)
+-- whether a builtin constructs (clause 15): its entry then has the prototype of what it constructs
+abbrev pub is_constructor : Builtin → Bool
+is_constructor b = is_some (entry_of b).prototype
 
 -- whether an object with this inner part has [[Construct]] (8.6.2)
 abbrev pub has_construct : Inner → Bool
 has_construct (inner.Script function env) = true
-has_construct (inner.Native builtin) = is_constructor builtin
+has_construct (inner.Native b) = is_constructor b
 has_construct (inner.Bound target this args) = true
 has_construct _ = false

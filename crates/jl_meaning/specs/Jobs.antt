@@ -15,7 +15,7 @@ use Rattle.jl_meaning.specs.Parts.{begin_call, call, completion_of, give, lift, 
 use Rattle.jl_meaning.specs.Parts.{Part, TurnOf}
 use Rattle.jl_meaning.specs.Statements.{turn}
 use Rattle.jl_meaning.specs.builtins.Function.{names_of}
-use Rattle.jl_meaning.specs.builtins.Table.{builtin}
+use Rattle.jl_meaning.specs.builtins.Table.{builtin_algorithm}
 use Rattle.jl_meaning.specs.forms.Functions.{begin_script}
 
 -- a function that `bind` made calls its target, or constructs by it (15.3.4.5.1, 15.3.4.5.2)
@@ -33,7 +33,7 @@ begin_known table None env call = give value.Undefined
 -- a call of an object with this inner part
 abbrev pub call_inside : FunctionTable → Objects → Call → Inner → Part (Answer Value)
 call_inside table heap call (inner.Script number env) = begin_known table (slice_get table number) env call
-call_inside table heap call (inner.Native row) = lift (builtin (names_of table) row call)
+call_inside table heap call (inner.Native b) = lift (builtin_algorithm (names_of table) b call)
 call_inside table heap call (inner.Bound target this args) =
     lift (call_bound (has_construct (object_at heap target.0).inner) target this (args ++ call.args) call.by_new)
 call_inside table heap call i = give value.Undefined

@@ -4,6 +4,7 @@
 use Rattle.std.specs.Prelude.{false, Bool, List, None, Option, Some, ℕ}
 use Rattle.jl_ast.specs.Tree.{Text, Tree}
 use Rattle.jl_ast.specs.Tree as tree
+use Rattle.jl_value.specs.declared.builtin.Builtin.{Builtin}
 use Rattle.jl_value.specs.declared.ending.Completion.{Completion}
 use Rattle.jl_value.specs.declared.ending.Completion.TheVariants as completion
 use Rattle.jl_value.specs.declared.ending.Fault.{Fault}
@@ -99,14 +100,14 @@ pub data AlgorithmFault : Type 0 where
   NumberOutside : AlgorithmFault
   StringTooLong : AlgorithmFault
   -- a builtin that is there, and is left out
-  Unsupported : (row : ℕ) → AlgorithmFault
+  Unsupported : Builtin → AlgorithmFault
   -- `Function` would make code of a string
   CodeFromText : AlgorithmFault
 
 abbrev pub fault_of : AlgorithmFault → Fault
 fault_of NumberOutside = fault.NumberOutside
 fault_of StringTooLong = fault.StringTooLong
-fault_of (Unsupported row) = fault.Unsupported row
+fault_of (Unsupported b) = fault.Unsupported b
 fault_of CodeFromText = fault.CodeFromText
 
 -- what an expression comes to, or an algorithm that may throw: it gives this, or throws a value

@@ -1,11 +1,25 @@
--- The store that a run begins with (clause 15): sixteen objects, and then a function object for each row of the table
--- of builtins but `Function.prototype`, which is one of the sixteen, and `bound`. Properties are made object by
--- object: first those that no call gives, and then functions in the order of the table.
-use Rattle.std.specs.List.{after_first, list_any, range_with_len}
-use Rattle.std.specs.Prelude.{[], codes, false, if◌then◌else◌, length, map, not, slice_index_or, true, ◌++◌, ◌+◌}
-use Rattle.std.specs.Prelude.{◌==◌, ◌∷◌, Bool, List, None, Option, Some, ℕ}
-use Rattle.jl_value.specs.BuiltinPlaces.{function_prototype_row, place_of_builtin}
-use Rattle.jl_value.specs.Builtins as builtins
+-- The store that a run begins with (clause 15): sixteen objects, and then a function object for each builtin but
+-- `Function.prototype`, which is one of the sixteen, and `bound`. Properties are made object by object: first those that
+-- no call gives, and then functions in the order of the table.
+use Rattle.std.specs.List.{after_first, list_any}
+use Rattle.std.specs.Prelude.{[], codes, false, filter, if◌then◌else◌, length, map, true, ◌++◌, ◌+◌, ◌==◌, ◌∷◌, Bool}
+use Rattle.std.specs.Prelude.{List, None, Option, Some, ℕ}
+use Rattle.jl_value.specs.BuiltinPlaces.{place_of_builtin, prototype}
+use Rattle.jl_value.specs.Builtins.{builtins, entry_of, name_of}
+use Rattle.jl_value.specs.Intrinsics.{array_prototype, boolean_prototype, console, error_prototype, function_prototype}
+use Rattle.jl_value.specs.Intrinsics.{global_object, math, number_prototype, object_prototype, string_prototype}
+use Rattle.jl_value.specs.declared.builtin.Builtin.{Builtin}
+use Rattle.jl_value.specs.declared.builtin.Builtin.TheVariants as builtin
+use Rattle.jl_value.specs.declared.builtin.Holder.{Holder}
+use Rattle.jl_value.specs.declared.builtin.Holder.TheVariants as holder
+use Rattle.jl_value.specs.declared.builtin_groups.ArrayBuiltin.TheVariants as array_builtin
+use Rattle.jl_value.specs.declared.builtin_groups.BooleanBuiltin.TheVariants as boolean_builtin
+use Rattle.jl_value.specs.declared.builtin_groups.ErrorBuiltin.{ErrorBuiltin}
+use Rattle.jl_value.specs.declared.builtin_groups.ErrorBuiltin.TheVariants as error_builtin
+use Rattle.jl_value.specs.declared.builtin_groups.FunctionBuiltin.TheVariants as function_builtin
+use Rattle.jl_value.specs.declared.builtin_groups.NumberBuiltin.TheVariants as number_builtin
+use Rattle.jl_value.specs.declared.builtin_groups.ObjectBuiltin.TheVariants as object_builtin
+use Rattle.jl_value.specs.declared.builtin_groups.StringBuiltin.TheVariants as string_builtin
 use Rattle.jl_value.specs.declared.object.Class.{Class}
 use Rattle.jl_value.specs.declared.object.Class.TheVariants as class
 use Rattle.jl_value.specs.declared.object.ObjId.{ObjId}
@@ -19,7 +33,6 @@ use Rattle.jl_heap.specs.declared.inner.Inner.TheVariants as inner
 use Rattle.jl_heap.specs.declared.property.Prop.{Prop}
 use Rattle.jl_heap.specs.declared.property.Prop.TheVariants.{Plain}
 use Rattle.jl_meaning.specs.FunctionObjects.{whole}
-use Rattle.jl_meaning.specs.Intrinsics.{error_prototype, function_prototype, object_prototype, thrower_row}
 use Rattle.jl_meaning.specs.Store.{no_environment, Store}
 
 -- an object as a run begins with it, with its properties in the order in which they are made
@@ -37,9 +50,6 @@ changeable x v = (x, Plain v true false true)
 abbrev pub constant : Name → Value → Name × Prop
 constant x v = (x, Plain v false false false)
 
-abbrev pub at_address : ℕ → Value
-at_address n = value.Obj (record { 0 = n })
-
 abbrev pub is_dot : ℕ → Bool
 is_dot unit = unit == 46
 
@@ -49,31 +59,36 @@ last_part path =
     let rest = if list_any is_dot path then after_first is_dot path else path in
     if list_any is_dot rest then after_first is_dot rest else rest
 
--- the function of a row, as a property by the last part of its path
-abbrev pub function_property : (row : ℕ) → Name × Prop
-function_property row = changeable (last_part (builtins.name_of row)) (value.Obj (place_of_builtin row))
+-- the function of a builtin, as a property by the last part of its path
+abbrev pub function_property : Builtin → Name × Prop
+function_property b = changeable (last_part (name_of b)) (value.Obj (place_of_builtin b))
 
--- those of so many rows, from one on
-abbrev pub function_properties : (row count : ℕ) → List (Name × Prop)
-function_properties row count = map function_property (range_with_len row count)
+-- the functions that an object has as properties, in the order of the table
+abbrev pub holds : ObjId → Holder → Bool
+holds id holder.Nothing = false
+holds id (holder.Object other) = id.0 == other.0
+holds id (holder.Builtin b) = id.0 == (place_of_builtin b).0
 
--- the property of a prototype that is the function of this row (15.2.4.1 and the like)
-abbrev pub constructor_property : (row : ℕ) → Name × Prop
-constructor_property row = changeable (codes "constructor") (value.Obj (place_of_builtin row))
+abbrev pub functions_of : ObjId → List (Name × Prop)
+functions_of id = map function_property (filter (λ (b : Builtin). holds id (entry_of b).holder) builtins)
+
+-- the property of a prototype that is its constructor (15.2.4.1 and the like)
+abbrev pub constructor_property : Builtin → Name × Prop
+constructor_property b = changeable (codes "constructor") (value.Obj (place_of_builtin b))
 
 abbrev pub initial : Class → Inner → List (Name × Prop) → InitialObject
 initial kind i properties =
     record { class = kind; proto = Some object_prototype; extensible = true; inner = i; properties = properties }
 
 -- the prototype of a kind of errors (15.11.4, 15.11.7.7)
-abbrev pub error_prototype_object : (row : ℕ) → (proto : ObjId) → List (Name × Prop) → InitialObject
-error_prototype_object row proto more = record {
+abbrev pub error_prototype_object : ErrorBuiltin → (proto : ObjId) → List (Name × Prop) → InitialObject
+error_prototype_object b proto more = record {
   class = class.Error;
   proto = Some proto;
   extensible = true;
   inner = inner.Nothing;
   properties =
-      constructor_property row ∷ changeable (codes "name") (value.Text (builtins.name_of row))
+      constructor_property (builtin.Error b) ∷ changeable (codes "name") (value.Text (name_of (builtin.Error b)))
       ∷ changeable (codes "message") (value.Text []) ∷ more;
 }
 
@@ -85,81 +100,80 @@ first_objects =
       proto = None;
       extensible = true;
       inner = inner.Nothing;
-      properties = constructor_property 0 ∷ function_properties 14 6;
+      properties = constructor_property (builtin.Object object_builtin.Constructor) ∷ functions_of object_prototype;
     }
     -- the global object (15.1)
     ∷ initial class.Object inner.Nothing (
     constant (codes "NaN") (value.Num None) ∷ constant (codes "undefined") value.Undefined
-    ∷ changeable (codes "Math") (at_address 14) ∷ changeable (codes "console") (at_address 15)
-    ∷ function_property 0 ∷ function_property 20 ∷ function_property 28 ∷ function_property 51
-    ∷ function_property 72 ∷ function_properties 74 4 ++ function_property 84 ∷ function_properties 87 7)
+    ∷ changeable (codes "Math") (value.Obj math) ∷ changeable (codes "console") (value.Obj console)
+    ∷ functions_of global_object)
     -- Function.prototype (15.3.4)
-    ∷ initial class.Function (inner.Native function_prototype_row) (
-    constructor_property 20 ∷ constant length_name (whole 0) ∷ function_properties 22 4)
+    ∷ initial class.Function (inner.Native prototype) (
+    constructor_property (builtin.Function function_builtin.Constructor) ∷ constant length_name (whole 0)
+    ∷ functions_of function_prototype)
     -- Array.prototype (15.4.4), which is an array
     ∷ initial class.Array inner.Nothing (
-    (length_name, Plain (whole 0) true false false) ∷ constructor_property 28 ∷ function_properties 30 21)
+    (length_name, Plain (whole 0) true false false)
+    ∷ constructor_property (builtin.Array array_builtin.Constructor) ∷ functions_of array_prototype)
     -- String.prototype (15.5.4), Number.prototype (15.7.4) and Boolean.prototype (15.6.4)
     ∷ initial class.String (inner.Wrapped (value.Text [])) (
-    constructor_property 51 ∷ constant length_name (whole 0) ∷ function_properties 53 19)
-    ∷ initial class.Number (inner.Wrapped (whole 0)) (constructor_property 77 ∷ function_properties 78 6)
-    ∷ initial class.Boolean (inner.Wrapped (value.Bool false)) (constructor_property 84 ∷ function_properties 85 2)
+    constructor_property (builtin.String string_builtin.Constructor) ∷ constant length_name (whole 0)
+    ∷ functions_of string_prototype)
+    ∷ initial class.Number (inner.Wrapped (whole 0)) (
+    constructor_property (builtin.Number number_builtin.Constructor) ∷ functions_of number_prototype)
+    ∷ initial class.Boolean (inner.Wrapped (value.Bool false)) (
+    constructor_property (builtin.Boolean boolean_builtin.Constructor) ∷ functions_of boolean_prototype)
     -- Error.prototype (15.11.4), and those of the native errors (15.11.7.7)
-    ∷ error_prototype_object 87 object_prototype (function_properties 94 1)
-    ∷ error_prototype_object 88 error_prototype [] ∷ error_prototype_object 89 error_prototype []
-    ∷ error_prototype_object 90 error_prototype []
-    ∷ error_prototype_object 91 error_prototype [] ∷ error_prototype_object 92 error_prototype []
-    ∷ error_prototype_object 93 error_prototype []
+    ∷ error_prototype_object error_builtin.Error object_prototype (functions_of error_prototype)
+    ∷ error_prototype_object error_builtin.EvalError error_prototype []
+    ∷ error_prototype_object error_builtin.RangeError error_prototype []
+    ∷ error_prototype_object error_builtin.ReferenceError error_prototype []
+    ∷ error_prototype_object error_builtin.SyntaxError error_prototype []
+    ∷ error_prototype_object error_builtin.TypeError error_prototype []
+    ∷ error_prototype_object error_builtin.UriError error_prototype []
     -- Math (15.8), and `console`
-    ∷ initial class.Math inner.Nothing (function_properties 95 7)
-    ∷ initial class.Object inner.Nothing (function_properties 73 1)
+    ∷ initial class.Math inner.Nothing (functions_of math) ∷ initial class.Object inner.Nothing (functions_of console)
     ∷ []
 
--- how many arguments the function of each row says that it takes (clause 15)
-unfoldable pub lengths : List ℕ
-lengths =
-    -- of objects and functions
-    1 ∷ 1 ∷ 2 ∷ 1 ∷ 2 ∷ 3 ∷ 2 ∷ 1 ∷ 1 ∷ 1 ∷ 1 ∷ 1 ∷ 1 ∷ 1 ∷ 0 ∷ 0 ∷ 0 ∷ 1 ∷ 1 ∷ 1 ∷
-    1 ∷ 0 ∷ 0 ∷ 2 ∷ 1 ∷ 1 ∷ 0 ∷ 0 ∷
-    -- of arrays
-    1 ∷ 1 ∷ 0 ∷ 0 ∷ 1 ∷ 1 ∷ 0 ∷ 1 ∷ 0 ∷ 0 ∷ 2 ∷ 1 ∷ 2 ∷ 1 ∷ 1 ∷ 1 ∷ 1 ∷ 1 ∷ 1 ∷ 1 ∷ 1 ∷ 1 ∷ 1 ∷
-    -- of strings
-    1 ∷ 1 ∷ 0 ∷ 0 ∷ 1 ∷ 1 ∷ 1 ∷ 1 ∷ 1 ∷ 2 ∷ 2 ∷ 2 ∷ 0 ∷ 0 ∷ 0 ∷ 0 ∷ 0 ∷ 1 ∷ 2 ∷ 1 ∷ 1 ∷
-    -- of printing, numbers, Booleans, errors and `Math`
-    0 ∷ 0 ∷ 2 ∷ 1 ∷ 1 ∷ 1 ∷ 1 ∷ 0 ∷ 1 ∷ 1 ∷ 1 ∷ 0 ∷ 1 ∷ 0 ∷ 0 ∷ 1 ∷ 1 ∷ 1 ∷ 1 ∷ 1 ∷ 1 ∷ 1 ∷ 0 ∷
-    1 ∷ 1 ∷ 1 ∷ 2 ∷ 2 ∷ 2 ∷ 1 ∷ []
+-- the prototype of what a constructor constructs, as a property of the constructor, which also has its own functions
+abbrev pub prototype_constant : Option ObjId → List (Name × Prop)
+prototype_constant None = []
+prototype_constant (Some id) = constant (codes "prototype") (value.Obj id) ∷ []
 
--- the function object of a row, with what it has beside its length
-abbrev pub function_object : (row : ℕ) → (before after : List (Name × Prop)) → InitialObject
-function_object row before after = record {
+abbrev pub functions_of_constructor : Option ObjId → Builtin → List (Name × Prop)
+functions_of_constructor None b = []
+functions_of_constructor (Some id) b = functions_of (place_of_builtin b)
+
+-- Number.NaN (15.7.3.4)
+abbrev pub own_constants : Builtin → List (Name × Prop)
+own_constants (builtin.Number number_builtin.Constructor) = constant (codes "NaN") (value.Num None) ∷ []
+own_constants b = []
+
+-- only the function that throws a TypeError is not extensible (13.2.3)
+abbrev pub is_extensible_function : Builtin → Bool
+is_extensible_function (builtin.Function function_builtin.Thrower) = false
+is_extensible_function b = true
+
+-- the function object of a builtin (15)
+abbrev pub function_object : Builtin → InitialObject
+function_object b = record {
   class = class.Function;
   proto = Some function_prototype;
-  extensible = not (row == thrower_row);
-  inner = inner.Native row;
-  properties = before ++ constant length_name (whole (slice_index_or lengths row 0)) ∷ after;
+  extensible = is_extensible_function b;
+  inner = inner.Native b;
+  properties =
+      own_constants b ++ prototype_constant (entry_of b).prototype ++ constant length_name (whole (entry_of b).length)
+      ∷ functions_of_constructor (entry_of b).prototype b;
 }
 
--- those of so many rows, from one on, which have nothing else
-abbrev pub plain_functions : (row count : ℕ) → List InitialObject
-plain_functions row count = map (λ (i : ℕ). function_object i [] []) (range_with_len row count)
-
--- one that constructs objects with the prototype at this address
-abbrev pub constructor_object : (row address : ℕ) → (function_properties : List (Name × Prop)) → InitialObject
-constructor_object row address more = function_object row (constant (codes "prototype") (at_address address) ∷ []) more
+-- whether a builtin has a function object behind the first objects
+abbrev pub has_function_object : Builtin → Bool
+has_function_object (builtin.Function function_builtin.Prototype) = false
+has_function_object (builtin.Function function_builtin.Bound) = false
+has_function_object b = true
 
 abbrev pub function_objects : List InitialObject
-function_objects =
-    constructor_object 0 0 (function_properties 1 13) ∷ plain_functions 1 19
-    ++ constructor_object 20 2 [] ∷ plain_functions 22 4 ++ plain_functions 27 1
-    ++ constructor_object 28 3 (function_properties 29 1) ∷ plain_functions 29 22
-    ++ constructor_object 51 4 (function_properties 52 1) ∷ plain_functions 52 25
-    ++ function_object 77 (constant (codes "NaN") (value.Num None) ∷ constant (codes "prototype") (at_address 5)
-    ∷ []) []
-    ∷ plain_functions 78 6
-    ++ constructor_object 84 6 [] ∷ plain_functions 85 2
-    ++ constructor_object 87 7 [] ∷ constructor_object 88 8 [] ∷ constructor_object 89 9 []
-    ∷ constructor_object 90 10 []
-    ∷ constructor_object 91 11 [] ∷ constructor_object 92 12 [] ∷ constructor_object 93 13 [] ∷ plain_functions 94 8
+function_objects = map function_object (filter has_function_object builtins)
 
 -- the properties with their serials, from one on
 abbrev pub entries_from : (serial : ℕ) → List (Name × Prop) → List (Entry Prop)

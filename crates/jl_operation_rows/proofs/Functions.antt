@@ -16,7 +16,7 @@ use Rattle.jl_meaning.specs.FunctionObjects.{has_construct, FunctionTable, Scrip
 use Rattle.jl_meaning.specs.Jobs.{begin_known, call_bound, call_inside, job}
 use Rattle.jl_meaning.specs.Parts.{completion_of, Call, CallOf, Code, Context, Func, Job, TurnOf}
 use Rattle.jl_meaning.specs.builtins.Function.{names_of}
-use Rattle.jl_meaning.specs.builtins.Table.{builtin}
+use Rattle.jl_meaning.specs.builtins.Table.{builtin_algorithm}
 use Rattle.jl_meaning.specs.forms.Functions.{begin_script, call_script, enter_function, new_instance}
 use Rattle.jl_meaning.specs.forms.Functions.{result_of, run_body, run_function, this_within}
 use Rattle.jl_operation_rows.proofs.Relation.{algorithm, bind, ended, fails, in_a_row, lift_then, look_told, ok}
@@ -70,7 +70,7 @@ module _ (IsRow : MapEntry ℕ → Type 0) (table : FunctionTable) where
   module _ (all : AllOwned IsRow table) where
     inside_told : (heap : Objects) (call : Call) (i : Inner) → Told IsRow (call_inside table heap call i)
     inside_told heap call (inner.Script number env) = known_told table all number env call
-    inside_told heap call (inner.Native row) = algorithm (builtin (names_of table) row call)
+    inside_told heap call (inner.Native b) = algorithm (builtin_algorithm (names_of table) b call)
     inside_told heap call (inner.Bound target this args) =
         algorithm (call_bound (has_construct (object_at heap target.0).inner) target this (args ++ call.args)
         call.by_new)

@@ -17,7 +17,7 @@ use Rattle.jl_meaning.specs.FunctionObjects.{callee_of, has_construct, script_ca
 use Rattle.jl_meaning.specs.Jobs.{begin_known, call_bound, call_inside, job}
 use Rattle.jl_meaning.specs.Parts.{lift, Call, Code, Context, Func, Job}
 use Rattle.jl_meaning.specs.builtins.Function.{names_of}
-use Rattle.jl_meaning.specs.builtins.Table.{builtin}
+use Rattle.jl_meaning.specs.builtins.Table.{builtin_algorithm}
 use Rattle.jl_meaning.specs.forms.Functions.{begin_script, call_script, construct_script, enter_function}
 use Rattle.jl_meaning.specs.forms.Functions.{new_instance, result_of, run_body, run_function, this_within}
 use Rattle.jl_operation_rows.proofs.Pairs.{ends, fails, looks}
@@ -125,9 +125,9 @@ module _ (r : Renaming) (table : FunctionTable) where
   inside_same : (heap : Objects) (call : Call) (i : Inner)
       → Same r (call_inside old heap call i) (call_inside new heap call i)
   inside_same heap call (inner.Script number env) = known_same table number env call
-  inside_same heap call (inner.Native row) =
-      second_is (ap (λ names. lift (builtin names row call)) (names_same r.from r.to table))
-      (algorithm (builtin (names_of old) row call))
+  inside_same heap call (inner.Native b) =
+      second_is (ap (λ names. lift (builtin_algorithm names b call)) (names_same r.from r.to table))
+      (algorithm (builtin_algorithm (names_of old) b call))
   inside_same heap call (inner.Bound target this args) =
       algorithm (call_bound (has_construct (object_at heap target.0).inner) target this (args ++ call.args)
       call.by_new)

@@ -6,6 +6,8 @@ use Rattle.std.specs.Prelude.{None, Option, ℕ, ℤ}
 use Rattle.jl_num.specs.Bits.{uint16_of, uint32_of}
 use Rattle.jl_num.specs.Number.{Number}
 use Rattle.jl_text.specs.Search.{first_place, last_place}
+use Rattle.jl_value.specs.declared.builtin.Builtin.TheVariants as builtin
+use Rattle.jl_value.specs.declared.builtin_groups.StringBuiltin.TheVariants as string_builtin
 use Rattle.jl_value.specs.declared.object.ObjId.{ObjId}
 use Rattle.jl_value.specs.declared.value.Value.{Value}
 use Rattle.jl_value.specs.declared.value.Value.TheVariants as value
@@ -71,9 +73,11 @@ split_up_to units array separator limit = do
 -- each unit in the other case, where all are in ASCII
 abbrev pub units_in_case : LetterCase → List ℕ → Algorithm Value
 units_in_case letter_case.Lower units =
-    if list_any is_past_ascii units then Fail (Unsupported 63) else give_string (map lower units)
+    if list_any is_past_ascii units then Fail (Unsupported (builtin.String string_builtin.ToLowerCase))
+    else give_string (map lower units)
 units_in_case letter_case.Upper units =
-    if list_any is_past_ascii units then Fail (Unsupported 64) else give_string (map upper units)
+    if list_any is_past_ascii units then Fail (Unsupported (builtin.String string_builtin.ToUpperCase))
+    else give_string (map upper units)
 
 -- what a method does when it has `this` as a string
 abbrev pub method_of_string : StringMethod → (units : List ℕ) → (args : List Value) → Algorithm Value

@@ -12,7 +12,7 @@ use Rattle.jl_meaning.specs.FunctionObjects.{callee_of, script_callee, FunctionT
 use Rattle.jl_meaning.specs.Jobs.{begin_known, call_inside, job}
 use Rattle.jl_meaning.specs.Parts.{completion_of, lift, Call, CallOf, Func, Job, TurnOf}
 use Rattle.jl_meaning.specs.builtins.Function.{names_of}
-use Rattle.jl_meaning.specs.builtins.Table.{builtin}
+use Rattle.jl_meaning.specs.builtins.Table.{builtin_algorithm}
 use Rattle.jl_quiet.proofs.Bare.{bare}
 use Rattle.jl_quiet.proofs.Functions.{script_alike}
 use Rattle.jl_quiet.proofs.MadeFunctions.{made_alike, params_same}
@@ -58,9 +58,9 @@ module _ (table : FunctionTable) where
   inside_alike : (heap : Objects) (call : Call) (i : Inner)
       → Alike (call_inside table heap call i) (call_inside (bare_table table) heap call i)
   inside_alike heap call (inner.Script number env) = known_alike table number env call
-  inside_alike heap call (inner.Native row) =
-      second_is (ap (λ names. lift (builtin names row call)) (names_same table))
-      (itself (lift (builtin (names_of table) row call)))
+  inside_alike heap call (inner.Native b) =
+      second_is (ap (λ names. lift (builtin_algorithm names b call)) (names_same table))
+      (itself (lift (builtin_algorithm (names_of table) b call)))
   inside_alike heap call (inner.Bound target this args) = record { same = refl }
   inside_alike heap call _ = record { same = refl }
 

@@ -10,7 +10,7 @@ use Rattle.jl_meaning.specs.Jobs.{begin_known, call_bound, call_inside, job}
 use Rattle.jl_meaning.specs.Parts.{completion_of, Call}
 use Rattle.jl_meaning.specs.Store.{Store}
 use Rattle.jl_meaning.specs.builtins.Function.{names_of}
-use Rattle.jl_meaning.specs.builtins.Table.{builtin}
+use Rattle.jl_meaning.specs.builtins.Table.{builtin_algorithm}
 use Rattle.jl_safety.proofs.Changes.{Keeps}
 use Rattle.jl_safety.proofs.Functions.{script_safe}
 use Rattle.jl_safety.proofs.Relation.{algorithm, from_then, job_of, ok, sound_call, sound_turn, From, MayEnd, Safe}
@@ -28,7 +28,7 @@ module _ (table : FunctionTable) where
   module _ (all : AllSound table) where
     inside_safe : (heap : Objects) (call : Call) (i : Inner) → Safe (call_inside table heap call i)
     inside_safe heap call (inner.Script number env) = known_safe table all number env call
-    inside_safe heap call (inner.Native row) = algorithm (builtin (names_of table) row call)
+    inside_safe heap call (inner.Native b) = algorithm (builtin_algorithm (names_of table) b call)
     inside_safe heap call (inner.Bound target this args) =
         algorithm (call_bound (has_construct (object_at heap target.0).inner) target this (args ++ call.args)
         call.by_new)

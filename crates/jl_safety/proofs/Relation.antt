@@ -60,7 +60,7 @@ from_weaken s E E' p f x = steady_weaken apply Keeps IsNoMisuse job_of MayEnd s 
 own_faults : (e : AlgorithmFault) → IsNoMisuse (fault_of e)
 own_faults NumberOutside is = cc
 own_faults StringTooLong is = cc
-own_faults (Unsupported row) is = cc
+own_faults (Unsupported b) is = cc
 own_faults CodeFromText is = cc
 
 pub lift_from : {A : Type 0} (p : Algorithm A) (s : Store) → From s (λ a t. Keeps s t) (lift p)

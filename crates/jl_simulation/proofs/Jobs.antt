@@ -11,7 +11,7 @@ use Rattle.jl_meaning.specs.Jobs.{begin_known, call_inside, job}
 use Rattle.jl_meaning.specs.Parts.{lift, Call}
 use Rattle.jl_meaning.specs.Store.{Store}
 use Rattle.jl_meaning.specs.builtins.Function.{names_of}
-use Rattle.jl_meaning.specs.builtins.Table.{builtin}
+use Rattle.jl_meaning.specs.builtins.Table.{builtin_algorithm}
 use Rattle.jl_simulation.proofs.Functions.{begin_match}
 use Rattle.jl_simulation.proofs.Relation.{algorithm, calls, fewer, followed, turns, AreJobs, Matched}
 use Rattle.jl_simulation.proofs.Tables.{callees_same, names_same, none, one, TableMatch}
@@ -29,9 +29,9 @@ module _ (chosen : Kinds) (table table' : FunctionTable) (all : TableMatch chose
   inside_match : (call : Call) (i : Inner) (s : Store)
       → Matched chosen s 31 0 (call_inside table s.heap call i) (call_inside table' s.heap call i)
   inside_match call (inner.Script number env) s = known_match all number env call s
-  inside_match call (inner.Native row) s =
-      subst (λ names. Matched chosen s 31 0 (lift (builtin (names_of table) row call)) (lift (builtin names row call)))
-      (names_same all) (fewer (omega arith) (algorithm (builtin (names_of table) row call)))
+  inside_match call (inner.Native b) s =
+      subst (λ names. Matched chosen s 31 0 (lift (builtin_algorithm (names_of table) b call)) (lift (builtin_algorithm names b call)))
+      (names_same all) (fewer (omega arith) (algorithm (builtin_algorithm (names_of table) b call)))
   inside_match call (inner.Bound target this args) s = fewer (omega arith) (algorithm _)
   inside_match call _ s = ends (omega arith)
 

@@ -16,9 +16,9 @@ fn prototype_of_error(kind: ErrorKind) -> ObjId
     ensures { result ≡ prototype_of_error kind }
 {
     match kind {
-        ErrorKind::RangeError => ObjId(9),
-        ErrorKind::ReferenceError => ObjId(10),
-        ErrorKind::TypeError => ObjId(12),
+        ErrorKind::RangeError => ObjId::RANGE_ERROR_PROTOTYPE,
+        ErrorKind::ReferenceError => ObjId::REFERENCE_ERROR_PROTOTYPE,
+        ErrorKind::TypeError => ObjId::TYPE_ERROR_PROTOTYPE,
     }
 }
 

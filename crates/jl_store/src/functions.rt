@@ -6,14 +6,13 @@ ghost use Rattle.jl_meaning.specs.Parts.{gives};
 ghost use Rattle.jl_store.specs.Comes.{Comes};
 
 use crate::environments::Bound;
-use crate::intrinsics::{FUNCTION_PROTOTYPE, THROWER};
 use crate::store::Store;
 use crate::words::count;
 use jl_ast::Function;
 use jl_heap::{Inner, Prop};
 use jl_scope::is_strict;
 use jl_text::{NoMemory, Text, word};
-use jl_value::{Class, ObjId, Value};
+use jl_value::{Builtin, Class, FunctionBuiltin, ObjId, Value};
 
 /// A data property.
 pub(crate) fn data(value: Value, writable: bool, enumerable: bool, configurable: bool) -> Prop
@@ -31,9 +30,10 @@ pub(crate) fn data(value: Value, writable: bool, enumerable: bool, configurable:
 pub(crate) fn thrower_property() -> Prop
     ensures { result ≡ thrower_property }
 {
+    let thrower = Builtin::Function(FunctionBuiltin::Thrower).place();
     Prop::Accessor {
-        get: Some(THROWER),
-        set: Some(THROWER),
+        get: Some(thrower),
+        set: Some(thrower),
         enumerable: false,
         configurable: false,
     }
@@ -66,7 +66,7 @@ impl Store {
         let prototype = word(self.alloc, "prototype")?;
         let params = count(params)?;
         let inner = Inner::Script { function, env };
-        let f = self.new_object(Class::Function, Some(FUNCTION_PROTOTYPE), inner)?;
+        let f = self.new_object(Class::Function, Some(ObjId::FUNCTION_PROTOTYPE), inner)?;
         self.add_property(f, &length, data(params, false, false, false))?;
         let proto = self.new_object(Class::Object, Some(ObjId::OBJECT_PROTOTYPE), Inner::Nothing)?;
         self.add_property(proto, &constructor, data(Value::Obj(f), true, false, true))?;

@@ -1,6 +1,6 @@
 //! What objects are by their inner parts (8.6.2, table 9).
 ghost use Rattle.std.specs.Prelude.{◌≡◌};
-ghost use Rattle.jl_meaning.specs.FunctionObjects.{has_construct, is_constructor, script_number};
+ghost use Rattle.jl_meaning.specs.FunctionObjects.{has_construct, script_number};
 ghost use Rattle.jl_meaning.specs.Getting.{has_call};
 
 use jl_heap::Inner;
@@ -21,23 +21,9 @@ pub fn has_construct(inner: &Inner) -> bool
 {
     match inner {
         Inner::Script { .. } | Inner::Bound { .. } => true,
-        Inner::Native(builtin) => is_constructor(builtin.row()),
+        Inner::Native(builtin) => builtin.prototype().is_some(),
         _ => false,
     }
-}
-
-/// Whether the builtin with this row constructs (clause 15).
-#[tactic(auto, unfolding(jl_meaning::specs::FunctionObjects::is_constructor))]
-fn is_constructor(row: u16) -> bool
-    ensures { result ≡ is_constructor row }
-{
-    row == 0
-        || row == 20
-        || row == 28
-        || row == 51
-        || row == 77
-        || row == 84
-        || (87 <= row && row <= 93)
 }
 
 /// The number of the function of the script that an object with this inner part is, if it is one.

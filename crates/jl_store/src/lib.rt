@@ -13,7 +13,6 @@ mod found;
 mod functions;
 mod globals;
 mod inner;
-mod intrinsics;
 mod names;
 mod objects;
 mod properties;

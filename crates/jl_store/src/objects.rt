@@ -9,7 +9,6 @@ ghost use Rattle.jl_store.specs.Comes.{Comes};
 
 use crate::answer::Answer;
 use crate::functions::data;
-use crate::intrinsics::{ARRAY_PROTOTYPE, BOOLEAN_PROTOTYPE, NUMBER_PROTOTYPE, STRING_PROTOTYPE};
 use crate::store::Store;
 use crate::words::count;
 use jl_heap::Inner;
@@ -21,7 +20,7 @@ impl Store {
     pub fn new_array(&mut self) -> Result<ObjId, NoMemory>
         ensures { IfOk result (λ id. Comes new_array self.old self.new (Ends (gives id))) }
     {
-        let id = self.new_object(Class::Array, Some(ARRAY_PROTOTYPE), Inner::Nothing)?;
+        let id = self.new_object(Class::Array, Some(ObjId::ARRAY_PROTOTYPE), Inner::Nothing)?;
         Ok(id)
     }
 
@@ -54,7 +53,7 @@ impl Store {
         let length = word(self.alloc, "length")?;
         let units = count(text.units().len())?;
         let wrapped = Inner::Wrapped(Value::Text(text));
-        let id = self.new_object(Class::String, Some(STRING_PROTOTYPE), wrapped)?;
+        let id = self.new_object(Class::String, Some(ObjId::STRING_PROTOTYPE), wrapped)?;
         self.add_property(id, &length, data(units, false, false, false))?;
         Ok(id)
     }
@@ -75,12 +74,12 @@ impl Store {
             }
             Value::Bool(truth) => {
                 let truth = Value::Bool(*truth);
-                let id = self.new_wrapper(Class::Boolean, BOOLEAN_PROTOTYPE, truth)?;
+                let id = self.new_wrapper(Class::Boolean, ObjId::BOOLEAN_PROTOTYPE, truth)?;
                 Ok(Answer::Gives(id))
             }
             Value::Num(number) => {
                 let number = Value::Num(*number);
-                let id = self.new_wrapper(Class::Number, NUMBER_PROTOTYPE, number)?;
+                let id = self.new_wrapper(Class::Number, ObjId::NUMBER_PROTOTYPE, number)?;
                 Ok(Answer::Gives(id))
             }
             Value::Text(text) => {

@@ -8,7 +8,6 @@ ghost use Rattle.jl_meaning.specs.Properties.{holding, own_or_inherited, string_
 ghost use Rattle.jl_store.specs.LookUps.{property_found, property_seen};
 
 use crate::found::{Found, Property};
-use crate::intrinsics::{BOOLEAN_PROTOTYPE, NUMBER_PROTOTYPE, STRING_PROTOTYPE};
 use crate::store::Store;
 use jl_heap::{Inner, Prop, is_length_name};
 use jl_text::Text;
@@ -133,10 +132,10 @@ impl Store {
             Value::Obj(id) => self.get_property(*id, name),
             Value::Text(text) => match string_property(text, name) {
                 Some(found) => Some(Property { own: true, found }),
-                None => as_inherited(self.property_on(STRING_PROTOTYPE, name)),
+                None => as_inherited(self.property_on(ObjId::STRING_PROTOTYPE, name)),
             },
-            Value::Num(_) => as_inherited(self.property_on(NUMBER_PROTOTYPE, name)),
-            Value::Bool(_) => as_inherited(self.property_on(BOOLEAN_PROTOTYPE, name)),
+            Value::Num(_) => as_inherited(self.property_on(ObjId::NUMBER_PROTOTYPE, name)),
+            Value::Bool(_) => as_inherited(self.property_on(ObjId::BOOLEAN_PROTOTYPE, name)),
             Value::Undefined | Value::Null => None,
         }
     }

@@ -1,5 +1,6 @@
 -- What the sections of clause 15 ask of arguments and of `this`.
 use Rattle.std.specs.Prelude.{codes, false, slice_index_or, true, Bool, List, None, Option, Some, ℕ}
+use Rattle.jl_value.specs.declared.builtin.Builtin.{Builtin}
 use Rattle.jl_value.specs.declared.object.Class.{Class}
 use Rattle.jl_value.specs.declared.object.ObjId.{ObjId}
 use Rattle.jl_value.specs.declared.value.Value.{Value}
@@ -18,8 +19,8 @@ abbrev pub argument : Call → ℕ → Value
 argument c i = slice_index_or c.args i value.Undefined
 
 -- a builtin that is there, and is left out
-abbrev pub fail_row : (row : ℕ) → Call → Algorithm Value
-fail_row row c = Fail (Unsupported row)
+abbrev pub unsupported : Builtin → Call → Algorithm Value
+unsupported b c = Fail (Unsupported b)
 
 -- the argument has to be an object
 abbrev pub need_object : Value → Algorithm ObjId

@@ -4,6 +4,8 @@ use Rattle.std.specs.Prelude.{[], codes, false, if◌then◌else◌, length, min
 use Rattle.std.specs.Prelude.{◌++◌, ◌+◌, ◌-◌, ◌∷◌, Bool, List, None, Option, Some, ℕ, ℤ}
 use Rattle.jl_num.specs.Bits.{uint32_of}
 use Rattle.jl_value.specs.BuiltinPlaces.{place_of_builtin}
+use Rattle.jl_value.specs.declared.builtin.Builtin.TheVariants as builtin
+use Rattle.jl_value.specs.declared.builtin_groups.ObjectBuiltin.TheVariants as object_builtin
 use Rattle.jl_value.specs.Tests.{is_nothing}
 use Rattle.jl_value.specs.declared.object.ObjId.{ObjId}
 use Rattle.jl_value.specs.declared.value.Value.{Value}
@@ -66,7 +68,7 @@ array_is_array c = do
 
 -- the standard Object.prototype.toString
 abbrev pub standard_to_string : ObjId
-standard_to_string = place_of_builtin 14
+standard_to_string = place_of_builtin (builtin.Object object_builtin.ToString)
 
 abbrev pub call_if : (callable : Bool) → (f : Value) → (this : ObjId) → Algorithm Value
 call_if true (value.Obj f) o = call f (value.Obj o) []

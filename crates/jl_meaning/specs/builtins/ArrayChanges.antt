@@ -3,6 +3,8 @@ use Rattle.std.specs.Cmp.Lexicographic.{slice_cmp}
 use Rattle.std.specs.Ordering.{is_lt, nat_cmp}
 use Rattle.std.specs.Prelude.{[], drop, false, if◌then◌else◌, length, map, nat_lt, suc, true, zero, ◌++◌, ◌+◌, ◌-◌}
 use Rattle.std.specs.Prelude.{◌/◌, ◌∷◌, Bool, List, None, Option, Some, ℕ}
+use Rattle.jl_value.specs.declared.builtin.Builtin.TheVariants as builtin
+use Rattle.jl_value.specs.declared.builtin_groups.ArrayBuiltin.TheVariants as array_builtin
 use Rattle.jl_value.specs.declared.object.ObjId.{ObjId}
 use Rattle.jl_value.specs.declared.value.Value.{Value}
 use Rattle.jl_value.specs.declared.value.Value.TheVariants as value
@@ -136,13 +138,10 @@ sort_plainly c = do
   _ ← upward (λ k _. delete_index o k) (length - n) n tt
   give (value.Obj o)
 
-abbrev pub sort_row : ℕ
-sort_row = 39
-
 -- sort (15.4.4.11), without a function to compare by
 abbrev pub sort_by : Value → Call → Algorithm Value
 sort_by value.Undefined c = sort_plainly c
-sort_by compare c = Fail (Unsupported sort_row)
+sort_by compare c = Fail (Unsupported (builtin.Array array_builtin.Sort))
 
 abbrev pub array_sort : Call → Algorithm Value
 array_sort c = sort_by (argument c 0) c

@@ -1,5 +1,7 @@
 -- Boolean (15.6): the constructor, and the functions of its prototype.
 use Rattle.std.specs.Prelude.{[], ◌∷◌, Bool, List, None, Option, Some}
+use Rattle.jl_value.specs.declared.builtin_groups.BooleanBuiltin.{BooleanBuiltin}
+use Rattle.jl_value.specs.declared.builtin_groups.BooleanBuiltin.TheVariants as boolean_builtin
 use Rattle.jl_value.specs.declared.object.Class.{Class}
 use Rattle.jl_value.specs.declared.object.Class.TheVariants as class
 use Rattle.jl_value.specs.declared.value.Value.{Value}
@@ -44,6 +46,8 @@ boolean_value_of c = do
   b ← boolean_of_this c
   give_truth b
 
--- in the order of the table
-abbrev pub boolean_rows : List (Call → Algorithm Value)
-boolean_rows = boolean_constructor ∷ boolean_to_string ∷ boolean_value_of ∷ []
+-- what a call of each does
+abbrev pub boolean_algorithm : BooleanBuiltin → Call → Algorithm Value
+boolean_algorithm boolean_builtin.Constructor c = boolean_constructor c
+boolean_algorithm boolean_builtin.ToString c = boolean_to_string c
+boolean_algorithm boolean_builtin.ValueOf c = boolean_value_of c

@@ -1,5 +1,10 @@
 -- Error and the native errors (15.11).
 use Rattle.std.specs.Prelude.{[], codes, false, true, ◌++◌, ◌∷◌, List, None, Option, Some, ℕ}
+use Rattle.jl_value.specs.declared.builtin_groups.ErrorBuiltin.{ErrorBuiltin}
+use Rattle.jl_value.specs.declared.builtin_groups.ErrorBuiltin.TheVariants as error_builtin
+use Rattle.jl_value.specs.Intrinsics.{error_prototype, eval_error_prototype, range_error_prototype}
+use Rattle.jl_value.specs.Intrinsics.{reference_error_prototype, syntax_error_prototype, type_error_prototype}
+use Rattle.jl_value.specs.Intrinsics.{uri_error_prototype}
 use Rattle.jl_value.specs.declared.object.Class.TheVariants as class
 use Rattle.jl_value.specs.declared.object.ObjId.{ObjId}
 use Rattle.jl_value.specs.declared.value.Value.{Value}
@@ -9,7 +14,6 @@ use Rattle.jl_heap.specs.declared.property.Prop.TheVariants.{Plain}
 use Rattle.jl_meaning.specs.Conversions.{to_string}
 use Rattle.jl_meaning.specs.Errors.{string_within}
 use Rattle.jl_meaning.specs.Getting.{get}
-use Rattle.jl_meaning.specs.Intrinsics.{error_prototype, native_error_prototype}
 use Rattle.jl_meaning.specs.Parts.{add_property, give, new_object, ◌>>=◌, Algorithm, Call}
 use Rattle.jl_meaning.specs.builtins.Arguments.{argument, give_object, give_string, need_object, unless_undefined}
 
@@ -37,9 +41,6 @@ error_constructor proto c = do
   id ← new_error proto message
   give_object id
 
-abbrev pub native_error : ℕ → Call → Algorithm Value
-native_error n c = error_constructor (native_error_prototype n) c
-
 -- a name and a message, where neither is empty (15.11.4.4, steps 8 to 10)
 abbrev pub name_and_message : (name message : List ℕ) → Algorithm Value
 name_and_message [] message = give_string message
@@ -62,9 +63,13 @@ error_to_string c = do
   message ← string_or [] w
   name_and_message name message
 
--- `Error` and the native errors, in the order of the table
-abbrev pub error_rows : List (Call → Algorithm Value)
-error_rows =
-    error_constructor error_prototype ∷ native_error 0 ∷ native_error 1 ∷ native_error 2 ∷ native_error 3
-    ∷ native_error 4
-    ∷ native_error 5 ∷ error_to_string ∷ []
+-- what a call of each does
+abbrev pub error_algorithm : ErrorBuiltin → Call → Algorithm Value
+error_algorithm error_builtin.Error c = error_constructor error_prototype c
+error_algorithm error_builtin.EvalError c = error_constructor eval_error_prototype c
+error_algorithm error_builtin.RangeError c = error_constructor range_error_prototype c
+error_algorithm error_builtin.ReferenceError c = error_constructor reference_error_prototype c
+error_algorithm error_builtin.SyntaxError c = error_constructor syntax_error_prototype c
+error_algorithm error_builtin.TypeError c = error_constructor type_error_prototype c
+error_algorithm error_builtin.UriError c = error_constructor uri_error_prototype c
+error_algorithm error_builtin.ToString c = error_to_string c

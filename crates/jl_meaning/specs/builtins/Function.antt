@@ -3,8 +3,11 @@ use Rattle.std.specs.Option.{unwrap_or}
 use Rattle.std.specs.Prelude.{[], codes, drop, false, length, map, slice_index_or, ◌++◌, ◌-◌, ◌∷◌, List, None, Option}
 use Rattle.std.specs.Prelude.{Some, ℕ}
 use Rattle.jl_ast.specs.Table.{table}
-use Rattle.jl_value.specs.BuiltinPlaces.{bound_row}
-use Rattle.jl_value.specs.Builtins as builtins
+use Rattle.jl_value.specs.declared.builtin.Builtin.TheVariants as builtin
+use Rattle.jl_value.specs.declared.builtin_groups.FunctionBuiltin.{FunctionBuiltin}
+use Rattle.jl_value.specs.declared.builtin_groups.FunctionBuiltin.TheVariants as function_builtin
+use Rattle.jl_value.specs.BuiltinPlaces.{bound}
+use Rattle.jl_value.specs.Builtins.{name_of}
 use Rattle.jl_value.specs.declared.object.Class.{Class}
 use Rattle.jl_value.specs.declared.object.Class.TheVariants as class
 use Rattle.jl_value.specs.declared.object.ObjId.{ObjId}
@@ -23,7 +26,7 @@ use Rattle.jl_meaning.specs.Intrinsics.{function_prototype}
 use Rattle.jl_meaning.specs.Parts.{add_property, call, give, look, new_object, ◌>>=◌, Algorithm, Call, CodeFromText}
 use Rattle.jl_meaning.specs.Realm.{last_part}
 use Rattle.jl_meaning.specs.builtins.Arguments.{argument, give_object, give_string, need_function, need_object}
-use Rattle.jl_meaning.specs.builtins.Arguments.{need_receiver, fail_row}
+use Rattle.jl_meaning.specs.builtins.Arguments.{need_receiver, unsupported}
 use Rattle.jl_meaning.specs.builtins.Elements.{get_index, get_length}
 use Rattle.jl_meaning.specs.builtins.Turns.{upward}
 
@@ -45,8 +48,8 @@ function_prototype_call c = give value.Undefined
 -- the name of a function with this inner part: that of a builtin is the last part of its path
 abbrev pub name_inside : FunctionNames → Inner → Name
 name_inside names (inner.Script number env) = unwrap_or (slice_index_or names number None) []
-name_inside names (inner.Native row) = last_part (builtins.name_of row)
-name_inside names (inner.Bound target this args) = last_part (builtins.name_of bound_row)
+name_inside names (inner.Native b) = last_part (name_of b)
+name_inside names (inner.Bound target this args) = last_part (name_of bound)
 name_inside names i = []
 
 -- the inner part of an object of class Function
@@ -119,9 +122,13 @@ function_bind c = do
 abbrev pub throw_forbidden : Call → Algorithm Value
 throw_forbidden c = throw_type_error (codes "forbidden")
 
--- these, in the order of the table; no object is the row `bound`
-abbrev pub function_rows : FunctionNames → List (Call → Algorithm Value)
-function_rows names =
-    function_constructor ∷ function_prototype_call ∷ function_to_string names ∷ function_apply ∷ function_call
-    ∷ function_bind
-    ∷ fail_row bound_row ∷ throw_forbidden ∷ []
+-- what a call of each does
+abbrev pub function_algorithm : FunctionNames → FunctionBuiltin → Call → Algorithm Value
+function_algorithm names function_builtin.Constructor c = function_constructor c
+function_algorithm names function_builtin.Prototype c = function_prototype_call c
+function_algorithm names function_builtin.ToString c = function_to_string names c
+function_algorithm names function_builtin.Apply c = function_apply c
+function_algorithm names function_builtin.Call c = function_call c
+function_algorithm names function_builtin.Bind c = function_bind c
+function_algorithm names function_builtin.Bound c = unsupported (builtin.Function function_builtin.Bound) c
+function_algorithm names function_builtin.Thrower c = throw_forbidden c

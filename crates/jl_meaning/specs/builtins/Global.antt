@@ -7,6 +7,8 @@ use Rattle.jl_num.specs.Bits.{int32_of}
 use Rattle.jl_num.specs.Number.{Number}
 use Rattle.jl_text.specs.Encoding.{bytes_of}
 use Rattle.jl_token.specs.Characters.{is_digit}
+use Rattle.jl_value.specs.declared.builtin_groups.GlobalBuiltin.{GlobalBuiltin}
+use Rattle.jl_value.specs.declared.builtin_groups.GlobalBuiltin.TheVariants as global_builtin
 use Rattle.jl_value.specs.declared.value.Value.{Value}
 use Rattle.jl_value.specs.declared.value.Value.TheVariants as value
 use Rattle.jl_conv.specs.Numerals.{is_hexadecimal_letter, with_sign, without_front}
@@ -109,6 +111,10 @@ is_finite c = do
   n ← to_number (argument c 0)
   give_truth (not (is_none n))
 
--- `print` and `console.log`, and then the others
-abbrev pub global_rows : List (Call → Algorithm Value)
-global_rows = print_call ∷ print_call ∷ parse_int ∷ is_nan ∷ is_finite ∷ []
+-- what a call of each does
+abbrev pub global_algorithm : GlobalBuiltin → Call → Algorithm Value
+global_algorithm global_builtin.Print c = print_call c
+global_algorithm global_builtin.ConsoleLog c = print_call c
+global_algorithm global_builtin.ParseInt c = parse_int c
+global_algorithm global_builtin.IsNaN c = is_nan c
+global_algorithm global_builtin.IsFinite c = is_finite c

@@ -4,6 +4,8 @@ use Rattle.std.specs.Option.{option_map_or}
 use Rattle.std.specs.Prelude.{[], pos, unsigned_abs, ◌∷◌, List, None, Option, Some, ℤ}
 use Rattle.jl_num.specs.Number.{Number}
 use Rattle.jl_num.specs.Power.{power_of}
+use Rattle.jl_value.specs.declared.builtin_groups.MathBuiltin.{MathBuiltin}
+use Rattle.jl_value.specs.declared.builtin_groups.MathBuiltin.TheVariants as math_builtin
 use Rattle.jl_value.specs.declared.value.Value.{Value}
 use Rattle.jl_value.specs.declared.value.Value.TheVariants as value
 use Rattle.jl_effects.specs.Effects.{Step}
@@ -56,6 +58,12 @@ math_pow c = do
   y ← to_number (argument c 1)
   give_number (power_of x y)
 
--- in the order of the table
-abbrev pub math_rows : List (Call → Algorithm Value)
-math_rows = math_abs ∷ math_whole ∷ math_whole ∷ math_max ∷ math_min ∷ math_pow ∷ math_whole ∷ []
+-- what a call of each does
+abbrev pub math_algorithm : MathBuiltin → Call → Algorithm Value
+math_algorithm math_builtin.Abs c = math_abs c
+math_algorithm math_builtin.Ceil c = math_whole c
+math_algorithm math_builtin.Floor c = math_whole c
+math_algorithm math_builtin.Max c = math_max c
+math_algorithm math_builtin.Min c = math_min c
+math_algorithm math_builtin.Pow c = math_pow c
+math_algorithm math_builtin.Round c = math_whole c

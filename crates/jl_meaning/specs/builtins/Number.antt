@@ -3,6 +3,9 @@ use Rattle.std.specs.Int.{is_in_range}
 use Rattle.std.specs.Prelude.{[], codes, if◌then◌else◌, negsuc, pos, ◌∷◌, List, None, Option, Some, ℤ}
 use Rattle.jl_num.specs.Digits.{number_text}
 use Rattle.jl_num.specs.Number.{Number}
+use Rattle.jl_value.specs.declared.builtin.Builtin.TheVariants as builtin
+use Rattle.jl_value.specs.declared.builtin_groups.NumberBuiltin.{NumberBuiltin}
+use Rattle.jl_value.specs.declared.builtin_groups.NumberBuiltin.TheVariants as number_builtin
 use Rattle.jl_value.specs.declared.error_kind.ErrorKind.TheVariants.{RangeError}
 use Rattle.jl_value.specs.declared.object.Class.{Class}
 use Rattle.jl_value.specs.declared.object.Class.TheVariants as class
@@ -15,7 +18,7 @@ use Rattle.jl_meaning.specs.Conversions.{to_integer, to_number}
 use Rattle.jl_meaning.specs.Errors.{throw_error}
 use Rattle.jl_meaning.specs.Intrinsics.{number_prototype}
 use Rattle.jl_meaning.specs.Parts.{give, look, ◌>>=◌, Algorithm, Call}
-use Rattle.jl_meaning.specs.builtins.Arguments.{argument, give_string, need_receiver, unless_undefined, fail_row}
+use Rattle.jl_meaning.specs.builtins.Arguments.{argument, give_string, need_receiver, unless_undefined, unsupported}
 use Rattle.jl_meaning.specs.builtins.Arguments.{value_or_object}
 
 -- the number of an argument, where there is one
@@ -63,8 +66,12 @@ number_value_of c = do
   n ← number_of_this c
   give (value.Num n)
 
--- in the order of the table
-abbrev pub number_rows : List (Call → Algorithm Value)
-number_rows =
-    number_constructor ∷ number_to_string ∷ number_value_of ∷ fail_row 80 ∷ fail_row 81 ∷ fail_row 82
-    ∷ fail_row 83 ∷ []
+-- what a call of each does
+abbrev pub number_algorithm : NumberBuiltin → Call → Algorithm Value
+number_algorithm number_builtin.Constructor c = number_constructor c
+number_algorithm number_builtin.ToString c = number_to_string c
+number_algorithm number_builtin.ValueOf c = number_value_of c
+number_algorithm number_builtin.ToFixed c = unsupported (builtin.Number number_builtin.ToFixed) c
+number_algorithm number_builtin.ToExponential c = unsupported (builtin.Number number_builtin.ToExponential) c
+number_algorithm number_builtin.ToPrecision c = unsupported (builtin.Number number_builtin.ToPrecision) c
+number_algorithm number_builtin.ToLocaleString c = unsupported (builtin.Number number_builtin.ToLocaleString) c

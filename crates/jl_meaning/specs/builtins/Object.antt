@@ -2,6 +2,9 @@
 use Rattle.std.specs.Option.{option_map_or}
 use Rattle.std.specs.Prelude.{[], codes, false, is_some, map, not, true, ◌&&◌, ◌++◌, ◌∷◌, Bool, List, None, Option}
 use Rattle.std.specs.Prelude.{Some, ℕ}
+use Rattle.jl_value.specs.declared.builtin.Builtin.TheVariants as builtin
+use Rattle.jl_value.specs.declared.builtin_groups.ObjectBuiltin.{ObjectBuiltin}
+use Rattle.jl_value.specs.declared.builtin_groups.ObjectBuiltin.TheVariants as object_builtin
 use Rattle.jl_value.specs.Texts.{class_name}
 use Rattle.jl_value.specs.declared.object.Class.TheVariants as class
 use Rattle.jl_value.specs.declared.object.ObjId.{ObjId}
@@ -23,7 +26,7 @@ use Rattle.jl_meaning.specs.Properties.{get_own_property}
 use Rattle.jl_meaning.specs.Relations.{give_truth, is_prototype_of}
 use Rattle.jl_meaning.specs.Store.{Store}
 use Rattle.jl_meaning.specs.builtins.Arguments.{argument, define_or_throw, give_object, give_string, need_object}
-use Rattle.jl_meaning.specs.builtins.Arguments.{unless_undefined, fail_row}
+use Rattle.jl_meaning.specs.builtins.Arguments.{unless_undefined, unsupported}
 use Rattle.jl_meaning.specs.builtins.Descriptors.{change_of, enumerable_names, from_property_descriptor}
 use Rattle.jl_meaning.specs.builtins.Descriptors.{has_enumerable, own_names, to_property_descriptor}
 use Rattle.jl_meaning.specs.builtins.Elements.{array_in_turns}
@@ -265,12 +268,25 @@ object_is_prototype_of c = is_prototype_of_value c (argument c 0)
 abbrev pub object_property_is_enumerable : Call → Algorithm Value
 object_property_is_enumerable c = this_has has_enumerable c
 
--- these, in the order of the table
-abbrev pub object_rows : List (Call → Algorithm Value)
-object_rows =
-    object_call ∷ object_get_prototype_of ∷ object_get_own_property_descriptor ∷ object_get_own_property_names
-    ∷ object_create ∷ object_define_property
-    ∷ object_define_properties ∷ object_seal ∷ object_freeze ∷ object_prevent_extensions ∷ object_is_sealed
-    ∷ object_is_frozen ∷ object_is_extensible ∷ object_keys
-    ∷ object_to_string ∷ fail_row 15 ∷ object_value_of ∷ object_has_own_property ∷ object_is_prototype_of
-    ∷ object_property_is_enumerable ∷ []
+-- what a call of each does
+abbrev pub object_algorithm : ObjectBuiltin → Call → Algorithm Value
+object_algorithm object_builtin.Constructor c = object_call c
+object_algorithm object_builtin.GetPrototypeOf c = object_get_prototype_of c
+object_algorithm object_builtin.GetOwnPropertyDescriptor c = object_get_own_property_descriptor c
+object_algorithm object_builtin.GetOwnPropertyNames c = object_get_own_property_names c
+object_algorithm object_builtin.Create c = object_create c
+object_algorithm object_builtin.DefineProperty c = object_define_property c
+object_algorithm object_builtin.DefineProperties c = object_define_properties c
+object_algorithm object_builtin.Seal c = object_seal c
+object_algorithm object_builtin.Freeze c = object_freeze c
+object_algorithm object_builtin.PreventExtensions c = object_prevent_extensions c
+object_algorithm object_builtin.IsSealed c = object_is_sealed c
+object_algorithm object_builtin.IsFrozen c = object_is_frozen c
+object_algorithm object_builtin.IsExtensible c = object_is_extensible c
+object_algorithm object_builtin.Keys c = object_keys c
+object_algorithm object_builtin.ToString c = object_to_string c
+object_algorithm object_builtin.ToLocaleString c = unsupported (builtin.Object object_builtin.ToLocaleString) c
+object_algorithm object_builtin.ValueOf c = object_value_of c
+object_algorithm object_builtin.HasOwnProperty c = object_has_own_property c
+object_algorithm object_builtin.IsPrototypeOf c = object_is_prototype_of c
+object_algorithm object_builtin.PropertyIsEnumerable c = object_property_is_enumerable c

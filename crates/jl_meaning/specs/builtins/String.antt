@@ -7,6 +7,9 @@ use Rattle.std.specs.Prelude.{None, Option, Some, ℕ, ℤ}
 use Rattle.jl_num.specs.Bits.{uint16_of}
 use Rattle.jl_num.specs.Number.{Number}
 use Rattle.jl_text.specs.Search.{first_place, last_place}
+use Rattle.jl_value.specs.declared.builtin.Builtin.TheVariants as builtin
+use Rattle.jl_value.specs.declared.builtin_groups.StringBuiltin.{StringBuiltin}
+use Rattle.jl_value.specs.declared.builtin_groups.StringBuiltin.TheVariants as string_builtin
 use Rattle.jl_value.specs.declared.object.Class.{Class}
 use Rattle.jl_value.specs.declared.object.Class.TheVariants as class
 use Rattle.jl_value.specs.declared.value.Value.{Value}
@@ -21,7 +24,7 @@ use Rattle.jl_meaning.specs.Errors.{string_within}
 use Rattle.jl_meaning.specs.FunctionObjects.{whole}
 use Rattle.jl_meaning.specs.Parts.{give, look, ◌>>=◌, Algorithm, Call, Unsupported}
 use Rattle.jl_meaning.specs.builtins.Arguments.{argument, give_object, give_string, need_receiver, string_of_this}
-use Rattle.jl_meaning.specs.builtins.Arguments.{unless_undefined, fail_row}
+use Rattle.jl_meaning.specs.builtins.Arguments.{unless_undefined, unsupported}
 use Rattle.jl_meaning.specs.builtins.Elements.{add_in_turns, clamp, index_or_none, relative_index, to_end}
 use Rattle.jl_meaning.specs.forms.Literals.{new_array}
 
@@ -187,10 +190,10 @@ abbrev pub is_past_ascii : ℕ → Bool
 is_past_ascii u = nat_lt 127 u
 
 -- the string with each unit in the other case, where all units are in ASCII
-abbrev pub in_case : (row : ℕ) → (ℕ → ℕ) → Call → Algorithm Value
-in_case row f c = do
+abbrev pub in_case : StringBuiltin → (ℕ → ℕ) → Call → Algorithm Value
+in_case which f c = do
   units ← string_of_this c
-  if list_any is_past_ascii units then Fail (Unsupported row) else give_string (map f units)
+  if list_any is_past_ascii units then Fail (Unsupported (builtin.String which)) else give_string (map f units)
 
 abbrev pub lower : ℕ → ℕ
 lower u = if nat_le 65 u && nat_le u 90 then u + 32 else u
@@ -200,11 +203,11 @@ upper u = if nat_le 97 u && nat_le u 122 then u - 32 else u
 
 -- String.prototype.toLowerCase() (15.5.4.16)
 abbrev pub string_to_lower_case : Call → Algorithm Value
-string_to_lower_case c = in_case 63 lower c
+string_to_lower_case c = in_case string_builtin.ToLowerCase lower c
 
 -- String.prototype.toUpperCase() (15.5.4.18)
 abbrev pub string_to_upper_case : Call → Algorithm Value
-string_to_upper_case c = in_case 64 upper c
+string_to_upper_case c = in_case string_builtin.ToUpperCase upper c
 
 -- String.prototype.trim() (15.5.4.20)
 abbrev pub string_trim : Call → Algorithm Value
@@ -212,11 +215,26 @@ string_trim c = do
   units ← string_of_this c
   give_string (trim units)
 
--- these, in the order of the table
-abbrev pub string_rows : List (Call → Algorithm Value)
-string_rows =
-    string_constructor ∷ string_from_char_code ∷ string_value ∷ string_value ∷ string_char_at ∷ string_char_code_at
-    ∷ string_concat ∷ string_index_of
-    ∷ string_last_index_of ∷ string_slice ∷ string_split ∷ string_substring ∷ string_to_lower_case
-    ∷ string_to_upper_case ∷ string_trim
-    ∷ fail_row 66 ∷ fail_row 67 ∷ fail_row 68 ∷ fail_row 69 ∷ fail_row 70 ∷ fail_row 71 ∷ []
+-- what a call of each does
+abbrev pub string_algorithm : StringBuiltin → Call → Algorithm Value
+string_algorithm string_builtin.Constructor c = string_constructor c
+string_algorithm string_builtin.FromCharCode c = string_from_char_code c
+string_algorithm string_builtin.ToString c = string_value c
+string_algorithm string_builtin.ValueOf c = string_value c
+string_algorithm string_builtin.CharAt c = string_char_at c
+string_algorithm string_builtin.CharCodeAt c = string_char_code_at c
+string_algorithm string_builtin.Concat c = string_concat c
+string_algorithm string_builtin.IndexOf c = string_index_of c
+string_algorithm string_builtin.LastIndexOf c = string_last_index_of c
+string_algorithm string_builtin.Slice c = string_slice c
+string_algorithm string_builtin.Split c = string_split c
+string_algorithm string_builtin.Substring c = string_substring c
+string_algorithm string_builtin.ToLowerCase c = string_to_lower_case c
+string_algorithm string_builtin.ToUpperCase c = string_to_upper_case c
+string_algorithm string_builtin.Trim c = string_trim c
+string_algorithm string_builtin.ToLocaleLowerCase c = unsupported (builtin.String string_builtin.ToLocaleLowerCase) c
+string_algorithm string_builtin.ToLocaleUpperCase c = unsupported (builtin.String string_builtin.ToLocaleUpperCase) c
+string_algorithm string_builtin.LocaleCompare c = unsupported (builtin.String string_builtin.LocaleCompare) c
+string_algorithm string_builtin.Replace c = unsupported (builtin.String string_builtin.Replace) c
+string_algorithm string_builtin.Match c = unsupported (builtin.String string_builtin.Match) c
+string_algorithm string_builtin.Search c = unsupported (builtin.String string_builtin.Search) c

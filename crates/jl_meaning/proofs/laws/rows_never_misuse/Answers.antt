@@ -7,7 +7,7 @@ use Rattle.jl_meaning.proofs.laws.rows_never_misuse.Goals as goal
 own_faults : (e : AlgorithmFault) → IsNoMisuse (fault_of e)
 own_faults NumberOutside is = cc
 own_faults StringTooLong is = cc
-own_faults (Unsupported row) is = cc
+own_faults (Unsupported b) is = cc
 own_faults CodeFromText is = cc
 
 full_output : IsNoMisuse language.full
