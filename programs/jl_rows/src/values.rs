@@ -10,7 +10,7 @@ use jl_conv::{
 };
 use jl_num::{Num, NumberOutside};
 use jl_value::{
-    Builtin, Class, Fault as RunFault, ObjId, Seen, Value, array_index, same_value, share,
+    Builtin, Class, Fault as RunFault, GlobalBuiltin, ObjId, Seen, Value, array_index, same_value, share,
 };
 use std::alloc::Global;
 
@@ -86,7 +86,7 @@ fn fault(alloc: Global, word: &str) -> Result<String, Fault> {
         "output" => RunFault::OutputTooLong,
         "code" => RunFault::CodeFromText,
         "misuse" => RunFault::Misuse,
-        "print" => RunFault::Unsupported(Builtin::print()),
+        "print" => RunFault::Unsupported(Builtin::Global(GlobalBuiltin::Print)),
         row => RunFault::Unsupported(row_of(size_of(row)?).ok_or(Fault::Unreadable)?),
     };
     Ok(format!(in alloc; "{fault}")?)
