@@ -1,27 +1,50 @@
 -- The rows of builtins.
-use Rattle.std.proofs.Common.{◌≡◌, ◌∙◌, ◌<◌, List, Option, Some, ap, length, refl, subst, sym, ℕ}
-use Rattle.std.proofs.lemmas.Option.{slice_get_within}
+use Rattle.std.proofs.Common.{◌≡◌, ◌∙◌, ◌+◌, Bool, List, None, Option, Some, ap, refl, subst, sym, true, ℕ}
+use Rattle.std.proofs.Math.Dec.{eqb}
+use Rattle.std.proofs.lemmas.Bool.{eqb-true}
+use Rattle.std.proofs.lemmas.List.Elements.{All-get_or}
+use Rattle.std.proofs.lemmas.List.Sums.{AllPass-from_list_all}
+use Rattle.std.proofs.lemmas.Option.{get_or_from_slice_get, slice_get_within}
+use Rattle.std.specs.List.{list_all}
 use Rattle.std.specs.Option.{unwrap_or}
-use Rattle.std.specs.Prelude.{◌≢◌, IfSome, position, slice_get}
+use Rattle.std.specs.Prelude.{◌≢◌, All, IfNone, position, slice_get}
 use Rattle.std.specs.Str.{bytes_eq}
+use denote.Enum.Declared.{tag_of}
 use Rattle.jl_value.specs.BuiltinPlaces.{row_of}
-use Rattle.jl_value.specs.Builtins.{array_entry, boolean_entry, builtins, entry_of, error_entry, function_entry}
-use Rattle.jl_value.specs.Builtins.{global_entry, math_entry, name_of, number_entry, object_entry, string_entry}
+use Rattle.jl_value.specs.Builtins.{builtins, entry_of, name_of}
+use Rattle.jl_value.specs.contracts.builtin_groups.ArrayBuiltin.{the_type as array_type}
+use Rattle.jl_value.specs.contracts.builtin_groups.BooleanBuiltin.{the_type as boolean_type}
+use Rattle.jl_value.specs.contracts.builtin_groups.ErrorBuiltin.{the_type as error_type}
+use Rattle.jl_value.specs.contracts.builtin_groups.FunctionBuiltin.{the_type as function_type}
+use Rattle.jl_value.specs.contracts.builtin_groups.GlobalBuiltin.{the_type as global_type}
+use Rattle.jl_value.specs.contracts.builtin_groups.MathBuiltin.{the_type as math_type}
+use Rattle.jl_value.specs.contracts.builtin_groups.NumberBuiltin.{the_type as number_type}
+use Rattle.jl_value.specs.contracts.builtin_groups.ObjectBuiltin.{the_type as object_type}
+use Rattle.jl_value.specs.contracts.builtin_groups.StringBuiltin.{the_type as string_type}
 use Rattle.jl_value.specs.declared.builtin.Builtin.{Builtin}
 use Rattle.jl_value.specs.declared.builtin.Builtin.TheVariants as builtin
+use Rattle.jl_value.specs.declared.builtin_groups.ArrayBuiltin.{ArrayBuiltin}
 use Rattle.jl_value.specs.declared.builtin_groups.ArrayBuiltin.TheVariants as array_builtin
+use Rattle.jl_value.specs.declared.builtin_groups.BooleanBuiltin.{BooleanBuiltin}
 use Rattle.jl_value.specs.declared.builtin_groups.BooleanBuiltin.TheVariants as boolean_builtin
+use Rattle.jl_value.specs.declared.builtin_groups.ErrorBuiltin.{ErrorBuiltin}
 use Rattle.jl_value.specs.declared.builtin_groups.ErrorBuiltin.TheVariants as error_builtin
+use Rattle.jl_value.specs.declared.builtin_groups.FunctionBuiltin.{FunctionBuiltin}
 use Rattle.jl_value.specs.declared.builtin_groups.FunctionBuiltin.TheVariants as function_builtin
+use Rattle.jl_value.specs.declared.builtin_groups.GlobalBuiltin.{GlobalBuiltin}
 use Rattle.jl_value.specs.declared.builtin_groups.GlobalBuiltin.TheVariants as global_builtin
+use Rattle.jl_value.specs.declared.builtin_groups.MathBuiltin.{MathBuiltin}
 use Rattle.jl_value.specs.declared.builtin_groups.MathBuiltin.TheVariants as math_builtin
+use Rattle.jl_value.specs.declared.builtin_groups.NumberBuiltin.{NumberBuiltin}
 use Rattle.jl_value.specs.declared.builtin_groups.NumberBuiltin.TheVariants as number_builtin
+use Rattle.jl_value.specs.declared.builtin_groups.ObjectBuiltin.{ObjectBuiltin}
 use Rattle.jl_value.specs.declared.builtin_groups.ObjectBuiltin.TheVariants as object_builtin
+use Rattle.jl_value.specs.declared.builtin_groups.StringBuiltin.{StringBuiltin}
 use Rattle.jl_value.specs.declared.builtin_groups.StringBuiltin.TheVariants as string_builtin
 
 -- each builtin stands in its row
 pub stands : (b : Builtin) → slice_get builtins (row_of b) ≡ Some b
-unfolding builtins row_of entry_of array_entry boolean_entry error_entry function_entry global_entry math_entry number_entry object_entry string_entry
+unfolding builtins row_of entry_of
 stands (builtin.Object object_builtin.Constructor) = refl
 stands (builtin.Object object_builtin.GetPrototypeOf) = refl
 stands (builtin.Object object_builtin.GetOwnPropertyDescriptor) = refl
@@ -125,6 +148,69 @@ stands (builtin.Math math_builtin.Min) = refl
 stands (builtin.Math math_builtin.Pow) = refl
 stands (builtin.Math math_builtin.Round) = refl
 
+-- what holds of all in the table holds of each builtin
+each : (P : Builtin → Type 0) → All P builtins → (b : Builtin) → P b
+each P all b =
+    let row = row_of b in
+    subst P (get_or_from_slice_get builtins row b b (stands b))
+    (All-get_or P builtins row b (slice_get_within builtins row b (stands b)) all)
+
+pub all_pass : (test : Builtin → Bool) → list_all test builtins ≡ true → (b : Builtin) → test b ≡ true
+all_pass test all = each (λ b. test b ≡ true) (AllPass-from_list_all test builtins all)
+
+-- the row that the code counts
+abbrev counted : Builtin → ℕ
+counted (builtin.Object b) = tag_of object_type b
+counted (builtin.Function b) = 20 + tag_of function_type b
+counted (builtin.Array b) = 28 + tag_of array_type b
+counted (builtin.String b) = 51 + tag_of string_type b
+counted (builtin.Global b) = 72 + tag_of global_type b
+counted (builtin.Number b) = 77 + tag_of number_type b
+counted (builtin.Boolean b) = 84 + tag_of boolean_type b
+counted (builtin.Error b) = 87 + tag_of error_type b
+counted (builtin.Math b) = 95 + tag_of math_type b
+
+counted_alike : list_all (λ b. eqb (counted b) (row_of b)) builtins ≡ true
+unfolding builtins row_of entry_of
+counted_alike = refl
+
+counted_row : (b : Builtin) → counted b ≡ row_of b
+counted_row b =
+    eqb-true (counted b) (row_of b) (all_pass (λ c. eqb (counted c) (row_of c)) counted_alike b)
+
+abbrev pub StandsAt : (b : Builtin) (row : ℕ) → Type 0
+StandsAt b row = (row ≡ row_of b) × (slice_get builtins row ≡ Some b)
+
+counted_stands : (b : Builtin) → StandsAt b (counted b)
+counted_stands b = (counted_row b, ap (slice_get builtins) (counted_row b) ∙ stands b)
+
+pub object_row : (b : ObjectBuiltin) → StandsAt (builtin.Object b) (tag_of object_type b)
+object_row b = counted_stands (builtin.Object b)
+
+pub function_row : (b : FunctionBuiltin) → StandsAt (builtin.Function b) (20 + tag_of function_type b)
+function_row b = counted_stands (builtin.Function b)
+
+pub array_row : (b : ArrayBuiltin) → StandsAt (builtin.Array b) (28 + tag_of array_type b)
+array_row b = counted_stands (builtin.Array b)
+
+pub string_row : (b : StringBuiltin) → StandsAt (builtin.String b) (51 + tag_of string_type b)
+string_row b = counted_stands (builtin.String b)
+
+pub global_row : (b : GlobalBuiltin) → StandsAt (builtin.Global b) (72 + tag_of global_type b)
+global_row b = counted_stands (builtin.Global b)
+
+pub number_row : (b : NumberBuiltin) → StandsAt (builtin.Number b) (77 + tag_of number_type b)
+number_row b = counted_stands (builtin.Number b)
+
+pub boolean_row : (b : BooleanBuiltin) → StandsAt (builtin.Boolean b) (84 + tag_of boolean_type b)
+boolean_row b = counted_stands (builtin.Boolean b)
+
+pub error_row : (b : ErrorBuiltin) → StandsAt (builtin.Error b) (87 + tag_of error_type b)
+error_row b = counted_stands (builtin.Error b)
+
+pub math_row : (b : MathBuiltin) → StandsAt (builtin.Math b) (95 + tag_of math_type b)
+math_row b = counted_stands (builtin.Math b)
+
 -- a row depends on the path alone
 same_row : (a b : Builtin) → name_of a ≡ name_of b → row_of a ≡ row_of b
 unfolding row_of
@@ -138,10 +224,8 @@ pub one_builtin : (a b : Builtin) → name_of a ≡ name_of b → a ≡ b
 one_builtin a b same =
     the_same a b (sym (stands a) ∙ ap (λ n. slice_get builtins n) (same_row a b same) ∙ stands b)
 
--- where no row has the path, no builtin has it
-pub passed_all : (name : List ℕ)
-    → ((earlier : ℕ) → earlier < length builtins → IfSome (slice_get builtins earlier) (λ b. name_of b ≢ name))
-    → (b : Builtin) → name_of b ≢ name
-passed_all name none b =
-    subst (λ (o : Option Builtin). IfSome o (λ c. name_of c ≢ name)) (stands b)
-    (none (row_of b) (slice_get_within builtins (row_of b) b (stands b)))
+-- where nothing in the table has the path, no builtin has it
+pub passed_all : (name : List ℕ) (found : Option Builtin) → IfNone found (All (λ b. name_of b ≢ name) builtins)
+    → IfNone found ((b : Builtin) → name_of b ≢ name)
+passed_all name None all = each (λ b. name_of b ≢ name) all
+passed_all name (Some b) all = tt

@@ -62,7 +62,7 @@ abbrev pub unheld : (path : List ℕ) → (length : ℕ) → Entry
 unheld path length = record { path = path; length = length; holder = holders.Nothing; prototype = None }
 
 -- Object and its prototype (15.2)
-unfoldable pub object_entry : ObjectBuiltin → Entry
+abbrev pub object_entry : ObjectBuiltin → Entry
 object_entry object_builtin.Constructor = constructor (codes "Object") 1 object_prototype
 object_entry object_builtin.GetPrototypeOf = method (codes "Object.getPrototypeOf") 1 on_object
 object_entry object_builtin.GetOwnPropertyDescriptor = method (codes "Object.getOwnPropertyDescriptor") 2 on_object
@@ -90,7 +90,7 @@ object_entry object_builtin.PropertyIsEnumerable =
 
 -- Function and its prototype (15.3), any function that `bind` made (15.3.4.5), and the function that throws a
 -- TypeError (13.2.3)
-unfoldable pub function_entry : FunctionBuiltin → Entry
+abbrev pub function_entry : FunctionBuiltin → Entry
 function_entry function_builtin.Constructor = constructor (codes "Function") 1 function_prototype
 function_entry function_builtin.Prototype = unheld (codes "Function.prototype") 0
 function_entry function_builtin.ToString =
@@ -102,7 +102,7 @@ function_entry function_builtin.Bound = unheld (codes "bound") 0
 function_entry function_builtin.Thrower = unheld (codes "thrower") 0
 
 -- Array and its prototype (15.4)
-unfoldable pub array_entry : ArrayBuiltin → Entry
+abbrev pub array_entry : ArrayBuiltin → Entry
 array_entry array_builtin.Constructor = constructor (codes "Array") 1 array_prototype
 array_entry array_builtin.IsArray = method (codes "Array.isArray") 1 on_array
 array_entry array_builtin.ToString = method (codes "Array.prototype.toString") 0 (holders.Object array_prototype)
@@ -129,7 +129,7 @@ array_entry array_builtin.Reduce = method (codes "Array.prototype.reduce") 1 (ho
 array_entry array_builtin.ReduceRight = method (codes "Array.prototype.reduceRight") 1 (holders.Object array_prototype)
 
 -- String and its prototype (15.5)
-unfoldable pub string_entry : StringBuiltin → Entry
+abbrev pub string_entry : StringBuiltin → Entry
 string_entry string_builtin.Constructor = constructor (codes "String") 1 string_prototype
 string_entry string_builtin.FromCharCode = method (codes "String.fromCharCode") 1 on_string
 string_entry string_builtin.ToString = method (codes "String.prototype.toString") 0 (holders.Object string_prototype)
@@ -160,7 +160,7 @@ string_entry string_builtin.Match = method (codes "String.prototype.match") 1 (h
 string_entry string_builtin.Search = method (codes "String.prototype.search") 1 (holders.Object string_prototype)
 
 -- printing, and the functions of the global object (15.1.2)
-unfoldable pub global_entry : GlobalBuiltin → Entry
+abbrev pub global_entry : GlobalBuiltin → Entry
 global_entry global_builtin.Print = method (codes "print") 0 (holders.Object global_object)
 global_entry global_builtin.ConsoleLog = method (codes "console.log") 0 (holders.Object console)
 global_entry global_builtin.ParseInt = method (codes "parseInt") 2 (holders.Object global_object)
@@ -168,7 +168,7 @@ global_entry global_builtin.IsNaN = method (codes "isNaN") 1 (holders.Object glo
 global_entry global_builtin.IsFinite = method (codes "isFinite") 1 (holders.Object global_object)
 
 -- Number and its prototype (15.7)
-unfoldable pub number_entry : NumberBuiltin → Entry
+abbrev pub number_entry : NumberBuiltin → Entry
 number_entry number_builtin.Constructor = constructor (codes "Number") 1 number_prototype
 number_entry number_builtin.ToString = method (codes "Number.prototype.toString") 1 (holders.Object number_prototype)
 number_entry number_builtin.ValueOf = method (codes "Number.prototype.valueOf") 0 (holders.Object number_prototype)
@@ -181,14 +181,14 @@ number_entry number_builtin.ToLocaleString =
     method (codes "Number.prototype.toLocaleString") 0 (holders.Object number_prototype)
 
 -- Boolean and its prototype (15.6)
-unfoldable pub boolean_entry : BooleanBuiltin → Entry
+abbrev pub boolean_entry : BooleanBuiltin → Entry
 boolean_entry boolean_builtin.Constructor = constructor (codes "Boolean") 1 boolean_prototype
 boolean_entry boolean_builtin.ToString =
     method (codes "Boolean.prototype.toString") 0 (holders.Object boolean_prototype)
 boolean_entry boolean_builtin.ValueOf = method (codes "Boolean.prototype.valueOf") 0 (holders.Object boolean_prototype)
 
 -- Error, the native errors and the prototype of errors (15.11)
-unfoldable pub error_entry : ErrorBuiltin → Entry
+abbrev pub error_entry : ErrorBuiltin → Entry
 error_entry error_builtin.Error = constructor (codes "Error") 1 error_prototype
 error_entry error_builtin.EvalError = constructor (codes "EvalError") 1 eval_error_prototype
 error_entry error_builtin.RangeError = constructor (codes "RangeError") 1 range_error_prototype
@@ -199,7 +199,7 @@ error_entry error_builtin.UriError = constructor (codes "URIError") 1 uri_error_
 error_entry error_builtin.ToString = method (codes "Error.prototype.toString") 0 (holders.Object error_prototype)
 
 -- Math (15.8.2)
-unfoldable pub math_entry : MathBuiltin → Entry
+abbrev pub math_entry : MathBuiltin → Entry
 math_entry math_builtin.Abs = method (codes "Math.abs") 1 (holders.Object math)
 math_entry math_builtin.Ceil = method (codes "Math.ceil") 1 (holders.Object math)
 math_entry math_builtin.Floor = method (codes "Math.floor") 1 (holders.Object math)

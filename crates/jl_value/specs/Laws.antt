@@ -1,7 +1,8 @@
 -- What the definitions of this crate come to.
-use Rattle.std.specs.Prelude.{◌≡◌, ◌↔◌, ℕ, List, Some, IsTrue}
+use Rattle.std.specs.List.{list_all}
+use Rattle.std.specs.Prelude.{◌≡◌, ◌↔◌, ℕ, Bool, List, Some, IsTrue, true}
 use Rattle.jl_value.specs.declared.value.Value.{Value}
-use Rattle.jl_value.specs.Builtins.{name_of}
+use Rattle.jl_value.specs.Builtins.{builtins, name_of}
 use Rattle.jl_value.specs.declared.builtin.Builtin.{Builtin}
 use Rattle.jl_value.specs.Same.{same_value}
 use Rattle.jl_value.specs.Indices.{index_of, IsIndex}
@@ -21,3 +22,7 @@ OneIndex = (units : List ℕ) (m n : ℕ) → IsIndex units m → IsIndex units 
 -- no two builtins have the same path
 abbrev pub OneBuiltin : Type 0
 OneBuiltin = (a b : Builtin) → name_of a ≡ name_of b → a ≡ b
+
+-- a test that all builtins of the table pass, each builtin passes
+abbrev pub AllAreInTheTable : Type 0
+AllAreInTheTable = (test : Builtin → Bool) → list_all test builtins ≡ true → (b : Builtin) → test b ≡ true

@@ -1,4 +1,4 @@
-ghost use Rattle.std.specs.Prelude.{◌≡◌, ◌<◌, ◌≢◌, IfNone, IfSome, Some, is_some, length, slice_get};
+ghost use Rattle.std.specs.Prelude.{◌≡◌, ◌<◌, ◌≢◌, All, IfNone, IfSome, Some, is_some, length, slice_get};
 ghost use Rattle.jl_value.specs.Builtins.{builtins, entry_of, name_of};
 ghost use Rattle.jl_value.specs.BuiltinPlaces.{bound, place_of_builtin, place_of_row, row_of};
 
@@ -50,8 +50,6 @@ const ERROR: u16 = BOOLEAN + BooleanBuiltin::ValueOf as u16 + 1;
 
 const MATH: u16 = ERROR + ErrorBuiltin::ToString as u16 + 1;
 
-const COUNT: u16 = MATH + MathBuiltin::Round as u16 + 1;
-
 impl Builtin {
     /// `Function.prototype`, which is a function (15.3.4).
     pub const FUNCTION_PROTOTYPE: Builtin = Builtin::Function(FunctionBuiltin::Prototype);
@@ -64,25 +62,20 @@ impl Builtin {
     pub fn at(row: u16) -> Option<Builtin>
         ensures { result ≡ slice_get builtins row }
     {
-        BUILTINS.get(usize::from(row)).copied()
+        builtin_at(&BUILTINS, usize::from(row))
     }
 
     /// The builtin with this path, where the table has one. Compares the path with each of the table in turn.
+    #[tactic(auto, unfolding(crate::specs::Builtins::builtins))]
     pub fn named(name: &str) -> Option<Builtin>
         ensures found { IfSome result (λ b. name_of b ≡ name.now) }
         ensures none { IfNone result ((b : Builtin) → name_of b ≢ name.now) }
     {
-        for row in 0..COUNT {
-            let builtin = Builtin::at(row)?;
-            if builtin.name() == name {
-                return Some(builtin);
-            }
-        }
-        None
+        first_named(&BUILTINS, name)
     }
 
     /// Its row in the table, from 0.
-    #[tactic(auto, unfolding(crate::specs::BuiltinPlaces::row_of, crate::specs::Builtins::builtins, crate::specs::Builtins::entry_of, crate::specs::Builtins::object_entry, crate::specs::Builtins::function_entry, crate::specs::Builtins::array_entry, crate::specs::Builtins::string_entry, crate::specs::Builtins::global_entry, crate::specs::Builtins::number_entry, crate::specs::Builtins::boolean_entry, crate::specs::Builtins::error_entry, crate::specs::Builtins::math_entry))]
+    #[tactic(auto, using(crate::proofs::Rows::object_row, crate::proofs::Rows::function_row, crate::proofs::Rows::array_row, crate::proofs::Rows::string_row, crate::proofs::Rows::global_row, crate::proofs::Rows::number_row, crate::proofs::Rows::boolean_row, crate::proofs::Rows::error_row, crate::proofs::Rows::math_row))]
     pub fn row(self) -> u16
         ensures same { result ≡ row_of self }
         ensures there { slice_get builtins result ≡ Some self }
@@ -138,6 +131,26 @@ impl Builtin {
             _ => place_of_row(self.row()),
         }
     }
+}
+
+/// The builtin with this index in a table, if it has one.
+fn builtin_at(table: &[Builtin], index: usize) -> Option<Builtin>
+    ensures { result ≡ slice_get table.now index }
+{
+    table.get(index).copied()
+}
+
+/// The first builtin with this path in a table, if there is one.
+fn first_named(table: &[Builtin], name: &str) -> Option<Builtin>
+    ensures found { IfSome result (λ b. name_of b ≡ name.now) }
+    ensures none { IfNone result (All (λ b. name_of b ≢ name.now) table.now) }
+{
+    for builtin in table {
+        if builtin.name() == name {
+            return Some(*builtin);
+        }
+    }
+    None
 }
 
 /// The object in this row, where that is a function of its own: the first objects come before it, and two rows have no

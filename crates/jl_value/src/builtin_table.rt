@@ -163,7 +163,6 @@ macro_rules! unheld {
 }
 
 /// The entry of a builtin of section 15.2.
-#[tactic(auto, unfolding(crate::specs::Builtins::object_entry))]
 fn object_entry(builtin: ObjectBuiltin) -> Entry
     ensures { view_entry result ≡ object_entry builtin }
 {
@@ -201,7 +200,6 @@ fn object_entry(builtin: ObjectBuiltin) -> Entry
 }
 
 /// The entry of a builtin of section 15.3.
-#[tactic(auto, unfolding(crate::specs::Builtins::function_entry))]
 fn function_entry(builtin: FunctionBuiltin) -> Entry
     ensures { view_entry result ≡ function_entry builtin }
 {
@@ -219,7 +217,6 @@ fn function_entry(builtin: FunctionBuiltin) -> Entry
 }
 
 /// The entry of a builtin of section 15.4.
-#[tactic(auto, unfolding(crate::specs::Builtins::array_entry))]
 fn array_entry(builtin: ArrayBuiltin) -> Entry
     ensures { view_entry result ≡ array_entry builtin }
 {
@@ -252,7 +249,6 @@ fn array_entry(builtin: ArrayBuiltin) -> Entry
 }
 
 /// The entry of a builtin of section 15.5.
-#[tactic(auto, unfolding(crate::specs::Builtins::string_entry))]
 fn string_entry(builtin: StringBuiltin) -> Entry
     ensures { view_entry result ≡ string_entry builtin }
 {
@@ -291,7 +287,6 @@ fn string_entry(builtin: StringBuiltin) -> Entry
 }
 
 /// The entry of a builtin of section 15.1.2.
-#[tactic(auto, unfolding(crate::specs::Builtins::global_entry))]
 fn global_entry(builtin: GlobalBuiltin) -> Entry
     ensures { view_entry result ≡ global_entry builtin }
 {
@@ -306,7 +301,6 @@ fn global_entry(builtin: GlobalBuiltin) -> Entry
 }
 
 /// The entry of a builtin of section 15.7.
-#[tactic(auto, unfolding(crate::specs::Builtins::number_entry))]
 fn number_entry(builtin: NumberBuiltin) -> Entry
     ensures { view_entry result ≡ number_entry builtin }
 {
@@ -323,7 +317,6 @@ fn number_entry(builtin: NumberBuiltin) -> Entry
 }
 
 /// The entry of a builtin of section 15.6.
-#[tactic(auto, unfolding(crate::specs::Builtins::boolean_entry))]
 fn boolean_entry(builtin: BooleanBuiltin) -> Entry
     ensures { view_entry result ≡ boolean_entry builtin }
 {
@@ -336,7 +329,6 @@ fn boolean_entry(builtin: BooleanBuiltin) -> Entry
 }
 
 /// The entry of a builtin of section 15.11.
-#[tactic(auto, unfolding(crate::specs::Builtins::error_entry))]
 fn error_entry(builtin: ErrorBuiltin) -> Entry
     ensures { view_entry result ≡ error_entry builtin }
 {
@@ -358,7 +350,6 @@ fn error_entry(builtin: ErrorBuiltin) -> Entry
 }
 
 /// The entry of a builtin of section 15.8.2.
-#[tactic(auto, unfolding(crate::specs::Builtins::math_entry))]
 fn math_entry(builtin: MathBuiltin) -> Entry
     ensures { view_entry result ≡ math_entry builtin }
 {

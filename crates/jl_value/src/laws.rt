@@ -1,4 +1,4 @@
-ghost use Rattle.jl_value.specs.Laws.{SameValuesAreEqual, IndicesAreDigits, OneIndex, OneBuiltin};
+ghost use Rattle.jl_value.specs.Laws.{SameValuesAreEqual, IndicesAreDigits, OneIndex, OneBuiltin, AllAreInTheTable};
 
 /// Two values are the same exactly where they are equal (9.12).
 pub fn same_values_are_equal()
@@ -18,4 +18,9 @@ pub fn one_index()
 /// No two builtins have the same path.
 pub fn one_builtin()
     ensures { OneBuiltin }
+{}
+
+/// Each builtin passes a test that all of the table pass.
+pub fn all_are_in_the_table()
+    ensures { AllAreInTheTable }
 {}
