@@ -9,8 +9,8 @@ use Rattle.std.specs.Option.{option_map, unwrap_or}
 use Rattle.std.specs.Prelude.{if◌then◌else◌, slice_get, slice_index_or}
 use Rattle.jl_ast.specs.declared.tree.Function.{out-Function}
 use Rattle.jl_ast.specs.declared.tree.Ident.{Ident}
-use Rattle.jl_value.specs.BuiltinPlaces.{bound_row}
-use Rattle.jl_value.specs.Builtins.{builtin_names, name_of}
+use Rattle.jl_value.specs.BuiltinPlaces.{bound}
+use Rattle.jl_value.specs.Builtins.{entry_of, name_of}
 use Rattle.jl_value.specs.declared.error_kind.ErrorKind.TheVariants.{TypeError}
 use Rattle.jl_value.specs.declared.object.ObjId.{ObjId}
 use Rattle.jl_value.specs.declared.value.Value.{Value}
@@ -62,8 +62,8 @@ script_named l n f o name there named is =
 
 -- the name of what `bind` has made
 
-bound_name : last_part (name_of bound_row) ≡ codes "bound"
-unfolding builtin_names
+bound_name : last_part (name_of bound) ≡ codes "bound"
+unfolding entry_of
 bound_name = refl
 
 pub bound_named : (names : FunctionNames) (i : Inner) (target : ObjId) (this : Value) (args : List Value) (name : Name)

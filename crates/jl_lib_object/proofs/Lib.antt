@@ -9,4 +9,3 @@ pub mod Listings
 pub mod Ranks
 pub mod Restrictions
 pub mod Resumed
-pub mod Rows

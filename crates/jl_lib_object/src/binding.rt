@@ -20,9 +20,6 @@ use jl_text::{List, NoMemory, Text, word};
 use jl_value::{Class, Completion, ObjId, Value};
 use std::alloc::Global;
 
-/// The prototype of functions (15.3.4).
-const FUNCTION_PROTOTYPE: ObjId = ObjId(2);
-
 /// The whole number that a value is, and 0 for any other value.
 fn count_of(value: &Value) -> usize
     ensures { result ≡ count_of value.now }
@@ -86,7 +83,7 @@ fn create_bound(
     let length = count(bound_length(alloc, store, target, args.items())?)?;
     let name = word(alloc, "length")?;
     let inner = Inner::Bound { target, this, args };
-    let id = store.new_object(Class::Function, Some(FUNCTION_PROTOTYPE), inner)?;
+    let id = store.new_object(Class::Function, Some(ObjId::FUNCTION_PROTOTYPE), inner)?;
     store.add_property(id, &name, constant_property(length))?;
     store.add_poison(id)?;
     Ok(id)

@@ -1,7 +1,6 @@
-//! The builtins of objects and functions, by their rows.
-ghost use Rattle.std.specs.Prelude.{◌≤◌, ◌<◌};
-ghost use Rattle.jl_meaning.specs.builtins.Function.{names_of};
-ghost use Rattle.jl_meaning.specs.builtins.Table.{builtin};
+//! The builtins of objects and functions.
+ghost use Rattle.jl_meaning.specs.builtins.Function.{function_algorithm, names_of};
+ghost use Rattle.jl_meaning.specs.builtins.Object.{object_algorithm};
 ghost use Rattle.jl_state.specs.Clauses.{Computes, RankAtMost};
 ghost use Rattle.jl_state.specs.Words.{call_of, table_of};
 
@@ -17,105 +16,88 @@ use crate::objects::{
 use crate::own_names::{object_get_own_property_names, object_keys};
 use crate::own_tests::this_has;
 use jl_algorithm::throw_native;
-use jl_builtin::fail_row;
+use jl_builtin::unsupported;
 use jl_progress::{Integrity, OwnTest};
 use jl_state::{Act, Invocation, State};
 use jl_text::NoMemory;
-use jl_value::{ErrorKind, Fault, Value};
+use jl_value::{Builtin, ErrorKind, Fault, FunctionBuiltin, ObjectBuiltin, Value};
 
-/// The builtin of a row of the constructor Object, up to `Object.preventExtensions`.
-fn start_changing<'p>(
+/// Begins a builtin of Object or its prototype with a call that it borrows.
+fn begin_object<'p>(
     state: &mut State<'p>,
-    row: u16,
+    builtin: ObjectBuiltin,
     call: &Invocation,
 ) -> Result<Act<'p>, NoMemory>
-    requires { row < 10 }
-    ensures leads { Computes state.old (builtin (names_of (table_of state.old.functions)) row (call_of call.now))
-        result state.new }
+    ensures leads { Computes state.old (object_algorithm builtin (call_of call.now)) result state.new }
     ensures falls { RankAtMost state.old 96 result state.new }
 {
-    match row {
-        0 => object_call(state, call),
-        1 => object_get_prototype_of(state, call),
-        2 => object_get_own_property_descriptor(state, call),
-        3 => object_get_own_property_names(state, call),
-        4 => object_create(state, call),
-        5 => object_define_property(state, call),
-        6 => object_define_properties(state, call),
-        7 => redefine_all(state, Integrity::Sealed, call),
-        8 => redefine_all(state, Integrity::Frozen, call),
-        _ => object_prevent_extensions(state, call),
-    }
-}
-
-/// The builtin of a row from `Object.isSealed` to those of the prototype of objects.
-fn start_asking<'p>(state: &mut State<'p>, row: u16, call: &Invocation) -> Result<Act<'p>, NoMemory>
-    requires { (10 ≤ row) × (row < 20) }
-    ensures leads { Computes state.old (builtin (names_of (table_of state.old.functions)) row (call_of call.now))
-        result state.new }
-    ensures falls { RankAtMost state.old 96 result state.new }
-{
-    match row {
-        10 => are_all(state, Integrity::Sealed, call),
-        11 => are_all(state, Integrity::Frozen, call),
-        12 => object_is_extensible(state, call),
-        13 => object_keys(state, call),
-        14 => object_to_string(state, call),
-        15 => Ok(fail_row(row)),
-        16 => object_value_of(state, call),
-        17 => this_has(state, OwnTest::IsThere, call),
-        18 => object_is_prototype_of(state, call),
-        _ => this_has(state, OwnTest::IsEnumerable, call),
+    match builtin {
+        ObjectBuiltin::Constructor => object_call(state, call),
+        ObjectBuiltin::GetPrototypeOf => object_get_prototype_of(state, call),
+        ObjectBuiltin::GetOwnPropertyDescriptor => object_get_own_property_descriptor(state, call),
+        ObjectBuiltin::GetOwnPropertyNames => object_get_own_property_names(state, call),
+        ObjectBuiltin::Create => object_create(state, call),
+        ObjectBuiltin::DefineProperty => object_define_property(state, call),
+        ObjectBuiltin::DefineProperties => object_define_properties(state, call),
+        ObjectBuiltin::Seal => redefine_all(state, Integrity::Sealed, call),
+        ObjectBuiltin::Freeze => redefine_all(state, Integrity::Frozen, call),
+        ObjectBuiltin::PreventExtensions => object_prevent_extensions(state, call),
+        ObjectBuiltin::IsSealed => are_all(state, Integrity::Sealed, call),
+        ObjectBuiltin::IsFrozen => are_all(state, Integrity::Frozen, call),
+        ObjectBuiltin::IsExtensible => object_is_extensible(state, call),
+        ObjectBuiltin::Keys => object_keys(state, call),
+        ObjectBuiltin::ToString => object_to_string(state, call),
+        ObjectBuiltin::ToLocaleString => Ok(unsupported(Builtin::Object(builtin))),
+        ObjectBuiltin::ValueOf => object_value_of(state, call),
+        ObjectBuiltin::HasOwnProperty => this_has(state, OwnTest::IsThere, call),
+        ObjectBuiltin::IsPrototypeOf => object_is_prototype_of(state, call),
+        ObjectBuiltin::PropertyIsEnumerable => this_has(state, OwnTest::IsEnumerable, call),
     }
 }
 
 /// Begins a builtin of Object or its prototype.
 pub fn start_object<'p>(
     state: &mut State<'p>,
-    row: u16,
+    builtin: ObjectBuiltin,
     call: Invocation,
 ) -> Result<Act<'p>, NoMemory>
-    requires belongs { row < 20 }
-    ensures leads { Computes state.old (builtin (names_of (table_of state.old.functions)) row (call_of call)) result
-        state.new }
+    ensures leads { Computes state.old (object_algorithm builtin (call_of call)) result state.new }
     ensures falls { RankAtMost state.old 400 result state.new }
 {
-    if row < 10 {
-        start_changing(state, row, &call)
-    } else {
-        start_asking(state, row, &call)
-    }
+    begin_object(state, builtin, &call)
 }
 
-/// The builtin of a row of functions.
-fn start_row<'p>(state: &mut State<'p>, row: u16, call: &Invocation) -> Result<Act<'p>, NoMemory>
-    requires { (20 ≤ row) × (row < 28) }
-    ensures leads { Computes state.old (builtin (names_of (table_of state.old.functions)) row (call_of call.now))
-        result state.new }
+/// Begins a builtin of functions with a call that it borrows.
+fn begin_function<'p>(
+    state: &mut State<'p>,
+    builtin: FunctionBuiltin,
+    call: &Invocation,
+) -> Result<Act<'p>, NoMemory>
+    ensures leads { Computes state.old (function_algorithm (names_of (table_of state.old.functions)) builtin (call_of
+        call.now)) result state.new }
     ensures falls { RankAtMost state.old 96 result state.new }
 {
-    match row {
-        20 => Ok(Act::Fault(Fault::CodeFromText)),
-        21 => Ok(Act::Give(Value::Undefined)),
-        22 => function_to_string(state, call),
-        23 => function_apply(state, call),
-        24 => function_call(state, call),
-        25 => function_bind(state, call),
-        26 => Ok(fail_row(row)),
-        _ => throw_native(state, ErrorKind::TypeError, "forbidden"),
+    match builtin {
+        FunctionBuiltin::Constructor => Ok(Act::Fault(Fault::CodeFromText)),
+        FunctionBuiltin::Prototype => Ok(Act::Give(Value::Undefined)),
+        FunctionBuiltin::ToString => function_to_string(state, call),
+        FunctionBuiltin::Apply => function_apply(state, call),
+        FunctionBuiltin::Call => function_call(state, call),
+        FunctionBuiltin::Bind => function_bind(state, call),
+        FunctionBuiltin::Bound => Ok(unsupported(Builtin::BOUND)),
+        FunctionBuiltin::Thrower => throw_native(state, ErrorKind::TypeError, "forbidden"),
     }
 }
 
 /// Begins a builtin of functions: of Function, its prototype, or the one that throws a TypeError (13.2.3).
 pub fn start_function<'p>(
     state: &mut State<'p>,
-    row: u16,
+    builtin: FunctionBuiltin,
     call: Invocation,
 ) -> Result<Act<'p>, NoMemory>
-    requires belongs { (20 ≤ row) × (row < 28) }
-    ensures leads { Computes state.old (builtin (names_of (table_of state.old.functions)) row (call_of call)) result
-        state.new }
+    ensures leads { Computes state.old (function_algorithm (names_of (table_of state.old.functions)) builtin (call_of
+        call)) result state.new }
     ensures falls { RankAtMost state.old 400 result state.new }
 {
-    start_row(state, row, &call)
+    begin_function(state, builtin, &call)
 }

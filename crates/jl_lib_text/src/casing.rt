@@ -1,7 +1,7 @@
 //! `toLowerCase` and `toUpperCase` (15.5.4.16, 15.5.4.18).
 ghost use Rattle.std.specs.List.{list_any};
 ghost use Rattle.std.specs.Prelude.{◌≡◌, ◌≤◌, map, IfOk};
-ghost use Rattle.jl_lib_text.specs.inner.Letters.{letter_in, row_of_case};
+ghost use Rattle.jl_lib_text.specs.inner.Letters.{builtin_of_case, letter_in};
 ghost use Rattle.jl_meaning.specs.builtins.String.{is_past_ascii};
 ghost use Rattle.jl_progress.specs.Strings.{units_in_case};
 ghost use Rattle.jl_state.specs.Rank.{rank_act};
@@ -9,11 +9,11 @@ ghost use Rattle.jl_state.specs.Rest.{Works};
 ghost use Rattle.jl_state.specs.declared.state.State.{State as Machine};
 
 use crate::texts::text_of_units;
-use jl_builtin::fail_row;
+use jl_builtin::unsupported;
 use jl_progress::LetterCase;
 use jl_state::Act;
 use jl_text::{List, NoMemory, Text};
-use jl_value::Value;
+use jl_value::{Builtin, StringBuiltin, Value};
 use std::alloc::Global;
 
 const LAST_OF_ASCII: u16 = 127;
@@ -47,13 +47,13 @@ fn leaves_ascii(units: &[u16]) -> bool
     units.iter().any(|unit| *unit > LAST_OF_ASCII)
 }
 
-/// The row of the builtin that gives this case.
-fn row_of_case(case: LetterCase) -> u16
-    ensures { result ≡ row_of_case case }
+/// The builtin that gives this case.
+fn builtin_of_case(case: LetterCase) -> Builtin
+    ensures { result ≡ builtin_of_case case }
 {
     match case {
-        LetterCase::Lower => 63,
-        LetterCase::Upper => 64,
+        LetterCase::Lower => Builtin::String(StringBuiltin::ToLowerCase),
+        LetterCase::Upper => Builtin::String(StringBuiltin::ToUpperCase),
     }
 }
 
@@ -67,7 +67,7 @@ pub(crate) fn give_in_case<'p>(
     ensures low { IfOk result (λ act. rank_act act ≤ 2) }
 {
     if leaves_ascii(units.units()) {
-        return Ok(fail_row(row_of_case(case)));
+        return Ok(unsupported(builtin_of_case(case)));
     }
     let letters = letters_in(alloc, case, units.units())?;
     Ok(Act::Give(Value::Text(text_of_units(alloc, letters.items())?)))

@@ -9,9 +9,9 @@ mod joining;
 mod methods;
 mod places;
 mod positions;
-mod rows;
 mod spaces;
 mod splitting;
+mod starting;
 mod texts;
 
-pub use rows::{resume, start};
+pub use starting::{resume, start};
