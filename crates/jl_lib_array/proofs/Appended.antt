@@ -23,7 +23,7 @@ use Rattle.jl_state.specs.declared.state.State.{State}
 use Rattle.jl_state.proofs.Stores.{works_comes, IsStored}
 use Rattle.jl_meaning.proofs.Binds.{bind_assoc}
 use Rattle.jl_state.proofs.Chains.{works_assoc}
-use Rattle.jl_lib_array.specs.inner.Rows.{concat_on}
+use Rattle.jl_lib_array.specs.inner.Functions.{concat_on}
 
 module _ (s t : State) (a : Act) (o : ObjId) (n : ℕ) (v : Value) (items : List Value) (from : ℕ) where
   abbrev others : ℕ → Algorithm Value

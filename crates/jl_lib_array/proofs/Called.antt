@@ -11,7 +11,7 @@ use Rattle.jl_state.specs.Rest.{Works}
 use Rattle.jl_state.specs.declared.act.Act.{Act}
 use Rattle.jl_state.specs.declared.act.Act.TheVariants as act
 use Rattle.jl_state.specs.declared.state.State.{State}
-use Rattle.jl_lib_array.specs.inner.Rows.{callee_of}
+use Rattle.jl_lib_array.specs.inner.Functions.{callee_of}
 
 module _ (s : State) (o : ObjId) where
   abbrev called : (callee : ObjId) → List Value → Act

@@ -1,4 +1,7 @@
+pub mod Answering
 pub mod Appended
+pub mod Asked
+pub mod CallCases
 pub mod Called
 pub mod Cases
 pub mod Copied
@@ -8,11 +11,17 @@ pub mod Found
 pub mod Gets
 pub mod Joined
 pub mod Moved
+pub mod NewArrays
 pub mod Orders
+pub mod PlaceTurns
 pub mod PutLengths
 pub mod Read
+pub mod Searches
+pub mod Slices
 pub mod Spliced
 pub mod Stable
 pub mod Starts
+pub mod TaskTurns
 pub mod Turns
 pub mod Waiting
+pub mod Walks

@@ -29,7 +29,7 @@ use Rattle.jl_state.specs.declared.act.Act.{Act}
 use Rattle.jl_state.specs.declared.act.Act.TheVariants as act
 use Rattle.jl_state.specs.declared.state.State.{State}
 use Rattle.jl_state.proofs.Chains.{works_assoc}
-use Rattle.jl_lib_array.specs.inner.Rows.{close_gap, open_gap}
+use Rattle.jl_lib_array.specs.inner.Functions.{close_gap, open_gap}
 use Rattle.jl_lib_array.proofs.Found.{element_missing, element_there}
 use Rattle.jl_lib_array.proofs.Turns.{downward_ends, downward_spent, downward_takes, one_more, upward_ends}
 use Rattle.jl_lib_array.proofs.Turns.{upward_spent}

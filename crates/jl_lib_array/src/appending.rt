@@ -2,30 +2,40 @@
 ghost use Rattle.std.specs.Prelude.{◌≡◌, ◌+◌, ◌∷◌, false, true, drop, MatchOption};
 ghost use Rattle.jl_heap.specs.Define.{count_of, length_name};
 ghost use Rattle.jl_effects.specs.Effects.{Step};
-ghost use Rattle.jl_lib_array.specs.inner.Rows.{concat_on};
+ghost use Rattle.jl_lib_array.specs.inner.Functions.{concat_on};
 ghost use Rattle.jl_meaning.specs.Getting.{get};
 ghost use Rattle.jl_meaning.specs.Parts.{◌>>=◌ as ◌then◌};
 ghost use Rattle.jl_meaning.specs.builtins.Arguments.{give_object};
-ghost use Rattle.jl_meaning.specs.builtins.Array.{append, append_all, is_array_value};
+ghost use Rattle.jl_meaning.specs.builtins.Array.{append, append_all, array_concat, is_array_value};
 ghost use Rattle.jl_progress.specs.Arrays.{array_after, rank_array};
 ghost use Rattle.jl_state.specs.Clauses.{Computes, RankAtMost};
+ghost use Rattle.jl_state.specs.Words.{call_of};
 ghost use Rattle.jl_value.specs.declared.value.Value.TheVariants as value;
 
-use crate::frames::{add_then, begin_turn, sum, wait};
+use crate::frames::{add_then, begin_turn, wait};
+use crate::places::sum;
 use jl_algorithm::get;
 use jl_builtin::{value_from, with_values};
 use jl_progress::{AfterCopying, ArrayProgress, Copying};
-use jl_state::{Act, State};
-use jl_store::Store;
+use jl_state::{Act, Invocation, State};
+use jl_store::{Answer, Store};
 use jl_text::{List, NoMemory, word};
-use jl_value::{Class, ObjId, Value};
+use jl_value::{Class, Completion, ObjId, Value};
+
+/// `concat` begins.
+pub(crate) fn array_concat<'p>(state: &mut State<'p>, call: Invocation) -> Result<Act<'p>, NoMemory>
+    ensures leads { Computes state.old (array_concat (call_of call)) result state.new }
+    ensures falls { RankAtMost state.old 8 result state.new }
+{
+    let answer = state.store.to_object(&call.this)?;
+    match answer {
+        Answer::Gives(object) => concat(state, object, call.args.items()),
+        Answer::Throws(thrown) => Ok(Act::Complete(Completion::Throw(thrown))),
+    }
+}
 
 /// `concat` of an object and arguments.
-pub(crate) fn concat<'p>(
-    state: &mut State<'p>,
-    object: ObjId,
-    args: &[Value],
-) -> Result<Act<'p>, NoMemory>
+fn concat<'p>(state: &mut State<'p>, object: ObjId, args: &[Value]) -> Result<Act<'p>, NoMemory>
     ensures leads { Computes state.old (concat_on object args.now) result state.new }
     ensures falls { RankAtMost state.old 8 result state.new }
 {

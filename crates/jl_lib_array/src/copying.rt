@@ -6,7 +6,8 @@ ghost use Rattle.jl_progress.specs.Arrays.{after_copying, array_after, copy_othe
 ghost use Rattle.jl_state.specs.Clauses.{Computes, RankAtMost};
 
 use crate::appending::append_items;
-use crate::frames::{add_then, begin_turn, get_for, sum};
+use crate::frames::{add_then, begin_turn, get_for};
+use crate::places::sum;
 use crate::splicing::splice_others;
 use jl_builtin::has_index;
 use jl_progress::{AfterCopying, ArrayProgress, Copying};

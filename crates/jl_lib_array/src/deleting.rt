@@ -4,7 +4,8 @@ ghost use Rattle.jl_progress.specs.Arrays.{array_after, delete_end};
 ghost use Rattle.jl_state.specs.Clauses.{Computes, RankAtMost};
 ghost use Rattle.jl_value.specs.declared.value.Value.TheVariants as value;
 
-use crate::frames::{delete_then, sum};
+use crate::frames::delete_then;
+use crate::places::sum;
 use crate::splicing::{length_spliced, put_items};
 use jl_progress::{ArrayProgress, Splicing};
 use jl_state::{Act, State};

@@ -1,5 +1,5 @@
 //! What a function of arrays waits for, and what it does before its next turn.
-ghost use Rattle.std.specs.Prelude.{◌≡◌, ◌+◌, ◌∷◌, IfOk, OnOk};
+ghost use Rattle.std.specs.Prelude.{◌≡◌, ◌+◌, ◌∷◌, OnOk};
 ghost use Rattle.jl_meaning.specs.Parts.{give, ◌>>=◌ as ◌then◌};
 ghost use Rattle.jl_meaning.specs.builtins.Elements.{add_index, delete_index, get_index, put_index};
 ghost use Rattle.jl_progress.specs.Arrays.{array_after, rank_array};
@@ -13,16 +13,6 @@ use jl_state::{Act, AlgorithmFrame, Frame, State};
 use jl_store::{Answer, Finished};
 use jl_text::NoMemory;
 use jl_value::{Completion, ObjId, Value};
-
-/// The sum of two indices. No memory holds more elements than there are indices.
-pub(crate) fn sum(a: usize, b: usize) -> Result<usize, NoMemory>
-    ensures { IfOk result (λ n. n ≡ a + b) }
-{
-    match a.checked_add(b) {
-        Some(n) => Ok(n),
-        None => Err(NoMemory),
-    }
-}
 
 /// A function waits for a value.
 pub(crate) fn wait<'p>(state: &mut State<'p>, progress: ArrayProgress) -> Result<(), NoMemory>

@@ -7,7 +7,8 @@ ghost use Rattle.jl_meaning.specs.builtins.Array.{join_elements, join_turn};
 ghost use Rattle.jl_progress.specs.Arrays.{array_after, join_first, join_next, join_others, with_length};
 ghost use Rattle.jl_state.specs.Clauses.{Computes, RankAtMost};
 
-use crate::frames::{begin_turn, get_for, sum};
+use crate::frames::{begin_turn, get_for};
+use crate::places::sum;
 use jl_builtin::{argument, give_text, wait_for_string, with_units};
 use jl_operator::text_of;
 use jl_progress::{ArrayProgress, Joining, LengthFunction, Progress};

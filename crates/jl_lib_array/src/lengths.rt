@@ -1,14 +1,18 @@
-//! The functions that begin with the length of what they are called on (15.4.4.5 to 15.4.4.13).
+//! The functions that change what they are called on or copy its elements, and begin with its length (15.4.4.5 to
+//! 15.4.4.13).
 ghost use Rattle.std.specs.Prelude.{◌≡◌, IfOk, List};
+ghost use Rattle.jl_lib_array.specs.inner.Functions.{change_call};
 ghost use Rattle.jl_meaning.specs.Parts.{◌>>=◌ as ◌then◌};
 ghost use Rattle.jl_meaning.specs.builtins.Elements.{get_length};
 ghost use Rattle.jl_progress.specs.Arrays.{array_after, with_length};
 ghost use Rattle.jl_state.specs.Clauses.{Computes, RankAtMost};
 ghost use Rattle.jl_state.specs.Rest.{Works};
+ghost use Rattle.jl_state.specs.Words.{call_of};
 ghost use Rattle.jl_value.specs.declared.value.Value.{Value as AnyValue};
 
-use crate::frames::{begin_turn, sum, wait};
+use crate::frames::{begin_turn, wait};
 use crate::joining::join;
+use crate::places::sum;
 use crate::shifting::{pop_last, shift_first};
 use crate::splicing::splice;
 use jl_algorithm::get;
@@ -16,12 +20,30 @@ use jl_builtin::{length_of, number_of_primitive, wait_for_number};
 use jl_progress::{
     AfterMoving, AfterPutting, ArrayProgress, LengthFunction, Moving, Progress, Reading, Reversing,
 };
-use jl_state::{Act, State};
+use jl_state::{Act, Invocation, State};
+use jl_store::Answer;
 use jl_text::{List, NoMemory, word};
-use jl_value::{Fault, ObjId, Value};
+use jl_value::{Completion, Fault, ObjId, Value};
+
+/// A function begins that asks for the length of `this` first.
+pub(crate) fn begin_with_length<'p>(
+    state: &mut State<'p>,
+    function: LengthFunction,
+    call: Invocation,
+) -> Result<Act<'p>, NoMemory>
+    ensures leads { Computes state.old (change_call function (call_of call)) result state.new }
+    ensures falls { RankAtMost state.old 164 result state.new }
+{
+    let Invocation { this, args, .. } = call;
+    let answer = state.store.to_object(&this)?;
+    match answer {
+        Answer::Gives(object) => get_length(state, function, object, args),
+        Answer::Throws(thrown) => Ok(Act::Complete(Completion::Throw(thrown))),
+    }
+}
 
 /// The length of an object is got, for which a function waits.
-pub(crate) fn begin_with_length<'p>(
+pub(crate) fn get_length<'p>(
     state: &mut State<'p>,
     function: LengthFunction,
     object: ObjId,

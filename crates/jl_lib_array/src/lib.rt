@@ -1,7 +1,9 @@
-//! The functions of arrays that change what they are called on, or copy its elements (15.4.4.2 to 15.4.4.13).
+//! The functions of arrays (15.4).
 #![tactic(auto)]
 
 mod appending;
+mod arguments;
+mod arrays;
 mod copying;
 mod deleting;
 mod frames;
@@ -9,14 +11,22 @@ mod joining;
 mod lengths;
 mod moving;
 mod ordering;
+mod places;
 mod putting;
 mod resuming;
+mod resuming_calls;
 mod reversing;
-mod rows;
+mod searching;
 mod shifting;
+mod slicing;
 mod sorting;
 mod splicing;
+mod starting;
 mod strings;
+mod tasks;
+mod walk_lengths;
+mod walking;
 
 pub use resuming::resume;
-pub use rows::start;
+pub use resuming_calls::resume_call;
+pub use starting::start;

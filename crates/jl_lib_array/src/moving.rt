@@ -5,7 +5,8 @@ ghost use Rattle.jl_meaning.specs.builtins.Elements.{move_element};
 ghost use Rattle.jl_progress.specs.Arrays.{after_moving, array_after, move_down, move_up};
 ghost use Rattle.jl_state.specs.Clauses.{Computes, RankAtMost};
 
-use crate::frames::{begin_turn, delete_then, get_for, put_then, sum};
+use crate::frames::{begin_turn, delete_then, get_for, put_then};
+use crate::places::sum;
 use crate::shifting::without_last;
 use crate::splicing::put_items;
 use jl_builtin::has_index;

@@ -5,7 +5,8 @@ ghost use Rattle.jl_meaning.specs.builtins.Elements.{give_length, put_index};
 ghost use Rattle.jl_progress.specs.Arrays.{after_putting, put_others};
 ghost use Rattle.jl_state.specs.Clauses.{Computes, RankAtMost};
 
-use crate::frames::{begin_turn, put_then, sum};
+use crate::frames::{begin_turn, put_then};
+use crate::places::sum;
 use jl_builtin::{put_length, value_from};
 use jl_progress::{AfterPutting, ArrayProgress};
 use jl_state::{Act, State};

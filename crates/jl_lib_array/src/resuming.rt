@@ -1,4 +1,4 @@
-//! The functions go on with the values that they waited for.
+//! The functions that change what they are called on, or copy its elements, go on with the values that they waited for.
 ghost use Rattle.std.specs.Prelude.{◌≡◌, ◌+◌};
 ghost use Rattle.jl_progress.specs.Arrays.{array_after, rank_array};
 ghost use Rattle.jl_state.specs.Clauses.{Computes, RankAtMost};
@@ -25,7 +25,7 @@ use jl_state::{Act, State};
 use jl_text::NoMemory;
 use jl_value::Value;
 
-/// Goes on with the value that a function of this crate waited for.
+/// Goes on with the value that a function waited for which changes what it is called on, or copies its elements.
 pub fn resume<'p>(
     state: &mut State<'p>,
     progress: ArrayProgress,

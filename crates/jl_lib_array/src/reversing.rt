@@ -6,7 +6,8 @@ ghost use Rattle.jl_progress.specs.Arrays.{array_after, rank_array, reverse_othe
 ghost use Rattle.jl_state.specs.Clauses.{Computes, RankAtMost};
 ghost use Rattle.jl_value.specs.declared.value.Value.TheVariants as value;
 
-use crate::frames::{begin_turn, delete_then, get_for, put_then, sum};
+use crate::frames::{begin_turn, delete_then, get_for, put_then};
+use crate::places::sum;
 use jl_builtin::{delete_index, has_index};
 use jl_progress::{ArrayProgress, Reversing};
 use jl_state::{Act, State};

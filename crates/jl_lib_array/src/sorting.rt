@@ -2,19 +2,35 @@
 //! turn, and then as many are deleted as there were holes.
 ghost use Rattle.std.specs.Prelude.{◌≡◌, ◌+◌, map};
 ghost use Rattle.jl_meaning.specs.Parts.{◌>>=◌ as ◌then◌};
-ghost use Rattle.jl_meaning.specs.builtins.ArrayChanges.{read_turn, sort_by_keys, KeyedValue};
+ghost use Rattle.jl_meaning.specs.builtins.ArrayChanges.{array_sort, read_turn, sort_by_keys, KeyedValue};
 ghost use Rattle.jl_progress.specs.Arrays.{array_after, put_others, sort_others};
 ghost use Rattle.jl_state.specs.Clauses.{Computes, RankAtMost};
+ghost use Rattle.jl_state.specs.Words.{call_of};
 ghost use Rattle.jl_value.specs.declared.value.Value.TheVariants as value;
 
-use crate::frames::{begin_turn, get_for, sum};
+use crate::frames::{begin_turn, get_for};
+use crate::lengths::begin_with_length;
 use crate::ordering::{in_order, values_of};
-use jl_builtin::{has_index, wait_for_string};
+use crate::places::sum;
+use jl_builtin::{argument, has_index, unsupported, wait_for_string};
 use jl_operator::text_of;
-use jl_progress::{AfterPutting, ArrayProgress, Progress, Reading};
-use jl_state::{Act, State};
+use jl_progress::{AfterPutting, ArrayProgress, LengthFunction, Progress, Reading};
+use jl_state::{Act, Invocation, State};
 use jl_text::{List, NoMemory, Text};
-use jl_value::{ObjId, Value, is_undefined, share};
+use jl_value::{ArrayBuiltin, Builtin, ObjId, Value, is_undefined, share};
+
+/// `sort` begins. With a function to compare by it is left out.
+pub(crate) fn array_sort<'p>(state: &mut State<'p>, call: Invocation) -> Result<Act<'p>, NoMemory>
+    ensures leads { Computes state.old (array_sort (call_of call)) result state.new }
+    ensures falls { RankAtMost state.old 164 result state.new }
+{
+    let alloc = state.alloc();
+    let comparator = argument(alloc, call.args.items(), 0)?;
+    if !is_undefined(&comparator) {
+        return Ok(unsupported(Builtin::Array(ArrayBuiltin::Sort)));
+    }
+    begin_with_length(state, LengthFunction::Sort, call)
+}
 
 /// A turn begins in which an element is read, if any is left.
 pub(crate) fn sort_turn<'p>(

@@ -1,20 +1,24 @@
 //! `splice` (15.4.4.12).
 ghost use Rattle.std.specs.Prelude.{◌≡◌, ◌-◌, IfOk};
-ghost use Rattle.jl_lib_array.specs.inner.Rows.{close_gap, open_gap};
+ghost use Rattle.jl_lib_array.specs.inner.Functions.{close_gap, open_gap, splice_on};
 ghost use Rattle.jl_meaning.specs.Parts.{◌>>=◌ as ◌then◌};
-ghost use Rattle.jl_meaning.specs.builtins.ArrayChanges.{splice_at};
+ghost use Rattle.jl_meaning.specs.builtins.ArrayChanges.{array_splice, splice_at};
 ghost use Rattle.jl_progress.specs.Arrays.{array_after, length_spliced, put_items, splice_others, with_length};
 ghost use Rattle.jl_state.specs.Clauses.{Computes, RankAtMost};
+ghost use Rattle.jl_state.specs.Words.{call_of};
 
-use crate::frames::{begin_turn, sum};
+use crate::frames::begin_turn;
+use crate::lengths::get_length;
+use crate::places::sum;
 use jl_builtin::{argument, clamp, number_of_primitive, relative_index, rest_of, wait_for_number};
 use jl_progress::{
     AfterCopying, AfterMoving, AfterPutting, ArrayProgress, Copying, LengthFunction, Moving,
     Progress, Splicing,
 };
-use jl_state::{Act, State};
+use jl_state::{Act, Invocation, State};
+use jl_store::Answer;
 use jl_text::{List, NoMemory};
-use jl_value::{Fault, ObjId, Value};
+use jl_value::{Completion, Fault, ObjId, Value};
 
 /// The length that an object gets.
 pub(crate) fn length_spliced(splicing: &Splicing) -> Result<usize, NoMemory>
@@ -22,6 +26,32 @@ pub(crate) fn length_spliced(splicing: &Splicing) -> Result<usize, NoMemory>
 {
     let kept = splicing.length.saturating_sub(splicing.removed);
     sum(kept, splicing.items.len())
+}
+
+/// `splice` begins.
+pub(crate) fn array_splice<'p>(state: &mut State<'p>, call: Invocation) -> Result<Act<'p>, NoMemory>
+    ensures leads { Computes state.old (array_splice (call_of call)) result state.new }
+    ensures falls { RankAtMost state.old 164 result state.new }
+{
+    let Invocation { this, args, .. } = call;
+    let answer = state.store.to_object(&this)?;
+    match answer {
+        Answer::Gives(object) => splice_into_new(state, object, args),
+        Answer::Throws(thrown) => Ok(Act::Complete(Completion::Throw(thrown))),
+    }
+}
+
+/// `splice` of an object, with a new array for the elements that go.
+fn splice_into_new<'p>(
+    state: &mut State<'p>,
+    object: ObjId,
+    args: List<Value>,
+) -> Result<Act<'p>, NoMemory>
+    ensures leads { Computes state.old (splice_on object args) result state.new }
+    ensures falls { RankAtMost state.old 164 result state.new }
+{
+    let array = state.store.new_array()?;
+    get_length(state, LengthFunction::Splice { array }, object, args)
 }
 
 /// `splice` of an object with this length.

@@ -1,19 +1,36 @@
 //! `toString` (15.4.4.2).
 ghost use Rattle.std.specs.Prelude.{◌≡◌, codes};
-ghost use Rattle.jl_lib_array.specs.inner.Rows.{callee_of, string_on};
+ghost use Rattle.jl_lib_array.specs.inner.Functions.{callee_of, string_on};
 ghost use Rattle.jl_progress.specs.Arrays.{array_after};
-ghost use Rattle.jl_meaning.specs.builtins.Array.{standard_to_string};
+ghost use Rattle.jl_meaning.specs.builtins.Array.{array_to_string, standard_to_string};
 ghost use Rattle.jl_state.specs.Clauses.{Computes, RankAtMost};
+ghost use Rattle.jl_state.specs.Words.{call_of};
 
 use crate::frames::wait;
 use jl_algorithm::get;
 use jl_progress::ArrayProgress;
 use jl_state::{Act, Invocation, State};
+use jl_store::Answer;
 use jl_text::{List, NoMemory, word};
-use jl_value::{Builtin, ObjId, Value};
+use jl_value::{Builtin, Completion, ObjId, ObjectBuiltin, Value};
+
+/// `toString` begins.
+pub(crate) fn array_to_string<'p>(
+    state: &mut State<'p>,
+    call: Invocation,
+) -> Result<Act<'p>, NoMemory>
+    ensures leads { Computes state.old (array_to_string (call_of call)) result state.new }
+    ensures falls { RankAtMost state.old 10 result state.new }
+{
+    let answer = state.store.to_object(&call.this)?;
+    match answer {
+        Answer::Gives(object) => string_on(state, object),
+        Answer::Throws(thrown) => Ok(Act::Complete(Completion::Throw(thrown))),
+    }
+}
 
 /// `toString` of an object.
-pub(crate) fn array_to_string<'p>(state: &mut State<'p>, object: ObjId) -> Result<Act<'p>, NoMemory>
+fn string_on<'p>(state: &mut State<'p>, object: ObjId) -> Result<Act<'p>, NoMemory>
     ensures leads { Computes state.old (string_on object) result state.new }
     ensures falls { RankAtMost state.old 10 result state.new }
 {
@@ -56,12 +73,8 @@ fn callee_of(callable: bool, join: &Value) -> ObjId
 }
 
 /// The standard `Object.prototype.toString`.
-#[tactic(auto, unfolding(jl_value::specs::Builtins::builtin_names))]
 fn standard_to_string() -> ObjId
     ensures { result ≡ standard_to_string }
 {
-    match Builtin::at(14) {
-        Some(builtin) => builtin.place(),
-        None => unreachable!(),
-    }
+    Builtin::Object(ObjectBuiltin::ToString).place()
 }

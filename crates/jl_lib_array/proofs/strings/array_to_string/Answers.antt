@@ -1,12 +1,17 @@
-use Rattle.std.proofs.Common.{codes}
+use Rattle.std.proofs.Common.{refl}
 use Rattle.std.proofs.lemmas.Result.{IfOk-weaker}
-use Rattle.jl_progress.specs.Arrays.{array_after}
-use Rattle.jl_progress.specs.declared.array.ArrayProgress.TheVariants as array
-use Rattle.jl_lib_array.proofs.Gets.{named_got}
+use Rattle.jl_meaning.specs.Conversions.{to_object}
+use Rattle.jl_builtin.proofs.Ends.{answer_given, answer_thrown}
+use Rattle.jl_lib_array.specs.inner.Functions.{string_on}
 use Rattle.jl_lib_array.proofs.strings.array_to_string.Goals as goal
+
+pub returns-in-Gives-clause-leads : goal.returns-in-Gives-clause-leads
+returns-in-Gives-clause-leads c =
+    IfOk-weaker _ _ _ (λ a leads. answer_given c.args.state.now
+    (record c.args.state.now { store = c.to_object.new.self }) refl (to_object c.args.call.this) string_on _
+    c.in_ok-answer.ensures _ _ _ c.in-Gives.is leads) c.string_on.ensures.leads
 
 pub returns-clause-leads : goal.returns-clause-leads
 returns-clause-leads c =
-    IfOk-weaker _ _ _ (λ a leads. named_got c.args.state.now _ _ c.args.object _ (codes "join")
-    (array_after (array.Join c.args.object)) c.in_ok-name.ensures (c.in_ok-wait.ensures.waits.works _ _ _ leads))
-    c.get.ensures.leads
+    answer_thrown c.args.state.now (record c.args.state.now { store = c.to_object.new.self }) refl
+    (to_object c.args.call.this) string_on _ c.in_ok-answer.ensures _ c.in-Throws.is

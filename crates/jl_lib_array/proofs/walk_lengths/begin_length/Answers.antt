@@ -1,0 +1,21 @@
+use Rattle.std.proofs.Common.{refl}
+use Rattle.std.proofs.lemmas.Result.{IfOk-weaker}
+use Rattle.jl_meaning.specs.Conversions.{to_object}
+use Rattle.jl_meaning.specs.Parts.{◌>>=◌}
+use Rattle.jl_meaning.specs.builtins.Elements.{get_length}
+use Rattle.jl_progress.specs.ArrayCalls.{with_length}
+use Rattle.jl_builtin.proofs.Ends.{answer_given, answer_thrown}
+use Rattle.jl_lib_array.proofs.walk_lengths.begin_length.Goals as goal
+
+pub returns-in-Gives-clause-leads : goal.returns-in-Gives-clause-leads
+returns-in-Gives-clause-leads c =
+    IfOk-weaker _ _ _ (λ a leads. answer_given c.args.state.now
+    (record c.args.state.now { store = c.to_object.new.self }) refl (to_object c.args.call.this)
+    (λ o. get_length o >>= with_length c.args.purpose o c.args.call.args) _ c.in_ok-answer.ensures _ _ _ c.in-Gives.is
+    leads) c.get_length.ensures.leads
+
+pub returns-clause-leads : goal.returns-clause-leads
+returns-clause-leads c =
+    answer_thrown c.args.state.now (record c.args.state.now { store = c.to_object.new.self }) refl
+    (to_object c.args.call.this) (λ o. get_length o >>= with_length c.args.purpose o c.args.call.args)
+    _ c.in_ok-answer.ensures _ c.in-Throws.is

@@ -1,0 +1,22 @@
+use Rattle.std.proofs.Common.{refl}
+use Rattle.std.proofs.lemmas.Result.{IfOk-weaker}
+use Rattle.jl_progress.specs.ArrayCalls.{task_with, walk_of}
+use Rattle.jl_progress.specs.declared.array_call.ArrayCallProgress.TheVariants as array_call
+use Rattle.jl_progress.specs.declared.progress.Progress.TheVariants as progress
+use Rattle.jl_builtin.proofs.Waits.{element_missing, element_waits}
+use Rattle.jl_lib_array.proofs.TaskTurns.{element_passed}
+use Rattle.jl_lib_array.proofs.walking.visit.Goals as goal
+
+pub returns-then-not-there-clause-leads : goal.returns-then-not-there-clause-leads
+returns-then-not-there-clause-leads c =
+    IfOk-weaker _ _ _ (λ a leads. element_missing c.args.state.now c.args.walk.object c.args.index _
+    (task_with c.args.task (walk_of c.args.walk) c.args.index) _ _ c.in_ok-there.ensures c.if-not-there.true
+    (element_passed _ (walk_of c.args.walk) _ _ c.args.task _ _ c.args.index c.direction_of.ensures c.in_ok-at.ensures
+    leads)) c.go_on_walking.ensures.leads
+
+pub returns-clause-leads : goal.returns-clause-leads
+returns-clause-leads c =
+    IfOk-weaker _ _ _ (λ a leads. element_waits _ _ (progress.ArrayCall
+    (array_call.Element c.args.walk c.args.task c.args.index)) c.args.walk.object c.args.index _
+    (task_with c.args.task (walk_of c.args.walk) c.args.index) _ _ c.in_ok-there.ensures c.if-not-there.false
+    (λ v. refl) c.in_ok-push_builtin.ensures.waits leads) c.get_index.ensures.leads
