@@ -1,5 +1,5 @@
 -- The rows of builtins.
-use Rattle.std.proofs.Common.{◌≡◌, ◌∙◌, ◌+◌, Bool, List, None, Option, Some, ap, refl, subst, sym, true, ℕ}
+use Rattle.std.proofs.Common.{◌≡◌, ◌∙◌, ◌+◌, Bool, List, Some, ap, refl, subst, sym, true, ℕ}
 use Rattle.std.proofs.Math.Dec.{eqb}
 use Rattle.std.proofs.lemmas.Bool.{eqb-true}
 use Rattle.std.proofs.lemmas.List.Elements.{All-get_or}
@@ -7,7 +7,7 @@ use Rattle.std.proofs.lemmas.List.Sums.{AllPass-from_list_all}
 use Rattle.std.proofs.lemmas.Option.{get_or_from_slice_get, slice_get_within}
 use Rattle.std.specs.List.{list_all}
 use Rattle.std.specs.Option.{unwrap_or}
-use Rattle.std.specs.Prelude.{◌≢◌, All, IfNone, position, slice_get}
+use Rattle.std.specs.Prelude.{◌≢◌, All, position, slice_get}
 use Rattle.std.specs.Str.{bytes_eq}
 use denote.Enum.Declared.{tag_of}
 use Rattle.jl_value.specs.BuiltinPlaces.{row_of}
@@ -225,7 +225,5 @@ one_builtin a b same =
     the_same a b (sym (stands a) ∙ ap (λ n. slice_get builtins n) (same_row a b same) ∙ stands b)
 
 -- where nothing in the table has the path, no builtin has it
-pub passed_all : (name : List ℕ) (found : Option Builtin) → IfNone found (All (λ b. name_of b ≢ name) builtins)
-    → IfNone found ((b : Builtin) → name_of b ≢ name)
-passed_all name None all = each (λ b. name_of b ≢ name) all
-passed_all name (Some b) all = tt
+pub passed_all : (name : List ℕ) → All (λ b. name_of b ≢ name) builtins → (b : Builtin) → name_of b ≢ name
+passed_all name = each (λ b. name_of b ≢ name)

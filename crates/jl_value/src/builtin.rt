@@ -1,4 +1,4 @@
-ghost use Rattle.std.specs.Prelude.{◌≡◌, ◌<◌, ◌≢◌, All, IfNone, IfSome, Some, is_some, length, slice_get};
+ghost use Rattle.std.specs.Prelude.{◌≡◌, ◌<◌, ◌≢◌, IfNone, IfSome, Some, is_some, length, slice_get};
 ghost use Rattle.jl_value.specs.Builtins.{builtins, entry_of, name_of};
 ghost use Rattle.jl_value.specs.BuiltinPlaces.{bound, place_of_builtin, place_of_row, row_of};
 
@@ -57,21 +57,32 @@ impl Builtin {
     /// Any function that `bind` made (15.3.4.5).
     pub const BOUND: Builtin = Builtin::Function(FunctionBuiltin::Bound);
 
-    /// The builtin with this row, where the table has one.
+    /// All builtins, in the order of their rows.
     #[tactic(auto, unfolding(crate::specs::Builtins::builtins))]
+    pub fn all() -> &'static [Builtin]
+        ensures { result.now ≡ builtins }
+    {
+        &BUILTINS
+    }
+
+    /// The builtin with this row, where the table has one.
     pub fn at(row: u16) -> Option<Builtin>
         ensures { result ≡ slice_get builtins row }
     {
-        builtin_at(&BUILTINS, usize::from(row))
+        Builtin::all().get(usize::from(row)).copied()
     }
 
     /// The builtin with this path, where the table has one. Compares the path with each of the table in turn.
-    #[tactic(auto, unfolding(crate::specs::Builtins::builtins))]
     pub fn named(name: &str) -> Option<Builtin>
         ensures found { IfSome result (λ b. name_of b ≡ name.now) }
         ensures none { IfNone result ((b : Builtin) → name_of b ≢ name.now) }
     {
-        first_named(&BUILTINS, name)
+        for builtin in Builtin::all() {
+            if builtin.name() == name {
+                return Some(*builtin);
+            }
+        }
+        None
     }
 
     /// Its row in the table, from 0.
@@ -131,26 +142,6 @@ impl Builtin {
             _ => place_of_row(self.row()),
         }
     }
-}
-
-/// The builtin with this index in a table, if it has one.
-fn builtin_at(table: &[Builtin], index: usize) -> Option<Builtin>
-    ensures { result ≡ slice_get table.now index }
-{
-    table.get(index).copied()
-}
-
-/// The first builtin with this path in a table, if there is one.
-fn first_named(table: &[Builtin], name: &str) -> Option<Builtin>
-    ensures found { IfSome result (λ b. name_of b ≡ name.now) }
-    ensures none { IfNone result (All (λ b. name_of b ≢ name.now) table.now) }
-{
-    for builtin in table {
-        if builtin.name() == name {
-            return Some(*builtin);
-        }
-    }
-    None
 }
 
 /// The object in this row, where that is a function of its own: the first objects come before it, and two rows have no

@@ -1,7 +1,0 @@
-use Rattle.std.proofs.Common.{take}
-use Rattle.std.specs.Prelude.{◌≢◌, All}
-use Rattle.jl_value.specs.Builtins.{name_of}
-use Rattle.jl_value.proofs.builtin.first_named.Given as goal
-
-abbrev pub invariant-loop-builtin : goal.invariant-loop-builtin
-invariant-loop-builtin l = All (λ b. name_of b ≢ l.name) (take l.builtin-index l.table)
