@@ -1,27 +1,18 @@
 -- The names of functions, and their texts (15.3.4.2).
-use Rattle.std.proofs.Common.{◌≡◌, ◌∙◌, [], ap, arith, codes, false, length, refl, subst, sym, List, None, Option, Some}
-use Rattle.std.proofs.Common.{ℕ}
-use Rattle.std.proofs.lemmas.List.Folds.{list_any_none}
-use Rattle.std.proofs.lemmas.List.Sums.{fails_before_first}
+use Rattle.std.proofs.Common.{◌≡◌, ◌∙◌, [], ap, codes, refl, subst, sym, List, None, Option, Some, ℕ}
 use Rattle.std.proofs.lemmas.Option.{get_or_from_slice_get, slice_get-map}
-use Rattle.std.specs.List.{after_first, list_any, position_or_len}
 use Rattle.std.specs.Option.{option_map, unwrap_or}
-use Rattle.std.specs.Prelude.{if◌then◌else◌, slice_get, slice_index_or}
+use Rattle.std.specs.Prelude.{slice_get, slice_index_or}
 use Rattle.jl_ast.specs.declared.tree.Function.{out-Function}
 use Rattle.jl_ast.specs.declared.tree.Ident.{Ident}
-use Rattle.jl_value.specs.BuiltinPlaces.{bound}
-use Rattle.jl_value.specs.Builtins.{entry_of, name_of}
 use Rattle.jl_value.specs.declared.error_kind.ErrorKind.TheVariants.{TypeError}
-use Rattle.jl_value.specs.declared.object.ObjId.{ObjId}
 use Rattle.jl_value.specs.declared.value.Value.{Value}
 use Rattle.jl_heap.specs.Objects.{Name}
 use Rattle.jl_heap.specs.declared.inner.Inner.{Inner}
-use Rattle.jl_heap.specs.declared.inner.Inner.TheVariants as inner
 use Rattle.jl_meaning.specs.Errors.{string_within, throw_error}
 use Rattle.jl_meaning.specs.FunctionObjects.{function_name}
 use Rattle.jl_meaning.specs.FunctionObjects as functions
 use Rattle.jl_meaning.specs.Parts.{◌>>=◌, Algorithm, Call}
-use Rattle.jl_meaning.specs.Realm.{is_dot, last_part}
 use Rattle.jl_meaning.specs.builtins.Arguments.{give_string, need_receiver}
 use Rattle.jl_meaning.specs.builtins.Function.{function_to_string, inner_of_function, name_inside, names_of}
 use Rattle.jl_meaning.specs.builtins.Function.{FunctionNames}
@@ -33,14 +24,7 @@ use Rattle.jl_state.specs.declared.act.Act.{Act}
 use Rattle.jl_state.specs.declared.script_function.ScriptFunction.{ScriptFunction}
 use Rattle.jl_state.specs.declared.state.State.{State}
 use Rattle.jl_algorithm.proofs.Throwing.{works_left_out}
-use Rattle.jl_lib_object.specs.inner.Calls.{after_dot, function_text, script_name}
-
--- a path without a dot
-pub no_dot : (path : List ℕ) → position_or_len is_dot path ≡ length path → path ≡ after_dot path
-no_dot path is =
-    let none : list_any is_dot path ≡ false =
-    list_any_none is_dot path (λ k d below. fails_before_first is_dot path k d (omega (arith, is, below))) in
-    subst (λ b. path ≡ (if b then after_first is_dot path else path)) (sym none) refl
+use Rattle.jl_lib_object.specs.inner.Calls.{function_text, script_name}
 
 -- the name of a function of the script
 
@@ -60,15 +44,7 @@ pub script_named : (l : List ScriptFunction) (n : ℕ) (f : ScriptFunction) (o :
 script_named l n f o name there named is =
     is ∙ ap (λ (x : Option Name). unwrap_or x []) (sym (name_there l n f there ∙ name_is f.function.now o named))
 
--- the name of what `bind` has made
-
-bound_name : last_part (name_of bound) ≡ codes "bound"
-unfolding entry_of
-bound_name = refl
-
-pub bound_named : (names : FunctionNames) (i : Inner) (target : ObjId) (this : Value) (args : List Value) (name : Name)
-    → i ≡ inner.Bound target this args → name ≡ codes "bound" → name ≡ name_inside names i
-bound_named names i target this args name is same = same ∙ sym bound_name ∙ ap (name_inside names) (sym is)
+-- the text of a function
 
 abbrev text_of : FunctionNames → Inner → Algorithm Value
 text_of names i = string_within (function_text (name_inside names i)) >>= give_string

@@ -1,8 +1,7 @@
 //! `Function.prototype.toString` (15.3.4.2).
 ghost use Rattle.std.specs.Option.{option_map};
 ghost use Rattle.std.specs.Prelude.{◌≡◌, ◌++◌, IfOk};
-ghost use Rattle.jl_lib_object.specs.inner.Calls.{after_dot, function_text, script_name};
-ghost use Rattle.jl_meaning.specs.Realm.{last_part};
+ghost use Rattle.jl_lib_object.specs.inner.Calls.{function_text, script_name};
 ghost use Rattle.jl_meaning.specs.builtins.Function.{function_to_string, inner_of_function, name_inside, names_of};
 ghost use Rattle.jl_state.specs.Clauses.{Computes, RankAtMost};
 ghost use Rattle.jl_state.specs.Words.{call_of, table_of};
@@ -11,26 +10,10 @@ use jl_algorithm::throw_native;
 use jl_builtin::{give_text, with_units};
 use jl_heap::Inner;
 use jl_state::{Act, Invocation, ScriptFunction, State};
+use jl_store::last_part;
 use jl_text::{List, NoMemory, Text, word};
-use jl_value::{Class, ErrorKind, Value};
+use jl_value::{Builtin, Class, ErrorKind, Value};
 use std::alloc::Global;
-
-/// What comes after the first dot of a path, or the path where it has none.
-fn after_dot(path: &str) -> &str
-    ensures { result.now ≡ after_dot path.now }
-{
-    match path.split_once('.') {
-        Some((_, rest)) => rest,
-        None => path,
-    }
-}
-
-/// The last part of a path, which has at most two dots.
-fn last_part(path: &str) -> &str
-    ensures { result.now ≡ last_part path.now }
-{
-    after_dot(after_dot(path))
-}
 
 /// The name of a function of the script with this number, which is empty where it has none.
 fn script_name<'p>(
@@ -60,7 +43,7 @@ fn name_inside<'p>(
     match inner {
         Inner::Script { function, .. } => script_name(alloc, functions, *function as usize),
         Inner::Native(builtin) => word(alloc, last_part(builtin.name())),
-        Inner::Bound { .. } => word(alloc, "bound"),
+        Inner::Bound { .. } => word(alloc, last_part(Builtin::BOUND.name())),
         _ => word(alloc, ""),
     }
 }

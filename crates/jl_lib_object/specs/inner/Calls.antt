@@ -1,13 +1,11 @@
 -- Functions that are called with arguments of a list (15.3.4.3), and their names and texts (15.3.4.2).
-use Rattle.std.specs.List.{after_first, list_any}
 use Rattle.std.specs.Option.{unwrap_or}
-use Rattle.std.specs.Prelude.{[], codes, if◌then◌else◌, slice_index_or, ◌+◌, ◌++◌, ◌-◌, ◌∷◌, List, None, ℕ}
+use Rattle.std.specs.Prelude.{[], codes, slice_index_or, ◌+◌, ◌++◌, ◌-◌, ◌∷◌, List, None, ℕ}
 use Rattle.jl_value.specs.declared.object.ObjId.{ObjId}
 use Rattle.jl_value.specs.declared.value.Value.{Value}
 use Rattle.jl_heap.specs.Objects.{Name}
 use Rattle.jl_meaning.specs.Parts.{call, ◌>>=◌, Algorithm}
 use Rattle.jl_meaning.specs.builtins.Elements.{get_index, get_length}
-use Rattle.jl_meaning.specs.Realm.{is_dot}
 use Rattle.jl_meaning.specs.builtins.Function.{append_element, FunctionNames}
 use Rattle.jl_meaning.specs.builtins.Turns.{upward}
 
@@ -30,10 +28,6 @@ abbrev pub apply_list : (function : ObjId) → (this : Value) → (list : ObjId)
 apply_list f this list = do
   n ← get_length list
   apply_by f this list n 0 []
-
--- what comes after the first dot of a path, if it has one
-abbrev pub after_dot : List ℕ → List ℕ
-after_dot path = if list_any is_dot path then after_first is_dot path else path
 
 -- the name of a function of the script by its number
 abbrev pub script_name : FunctionNames → ℕ → Name
