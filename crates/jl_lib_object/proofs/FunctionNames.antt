@@ -1,5 +1,5 @@
 -- The names of functions, and their texts (15.3.4.2).
-use Rattle.std.proofs.Common.{◌≡◌, ◌∙◌, [], ap, codes, refl, subst, sym, List, None, Option, Some, ℕ}
+use Rattle.std.proofs.Common.{◌≡◌, ◌∙◌, [], ap, codes, subst, sym, List, None, Option, Some, ℕ}
 use Rattle.std.proofs.lemmas.Option.{get_or_from_slice_get, slice_get-map}
 use Rattle.std.specs.Option.{option_map, unwrap_or}
 use Rattle.std.specs.Prelude.{slice_get, slice_index_or}
