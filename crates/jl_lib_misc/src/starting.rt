@@ -36,8 +36,7 @@ pub fn start_global<'p>(
     ensures falls { RankAtMost state.old 46 result state.new }
 {
     match builtin {
-        GlobalBuiltin::Print => print(state, call.args.items()),
-        GlobalBuiltin::ConsoleLog => print(state, call.args.items()),
+        GlobalBuiltin::Print | GlobalBuiltin::ConsoleLog => print(state, call.args.items()),
         GlobalBuiltin::ParseInt => parse_int(state, call),
         GlobalBuiltin::IsNaN => test_argument(state, NumberTest::IsNan, call),
         GlobalBuiltin::IsFinite => test_argument(state, NumberTest::IsFinite, call),
@@ -57,10 +56,10 @@ pub fn start_number<'p>(
         NumberBuiltin::Constructor => number_constructor(state, call),
         NumberBuiltin::ToString => number_to_string(state, call),
         NumberBuiltin::ValueOf => number_value_of(state, call),
-        NumberBuiltin::ToFixed => Ok(unsupported(Builtin::Number(builtin))),
-        NumberBuiltin::ToExponential => Ok(unsupported(Builtin::Number(builtin))),
-        NumberBuiltin::ToPrecision => Ok(unsupported(Builtin::Number(builtin))),
-        NumberBuiltin::ToLocaleString => Ok(unsupported(Builtin::Number(builtin))),
+        NumberBuiltin::ToFixed
+        | NumberBuiltin::ToExponential
+        | NumberBuiltin::ToPrecision
+        | NumberBuiltin::ToLocaleString => Ok(unsupported(Builtin::Number(builtin))),
     }
 }
 
@@ -114,12 +113,12 @@ pub fn start_math<'p>(
 {
     match builtin {
         MathBuiltin::Abs => on_argument(state, NumberFunction::Absolute, call),
-        MathBuiltin::Ceil => on_argument(state, NumberFunction::Whole, call),
-        MathBuiltin::Floor => on_argument(state, NumberFunction::Whole, call),
+        MathBuiltin::Ceil | MathBuiltin::Floor | MathBuiltin::Round => {
+            on_argument(state, NumberFunction::Whole, call)
+        }
         MathBuiltin::Max => one_of_arguments(state, Extreme::Greatest, call.args.items()),
         MathBuiltin::Min => one_of_arguments(state, Extreme::Least, call.args.items()),
         MathBuiltin::Pow => math_pow(state, call),
-        MathBuiltin::Round => on_argument(state, NumberFunction::Whole, call),
     }
 }
 
