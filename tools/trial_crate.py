@@ -1,7 +1,7 @@
 #!/usr/bin/env python3
 """Checks a crate before those below it are proved: in a trial crate, over stubs and the libraries that are here.
 
-usage: tools/trial_crate.py CRATE [flags of rt check]      as tools/trial_crate.py jl_dispatch --only calls --jobs 1
+usage: tools/trial_crate.py CRATE [flags of rt check]      as tools/trial_crate.py jl_machine --only calls --jobs 1
 
 The trial lies in `crates/CRATE/out/trial` and is kept: a second call writes only the files that changed. It has `src`,
 `specs` and `proofs` of CRATE, links to the libraries below CRATE that are built here (tools/borrow.py, tools/prove.py),

@@ -3,5 +3,4 @@ pub mod Leading
 pub mod Lines
 pub mod Messages
 pub mod Objects
-pub mod Starts
 pub mod Turns

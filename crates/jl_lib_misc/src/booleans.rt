@@ -16,8 +16,6 @@ use jl_store::Store;
 use jl_text::NoMemory;
 use jl_value::{Class, ErrorKind, ObjId, Value};
 
-const BOOLEAN_PROTOTYPE: ObjId = ObjId(6);
-
 /// `Boolean(value)` and `new Boolean(value)` (15.6.1.1, 15.6.2.1).
 pub(crate) fn boolean_constructor<'p>(
     state: &mut State<'p>,
@@ -29,7 +27,13 @@ pub(crate) fn boolean_constructor<'p>(
     let alloc = state.alloc();
     let first = argument(alloc, call.args.items(), 0)?;
     let truth = Value::Bool(to_boolean(&first));
-    value_or_object(state, call.by_new, Class::Boolean, BOOLEAN_PROTOTYPE, truth)
+    value_or_object(
+        state,
+        call.by_new,
+        Class::Boolean,
+        ObjId::BOOLEAN_PROTOTYPE,
+        truth,
+    )
 }
 
 /// The truth value that an object stands for, if it is a `Boolean` object.

@@ -8,9 +8,11 @@ mod math;
 mod numbers;
 mod parsing;
 mod printing;
-mod rows;
 mod several;
+mod starting;
 
 pub use errors::resume_error;
 pub use globals::resume_global;
-pub use rows::{resume_number, start};
+pub use starting::{
+    resume_number, start_boolean, start_error, start_global, start_math, start_number,
+};

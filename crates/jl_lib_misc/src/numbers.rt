@@ -24,8 +24,6 @@ use jl_text::{List, NoMemory, Text, TextFault};
 use jl_value::{Class, ErrorKind, Fault, ObjId, Value, is_undefined};
 use std::alloc::Global;
 
-const NUMBER_PROTOTYPE: ObjId = ObjId(5);
-
 /// A primitive value, or with `new` an object that stands for it (15.6.2.1, 15.7.2.1).
 pub(crate) fn value_or_object<'p>(
     state: &mut State<'p>,
@@ -53,7 +51,7 @@ fn number_or_object<'p>(state: &mut State<'p>, by_new: bool, n: Num) -> Result<A
         state,
         by_new,
         Class::Number,
-        NUMBER_PROTOTYPE,
+        ObjId::NUMBER_PROTOTYPE,
         Value::Num(n),
     )
 }

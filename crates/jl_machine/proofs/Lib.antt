@@ -1,4 +1,5 @@
 pub mod Acts
+pub mod Callees
 pub mod Continuing
 pub mod Ends
 pub mod Hearing

@@ -3,10 +3,10 @@ ghost use Rattle.std.specs.Prelude.{◌≡◌, IfOk, OnOk};
 ghost use Rattle.jl_state.specs.Rank.{rank_act};
 ghost use Rattle.jl_machine.specs.inner.Going.{Goes, IsStepped, Sinks};
 
+use crate::calls::begin_call;
 use crate::ending::Next;
 use crate::handing::{give_completion, give_value, resume};
 use crate::telling::tell;
-use jl_dispatch::begin_call;
 use jl_expression::begin_expression;
 use jl_op::{KindSet, Observer};
 use jl_state::{Act, State};

@@ -3,10 +3,10 @@ ghost use Rattle.jl_state.specs.Clauses.{RankAtMost, ResumesAlgorithm};
 ghost use Rattle.std.specs.Prelude.{◌+◌};
 ghost use Rattle.jl_state.specs.Rank.{rank_algorithm};
 
+use crate::builtins::step_progress;
 use jl_algorithm::{
     step_length_count, step_length_number, step_method, step_method_result, step_type_of,
 };
-use jl_dispatch::step_progress;
 use jl_operator::{
     step_equal_to, step_in, step_instance_of, step_left_compared, step_left_number,
     step_left_summand, step_number_operand, step_right_compared, step_right_number,

@@ -3,6 +3,8 @@
 
 mod advancing;
 mod algorithms;
+mod builtins;
+mod calls;
 mod ending;
 mod handing;
 pub mod laws;

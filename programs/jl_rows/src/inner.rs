@@ -16,10 +16,7 @@ pub fn inner_of(alloc: Global, word: &str) -> Result<Inner, Fault> {
             function: function.parse::<u32>().ok().ok_or(Fault::Unreadable)?,
             env: size_of(env)?,
         }),
-        ["native", row] => {
-            let row = row.parse::<u16>().ok().ok_or(Fault::Unreadable)?;
-            Ok(Inner::Native(Builtin::at(row).ok_or(Fault::Unreadable)?))
-        }
+        ["native", path] => Ok(Inner::Native(Builtin::named(path).ok_or(Fault::Unreadable)?)),
         ["bound", target, this, args @ ..] => Ok(Inner::Bound {
             target: ObjId(size_of(target)?),
             this: value_of(alloc, this)?,

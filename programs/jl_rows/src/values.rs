@@ -10,7 +10,7 @@ use jl_conv::{
 };
 use jl_num::{Num, NumberOutside};
 use jl_value::{
-    Builtin, Class, Fault as RunFault, GlobalBuiltin, ObjId, Seen, Value, array_index, same_value, share,
+    Builtin, Class, Fault as RunFault, ObjId, Seen, Value, array_index, same_value, share,
 };
 use std::alloc::Global;
 
@@ -48,8 +48,9 @@ pub fn value_of(alloc: Global, word: &str) -> Result<Value, Fault> {
 
 fn of_word(alloc: Global, call: &str, word: &str) -> Result<String, Fault> {
     match call {
-        "builtin" => builtin(alloc, size_of(word)?),
-        "builtin_at" => placed(alloc, size_of(word)?),
+        "builtin" => builtin(alloc, word),
+        "builtin_at" => placed(alloc, word),
+        "row" => row(alloc, size_of(word)?),
         "fault" => fault(alloc, word),
         "index" => index(alloc, units_of(alloc, word)?.as_slice()),
         "number" => shown(alloc, text_to_num(units_of(alloc, word)?.as_slice())),
@@ -60,20 +61,24 @@ fn of_word(alloc: Global, call: &str, word: &str) -> Result<String, Fault> {
     }
 }
 
-fn row_of(row: usize) -> Option<Builtin> {
-    Builtin::at(u16::try_from(row).ok()?)
+fn builtin(alloc: Global, path: &str) -> Result<String, Fault> {
+    match Builtin::named(path) {
+        Some(builtin) => Ok(format!(in alloc; "{}", builtin.length())?),
+        None => Ok(String::from_str(alloc, "none")?),
+    }
 }
 
-fn builtin(alloc: Global, row: usize) -> Result<String, Fault> {
-    match row_of(row) {
+fn row(alloc: Global, row: usize) -> Result<String, Fault> {
+    let row = u16::try_from(row).ok().ok_or(Fault::Unreadable)?;
+    match Builtin::at(row) {
         Some(builtin) => Ok(format!(in alloc; "{} {}", builtin.row(), builtin.name())?),
         None => Ok(String::from_str(alloc, "none")?),
     }
 }
 
-fn placed(alloc: Global, row: usize) -> Result<String, Fault> {
-    let builtin = row_of(row).ok_or(Fault::Unreadable)?;
-    if builtin.row() == 26 {
+fn placed(alloc: Global, path: &str) -> Result<String, Fault> {
+    let builtin = Builtin::named(path).ok_or(Fault::Unreadable)?;
+    if builtin == Builtin::BOUND {
         return Err(Fault::Unreadable);
     }
     Ok(format!(in alloc; "{}", builtin.place().0)?)
@@ -86,8 +91,7 @@ fn fault(alloc: Global, word: &str) -> Result<String, Fault> {
         "output" => RunFault::OutputTooLong,
         "code" => RunFault::CodeFromText,
         "misuse" => RunFault::Misuse,
-        "print" => RunFault::Unsupported(Builtin::Global(GlobalBuiltin::Print)),
-        row => RunFault::Unsupported(row_of(size_of(row)?).ok_or(Fault::Unreadable)?),
+        path => RunFault::Unsupported(Builtin::named(path).ok_or(Fault::Unreadable)?),
     };
     Ok(format!(in alloc; "{fault}")?)
 }

@@ -2,10 +2,10 @@
 use Rattle.std.specs.Int.{is_in_range}
 use Rattle.std.specs.Prelude.{if◌then◌else◌, negsuc, pos, Bool, None, Option, Some, ℕ, ℤ}
 use Rattle.jl_num.specs.Number.{Number}
+use Rattle.jl_value.specs.Intrinsics.{number_prototype}
 use Rattle.jl_value.specs.declared.object.Class.TheVariants as class
 use Rattle.jl_value.specs.declared.value.Value.{Value}
 use Rattle.jl_value.specs.declared.value.Value.TheVariants as value
-use Rattle.jl_meaning.specs.Intrinsics.{number_prototype}
 use Rattle.jl_meaning.specs.Parts.{Algorithm}
 use Rattle.jl_meaning.specs.builtins.Arguments.{value_or_object}
 

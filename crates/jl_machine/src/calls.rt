@@ -15,7 +15,7 @@ use jl_text::NoMemory;
 use jl_value::{Value, share};
 
 /// A call takes a step, and its function is entered.
-pub fn begin_call<'p>(state: &mut State<'p>, call: Invocation) -> Result<Act<'p>, NoMemory>
+pub(crate) fn begin_call<'p>(state: &mut State<'p>, call: Invocation) -> Result<Act<'p>, NoMemory>
     ensures leads { Evaluates state.old (begin_call CallOf (call_of call)) result state.new }
     ensures falls { RankAtMost state.old 1 result state.new }
 {

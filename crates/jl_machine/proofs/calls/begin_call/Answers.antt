@@ -1,7 +1,7 @@
 use Rattle.std.proofs.Common.{ap, refl}
 use Rattle.jl_state.specs.declared.state.State.{State}
-use Rattle.jl_dispatch.proofs.Callees.{begins, spends}
-use Rattle.jl_dispatch.proofs.calls.begin_call.Goals as goal
+use Rattle.jl_machine.proofs.Callees.{begins, spends}
+use Rattle.jl_machine.proofs.calls.begin_call.Goals as goal
 
 pub returns-then-not-spend-clause-leads : goal.returns-then-not-spend-clause-leads
 returns-then-not-spend-clause-leads c =
