@@ -1,173 +1,111 @@
-//! The functions that a script finds when it begins (clause 15), by their rows.
-ghost use Rattle.std.specs.Prelude.{◌≡◌, ◌<◌, Some, IsTrue, length, map, slice_get};
-ghost use Rattle.std.specs.Prelude.{nat_lt};
+//! What a builtin is when a run begins (clause 15): of which object it is a property, and the steps by which its own
+//! object is made.
+ghost use Rattle.std.specs.Prelude.{◌≡◌, IsTrue};
 ghost use Rattle.jl_value.specs.BuiltinPlaces.{place_of_builtin};
-ghost use Rattle.jl_value.specs.Builtins.{name_of};
-ghost use Rattle.jl_meaning.specs.Realm.{last_part, lengths};
-ghost use Rattle.jl_realm.specs.inner.Steps.{row_fits};
+ghost use Rattle.jl_value.specs.Builtins.{entry_of, name_of};
+ghost use Rattle.jl_meaning.specs.Realm.{has_function_object, holds, last_part};
+ghost use Rattle.jl_realm.specs.inner.Steps.{closing_step, functions_step, has_place, own_step, prototype_step};
+ghost use Rattle.jl_realm.specs.inner.Steps.{step_fits, steps_for};
 
-use jl_value::{Builtin, ObjId};
-
-/// The names under which they are properties, by row: the last parts of their paths.
-const NAMES: [&str; 102] = [
-    "Object",
-    "getPrototypeOf",
-    "getOwnPropertyDescriptor",
-    "getOwnPropertyNames",
-    "create",
-    "defineProperty",
-    "defineProperties",
-    "seal",
-    "freeze",
-    "preventExtensions",
-    "isSealed",
-    "isFrozen",
-    "isExtensible",
-    "keys",
-    "toString",
-    "toLocaleString",
-    "valueOf",
-    "hasOwnProperty",
-    "isPrototypeOf",
-    "propertyIsEnumerable",
-    "Function",
-    "prototype",
-    "toString",
-    "apply",
-    "call",
-    "bind",
-    "bound",
-    "thrower",
-    "Array",
-    "isArray",
-    "toString",
-    "toLocaleString",
-    "concat",
-    "join",
-    "pop",
-    "push",
-    "reverse",
-    "shift",
-    "slice",
-    "sort",
-    "splice",
-    "unshift",
-    "indexOf",
-    "lastIndexOf",
-    "every",
-    "some",
-    "forEach",
-    "map",
-    "filter",
-    "reduce",
-    "reduceRight",
-    "String",
-    "fromCharCode",
-    "toString",
-    "valueOf",
-    "charAt",
-    "charCodeAt",
-    "concat",
-    "indexOf",
-    "lastIndexOf",
-    "slice",
-    "split",
-    "substring",
-    "toLowerCase",
-    "toUpperCase",
-    "trim",
-    "toLocaleLowerCase",
-    "toLocaleUpperCase",
-    "localeCompare",
-    "replace",
-    "match",
-    "search",
-    "print",
-    "log",
-    "parseInt",
-    "isNaN",
-    "isFinite",
-    "Number",
-    "toString",
-    "valueOf",
-    "toFixed",
-    "toExponential",
-    "toPrecision",
-    "toLocaleString",
-    "Boolean",
-    "toString",
-    "valueOf",
-    "Error",
-    "EvalError",
-    "RangeError",
-    "ReferenceError",
-    "SyntaxError",
-    "TypeError",
-    "URIError",
-    "toString",
-    "abs",
-    "ceil",
-    "floor",
-    "max",
-    "min",
-    "pow",
-    "round",
-];
-
-/// How many arguments they say that they take, by row.
-const LENGTHS: [u8; 102] = [
-    1, 1, 2, 1, 2, 3, 2, 1, 1, 1, 1, 1, 1, 1, 0, 0, 0, 1, 1, 1, 1, 0, 0, 2, 1, 1, 0, 0, 1, 1, 0, 0,
-    1, 1, 0, 1, 0, 0, 2, 1, 2, 1, 1, 1, 1, 1, 1, 1, 1, 1, 1, 1, 1, 0, 0, 1, 1, 1, 1, 1, 2, 2, 2, 0,
-    0, 0, 0, 0, 1, 2, 1, 1, 0, 0, 2, 1, 1, 1, 1, 0, 1, 1, 1, 0, 1, 0, 0, 1, 1, 1, 1, 1, 1, 1, 0, 1,
-    1, 1, 2, 2, 2, 1,
-];
-
-/// The builtin of a row.
-#[tactic(auto, unfolding(jl_value::specs::Builtins::builtin_names))]
-pub(crate) fn builtin(row: u16) -> Builtin
-    requires { IsTrue (nat_lt row 102) }
-    ensures { result ≡ row }
-{
-    match Builtin::at(row) {
-        Some(builtin) => builtin,
-        None => unreachable!(),
-    }
-}
+use crate::steps::{Initial, Inside, Step, Word};
+use jl_store::last_part;
+use jl_value::{Builtin, Class, FunctionBuiltin, Holder, NumberBuiltin, ObjId};
 
 /// The address of its object.
-pub(crate) fn place(row: u16) -> ObjId
-    requires { IsTrue (row_fits row) }
-    ensures { result ≡ place_of_builtin row }
+pub(crate) fn place(builtin: Builtin) -> ObjId
+    requires { IsTrue (has_place builtin) }
+    ensures { result ≡ place_of_builtin builtin }
 {
-    builtin(row).place()
+    builtin.place()
 }
 
 /// Its name as a property.
-pub(crate) fn name(row: u16) -> &'static str
-    requires { IsTrue (nat_lt row 102) }
-    ensures { result.now ≡ last_part (name_of row) }
+pub(crate) fn property_name(builtin: Builtin) -> &'static str
+    ensures { result.now ≡ last_part (name_of builtin) }
 {
-    name_at(&NAMES, usize::from(row))
+    last_part(builtin.name())
 }
 
-fn name_at(table: &'static [&'static str], at: usize) -> &'static str
-    requires { at < length table.now }
-    ensures { slice_get (map (λ name. name.now) table.entry.now) at ≡ Some result.now }
+/// Whether an object has a builtin as a property.
+pub(crate) fn is_held(holder: ObjId, builtin: Builtin) -> bool
+    ensures { result ≡ holds holder (entry_of builtin).holder }
 {
-    table[at]
+    match builtin.holder() {
+        Holder::Nothing => false,
+        Holder::Object(id) => holder == id,
+        Holder::Builtin(constructor) => holder == constructor.place(),
+    }
 }
 
-/// How many arguments it says that it takes.
-pub(crate) fn length(row: u16) -> u8
-    requires { IsTrue (nat_lt row 102) }
-    ensures { slice_get lengths row ≡ Some result }
+/// Whether there is an object of its own behind the first ones.
+pub(crate) fn has_function_object(builtin: Builtin) -> bool
+    ensures { result ≡ has_function_object builtin }
 {
-    length_at(&LENGTHS, usize::from(row))
+    match builtin {
+        Builtin::Function(FunctionBuiltin::Prototype | FunctionBuiltin::Bound) => false,
+        _ => true,
+    }
 }
 
-fn length_at(table: &'static [u8], at: usize) -> u8
-    requires { at < length table.now }
-    ensures { slice_get table.now at ≡ Some result }
+/// The steps by which its object is made.
+pub(crate) fn steps_for(builtin: Builtin) -> [Step; 6]
+    requires { IsTrue (has_place builtin) }
+    ensures { result ≡ steps_for builtin }
 {
-    table[at]
+    let at = builtin.place();
+    let prototype = builtin.prototype();
+    [
+        Step::Object(
+            Class::Function,
+            Some(ObjId::FUNCTION_PROTOTYPE),
+            Inside::Native(builtin),
+        ),
+        own_step(builtin, at),
+        prototype_step(prototype, at),
+        Step::Constant(at, Word::Length, Initial::Count(builtin.length())),
+        functions_step(prototype, at),
+        closing_step(builtin, at),
+    ]
+}
+
+/// Number.NaN (15.7.3.4).
+fn own_step(builtin: Builtin, at: ObjId) -> Step
+    ensures { result ≡ own_step builtin at }
+{
+    match builtin {
+        Builtin::Number(NumberBuiltin::Constructor) => {
+            Step::Constant(at, Word::NaN, Initial::NaN)
+        }
+        _ => Step::Nothing,
+    }
+}
+
+/// A constructor has the prototype of what it constructs as a property.
+fn prototype_step(prototype: Option<ObjId>, at: ObjId) -> Step
+    ensures { result ≡ prototype_step prototype at }
+{
+    match prototype {
+        Some(id) => Step::Constant(at, Word::Prototype, Initial::Object(id)),
+        None => Step::Nothing,
+    }
+}
+
+/// It has functions of its own too.
+fn functions_step(prototype: Option<ObjId>, at: ObjId) -> Step
+    ensures { result ≡ functions_step prototype at }
+{
+    match prototype {
+        Some(_) => Step::Functions(at),
+        None => Step::Nothing,
+    }
+}
+
+/// Only the function that throws a TypeError is not extensible (13.2.3).
+fn closing_step(builtin: Builtin, at: ObjId) -> Step
+    ensures { result ≡ closing_step builtin at }
+{
+    match builtin {
+        Builtin::Function(FunctionBuiltin::Thrower) => Step::Close(at),
+        _ => Step::Nothing,
+    }
 }

@@ -1,23 +1,21 @@
 //! The objects that a run begins with (clause 15).
 ghost use Rattle.std.specs.List.{flat_map, list_all};
-ghost use Rattle.std.specs.Prelude.{◌≡◌, ◌∷◌, [], false, pos, IfOk, IsTrue, OnOk, Some};
-ghost use Rattle.std.specs.Option.{option_map};
+ghost use Rattle.std.specs.Prelude.{◌≡◌, ◌∷◌, [], pos, IfOk, IsTrue, OnOk, Some, false};
 ghost use Rattle.jl_heap.specs.declared.property.Prop.TheVariants.{Plain};
 ghost use Rattle.jl_meaning.specs.Changes.{NewObject};
 ghost use Rattle.jl_meaning.specs.Realm.{realm};
 ghost use Rattle.jl_realm.specs.Global.{HasGlobalObject};
-ghost use Rattle.jl_realm.specs.inner.Steps.{address, all_ready, after_all, changes_of, function_made, function_named};
-ghost use Rattle.jl_realm.specs.inner.Steps.{inner_of, inside_fits, property_added, row_fits, rows, rows_fit};
-ghost use Rattle.jl_realm.specs.inner.Steps.{step_fits};
-ghost use Rattle.jl_realm.specs.inner.Steps.{value_fits, value_of, word_text};
+ghost use Rattle.jl_realm.specs.inner.Steps.{all_ready, after_all, changes_of, function_held, function_made};
+ghost use Rattle.jl_realm.specs.inner.Steps.{function_named, has_place, inner_of, inside_fits, property_added};
+ghost use Rattle.jl_realm.specs.inner.Steps.{step_fits, value_fits, value_of, word_text};
 
-use crate::builtins::{builtin, length, name, place};
+use crate::builtins::{has_function_object, is_held, place, property_name, steps_for};
 use crate::steps::{Initial, Inside, STEPS, Step, Word};
 use jl_heap::{Inner, Prop};
 use jl_num::Num;
 use jl_store::Store;
 use jl_text::{NoMemory, Text, word};
-use jl_value::{Class, ObjId, Value};
+use jl_value::{Builtin, Class, ObjId, Value};
 use std::alloc::Global;
 use std::hash::RandomState;
 
@@ -27,28 +25,36 @@ pub fn initial_store(alloc: Global, keys: RandomState) -> Result<Store, NoMemory
     ensures global { IfOk result (λ store. HasGlobalObject store) }
 {
     let mut store = Store::new(alloc, keys)?;
-    take_all(alloc, &mut store, &STEPS)?;
+    let builtins = Builtin::all();
+    take_all(alloc, &mut store, builtins, &STEPS)?;
+    make_functions(alloc, &mut store, builtins)?;
     Ok(store)
 }
 
 /// Takes these steps, one after another.
-fn take_all(alloc: Global, store: &mut Store, steps: &[Step]) -> Result<(), NoMemory>
+fn take_all(
+    alloc: Global,
+    store: &mut Store,
+    builtins: &[Builtin],
+    steps: &[Step],
+) -> Result<(), NoMemory>
     requires fit { IsTrue (list_all step_fits steps.now) }
-    requires ready { IsTrue (all_ready (flat_map changes_of steps.now) store.old) }
-    ensures { OnOk result (store.new ≡ after_all (flat_map changes_of steps.now) store.old) }
+    requires ready { IsTrue (all_ready (flat_map (changes_of builtins.now) steps.now) store.old) }
+    ensures { OnOk result (store.new ≡ after_all (flat_map (changes_of builtins.now) steps.now) store.old) }
 {
     for step in steps {
-        take(alloc, store, *step)?;
+        take(alloc, store, builtins, *step)?;
     }
     Ok(())
 }
 
-fn take(alloc: Global, store: &mut Store, step: Step) -> Result<(), NoMemory>
+fn take(alloc: Global, store: &mut Store, builtins: &[Builtin], step: Step) -> Result<(), NoMemory>
     requires fits { IsTrue (step_fits step) }
-    requires ready { IsTrue (all_ready (changes_of step) store.old) }
-    ensures { OnOk result (store.new ≡ after_all (changes_of step) store.old) }
+    requires ready { IsTrue (all_ready (changes_of builtins.now step) store.old) }
+    ensures { OnOk result (store.new ≡ after_all (changes_of builtins.now step) store.old) }
 {
     match step {
+        Step::Nothing => Ok(()),
         Step::Object(class, proto, inside) => make_object(alloc, store, class, proto, inside),
         Step::Changeable(holder, word, value) => {
             add_property(alloc, store, holder, word, value, true)
@@ -56,10 +62,9 @@ fn take(alloc: Global, store: &mut Store, step: Step) -> Result<(), NoMemory>
         Step::Constant(holder, word, value) => {
             add_property(alloc, store, holder, word, value, false)
         }
-        Step::Functions(holder, from, to) => add_functions(alloc, store, holder, from, to),
-        Step::Makes(from, to) => make_functions(alloc, store, from, to),
-        Step::Close(at) => {
-            store.prevent_extensions(ObjId(at));
+        Step::Functions(holder) => add_functions(alloc, store, holder, builtins),
+        Step::Close(id) => {
+            store.prevent_extensions(id);
             Ok(())
         }
     }
@@ -69,25 +74,15 @@ fn make_object(
     alloc: Global,
     store: &mut Store,
     class: Class,
-    proto: Option<usize>,
+    proto: Option<ObjId>,
     inside: Inside,
 ) -> Result<(), NoMemory>
     requires { IsTrue (inside_fits inside) }
-    ensures { OnOk result (store.new
-        ≡ after_all (NewObject class (option_map address proto) (inner_of inside) ∷ []) store.old) }
+    ensures { OnOk result (store.new ≡ after_all (NewObject class proto (inner_of inside) ∷ []) store.old) }
 {
     let inner = inner(alloc, inside)?;
-    store.new_object(class, address(proto), inner)?;
+    store.new_object(class, proto, inner)?;
     Ok(())
-}
-
-fn address(at: Option<usize>) -> Option<ObjId>
-    ensures { result ≡ option_map address at }
-{
-    match at {
-        Some(at) => Some(ObjId(at)),
-        None => None,
-    }
 }
 
 fn inner(alloc: Global, inside: Inside) -> Result<Inner, NoMemory>
@@ -96,7 +91,7 @@ fn inner(alloc: Global, inside: Inside) -> Result<Inner, NoMemory>
 {
     match inside {
         Inside::Nothing => Ok(Inner::Nothing),
-        Inside::Native(row) => Ok(Inner::Native(builtin(row))),
+        Inside::Native(builtin) => Ok(Inner::Native(builtin)),
         Inside::Wrapped(v) => Ok(Inner::Wrapped(value(alloc, v)?)),
     }
 }
@@ -104,7 +99,7 @@ fn inner(alloc: Global, inside: Inside) -> Result<Inner, NoMemory>
 fn add_property(
     alloc: Global,
     store: &mut Store,
-    holder: usize,
+    holder: ObjId,
     word: Word,
     v: Initial,
     changeable: bool,
@@ -115,58 +110,82 @@ fn add_property(
 {
     let name = text_of(alloc, word)?;
     let value = value(alloc, v)?;
-    store.add_property(ObjId(holder), &name, data(value, changeable))?;
+    store.add_property(holder, &name, data(value, changeable))?;
     Ok(())
 }
 
+/// Those of these builtins become properties of an object that it has as properties.
 fn add_functions(
     alloc: Global,
     store: &mut Store,
-    holder: usize,
-    from: u16,
-    to: u16,
+    holder: ObjId,
+    builtins: &[Builtin],
 ) -> Result<(), NoMemory>
-    requires fit { IsTrue (rows_fit from to) }
-    requires ready { IsTrue (all_ready (flat_map (function_named holder) (rows from to)) store.old) }
-    ensures { OnOk result (store.new ≡ after_all (flat_map (function_named holder) (rows from to)) store.old) }
+    requires ready { IsTrue (all_ready (flat_map (function_held holder) builtins.now) store.old) }
+    ensures { OnOk result (store.new ≡ after_all (flat_map (function_held holder) builtins.now) store.old) }
 {
-    for row in from..to {
-        add_function(alloc, store, holder, row)?;
+    for builtin in builtins {
+        add_if_held(alloc, store, holder, *builtin)?;
     }
     Ok(())
 }
 
-fn add_function(alloc: Global, store: &mut Store, holder: usize, row: u16) -> Result<(), NoMemory>
-    requires fits { IsTrue (row_fits row) }
-    requires ready { IsTrue (all_ready (function_named holder row) store.old) }
-    ensures { OnOk result (store.new ≡ after_all (function_named holder row) store.old) }
+fn add_if_held(
+    alloc: Global,
+    store: &mut Store,
+    holder: ObjId,
+    builtin: Builtin,
+) -> Result<(), NoMemory>
+    requires ready { IsTrue (all_ready (function_held holder builtin) store.old) }
+    ensures { OnOk result (store.new ≡ after_all (function_held holder builtin) store.old) }
 {
-    let name = word(alloc, name(row))?;
-    store.add_property(ObjId(holder), &name, data(Value::Obj(place(row)), true))?;
+    if is_held(holder, builtin) {
+        add_function(alloc, store, holder, builtin)
+    } else {
+        Ok(())
+    }
+}
+
+fn add_function(
+    alloc: Global,
+    store: &mut Store,
+    holder: ObjId,
+    builtin: Builtin,
+) -> Result<(), NoMemory>
+    requires fits { IsTrue (has_place builtin) }
+    requires ready { IsTrue (all_ready (function_named holder builtin) store.old) }
+    ensures { OnOk result (store.new ≡ after_all (function_named holder builtin) store.old) }
+{
+    let name = word(alloc, property_name(builtin))?;
+    store.add_property(holder, &name, data(Value::Obj(place(builtin)), true))?;
     Ok(())
 }
 
-fn make_functions(alloc: Global, store: &mut Store, from: u16, to: u16) -> Result<(), NoMemory>
-    requires fit { IsTrue (rows_fit from to) }
-    requires ready { IsTrue (all_ready (flat_map function_made (rows from to)) store.old) }
-    ensures { OnOk result (store.new ≡ after_all (flat_map function_made (rows from to)) store.old) }
+/// Makes the objects of all builtins that have one behind the first objects.
+fn make_functions(alloc: Global, store: &mut Store, builtins: &[Builtin]) -> Result<(), NoMemory>
+    requires ready { IsTrue (all_ready (flat_map (function_made builtins.now) builtins.now) store.old) }
+    ensures { OnOk result (store.new ≡ after_all (flat_map (function_made builtins.now) builtins.now) store.old) }
 {
-    for row in from..to {
-        make_function(alloc, store, row)?;
+    for builtin in builtins {
+        make_if_there(alloc, store, builtins, *builtin)?;
     }
     Ok(())
 }
 
-fn make_function(alloc: Global, store: &mut Store, row: u16) -> Result<(), NoMemory>
-    requires fits { IsTrue (row_fits row) }
-    requires ready { IsTrue (all_ready (function_made row) store.old) }
-    ensures { OnOk result (store.new ≡ after_all (function_made row) store.old) }
+fn make_if_there(
+    alloc: Global,
+    store: &mut Store,
+    builtins: &[Builtin],
+    builtin: Builtin,
+) -> Result<(), NoMemory>
+    requires ready { IsTrue (all_ready (function_made builtins.now builtin) store.old) }
+    ensures { OnOk result (store.new ≡ after_all (function_made builtins.now builtin) store.old) }
 {
-    let name = text_of(alloc, Word::Length)?;
-    let length = Value::Num(count(length(row)));
-    store.new_object(Class::Function, Some(ObjId(2)), Inner::Native(builtin(row)))?;
-    store.add_property(place(row), &name, data(length, false))?;
-    Ok(())
+    if has_function_object(builtin) {
+        take_all(alloc, store, builtins, &steps_for(builtin))
+    } else {
+        Ok(())
+    }
 }
 
 #[tactic(auto, unfolding(jl_heap::specs::Define::length_name))]
@@ -196,9 +215,9 @@ fn value(alloc: Global, v: Initial) -> Result<Value, NoMemory>
         Initial::False => Ok(Value::Bool(false)),
         Initial::Empty => Ok(Value::Text(word(alloc, "")?)),
         Initial::Count(n) => Ok(Value::Num(count(n))),
-        Initial::Object(at) => Ok(Value::Obj(ObjId(at))),
-        Initial::Function(row) => Ok(Value::Obj(place(row))),
-        Initial::Name(row) => Ok(Value::Text(word(alloc, name(row))?)),
+        Initial::Object(id) => Ok(Value::Obj(id)),
+        Initial::Function(builtin) => Ok(Value::Obj(place(builtin))),
+        Initial::Name(builtin) => Ok(Value::Text(word(alloc, builtin.name())?)),
     }
 }
 
