@@ -6,3 +6,4 @@ pub mod GlobalSteps
 pub mod Making
 pub mod Beginning
 pub mod Taken
+pub mod Placed

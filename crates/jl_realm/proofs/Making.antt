@@ -20,9 +20,12 @@ use Rattle.jl_meaning.specs.Realm.{count_properties, entries_from, objects_from,
 use Rattle.jl_meaning.specs.Store.{Environment, Store}
 use Rattle.jl_store.specs.Changes.{after, HasNames, IsFree}
 use Rattle.jl_store.proofs.Fresh.{is_free, lacks, names_added}
-use Rattle.jl_realm.specs.inner.Steps.{address, all_ready, after_all, is_ready}
+use Rattle.jl_realm.specs.inner.Steps.{all_ready, after_all, is_ready}
 
 -- the changes that make an object at a place, with its properties
+
+abbrev pub address : ℕ → ObjId
+address n = record { 0 = n }
 
 abbrev pub added : ℕ → List (Name × Prop) → List StoreChange
 added k [] = []

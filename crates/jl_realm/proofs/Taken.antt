@@ -1,11 +1,10 @@
 -- Changes that are left of a list of steps.
-use Rattle.std.proofs.Common.{◌≡◌, ◌∙◌, ℕ, suc, ◌+◌, ◌-◌, ◌<◌, true, Bool, List, ◌∷◌, ap, arith}
-use Rattle.std.proofs.Common.{get_or, drop, length}
-use Rattle.std.proofs.Common.{add-one, drop-cons, subst, sym}
-use Rattle.std.specs.List.{flat_map, list_all, range_with_len}
+use Rattle.std.proofs.Common.{◌≡◌, ◌∙◌, ℕ, ◌+◌, ◌<◌, true, Bool, List, ◌∷◌, ap, add-one, drop, drop-cons, get_or, length}
+use Rattle.std.proofs.Common.{subst, sym}
+use Rattle.std.specs.List.{flat_map, list_all}
 use Rattle.jl_meaning.specs.Changes.{StoreChange}
 use Rattle.jl_meaning.specs.Store.{Store}
-use Rattle.jl_realm.specs.inner.Steps.{all_ready, after_all, rows}
+use Rattle.jl_realm.specs.inner.Steps.{all_ready, after_all}
 use Rattle.jl_realm.proofs.Making.{apart, after_all-append, ready-append}
 
 -- these are left to take, and come from a store to another
@@ -43,10 +42,3 @@ all_after test i xs d within all =
     let split : list_all test (get_or xs i d ∷ drop (i + 1) xs) ≡ true =
     subst (λ l. list_all test l ≡ true) (split_at i xs d within) all in
     (apart (test (get_or xs i d)) (list_all test (drop (i + 1) xs)) split).1
-
--- rows, from one of them on
-pub rows_left : {f : ℕ → List StoreChange} {end s : Store} (row to : ℕ) → row < to → Left f end (rows row to) s
-    → Left f end (row ∷ rows (row + 1) to) s
-rows_left {f} {end} {s} row to below left =
-    let more : to - row ≡ suc (to - (row + 1)) = omega arith in
-    subst (λ n. Left f end (range_with_len row n) s) more left

@@ -12,6 +12,7 @@ use jl_store::last_part;
 use jl_value::{Builtin, Class, FunctionBuiltin, Holder, NumberBuiltin, ObjId};
 
 /// The address of its object.
+#[tactic(auto, using(crate::proofs::Placed::placed))]
 pub(crate) fn place(builtin: Builtin) -> ObjId
     requires { IsTrue (has_place builtin) }
     ensures { result ≡ place_of_builtin builtin }
@@ -27,6 +28,7 @@ pub(crate) fn property_name(builtin: Builtin) -> &'static str
 }
 
 /// Whether an object has a builtin as a property.
+#[tactic(auto, using(crate::proofs::Placed::constructor_placed))]
 pub(crate) fn is_held(holder: ObjId, builtin: Builtin) -> bool
     ensures { result ≡ holds holder (entry_of builtin).holder }
 {
@@ -48,6 +50,7 @@ pub(crate) fn has_function_object(builtin: Builtin) -> bool
 }
 
 /// The steps by which its object is made.
+#[tactic(auto, using(crate::proofs::Placed::placed))]
 pub(crate) fn steps_for(builtin: Builtin) -> [Step; 6]
     requires { IsTrue (has_place builtin) }
     ensures { result ≡ steps_for builtin }

@@ -121,7 +121,7 @@ fn add_functions(
     holder: ObjId,
     builtins: &[Builtin],
 ) -> Result<(), NoMemory>
-    requires ready { IsTrue (all_ready (flat_map (function_held holder) builtins.now) store.old) }
+    requires { IsTrue (all_ready (flat_map (function_held holder) builtins.now) store.old) }
     ensures { OnOk result (store.new ≡ after_all (flat_map (function_held holder) builtins.now) store.old) }
 {
     for builtin in builtins {
@@ -130,13 +130,14 @@ fn add_functions(
     Ok(())
 }
 
+#[tactic(auto, using(crate::proofs::Placed::held_placed))]
 fn add_if_held(
     alloc: Global,
     store: &mut Store,
     holder: ObjId,
     builtin: Builtin,
 ) -> Result<(), NoMemory>
-    requires ready { IsTrue (all_ready (function_held holder builtin) store.old) }
+    requires { IsTrue (all_ready (function_held holder builtin) store.old) }
     ensures { OnOk result (store.new ≡ after_all (function_held holder builtin) store.old) }
 {
     if is_held(holder, builtin) {
@@ -163,7 +164,7 @@ fn add_function(
 
 /// Makes the objects of all builtins that have one behind the first objects.
 fn make_functions(alloc: Global, store: &mut Store, builtins: &[Builtin]) -> Result<(), NoMemory>
-    requires ready { IsTrue (all_ready (flat_map (function_made builtins.now) builtins.now) store.old) }
+    requires { IsTrue (all_ready (flat_map (function_made builtins.now) builtins.now) store.old) }
     ensures { OnOk result (store.new ≡ after_all (flat_map (function_made builtins.now) builtins.now) store.old) }
 {
     for builtin in builtins {
@@ -172,13 +173,14 @@ fn make_functions(alloc: Global, store: &mut Store, builtins: &[Builtin]) -> Res
     Ok(())
 }
 
+#[tactic(auto, using(crate::proofs::Placed::there_placed, crate::proofs::Placed::steps_fit))]
 fn make_if_there(
     alloc: Global,
     store: &mut Store,
     builtins: &[Builtin],
     builtin: Builtin,
 ) -> Result<(), NoMemory>
-    requires ready { IsTrue (all_ready (function_made builtins.now builtin) store.old) }
+    requires { IsTrue (all_ready (function_made builtins.now builtin) store.old) }
     ensures { OnOk result (store.new ≡ after_all (function_made builtins.now builtin) store.old) }
 {
     if has_function_object(builtin) {

@@ -1,7 +1,4 @@
-use Rattle.std.specs.Prelude.{None}
-use Rattle.jl_value.specs.declared.object.Class.TheVariants as class
 use Rattle.jl_realm.specs.inner.Steps.{step_fits}
-use Rattle.jl_realm.specs.declared.steps.Inside.TheVariants as inside
 use Rattle.jl_realm.specs.declared.steps.Step.{Step}
 use Rattle.jl_realm.specs.declared.steps.Step.TheVariants as step
 use Rattle.jl_realm.proofs.Taken.{all_after, items_left, next_left, next_ready}
@@ -9,7 +6,7 @@ use Rattle.jl_realm.proofs.initial.take_all.Goals as goal
 
 -- what stands for a step past the end
 abbrev none : Step
-none = step.Object class.Primitive None inside.Nothing
+none = step.Nothing
 
 pub take-requires-clause-ready : goal.take-requires-clause-ready
 take-requires-clause-ready c =
