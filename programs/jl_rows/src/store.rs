@@ -54,7 +54,6 @@ pub fn shown_names(alloc: Global, names: List<(Text, u64)>) -> Result<String, Fa
 
 fn of_name(
     alloc: Global,
-    keys: RandomState,
     store: &mut Store<Text>,
     call: &str,
     obj: usize,
@@ -80,7 +79,6 @@ fn shown_item(alloc: Global, item: Option<&Text>) -> Result<String, Fault> {
 
 fn changed(
     alloc: Global,
-    keys: RandomState,
     store: &mut Store<Text>,
     call: &str,
     obj: usize,
