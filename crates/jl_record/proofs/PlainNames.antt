@@ -1,5 +1,6 @@
 -- Names are words of ASCII characters.
 use Rattle.std.proofs.Common.{◌≡◌, ℕ, zero, suc, ◌-◌, Bool, true, ◌&&◌, Some, refl, sym, ap, ◌∙◌, List, [], ◌∷◌}
+use Rattle.std.specs.List.{list_all}
 use Rattle.std.specs.Prelude.{slice_get}
 use Rattle.std.proofs.lemmas.Bool.{and_parts}
 use Rattle.jl_analysis.specs.Rules.{rules, name_at, IsRule}
@@ -14,7 +15,10 @@ use Rattle.jl_op.specs.Kinds.{kind_name}
 use Rattle.jl_op.specs.Trace.{binary_sign, unary_sign}
 use Rattle.jl_value.specs.declared.object.Class.{Class}
 use Rattle.jl_value.specs.declared.object.Class.TheVariants as classes
+use Rattle.jl_value.specs.Builtins.{builtins, entry_of, name_of}
 use Rattle.jl_value.specs.Texts.{class_name}
+use Rattle.jl_value.specs.declared.builtin.Builtin.{Builtin}
+use Rattle.jl_value.proofs.Rows.{all_pass}
 use Rattle.jl_record.specs.Plain.{is_plain}
 
 pub kind_is_plain : (kind : OpKind) → is_plain (kind_name kind) ≡ true
@@ -106,3 +110,10 @@ plain_at (y ∷ xs) (suc i) x h e = plain_at xs i x (and_parts (is_plain y) (all
 pub rule_is_plain : (rule : ℕ) (name : List ℕ) → IsRule rule → Some name ≡ name_at rule → is_plain name ≡ true
 rule_is_plain rule name is e =
     plain_at rule_names (rule - 1) name rules_are_plain (sym (named rule is.0) ∙ sym e)
+
+names_are_plain : list_all (λ b. is_plain (name_of b)) builtins ≡ true
+unfolding builtins entry_of
+names_are_plain = refl
+
+pub builtin_is_plain : (b : Builtin) → is_plain (name_of b) ≡ true
+builtin_is_plain = all_pass (λ b. is_plain (name_of b)) names_are_plain

@@ -4,9 +4,8 @@ use Rattle.std.proofs.Common.{ap, ◌∙◌, arith, append_assoc, drop, nat_lt, 
 use Rattle.std.specs.Prelude.{slice_get}
 use Rattle.std.specs.Fmt.{decimal}
 use Rattle.std.specs.List.{list_all}
-use Rattle.std.proofs.Common.{◌&&◌, false, subst, get_or}
+use Rattle.std.proofs.Common.{◌&&◌, false, get_or}
 use Rattle.std.proofs.lemmas.Bool.Decides.{nat_tests}
-use Rattle.std.proofs.lemmas.Option.{get_or_from_slice_get}
 use Rattle.std.proofs.lemmas.List.Sums.{AllPass-from_list_all}
 use Rattle.jl_ast.specs.declared.ops.BinOp.{BinOp}
 use Rattle.jl_ast.specs.declared.ops.BinOp.TheVariants as binary
@@ -16,11 +15,13 @@ use Rattle.jl_op.specs.declared.callee.Callee.TheVariants as callees
 use Rattle.jl_op.specs.declared.sign.UnKind.{UnKind}
 use Rattle.jl_op.specs.declared.sign.UnKind.TheVariants as unary
 use Rattle.jl_text.specs.Quoted.{quote}
-use Rattle.jl_value.specs.Builtins.{builtin_names, name_of}
+use Rattle.jl_value.specs.Builtins.{builtins, entry_of, name_of}
+use Rattle.jl_value.specs.declared.builtin.Builtin.{Builtin}
+use Rattle.jl_value.proofs.Rows.{all_pass}
 use Rattle.jl_record.specs.Facts.{a_text, a_number, a_truth, a_callee, truth_mark, callee_mark, IsText, IsCallee}
 use Rattle.jl_record.specs.Named.{all_binary, all_unary}
 use Rattle.jl_record.specs.Reading.{IsFirst, NoneIsFirst, Takes, Fails}
-use Rattle.jl_record.proofs.Marks.{one_fact, name_stands}
+use Rattle.jl_record.proofs.Marks.{one_fact}
 use Rattle.jl_record.proofs.Quotes.{one_quote}
 
 -- ---- each sign and each builtin's name is a text
@@ -77,18 +78,12 @@ unary_is_text unary.Void = short_is_text (unary_sign unary.Void) refl
 unary_is_text unary.Up = short_is_text (unary_sign unary.Up) refl
 unary_is_text unary.Down = short_is_text (unary_sign unary.Down) refl
 
-names_are_short : list_all is_short builtin_names ≡ true
-unfolding builtin_names
+names_are_short : list_all (λ b. is_short (name_of b)) builtins ≡ true
+unfolding builtins entry_of
 names_are_short = refl
 
-pub builtin_is_text : (row : ℕ) → row < length builtin_names → IsText (name_of row)
-builtin_is_text row h =
-    short_is_text (name_of row) (here (AllPass-from_list_all is_short builtin_names names_are_short row [] h))
-  where
-    here : is_short (get_or builtin_names row []) ≡ true → is_short (name_of row) ≡ true
-    here e =
-        subst (λ us. is_short us ≡ true)
-        (get_or_from_slice_get builtin_names row (name_of row) [] (name_stands builtin_names row h)) e
+pub builtin_is_text : (b : Builtin) → IsText (name_of b)
+builtin_is_text b = short_is_text (name_of b) (all_pass (λ c. is_short (name_of c)) names_are_short b)
 
 pub binary_listed : (op : BinOp) → (at : ℕ) × (slice_get all_binary at ≡ Some op)
 binary_listed binary.Mul = (0, refl)
@@ -147,9 +142,9 @@ module _ {A : Type 0} (name : A → List ℕ) (units : List ℕ) where
 -- ---- builtins
 
 only_native : (c : Callee) (us x : List ℕ) → 98 ∷ us ≡ callee_mark c ++ x
-    → (row : ℕ) × (c ≡ callees.Native row) × (us ≡ 32 ∷ (quote (name_of row) ++ x))
+    → (b : Builtin) × (c ≡ callees.Native b) × (us ≡ 32 ∷ (quote (name_of b) ++ x))
 only_native (callees.Script f p m) us x e = absurd (let h : 98 ≡ 115 = ap (λ us. get_or us 0 0) e in omega arith)
-only_native (callees.Native row) us x e = (row, refl, ap (λ us. drop 1 us) e)
+only_native (callees.Native b) us x e = (b, refl, ap (λ us. drop 1 us) e)
 
 module _ (rest : List ℕ) where
   pub no_native_space : ((more : List ℕ) → rest ≡ 32 ∷ more → ⊥) → Fails a_callee (98 ∷ rest)
@@ -160,24 +155,24 @@ module _ (rest : List ℕ) where
   pub no_native_text : (quoted : List ℕ) → rest ≡ 32 ∷ quoted → Fails a_text quoted → Fails a_callee (98 ∷ rest)
   no_native_text quoted space none c left is end e =
       let only = only_native c rest left e in
-      none (name_of only.0) left (builtin_is_text only.0 (subst IsCallee only.1 is)) end
+      none (name_of only.0) left (builtin_is_text only.0) end
       (ap (λ us. drop 1 us) (sym space ∙ only.2))
 
   pub no_native : (quoted text more : List ℕ) → rest ≡ 32 ∷ quoted → Takes a_text quoted text more
-      → ((row : ℕ) → row < length builtin_names → text ≡ name_of row → ⊥) → Fails a_callee (98 ∷ rest)
+      → ((b : Builtin) → text ≡ name_of b → ⊥) → Fails a_callee (98 ∷ rest)
   no_native quoted text more space here none c left is end e =
       let only = only_native c rest left e in
-      none only.0 (subst IsCallee only.1 is)
+      none only.0
       (one_quote text (name_of only.0) more left
       (sym here.marked ∙ ap (λ us. drop 1 us) (sym space ∙ only.2))).0
 
-  pub native_taken : (quoted text more : List ℕ) (row : ℕ) → rest ≡ 32 ∷ quoted → Takes a_text quoted text more
-      → (row < length builtin_names) × (text ≡ name_of row) → Takes a_callee (98 ∷ rest) (callees.Native row) more
-  native_taken quoted text more row space here known = record {
-    is = known.0;
+  pub native_taken : (quoted text more : List ℕ) (b : Builtin) → rest ≡ 32 ∷ quoted → Takes a_text quoted text more
+      → text ≡ name_of b → Takes a_callee (98 ∷ rest) (callees.Native b) more
+  native_taken quoted text more b space here known = record {
+    is = tt;
     end = here.end;
     marked = ap (λ us. 98 ∷ us)
-        (space ∙ ap (λ us. 32 ∷ us) (here.marked ∙ ap (λ t. quote t ++ more) known.1));
+        (space ∙ ap (λ us. 32 ∷ us) (here.marked ∙ ap (λ t. quote t ++ more) known));
   }
 
 -- ---- functions of the script
@@ -195,7 +190,7 @@ record IsScript (c : Callee) (rest left : List ℕ) : Type 0 where
   is : rest ≡ function_parts function params mentions left
 
 only_script : (c : Callee) (us x : List ℕ) → IsCallee c → 115 ∷ us ≡ callee_mark c ++ x → IsScript c us x
-only_script (callees.Native row) us x is e = absurd (let h : 115 ≡ 98 = ap (λ us. get_or us 0 0) e in omega arith)
+only_script (callees.Native b) us x is e = absurd (let h : 115 ≡ 98 = ap (λ us. get_or us 0 0) e in omega arith)
 only_script (callees.Script f p m) us x is e = record {
   function = f;
   params = p;

@@ -1,9 +1,9 @@
 -- What is known of facts that were written: they can be stored, if their values have their classes.
-use Rattle.std.proofs.Common.{◌≡◌, ℕ, zero, suc, ◌+◌, ◌<◌, ◌^◌, All, List, [], ◌∷◌, ◌++◌, Some, length}
-use Rattle.std.proofs.Common.{arith, get_or, subst, sym, take}
+use Rattle.std.proofs.Common.{◌≡◌, ℕ, ◌+◌, ◌<◌, ◌^◌, All, List, [], ◌∷◌, ◌++◌, length}
+use Rattle.std.proofs.Common.{get_or, subst, sym, take}
 use Rattle.std.proofs.lemmas.List.Elements.{All-head, All-more, All-tail}
 use Rattle.std.specs.List.{AllByRecursion}
-use Rattle.std.specs.Prelude.{slice_get, IfOk, OnOk, Result, Ok, Err}
+use Rattle.std.specs.Prelude.{IfOk, OnOk, Result, Ok, Err}
 use Rattle.jl_num.specs.Number.{IsNumber}
 use Rattle.jl_op.specs.declared.op.Op.{Op}
 use Rattle.jl_record.specs.Facts.{AreSeen, IsSeen, IsSeenAs, IsText}
@@ -98,9 +98,3 @@ both_on_ok Are (Err e) some others is are = tt
 -- an operation that is known
 pub can_be_stored : {op known : Op} → op ≡ known → CanBeStored known → CanBeStored op
 can_be_stored is can = subst (λ o. CanBeStored o) (sym is) can
-
--- an index at which something stands
-pub within : {A : Type 0} (xs : List A) (i : ℕ) {x : A} → slice_get xs i ≡ Some x → i < length xs
-within [] i is = absurd (let none = is in cc)
-within (y ∷ xs) zero is = omega arith
-within (y ∷ xs) (suc i) is = let rest = within xs i is in omega (arith, rest)

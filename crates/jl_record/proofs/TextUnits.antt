@@ -116,7 +116,7 @@ callee_is_whole (callees.Script f n b) h =
     (after 32 (decimal n) (truth_mark b) (omega arith) (decimal_is_whole n (let p = h.1 in omega arith))
     (truth_is_whole b))))
 callee_is_whole (callees.Native i) h =
-    low 98 _ (omega arith) (low 32 _ (omega arith) (quote_is_whole (name_of i) (builtin_is_text i h).1))
+    low 98 _ (omega arith) (low 32 _ (omega arith) (quote_is_whole (name_of i) (builtin_is_text i).1))
 
 mark_is_whole : (sort : Sort) (a : Fact sort) → IsFact sort a → AreWhole (mark sort a)
 mark_is_whole a_value a h = value_is_whole a.value a.class h

@@ -1,13 +1,14 @@
 // What is known by its name, in a table of all.
-ghost use Rattle.std.specs.Prelude.{◌≡◌, ◌<◌, true, ℕ, List, length, MatchOption, Some, slice_get};
+ghost use Rattle.std.specs.Prelude.{◌≡◌, true, ℕ, List, MatchOption, Some, slice_get};
 ghost use Rattle.jl_ast.specs.declared.ops.BinOp.{BinOp};
 ghost use Rattle.jl_op.specs.Kinds.{kind_name};
 ghost use Rattle.jl_op.specs.Trace.{binary_sign, unary_sign};
 ghost use Rattle.jl_op.specs.declared.found.Found.{Found};
 ghost use Rattle.jl_op.specs.declared.kind.OpKind.{OpKind};
 ghost use Rattle.jl_op.specs.declared.sign.UnKind.{UnKind};
-ghost use Rattle.jl_value.specs.Builtins.{builtin_names, name_of};
+ghost use Rattle.jl_value.specs.Builtins.{name_of};
 ghost use Rattle.jl_value.specs.Texts.{class_name};
+ghost use Rattle.jl_value.specs.declared.builtin.Builtin.{Builtin};
 ghost use Rattle.jl_value.specs.declared.object.Class.{Class};
 ghost use Rattle.jl_record.specs.Facts.{found_mark};
 ghost use Rattle.jl_record.specs.Plain.{is_plain};
@@ -91,16 +92,18 @@ impl Named for UnKind {
     }
 }
 
+impl Named for Builtin {
+    ghost name = { name_of };
+
+    #[tactic(auto, using(crate::proofs::PlainNames::builtin_is_plain))]
+    fn spelling(self) -> &'static str {
+        self.name()
+    }
+}
+
 /// The builtin with this name.
 pub(crate) fn builtin_named(name: &[u16]) -> Option<Builtin>
-    ensures { MatchOption result ((row : ℕ) → row < length builtin_names → name.now ≡ name_of row → ⊥)
-        (λ row. (row < length builtin_names) × (name.now ≡ name_of row)) }
+    ensures { MatchOption result ((b : Builtin) → name.now ≡ name_of b → ⊥) (λ b. name.now ≡ name_of b) }
 {
-    for row in 0..u16::MAX {
-        let builtin = Builtin::at(row)?;
-        if is_spelled(name, builtin.name().as_bytes()) {
-            return Some(builtin);
-        }
-    }
-    None
+    among(Builtin::all(), name)
 }

@@ -12,4 +12,4 @@ returns-in_default-builtin_named c =
     let found = rw c.in-Some-2.is at c.in_ok-name.ensures in
     let none = c.in_default-builtin_named.ensures in
     no_native c.args.rest.now c.in-Some.quoted.now c.in-Some-2.name c.in-Some-2.rest.now c.in-Some.ensures found
-    (λ row small e. none row small (c.units.ensures.same ∙ e))
+    (λ b e. none b (c.units.ensures.same ∙ e))

@@ -1,9 +1,8 @@
 use Rattle.std.proofs.Common.{subst, sym}
 use Rattle.std.proofs.lemmas.Result.{on_ok_weaker}
 use Rattle.jl_record.specs.Facts.{IsCallee}
-use Rattle.jl_record.proofs.Storable.{on_ok_now, within}
+use Rattle.jl_record.proofs.Storable.{on_ok_now}
 use Rattle.jl_record.proofs.WrittenParts.{appends_script}
-use Rattle.jl_value.specs.Builtins.{builtin_names}
 use Rattle.jl_record.proofs.written.write_callee.Goals as goal
 
 pub returns-in_ok-word-in-Script-3-clause-holds : goal.returns-in_ok-word-in-Script-3-clause-holds
@@ -20,7 +19,3 @@ pub returns-in_ok-word-in-Script-3-clause-fact : goal.returns-in_ok-word-in-Scri
 returns-in_ok-word-in-Script-3-clause-fact c =
     on_ok_now _
     (subst (λ x. IsCallee x) (sym c.in-Script.is) (c.write_small.ensures.fits, c.write_small-in-Script.ensures.fits))
-
-pub returns-in_ok-word-in-Native-clause-fact : goal.returns-in_ok-word-in-Native-clause-fact
-returns-in_ok-word-in-Native-clause-fact c =
-    on_ok_now _ (subst (λ x. IsCallee x) (sym c.in-Native.is) (within builtin_names c.in-Native.builtin c.name.ensures))
