@@ -10,7 +10,7 @@ in_all : (found : Option Builtin) (name : List ℕ) (table : List Builtin) → t
     → MatchOption found ((at : ℕ) (b : Builtin) → slice_get table at ≡ Some b → name ≡ name_of b → ⊥)
     (λ b. name ≡ name_of b)
     → MatchOption found ((b : Builtin) → name ≡ name_of b → ⊥) (λ b. name ≡ name_of b)
-in_all None name table all none b is = none (row_of b) b (ap (λ bs. slice_get bs (row_of b)) all ∙ stands b) is
+in_all None name table all none = λ b is. none (row_of b) b (ap (λ bs. slice_get bs (row_of b)) all ∙ stands b) is
 in_all (Some b) name table all is = is
 
 pub returns : goal.returns
