@@ -1,5 +1,5 @@
 -- The steps make the store that a run begins with.
-use Rattle.std.proofs.Common.{◌≡◌, ◌∙◌, ◌+◌, ◌++◌, true, List, [], ◌∷◌, ap, ap₂, arith, refl, subst, sym}
+use Rattle.std.proofs.Common.{◌≡◌, ◌∙◌, ◌+◌, ◌++◌, true, List, [], ◌∷◌, ap, ap₂, arith, refl, sym}
 use Rattle.std.specs.List.{flat_map, list_all}
 use Rattle.jl_value.specs.BuiltinPlaces.{place_of_row, row_of}
 use Rattle.jl_value.specs.Builtins.{builtins, entry_of}
@@ -35,7 +35,7 @@ unfolding initial_objects length_name builtins entry_of row_of place_of_row
 as_seen = refl
 
 all_fresh : list_all is_fresh initial_objects ≡ true
-unfolding initial_objects length_name builtins entry_of
+unfolding initial_objects length_name builtins entry_of row_of place_of_row
 all_fresh = refl
 
 abbrev only : List Environment

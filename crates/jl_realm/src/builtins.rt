@@ -5,7 +5,7 @@ ghost use Rattle.jl_value.specs.BuiltinPlaces.{place_of_builtin};
 ghost use Rattle.jl_value.specs.Builtins.{entry_of, name_of};
 ghost use Rattle.jl_meaning.specs.Realm.{has_function_object, holds, last_part};
 ghost use Rattle.jl_realm.specs.inner.Steps.{closing_step, functions_step, has_place, own_step, prototype_step};
-ghost use Rattle.jl_realm.specs.inner.Steps.{step_fits, steps_for};
+ghost use Rattle.jl_realm.specs.inner.Steps.{steps_for};
 
 use crate::steps::{Initial, Inside, Step, Word};
 use jl_store::last_part;
@@ -28,7 +28,6 @@ pub(crate) fn property_name(builtin: Builtin) -> &'static str
 }
 
 /// Whether an object has a builtin as a property.
-#[tactic(auto, using(crate::proofs::Placed::constructor_placed))]
 pub(crate) fn is_held(holder: ObjId, builtin: Builtin) -> bool
     ensures { result ≡ holds holder (entry_of builtin).holder }
 {
