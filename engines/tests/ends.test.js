@@ -11,7 +11,8 @@ const { ENGINES, missing } = require('./support.js');
 
 const skip = missing();
 const NAN = 'function n() { return 0 / 0; } n(); ';
-const BEFORE_SIGNAL = 2500; // milliseconds
+const READY = 'setInterval(n, 10); console.log("ready");';
+const AFTER_READY = 1000; // milliseconds until a signal is sent
 const REPORTED = /^app.js:1:23 nan-made \d+$/m;
 
 const ROWS = [
@@ -24,19 +25,21 @@ const ROWS = [
   ['exitCode', NAN + 'process.exitCode = 9;'],
   ['exit handler of the program', NAN + 'process.on("exit", function (c) { console.log("bye", c); });'],
   ['a module with a syntax error', NAN + 'try { require("./bad.js"); } catch (e) { console.log(e.name); }'],
-  ['SIGTERM', NAN + 'setInterval(n, 10);', 'SIGTERM'],
-  ['SIGINT', NAN + 'setInterval(n, 10);', 'SIGINT'],
+  ['SIGTERM', NAN + READY, 'SIGTERM'],
+  ['SIGINT', NAN + READY, 'SIGINT'],
   ['SIGTERM that the program handles',
-    NAN + 'process.on("SIGTERM", function () { console.log("mine"); process.exit(4); }); setInterval(n, 10);', 'SIGTERM'],
-  ['SIGKILL, reported afterwards', NAN + 'for (var i = 0; i < 3000; i++) n(); setInterval(n, 10);', 'SIGKILL']
+    NAN + 'process.on("SIGTERM", function () { console.log("mine"); process.exit(4); }); ' + READY, 'SIGTERM'],
+  ['SIGKILL, reported afterwards', NAN + 'for (var i = 0; i < 3000; i++) n(); ' + READY, 'SIGKILL']
 ];
 
 function ran(cwd, words, signal, env) {
   return new Promise(resolve => {
     const child = spawn(process.execPath, [...words, 'app.js'], { cwd, env: { ...process.env, ...env } });
     let out = '';
-    child.stdout.on('data', data => { out += data; });
-    if (signal) setTimeout(() => child.kill(signal), BEFORE_SIGNAL);
+    child.stdout.on('data', data => {
+      out += data;
+      if (signal && out === 'ready\n') setTimeout(() => child.kill(signal), AFTER_READY);
+    });
     child.on('close', (status, ended) => resolve({ status, signal: ended, out }));
   });
 }
