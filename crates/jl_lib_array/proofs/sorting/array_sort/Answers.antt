@@ -7,7 +7,7 @@ use Rattle.jl_lib_array.proofs.sorting.array_sort.Goals as goal
 
 pub returns-then-not-is_undefined-clause-leads : goal.returns-then-not-is_undefined-clause-leads
 returns-then-not-is_undefined-clause-leads c =
-    sorts_not _ (call_of c.args.call) _ _ (c.in_ok-comparator.ensures ∙ ap (λ l. argument_of l 0) c.items.ensures)
+    sorts_not _ (call_of c.args.call) _ _ _ (c.in_ok-comparator.ensures ∙ ap (λ l. argument_of l 0) c.items.ensures)
     (sym c.is_undefined.ensures ∙ c.if-not-is_undefined.true) (c.unsupported.ensures.leads c.args.state.now)
 
 pub returns-clause-leads : goal.returns-clause-leads
