@@ -432,7 +432,7 @@ def page():
 
 INTRODUCTION = '''# What has to be believed
 
-The two theorems of the README stand in the contract of `jl_app::jlint`. Its words are defined in these files of `specs/`, each of which comes after what it needs. A clause reaches the definitions that it names, and these the ones that they name; only what is reached is counted, with the comments before it and the head of its file, and without blank lines and imports. Lemmas (`proofs/`) and the bodies of functions need no reading, since Rattle checks them.
+The two theorems of the README stand in the contract of `jl_app::jlint`. Its words are defined in these files of `specs/`, each of which comes after what it needs. A clause reaches the definitions that it names, and these the ones that they name; only what is reached is counted, with the comments before it and the head of its file, and without blank lines and imports. Lemmas (`proofs/`) and the bodies of functions need no reading, since Rattle checks them. One definition is a constant of the code: the order of the builtins is that of `BUILTINS` in `jl_value/src/builtin_table.rt` (102 lines, not counted here).
 
 `tools/trusted.py` writes this page, and `.ci/run` compares it.
 '''
