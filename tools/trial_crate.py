@@ -47,8 +47,9 @@ def uses_for(text, body):
     lines = ''
     for start, dot, names in USE.findall(text):
         kept = [it for it in names_of(names) if is_named(it, body)]
+        # (a module is named without braces)
         if kept:
-            lines += f'{start}{dot}{{{", ".join(kept)}}};\n'
+            lines += f'{start}{dot}{names};\n' if names[0] != '{' else f'{start}{dot}{{{", ".join(kept)}}};\n'
     return lines
 
 
